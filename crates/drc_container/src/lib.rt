@@ -4,5 +4,7 @@
 #![tactic(auto)]
 
 mod choices;
+mod headers;
 
 pub use choices::{Choice, Index, Method, Predict, Walk};
+pub use headers::Form;
