@@ -1,6 +1,6 @@
 -- The wrap transform (Draco Bitstream Specification 2.2, section "Prediction Scheme Transforms"; that its sums are whole
 -- numbers is this project's choice).
-use Rattle.std.specs.Prelude.{ℕ, suc, ◌+◌, ◌-◌, ◌*◌, ◌/◌, ◌^◌, ◌<◌, ℤ, pos, ◌+ℤ◌, ◌-ℤ◌, ◌<ℤ◌, ◌≤ℤ◌, neg_ℤ, unsigned_abs, int_lt, if◌then◌else◌}
+use Rattle.std.specs.Prelude.{ℕ, suc, ◌-◌, ◌/◌, ◌^◌, ℤ, pos, ◌+ℤ◌, ◌-ℤ◌, ◌<ℤ◌, ◌≤ℤ◌, neg_ℤ, unsigned_abs, int_lt, if◌then◌else◌}
 use Rattle.std.specs.Int.{w32, int_min, int_max, int_wrap}
 
 -- the range in which values lie

@@ -1,6 +1,6 @@
 //! Prediction by the difference to the entry before.
 
-ghost use Rattle.std.specs.Prelude.{◌≡◌, ◌<◌, ◌%◌, ◌≤ℤ◌, length, IfOk};
+ghost use Rattle.std.specs.Prelude.{◌≡◌, ◌<◌, ◌%◌, ◌≤ℤ◌, length, take, IfOk};
 ghost use Rattle.std.specs.List.{All};
 ghost use Rattle.predict.specs.Wrap.{least_correction, greatest_correction};
 ghost use Rattle.predict.specs.Restored.{restored, corrections, entry_before};
@@ -8,6 +8,15 @@ ghost use Rattle.predict.specs.Restored.{restored, corrections, entry_before};
 use crate::wraps::Wrap;
 use drc_base::Memory;
 use std::alloc::Global;
+
+/// The prediction of value `i`: the same component of the entry before, and 0 for the first entry.
+fn prediction_at(comps: usize, v: &[i32], i: usize) -> i32
+    requires some { 0 < comps }
+    requires within { i < length v.now }
+    ensures { result ≡ entry_before comps (take i v.now) }
+{
+    if i < comps { 0 } else { v[i - comps] }
+}
 
 /// Turns the corrections `v` of entries of `comps` components into their values, in place.
 pub fn restore_difference(w: &Wrap, comps: u32, v: &mut [i32])
@@ -17,8 +26,8 @@ pub fn restore_difference(w: &Wrap, comps: u32, v: &mut [i32])
 {
     let comps = comps as usize;
     for i in 0..v.len() {
-        let prediction = if i < comps { 0 } else { v[i - comps] };
-        v[i] = w.restored(prediction, v[i]);
+        let correction = v[i];
+        v[i] = w.restored(prediction_at(comps, v, i), correction);
     }
 }
 
@@ -40,8 +49,7 @@ pub fn correct_difference(
     let comps = comps as usize;
     let mut corrections = Vec::with_capacity(alloc, v.len())?;
     for i in 0..v.len() {
-        let prediction = if i < comps { 0 } else { v[i - comps] };
-        corrections.push(w.correction(prediction, v[i]))?;
+        corrections.push(w.correction(prediction_at(comps, v, i), v[i]))?;
     }
     Ok(corrections)
 }

@@ -50,6 +50,7 @@ impl Wrap {
         ensures value { result ≡ clipped self.now prediction }
         ensures above { self.now.low ≤ℤ result }
         ensures below { result ≤ℤ self.now.high }
+        ensures can_wrap { CanWrap self.now }
     {
         let low = self.low;
         let high = self.high;

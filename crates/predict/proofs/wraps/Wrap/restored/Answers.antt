@@ -1,7 +1,7 @@
-use Rattle.std.proofs.Common.{rules, arith, ◌≡◌, ◌+ℤ◌, FitsSigned, ◌∙◌, ap, sym}
+use Rattle.std.proofs.Common.{rules, ◌+ℤ◌, FitsSigned, ◌∙◌, ap}
 use Rattle.std.specs.Int.{w32, w64, int_wrap}
 use Rattle.std.proofs.lemmas.Int.{to_z-of_z}
-use Rattle.predict.specs.Wrap.{wrapped, clipped}
+use Rattle.predict.specs.Wrap.{wrapped}
 use Rattle.predict.proofs.Wrapping.{wrapped_sum}
 use Rattle.predict.proofs.wraps.Wrap.restored.Goals as goal
 
