@@ -1,5 +1,5 @@
 -- The first of several tests that fails, and answers that give it (this project's choice).
-use Rattle.std.specs.Prelude.{ℕ, Bool, List, [], ◌∷◌, Option, None, Some, Result, Ok, Err, if◌then◌else◌}
+use Rattle.std.specs.Prelude.{ℕ, ◌≡◌, Bool, List, [], ◌∷◌, Option, None, Some, Result, Ok, Err, if◌then◌else◌}
 use Rattle.drc_base.specs.declared.faults.Fault.{Fault}
 use Rattle.drc_base.specs.declared.faults.Refusal.{Refusal}
 use Rattle.drc_base.specs.declared.faults.Refusal.TheVariants as refusal
@@ -29,3 +29,8 @@ value_unless (Some fault) value = Err fault
 abbrev pub answer_of : {A : Type 0} → Result A Fault → Result A Refusal
 answer_of (Ok value) = Ok value
 answer_of (Err fault) = Err (refusal.Fault fault)
+
+-- a test answers its fault, and is passed where it has none
+abbrev pub Tests : {A : Type 0} → Option Fault → Result A Fault → Type 0
+Tests due (Ok value) = due ≡ None
+Tests due (Err fault) = due ≡ Some fault

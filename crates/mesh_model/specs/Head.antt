@@ -57,9 +57,14 @@ head_fault k h = first_fault (
     ∷ unless (has_bits h.quant) QuantBits k
     ∷ [])
 
--- the first fault of a list of heads: their number, then each head in turn
+-- the first fault of heads of which the first is head `k`
+abbrev pub each_fault : ℕ → List Head → Option Fault
+each_fault k heads = first_fault (map (λ (j, h). head_fault j h) (enumerate_from k heads))
+
+-- the first fault of a list of heads: of their number, then of each head in turn
 unfoldable pub heads_fault : List Head → Option Fault
 heads_fault heads = first_fault (
     unless (nat_le 1 (length heads)) NoAttribute (length heads)
     ∷ unless (nat_le (length heads) MAX_ATTRIBUTES) AttrLimit (length heads)
-    ∷ map (λ (k, h). head_fault k h) (enumerate_from 0 heads))
+    ∷ each_fault 0 heads
+    ∷ [])
