@@ -11,6 +11,7 @@ mod geometries;
 mod heads;
 mod meshes;
 mod renumberings;
+mod row_rules;
 mod tables;
 
 pub use clouds::Cloud;
