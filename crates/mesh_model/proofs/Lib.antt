@@ -1,3 +1,6 @@
 pub mod Columns
+pub mod FirstFaults
+pub mod Made
 pub mod Places
 pub mod Ranges
+pub mod Rows

@@ -10,7 +10,9 @@ use Rattle.mesh_model.specs.declared.heads.Head.{Head}
 use Rattle.mesh_model.specs.FirstFault.{at_place}
 use Rattle.mesh_model.specs.Head.{in_type, types_of, width_of}
 use Rattle.mesh_model.specs.Parts.{range_fault}
-use Rattle.mesh_model.proofs.Places.{position-none, position-at}
+use Rattle.mesh_model.proofs.Places.{position-none, position-at, position-none_back}
+use Rattle.mesh_model.proofs.FirstFaults.{at_place-none}
+use Rattle.std.proofs.lemmas.Bool.{not-false}
 
 -- whether cell k is in its type
 abbrev pub fits_at : List Head → List ℤ → ℕ → Bool
@@ -48,3 +50,11 @@ fits_at-column heads cells types k r column front place narrow =
     let dtype : get_or (types_of heads) (k % width_of heads) 0 ≡ get_or types column 0 =
         ap (λ n. get_or (types_of heads) n 0) at ∙ ap (λ xs. get_or xs column 0) (sym front) ∙ get_or-take (width_of heads) types column 0 narrow in
     ap (λ d. in_type d (get_or cells k (pos 0))) dtype
+
+-- where there is no fault, every cell is in its type
+pub range_fault-none_back : (heads : List Head) (cells : List ℤ) → range_fault heads cells ≡ None → (k : ℕ) → k < length cells → fits_at heads cells k ≡ true
+unfolding range_fault
+range_fault-none_back heads cells none k inside =
+    let long : length (enumerate_from 0 cells) ≡ length cells = length-enumerate_from 0 cells in
+    let fails = position-none_back (fails_at heads) (enumerate_from 0 cells) (at_place-none ValueRange _ none) k (0, pos 0) (omega arith) in
+    not-false (fits_at heads cells k) (sym (fails_at-get_or heads cells k inside) ∙ fails)

@@ -30,7 +30,7 @@ greatest_of dtype =
     else (if dtype == 2 then pos 255 else (if dtype == 3 then pos 32767 else (if dtype == 4 then pos 65535 else pos 2147483647)))
 
 -- a value is in the range of a data type
-abbrev pub in_type : ℕ → ℤ → Bool
+unfoldable pub in_type : ℕ → ℤ → Bool
 in_type dtype value = int_le (least_of dtype) value && int_le value (greatest_of dtype)
 
 -- a quantisation stands exactly at data type 9; the others are 1 to 6

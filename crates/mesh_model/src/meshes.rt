@@ -1,9 +1,12 @@
 //! Triangle meshes.
 
-use crate::heads::Head;
+use crate::heads::{Head, test_heads};
+use crate::row_rules::{test_counts, test_face_count, test_indices, test_values};
+use drc_base::Refusal;
 use std::marker::Model;
 
-/// A triangle mesh: heads, points and faces of three point numbers.
+/// A triangle mesh: heads, points and faces of three point numbers, within the limits. Contracts
+/// see its points as rows, one integer for each component of each head, in order.
 #[derive(Debug, Drop)]
 pub struct CornerMesh {
     heads: Vec<Head>,
@@ -14,18 +17,53 @@ pub struct CornerMesh {
 }
 
 impl Model for CornerMesh {
-    ghost use Rattle.mesh_model.specs.Parts.{MeshParts, rows_of};
+    ghost use Rattle.mesh_model.specs.Parts.{MeshParts, IsMesh, rows_of};
+    ghost use Rattle.mesh_model.specs.Stored.{AreStored};
 
     ghost Value = { MeshParts };
 
     ghost view = { λ m. record { heads = m.heads.items; points = rows_of m.width m.cells.items; faces = m.faces.items } };
+
+    ghost invariant = { λ m.
+        AreStored m.heads.items m.cells.items m.width m.count
+        × IsMesh (record { heads = m.heads.items; points = rows_of m.width m.cells.items; faces = m.faces.items }) };
 }
 
 impl CornerMesh {
-    ghost use Rattle.std.specs.Prelude.{◌≡◌};
+    ghost use Rattle.std.specs.Prelude.{◌≡◌, ◌<◌, length};
+    ghost use Rattle.mesh_model.specs.FirstFault.{answer_of};
+    ghost use Rattle.mesh_model.specs.Head.{width_of};
+    ghost use Rattle.mesh_model.specs.Parts.{AreRows, IsMesh, mesh_of};
 
+    /// The mesh of these heads, points (row after row) and faces. It takes no memory. Refusals, the
+    /// first that applies: NoAttribute and AttrLimit at the number of heads; AttrType, DataType,
+    /// Components and QuantBits at the number of the first head that has one; PointLimit at the
+    /// number of points, ValueLimit at points times width, FaceLimit at the number of faces;
+    /// IndexRange at the first face with a number that is no number of a point; ValueRange at the
+    /// first integer of `points` outside its data type.
+    pub fn new(heads: Vec<Head>, points: Vec<i32>, faces: Vec<[u32; 3]>) -> Result<CornerMesh, Refusal>
+        requires { AreRows heads.items points.items }
+        ensures { result ≡ answer_of (mesh_of heads.items points.items faces.items) }
+    {
+        let width = test_heads(heads.as_slice())?;
+        let count = points.len() as u64 / width as u64;
+        test_counts(count, width)?;
+        test_face_count(faces.as_slice())?;
+        test_indices(count as u32, faces.as_slice())?;
+        test_values(heads.as_slice(), width, points.as_slice())?;
+        Ok(CornerMesh {
+            heads,
+            cells: points,
+            faces,
+            width,
+            count: count as u32,
+        })
+    }
+
+    /// The heads of its attributes.
     pub fn heads(&self) -> &[Head]
-        ensures { result.now ≡ self.now.heads }
+        ensures value { result.now ≡ self.now.heads }
+        ensures sound { IsMesh self.now }
     {
         self.heads.as_slice()
     }

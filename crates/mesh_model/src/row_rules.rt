@@ -1,6 +1,6 @@
 //! The tests that the points and faces of a geometry pass, in their order.
 
-ghost use Rattle.std.specs.Prelude.{◌≡◌, ◌+◌, ◌*◌, ◌/◌, ◌<◌, ◌≤◌, ◌^◌, ℕ, length, nat_lt, not, position, take, IsTrue};
+ghost use Rattle.std.specs.Prelude.{◌≡◌, ◌+◌, ◌*◌, ◌/◌, ◌<◌, ◌≤◌, ◌^◌, ℕ, length, nat_lt, not, All, position, take, IsTrue};
 ghost use Rattle.std.specs.List.{list_all};
 ghost use Rattle.mesh_model.specs.FirstFault.{Tests};
 ghost use Rattle.mesh_model.specs.Head.{in_type, types_of, width_of};
@@ -35,7 +35,8 @@ pub(crate) fn test_counts(points: u64, width: u32) -> Result<(), Fault>
 
 /// FaceLimit at the number of faces.
 pub(crate) fn test_face_count(faces: &[[u32; 3]]) -> Result<(), Fault>
-    ensures { Tests (faces_fault faces.now) result }
+    ensures tested { Tests (faces_fault faces.now) result }
+    ensures three { All (λ face. length face ≡ 3) faces.now }
 {
     if faces.len() > MAX_FACES as usize {
         return Err(Fault {
@@ -75,6 +76,7 @@ pub(crate) fn test_indices(points: u32, faces: &[[u32; 3]]) -> Result<(), Fault>
 }
 
 /// Whether a value is in the range of a data type.
+#[tactic(auto, unfolding(crate::specs::Head::in_type))]
 fn in_type(dtype: u8, value: i32) -> bool
     ensures { result ≡ in_type dtype value }
 {
