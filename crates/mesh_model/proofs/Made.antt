@@ -99,3 +99,7 @@ pub whole-rows : (heads : List Head) (cells : List ℤ) (width : ℕ) → AreRow
 whole-rows heads cells width rows pass is =
     let none : length cells % width ≡ 0 = ap (λ w. length cells % w) is ∙ rows pass in
     omega (arith, div-add-mod' (length cells) width)
+
+-- as many rows as are stored
+pub length-stored : (heads : List Head) (cells : List ℤ) (width count : ℕ) → AreStored heads cells width count → length (rows_of width cells) ≡ count
+length-stored heads cells width count stored = length-rows_of width cells ∙ ap (λ n. n / width) stored.whole ∙ mul-div_cancel count stored.wide

@@ -1,5 +1,5 @@
 -- How a geometry's points are stored: row after row (this project's choice).
-use Rattle.std.specs.Prelude.{ℕ, ◌≡◌, ◌<◌, ◌*◌, ℤ, List, length}
+use Rattle.std.specs.Prelude.{ℕ, ◌≡◌, ◌<◌, ◌≤◌, ◌*◌, ℤ, List, length}
 use Rattle.mesh_model.specs.declared.heads.Head.{Head}
 use Rattle.mesh_model.specs.Head.{width_of}
 
@@ -7,4 +7,5 @@ use Rattle.mesh_model.specs.Head.{width_of}
 pub record AreStored (heads : List Head) (cells : List ℤ) (width count : ℕ) : Type 0 where
   pub width_is : width ≡ width_of heads
   pub wide : 0 < width
+  pub narrow : width ≤ 128
   pub whole : length cells ≡ count * width

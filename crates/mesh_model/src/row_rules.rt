@@ -1,16 +1,29 @@
 //! The tests that the points and faces of a geometry pass, in their order.
 
-ghost use Rattle.std.specs.Prelude.{◌≡◌, ◌+◌, ◌*◌, ◌/◌, ◌<◌, ◌≤◌, ◌^◌, ℕ, length, nat_lt, not, All, position, take, IsTrue};
+ghost use Rattle.std.specs.Prelude.{◌≡◌, ◌+◌, ◌*◌, ◌/◌, ◌<◌, ◌≤◌, ◌^◌, ℕ, [], length, slice_index_or, nat_lt, not, All, position, take, IsTrue};
 ghost use Rattle.std.specs.List.{list_all};
 ghost use Rattle.mesh_model.specs.FirstFault.{Tests};
 ghost use Rattle.mesh_model.specs.Head.{in_type, types_of, width_of};
-ghost use Rattle.mesh_model.specs.Parts.{count_fault, faces_fault, index_fault, range_fault};
+ghost use Rattle.mesh_model.specs.Parts.{count_fault, faces_fault, index_fault, range_fault, rows_of};
 
 use crate::heads::Head;
 use drc_base::{Fault, Kind, MAX_FACES, MAX_POINTS, MAX_VALUES};
 
 /// The most integers of a row: as many attributes as there may be, each of as many components.
 const MAX_WIDTH: usize = 128;
+
+/// Row `i` of `count` rows of `width` integers.
+pub(crate) fn stored_row(cells: &[i32], width: u32, count: u32, i: u32) -> &[i32]
+    requires whole { length cells.now ≡ count * width }
+    requires wide { 0 < width }
+    requires below { i < count }
+    ensures row { result.now ≡ slice_index_or (rows_of width cells.now) i [] }
+    ensures len { length result.now ≡ width }
+{
+    let start = i as usize * width as usize;
+    let end = start + width as usize;
+    &cells[start..end]
+}
 
 /// PointLimit at the number of points, then ValueLimit at points times width.
 pub(crate) fn test_counts(points: u64, width: u32) -> Result<(), Fault>
