@@ -1,8 +1,8 @@
 -- What the tests of a geometry say of its rows and faces, and back.
-use Rattle.std.proofs.Common.{◌≡◌, ℕ, ◌+◌, ◌-◌, ◌*◌, ◌/◌, ◌%◌, ◌<◌, ◌≤◌, Bool, true, false, not, cond, leb, ltb, List, [], ◌∷◌, length, get_or, take, drop, Option, None, Some, Result, Ok, ℤ, pos, refl, sym, ap, ◌∙◌, subst, arith}
+use Rattle.std.proofs.Common.{◌≡◌, ℕ, ◌+◌, ◌-◌, ◌*◌, ◌/◌, ◌%◌, ◌<◌, ◌≤◌, Bool, true, false, not, cond, leb, ltb, List, [], ◌∷◌, length, get_or, take, drop, Option, None, Some, Result, Ok, ℤ, pos, refl, sym, ap, ◌∙◌, subst, add-zero, arith}
 use Rattle.std.specs.List.{position, position_or_len, All, AllPass, list_all}
 use Rattle.std.proofs.lemmas.Bool.{leb-true, le-leb, ltb-true, lt-ltb, not-false}
-use Rattle.std.proofs.lemmas.Nat.{div-mul-add, mul-le, mul-add-lt, mod-mul-add, div-add-mod'}
+use Rattle.std.proofs.lemmas.Nat.{div-mul-add, mul-le, mul-add-lt, mod-mul-add, div-add-mod', mod_below, div_below}
 use Rattle.std.proofs.Math.Nat.{mul-div_cancel}
 use Rattle.std.proofs.lemmas.List.Sums.{AllPass-from_list_all, list_all-from_AllPass}
 use Rattle.std.proofs.lemmas.List.Elements.{All-from_get_or, All-weaker}
@@ -11,10 +11,11 @@ use Rattle.drc_base.specs.declared.kinds.Kind.{Kind}
 use Rattle.drc_base.specs.declared.kinds.Kind.TheVariants.{PointLimit, ValueLimit, FaceLimit, IndexRange, ValueRange}
 use Rattle.drc_base.specs.declared.limits.TheConstants.{MAX_POINTS, MAX_VALUES, MAX_FACES}
 use Rattle.mesh_model.specs.declared.heads.Head.{Head}
-use Rattle.mesh_model.specs.FirstFault.{unless, first_fault, at_place}
+use Rattle.mesh_model.specs.FirstFault.{unless, first_fault, at_place, value_unless}
 use Rattle.mesh_model.specs.Head.{width_of, types_of, in_type, heads_fault}
-use Rattle.mesh_model.specs.Parts.{MeshParts, CloudParts, rows_of, cells_of, count_fault, faces_fault, index_fault, range_fault, mesh_of, cloud_of, AreRows, RowFits, ArePoints, IsFaceOf, IsMesh, IsCloud}
+use Rattle.mesh_model.specs.Parts.{MeshParts, CloudParts, rows_of, cells_of, count_fault, faces_fault, index_fault, range_fault, mesh_fault, cloud_fault, mesh_of, cloud_of, AreRows, RowFits, ArePoints, IsFaceOf, IsMesh, IsCloud}
 use Rattle.mesh_model.specs.Stored.{AreStored}
+use Rattle.mesh_model.proofs.Columns.{width_of-bounds}
 use Rattle.mesh_model.proofs.FirstFaults.{unless-none, unless-true, at_place-none, first_fault-none, first_fault-cons}
 use Rattle.mesh_model.proofs.Places.{position-none, position-none_back}
 use Rattle.mesh_model.proofs.Ranges.{fits_at, range_fault-none, range_fault-none_back}
@@ -103,3 +104,57 @@ whole-rows heads cells width rows pass is =
 -- as many rows as are stored
 pub length-stored : (heads : List Head) (cells : List ℤ) (width count : ℕ) → AreStored heads cells width count → length (rows_of width cells) ≡ count
 length-stored heads cells width count stored = length-rows_of width cells ∙ ap (λ n. n / width) stored.whole ∙ mul-div_cancel count stored.wide
+
+-- where rows fit heads, each cell of their flat list is in its type
+fits_at-cells_of : (heads : List Head) (points : List (List ℤ)) → 0 < width_of heads → All (RowFits heads) points → (k : ℕ) → k < length points * width_of heads → fits_at heads (cells_of points) k ≡ true
+fits_at-cells_of heads points wide fit k below =
+    let w = width_of heads in
+    let i = k / w in
+    let j = k % w in
+    let narrow : j < w = mod_below k w wide in
+    let inside : i < length points = div_below k w (length points) wide below in
+    let place : i * w + j ≡ k = div-add-mod' k w in
+    let long : All (λ row. length row ≡ w) points = λ r d b. (fit r d b).0 in
+    let value : get_or (cells_of points) k (pos 0) ≡ get_or (get_or points i []) j (pos 0) =
+        ap (λ n. get_or (cells_of points) n (pos 0)) (sym place) ∙ get_or-cells_of w points i j (pos 0) long inside narrow in
+    ap (in_type (get_or (types_of heads) j 0)) value ∙ (fit i [] inside).1 j narrow
+
+-- the flat list of points that fit passes each test of points
+pub ArePoints-tests : (heads : List Head) (points : List (List ℤ)) → ArePoints heads points → (length (cells_of points) / width_of heads ≡ length points) × (count_fault (length (cells_of points) / width_of heads) (width_of heads) ≡ None) × (range_fault heads (cells_of points) ≡ None) × (rows_of (width_of heads) (cells_of points) ≡ points) × (length (cells_of points) % width_of heads ≡ 0)
+ArePoints-tests heads points are =
+    let w = width_of heads in
+    let wide : 0 < w = (width_of-bounds heads are.heads_pass).0 in
+    let long : All (λ row. length row ≡ w) points = λ r d b. (are.rows_fit r d b).0 in
+    let many = length-cells_of-div w points wide long in
+    let whole = length-cells_of w points long in
+    (many ,
+     subst (λ n. count_fault n w ≡ None) (sym many) (count_fault-none (length points) w are.few_points are.few_values) ,
+     range_fault-none heads (cells_of points) (λ k below. fits_at-cells_of heads points wide are.rows_fit k (subst (λ n. k < n) whole below)) ,
+     rows_of-cells_of w points wide long ,
+     ap (λ n. n % w) (whole ∙ sym (add-zero (length points * w))) ∙ mod-mul-add (length points) w 0 wide)
+
+-- every mesh is made of its heads, the flat list of its points and its faces
+pub mesh_of-IsMesh : (m : MeshParts) → IsMesh m → mesh_of m.heads (cells_of m.points) m.faces ≡ Ok m
+mesh_of-IsMesh m is =
+    let t = ArePoints-tests m.heads m.points is.points in
+    let few : faces_fault m.faces ≡ None = unless-true _ FaceLimit (length m.faces) (le-leb _ _ is.few_faces) in
+    let inside : All (λ face. All (λ p. p < length (cells_of m.points) / width_of m.heads) face) m.faces =
+        λ f d b. subst (λ n. All (λ p. p < n) (get_or m.faces f d)) (sym t.0) (is.faces f d b).1 in
+    let none : mesh_fault m.heads (cells_of m.points) m.faces ≡ None =
+        first_fault-cons _ _ is.points.heads_pass
+            (first_fault-cons _ _ t.1 (first_fault-cons _ _ few (first_fault-cons _ _ (index_fault-none _ m.faces inside) (first_fault-cons _ [] t.2 refl)))) in
+    let made : List (List ℤ) → MeshParts = λ points. record { heads = m.heads; points = points; faces = m.faces } in
+    ap (λ fault. value_unless fault (made (rows_of (width_of m.heads) (cells_of m.points)))) none ∙ ap (λ points. Ok (made points)) t.3
+
+-- every cloud is made of its heads and the flat list of its points
+pub cloud_of-IsCloud : (c : CloudParts) → IsCloud c → cloud_of c.heads (cells_of c.points) ≡ Ok c
+cloud_of-IsCloud c is =
+    let t = ArePoints-tests c.heads c.points is in
+    let none : cloud_fault c.heads (cells_of c.points) ≡ None =
+        first_fault-cons _ _ is.heads_pass (first_fault-cons _ _ t.1 (first_fault-cons _ [] t.2 refl)) in
+    let made : List (List ℤ) → CloudParts = λ points. record { heads = c.heads; points = points } in
+    ap (λ fault. value_unless fault (made (rows_of (width_of c.heads) (cells_of c.points)))) none ∙ ap (λ points. Ok (made points)) t.3
+
+-- the flat list of points that fit is whole rows
+pub AreRows-cells_of : (heads : List Head) (points : List (List ℤ)) → ArePoints heads points → AreRows heads (cells_of points)
+AreRows-cells_of heads points are = λ _. (ArePoints-tests heads points are).4
