@@ -21,22 +21,28 @@ pub record NamesEachOnce (count : ℕ) (rows : Rows) : Type 0 where
   pub within : All (λ row. row.0 < count) rows
   pub once : (f : ℕ) → f < count → count_by (λ row. row.0 == f) rows ≡ 1
 
--- n is m with its faces in another order, turned, and its points numbered in another way: corner k
--- of face i of n has the integers of corner k + turn of the face of m that row i names
+-- face i of n is face f of m, turned: its corner k has the integers of corner k + turn of that face
+abbrev pub SameFace : MeshParts → MeshParts → ℕ → ℕ → ℕ → Type 0
+SameFace m n i f turn = (turn < 3) × ((k : ℕ) → k < 3 → corner n i k ≡ corner m f (k + turn))
+
+-- n is m with its faces in another order, turned, and its points numbered in another way: face i of n
+-- is the face of m that row i names
 pub record SameMesh (m n : MeshParts) (rows : Rows) : Type 0 where
   pub heads : m.heads ≡ n.heads
   pub each_row : length rows ≡ length n.faces
   pub each_face : NamesEachOnce (length m.faces) rows
-  pub turns : All (λ row. row.1 < 3) rows
-  pub corners : (i k : ℕ) → i < length n.faces → k < 3 → corner n i k ≡ corner m (named rows i) (k + turn rows i)
+  pub faces : (i : ℕ) → i < length n.faces → SameFace m n i (named rows i) (turn rows i)
+
+-- point i of n is point p of m
+abbrev pub SamePoint : CloudParts → CloudParts → ℕ → ℕ → ℕ → Type 0
+SamePoint m n i p turn = (turn ≡ 0) × (slice_index_or n.points i [] ≡ slice_index_or m.points p [])
 
 -- n is m with its points in another order: point i of n is the point of m that row i names
 pub record SameCloud (m n : CloudParts) (rows : Rows) : Type 0 where
   pub heads : m.heads ≡ n.heads
   pub each_row : length rows ≡ length n.points
   pub each_point : NamesEachOnce (length m.points) rows
-  pub turns : All (λ row. row.1 ≡ 0) rows
-  pub points : (i : ℕ) → i < length n.points → slice_index_or n.points i [] ≡ slice_index_or m.points (named rows i) []
+  pub points : (i : ℕ) → i < length n.points → SamePoint m n i (named rows i) (turn rows i)
 
 -- two meshes, or two clouds, are the same by a renumbering
 abbrev pub Same : Geometry → Geometry → Rows → Type 0

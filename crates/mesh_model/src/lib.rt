@@ -9,6 +9,7 @@
 mod clouds;
 mod geometries;
 mod heads;
+mod matching;
 mod meshes;
 mod renumberings;
 mod row_rules;
