@@ -18,6 +18,7 @@ mod tables;
 pub use clouds::Cloud;
 pub use geometries::Geometry;
 pub use heads::{Head, Quant};
+pub use matching::matches;
 pub use meshes::CornerMesh;
 pub use renumberings::Renumber;
 pub use tables::AttrTable;

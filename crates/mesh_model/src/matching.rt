@@ -3,7 +3,7 @@
 ghost use Rattle.std.specs.Prelude.{◌≡◌, ◌+◌, ◌<◌, ◌↔◌, ℕ, length, IsTrue, IfOk, All};
 ghost use Rattle.std.specs.List.{list_all};
 ghost use Rattle.mesh_model.specs.Parts.{corner};
-ghost use Rattle.mesh_model.specs.Same.{NamesEachOnce, Same, SameFace, SameMesh, SameCloud};
+ghost use Rattle.mesh_model.specs.Same.{NamesEachOnce, Same, SameFace, SameMesh, SamePoint, SameCloud, named, turn};
 
 use crate::clouds::Cloud;
 use crate::geometries::Geometry;
@@ -110,4 +110,102 @@ fn same_face(m: &CornerMesh, n: &CornerMesh, i: u32, named: u32, turn: u8) -> bo
         && same_corner(m, n, i, named, turn, 0)
         && same_corner(m, n, i, named, turn, 1)
         && same_corner(m, n, i, named, turn, 2)
+}
+
+/// Whether each face of `n` is the face of `m` that its row names, turned.
+fn same_faces(m: &CornerMesh, n: &CornerMesh, rows: &[(u32, u8)]) -> bool
+    requires each_row { length rows.now ≡ length n.now.faces }
+    requires within { All (λ row. row.0 < length m.now.faces) rows.now }
+    ensures { IsTrue result ↔ ((i : ℕ) → i < length n.now.faces →
+        SameFace m.now n.now i (named rows.now i) (turn rows.now i)) }
+{
+    for i in 0..n.face_count() {
+        let row = rows[i as usize];
+        if !same_face(m, n, i, row.0, row.1) {
+            return false;
+        }
+    }
+    true
+}
+
+/// Whether `n` is `m` by a renumbering.
+fn same_meshes(
+    alloc: Global,
+    m: &CornerMesh,
+    n: &CornerMesh,
+    rows: &[(u32, u8)],
+) -> Result<bool, Memory>
+    ensures { IfOk result (λ yes. IsTrue yes ↔ SameMesh m.now n.now rows.now) }
+{
+    if !same_heads(m.heads(), n.heads()) {
+        return Ok(false);
+    }
+    if rows.len() != n.face_count() as usize {
+        return Ok(false);
+    }
+    if !names_each_once(alloc, m.face_count(), rows)? {
+        return Ok(false);
+    }
+    Ok(same_faces(m, n, rows))
+}
+
+/// Whether point `i` of `n` is point `named` of `m`, with no turn.
+fn same_point(m: &Cloud, n: &Cloud, i: u32, named: u32, turn: u8) -> bool
+    requires point { i < length n.now.points }
+    requires named { named < length m.now.points }
+    ensures { IsTrue result ↔ SamePoint m.now n.now i named turn }
+{
+    turn == 0 && same_row(n.point(i), m.point(named))
+}
+
+/// Whether each point of `n` is the point of `m` that its row names.
+fn same_points(m: &Cloud, n: &Cloud, rows: &[(u32, u8)]) -> bool
+    requires each_row { length rows.now ≡ length n.now.points }
+    requires within { All (λ row. row.0 < length m.now.points) rows.now }
+    ensures { IsTrue result ↔ ((i : ℕ) → i < length n.now.points →
+        SamePoint m.now n.now i (named rows.now i) (turn rows.now i)) }
+{
+    for i in 0..n.point_count() {
+        let row = rows[i as usize];
+        if !same_point(m, n, i, row.0, row.1) {
+            return false;
+        }
+    }
+    true
+}
+
+/// Whether `n` is `m` by a renumbering.
+fn same_clouds(
+    alloc: Global,
+    m: &Cloud,
+    n: &Cloud,
+    rows: &[(u32, u8)],
+) -> Result<bool, Memory>
+    ensures { IfOk result (λ yes. IsTrue yes ↔ SameCloud m.now n.now rows.now) }
+{
+    if !same_heads(m.heads(), n.heads()) {
+        return Ok(false);
+    }
+    if rows.len() != n.point_count() as usize {
+        return Ok(false);
+    }
+    if !names_each_once(alloc, m.point_count(), rows)? {
+        return Ok(false);
+    }
+    Ok(same_points(m, n, rows))
+}
+
+/// Whether `b` is `a` by the renumbering `c`: their heads are equal; `c` has one row for each face
+/// (or point) of `b`, and names each face (or point) of `a` once; and corner k of face i of `b` has
+/// the integers of corner k + turn of the face that row i names (of clouds, point i those of the
+/// point that row i names, and each turn is 0). A mesh is no cloud. It says nothing of point
+/// numbers, nor of points in no face.
+pub fn matches(alloc: Global, a: &Geometry, b: &Geometry, c: &Renumber) -> Result<bool, Memory>
+    ensures { IfOk result (λ yes. IsTrue yes ↔ Same a.now b.now c.now.rows) }
+{
+    match (a, b) {
+        (Geometry::Mesh(m), Geometry::Mesh(n)) => same_meshes(alloc, m, n, c.rows.as_slice()),
+        (Geometry::Cloud(m), Geometry::Cloud(n)) => same_clouds(alloc, m, n, c.rows.as_slice()),
+        _ => Ok(false),
+    }
 }
