@@ -9,6 +9,7 @@
 mod clouds;
 mod geometries;
 mod heads;
+mod mapping;
 mod matching;
 mod meshes;
 mod renumberings;
@@ -18,6 +19,7 @@ mod tables;
 pub use clouds::Cloud;
 pub use geometries::Geometry;
 pub use heads::{Head, Quant};
+pub use mapping::map_text;
 pub use matching::matches;
 pub use meshes::CornerMesh;
 pub use renumberings::Renumber;
