@@ -2,6 +2,8 @@ pub mod Columns
 pub mod FirstFaults
 pub mod Made
 pub mod Names
+pub mod Pairs
+pub mod Parted
 pub mod Places
 pub mod Ranges
 pub mod Rows

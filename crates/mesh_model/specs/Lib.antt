@@ -7,3 +7,4 @@ pub mod Same
 pub mod Renumbering
 pub mod MapText
 pub mod Assembled
+pub mod Hash

@@ -7,6 +7,7 @@
 #![tactic(auto)]
 
 mod clouds;
+mod corners;
 mod geometries;
 mod heads;
 mod mapping;

@@ -59,7 +59,7 @@ fn same_heads(a: &[Head], b: &[Head]) -> bool
 }
 
 /// Whether two rows are equal.
-fn same_row(a: &[i32], b: &[i32]) -> bool
+pub(crate) fn same_row(a: &[i32], b: &[i32]) -> bool
     ensures { IsTrue result ↔ (a.now ≡ b.now) }
 {
     a == b
