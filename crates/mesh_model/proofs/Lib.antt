@@ -1,4 +1,5 @@
 pub mod Columns
+pub mod DistinctRows
 pub mod FirstFaults
 pub mod Made
 pub mod Names
