@@ -8,3 +8,4 @@ pub mod Renumbering
 pub mod MapText
 pub mod Assembled
 pub mod Hash
+pub mod RowIndex
