@@ -1,2 +1,6 @@
 pub mod Pulling
-pub mod Ends
+pub mod Closing
+pub mod Unread
+pub mod Shifts
+pub mod Draining
+mod Examples

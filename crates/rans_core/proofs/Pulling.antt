@@ -23,8 +23,8 @@ unfolding drained
 refilled-drained base limit zero number bytes h = refl
 refilled-drained base limit (suc times) number bytes h =
     elim (cases_Bool (nat_lt number limit)) [
-      inl e ↦ rw (cond-true _ _ _ e) refl
-    | inr e ↦ rw (cond-false _ _ _ e) (refilled-drained base limit times (number / 256) (number % 256 ∷ bytes) (omega arith) ∙ refilled-shed base number bytes (omega arith))
+      | inl e ↦ rw (cond-true _ _ _ e) refl
+      | inr e ↦ rw (cond-false _ _ _ e) (refilled-drained base limit times (number / 256) (number % 256 ∷ bytes) (omega arith) ∙ refilled-shed base number bytes (omega arith))
     ]
 
 -- what is left is below the limit
@@ -33,8 +33,8 @@ unfolding drained
 drained-below limit zero number bytes h = omega arith
 drained-below limit (suc times) number bytes h =
     elim (cases_Bool (nat_lt number limit)) [
-      inl e ↦ rw (cond-true _ _ _ e) (ltb-true number limit e)
-    | inr e ↦ rw (cond-false _ _ _ e) (drained-below limit times (number / 256) (number % 256 ∷ bytes) (let p : 256 ^ suc times ≡ 256 ^ times * 256 = pow-suc 256 times in let q : limit * (256 ^ times * 256) ≡ limit * 256 ^ times * 256 = sym (mul_assoc limit (256 ^ times) 256) in let r : number < limit * 256 ^ times * 256 = subst (λ n. number < n) (ap (λ n. limit * n) p ∙ q) h in omega arith))
+      | inl e ↦ rw (cond-true _ _ _ e) (ltb-true number limit e)
+      | inr e ↦ rw (cond-false _ _ _ e) (drained-below limit times (number / 256) (number % 256 ∷ bytes) (let p : 256 ^ suc times ≡ 256 ^ times * 256 = pow-suc 256 times in let q : limit * (256 ^ times * 256) ≡ limit * 256 ^ times * 256 = sym (mul_assoc limit (256 ^ times) 256) in let r : number < limit * 256 ^ times * 256 = subst (λ n. number < n) (ap (λ n. limit * n) p ∙ q) h in omega arith))
     ]
 
 -- what is left is not below a 256th of the limit
@@ -43,8 +43,8 @@ unfolding drained
 drained-above low limit zero number bytes l h = h
 drained-above low limit (suc times) number bytes l h =
     elim (cases_Bool (nat_lt number limit)) [
-      inl e ↦ rw (cond-true _ _ _ e) h
-    | inr e ↦ rw (cond-false _ _ _ e) (drained-above low limit times (number / 256) (number % 256 ∷ bytes) l (let g : limit ≤ number = ltb-false number limit e in omega arith))
+      | inl e ↦ rw (cond-true _ _ _ e) h
+      | inr e ↦ rw (cond-false _ _ _ e) (drained-above low limit times (number / 256) (number % 256 ∷ bytes) l (let g : limit ≤ number = ltb-false number limit e in omega arith))
     ]
 
 -- a coder's numbers after a push: not below the base, and below 256 bases
@@ -103,13 +103,13 @@ pushed-IsPush scale total i s positive small fits full =
     let again : q * i.prob + r ≡ t.number = div-add-mod' t.number i.prob in
     let number : ℕ = q * total + r + i.cum in
     let e : number / total * i.prob + number % total - i.cum ≡ t.number =
-      ap (λ n. n * i.prob + number % total - i.cum) slot.1 ∙ ap (λ n. q * i.prob + n - i.cum) slot.0 ∙ omega (arith, again) in
+    ap (λ n. n * i.prob + number % total - i.cum) slot.1 ∙ ap (λ n. q * i.prob + n - i.cum) slot.0 ∙ omega (arith, again) in
     record {
       full = record { above = step.0; below = step.1 };
       shown = rw slot.0 (omega arith, omega arith);
       back = ap (λ n. refilled (scale * total) n t.bytes) e
-        ∙ refilled-drained (scale * total) (256 * (scale * i.prob)) 4 s.number s.bytes full.below
-        ∙ refilled-full (scale * total) s.number s.bytes full.above
+          ∙ refilled-drained (scale * total) (256 * (scale * i.prob)) 4 s.number s.bytes full.below
+          ∙ refilled-full (scale * total) s.number s.bytes full.above;
     }
 
 -- a refilled state can stand for what it was refilled from
@@ -118,7 +118,7 @@ pub Pulled-refilled : (scale total : ℕ) (s t : State) (is : List Interval) →
 Pulled-refilled scale total s t [] full e h = tt
 Pulled-refilled scale total s t (i ∷ is) full e h =
     let same : refilled (scale * total) s.number s.bytes ≡ refilled (scale * total) t.number t.bytes =
-      e ∙ sym (refilled-full (scale * total) t.number t.bytes full.above) in
+    e ∙ sym (refilled-full (scale * total) t.number t.bytes full.above) in
     rw same h
 
 -- **pulling undoes pushing, for every list of intervals**

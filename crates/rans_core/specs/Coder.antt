@@ -41,7 +41,7 @@ pulled total i s = record { number = s.number / total * i.prob + s.number % tota
 abbrev pub Pulled : ℕ → ℕ → State → List Interval → Type 0
 Pulled scale total s [] = Unit {0}
 Pulled scale total s (i ∷ is) = let t = refilled (scale * total) s.number s.bytes in
-  HasSlot i (t.number % total) × Pulled scale total (pulled total i t) is
+    HasSlot i (t.number % total) × Pulled scale total (pulled total i t) is
 
 -- ---- pushing
 
@@ -53,7 +53,7 @@ drained (suc times) limit number bytes = if nat_lt number limit then record { nu
 -- the state after the push of a symbol with this interval; four bytes are enough for a number below 2 ^ 32
 unfoldable pub pushed : ℕ → ℕ → Interval → State → State
 pushed scale total i s = let t = drained 4 (256 * (scale * i.prob)) s.number s.bytes in
-  record { number = t.number / i.prob * total + t.number % i.prob + i.cum; bytes = t.bytes }
+    record { number = t.number / i.prob * total + t.number % i.prob + i.cum; bytes = t.bytes }
 
 -- the state after all pushes, the last interval pushed first
 abbrev pub all_pushed : ℕ → ℕ → List Interval → State
@@ -70,9 +70,9 @@ low_bytes (suc n) number = number % 256 ∷ low_bytes n (number / 256)
 -- the last bytes of a coder: one to four of them with the number above its base, and a tag of how many in the top two bits
 unfoldable pub end_bytes : ℕ → List ℕ
 end_bytes n = if nat_lt n (2 ^ 6) then low_bytes 1 n
-  else (if nat_lt n (2 ^ 14) then low_bytes 2 (n + 1 * 2 ^ 14)
-  else (if nat_lt n (2 ^ 22) then low_bytes 3 (n + 2 * 2 ^ 22)
-  else low_bytes 4 (n + 3 * 2 ^ 30)))
+    else (if nat_lt n (2 ^ 14) then low_bytes 2 (n + 1 * 2 ^ 14)
+    else (if nat_lt n (2 ^ 22) then low_bytes 3 (n + 2 * 2 ^ 22)
+    else low_bytes 4 (n + 3 * 2 ^ 30)))
 
 -- all bytes of a coder in their order: the first emitted first, then the end
 abbrev pub spelled : ℕ → State → List ℕ
@@ -104,3 +104,11 @@ started tags base bytes = started_back tags base (reverse bytes)
 -- the bytes below a place, the last one first
 abbrev pub unread : List ℕ → ℕ → List ℕ
 unread bytes left = reverse (take left bytes)
+
+-- a coder for symbols after its refill
+abbrev pub refilled_coder : Coder → Coder
+refilled_coder c = record { bits = c.bits; state = refilled (4 * 2 ^ c.bits) c.state.number c.state.bytes }
+
+-- the bytes start without a fault, and the intervals are pulled from there in this order
+abbrev pub Unpacks : ℕ → ℕ → List ℕ → List Interval → Type 0
+Unpacks scale total bytes is = (s : State) × (started 4 (scale * total) bytes ≡ Some s) × Pulled scale total s is

@@ -3,6 +3,14 @@
 //! Draco Bitstream Specification 2.2, section Rans Decoding.
 #![tactic(auto)]
 
+mod decoder;
+mod encoder;
 mod ends;
+mod slots;
 
-pub use ends::{refill};
+pub use decoder::Decoder;
+pub use encoder::Encoder;
+pub use ends::{end_bytes, first_state, refill};
+
+#[cfg(test)]
+mod tests;
