@@ -1,8 +1,8 @@
 -- A coder's bytes start with the state that they were closed with.
-use Rattle.std.proofs.Common.{◌≡◌, ℕ, zero, suc, ◌+◌, ◌-◌, ◌*◌, ◌/◌, ◌%◌, ◌^◌, ◌<◌, ◌≤◌, Bool, true, false, cond, nat_lt, List, [], ◌∷◌, ◌++◌, reverse, ◌⊎◌, Option, Some, None, sym, refl, ap, ◌∙◌, subst, inl, inr, arith, ltb-true, ltb-false, lt-ltb, le-ltb, add-one, All, pow_mono, pow_pos}
+use Rattle.std.proofs.Common.{◌≡◌, ℕ, ◌+◌, ◌-◌, ◌*◌, ◌/◌, ◌%◌, ◌^◌, ◌<◌, ◌≤◌, nat_lt, List, [], ◌∷◌, ◌++◌, reverse, ◌⊎◌, Option, Some, refl, ap, ◌∙◌, inl, inr, arith, ltb-true, ltb-false, lt-ltb, add-one, All, pow_mono, pow_pos}
 use Rattle.std.proofs.lemmas.Bool.{cases_Bool, cond-true, cond-false}
 use Rattle.std.proofs.lemmas.List.{reverse-append, reverse-reverse, append_assoc}
-use Rattle.rans_core.specs.Coder.{Fits, Interval, Unpacks, all_pushed, all_spelled, State, low_bytes, end_bytes, spelled, joined, raised, started_back, started}
+use Rattle.rans_core.specs.Coder.{Fits, Interval, Unpacks, all_pushed, all_spelled, State, low_bytes, end_bytes, spelled, joined, started_back, started}
 use Rattle.rans_core.proofs.Pulling.{IsFull, all_pushed-Pulled}
 
 -- the first state, from the parts of the last byte and the joined number

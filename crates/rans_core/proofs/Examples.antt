@@ -1,6 +1,6 @@
 -- Worked examples, computed.
-use Rattle.std.proofs.Common.{◌≡◌, ℕ, List, [], ◌∷◌, Some, None, refl}
-use Rattle.rans_core.specs.Coder.{Interval, State, all_pushed, all_spelled, drained, end_bytes, pushed, started, refilled, pulled}
+use Rattle.std.proofs.Common.{◌≡◌, [], ◌∷◌, Some, None, refl}
+use Rattle.rans_core.specs.Coder.{Interval, all_spelled, drained, end_bytes, pushed, started}
 
 -- of 4096 slots the first 3072 and the other 1024
 low : Interval

@@ -1,5 +1,5 @@
 -- Pulling undoes pushing.
-use Rattle.std.proofs.Common.{◌≡◌, ℕ, zero, suc, ◌+◌, ◌-◌, ◌*◌, ◌/◌, ◌%◌, ◌^◌, ◌<◌, ◌≤◌, Bool, true, false, cond, nat_lt, List, [], ◌∷◌, ◌++◌, reverse, All, sym, refl, ap, ◌∙◌, subst, inl, inr, arith, ltb-true, ltb-false, lt-ltb, le-ltb, div-add-mod', mod-lt, mul_assoc, pow-suc, mul-le-mul_right, mul-le-mul_left, mul-pos, le_trans, lt_of_lt_of_le, le_refl}
+use Rattle.std.proofs.Common.{◌≡◌, ℕ, zero, suc, ◌+◌, ◌-◌, ◌*◌, ◌/◌, ◌%◌, ◌^◌, ◌<◌, ◌≤◌, nat_lt, List, [], ◌∷◌, All, sym, refl, ap, ◌∙◌, subst, inl, inr, arith, ltb-true, ltb-false, lt-ltb, le-ltb, div-add-mod', mod-lt, mul_assoc, pow-suc, mul-le-mul_right, mul-le-mul_left, mul-pos, le_trans, lt_of_lt_of_le, le_refl}
 use Rattle.std.proofs.lemmas.Nat.{div-mul-add, mod-mul-add, le-div, div_below}
 use Rattle.std.proofs.lemmas.Bool.{cases_Bool, cond-true, cond-false}
 use Rattle.std.proofs.lemmas.List.Elements.{All-head, All-tail}

@@ -1,5 +1,5 @@
 -- Shifts of one by a precision, and the number after a pull.
-use Rattle.std.proofs.Common.{◌≡◌, ℕ, ◌+◌, ◌-◌, ◌*◌, ◌/◌, ◌%◌, ◌^◌, ◌<◌, ◌≤◌, arith, ap, ◌∙◌, sym, pow_mono, pow_pos, mul-le-mul_left, div-add-mod', mod-lt, refl}
+use Rattle.std.proofs.Common.{◌≡◌, ℕ, ◌+◌, ◌-◌, ◌*◌, ◌/◌, ◌%◌, ◌^◌, ◌<◌, ◌≤◌, arith, pow_mono, pow_pos, mul-le-mul_left, div-add-mod', mod-lt, refl}
 use Rattle.std.proofs.lemmas.Nat.{one_shl, le-div, div_below}
 use Rattle.rans_core.proofs.Pulling.{full_step}
 

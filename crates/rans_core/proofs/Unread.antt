@@ -1,8 +1,8 @@
 -- The bytes below a place, the last one first, a step at a time.
-use Rattle.std.proofs.Common.{◌≡◌, ℕ, zero, suc, ◌+◌, ◌-◌, ◌*◌, ◌/◌, ◌%◌, ◌^◌, ◌<◌, ◌≤◌, Bool, true, false, cond, nat_lt, List, [], ◌∷◌, ◌++◌, reverse, length, take, get_or, Option, Some, None, sym, refl, ap, ◌∙◌, subst, inl, inr, arith, add-one, lt-ltb, le-ltb, pow-add}
-use Rattle.std.proofs.lemmas.Bool.{cond-true, cond-false}
+use Rattle.std.proofs.Common.{◌≡◌, ℕ, zero, suc, ◌+◌, ◌*◌, ◌^◌, ◌<◌, ◌≤◌, List, [], ◌∷◌, reverse, length, take, get_or, None, refl, ap, ◌∙◌, arith, add-one, lt-ltb, pow-add}
+use Rattle.std.proofs.lemmas.Bool.{cond-true}
 use Rattle.std.proofs.lemmas.List.{reverse-append, take_more, take_all, length-reverse, length-take}
-use Rattle.rans_core.specs.Coder.{State, refilled, joined, unread}
+use Rattle.rans_core.specs.Coder.{refilled, joined, unread}
 
 pub unread-more : (bytes : List ℕ) (left : ℕ) (d : ℕ) → left < length bytes → unread bytes (left + 1) ≡ get_or bytes left d ∷ unread bytes left
 unread-more bytes left d h = ap reverse (take_more bytes left d h) ∙ reverse-append (take left bytes) (get_or bytes left d ∷ [])

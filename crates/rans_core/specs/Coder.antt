@@ -1,7 +1,7 @@
 -- Range asymmetric numeral systems on one number and one list of bytes (Draco Bitstream Specification 2.2,
 -- section Rans Decoding). A coder has `total` slots. Its number, where refilled, is at least
 -- `scale * total` and below 256 times that. The pushing half is this project's choice of an encoder.
-use Rattle.std.specs.Prelude.{ℕ, zero, suc, ◌+◌, ◌-◌, ◌*◌, ◌/◌, ◌%◌, ◌^◌, ◌<◌, ◌≤◌, ◌≡◌, Bool, ◌&&◌, nat_lt, nat_le, List, [], ◌∷◌, ◌++◌, reverse, length, take, Option, Some, None, option_and_then, All, if◌then◌else◌}
+use Rattle.std.specs.Prelude.{ℕ, zero, suc, ◌+◌, ◌-◌, ◌*◌, ◌/◌, ◌%◌, ◌^◌, ◌<◌, ◌≤◌, ◌≡◌, nat_lt, List, [], ◌∷◌, ◌++◌, reverse, take, Option, Some, None, option_and_then, if◌then◌else◌}
 
 -- the slots of a symbol: how many slots lie below them, and how many they are
 pub record Interval : Type 0 where

@@ -1,6 +1,5 @@
-use Rattle.std.proofs.Common.{ℕ, ◌+◌, ◌-◌, ◌*◌, ◌<◌, ◌≤◌, ◌^◌, ◌≡◌, ◌∙◌, sym, reverse, arith}
+use Rattle.std.proofs.Common.{ℕ, ◌+◌, ◌-◌, ◌*◌, ◌∙◌, sym, reverse, arith}
 use Rattle.std.proofs.lemmas.Nat.{and_mask}
-use Rattle.rans_core.specs.Coder.{drained}
 use Rattle.rans_core.proofs.Draining.{drained-stop, drained-none, drained-step, drained-fits}
 use Rattle.rans_core.proofs.encoder.drain.Goals as goal
 

@@ -1,4 +1,4 @@
-use Rattle.std.proofs.Common.{◌≡◌, ℕ, ◌+◌, ◌-◌, ◌*◌, ◌≤◌, reverse, vec_len, vec_capacity}
+use Rattle.std.proofs.Common.{◌≡◌, ◌+◌, ◌-◌, ◌*◌, ◌≤◌, reverse, vec_len, vec_capacity}
 use Rattle.rans_core.specs.Coder.{drained}
 use Rattle.rans_core.proofs.encoder.drain.Given as goal
 

@@ -1,5 +1,5 @@
-use Rattle.std.proofs.Common.{rules, ◌≡◌, ℕ, ◌+◌, ◌*◌, ◌^◌, ◌<◌, ◌≤◌, length, ◌-◌, arith, ◌∙◌, ap, sym, refl, get_or, lt_of_lt_of_le, pow_mono}
-use Rattle.rans_core.specs.Coder.{State, joined, refilled, started, unread}
+use Rattle.std.proofs.Common.{ℕ, ◌+◌, ◌*◌, ◌-◌, arith, ◌∙◌, sym, lt_of_lt_of_le, pow_mono}
+use Rattle.rans_core.specs.Coder.{unread}
 use Rattle.rans_core.proofs.Unread.{joined-short, length-unread, joined-step, byte_fits}
 use Rattle.rans_core.proofs.ends.join_bytes.Goals as goal
 

@@ -1,4 +1,4 @@
-use Rattle.std.proofs.Common.{◌≡◌, ℕ, ◌-◌, ◌++◌, length}
+use Rattle.std.proofs.Common.{◌≡◌, ◌-◌, ◌++◌, length}
 use Rattle.rans_core.specs.Coder.{low_bytes}
 use Rattle.rans_core.proofs.ends.low_bytes.Given as goal
 

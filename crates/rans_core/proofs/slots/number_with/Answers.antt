@@ -1,4 +1,3 @@
-use Rattle.std.proofs.Common.{arith}
 use Rattle.rans_core.proofs.Shifts.{pushed_fits}
 use Rattle.rans_core.proofs.slots.number_with.Goals as goal
 

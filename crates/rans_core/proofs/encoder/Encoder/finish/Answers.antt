@@ -1,6 +1,6 @@
-use Rattle.std.proofs.Common.{◌≡◌, ℕ, ◌+◌, ◌*◌, ◌^◌, ◌<◌, ◌≤◌, List, ◌++◌, reverse, All, Some, ◌∙◌, ap, arith, rules}
+use Rattle.std.proofs.Common.{◌≡◌, ◌*◌, ◌^◌, ◌≤◌, rules}
 use Rattle.std.proofs.lemmas.List.{reverse-reverse}
-use Rattle.rans_core.specs.Coder.{Fits, Interval, State, Unpacks, all_pushed, spelled, started}
+use Rattle.rans_core.specs.Coder.{spelled}
 use Rattle.rans_core.proofs.Closing.{all_spelled-Unpacks}
 use Rattle.rans_core.proofs.encoder.Encoder.finish.Goals as goal
 

@@ -1,5 +1,4 @@
-use Rattle.std.proofs.Common.{◌≡◌, ℕ, ◌+◌, ◌*◌, ◌^◌, ◌<◌, ◌≤◌, ◌∙◌, ap, arith, pow_mono, le_trans, reverse}
-use Rattle.rans_core.specs.Coder.{pushed, drained}
+use Rattle.std.proofs.Common.{◌^◌, ◌≤◌, arith, pow_mono, reverse}
 use Rattle.rans_core.proofs.Draining.{pushed-is}
 use Rattle.rans_core.proofs.encoder.Encoder.push.Goals as goal
 
