@@ -4,8 +4,10 @@
 //! section "Core types"; which ones are too long is this project's choice.
 #![tactic(auto)]
 
+mod bit_reader;
 mod cursors;
 mod varints;
 
+pub use bit_reader::BitReader;
 pub use cursors::Cursor;
 pub use varints::{put_var32, put_var64};
