@@ -60,12 +60,12 @@ unfolding bits_of
 low_bits-word a b c d bytes ha hb hc =
     let e : a + 256 * (b + 256 * (c + 256 * d)) ≡ a + (b + (c + d * 2 ^ 8) * 2 ^ 8) * 2 ^ 8 = omega arith in
     let p : low_bits 32 (a + (b + (c + d * 2 ^ 8) * 2 ^ 8) * 2 ^ 8) ≡ low_bits 8 a ++ (low_bits 8 b ++ (low_bits 8 c ++ low_bits 8 d)) =
-      low_bits-add 8 24 a (b + (c + d * 2 ^ 8) * 2 ^ 8) ha
-      ∙ ap (λ zs. low_bits 8 a ++ zs) (low_bits-add 8 16 b (c + d * 2 ^ 8) hb
-      ∙ ap (λ zs. low_bits 8 b ++ zs) (low_bits-add 8 8 c d hc)) in
+    low_bits-add 8 24 a (b + (c + d * 2 ^ 8) * 2 ^ 8) ha
+    ∙ ap (λ zs. low_bits 8 a ++ zs) (low_bits-add 8 16 b (c + d * 2 ^ 8) hb
+    ∙ ap (λ zs. low_bits 8 b ++ zs) (low_bits-add 8 8 c d hc)) in
     rw (e, p) (append_assoc (low_bits 8 a) (low_bits 8 b ++ (low_bits 8 c ++ low_bits 8 d)) (bits_of bytes)
-      ∙ ap (λ zs. low_bits 8 a ++ zs) (append_assoc (low_bits 8 b) (low_bits 8 c ++ low_bits 8 d) (bits_of bytes)
-      ∙ ap (λ zs. low_bits 8 b ++ zs) (append_assoc (low_bits 8 c) (low_bits 8 d) (bits_of bytes))))
+    ∙ ap (λ zs. low_bits 8 a ++ zs) (append_assoc (low_bits 8 b) (low_bits 8 c ++ low_bits 8 d) (bits_of bytes)
+    ∙ ap (λ zs. low_bits 8 b ++ zs) (append_assoc (low_bits 8 c) (low_bits 8 d) (bits_of bytes))))
 
 -- ---- taking bits
 
@@ -79,8 +79,8 @@ pub take-low_bits : (n count a : ℕ) (rest : List ℕ) → n ≤ count → numb
 take-low_bits n count a rest h =
     let e : count ≡ n + (count - n) = omega arith in
     let p : low_bits count a ++ rest ≡ low_bits n (a % 2 ^ n) ++ (low_bits (count - n) (a / 2 ^ n) ++ rest) =
-      ap (λ k. low_bits k a ++ rest) e ∙ ap (λ zs. zs ++ rest) (low_bits-split n (count - n) a)
-      ∙ append_assoc (low_bits n (a % 2 ^ n)) (low_bits (count - n) (a / 2 ^ n)) rest in
+    ap (λ k. low_bits k a ++ rest) e ∙ ap (λ zs. zs ++ rest) (low_bits-split n (count - n) a)
+    ∙ append_assoc (low_bits n (a % 2 ^ n)) (low_bits (count - n) (a / 2 ^ n)) rest in
     ap (λ zs. number_of (take n zs)) p
     ∙ ap number_of (take_at (low_bits n (a % 2 ^ n)) (low_bits (count - n) (a / 2 ^ n) ++ rest) n (length-low_bits n (a % 2 ^ n)))
     ∙ number_of-low_bits n (a % 2 ^ n) ∙ mod-eq_of_lt (mod-lt a (pow_pos n))
@@ -89,6 +89,6 @@ pub drop-low_bits : (n count a : ℕ) (rest : List ℕ) → n ≤ count → drop
 drop-low_bits n count a rest h =
     let e : count ≡ n + (count - n) = omega arith in
     let p : low_bits count a ++ rest ≡ low_bits n (a % 2 ^ n) ++ (low_bits (count - n) (a / 2 ^ n) ++ rest) =
-      ap (λ k. low_bits k a ++ rest) e ∙ ap (λ zs. zs ++ rest) (low_bits-split n (count - n) a)
-      ∙ append_assoc (low_bits n (a % 2 ^ n)) (low_bits (count - n) (a / 2 ^ n)) rest in
+    ap (λ k. low_bits k a ++ rest) e ∙ ap (λ zs. zs ++ rest) (low_bits-split n (count - n) a)
+    ∙ append_assoc (low_bits n (a % 2 ^ n)) (low_bits (count - n) (a / 2 ^ n)) rest in
     ap (drop n) p ∙ drop_at (low_bits n (a % 2 ^ n)) (low_bits (count - n) (a / 2 ^ n) ++ rest) n (length-low_bits n (a % 2 ^ n))

@@ -4,3 +4,5 @@ pub mod Many
 pub mod BitLists
 pub mod Buffers
 pub mod Loading
+pub mod Packing
+mod BitExamples

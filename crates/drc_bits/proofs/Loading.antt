@@ -18,11 +18,14 @@ pub loaded_byte : (bytes : List ℕ) (next buffer buffer' count : ℕ) → next 
 loaded_byte bytes next buffer buffer' count n c h e f =
     let place : 8 * (next + 1) - (count + 8) ≡ 8 * next - count = omega arith in
     record {
-      within = omega arith; begun = omega (arith, h.begun); small = omega arith; fits = f;
+      within = omega arith;
+      begun = omega (arith, h.begun);
+      small = omega arith;
+      fits = f;
       holds = ap (λ k. drop k (bits_of bytes)) place ∙ h.holds
-        ∙ ap (λ zs. low_bits count buffer ++ bits_of zs) (drop_more bytes next 0 n)
-        ∙ sym (low_bits-byte count buffer (get_or bytes next 0) (drop (next + 1) bytes) h.fits)
-        ∙ ap (λ b. low_bits (count + 8) b ++ bits_of (drop (next + 1) bytes)) (sym e)
+          ∙ ap (λ zs. low_bits count buffer ++ bits_of zs) (drop_more bytes next 0 n)
+          ∙ sym (low_bits-byte count buffer (get_or bytes next 0) (drop (next + 1) bytes) h.fits)
+          ∙ ap (λ b. low_bits (count + 8) b ++ bits_of (drop (next + 1) bytes)) (sym e);
     }
 
 one_more : (bytes : List ℕ) (at next b : ℕ) → at < length bytes → next ≡ at + 1 → b ≡ get_or bytes at 0 → drop at bytes ≡ b ∷ drop next bytes
@@ -47,12 +50,15 @@ loaded_word bytes next buffer buffer' count a b c d n small h ea eb ec ed fa fb 
     let w : ℕ = a + 256 * (b + 256 * (c + 256 * d)) in
     let q : drop next bytes ≡ a ∷ b ∷ c ∷ d ∷ rest = four_more bytes next a b c d n ea eb ec ed in
     record {
-      within = n; begun = omega (arith, h.begun); small = omega arith; fits = f;
+      within = n;
+      begun = omega (arith, h.begun);
+      small = omega arith;
+      fits = f;
       holds = ap (λ k. drop k (bits_of bytes)) place ∙ h.holds
-        ∙ ap (λ zs. low_bits count buffer ++ zs) (ap bits_of q ∙ sym (low_bits-word a b c d rest fa fb fc))
-        ∙ sym (append_assoc (low_bits count buffer) (low_bits 32 w) (bits_of rest))
-        ∙ ap (λ zs. zs ++ bits_of rest) (sym (low_bits-add count 32 buffer w h.fits))
-        ∙ ap (λ k. low_bits (count + 32) k ++ bits_of rest) (sym e)
+          ∙ ap (λ zs. low_bits count buffer ++ zs) (ap bits_of q ∙ sym (low_bits-word a b c d rest fa fb fc))
+          ∙ sym (append_assoc (low_bits count buffer) (low_bits 32 w) (bits_of rest))
+          ∙ ap (λ zs. zs ++ bits_of rest) (sym (low_bits-add count 32 buffer w h.fits))
+          ∙ ap (λ k. low_bits (count + 32) k ++ bits_of rest) (sym e);
     }
 
 -- ---- taking bits from the buffer
@@ -70,13 +76,14 @@ length-left bytes next buffer count h =
 -- enough bits are there
 pub bits_there : (bytes : List ℕ) (next buffer count n : ℕ) → HasBuffer bytes next buffer count → n ≤ count →
     (let r : BitPlace = record { bytes = bytes; taken = 8 * next - count } in
-      (next_bits n r ≡ Some (buffer % 2 ^ n)) × (after_bits n r ≡ record { bytes = bytes; taken = 8 * next - (count - n) }))
+    (next_bits n r ≡ Some (buffer % 2 ^ n)) × (after_bits n r ≡ record { bytes = bytes; taken = 8 * next - (count - n) }))
 bits_there bytes next buffer count n h k =
     let enough : nat_le n (length (drop (8 * next - count) (bits_of bytes))) ≡ true =
-      le-leb n (length (drop (8 * next - count) (bits_of bytes))) (let e = length-left bytes next buffer count h in omega arith) in
-    let place : 8 * next - count + n ≡ 8 * next - (count - n) = (let b = h.begun in omega arith) in
-    (cond-true _ _ _ enough ∙ ap (λ v. Some v) (ap (λ zs. number_of (take n zs)) h.holds ∙ take-low_bits n count buffer (bits_of (drop next bytes)) k),
-     cond-true _ _ _ enough ∙ ap (placed bytes) place)
+    le-leb n (length (drop (8 * next - count) (bits_of bytes))) (let e = length-left bytes next buffer count h in omega arith) in
+    let place : 8 * next - count + n ≡ 8 * next - (count - n) = (let b = h.begun in omega arith) in (
+      cond-true _ _ _ enough ∙ ap (λ v. Some v) (ap (λ zs. number_of (take n zs)) h.holds ∙ take-low_bits n count buffer (bits_of (drop next bytes)) k),
+      cond-true _ _ _ enough ∙ ap (placed bytes) place,
+    )
 
 -- the buffer behind them
 pub buffer_after : (bytes : List ℕ) (next buffer count n : ℕ) → HasBuffer bytes next buffer count → n ≤ count →
@@ -85,11 +92,13 @@ buffer_after bytes next buffer count n h k =
     let e : count ≡ (count - n) + n = omega arith in
     let place : 8 * next - (count - n) ≡ 8 * next - count + n = (let b = h.begun in omega arith) in
     record {
-      within = h.within; begun = (let b = h.begun in omega arith); small = (let b = h.small in omega arith);
+      within = h.within;
+      begun = (let b = h.begun in omega arith);
+      small = (let b = h.small in omega arith);
       fits = shr_below buffer (count - n) n (subst (λ j. buffer < 2 ^ j) e h.fits);
       holds = ap (λ j. drop j (bits_of bytes)) place
-        ∙ sym (drop-drop n (8 * next - count) (bits_of bytes))
-        ∙ ap (drop n) h.holds ∙ drop-low_bits n count buffer (bits_of (drop next bytes)) k
+          ∙ sym (drop-drop n (8 * next - count) (bits_of bytes))
+          ∙ ap (drop n) h.holds ∙ drop-low_bits n count buffer (bits_of (drop next bytes)) k;
     }
 
 -- too few bits are left
@@ -97,7 +106,7 @@ pub bits_short : (bytes : List ℕ) (next buffer count n : ℕ) → HasBuffer by
     (let r : BitPlace = record { bytes = bytes; taken = 8 * next - count } in (next_bits n r ≡ None) × (after_bits n r ≡ r))
 bits_short bytes next buffer count n h k e =
     let short : nat_le n (length (drop (8 * next - count) (bits_of bytes))) ≡ false =
-      lt-leb n (length (drop (8 * next - count) (bits_of bytes))) (let l = length-left bytes next buffer count h in omega arith) in
+    lt-leb n (length (drop (8 * next - count) (bits_of bytes))) (let l = length-left bytes next buffer count h in omega arith) in
     (cond-false _ _ _ short, cond-false _ _ _ short)
 
 -- how many bytes were begun

@@ -60,3 +60,8 @@ pub record HasBuffer (bytes : List ℕ) (next buffer count : ℕ) : Type 0 where
   pub small : count < 64
   pub fits : buffer < 2 ^ count
   pub holds : drop (8 * next - count) (bits_of bytes) ≡ low_bits count buffer ++ bits_of (drop next bytes)
+
+-- the low n bytes of a number, the lowest first
+abbrev pub low_bytes : ℕ → ℕ → List ℕ
+low_bytes zero v = []
+low_bytes (suc n) v = v % 256 ∷ low_bytes n (v / 256)

@@ -66,7 +66,11 @@ fn load(bytes: &[u8], next: usize, buffer: u64, count: u32) -> (u64, u32, usize)
     ensures loaded { (32 ≤ result.1) ⊎ (result.2 ≡ length bytes.now) }
 {
     if bytes.len() - next >= 4 {
-        return (with_word(buffer, count, word_at(bytes, next)), count + 32, next + 4);
+        return (
+            with_word(buffer, count, word_at(bytes, next)),
+            count + 32,
+            next + 4,
+        );
     }
     let mut buffer = buffer;
     let mut count = count;

@@ -12,31 +12,31 @@ pub returns-then-count-n-clause-value : goal.returns-then-count-n-clause-value
 returns-then-count-n-clause-value c =
     let s = same (goal.at.returns-then-count-n-clause-value c).After-filled-buffer in
     let p = bits_short c.self.inside.bytes.now c.filled-buffer.result.2 c.filled-buffer.result.0 c.filled-buffer.result.1 c.args.n
-      c.filled-buffer.ensures.holds c.if-count-n.true (c.filled-buffer.ensures.filled c.if-count-n.true) in
+    c.filled-buffer.ensures.holds c.if-count-n.true (c.filled-buffer.ensures.filled c.if-count-n.true) in
     sym (ap (next_bits c.args.n) s ∙ p.0)
 
 pub returns-then-count-n-clause-after : goal.returns-then-count-n-clause-after
 returns-then-count-n-clause-after c =
     let s = same (goal.at.returns-then-count-n-clause-after c).After-filled-buffer in
     let p = bits_short c.self.inside.bytes.now c.filled-buffer.result.2 c.filled-buffer.result.0 c.filled-buffer.result.1 c.args.n
-      c.filled-buffer.ensures.holds c.if-count-n.true (c.filled-buffer.ensures.filled c.if-count-n.true) in
+    c.filled-buffer.ensures.holds c.if-count-n.true (c.filled-buffer.ensures.filled c.if-count-n.true) in
     sym (ap (after_bits c.args.n) s ∙ p.1)
 
 pub invariant_of-self-2 : goal.invariant_of-self-2
 invariant_of-self-2 c =
     buffer_after c.self.inside.bytes.now c.filled-buffer.result.2 c.filled-buffer.result.0 c.filled-buffer.result.1 c.args.n
-      c.filled-buffer.ensures.holds c.if-count-n.false
+    c.filled-buffer.ensures.holds c.if-count-n.false
 
 pub returns-clause-value : goal.returns-clause-value
 returns-clause-value c =
     let s = same (goal.at.returns-clause-value c).After-filled-buffer in
     let p = bits_there c.self.inside.bytes.now c.filled-buffer.result.2 c.filled-buffer.result.0 c.filled-buffer.result.1 c.args.n
-      c.filled-buffer.ensures.holds c.if-count-n.false in
+    c.filled-buffer.ensures.holds c.if-count-n.false in
     sym (ap (next_bits c.args.n) s ∙ p.0 ∙ ap (λ (v : ℕ). Some v) (sym c.low_part.ensures))
 
 pub returns-clause-after : goal.returns-clause-after
 returns-clause-after c =
     let s = same (goal.at.returns-clause-after c).After-filled-buffer in
     let p = bits_there c.self.inside.bytes.now c.filled-buffer.result.2 c.filled-buffer.result.0 c.filled-buffer.result.1 c.args.n
-      c.filled-buffer.ensures.holds c.if-count-n.false in
+    c.filled-buffer.ensures.holds c.if-count-n.false in
     sym (ap (after_bits c.args.n) s ∙ p.1)
