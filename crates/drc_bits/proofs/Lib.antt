@@ -1,3 +1,9 @@
 pub mod Results
 pub mod Groups
 pub mod Many
+pub mod Spelled
+pub mod BitLists
+pub mod Buffers
+pub mod Loading
+pub mod Packing
+mod BitExamples

@@ -4,8 +4,15 @@
 //! section "Core types"; which ones are too long is this project's choice.
 #![tactic(auto)]
 
+mod bit_reader;
+mod bit_writer;
 mod cursors;
 mod varints;
 
+pub use bit_reader::BitReader;
+pub use bit_writer::BitWriter;
 pub use cursors::Cursor;
 pub use varints::{put_var32, put_var64};
+
+#[cfg(test)]
+mod tests;
