@@ -5,5 +5,9 @@
 #![tactic(auto)]
 
 mod decoder_heads;
+mod head_items;
+mod head_reading;
+mod links;
 
 pub use decoder_heads::DecoderHead;
+pub use head_reading::read_heads;
