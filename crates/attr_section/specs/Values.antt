@@ -1,6 +1,6 @@
 -- The values of attributes (Draco Bitstream Specification 2.2, sections "Sequential Attributes", "Prediction Decoder" and
 -- "Quantization"; the limits and what is refused are this project's choice).
-use Rattle.std.specs.Prelude.{◌≡◌, ◌≤◌, ◌<◌, ℕ, ◌+◌, ◌-◌, ◌*◌, ◌/◌, ◌%◌, ◌^◌, ◌==◌, ◌&&◌, ◌||◌, Bool, true, false, IsTrue, ℤ, pos, negsuc, ◌-ℤ◌, List, [], ◌∷◌, ◌++◌, length, map, Option, None, Some, Result, Ok, sum_by, nat_le, nat_lt, int_le, int_lt, if◌then◌else◌, All}
+use Rattle.std.specs.Prelude.{ℕ, ◌+◌, ◌-◌, ◌*◌, ◌/◌, ◌%◌, ◌^◌, ◌==◌, ◌&&◌, ◌||◌, Bool, ℤ, pos, negsuc, ◌-ℤ◌, List, [], length, Option, None, Some, Ok, sum_by, nat_le, int_le, int_lt, if◌then◌else◌}
 use Rattle.std.specs.List.{list_all}
 use Rattle.std.specs.Ordering.{int_eq}
 use Rattle.drc_base.specs.declared.kinds.Kind.TheVariants as kind

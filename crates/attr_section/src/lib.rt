@@ -16,4 +16,5 @@ mod values;
 
 pub use decoder_heads::DecoderHead;
 pub use head_reading::read_heads;
+pub use value_reading::read_decoder;
 pub use values::Values;

@@ -72,7 +72,8 @@ fn read_differences(
 ) -> Result<Vec<i32>, Refusal>
     requires some { 0 < comps }
     requires whole { n % comps ≡ 0 }
-    ensures { Gives (λ v. v.items) (differences_at comps n c.old) c.new result }
+    ensures item { Gives (λ v. v.items) (differences_at comps n c.old) c.new result }
+    ensures len { IfOk result (λ v. length v.items ≡ n) }
 {
     read_transform(c)?;
     let mut values = read_integers(alloc, c, comps, n)?;
@@ -91,7 +92,8 @@ fn read_predicted(
 ) -> Result<Vec<i32>, Refusal>
     requires some { 0 < comps }
     requires whole { n % comps ≡ 0 }
-    ensures { Gives (λ v. v.items) (predicted_at predict comps n c.old) c.new result }
+    ensures item { Gives (λ v. v.items) (predicted_at predict comps n c.old) c.new result }
+    ensures len { IfOk result (λ v. length v.items ≡ n) }
 {
     if predict == NO_PREDICTION {
         read_integers(alloc, c, comps, n)
@@ -110,7 +112,8 @@ fn read_typed_values(
 ) -> Result<Values, Refusal>
     requires some { 0 < head.now.comps }
     requires whole { n % head.now.comps ≡ 0 }
-    ensures { Gives (λ v. v) (typed_values_at head.now n c.old) c.new result }
+    ensures item { Gives (λ v. v) (typed_values_at head.now n c.old) c.new result }
+    ensures len { IfOk result (λ v. length v.values ≡ n) }
 {
     let at = c.place();
     let predict = read_prediction(c)?;
@@ -139,11 +142,75 @@ fn read_values(
 ) -> Result<Values, Refusal>
     requires some { 0 < head.now.comps }
     requires spent { spent ≤ MAX_VALUES }
-    ensures { Gives (λ v. v) (values_at head.now entries spent c.old) c.new result }
+    ensures item { Gives (λ v. v) (values_at head.now entries spent c.old) c.new result }
+    ensures len { IfOk result (λ v. length v.values ≡ entries * head.now.comps) }
+    ensures few { IfOk result (λ v. spent + length v.values ≤ MAX_VALUES) }
 {
     let n = entries as u64 * head.comps as u64;
     if spent + n > MAX_VALUES as u64 {
         return Err(Refusal::Fault(c.fault(Kind::ValueLimit)));
     }
     read_typed_values(alloc, c, head, n as u32)
+}
+
+/// The values of attributes for so many entries, behind so many other values.
+fn read_attributes(
+    alloc: Global,
+    c: &mut Cursor<'_>,
+    heads: &[Head],
+    entries: u32,
+    spent: u64,
+) -> Result<Vec<Values>, Refusal>
+    requires some { All (λ h. 0 < h.comps) heads.now }
+    requires spent { spent ≤ MAX_VALUES }
+    ensures item { Gives (λ v. v.items) (attributes_at heads.now entries spent c.old) c.new result }
+    ensures few { IfOk result (λ v. spent + values_in v.items ≤ MAX_VALUES) }
+{
+    let mut total = spent;
+    let mut attributes = Vec::new(alloc);
+    for head in heads {
+        let values = read_values(alloc, c, head, entries, total)?;
+        total += values.values.len() as u64;
+        attributes.push(values)?;
+    }
+    Ok(attributes)
+}
+
+/// How many values attributes have.
+fn values_in(attributes: &[Values]) -> u64
+    requires { values_in attributes.now ≤ MAX_VALUES }
+    ensures { result ≡ values_in attributes.now }
+{
+    let mut total: u64 = 0;
+    for values in attributes {
+        total += values.values.len() as u64;
+    }
+    total
+}
+
+/// The values of a decoder of a sequential stream, for so many entries, behind so many values of
+/// decoders before it; `spent` grows by the values read, and the decoder's heads get their
+/// quantisations. The first fault of the bytes: for each attribute `ValueLimit` where it passes
+/// 2^24 values in all, at its prediction byte; `Prediction`, `Transform`, `ByteWidth`, the faults of
+/// a symbol block, `WrapRange` at a range's start, `ValueRange` at the prediction byte; then
+/// `QuantBits` at the quantisations; and `Short`.
+#[tactic(auto, unfolding(crate::specs::Values::decoder_values_at))]
+pub fn read_decoder(
+    alloc: Global,
+    c: &mut Cursor<'_>,
+    h: &mut DecoderHead,
+    entries: u32,
+    spent: &mut u64,
+) -> Result<Vec<Values>, Refusal>
+    requires some { All (λ head. 0 < head.comps) h.old.heads }
+    requires spent { spent.old ≤ MAX_VALUES }
+    ensures values { MatchResult result (λ v. decoder_values_at h.old entries spent.old c.old ≡ Ok ((v.items, h.new), c.new)) (λ e. Refuses (decoder_values_at h.old entries spent.old c.old) e) }
+    ensures spent { IfOk result (λ v. spent.new ≡ spent.old + values_in v.items) }
+    ensures few { IfOk result (λ v. spent.new ≤ MAX_VALUES) }
+{
+    let attributes = read_attributes(alloc, c, h.heads.as_slice(), entries, *spent)?;
+    let heads = read_quants(alloc, c, h.heads.as_slice())?;
+    h.heads = Sequence::from_vec(heads);
+    *spent += values_in(&attributes);
+    Ok(attributes)
 }

@@ -1,5 +1,4 @@
-use Rattle.std.proofs.Common.{rules, ◌≡◌, ◌+◌, length, ◌++◌, ◌∷◌, [], refl, ap, ◌∙◌, arith}
-use Rattle.std.proofs.lemmas.List.{length_push}
+use Rattle.std.proofs.Common.{arith}
 use Rattle.std.proofs.lemmas.Result.{err_from_is_err_and}
 use Rattle.drc_bits.specs.Reading.{many_at}
 use Rattle.drc_bits.proofs.Many.{many_at-next, many_at-fault, many_at-end}

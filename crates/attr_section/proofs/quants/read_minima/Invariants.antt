@@ -1,4 +1,4 @@
-use Rattle.std.proofs.Common.{◌≡◌, ◌-◌, length}
+use Rattle.std.proofs.Common.{◌≡◌, ◌-◌}
 use Rattle.drc_bits.specs.Reading.{many_at}
 use Rattle.drc_bits.proofs.Many.{with_front}
 use Rattle.drc_bits.specs.Numbers.{number_at}

@@ -1,6 +1,6 @@
 use Rattle.std.proofs.Common.{◌≡◌, [], drop}
 use Rattle.attr_section.specs.Each.{each_at}
-use Rattle.attr_section.specs.Values.{quantised_at, quants_at}
+use Rattle.attr_section.specs.Values.{quantised_at}
 use Rattle.attr_section.proofs.quants.read_quants.Given as goal
 
 abbrev pub invariant-loop-head : goal.invariant-loop-head
