@@ -69,7 +69,7 @@ transform_at c = must kind.Transform (λ t. t == 1) (number_at 1) c
 unfoldable pub integers_at : ℕ → ℕ → Reading → Item (List ℤ)
 integers_at comps n c = do
   compressed ← number_at 1 c
-  if compressed.0 == 0 then plain_values_at n compressed.1 else plain_values_at n compressed.1
+  if compressed.0 == 0 then plain_values_at n compressed.1 else fault_at kind.NotYet c
 
 -- n values that are restored from corrections by difference
 unfoldable pub differences_at : ℕ → ℕ → Reading → Item (List ℤ)

@@ -104,10 +104,14 @@ pub fn read_integers(
     ensures item { Gives (λ v. v.items) (integers_at comps n c.old) c.new result }
     ensures len { IfOk result (λ v. length v.items ≡ n) }
 {
+    let at = c.place();
     let compressed = c.get_u8()?;
     if compressed == 0 {
         read_plain_values(alloc, c, n)
     } else {
-        read_plain_values(alloc, c, n)
+        Err(Refusal::Fault(Fault {
+            kind: Kind::NotYet,
+            at,
+        }))
     }
 }
