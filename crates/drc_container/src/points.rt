@@ -1,7 +1,7 @@
 //! The points of a sequential stream from the columns of its attributes.
 
-ghost use Rattle.std.specs.Prelude.{◌≡◌, ◌<◌, ◌++◌, IfOk, OnOk};
-ghost use Rattle.attr_section.specs.Values.{AreColumns};
+ghost use Rattle.std.specs.Prelude.{◌≡◌, ◌<◌, ◌≤◌, ◌+◌, ◌++◌, length, take, drop, IfOk, OnOk};
+ghost use Rattle.drc_container.specs.Columns.{AreColumns};
 ghost use Rattle.drc_container.specs.Stream.{points_of, row_of};
 
 use crate::attributes::Attributes;
@@ -35,8 +35,21 @@ fn put_row(
     let values = attributes.values.as_slice();
     for k in 0..heads.len() {
         let comps = heads[k].comps as usize;
-        let start = i as usize * comps;
-        cells.extend_from_slice(&values[k].values.as_slice()[start..start + comps])?;
+        put_piece(cells, values[k].values.as_slice(), i as usize * comps, comps)?;
     }
+    Ok(())
+}
+
+/// Appends `comps` integers of a column, from `start` on.
+fn put_piece(
+    cells: &mut Vec<i32>,
+    column: &[i32],
+    start: usize,
+    comps: usize,
+) -> Result<(), Memory>
+    requires { start + comps ≤ length column.now }
+    ensures { OnOk result (cells.new.items ≡ cells.old.items ++ take comps (drop start column.now)) }
+{
+    cells.extend_from_slice(&column[start..start + comps])?;
     Ok(())
 }

@@ -1,0 +1,49 @@
+-- Rows of columns, a column at a time.
+use Rattle.std.proofs.Common.{◌≡◌, ℕ, zero, suc, ◌+◌, ◌-◌, ◌*◌, ◌<◌, ◌≤◌, ℤ, List, [], ◌∷◌, ◌++◌, map, length, take, drop, get_or, refl, sym, ◌∙◌, ap, arith, append_assoc, append-nil, drop-cons}
+use Rattle.std.specs.List.{flat_map, range_with_len}
+use Rattle.std.proofs.lemmas.List.{drop_all}
+use Rattle.std.proofs.Math.Nat.{mul-le-mul_right}
+use Rattle.mesh_model.specs.declared.heads.Head.{Head}
+use Rattle.attr_section.specs.declared.values.Values.{Values}
+use Rattle.drc_container.specs.Columns.{row_at, cells_at, AreColumns}
+
+-- the columns of values
+abbrev pub columns : List Values → List (List ℤ)
+columns values = map (λ v. v.values) values
+
+-- the heads and values from attribute k on are columns
+pub record ColumnsFrom (n : ℕ) (heads : List Head) (values : List Values) (k : ℕ) : Type 0 where
+  pub rest : AreColumns n (drop k heads) (drop k values)
+
+-- what is known of attribute k
+pub record ColumnAt (n : ℕ) (heads : List Head) (values : List Values) (k : ℕ) (h : Head) (v : Values) (i : ℕ) : Type 0 where
+  pub within : k < length values
+  pub long : length v.values ≡ n * h.comps
+  pub next : ColumnsFrom n heads values (k + 1)
+  pub row : row_at (drop k heads) (columns (drop k values)) i ≡ take h.comps (drop (i * h.comps) v.values) ++ row_at (drop (k + 1) heads) (columns (drop (k + 1) values)) i
+
+pub ColumnAt-of : (n : ℕ) (heads : List Head) (values : List Values) (k i : ℕ) (h : Head) (v : Values) → ColumnsFrom n heads values k → k < length heads
+    → h ≡ get_or heads k h → v ≡ get_or values k v → ColumnAt n heads values k h v i
+ColumnAt-of n [] values k i h v from has is_h is_v = absurd (omega (arith, has))
+ColumnAt-of n (x ∷ heads) [] zero i h v from has is_h is_v = absurd from.rest
+ColumnAt-of n (x ∷ heads) (y ∷ values) zero i h v from has is_h is_v =
+    rw (is_h, is_v) (record { within = omega arith; long = from.rest.0; next = record { rest = from.rest.1 }; row = refl })
+ColumnAt-of n (x ∷ heads) [] (suc k) i h v from has is_h is_v =
+    let more : k < length heads = omega (arith, has) in absurd (rw (drop-cons heads k x more) at from.rest)
+ColumnAt-of n (x ∷ heads) (y ∷ values) (suc k) i h v from has is_h is_v =
+    let at : ColumnAt n heads values k h v i = ColumnAt-of n heads values k i h v (record { rest = from.rest }) (omega (arith, has)) is_h is_v in
+    let next : suc k + 1 ≡ suc (k + 1) = omega arith in
+    record
+        { within = omega (arith, at.within)
+        ; long = at.long
+        ; next = rw next (record { rest = at.next.rest })
+        ; row = rw next at.row }
+
+-- no column is left
+pub row_at-end : (n : ℕ) (heads : List Head) (values : List Values) (k i : ℕ) → length heads ≤ k → row_at (drop k heads) (columns (drop k values)) i ≡ []
+row_at-end n heads values k i done = rw (drop_all k heads done) refl
+
+-- a piece of a column lies in it
+pub piece_within : (n i comps len : ℕ) → i < n → len ≡ n * comps → i * comps + comps ≤ len
+piece_within n i comps len below is =
+    let most : (i + 1) * comps ≤ n * comps = mul-le-mul_right comps (omega arith) in rw is (omega (arith, most))
