@@ -1,0 +1,9 @@
+//! ASCII PLY text in parts: its lines, the tokens of a line, its numbers and its header, for meshes
+//! of triangles and for point clouds. The contract above it: what is read is a definition on the list
+//! of lines and each line's list of tokens, with the first fault and its line. It follows PLY 1.0, in
+//! the profile of docs/PLY.md.
+#![tactic(auto)]
+
+mod integers;
+
+pub use integers::put_int;
