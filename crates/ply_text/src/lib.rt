@@ -4,6 +4,12 @@
 //! the profile of docs/PLY.md.
 #![tactic(auto)]
 
+mod blanks;
 mod integers;
+mod line_reader;
+mod line_tokens;
+mod token_reader;
 
 pub use integers::put_int;
+pub use line_reader::Lines;
+pub use line_tokens::tokens;
