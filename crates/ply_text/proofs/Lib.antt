@@ -1,2 +1,4 @@
 pub mod Cutting
 pub mod Splitting
+pub mod Digits
+pub mod Signs
