@@ -9,6 +9,7 @@ mod integers;
 mod line_reader;
 mod line_tokens;
 mod token_reader;
+mod words;
 
 pub use integers::put_int;
 pub use line_reader::Lines;
