@@ -2,3 +2,4 @@ pub mod Cutting
 pub mod Splitting
 pub mod Digits
 pub mod Signs
+pub mod Patterns

@@ -1,3 +1,5 @@
 pub mod Numbers
 pub mod Tokens
 pub mod Words
+pub mod Comments
+pub mod Declarations

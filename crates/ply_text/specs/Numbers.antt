@@ -1,5 +1,5 @@
 -- The numbers of ASCII PLY text (PLY 1.0; leading zeros and -0 are accepted by this project's choice).
-use Rattle.std.specs.Prelude.{ℕ, ◌+◌, ◌-◌, ◌*◌, ◌&&◌, Bool, List, [], ◌∷◌, length, fold, ℤ, pos, neg_ℤ, Option, None, Some, option_map, nat_lt, nat_le, int_le, ◌==◌, if◌then◌else◌}
+use Rattle.std.specs.Prelude.{ℕ, ◌+◌, ◌-◌, ◌*◌, ◌&&◌, Bool, List, [], ◌∷◌, length, fold, ℤ, pos, neg_ℤ, Option, None, Some, option_map, option_and_then, nat_lt, nat_le, int_le, ◌==◌, if◌then◌else◌}
 use Rattle.std.specs.List.{list_all}
 
 -- a decimal digit
@@ -42,3 +42,12 @@ hex_value c =
     if nat_le 48 c && nat_le c 57 then Some (c - 48)
     else (if nat_le 97 c && nat_le c 102 then Some (c - 87)
     else (if nat_le 65 c && nat_le c 70 then Some (c - 55) else None))
+
+-- the number that hexadecimal digits write when they follow those of n
+abbrev pub hex_after : ℕ → List ℕ → Option ℕ
+hex_after n [] = Some n
+hex_after n (c ∷ cs) = option_and_then (λ d. hex_after (n * 16 + d) cs) (hex_value c)
+
+-- a bit pattern of 32 bits: eight hexadecimal digits
+unfoldable pub pattern_of : List ℕ → Option ℕ
+pattern_of token = if length token == 8 then hex_after 0 token else None

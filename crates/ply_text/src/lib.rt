@@ -4,13 +4,17 @@
 //! the profile of docs/PLY.md.
 #![tactic(auto)]
 
+mod bit_patterns;
 mod blanks;
+mod headers;
 mod integers;
 mod line_reader;
 mod line_tokens;
+mod statements;
 mod token_reader;
 mod words;
 
+pub use headers::{Header, PlyHead, PlyQuant};
 pub use integers::put_int;
 pub use line_reader::Lines;
 pub use line_tokens::tokens;
