@@ -6,6 +6,7 @@
 
 mod bit_patterns;
 mod blanks;
+mod comments;
 mod headers;
 mod integers;
 mod line_reader;
