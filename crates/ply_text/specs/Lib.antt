@@ -3,3 +3,5 @@ pub mod Tokens
 pub mod Words
 pub mod Comments
 pub mod Declarations
+pub mod Faults
+pub mod Draft

@@ -7,6 +7,7 @@
 mod bit_patterns;
 mod blanks;
 mod comments;
+mod drafts;
 mod headers;
 mod integers;
 mod line_reader;

@@ -1,0 +1,105 @@
+//! A header that is read line by line.
+
+ghost use Rattle.std.specs.Prelude.{◌≡◌, []};
+ghost use Rattle.drc_base.specs.Refusals.{Answers};
+ghost use Rattle.drc_base.specs.declared.faults.Refusal.TheVariants as refusals;
+ghost use Rattle.ply_text.specs.Tokens.{tokens_of};
+ghost use Rattle.ply_text.specs.Draft.{draft_of, element, scalar, list, attribute, quantisation, comment, body, statement};
+
+use crate::comments::{attr_of, quant_of};
+use crate::headers::{PlyHead, Property};
+use crate::integers::natural_within;
+use crate::statements::{element_of, is_form, is_format, is_list, keyword_at, list_of, scalar_of};
+use crate::words::{Keyword, is_indices, is_word, name_of, type_of};
+use drc_base::{Fault, Kind, MAX_ATTRIBUTES, MAX_FACES, MAX_POINTS, Refusal};
+use std::alloc::Global;
+
+/// What the lines of a header have declared so far.
+#[derive(Drop)]
+pub(crate) struct HeaderDraft {
+    /// Whether the format's line came.
+    pub formatted: bool,
+    pub heads: Vec<PlyHead>,
+    pub vertices: Option<u32>,
+    pub properties: Vec<Property>,
+    pub faces: Option<u32>,
+    pub list: Option<(u8, u8)>,
+}
+
+fn refusal(kind: Kind, at: u64) -> Refusal
+    ensures { result ≡ refusals.Fault (record { kind = kind; at = at }) }
+{
+    Refusal::Fault(Fault { kind, at })
+}
+
+impl HeaderDraft {
+    /// An `element` line.
+    #[tactic(auto, unfolding(crate::specs::Draft::element))]
+    fn element(&mut self, at: u64, line: &[u8]) -> Result<(), Refusal>
+        ensures { Answers (λ _. draft_of self.new) (element at (draft_of self.old) (tokens_of line.now)) result }
+    {
+        let Some((name, number)) = element_of(line) else {
+            return Err(refusal(Kind::PlyHeader, at));
+        };
+        if is_word(name, b"vertex") && self.vertices.is_none() {
+            let Some(count) = natural_within(number, MAX_POINTS as u64) else {
+                return Err(refusal(Kind::PointLimit, at));
+            };
+            self.vertices = Some(count as u32);
+            return Ok(());
+        }
+        if is_word(name, b"face") && self.vertices.is_some() && self.faces.is_none() {
+            let Some(count) = natural_within(number, MAX_FACES as u64) else {
+                return Err(refusal(Kind::FaceLimit, at));
+            };
+            self.faces = Some(count as u32);
+            return Ok(());
+        }
+        Err(refusal(Kind::PlyElement, at))
+    }
+
+    /// A property of numbers.
+    #[tactic(auto, unfolding(crate::specs::Draft::scalar))]
+    fn scalar(&mut self, at: u64, line: &[u8]) -> Result<(), Refusal>
+        ensures { Answers (λ _. draft_of self.new) (scalar at (draft_of self.old) (tokens_of line.now)) result }
+    {
+        let Some((word, name)) = scalar_of(line) else {
+            return Err(refusal(Kind::PlyHeader, at));
+        };
+        let Some(dtype) = type_of(word) else {
+            return Err(refusal(Kind::PlyType, at));
+        };
+        if self.vertices.is_none() || self.faces.is_some() {
+            return Err(refusal(Kind::PlyElement, at));
+        }
+        self.properties.push(Property {
+            dtype,
+            name: name_of(name),
+        })?;
+        Ok(())
+    }
+
+    /// A property of lists.
+    #[tactic(auto, unfolding(crate::specs::Draft::list))]
+    fn list(&mut self, at: u64, line: &[u8]) -> Result<(), Refusal>
+        ensures { Answers (λ _. draft_of self.new) (list at (draft_of self.old) (tokens_of line.now)) result }
+    {
+        let Some((count, index, name)) = list_of(line) else {
+            return Err(refusal(Kind::PlyHeader, at));
+        };
+        let Some(ctype) = type_of(count) else {
+            return Err(refusal(Kind::PlyType, at));
+        };
+        let Some(itype) = type_of(index) else {
+            return Err(refusal(Kind::PlyType, at));
+        };
+        if self.vertices.is_some() && self.faces.is_none() {
+            return Err(refusal(Kind::PlyType, at));
+        }
+        if self.faces.is_some() && self.list.is_none() && is_indices(name) {
+            self.list = Some((ctype, itype));
+            return Ok(());
+        }
+        Err(refusal(Kind::PlyElement, at))
+    }
+}
