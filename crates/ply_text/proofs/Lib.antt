@@ -3,3 +3,4 @@ pub mod Splitting
 pub mod Digits
 pub mod Signs
 pub mod Patterns
+pub mod Heads

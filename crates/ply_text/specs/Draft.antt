@@ -37,11 +37,11 @@ in_vertex d = is_some d.vertices && is_none d.faces
 unfoldable pub element : ℕ → Draft → List (List ℕ) → Result Draft Fault
 element at d line = do
   e ← or_refuse PlyHeader at (element_of line)
-  if bytes_eq e.0 (codes "vertex") && is_none d.vertices then
-      (or_refuse PointLimit at (natural_within MAX_POINTS e.1) >>= λ n. Ok (record d { vertices = Some n }))
-  else (if bytes_eq e.0 (codes "face") && in_vertex d then
-      (or_refuse FaceLimit at (natural_within MAX_FACES e.1) >>= λ n. Ok (record d { faces = Some n }))
-  else refuse PlyElement at)
+  if bytes_eq e.0 (codes "vertex") && is_none d.vertices
+      then (or_refuse PointLimit at (natural_within MAX_POINTS e.1) >>= λ n. Ok (record d { vertices = Some n }))
+      else (if bytes_eq e.0 (codes "face") && in_vertex d
+          then (or_refuse FaceLimit at (natural_within MAX_FACES e.1) >>= λ n. Ok (record d { faces = Some n }))
+          else refuse PlyElement at)
 
 -- a property of numbers: its form, then its type, then its place
 unfoldable pub scalar : ℕ → Draft → List (List ℕ) → Result Draft Fault
@@ -56,8 +56,9 @@ list at d line = do
   p ← or_refuse PlyHeader at (list_of line)
   ctype ← or_refuse PlyType at (type_of p.0)
   itype ← or_refuse PlyType at (type_of p.1)
-  if in_vertex d then refuse PlyType at
-  else (if is_some d.faces && is_none d.list && is_indices p.2 then Ok (record d { list = Some (ctype, itype) }) else refuse PlyElement at)
+  if in_vertex d
+      then refuse PlyType at
+      else (if is_some d.faces && is_none d.list && is_indices p.2 then Ok (record d { list = Some (ctype, itype) }) else refuse PlyElement at)
 
 -- an attribute's line: the seventeenth is one too many, whatever follows its first words
 unfoldable pub attribute : ℕ → Draft → List (List ℕ) → Result Draft Fault

@@ -124,7 +124,8 @@ pub(crate) fn quant_of(
     heads: &[PlyHead],
     line: &[u8],
 ) -> Result<Option<(usize, PlyQuant)>, Memory>
-    ensures { IfOk result (λ found. found ≡ quant_of heads.now (tokens_of line.now)) }
+    ensures found { IfOk result (λ found. found ≡ quant_of heads.now (tokens_of line.now)) }
+    ensures number { IfOk result (λ found. IfSome found (λ f. f.0 < length heads.now)) }
 {
     let mut tokens = TokenReader::new(line);
     let _word = tokens.next();

@@ -1,13 +1,14 @@
 //! A header that is read line by line.
 
-ghost use Rattle.std.specs.Prelude.{◌≡◌, []};
+ghost use Rattle.std.specs.Prelude.{◌≡◌, ◌<◌, [], vec_len};
 ghost use Rattle.drc_base.specs.Refusals.{Answers};
 ghost use Rattle.drc_base.specs.declared.faults.Refusal.TheVariants as refusals;
 ghost use Rattle.ply_text.specs.Tokens.{tokens_of};
-ghost use Rattle.ply_text.specs.Draft.{draft_of, element, scalar, list, attribute, quantisation, comment, body, statement};
+ghost use Rattle.ply_text.specs.Draft.{draft_of, element, scalar, list, attribute, quantisation, comment, declaration, body, statement};
+ghost use Rattle.ply_text.specs.Comments.{with_quant};
 
 use crate::comments::{attr_of, quant_of};
-use crate::headers::{PlyHead, Property};
+use crate::headers::{PlyHead, PlyQuant, Property};
 use crate::integers::natural_within;
 use crate::statements::{element_of, is_form, is_format, is_list, keyword_at, list_of, scalar_of};
 use crate::words::{Keyword, is_indices, is_word, name_of, type_of};
@@ -102,4 +103,100 @@ impl HeaderDraft {
         }
         Err(refusal(Kind::PlyElement, at))
     }
+
+    /// An attribute's line.
+    #[tactic(auto, unfolding(crate::specs::Draft::attribute))]
+    fn attribute(&mut self, at: u64, line: &[u8]) -> Result<(), Refusal>
+        ensures { Answers (λ _. draft_of self.new) (attribute at (draft_of self.old) (tokens_of line.now)) result }
+    {
+        if self.heads.len() >= MAX_ATTRIBUTES as usize {
+            return Err(refusal(Kind::AttrLimit, at));
+        }
+        let Some(head) = attr_of(self.heads.len() as u64, line) else {
+            return Err(refusal(Kind::PlyAttr, at));
+        };
+        self.heads.push(head)?;
+        Ok(())
+    }
+
+    /// A quantisation's line.
+    #[tactic(auto, unfolding(crate::specs::Draft::quantisation))]
+    fn quantisation(&mut self, alloc: Global, at: u64, line: &[u8]) -> Result<(), Refusal>
+        ensures { Answers (λ _. draft_of self.new) (quantisation at (draft_of self.old) (tokens_of line.now)) result }
+    {
+        match quant_of(alloc, &self.heads, line)? {
+            None => Err(refusal(Kind::PlyAttr, at)),
+            Some((number, quant)) => {
+                set_quant(&mut self.heads, number, quant);
+                Ok(())
+            }
+        }
+    }
+
+    /// A comment: any but the two forms of this project's own says nothing.
+    #[tactic(auto, unfolding(crate::specs::Draft::comment))]
+    fn comment(&mut self, alloc: Global, at: u64, line: &[u8]) -> Result<(), Refusal>
+        ensures { Answers (λ _. draft_of self.new) (comment at (draft_of self.old) (tokens_of line.now)) result }
+    {
+        if is_form(b"attr", line) {
+            return self.attribute(at, line);
+        }
+        if is_form(b"quant", line) {
+            return self.quantisation(alloc, at, line);
+        }
+        Ok(())
+    }
+
+    /// A line after the format's.
+    fn declaration(&mut self, at: u64, line: &[u8], word: Keyword) -> Result<(), Refusal>
+        ensures { Answers (λ _. draft_of self.new) (declaration at (draft_of self.old) (tokens_of line.now) word) result }
+    {
+        match word {
+            Keyword::Element => self.element(at, line),
+            Keyword::Property => {
+                if is_list(line) {
+                    return self.list(at, line);
+                }
+                self.scalar(at, line)
+            }
+            _ => Err(refusal(Kind::PlyHeader, at)),
+        }
+    }
+
+    /// Any other line than a comment: the first is the format's.
+    #[tactic(auto, unfolding(crate::specs::Draft::body))]
+    fn body(&mut self, at: u64, line: &[u8], word: Keyword) -> Result<(), Refusal>
+        ensures { Answers (λ _. draft_of self.new) (body at (draft_of self.old) (tokens_of line.now) word) result }
+    {
+        if self.formatted {
+            return self.declaration(at, line, word);
+        }
+        if !is_format(line) {
+            return Err(refusal(Kind::PlyFormat, at));
+        }
+        self.formatted = true;
+        Ok(())
+    }
+
+    /// Any line of a header but the first and the last.
+    #[tactic(auto, unfolding(crate::specs::Draft::statement))]
+    pub(crate) fn statement(&mut self, alloc: Global, at: u64, line: &[u8]) -> Result<(), Refusal>
+        ensures { Answers (λ _. draft_of self.new) (statement at (draft_of self.old) (tokens_of line.now)) result }
+    {
+        match keyword_at(line) {
+            Keyword::Comment => self.comment(alloc, at, line),
+            Keyword::ObjInfo => Ok(()),
+            word => self.body(at, line, word),
+        }
+    }
+}
+
+/// Gives head `number` a quantisation.
+#[tactic(auto, using(crate::proofs::Heads::with_quant_is))]
+fn set_quant(heads: &mut Vec<PlyHead>, number: usize, quant: PlyQuant)
+    requires { number < vec_len heads.old }
+    ensures { heads.new.items ≡ with_quant number quant heads.old.items }
+{
+    let head = &mut heads[number];
+    head.quant = Some(quant);
 }
