@@ -4,3 +4,4 @@ pub mod Digits
 pub mod Signs
 pub mod Patterns
 pub mod Heads
+pub mod Names

@@ -5,3 +5,5 @@ pub mod Comments
 pub mod Declarations
 pub mod Faults
 pub mod Draft
+pub mod NamedHeads
+pub mod Header

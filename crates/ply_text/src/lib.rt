@@ -12,6 +12,7 @@ mod headers;
 mod integers;
 mod line_reader;
 mod line_tokens;
+mod named_heads;
 mod statements;
 mod token_reader;
 mod words;
