@@ -1,10 +1,10 @@
 -- How the lines of a text begin.
 use Rattle.std.proofs.Common.{◌≡◌, ℕ, suc, ◌+◌, ◌<◌, ◌≤◌, Bool, true, false, eqb, List, [], ◌∷◌, ◌++◌, length, take, drop, get_or, All, refl, sym, ap, ◌∙◌, inl, inr, arith}
-use Rattle.std.specs.List.{slice_split, count_by}
+use Rattle.std.specs.List.{slice_split, onto_first}
 use Rattle.std.specs.Str.Lines.{lines, lines_of_parts, strip_carriage_return}
-use Rattle.std.proofs.lemmas.Bool.{cond-false, ne_eqb, cases_lt}
+use Rattle.std.proofs.lemmas.Bool.{cond-false, cond_both, ne_eqb, cases_lt, cases_Bool}
 use Rattle.std.proofs.lemmas.List.{drop_more, drop_all, take_all, take-append-drop, length-take, get_or-take, get_or_default}
-use Rattle.std.proofs.lemmas.List.Splits.{slice_split_none, slice_split_at, length-slice_split}
+use Rattle.std.proofs.lemmas.List.Splits.{slice_split-cons_yes, slice_split-cons_no, slice_split_none, slice_split_at, length-slice_split}
 
 abbrev is_lf : ℕ → Bool
 is_lf b = eqb b 10
@@ -57,3 +57,22 @@ cuts_line text i lt p e =
 
 pub ends_line : (text : List ℕ) (i : ℕ) → length text ≤ i → IsPlain text i → 0 < length text → lines text ≡ text ∷ []
 ends_line text i le p long = lines-last text long (λ k d h. ap is_lf (get_or_default text k d 0 h) ∙ ne_eqb (get_or text k 0) 10 (p.plain k (omega arith)))
+
+few_parts : (parts : List (List ℕ)) → length (lines_of_parts parts) ≤ length parts
+few_parts [] = omega arith
+few_parts (x ∷ []) = cond_both (eqb (length x) 0) [] (x ∷ []) (λ (ls : List (List ℕ)). length ls ≤ 1) (λ _. omega arith) (λ _. omega arith)
+few_parts (x ∷ y ∷ more) = omega (arith, few_parts (y ∷ more))
+
+count_le : (t : List ℕ) → length (slice_split is_lf t) ≤ length t + 1
+count_le [] = omega arith
+count_le (c ∷ cs) = elim (cases_Bool (is_lf c)) [
+  | inl yes' ↦ omega (arith, count_le cs, ap length (slice_split-cons_yes is_lf c cs yes'))
+  | inr no' ↦ omega (arith, count_le cs, ap length (slice_split-cons_no is_lf c cs no'), length-onto c (slice_split is_lf cs), length-slice_split is_lf cs)
+  ] where
+  length-onto : (c : ℕ) (parts : List (List ℕ)) → 0 < length parts → length (onto_first c parts) ≡ length parts
+  length-onto c [] h = absurd (omega arith)
+  length-onto c (p ∷ ps) h = refl
+
+-- a text has at most one line for each byte, and one more
+pub few_lines : (t : List ℕ) → length (lines t) ≤ length t + 1
+few_lines t = omega (arith, few_parts (slice_split is_lf t), count_le t)

@@ -5,3 +5,4 @@ pub mod Signs
 pub mod Patterns
 pub mod Heads
 pub mod Names
+pub mod Columns

@@ -27,7 +27,7 @@ pub(crate) struct HeaderDraft {
     pub list: Option<(u8, u8)>,
 }
 
-fn refusal(kind: Kind, at: u64) -> Refusal
+pub(crate) fn refusal(kind: Kind, at: u64) -> Refusal
     ensures { result ≡ refusals.Fault (record { kind = kind; at = at }) }
 {
     Refusal::Fault(Fault { kind, at })

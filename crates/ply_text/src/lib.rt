@@ -8,6 +8,8 @@ mod bit_patterns;
 mod blanks;
 mod comments;
 mod drafts;
+mod header_ends;
+mod header_reader;
 mod headers;
 mod integers;
 mod line_reader;
@@ -17,6 +19,7 @@ mod statements;
 mod token_reader;
 mod words;
 
+pub use header_reader::read_header;
 pub use headers::{Header, PlyHead, PlyQuant};
 pub use integers::put_int;
 pub use line_reader::Lines;

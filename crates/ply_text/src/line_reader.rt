@@ -24,8 +24,10 @@ impl<'a> Model for Lines<'a> {
 
 impl<'a> Lines<'a> {
     /// All lines of `bytes`, none taken yet.
+    #[tactic(auto, using(crate::proofs::Cutting::few_lines))]
     pub fn new(bytes: &'a [u8]) -> Lines<'a>
-        ensures { result ≡ lines bytes.now }
+        ensures lines { result ≡ lines bytes.now }
+        ensures few { length result ≤ length bytes.now + 1 }
     {
         Lines { rest: bytes }
     }

@@ -1,0 +1,146 @@
+//! The last line of a header.
+
+ghost use Rattle.std.specs.Prelude.{◌≡◌, ◌+◌, ◌<◌, ◌^◌, ◌++◌, replicate, OnOk, IfOk};
+ghost use Rattle.std.specs.List.{list_all};
+ghost use Rattle.drc_base.specs.Refusals.{Answers};
+ghost use Rattle.ply_text.specs.Tokens.{tokens_of};
+ghost use Rattle.ply_text.specs.Draft.{draft_of};
+ghost use Rattle.ply_text.specs.Header.{column_type, column_types, is_typed, types_of, is_whole, agrees, header_by, header_at};
+
+use crate::drafts::{HeaderDraft, refusal};
+use crate::headers::{Header, PlyHead, Property};
+use crate::named_heads::named_heads;
+use crate::statements::is_alone;
+use crate::words::is_word;
+use drc_base::{Kind, MAX_ATTRIBUTES, MAX_VALUES, Memory, Refusal, Sequence};
+use std::alloc::Global;
+use std::mem;
+
+/// The type of a property that a head of this type has.
+fn column_type(dtype: u8) -> u8
+    ensures { result ≡ column_type dtype }
+{
+    if dtype == 9 { 5 } else { dtype }
+}
+
+/// Appends a type for each component.
+fn put_columns(out: &mut Vec<u8>, comps: u8, dtype: u8) -> Result<(), Memory>
+    ensures { OnOk result (out.new.items ≡ out.old.items ++ replicate comps dtype) }
+{
+    for _ in 0..comps {
+        out.push(dtype)?;
+    }
+    Ok(())
+}
+
+/// The types of the properties that the heads have.
+#[tactic(auto, using(crate::proofs::Columns::more_columns, crate::proofs::Columns::all_columns))]
+fn column_types(alloc: Global, heads: &[PlyHead]) -> Result<Vec<u8>, Memory>
+    ensures { IfOk result (λ types. types.items ≡ column_types heads.now) }
+{
+    let mut types = Vec::new(alloc);
+    for i in 0..heads.len() {
+        let head = &heads[i];
+        put_columns(&mut types, head.comps, column_type(head.dtype))?;
+    }
+    Ok(types)
+}
+
+/// The types of the properties.
+fn types_of(alloc: Global, properties: &[Property]) -> Result<Vec<u8>, Memory>
+    ensures { IfOk result (λ types. types.items ≡ types_of properties.now) }
+{
+    Ok(properties.iter().map(|p| p.dtype).collect(alloc)?)
+}
+
+/// Whether a head is quantised exactly at data type 9.
+fn is_typed(head: &PlyHead) -> bool
+    ensures { result ≡ is_typed head.now }
+{
+    if head.dtype == 9 {
+        head.quant.is_some()
+    } else {
+        head.quant.is_none()
+    }
+}
+
+fn are_typed(heads: &[PlyHead]) -> bool
+    ensures { result ≡ list_all is_typed heads.now }
+{
+    for i in 0..heads.len() {
+        if !is_typed(&heads[i]) {
+            return false;
+        }
+    }
+    true
+}
+
+/// Whether each element that was declared has its properties.
+#[tactic(auto, unfolding(crate::specs::Header::is_whole))]
+fn is_whole(draft: &HeaderDraft) -> bool
+    ensures { result ≡ is_whole (draft_of draft.now) }
+{
+    draft.vertices.is_some()
+        && draft.properties.len() > 0
+        && (draft.faces.is_none() || draft.list.is_some())
+}
+
+/// The tests of the attributes, and the header.
+#[tactic(auto, unfolding(crate::specs::Header::header_by, crate::specs::Header::agrees))]
+fn header_by(
+    alloc: Global,
+    at: u64,
+    draft: &HeaderDraft,
+    heads: Vec<PlyHead>,
+) -> Result<Header, Refusal>
+    requires { at + 1 < 2 ^ 64 }
+    ensures { Answers (λ header. header) (header_by at (draft_of draft.now) heads.items) result }
+{
+    if heads.len() > MAX_ATTRIBUTES as usize {
+        return Err(refusal(Kind::AttrLimit, at));
+    }
+    let types = types_of(alloc, &draft.properties)?;
+    let columns = column_types(alloc, &heads)?;
+    if !is_word(&columns, &types) || !are_typed(&heads) {
+        return Err(refusal(Kind::PlyAttr, at));
+    }
+    let vertices = draft.vertices.unwrap_or(0);
+    if vertices as u128 * draft.properties.len() as u128 > MAX_VALUES as u128 {
+        return Err(refusal(Kind::ValueLimit, at));
+    }
+    Ok(Header {
+        heads: Sequence::from_vec(heads),
+        vertices,
+        faces: draft.faces,
+        types: Sequence::from_vec(types),
+        list: draft.list,
+        body_line: at + 1,
+    })
+}
+
+/// The header that ends at this line.
+#[tactic(auto, unfolding(crate::specs::Header::header_at, crate::specs::Header::heads_of, crate::specs::Header::header_by))]
+pub(crate) fn header_at(
+    alloc: Global,
+    at: u64,
+    mut draft: HeaderDraft,
+    line: &[u8],
+) -> Result<Header, Refusal>
+    requires { at + 1 < 2 ^ 64 }
+    ensures { Answers (λ header. header) (header_at at (draft_of draft) (tokens_of line.now)) result }
+{
+    if !is_alone(line) {
+        return Err(refusal(Kind::PlyHeader, at));
+    }
+    if !is_whole(&draft) {
+        return Err(refusal(Kind::PlyElement, at));
+    }
+    if draft.heads.len() > 0 {
+        let heads = mem::replace(&mut draft.heads, Vec::new(alloc));
+        return header_by(alloc, at, &draft, heads);
+    }
+    match named_heads(alloc, &draft.properties)? {
+        None => Err(refusal(Kind::AttrLimit, at)),
+        Some(heads) => header_by(alloc, at, &draft, heads),
+    }
+}
