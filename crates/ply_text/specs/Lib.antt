@@ -7,3 +7,4 @@ pub mod Faults
 pub mod Draft
 pub mod NamedHeads
 pub mod Header
+pub mod IsHeader

@@ -3,6 +3,7 @@
 ghost use Rattle.std.specs.Prelude.{◌≡◌, ◌≤◌, ◌<◌, length, option_map, IfOk, IfSome};
 ghost use Rattle.ply_text.specs.Tokens.{tokens_of};
 ghost use Rattle.ply_text.specs.Comments.{head_of, attr_of, patterns_of, fields_of, quant_of};
+ghost use Rattle.ply_text.specs.IsHeader.{HeadFits, QuantFits, FitsAt};
 
 use crate::bit_patterns::pattern_of;
 use crate::headers::{PlyHead, PlyQuant};
@@ -22,7 +23,8 @@ fn head_of(
     normalized: &[u8],
     id: &[u8],
 ) -> Option<PlyHead>
-    ensures { result ≡ head_of number k.now usage.now dtype.now comps.now normalized.now id.now }
+    ensures head { result ≡ head_of number k.now usage.now dtype.now comps.now normalized.now id.now }
+    ensures fits { IfSome result HeadFits }
 {
     let k = natural_within(k, 15)?;
     if k != number {
@@ -52,7 +54,8 @@ fn head_of(
 /// The attribute that an `attr` line gives, if its number is `number`.
 #[tactic(auto, unfolding(crate::specs::Comments::attr_of))]
 pub(crate) fn attr_of(number: u64, line: &[u8]) -> Option<PlyHead>
-    ensures { result ≡ attr_of number (tokens_of line.now) }
+    ensures head { result ≡ attr_of number (tokens_of line.now) }
+    ensures fits { IfSome result HeadFits }
 {
     let mut tokens = TokenReader::new(line);
     let _word = tokens.next()?;
@@ -93,7 +96,8 @@ fn fields_of(
     range: &[u8],
     minima: &mut TokenReader<'_>,
 ) -> Result<Option<PlyQuant>, Memory>
-    ensures { IfOk result (λ found. found ≡ fields_of head.now bits.now range.now minima.old) }
+    ensures found { IfOk result (λ found. found ≡ fields_of head.now bits.now range.now minima.old) }
+    ensures fits { IfOk result (λ found. IfSome found (QuantFits head.now.comps)) }
 {
     let Some(bits) = natural_within(bits, 30) else {
         return Ok(None);
@@ -126,6 +130,7 @@ pub(crate) fn quant_of(
 ) -> Result<Option<(usize, PlyQuant)>, Memory>
     ensures found { IfOk result (λ found. found ≡ quant_of heads.now (tokens_of line.now)) }
     ensures number { IfOk result (λ found. IfSome found (λ f. f.0 < length heads.now)) }
+    ensures fits { IfOk result (λ found. IfSome found (λ f. FitsAt heads.now f.0 f.1)) }
 {
     let mut tokens = TokenReader::new(line);
     let _word = tokens.next();
