@@ -1,9 +1,11 @@
 -- Columns head by head.
-use Rattle.std.proofs.Common.{◌≡◌, ℕ, ◌+◌, ◌<◌, ◌≤◌, List, [], ◌∷◌, ◌++◌, length, drop, get_or, refl, sym, ap, ◌∙◌, append_assoc, arith}
+use Rattle.std.proofs.Common.{◌≡◌, ℕ, ◌+◌, ◌<◌, ◌≤◌, Bool, true, All, List, [], ◌∷◌, ◌++◌, length, drop, get_or, refl, sym, ap, ◌∙◌, append_assoc, arith}
 use Rattle.std.specs.Prelude.{replicate}
 use Rattle.std.proofs.lemmas.List.{at_drop_more, at_drop_all, append-nil}
 use Rattle.ply_text.specs.declared.headers.PlyHead.{PlyHead}
-use Rattle.ply_text.specs.Header.{column_type, column_types}
+use Rattle.std.specs.List.{list_all}
+use Rattle.std.proofs.lemmas.List.Sums.{AllPass-from_list_all}
+use Rattle.ply_text.specs.Header.{column_type, column_types, is_typed}
 
 -- the columns so far and those of the heads that are left are all
 pub record AreColumns (heads : List PlyHead) (types : List ℕ) (i : ℕ) : Type 0 where
@@ -21,3 +23,6 @@ more_columns heads types i h lt e so_far = record { whole =
 pub all_columns : (heads : List PlyHead) (types : List ℕ) (i : ℕ) → length heads ≤ i → AreColumns heads types i → types ≡ column_types heads
 unfolding column_types
 all_columns heads types i le h = sym (append-nil types) ∙ ap (λ (ts : List ℕ). types ++ ts) (sym (at_drop_all column_types heads i le)) ∙ h.whole
+
+pub each_typed : (heads : List PlyHead) (b : Bool) → b ≡ true → b ≡ list_all is_typed heads → All (λ h. is_typed h ≡ true) heads
+each_typed heads b yes' e = AllPass-from_list_all is_typed heads (sym e ∙ yes')

@@ -53,3 +53,8 @@ too_many ps heads i lt h many =
 pub all_named : (ps : List Property) (heads : List PlyHead) (skip i : ℕ) → length ps ≤ i → IsNamedSoFar ps heads skip i → heads ≡ named_heads 0 0 ps
 all_named ps heads skip i le h =
     sym (append-nil heads) ∙ ap (λ (hs : List PlyHead). heads ++ hs) (sym (at_drop_all (named_heads (length heads) skip) ps i le)) ∙ h.whole
+
+-- properties give an attribute at least
+pub some_named : (ps : List Property) (heads : List PlyHead) → 0 < length ps → heads ≡ named_heads 0 0 ps → 1 ≤ length heads
+some_named [] heads some e = absurd (omega arith)
+some_named (p ∷ ps) heads some e = omega (arith, ap length e)

@@ -1,11 +1,12 @@
 //! A header that is read line by line.
 
-ghost use Rattle.std.specs.Prelude.{◌≡◌, ◌<◌, [], vec_len};
+ghost use Rattle.std.specs.Prelude.{◌≡◌, ◌<◌, ◌≤◌, [], All, IfSome, OnOk, vec_len};
 ghost use Rattle.drc_base.specs.Refusals.{Answers};
 ghost use Rattle.drc_base.specs.declared.faults.Refusal.TheVariants as refusals;
 ghost use Rattle.ply_text.specs.Tokens.{tokens_of};
 ghost use Rattle.ply_text.specs.Draft.{draft_of, element, scalar, list, attribute, quantisation, comment, declaration, body, statement};
 ghost use Rattle.ply_text.specs.Comments.{with_quant};
+ghost use Rattle.ply_text.specs.IsHeader.{HeadFits, FitsAt, HasType, IsDraft};
 
 use crate::comments::{attr_of, quant_of};
 use crate::headers::{PlyHead, PlyQuant, Property};
@@ -37,7 +38,9 @@ impl HeaderDraft {
     /// An `element` line.
     #[tactic(auto, unfolding(crate::specs::Draft::element))]
     fn element(&mut self, at: u64, line: &[u8]) -> Result<(), Refusal>
-        ensures { Answers (λ _. draft_of self.new) (element at (draft_of self.old) (tokens_of line.now)) result }
+        requires { IsDraft (draft_of self.old) }
+        ensures step { Answers (λ _. draft_of self.new) (element at (draft_of self.old) (tokens_of line.now)) result }
+        ensures sound { OnOk result (IsDraft (draft_of self.new)) }
     {
         let Some((name, number)) = element_of(line) else {
             return Err(refusal(Kind::PlyHeader, at));
@@ -62,7 +65,9 @@ impl HeaderDraft {
     /// A property of numbers.
     #[tactic(auto, unfolding(crate::specs::Draft::scalar))]
     fn scalar(&mut self, at: u64, line: &[u8]) -> Result<(), Refusal>
-        ensures { Answers (λ _. draft_of self.new) (scalar at (draft_of self.old) (tokens_of line.now)) result }
+        requires { IsDraft (draft_of self.old) }
+        ensures step { Answers (λ _. draft_of self.new) (scalar at (draft_of self.old) (tokens_of line.now)) result }
+        ensures sound { OnOk result (IsDraft (draft_of self.new)) }
     {
         let Some((word, name)) = scalar_of(line) else {
             return Err(refusal(Kind::PlyHeader, at));
@@ -83,7 +88,9 @@ impl HeaderDraft {
     /// A property of lists.
     #[tactic(auto, unfolding(crate::specs::Draft::list))]
     fn list(&mut self, at: u64, line: &[u8]) -> Result<(), Refusal>
-        ensures { Answers (λ _. draft_of self.new) (list at (draft_of self.old) (tokens_of line.now)) result }
+        requires { IsDraft (draft_of self.old) }
+        ensures step { Answers (λ _. draft_of self.new) (list at (draft_of self.old) (tokens_of line.now)) result }
+        ensures sound { OnOk result (IsDraft (draft_of self.new)) }
     {
         let Some((count, index, name)) = list_of(line) else {
             return Err(refusal(Kind::PlyHeader, at));
@@ -107,7 +114,9 @@ impl HeaderDraft {
     /// An attribute's line.
     #[tactic(auto, unfolding(crate::specs::Draft::attribute))]
     fn attribute(&mut self, at: u64, line: &[u8]) -> Result<(), Refusal>
-        ensures { Answers (λ _. draft_of self.new) (attribute at (draft_of self.old) (tokens_of line.now)) result }
+        requires { IsDraft (draft_of self.old) }
+        ensures step { Answers (λ _. draft_of self.new) (attribute at (draft_of self.old) (tokens_of line.now)) result }
+        ensures sound { OnOk result (IsDraft (draft_of self.new)) }
     {
         if self.heads.len() >= MAX_ATTRIBUTES as usize {
             return Err(refusal(Kind::AttrLimit, at));
@@ -122,12 +131,14 @@ impl HeaderDraft {
     /// A quantisation's line.
     #[tactic(auto, unfolding(crate::specs::Draft::quantisation))]
     fn quantisation(&mut self, alloc: Global, at: u64, line: &[u8]) -> Result<(), Refusal>
-        ensures { Answers (λ _. draft_of self.new) (quantisation at (draft_of self.old) (tokens_of line.now)) result }
+        requires { IsDraft (draft_of self.old) }
+        ensures step { Answers (λ _. draft_of self.new) (quantisation at (draft_of self.old) (tokens_of line.now)) result }
+        ensures sound { OnOk result (IsDraft (draft_of self.new)) }
     {
         match quant_of(alloc, &self.heads, line)? {
             None => Err(refusal(Kind::PlyAttr, at)),
-            Some((number, quant)) => {
-                set_quant(&mut self.heads, number, quant);
+            Some(found) => {
+                set_quant(&mut self.heads, found.0, found.1);
                 Ok(())
             }
         }
@@ -136,7 +147,9 @@ impl HeaderDraft {
     /// A comment: any but the two forms of this project's own says nothing.
     #[tactic(auto, unfolding(crate::specs::Draft::comment))]
     fn comment(&mut self, alloc: Global, at: u64, line: &[u8]) -> Result<(), Refusal>
-        ensures { Answers (λ _. draft_of self.new) (comment at (draft_of self.old) (tokens_of line.now)) result }
+        requires { IsDraft (draft_of self.old) }
+        ensures step { Answers (λ _. draft_of self.new) (comment at (draft_of self.old) (tokens_of line.now)) result }
+        ensures sound { OnOk result (IsDraft (draft_of self.new)) }
     {
         if is_form(b"attr", line) {
             return self.attribute(at, line);
@@ -149,7 +162,9 @@ impl HeaderDraft {
 
     /// A line after the format's.
     fn declaration(&mut self, at: u64, line: &[u8], word: Keyword) -> Result<(), Refusal>
-        ensures { Answers (λ _. draft_of self.new) (declaration at (draft_of self.old) (tokens_of line.now) word) result }
+        requires { IsDraft (draft_of self.old) }
+        ensures step { Answers (λ _. draft_of self.new) (declaration at (draft_of self.old) (tokens_of line.now) word) result }
+        ensures sound { OnOk result (IsDraft (draft_of self.new)) }
     {
         match word {
             Keyword::Element => self.element(at, line),
@@ -166,7 +181,9 @@ impl HeaderDraft {
     /// Any other line than a comment: the first is the format's.
     #[tactic(auto, unfolding(crate::specs::Draft::body))]
     fn body(&mut self, at: u64, line: &[u8], word: Keyword) -> Result<(), Refusal>
-        ensures { Answers (λ _. draft_of self.new) (body at (draft_of self.old) (tokens_of line.now) word) result }
+        requires { IsDraft (draft_of self.old) }
+        ensures step { Answers (λ _. draft_of self.new) (body at (draft_of self.old) (tokens_of line.now) word) result }
+        ensures sound { OnOk result (IsDraft (draft_of self.new)) }
     {
         if self.formatted {
             return self.declaration(at, line, word);
@@ -181,7 +198,9 @@ impl HeaderDraft {
     /// Any line of a header but the first and the last.
     #[tactic(auto, unfolding(crate::specs::Draft::statement))]
     pub(crate) fn statement(&mut self, alloc: Global, at: u64, line: &[u8]) -> Result<(), Refusal>
-        ensures { Answers (λ _. draft_of self.new) (statement at (draft_of self.old) (tokens_of line.now)) result }
+        requires { IsDraft (draft_of self.old) }
+        ensures step { Answers (λ _. draft_of self.new) (statement at (draft_of self.old) (tokens_of line.now)) result }
+        ensures sound { OnOk result (IsDraft (draft_of self.new)) }
     {
         match keyword_at(line) {
             Keyword::Comment => self.comment(alloc, at, line),
@@ -194,8 +213,12 @@ impl HeaderDraft {
 /// Gives head `number` a quantisation.
 #[tactic(auto, using(crate::proofs::Heads::with_quant_is))]
 fn set_quant(heads: &mut Vec<PlyHead>, number: usize, quant: PlyQuant)
-    requires { number < vec_len heads.old }
-    ensures { heads.new.items ≡ with_quant number quant heads.old.items }
+    requires number { number < vec_len heads.old }
+    requires heads { All HeadFits heads.old.items }
+    requires quant { FitsAt heads.old.items number quant }
+    ensures set { heads.new.items ≡ with_quant number quant heads.old.items }
+    ensures heads { All HeadFits heads.new.items }
+    ensures len { vec_len heads.new ≡ vec_len heads.old }
 {
     let head = &mut heads[number];
     head.quant = Some(quant);

@@ -1,10 +1,11 @@
 //! The last line of a header.
 
-ghost use Rattle.std.specs.Prelude.{◌≡◌, ◌+◌, ◌<◌, ◌^◌, ◌++◌, replicate, OnOk, IfOk};
+ghost use Rattle.std.specs.Prelude.{◌≡◌, ◌+◌, ◌*◌, ◌<◌, ◌^◌, ◌≤◌, ◌++◌, length, replicate, All, IsTrue, IsSome, IfSome, unwrap_or, OnOk, IfOk, vec_len};
 ghost use Rattle.std.specs.List.{list_all};
 ghost use Rattle.drc_base.specs.Refusals.{Answers};
 ghost use Rattle.ply_text.specs.Tokens.{tokens_of};
 ghost use Rattle.ply_text.specs.Draft.{draft_of};
+ghost use Rattle.ply_text.specs.IsHeader.{HeadFits, IsDraft, IsHeader};
 ghost use Rattle.ply_text.specs.Header.{column_type, column_types, is_typed, types_of, is_whole, agrees, header_by, header_at};
 
 use crate::drafts::{HeaderDraft, refusal};
@@ -12,7 +13,7 @@ use crate::headers::{Header, PlyHead, Property};
 use crate::named_heads::named_heads;
 use crate::statements::is_alone;
 use crate::words::is_word;
-use drc_base::{Kind, MAX_ATTRIBUTES, MAX_VALUES, Memory, Refusal, Sequence};
+use drc_base::{Kind, MAX_ATTRIBUTES, MAX_FACES, MAX_POINTS, MAX_VALUES, Memory, Refusal, Sequence};
 use std::alloc::Global;
 use std::mem;
 
@@ -48,7 +49,8 @@ fn column_types(alloc: Global, heads: &[PlyHead]) -> Result<Vec<u8>, Memory>
 
 /// The types of the properties.
 fn types_of(alloc: Global, properties: &[Property]) -> Result<Vec<u8>, Memory>
-    ensures { IfOk result (λ types. types.items ≡ types_of properties.now) }
+    ensures types { IfOk result (λ types. types.items ≡ types_of properties.now) }
+    ensures len { IfOk result (λ types. length types.items ≡ length properties.now) }
 {
     Ok(properties.iter().map(|p| p.dtype).collect(alloc)?)
 }
@@ -64,8 +66,10 @@ fn is_typed(head: &PlyHead) -> bool
     }
 }
 
+#[tactic(auto, using(crate::proofs::Columns::each_typed))]
 fn are_typed(heads: &[PlyHead]) -> bool
-    ensures { result ≡ list_all is_typed heads.now }
+    ensures typed { result ≡ list_all is_typed heads.now }
+    ensures each { IsTrue result → All (λ h. IsTrue (is_typed h)) heads.now }
 {
     for i in 0..heads.len() {
         if !is_typed(&heads[i]) {
@@ -78,11 +82,57 @@ fn are_typed(heads: &[PlyHead]) -> bool
 /// Whether each element that was declared has its properties.
 #[tactic(auto, unfolding(crate::specs::Header::is_whole))]
 fn is_whole(draft: &HeaderDraft) -> bool
-    ensures { result ≡ is_whole (draft_of draft.now) }
+    ensures whole { result ≡ is_whole (draft_of draft.now) }
+    ensures properties { IsTrue result → 0 < vec_len draft.now.properties }
+    ensures list { IsTrue result → IsSome draft.now.faces → IsSome draft.now.list }
 {
-    draft.vertices.is_some()
-        && draft.properties.len() > 0
-        && (draft.faces.is_none() || draft.list.is_some())
+    if draft.vertices.is_none() || draft.properties.len() == 0 {
+        return false;
+    }
+    draft.faces.is_none() || draft.list.is_some()
+}
+
+/// A header of parts that fit.
+fn header_made(
+    heads: Vec<PlyHead>,
+    vertices: u32,
+    faces: Option<u32>,
+    types: Vec<u8>,
+    list: Option<(u8, u8)>,
+    body_line: u64,
+) -> Header
+    requires some { 1 ≤ length heads.items }
+    requires few { length heads.items ≤ 16 }
+    requires heads { All HeadFits heads.items }
+    requires typed { All (λ h. IsTrue (is_typed h)) heads.items }
+    requires types { column_types heads.items ≡ types.items }
+    requires vertices { vertices ≤ MAX_POINTS }
+    requires values { vertices * length types.items ≤ MAX_VALUES }
+    requires faces { IfSome faces (λ n. n ≤ MAX_FACES) }
+    requires list { IsSome faces → IsSome list }
+    ensures header { result ≡ record { heads = heads.items; vertices = vertices; faces = faces; types = types.items; list = list; body_line = body_line } }
+    ensures sound { IsHeader result }
+{
+    Header {
+        heads: Sequence::from_vec(heads),
+        vertices,
+        faces,
+        types: Sequence::from_vec(types),
+        list,
+        body_line,
+    }
+}
+
+/// The number of points, which is within its limit.
+fn vertices_of(vertices: Option<u32>) -> u32
+    requires { IfSome vertices (λ n. n ≤ MAX_POINTS) }
+    ensures value { result ≡ unwrap_or vertices 0 }
+    ensures few { result ≤ MAX_POINTS }
+{
+    match vertices {
+        None => 0,
+        Some(n) => n,
+    }
 }
 
 /// The tests of the attributes, and the header.
@@ -93,8 +143,13 @@ fn header_by(
     draft: &HeaderDraft,
     heads: Vec<PlyHead>,
 ) -> Result<Header, Refusal>
-    requires { at + 1 < 2 ^ 64 }
-    ensures { Answers (λ header. header) (header_by at (draft_of draft.now) heads.items) result }
+    requires room { at + 1 < 2 ^ 64 }
+    requires sound { IsDraft (draft_of draft.now) }
+    requires list { IsSome draft.now.faces → IsSome draft.now.list }
+    requires heads { All HeadFits heads.items }
+    requires some { 1 ≤ length heads.items }
+    ensures header { Answers (λ header. header) (header_by at (draft_of draft.now) heads.items) result }
+    ensures sound { IfOk result IsHeader }
 {
     if heads.len() > MAX_ATTRIBUTES as usize {
         return Err(refusal(Kind::AttrLimit, at));
@@ -104,18 +159,18 @@ fn header_by(
     if !is_word(&columns, &types) || !are_typed(&heads) {
         return Err(refusal(Kind::PlyAttr, at));
     }
-    let vertices = draft.vertices.unwrap_or(0);
+    let vertices = vertices_of(draft.vertices);
     if vertices as u128 * draft.properties.len() as u128 > MAX_VALUES as u128 {
         return Err(refusal(Kind::ValueLimit, at));
     }
-    Ok(Header {
-        heads: Sequence::from_vec(heads),
+    Ok(header_made(
+        heads,
         vertices,
-        faces: draft.faces,
-        types: Sequence::from_vec(types),
-        list: draft.list,
-        body_line: at + 1,
-    })
+        draft.faces,
+        types,
+        draft.list,
+        at + 1,
+    ))
 }
 
 /// The header that ends at this line.
@@ -126,8 +181,10 @@ pub(crate) fn header_at(
     mut draft: HeaderDraft,
     line: &[u8],
 ) -> Result<Header, Refusal>
-    requires { at + 1 < 2 ^ 64 }
-    ensures { Answers (λ header. header) (header_at at (draft_of draft) (tokens_of line.now)) result }
+    requires room { at + 1 < 2 ^ 64 }
+    requires sound { IsDraft (draft_of draft) }
+    ensures header { Answers (λ header. header) (header_at at (draft_of draft) (tokens_of line.now)) result }
+    ensures sound { IfOk result IsHeader }
 {
     if !is_alone(line) {
         return Err(refusal(Kind::PlyHeader, at));

@@ -1,9 +1,10 @@
 //! The header of a PLY text.
 
-ghost use Rattle.std.specs.Prelude.{◌≡◌, ◌-◌, ◌<◌, ◌^◌, length, map};
+ghost use Rattle.std.specs.Prelude.{◌≡◌, ◌-◌, ◌<◌, ◌^◌, length, map, IfOk};
 ghost use Rattle.drc_base.specs.Refusals.{Answers};
 ghost use Rattle.ply_text.specs.Tokens.{tokens_of};
 ghost use Rattle.ply_text.specs.Draft.{draft_of};
+ghost use Rattle.ply_text.specs.IsHeader.{IsDraft, IsHeader};
 ghost use Rattle.ply_text.specs.Header.{is_end_by, is_end, no_draft, header_from, header_of};
 
 use crate::drafts::{HeaderDraft, refusal};
@@ -32,7 +33,8 @@ fn is_end(draft: &HeaderDraft, line: &[u8]) -> bool
 }
 
 fn no_draft(alloc: Global) -> HeaderDraft
-    ensures { draft_of result ≡ no_draft }
+    ensures draft { draft_of result ≡ no_draft }
+    ensures sound { IsDraft (draft_of result) }
 {
     HeaderDraft {
         formatted: false,
@@ -47,7 +49,8 @@ fn no_draft(alloc: Global) -> HeaderDraft
 /// The header from line 2 on.
 fn header_from(alloc: Global, lines: &mut Lines<'_>) -> Result<Header, Refusal>
     requires { length lines.old < 2 ^ 64 - 4 }
-    ensures { Answers (λ header. header) (header_from 2 no_draft (map tokens_of lines.old)) result }
+    ensures header { Answers (λ header. header) (header_from 2 no_draft (map tokens_of lines.old)) result }
+    ensures sound { IfOk result IsHeader }
 {
     let mut draft = no_draft(alloc);
     let mut at: u64 = 2;
@@ -66,7 +69,8 @@ fn header_from(alloc: Global, lines: &mut Lines<'_>) -> Result<Header, Refusal>
 /// `end_header` are read (PLY 1.0, in this project's profile).
 #[tactic(auto, unfolding(crate::specs::Header::header_of, crate::specs::Tokens::token_lines))]
 pub fn read_header(alloc: Global, bytes: &[u8]) -> Result<Header, Refusal>
-    ensures { Answers (λ header. header) (header_of bytes.now) result }
+    ensures header { Answers (λ header. header) (header_of bytes.now) result }
+    ensures sound { IfOk result IsHeader }
 {
     let mut lines = Lines::new(bytes);
     let Some(first) = lines.next() else {

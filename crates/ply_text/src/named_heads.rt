@@ -1,6 +1,7 @@
 //! Attributes from the names of properties.
 
-ghost use Rattle.std.specs.Prelude.{◌≡◌, ◌≤◌, ◌<◌, length, IfOk, MatchOption};
+ghost use Rattle.std.specs.Prelude.{◌≡◌, ◌≤◌, ◌<◌, length, All, IfOk, IfSome, MatchOption};
+ghost use Rattle.ply_text.specs.IsHeader.{HeadFits, HasType};
 ghost use Rattle.ply_text.specs.NamedHeads.{stands, two, three, four, run_of, named_head, named_heads};
 
 use crate::headers::{PlyHead, Property};
@@ -42,7 +43,7 @@ fn four(dtype: u8, properties: &[Property], first: u8) -> bool
 #[tactic(auto, unfolding(crate::specs::NamedHeads::run_of))]
 fn run_of(dtype: u8, properties: &[Property]) -> (u8, u8)
     ensures run { result ≡ run_of dtype properties.now }
-    ensures some { (0 < result.1) × (result.1 ≤ 4) }
+    ensures some { (result.0 ≤ 4) × (0 < result.1) × (result.1 ≤ 4) }
 {
     if three(dtype, properties, 0) {
         return (0, 3);
@@ -67,7 +68,10 @@ fn run_of(dtype: u8, properties: &[Property]) -> (u8, u8)
 
 /// Attribute number `k` with this usage, type and components.
 fn named_head(k: u32, dtype: u8, run: (u8, u8)) -> PlyHead
-    ensures { result ≡ named_head k dtype run }
+    requires dtype { (1 ≤ dtype) × (dtype ≤ 6) }
+    requires run { (run.0 ≤ 4) × (0 < run.1) × (run.1 ≤ 4) }
+    ensures head { result ≡ named_head k dtype run }
+    ensures fits { HeadFits result }
 {
     PlyHead {
         usage: run.0,
@@ -81,12 +85,15 @@ fn named_head(k: u32, dtype: u8, run: (u8, u8)) -> PlyHead
 
 /// The attributes that the names of the properties give, from the left; None exactly where they are
 /// more than 16.
-#[tactic(auto, using(crate::proofs::Names::skips, crate::proofs::Names::adds, crate::proofs::Names::too_many, crate::proofs::Names::all_named))]
+#[tactic(auto, using(crate::proofs::Names::skips, crate::proofs::Names::adds, crate::proofs::Names::too_many, crate::proofs::Names::all_named, crate::proofs::Names::some_named))]
 pub(crate) fn named_heads(
     alloc: Global,
     properties: &[Property],
 ) -> Result<Option<Vec<PlyHead>>, Memory>
-    ensures { IfOk result (λ found. MatchOption found (16 < length (named_heads 0 0 properties.now)) (λ heads. heads.items ≡ named_heads 0 0 properties.now)) }
+    requires types { All HasType properties.now }
+    ensures heads { IfOk result (λ found. MatchOption found (16 < length (named_heads 0 0 properties.now)) (λ heads. heads.items ≡ named_heads 0 0 properties.now)) }
+    ensures fits { IfOk result (λ found. IfSome found (λ heads. All HeadFits heads.items)) }
+    ensures some { 0 < length properties.now → IfOk result (λ found. IfSome found (λ heads. 1 ≤ length heads.items)) }
 {
     let mut heads = Vec::new(alloc);
     let mut skip: u8 = 0;

@@ -1,6 +1,6 @@
 //! The words of a PLY header.
 
-ghost use Rattle.std.specs.Prelude.{◌≡◌};
+ghost use Rattle.std.specs.Prelude.{◌≡◌, ◌≤◌, IsTrue, IfSome};
 ghost use Rattle.std.specs.Str.{bytes_eq};
 ghost use Rattle.ply_text.specs.Words.{keyword_of, type_of, vector_name, name_of, is_indices};
 
@@ -16,7 +16,8 @@ pub(crate) enum Keyword {
 }
 
 pub(crate) fn is_word(token: &[u8], word: &[u8]) -> bool
-    ensures { result ≡ bytes_eq token.now word.now }
+    ensures value { result ≡ bytes_eq token.now word.now }
+    ensures same { IsTrue result → token.now ≡ word.now }
 {
     token == word
 }
@@ -46,7 +47,8 @@ pub(crate) fn keyword_of(token: &[u8]) -> Keyword
 /// The data type that a type word names.
 #[tactic(auto, unfolding(crate::specs::Words::type_of))]
 pub(crate) fn type_of(token: &[u8]) -> Option<u8>
-    ensures { result ≡ type_of token.now }
+    ensures dtype { result ≡ type_of token.now }
+    ensures range { IfSome result (λ dtype. (1 ≤ dtype) × (dtype ≤ 6)) }
 {
     if is_word(token, b"char") || is_word(token, b"int8") {
         return Some(1);
