@@ -6,3 +6,4 @@ pub mod Patterns
 pub mod Heads
 pub mod Names
 pub mod Columns
+pub mod InPlace

@@ -4,7 +4,7 @@ use Rattle.std.specs.Prelude.{ℤ, pos, negsuc, neg_ℤ, option_map, int_le, nat
 use Rattle.std.proofs.lemmas.Bool.{eq-eqb, ne_eqb, cases_lt, le-leb, lt-leb}
 use Rattle.ply_text.specs.Numbers.{natural_of, integer_of, only_if, natural_within, is_between}
 
-plus_between : (below most n : ℕ) → is_between below most (pos n) ≡ leb n most
+pub plus_between : (below most n : ℕ) → is_between below most (pos n) ≡ leb n most
 plus_between zero most n = rw (le-leb 0 n (omega arith)) refl
 plus_between (suc b) most n = refl
 
@@ -18,7 +18,7 @@ leb-suc n b = elim (cases_lt b n) [
   | inr le ↦ le-leb n b le ∙ sym (le-leb (suc n) (suc b) (omega arith))
   ]
 
-minus_between : (below most n : ℕ) → is_between below most (neg_ℤ (pos n)) ≡ leb n below
+pub minus_between : (below most n : ℕ) → is_between below most (neg_ℤ (pos n)) ≡ leb n below
 minus_between zero most zero = le-leb 0 most (omega arith)
 minus_between (suc b) most zero = le-leb 0 most (omega arith) ∙ sym (le-leb 0 (suc b) (omega arith))
 minus_between zero most (suc n) = sym (lt-leb (suc n) 0 (omega arith))

@@ -8,3 +8,4 @@ pub mod Draft
 pub mod NamedHeads
 pub mod Header
 pub mod IsHeader
+pub mod InPlace

@@ -51,3 +51,8 @@ hex_after n (c ∷ cs) = option_and_then (λ d. hex_after (n * 16 + d) cs) (hex_
 -- a bit pattern of 32 bits: eight hexadecimal digits
 unfoldable pub pattern_of : List ℕ → Option ℕ
 pattern_of token = if length token == 8 then hex_after 0 token else None
+
+-- the number of the first token, and the tokens after it
+abbrev pub first_integer : List (List ℕ) → Option (ℤ × List (List ℕ))
+first_integer [] = None
+first_integer (token ∷ tokens) = option_map (λ v. (v, tokens)) (integer_of token)

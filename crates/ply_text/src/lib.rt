@@ -11,6 +11,7 @@ mod drafts;
 mod header_ends;
 mod header_reader;
 mod headers;
+mod in_place;
 mod integers;
 mod line_reader;
 mod line_tokens;
@@ -21,6 +22,7 @@ mod words;
 
 pub use header_reader::read_header;
 pub use headers::{Header, PlyHead, PlyQuant};
+pub use in_place::int_at;
 pub use integers::put_int;
 pub use line_reader::Lines;
 pub use line_tokens::tokens;
