@@ -23,6 +23,6 @@ mod words;
 pub use header_reader::read_header;
 pub use headers::{Header, PlyHead, PlyQuant};
 pub use in_place::int_at;
-pub use integers::put_int;
+pub use integers::{put_int, read_int};
 pub use line_reader::Lines;
 pub use line_tokens::tokens;
