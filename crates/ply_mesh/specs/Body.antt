@@ -1,5 +1,6 @@
 -- The rows and faces of a PLY text (PLY 1.0, in this project's profile).
-use Rattle.std.specs.Prelude.{ℕ, ◌≡◌, zero, suc, ◌+◌, ◌++◌, List, [], ◌∷◌, length, Option, None, Some, option_and_then, ℤ, pos, negsuc, neg_ℤ, ◌^◌, ◌<◌, ◌≤◌, Result, Ok, Err, nat_lt, ◌==◌, if◌then◌else◌}
+use Rattle.std.specs.Prelude.{ℕ, ◌≡◌, zero, suc, ◌+◌, ◌++◌, List, [], ◌∷◌, length, map, Option, None, Some, option_and_then, ℤ, pos, negsuc, neg_ℤ, ◌^◌, ◌<◌, ◌≤◌, Result, Ok, Err, nat_lt, ◌==◌, if◌then◌else◌}
+use Rattle.std.specs.Borrow.{Bor}
 use Rattle.std.specs.Ordering.{int_eq}
 use Rattle.drc_base.specs.declared.faults.Fault.{Fault}
 use Rattle.drc_base.specs.declared.kinds.Kind.TheVariants.{PlyRow, PlyNumber, PlyFace, PlyIndex, PlyShort, PlyRest}
@@ -69,6 +70,14 @@ ends x at [] = Ok x
 ends x at ([] ∷ lines) = ends x (at + 1) lines
 ends x at ((token ∷ tokens) ∷ lines) = refuse PlyRest at
 
--- values were appended to a list, and they are what is due
+-- the values that are due were appended to a list
 abbrev pub Appends : Result (List ℤ) Fault → List ℤ → List ℤ → Type 0
 Appends due old new = (row : List ℤ) × (due ≡ Ok row) × (new ≡ old ++ row)
+
+-- the values that are due, if there are any, were appended to a list
+abbrev pub AppendsSome : Option (List ℤ) → List ℤ → List ℤ → Type 0
+AppendsSome due old new = (row : List ℤ) × (due ≡ Some row) × (new ≡ old ++ row)
+
+-- tokens without where they lie
+abbrev pub texts : List (Bor (List ℕ)) → List (List ℕ)
+texts found = map (λ t. t.now) found

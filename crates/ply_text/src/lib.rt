@@ -22,7 +22,7 @@ mod words;
 
 pub use header_reader::read_header;
 pub use headers::{Header, PlyHead, PlyQuant};
-pub use in_place::int_at;
+pub use in_place::{int_at, is_at_end};
 pub use integers::{put_int, read_int};
 pub use line_reader::Lines;
 pub use line_tokens::tokens;
