@@ -37,7 +37,7 @@ row_step due old out dtype dtypes token tokens v e h = record {
   whole = sym (regroup h.front v (numbers_of dtypes tokens)) ∙ ap (λ (o : Option ℤ). option_map (λ vs. h.front ++ vs) (option_and_then (λ first. option_and_then (λ others. Some (first ∷ others)) (numbers_of dtypes tokens)) o)) (sym e) ∙ h.whole;
 }
 
-first_parts : (ts rest : List (List ℕ)) (v : ℤ) → first_integer ts ≡ Some (v, rest) → (t : List ℕ) × (ts ≡ t ∷ rest) × (integer_of t ≡ Some v)
+pub first_parts : (ts rest : List (List ℕ)) (v : ℤ) → first_integer ts ≡ Some (v, rest) → (t : List ℕ) × (ts ≡ t ∷ rest) × (integer_of t ≡ Some v)
 first_parts [] rest v e = absurd cc
 first_parts (t ∷ ts) rest v e = go (integer_of t) refl e where
   go : (o : Option ℤ) → integer_of t ≡ o → option_map {U = ℤ × List (List ℕ)} (λ w. (w, ts)) o ≡ Some (v, rest) → (u : List ℕ) × ((t ∷ ts) ≡ u ∷ rest) × (integer_of u ≡ Some v)

@@ -48,12 +48,20 @@ indices_of itype points at tokens =
     then (or_refuse PlyNumber at (numbers_of (itype ∷ itype ∷ itype ∷ []) tokens) >>= λ values. or_refuse PlyIndex at (points_of points values))
     else refuse PlyRow at
 
--- a face: its count, which is 3, and then its points
+-- the count of a face, which is 3
+abbrev pub count_of : ℕ → ℕ → List ℕ → Result ℤ Fault
+count_of ctype at token = do
+  n ← or_refuse PlyNumber at (number_of ctype token)
+  if int_eq n (pos 3) then Ok n else refuse PlyFace at
+
+-- a face behind its count
+abbrev pub counted_face : ℕ × ℕ → ℕ → ℕ → List ℕ → List (List ℕ) → Result (List ℕ) Fault
+counted_face list points at count tokens = count_of list.0 at count >>= λ _. indices_of list.1 points at tokens
+
+-- a face: its count, and then its points
 unfoldable pub face_of : ℕ × ℕ → ℕ → ℕ → List (List ℕ) → Result (List ℕ) Fault
 face_of list points at [] = refuse PlyRow at
-face_of list points at (count ∷ tokens) = do
-  n ← or_refuse PlyNumber at (number_of list.0 count)
-  if int_eq n (pos 3) then indices_of list.1 points at tokens else refuse PlyFace at
+face_of list points at (count ∷ tokens) = counted_face list points at count tokens
 
 -- a number of lines in a row, each an item, from line number `at` on; and the lines after them
 abbrev pub items_from : {A : Type 0} → (ℕ → List (List ℕ) → Result A Fault) → ℕ → ℕ → List (List (List ℕ)) → Result (List A × List (List (List ℕ))) Fault

@@ -3,5 +3,6 @@
 //! geometry is read as that geometry. It follows PLY 1.0, in the profile of docs/PLY.md.
 #![tactic(auto)]
 
+mod face_lines;
 mod numbers;
 mod rows;
