@@ -1,9 +1,9 @@
 -- How the tokens of a line begin at a place of it.
 use Rattle.std.proofs.Common.{◌≡◌, ℕ, ◌+◌, ◌-◌, ◌<◌, ◌≤◌, Bool, true, false, ltb, List, [], ◌∷◌, ◌++◌, length, take, drop, get_or, All, refl, sym, ap, ◌∙◌, inl, inr, arith}
-use Rattle.std.specs.List.{filter, slice_split}
+use Rattle.std.specs.List.{filter, slice_split, onto_first}
 use Rattle.std.proofs.lemmas.Bool.{lt-ltb, cases_lt}
 use Rattle.std.proofs.lemmas.List.{append-nil, at_drop_more, drop_more, drop_all, take-append-drop, drop-drop, length-take-le, length-take, length-drop, get_or-take, get_or-drop, get_or_default}
-use Rattle.std.proofs.lemmas.List.Splits.{slice_split-cons_yes, slice_split_none, slice_split_at}
+use Rattle.std.proofs.lemmas.List.Splits.{slice_split-cons_yes, slice_split-cons_no, slice_split_none, slice_split_at}
 use Rattle.ply_text.specs.Tokens.{is_blank, tokens_of}
 
 abbrev pub HasNoBlank : List ℕ → Type 0
@@ -80,3 +80,16 @@ no_token line i h = ap tokens_of (drop_all i line h) ∙ tokens_of-nil
 -- with none left, those in front are all
 pub all_taken : (front whole : List (List ℕ)) (line : List ℕ) (i : ℕ) → length line ≤ i → front ++ tokens_of (drop i line) ≡ whole → front ≡ whole
 all_taken front whole line i h e = sym (append-nil front) ∙ ap (λ (ts : List (List ℕ)). front ++ ts) (sym (no_token line i h)) ∙ e
+
+some_part : (c : ℕ) (parts : List (List ℕ)) → 0 < length (filter filled (onto_first c parts))
+some_part c [] = omega arith
+some_part c (part ∷ parts) = rw (lt-ltb 0 (length (c ∷ part)) (omega arith)) (omega arith)
+
+-- what is no blank begins a token
+pub some_token : (line : List ℕ) (i : ℕ) → i < length line → is_blank (get_or line i 0) ≡ false → 0 < length (tokens_of (drop i line))
+unfolding tokens_of
+some_token line i lt b =
+    let cut : drop i line ≡ get_or line i 0 ∷ drop (i + 1) line = drop_more line i 0 lt in
+    let split = slice_split-cons_no is_blank (get_or line i 0) (drop (i + 1) line) b in
+    let n : length (tokens_of (drop i line)) ≡ length (filter filled (onto_first (get_or line i 0) (slice_split is_blank (drop (i + 1) line)))) = ap (λ (t : List ℕ). length (tokens_of t)) cut ∙ ap (λ (ps : List (List ℕ)). length (filter filled ps)) split in
+    omega (arith, n, some_part (get_or line i 0) (slice_split is_blank (drop (i + 1) line)))

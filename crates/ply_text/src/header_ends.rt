@@ -150,6 +150,7 @@ fn header_by(
     requires some { 1 ≤ length heads.items }
     ensures header { Answers (λ header. header) (header_by at (draft_of draft.now) heads.items) result }
     ensures sound { IfOk result IsHeader }
+    ensures body { IfOk result (λ header. header.body_line ≡ at + 1) }
 {
     if heads.len() > MAX_ATTRIBUTES as usize {
         return Err(refusal(Kind::AttrLimit, at));
@@ -185,6 +186,7 @@ pub(crate) fn header_at(
     requires sound { IsDraft (draft_of draft) }
     ensures header { Answers (λ header. header) (header_at at (draft_of draft) (tokens_of line.now)) result }
     ensures sound { IfOk result IsHeader }
+    ensures body { IfOk result (λ header. header.body_line ≡ at + 1) }
 {
     if !is_alone(line) {
         return Err(refusal(Kind::PlyHeader, at));

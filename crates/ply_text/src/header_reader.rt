@@ -1,6 +1,6 @@
 //! The header of a PLY text.
 
-ghost use Rattle.std.specs.Prelude.{◌≡◌, ◌-◌, ◌<◌, ◌^◌, length, map, IfOk};
+ghost use Rattle.std.specs.Prelude.{◌≡◌, ◌+◌, ◌-◌, ◌≤◌, ◌<◌, ◌^◌, length, map, IfOk};
 ghost use Rattle.drc_base.specs.Refusals.{Answers};
 ghost use Rattle.ply_text.specs.Tokens.{tokens_of};
 ghost use Rattle.ply_text.specs.Draft.{draft_of};
@@ -51,6 +51,7 @@ fn header_from(alloc: Global, lines: &mut Lines<'_>) -> Result<Header, Refusal>
     requires { length lines.old < 2 ^ 64 - 4 }
     ensures header { Answers (λ header. header) (header_from 2 no_draft (map tokens_of lines.old)) result }
     ensures sound { IfOk result IsHeader }
+    ensures body { IfOk result (λ header. (2 < header.body_line) × (header.body_line ≤ length lines.old + 3)) }
 {
     let mut draft = no_draft(alloc);
     let mut at: u64 = 2;
@@ -70,7 +71,9 @@ fn header_from(alloc: Global, lines: &mut Lines<'_>) -> Result<Header, Refusal>
 #[tactic(auto, unfolding(crate::specs::Header::header_of, crate::specs::Tokens::token_lines))]
 pub fn read_header(alloc: Global, bytes: &[u8]) -> Result<Header, Refusal>
     ensures header { Answers (λ header. header) (header_of bytes.now) result }
+    // What holds of every header.
     ensures sound { IfOk result IsHeader }
+    ensures body { IfOk result (λ header. (2 < header.body_line) × (header.body_line ≤ length bytes.now + 4)) }
 {
     let mut lines = Lines::new(bytes);
     let Some(first) = lines.next() else {

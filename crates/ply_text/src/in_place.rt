@@ -1,6 +1,6 @@
 //! Numbers of a line that are read in place, for long rows.
 
-ghost use Rattle.std.specs.Prelude.{◌≡◌, ◌+◌, ◌<◌, ◌≤◌, ◌^◌, true, [], Some, length, drop, pos, neg_ℤ, slice_index, IfSome, IsTrue};
+ghost use Rattle.std.specs.Prelude.{◌≡◌, ◌+◌, ◌<◌, ◌≤◌, ◌^◌, true, false, [], Some, length, drop, pos, neg_ℤ, slice_index, IfSome, IsTrue};
 ghost use Rattle.ply_text.specs.Tokens.{is_blank, tokens_of};
 ghost use Rattle.ply_text.specs.Numbers.{first_integer, is_between};
 ghost use Rattle.ply_text.specs.InPlace.{AreDigits};
@@ -72,10 +72,11 @@ pub fn int_at(line: &[u8], place: usize, below: u32, most: u32) -> Option<(i32, 
 }
 
 /// Whether no token is left from `place` on.
-#[tactic(auto, using(crate::proofs::Splitting::no_token))]
+#[tactic(auto, using(crate::proofs::Splitting::no_token, crate::proofs::Splitting::some_token))]
 pub fn is_at_end(line: &[u8], place: usize) -> bool
     requires { place ≤ length line.now }
-    ensures { IsTrue result → tokens_of (drop place line.now) ≡ [] }
+    ensures none { IsTrue result → tokens_of (drop place line.now) ≡ [] }
+    ensures some { result ≡ false → 0 < length (tokens_of (drop place line.now)) }
 {
     token_start(line, place) == line.len()
 }

@@ -1,4 +1,4 @@
-use Rattle.std.proofs.Common.{◌≡◌, ◌+◌, length, map}
+use Rattle.std.proofs.Common.{◌≡◌, ◌+◌, ◌≤◌, length, map}
 use Rattle.ply_text.specs.Tokens.{tokens_of}
 use Rattle.ply_text.specs.Draft.{draft_of}
 use Rattle.ply_text.specs.IsHeader.{IsDraft}
@@ -10,6 +10,7 @@ abbrev pub invariant-loop-line : goal.invariant-loop-line
 invariant-loop-line l =
     (header_from l.at (draft_of l.draft) (map tokens_of l.lines) ≡ header_from 2 no_draft (map tokens_of l.fn.lines))
     × (l.at + length l.lines ≡ 2 + length l.fn.lines)
+    × (2 ≤ l.at)
     × IsDraft (draft_of l.draft)
 
 abbrev pub decreases-loop-line : goal.decreases-loop-line
