@@ -1,3 +1,4 @@
 pub mod Types
 pub mod RowSteps
 pub mod FaceSteps
+pub mod ItemSteps

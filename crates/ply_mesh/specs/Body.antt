@@ -5,6 +5,7 @@ use Rattle.std.specs.Ordering.{int_eq}
 use Rattle.drc_base.specs.declared.faults.Fault.{Fault}
 use Rattle.drc_base.specs.declared.kinds.Kind.TheVariants.{PlyRow, PlyNumber, PlyFace, PlyIndex, PlyShort, PlyRest}
 use Rattle.mesh_model.specs.Head.{least_of, greatest_of, in_type}
+use Rattle.mesh_model.specs.Parts.{cells_of}
 use Rattle.ply_text.specs.Faults.{refuse, or_refuse, ◌>>=◌}
 use Rattle.ply_text.specs.Numbers.{integer_of, only_if}
 
@@ -89,3 +90,7 @@ AppendsSome due old new = (row : List ℤ) × (due ≡ Some row) × (new ≡ old
 -- tokens without where they lie
 abbrev pub texts : List (Bor (List ℕ)) → List (List ℕ)
 texts found = map (λ t. t.now) found
+
+-- the rows that are due, and the lines after them, are these numbers, row after row, and these lines
+abbrev pub AreRowsRead : Result (List (List ℤ) × List (List (List ℕ))) Fault → List ℤ → List (List (List ℕ)) → Type 0
+AreRowsRead due cells rest = (rows : List (List ℤ)) × (due ≡ Ok (rows, rest)) × (cells ≡ cells_of rows)

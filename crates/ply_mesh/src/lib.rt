@@ -3,6 +3,7 @@
 //! geometry is read as that geometry. It follows PLY 1.0, in the profile of docs/PLY.md.
 #![tactic(auto)]
 
+mod bodies;
 mod face_lines;
 mod numbers;
 mod rows;
