@@ -1,5 +1,5 @@
 -- A body part by part.
-use Rattle.std.proofs.Common.{◌≡◌, ℕ, ◌+◌, List, [], ◌∷◌, map, Option, Some, None, Result, Ok, Err, refl, sym, ap, subst, ◌∙◌, add-zero, arith}
+use Rattle.std.proofs.Common.{◌≡◌, ℕ, ◌+◌, ◌-◌, drop, List, [], ◌∷◌, map, Option, Some, None, Result, Ok, Err, refl, sym, ap, subst, ◌∙◌, add-zero, arith}
 use Rattle.std.specs.Prelude.{ℤ, unwrap_or}
 use Rattle.drc_base.specs.declared.faults.Fault.{Fault}
 use Rattle.drc_base.specs.declared.faults.Refusal.{Refusal}
@@ -11,9 +11,13 @@ use Rattle.mesh_model.specs.declared.geometries.Geometry.TheVariants.{Mesh, Clou
 use Rattle.ply_text.specs.declared.headers.Header.{Header}
 use Rattle.ply_text.specs.Faults.{◌>>=◌}
 use Rattle.ply_mesh.specs.Body.{row_of, face_of, items_from, ends}
-use Rattle.ply_mesh.specs.Read.{head_of, geometry_of, faces_from, body_of}
+use Rattle.ply_mesh.specs.Read.{head_of, geometry_of, faces_from, body_of, ply_read}
+use Rattle.std.specs.Str.Lines.{lines}
+use Rattle.std.proofs.lemmas.List.{drop-map}
+use Rattle.ply_text.specs.Tokens.{tokens_of, token_lines}
+use Rattle.ply_text.specs.Header.{header_of}
 
-abbrev rows_from : Header → List (List (List ℕ)) → Result (List (List ℤ) × List (List (List ℕ))) Fault
+abbrev pub rows_from : Header → List (List (List ℕ)) → Result (List (List ℤ) × List (List (List ℕ))) Fault
 rows_from h lines = items_from (row_of h.types) h.vertices h.body_line lines
 
 pub rows_fault : (h : Header) (lines : List (List (List ℕ))) (e : Refusal) → Refuses (rows_from h lines) e → Refuses (body_of h lines) e
@@ -21,7 +25,7 @@ unfolding body_of
 rows_fault h lines refusal.Memory r = tt
 rows_fault h lines (refusal.Fault f) r = rw r refl
 
-abbrev Rest : Type 0
+abbrev pub Rest : Type 0
 Rest = List (List (List ℕ))
 
 -- what follows the points of a cloud
@@ -46,3 +50,16 @@ faces_fault h lines rest rows count (refusal.Fault d) some r f = mesh_from h lin
 pub mesh_ends : (h : Header) (lines rest more : Rest) (rows : List (List ℤ)) (faces : List (List ℕ)) (count : ℕ) → h.faces ≡ Some count → rows_from h lines ≡ Ok (rows, rest) → items_from (face_of (unwrap_or h.list (0, 0)) h.vertices) count (h.body_line + h.vertices) rest ≡ Ok (faces, more)
     → body_of h lines ≡ ends (Mesh (record { heads = map head_of h.heads; points = rows; faces = faces })) (h.body_line + h.vertices + count) more
 mesh_ends h lines rest more rows faces count some r f = mesh_from h lines rest rows count some r ∙ ap (λ (x : Result (List (List ℕ) × Rest) Fault). x >>= λ (faces : List (List ℕ) × Rest). ends (Mesh (record { heads = map head_of h.heads; points = rows; faces = faces.0 })) (h.body_line + h.vertices + count) faces.1) f
+
+-- ---- the whole text
+
+pub header_fault : (text : List ℕ) (e : Refusal) → Refuses (header_of text) e → Refuses (ply_read text) e
+unfolding ply_read
+header_fault text refusal.Memory r = tt
+header_fault text (refusal.Fault f) r = rw r refl
+
+pub body_is : (text : List ℕ) (h : Header) (left : List (List ℕ)) → header_of text ≡ Ok h → left ≡ drop (h.body_line - 1) (lines text) → body_of h (map tokens_of left) ≡ ply_read text
+unfolding ply_read token_lines
+body_is text h left e l =
+    let at : map tokens_of left ≡ drop (h.body_line - 1) (map tokens_of (lines text)) = ap (map tokens_of) l ∙ sym (drop-map tokens_of (h.body_line - 1) (lines text)) in
+    ap (body_of h) at ∙ sym (ap (λ (x : Result Header Fault). x >>= λ (y : Header). body_of y (drop (y.body_line - 1) (map tokens_of (lines text)))) e)

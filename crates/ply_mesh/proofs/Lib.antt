@@ -5,3 +5,4 @@ pub mod ItemSteps
 pub mod Binds
 pub mod WellFormed
 pub mod BodySteps
+pub mod Finish

@@ -32,7 +32,8 @@ pub(crate) fn read_rows(
     room: usize,
 ) -> Result<Vec<i32>, Refusal>
     requires { at + count < 2 ^ 64 }
-    ensures { MatchResult result
+    ensures fewer { length lines.new ≤ length lines.old }
+    ensures rows { MatchResult result
         (λ cells. AreRowsRead (items_from (row_of dtypes.now) count at (map tokens_of lines.old)) cells.items (map tokens_of lines.new))
         (λ e. Refuses (items_from (row_of dtypes.now) count at (map tokens_of lines.old)) e) }
 {
@@ -58,7 +59,8 @@ pub(crate) fn read_faces(
     room: usize,
 ) -> Result<Vec<[u32; 3]>, Refusal>
     requires { at + count < 2 ^ 64 }
-    ensures { MatchResult result
+    ensures fewer { length lines.new ≤ length lines.old }
+    ensures faces { MatchResult result
         (λ faces. items_from (face_of list points) count at (map tokens_of lines.old) ≡ Ok (faces.items, map tokens_of lines.new))
         (λ e. Refuses (items_from (face_of list points) count at (map tokens_of lines.old)) e) }
 {

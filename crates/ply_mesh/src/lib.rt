@@ -6,4 +6,7 @@
 mod bodies;
 mod face_lines;
 mod numbers;
+mod reading;
 mod rows;
+
+pub use reading::read_ply;
