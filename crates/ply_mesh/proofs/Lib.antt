@@ -6,3 +6,4 @@ pub mod Binds
 pub mod WellFormed
 pub mod BodySteps
 pub mod Finish
+pub mod LineTexts

@@ -5,6 +5,7 @@
 
 mod bodies;
 mod face_lines;
+mod head_writer;
 mod numbers;
 mod reading;
 mod rows;
