@@ -1,5 +1,6 @@
 -- Rows of columns, a column at a time.
-use Rattle.std.proofs.Common.{◌≡◌, ℕ, zero, suc, ◌+◌, ◌-◌, ◌*◌, ◌<◌, ◌≤◌, ℤ, List, [], ◌∷◌, ◌++◌, map, length, take, drop, get_or, refl, sym, ◌∙◌, ap, arith, append_assoc, append-nil, drop-cons}
+use Rattle.std.proofs.Common.{◌≡◌, ℕ, zero, suc, ◌+◌, ◌-◌, ◌*◌, ◌<◌, ◌≤◌, ℤ, List, [], ◌∷◌, ◌++◌, map, length, take, drop, get_or, refl, sym, ◌∙◌, ap, arith, append_assoc, append-nil, drop-cons, add-one}
+use Rattle.std.proofs.lemmas.Grind.{flat_map-append}
 use Rattle.std.specs.List.{flat_map, range_with_len}
 use Rattle.std.proofs.lemmas.List.{drop_all}
 use Rattle.std.proofs.Math.Nat.{mul-le-mul_right}
@@ -47,3 +48,16 @@ row_at-end n heads values k i done = rw (drop_all k heads done) refl
 pub piece_within : (n i comps len : ℕ) → i < n → len ≡ n * comps → i * comps + comps ≤ len
 piece_within n i comps len below is =
     let most : (i + 1) * comps ≤ n * comps = mul-le-mul_right comps (omega arith) in rw is (omega (arith, most))
+
+range_more : (a n : ℕ) → range_with_len a (suc n) ≡ range_with_len a n ++ (a + n) ∷ []
+range_more a zero = let e : a ≡ a + 0 = omega arith in ap (λ x. x ∷ []) e
+range_more a (suc n) = let e : a + 1 + n ≡ a + suc n = omega arith in ap (λ l. a ∷ l) (range_more (a + 1) n ∙ ap (λ x. range_with_len (a + 1) n ++ x ∷ []) e)
+
+-- one row more
+pub rows_more : (row : ℕ → List ℤ) (n : ℕ) → flat_map row (range_with_len 0 (n + 1)) ≡ flat_map row (range_with_len 0 n) ++ row n
+rows_more row n =
+    let e : 0 + n ≡ n = omega arith in
+    ap (λ m. flat_map row (range_with_len 0 m)) (add-one n)
+    ∙ ap (λ l. flat_map row l) (range_more 0 n)
+    ∙ flat_map-append row (range_with_len 0 n) ((0 + n) ∷ [])
+    ∙ ap (λ l. flat_map row (range_with_len 0 n) ++ l) (append-nil (row (0 + n)) ∙ ap row e)
