@@ -1,0 +1,2 @@
+//! Symbol blocks.
+#![tactic(auto)]
