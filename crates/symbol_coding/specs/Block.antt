@@ -8,7 +8,7 @@ use Rattle.drc_base.specs.declared.kinds.Kind.TheVariants as kind
 use Rattle.drc_bits.specs.Reading.{◌>>=◌, Reading, Item, must, fault_at, advanced}
 use Rattle.drc_bits.specs.Numbers.{number_at}
 use Rattle.drc_bits.specs.Bits.{bits_of, bytes_for, low_bits, number_of, packed}
-use Rattle.symbol_tables.specs.Tables.{table_at, table_bytes}
+use Rattle.symbol_tables.specs.Tables.{count_at, table_at, table_bytes}
 use Rattle.symbol_tables.specs.Normal.{greatest_of, normal, used_of}
 use Rattle.symbol_coding.specs.Symbols.{coded_at, coded_bytes, counts_of, digits, next_symbols}
 
@@ -30,20 +30,24 @@ raw_at n c = do
   coded ← coded_at (precision length.0) probs.1
   Ok (next_symbols n (precision length.0) probs.0 coded.0.state, coded.1)
 
--- the values of these widths from bits that begin at a reading: Length, at the given place, where a width is above 32,
--- and Short where the bits begin if they run out
-unfoldable pub values_in : ℕ → Reading → List ℕ → List ℕ → Result (List ℕ) Fault
-values_in place begin [] bits = Ok []
-values_in place begin (w ∷ ws) bits = if nat_lt 32 w then Err (record { kind = kind.Length; at = place })
-    else (if nat_lt (length bits) w then fault_at kind.Short begin
-    else values_in place begin ws (drop w bits) >>= λ vs. Ok (number_of (take w bits) ∷ vs))
+-- the values of these widths from bits: Length, at one place, where a width is above 32, and Short, at the other,
+-- where the bits run out
+unfoldable pub values_in : ℕ → ℕ → List ℕ → List ℕ → Result (List ℕ) Fault
+values_in long short [] bits = Ok []
+values_in long short (w ∷ ws) bits = if nat_lt 32 w then Err (record { kind = kind.Length; at = long })
+  else (if nat_lt (length bits) w then Err (record { kind = kind.Short; at = short })
+  else values_in long short ws (drop w bits) >>= λ vs. Ok (number_of (take w bits) ∷ vs))
+
+-- these values in front of others
+abbrev pub with_values : List ℕ → Result (List ℕ) Fault → Result (List ℕ) Fault
+with_values front rest = rest >>= λ vs. Ok (front ++ vs)
 
 -- a block of groups: a table of bit lengths, the coded lengths, one for each group, and then the bits of all values
 unfoldable pub tagged_at : ℕ → ℕ → Reading → Item (List ℕ)
 tagged_at groups comps c = do
   probs ← table_at (precision 5) c
   coded ← coded_at (precision 5) probs.1
-  values ← values_in coded.0.place coded.1 (widths comps (next_symbols groups (precision 5) probs.0 coded.0.state)) (bits_of coded.1.rest)
+  values ← values_in coded.0.place coded.1.place (widths comps (next_symbols groups (precision 5) probs.0 coded.0.state)) (bits_of coded.1.rest)
   Ok (values, advanced (bytes_for (sum (widths comps (next_symbols groups (precision 5) probs.0 coded.0.state)))) coded.1)
 
 -- what follows a scheme: 0 for groups, 1 for symbols
@@ -54,6 +58,11 @@ scheme_at scheme n comps c = if scheme == 0 then tagged_at (n / comps) comps c e
 unfoldable pub block_at : ℕ → ℕ → Reading → Item (List ℕ)
 block_at n comps c = if n == 0 then Ok ([], c)
     else must kind.Scheme (λ s. nat_lt s 2) (number_at 1) c >>= λ scheme. scheme_at scheme.0 n comps scheme.1
+
+-- a block up to its number of symbols, whose faults come before any memory is taken
+unfoldable pub opening_at : ℕ → Reading → Item ℕ
+opening_at n c = if n == 0 then Ok (0, c) else must kind.Scheme (λ s. nat_lt s 2) (number_at 1) c >>= λ scheme.
+  if scheme.0 == 0 then count_at scheme.1 else must kind.Length (λ l. nat_le 1 l && nat_le l 18) (number_at 1) scheme.1 >>= λ l. count_at l.1
 
 -- ---- writing
 
