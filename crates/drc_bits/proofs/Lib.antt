@@ -1,6 +1,7 @@
 pub mod Results
 pub mod Groups
 pub mod Many
+pub mod Spelled
 pub mod BitLists
 pub mod Buffers
 pub mod Loading

@@ -81,7 +81,7 @@ pub fn put_var64(v: u64) -> ArrayVec<u8, 10>
     let mut bytes = ArrayVec::new();
     let mut left = v;
     while left >= 128 {
-        bytes.push((left % 128) as u8 + 128);
+        bytes.push((left % 128 + 128) as u8);
         left /= 128;
     }
     bytes.push(left as u8);

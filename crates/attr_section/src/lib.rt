@@ -1,0 +1,13 @@
+//! Attributes of a stream: the heads of their decoders and their values. The contract above it: what
+//! is read is the attribute part of its definition at the cursor's place, or its first fault, and
+//! what is written is read back with just its length. After the Draco Bitstream Specification 2.2,
+//! sections "Attributes Decoder" and "Sequential Attributes".
+#![tactic(auto)]
+
+mod decoder_heads;
+mod head_items;
+mod head_reading;
+mod links;
+
+pub use decoder_heads::DecoderHead;
+pub use head_reading::read_heads;
