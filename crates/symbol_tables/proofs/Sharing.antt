@@ -1,8 +1,9 @@
 -- The probabilities for counts sum to the slots.
 use Rattle.std.proofs.Common.{◌≡◌, ℕ, zero, suc, ◌+◌, ◌-◌, ◌*◌, ◌/◌, ◌^◌, ◌<◌, ◌≤◌, ◌==◌, Bool, true, false, nat_lt, max, List, [], ◌∷◌, fold, map, length, sum, sum_by, count_by, position, Some, None, unwrap_or, set, get_or, if◌then◌else◌, sym, refl, ap, ◌∙◌, subst, inl, inr, arith, ltb-true, ltb-false, div-mul-le_self, add-mul, mul-add, le_of_mul-le-mul_right, mul_comm, ◌%◌, pow_mono}
 use Rattle.std.proofs.lemmas.Nat.{one_shl}
-use Rattle.std.proofs.lemmas.Bool.{cases_lt, cases_Bool, cond_both}
-use Rattle.std.proofs.lemmas.List.{length-set, length-map, get_or_past}
+use Rattle.std.proofs.lemmas.Bool.{cases_lt, cases_eq, cases_Bool, cond_both, lt-ltb}
+use Rattle.std.proofs.lemmas.List.{length-set, length-map, get_or_past, get_or-map, get_or-set_other}
+use Rattle.std.proofs.lemmas.Grind.{get_or-set_at}
 use Rattle.std.proofs.lemmas.List.Sums.{sum_by-cons, sum_by-set, get_or-le-sum_by}
 use Rattle.std.specs.List.{position_or_len}
 use Rattle.symbol_tables.specs.Normal.{used_of, greatest_of, most_frequent, share_of, shares, normal, HasTable}
@@ -82,3 +83,25 @@ most_frequent-below counts bits h = position-below (λ n. n == greatest_of count
 
 pub shifted : (bits : ℕ) → bits ≤ 20 → (1 * 2 ^ bits % 2 ^ 32 ≡ 2 ^ bits) × (2 ^ bits ≤ 2 ^ 20)
 shifted bits h = (one_shl bits 32 (omega arith), pow_mono {i = bits} {j = 20} h)
+
+-- a used symbol has a slot
+share_of-positive : (others all count : ℕ) → 0 < count → 0 < share_of others all count
+share_of-positive others all count h = rw (lt-ltb 0 count h) (omega arith)
+
+pub normal-positive : (counts : List ℕ) (bits s : ℕ) → 0 < get_or counts s 0 → 0 < get_or (normal counts bits) s 0
+unfolding normal
+normal-positive counts bits s h =
+    let others : ℕ = 2 ^ bits - used_of counts in
+    let all : ℕ = sum counts in
+    let given : List ℕ = shares counts (2 ^ bits) in
+    let at : ℕ = most_frequent counts in
+    let l : length given ≡ length counts = length-map counts (share_of others all) in
+    elim (cases_lt s (length counts)) [
+      inl inside ↦
+        let e : get_or given s 0 ≡ share_of others all (get_or counts s 0) = get_or-map (share_of others all) counts s 0 0 inside in
+        let some : 0 < get_or given s 0 = subst (λ n. 0 < n) (sym e) (share_of-positive others all (get_or counts s 0) h) in
+        elim (cases_eq s at) [
+          inl same ↦ rw (get_or-set_at given at s (get_or given at 0 + (2 ^ bits - sum given)) 0 same (omega arith))
+            (let t : 0 < get_or given at 0 = subst (λ n. 0 < get_or given n 0) same some in omega arith)
+        | inr other ↦ subst (λ n. 0 < n) (sym (get_or-set_other given at s (get_or given at 0 + (2 ^ bits - sum given)) 0 other)) some ]
+    | inr past ↦ absurd (omega (arith, get_or_past counts s 0 past)) ]

@@ -7,6 +7,7 @@ use Rattle.std.proofs.lemmas.List.Elements.{All-head, All-tail}
 use Rattle.drc_bits.specs.Reading.{◌>>=◌, Reading, Item, many_at}
 use Rattle.drc_bits.specs.Numbers.{little_endian, number_at}
 use Rattle.drc_bits.specs.Varint.{spelling}
+use Rattle.drc_bits.specs.Spells.{Spells}
 use Rattle.drc_bits.proofs.Written.{reading, number_at-byte, var32_at-spelling}
 use Rattle.symbol_tables.specs.Tables.{zeros_before, prob_bytes, probs_bytes, table_bytes, prob_at, probs_at, long_at, run_at, table_at, count_at, summing}
 
@@ -161,3 +162,7 @@ table_at-table_bytes bits place probs rest some few small whole =
     rw group (rw (count_at-spelling place (length probs) (body ++ rest) some few,
         probs_at-probs_bytes probs 0 (place + length text) rest (small_items probs small) (omega arith))
       (cond-true _ _ _ full ∙ moved probs (place + length text + length body) (place + length (text ++ body)) rest _ refl (omega arith)))
+
+pub table_at-Spells : (bits : ℕ) (probs : List ℕ) → 0 < length probs → length probs ≤ 2 ^ 20 → sum probs ≤ 2 ^ 20 → sum probs ≡ 2 ^ bits →
+    Spells (table_at bits) (table_bytes probs) probs
+table_at-Spells bits probs some few small whole = record { reads = λ place rest. table_at-table_bytes bits place probs rest some few small whole }

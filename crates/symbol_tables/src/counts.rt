@@ -1,6 +1,6 @@
 //! The table that is written for counts.
 
-ghost use Rattle.std.specs.Prelude.{◌≡◌, ℕ, ◌+◌, ◌-◌, ◌*◌, ◌/◌, ◌^◌, ◌<◌, ◌≤◌, length, map, sum, count_by, nat_lt, slice_index, slice_set, position, ◌==◌, IfOk};
+ghost use Rattle.std.specs.Prelude.{◌≡◌, ℕ,  ◌+◌, ◌-◌, ◌*◌, ◌/◌, ◌^◌, ◌<◌, ◌≤◌, length, map, sum, count_by, nat_lt, slice_index, slice_set, position, ◌==◌, IfOk};
 ghost use Rattle.symbol_tables.specs.Normal.{HasTable, greatest_of, most_frequent, normal, share_of, shares, used_of};
 
 use crate::table::Table;
@@ -114,6 +114,7 @@ impl Table {
         ensures table { IfOk result (λ t. t ≡ normal counts.now bits) }
         ensures whole { IfOk result (λ t. sum t ≡ 2 ^ bits) }
         ensures len { IfOk result (λ t. length t ≡ length counts.now) }
+        ensures used { IfOk result (λ t. (s : ℕ) → 0 < slice_index counts.now s → 0 < slice_index t s) }
     {
         let probs = normal_of(alloc, counts, bits)?;
         Table::build(alloc, probs)

@@ -1,7 +1,7 @@
 //! Writing a table.
 
 ghost use Rattle.std.specs.Prelude.{◌≡◌, ℕ, ◌+◌, ◌-◌, ◌*◌, ◌/◌, ◌%◌, ◌^◌, ◌<◌, ◌≤◌, ◌++◌, List, Ok, length, min, drop, sum, slice_index, IfOk, OnOk, OnErr};
-ghost use Rattle.drc_bits.specs.Reading.{Reading, advanced};
+ghost use Rattle.drc_bits.specs.Spells.{Spells};
 ghost use Rattle.symbol_tables.specs.Tables.{prob_bytes, probs_bytes, table_at, table_bytes, zeros_before};
 
 use crate::table::Table;
@@ -87,9 +87,7 @@ impl Table {
     pub fn write(&self, alloc: Global, out: &mut Vec<u8>) -> Result<(), Memory>
         ensures bytes { OnOk result (out.new.items ≡ out.old.items ++ table_bytes self.now) }
         ensures err { OnErr result (out.new.items ≡ out.old.items) }
-        ensures again { OnOk result ((bits place : ℕ) (rest : List ℕ) → sum self.now ≡ 2 ^ bits →
-            table_at bits (record { place = place; rest = table_bytes self.now ++ rest })
-            ≡ Ok (self.now, record { place = place + length (table_bytes self.now); rest = rest })) }
+        ensures again { OnOk result ((bits : ℕ) → sum self.now ≡ 2 ^ bits → Spells (table_at bits) (table_bytes self.now) self.now) }
     {
         let probs = self.probs();
         let mut bytes = Vec::new(alloc);

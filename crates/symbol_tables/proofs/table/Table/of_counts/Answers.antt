@@ -1,6 +1,6 @@
-use Rattle.std.proofs.Common.{◌≡◌, ℕ, ◌≤◌, ◌^◌, List, length, sum, subst, sym, ap, ◌∙◌, arith, pow_mono}
+use Rattle.std.proofs.Common.{◌≡◌, ℕ, ◌<◌, ◌≤◌, ◌^◌, get_or, List, length, sum, subst, sym, ap, ◌∙◌, arith, pow_mono}
 use Rattle.std.proofs.lemmas.Result.{IfOk-weaker}
-use Rattle.symbol_tables.proofs.Sharing.{normal-sum, normal-length}
+use Rattle.symbol_tables.proofs.Sharing.{normal-sum, normal-length, normal-positive}
 use Rattle.symbol_tables.proofs.table.Table.of_counts.Goals as goal
 use Rattle.symbol_tables.proofs.table.Table.of_counts.Goals.{In_ok-probs}
 
@@ -30,3 +30,8 @@ pub returns-clause-len : goal.returns-clause-len
 returns-clause-len c =
     let w = as_long (goal.at.returns-clause-len c).In_ok-probs in
     IfOk-weaker c.build.result (λ t. t ≡ c.in_ok-probs.probs.items) (λ t. length t ≡ length c.args.counts.now) (λ t e. ap length e ∙ w) c.build.ensures
+
+pub returns-clause-used : goal.returns-clause-used
+returns-clause-used c =
+    IfOk-weaker c.build.result (λ t. t ≡ c.in_ok-probs.probs.items) (λ t. (s : ℕ) → 0 < get_or c.args.counts.now s 0 → 0 < get_or t s 0)
+      (λ t e s h. subst (λ (xs : List ℕ). 0 < get_or xs s 0) (sym (e ∙ c.in_ok-probs.ensures)) (normal-positive c.args.counts.now c.args.bits s h)) c.build.ensures
