@@ -6,5 +6,6 @@
 
 mod plain;
 mod reading;
+mod writing;
 
 pub use reading::{SeqRead, read_indices};

@@ -2,7 +2,7 @@
 
 ghost use Rattle.std.specs.Prelude.{◌≡◌};
 ghost use Rattle.drc_bits.specs.Reading.{Reads, Gives, many_at};
-ghost use Rattle.seq_section.specs.Indices.{number_below, index_at, face_at};
+ghost use Rattle.seq_section.specs.Indices.{index_width, number_of_width, index_at, face_at};
 
 use drc_base::{Fault, Kind, Refusal};
 use drc_bits::Cursor;
@@ -50,7 +50,7 @@ fn read_index(c: &mut Cursor<'_>, points: u32) -> Result<u32, Fault>
 
 /// Reads a number of the width that indices below `points` have.
 fn read_number(c: &mut Cursor<'_>, points: u32) -> Result<u32, Fault>
-    ensures { Reads (λ i. i) (number_below points c.old) c.new result }
+    ensures { Reads (λ i. i) (number_of_width (index_width points) c.old) c.new result }
 {
     if points < 0x100 {
         return Ok(c.get_u8()? as u32);
