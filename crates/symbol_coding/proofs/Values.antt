@@ -1,5 +1,5 @@
 -- Values of given widths from bits.
-use Rattle.std.proofs.Common.{◌≡◌, ℕ, zero, suc, ◌+◌, ◌-◌, ◌*◌, ◌^◌, ◌<◌, ◌≤◌, nat_le, nat_lt, Bool, true, false, List, [], ◌∷◌, ◌++◌, length, take, drop, replicate, sum, flat_map, Result, Ok, Err, Option, Some, if◌then◌else◌, None, sym, refl, ap, ◌∙◌, subst, inl, inr, arith, append_assoc, append-nil, ltb-true, ltb-false, lt-ltb, le-ltb, leb-true, leb-false, length-drop, drop-drop}
+use Rattle.std.proofs.Common.{◌≡◌, ℕ, zero, suc, ◌+◌, ◌-◌, ◌*◌, ◌^◌, ◌<◌, ◌≤◌, nat_le, nat_lt, Bool, true, false, List, [], ◌∷◌, ◌++◌, length, take, drop, replicate, sum, flat_map, Result, Ok, Err, Option, Some, if◌then◌else◌, None, sym, refl, ap, ◌∙◌, subst, inl, inr, arith, append_assoc, append-nil, ltb-true, ltb-false, lt-ltb, le-ltb, leb-true, leb-false, length-drop, drop-drop, add-mul}
 use Rattle.std.proofs.lemmas.Bool.{cases_Bool, cond-true, cond-false, true≢false, false≢true}
 use Rattle.std.proofs.lemmas.List.Sums.{sum_by-append}
 use Rattle.std.proofs.lemmas.List.Folds.{sum_by-replicate}
@@ -56,11 +56,19 @@ pub left-taken : (w v : ℕ) (r t : BitPlace) → IsTaken w v r t → bits_left 
 left-taken w v r t h = ap bits_left h.after ∙ sym (drop-drop w r.taken (bits_of r.bytes))
 
 -- no more bits are taken than there are
-pub taken-within : (w v : ℕ) (r t : BitPlace) → IsTaken w v r t → r.taken ≤ 8 * length r.bytes → t.taken ≤ 8 * length r.bytes
-taken-within w v r t h within =
-    let l : length (bits_left r) ≡ 8 * length r.bytes - r.taken = length-drop r.taken (bits_of r.bytes) ∙ ap (λ n. n - r.taken) (length-bits_of r.bytes) in
+pub taken-within : (w v : ℕ) (bytes : List ℕ) (r t : BitPlace) → IsTaken w v r t → r.bytes ≡ bytes → r.taken ≤ 8 * length bytes → t.taken ≤ 8 * length bytes
+taken-within w v bytes r t h same within =
+    let l : length (bits_left r) ≡ 8 * length bytes - r.taken =
+    length-drop r.taken (bits_of r.bytes) ∙ ap (λ n. n - r.taken) (length-bits_of r.bytes) ∙ ap (λ xs. 8 * length xs - r.taken) same in
     let e : t.taken ≡ r.taken + w = ap (λ (p : BitPlace). p.taken) h.after in
     let f = h.fits in omega (arith, l, e, f, within)
+
+-- how many were taken
+pub taken-more : (w v k from : ℕ) (r t : BitPlace) → IsTaken w v r t → r.taken ≡ from + k * w → t.taken ≡ from + (k + 1) * w
+taken-more w v k from r t h so =
+    let e : t.taken ≡ r.taken + w = ap (λ (p : BitPlace). p.taken) h.after in
+    let m : (k + 1) * w ≡ k * w + 1 * w = add-mul k 1 w in
+    omega (arith, e, m, so)
 
 -- ---- the values of widths
 
@@ -122,7 +130,7 @@ pub group-values : (long short comps groups g w : ℕ) (probs front next : List 
     → whole ≡ with_values next (values_in long short (widths comps (next_symbols (groups - (g + 1)) e.bits probs e.state)) (bits_left t))
 group-values long short comps groups g w probs front next d e r t whole inside symbol after turn so =
     so ∙ ap (λ ss. with_values front (values_in long short (widths comps ss) (bits_left r)))
-      (symbols-step groups g probs d e inside after ∙ ap (λ x. x ∷ next_symbols (groups - (g + 1)) e.bits probs e.state) (sym symbol))
+    (symbols-step groups g probs d e inside after ∙ ap (λ x. x ∷ next_symbols (groups - (g + 1)) e.bits probs e.state) (sym symbol))
     ∙ turn long short (widths comps (next_symbols (groups - (g + 1)) e.bits probs e.state))
 
 pub group-missing : (long short comps groups g w : ℕ) (probs front : List ℕ) (d e : Coder) (r : BitPlace) (whole : Result (List ℕ) Fault) → g < groups
@@ -132,7 +140,7 @@ pub group-missing : (long short comps groups g w : ℕ) (probs front : List ℕ)
     → whole ≡ Err (record { kind = kind.Short; at = short })
 group-missing long short comps groups g w probs front d e r whole inside symbol after turn so =
     so ∙ ap (λ ss. with_values front (values_in long short (widths comps ss) (bits_left r)))
-      (symbols-step groups g probs d e inside after ∙ ap (λ x. x ∷ next_symbols (groups - (g + 1)) e.bits probs e.state) (sym symbol))
+    (symbols-step groups g probs d e inside after ∙ ap (λ x. x ∷ next_symbols (groups - (g + 1)) e.bits probs e.state) (sym symbol))
     ∙ turn long short (widths comps (next_symbols (groups - (g + 1)) e.bits probs e.state))
 
 pub group-long : (long short comps groups g w : ℕ) (probs front : List ℕ) (d e : Coder) (r : BitPlace) (whole : Result (List ℕ) Fault) → g < groups → 0 < comps
@@ -142,7 +150,7 @@ pub group-long : (long short comps groups g w : ℕ) (probs front : List ℕ) (d
 group-long long short comps groups g w probs front d e r whole inside some symbol after large so =
     let rest : List ℕ = widths comps (next_symbols (groups - (g + 1)) e.bits probs e.state) in
     so ∙ ap (λ ss. with_values front (values_in long short (widths comps ss) (bits_left r)))
-      (symbols-step groups g probs d e inside after ∙ ap (λ x. x ∷ next_symbols (groups - (g + 1)) e.bits probs e.state) (sym symbol))
+    (symbols-step groups g probs d e inside after ∙ ap (λ x. x ∷ next_symbols (groups - (g + 1)) e.bits probs e.state) (sym symbol))
     ∙ ap (λ m. with_values front (values_in long short (replicate m w ++ rest) (bits_left r))) (let h : comps ≡ suc (comps - 1) = omega arith in h)
     ∙ values_in-long long short w (replicate (comps - 1) w ++ rest) (bits_left r) front large
 
@@ -154,7 +162,7 @@ pub group-taken : (comps groups g w taken taken' total : ℕ) (probs : List ℕ)
 group-taken comps groups g w taken taken' total probs d e inside symbol after is so =
     let rest : List ℕ = widths comps (next_symbols (groups - (g + 1)) e.bits probs e.state) in
     let split : sum (widths comps (next_symbols (groups - g) d.bits probs d.state)) ≡ sum (replicate comps w ++ rest) =
-      ap (λ ss. sum (widths comps ss)) (symbols-step groups g probs d e inside after ∙ ap (λ x. x ∷ next_symbols (groups - (g + 1)) e.bits probs e.state) (sym symbol)) in
+    ap (λ ss. sum (widths comps ss)) (symbols-step groups g probs d e inside after ∙ ap (λ x. x ∷ next_symbols (groups - (g + 1)) e.bits probs e.state) (sym symbol)) in
     let two : sum (replicate comps w ++ rest) ≡ sum (replicate comps w) + sum rest = sum_by-append (λ x. x) (replicate comps w) rest in
     let one : sum (replicate comps w) ≡ comps * w = sum_by-replicate (λ x. x) comps w in
     omega (arith, split, two, one, is, so)
@@ -172,3 +180,10 @@ groups-taken comps groups taken total probs d so =
     let e : groups - groups ≡ 0 = omega arith in
     let z : sum (widths comps (next_symbols (groups - groups) d.bits probs d.state)) ≡ 0 = ap (λ m. sum (widths comps (next_symbols m d.bits probs d.state))) e in
     omega (arith, z, so)
+
+-- a fault of a kind is that fault
+pub long_of : (f : Fault) (whole : Result (List ℕ) Fault) → f.kind ≡ kind.Length → whole ≡ Err (record { kind = kind.Length; at = f.at }) → whole ≡ Err f
+long_of f whole is so = so ∙ ap (λ k. Err (record { kind = k; at = f.at })) (sym is)
+
+pub short_of : (f : Fault) (whole : Result (List ℕ) Fault) → f.kind ≡ kind.Short → whole ≡ Err (record { kind = kind.Short; at = f.at }) → whole ≡ Err f
+short_of f whole is so = so ∙ ap (λ k. Err (record { kind = k; at = f.at })) (sym is)

@@ -35,8 +35,8 @@ raw_at n c = do
 unfoldable pub values_in : ℕ → ℕ → List ℕ → List ℕ → Result (List ℕ) Fault
 values_in long short [] bits = Ok []
 values_in long short (w ∷ ws) bits = if nat_lt 32 w then Err (record { kind = kind.Length; at = long })
-  else (if nat_lt (length bits) w then Err (record { kind = kind.Short; at = short })
-  else values_in long short ws (drop w bits) >>= λ vs. Ok (number_of (take w bits) ∷ vs))
+    else (if nat_lt (length bits) w then Err (record { kind = kind.Short; at = short })
+    else values_in long short ws (drop w bits) >>= λ vs. Ok (number_of (take w bits) ∷ vs))
 
 -- these values in front of others
 abbrev pub with_values : List ℕ → Result (List ℕ) Fault → Result (List ℕ) Fault
@@ -59,10 +59,14 @@ unfoldable pub block_at : ℕ → ℕ → Reading → Item (List ℕ)
 block_at n comps c = if n == 0 then Ok ([], c)
     else must kind.Scheme (λ s. nat_lt s 2) (number_at 1) c >>= λ scheme. scheme_at scheme.0 n comps scheme.1
 
--- a block up to its number of symbols, whose faults come before any memory is taken
+-- a block of symbols up to its table's number of symbols
+unfoldable pub raw_opening_at : Reading → Item ℕ
+raw_opening_at c = must kind.Length (λ l. nat_le 1 l && nat_le l 18) (number_at 1) c >>= λ l. count_at l.1
+
+-- a block up to its table's number of symbols: what comes before any memory is taken
 unfoldable pub opening_at : ℕ → Reading → Item ℕ
-opening_at n c = if n == 0 then Ok (0, c) else must kind.Scheme (λ s. nat_lt s 2) (number_at 1) c >>= λ scheme.
-  if scheme.0 == 0 then count_at scheme.1 else must kind.Length (λ l. nat_le 1 l && nat_le l 18) (number_at 1) scheme.1 >>= λ l. count_at l.1
+opening_at n c = if n == 0 then Ok (0, c)
+    else must kind.Scheme (λ s. nat_lt s 2) (number_at 1) c >>= λ scheme. if scheme.0 == 0 then count_at scheme.1 else raw_opening_at scheme.1
 
 -- ---- writing
 

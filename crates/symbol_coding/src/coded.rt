@@ -57,9 +57,15 @@ pub fn pull(decoder: &mut Decoder<'_>, table: &Table, slots: &[u32]) -> u32
 }
 
 /// Pulls the next `n` symbols.
-pub fn pull_all(alloc: Global, decoder: Decoder<'_>, table: &Table, n: u32) -> Result<Vec<u32>, Memory>
+pub fn pull_all(
+    alloc: Global,
+    decoder: Decoder<'_>,
+    table: &Table,
+    n: u32,
+) -> Result<Vec<u32>, Memory>
     requires { sum table.now ≡ 2 ^ decoder.bits }
-    ensures { IfOk result (λ v. v.items ≡ next_symbols n decoder.entry.bits table.now decoder.entry.state) }
+    ensures symbols { IfOk result (λ v. v.items ≡ next_symbols n decoder.entry.bits table.now decoder.entry.state) }
+    ensures len { IfOk result (λ v. length v.items ≡ n) }
 {
     let mut decoder = decoder;
     let slots = table.slots();

@@ -11,5 +11,5 @@ loop-k-preserved c = record {
   capacity = search rules;
 }
 
-pub returns : goal.returns
-returns c = let e : c.loop-k._k ≡ c.args.n = omega arith in symbols-end c.args.n c.args.table.now c.loop-k.symbols.items _ c.loop-k.decoder (rw e at c.loop-k.invariant.symbols)
+pub returns-clause-symbols : goal.returns-clause-symbols
+returns-clause-symbols c = let e : c.loop-k._k ≡ c.args.n = omega arith in symbols-end c.args.n c.args.table.now c.loop-k.symbols.items _ c.loop-k.decoder (rw e at c.loop-k.invariant.symbols)
