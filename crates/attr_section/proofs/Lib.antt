@@ -1,1 +1,3 @@
 pub mod Each
+pub mod Spelling
+pub mod Loops

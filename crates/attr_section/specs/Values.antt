@@ -1,6 +1,6 @@
 -- The values of attributes (Draco Bitstream Specification 2.2, sections "Sequential Attributes", "Prediction Decoder" and
 -- "Quantization"; the limits and what is refused are this project's choice).
-use Rattle.std.specs.Prelude.{ℕ, ◌+◌, ◌-◌, ◌*◌, ◌/◌, ◌%◌, ◌^◌, ◌==◌, ◌&&◌, ◌||◌, Bool, ℤ, pos, negsuc, ◌-ℤ◌, List, [], length, Option, None, Some, Ok, sum_by, nat_le, int_le, int_lt, if◌then◌else◌}
+use Rattle.std.specs.Prelude.{ℕ, ◌+◌, ◌-◌, ◌*◌, ◌/◌, ◌%◌, ◌^◌, ◌==◌, ◌&&◌, ◌||◌, Bool, ℤ, pos, negsuc, ◌-ℤ◌, List, [], length, map, Option, None, Some, Ok, sum_by, nat_le, int_le, int_lt, if◌then◌else◌}
 use Rattle.std.specs.List.{list_all}
 use Rattle.std.specs.Ordering.{int_eq}
 use Rattle.drc_base.specs.declared.kinds.Kind.TheVariants as kind
@@ -11,6 +11,7 @@ use Rattle.mesh_model.specs.declared.heads.Head.{Head}
 use Rattle.mesh_model.specs.declared.heads.Quant.{Quant}
 use Rattle.mesh_model.specs.Head.{in_type}
 use Rattle.predict.specs.Wrap.{Range}
+use Rattle.symbol_coding.specs.Block.{block_at}
 use Rattle.predict.specs.Restored.{restored, entry_before}
 use Rattle.attr_section.specs.declared.decoder_heads.DecoderHead.{DecoderHead}
 use Rattle.attr_section.specs.declared.values.Values.{Values}
@@ -65,11 +66,15 @@ range_at c = do
 abbrev pub transform_at : Reading → Item ℕ
 transform_at c = must kind.Transform (λ t. t == 1) (number_at 1) c
 
+-- n integers of entries of so many components, in a symbol block
+unfoldable pub compressed_values_at : ℕ → ℕ → Reading → Item (List ℤ)
+compressed_values_at comps n c = block_at n comps c >>= λ x. Ok (map signed_of x.0, x.1)
+
 -- n integers of entries of so many components: as they are, or compressed
 unfoldable pub integers_at : ℕ → ℕ → Reading → Item (List ℤ)
 integers_at comps n c = do
   compressed ← number_at 1 c
-  if compressed.0 == 0 then plain_values_at n compressed.1 else fault_at kind.NotYet c
+  if compressed.0 == 0 then plain_values_at n compressed.1 else compressed_values_at comps n compressed.1
 
 -- n values that are restored from corrections by difference
 unfoldable pub differences_at : ℕ → ℕ → Reading → Item (List ℤ)

@@ -1,13 +1,14 @@
 //! The integers that stand for values in a stream.
 
-ghost use Rattle.std.specs.Prelude.{◌≡◌, ◌≤◌, ◌<◌, ◌^◌, IfOk, length};
+ghost use Rattle.std.specs.Prelude.{◌≡◌, ◌≤◌, ◌<◌, ◌%◌, IfOk, length, map};
 ghost use Rattle.drc_bits.specs.Reading.{Reads, Gives, many_at};
 ghost use Rattle.drc_bits.specs.Numbers.{number_at};
-ghost use Rattle.attr_section.specs.Values.{signed_of, plain_value_at, byte_width_at, plain_values_at, integers_at};
+ghost use Rattle.attr_section.specs.Values.{signed_of, plain_value_at, byte_width_at, plain_values_at, compressed_values_at, integers_at};
 
-use drc_base::{Fault, Kind, Refusal};
+use drc_base::{Fault, Kind, MAX_VALUES, Refusal};
 use drc_bits::Cursor;
-use std::alloc::Global;
+use std::alloc::{AllocError, Global};
+use symbol_coding::read_symbols;
 
 /// The integer of a zigzag symbol.
 pub fn signed_of(symbol: u32) -> i32
@@ -93,6 +94,32 @@ fn read_plain_values(alloc: Global, c: &mut Cursor<'_>, n: u32) -> Result<Vec<i3
     read_plain_of(alloc, c, width, n)
 }
 
+/// The integers of zigzag symbols.
+fn signed_values(alloc: Global, symbols: &[u32]) -> Result<Vec<i32>, AllocError>
+    ensures { IfOk result (λ v. v.items ≡ map signed_of symbols.now) }
+{
+    symbols.iter().map(|s| signed_of(*s)).collect(alloc)
+}
+
+/// `n` integers of entries of `comps` components, in a symbol block.
+#[tactic(auto, unfolding(crate::specs::Values::compressed_values_at))]
+fn read_compressed_values(
+    alloc: Global,
+    c: &mut Cursor<'_>,
+    comps: u32,
+    n: u32,
+) -> Result<Vec<i32>, Refusal>
+    requires some { 0 < comps }
+    requires whole { n % comps ≡ 0 }
+    requires few { n ≤ MAX_VALUES }
+    ensures item { Gives (λ v. v.items) (compressed_values_at comps n c.old) c.new result }
+    ensures len { IfOk result (λ v. length v.items ≡ n) }
+{
+    let symbols = read_symbols(alloc, c, n, comps)?;
+    let values = signed_values(alloc, &symbols)?;
+    Ok(values)
+}
+
 /// `n` integers of entries of `comps` components: as they are, or compressed.
 #[tactic(auto, unfolding(crate::specs::Values::integers_at))]
 pub fn read_integers(
@@ -101,17 +128,16 @@ pub fn read_integers(
     comps: u32,
     n: u32,
 ) -> Result<Vec<i32>, Refusal>
+    requires some { 0 < comps }
+    requires whole { n % comps ≡ 0 }
+    requires few { n ≤ MAX_VALUES }
     ensures item { Gives (λ v. v.items) (integers_at comps n c.old) c.new result }
     ensures len { IfOk result (λ v. length v.items ≡ n) }
 {
-    let at = c.place();
     let compressed = c.get_u8()?;
     if compressed == 0 {
         read_plain_values(alloc, c, n)
     } else {
-        Err(Refusal::Fault(Fault {
-            kind: Kind::NotYet,
-            at,
-        }))
+        read_compressed_values(alloc, c, comps, n)
     }
 }

@@ -72,6 +72,7 @@ fn read_differences(
 ) -> Result<Vec<i32>, Refusal>
     requires some { 0 < comps }
     requires whole { n % comps ≡ 0 }
+    requires few { n ≤ MAX_VALUES }
     ensures item { Gives (λ v. v.items) (differences_at comps n c.old) c.new result }
     ensures len { IfOk result (λ v. length v.items ≡ n) }
 {
@@ -92,6 +93,7 @@ fn read_predicted(
 ) -> Result<Vec<i32>, Refusal>
     requires some { 0 < comps }
     requires whole { n % comps ≡ 0 }
+    requires few { n ≤ MAX_VALUES }
     ensures item { Gives (λ v. v.items) (predicted_at predict comps n c.old) c.new result }
     ensures len { IfOk result (λ v. length v.items ≡ n) }
 {
@@ -112,6 +114,7 @@ fn read_typed_values(
 ) -> Result<Values, Refusal>
     requires some { 0 < head.now.comps }
     requires whole { n % head.now.comps ≡ 0 }
+    requires few { n ≤ MAX_VALUES }
     ensures item { Gives (λ v. v) (typed_values_at head.now n c.old) c.new result }
     ensures len { IfOk result (λ v. length v.values ≡ n) }
 {

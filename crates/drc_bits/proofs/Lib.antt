@@ -7,3 +7,4 @@ pub mod Buffers
 pub mod Loading
 pub mod Packing
 mod BitExamples
+pub mod Written
