@@ -7,7 +7,8 @@ use Rattle.std.proofs.Math.Nat.{mul-mod_left}
 use Rattle.mesh_model.specs.declared.heads.Head.{Head}
 use Rattle.mesh_model.specs.Head.{width_of}
 use Rattle.attr_section.specs.declared.values.Values.{Values}
-use Rattle.drc_container.specs.Columns.{row_at, cells_at, AreColumns}
+use Rattle.drc_container.specs.Columns.{row_at, cells_at}
+use Rattle.attr_section.specs.Values.{AreColumns}
 use Rattle.drc_container.proofs.Rows.{columns, piece_within}
 
 length-row_at : (n i : ℕ) (heads : List Head) (values : List Values) → AreColumns n heads values → i < n

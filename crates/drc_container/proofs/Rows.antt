@@ -6,7 +6,8 @@ use Rattle.std.proofs.lemmas.List.{drop_all}
 use Rattle.std.proofs.Math.Nat.{mul-le-mul_right}
 use Rattle.mesh_model.specs.declared.heads.Head.{Head}
 use Rattle.attr_section.specs.declared.values.Values.{Values}
-use Rattle.drc_container.specs.Columns.{row_at, cells_at, AreColumns}
+use Rattle.drc_container.specs.Columns.{row_at, cells_at}
+use Rattle.attr_section.specs.Values.{AreColumns}
 
 -- the columns of values
 abbrev pub columns : List Values → List (List ℤ)

@@ -1,9 +1,8 @@
 -- The integers of points attribute by attribute: a column has those of one attribute, point after point (Draco Bitstream
 -- Specification 2.2, section "Sequential Attributes").
-use Rattle.std.specs.Prelude.{◌≡◌, ℕ, ◌*◌, ℤ, List, [], ◌∷◌, ◌++◌, map, length, take, drop}
+use Rattle.std.specs.Prelude.{ℕ, ◌*◌, ℤ, List, [], ◌∷◌, ◌++◌, map, length, take, drop}
 use Rattle.std.specs.List.{flat_map, range_with_len}
 use Rattle.mesh_model.specs.declared.heads.Head.{Head}
-use Rattle.attr_section.specs.declared.values.Values.{Values}
 
 -- the columns of these rows
 abbrev pub columns_of : List Head → List (List ℤ) → List (List ℤ)
@@ -19,10 +18,3 @@ row_at (h ∷ heads) (column ∷ columns) i = take h.comps (drop (i * h.comps) c
 -- the first n rows of these columns, one after another
 abbrev pub cells_at : List Head → List (List ℤ) → ℕ → List ℤ
 cells_at heads columns n = flat_map (row_at heads columns) (range_with_len 0 n)
-
--- each head has its values, for n entries
-abbrev pub AreColumns : ℕ → List Head → List Values → Type 0
-AreColumns n [] [] = Unit {0}
-AreColumns n [] (v ∷ values) = ⊥
-AreColumns n (h ∷ heads) [] = ⊥
-AreColumns n (h ∷ heads) (v ∷ values) = (length v.values ≡ n * h.comps) × AreColumns n heads values

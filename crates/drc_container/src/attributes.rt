@@ -2,7 +2,7 @@
 
 ghost use Rattle.std.specs.Prelude.{◌≡◌, ◌<◌, [], IfOk, All};
 ghost use Rattle.drc_bits.specs.Reading.{Gives};
-ghost use Rattle.drc_container.specs.Columns.{AreColumns};
+ghost use Rattle.attr_section.specs.Values.{AreColumns};
 ghost use Rattle.drc_container.specs.Stream.{attributes_at, decoders_at};
 
 use attr_section::{DecoderHead, Values, read_decoder, read_heads};

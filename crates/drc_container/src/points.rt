@@ -1,7 +1,7 @@
 //! The points of a sequential stream from the columns of its attributes.
 
 ghost use Rattle.std.specs.Prelude.{◌≡◌, ◌<◌, ◌≤◌, ◌+◌, ◌++◌, length, take, drop, IfOk, OnOk};
-ghost use Rattle.drc_container.specs.Columns.{AreColumns};
+ghost use Rattle.attr_section.specs.Values.{AreColumns};
 ghost use Rattle.drc_container.specs.Stream.{points_of, row_of};
 
 use crate::attributes::Attributes;
