@@ -8,6 +8,7 @@ use Rattle.mesh_model.specs.declared.heads.Head.{Head}
 use Rattle.mesh_model.specs.declared.geometries.Geometry.{Geometry}
 use Rattle.mesh_model.specs.declared.geometries.Geometry.TheVariants as geometry
 use Rattle.mesh_model.specs.Parts.{mesh_of, cloud_of}
+use Rattle.seq_section.specs.declared.reading.SeqRead.{SeqRead}
 use Rattle.seq_section.specs.Indices.{opening_at, indices_at}
 use Rattle.attr_section.specs.declared.decoder_heads.DecoderHead.{DecoderHead}
 use Rattle.attr_section.specs.declared.values.Values.{Values}
@@ -56,21 +57,31 @@ row_of a i = row_at a.heads (map (λ v. v.values) a.values) i
 abbrev pub points_of : ℕ → Attributes → List ℤ
 points_of points a = cells_at a.heads (map (λ v. v.values) a.values) points
 
+-- a sequential mesh behind its indices; its connectivity begins at this place
+unfoldable pub mesh_behind : ℕ → SeqRead → Reading → Result Decoded Fault
+mesh_behind from indices c = do
+  attributes ← attributes_at indices.points c
+  mesh ← mesh_of attributes.0.heads (points_of indices.points attributes.0) indices.faces
+  Ok (record { geometry = geometry.Mesh mesh; seen = seen_of from c.place indices.points attributes.0 attributes.1 })
+
 -- a sequential mesh behind its header
 unfoldable pub mesh_at : Reading → Result Decoded Fault
 mesh_at c = do
   indices ← indices_at c
-  attributes ← attributes_at indices.0.points indices.1
-  mesh ← mesh_of attributes.0.heads (points_of indices.0.points attributes.0) indices.0.faces
-  Ok (record { geometry = geometry.Mesh mesh; seen = seen_of c.place indices.1.place indices.0.points attributes.0 attributes.1 })
+  mesh_behind c.place indices.0 indices.1
+
+-- a cloud behind its number of points, which stands at this place
+unfoldable pub cloud_behind : ℕ → ℕ → Reading → Result Decoded Fault
+cloud_behind from points c = do
+  attributes ← attributes_at points c
+  cloud ← cloud_of attributes.0.heads (points_of points attributes.0)
+  Ok (record { geometry = geometry.Cloud cloud; seen = seen_of from c.place points attributes.0 attributes.1 })
 
 -- a cloud behind its header
 unfoldable pub cloud_at : Reading → Result Decoded Fault
 cloud_at c = do
   points ← cloud_points_at c
-  attributes ← attributes_at points.0 points.1
-  cloud ← cloud_of attributes.0.heads (points_of points.0 attributes.0)
-  Ok (record { geometry = geometry.Cloud cloud; seen = seen_of c.place points.1.place points.0 attributes.0 attributes.1 })
+  cloud_behind c.place points.0 points.1
 
 -- what follows a header of this form
 abbrev pub body_at : Form → Reading → Result Decoded Fault

@@ -1,6 +1,6 @@
 //! What is seen of a stream beside its geometry.
 
-ghost use Rattle.std.specs.Prelude.{◌≡◌, ◌≤◌, IfOk};
+ghost use Rattle.std.specs.Prelude.{◌≡◌, IfOk};
 ghost use Rattle.drc_container.specs.Stream.{attrs_seen, seen_of};
 
 use crate::attributes::Attributes;
@@ -64,13 +64,12 @@ pub fn seen_of(
     entries: u32,
     attributes: &Attributes,
 ) -> Result<Seen, Memory>
-    requires { from ≤ to }
     ensures { IfOk result (λ s. s ≡ seen_of from to entries attributes.now end.now) }
 {
     let attrs = attrs_seen(alloc, entries, attributes)?;
     Ok(Seen {
         method: Method::Seq,
-        connectivity: (from, to - from),
+        connectivity: (from, to.saturating_sub(from)),
         symbols: 0,
         splits: 0,
         events: 0,
