@@ -1,10 +1,13 @@
 -- Answers of calls that take no memory, and faults of the front of a stream.
-use Rattle.std.proofs.Common.{◌≡◌, ℕ, Result, Ok, Err, refl, sym, ◌∙◌, ap}
+use Rattle.std.proofs.Common.{◌≡◌, ℕ, List, Result, Ok, Err, refl, sym, ◌∙◌, ap}
 use Rattle.drc_base.specs.declared.faults.Fault.{Fault}
 use Rattle.drc_base.specs.Refusals.{Answers}
-use Rattle.drc_bits.specs.Reading.{◌>>=◌, Reading, Item}
+use Rattle.drc_bits.specs.Reading.{◌>>=◌, Reading, Item, start_of}
 use Rattle.drc_bits.proofs.Results.{err≢ok, Err-injective}
 use Rattle.mesh_model.specs.FirstFault.{answer_of}
+use Rattle.drc_container.specs.declared.headers.Form.{Form}
+use Rattle.drc_container.specs.Header.{header_at}
+use Rattle.drc_container.specs.Stream.{front_of, front_at}
 use Rattle.seq_section.specs.declared.reading.SeqRead.{SeqRead}
 use Rattle.seq_section.specs.Indices.{opening_at, indices_at}
 
@@ -20,4 +23,15 @@ place-fault (Err e) f is = ap Err (Err-injective is)
 -- indices that were read have no fault in their opening
 pub opening-passed : (c d : Reading) (r : SeqRead) (f : Fault) → indices_at c ≡ Ok (r, d) → opening_at c ≡ Err f → ⊥
 unfolding indices_at
-opening-passed c d r f read fault = err≢ok (sym (rw fault refl) ∙ read)
+opening-passed c d r f read fault = err≢ok {e = f} (sym (rw fault refl) ∙ read)
+
+-- a header's fault is the fault of the front
+pub front-header : (bytes : List ℕ) (c : Reading) (e f : Fault) → c ≡ start_of bytes → header_at c ≡ Err e → front_of bytes ≡ Err f → e ≡ f
+unfolding front_of
+front-header bytes c e f at is front = Err-injective (sym (rw (← at, is) refl) ∙ front)
+
+-- behind a header that was read the front goes on
+pub front-behind : (bytes : List ℕ) (c d : Reading) (form said : Form) (f : Fault) → c ≡ start_of bytes → header_at c ≡ Ok (form, d) → form ≡ said
+    → front_of bytes ≡ Err f → front_at said d ≡ Err f
+unfolding front_of
+front-behind bytes c d form said f at is says front = rw (← says) (sym (rw (← at, is) refl) ∙ front)
