@@ -7,3 +7,4 @@ pub mod WellFormed
 pub mod BodySteps
 pub mod Finish
 pub mod LineTexts
+pub mod PropertyTexts

@@ -7,6 +7,7 @@ mod bodies;
 mod face_lines;
 mod head_writer;
 mod numbers;
+mod property_writer;
 mod reading;
 mod rows;
 
