@@ -8,3 +8,5 @@ pub mod BodySteps
 pub mod Finish
 pub mod LineTexts
 pub mod PropertyTexts
+pub mod RowTexts
+pub mod Passed

@@ -10,5 +10,6 @@ mod numbers;
 mod property_writer;
 mod reading;
 mod rows;
+mod writing;
 
 pub use reading::read_ply;
