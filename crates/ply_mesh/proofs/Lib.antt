@@ -10,3 +10,6 @@ pub mod LineTexts
 pub mod PropertyTexts
 pub mod RowTexts
 pub mod Passed
+pub mod Lexing
+pub mod NumberTexts
+pub mod HeaderSteps
