@@ -13,3 +13,6 @@ pub mod Passed
 pub mod Lexing
 pub mod NumberTexts
 pub mod HeaderSteps
+pub mod BodyAgain
+pub mod TokenTexts
+pub mod RoundTrip
