@@ -13,3 +13,4 @@ mod rows;
 mod writing;
 
 pub use reading::read_ply;
+pub use writing::write_ply;

@@ -1,8 +1,10 @@
 //! PLY text from geometry.
 
-ghost use Rattle.std.specs.Prelude.{◌≡◌, ◌<◌, ◌≤◌, ◌++◌, ◌∷◌, [], Ok, length, map, codes, OnOk, IfOk};
+ghost use Rattle.std.specs.Prelude.{◌≡◌, ◌<◌, ◌≤◌, ◌++◌, ◌∷◌, [], All, Ok, length, map, codes, OnOk, IfOk};
 ghost use Rattle.std.specs.Fmt.{signed_decimal, decimal};
 ghost use Rattle.mesh_model.specs.declared.geometries.Geometry.TheVariants as geometry;
+ghost use Rattle.ply_mesh.specs.Fields.{HasFields};
+ghost use Rattle.ply_mesh.specs.Read.{ply_read};
 ghost use Rattle.ply_mesh.specs.Text.{line_text, text_of, element_line, first_lines, points_header, faces_header, last_line, point_lines, list_line, face_line, face_lines, ply_lines, ply_text};
 
 use crate::head_writer::{put_heads, put_number};
@@ -62,7 +64,8 @@ fn put_first(out: &mut Vec<u8>) -> Result<(), Memory>
 /// Appends the header up to the properties of a point.
 fn put_points_header(out: &mut Vec<u8>, heads: &[Head], points: u32) -> Result<(), Memory>
     requires { length heads.now ≤ 16 }
-    ensures { OnOk result (out.new.items ≡ out.old.items ++ text_of (points_header heads.now points)) }
+    ensures text { OnOk result (out.new.items ≡ out.old.items ++ text_of (points_header heads.now points)) }
+    ensures fields { OnOk result (All HasFields heads.now) }
 {
     put_first(out)?;
     put_heads(out, heads)?;
@@ -135,6 +138,7 @@ fn put_faces(out: &mut Vec<u8>, mesh: &CornerMesh) -> Result<(), Memory>
 /// The text of a mesh.
 fn write_mesh(alloc: Global, mesh: &CornerMesh) -> Result<Vec<u8>, Memory>
     ensures text { IfOk result (λ text. text.items ≡ ply_text (geometry.Mesh mesh.now)) }
+    ensures again { IfOk result (λ text. ply_read text.items ≡ Ok (geometry.Mesh mesh.now)) }
 {
     let mut out = Vec::new(alloc);
     put_points_header(&mut out, mesh.heads(), mesh.point_count())?;
@@ -148,10 +152,22 @@ fn write_mesh(alloc: Global, mesh: &CornerMesh) -> Result<Vec<u8>, Memory>
 /// The text of a cloud.
 fn write_cloud(alloc: Global, cloud: &Cloud) -> Result<Vec<u8>, Memory>
     ensures text { IfOk result (λ text. text.items ≡ ply_text (geometry.Cloud cloud.now)) }
+    ensures again { IfOk result (λ text. ply_read text.items ≡ Ok (geometry.Cloud cloud.now)) }
 {
     let mut out = Vec::new(alloc);
     put_points_header(&mut out, cloud.heads(), cloud.point_count())?;
     put_last(&mut out)?;
     put_cloud_points(&mut out, cloud)?;
     Ok(out)
+}
+
+/// The text of a geometry: `read_ply` reads it as the same geometry.
+pub fn write_ply(alloc: Global, g: &Geometry) -> Result<Vec<u8>, Memory>
+    ensures text { IfOk result (λ text. text.items ≡ ply_text g.now) }
+    ensures again { IfOk result (λ text. ply_read text.items ≡ Ok g.now) }
+{
+    match g {
+        Geometry::Mesh(mesh) => write_mesh(alloc, mesh),
+        Geometry::Cloud(cloud) => write_cloud(alloc, cloud),
+    }
 }
