@@ -1,5 +1,5 @@
 -- An index of rows, empty and with one more point.
-use Rattle.std.proofs.Common.{◌≡◌, ◌≢◌, ℕ, ◌+◌, ◌-◌, ◌<◌, ◌≤◌, List, [], ◌∷◌, ◌++◌, length, get_or, set, replicate, refl, sym, ap, ◌∙◌, subst, inl, inr, arith}
+use Rattle.std.proofs.Common.{◌≡◌, ◌≢◌, ℕ, ◌+◌, ◌-◌, ◌<◌, ◌≤◌, ◌^◌, List, [], ◌∷◌, ◌++◌, length, get_or, set, replicate, refl, sym, ap, ◌∙◌, subst, inl, inr, arith}
 use Rattle.std.specs.List.{All}
 use Rattle.std.proofs.lemmas.Bool.{cases_eq, cases_lt}
 use Rattle.std.proofs.lemmas.List.{length_push, get_or_push, get_or_append_left, length-set, get_or-set_same, get_or-set_other, length-replicate, get_or-replicate}
@@ -9,9 +9,10 @@ use Rattle.mesh_model.specs.Hash.{bucket_of}
 use Rattle.mesh_model.specs.RowIndex.{row_of, key_of, IsIndex}
 
 -- an index of no points
-pub IsIndex-empty : (columns : Columns) (corners buckets : ℕ) → 0 < buckets → IsIndex columns corners (replicate buckets 0) [] []
-IsIndex-empty columns corners buckets wide = record {
+pub IsIndex-empty : (columns : Columns) (corners buckets : ℕ) → 0 < buckets → buckets ≤ 2 ^ 32 → IsIndex columns corners (replicate buckets 0) [] []
+IsIndex-empty columns corners buckets wide narrow = record {
   some = omega (arith, length-replicate {A = ℕ} buckets 0);
+  few = omega (arith, length-replicate {A = ℕ} buckets 0);
   long = refl;
   firsts_in = All-nil (λ c. c < corners);
   top_in = λ b below. omega (arith, top b below);
@@ -41,6 +42,7 @@ key-new columns tops firsts b link c p at =
 pub IsIndex-insert : (columns : Columns) (corners : ℕ) (tops nexts firsts : List ℕ) (b c : ℕ) → IsIndex columns corners tops nexts firsts → b < length tops → b ≡ bucket_of (length tops - 1) (corner_row columns c) → c < corners → IsIndex columns corners (set tops b (length firsts + 1)) (nexts ++ get_or tops b 0 ∷ []) (firsts ++ c ∷ [])
 IsIndex-insert columns corners tops nexts firsts b c is inside bucket corner = record {
   some = omega (arith, length-set tops b (n + 1), is.some);
+  few = omega (arith, length-set tops b (n + 1), is.few);
   long = length_push nexts (get_or tops b 0) ∙ ap (λ m. m + 1) is.long ∙ sym (length_push firsts c);
   firsts_in = All-push (λ f. f < corners) firsts c is.firsts_in corner;
   top_in = λ d below. elim (cases_eq d b) [

@@ -1,6 +1,7 @@
 pub mod Columns
 pub mod DistinctRows
 pub mod FirstFaults
+pub mod Growing
 pub mod Indexes
 pub mod Made
 pub mod Names

@@ -14,6 +14,7 @@ mod mapping;
 mod matching;
 mod meshes;
 mod renumberings;
+mod numbering;
 mod row_index;
 mod row_rules;
 mod tables;
