@@ -137,6 +137,18 @@ fn test_each_head(heads: &[Head]) -> Result<u32, Fault>
     Ok(width)
 }
 
+/// How many integers a row of these heads has.
+pub(crate) fn row_width(heads: &[Head]) -> u32
+    requires { width_of heads.now ≤ 128 }
+    ensures { result ≡ width_of heads.now }
+{
+    let mut width: u32 = 0;
+    for head in heads {
+        width += head.comps as u32;
+    }
+    width
+}
+
 /// The first fault of the heads of a geometry: NoAttribute and AttrLimit at their number, then
 /// AttrType, DataType, Components and QuantBits at the first head that has one, in this order.
 /// Without a fault, the width of a row.

@@ -6,6 +6,7 @@
 //! 2.2; the rest is this project's choice.
 #![tactic(auto)]
 
+mod assembling;
 mod clouds;
 mod corners;
 mod geometries;
@@ -19,6 +20,7 @@ mod row_index;
 mod row_rules;
 mod tables;
 
+pub use assembling::assemble;
 pub use clouds::Cloud;
 pub use geometries::Geometry;
 pub use heads::{Head, Quant};

@@ -33,7 +33,8 @@ impl CornerMesh {
     ghost use Rattle.std.specs.Prelude.{◌≡◌, ◌<◌, ◌≤◌, [], All, length, slice_index_or};
     ghost use Rattle.mesh_model.specs.FirstFault.{answer_of};
     ghost use Rattle.mesh_model.specs.Head.{width_of};
-    ghost use Rattle.mesh_model.specs.Parts.{AreRows, IsMesh, corner, mesh_of};
+    ghost use Rattle.mesh_model.specs.Parts.{AreRows, IsMesh, corner, mesh_of, rows_of};
+    ghost use Rattle.mesh_model.specs.Stored.{AreStored};
 
     /// The mesh of these heads, points (row after row) and faces. It takes no memory. Refusals, the
     /// first that applies: NoAttribute and AttrLimit at the number of heads; AttrType, DataType,
@@ -58,6 +59,27 @@ impl CornerMesh {
             width,
             count: count as u32,
         })
+    }
+
+    /// The mesh of these heads, rows and faces, which are known to be one.
+    pub(crate) fn from_rows(
+        heads: Vec<Head>,
+        cells: Vec<i32>,
+        faces: Vec<[u32; 3]>,
+        width: u32,
+        count: u32,
+    ) -> CornerMesh
+        requires stored { AreStored heads.items cells.items width count }
+        requires sound { IsMesh (record { heads = heads.items; points = rows_of width cells.items; faces = faces.items }) }
+        ensures { result ≡ record { heads = heads.items; points = rows_of width cells.items; faces = faces.items } }
+    {
+        CornerMesh {
+            heads,
+            cells,
+            faces,
+            width,
+            count,
+        }
     }
 
     /// The heads of its attributes.
