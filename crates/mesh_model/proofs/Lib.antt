@@ -1,4 +1,5 @@
 pub mod Columns
+pub mod AssembledParts
 pub mod CornerRows
 pub mod DistinctRows
 pub mod FirstFaults

@@ -4,7 +4,8 @@ ghost use Rattle.std.specs.Prelude.{◌≡◌, ◌≢◌, ◌+◌, ◌*◌, ◌<
 ghost use Rattle.std.specs.List.{range_with_len};
 ghost use Rattle.drc_base.specs.Refusals.{Answers};
 ghost use Rattle.mesh_model.specs.Assembled.{AreColumns, AreTables, assembled, corner_row, triple};
-ghost use Rattle.mesh_model.specs.Parts.{cells_of, corner};
+ghost use Rattle.mesh_model.specs.Parts.{IsMesh, cells_of, corner, rows_of};
+ghost use Rattle.mesh_model.specs.Stored.{AreStored};
 ghost use Rattle.mesh_model.specs.RowIndex.{points_of};
 
 use crate::corners::put_corner;
@@ -47,6 +48,43 @@ fn triples(alloc: Global, numbers: &[u32], faces: u32) -> Result<Vec<[u32; 3]>, 
     Ok(triples)
 }
 
+/// What a mesh stores beside its heads.
+#[derive(Drop)]
+struct Stored {
+    cells: Vec<i32>,
+    faces: Vec<[u32; 3]>,
+    width: u32,
+    count: u32,
+}
+
+/// The stored rows and faces of the assembled mesh.
+fn assemble_stored(
+    alloc: Global,
+    heads: &[Head],
+    tables: &[AttrTable],
+    faces: u32,
+) -> Result<Stored, Refusal>
+    requires { AreTables heads.now tables.now faces }
+    ensures answer { Answers (λ s. record { heads = heads.now; points = rows_of s.width s.cells.items; faces = s.faces.items })
+        (assembled heads.now tables.now faces) result }
+    ensures stored { IfOk result (λ s. AreStored heads.now s.cells.items s.width s.count) }
+    ensures sound { IfOk result (λ s. IsMesh (record { heads = heads.now; points = rows_of s.width s.cells.items; faces = s.faces.items })) }
+{
+    let corners = 3 * faces;
+    let width = row_width(heads);
+    let numbering = number_corners(alloc, heads, tables, corners)?;
+    let count = numbering.firsts.len() as u32;
+    test_counts(count as u64, width)?;
+    let cells = cells(alloc, heads, tables, corners, numbering.firsts.as_slice())?;
+    let faces = triples(alloc, numbering.numbers.as_slice(), faces)?;
+    Ok(Stored {
+        cells,
+        faces,
+        width,
+        count,
+    })
+}
+
 /// The mesh of a table of values for each head and `faces` faces: its points are the distinct rows of
 /// corners in the order in which they come first, and corner k of face f has the point of its row.
 /// Refusals, in this order: PointLimit at the number of points; ValueLimit at points times width.
@@ -59,18 +97,12 @@ pub fn assemble(
     requires { AreTables heads.items tables.items faces }
     ensures answer { Answers (λ m. m) (assembled heads.items tables.items faces) result }
 {
-    let corners = 3 * faces;
-    let width = row_width(heads.as_slice());
-    let numbering = number_corners(alloc, heads.as_slice(), tables.as_slice(), corners)?;
-    let count = numbering.firsts.len() as u32;
-    test_counts(count as u64, width)?;
-    let cells = cells(
-        alloc,
-        heads.as_slice(),
-        tables.as_slice(),
-        corners,
-        numbering.firsts.as_slice(),
-    )?;
-    let triples = triples(alloc, numbering.numbers.as_slice(), faces)?;
-    Ok(CornerMesh::from_rows(heads, cells, triples, width, count))
+    let stored = assemble_stored(alloc, heads.as_slice(), tables.as_slice(), faces)?;
+    Ok(CornerMesh::from_rows(
+        heads,
+        stored.cells,
+        stored.faces,
+        stored.width,
+        stored.count,
+    ))
 }
