@@ -1,6 +1,7 @@
 pub mod Columns
 pub mod AssembledParts
 pub mod CornerRows
+pub mod Counts
 pub mod DistinctRows
 pub mod FirstFaults
 pub mod Growing
@@ -12,3 +13,4 @@ pub mod Parted
 pub mod Places
 pub mod Ranges
 pub mod Rows
+pub mod SameLaws
