@@ -1,4 +1,5 @@
 pub mod Columns
+pub mod AssembledLaws
 pub mod AssembledParts
 pub mod CornerRows
 pub mod Counts

@@ -96,6 +96,10 @@ pub fn assemble(
 ) -> Result<CornerMesh, Refusal>
     requires { AreTables heads.items tables.items faces }
     ensures answer { Answers (λ m. m) (assembled heads.items tables.items faces) result }
+    // The points are pairwise different, and each corner has its row.
+    ensures distinct { IfOk result (λ m. AllPairs (λ a b. a ≢ b) m.points) }
+    ensures corners { IfOk result (λ m. (f k : ℕ) → f < faces → k < 3 →
+        corner m f k ≡ corner_row (zip heads.items tables.items) (3 * f + k)) }
 {
     let stored = assemble_stored(alloc, heads.as_slice(), tables.as_slice(), faces)?;
     Ok(CornerMesh::from_rows(
