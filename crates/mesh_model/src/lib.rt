@@ -20,6 +20,8 @@ mod numbering;
 mod row_index;
 mod row_rules;
 mod tables;
+#[cfg(test)]
+mod tests;
 
 pub use assembling::assemble;
 pub use clouds::Cloud;
