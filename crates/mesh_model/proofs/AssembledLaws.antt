@@ -1,9 +1,9 @@
 -- What the assembled mesh is, in other words: its points are pairwise different, and each corner has
 -- its row.
-use Rattle.std.proofs.Common.{◌≡◌, ◌≢◌, ℕ, zero, suc, ◌+◌, ◌*◌, ◌%◌, ◌<◌, ◌≤◌, Bool, true, false, cond, ◌||◌, List, [], ◌∷◌, ◌++◌, length, get_or, map, Option, None, Some, Result, Ok, Err, ℤ, refl, sym, ap, ◌∙◌, subst, inl, inr, add-one, arith}
-use Rattle.std.specs.List.{All, AllPairs, list_any, range_with_len, zip, position_or_len}
+use Rattle.std.proofs.Common.{◌≡◌, ℕ, zero, suc, ◌+◌, ◌*◌, ◌%◌, ◌<◌, true, false, cond, List, [], ◌∷◌, ◌++◌, length, get_or, map, Option, None, Some, Ok, ℤ, refl, sym, ap, ◌∙◌, subst, inl, inr, add-one, arith}
+use Rattle.std.specs.List.{list_any, zip}
 use Rattle.std.proofs.lemmas.Bool.{cases_Bool, cases_lt, false≢true, or_left, or_right}
-use Rattle.std.proofs.lemmas.List.{length-map, get_or-map}
+use Rattle.std.proofs.lemmas.List.{get_or-map}
 use Rattle.std.proofs.lemmas.List.Elements.{All-from_get_or}
 use Rattle.std.proofs.lemmas.List.Folds.{list_any-append, list_any_none}
 use Rattle.std.proofs.lemmas.List.FromFn.{map-range_with_len_more, length-map-range_with_len, get_or-map-range_with_len}
@@ -22,16 +22,16 @@ use Rattle.mesh_model.proofs.AssembledParts.{AreApart, apart-distinct}
 -- a row that is among rows is among rows with one more, and the one more is too
 kept-with_row : (rows : List (List ℤ)) (row other : List ℤ) → list_any (same_row other) rows ≡ true → list_any (same_row other) (with_row rows row) ≡ true
 kept-with_row rows row other there = elim (cases_Bool (list_any (same_row row) rows)) [
-    inl found ↦ ap (λ b. list_any (same_row other) (cond b rows (rows ++ row ∷ []))) found ∙ there
+  | inl found ↦ ap (λ b. list_any (same_row other) (cond b rows (rows ++ row ∷ []))) found ∙ there
   | inr missing ↦ ap (λ b. list_any (same_row other) (cond b rows (rows ++ row ∷ []))) missing ∙ list_any-append (same_row other) rows (row ∷ []) ∙ or_left _ _ there
-  ]
+]
 
 new-with_row : (rows : List (List ℤ)) (row : List ℤ) → list_any (same_row row) (with_row rows row) ≡ true
 new-with_row rows row = elim (cases_Bool (list_any (same_row row) rows)) [
-    inl found ↦ ap (λ b. list_any (same_row row) (cond b rows (rows ++ row ∷ []))) found ∙ found
+  | inl found ↦ ap (λ b. list_any (same_row row) (cond b rows (rows ++ row ∷ []))) found ∙ found
   | inr missing ↦ ap (λ b. list_any (same_row row) (cond b rows (rows ++ row ∷ []))) missing ∙ list_any-append (same_row row) rows (row ∷ [])
       ∙ or_right _ _ (or_left _ _ (same_row-refl row row refl))
-  ]
+]
 
 -- the row of each corner is among the distinct rows
 has_row : (columns : Columns) (count c : ℕ) → c < count → list_any (same_row (corner_row columns c)) (distinct (corner_rows columns count)) ≡ true
@@ -39,24 +39,24 @@ has_row columns zero c below = absurd (omega arith)
 has_row columns (suc n) c below =
     ap (λ m. list_any (same_row (corner_row columns c)) (distinct (corner_rows columns m))) (sym (add-one n))
     ∙ ap (list_any (same_row (corner_row columns c)))
-        (ap distinct (map-range_with_len_more (corner_row columns) 0 n n (omega arith)) ∙ distinct-push (corner_rows columns n) (corner_row columns n))
+    (ap distinct (map-range_with_len_more (corner_row columns) 0 n n (omega arith)) ∙ distinct-push (corner_rows columns n) (corner_row columns n))
     ∙ elim (cases_lt c n) [
-        inl before ↦ kept-with_row (distinct (corner_rows columns n)) (corner_row columns n) (corner_row columns c) (has_row columns n c before)
+      | inl before ↦ kept-with_row (distinct (corner_rows columns n)) (corner_row columns n) (corner_row columns c) (has_row columns n c before)
       | inr last ↦
           let same : n ≡ c = omega arith in
           subst (λ k. list_any (same_row (corner_row columns k)) (with_row (distinct (corner_rows columns n)) (corner_row columns n)) ≡ true) same
-              (new-with_row (distinct (corner_rows columns n)) (corner_row columns n))
-      ]
+          (new-with_row (distinct (corner_rows columns n)) (corner_row columns n))
+    ]
 
 -- a row that is among rows stands at its number
 get_or-number_of : (rows : List (List ℤ)) (row : List ℤ) → list_any (same_row row) rows ≡ true → get_or rows (number_of rows row) [] ≡ row
 get_or-number_of rows row there = elim (cases_lt (number_of rows row) (length rows)) [
-    inl inside ↦ sym ((same_row-decides row _).0 (passes_at_first (same_row row) rows [] inside))
+  | inl inside ↦ sym ((same_row-decides row _).0 (passes_at_first (same_row row) rows [] inside))
   | inr past ↦
       let none = list_any_none (same_row row) rows
-          (All-from_get_or (λ r. same_row row r ≡ false) rows [] (λ k below. fails_before_first (same_row row) rows k [] (omega arith))) in
+      (All-from_get_or (λ r. same_row row r ≡ false) rows [] (λ k below. fails_before_first (same_row row) rows k [] (omega arith))) in
       absurd (false≢true (sym none ∙ there))
-  ]
+]
 
 -- the numbers of a triple
 triple-at : (numbers : List ℕ) (f k : ℕ) → k < 3 → get_or (triple numbers f) (k % 3) 0 ≡ get_or numbers (3 * f + k) 0

@@ -1,7 +1,7 @@
 -- How often a test passes in a list.
-use Rattle.std.proofs.Common.{◌≡◌, ℕ, zero, suc, ◌+◌, ◌<◌, ◌≤◌, Bool, true, false, cond, eqb, ltb, List, [], ◌∷◌, length, get_or, map, refl, sym, ap, ◌∙◌, subst, inl, inr, arith}
-use Rattle.std.specs.List.{All, count_by, range_with_len, position_or_len, sum_by}
-use Rattle.std.proofs.lemmas.Bool.{cases_Bool, cases_eq, cases_lt, eq-eqb, ne_eqb, eqb-true, lt-ltb, le-ltb, false≢true}
+use Rattle.std.proofs.Common.{◌≡◌, ℕ, zero, suc, ◌+◌, ◌<◌, ◌≤◌, Bool, true, false, cond, eqb, List, [], ◌∷◌, length, get_or, map, refl, sym, ap, ◌∙◌, inl, inr, arith}
+use Rattle.std.specs.List.{All, count_by, range_with_len, position_or_len}
+use Rattle.std.proofs.lemmas.Bool.{cases_Bool, cases_eq, cases_lt, eq-eqb, ne_eqb, false≢true}
 use Rattle.std.proofs.lemmas.List.Elements.{All-head, All-tail}
 use Rattle.std.proofs.lemmas.List.Sums.{sum_by-cons, get_or-le-sum_by, position_or_len_is}
 
@@ -54,34 +54,35 @@ pub record OnePlace {X : Type 0} (p : X → Bool) (xs : List X) (d : X) (j : ℕ
 pub one_place : {X : Type 0} (p : X → Bool) (xs : List X) (d : X) → count_by p xs ≡ 1 → (j : ℕ) × OnePlace p xs d j
 one_place p [] d one = absurd (omega arith)
 one_place p (x ∷ xs) d one = elim (cases_Bool (p x)) [
-    inl here ↦
+  | inl here ↦
       let at : one_if p x ≡ 1 = ap (λ b. cond b 1 0) here in
       let none : count_by p xs ≡ 0 = omega (arith, count-cons p x xs, at, one) in
-      (0 , record { inside = omega arith; passes = here; alone = λ k below passes. first k below passes none })
+      (0, record { inside = omega arith; passes = here; alone = λ k below passes. first k below passes none })
   | inr there ↦
       let at : one_if p x ≡ 0 = ap (λ b. cond b 1 0) there in
       let rest = one_place p xs d (omega (arith, count-cons p x xs, at, one)) in
-      (suc rest.0 , record { inside = omega (arith, rest.1.inside); passes = rest.1.passes; alone = λ k below passes. later k below passes there rest.0 rest.1.alone })
-  ]
+      (suc rest.0, record { inside = omega (arith, rest.1.inside); passes = rest.1.passes; alone = λ k below passes. later k below passes there rest.0 rest.1.alone })
+]
   where
-  first : (k : ℕ) → k < length (x ∷ xs) → p (get_or (x ∷ xs) k d) ≡ true → count_by p xs ≡ 0 → k ≡ 0
-  first zero below passes none = refl
-  first (suc k) below passes none =
-      let one : one_if p (get_or xs k d) ≡ 1 = ap (λ b. cond b 1 0) passes in
-      absurd (omega (arith, one, none, get_or-le-sum_by (one_if p) xs k d (omega arith)))
-  later : (k : ℕ) → k < length (x ∷ xs) → p (get_or (x ∷ xs) k d) ≡ true → p x ≡ false → (j : ℕ) → ((i : ℕ) → i < length xs → p (get_or xs i d) ≡ true → i ≡ j) → k ≡ suc j
-  later zero below passes fails j alone = absurd (false≢true (sym fails ∙ passes))
-  later (suc k) below passes fails j alone = ap suc (alone k (omega arith) passes)
+    first : (k : ℕ) → k < length (x ∷ xs) → p (get_or (x ∷ xs) k d) ≡ true → count_by p xs ≡ 0 → k ≡ 0
+    first zero below passes none = refl
+    first (suc k) below passes none =
+        let one : one_if p (get_or xs k d) ≡ 1 = ap (λ b. cond b 1 0) passes in
+        absurd (omega (arith, one, none, get_or-le-sum_by (one_if p) xs k d (omega arith)))
+
+    later : (k : ℕ) → k < length (x ∷ xs) → p (get_or (x ∷ xs) k d) ≡ true → p x ≡ false → (j : ℕ) → ((i : ℕ) → i < length xs → p (get_or xs i d) ≡ true → i ≡ j) → k ≡ suc j
+    later zero below passes fails j alone = absurd (false≢true (sym fails ∙ passes))
+    later (suc k) below passes fails j alone = ap suc (alone k (omega arith) passes)
 
 -- that place is the first
 pub first-one_place : {X : Type 0} (p : X → Bool) (xs : List X) (d : X) (j : ℕ) → OnePlace p xs d j → position_or_len p xs ≡ j
 first-one_place p xs d j at =
     position_or_len_is p xs j d (omega (arith, at.inside))
-        (λ k before. elim (cases_Bool (p (get_or xs k d))) [
-            inl passes ↦ absurd (omega (arith, at.alone k (omega (arith, at.inside)) passes))
-          | inr fails ↦ fails
-          ])
-        (λ _. at.passes)
+    (λ k before. elim (cases_Bool (p (get_or xs k d))) [
+      | inl passes ↦ absurd (omega (arith, at.alone k (omega (arith, at.inside)) passes))
+      | inr fails ↦ fails
+    ])
+    (λ _. at.passes)
 
 -- a number stands once in a range that has it, and nowhere in one that has not
 pub count-range_above : (a n v : ℕ) → v < a → count_by (λ f. eqb f v) (range_with_len a n) ≡ 0
@@ -93,14 +94,14 @@ count-range_above a (suc n) v below =
 pub count-range : (a n v : ℕ) → a ≤ v → v < a + n → count_by (λ f. eqb f v) (range_with_len a n) ≡ 1
 count-range a zero v from below = absurd (omega arith)
 count-range a (suc n) v from below = elim (cases_eq a v) [
-    inl same ↦
+  | inl same ↦
       let here : one_if (λ f. eqb f v) a ≡ 1 = ap (λ b. cond b 1 0) (eq-eqb a v same) in
       omega (arith, count-cons (λ f. eqb f v) a (range_with_len (a + 1) n), here, count-range_above (a + 1) n v (omega arith))
   | inr other ↦
       let here : one_if (λ f. eqb f v) a ≡ 0 = ap (λ b. cond b 1 0) (ne_eqb a v other) in
       let after : a + 1 ≤ v = omega (arith, from_other other) in
       omega (arith, count-cons (λ f. eqb f v) a (range_with_len (a + 1) n), here, count-range (a + 1) n v after (omega arith))
-  ]
+]
   where
-  from_other : (a ≡ v → ⊥) → a + 1 ≤ v
-  from_other other = elim (cases_lt a v) [ inl before ↦ omega arith | inr past ↦ absurd (other (omega arith)) ]
+    from_other : (a ≡ v → ⊥) → a + 1 ≤ v
+    from_other other = elim (cases_lt a v) [ inl before ↦ omega arith | inr past ↦ absurd (other (omega arith)) ]

@@ -9,5 +9,4 @@ pub fn same_is_an_equivalence()
     ensures reflexive { SameIsReflexive }
     ensures symmetric { SameIsSymmetric }
     ensures transitive { SameIsTransitive }
-{
-}
+{}

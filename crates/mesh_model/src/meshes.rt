@@ -42,7 +42,11 @@ impl CornerMesh {
     /// number of points, ValueLimit at points times width, FaceLimit at the number of faces;
     /// IndexRange at the first face with a number that is no number of a point; ValueRange at the
     /// first integer of `points` outside its data type.
-    pub fn new(heads: Vec<Head>, points: Vec<i32>, faces: Vec<[u32; 3]>) -> Result<CornerMesh, Refusal>
+    pub fn new(
+        heads: Vec<Head>,
+        points: Vec<i32>,
+        faces: Vec<[u32; 3]>,
+    ) -> Result<CornerMesh, Refusal>
         requires { AreRows heads.items points.items }
         ensures { result ≡ answer_of (mesh_of heads.items points.items faces.items) }
     {

@@ -24,12 +24,7 @@ fn positions(dtype: u8) -> Head
 }
 
 /// A mesh of positions.
-fn mesh(
-    alloc: Global,
-    dtype: u8,
-    points: &[i32],
-    faces: &[[u32; 3]],
-) -> Result<CornerMesh, Refusal>
+fn mesh(alloc: Global, dtype: u8, points: &[i32], faces: &[[u32; 3]]) -> Result<CornerMesh, Refusal>
     requires { length points.now % 3 ≡ 0 }
 {
     let heads = vec![in alloc; positions(dtype)]?;

@@ -1,12 +1,10 @@
-use Rattle.std.proofs.Common.{◌≡◌, ◌*◌, ◌≤◌, None, Some, Ok, List, ℕ, map, length, sym, ap, ◌∙◌, subst, rules, arith}
+use Rattle.std.proofs.Common.{◌≡◌, None, Some, Ok, List, ℕ, map, length, sym, ap, ◌∙◌, subst, rules}
 use Rattle.std.specs.List.{range_with_len, zip}
 use Rattle.std.proofs.lemmas.Result.{err_from_is_err_and}
-use Rattle.drc_base.specs.declared.faults.Refusal.TheVariants as refusal
-use Rattle.mesh_model.specs.Head.{width_of}
 use Rattle.mesh_model.specs.Parts.{MeshParts, IsMesh, count_fault, cells_of, rows_of}
 use Rattle.mesh_model.specs.Stored.{AreStored}
-use Rattle.mesh_model.specs.Assembled.{Columns, assembled, triple}
-use Rattle.mesh_model.specs.RowIndex.{points_of, IsNumbering}
+use Rattle.mesh_model.specs.Assembled.{triple}
+use Rattle.mesh_model.specs.RowIndex.{points_of}
 use Rattle.mesh_model.proofs.Columns.{width_of-bounds}
 use Rattle.mesh_model.proofs.AssembledParts.{stored-numbered, assembled-fault}
 use Rattle.mesh_model.proofs.assembling.assemble_stored.Goals as goal
@@ -22,8 +20,8 @@ returns-in_err-test_counts-clause-answer c =
     let many : c.len-count.result ≡ length firsts = search rules in
     let p = err_from_is_err_and c.from_residual-in_err-test_counts.result c.from_residual-in_err-test_counts.ensures.1 in
     rw (p.1, p.2)
-        (assembled-fault heads tables c.args.faces c.in_ok-numbering.numbering.numbers.items firsts c.row_width-width.result c.in_err-test_counts.field-0.0
-            c.in_ok-numbering.ensures c.row_width-width.ensures (subst (λ n. count_fault n c.row_width-width.result ≡ Some c.in_err-test_counts.field-0.0) many c.in_err-test_counts.ensures))
+    (assembled-fault heads tables c.args.faces c.in_ok-numbering.numbering.numbers.items firsts c.row_width-width.result c.in_err-test_counts.field-0.0
+    c.in_ok-numbering.ensures c.row_width-width.ensures (subst (λ n. count_fault n c.row_width-width.result ≡ Some c.in_err-test_counts.field-0.0) many c.in_err-test_counts.ensures))
 
 pub returns-clause-stored : goal.returns-clause-stored
 returns-clause-stored c =
