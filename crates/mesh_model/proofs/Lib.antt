@@ -1,0 +1,17 @@
+pub mod Columns
+pub mod AssembledLaws
+pub mod AssembledParts
+pub mod CornerRows
+pub mod Counts
+pub mod DistinctRows
+pub mod FirstFaults
+pub mod Growing
+pub mod Indexes
+pub mod Made
+pub mod Names
+pub mod Pairs
+pub mod Parted
+pub mod Places
+pub mod Ranges
+pub mod Rows
+pub mod SameLaws
