@@ -38,17 +38,17 @@ head_fault-comps k h e =
     let types = first_fault-none (unless (has_type h.dtype h.quant) DataType k) _ usage.1 in
     let comps = and_parts _ _ (unless-none _ Components k (first_fault-none _ _ types.1).0) in
     let bounds = and_parts _ _ comps.0 in
-    (leb-true 1 h.comps bounds.0 , leb-true h.comps 8 bounds.1)
+    (leb-true 1 h.comps bounds.0, leb-true h.comps 8 bounds.1)
 
 -- heads without a fault are at least as wide as they are many, and at most eight times as wide
 each_fault-width : (k : ℕ) (heads : List Head) → each_fault k heads ≡ None → (length heads ≤ width_of heads) × (width_of heads ≤ 8 * length heads)
-each_fault-width k [] e = (omega arith , omega arith)
+each_fault-width k [] e = (omega arith, omega arith)
 each_fault-width k (h ∷ heads) e =
     let parts = first_fault-none (head_fault k h) _ e in
     let here = head_fault-comps k h parts.0 in
     let rest = each_fault-width (k + 1) heads parts.1 in
     let sum = sum_by-cons (λ (g : Head). g.comps) h heads in
-    (omega (arith, here.0, rest.0, sum) , omega (arith, here.1, rest.1, sum))
+    (omega (arith, here.0, rest.0, sum), omega (arith, here.1, rest.1, sum))
 
 -- the width of heads that pass is 1 to 128
 pub width_of-bounds : (heads : List Head) → heads_fault heads ≡ None → (0 < width_of heads) × (width_of heads ≤ 128)
@@ -59,4 +59,4 @@ width_of-bounds heads e =
     let each = each_fault-width 0 heads (first_fault-none _ _ few.1).0 in
     let one = leb-true 1 (length heads) (unless-none _ NoAttribute (length heads) some.0) in
     let most = leb-true (length heads) 16 (unless-none _ AttrLimit (length heads) few.0) in
-    (omega (arith, one, each.0) , omega (arith, most, each.1))
+    (omega (arith, one, each.0), omega (arith, most, each.1))

@@ -1,6 +1,11 @@
 pub mod Columns
+pub mod AssembledLaws
+pub mod AssembledParts
+pub mod CornerRows
+pub mod Counts
 pub mod DistinctRows
 pub mod FirstFaults
+pub mod Growing
 pub mod Indexes
 pub mod Made
 pub mod Names
@@ -9,3 +14,4 @@ pub mod Parted
 pub mod Places
 pub mod Ranges
 pub mod Rows
+pub mod SameLaws

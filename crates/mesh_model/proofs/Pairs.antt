@@ -1,12 +1,12 @@
 -- Heads beside their tables.
-use Rattle.std.proofs.Common.{◌≡◌, ℕ, ◌+◌, ◌*◌, ◌<◌, ◌≤◌, List, [], ◌∷◌, ◌++◌, length, get_or, take, drop, min, sym, ap, ◌∙◌, subst, refl, arith}
-use Rattle.std.specs.List.{All, flat_map, zip}
+use Rattle.std.proofs.Common.{◌≡◌, ℕ, ◌+◌, ◌*◌, ◌<◌, ◌≤◌, List, [], ◌∷◌, ◌++◌, length, get_or, take, drop, sym, ap, ◌∙◌, subst, arith}
+use Rattle.std.specs.List.{flat_map, zip}
 use Rattle.std.proofs.lemmas.List.{take_more, take_all, drop_more, take-append-drop, append-nil}
 use Rattle.std.proofs.lemmas.List.Concat.{flat_map-append}
 use Rattle.std.proofs.lemmas.Slice.Zip.{length-zip, get_or-zip}
 use Rattle.mesh_model.specs.declared.heads.Head.{Head}
 use Rattle.mesh_model.specs.declared.tables.AttrTable.{AttrTable}
-use Rattle.mesh_model.specs.Assembled.{Columns, AreColumns, IsColumn}
+use Rattle.mesh_model.specs.Assembled.{AreColumns, IsColumn}
 
 -- column j is head j with table j
 pub column_zip : (heads : List Head) (tables : List AttrTable) (j : ℕ) (h : Head) (t : AttrTable) → length tables ≡ length heads → j < length heads → h ≡ get_or heads j h → t ≡ get_or tables j t → get_or (zip heads tables) j (h, t) ≡ (h, t)

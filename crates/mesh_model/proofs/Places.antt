@@ -1,5 +1,5 @@
 -- The first place of a list that passes a test.
-use Rattle.std.proofs.Common.{◌≡◌, ℕ, ◌<◌, ◌≤◌, Bool, true, false, List, length, get_or, Option, Some, None, cond, arith, ltb, sym, ap, ◌∙◌, inl, inr}
+use Rattle.std.proofs.Common.{◌≡◌, ℕ, ◌<◌, Bool, true, false, List, length, get_or, Some, None, cond, arith, ltb, sym, ap, ◌∙◌, inl, inr}
 use Rattle.std.specs.List.{position, position_or_len}
 use Rattle.std.proofs.lemmas.List.Sums.{position_or_len_is, fails_before_first}
 use Rattle.std.proofs.lemmas.Bool.{lt-ltb, le-ltb, cases_lt}
@@ -25,6 +25,6 @@ some_none x e = cc
 pub position-none_back : {X : Type 0} (p : X → Bool) (xs : List X) → position p xs ≡ None → (k : ℕ) (d : X) → k < length xs → p (get_or xs k d) ≡ false
 position-none_back p xs none k d inside =
     fails_before_first p xs k d (elim (cases_lt (position_or_len p xs) (length xs)) [
-        inl below ↦ absurd (some_none _ (sym (ap (λ b. cond b (Some (position_or_len p xs)) None) (lt-ltb _ _ below)) ∙ none))
+      | inl below ↦ absurd (some_none _ (sym (ap (λ b. cond b (Some (position_or_len p xs)) None) (lt-ltb _ _ below)) ∙ none))
       | inr past ↦ omega arith
-      ])
+    ])

@@ -1,10 +1,10 @@
 -- Rows and the flat list that stores them.
-use Rattle.std.proofs.Common.{◌≡◌, ℕ, zero, suc, ◌+◌, ◌-◌, ◌*◌, ◌/◌, ◌<◌, ◌≤◌, List, [], ◌∷◌, ◌++◌, length, get_or, take, drop, map, min, ℤ, pos, refl, sym, ap, ◌∙◌, arith}
-use Rattle.std.specs.List.{range_with_len, flat_map, All}
-use Rattle.std.proofs.lemmas.List.{length-append, length-take, length-drop, take_at, drop_at, drop-drop, get_or-take, get_or-drop, get_or_append_left, same_lists, drop_more, get_or_default}
+use Rattle.std.proofs.Common.{◌≡◌, ℕ, zero, suc, ◌+◌, ◌*◌, ◌/◌, ◌<◌, ◌≤◌, List, [], ◌∷◌, ◌++◌, length, get_or, take, drop, ℤ, refl, sym, ap, ◌∙◌, arith}
+use Rattle.std.specs.List.{All}
+use Rattle.std.proofs.lemmas.List.{length-append, length-take, length-drop, take_at, drop_at, drop-drop, get_or-take, get_or-drop, get_or_append_left, same_lists, drop_more}
 use Rattle.std.proofs.lemmas.List.FromFn.{length-map-range_with_len, get_or-map-range_with_len}
 use Rattle.std.proofs.lemmas.List.Elements.{All-head, All-tail}
-use Rattle.std.proofs.lemmas.Nat.{div-mul-add, mul-le}
+use Rattle.std.proofs.lemmas.Nat.{mul-le}
 use Rattle.std.proofs.Math.Nat.{mul-div_cancel}
 use Rattle.mesh_model.specs.Parts.{rows_of, cells_of}
 
@@ -69,9 +69,9 @@ rows_of-cells_of width points wide long =
     let many = length-cells_of-div width points wide long in
     same_lists (rows_of width (cells_of points)) points (length-rows_of width (cells_of points) ∙ many)
     (λ k d below.
-      let fewer : k < length (cells_of points) / width = omega (arith, below, length-rows_of width (cells_of points)) in
-      let inside : k < length points = omega (arith, fewer, many) in
-      let here : length (get_or points k d) ≡ width = long k d inside in
-      get_or-rows_of width (cells_of points) k d fewer
-      ∙ ap (take width) (drop-cells_of width points k long ∙ ap cells_of (drop_more points k d inside))
-      ∙ take_at (get_or points k d) (cells_of (drop (k + 1) points)) width here)
+    let fewer : k < length (cells_of points) / width = omega (arith, below, length-rows_of width (cells_of points)) in
+    let inside : k < length points = omega (arith, fewer, many) in
+    let here : length (get_or points k d) ≡ width = long k d inside in
+    get_or-rows_of width (cells_of points) k d fewer
+    ∙ ap (take width) (drop-cells_of width points k long ∙ ap cells_of (drop_more points k d inside))
+    ∙ take_at (get_or points k d) (cells_of (drop (k + 1) points)) width here)

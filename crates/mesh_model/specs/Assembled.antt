@@ -1,6 +1,6 @@
 -- The mesh of a table of values for each attribute: equal corner rows are merged (this project's
 -- choice).
-use Rattle.std.specs.Prelude.{ℕ, ◌≡◌, ◌≤◌, ◌<◌, ◌+◌, ◌*◌, ◌-◌, ℤ, Bool, not, List, [], ◌∷◌, ◌++◌, length, take, drop, map, filter, slice_index_or, slice_index, Option, None, Result, All, IsTrue, flat_map}
+use Rattle.std.specs.Prelude.{ℕ, ◌≡◌, ◌≤◌, ◌+◌, ◌*◌, ℤ, Bool, not, List, [], ◌∷◌, length, take, drop, map, filter, slice_index, None, Result, All, IsTrue, flat_map}
 use Rattle.std.specs.List.{range_with_len, position_or_len, zip}
 use Rattle.std.specs.Cmp.Lexicographic.{pointwise}
 use Rattle.std.specs.Ordering.{int_eq}
@@ -45,17 +45,17 @@ distinct (row ∷ rows) = row ∷ filter (λ other. not (same_row row other)) (d
 abbrev pub number_of : List (List ℤ) → List ℤ → ℕ
 number_of rows row = position_or_len (same_row row) rows
 
--- the mesh whose points are the distinct corner rows in order of first occurrence
+-- three numbers of a list, from number 3 * f on
+abbrev pub triple : List ℕ → ℕ → List ℕ
+triple numbers f = slice_index numbers (3 * f) ∷ slice_index numbers (3 * f + 1) ∷ slice_index numbers (3 * f + 2) ∷ []
+
+-- the mesh whose points are the distinct corner rows in order of first occurrence, and each corner
+-- has the point of its row
 abbrev pub assembled_parts : List Head → List AttrTable → ℕ → MeshParts
 assembled_parts heads tables faces =
     let rows = corner_rows (zip heads tables) (3 * faces) in
     let points = distinct rows in
-    let number = λ (c : ℕ). number_of points (slice_index_or rows c []) in
-    record {
-      heads = heads;
-      points = points;
-      faces = map (λ f. number (3 * f) ∷ number (3 * f + 1) ∷ number (3 * f + 2) ∷ []) (range_with_len 0 faces)
-    }
+    record { heads = heads; points = points; faces = map (triple (map (number_of points) rows)) (range_with_len 0 faces) }
 
 -- the same, where it has neither too many points nor too many values
 unfoldable pub assembled : List Head → List AttrTable → ℕ → Result MeshParts Fault

@@ -1,6 +1,6 @@
 -- What the heads of a geometry say of its rows, and when a head passes (Draco Bitstream
 -- Specification 2.2, attribute decoders; the accepted types are this project's choice).
-use Rattle.std.specs.Prelude.{ℕ, ◌≡◌, ◌≤◌, ◌<◌, ◌==◌, ◌&&◌, Bool, true, false, ℤ, pos, negsuc, List, [], ◌∷◌, ◌++◌, length, replicate, Option, None, Some, sum_by, flat_map, nat_le, int_le, if◌then◌else◌, All, map}
+use Rattle.std.specs.Prelude.{ℕ, ◌==◌, ◌&&◌, Bool, true, ℤ, pos, negsuc, List, [], ◌∷◌, length, replicate, Option, None, Some, sum_by, flat_map, nat_le, int_le, if◌then◌else◌, map}
 use Rattle.std.specs.List.{enumerate_from}
 use Rattle.drc_base.specs.declared.faults.Fault.{Fault}
 use Rattle.drc_base.specs.declared.kinds.Kind.TheVariants.{NoAttribute, AttrLimit, AttrType, DataType, Components, QuantBits}

@@ -5,6 +5,7 @@ pub mod Stored
 pub mod IsGeometry
 pub mod Same
 pub mod Renumbering
+pub mod SameLaws
 pub mod MapText
 pub mod Assembled
 pub mod Hash

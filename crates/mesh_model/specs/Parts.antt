@@ -1,7 +1,7 @@
 -- What a geometry is to contracts: heads, rows of integers, and triples of point numbers; and the
 -- tests that a geometry passes (this project's choice; value ranges after the Draco Bitstream
 -- Specification 2.2, attribute data types).
-use Rattle.std.specs.Prelude.{ℕ, ◌≡◌, ◌≤◌, ◌<◌, ◌*◌, ◌/◌, ◌%◌, ◌+◌, ℤ, pos, Bool, not, IsTrue, List, [], ◌∷◌, map, length, take, drop, slice_index_or, slice_index, Option, None, Result, All, flat_map, position, nat_le, nat_lt}
+use Rattle.std.specs.Prelude.{ℕ, ◌≡◌, ◌≤◌, ◌<◌, ◌*◌, ◌/◌, ◌%◌, ℤ, pos, not, IsTrue, List, [], ◌∷◌, map, length, take, drop, slice_index_or, slice_index, Option, None, Result, All, flat_map, position, nat_le, nat_lt}
 use Rattle.std.specs.List.{range_with_len, enumerate_from, list_all}
 use Rattle.drc_base.specs.declared.faults.Fault.{Fault}
 use Rattle.drc_base.specs.declared.kinds.Kind.TheVariants.{PointLimit, ValueLimit, FaceLimit, IndexRange, ValueRange}
@@ -55,12 +55,12 @@ abbrev pub mesh_fault : List Head → List ℤ → List (List ℕ) → Option Fa
 mesh_fault heads cells faces =
     let points = length cells / width_of heads in
     first_fault (
-        heads_fault heads
-        ∷ count_fault points (width_of heads)
-        ∷ faces_fault faces
-        ∷ index_fault points faces
-        ∷ range_fault heads cells
-        ∷ [])
+    heads_fault heads
+    ∷ count_fault points (width_of heads)
+    ∷ faces_fault faces
+    ∷ index_fault points faces
+    ∷ range_fault heads cells
+    ∷ [])
 
 -- the first fault of heads and a flat list of points that are to be a cloud
 abbrev pub cloud_fault : List Head → List ℤ → Option Fault

@@ -36,7 +36,7 @@ fn piece<'a>(
         ≡ corner_row (take j (zip heads.now tables.now)) corner ++ result.now }
     ensures whole { corner_row (zip heads.now tables.now) corner
         ≡ corner_row (take j (zip heads.now tables.now)) corner
-            ++ (result.now ++ corner_row (drop (j + 1) (zip heads.now tables.now)) corner) }
+        ++ (result.now ++ corner_row (drop (j + 1) (zip heads.now tables.now)) corner) }
     ensures len { HoldsAt (λ h. length result.now ≡ h.comps) heads.now j }
 {
     entry_of(&heads[j], &tables[j], corner)

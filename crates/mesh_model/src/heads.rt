@@ -108,16 +108,28 @@ fn test_head(k: usize, head: &Head) -> Result<(), Fault>
 {
     let at = k as u64;
     if head.usage > 4 {
-        return Err(Fault { kind: Kind::AttrType, at });
+        return Err(Fault {
+            kind: Kind::AttrType,
+            at,
+        });
     }
     if !head.has_type() {
-        return Err(Fault { kind: Kind::DataType, at });
+        return Err(Fault {
+            kind: Kind::DataType,
+            at,
+        });
     }
     if head.comps < 1 || head.comps as u32 > MAX_COMPONENTS || !head.has_minima() {
-        return Err(Fault { kind: Kind::Components, at });
+        return Err(Fault {
+            kind: Kind::Components,
+            at,
+        });
     }
     if !head.has_bits() {
-        return Err(Fault { kind: Kind::QuantBits, at });
+        return Err(Fault {
+            kind: Kind::QuantBits,
+            at,
+        });
     }
     Ok(())
 }
@@ -137,6 +149,18 @@ fn test_each_head(heads: &[Head]) -> Result<u32, Fault>
     Ok(width)
 }
 
+/// How many integers a row of these heads has.
+pub(crate) fn row_width(heads: &[Head]) -> u32
+    requires { width_of heads.now ≤ 128 }
+    ensures { result ≡ width_of heads.now }
+{
+    let mut width: u32 = 0;
+    for head in heads {
+        width += head.comps as u32;
+    }
+    width
+}
+
 /// The first fault of the heads of a geometry: NoAttribute and AttrLimit at their number, then
 /// AttrType, DataType, Components and QuantBits at the first head that has one, in this order.
 /// Without a fault, the width of a row.
@@ -148,10 +172,16 @@ pub(crate) fn test_heads(heads: &[Head]) -> Result<u32, Fault>
 {
     let at = heads.len() as u64;
     if heads.is_empty() {
-        return Err(Fault { kind: Kind::NoAttribute, at });
+        return Err(Fault {
+            kind: Kind::NoAttribute,
+            at,
+        });
     }
     if at > MAX_ATTRIBUTES as u64 {
-        return Err(Fault { kind: Kind::AttrLimit, at });
+        return Err(Fault {
+            kind: Kind::AttrLimit,
+            at,
+        });
     }
     test_each_head(heads)
 }

@@ -6,21 +6,28 @@
 //! 2.2; the rest is this project's choice.
 #![tactic(auto)]
 
+mod assembling;
 mod clouds;
 mod corners;
 mod geometries;
 mod heads;
+mod laws;
 mod mapping;
 mod matching;
 mod meshes;
+mod numbering;
 mod renumberings;
 mod row_index;
 mod row_rules;
 mod tables;
+#[cfg(test)]
+mod tests;
 
+pub use assembling::assemble;
 pub use clouds::Cloud;
 pub use geometries::Geometry;
 pub use heads::{Head, Quant};
+pub use laws::same_is_an_equivalence;
 pub use mapping::map_text;
 pub use matching::matches;
 pub use meshes::CornerMesh;

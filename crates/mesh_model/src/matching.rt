@@ -175,12 +175,7 @@ fn same_points(m: &Cloud, n: &Cloud, rows: &[(u32, u8)]) -> bool
 }
 
 /// Whether `n` is `m` by a renumbering.
-fn same_clouds(
-    alloc: Global,
-    m: &Cloud,
-    n: &Cloud,
-    rows: &[(u32, u8)],
-) -> Result<bool, Memory>
+fn same_clouds(alloc: Global, m: &Cloud, n: &Cloud, rows: &[(u32, u8)]) -> Result<bool, Memory>
     ensures { IfOk result (λ yes. IsTrue yes ↔ SameCloud m.now n.now rows.now) }
 {
     if !same_heads(m.heads(), n.heads()) {

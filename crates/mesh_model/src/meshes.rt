@@ -33,7 +33,8 @@ impl CornerMesh {
     ghost use Rattle.std.specs.Prelude.{◌≡◌, ◌<◌, ◌≤◌, [], All, length, slice_index_or};
     ghost use Rattle.mesh_model.specs.FirstFault.{answer_of};
     ghost use Rattle.mesh_model.specs.Head.{width_of};
-    ghost use Rattle.mesh_model.specs.Parts.{AreRows, IsMesh, corner, mesh_of};
+    ghost use Rattle.mesh_model.specs.Parts.{AreRows, IsMesh, corner, mesh_of, rows_of};
+    ghost use Rattle.mesh_model.specs.Stored.{AreStored};
 
     /// The mesh of these heads, points (row after row) and faces. It takes no memory. Refusals, the
     /// first that applies: NoAttribute and AttrLimit at the number of heads; AttrType, DataType,
@@ -41,7 +42,11 @@ impl CornerMesh {
     /// number of points, ValueLimit at points times width, FaceLimit at the number of faces;
     /// IndexRange at the first face with a number that is no number of a point; ValueRange at the
     /// first integer of `points` outside its data type.
-    pub fn new(heads: Vec<Head>, points: Vec<i32>, faces: Vec<[u32; 3]>) -> Result<CornerMesh, Refusal>
+    pub fn new(
+        heads: Vec<Head>,
+        points: Vec<i32>,
+        faces: Vec<[u32; 3]>,
+    ) -> Result<CornerMesh, Refusal>
         requires { AreRows heads.items points.items }
         ensures { result ≡ answer_of (mesh_of heads.items points.items faces.items) }
     {
@@ -58,6 +63,27 @@ impl CornerMesh {
             width,
             count: count as u32,
         })
+    }
+
+    /// The mesh of these heads, rows and faces, which are known to be one.
+    pub(crate) fn from_rows(
+        heads: Vec<Head>,
+        cells: Vec<i32>,
+        faces: Vec<[u32; 3]>,
+        width: u32,
+        count: u32,
+    ) -> CornerMesh
+        requires stored { AreStored heads.items cells.items width count }
+        requires sound { IsMesh (record { heads = heads.items; points = rows_of width cells.items; faces = faces.items }) }
+        ensures { result ≡ record { heads = heads.items; points = rows_of width cells.items; faces = faces.items } }
+    {
+        CornerMesh {
+            heads,
+            cells,
+            faces,
+            width,
+            count,
+        }
     }
 
     /// The heads of its attributes.

@@ -50,8 +50,8 @@ impl RowIndex {
         requires inside { bucket < length self.now.tops.items }
         ensures { let columns = zip heads.now tables.now in let firsts = self.now.firsts.items in
             MatchOption result
-                ((q : ℕ) → q < length firsts → row_of columns firsts q ≢ corner_row columns corner)
-                (λ p. (p < length firsts) × (row_of columns firsts p ≡ corner_row columns corner)) }
+            ((q : ℕ) → q < length firsts → row_of columns firsts q ≢ corner_row columns corner)
+            (λ p. (p < length firsts) × (row_of columns firsts p ≡ corner_row columns corner)) }
     {
         let mut link = self.tops[bucket as usize];
         while link != 0 {

@@ -7,3 +7,12 @@ pub mod WellFormed
 pub mod BodySteps
 pub mod Finish
 pub mod LineTexts
+pub mod PropertyTexts
+pub mod RowTexts
+pub mod Passed
+pub mod Lexing
+pub mod NumberTexts
+pub mod HeaderSteps
+pub mod BodyAgain
+pub mod TokenTexts
+pub mod RoundTrip

@@ -87,7 +87,7 @@ row_typed ds at line row e =
     numbers_typed ds line row (some_ok PlyNumber at (numbers_of ds line) row t.1)
 
 -- a quantised value has the range of int
-column_same : (d : ℕ) (v : ℤ) → in_type (column_type d) v ≡ in_type d v
+pub column_same : (d : ℕ) (v : ℤ) → in_type (column_type d) v ≡ in_type d v
 unfolding in_type
 column_same d v = elim (cases_Bool (eqb d 9)) [
   | inl nine ↦ subst (λ n. in_type (column_type n) v ≡ in_type n v) (sym (eqb-true d 9 nine)) refl

@@ -1,3 +1,4 @@
 pub mod Body
 pub mod Read
 pub mod Text
+pub mod Fields

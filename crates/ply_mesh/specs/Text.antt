@@ -125,9 +125,13 @@ first_lines = (codes "ply" ∷ []) ∷ (codes "format" ∷ codes "ascii" ∷ cod
 abbrev pub points_header : List Head → ℕ → List (List (List ℕ))
 points_header heads points = first_lines ++ head_lines 0 heads ++ (element_line (codes "vertex") points ∷ []) ++ property_lines heads 0 heads
 
+-- the property of a face
+abbrev pub list_line : List (List ℕ)
+list_line = codes "property" ∷ codes "list" ∷ codes "uchar" ∷ codes "int" ∷ codes "vertex_indices" ∷ []
+
 -- the faces' part of the header
 abbrev pub faces_header : ℕ → List (List (List ℕ))
-faces_header faces = element_line (codes "face") faces ∷ (codes "property" ∷ codes "list" ∷ codes "uchar" ∷ codes "int" ∷ codes "vertex_indices" ∷ []) ∷ []
+faces_header faces = element_line (codes "face") faces ∷ list_line ∷ []
 
 abbrev pub last_line : List (List (List ℕ))
 last_line = (codes "end_header" ∷ []) ∷ []
@@ -136,8 +140,11 @@ last_line = (codes "end_header" ∷ []) ∷ []
 abbrev pub point_lines : List (List ℤ) → List (List (List ℕ))
 point_lines points = map (λ row. map signed_decimal row) points
 
+unfoldable pub face_line : List ℕ → List (List ℕ)
+face_line face = (51 ∷ []) ∷ map decimal face
+
 abbrev pub face_lines : List (List ℕ) → List (List (List ℕ))
-face_lines faces = map (λ face. (51 ∷ []) ∷ map decimal face) faces
+face_lines faces = map face_line faces
 
 abbrev pub ply_lines : Geometry → List (List (List ℕ))
 ply_lines (Mesh m) = points_header m.heads (length m.points) ++ faces_header (length m.faces) ++ last_line ++ point_lines m.points ++ face_lines m.faces

@@ -3,6 +3,7 @@
 ghost use Rattle.std.specs.Prelude.{◌≡◌, ◌+◌, ◌<◌, ◌≤◌, ◌^◌, ◌++◌, ◌∷◌, length, drop, map, OnOk, All};
 ghost use Rattle.std.specs.Fmt.{decimal};
 ghost use Rattle.mesh_model.specs.Head.{width_of};
+ghost use Rattle.ply_mesh.specs.Fields.{QuantFields, HasFields};
 ghost use Rattle.ply_mesh.specs.Text.{spaced, line_text, text_of, hex_digit, pattern_text, attr_line, quant_line, quant_lines, head_lines};
 
 use drc_base::Memory;
@@ -53,7 +54,8 @@ fn put_pattern(out: &mut Vec<u8>, v: u32) -> Result<(), Memory>
 
 /// Appends a space and a bit pattern for each of the minima.
 fn put_patterns(out: &mut Vec<u8>, min: &[u32]) -> Result<(), Memory>
-    ensures { OnOk result (out.new.items ≡ out.old.items ++ spaced (map pattern_text min.now)) }
+    ensures text { OnOk result (out.new.items ≡ out.old.items ++ spaced (map pattern_text min.now)) }
+    ensures fields { All (λ m. m < 2 ^ 32) min.now }
 {
     for i in 0..min.len() {
         put_pattern(out, min[i])?;
@@ -63,7 +65,8 @@ fn put_patterns(out: &mut Vec<u8>, min: &[u32]) -> Result<(), Memory>
 
 /// Appends the line of head `k`.
 fn put_attr(out: &mut Vec<u8>, k: u32, head: &Head) -> Result<(), Memory>
-    ensures { OnOk result (out.new.items ≡ out.old.items ++ line_text (attr_line k head.now)) }
+    ensures text { OnOk result (out.new.items ≡ out.old.items ++ line_text (attr_line k head.now)) }
+    ensures fields { OnOk result ((head.now.normalized < 256) × (head.now.id < 2 ^ 32)) }
 {
     out.extend_from_slice(b"comment drc attr")?;
     put_number(out, k)?;
@@ -78,7 +81,8 @@ fn put_attr(out: &mut Vec<u8>, k: u32, head: &Head) -> Result<(), Memory>
 
 /// Appends the line of the quantisation of head `k`.
 fn put_quant(out: &mut Vec<u8>, k: u32, quant: &Quant) -> Result<(), Memory>
-    ensures { OnOk result (out.new.items ≡ out.old.items ++ line_text (quant_line k quant.now)) }
+    ensures text { OnOk result (out.new.items ≡ out.old.items ++ line_text (quant_line k quant.now)) }
+    ensures fields { OnOk result (QuantFields quant.now) }
 {
     out.extend_from_slice(b"comment drc quant")?;
     put_number(out, k)?;
@@ -91,7 +95,8 @@ fn put_quant(out: &mut Vec<u8>, k: u32, quant: &Quant) -> Result<(), Memory>
 
 /// Appends the lines of head `k`.
 fn put_head(out: &mut Vec<u8>, k: u32, head: &Head) -> Result<(), Memory>
-    ensures { OnOk result (out.new.items ≡ out.old.items ++ text_of (attr_line k head.now ∷ quant_lines k head.now.quant)) }
+    ensures text { OnOk result (out.new.items ≡ out.old.items ++ text_of (attr_line k head.now ∷ quant_lines k head.now.quant)) }
+    ensures fields { OnOk result (HasFields head.now) }
 {
     put_attr(out, k, head)?;
     match &head.quant {
@@ -103,7 +108,8 @@ fn put_head(out: &mut Vec<u8>, k: u32, head: &Head) -> Result<(), Memory>
 /// Appends the lines of the heads.
 pub(crate) fn put_heads(out: &mut Vec<u8>, heads: &[Head]) -> Result<(), Memory>
     requires { length heads.now ≤ 16 }
-    ensures { OnOk result (out.new.items ≡ out.old.items ++ text_of (head_lines 0 heads.now)) }
+    ensures text { OnOk result (out.new.items ≡ out.old.items ++ text_of (head_lines 0 heads.now)) }
+    ensures fields { OnOk result (All HasFields heads.now) }
 {
     for k in 0..heads.len() {
         put_head(out, k as u32, &heads[k])?;

@@ -7,7 +7,10 @@ mod bodies;
 mod face_lines;
 mod head_writer;
 mod numbers;
+mod property_writer;
 mod reading;
 mod rows;
+mod writing;
 
 pub use reading::read_ply;
+pub use writing::write_ply;

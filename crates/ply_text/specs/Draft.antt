@@ -16,6 +16,13 @@ use Rattle.ply_text.specs.Words.{type_of, name_of, is_indices}
 use Rattle.ply_text.specs.Comments.{is_form, attr_of, quant_of, with_quant}
 use Rattle.ply_text.specs.Declarations.{is_format, keyword_at, element_of, is_list, scalar_of, list_of}
 
+-- a property of a point: its data type, and the place of its name
+abbrev pub PropertyParts : Type 0
+PropertyParts = Property
+
+abbrev pub property : ℕ → List ℕ → PropertyParts
+property dtype name = record { dtype = dtype; name = name_of name }
+
 -- what was declared so far
 pub record Draft : Type 0 where
   pub formatted : Bool
@@ -48,7 +55,7 @@ unfoldable pub scalar : ℕ → Draft → List (List ℕ) → Result Draft Fault
 scalar at d line = do
   p ← or_refuse PlyHeader at (scalar_of line)
   dtype ← or_refuse PlyType at (type_of p.0)
-  if in_vertex d then Ok (record d { properties = d.properties ++ record { dtype = dtype; name = name_of p.1 } ∷ [] }) else refuse PlyElement at
+  if in_vertex d then Ok (record d { properties = d.properties ++ property dtype p.1 ∷ [] }) else refuse PlyElement at
 
 -- a property of lists: its form, then its types, then its place and name
 unfoldable pub list : ℕ → Draft → List (List ℕ) → Result Draft Fault

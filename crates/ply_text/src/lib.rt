@@ -17,6 +17,8 @@ mod line_reader;
 mod line_tokens;
 mod named_heads;
 mod statements;
+#[cfg(test)]
+mod tests;
 mod token_reader;
 mod words;
 

@@ -1,4 +1,4 @@
-use Rattle.std.proofs.Common.{◌≡◌, ◌+◌, ◌<◌, true, false, ◌++◌, [], ◌∷◌, length, get_or, set, take, sym, ap, ◌∙◌, subst, rules, arith}
+use Rattle.std.proofs.Common.{◌≡◌, ◌<◌, true, false, length, get_or, set, take, sym, ◌∙◌, subst, rules, arith}
 use Rattle.std.specs.List.{list_all}
 use Rattle.std.proofs.lemmas.Bool.{false≢true}
 use Rattle.std.proofs.lemmas.List.{get_or_read, take_more, take_all}
@@ -12,9 +12,10 @@ returns-then-index c =
     let seen = c.loop-row.seen.items in
     let f = (get_or rows i (0, 0)).0 in
     let below : f < length seen = search rules in
-    let marked : get_or seen f false ≡ true = sym (get_or_read seen f c.index.result.now below c.index.ensures false) ∙ c.if-index.true in
-    (λ no. absurd (false≢true no) ,
-     λ names. absurd (named_twice c.args.count seen rows i c.loop-row-test.true c.loop-row.invariant (omega (arith, below, c.loop-row.invariant.long)) marked names))
+    let marked : get_or seen f false ≡ true = sym (get_or_read seen f c.index.result.now below c.index.ensures false) ∙ c.if-index.true in (
+      λ no. absurd (false≢true no),
+      λ names. absurd (named_twice c.args.count seen rows i c.loop-row-test.true c.loop-row.invariant (omega (arith, below, c.loop-row.invariant.long)) marked names),
+    )
 
 pub loop-row-preserved : goal.loop-row-preserved
 loop-row-preserved c =
@@ -25,13 +26,14 @@ loop-row-preserved c =
     let below : row.0 < length seen = search rules in
     let new : get_or seen row.0 false ≡ false = sym (get_or_read seen row.0 c.index.result.now below c.index.ensures false) ∙ c.if-index.false in
     subst (λ rs. Marks c.args.count (set seen row.0 true) rs) (sym (take_more rows i (0, 0) c.loop-row-test.true))
-        (Marks-more c.args.count seen (take i rows) row c.loop-row.invariant (omega (arith, below, c.loop-row.invariant.long)) new)
+    (Marks-more c.args.count seen (take i rows) row c.loop-row.invariant (omega (arith, below, c.loop-row.invariant.long)) new)
 
 pub returns : goal.returns
 returns c =
     let rows = c.args.rows.now in
     let seen = c.loop-row.seen.items in
     let marks = subst (λ rs. Marks c.args.count seen rs) (take_all c.loop-row.row-index rows c.loop-row-test.false) c.loop-row.invariant in
-    let told : c.all_true.result ≡ list_all (λ mark. mark) seen = search rules in
-    (λ yes. Marks-all c.args.count seen rows marks (sym told ∙ yes) ,
-     λ names. told ∙ Marks-back c.args.count seen rows marks names)
+    let told : c.all_true.result ≡ list_all (λ mark. mark) seen = search rules in (
+      λ yes. Marks-all c.args.count seen rows marks (sym told ∙ yes),
+      λ names. told ∙ Marks-back c.args.count seen rows marks names,
+    )

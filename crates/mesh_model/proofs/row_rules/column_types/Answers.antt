@@ -1,4 +1,4 @@
-use Rattle.std.proofs.Common.{◌≡◌, ◌+◌, ◌-◌, ◌≤◌, ◌++◌, length, take, replicate, get_or, sym, ap, ◌∙◌, rules, arith}
+use Rattle.std.proofs.Common.{◌≡◌, ◌+◌, ◌≤◌, ◌++◌, length, take, replicate, sym, ap, ◌∙◌, arith}
 use Rattle.std.proofs.lemmas.Slice.{take-put_mid}
 use Rattle.mesh_model.specs.Head.{types_of, width_of}
 use Rattle.mesh_model.proofs.Columns.{types_of-more, width_of-more, width_of-take_le, length-part}
@@ -16,9 +16,10 @@ loop-head-preserved c =
     let fits : at + h.comps ≤ 128 = omega (arith, wider, width_of-take_le heads (i + 1), c.requires) in
     let part = length-part at h.comps c.loop-head.types (omega arith) in
     let long : length c.fill.new.self ≡ h.comps = c.fill.ensures.len ∙ part in
-    let filled : c.fill.new.self ≡ replicate h.comps h.dtype = c.fill.ensures.after (λ y same. same) ∙ ap (λ n. replicate n h.dtype) part in
-    (sym wider ,
-     take-put_mid at _ c.loop-head.types c.fill.new.self (at + h.comps) (omega arith) (omega arith)
-     ∙ ap (λ xs. xs ++ c.fill.new.self) c.loop-head.invariant.1
-     ∙ ap (λ ys. types_of (take i heads) ++ ys) filled
-     ∙ sym (types_of-more heads i h inside is))
+    let filled : c.fill.new.self ≡ replicate h.comps h.dtype = c.fill.ensures.after (λ y same. same) ∙ ap (λ n. replicate n h.dtype) part in (
+      sym wider,
+      take-put_mid at _ c.loop-head.types c.fill.new.self (at + h.comps) (omega arith) (omega arith)
+          ∙ ap (λ xs. xs ++ c.fill.new.self) c.loop-head.invariant.1
+          ∙ ap (λ ys. types_of (take i heads) ++ ys) filled
+          ∙ sym (types_of-more heads i h inside is),
+    )

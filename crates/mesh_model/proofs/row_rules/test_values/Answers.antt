@@ -1,4 +1,4 @@
-use Rattle.std.proofs.Common.{◌≡◌, ◌+◌, ◌*◌, ◌<◌, ℕ, Bool, true, false, length, get_or, pos, sym, ap, ◌∙◌, rules, arith, w32, to_z, of_z, below_more}
+use Rattle.std.proofs.Common.{◌≡◌, ◌+◌, get_or, pos, sym, ap, ◌∙◌, rules, arith, w32, below_more}
 use mir.Val.{SFits}
 use Rattle.std.proofs.lemmas.Int.{to_z-of_z}
 use Rattle.mesh_model.specs.Head.{in_type}
@@ -15,8 +15,8 @@ returns-then-not-in_type c =
     let types = c.column_types-types.result in
     let kept : SFits w32 (get_or cells i (pos 0)) = search rules in
     let here : fits_at heads cells i ≡ c.in_type.result =
-        fits_at-column heads cells types i c.loop-i.invariant.2.0 c.loop-i.column c.column_types-types.ensures (rw (← c.requires.width) c.loop-i.invariant.2.1) (omega arith)
-        ∙ ap (in_type (get_or types c.loop-i.column 0)) (sym (to_z-of_z w32 _ kept)) ∙ sym c.in_type.ensures in
+    fits_at-column heads cells types i c.loop-i.invariant.2.0 c.loop-i.column c.column_types-types.ensures (rw (← c.requires.width) c.loop-i.invariant.2.1) (omega arith)
+    ∙ ap (in_type (get_or types c.loop-i.column 0)) (sym (to_z-of_z w32 _ kept)) ∙ sym c.in_type.ensures in
     range_fault-at heads cells i c.loop-i-test.true c.loop-i.invariant.0 (here ∙ c.if-not-in_type.true)
 
 pub loop-i-preserved : goal.loop-i-preserved
@@ -28,11 +28,12 @@ loop-i-preserved c =
     let types = c.column_types-types.result in
     let kept : SFits w32 (get_or cells i (pos 0)) = search rules in
     let here : fits_at heads cells i ≡ c.in_type.result =
-        fits_at-column heads cells types i r c.loop-i.column c.column_types-types.ensures (rw (← c.requires.width) c.loop-i.invariant.2.1) (omega arith)
-        ∙ ap (in_type (get_or types c.loop-i.column 0)) (sym (to_z-of_z w32 _ kept)) ∙ sym c.in_type.ensures in
-    (below_more _ _ c.loop-i.invariant.0 (here ∙ c.if-not-in_type.false) ,
-     elim c.if-column-width.branch [ then-column-width w ↦ omega arith | else-column-width w ↦ omega arith ] ,
-     elim c.if-column-width.branch [ then-column-width w ↦ (r + 1, omega arith) | else-column-width w ↦ (r, omega arith) ])
+    fits_at-column heads cells types i r c.loop-i.column c.column_types-types.ensures (rw (← c.requires.width) c.loop-i.invariant.2.1) (omega arith)
+    ∙ ap (in_type (get_or types c.loop-i.column 0)) (sym (to_z-of_z w32 _ kept)) ∙ sym c.in_type.ensures in (
+      below_more _ _ c.loop-i.invariant.0 (here ∙ c.if-not-in_type.false),
+      elim c.if-column-width.branch [ then-column-width w ↦ omega arith | else-column-width w ↦ omega arith ],
+      elim c.if-column-width.branch [ then-column-width w ↦ (r + 1, omega arith) | else-column-width w ↦ (r, omega arith) ],
+    )
 
 pub returns : goal.returns
 returns c = range_fault-none c.args.heads.now c.args.cells.now (λ k below. c.loop-i.invariant.0 k (omega arith))

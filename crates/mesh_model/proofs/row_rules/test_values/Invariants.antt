@@ -1,4 +1,4 @@
-use Rattle.std.proofs.Common.{◌≡◌, ◌<◌, ◌+◌, ◌*◌, ◌%◌, ℕ, true, get_or, length, pos}
+use Rattle.std.proofs.Common.{◌≡◌, ◌<◌, ◌+◌, ◌*◌, ◌%◌, ℕ, true, get_or, pos}
 use Rattle.mesh_model.specs.Head.{in_type, types_of, width_of}
 use Rattle.mesh_model.proofs.row_rules.test_values.Given as goal
 

@@ -3,8 +3,8 @@ use Rattle.std.specs.Fmt.{decimal}
 use Rattle.ply_mesh.proofs.LineTexts.{onto, attr_text}
 use Rattle.ply_mesh.proofs.head_writer.put_attr.Goals as goal
 
-pub returns : goal.returns
-returns c =
+pub returns-clause-text : goal.returns-clause-text
+returns-clause-text c =
     let h = c.args.head.now in
     onto (10 ∷ []) c.in_ok-push.ensures.items
     (onto (32 ∷ decimal h.id) c.in_ok-put_number-6.ensures

@@ -4,10 +4,10 @@ use Rattle.ply_mesh.specs.Text.{spaced, pattern_text}
 use Rattle.ply_mesh.proofs.LineTexts.{onto, quant_text}
 use Rattle.ply_mesh.proofs.head_writer.put_quant.Goals as goal
 
-pub returns : goal.returns
-returns c =
+pub returns-clause-text : goal.returns-clause-text
+returns-clause-text c =
     let q = c.args.quant.now in
-    let patterns = rw c.as_slice.ensures.items at c.in_ok-put_patterns.ensures in
+    let patterns = rw c.as_slice.ensures.items at c.in_ok-put_patterns.ensures.text in
     onto (10 ∷ []) c.in_ok-push.ensures.items
     (onto (spaced (map pattern_text q.min)) patterns
     (onto (32 ∷ pattern_text q.range) c.in_ok-put_pattern.ensures

@@ -16,9 +16,9 @@ invariant_of-result c =
     let wide : 0 < width = search rules in
     let narrow : width ≤ 128 = search rules in
     let whole : length cells ≡ count * width =
-        let many : c.len.result ≡ length cells = search rules in
-        subst (λ n. length cells ≡ n / width * width) (sym many) (whole-rows heads cells width c.requires pass width_is) in
+    let many : c.len.result ≡ length cells = search rules in
+    subst (λ n. length cells ≡ n / width * width) (sym many) (whole-rows heads cells width c.requires pass width_is) in
     let stored : AreStored heads cells width count = record { width_is = width_is; wide = wide; narrow = narrow; whole = whole } in
     let counts : count_fault count width ≡ None = search rules in
     let ranges : range_fault heads cells ≡ None = search rules in
-    (stored , ArePoints-made heads cells width count stored pass counts ranges)
+    (stored, ArePoints-made heads cells width count stored pass counts ranges)

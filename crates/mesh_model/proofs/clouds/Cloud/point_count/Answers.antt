@@ -1,4 +1,4 @@
-use Rattle.std.proofs.Common.{◌≡◌, length, sym, ap, ◌∙◌}
+use Rattle.std.proofs.Common.{length, sym, ap, ◌∙◌}
 use Rattle.mesh_model.specs.Parts.{CloudParts}
 use Rattle.mesh_model.proofs.Made.{length-stored}
 use Rattle.mesh_model.proofs.clouds.Cloud.point_count.Goals as goal

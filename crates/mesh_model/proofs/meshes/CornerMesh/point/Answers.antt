@@ -1,4 +1,4 @@
-use Rattle.std.proofs.Common.{◌≡◌, ◌<◌, length, sym, ap, ◌∙◌, arith}
+use Rattle.std.proofs.Common.{length, ap, arith}
 use Rattle.mesh_model.specs.Parts.{MeshParts}
 use Rattle.mesh_model.proofs.Made.{length-stored}
 use Rattle.mesh_model.proofs.meshes.CornerMesh.point.Goals as goal

@@ -1,0 +1,57 @@
+-- The rows of corners fit the heads of their columns.
+use Rattle.std.proofs.Common.{◌≡◌, ℕ, ◌+◌, ◌-◌, ◌*◌, ◌<◌, ◌≤◌, true, List, [], ◌∷◌, ◌++◌, length, get_or, drop, replicate, pos, refl, ap, ◌∙◌, inl, inr, arith}
+use Rattle.std.specs.List.{All, zip}
+use Rattle.std.proofs.lemmas.Bool.{cases_lt}
+use Rattle.std.proofs.lemmas.List.{length-append, length-take, length-drop, length-replicate, get_or-replicate, get_or_append_left, get_or-append_right, get_or-take, get_or-drop}
+use Rattle.std.proofs.lemmas.List.Elements.{All-head, All-tail}
+use Rattle.std.proofs.lemmas.List.Sums.{sum_by-cons}
+use Rattle.mesh_model.specs.declared.heads.Head.{Head}
+use Rattle.mesh_model.specs.declared.tables.AttrTable.{AttrTable}
+use Rattle.mesh_model.specs.Head.{width_of, types_of, in_type}
+use Rattle.mesh_model.specs.Parts.{RowFits}
+use Rattle.mesh_model.specs.Assembled.{corner_row, entry_at, IsColumn}
+
+-- an entry has the head's components
+length-entry : (corners c : ℕ) (h : Head) (t : AttrTable) → IsColumn corners (h, t) → c < corners → length (entry_at c (h, t)) ≡ h.comps
+length-entry corners c h t is below =
+    let e = get_or t.of_corner c 0 in
+    let fits : (e + 1) * h.comps ≤ length t.values = is.entries c 0 (omega (arith, is.each_corner)) in
+    simp (length-take, length-drop) (omega arith)
+
+-- each value of an entry is in the head's type
+entry-in_type : (corners c j : ℕ) (h : Head) (t : AttrTable) → IsColumn corners (h, t) → c < corners → j < h.comps → in_type h.dtype (get_or (entry_at c (h, t)) j (pos 0)) ≡ true
+entry-in_type corners c j h t is below narrow =
+    let e = get_or t.of_corner c 0 in
+    let fits : (e + 1) * h.comps ≤ length t.values = is.entries c 0 (omega (arith, is.each_corner)) in
+    let at : get_or (entry_at c (h, t)) j (pos 0) ≡ get_or t.values (e * h.comps + j) (pos 0) =
+    get_or-take h.comps (drop (e * h.comps) t.values) j (pos 0) narrow ∙ get_or-drop (e * h.comps) t.values j (pos 0) in
+    ap (in_type h.dtype) at ∙ is.values (e * h.comps + j) (pos 0) (omega arith)
+
+-- the row of a corner fits the heads
+pub RowFits-corner_row : (corners c : ℕ) (heads : List Head) (tables : List AttrTable) → length tables ≡ length heads → All (IsColumn corners) (zip heads tables) → c < corners → RowFits heads (corner_row (zip heads tables) c)
+RowFits-corner_row corners c [] tables each fit below = (refl, λ j narrow. absurd (omega arith))
+RowFits-corner_row corners c (h ∷ heads) [] each fit below = absurd (omega arith)
+RowFits-corner_row corners c (h ∷ heads) (t ∷ tables) each fit below =
+    let here : IsColumn corners (h, t) = All-head (IsColumn corners) (h, t) (zip heads tables) fit in
+    let piece = entry_at c (h, t) in
+    let rest = corner_row (zip heads tables) c in
+    let rest_fits : RowFits heads rest = RowFits-corner_row corners c heads tables (omega arith) (All-tail (IsColumn corners) (h, t) (zip heads tables) fit) below in
+    let long : length piece ≡ h.comps = length-entry corners c h t here below in
+    let sum : width_of (h ∷ heads) ≡ h.comps + width_of heads = sum_by-cons (λ (g : Head). g.comps) h heads in
+    let types : length (replicate h.comps h.dtype) ≡ h.comps = length-replicate h.comps h.dtype in (
+      length-append piece rest ∙ omega (arith, long, rest_fits.0, sum),
+      λ j narrow. elim (cases_lt j h.comps) [
+        | inl front ↦
+            let dtype : get_or (types_of (h ∷ heads)) j 0 ≡ h.dtype =
+            get_or_append_left (replicate h.comps h.dtype) (types_of heads) 0 j (omega arith) ∙ get_or-replicate h.comps j h.dtype 0 front in
+            ap (λ d. in_type d (get_or (piece ++ rest) j (pos 0))) dtype
+            ∙ ap (in_type h.dtype) (get_or_append_left piece rest (pos 0) j (omega arith))
+            ∙ entry-in_type corners c j h t here below front
+        | inr back ↦
+            let dtype : get_or (types_of (h ∷ heads)) j 0 ≡ get_or (types_of heads) (j - h.comps) 0 =
+            get_or-append_right (replicate h.comps h.dtype) (types_of heads) h.comps j 0 types back in
+            ap (λ d. in_type d (get_or (piece ++ rest) j (pos 0))) dtype
+            ∙ ap (in_type (get_or (types_of heads) (j - h.comps) 0)) (get_or-append_right piece rest h.comps j (pos 0) long back)
+            ∙ rest_fits.1 (j - h.comps) (omega (arith, sum))
+      ],
+    )

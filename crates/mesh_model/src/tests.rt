@@ -1,0 +1,159 @@
+//! What no contract can say: that the calls succeed, and that the definitions are the ones meant, on
+//! examples worked by hand.
+
+ghost use Rattle.std.specs.Prelude.{◌≡◌, ◌%◌, length, IfOk};
+ghost use Rattle.mesh_model.specs.Assembled.{AreTables};
+
+use super::*;
+use drc_base::{Fault, Kind, Refusal, Sequence};
+use std::alloc::{AllocError, Global};
+use std::test::Fail;
+
+/// A head of positions of this type.
+fn positions(dtype: u8) -> Head
+    ensures { result ≡ record { usage = 0; dtype = dtype; comps = 3; normalized = 0; id = 0; quant = None } }
+{
+    Head {
+        usage: 0,
+        dtype,
+        comps: 3,
+        normalized: 0,
+        id: 0,
+        quant: None,
+    }
+}
+
+/// A mesh of positions.
+fn mesh(alloc: Global, dtype: u8, points: &[i32], faces: &[[u32; 3]]) -> Result<CornerMesh, Refusal>
+    requires { length points.now % 3 ≡ 0 }
+{
+    let heads = vec![in alloc; positions(dtype)]?;
+    CornerMesh::new(heads, points.to_vec(alloc)?, faces.to_vec(alloc)?)
+}
+
+/// A renumbering.
+fn rows(alloc: Global, rows: &[(u32, u8)]) -> Result<Renumber, AllocError> {
+    Ok(Renumber {
+        rows: Sequence::from_vec(rows.to_vec(alloc)?),
+    })
+}
+
+const SQUARE: [i32; 12] = [0, 0, 0, 1, 0, 0, 1, 1, 0, 0, 1, 0];
+
+#[test]
+fn tells_meshes_that_are_the_same(rt: HostRuntime) -> Result<(), Fail> {
+    let alloc = rt.alloc();
+    let a = Geometry::Mesh(mesh(alloc, 5, &SQUARE, &[[0, 1, 2], [0, 2, 3]])?);
+    // The faces exchanged, one of them turned once, and the points numbered backwards.
+    let backwards = [0, 1, 0, 1, 1, 0, 1, 0, 0, 0, 0, 0];
+    let b = Geometry::Mesh(mesh(alloc, 5, &backwards, &[[3, 1, 0], [2, 1, 3]])?);
+    for (given, same) in [
+        ([(1, 0), (0, 1)].as_slice(), true),
+        ([(1, 0), (0, 0)].as_slice(), false),
+        ([(1, 0), (0, 4)].as_slice(), false),
+        ([(1, 0)].as_slice(), false),
+        ([(1, 0), (1, 0)].as_slice(), false),
+        ([(1, 0), (2, 1)].as_slice(), false),
+        ([(1, 0), (0, 1), (0, 1)].as_slice(), false),
+    ] {
+        assert_eq!(rt; matches(alloc, &a, &b, &rows(alloc, given)?)?, same);
+    }
+    let plain = rows(alloc, &[(0, 0), (1, 0)])?;
+    assert!(rt; matches(alloc, &a, &a, &plain)?);
+    // Turned over, another type, and no mesh.
+    let over = Geometry::Mesh(mesh(alloc, 5, &SQUARE, &[[0, 2, 1], [0, 2, 3]])?);
+    assert!(rt; !matches(alloc, &a, &over, &plain)?);
+    let short = Geometry::Mesh(mesh(alloc, 3, &SQUARE, &[[0, 1, 2], [0, 2, 3]])?);
+    assert!(rt; !matches(alloc, &a, &short, &plain)?);
+    let heads = vec![in alloc; positions(5)]?;
+    let cloud = Geometry::Cloud(Cloud::new(heads, SQUARE.to_vec(alloc)?)?);
+    assert!(rt; !matches(alloc, &a, &cloud, &plain)?);
+    Ok(())
+}
+
+/// The square of two faces, with labels that part its third point.
+fn square_tables(alloc: Global) -> Result<(Vec<Head>, Vec<AttrTable>), AllocError>
+    ensures { IfOk result (λ p. AreTables p.0.items p.1.items 2) }
+{
+    let label = Head {
+        usage: 4,
+        dtype: 2,
+        comps: 1,
+        normalized: 0,
+        id: 1,
+        quant: None,
+    };
+    let places = AttrTable {
+        values: Sequence::from_vec(vec![in alloc; 0, 0, 0, 1, 0, 0, 1, 1, 0, 0, 1, 0]?),
+        of_corner: Sequence::from_vec(vec![in alloc; 0, 1, 2, 0, 2, 3]?),
+    };
+    let labels = AttrTable {
+        values: Sequence::from_vec(vec![in alloc; 7, 9]?),
+        of_corner: Sequence::from_vec(vec![in alloc; 0, 0, 0, 0, 1, 0]?),
+    };
+    let heads = vec![in alloc; positions(5), label]?;
+    let tables = vec![in alloc; places, labels]?;
+    Ok((heads, tables))
+}
+
+#[test]
+fn merges_equal_rows_in_order_of_first_occurrence(rt: HostRuntime) -> Result<(), Fail> {
+    let alloc = rt.alloc();
+    let (heads, tables) = square_tables(alloc)?;
+    let m = assemble(alloc, heads, tables, 2)?;
+    assert_eq!(rt; m.face_count(), 2);
+    assert_eq!(rt; m.face(0), [0, 1, 2]);
+    assert_eq!(rt; m.face(1), [0, 3, 4]);
+    assert_eq!(rt; m.point_count(), 5);
+    assert_eq!(rt; m.point(2), [1, 1, 0, 7].as_slice());
+    assert_eq!(rt; m.point(3), [1, 1, 0, 9].as_slice());
+    assert_eq!(rt; m.corner(1, 2), [0, 1, 0, 7].as_slice());
+    Ok(())
+}
+
+#[test]
+fn refuses_the_first_fault(rt: HostRuntime) -> Result<(), Fail> {
+    let alloc = rt.alloc();
+    for (dtype, y, last, kind, at) in [
+        (7, 256, 1, Kind::DataType, 0),
+        (9, 256, 1, Kind::DataType, 0),
+        (2, 256, 1, Kind::IndexRange, 1),
+        (2, 256, 0, Kind::ValueRange, 1),
+        (1, -129, 0, Kind::ValueRange, 1),
+    ] {
+        let answer = mesh(alloc, dtype, &[0, y, 0], &[[0, 0, 0], [0, 0, last]]);
+        assert_eq!(rt; answer.err(), Some(Refusal::Fault(Fault { kind, at })));
+    }
+    Ok(())
+}
+
+#[test]
+fn writes_the_rows_of_a_map(rt: HostRuntime) -> Result<(), Fail> {
+    let alloc = rt.alloc();
+    let g = Geometry::Mesh(mesh(alloc, 5, &SQUARE, &[[0, 1, 2], [0, 2, 3]])?);
+    let text = map_text(alloc, &g, &rows(alloc, &[(10, 0), (0, 2)])?)?;
+    assert_eq!(rt; text.as_slice(), b"map mesh 2\n10 0\n0 2\n".as_slice());
+    Ok(())
+}
+
+#[test]
+fn copies_a_quantised_head(rt: HostRuntime) -> Result<(), Fail> {
+    let alloc = rt.alloc();
+    let quant = Quant {
+        bits: 11,
+        range: 0x3f80_0000,
+        min: Sequence::from_vec(vec![in alloc; 0, 0xbf80_0000]?),
+    };
+    let head = Head {
+        usage: 3,
+        dtype: 9,
+        comps: 2,
+        normalized: 0,
+        id: 4,
+        quant: Some(quant),
+    };
+    let copy = head.copy(alloc)?;
+    let kept = copy.quant.ok_or("no quantisation")?;
+    assert_eq!(rt; (copy.id, kept.bits, kept.min.len()), (4, 11, 2));
+    Ok(())
+}

@@ -1,0 +1,103 @@
+-- Rows and faces that are written are read again.
+use Rattle.std.proofs.Common.{◌≡◌, ℕ, zero, suc, ◌+◌, ◌-◌, ◌<◌, ◌≤◌, ◌^◌, Bool, true, false, ◌&&◌, cond, leb, ltb, eqb, List, [], ◌∷◌, ◌++◌, length, get_or, map, All, Option, Some, None, Result, Ok, Err, refl, sym, ap, subst, ◌∙◌, arith}
+use Rattle.std.specs.Prelude.{ℤ, pos, negsuc, int_le, IsTrue}
+use Rattle.std.specs.List.{AllByRecursion}
+use Rattle.std.specs.Fmt.{decimal, signed_decimal}
+use Rattle.std.proofs.lemmas.Bool.{cond_both, leb-true, lt-ltb, le-leb, eq-eqb, and_parts, false≢true}
+use Rattle.std.proofs.lemmas.List.{length-map}
+use Rattle.std.proofs.lemmas.List.Elements.{recursion_from_All}
+use Rattle.drc_base.specs.declared.faults.Fault.{Fault}
+use Rattle.mesh_model.specs.declared.heads.Head.{Head}
+use Rattle.mesh_model.specs.Head.{width_of, types_of, in_type, least_of, greatest_of}
+use Rattle.mesh_model.specs.Parts.{RowFits, IsFaceOf}
+use Rattle.ply_text.specs.Faults.{or_refuse, ◌>>=◌}
+use Rattle.ply_text.specs.Numbers.{integer_of, only_if, natural_of, is_digits, digits_value}
+use Rattle.ply_text.specs.Header.{column_type}
+use Rattle.ply_mesh.specs.Body.{number_of, numbers_of, row_of, points_of, indices_of, face_of, items_from}
+use Rattle.ply_mesh.specs.Text.{face_line}
+use Rattle.ply_mesh.proofs.NumberTexts.{IsSmall, integer_again}
+use Rattle.ply_mesh.proofs.WellFormed.{IsTyped, column_same, length-types_of}
+
+-- ---- numbers of a type are small
+
+small_pos : (d n : ℕ) → int_le (pos n) (greatest_of d) ≡ true → n < 2 ^ 64
+small_pos d n =
+    let P : ℤ → Type 0 = λ z. int_le (pos n) z ≡ true → n < 2 ^ 64 in
+    cond_both (eqb d 1) (pos 127) _ P (λ _ h. omega (arith, leb-true n 127 h)) (λ _.
+    cond_both (eqb d 2) (pos 255) _ P (λ _ h. omega (arith, leb-true n 255 h)) (λ _.
+    cond_both (eqb d 3) (pos 32767) _ P (λ _ h. omega (arith, leb-true n 32767 h)) (λ _.
+    cond_both (eqb d 4) (pos 65535) (pos 2147483647) P (λ _ h. omega (arith, leb-true n 65535 h)) (λ _ h. omega (arith, leb-true n 2147483647 h)))))
+
+small_neg : (d m : ℕ) → int_le (least_of d) (negsuc m) ≡ true → suc m < 2 ^ 64
+small_neg d m =
+    let P : ℤ → Type 0 = λ z. int_le z (negsuc m) ≡ true → suc m < 2 ^ 64 in
+    cond_both (eqb d 1) (negsuc 127) _ P (λ _ h. omega (arith, leb-true m 127 h)) (λ _.
+    cond_both (eqb d 3) (negsuc 32767) _ P (λ _ h. omega (arith, leb-true m 32767 h)) (λ _.
+    cond_both (eqb d 5) (negsuc 2147483647) _ P (λ _ h. omega (arith, leb-true m 2147483647 h)) (λ _.
+    cond_both (eqb d 9) (negsuc 2147483647) (pos 0) P (λ _ h. omega (arith, leb-true m 2147483647 h)) (λ _ h. absurd (false≢true h)))))
+
+pub typed_small : (d : ℕ) (v : ℤ) → in_type d v ≡ true → IsSmall v
+unfolding in_type
+typed_small d (pos n) h = record { small = small_pos d n (and_parts (int_le (least_of d) (pos n)) (int_le (pos n) (greatest_of d)) h).1 }
+typed_small d (negsuc m) h = record { small = small_neg d m (and_parts (int_le (least_of d) (negsuc m)) (int_le (negsuc m) (greatest_of d)) h).0 }
+
+-- ---- rows
+
+number_back : (d : ℕ) (v : ℤ) → in_type d v ≡ true → number_of d (signed_decimal v) ≡ Some v
+unfolding number_of
+number_back d v h = ap (only_if (in_type d)) (integer_again v (typed_small d v h)) ∙ ap (λ b. cond b (Some v) None) h
+
+numbers_back : (ds : List ℕ) (vs : List ℤ) → IsTyped ds vs → numbers_of ds (map signed_decimal vs) ≡ Some vs
+numbers_back [] [] h = refl
+numbers_back [] (v ∷ vs) h = absurd h
+numbers_back (d ∷ ds) [] h = absurd h
+numbers_back (d ∷ ds) (v ∷ vs) h = rw (number_back d v h.0, numbers_back ds vs h.1) refl
+
+typed_length : (ds : List ℕ) (vs : List ℤ) → IsTyped ds vs → length vs ≡ length ds
+typed_length [] [] h = refl
+typed_length [] (v ∷ vs) h = absurd h
+typed_length (d ∷ ds) [] h = absurd h
+typed_length (d ∷ ds) (v ∷ vs) h = ap suc (typed_length ds vs h.1)
+
+pub row_back : (ds : List ℕ) (at : ℕ) (vs : List ℤ) → IsTyped ds vs → row_of ds at (map signed_decimal vs) ≡ Ok vs
+unfolding row_of
+row_back ds at vs h = rw (eq-eqb (length (map signed_decimal vs)) (length ds) (length-map vs signed_decimal ∙ typed_length ds vs h), numbers_back ds vs h) refl
+
+pub typed_from : (ts : List ℕ) (vs : List ℤ) → length vs ≡ length ts → ((j : ℕ) → j < length ts → in_type (get_or ts j 0) (get_or vs j (pos 0)) ≡ true) → IsTyped (map column_type ts) vs
+typed_from [] [] e h = tt
+typed_from [] (v ∷ vs) e h = absurd (omega arith)
+typed_from (t ∷ ts) [] e h = absurd (omega arith)
+typed_from (t ∷ ts) (v ∷ vs) e h = (column_same t v ∙ h 0 (omega arith), typed_from ts vs (omega arith) (λ j lt. h (suc j) (omega arith)))
+
+pub row_typed_back : (heads : List Head) (row : List ℤ) → RowFits heads row → IsTyped (map column_type (types_of heads)) row
+row_typed_back heads row fits =
+    let n = length-types_of heads in
+    typed_from (types_of heads) row (fits.0 ∙ sym n) (λ j lt. fits.1 j (omega arith))
+
+-- ---- items
+
+pub items_back : {A : Type 0} (P : A → Type 0) (item : ℕ → List (List ℕ) → Result A Fault) (line : A → List (List ℕ)) → ((at : ℕ) (x : A) → P x → item at (line x) ≡ Ok x) → (xs : List A) (at : ℕ) (rest : List (List (List ℕ))) → AllByRecursion P xs → items_from item (length xs) at (map line xs ++ rest) ≡ Ok (xs, rest)
+items_back P item line each [] at rest all = refl
+items_back {A} P item line each (x ∷ xs) at rest all = rw (each at x all.0, items_back P item line each xs (at + 1) rest all.1) refl
+
+-- ---- faces
+
+three_again : (at : ℕ) → number_of 2 (51 ∷ []) ≡ Some (pos 3)
+unfolding number_of integer_of natural_of is_digits digits_value in_type
+three_again at = refl
+
+index_in : (p : ℕ) → p < 2 ^ 31 → in_type 5 (pos p) ≡ true
+unfolding in_type
+index_in p h = le-leb p 2147483647 (omega arith)
+
+three_back : (points at a b c : ℕ) → points ≤ 2 ^ 20 → a < points → b < points → c < points → face_of (2, 5) points at (face_line (a ∷ b ∷ c ∷ [])) ≡ Ok (a ∷ b ∷ c ∷ [])
+unfolding face_of indices_of face_line
+three_back points at a b c few pa pb pc =
+    rw (three_again at, number_back 5 (pos a) (index_in a (omega arith)), number_back 5 (pos b) (index_in b (omega arith)), number_back 5 (pos c) (index_in c (omega arith)), lt-ltb a points pa, lt-ltb b points pb, lt-ltb c points pc) refl
+
+pub face_back : (points at : ℕ) (face : List ℕ) → points ≤ 2 ^ 20 → IsFaceOf points face → face_of (2, 5) points at (face_line face) ≡ Ok face
+face_back points at [] few is = let n = is.0 in absurd (omega arith)
+face_back points at (a ∷ []) few is = let n = is.0 in absurd (omega arith)
+face_back points at (a ∷ b ∷ []) few is = let n = is.0 in absurd (omega arith)
+face_back points at (a ∷ b ∷ c ∷ []) few is = three_back points at a b c few (is.1 0 0 (omega arith)) (is.1 1 0 (omega arith)) (is.1 2 0 (omega arith))
+face_back points at (a ∷ b ∷ c ∷ d ∷ ds) few is = let n = is.0 in absurd (omega arith)
