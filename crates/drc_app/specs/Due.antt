@@ -3,12 +3,15 @@ use Rattle.std.specs.Prelude.{ℕ, List, [], length, Result, Ok, Err, nat_lt, if
 use Rattle.drc_base.specs.declared.faults.Fault.{Fault}
 use Rattle.drc_base.specs.declared.kinds.Kind.TheVariants as kind
 use Rattle.drc_base.specs.declared.limits.TheConstants.{MAX_INPUT_BYTES}
+use Rattle.drc_bits.specs.Reading.{◌>>=◌}
+use Rattle.ply_mesh.specs.Text.{ply_text}
+use Rattle.drc_container.specs.Stream.{meaning_of}
 use Rattle.drc_app.specs.declared.commands.Command.{Command}
 use Rattle.drc_app.specs.declared.commands.Command.TheVariants as command
 
--- what the command gives from bytes within the limit
+-- what the command gives from bytes within the limit: for `dec` the text of the geometry that they mean, and no note
 unfoldable pub worked : Command → List ℕ → Result (List ℕ × List ℕ) Fault
-worked c bytes = Err (record { kind = kind.NotYet; at = 0 })
+worked command.Dec bytes = meaning_of bytes >>= λ g. Ok (ply_text g, [])
 
 -- too many bytes of input
 abbrev pub input_limit : Fault

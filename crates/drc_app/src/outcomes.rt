@@ -9,6 +9,8 @@ ghost use Rattle.drc_app.specs.Outcome.{IsOutcome, IsOutcomeAt};
 
 use crate::commands::{Command, command_of};
 use drc_base::{Fault, Kind, MAX_INPUT_BYTES, ReadEnd, Refusal, Source, read_all};
+use drc_container::decode;
+use ply_mesh::write_ply;
 use std::alloc::Global;
 
 /// An output and its note, both whole.
@@ -79,9 +81,14 @@ fn outcome_at(alloc: Global, command: Command, bytes: &[u8]) -> Outcome
 fn work(alloc: Global, command: Command, bytes: &[u8]) -> Result<Due, Refusal>
     ensures { Answers (λ d. (d.output.items, d.note.items)) (worked command bytes.now) result }
 {
-    let _ = alloc;
-    Err(Refusal::Fault(Fault {
-        kind: Kind::NotYet,
-        at: 0,
-    }))
+    match command {
+        Command::Dec => {
+            let geometry = decode(alloc, bytes)?;
+            let output = write_ply(alloc, &geometry)?;
+            Ok(Due {
+                output,
+                note: Vec::new(alloc),
+            })
+        }
+    }
 }
