@@ -25,7 +25,7 @@ shares counts total = map (share_of (total - used_of counts) (sum counts)) count
 -- the probabilities for these counts, whose sum is 2 ^ bits
 unfoldable pub normal : List ℕ → ℕ → List ℕ
 normal counts bits = let given = shares counts (2 ^ bits) in
-  slice_set given (most_frequent counts) (slice_index given (most_frequent counts) + (2 ^ bits - sum given))
+    slice_set given (most_frequent counts) (slice_index given (most_frequent counts) + (2 ^ bits - sum given))
 
 -- what has a table
 pub record HasTable (counts : List ℕ) (bits : ℕ) : Type 0 where

@@ -68,8 +68,8 @@ zeros_before (suc p ∷ probs) = 0
 -- a probability in the fewest bytes: its low six bits above the number of the bytes that follow, and these
 unfoldable pub prob_bytes : ℕ → List ℕ
 prob_bytes p = if nat_lt p (2 ^ 6) then 4 * p ∷ []
-  else (if nat_lt p (2 ^ 14) then (4 * (p % 64) + 1) ∷ p / 64 ∷ []
-  else (4 * (p % 64) + 2) ∷ p / 64 % 256 ∷ p / 16384 ∷ [])
+    else (if nat_lt p (2 ^ 14) then (4 * (p % 64) + 1) ∷ p / 64 ∷ []
+    else (4 * (p % 64) + 2) ∷ p / 64 % 256 ∷ p / 16384 ∷ [])
 
 -- probabilities, the first of which are in a run that is spelled already; a run is as long as it can be, at most 64
 unfoldable pub probs_bytes : ℕ → List ℕ → List ℕ
