@@ -1,5 +1,5 @@
 -- Worked examples of tables, computed.
-use Rattle.std.proofs.Common.{◌≡◌, ℕ, List, [], ◌∷◌, Ok, Err, refl}
+use Rattle.std.proofs.Common.{◌≡◌, [], ◌∷◌, Ok, Err, refl}
 use Rattle.drc_base.specs.declared.kinds.Kind.TheVariants as kind
 use Rattle.drc_bits.specs.Reading.{start_of, many_at}
 use Rattle.drc_bits.specs.Varint.{spelling, varint}

@@ -1,5 +1,5 @@
 -- The probabilities for counts sum to the slots.
-use Rattle.std.proofs.Common.{◌≡◌, ℕ, zero, suc, ◌+◌, ◌-◌, ◌*◌, ◌/◌, ◌^◌, ◌<◌, ◌≤◌, ◌==◌, Bool, true, false, nat_lt, max, List, [], ◌∷◌, fold, map, length, sum, sum_by, count_by, position, Some, None, unwrap_or, set, get_or, if◌then◌else◌, sym, refl, ap, ◌∙◌, subst, inl, inr, arith, ltb-true, ltb-false, div-mul-le_self, add-mul, mul-add, le_of_mul-le-mul_right, mul_comm, ◌%◌, pow_mono}
+use Rattle.std.proofs.Common.{◌≡◌, ℕ, ◌+◌, ◌-◌, ◌*◌, ◌/◌, ◌^◌, ◌<◌, ◌≤◌, ◌==◌, Bool, nat_lt, List, [], ◌∷◌, map, length, sum, position, Some, None, unwrap_or, set, get_or, if◌then◌else◌, sym, ap, ◌∙◌, subst, inl, inr, arith, ltb-true, div-mul-le_self, add-mul, le_of_mul-le-mul_right, mul_comm, ◌%◌, pow_mono}
 use Rattle.std.proofs.lemmas.Nat.{one_shl}
 use Rattle.std.proofs.lemmas.Bool.{cases_lt, cases_eq, cases_Bool, cond_both, lt-ltb}
 use Rattle.std.proofs.lemmas.List.{length-set, length-map, get_or_past, get_or-map, get_or-set_other}

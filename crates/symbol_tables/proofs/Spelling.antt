@@ -1,15 +1,13 @@
 -- Spelling probabilities, and reading them again.
-use Rattle.std.proofs.Common.{◌≡◌, ℕ, zero, suc, ◌+◌, ◌-◌, ◌*◌, ◌/◌, ◌%◌, ◌^◌, ◌<◌, ◌≤◌, ◌==◌, nat_lt, nat_le, true, false, min, List, [], ◌∷◌, ◌++◌, length, drop, get_or, sum, All, Result, Ok, Err, refl, sym, ◌∙◌, ap, subst, inl, inr, append_assoc, append-nil, arith, add-one, lt-ltb, le-ltb, ltb-true, ltb-false, le-leb, length-append, eq-eqb, ne_eqb}
+use Rattle.std.proofs.Common.{◌≡◌, ℕ, zero, suc, ◌+◌, ◌*◌, ◌/◌, ◌%◌, ◌^◌, ◌<◌, ◌≤◌, ◌==◌, nat_lt, true, false, min, List, [], ◌∷◌, ◌++◌, length, drop, get_or, sum, Ok, refl, ◌∙◌, ap, inl, inr, append_assoc, arith, add-one, lt-ltb, le-leb, length-append, eq-eqb, ne_eqb}
 use Rattle.std.proofs.lemmas.Bool.{cases_lt, cases_Bool, cond-true, cond-false}
 use Rattle.std.proofs.lemmas.List.{drop_more, drop_all, get_or_past}
 use Rattle.std.proofs.lemmas.List.Sums.{get_or-le-sum_by}
-use Rattle.std.proofs.lemmas.List.Elements.{All-head, All-tail}
-use Rattle.drc_bits.specs.Reading.{◌>>=◌, Reading, Item, many_at}
-use Rattle.drc_bits.specs.Numbers.{little_endian, number_at}
+use Rattle.drc_bits.specs.Reading.{Reading, Item, many_at}
 use Rattle.drc_bits.specs.Varint.{spelling}
 use Rattle.drc_bits.specs.Spells.{Spells}
 use Rattle.drc_bits.proofs.Written.{reading, number_at-byte, var32_at-spelling}
-use Rattle.symbol_tables.specs.Tables.{zeros_before, prob_bytes, probs_bytes, table_bytes, prob_at, probs_at, long_at, run_at, table_at, count_at, summing}
+use Rattle.symbol_tables.specs.Tables.{zeros_before, prob_bytes, probs_bytes, table_bytes, prob_at, probs_at, long_at, table_at, count_at}
 
 -- ---- one symbol after another
 

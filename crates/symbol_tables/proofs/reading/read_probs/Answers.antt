@@ -1,4 +1,4 @@
-use Rattle.std.proofs.Common.{◌≡◌, ℕ, ◌-◌, ◌+◌, ◌<◌, ◌^◌, ◌++◌, [], ◌∷◌, ap, ◌∙◌, arith, length, get_or}
+use Rattle.std.proofs.Common.{ℕ, ◌-◌, ◌+◌, ap, ◌∙◌, arith}
 use Rattle.std.proofs.lemmas.Result.{err_from_is_err_and}
 use Rattle.std.proofs.lemmas.Grind.{elements}
 use Rattle.drc_bits.proofs.Many.{with_front}
