@@ -46,22 +46,43 @@ impl Bits<'_> {
     }
 }
 
+#[derive(Default)]
+struct Writer {
+    bytes: Vec<u8>,
+    buffer: u64,
+    count: u32,
+}
+
+impl Writer {
+    fn put(&mut self, n: u32, value: u32) -> Result<(), std::collections::TryReserveError> {
+        self.bytes.try_reserve(8)?;
+        self.buffer |= u64::from(value) << self.count;
+        self.count += n;
+        if self.count >= 32 {
+            self.bytes.extend_from_slice(&(self.buffer as u32).to_le_bytes());
+            self.buffer >>= 32;
+            self.count -= 32;
+        }
+        Ok(())
+    }
+
+    fn finish(mut self) -> Vec<u8> {
+        for _ in 0..self.count.div_ceil(8) {
+            self.bytes.push(self.buffer as u8);
+            self.buffer >>= 8;
+        }
+        self.bytes
+    }
+}
+
 fn put_all(values: &[u32]) -> Vec<u8> {
-    let (mut out, mut buffer, mut count) = (Vec::new(), 0u64, 0u32);
+    let mut writer = Writer::default();
     for value in values {
-        buffer |= u64::from(*value) << count;
-        count += 11;
-        if count >= 32 {
-            out.extend_from_slice(&(buffer as u32).to_le_bytes());
-            buffer >>= 32;
-            count -= 32;
+        if *value < 2048 {
+            writer.put(11, *value).unwrap();
         }
     }
-    for _ in 0..count.div_ceil(8) {
-        out.push(buffer as u8);
-        buffer >>= 8;
-    }
-    out
+    writer.finish()
 }
 
 fn take_all(bytes: &[u8]) -> u32 {
