@@ -26,7 +26,7 @@ impl Model for BitWriter {
     ghost view = { λ w. bits_of w.bytes.items ++ low_bits w.count w.buffer };
 
     ghost invariant = { λ w. (w.count < 32) × (w.buffer < 2 ^ w.count)
-        × (8 * vec_len w.bytes + w.count ≤ 8 * vec_capacity w.bytes) };
+        × (0 < w.count → vec_len w.bytes + 4 ≤ vec_capacity w.bytes) };
 }
 
 /// The buffer with a number of `n` bits more above its `count` bits.
@@ -39,6 +39,48 @@ fn with_number(buffer: u64, count: u32, n: u32, value: u32) -> u64
     ensures fits { result < 2 ^ (count + n) }
 {
     buffer | u64::from(value) << count
+}
+
+/// The low four bytes of a number, the lowest first.
+fn word_bytes(number: u64) -> [u8; 4]
+    ensures { result ≡ low_bytes 4 number }
+{
+    let second = number / 256;
+    let third = second / 256;
+    let fourth = third / 256;
+    [
+        (number % 256) as u8,
+        (second % 256) as u8,
+        (third % 256) as u8,
+        (fourth % 256) as u8,
+    ]
+}
+
+/// Makes room for the last four bytes, which is there where bits are in the buffer.
+fn make_room(bytes: &mut Vec<u8>, count: u32) -> Result<(), Memory>
+    requires { 0 < count → vec_len bytes.old + 4 ≤ vec_capacity bytes.old }
+    ensures items { bytes.new.items ≡ bytes.old.items }
+    ensures len { vec_len bytes.new ≡ vec_len bytes.old }
+    ensures room { OnOk result (vec_len bytes.new + 4 ≤ vec_capacity bytes.new) }
+    ensures capacity { vec_capacity bytes.old ≤ vec_capacity bytes.new }
+{
+    if count == 0 {
+        bytes.reserve(4)?;
+    }
+    Ok(())
+}
+
+/// Appends the low four bytes of a number, and makes room for four more.
+fn put_word(bytes: &mut Vec<u8>, number: u64) -> Result<(), Memory>
+    ensures items { OnOk result (bytes.new.items ≡ bytes.old.items ++ low_bytes 4 number) }
+    ensures room { OnOk result (vec_len bytes.new + 4 ≤ vec_capacity bytes.new) }
+    ensures err { OnErr result (bytes.new.items ≡ bytes.old.items) }
+    ensures len { OnErr result (vec_len bytes.new ≡ vec_len bytes.old) }
+    ensures capacity { vec_capacity bytes.old ≤ vec_capacity bytes.new }
+{
+    bytes.reserve(8)?;
+    bytes.extend_from_slice(&word_bytes(number))?;
+    Ok(())
 }
 
 /// Appends the low `n` bytes of a number, the lowest first, into room that is there.
@@ -76,15 +118,15 @@ impl BitWriter {
         ensures ok { OnOk result (self.new ≡ self.old ++ low_bits n value) }
         ensures err { OnErr result (self.new ≡ self.old) }
     {
-        self.bytes.reserve(8)?;
         let buffer = with_number(self.buffer, self.count, n, value);
         let count = self.count + n;
         if count < 32 {
+            make_room(&mut self.bytes, self.count)?;
             self.buffer = buffer;
             self.count = count;
             return Ok(());
         }
-        put_bytes(&mut self.bytes, 4, buffer);
+        put_word(&mut self.bytes, buffer)?;
         self.buffer = buffer >> 32;
         self.count = count - 32;
         Ok(())

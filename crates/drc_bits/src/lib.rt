@@ -1,7 +1,8 @@
-//! Bytes and numbers of a stream: a cursor over bytes, and varints both ways. The contract above it:
-//! each read is the item of its definition at the cursor's place, or the fault `Short` or `Long`
-//! there with the cursor unchanged. Varints are those of the Draco Bitstream Specification 2.2,
-//! section "Core types"; which ones are too long is this project's choice.
+//! Bytes, numbers and bits of a stream: a cursor over bytes, varints and bit sequences, each both ways.
+//! The contract above it: each read is the item of its definition at its place, or the fault `Short` or
+//! `Long` there with the cursor unchanged; a written varint is read back, and written bits are the bits
+//! that were put. It follows the Draco Bitstream Specification 2.2, section "Core types"; which varints
+//! are too long is this project's choice.
 #![tactic(auto)]
 
 mod bit_reader;
