@@ -1,6 +1,6 @@
 -- Worked examples of bits, computed.
-use Rattle.std.proofs.Common.{◌≡◌, ℕ, List, [], ◌∷◌, Some, None, refl}
-use Rattle.drc_bits.specs.Bits.{BitPlace, low_bits, bits_of, next_bits, after_bits, packed}
+use Rattle.std.proofs.Common.{◌≡◌, [], ◌∷◌, Some, None, refl}
+use Rattle.drc_bits.specs.Bits.{low_bits, bits_of, next_bits, packed}
 
 -- the bits of the bytes 5 and 128
 two_bytes : bits_of (5 ∷ 128 ∷ []) ≡ 1 ∷ 0 ∷ 1 ∷ 0 ∷ 0 ∷ 0 ∷ 0 ∷ 0 ∷ 0 ∷ 0 ∷ 0 ∷ 0 ∷ 0 ∷ 0 ∷ 0 ∷ 1 ∷ []

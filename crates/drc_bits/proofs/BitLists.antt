@@ -1,9 +1,9 @@
 -- Bits of numbers and of bytes.
-use Rattle.std.proofs.Common.{◌≡◌, ℕ, zero, suc, ◌+◌, ◌-◌, ◌*◌, ◌/◌, ◌%◌, ◌^◌, ◌<◌, ◌≤◌, List, [], ◌∷◌, ◌++◌, length, take, drop, get_or, replicate, sym, refl, ap, ◌∙◌, subst, arith, add-one, append_assoc, pow-suc, pow_pos, add_assoc, suc-add, drop-cons, mul_assoc, zero-add, mod-lt, mod-eq_of_lt}
+use Rattle.std.proofs.Common.{◌≡◌, ℕ, zero, suc, ◌+◌, ◌-◌, ◌*◌, ◌/◌, ◌%◌, ◌^◌, ◌<◌, ◌≤◌, List, [], ◌∷◌, ◌++◌, length, take, drop, sym, refl, ap, ◌∙◌, arith, add-one, append_assoc, pow-suc, pow_pos, suc-add, mul_assoc, zero-add, mod-lt, mod-eq_of_lt}
 use Rattle.std.proofs.Math.Nat.{mod-add-div'}
 use Rattle.std.proofs.lemmas.Nat.{mod-pow-add}
-use Rattle.std.proofs.lemmas.List.{drop_more, drop_all, take_at, drop_at, length-append, length-drop}
-use Rattle.drc_bits.specs.Bits.{low_bits, number_of, bits_of, bytes_for, packed_in, packed}
+use Rattle.std.proofs.lemmas.List.{take_at, drop_at, length-append}
+use Rattle.drc_bits.specs.Bits.{low_bits, number_of, bits_of}
 
 pub length-low_bits : (n v : ℕ) → length (low_bits n v) ≡ n
 unfolding low_bits

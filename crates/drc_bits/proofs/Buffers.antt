@@ -1,5 +1,5 @@
 -- A number put above the bits of another one in a buffer of 64 bits.
-use Rattle.std.proofs.Common.{◌≡◌, ℕ, zero, suc, ◌+◌, ◌-◌, ◌*◌, ◌/◌, ◌%◌, ◌^◌, ◌<◌, ◌≤◌, bit_or, sym, ap, ◌∙◌, refl, arith, add_comm, mul-le-mul_right, pow-add}
+use Rattle.std.proofs.Common.{◌≡◌, ℕ, ◌+◌, ◌*◌, ◌%◌, ◌^◌, ◌<◌, ◌≤◌, bit_or, ◌∙◌, arith, add_comm, mul-le-mul_right, pow-add}
 use Rattle.std.proofs.lemmas.Nat.{or_comm, or_shifted, shl_whole}
 
 pub sum_fits : (buffer count k v : ℕ) → buffer < 2 ^ count → v < 2 ^ k → buffer + v * 2 ^ count < 2 ^ (count + k)

@@ -1,9 +1,8 @@
 -- Bits into bytes.
-use Rattle.std.proofs.Common.{◌≡◌, ℕ, zero, suc, ◌+◌, ◌-◌, ◌*◌, ◌/◌, ◌%◌, ◌^◌, ◌<◌, ◌≤◌, List, [], ◌∷◌, ◌++◌, length, take, drop, get_or, replicate, sym, refl, ap, ◌∙◌, subst, arith, append_assoc, add-one, append-nil, inl, inr, pow_mono, mod-eq_of_lt, pow_pos, mod-lt}
+use Rattle.std.proofs.Common.{◌≡◌, ℕ, zero, suc, ◌+◌, ◌-◌, ◌*◌, ◌/◌, ◌%◌, ◌^◌, ◌<◌, ◌≤◌, List, [], ◌∷◌, ◌++◌, length, take, drop, get_or, replicate, sym, refl, ap, ◌∙◌, subst, arith, append_assoc, add-one, append-nil, inl, inr, pow_mono, mod-eq_of_lt}
 use Rattle.std.proofs.lemmas.Nat.{shr_below}
-use Rattle.std.proofs.Math.Nat.{mod-add-div'}
 use Rattle.std.proofs.lemmas.Bool.{cases_lt}
-use Rattle.std.proofs.lemmas.List.{take_at, drop_at, take_all, drop_all, length-append, length-drop, get_or_append_left, get_or_past}
+use Rattle.std.proofs.lemmas.List.{take_at, drop_at, take_all, length-append, get_or_append_left, get_or_past}
 use Rattle.drc_bits.specs.Bits.{low_bits, low_bytes, number_of, bits_of, bytes_for, packed_in, packed}
 use Rattle.drc_bits.proofs.BitLists.{length-low_bits, number_of-low_bits, low_bits-add, low_bits-split, bits_of-append, length-bits_of}
 

@@ -41,6 +41,21 @@ fn with_number(buffer: u64, count: u32, n: u32, value: u32) -> u64
     buffer | u64::from(value) << count
 }
 
+/// The low four bytes of a number, the lowest first.
+fn word_bytes(number: u64) -> [u8; 4]
+    ensures { result ≡ low_bytes 4 number }
+{
+    let second = number / 256;
+    let third = second / 256;
+    let fourth = third / 256;
+    [
+        (number % 256) as u8,
+        (second % 256) as u8,
+        (third % 256) as u8,
+        (fourth % 256) as u8,
+    ]
+}
+
 /// Appends the low `n` bytes of a number, the lowest first, into room that is there.
 fn put_bytes(bytes: &mut Vec<u8>, n: u32, number: u64)
     requires { vec_len bytes.old + n ≤ vec_capacity bytes.old }
@@ -84,7 +99,7 @@ impl BitWriter {
             self.count = count;
             return Ok(());
         }
-        put_bytes(&mut self.bytes, 4, buffer);
+        self.bytes.extend_from_slice(&word_bytes(buffer))?;
         self.buffer = buffer >> 32;
         self.count = count - 32;
         Ok(())

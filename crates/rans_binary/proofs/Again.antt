@@ -1,15 +1,15 @@
 -- A written block is read again, whatever follows it.
-use Rattle.std.proofs.Common.{◌≡◌, ℕ, zero, suc, ◌+◌, ◌-◌, ◌*◌, ◌/◌, ◌^◌, ◌<◌, ◌≤◌, Bool, true, nat_lt, List, [], ◌∷◌, ◌++◌, map, length, min, max, Result, Ok, Some, sym, refl, ap, ◌∙◌, inl, arith, append_assoc, lt-ltb, length-append}
+use Rattle.std.proofs.Common.{◌≡◌, ℕ, ◌+◌, ◌-◌, ◌^◌, ◌<◌, ◌≤◌, Bool, nat_lt, List, ◌∷◌, ◌++◌, map, length, Ok, Some, sym, refl, ap, ◌∙◌, inl, arith, append_assoc, lt-ltb, length-append}
 use Rattle.std.proofs.lemmas.Bool.{cond-true}
 use Rattle.drc_base.specs.declared.kinds.Kind.TheVariants as kind
-use Rattle.drc_bits.specs.Reading.{◌>>=◌, Reading, Item, must, advanced, bytes_at}
+use Rattle.drc_bits.specs.Reading.{must}
 use Rattle.drc_bits.specs.Numbers.{number_at}
-use Rattle.drc_bits.specs.Varint.{var32_at, spelling}
+use Rattle.drc_bits.specs.Varint.{spelling}
 use Rattle.drc_bits.proofs.Written.{reading, advanced-front, bytes_at-front, number_at-byte, var32_at-spelling}
-use Rattle.rans_core.specs.Coder.{Interval, State, all_pushed, spelled, started}
-use Rattle.rans_core.proofs.Pulling.{all_pushed-Pulled, IsFull}
+use Rattle.rans_core.specs.Coder.{Interval, State, all_pushed, started}
+use Rattle.rans_core.proofs.Pulling.{all_pushed-Pulled}
 use Rattle.rans_core.proofs.Closing.{started-spelled}
-use Rattle.rans_binary.specs.Blocks.{Block, IsBlockOf, BitsPulled, block, block_at, block_from, coded_bits, interval_of, zeros_for}
+use Rattle.rans_binary.specs.Blocks.{IsBlockOf, block, block_at, coded_bits, interval_of, zeros_for}
 use Rattle.rans_binary.proofs.Bits.{first_bits-Pulled, intervals-Fit}
 
 pub zeros_for-bounds : (bits : List Bool) → (1 ≤ zeros_for bits) × (zeros_for bits ≤ 255)

@@ -1,11 +1,11 @@
 -- Bits as symbols of the range coder.
-use Rattle.std.proofs.Common.{◌≡◌, ℕ, zero, suc, ◌+◌, ◌-◌, ◌*◌, ◌/◌, ◌%◌, ◌^◌, ◌<◌, ◌≤◌, Bool, true, false, cond, nat_lt, List, [], ◌∷◌, ◌++◌, map, length, reverse, take, get_or, All, sym, refl, ap, ◌∙◌, subst, inl, inr, arith, ltb-true, ltb-false, lt-ltb, le-ltb, mul-add}
-use Rattle.std.proofs.lemmas.Bool.{cases_Bool, cond-true, cond-false}
+use Rattle.std.proofs.Common.{◌≡◌, ℕ, ◌+◌, ◌-◌, ◌*◌, ◌/◌, ◌%◌, ◌<◌, ◌≤◌, Bool, true, false, nat_lt, List, [], ◌∷◌, map, length, get_or, All, sym, refl, ap, ◌∙◌, inl, inr, arith, ltb-true, ltb-false, lt-ltb, le-ltb, mul-add}
+use Rattle.std.proofs.lemmas.Bool.{cases_Bool}
 use Rattle.std.proofs.lemmas.List.Elements.{All-nil, All-cons}
-use Rattle.rans_core.specs.Coder.{Interval, State, HasSlot, Fits, Pulled, pulled, refilled, unread}
+use Rattle.rans_core.specs.Coder.{State, HasSlot, Fits, Pulled, pulled, refilled, unread}
 use Rattle.rans_core.proofs.Pulling.{refilled-full}
 use Rattle.rans_core.proofs.Unread.{refilled-more}
-use Rattle.rans_binary.specs.Blocks.{Block, interval_of, next_bit, after_bit, first_bits, BitsPulled}
+use Rattle.rans_binary.specs.Blocks.{Block, interval_of, after_bit, first_bits}
 
 -- the slot of a bit tells the bit
 pub next_bit-of_slot : (ones slot : ℕ) (bit : Bool) → HasSlot (interval_of ones bit) slot → nat_lt slot ones ≡ bit

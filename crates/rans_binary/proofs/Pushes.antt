@@ -1,7 +1,7 @@
 -- Pushing a bit, and the bytes of a block read again.
-use Rattle.std.proofs.Common.{◌≡◌, ℕ, zero, suc, ◌+◌, ◌-◌, ◌*◌, ◌/◌, ◌%◌, ◌^◌, ◌<◌, ◌≤◌, List, [], ◌∷◌, ◌++◌, reverse, sym, refl, ap, ◌∙◌, arith, mod-lt}
+use Rattle.std.proofs.Common.{◌≡◌, ℕ, ◌+◌, ◌*◌, ◌/◌, ◌%◌, ◌<◌, ◌≤◌, List, [], ◌∷◌, ◌++◌, reverse, sym, refl, ◌∙◌, arith, mod-lt}
 use Rattle.std.proofs.lemmas.Nat.{le-div, div_below}
-use Rattle.rans_core.specs.Coder.{Interval, State, drained, pushed}
+use Rattle.rans_core.specs.Coder.{Interval, drained, pushed}
 use Rattle.rans_core.proofs.Pulling.{full_step}
 use Rattle.rans_core.proofs.Draining.{drained-stop, drained-step}
 

@@ -1,7 +1,7 @@
 -- Binary range coding: a bit is a symbol with two intervals of 256 slots, the ones below the zeros (Draco
 -- Bitstream Specification 2.2, section Rans Decoding). The probability that is written, and the refusal of 0,
 -- are this project's choice.
-use Rattle.std.specs.Prelude.{ℕ, zero, suc, ◌+◌, ◌-◌, ◌*◌, ◌/◌, ◌%◌, ◌^◌, ◌<◌, ◌≤◌, ◌≡◌, Bool, true, false, not, min, max, nat_lt, List, [], ◌∷◌, ◌++◌, map, length, count_by, Option, Some, None, Result, Ok, Err, if◌then◌else◌}
+use Rattle.std.specs.Prelude.{ℕ, zero, suc, ◌+◌, ◌-◌, ◌*◌, ◌/◌, ◌%◌, ◌≡◌, Bool, true, false, not, min, max, nat_lt, List, [], ◌∷◌, ◌++◌, map, length, count_by, Option, Some, None, Ok}
 use Rattle.drc_base.specs.declared.kinds.Kind.TheVariants as kind
 use Rattle.drc_bits.specs.Reading.{◌>>=◌, Reading, Item, must, fault_at, bytes_at, advanced}
 use Rattle.drc_bits.specs.Numbers.{number_at}

@@ -2,3 +2,4 @@ pub mod Symbols
 pub mod Sharing
 pub mod Probs
 pub mod Spelling
+mod Examples

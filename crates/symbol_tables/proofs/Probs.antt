@@ -1,5 +1,5 @@
 -- Reading probabilities one after another.
-use Rattle.std.proofs.Common.{◌≡◌, ℕ, zero, suc, ◌+◌, ◌-◌, ◌<◌, ◌≤◌, List, [], ◌∷◌, ◌++◌, Result, Ok, Err, refl, sym, ◌∙◌, ap, append_assoc, append-nil, arith}
+use Rattle.std.proofs.Common.{◌≡◌, ℕ, suc, ◌+◌, ◌-◌, ◌<◌, ◌≤◌, List, [], ◌∷◌, ◌++◌, Ok, Err, refl, sym, ◌∙◌, ap, append_assoc, append-nil, arith}
 use Rattle.drc_base.specs.declared.faults.Fault.{Fault}
 use Rattle.drc_bits.specs.Reading.{Reading, Item, ◌>>=◌}
 use Rattle.drc_bits.proofs.Many.{with_front}

@@ -1,5 +1,5 @@
 -- The probabilities for counts sum to the slots.
-use Rattle.std.proofs.Common.{◌≡◌, ℕ, zero, suc, ◌+◌, ◌-◌, ◌*◌, ◌/◌, ◌^◌, ◌<◌, ◌≤◌, ◌==◌, Bool, true, false, nat_lt, max, List, [], ◌∷◌, fold, map, length, sum, sum_by, count_by, position, Some, None, unwrap_or, set, get_or, if◌then◌else◌, sym, refl, ap, ◌∙◌, subst, inl, inr, arith, ltb-true, ltb-false, div-mul-le_self, add-mul, mul-add, le_of_mul-le-mul_right, mul_comm, ◌%◌, pow_mono}
+use Rattle.std.proofs.Common.{◌≡◌, ℕ, ◌+◌, ◌-◌, ◌*◌, ◌/◌, ◌^◌, ◌<◌, ◌≤◌, ◌==◌, Bool, nat_lt, List, [], ◌∷◌, map, length, sum, position, Some, None, unwrap_or, set, get_or, if◌then◌else◌, sym, ap, ◌∙◌, subst, inl, inr, arith, ltb-true, div-mul-le_self, add-mul, le_of_mul-le-mul_right, mul_comm, ◌%◌, pow_mono}
 use Rattle.std.proofs.lemmas.Nat.{one_shl}
 use Rattle.std.proofs.lemmas.Bool.{cases_lt, cases_eq, cases_Bool, cond_both, lt-ltb}
 use Rattle.std.proofs.lemmas.List.{length-set, length-map, get_or_past, get_or-map, get_or-set_other}
@@ -13,9 +13,10 @@ use Rattle.symbol_tables.proofs.Symbols.{sum-cons}
 pub share_of-part : (others all count : ℕ) → 0 < all → share_of others all count * all ≤ (if nat_lt 0 count then 1 else 0) * all + count * others
 share_of-part others all count some =
     elim (cases_Bool (nat_lt 0 count)) [
-      inl t ↦ rw t (let h : count * others / all * all ≤ count * others = div-mul-le_self (count * others) all in
+      | inl t ↦ rw t (let h : count * others / all * all ≤ count * others = div-mul-le_self (count * others) all in
           let e : (1 + count * others / all) * all ≡ 1 * all + count * others / all * all = add-mul 1 (count * others / all) all in omega (arith, h, e))
-    | inr f ↦ rw f (omega arith) ]
+      | inr f ↦ rw f (omega arith)
+    ]
 
 pub shares-part : (others all : ℕ) (counts : List ℕ) → 0 < all →
     sum (map (share_of others all) counts) * all ≤ used_of counts * all + sum counts * others
@@ -35,8 +36,9 @@ shares-part others all (n ∷ counts) some =
 -- a sum is positive where an item is
 pub sum-positive : (xs : List ℕ) (k : ℕ) → 0 < get_or xs k 0 → 0 < sum xs
 sum-positive xs k h = elim (cases_lt k (length xs)) [
-    inl inside ↦ omega (arith, get_or-le-sum_by (λ x. x) xs k 0 inside)
-  | inr past ↦ absurd (omega (arith, get_or_past xs k 0 past)) ]
+  | inl inside ↦ omega (arith, get_or-le-sum_by (λ x. x) xs k 0 inside)
+  | inr past ↦ absurd (omega (arith, get_or_past xs k 0 past))
+]
 
 -- the shares are no more than the slots
 pub shares-sum : (counts : List ℕ) (total : ℕ) → 0 < sum counts → used_of counts ≤ total → sum (shares counts total) ≤ total
@@ -45,7 +47,7 @@ shares-sum counts total some used =
     let others : ℕ = total - used_of counts in
     let h : sum (map (share_of others all) counts) * all ≤ used_of counts * all + all * others = shares-part others all counts some in
     let e : used_of counts * all + all * others ≡ total * all =
-      ap (λ n. used_of counts * all + n) (mul_comm all others) ∙ sym (add-mul (used_of counts) others all) ∙ ap (λ n. n * all) (omega arith) in
+    ap (λ n. used_of counts * all + n) (mul_comm all others) ∙ sym (add-mul (used_of counts) others all) ∙ ap (λ n. n * all) (omega arith) in
     le_of_mul-le-mul_right (subst (λ n. sum (map (share_of others all) counts) * all ≤ n) e h) some
 
 -- the most frequent symbol is a symbol
@@ -64,7 +66,7 @@ normal-sum counts bits h =
     let inside : at < length given = subst (λ n. at < n) (sym l) (position-below (λ n. n == greatest_of counts) counts h.some) in
     let most : sum given ≤ 2 ^ bits = shares-sum counts (2 ^ bits) (sum-positive counts (length counts - 1) h.last) h.used in
     let e : sum (set given at (get_or given at 0 + (2 ^ bits - sum given))) + get_or given at 0 ≡ sum given + (get_or given at 0 + (2 ^ bits - sum given)) =
-      sum_by-set (λ x. x) given at (get_or given at 0 + (2 ^ bits - sum given)) 0 inside in
+    sum_by-set (λ x. x) given at (get_or given at 0 + (2 ^ bits - sum given)) 0 inside in
     omega (arith, e, most)
 
 pub normal-length : (counts : List ℕ) (bits : ℕ) → length (normal counts bits) ≡ length counts
@@ -97,11 +99,13 @@ normal-positive counts bits s h =
     let at : ℕ = most_frequent counts in
     let l : length given ≡ length counts = length-map counts (share_of others all) in
     elim (cases_lt s (length counts)) [
-      inl inside ↦
-        let e : get_or given s 0 ≡ share_of others all (get_or counts s 0) = get_or-map (share_of others all) counts s 0 0 inside in
-        let some : 0 < get_or given s 0 = subst (λ n. 0 < n) (sym e) (share_of-positive others all (get_or counts s 0) h) in
-        elim (cases_eq s at) [
-          inl same ↦ rw (get_or-set_at given at s (get_or given at 0 + (2 ^ bits - sum given)) 0 same (omega arith))
-            (let t : 0 < get_or given at 0 = subst (λ n. 0 < get_or given n 0) same some in omega arith)
-        | inr other ↦ subst (λ n. 0 < n) (sym (get_or-set_other given at s (get_or given at 0 + (2 ^ bits - sum given)) 0 other)) some ]
-    | inr past ↦ absurd (omega (arith, get_or_past counts s 0 past)) ]
+      | inl inside ↦
+          let e : get_or given s 0 ≡ share_of others all (get_or counts s 0) = get_or-map (share_of others all) counts s 0 0 inside in
+          let some : 0 < get_or given s 0 = subst (λ n. 0 < n) (sym e) (share_of-positive others all (get_or counts s 0) h) in
+          elim (cases_eq s at) [
+            | inl same ↦ rw (get_or-set_at given at s (get_or given at 0 + (2 ^ bits - sum given)) 0 same (omega arith))
+                (let t : 0 < get_or given at 0 = subst (λ n. 0 < get_or given n 0) same some in omega arith)
+            | inr other ↦ subst (λ n. 0 < n) (sym (get_or-set_other given at s (get_or given at 0 + (2 ^ bits - sum given)) 0 other)) some
+          ]
+      | inr past ↦ absurd (omega (arith, get_or_past counts s 0 past))
+    ]

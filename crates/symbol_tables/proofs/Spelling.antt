@@ -1,15 +1,13 @@
 -- Spelling probabilities, and reading them again.
-use Rattle.std.proofs.Common.{◌≡◌, ℕ, zero, suc, ◌+◌, ◌-◌, ◌*◌, ◌/◌, ◌%◌, ◌^◌, ◌<◌, ◌≤◌, ◌==◌, nat_lt, nat_le, true, false, min, List, [], ◌∷◌, ◌++◌, length, drop, get_or, sum, All, Result, Ok, Err, refl, sym, ◌∙◌, ap, subst, inl, inr, append_assoc, append-nil, arith, add-one, lt-ltb, le-ltb, ltb-true, ltb-false, le-leb, length-append, eq-eqb, ne_eqb}
+use Rattle.std.proofs.Common.{◌≡◌, ℕ, zero, suc, ◌+◌, ◌*◌, ◌/◌, ◌%◌, ◌^◌, ◌<◌, ◌≤◌, ◌==◌, nat_lt, true, false, min, List, [], ◌∷◌, ◌++◌, length, drop, get_or, sum, Ok, refl, ◌∙◌, ap, inl, inr, append_assoc, arith, add-one, lt-ltb, le-leb, length-append, eq-eqb, ne_eqb}
 use Rattle.std.proofs.lemmas.Bool.{cases_lt, cases_Bool, cond-true, cond-false}
 use Rattle.std.proofs.lemmas.List.{drop_more, drop_all, get_or_past}
 use Rattle.std.proofs.lemmas.List.Sums.{get_or-le-sum_by}
-use Rattle.std.proofs.lemmas.List.Elements.{All-head, All-tail}
-use Rattle.drc_bits.specs.Reading.{◌>>=◌, Reading, Item, many_at}
-use Rattle.drc_bits.specs.Numbers.{little_endian, number_at}
+use Rattle.drc_bits.specs.Reading.{Reading, Item, many_at}
 use Rattle.drc_bits.specs.Varint.{spelling}
 use Rattle.drc_bits.specs.Spells.{Spells}
 use Rattle.drc_bits.proofs.Written.{reading, number_at-byte, var32_at-spelling}
-use Rattle.symbol_tables.specs.Tables.{zeros_before, prob_bytes, probs_bytes, table_bytes, prob_at, probs_at, long_at, run_at, table_at, count_at, summing}
+use Rattle.symbol_tables.specs.Tables.{zeros_before, prob_bytes, probs_bytes, table_bytes, prob_at, probs_at, long_at, table_at, count_at}
 
 -- ---- one symbol after another
 
@@ -57,7 +55,7 @@ pub long_at-two : (low b d place : ℕ) (rest : List ℕ) → long_at low 2 (rea
 unfolding many_at
 long_at-two low b d place rest =
     rw (number_at-byte place b (d ∷ rest)) (rw (number_at-byte (place + 1) d rest)
-      (ap (λ (n : ℕ). Ok ((n, 0), reading (place + 1 + 1) rest)) (omega arith) ∙ ap (λ n. Ok ((low + 64 * (b + 256 * d), 0), reading n rest)) (omega arith)))
+    (ap (λ (n : ℕ). Ok ((n, 0), reading (place + 1 + 1) rest)) (omega arith) ∙ ap (λ n. Ok ((low + 64 * (b + 256 * d), 0), reading n rest)) (omega arith)))
 
 -- an item of its own
 pub prob_at-item : (behind place b low more : ℕ) (rest : List ℕ) → b ≡ 4 * low + more → more < 3 →
@@ -76,13 +74,13 @@ pub prob_at-prob_bytes : (behind place p : ℕ) (rest : List ℕ) → p < 2 ^ 22
 unfolding prob_bytes
 prob_at-prob_bytes behind place p rest h =
     elim (cases_Bool (nat_lt p (2 ^ 6))) [
-      inl e ↦ rw (cond-true _ _ _ e) (prob_at-item behind place (4 * p) p 0 rest (omega arith) (omega arith) ∙ long_at-none p (place + 1) rest)
-    | inr e ↦ rw (cond-false _ _ _ e) (elim (cases_Bool (nat_lt p (2 ^ 14))) [
-        inl e ↦ rw (cond-true _ _ _ e)
-          (prob_at-item behind place (4 * (p % 64) + 1) (p % 64) 1 (p / 64 ∷ rest) refl (omega arith) ∙ long_at-one (p % 64) (p / 64) (place + 1) rest
+      | inl e ↦ rw (cond-true _ _ _ e) (prob_at-item behind place (4 * p) p 0 rest (omega arith) (omega arith) ∙ long_at-none p (place + 1) rest)
+      | inr e ↦ rw (cond-false _ _ _ e) (elim (cases_Bool (nat_lt p (2 ^ 14))) [
+        | inl e ↦ rw (cond-true _ _ _ e)
+            (prob_at-item behind place (4 * (p % 64) + 1) (p % 64) 1 (p / 64 ∷ rest) refl (omega arith) ∙ long_at-one (p % 64) (p / 64) (place + 1) rest
             ∙ answered (p % 64 + 64 * (p / 64)) p (place + 1 + 1) (place + 2) rest (omega arith) (omega arith))
-      | inr e ↦ rw (cond-false _ _ _ e)
-          (prob_at-item behind place (4 * (p % 64) + 2) (p % 64) 2 (p / 64 % 256 ∷ p / 16384 ∷ rest) refl (omega arith) ∙ long_at-two (p % 64) (p / 64 % 256) (p / 16384) (place + 1) rest
+        | inr e ↦ rw (cond-false _ _ _ e)
+            (prob_at-item behind place (4 * (p % 64) + 2) (p % 64) 2 (p / 64 % 256 ∷ p / 16384 ∷ rest) refl (omega arith) ∙ long_at-two (p % 64) (p / 64 % 256) (p / 16384) (place + 1) rest
             ∙ answered (p % 64 + 64 * (p / 64 % 256 + 256 * (p / 16384))) p (place + 1 + 2) (place + 3) rest (omega arith) (omega arith))
       ])
     ]
@@ -119,24 +117,24 @@ probs_at-probs_bytes (zero ∷ probs) zero place rest small h =
     let within : more ≤ length probs = (let z = zeros_before-le probs in omega arith) in
     let after : List ℕ = probs_bytes more probs in
     moved (0 ∷ probs) (place + 1 + length after) (place + suc (length after)) rest _
-      (probs_at-step (length probs) 0 0 more probs (reading place (((4 * more + 3) ∷ after) ++ rest)) (reading (place + 1) (after ++ rest)) (reading (place + 1 + length after) rest)
-        (prob_at-zeros (length probs) place more (after ++ rest) within)
-        (probs_at-probs_bytes probs more (place + 1) rest (λ s. small (suc s)) (omega arith)))
-      (omega arith)
+    (probs_at-step (length probs) 0 0 more probs (reading place (((4 * more + 3) ∷ after) ++ rest)) (reading (place + 1) (after ++ rest)) (reading (place + 1 + length after) rest)
+    (prob_at-zeros (length probs) place more (after ++ rest) within)
+    (probs_at-probs_bytes probs more (place + 1) rest (λ s. small (suc s)) (omega arith)))
+    (omega arith)
 probs_at-probs_bytes (suc p ∷ probs) zero place rest small h =
     let own : List ℕ = prob_bytes (suc p) in
     let after : List ℕ = probs_bytes 0 probs in
     let l : length (own ++ after) ≡ length own + length after = length-append own after in
     ap (λ xs. probs_at (suc (length probs)) 0 (reading place xs)) (append_assoc own after rest)
     ∙ moved (suc p ∷ probs) (place + length own + length after) (place + length (own ++ after)) rest _
-      (probs_at-step (length probs) 0 (suc p) 0 probs (reading place (own ++ (after ++ rest))) (reading (place + length own) (after ++ rest)) (reading (place + length own + length after) rest)
-        (prob_at-prob_bytes (length probs) place (suc p) (after ++ rest) (small 0))
-        (probs_at-probs_bytes probs 0 (place + length own) rest (λ s. small (suc s)) (omega arith)))
-      (omega arith)
+    (probs_at-step (length probs) 0 (suc p) 0 probs (reading place (own ++ (after ++ rest))) (reading (place + length own) (after ++ rest)) (reading (place + length own + length after) rest)
+    (prob_at-prob_bytes (length probs) place (suc p) (after ++ rest) (small 0))
+    (probs_at-probs_bytes probs 0 (place + length own) rest (λ s. small (suc s)) (omega arith)))
+    (omega arith)
 probs_at-probs_bytes (zero ∷ probs) (suc run) place rest small h =
     probs_at-step (length probs) (suc run) 0 run probs (reading place (probs_bytes run probs ++ rest)) (reading place (probs_bytes run probs ++ rest)) (reading (place + length (probs_bytes run probs)) rest)
-      refl
-      (probs_at-probs_bytes probs run place rest (λ s. small (suc s)) (omega arith))
+    refl
+    (probs_at-probs_bytes probs run place rest (λ s. small (suc s)) (omega arith))
 probs_at-probs_bytes (suc p ∷ probs) (suc run) place rest small h = absurd (omega arith)
 
 -- the number of symbols
@@ -146,8 +144,9 @@ count_at-spelling place n rest some few =
 
 small_items : (probs : List ℕ) → sum probs ≤ 2 ^ 20 → (s : ℕ) → get_or probs s 0 < 2 ^ 22
 small_items probs h s = elim (cases_lt s (length probs)) [
-    inl inside ↦ omega (arith, get_or-le-sum_by (λ x. x) probs s 0 inside)
-  | inr past ↦ rw (get_or_past probs s 0 past) (omega arith) ]
+  | inl inside ↦ omega (arith, get_or-le-sum_by (λ x. x) probs s 0 inside)
+  | inr past ↦ rw (get_or_past probs s 0 past) (omega arith)
+]
 
 -- **a written table is read again, whatever follows**
 pub table_at-table_bytes : (bits place : ℕ) (probs rest : List ℕ) → 0 < length probs → length probs ≤ 2 ^ 20 → sum probs ≤ 2 ^ 20 → sum probs ≡ 2 ^ bits →
@@ -159,9 +158,11 @@ table_at-table_bytes bits place probs rest some few small whole =
     let group : table_bytes probs ++ rest ≡ text ++ (body ++ rest) = append_assoc text body rest in
     let l : length (text ++ body) ≡ length text + length body = length-append text body in
     let full : (sum probs == 2 ^ bits) ≡ true = eq-eqb (sum probs) (2 ^ bits) whole in
-    rw group (rw (count_at-spelling place (length probs) (body ++ rest) some few,
-        probs_at-probs_bytes probs 0 (place + length text) rest (small_items probs small) (omega arith))
-      (cond-true _ _ _ full ∙ moved probs (place + length text + length body) (place + length (text ++ body)) rest _ refl (omega arith)))
+    rw group (rw (
+      count_at-spelling place (length probs) (body ++ rest) some few,
+      probs_at-probs_bytes probs 0 (place + length text) rest (small_items probs small) (omega arith),
+    )
+    (cond-true _ _ _ full ∙ moved probs (place + length text + length body) (place + length (text ++ body)) rest _ refl (omega arith)))
 
 pub table_at-Spells : (bits : ℕ) (probs : List ℕ) → 0 < length probs → length probs ≤ 2 ^ 20 → sum probs ≤ 2 ^ 20 → sum probs ≡ 2 ^ bits →
     Spells (table_at bits) (table_bytes probs) probs

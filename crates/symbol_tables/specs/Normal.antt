@@ -1,6 +1,6 @@
 -- The probabilities that are written for counts (this project's choice): each symbol that is used has a slot, the
 -- other slots are shared by the counts, rounded down, and what is left goes to the most frequent symbol.
-use Rattle.std.specs.Prelude.{◌≡◌, ℕ, ◌+◌, ◌-◌, ◌*◌, ◌/◌, ◌^◌, ◌<◌, ◌≤◌, ◌==◌, nat_lt, max, List, fold, map, length, sum, count_by, position, unwrap_or, slice_index, slice_set, if◌then◌else◌}
+use Rattle.std.specs.Prelude.{ℕ, ◌+◌, ◌-◌, ◌*◌, ◌/◌, ◌^◌, ◌<◌, ◌≤◌, ◌==◌, nat_lt, max, List, fold, map, length, sum, count_by, position, unwrap_or, slice_index, slice_set, if◌then◌else◌}
 
 -- how many symbols are used
 abbrev pub used_of : List ℕ → ℕ
@@ -25,7 +25,7 @@ shares counts total = map (share_of (total - used_of counts) (sum counts)) count
 -- the probabilities for these counts, whose sum is 2 ^ bits
 unfoldable pub normal : List ℕ → ℕ → List ℕ
 normal counts bits = let given = shares counts (2 ^ bits) in
-  slice_set given (most_frequent counts) (slice_index given (most_frequent counts) + (2 ^ bits - sum given))
+    slice_set given (most_frequent counts) (slice_index given (most_frequent counts) + (2 ^ bits - sum given))
 
 -- what has a table
 pub record HasTable (counts : List ℕ) (bits : ℕ) : Type 0 where

@@ -1,7 +1,7 @@
 -- Probability tables: a list of probabilities that are numbers of slots, one for each symbol, and how it is
 -- spelled (Draco Bitstream Specification 2.2, section Symbol Decoding). The limit of symbols, the refusal of an
 -- empty table, and which spelling is written are this project's choice.
-use Rattle.std.specs.Prelude.{◌≡◌, ℕ, zero, suc, ◌+◌, ◌-◌, ◌*◌, ◌/◌, ◌%◌, ◌^◌, ◌<◌, ◌≤◌, Bool, ◌==◌, nat_lt, nat_le, min, List, [], ◌∷◌, ◌++◌, length, take, sum, slice_index, Result, Ok, Err, if◌then◌else◌}
+use Rattle.std.specs.Prelude.{◌≡◌, ℕ, zero, suc, ◌+◌, ◌-◌, ◌*◌, ◌/◌, ◌%◌, ◌^◌, ◌<◌, ◌≤◌, ◌==◌, nat_lt, nat_le, min, List, [], ◌∷◌, ◌++◌, length, take, sum, slice_index, Ok, if◌then◌else◌}
 use Rattle.drc_base.specs.declared.kinds.Kind.TheVariants as kind
 use Rattle.drc_base.specs.declared.limits.TheConstants.{MAX_TABLE_SYMBOLS}
 use Rattle.drc_bits.specs.Reading.{◌>>=◌, Reading, Item, must, many_at, fault_at}
@@ -68,8 +68,8 @@ zeros_before (suc p ∷ probs) = 0
 -- a probability in the fewest bytes: its low six bits above the number of the bytes that follow, and these
 unfoldable pub prob_bytes : ℕ → List ℕ
 prob_bytes p = if nat_lt p (2 ^ 6) then 4 * p ∷ []
-  else (if nat_lt p (2 ^ 14) then (4 * (p % 64) + 1) ∷ p / 64 ∷ []
-  else (4 * (p % 64) + 2) ∷ p / 64 % 256 ∷ p / 16384 ∷ [])
+    else (if nat_lt p (2 ^ 14) then (4 * (p % 64) + 1) ∷ p / 64 ∷ []
+    else (4 * (p % 64) + 2) ∷ p / 64 % 256 ∷ p / 16384 ∷ [])
 
 -- probabilities, the first of which are in a run that is spelled already; a run is as long as it can be, at most 64
 unfoldable pub probs_bytes : ℕ → List ℕ → List ℕ

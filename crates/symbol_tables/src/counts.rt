@@ -1,6 +1,6 @@
 //! The table that is written for counts.
 
-ghost use Rattle.std.specs.Prelude.{◌≡◌, ℕ,  ◌+◌, ◌-◌, ◌*◌, ◌/◌, ◌^◌, ◌<◌, ◌≤◌, length, map, sum, count_by, nat_lt, slice_index, slice_set, position, ◌==◌, IfOk};
+ghost use Rattle.std.specs.Prelude.{◌≡◌, ℕ, ◌+◌, ◌-◌, ◌*◌, ◌/◌, ◌^◌, ◌<◌, ◌≤◌, length, map, sum, count_by, nat_lt, slice_index, slice_set, position, ◌==◌, IfOk};
 ghost use Rattle.symbol_tables.specs.Normal.{HasTable, greatest_of, most_frequent, normal, share_of, shares, used_of};
 
 use crate::table::Table;
@@ -27,7 +27,9 @@ fn total_of(counts: &[u32]) -> u32
 fn greatest_in(counts: &[u32]) -> u32
     ensures { result ≡ greatest_of counts.now }
 {
-    counts.iter().fold(0, |most, n| if *n > most { *n } else { most })
+    counts
+        .iter()
+        .fold(0, |most, n| if *n > most { *n } else { most })
 }
 
 /// The first symbol with this count.

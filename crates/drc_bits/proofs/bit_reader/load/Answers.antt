@@ -1,4 +1,4 @@
-use Rattle.std.proofs.Common.{◌≡◌, ℕ, ◌+◌, ◌*◌, ◌^◌, ◌<◌, get_or, refl, arith}
+use Rattle.std.proofs.Common.{ℕ, ◌+◌, get_or, refl, arith}
 use Rattle.drc_bits.proofs.Loading.{loaded_byte, loaded_word}
 use Rattle.drc_bits.proofs.bit_reader.load.Goals as goal
 

@@ -1,4 +1,4 @@
-use Rattle.std.proofs.Common.{ap, ◌∙◌, arith, ◌≡◌, ◌^◌, ◌%◌, ◌*◌, ◌-◌, ℕ, bit_and}
+use Rattle.std.proofs.Common.{ap, ◌∙◌, arith, ◌≡◌, ◌^◌, ◌%◌, ◌*◌, ◌-◌, bit_and}
 use Rattle.std.proofs.lemmas.Nat.{and_mask, one_shl}
 use Rattle.drc_bits.proofs.bit_reader.low_part.Goals as goal
 

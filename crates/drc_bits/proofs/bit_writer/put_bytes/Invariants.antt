@@ -1,4 +1,4 @@
-use Rattle.std.proofs.Common.{◌≡◌, ℕ, ◌+◌, ◌-◌, ◌++◌, vec_len, vec_capacity}
+use Rattle.std.proofs.Common.{◌≡◌, ◌+◌, ◌-◌, ◌++◌, vec_len, vec_capacity}
 use Rattle.drc_bits.specs.Bits.{low_bytes}
 use Rattle.drc_bits.proofs.bit_writer.put_bytes.Given as goal
 

@@ -1,4 +1,4 @@
-use Rattle.std.proofs.Common.{◌≡◌, ℕ, ◌<◌, ◌^◌, arith}
+use Rattle.std.proofs.Common.{arith}
 use Rattle.drc_bits.proofs.Buffers.{or_above, sum_fits}
 use Rattle.drc_bits.proofs.bit_writer.with_number.Goals as goal
 

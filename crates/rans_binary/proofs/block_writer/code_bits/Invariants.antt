@@ -1,5 +1,5 @@
-use Rattle.std.proofs.Common.{◌≡◌, ℕ, ◌+◌, ◌-◌, ◌*◌, ◌^◌, ◌<◌, ◌≤◌, length, drop, map, reverse, vec_len}
-use Rattle.rans_core.specs.Coder.{State, all_pushed}
+use Rattle.std.proofs.Common.{◌≡◌, ◌-◌, ◌^◌, ◌<◌, ◌≤◌, drop, map, reverse, vec_len}
+use Rattle.rans_core.specs.Coder.{all_pushed}
 use Rattle.rans_binary.specs.Blocks.{interval_of}
 use Rattle.rans_binary.proofs.block_writer.code_bits.Given as goal
 

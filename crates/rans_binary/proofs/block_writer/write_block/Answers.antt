@@ -1,4 +1,4 @@
-use Rattle.std.proofs.Common.{◌≡◌, ℕ, ◌<◌, ◌^◌, ◌++◌, length, vec_len, ap, ◌∙◌, sym, subst, arith, rules}
+use Rattle.std.proofs.Common.{◌≡◌, ◌<◌, ◌^◌, length, subst, arith, rules}
 use Rattle.rans_binary.specs.Blocks.{block, coded_bits, zeros_for}
 use Rattle.rans_binary.proofs.Again.{block-again}
 use Rattle.rans_binary.proofs.block_writer.write_block.Goals as goal

@@ -1,4 +1,4 @@
-use Rattle.std.proofs.Common.{◌≡◌, ℕ, ◌≤◌, sum, subst, sym, ap, arith}
+use Rattle.std.proofs.Common.{◌≡◌, arith}
 use Rattle.std.proofs.lemmas.Grind.{common_steps}
 use Rattle.symbol_tables.specs.Normal.{shares}
 use Rattle.symbol_tables.proofs.Sharing.{shares-sum}

@@ -1,5 +1,5 @@
-use Rattle.std.proofs.Common.{◌≡◌, ℕ, ◌<◌, ◌-◌, length, sum, take, map}
-use Rattle.symbol_tables.specs.Normal.{share_of, used_of}
+use Rattle.std.proofs.Common.{◌≡◌, take, map}
+use Rattle.symbol_tables.specs.Normal.{share_of}
 use Rattle.symbol_tables.proofs.counts.shares_of.Given as goal
 
 abbrev pub invariant-loop-n : goal.invariant-loop-n

@@ -1,4 +1,4 @@
-use Rattle.std.proofs.Common.{◌≡◌, ℕ, ◌<◌, ◌-◌, ◌^◌, length, get_or}
+use Rattle.std.proofs.Common.{◌≡◌, ◌-◌, length}
 use Rattle.drc_bits.proofs.Many.{with_front}
 use Rattle.symbol_tables.specs.Tables.{probs_at}
 use Rattle.symbol_tables.proofs.reading.read_probs.Given as goal

@@ -1,4 +1,4 @@
-use Rattle.std.proofs.Common.{◌≡◌, ℕ, ◌<◌, ◌≤◌, ◌*◌, ◌^◌, length, sum, take}
+use Rattle.std.proofs.Common.{◌≡◌, ◌≤◌, ◌*◌, ◌^◌, sum, take}
 use Rattle.symbol_tables.proofs.reading.total_of.Given as goal
 
 abbrev pub invariant-loop-prob : goal.invariant-loop-prob

@@ -1,4 +1,4 @@
-use Rattle.std.proofs.Common.{◌≡◌, ℕ, ◌+◌, ◌-◌, ◌≤◌, min, drop}
+use Rattle.std.proofs.Common.{◌≡◌, ◌+◌, ◌≤◌, drop}
 use Rattle.symbol_tables.specs.Tables.{zeros_before}
 use Rattle.symbol_tables.proofs.writing.run_from.Given as goal
 

@@ -1,4 +1,4 @@
-use Rattle.std.proofs.Common.{◌≡◌, ℕ, ◌++◌, [], ap, sym, ◌∙◌, append-nil}
+use Rattle.std.proofs.Common.{◌++◌, ap, sym, ◌∙◌, append-nil}
 use Rattle.symbol_tables.proofs.Spelling.{probs_bytes-end}
 use Rattle.symbol_tables.proofs.writing.spell_probs.Goals as goal
 

@@ -1,4 +1,4 @@
-use Rattle.std.proofs.Common.{◌≡◌, ℕ, ◌+◌, ◌-◌, ◌≤◌, ◌++◌, drop}
+use Rattle.std.proofs.Common.{◌≡◌, ◌≤◌, ◌++◌, drop}
 use Rattle.symbol_tables.specs.Tables.{probs_bytes}
 use Rattle.symbol_tables.proofs.writing.spell_probs.Given as goal
 

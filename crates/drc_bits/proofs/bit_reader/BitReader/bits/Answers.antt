@@ -1,5 +1,5 @@
-use Rattle.std.proofs.Common.{◌≡◌, ℕ, ◌-◌, ◌*◌, ◌/◌, ◌%◌, ◌^◌, ◌<◌, ◌≤◌, sym, ap, ◌∙◌, Option, Some, None}
-use Rattle.drc_bits.specs.Bits.{BitPlace, HasBuffer, next_bits, after_bits}
+use Rattle.std.proofs.Common.{◌≡◌, ℕ, ◌-◌, ◌*◌, sym, ap, ◌∙◌, Some}
+use Rattle.drc_bits.specs.Bits.{next_bits, after_bits}
 use Rattle.drc_bits.proofs.Loading.{placed, bits_there, bits_short, buffer_after}
 use Rattle.drc_bits.proofs.bit_reader.BitReader.bits.Goals as goal
 use Rattle.drc_bits.proofs.bit_reader.BitReader.bits.Goals.{After-filled-buffer}

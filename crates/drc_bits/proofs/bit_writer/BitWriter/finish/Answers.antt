@@ -1,5 +1,5 @@
-use Rattle.std.proofs.Common.{◌≡◌, ℕ, ◌+◌, ◌-◌, ◌*◌, ◌^◌, ◌<◌, ◌++◌, ◌∙◌, arith, rules, List, length, replicate, sym, ap}
-use Rattle.drc_bits.specs.Bits.{bits_of, bytes_for, low_bytes, packed}
+use Rattle.std.proofs.Common.{◌≡◌, ◌++◌, ◌∙◌, rules, ap}
+use Rattle.drc_bits.specs.Bits.{bytes_for, low_bytes}
 use Rattle.drc_bits.proofs.Packing.{IsBytes-front, finished, finished_bits}
 use Rattle.drc_bits.proofs.bit_writer.BitWriter.finish.Goals as goal
 use Rattle.drc_bits.proofs.bit_writer.BitWriter.finish.Goals.{After-put_bytes}

@@ -1,4 +1,4 @@
-use Rattle.std.proofs.Common.{refl, ◌++◌, []}
+use Rattle.std.proofs.Common.{refl}
 use Rattle.drc_bits.specs.Bits.{bits_of, low_bits}
 use Rattle.drc_bits.proofs.bit_writer.BitWriter.new.Goals as goal
 

@@ -1,4 +1,4 @@
-use Rattle.std.proofs.Common.{◌≡◌, ℕ, ◌+◌, ◌-◌, ◌*◌, ◌/◌, ◌^◌, ◌<◌, ◌≤◌, ◌++◌, ◌∙◌, ap, subst, arith}
+use Rattle.std.proofs.Common.{◌+◌, ◌-◌, ◌^◌, ◌<◌, ◌++◌, ◌∙◌, ap, subst, arith, length}
 use Rattle.std.proofs.lemmas.Nat.{shr_below}
 use Rattle.drc_bits.specs.Bits.{bits_of, low_bits}
 use Rattle.drc_bits.proofs.Packing.{put_above, put_out}
@@ -16,14 +16,14 @@ invariant_of-self-2 c = (
   omega (arith, c.self.invariant),
   shr_below c.with_number-buffer.result (c.self.inside.count + c.args.n - 32) 32
       (subst (λ k. c.with_number-buffer.result < 2 ^ k) (omega arith) c.with_number-buffer.ensures.fits),
-  omega (arith, c.self.invariant, c.in_ok-reserve.ensures.ok),
+  omega (arith, c.self.invariant, c.in_ok-reserve.ensures.ok, c.in_ok-extend_from_slice.ensures.len, ap length c.word_bytes.ensures, c.in_ok-extend_from_slice.ensures.capacity),
 )
 
 pub returns-clause-ok : goal.returns-clause-ok
 returns-clause-ok c =
     rw (← c.self.view_is)
-    (put_out c.reserve.new.self.items c.put_bytes.new.bytes.items (c.self.inside.count + c.args.n) c.with_number-buffer.result
-    c.if-count-lt32.false c.put_bytes.ensures.items
+    (put_out c.reserve.new.self.items c.extend_from_slice.new.self.items (c.self.inside.count + c.args.n) c.with_number-buffer.result
+    c.if-count-lt32.false (c.in_ok-extend_from_slice.ensures.items ∙ ap (λ zs. c.reserve.new.self.items ++ zs) c.word_bytes.ensures)
     ∙ ap (λ zs. bits_of zs ++ low_bits (c.self.inside.count + c.args.n) c.with_number-buffer.result) c.in_ok-reserve.ensures.items
     ∙ put_above (bits_of c.self.inside.bytes.items) c.self.inside.count c.args.n c.self.inside.buffer c.args.value c.with_number-buffer.result
     c.self.invariant.1 c.with_number-buffer.ensures.sum)

@@ -1,4 +1,3 @@
-use Rattle.std.proofs.Common.{◌≡◌, ℕ}
 use Rattle.rans_core.specs.Coder.{unread}
 use Rattle.rans_binary.proofs.Bits.{after_bit-is}
 use Rattle.rans_binary.proofs.block_reader.BitBlock.next.Goals as goal

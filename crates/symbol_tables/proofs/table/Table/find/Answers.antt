@@ -1,4 +1,4 @@
-use Rattle.std.proofs.Common.{◌≡◌, ◌∙◌, sym, get_or}
+use Rattle.std.proofs.Common.{◌∙◌, sym, get_or}
 use Rattle.symbol_tables.proofs.Symbols.{symbol_of-is}
 use Rattle.symbol_tables.proofs.table.Table.find.Goals as goal
 

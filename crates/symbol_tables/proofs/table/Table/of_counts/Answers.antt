@@ -34,4 +34,4 @@ returns-clause-len c =
 pub returns-clause-used : goal.returns-clause-used
 returns-clause-used c =
     IfOk-weaker c.build.result (λ t. t ≡ c.in_ok-probs.probs.items) (λ t. (s : ℕ) → 0 < get_or c.args.counts.now s 0 → 0 < get_or t s 0)
-      (λ t e s h. subst (λ (xs : List ℕ). 0 < get_or xs s 0) (sym (e ∙ c.in_ok-probs.ensures)) (normal-positive c.args.counts.now c.args.bits s h)) c.build.ensures
+    (λ t e s h. subst (λ (xs : List ℕ). 0 < get_or xs s 0) (sym (e ∙ c.in_ok-probs.ensures)) (normal-positive c.args.counts.now c.args.bits s h)) c.build.ensures
