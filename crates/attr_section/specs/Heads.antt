@@ -1,6 +1,6 @@
 -- The heads of attribute decoders (Draco Bitstream Specification 2.2, sections "Attributes Decoder" and "Sequential
 -- Attributes"; the limits and what is refused are this project's choice).
-use Rattle.std.specs.Prelude.{ℕ, ◌+◌, ◌==◌, ◌&&◌, ◌||◌, Bool, false, not, List, [], ◌∷◌, ◌++◌, length, map, replicate, Option, None, Some, Ok, sum_by, nat_le, nat_lt, if◌then◌else◌, flat_map}
+use Rattle.std.specs.Prelude.{◌≡◌, ◌≤◌, ◌<◌, ℕ, ◌+◌, ◌==◌, ◌&&◌, ◌||◌, Bool, false, not, IsTrue, List, [], ◌∷◌, ◌++◌, length, map, replicate, Option, None, Some, Ok, sum_by, nat_le, nat_lt, if◌then◌else◌, All, flat_map}
 use Rattle.std.specs.List.{list_any, range_with_len}
 use Rattle.drc_base.specs.declared.kinds.Kind.TheVariants as kind
 use Rattle.drc_base.specs.declared.limits.TheConstants.{MAX_ATTRIBUTES, MAX_COMPONENTS}
@@ -8,6 +8,7 @@ use Rattle.mesh_model.specs.declared.heads.Head.{Head}
 use Rattle.drc_bits.specs.Reading.{◌>>=◌, Reading, Item, must, many_at}
 use Rattle.drc_bits.specs.Numbers.{number_at}
 use Rattle.drc_bits.specs.Varint.{var32_at, spelling}
+use Rattle.drc_bits.specs.Spells.{Spells}
 use Rattle.attr_section.specs.declared.decoder_heads.DecoderHead.{DecoderHead}
 use Rattle.attr_section.specs.declared.links.Link.{Link}
 use Rattle.attr_section.specs.Each.{each_at}
@@ -128,8 +129,64 @@ head_bytes h = h.usage ∷ h.dtype ∷ h.comps ∷ h.normalized ∷ spelling 5 h
 
 -- the bytes of a decoder's heads: their number, the heads, their codings
 abbrev pub decoder_bytes : DecoderHead → List ℕ
-decoder_bytes d = spelling 5 (length d.heads) ++ flat_map head_bytes d.heads ++ map (λ h. coding_of h.dtype) d.heads
+decoder_bytes d = spelling 5 (length d.heads) ++ (flat_map head_bytes d.heads ++ map (λ h. coding_of h.dtype) d.heads)
+
+-- the bytes of the links, which stand under Edgebreaker alone
+abbrev pub links_bytes : Bool → List DecoderHead → List ℕ
+links_bytes eb decoders = if eb then flat_map link_bytes decoders else []
 
 -- the bytes of the heads of all decoders, with their links under Edgebreaker
 unfoldable pub heads_bytes : Bool → List DecoderHead → List ℕ
-heads_bytes eb decoders = (length decoders ∷ []) ++ (if eb then flat_map link_bytes decoders else []) ++ flat_map decoder_bytes decoders
+heads_bytes eb decoders = length decoders ∷ links_bytes eb decoders ++ flat_map decoder_bytes decoders
+
+-- a head without its quantisation
+abbrev pub bare_head : Head → Head
+bare_head h = record h { quant = None }
+
+-- a decoder without the quantisations of its heads
+abbrev pub bare_decoder : DecoderHead → DecoderHead
+bare_decoder d = record d { heads = map bare_head d.heads }
+
+-- the link of a decoder
+abbrev pub link_of : DecoderHead → Link
+link_of d = record { data_id = d.data_id; corner = d.corner }
+
+-- a head that is accepted
+pub record HeadPasses (h : Head) : Type 0 where
+  pub usage : h.usage ≤ 4
+  pub dtype : IsTrue (is_type h.dtype)
+  pub some : 1 ≤ h.comps
+  pub few : h.comps ≤ MAX_COMPONENTS
+
+-- a decoder whose heads are accepted, and whose walk is depth first
+pub record DecoderPasses (d : DecoderHead) : Type 0 where
+  pub some : 0 < length d.heads
+  pub heads : All HeadPasses d.heads
+  pub depth_first : d.degree ≡ false
+
+-- decoders whose heads are accepted
+pub record DecodersPass (decoders : List DecoderHead) : Type 0 where
+  pub some : 0 < length decoders
+  pub few : attributes_of decoders ≤ MAX_ATTRIBUTES
+  pub each : All DecoderPasses decoders
+
+-- behind these links a decoder's link is accepted beside so many attribute data
+pub record LinkPasses (attr_data : ℕ) (before : List Link) (d : DecoderHead) : Type 0 where
+  pub has : d.data_id ≡ Some (id_byte d.data_id)
+  pub known : IsTrue (is_known_id attr_data (id_byte d.data_id))
+  pub unused : is_used_id before (id_byte d.data_id) ≡ false
+  pub vertex : id_byte d.data_id ≡ position_id → d.corner ≡ false
+
+-- behind these links each decoder's link is accepted
+abbrev pub LinksPass : ℕ → List Link → List DecoderHead → Type 0
+LinksPass attr_data before [] = Unit {0}
+LinksPass attr_data before (d ∷ decoders) = LinkPasses attr_data before d × LinksPass attr_data (before ++ link_of d ∷ []) decoders
+
+-- the links are those of a sequential stream, or are accepted beside so many attribute data
+abbrev pub AreLinked : Option ℕ → List DecoderHead → Type 0
+AreLinked None decoders = map link_of decoders ≡ replicate (length decoders) no_link
+AreLinked (Some attr_data) decoders = LinksPass attr_data [] decoders
+
+-- a decoder is read back behind others
+pub record DecoderSpelled (d : DecoderHead) : Type 0 where
+  pub behind : (before : ℕ) → before + length d.heads ≤ MAX_ATTRIBUTES → Spells (decoder_at before (link_of d)) (decoder_bytes d) (bare_decoder d)

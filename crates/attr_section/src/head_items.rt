@@ -1,6 +1,6 @@
 //! The head of an attribute and its coding.
 
-ghost use Rattle.std.specs.Prelude.{◌≡◌, ◌≤◌, IfOk, length, map};
+ghost use Rattle.std.specs.Prelude.{◌≡◌, ◌<◌, IfOk, All, length, map};
 ghost use Rattle.drc_bits.specs.Reading.{Reads, Gives, many_at};
 ghost use Rattle.attr_section.specs.Heads.{is_type, head_at, coding_of, coding_at, codings_at};
 
@@ -22,7 +22,8 @@ fn is_type(dtype: u8) -> bool
 /// The head of an attribute, without a quantisation.
 #[tactic(auto, unfolding(crate::specs::Heads::head_at))]
 fn read_head(c: &mut Cursor<'_>) -> Result<Head, Fault>
-    ensures { Reads (λ h. h) (head_at c.old) c.new result }
+    ensures item { Reads (λ h. h) (head_at c.old) c.new result }
+    ensures some { IfOk result (λ h. 0 < h.comps) }
 {
     let at = c.place();
     let usage = c.get_u8()?;
@@ -64,6 +65,7 @@ fn read_head(c: &mut Cursor<'_>) -> Result<Head, Fault>
 pub fn read_attributes(alloc: Global, c: &mut Cursor<'_>, n: u32) -> Result<Vec<Head>, Refusal>
     ensures item { Gives (λ v. v.items) (many_at head_at n c.old) c.new result }
     ensures len { IfOk result (λ v. length v.items ≡ n) }
+    ensures some { IfOk result (λ v. All (λ h. 0 < h.comps) v.items) }
 {
     let mut heads = Vec::new(alloc);
     for _number in 0..n {

@@ -1,8 +1,8 @@
 //! Reading the heads of attribute decoders.
 
-ghost use Rattle.std.specs.Prelude.{◌≡◌, ◌≤◌, ◌+◌, IfOk, length};
+ghost use Rattle.std.specs.Prelude.{◌≡◌, ◌≤◌, ◌<◌, ◌+◌, IfOk, All, length};
 ghost use Rattle.drc_bits.specs.Reading.{Reads, Gives};
-ghost use Rattle.attr_section.specs.Heads.{decoder_count_at, attribute_count_at, decoder_at, decoders_at, heads_at};
+ghost use Rattle.attr_section.specs.Heads.{decoder_count_at, attribute_count_at, decoder_at, attributes_of, decoders_at, heads_at};
 
 use crate::decoder_heads::DecoderHead;
 use crate::head_items::{read_attributes, read_codings};
@@ -68,6 +68,7 @@ fn read_decoder_head(
     requires { before ≤ 16 }
     ensures item { Gives (λ d. d) (decoder_at before link c.old) c.new result }
     ensures few { IfOk result (λ d. before + length d.heads ≤ 16) }
+    ensures some { IfOk result (λ d. All (λ h. 0 < h.comps) d.heads) }
 {
     let n = read_attribute_count(c, before)?;
     let heads = read_attributes(alloc, c, n)?;
@@ -86,7 +87,9 @@ fn read_linked_decoders(
     c: &mut Cursor<'_>,
     links: &[Link],
 ) -> Result<Vec<DecoderHead>, Refusal>
-    ensures { Gives (λ v. v.items) (decoders_at links.now c.old) c.new result }
+    ensures item { Gives (λ v. v.items) (decoders_at links.now c.old) c.new result }
+    ensures few { IfOk result (λ v. attributes_of v.items ≤ MAX_ATTRIBUTES) }
+    ensures some { IfOk result (λ v. All (λ d. All (λ h. 0 < h.comps) d.heads) v.items) }
 {
     let mut attributes: u32 = 0;
     let mut decoders = Vec::new(alloc);
@@ -110,7 +113,9 @@ pub fn read_heads(
     c: &mut Cursor<'_>,
     attr_data: Option<u8>,
 ) -> Result<Vec<DecoderHead>, Refusal>
-    ensures { Gives (λ v. v.items) (heads_at attr_data c.old) c.new result }
+    ensures item { Gives (λ v. v.items) (heads_at attr_data c.old) c.new result }
+    ensures few { IfOk result (λ v. attributes_of v.items ≤ MAX_ATTRIBUTES) }
+    ensures some { IfOk result (λ v. All (λ d. All (λ h. 0 < h.comps) d.heads) v.items) }
 {
     let n = read_decoder_count(c)?;
     let links = read_links(alloc, c, attr_data, n)?;

@@ -7,7 +7,16 @@
 mod decoder_heads;
 mod head_items;
 mod head_reading;
+mod head_writing;
+mod integers;
 mod links;
+mod quants;
+mod types;
+mod value_reading;
+mod values;
 
 pub use decoder_heads::DecoderHead;
 pub use head_reading::read_heads;
+pub use head_writing::write_heads;
+pub use value_reading::read_decoder;
+pub use values::Values;
