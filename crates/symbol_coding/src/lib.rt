@@ -11,3 +11,6 @@ mod writing;
 
 pub use reading::read_symbols;
 pub use writing::write_symbols;
+
+#[cfg(test)]
+mod tests;
