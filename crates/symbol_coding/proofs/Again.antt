@@ -1,26 +1,26 @@
 -- A written block is read again, whatever follows it.
-use Rattle.std.proofs.Common.{◌≡◌, ℕ, zero, suc, ◌+◌, ◌-◌, ◌*◌, ◌/◌, ◌%◌, ◌^◌, ◌<◌, ◌≤◌, ◌==◌, nat_lt, nat_le, min, max, Bool, true, false, ◌&&◌, All, List, [], ◌∷◌, ◌++◌, length, take, drop, map, sum, get_or, replicate, Result, Ok, Err, Option, Some, None, sym, refl, ap, ◌∙◌, subst, inl, inr, arith, append_assoc, append-nil, lt-ltb, le-ltb, le-leb, ne_eqb, length-append, drop_at, length-take-le, take_all, pow_mono, pow_pos, le_trans, if◌then◌else◌}
-use Rattle.std.proofs.lemmas.Bool.{cases_lt, cases_Bool, cond-true, cond-false, true≢false}
-use Rattle.std.proofs.lemmas.List.{get_or-map, length-drop, length-map, length-take, take-append-drop}
+use Rattle.std.proofs.Common.{◌≡◌, ℕ, zero, suc, ◌+◌, ◌-◌, ◌*◌, ◌/◌, ◌%◌, ◌^◌, ◌<◌, ◌≤◌, nat_lt, nat_le, Bool, true, ◌&&◌, All, List, [], ◌∷◌, ◌++◌, length, take, drop, map, sum, get_or, Ok, Some, sym, refl, ap, ◌∙◌, subst, inl, inr, arith, append_assoc, append-nil, le-leb, ne_eqb, length-append, length-take-le, take_all, pow_mono}
+use Rattle.std.proofs.lemmas.Bool.{cases_lt, cond-false}
+use Rattle.std.proofs.lemmas.List.{get_or-map, length-drop, length-map, take-append-drop}
 use Rattle.drc_base.specs.declared.kinds.Kind.TheVariants as kind
-use Rattle.drc_bits.specs.Reading.{◌>>=◌, Reading, Item, must, advanced, bytes_at, fault_at}
+use Rattle.drc_bits.specs.Reading.{must}
 use Rattle.drc_bits.specs.Numbers.{number_at}
-use Rattle.drc_bits.specs.Varint.{var64_at, spelling}
+use Rattle.drc_bits.specs.Varint.{spelling}
 use Rattle.drc_bits.specs.Spells.{Spells}
 use Rattle.drc_bits.specs.Bits.{bits_of, bytes_for, low_bits, number_of, packed, packed_in}
 use Rattle.drc_bits.proofs.Written.{reading, advanced-front, bytes_at-front, number_at-byte, var64_at-spelling}
-use Rattle.drc_bits.proofs.BitLists.{bits_of-append, length-bits_of, length-low_bits}
-use Rattle.rans_core.specs.Coder.{Interval, State, Fits, HasSlot, Pulled, Unpacks, all_spelled, refilled, started}
+use Rattle.drc_bits.proofs.BitLists.{bits_of-append, length-low_bits}
+use Rattle.rans_core.specs.Coder.{State, Fits, Pulled, all_spelled, started}
 use Rattle.rans_core.proofs.Closing.{all_spelled-Unpacks}
-use Rattle.symbol_tables.specs.Tables.{HasSymbol, cum_of, symbol_of, table_at, table_bytes}
-use Rattle.symbol_tables.specs.Normal.{HasTable, greatest_of, normal, used_of}
+use Rattle.symbol_tables.specs.Tables.{table_at, table_bytes}
+use Rattle.symbol_tables.specs.Normal.{HasTable, greatest_of, normal}
 use Rattle.symbol_tables.proofs.Symbols.{symbol_of-is}
 use Rattle.symbol_tables.proofs.Sharing.{normal-length, normal-positive, normal-sum}
 use Rattle.symbol_tables.proofs.Spelling.{table_at-Spells}
-use Rattle.symbol_coding.specs.Symbols.{after_symbol, coded_at, coded_bytes, coded_from, counts_of, full, interval_of, next_symbol, next_symbols}
-use Rattle.symbol_coding.specs.Block.{HasWidths, block_at, block_bytes, is_raw, lengths_of, precision, raw_at, raw_bytes, raw_length, tagged_at, tagged_bytes, value_bits, values_in, widths}
+use Rattle.symbol_coding.specs.Symbols.{coded_at, coded_bytes, counts_of, full, interval_of, next_symbol, next_symbols}
+use Rattle.symbol_coding.specs.Block.{HasWidths, block_at, lengths_of, precision, raw_at, raw_bytes, raw_length, tagged_at, tagged_bytes, value_bits, values_in, widths}
 use Rattle.symbol_coding.proofs.Slots.{within}
-use Rattle.symbol_coding.proofs.Tables.{lengths-whole, positive-below, raw-table, tagged-table, used-positive}
+use Rattle.symbol_coding.proofs.Tables.{positive-below, raw-table, tagged-table, used-positive}
 use Rattle.symbol_coding.proofs.Widths.{length-value_bits, length-lengths_of, values_in-bits, widths-fit}
 
 -- ---- coded symbols

@@ -1,5 +1,5 @@
 -- The number of binary digits, and the precision of a coder.
-use Rattle.std.proofs.Common.{◌≡◌, ℕ, zero, suc, ◌+◌, ◌-◌, ◌*◌, ◌/◌, ◌%◌, ◌^◌, ◌<◌, ◌≤◌, ◌==◌, Bool, true, false, min, max, sym, refl, ap, ◌∙◌, subst, inl, inr, arith, pow-suc, pow_pos, pow_mono, ne_eqb, lt_of_lt_of_le}
+use Rattle.std.proofs.Common.{◌≡◌, ℕ, zero, suc, ◌+◌, ◌*◌, ◌/◌, ◌^◌, ◌<◌, ◌≤◌, min, max, sym, refl, ap, ◌∙◌, subst, inl, inr, arith, pow-suc, pow_pos, pow_mono, ne_eqb}
 use Rattle.std.proofs.lemmas.Bool.{cases_lt, cond-false}
 use Rattle.symbol_coding.specs.Symbols.{digits, digits_in}
 use Rattle.symbol_coding.specs.Block.{precision}

@@ -1,6 +1,5 @@
 -- Worked examples, computed.
-use Rattle.std.proofs.Common.{◌≡◌, [], ◌∷◌, Ok, Err, refl}
-use Rattle.drc_base.specs.declared.kinds.Kind.TheVariants as kind
+use Rattle.std.proofs.Common.{◌≡◌, [], ◌∷◌, Ok, refl}
 use Rattle.drc_bits.specs.Reading.{start_of, many_at}
 use Rattle.drc_bits.specs.Bits.{bits_of, low_bits, packed}
 use Rattle.drc_bits.specs.Varint.{spelling, varint}

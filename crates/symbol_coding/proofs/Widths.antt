@@ -1,10 +1,8 @@
 -- Values of the widths of their groups, and their bits.
-use Rattle.std.proofs.Common.{◌≡◌, ℕ, zero, suc, ◌+◌, ◌-◌, ◌*◌, ◌/◌, ◌%◌, ◌^◌, ◌<◌, ◌≤◌, max, Bool, List, [], ◌∷◌, ◌++◌, length, take, drop, map, flat_map, replicate, sum, get_or, Result, Ok, Err, sym, refl, ap, ◌∙◌, subst, inl, inr, arith, append_assoc, le-ltb, lt-ltb, pow_mono, length-append, get_or-take, take_at, drop_at, add-mul, lt_of_lt_of_le, div-add-mod', mod-eq_of_lt, drop-drop, drop-cons, mul-le-mul_right}
-use Rattle.std.proofs.lemmas.Bool.{cases_lt, cond-false}
+use Rattle.std.proofs.Common.{◌≡◌, ℕ, zero, suc, ◌+◌, ◌-◌, ◌*◌, ◌/◌, ◌%◌, ◌^◌, ◌<◌, ◌≤◌, List, [], ◌∷◌, ◌++◌, length, take, drop, map, replicate, sum, get_or, Ok, sym, refl, ap, ◌∙◌, subst, arith, append_assoc, le-ltb, pow_mono, length-append, take_at, drop_at, add-mul, div-add-mod', mod-eq_of_lt, drop-drop, drop-cons, mul-le-mul_right}
+use Rattle.std.proofs.lemmas.Bool.{cond-false}
 use Rattle.std.proofs.lemmas.List.{length-take, length-drop, length-map, length-replicate, take-append-drop}
-use Rattle.drc_base.specs.declared.faults.Fault.{Fault}
-use Rattle.drc_bits.specs.Reading.{◌>>=◌}
-use Rattle.drc_bits.specs.Bits.{bits_of, low_bits, number_of}
+use Rattle.drc_bits.specs.Bits.{low_bits, number_of}
 use Rattle.drc_bits.proofs.BitLists.{length-low_bits, number_of-low_bits}
 use Rattle.symbol_tables.specs.Normal.{greatest_of}
 use Rattle.symbol_tables.proofs.Symbols.{sum-cons}

@@ -1,11 +1,10 @@
 -- Symbol blocks: values in groups of components, either each a symbol of its own or each group behind its bit length
 -- (Draco Bitstream Specification 2.2, section Symbol Decoding). The refusal of lengths above 32, and which of the two
 -- schemes is written, are this project's choice.
-use Rattle.std.specs.Prelude.{◌≡◌, ℕ, zero, suc, ◌+◌, ◌-◌, ◌*◌, ◌/◌, ◌%◌, ◌^◌, ◌<◌, ◌≤◌, Bool, ◌==◌, ◌&&◌, nat_lt, nat_le, min, max, List, [], ◌∷◌, ◌++◌, map, flat_map, length, take, drop, replicate, sum, Result, Ok, Err, if◌then◌else◌}
+use Rattle.std.specs.Prelude.{ℕ, zero, suc, ◌+◌, ◌*◌, ◌/◌, ◌^◌, ◌<◌, ◌≤◌, Bool, ◌==◌, ◌&&◌, nat_lt, nat_le, min, max, List, [], ◌∷◌, ◌++◌, map, flat_map, length, take, drop, replicate, sum, Result, Ok, Err, if◌then◌else◌}
 use Rattle.drc_base.specs.declared.faults.Fault.{Fault}
-use Rattle.drc_base.specs.declared.kinds.Kind.{Kind}
 use Rattle.drc_base.specs.declared.kinds.Kind.TheVariants as kind
-use Rattle.drc_bits.specs.Reading.{◌>>=◌, Reading, Item, must, fault_at, advanced}
+use Rattle.drc_bits.specs.Reading.{◌>>=◌, Reading, Item, must, advanced}
 use Rattle.drc_bits.specs.Numbers.{number_at}
 use Rattle.drc_bits.specs.Bits.{bits_of, bytes_for, low_bits, number_of, packed}
 use Rattle.symbol_tables.specs.Tables.{count_at, table_at, table_bytes}

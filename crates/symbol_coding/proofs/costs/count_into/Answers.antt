@@ -1,6 +1,6 @@
-use Rattle.std.proofs.Common.{◌≡◌, ◌+◌, ◌<◌, length, arith, ap, ◌∙◌, refl, get_or, take}
+use Rattle.std.proofs.Common.{◌≡◌, ◌+◌, length, arith, ap, ◌∙◌, refl, get_or, take}
 use Rattle.symbol_tables.specs.Normal.{greatest_of}
-use Rattle.symbol_coding.proofs.Counts.{count_in, counted-all, counted-few, counted-next, each-greatest}
+use Rattle.symbol_coding.proofs.Counts.{count_in, counted-all, counted-next, each-greatest}
 use Rattle.symbol_coding.proofs.costs.count_into.Goals as goal
 
 pub bounds-counts-symbol : goal.bounds-counts-symbol

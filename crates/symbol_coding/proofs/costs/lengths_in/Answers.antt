@@ -1,4 +1,4 @@
-use Rattle.std.proofs.Common.{◌≡◌, ◌+◌, ◌-◌, ◌*◌, ◌/◌, length, arith}
+use Rattle.std.proofs.Common.{◌+◌, ◌-◌, ◌*◌, ◌/◌, length, arith}
 use Rattle.symbol_coding.proofs.Widths.{lengths-next}
 use Rattle.symbol_coding.proofs.costs.lengths_in.Goals as goal
 

@@ -1,4 +1,4 @@
-use Rattle.std.proofs.Common.{◌≡◌, ◌+◌, ◌-◌, ◌*◌, length, take, drop, refl, arith}
+use Rattle.std.proofs.Common.{◌+◌, ◌-◌, ◌*◌, drop, refl, arith}
 use Rattle.std.proofs.lemmas.List.{length-take}
 use Rattle.symbol_coding.proofs.Widths.{HasWidths-next, get-take, put-group}
 use Rattle.symbol_coding.proofs.writing.put_values.Goals as goal

@@ -1,4 +1,4 @@
-use Rattle.std.proofs.Common.{◌≡◌, ◌^◌, ◌<◌, ◌≤◌, ap, sym, ◌∙◌, arith, subst}
+use Rattle.std.proofs.Common.{◌^◌, ◌<◌, ◌≤◌, arith, subst}
 use Rattle.symbol_tables.specs.Normal.{greatest_of}
 use Rattle.symbol_coding.specs.Block.{raw_cost, tagged_cost}
 use Rattle.symbol_coding.proofs.Tables.{is-raw, lengths-few, lengths-most, not-raw-costly, not-raw-large}

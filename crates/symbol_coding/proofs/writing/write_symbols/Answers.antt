@@ -1,4 +1,4 @@
-use Rattle.std.proofs.Common.{◌≡◌, ◌<◌, ◌≤◌, ◌^◌, length, arith, rules}
+use Rattle.std.proofs.Common.{◌<◌, ◌^◌, length, arith}
 use Rattle.symbol_coding.proofs.Again.{none-again, raw-again, tagged-again}
 use Rattle.symbol_coding.proofs.writing.write_symbols.Goals as goal
 

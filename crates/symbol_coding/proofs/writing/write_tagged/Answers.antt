@@ -1,4 +1,4 @@
-use Rattle.std.proofs.Common.{◌≡◌, length, sym, subst, ap, arith, ◌∙◌}
+use Rattle.std.proofs.Common.{sym, subst, arith, ◌∙◌}
 use Rattle.symbol_coding.specs.Block.{HasWidths, widths}
 use Rattle.symbol_coding.proofs.Widths.{widths-fit}
 use Rattle.symbol_coding.proofs.Tables.{lengths-few, lengths-whole, tagged-table, used-positive}
