@@ -1,6 +1,6 @@
 -- The symbols of slots.
-use Rattle.std.proofs.Common.{◌≡◌, ℕ, zero, suc, ◌+◌, ◌%◌, ◌^◌, ◌<◌, ◌≤◌, List, [], ◌∷◌, length, take, sum, get_or, arith, sym, ap, subst, ◌∙◌, refl, mod-lt, pow_pos, ◌-◌, ◌++◌, append_assoc, append-nil}
-use Rattle.rans_core.specs.Coder.{Coder, Interval, pulled, refilled_coder}
+use Rattle.std.proofs.Common.{◌≡◌, ℕ, zero, suc, ◌+◌, ◌%◌, ◌^◌, ◌<◌, ◌≤◌, List, [], ◌∷◌, length, take, sum, get_or, arith, sym, ap, subst, ◌∙◌, mod-lt, pow_pos, ◌-◌, ◌++◌, append_assoc, append-nil}
+use Rattle.rans_core.specs.Coder.{Coder, pulled, refilled_coder}
 use Rattle.symbol_tables.specs.Tables.{HasSymbol, cum_of, symbol_of}
 use Rattle.symbol_tables.proofs.Symbols.{sum-cons, symbol_of-is}
 use Rattle.symbol_coding.specs.Symbols.{after_symbol, interval_of, next_symbol, next_symbols}

@@ -1,6 +1,6 @@
 -- Values of given widths from bits.
-use Rattle.std.proofs.Common.{◌≡◌, ℕ, zero, suc, ◌+◌, ◌-◌, ◌*◌, ◌^◌, ◌<◌, ◌≤◌, nat_le, nat_lt, Bool, true, false, List, [], ◌∷◌, ◌++◌, length, take, drop, replicate, sum, flat_map, Result, Ok, Err, Option, Some, if◌then◌else◌, None, sym, refl, ap, ◌∙◌, subst, inl, inr, arith, append_assoc, append-nil, ltb-true, ltb-false, lt-ltb, le-ltb, leb-true, leb-false, length-drop, drop-drop, add-mul}
-use Rattle.std.proofs.lemmas.Bool.{cases_Bool, cond-true, cond-false, true≢false, false≢true}
+use Rattle.std.proofs.Common.{◌≡◌, ℕ, suc, ◌+◌, ◌-◌, ◌*◌, ◌<◌, ◌≤◌, nat_le, Bool, true, false, List, [], ◌∷◌, ◌++◌, length, take, drop, replicate, sum, Result, Ok, Err, Option, Some, if◌then◌else◌, None, sym, refl, ap, ◌∙◌, arith, append_assoc, append-nil, lt-ltb, le-ltb, leb-true, leb-false, length-drop, drop-drop, add-mul}
+use Rattle.std.proofs.lemmas.Bool.{cond-true, cond-false, true≢false, false≢true}
 use Rattle.std.proofs.lemmas.List.Sums.{sum_by-append}
 use Rattle.std.proofs.lemmas.List.Folds.{sum_by-replicate}
 use Rattle.drc_base.specs.declared.faults.Fault.{Fault}

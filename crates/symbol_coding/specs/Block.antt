@@ -1,11 +1,10 @@
 -- Symbol blocks: values in groups of components, either each a symbol of its own or each group behind its bit length
 -- (Draco Bitstream Specification 2.2, section Symbol Decoding). The refusal of lengths above 32, and which of the two
 -- schemes is written, are this project's choice.
-use Rattle.std.specs.Prelude.{◌≡◌, ℕ, zero, suc, ◌+◌, ◌-◌, ◌*◌, ◌/◌, ◌%◌, ◌^◌, ◌<◌, ◌≤◌, Bool, ◌==◌, ◌&&◌, nat_lt, nat_le, min, max, List, [], ◌∷◌, ◌++◌, map, flat_map, length, take, drop, replicate, sum, Result, Ok, Err, if◌then◌else◌}
+use Rattle.std.specs.Prelude.{ℕ, zero, suc, ◌+◌, ◌*◌, ◌/◌, ◌^◌, ◌<◌, ◌≤◌, Bool, ◌==◌, ◌&&◌, nat_lt, nat_le, min, max, List, [], ◌∷◌, ◌++◌, map, flat_map, length, take, drop, replicate, sum, Result, Ok, Err, if◌then◌else◌}
 use Rattle.drc_base.specs.declared.faults.Fault.{Fault}
-use Rattle.drc_base.specs.declared.kinds.Kind.{Kind}
 use Rattle.drc_base.specs.declared.kinds.Kind.TheVariants as kind
-use Rattle.drc_bits.specs.Reading.{◌>>=◌, Reading, Item, must, fault_at, advanced}
+use Rattle.drc_bits.specs.Reading.{◌>>=◌, Reading, Item, must, advanced}
 use Rattle.drc_bits.specs.Numbers.{number_at}
 use Rattle.drc_bits.specs.Bits.{bits_of, bytes_for, low_bits, number_of, packed}
 use Rattle.symbol_tables.specs.Tables.{count_at, table_at, table_bytes}
@@ -89,25 +88,40 @@ value_bits [] values = []
 value_bits (w ∷ ws) [] = []
 value_bits (w ∷ ws) (v ∷ vs) = low_bits w v ++ value_bits ws vs
 
+-- each value has a width of at most 32 bits, and fits
+abbrev pub HasWidths : List ℕ → List ℕ → Type 0
+HasWidths [] [] = Unit {0}
+HasWidths [] (v ∷ vs) = ⊥
+HasWidths (w ∷ ws) [] = ⊥
+HasWidths (w ∷ ws) (v ∷ vs) = (w ≤ 32) × (v < 2 ^ w) × HasWidths ws vs
+
+-- what a symbol costs that occurs k times among n
+abbrev pub cost_of_count : ℕ → ℕ → ℕ
+cost_of_count n k = k * digits (n / k)
+
 -- what symbols cost, about, in bits: each as often as it occurs, and eight for each probability
 abbrev pub raw_cost : List ℕ → ℕ
-raw_cost values = sum (map (λ k. k * digits (length values / k)) (counts_of values)) + 8 * (greatest_of values + 1)
+raw_cost values = sum (map (cost_of_count (length values)) (counts_of values)) + 8 * (greatest_of values + 1)
 
--- what groups cost, about, in bits: five for each length, and its values
+-- what a group costs, about, in bits: five for its length, and its values
+abbrev pub cost_of_group : ℕ → ℕ → ℕ
+cost_of_group comps length = 5 + comps * length
+
+-- what groups cost, about, in bits
 abbrev pub tagged_cost : List ℕ → ℕ → ℕ
-tagged_cost values comps = sum (map (λ l. 5 + comps * l) (lengths_of comps values))
+tagged_cost values comps = sum (map (cost_of_group comps) (lengths_of comps values))
 
 -- whether symbols are written: where all values are below 2 ^ 18 and it costs no more
 unfoldable pub is_raw : List ℕ → ℕ → Bool
 is_raw values comps = nat_lt (greatest_of values) (2 ^ 18) && nat_le (raw_cost values) (tagged_cost values comps)
 
--- the bit length of symbols: that of how many are used, from 1 to 18
-unfoldable pub raw_length : List ℕ → ℕ
-raw_length values = max 1 (min 18 (digits (used_of (counts_of values))))
+-- the bit length of symbols with these counts: that of how many are used, from 1 to 18
+abbrev pub raw_length : List ℕ → ℕ
+raw_length counts = max 1 (min 18 (digits (used_of counts)))
 
 -- the bytes of a block whose values are symbols
 unfoldable pub raw_bytes : List ℕ → List ℕ
-raw_bytes values = let length = raw_length values in let probs = normal (counts_of values) (precision length) in
+raw_bytes values = let length = raw_length (counts_of values) in let probs = normal (counts_of values) (precision length) in
     1 ∷ length ∷ table_bytes probs ++ coded_bytes (precision length) probs values
 
 -- the bytes of a block of groups

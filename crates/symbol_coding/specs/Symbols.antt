@@ -1,7 +1,7 @@
 -- Symbols of a coder: each has the slots that a probability table gives it (Draco Bitstream Specification 2.2,
 -- sections Symbol Decoding and Rans Decoding). How often symbols occur, and what that costs, is this project's choice
 -- of an encoder.
-use Rattle.std.specs.Prelude.{◌≡◌, ℕ, zero, suc, ◌+◌, ◌*◌, ◌/◌, ◌%◌, ◌^◌, Bool, ◌==◌, nat_lt, List, [], ◌∷◌, ◌++◌, map, length, slice_index, count_by, Option, Some, None, Ok, if◌then◌else◌}
+use Rattle.std.specs.Prelude.{ℕ, zero, suc, ◌+◌, ◌*◌, ◌/◌, ◌%◌, ◌^◌, ◌==◌, List, [], ◌∷◌, ◌++◌, map, length, slice_index, count_by, Option, Some, None, Ok, if◌then◌else◌}
 use Rattle.std.specs.List.{range_with_len}
 use Rattle.drc_base.specs.declared.kinds.Kind.TheVariants as kind
 use Rattle.drc_bits.specs.Reading.{◌>>=◌, Reading, Item, fault_at, bytes_at}

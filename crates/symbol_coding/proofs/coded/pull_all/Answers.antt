@@ -1,4 +1,4 @@
-use Rattle.std.proofs.Common.{◌≡◌, refl, arith, rules, ap, ◌∙◌}
+use Rattle.std.proofs.Common.{◌≡◌, arith, rules}
 use Rattle.symbol_coding.proofs.Slots.{symbols-end, symbols-next}
 use Rattle.symbol_coding.proofs.coded.pull_all.Goals as goal
 

@@ -1,6 +1,5 @@
-use Rattle.std.proofs.Common.{◌≡◌, ℕ, ◌+◌, ◌*◌, ◌≤◌, length, arith, rules, ap, ◌∙◌, subst}
-use Rattle.drc_bits.specs.Bits.{BitPlace}
-use Rattle.symbol_coding.proofs.Values.{IsTaken, bits-taken, bits-missing, group-next, group-short, taken-more, taken-within}
+use Rattle.std.proofs.Common.{rules}
+use Rattle.symbol_coding.proofs.Values.{bits-taken, bits-missing, group-next, group-short, taken-more, taken-within}
 use Rattle.symbol_coding.proofs.reading.read_group.Goals as goal
 
 pub returns-in-None-clause-values : goal.returns-in-None-clause-values

@@ -1,6 +1,5 @@
-use Rattle.std.proofs.Common.{◌≡◌, ℕ, ◌+◌, ◌*◌, ◌/◌, ◌≤◌, length, sum, arith, rules, ap, sym, refl, ◌∙◌, subst, add-mul}
-use Rattle.drc_bits.specs.Bits.{BitPlace, bytes_for}
-use Rattle.drc_base.specs.declared.faults.Fault.{Fault}
+use Rattle.std.proofs.Common.{◌≡◌, ◌+◌, ◌*◌, ◌≤◌, length, arith, rules, ap, sym, ◌∙◌, subst, add-mul}
+use Rattle.drc_bits.specs.Bits.{bytes_for}
 use Rattle.symbol_coding.proofs.Values.{group-long, group-missing, group-taken, group-values, groups-end, groups-taken, long_of, short_of}
 use Rattle.symbol_coding.proofs.reading.read_groups.Goals as goal
 

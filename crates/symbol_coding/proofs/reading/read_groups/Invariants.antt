@@ -1,4 +1,4 @@
-use Rattle.std.proofs.Common.{◌≡◌, ℕ, ◌+◌, ◌-◌, ◌*◌, ◌≤◌, length, sum, vec_len, vec_capacity}
+use Rattle.std.proofs.Common.{◌≡◌, ◌+◌, ◌-◌, ◌*◌, ◌≤◌, length, sum, vec_len, vec_capacity}
 use Rattle.drc_bits.specs.Bits.{bits_left}
 use Rattle.symbol_coding.specs.Block.{values_in, widths, with_values}
 use Rattle.symbol_coding.specs.Symbols.{next_symbols}
