@@ -10,6 +10,8 @@ mod numbers;
 mod property_writer;
 mod reading;
 mod rows;
+#[cfg(test)]
+mod tests;
 mod writing;
 
 pub use reading::read_ply;
