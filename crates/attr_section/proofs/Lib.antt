@@ -1,3 +1,5 @@
 pub mod Each
 pub mod Spelling
 pub mod Loops
+pub mod SpelledIntegers
+pub mod SpelledValues

@@ -13,6 +13,7 @@ mod links;
 mod quants;
 mod types;
 mod value_reading;
+mod value_writing;
 mod values;
 
 pub use decoder_heads::DecoderHead;
