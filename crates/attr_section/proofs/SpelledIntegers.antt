@@ -1,9 +1,9 @@
 -- Integers that are read back from their bytes.
 use Rattle.std.proofs.Common.{◌≡◌, ℕ, zero, suc, ◌+◌, ◌-◌, ◌*◌, ◌/◌, ◌%◌, ◌^◌, ◌<◌, ◌≤◌, ◌==◌, ◌&&◌, max, Bool, true, false, ℤ, pos, negsuc, ◌-ℤ◌, ◌≤ℤ◌, ◌<ℤ◌, FitsSigned, List, [], ◌∷◌, ◌++◌, length, map, flat_map, nat_lt, nat_le, int_le, int_lt, if◌then◌else◌, Ok, refl, sym, ◌∙◌, ap, subst, inl, inr, append-nil, append_assoc, length-append, unsigned_abs, arith}
-use Rattle.std.specs.Int.{w32, cast_unsigned, cast_signed}
+use Rattle.std.specs.Int.{w32, cast_unsigned, cast_signed, int_min, int_max}
 use Rattle.std.specs.List.{All, fold}
 use Rattle.std.proofs.lemmas.Bool.{cases_lt}
-use Rattle.std.proofs.lemmas.Int.{ints, to_z-of_z}
+use Rattle.std.proofs.lemmas.Int.{ints, to_z-of_z, fold-int_min_bounds, fold-int_max_bounds}
 use Rattle.std.proofs.lemmas.List.{length-map}
 use Rattle.std.proofs.lemmas.List.Elements.{All-head, All-tail, All-cons, All-weaker, All-nil}
 use Rattle.drc_base.specs.declared.kinds.Kind.TheVariants as kind
@@ -149,7 +149,7 @@ Spells-signed x fits =
     unsigned_small (pos n) fits = omega (arith, fits.sfits)
     unsigned_small (negsuc n) fits = omega arith
 
-length-corrections : (f : List ℤ → ℤ) (r : Range) (before values : List ℤ) → length (corrections_behind f r before values) ≡ length values
+pub length-corrections : (f : List ℤ → ℤ) (r : Range) (before values : List ℤ) → length (corrections_behind f r before values) ≡ length values
 unfolding corrections_behind
 length-corrections f r before [] = refl
 length-corrections f r before (v ∷ values) = ap (λ n. suc n) (length-corrections f r (before ++ v ∷ []) values)
@@ -191,3 +191,11 @@ Spells-differences plain comps values integers range back =
       (subst (λ n. Spells (integers_at comps n) (integers_bytes plain comps cs) cs) same integers)
     (subst (λ vs. Spells (λ c. range_at c >>= λ y. Ok (restored (entry_before comps) y.0 cs, y.1)) (range_bytes r) vs) back
       (Spells-map (λ y. restored (entry_before comps) y cs) range_at (range_bytes r) r range)))
+
+-- values lie in their range
+pub range_of-bounds : (values : List ℤ) → All (λ x. ((range_of values).low ≤ℤ x) × (x ≤ℤ (range_of values).high)) values
+range_of-bounds [] = All-nil (λ x. (pos 0 ≤ℤ x) × (x ≤ℤ pos 0))
+range_of-bounds (v ∷ values) =
+    let low = fold-int_min_bounds v values (fold int_min v values) refl in
+    let high = fold-int_max_bounds v values (fold int_max v values) refl in
+    All-cons (λ x. (fold int_min v values ≤ℤ x) × (x ≤ℤ fold int_max v values)) v values (low.0, high.0) (λ k d h. (low.1 k d h, high.1 k d h))

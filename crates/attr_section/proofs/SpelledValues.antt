@@ -19,7 +19,7 @@ use Rattle.attr_section.specs.declared.values.Values.{Values}
 use Rattle.attr_section.specs.Each.{each_at}
 use Rattle.attr_section.specs.Heads.{bare_head, bare_decoder}
 use Rattle.attr_section.specs.Values.{no_prediction, prediction_of, prediction_at, predicted_at, integers_at, differences_at, typed_values_at, values_at, quant_bits_at, quant_at, quant_of_at, quantised_at, values_in, attributes_at, quants_at, decoder_values_at}
-use Rattle.attr_section.specs.Written.{integers_bytes, differences_bytes, values_bytes, quant_bytes, attributes_bytes, quants_bytes, decoder_values_bytes, HasQuant, placed, HaveEntries, ValuesSpelled}
+use Rattle.attr_section.specs.Written.{integers_bytes, differences_bytes, values_bytes, quant_bytes, attributes_bytes, quants_bytes, decoder_values_bytes, HasQuant, QuantFits, placed, HaveEntries, ValuesSpelled}
 use Rattle.attr_section.proofs.Spelling.{Spells-map}
 use Rattle.attr_section.proofs.SpelledIntegers.{Spells-low_bytes, Spells-all}
 
@@ -104,7 +104,7 @@ attributes_spelled plain entries spent front (h ∷ heads) (v ∷ vs) same each 
     values_in-more front v place = grind (arith, common_steps)
 
 -- a quantisation whose numbers have 32 bits
-pub Spells-quant : (comps : ℕ) (q : Quant) → length q.min ≡ comps → All (λ m. m < 256 ^ 4) q.min → q.range < 256 ^ 4 → 1 ≤ q.bits → q.bits ≤ 30
+pub Spells-quant : (comps : ℕ) (q : Quant) → length q.min ≡ comps → All (λ m. m < 2 ^ 32) q.min → q.range < 2 ^ 32 → 1 ≤ q.bits → q.bits ≤ 30
     → Spells (quant_at comps) (flat_map (low_bytes 4) q.min ++ (low_bytes 4 q.range ++ q.bits ∷ [])) q
 unfolding quant_at
 Spells-quant comps q count fit range_fits some few =
@@ -114,16 +114,11 @@ Spells-quant comps q count fit range_fits some few =
       (subst (λ n. Spells (many_at (number_at 4) n) (flat_map (low_bytes 4) q.min) q.min) count
         (subst (λ l. Spells (many_at (number_at 4) (length q.min)) (flat_map (low_bytes 4) q.min) l) (map-id q.min)
           (Spells-all (number_at 4) (low_bytes 4) (λ x. x) q.min
-            (All-weaker (λ m. m < 256 ^ 4) (λ m. Spells (number_at 4) (low_bytes 4 m) m) (λ m fits. Spells-low_bytes 4 m fits) q.min fit))))
+            (All-weaker (λ m. m < 2 ^ 32) (λ m. Spells (number_at 4) (low_bytes 4 m) m) (λ m fits. Spells-low_bytes 4 m (omega (arith, fits))) q.min fit))))
     (Spells-then (number_at 4) (λ r c. quant_bits_at c >>= λ b. Ok (record { bits = b.0; range = r; min = q.min }, b.1))
-      (low_bytes 4 q.range) (q.bits ∷ []) q.range q (Spells-low_bytes 4 q.range range_fits)
+      (low_bytes 4 q.range) (q.bits ∷ []) q.range q (Spells-low_bytes 4 q.range (omega (arith, range_fits)))
     (Spells-map (λ b. record { bits = b; range = q.range; min = q.min }) quant_bits_at (q.bits ∷ []) q.bits
       (Spells-must kind.QuantBits (λ b. nat_le 1 b && nat_le b 30) (number_at 1) (q.bits ∷ []) q.bits bits (Spells-byte q.bits))))
-
--- the numbers of a quantisation have 32 bits
-abbrev pub QuantFits : Option Quant → Type 0
-QuantFits None = Unit {0}
-QuantFits (Some q) = All (λ m. m < 256 ^ 4) q.min × (q.range < 256 ^ 4)
 
 quant_spelled : (h : Head) (o : Option Quant) → HasQuant h o → QuantFits o → Spells (quant_of_at (bare_head h)) (quant_bytes o) o
 unfolding quant_of_at

@@ -83,6 +83,11 @@ abbrev pub HasQuant : Head → Option Quant → Type 0
 HasQuant h None = (h.dtype == 9) ≡ false
 HasQuant h (Some q) = ((h.dtype == 9) ≡ true) × (length q.min ≡ h.comps) × (1 ≤ q.bits) × (q.bits ≤ 30)
 
+-- the numbers of a quantisation have 32 bits
+abbrev pub QuantFits : Option Quant → Type 0
+QuantFits None = Unit {0}
+QuantFits (Some q) = All (λ m. m < 2 ^ 32) q.min × (q.range < 2 ^ 32)
+
 -- values that an attribute may have: whole entries, at least one, each in the data type, and a prediction that is
 -- accepted, with a range in which it can wrap
 pub record ValuesPass (h : Head) (v : Values) : Type 0 where
