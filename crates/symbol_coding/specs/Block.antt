@@ -89,25 +89,40 @@ value_bits [] values = []
 value_bits (w ∷ ws) [] = []
 value_bits (w ∷ ws) (v ∷ vs) = low_bits w v ++ value_bits ws vs
 
+-- each value has a width of at most 32 bits, and fits
+abbrev pub HasWidths : List ℕ → List ℕ → Type 0
+HasWidths [] [] = Unit {0}
+HasWidths [] (v ∷ vs) = ⊥
+HasWidths (w ∷ ws) [] = ⊥
+HasWidths (w ∷ ws) (v ∷ vs) = (w ≤ 32) × (v < 2 ^ w) × HasWidths ws vs
+
+-- what a symbol costs that occurs k times among n
+abbrev pub cost_of_count : ℕ → ℕ → ℕ
+cost_of_count n k = k * digits (n / k)
+
 -- what symbols cost, about, in bits: each as often as it occurs, and eight for each probability
 abbrev pub raw_cost : List ℕ → ℕ
-raw_cost values = sum (map (λ k. k * digits (length values / k)) (counts_of values)) + 8 * (greatest_of values + 1)
+raw_cost values = sum (map (cost_of_count (length values)) (counts_of values)) + 8 * (greatest_of values + 1)
 
--- what groups cost, about, in bits: five for each length, and its values
+-- what a group costs, about, in bits: five for its length, and its values
+abbrev pub cost_of_group : ℕ → ℕ → ℕ
+cost_of_group comps length = 5 + comps * length
+
+-- what groups cost, about, in bits
 abbrev pub tagged_cost : List ℕ → ℕ → ℕ
-tagged_cost values comps = sum (map (λ l. 5 + comps * l) (lengths_of comps values))
+tagged_cost values comps = sum (map (cost_of_group comps) (lengths_of comps values))
 
 -- whether symbols are written: where all values are below 2 ^ 18 and it costs no more
 unfoldable pub is_raw : List ℕ → ℕ → Bool
 is_raw values comps = nat_lt (greatest_of values) (2 ^ 18) && nat_le (raw_cost values) (tagged_cost values comps)
 
--- the bit length of symbols: that of how many are used, from 1 to 18
-unfoldable pub raw_length : List ℕ → ℕ
-raw_length values = max 1 (min 18 (digits (used_of (counts_of values))))
+-- the bit length of symbols with these counts: that of how many are used, from 1 to 18
+abbrev pub raw_length : List ℕ → ℕ
+raw_length counts = max 1 (min 18 (digits (used_of counts)))
 
 -- the bytes of a block whose values are symbols
 unfoldable pub raw_bytes : List ℕ → List ℕ
-raw_bytes values = let length = raw_length values in let probs = normal (counts_of values) (precision length) in
+raw_bytes values = let length = raw_length (counts_of values) in let probs = normal (counts_of values) (precision length) in
     1 ∷ length ∷ table_bytes probs ++ coded_bytes (precision length) probs values
 
 -- the bytes of a block of groups

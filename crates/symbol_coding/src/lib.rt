@@ -5,6 +5,9 @@
 #![tactic(auto)]
 
 mod coded;
+mod costs;
 mod reading;
+mod writing;
 
 pub use reading::read_symbols;
+pub use writing::write_symbols;
