@@ -1,5 +1,5 @@
 -- Integers that are read back from their bytes.
-use Rattle.std.proofs.Common.{◌≡◌, ℕ, zero, suc, ◌+◌, ◌-◌, ◌*◌, ◌/◌, ◌%◌, ◌^◌, ◌<◌, ◌≤◌, ◌==◌, ◌&&◌, max, Bool, true, false, ℤ, pos, negsuc, ◌-ℤ◌, ◌≤ℤ◌, ◌<ℤ◌, FitsSigned, List, [], ◌∷◌, ◌++◌, length, map, flat_map, nat_lt, nat_le, int_le, int_lt, if◌then◌else◌, Ok, refl, sym, ◌∙◌, ap, subst, inl, inr, append-nil, append_assoc, length-append, unsigned_abs, arith}
+use Rattle.std.proofs.Common.{◌≡◌, ℕ, zero, suc, ◌+◌, ◌-◌, ◌*◌, ◌/◌, ◌%◌, ◌^◌, ◌<◌, ◌≤◌, ◌==◌, ◌&&◌, max, Bool, true, false, ℤ, pos, negsuc, ◌-ℤ◌, ◌≤ℤ◌, FitsSigned, List, [], ◌∷◌, ◌++◌, length, map, flat_map, nat_lt, nat_le, int_le, int_lt, if◌then◌else◌, Ok, refl, ◌∙◌, ap, subst, inl, inr, append_assoc, length-append, unsigned_abs, arith}
 use Rattle.std.specs.Int.{w32, cast_unsigned, cast_signed, int_min, int_max}
 use Rattle.std.specs.List.{All, fold}
 use Rattle.std.proofs.lemmas.Bool.{cases_lt}
@@ -7,7 +7,7 @@ use Rattle.std.proofs.lemmas.Int.{ints, to_z-of_z, fold-int_min_bounds, fold-int
 use Rattle.std.proofs.lemmas.List.{length-map}
 use Rattle.std.proofs.lemmas.List.Elements.{All-head, All-tail, All-cons, All-weaker, All-nil}
 use Rattle.drc_base.specs.declared.kinds.Kind.TheVariants as kind
-use Rattle.drc_bits.specs.Reading.{◌>>=◌, Reading, Item, must, many_at}
+use Rattle.drc_bits.specs.Reading.{◌>>=◌, Reading, Item, many_at}
 use Rattle.drc_bits.specs.Numbers.{number_at, signed_at, little_endian}
 use Rattle.drc_bits.specs.Bits.{low_bytes}
 use Rattle.drc_bits.specs.Spells.{Spells}
@@ -15,7 +15,7 @@ use Rattle.drc_bits.proofs.Spelled.{Spells-none, Spells-then, Spells-must, Spell
 use Rattle.predict.specs.Wrap.{Range, CanWrap}
 use Rattle.predict.specs.Restored.{restored, corrections, corrections_behind, entry_before}
 use Rattle.symbol_coding.specs.Block.{block_at, block_bytes}
-use Rattle.attr_section.specs.Values.{signed_of, plain_value_at, byte_width_at, plain_values_at, compressed_values_at, integers_at, can_wrap, tested_range, range_at, transform_at, differences_at}
+use Rattle.attr_section.specs.Values.{signed_of, plain_value_at, byte_width_at, plain_values_at, compressed_values_at, integers_at, can_wrap, range_at, transform_at, differences_at}
 use Rattle.attr_section.specs.Written.{symbol_of, greatest_symbol, byte_width, plain_bytes, integers_bytes, range_of, signed_bytes, range_bytes, differences_bytes}
 use Rattle.attr_section.proofs.Spelling.{Spells-map}
 
@@ -70,12 +70,15 @@ greatest-bounds a (x ∷ xs) =
 
 width_fits : (s g : ℕ) → s ≤ g → g < 2 ^ 32 → s < 256 ^ byte_width g
 width_fits s g below fits = elim (cases_lt g 256) [
-    inl a ↦ let t : nat_lt g 256 ≡ true = grind (arith, a) in rw t (omega arith)
+  | inl a ↦ let t : nat_lt g 256 ≡ true = grind (arith, a) in rw t (omega arith)
   | inr a ↦ let t : nat_lt g 256 ≡ false = grind (arith, a) in rw t (elim (cases_lt g 65536) [
-      inl b ↦ let u : nat_lt g 65536 ≡ true = grind (arith, b) in rw u (omega arith)
+    | inl b ↦ let u : nat_lt g 65536 ≡ true = grind (arith, b) in rw u (omega arith)
     | inr b ↦ let u : nat_lt g 65536 ≡ false = grind (arith, b) in rw u (elim (cases_lt g 16777216) [
-        inl c ↦ let v : nat_lt g 16777216 ≡ true = grind (arith, c) in rw v (omega arith)
-      | inr c ↦ let v : nat_lt g 16777216 ≡ false = grind (arith, c) in rw v (omega arith) ]) ]) ]
+      | inl c ↦ let v : nat_lt g 16777216 ≡ true = grind (arith, c) in rw v (omega arith)
+      | inr c ↦ let v : nat_lt g 16777216 ≡ false = grind (arith, c) in rw v (omega arith)
+    ])
+  ])
+]
 
 greatest-fits : (a m : ℕ) (xs : List ℕ) → a < m → All (λ x. x < m) xs → fold max a xs < m
 greatest-fits a m [] first all = first
@@ -90,9 +93,9 @@ unfolding many_at
 Spells-all item bytes value [] each = Spells-none []
 Spells-all item bytes value (x ∷ xs) each =
     Spells-then item (λ v c. many_at item (length xs) c >>= λ vs. Ok (v ∷ vs.0, vs.1)) (bytes x) (flat_map bytes xs) (value x) (value x ∷ map value xs)
-      (All-head (λ x. Spells item (bytes x) (value x)) x xs each)
-      (Spells-map (λ vs. value x ∷ vs) (many_at item (length xs)) (flat_map bytes xs) (map value xs)
-        (Spells-all item bytes value xs (All-tail (λ x. Spells item (bytes x) (value x)) x xs each)))
+    (All-head (λ x. Spells item (bytes x) (value x)) x xs each)
+    (Spells-map (λ vs. value x ∷ vs) (many_at item (length xs)) (flat_map bytes xs) (map value xs)
+    (Spells-all item bytes value xs (All-tail (λ x. Spells item (bytes x) (value x)) x xs each)))
 
 -- symbols as they are
 Spells-plain : (symbols : List ℕ) → All (λ s. s < 2 ^ 32) symbols → Spells (plain_values_at (length symbols)) (plain_bytes symbols) (map signed_of symbols)
@@ -103,18 +106,20 @@ Spells-plain symbols fit =
     let fits : g < 2 ^ 32 = greatest-fits 0 (2 ^ 32) symbols (omega arith) fit in
     let width : (nat_le 1 w && nat_le w 4) ≡ true = width_passes g in
     Spells-then byte_width_at (λ v c. many_at (plain_value_at v) (length symbols) c) (w ∷ []) (flat_map (low_bytes w) symbols) w (map signed_of symbols)
-      (Spells-must kind.ByteWidth (λ w. nat_le 1 w && nat_le w 4) (number_at 1) (w ∷ []) w width (Spells-byte w))
-      (Spells-all (plain_value_at w) (low_bytes w) signed_of symbols
-        (All-weaker (λ s. s ≤ g) (λ s. Spells (plain_value_at w) (low_bytes w s) (signed_of s))
-          (λ s below. Spells-map signed_of (number_at w) (low_bytes w s) s (Spells-low_bytes w s (width_fits s g below fits)))
-          symbols (greatest-bounds 0 symbols).1))
+    (Spells-must kind.ByteWidth (λ w. nat_le 1 w && nat_le w 4) (number_at 1) (w ∷ []) w width (Spells-byte w))
+    (Spells-all (plain_value_at w) (low_bytes w) signed_of symbols
+    (All-weaker (λ s. s ≤ g) (λ s. Spells (plain_value_at w) (low_bytes w s) (signed_of s))
+    (λ s below. Spells-map signed_of (number_at w) (low_bytes w s) s (Spells-low_bytes w s (width_fits s g below fits)))
+    symbols (greatest-bounds 0 symbols).1))
   where
     width_passes : (g : ℕ) → (nat_le 1 (byte_width g) && nat_le (byte_width g) 4) ≡ true
     width_passes g = elim (nat_lt g 256) as (λ t. (nat_le 1 (if t then 1 else (if nat_lt g 65536 then 2 else (if nat_lt g 16777216 then 3 else 4))) && nat_le (if t then 1 else (if nat_lt g 65536 then 2 else (if nat_lt g 16777216 then 3 else 4))) 4) ≡ true) [
-        true ↦ refl
+      | true ↦ refl
       | false ↦ elim (nat_lt g 65536) as (λ t. (nat_le 1 (if t then 2 else (if nat_lt g 16777216 then 3 else 4)) && nat_le (if t then 2 else (if nat_lt g 16777216 then 3 else 4)) 4) ≡ true) [
-          true ↦ refl
-        | false ↦ elim (nat_lt g 16777216) as (λ t. (nat_le 1 (if t then 3 else 4) && nat_le (if t then 3 else 4) 4) ≡ true) [ true ↦ refl | false ↦ refl ] ] ]
+        | true ↦ refl
+        | false ↦ elim (nat_lt g 16777216) as (λ t. (nat_le 1 (if t then 3 else 4) && nat_le (if t then 3 else 4) 4) ≡ true) [ true ↦ refl | false ↦ refl ]
+      ]
+    ]
 
 -- integers as they are
 pub Spells-plain_integers : (comps : ℕ) (values : List ℤ) → All (λ s. s < 2 ^ 32) (map symbol_of values)
@@ -122,9 +127,9 @@ pub Spells-plain_integers : (comps : ℕ) (values : List ℤ) → All (λ s. s <
 unfolding integers_at integers_bytes
 Spells-plain_integers comps values fit =
     Spells-then (number_at 1) (λ k c. if k == 0 then plain_values_at (length values) c else compressed_values_at comps (length values) c)
-      (0 ∷ []) (plain_bytes (map symbol_of values)) 0 values (Spells-byte 0)
-      (subst (λ n. Spells (plain_values_at n) (plain_bytes (map symbol_of values)) values) (length-map values symbol_of)
-        (subst (λ vs. Spells (plain_values_at (length (map symbol_of values))) (plain_bytes (map symbol_of values)) vs) (signed_of-symbols values) (Spells-plain (map symbol_of values) fit)))
+    (0 ∷ []) (plain_bytes (map symbol_of values)) 0 values (Spells-byte 0)
+    (subst (λ n. Spells (plain_values_at n) (plain_bytes (map symbol_of values)) values) (length-map values symbol_of)
+    (subst (λ vs. Spells (plain_values_at (length (map symbol_of values))) (plain_bytes (map symbol_of values)) vs) (signed_of-symbols values) (Spells-plain (map symbol_of values) fit)))
 
 -- integers in a symbol block
 pub Spells-compressed_integers : (comps : ℕ) (values : List ℤ) → Spells (block_at (length (map symbol_of values)) comps) (block_bytes (map symbol_of values) comps) (map symbol_of values)
@@ -132,18 +137,18 @@ pub Spells-compressed_integers : (comps : ℕ) (values : List ℤ) → Spells (b
 unfolding integers_at integers_bytes compressed_values_at
 Spells-compressed_integers comps values block =
     let there : Spells (block_at (length values) comps) (block_bytes (map symbol_of values) comps) (map symbol_of values) =
-      subst (λ n. Spells (block_at n comps) (block_bytes (map symbol_of values) comps) (map symbol_of values)) (length-map values symbol_of) block in
+    subst (λ n. Spells (block_at n comps) (block_bytes (map symbol_of values) comps) (map symbol_of values)) (length-map values symbol_of) block in
     Spells-then (number_at 1) (λ k c. if k == 0 then plain_values_at (length values) c else compressed_values_at comps (length values) c)
-      (1 ∷ []) (block_bytes (map symbol_of values) comps) 1 values (Spells-byte 1)
-      (subst (λ vs. Spells (compressed_values_at comps (length values)) (block_bytes (map symbol_of values) comps) vs) (signed_of-symbols values)
-        (Spells-map (λ s. map signed_of s) (block_at (length values) comps) (block_bytes (map symbol_of values) comps) (map symbol_of values) there))
+    (1 ∷ []) (block_bytes (map symbol_of values) comps) 1 values (Spells-byte 1)
+    (subst (λ vs. Spells (compressed_values_at comps (length values)) (block_bytes (map symbol_of values) comps) vs) (signed_of-symbols values)
+    (Spells-map (λ s. map signed_of s) (block_at (length values) comps) (block_bytes (map symbol_of values) comps) (map symbol_of values) there))
 
 -- a signed number of 32 bits
 pub Spells-signed : (x : ℤ) → FitsSigned w32 x → Spells signed_at (signed_bytes x) x
 Spells-signed x fits =
     let small : cast_unsigned w32 x < 256 ^ 4 = unsigned_small x fits in
     subst (λ y. Spells signed_at (signed_bytes x) y) (to_z-of_z w32 x fits)
-      (Spells-map (λ n. cast_signed w32 n) (number_at 4) (signed_bytes x) (cast_unsigned w32 x) (Spells-low_bytes 4 (cast_unsigned w32 x) small))
+    (Spells-map (λ n. cast_signed w32 n) (number_at 4) (signed_bytes x) (cast_unsigned w32 x) (Spells-low_bytes 4 (cast_unsigned w32 x) small))
   where
     unsigned_small : (x : ℤ) → FitsSigned w32 x → cast_unsigned w32 x < 256 ^ 4
     unsigned_small (pos n) fits = omega (arith, fits.sfits)
@@ -159,18 +164,20 @@ pub Spells-range : (r : Range) → CanWrap r → FitsSigned w32 r.low → FitsSi
 unfolding range_at
 Spells-range r can low high =
     let passes : can_wrap r ≡ true = wraps r can in
-    record { reads = λ place rest.
-      let first = (Spells-signed r.low low).reads place (signed_bytes r.high ++ rest) in
-      let second = (Spells-signed r.high high).reads (place + length (signed_bytes r.low)) rest in
-      let after : place + length (signed_bytes r.low) + length (signed_bytes r.high) ≡ place + length (range_bytes r) = omega (arith, length-append (signed_bytes r.low) (signed_bytes r.high)) in
-      ap (λ bytes. range_at (record { place = place; rest = bytes })) (append_assoc (signed_bytes r.low) (signed_bytes r.high) rest)
-      ∙ rw (first, second, passes, after) refl }
+    record {
+      reads = λ place rest.
+          let first = (Spells-signed r.low low).reads place (signed_bytes r.high ++ rest) in
+          let second = (Spells-signed r.high high).reads (place + length (signed_bytes r.low)) rest in
+          let after : place + length (signed_bytes r.low) + length (signed_bytes r.high) ≡ place + length (range_bytes r) = omega (arith, length-append (signed_bytes r.low) (signed_bytes r.high)) in
+          ap (λ bytes. range_at (record { place = place; rest = bytes })) (append_assoc (signed_bytes r.low) (signed_bytes r.high) rest)
+          ∙ rw (first, second, passes, after) refl;
+    }
   where
     wraps : (r : Range) → CanWrap r → can_wrap r ≡ true
     wraps r can =
-      let first : int_le r.low r.high ≡ true = grind (arith, ints, can.ordered) in
-      let second : int_lt (r.high -ℤ r.low) (pos (2 ^ 31 - 1)) ≡ true = grind (arith, ints, can.narrow) in
-      rw (first, second) refl
+        let first : int_le r.low r.high ≡ true = grind (arith, ints, can.ordered) in
+        let second : int_lt (r.high -ℤ r.low) (pos (2 ^ 31 - 1)) ≡ true = grind (arith, ints, can.narrow) in
+        rw (first, second) refl
 
 -- values that are restored from corrections by difference
 pub Spells-differences : (plain : Bool) (comps : ℕ) (values : List ℤ)
@@ -184,13 +191,13 @@ Spells-differences plain comps values integers range back =
     let cs = corrections (entry_before comps) r values in
     let same : length cs ≡ length values = length-corrections (entry_before comps) r [] values in
     Spells-then transform_at (λ _ c. integers_at comps (length values) c >>= λ x. range_at x.1 >>= λ y. Ok (restored (entry_before comps) y.0 x.0, y.1))
-      (1 ∷ []) (integers_bytes plain comps cs ++ range_bytes r) 1 values
-      (Spells-must kind.Transform (λ t. t == 1) (number_at 1) (1 ∷ []) 1 refl (Spells-byte 1))
+    (1 ∷ []) (integers_bytes plain comps cs ++ range_bytes r) 1 values
+    (Spells-must kind.Transform (λ t. t == 1) (number_at 1) (1 ∷ []) 1 refl (Spells-byte 1))
     (Spells-then (integers_at comps (length values)) (λ x c. range_at c >>= λ y. Ok (restored (entry_before comps) y.0 x, y.1))
-      (integers_bytes plain comps cs) (range_bytes r) cs values
-      (subst (λ n. Spells (integers_at comps n) (integers_bytes plain comps cs) cs) same integers)
+    (integers_bytes plain comps cs) (range_bytes r) cs values
+    (subst (λ n. Spells (integers_at comps n) (integers_bytes plain comps cs) cs) same integers)
     (subst (λ vs. Spells (λ c. range_at c >>= λ y. Ok (restored (entry_before comps) y.0 cs, y.1)) (range_bytes r) vs) back
-      (Spells-map (λ y. restored (entry_before comps) y cs) range_at (range_bytes r) r range)))
+    (Spells-map (λ y. restored (entry_before comps) y cs) range_at (range_bytes r) r range)))
 
 -- values lie in their range
 pub range_of-bounds : (values : List ℤ) → All (λ x. ((range_of values).low ≤ℤ x) × (x ≤ℤ (range_of values).high)) values

@@ -1,11 +1,10 @@
 -- The bytes of attributes' values (Draco Bitstream Specification 2.2, sections "Sequential Attributes", "Prediction
 -- Decoder" and "Quantization"; which of the allowed spellings is written is this project's choice).
-use Rattle.std.specs.Prelude.{◌≡◌, ◌≤◌, ◌<◌, ◌⊎◌, ℕ, ◌+◌, ◌*◌, ◌%◌, ◌^◌, ◌==◌, Bool, true, false, IsTrue, ℤ, pos, negsuc, List, [], ◌∷◌, ◌++◌, length, map, flat_map, fold, max, Option, None, Some, is_some, Ok, nat_lt, nat_le, if◌then◌else◌, All}
+use Rattle.std.specs.Prelude.{◌≡◌, ◌≤◌, ◌<◌, ◌⊎◌, ℕ, ◌+◌, ◌*◌, ◌%◌, ◌^◌, ◌==◌, Bool, true, false, ℤ, pos, negsuc, List, [], ◌∷◌, ◌++◌, length, map, flat_map, fold, max, Option, None, Some, Ok, nat_lt, if◌then◌else◌, All}
 use Rattle.std.specs.Int.{w32, cast_unsigned, int_min, int_max}
 use Rattle.std.specs.List.{list_all, zip}
 use Rattle.std.specs.Ordering.{int_eq}
 use Rattle.drc_base.specs.declared.limits.TheConstants.{MAX_VALUES}
-use Rattle.drc_bits.specs.Reading.{Reading}
 use Rattle.drc_bits.specs.Bits.{low_bytes}
 use Rattle.mesh_model.specs.declared.heads.Head.{Head}
 use Rattle.mesh_model.specs.declared.heads.Quant.{Quant}
@@ -13,10 +12,9 @@ use Rattle.mesh_model.specs.Head.{in_type}
 use Rattle.predict.specs.Wrap.{Range, CanWrap}
 use Rattle.predict.specs.Restored.{corrections, entry_before}
 use Rattle.symbol_coding.specs.Block.{block_bytes}
-use Rattle.attr_section.specs.declared.decoder_heads.DecoderHead.{DecoderHead}
 use Rattle.attr_section.specs.declared.values.Values.{Values}
-use Rattle.attr_section.specs.Heads.{bare_head, bare_decoder}
-use Rattle.attr_section.specs.Values.{no_prediction, values_at, decoder_values_at, values_in}
+use Rattle.attr_section.specs.Heads.{bare_head}
+use Rattle.attr_section.specs.Values.{no_prediction, values_at}
 
 -- the zigzag symbol of an integer: 0, 1, 2, 3 for 0, -1, 1, -2 and so on
 abbrev pub symbol_of : ℤ → ℕ
@@ -119,4 +117,4 @@ HaveEntries entries heads attributes = All (λ (h, v). length v.values ≡ entri
 pub record ValuesSpelled (plain : Bool) (h : Head) (v : Values) : Type 0 where
   pub reads : (entries spent place : ℕ) (rest : List ℕ) → length v.values ≡ entries * h.comps → spent + length v.values ≤ MAX_VALUES
       → values_at (bare_head h) entries spent (record { place = place; rest = values_bytes plain h.comps v ++ rest })
-        ≡ Ok (record v { at = place }, record { place = place + length (values_bytes plain h.comps v); rest = rest })
+      ≡ Ok (record v { at = place }, record { place = place + length (values_bytes plain h.comps v); rest = rest })

@@ -9,6 +9,7 @@ ghost use Rattle.attr_section.specs.Written.{symbol_of, greatest_symbol, byte_wi
 
 use drc_base::{MAX_VALUES, Memory};
 use std::alloc::{AllocError, Global};
+use symbol_coding::write_symbols;
 
 /// The zigzag symbol of an integer.
 fn symbol_of(x: i32) -> u32
@@ -114,6 +115,27 @@ fn put_plain_integers(
     Ok(())
 }
 
+/// Appends integers in a symbol block.
+#[tactic(auto, unfolding(crate::specs::Written::integers_bytes))]
+fn put_compressed_integers(
+    alloc: Global,
+    out: &mut Vec<u8>,
+    values: &[i32],
+    comps: u32,
+) -> Result<(), Memory>
+    requires some { 0 < comps }
+    requires whole { length values.now % comps ≡ 0 }
+    requires few { length values.now ≤ MAX_VALUES }
+    ensures bytes { OnOk result (out.new.items ≡ out.old.items ++ integers_bytes false comps values.now) }
+    ensures again { OnOk result (Spells (integers_at comps (length values.now)) (integers_bytes false comps values.now) values.now) }
+{
+    let symbols = symbols_of(alloc, values)?;
+    let block = write_symbols(alloc, &symbols, comps)?;
+    out.push(1)?;
+    out.extend_from_slice(&block)?;
+    Ok(())
+}
+
 /// Appends integers, as they are or compressed.
 pub fn put_integers(
     alloc: Global,
@@ -125,9 +147,12 @@ pub fn put_integers(
     requires some { 0 < comps }
     requires whole { length values.now % comps ≡ 0 }
     requires few { length values.now ≤ MAX_VALUES }
-    requires temporary { plain ≡ true }
     ensures bytes { OnOk result (out.new.items ≡ out.old.items ++ integers_bytes plain comps values.now) }
     ensures again { OnOk result (Spells (integers_at comps (length values.now)) (integers_bytes plain comps values.now) values.now) }
 {
-    put_plain_integers(alloc, out, values, comps)
+    if plain {
+        put_plain_integers(alloc, out, values, comps)
+    } else {
+        put_compressed_integers(alloc, out, values, comps)
+    }
 }

@@ -5,6 +5,7 @@
 #![tactic(auto)]
 
 mod decoder_heads;
+mod decoder_writing;
 mod head_items;
 mod head_reading;
 mod head_writing;
@@ -19,6 +20,7 @@ mod value_writing;
 mod values;
 
 pub use decoder_heads::DecoderHead;
+pub use decoder_writing::write_decoder;
 pub use head_reading::read_heads;
 pub use head_writing::write_heads;
 pub use value_reading::read_decoder;

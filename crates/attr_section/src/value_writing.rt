@@ -19,6 +19,7 @@ use std::alloc::Global;
 
 /// No prediction, and the byte that says so.
 const NO_PREDICTION: i8 = -2;
+
 const NO_PREDICTION_BYTE: u8 = 254;
 
 /// Appends a signed number of four bytes.
@@ -113,7 +114,6 @@ fn put_differences(
     requires whole { length values.now % comps ≡ 0 }
     requires few { length values.now ≤ MAX_VALUES }
     requires can_wrap { CanWrap (range_of values.now) }
-    requires temporary { plain ≡ true }
     ensures bytes { OnOk result (out.new.items ≡ out.old.items ++ differences_bytes plain comps values.now) }
     ensures again { OnOk result (Spells (differences_at comps (length values.now)) (differences_bytes plain comps values.now) values.now) }
 {
@@ -126,15 +126,14 @@ fn put_differences(
 
 /// Appends the values of an attribute.
 #[tactic(auto, unfolding(crate::specs::Written::values_bytes))]
-fn put_values(
+pub fn put_values(
     alloc: Global,
     out: &mut Vec<u8>,
     head: &Head,
     v: &Values,
     plain: bool,
 ) -> Result<(), Memory>
-    requires passes { ValuesPass head.now v.now }
-    requires temporary { plain ≡ true }
+    requires { ValuesPass head.now v.now }
     ensures bytes { OnOk result (out.new.items ≡ out.old.items ++ values_bytes plain head.now.comps v.now) }
     ensures again { OnOk result (ValuesSpelled plain head.now v.now) }
 {

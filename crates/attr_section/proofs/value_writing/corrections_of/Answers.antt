@@ -1,6 +1,5 @@
 use Rattle.std.proofs.Common.{◌∙◌, [], length, ap}
-use Rattle.predict.specs.Restored.{restored, corrections, entry_before}
-use Rattle.attr_section.specs.Written.{range_of}
+use Rattle.predict.specs.Restored.{entry_before}
 use Rattle.attr_section.proofs.SpelledIntegers.{range_of-bounds, length-corrections}
 use Rattle.attr_section.proofs.value_writing.corrections_of.Goals as goal
 
