@@ -1,5 +1,6 @@
+pub mod Columned
 pub mod Each
-pub mod Spelling
 pub mod Loops
 pub mod SpelledIntegers
 pub mod SpelledValues
+pub mod Spelling

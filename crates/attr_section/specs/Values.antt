@@ -1,6 +1,6 @@
 -- The values of attributes (Draco Bitstream Specification 2.2, sections "Sequential Attributes", "Prediction Decoder" and
 -- "Quantization"; the limits and what is refused are this project's choice).
-use Rattle.std.specs.Prelude.{ℕ, ◌+◌, ◌-◌, ◌*◌, ◌/◌, ◌%◌, ◌^◌, ◌==◌, ◌&&◌, ◌||◌, Bool, ℤ, pos, negsuc, ◌-ℤ◌, List, [], length, map, Option, None, Some, Ok, sum_by, nat_le, int_le, int_lt, if◌then◌else◌}
+use Rattle.std.specs.Prelude.{◌≡◌, ℕ, ◌+◌, ◌-◌, ◌*◌, ◌/◌, ◌%◌, ◌^◌, ◌==◌, ◌&&◌, ◌||◌, Bool, ℤ, pos, negsuc, ◌-ℤ◌, List, [], ◌∷◌, length, map, Option, None, Some, Ok, sum_by, nat_le, int_le, int_lt, if◌then◌else◌}
 use Rattle.std.specs.List.{list_all}
 use Rattle.std.specs.Ordering.{int_eq}
 use Rattle.drc_base.specs.declared.kinds.Kind.TheVariants as kind
@@ -138,3 +138,14 @@ decoder_values_at d entries spent c = do
   values ← attributes_at d.heads entries spent c
   heads ← quants_at d.heads values.1
   Ok ((values.0, record d { heads = heads.0 }), heads.1)
+
+-- each head has its values, for n entries
+abbrev pub AreColumns : ℕ → List Head → List Values → Type 0
+AreColumns n [] [] = Unit {0}
+AreColumns n [] (v ∷ values) = ⊥
+AreColumns n (h ∷ heads) [] = ⊥
+AreColumns n (h ∷ heads) (v ∷ values) = (length v.values ≡ n * h.comps) × AreColumns n heads values
+
+-- how many components heads have
+abbrev pub comps_of : List Head → List ℕ
+comps_of heads = map (λ h. h.comps) heads

@@ -3,7 +3,7 @@
 ghost use Rattle.std.specs.Prelude.{◌≡◌, ◌≤◌, IfOk, length};
 ghost use Rattle.drc_bits.specs.Reading.{Reads, Gives, many_at};
 ghost use Rattle.drc_bits.specs.Numbers.{number_at};
-ghost use Rattle.attr_section.specs.Values.{quant_bits_at, quant_at, quant_of_at, quantised_at, quants_at};
+ghost use Rattle.attr_section.specs.Values.{quant_bits_at, quant_at, quant_of_at, quantised_at, quants_at, comps_of};
 
 use drc_base::{Fault, Kind, Refusal, Sequence};
 use drc_bits::Cursor;
@@ -68,7 +68,8 @@ fn read_quant_of(alloc: Global, c: &mut Cursor<'_>, head: &Head) -> Result<Optio
 /// The head with its quantisation.
 #[tactic(auto, unfolding(crate::specs::Values::quantised_at))]
 fn read_quantised(alloc: Global, c: &mut Cursor<'_>, head: &Head) -> Result<Head, Refusal>
-    ensures { Gives (λ h. h) (quantised_at head.now c.old) c.new result }
+    ensures item { Gives (λ h. h) (quantised_at head.now c.old) c.new result }
+    ensures comps { IfOk result (λ h. h.comps ≡ head.now.comps) }
 {
     let quant = read_quant_of(alloc, c, head)?;
     Ok(Head {
@@ -83,7 +84,8 @@ fn read_quantised(alloc: Global, c: &mut Cursor<'_>, head: &Head) -> Result<Head
 
 /// The heads with their quantisations.
 pub fn read_quants(alloc: Global, c: &mut Cursor<'_>, heads: &[Head]) -> Result<Vec<Head>, Refusal>
-    ensures { Gives (λ v. v.items) (quants_at heads.now c.old) c.new result }
+    ensures items { Gives (λ v. v.items) (quants_at heads.now c.old) c.new result }
+    ensures comps { IfOk result (λ v. comps_of v.items ≡ comps_of heads.now) }
 {
     let mut quantised = Vec::new(alloc);
     for head in heads {

@@ -5,7 +5,7 @@ ghost use Rattle.std.specs.List.{list_all};
 ghost use Rattle.drc_base.specs.Refusals.{Refuses};
 ghost use Rattle.drc_bits.specs.Reading.{Reads, Gives};
 ghost use Rattle.mesh_model.specs.Head.{in_type};
-ghost use Rattle.attr_section.specs.Values.{prediction_at, range_at, transform_at, differences_at, predicted_at, typed_values_at, values_at, values_in, attributes_at, decoder_values_at};
+ghost use Rattle.attr_section.specs.Values.{prediction_at, range_at, transform_at, differences_at, predicted_at, typed_values_at, values_at, values_in, attributes_at, decoder_values_at, AreColumns};
 
 use crate::decoder_heads::DecoderHead;
 use crate::integers::read_integers;
@@ -168,6 +168,7 @@ fn read_attributes(
     requires spent { spent ≤ MAX_VALUES }
     ensures item { Gives (λ v. v.items) (attributes_at heads.now entries spent c.old) c.new result }
     ensures few { IfOk result (λ v. spent + values_in v.items ≤ MAX_VALUES) }
+    ensures columns { IfOk result (λ v. AreColumns entries heads.now v.items) }
 {
     let mut total = spent;
     let mut attributes = Vec::new(alloc);
@@ -210,6 +211,7 @@ pub fn read_decoder(
     ensures values { MatchResult result (λ v. decoder_values_at h.old entries spent.old c.old ≡ Ok ((v.items, h.new), c.new)) (λ e. Refuses (decoder_values_at h.old entries spent.old c.old) e) }
     ensures spent { IfOk result (λ v. spent.new ≡ spent.old + values_in v.items) }
     ensures few { IfOk result (λ v. spent.new ≤ MAX_VALUES) }
+    ensures columns { IfOk result (λ v. AreColumns entries h.new.heads v.items) }
 {
     let attributes = read_attributes(alloc, c, h.heads.as_slice(), entries, *spent)?;
     let heads = read_quants(alloc, c, h.heads.as_slice())?;

@@ -3,8 +3,13 @@
 //! "Draco Decoder"; the stream of clouds is this project's profile.
 #![tactic(auto)]
 
+mod attributes;
 mod choices;
+mod decoding;
 mod headers;
+mod points;
+mod seen;
 
 pub use choices::{Choice, Index, Method, Predict, Walk};
-pub use headers::Form;
+pub use decoding::{decode, decode_whole};
+pub use seen::{AttrSeen, Decoded, Seen};

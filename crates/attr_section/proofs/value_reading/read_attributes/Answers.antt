@@ -3,6 +3,7 @@ use Rattle.std.proofs.lemmas.Grind.{common_steps}
 use Rattle.std.proofs.lemmas.Result.{err_from_is_err_and}
 use Rattle.attr_section.specs.declared.values.Values.{Values}
 use Rattle.attr_section.specs.Values.{values_at, values_in, attributes_at}
+use Rattle.attr_section.proofs.Columned.{AreColumns-next}
 use Rattle.attr_section.proofs.Each.{each_at-next, each_at-refuses, each_at-end}
 use Rattle.attr_section.proofs.value_reading.read_attributes.Goals as goal
 
@@ -27,6 +28,7 @@ loop-head-preserved c =
           (rw c.loop-head.invariant.1 at c.in_ok-values.ensures.item),
       omega (arith, c.loop-head.invariant.1),
       c.in_ok-values.ensures.few,
+      AreColumns-next c.args.entries c.loop-head.head-index c.args.heads.now c.loop-head.attributes.items c.head-item.result c.in_ok-values.values c.loop-head.invariant.3 (omega arith) c.head-item.is c.in_ok-values.ensures.len
     )
 
 pub returns-clause-item : goal.returns-clause-item

@@ -1,0 +1,23 @@
+-- Answers of calls that take no memory, and faults of the front of a stream.
+use Rattle.std.proofs.Common.{◌≡◌, ℕ, Result, Ok, Err, refl, sym, ◌∙◌, ap}
+use Rattle.drc_base.specs.declared.faults.Fault.{Fault}
+use Rattle.drc_base.specs.Refusals.{Answers}
+use Rattle.drc_bits.specs.Reading.{◌>>=◌, Reading, Item}
+use Rattle.drc_bits.proofs.Results.{err≢ok, Err-injective}
+use Rattle.mesh_model.specs.FirstFault.{answer_of}
+use Rattle.seq_section.specs.declared.reading.SeqRead.{SeqRead}
+use Rattle.seq_section.specs.Indices.{opening_at, indices_at}
+
+pub Answers-answer_of : {A : Type 0} (r : Result A Fault) → Answers (λ x. x) r (answer_of r)
+Answers-answer_of (Ok x) = refl
+Answers-answer_of (Err f) = refl
+
+-- the place behind an item is a fault where the item is
+pub place-fault : {A : Type 0} (item : Item A) (f : Fault) → (item >>= λ x. Ok x.1.place) ≡ Err f → item ≡ Err f
+place-fault (Ok x) f is = absurd (err≢ok (sym is))
+place-fault (Err e) f is = ap Err (Err-injective is)
+
+-- indices that were read have no fault in their opening
+pub opening-passed : (c d : Reading) (r : SeqRead) (f : Fault) → indices_at c ≡ Ok (r, d) → opening_at c ≡ Err f → ⊥
+unfolding indices_at
+opening-passed c d r f read fault = err≢ok (sym (rw fault refl) ∙ read)

@@ -1,0 +1,11 @@
+use Rattle.std.proofs.Common.{◌≡◌, sym, ◌∙◌}
+use Rattle.drc_container.proofs.Lengths.{cells_at-whole}
+use Rattle.drc_container.proofs.Fronts.{Answers-answer_of}
+use Rattle.drc_container.proofs.decoding.mesh_of.Goals as goal
+
+pub new-requires : goal.new-requires
+new-requires c passes =
+    rw (c.into_vec.ensures, c.requires.cells) (cells_at-whole c.args.points c.args.attributes.heads c.args.attributes.values c.requires.columns)
+
+pub returns : goal.returns
+returns c = rw (c.new.ensures, c.into_vec.ensures) (Answers-answer_of _)
