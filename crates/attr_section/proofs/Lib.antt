@@ -1,4 +1,6 @@
-pub mod Each
-pub mod Spelling
-pub mod Loops
 pub mod Columned
+pub mod Each
+pub mod Loops
+pub mod SpelledIntegers
+pub mod SpelledValues
+pub mod Spelling

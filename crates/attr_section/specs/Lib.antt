@@ -1,3 +1,4 @@
 pub mod Each
 pub mod Heads
 pub mod Values
+pub mod Written

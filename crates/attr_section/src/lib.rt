@@ -5,17 +5,22 @@
 #![tactic(auto)]
 
 mod decoder_heads;
+mod decoder_writing;
 mod head_items;
 mod head_reading;
 mod head_writing;
+mod integer_writing;
 mod integers;
 mod links;
+mod quant_writing;
 mod quants;
 mod types;
 mod value_reading;
+mod value_writing;
 mod values;
 
 pub use decoder_heads::DecoderHead;
+pub use decoder_writing::write_decoder;
 pub use head_reading::read_heads;
 pub use head_writing::write_heads;
 pub use value_reading::read_decoder;

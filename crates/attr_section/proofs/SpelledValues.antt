@@ -1,0 +1,167 @@
+-- Values of attributes that are read back from their bytes.
+use Rattle.std.proofs.Common.{◌≡◌, ℕ, ◌+◌, ◌*◌, ◌^◌, ◌<◌, ◌≤◌, ◌==◌, ◌&&◌, ◌||◌, Bool, true, ℤ, pos, List, [], ◌∷◌, ◌++◌, length, map, flat_map, nat_le, Option, None, Some, Ok, refl, sym, ◌∙◌, ap, subst, append_assoc, append-nil, length-append, arith}
+use Rattle.std.specs.List.{All, list_all, zip}
+use Rattle.std.proofs.lemmas.Grind.{common_steps}
+use Rattle.std.proofs.lemmas.List.Elements.{All-head, All-tail, All-weaker}
+use Rattle.std.proofs.lemmas.List.{map-id}
+use Rattle.drc_base.specs.declared.kinds.Kind.TheVariants as kind
+use Rattle.drc_base.specs.declared.limits.TheConstants.{MAX_VALUES}
+use Rattle.drc_bits.specs.Reading.{◌>>=◌, Reading, must, many_at}
+use Rattle.drc_bits.specs.Numbers.{number_at}
+use Rattle.drc_bits.specs.Spells.{Spells}
+use Rattle.drc_bits.proofs.Spelled.{Spells-none, Spells-then, Spells-must, Spells-byte}
+use Rattle.drc_bits.specs.Bits.{low_bytes}
+use Rattle.mesh_model.specs.declared.heads.Head.{Head}
+use Rattle.mesh_model.specs.declared.heads.Quant.{Quant}
+use Rattle.attr_section.specs.declared.decoder_heads.DecoderHead.{DecoderHead}
+use Rattle.mesh_model.specs.Head.{in_type}
+use Rattle.attr_section.specs.declared.values.Values.{Values}
+use Rattle.attr_section.specs.Each.{each_at}
+use Rattle.attr_section.specs.Heads.{bare_head, bare_decoder}
+use Rattle.attr_section.specs.Values.{no_prediction, prediction_of, prediction_at, predicted_at, integers_at, differences_at, typed_values_at, values_at, quant_bits_at, quant_at, quant_of_at, quantised_at, values_in, attributes_at, quants_at, decoder_values_at}
+use Rattle.attr_section.specs.Written.{integers_bytes, differences_bytes, values_bytes, quant_bytes, attributes_bytes, quants_bytes, decoder_values_bytes, HasQuant, QuantFits, placed, HaveEntries, ValuesSpelled}
+use Rattle.attr_section.proofs.Spelling.{Spells-map}
+use Rattle.attr_section.proofs.SpelledIntegers.{Spells-low_bytes, Spells-all}
+
+-- the reading behind n bytes
+abbrev behind : ℕ → ℕ → List ℕ → Reading
+behind place n rest = record { place = place + n; rest = rest }
+
+Spells-prediction : (b : ℕ) → (b == 254 || b == 0) ≡ true → Spells prediction_at (b ∷ []) (prediction_of b)
+unfolding prediction_at
+Spells-prediction b known =
+    Spells-map prediction_of (must kind.Prediction (λ b. b == 254 || b == 0) (number_at 1)) (b ∷ []) b
+    (Spells-must kind.Prediction (λ b. b == 254 || b == 0) (number_at 1) (b ∷ []) b known (Spells-byte b))
+
+-- values of a prediction byte
+typed_values : (h : Head) (n b : ℕ) (bytes : List ℕ) (values : List ℤ) → (b == 254 || b == 0) ≡ true
+    → Spells (predicted_at (prediction_of b) h.comps n) bytes values → list_all (in_type h.dtype) values ≡ true
+    → (place : ℕ) (rest : List ℕ) → typed_values_at h n (record { place = place; rest = (b ∷ bytes) ++ rest })
+    ≡ Ok (record { values = values; predict = prediction_of b; at = place }, behind place (length (b ∷ bytes)) rest)
+unfolding typed_values_at
+typed_values h n b bytes values known spells typed place rest =
+    let first = (Spells-prediction b known).reads place (bytes ++ rest) in
+    let second = spells.reads (place + 1) rest in
+    let after : place + 1 + length bytes ≡ place + length (b ∷ bytes) = omega arith in
+    rw (first, second, typed, after) refl
+
+-- values of a prediction byte are those of an attribute
+spelled_by : (plain : Bool) (h : Head) (v : Values) (b : ℕ) (bytes : List ℕ) → (b == 254 || b == 0) ≡ true → prediction_of b ≡ v.predict
+    → values_bytes plain h.comps v ≡ b ∷ bytes → Spells (predicted_at (prediction_of b) h.comps (length v.values)) bytes v.values
+    → list_all (in_type h.dtype) v.values ≡ true → ValuesSpelled plain h v
+unfolding values_at
+spelled_by plain h v b bytes known predict is spells typed = record {
+  reads = λ entries spent place rest count few.
+      let within : nat_le (spent + entries * h.comps) MAX_VALUES ≡ true = rw (← count) (grind (arith, few)) in
+      rw (is, within, ← count) (
+      subst (λ p. typed_values_at (bare_head h) (length v.values) (record { place = place; rest = (b ∷ bytes) ++ rest }) ≡ Ok (record { values = v.values; predict = p; at = place }, behind place (length (b ∷ bytes)) rest)) predict
+      (typed_values (bare_head h) (length v.values) b bytes v.values known spells typed place rest));
+}
+
+-- values without a prediction
+pub unpredicted_spelled : (plain : Bool) (h : Head) (v : Values) → v.predict ≡ no_prediction → Spells (integers_at h.comps (length v.values)) (integers_bytes plain h.comps v.values) v.values
+    → list_all (in_type h.dtype) v.values ≡ true → ValuesSpelled plain h v
+unfolding values_bytes
+unpredicted_spelled plain h v none spells typed =
+    spelled_by plain h v 254 (integers_bytes plain h.comps v.values) refl (sym none) (rw none refl) spells typed
+
+-- values that are predicted by difference
+pub differences_spelled : (plain : Bool) (h : Head) (v : Values) → v.predict ≡ pos 0 → Spells (differences_at h.comps (length v.values)) (differences_bytes plain h.comps v.values) v.values
+    → list_all (in_type h.dtype) v.values ≡ true → ValuesSpelled plain h v
+unfolding values_bytes
+differences_spelled plain h v difference spells typed =
+    spelled_by plain h v 0 (differences_bytes plain h.comps v.values) refl (sym difference) (rw difference refl) spells typed
+
+-- the values of attributes behind others
+attributes_spelled : (plain : Bool) (entries spent : ℕ) (front : List Values) (heads : List Head) (vs : List Values) → length vs ≡ length heads
+    → All (λ (h, v). ValuesSpelled plain h v) (zip heads vs) → HaveEntries entries heads vs → spent + values_in front + values_in vs ≤ MAX_VALUES → (place : ℕ) (rest : List ℕ)
+    → each_at (λ before h. values_at h entries (spent + values_in before)) front (map bare_head heads) (record { place = place; rest = attributes_bytes plain heads vs ++ rest })
+    ≡ Ok (front ++ placed plain place heads vs, behind place (length (attributes_bytes plain heads vs)) rest)
+unfolding each_at
+attributes_spelled plain entries spent front [] [] same each counts few place rest =
+    let here : place ≡ place + 0 = omega arith in
+    ap (λ l. Ok (l, record { place = place; rest = rest })) (sym (append-nil front)) ∙ ap (λ n. Ok (front ++ [], record { place = n; rest = rest })) here
+attributes_spelled plain entries spent front [] (v ∷ vs) same each counts few place rest = absurd (omega (arith, same))
+attributes_spelled plain entries spent front (h ∷ heads) [] same each counts few place rest = absurd (omega (arith, same))
+attributes_spelled plain entries spent front (h ∷ heads) (v ∷ vs) same each counts few place rest =
+    let bytes = values_bytes plain h.comps v in
+    let count : length v.values ≡ entries * h.comps = All-head (λ (h, v). length v.values ≡ entries * h.comps) (h, v) (zip heads vs) counts in
+    let spelled = All-head (λ (h, v). ValuesSpelled plain h v) (h, v) (zip heads vs) each in
+    let total : values_in (v ∷ vs) ≡ length v.values + values_in vs = grind (arith, common_steps) in
+    let more : values_in (front ++ record v { at = place } ∷ []) ≡ values_in front + length v.values = values_in-more front v place in
+    let first = spelled.reads entries (spent + values_in front) place (attributes_bytes plain heads vs ++ rest) count (omega (arith, few, total)) in
+    let others = attributes_bytes plain heads vs in
+    let next = attributes_spelled plain entries spent (front ++ record v { at = place } ∷ []) heads vs (omega (arith, same))
+    (All-tail (λ (h, v). ValuesSpelled plain h v) (h, v) (zip heads vs) each) (All-tail (λ (h, v). length v.values ≡ entries * h.comps) (h, v) (zip heads vs) counts)
+    (omega (arith, few, total, more)) (place + length bytes) rest in
+    let after : place + length bytes + length others ≡ place + length (bytes ++ others) = omega (arith, length-append bytes others) in
+    ap (λ bs. values_at (bare_head h) entries (spent + values_in front) (record { place = place; rest = bs }) >>= λ x. each_at (λ before h. values_at h entries (spent + values_in before)) (front ++ x.0 ∷ []) (map bare_head heads) x.1)
+    (append_assoc bytes others rest)
+    ∙ ap (λ r. r >>= λ x. each_at (λ before h. values_at h entries (spent + values_in before)) (front ++ x.0 ∷ []) (map bare_head heads) x.1) first
+    ∙ next
+    ∙ ap (λ l. Ok (l, record { place = place + length bytes + length others; rest = rest })) (append_assoc front (record v { at = place } ∷ []) (placed plain (place + length bytes) heads vs))
+    ∙ ap (λ n. Ok (front ++ placed plain place (h ∷ heads) (v ∷ vs), record { place = n; rest = rest })) after
+  where
+    values_in-more : (front : List Values) (v : Values) (place : ℕ) → values_in (front ++ record v { at = place } ∷ []) ≡ values_in front + length v.values
+    values_in-more front v place = grind (arith, common_steps)
+
+-- a quantisation whose numbers have 32 bits
+pub Spells-quant : (comps : ℕ) (q : Quant) → length q.min ≡ comps → All (λ m. m < 2 ^ 32) q.min → q.range < 2 ^ 32 → 1 ≤ q.bits → q.bits ≤ 30
+    → Spells (quant_at comps) (flat_map (low_bytes 4) q.min ++ (low_bytes 4 q.range ++ q.bits ∷ [])) q
+unfolding quant_at
+Spells-quant comps q count fit range_fits some few =
+    let bits : (nat_le 1 q.bits && nat_le q.bits 30) ≡ true = grind (arith, some, few) in
+    Spells-then (many_at (number_at 4) comps) (λ m c. number_at 4 c >>= λ r. quant_bits_at r.1 >>= λ b. Ok (record { bits = b.0; range = r.0; min = m }, b.1))
+    (flat_map (low_bytes 4) q.min) (low_bytes 4 q.range ++ q.bits ∷ []) q.min q
+    (subst (λ n. Spells (many_at (number_at 4) n) (flat_map (low_bytes 4) q.min) q.min) count
+    (subst (λ l. Spells (many_at (number_at 4) (length q.min)) (flat_map (low_bytes 4) q.min) l) (map-id q.min)
+    (Spells-all (number_at 4) (low_bytes 4) (λ x. x) q.min
+    (All-weaker (λ m. m < 2 ^ 32) (λ m. Spells (number_at 4) (low_bytes 4 m) m) (λ m fits. Spells-low_bytes 4 m (omega (arith, fits))) q.min fit))))
+    (Spells-then (number_at 4) (λ r c. quant_bits_at c >>= λ b. Ok (record { bits = b.0; range = r; min = q.min }, b.1))
+    (low_bytes 4 q.range) (q.bits ∷ []) q.range q (Spells-low_bytes 4 q.range (omega (arith, range_fits)))
+    (Spells-map (λ b. record { bits = b; range = q.range; min = q.min }) quant_bits_at (q.bits ∷ []) q.bits
+    (Spells-must kind.QuantBits (λ b. nat_le 1 b && nat_le b 30) (number_at 1) (q.bits ∷ []) q.bits bits (Spells-byte q.bits))))
+
+quant_spelled : (h : Head) (o : Option Quant) → HasQuant h o → QuantFits o → Spells (quant_of_at (bare_head h)) (quant_bytes o) o
+unfolding quant_of_at
+quant_spelled h None has fit = record {
+  reads = λ place rest.
+      let here : place ≡ place + 0 = omega arith in
+      rw has (ap (λ n. Ok (None, record { place = n; rest = rest })) here);
+}
+quant_spelled h (Some q) has fit = record {
+  reads = λ place rest.
+      rw has.0 ((Spells-map (λ q. Some q) (quant_at h.comps) (quant_bytes (Some q)) q (Spells-quant h.comps q has.1 fit.0 fit.1 has.2 has.3)).reads place rest);
+}
+
+-- a head gets its quantisation back
+pub quantised_spelled : (h : Head) → HasQuant h h.quant → QuantFits h.quant → Spells (quantised_at (bare_head h)) (quant_bytes h.quant) h
+unfolding quantised_at
+quantised_spelled h has fit = Spells-map (λ o. record h { quant = o }) (quant_of_at (bare_head h)) (quant_bytes h.quant) h.quant (quant_spelled h h.quant has fit)
+
+quants_spelled : (front heads : List Head) → All (λ h. Spells (quantised_at (bare_head h)) (quant_bytes h.quant) h) heads
+    → Spells (each_at (λ _ h. quantised_at h) front (map bare_head heads)) (quants_bytes heads) (front ++ heads)
+unfolding each_at
+quants_spelled front [] each = subst (λ l. Spells (λ c. Ok (front, c)) [] l) (sym (append-nil front)) (Spells-none front)
+quants_spelled front (h ∷ heads) each =
+    Spells-then (quantised_at (bare_head h)) (λ x c. each_at (λ _ g. quantised_at g) (front ++ x ∷ []) (map bare_head heads) c)
+    (quant_bytes h.quant) (quants_bytes heads) h (front ++ (h ∷ heads))
+    (All-head (λ h. Spells (quantised_at (bare_head h)) (quant_bytes h.quant) h) h heads each)
+    (subst (λ l. Spells (each_at (λ _ g. quantised_at g) (front ++ h ∷ []) (map bare_head heads)) (quants_bytes heads) l)
+    (append_assoc front (h ∷ []) heads)
+    (quants_spelled (front ++ h ∷ []) heads (All-tail (λ h. Spells (quantised_at (bare_head h)) (quant_bytes h.quant) h) h heads each)))
+
+-- a decoder's values, and its quantisations
+pub decoder_spelled : (plain : Bool) (entries spent : ℕ) (d : DecoderHead) (vs : List Values) → length vs ≡ length d.heads
+    → All (λ (h, v). ValuesSpelled plain h v) (zip d.heads vs) → All (λ h. Spells (quantised_at (bare_head h)) (quant_bytes h.quant) h) d.heads
+    → HaveEntries entries d.heads vs → spent + values_in vs ≤ MAX_VALUES → (place : ℕ) (rest : List ℕ)
+    → decoder_values_at (bare_decoder d) entries spent (record { place = place; rest = decoder_values_bytes plain d.heads vs ++ rest })
+    ≡ Ok ((placed plain place d.heads vs, d), record { place = place + length (decoder_values_bytes plain d.heads vs); rest = rest })
+unfolding decoder_values_at decoder_values_bytes attributes_at quants_at
+decoder_spelled plain entries spent d vs same each quants counts few place rest =
+    let values = attributes_bytes plain d.heads vs in
+    let first = attributes_spelled plain entries spent [] d.heads vs same each counts (omega (arith, few)) place (quants_bytes d.heads ++ rest) in
+    let second = (quants_spelled [] d.heads quants).reads (place + length values) rest in
+    let after : place + length values + length (quants_bytes d.heads) ≡ place + length (values ++ quants_bytes d.heads) = omega (arith, length-append values (quants_bytes d.heads)) in
+    ap (λ bs. decoder_values_at (bare_decoder d) entries spent (record { place = place; rest = bs })) (append_assoc values (quants_bytes d.heads) rest)
+    ∙ rw (first, second, after) refl
