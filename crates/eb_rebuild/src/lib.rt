@@ -1,0 +1,2 @@
+//! The row machine.
+#![tactic(auto)]
