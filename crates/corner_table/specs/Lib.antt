@@ -1,3 +1,4 @@
 pub mod Sides
 pub mod Fans
 pub mod Carried
+pub mod Links
