@@ -5,3 +5,4 @@ pub mod Boundary
 pub mod Gluings
 pub mod LinkSteps
 pub mod LinkLists
+pub mod TableSteps

@@ -2,3 +2,4 @@ pub mod Sides
 pub mod Fans
 pub mod Carried
 pub mod Links
+pub mod Table

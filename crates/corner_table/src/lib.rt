@@ -4,9 +4,12 @@
 #![tactic(auto)]
 
 mod corner_lists;
+mod entries;
+mod side_table;
 mod steps;
 mod symbols;
 
 pub use corner_lists::{Classes, Order};
+pub use side_table::SideTable;
 pub use steps::Steps;
 pub use symbols::{Event, Symbol};

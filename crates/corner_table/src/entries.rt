@@ -1,0 +1,91 @@
+//! Sides by their numbers, and the writes of a table.
+
+use drc_base::{Memory, Side};
+use std::alloc::Global;
+
+ghost use Rattle.std.specs.Prelude.{◌≡◌, ◌≢◌, ℕ, suc, ◌+◌, ◌*◌, ◌<◌, ◌≤◌, List, length, get_or, set, IfOk, replicate};
+ghost use Rattle.drc_base.specs.declared.limits.TheConstants.{MAX_FACES as most_faces};
+ghost use Rattle.corner_table.specs.Sides.{number, side_at};
+ghost use Rattle.corner_table.specs.Table.{side_of};
+ghost use Rattle.corner_table.specs.Links.{relinked, new_loop};
+
+/// The number 3f + k of a side or corner.
+pub(crate) fn number_of(s: Side) -> u32
+    requires { s.face < most_faces }
+    ensures number { result ≡ number (side_of s) }
+    ensures within { result < 3 * s.face + 3 }
+{
+    3 * s.face + u32::from(s.k)
+}
+
+/// The side or corner with a number.
+pub(crate) fn side_with(number: u32) -> Side
+    ensures { side_of result ≡ side_at number }
+{
+    Side {
+        face: number / 3,
+        k: (number % 3) as u8,
+    }
+}
+
+/// Side `y` follows side `x` from now on.
+fn join(after: &mut [u32], before: &mut [u32], x: u32, y: u32)
+    requires in_after { x < length after.old }
+    requires in_before { y < length before.old }
+    ensures after { after.new ≡ set after.old x y }
+    ensures before { before.new ≡ set before.old y x }
+{
+    after[x as usize] = y;
+    before[y as usize] = x;
+}
+
+/// Links the three sides of a new face.
+pub(crate) fn link_face(after: &mut [u32], before: &mut [u32], face: u32)
+    requires limit { face < most_faces }
+    requires in_after { 3 * face + 3 ≤ length after.old }
+    requires in_before { 3 * face + 3 ≤ length before.old }
+    ensures after { after.new ≡ (new_loop face (after.old, before.old)).0 }
+    ensures before { before.new ≡ (new_loop face (after.old, before.old)).1 }
+{
+    let first = 3 * face;
+    join(after, before, first, first + 1);
+    join(after, before, first + 1, first + 2);
+    join(after, before, first + 2, first);
+}
+
+/// Takes two free sides out of the boundary: what comes before each is joined to what follows the
+/// other. A side that is alone in its loop has no neighbour to join; both its ends are one vertex.
+pub(crate) fn relink(after: &mut [u32], before: &mut [u32], a: u32, b: u32)
+    requires a_after { a < length after.old }
+    requires a_before { a < length before.old }
+    requires b_after { b < length after.old }
+    requires b_before { b < length before.old }
+    requires next_a { get_or after.old a 0 < length before.old }
+    requires next_b { get_or after.old b 0 < length before.old }
+    requires previous_a { get_or before.old a 0 < length after.old }
+    requires previous_b { get_or before.old b 0 < length after.old }
+    ensures after { after.new ≡ (relinked a b (after.old, before.old)).0 }
+    ensures before { before.new ≡ (relinked a b (after.old, before.old)).1 }
+{
+    let next_a = after[a as usize];
+    let next_b = after[b as usize];
+    let previous_a = before[a as usize];
+    let previous_b = before[b as usize];
+    if next_a == a {
+        if next_b != b {
+            join(after, before, previous_b, next_b);
+        }
+    } else if next_b == b {
+        join(after, before, previous_a, next_a);
+    } else {
+        join(after, before, previous_a, next_b);
+        join(after, before, previous_b, next_a);
+    }
+}
+
+/// A list of one number, as often as is said.
+pub(crate) fn filled(alloc: Global, value: u32, count: usize) -> Result<Vec<u32>, Memory>
+    ensures { IfOk result (λ v. v.items ≡ replicate count value) }
+{
+    Ok(vec![in alloc; value; count]?)
+}
