@@ -153,3 +153,77 @@ glued_in-set l a b faces h k ne room most = fun_ext at
             ap other_at (get_or-set_other (set l (number a) (number b)) (number b) (number x) (number a) free_entry (number_apart x b n)
                 ∙ get_or-set_other l (number a) (number x) (number b) free_entry (number_apart x a m))
             ∙ sym q ]
+
+-- what a free side's links lead to lies within the lists
+pub next_within : {faces : ℕ} {across after before : List ℕ} → IsSideTable faces across after before → (x : Side) → IsFree faces (glued_in across) x → get_or after (number x) 0 < 3 * faces
+next_within T x X = let e = T.linked.after_is x X in let n = number-lt (side_after _ _ x) _ (side_after-follows T.gluing x X).free.within in omega arith
+
+pub previous_within : {faces : ℕ} {across after before : List ℕ} → IsSideTable faces across after before → (x : Side) → IsFree faces (glued_in across) x → get_or before (number x) 0 < 3 * faces
+previous_within T x X = let e = T.linked.before_is x X in let n = number-lt (side_before _ _ x) _ (side_before-follows T.gluing x X).0.within in omega arith
+
+-- the table with one more face
+pub table_grown : {faces : ℕ} {across after before : List ℕ} → IsSideTable faces across after before → 3 * suc faces ≤ length across →
+    IsSideTable (suc faces) across (new_loop faces (after, before)).0 (new_loop faces (after, before)).1
+table_grown {faces} {across} {after} {before} T h = record {
+    limit = T.limit;
+    fits = h;
+    after_room = length-set _ _ _ ∙ length-set _ _ _ ∙ length-set _ _ _ ∙ T.after_room;
+    before_room = length-set _ _ _ ∙ length-set _ _ _ ∙ length-set _ _ _ ∙ T.before_room;
+    gluing = more_faces (suc faces) (omega arith) T.gluing;
+    linked = new_loop_linked faces (glued_in across) after before T.gluing T.linked (let e = T.after_room in omega arith) (let e = T.before_room in omega arith) }
+
+abbrev same_lengths : ℕ → List ℕ × List ℕ → Type 0
+same_lengths n links = (length links.0 ≡ n) × (length links.1 ≡ n)
+
+joined-lengths : (n x y : ℕ) (links : List ℕ × List ℕ) → same_lengths n links → same_lengths n (joined x y links)
+joined-lengths n x y links h = (length-set links.0 x y ∙ h.0, length-set links.1 y x ∙ h.1)
+
+relinked-lengths : (n a b : ℕ) (links : List ℕ × List ℕ) → same_lengths n links → same_lengths n (relinked a b links)
+relinked-lengths n a b links h =
+    both (eqb (get_or links.0 a 0) a) _ _ (both (eqb (get_or links.0 b 0) b) _ _ h (joined-lengths n _ _ links h))
+        (both (eqb (get_or links.0 b 0) b) _ _ (joined-lengths n _ _ links h) (joined-lengths n _ _ (joined _ _ links) (joined-lengths n _ _ links h)))
+  where
+    both : (t : Bool) (x y : List ℕ × List ℕ) → same_lengths n x → same_lengths n y → same_lengths n (cond t x y)
+    both true x y p q = p
+    both false x y p q = q
+
+-- the table with two sides glued
+pub table_glued : {faces : ℕ} {across after before : List ℕ} (a b : Side) → IsSideTable faces across after before → IsFree faces (glued_in across) a → IsFree faces (glued_in across) b → a.face ≢ b.face →
+    IsSideTable faces (set (set across (number a) (number b)) (number b) (number a)) (relinked (number a) (number b) (after, before)).0 (relinked (number a) (number b) (after, before)).1
+table_glued {faces} {across} {after} {before} a b T A B h = record {
+    limit = (let e = longs in let l = T.limit in omega arith);
+    fits = (let e = longs in let l = T.fits in omega arith);
+    after_room = (relinked-lengths (length across) _ _ (after, before) (T.after_room, T.before_room)).0 ∙ sym longs;
+    before_room = (relinked-lengths (length across) _ _ (after, before) (T.after_room, T.before_room)).1 ∙ sym longs;
+    gluing = subst (IsGluing faces) (sym same) (glued_is a b T.gluing A B h);
+    linked = subst (λ (g : Gluing). IsLinked faces g (relinked (number a) (number b) (after, before)).0 (relinked (number a) (number b) (after, before)).1) (sym same)
+        (relinked_linked faces (glued_in across) a b after before (record {
+            gluing = T.gluing; first_free = A; second_free = B; apart = h; linked = T.linked;
+            room_after = (let e = T.after_room in let l = T.fits in omega arith); room_before = (let e = T.before_room in let l = T.fits in omega arith) })) }
+  where
+    longs : length (set (set across (number a) (number b)) (number b) (number a)) ≡ length across
+    longs = length-set (set across (number a) (number b)) (number b) (number a) ∙ length-set across (number a) (number b)
+    same : glued_in (set (set across (number a) (number b)) (number b) (number a)) ≡ glue a b (glued_in across)
+    same = glued_in-set across a b faces A.within B.within (face_apart a b h) T.fits (let l = T.limit in let m = T.fits in omega arith)
+
+-- the empty table
+get_or-replicate : (n v i : ℕ) → get_or (replicate n v) i v ≡ v
+get_or-replicate zero v i = refl
+get_or-replicate (suc n) v zero = refl
+get_or-replicate (suc n) v (suc i) = get_or-replicate n v i
+
+pub glued_in-replicate : (n : ℕ) → glued_in (replicate n free_entry) ≡ unglued
+glued_in-replicate n = fun_ext (λ x. ap other_at (get_or-replicate n free_entry (number x)))
+
+pub length-replicate : (n v : ℕ) → length (replicate n v) ≡ n
+length-replicate zero v = refl
+length-replicate (suc n) v = ap suc (length-replicate n v)
+
+pub table_empty : (room : ℕ) → room ≤ MAX_FACES → IsSideTable 0 (replicate (3 * room) free_entry) (replicate (3 * room) 0) (replicate (3 * room) 0)
+table_empty room h = record {
+    limit = (let e = length-replicate (3 * room) free_entry in omega arith);
+    fits = omega arith;
+    after_room = length-replicate (3 * room) 0 ∙ sym (length-replicate (3 * room) free_entry);
+    before_room = length-replicate (3 * room) 0 ∙ sym (length-replicate (3 * room) free_entry);
+    gluing = subst (IsGluing 0) (sym (glued_in-replicate (3 * room))) (unglued_is 0);
+    linked = record { after_is = λ x X. absurd (let w = X.within in omega arith); before_is = λ x X. absurd (let w = X.within in omega arith) } }

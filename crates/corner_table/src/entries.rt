@@ -3,9 +3,9 @@
 use drc_base::{Memory, Side};
 use std::alloc::Global;
 
-ghost use Rattle.std.specs.Prelude.{◌≡◌, ◌≢◌, ℕ, suc, ◌+◌, ◌*◌, ◌<◌, ◌≤◌, List, length, get_or, set, IfOk, replicate};
+ghost use Rattle.std.specs.Prelude.{◌≡◌, ◌≢◌, ℕ, suc, ◌+◌, ◌*◌, ◌<◌, ◌≤◌, get_or, set, vec_len, IfOk, replicate};
 ghost use Rattle.drc_base.specs.declared.limits.TheConstants.{MAX_FACES as most_faces};
-ghost use Rattle.corner_table.specs.Sides.{number, side_at};
+ghost use Rattle.corner_table.specs.Sides.{next, prev, number, side_at};
 ghost use Rattle.corner_table.specs.Table.{side_of};
 ghost use Rattle.corner_table.specs.Links.{relinked, new_loop};
 
@@ -28,24 +28,52 @@ pub(crate) fn side_with(number: u32) -> Side
     }
 }
 
+/// The corner after `c` in its face.
+pub(crate) fn next_of(c: Side) -> Side
+    ensures { side_of result ≡ next (side_of c) }
+{
+    let k = match c.k {
+        0 => 1,
+        1 => 2,
+        _ => 0,
+    };
+    Side { face: c.face, k }
+}
+
+/// The corner before `c` in its face.
+pub(crate) fn previous_of(c: Side) -> Side
+    ensures { side_of result ≡ prev (side_of c) }
+{
+    let k = match c.k {
+        0 => 2,
+        1 => 0,
+        _ => 1,
+    };
+    Side { face: c.face, k }
+}
+
 /// Side `y` follows side `x` from now on.
-fn join(after: &mut [u32], before: &mut [u32], x: u32, y: u32)
-    requires in_after { x < length after.old }
-    requires in_before { y < length before.old }
-    ensures after { after.new ≡ set after.old x y }
-    ensures before { before.new ≡ set before.old y x }
+fn join(after: &mut Vec<u32>, before: &mut Vec<u32>, x: u32, y: u32)
+    requires in_after { x < vec_len after.old }
+    requires in_before { y < vec_len before.old }
+    ensures after_len { vec_len after.new ≡ vec_len after.old }
+    ensures before_len { vec_len before.new ≡ vec_len before.old }
+    ensures after { after.new.items ≡ set after.old.items x y }
+    ensures before { before.new.items ≡ set before.old.items y x }
 {
     after[x as usize] = y;
     before[y as usize] = x;
 }
 
 /// Links the three sides of a new face.
-pub(crate) fn link_face(after: &mut [u32], before: &mut [u32], face: u32)
+pub(crate) fn link_face(after: &mut Vec<u32>, before: &mut Vec<u32>, face: u32)
     requires limit { face < most_faces }
-    requires in_after { 3 * face + 3 ≤ length after.old }
-    requires in_before { 3 * face + 3 ≤ length before.old }
-    ensures after { after.new ≡ (new_loop face (after.old, before.old)).0 }
-    ensures before { before.new ≡ (new_loop face (after.old, before.old)).1 }
+    requires in_after { 3 * face + 3 ≤ vec_len after.old }
+    requires in_before { 3 * face + 3 ≤ vec_len before.old }
+    ensures after_len { vec_len after.new ≡ vec_len after.old }
+    ensures before_len { vec_len before.new ≡ vec_len before.old }
+    ensures after { after.new.items ≡ (new_loop face (after.old.items, before.old.items)).0 }
+    ensures before { before.new.items ≡ (new_loop face (after.old.items, before.old.items)).1 }
 {
     let first = 3 * face;
     join(after, before, first, first + 1);
@@ -55,17 +83,19 @@ pub(crate) fn link_face(after: &mut [u32], before: &mut [u32], face: u32)
 
 /// Takes two free sides out of the boundary: what comes before each is joined to what follows the
 /// other. A side that is alone in its loop has no neighbour to join; both its ends are one vertex.
-pub(crate) fn relink(after: &mut [u32], before: &mut [u32], a: u32, b: u32)
-    requires a_after { a < length after.old }
-    requires a_before { a < length before.old }
-    requires b_after { b < length after.old }
-    requires b_before { b < length before.old }
-    requires next_a { get_or after.old a 0 < length before.old }
-    requires next_b { get_or after.old b 0 < length before.old }
-    requires previous_a { get_or before.old a 0 < length after.old }
-    requires previous_b { get_or before.old b 0 < length after.old }
-    ensures after { after.new ≡ (relinked a b (after.old, before.old)).0 }
-    ensures before { before.new ≡ (relinked a b (after.old, before.old)).1 }
+pub(crate) fn relink(after: &mut Vec<u32>, before: &mut Vec<u32>, a: u32, b: u32)
+    requires a_after { a < vec_len after.old }
+    requires a_before { a < vec_len before.old }
+    requires b_after { b < vec_len after.old }
+    requires b_before { b < vec_len before.old }
+    requires next_a { get_or after.old.items a 0 < vec_len before.old }
+    requires next_b { get_or after.old.items b 0 < vec_len before.old }
+    requires previous_a { get_or before.old.items a 0 < vec_len after.old }
+    requires previous_b { get_or before.old.items b 0 < vec_len after.old }
+    ensures after_len { vec_len after.new ≡ vec_len after.old }
+    ensures before_len { vec_len before.new ≡ vec_len before.old }
+    ensures after { after.new.items ≡ (relinked a b (after.old.items, before.old.items)).0 }
+    ensures before { before.new.items ≡ (relinked a b (after.old.items, before.old.items)).1 }
 {
     let next_a = after[a as usize];
     let next_b = after[b as usize];
