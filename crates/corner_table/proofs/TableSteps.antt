@@ -227,3 +227,10 @@ table_empty room h = record {
     before_room = length-replicate (3 * room) 0 ∙ sym (length-replicate (3 * room) free_entry);
     gluing = subst (IsGluing 0) (sym (glued_in-replicate (3 * room))) (unglued_is 0);
     linked = record { after_is = λ x X. absurd (let w = X.within in omega arith); before_is = λ x X. absurd (let w = X.within in omega arith) } }
+
+-- what the links of a free side tell
+pub next_is : {faces : ℕ} {across after before : List ℕ} → IsSideTable faces across after before → (x : Side) → IsFree faces (glued_in across) x → side_at (get_or after (number x) 0) ≡ side_after faces (glued_in across) x
+next_is {faces} {across} T x X = ap side_at (T.linked.after_is x X) ∙ side_at-number (side_after faces (glued_in across) x)
+
+pub previous_is : {faces : ℕ} {across after before : List ℕ} → IsSideTable faces across after before → (x : Side) → IsFree faces (glued_in across) x → side_at (get_or before (number x) 0) ≡ side_before faces (glued_in across) x
+previous_is {faces} {across} T x X = ap side_at (T.linked.before_is x X) ∙ side_at-number (side_before faces (glued_in across) x)

@@ -28,6 +28,14 @@ pub(crate) fn side_with(number: u32) -> Side
     }
 }
 
+/// The entry with a number.
+pub(crate) fn entry_at(entries: &Vec<u32>, number: u32) -> u32
+    requires { number < vec_len entries.now }
+    ensures { result ≡ get_or entries.now.items number 0 }
+{
+    entries[number as usize]
+}
+
 /// The corner after `c` in its face.
 pub(crate) fn next_of(c: Side) -> Side
     ensures { side_of result ≡ next (side_of c) }

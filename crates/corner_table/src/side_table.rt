@@ -4,7 +4,7 @@
 //! free side that follows it round the boundary and the one before it, so that the ends of an open
 //! fan are found without a walk.
 
-use crate::entries::{filled, link_face, next_of, number_of, previous_of, relink, side_with};
+use crate::entries::{entry_at, filled, link_face, next_of, number_of, previous_of, relink, side_with};
 use crate::steps::Steps;
 use drc_base::{MAX_FACES, Memory, Side};
 use std::alloc::Global;
@@ -156,7 +156,7 @@ impl SideTable {
     {
         steps.tick();
         let _ = &self.faces;
-        side_with(self.after[number_of(s) as usize])
+        side_with(entry_at(&self.after, number_of(s)))
     }
 
     /// The free side that ends at the vertex where the free side `s` starts: the one before it round
@@ -173,7 +173,7 @@ impl SideTable {
     {
         steps.tick();
         let _ = &self.faces;
-        side_with(self.before[number_of(s) as usize])
+        side_with(entry_at(&self.before, number_of(s)))
     }
 
     /// The side that `s` is glued to.
