@@ -6,3 +6,5 @@ pub mod Gluings
 pub mod LinkSteps
 pub mod LinkLists
 pub mod TableSteps
+pub mod Labelling
+pub mod LabelAll

@@ -207,7 +207,7 @@ table_glued {faces} {across} {after} {before} a b T A B h = record {
     same = glued_in-set across a b faces A.within B.within (face_apart a b h) T.fits (let l = T.limit in let m = T.fits in omega arith)
 
 -- the empty table
-get_or-replicate : (n v i : ℕ) → get_or (replicate n v) i v ≡ v
+pub get_or-replicate : (n v i : ℕ) → get_or (replicate n v) i v ≡ v
 get_or-replicate zero v i = refl
 get_or-replicate (suc n) v zero = refl
 get_or-replicate (suc n) v (suc i) = get_or-replicate n v i
@@ -234,3 +234,10 @@ next_is {faces} {across} T x X = ap side_at (T.linked.after_is x X) ∙ side_at-
 
 pub previous_is : {faces : ℕ} {across after before : List ℕ} → IsSideTable faces across after before → (x : Side) → IsFree faces (glued_in across) x → side_at (get_or before (number x) 0) ≡ side_before faces (glued_in across) x
 previous_is {faces} {across} T x X = ap side_at (T.linked.before_is x X) ∙ side_at-number (side_before faces (glued_in across) x)
+
+-- an entry that isn't free is a side of one of the faces
+pub entry_within : {faces : ℕ} {across after before : List ℕ} → IsSideTable faces across after before → (x : Side) (v : ℕ) → v ≡ get_or across (number x) free_entry → v ≢ free_entry → v / 3 < faces
+entry_within {faces} {across} T x v e h =
+    let is : glued_in across x ≡ Some (side_at v) =
+        ap other_at (sym e) ∙ (elim (cases_Bool (eqb v free_entry)) [ inl t ↦ absurd (h (eqb-true v free_entry t)) | inr t ↦ cond-false _ _ _ t ]) in
+    T.gluing.within (side_at v) x (T.gluing.paired x (side_at v) is)

@@ -3,3 +3,4 @@ pub mod Fans
 pub mod Carried
 pub mod Links
 pub mod Table
+pub mod Labels

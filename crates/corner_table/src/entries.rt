@@ -3,10 +3,10 @@
 use drc_base::{Memory, Side};
 use std::alloc::Global;
 
-ghost use Rattle.std.specs.Prelude.{◌≡◌, ◌≢◌, ℕ, suc, ◌+◌, ◌*◌, ◌<◌, ◌≤◌, get_or, set, vec_len, IfOk, replicate};
+ghost use Rattle.std.specs.Prelude.{◌≡◌, ◌≢◌, ℕ, suc, ◌+◌, ◌*◌, ◌/◌, ◌<◌, ◌≤◌, get_or, set, vec_len, IfOk, replicate};
 ghost use Rattle.drc_base.specs.declared.limits.TheConstants.{MAX_FACES as most_faces};
 ghost use Rattle.corner_table.specs.Sides.{next, prev, number, side_at};
-ghost use Rattle.corner_table.specs.Table.{side_of};
+ghost use Rattle.corner_table.specs.Table.{side_of, free_entry};
 ghost use Rattle.corner_table.specs.Links.{relinked, new_loop};
 
 /// The number 3f + k of a side or corner.
@@ -34,6 +34,32 @@ pub(crate) fn entry_at(entries: &Vec<u32>, number: u32) -> u32
     ensures { result ≡ get_or entries.now.items number 0 }
 {
     entries[number as usize]
+}
+
+/// The entry with a number, as a gluing reads it.
+pub(crate) fn entry_or_free(entries: &Vec<u32>, number: u32) -> u32
+    requires { number < vec_len entries.now }
+    ensures { result ≡ get_or entries.now.items number free_entry }
+{
+    entries[number as usize]
+}
+
+/// The number of the corner after one in its face.
+pub(crate) fn next_number(corner: u32) -> u32
+    requires { corner < free_entry }
+    ensures number { result ≡ number (next (side_at corner)) }
+    ensures face { result / 3 ≡ corner / 3 }
+{
+    if corner % 3 == 2 { corner - 2 } else { corner + 1 }
+}
+
+/// The number of the corner before one in its face.
+pub(crate) fn previous_number(corner: u32) -> u32
+    requires { corner < free_entry }
+    ensures number { result ≡ number (prev (side_at corner)) }
+    ensures face { result / 3 ≡ corner / 3 }
+{
+    if corner % 3 == 0 { corner + 2 } else { corner - 1 }
 }
 
 /// The corner after `c` in its face.
@@ -123,7 +149,8 @@ pub(crate) fn relink(after: &mut Vec<u32>, before: &mut Vec<u32>, a: u32, b: u32
 
 /// A list of one number, as often as is said.
 pub(crate) fn filled(alloc: Global, value: u32, count: usize) -> Result<Vec<u32>, Memory>
-    ensures { IfOk result (λ v. v.items ≡ replicate count value) }
+    ensures items { IfOk result (λ v. v.items ≡ replicate count value) }
+    ensures len { IfOk result (λ v. vec_len v ≡ count) }
 {
     Ok(vec![in alloc; value; count]?)
 }

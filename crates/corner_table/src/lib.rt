@@ -5,6 +5,7 @@
 
 mod corner_lists;
 mod entries;
+mod labels;
 mod side_table;
 mod steps;
 mod symbols;

@@ -4,7 +4,10 @@
 //! free side that follows it round the boundary and the one before it, so that the ends of an open
 //! fan are found without a walk.
 
-use crate::entries::{entry_at, filled, link_face, next_of, number_of, previous_of, relink, side_with};
+use crate::entries::{
+    entry_at, entry_or_free, filled, link_face, next_number, next_of, number_of, previous_number,
+    previous_of, relink, side_with,
+};
 use crate::steps::Steps;
 use drc_base::{MAX_FACES, Memory, Side};
 use std::alloc::Global;
@@ -35,10 +38,10 @@ impl Model for SideTable {
 }
 
 impl SideTable {
-    ghost use Rattle.std.specs.Prelude.{◌≡◌, ◌≢◌, ℕ, suc, ◌+◌, ◌*◌, ◌/◌, ◌<◌, ◌≤◌, IfOk, length};
+    ghost use Rattle.std.specs.Prelude.{◌≡◌, ◌≢◌, ℕ, suc, ◌+◌, ◌*◌, ◌/◌, ◌<◌, ◌≤◌, IfOk, IfSome, length};
     ghost use Rattle.std.specs.Option.{option_map};
     ghost use Rattle.drc_base.specs.declared.limits.TheConstants.{MAX_FACES as most_faces};
-    ghost use Rattle.corner_table.specs.Sides.{Side as side_value, unglued, glue, IsGluing};
+    ghost use Rattle.corner_table.specs.Sides.{Side as side_value, side_at, unglued, glue, IsGluing};
     ghost use Rattle.corner_table.specs.Fans.{swing_left, swing_right, side_after, side_before, Follows};
     ghost use Rattle.corner_table.specs.Table.{side_of, gluing_of, room_of, IsFreeIn};
 
@@ -184,5 +187,27 @@ impl SideTable {
         let _ = &self.faces;
         let entry = self.across[number_of(s) as usize];
         if entry == FREE { None } else { Some(side_with(entry)) }
+    }
+
+    /// The next corner to the left round the vertex of a corner, by their numbers.
+    pub(crate) fn left_of(&self, corner: u32) -> Option<u32>
+        requires { corner < 3 * self.now.faces }
+        ensures corner { option_map side_at result ≡ swing_left (gluing_of self.now) (side_at corner) }
+        ensures within { IfSome result (λ n. n < 3 * self.now.faces) }
+    {
+        let _ = &self.faces;
+        let side = entry_or_free(&self.across, next_number(corner));
+        if side == FREE { None } else { Some(next_number(side)) }
+    }
+
+    /// The next corner to the right round the vertex of a corner, by their numbers.
+    pub(crate) fn right_of(&self, corner: u32) -> Option<u32>
+        requires { corner < 3 * self.now.faces }
+        ensures corner { option_map side_at result ≡ swing_right (gluing_of self.now) (side_at corner) }
+        ensures within { IfSome result (λ n. n < 3 * self.now.faces) }
+    {
+        let _ = &self.faces;
+        let side = entry_or_free(&self.across, previous_number(corner));
+        if side == FREE { None } else { Some(previous_number(side)) }
     }
 }
