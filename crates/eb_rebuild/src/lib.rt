@@ -1,2 +1,10 @@
-//! The row machine.
+//! Rebuilding a surface from Edgebreaker symbols in reverse (Rossignac 1999; Isenburg and Snoeyink
+//! 2001; Draco Bitstream Specification 2.2, Edgebreaker). The contract above it is the trait
+//! `Rebuild`: each call gives the next state of the machine, or exactly the fault of its rule.
 #![tactic(auto)]
+
+mod built;
+mod rebuild;
+
+pub use built::Built;
+pub use rebuild::Rebuild;
