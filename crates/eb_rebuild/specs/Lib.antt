@@ -1,3 +1,4 @@
 pub mod Machine
 pub mod Degree
 pub mod Rebuilding
+pub mod Kept

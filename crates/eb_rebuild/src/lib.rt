@@ -5,6 +5,7 @@
 
 mod built;
 mod rebuild;
+mod side_stack;
 
 pub use built::Built;
 pub use rebuild::Rebuild;

@@ -1,0 +1,20 @@
+-- Lists that are read from a place downwards.
+use Rattle.std.proofs.Common.{◌≡◌, ◌≢◌, ℕ, zero, suc, ◌+◌, ◌*◌, ◌<◌, ◌≤◌, List, [], ◌∷◌, ◌++◌, length, get_or, set, take, reverse, sym, refl, ap, ◌∙◌, subst, arith, get_or-set_other, get_or-set_same}
+use Rattle.eb_rebuild.specs.Kept.{counted_down}
+
+-- how many
+pub length-counted_down : {A : Type 0} (d : A) (n : ℕ) (xs : List A) → length (counted_down d n xs) ≡ n
+length-counted_down d zero xs = refl
+length-counted_down d (suc n) xs = ap suc (length-counted_down d n xs)
+
+-- a write at or above the place isn't seen
+pub counted_down-set : {A : Type 0} (d : A) (n i : ℕ) (xs : List A) (v : A) → n ≤ i → counted_down d n (set xs i v) ≡ counted_down d n xs
+counted_down-set d zero i xs v h = refl
+counted_down-set {A} d (suc n) i xs v h =
+    let e : get_or (set xs i v) n d ≡ get_or xs n d = (let ne : n ≢ i = omega arith in get_or-set_other xs i n v d ne) in
+    ap (λ (a : A). a ∷ counted_down d n (set xs i v)) e ∙ ap (λ (l : List A). get_or xs n d ∷ l) (counted_down-set d n i xs v (omega arith))
+
+-- one more on top
+pub counted_down_push : {A : Type 0} (d : A) (n : ℕ) (xs : List A) (v : A) → n < length xs → counted_down d (suc n) (set xs n v) ≡ v ∷ counted_down d n xs
+counted_down_push {A} d n xs v h =
+    ap (λ (a : A). a ∷ counted_down d n (set xs n v)) (get_or-set_same xs n v d h) ∙ ap (λ (l : List A). v ∷ l) (counted_down-set d n n xs v (omega arith))
