@@ -1,2 +1,3 @@
 mod Rows
 pub mod Lists
+pub mod Noting

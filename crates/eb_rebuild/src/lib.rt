@@ -6,6 +6,7 @@
 mod built;
 mod rebuild;
 mod side_stack;
+mod splits;
 
 pub use built::Built;
 pub use rebuild::Rebuild;
