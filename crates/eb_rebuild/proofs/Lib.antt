@@ -1,3 +1,4 @@
 mod Rows
 pub mod Lists
 pub mod Noting
+pub mod Steps

@@ -2,3 +2,4 @@ pub mod Machine
 pub mod Degree
 pub mod Rebuilding
 pub mod Kept
+pub mod Linked
