@@ -1,5 +1,5 @@
 -- The rules of the machine, one outcome at a time.
-use Rattle.std.proofs.Common.{◌≡◌, ◌≢◌, ℕ, zero, suc, ◌+◌, ◌-◌, ◌*◌, ◌<◌, ◌≤◌, Bool, true, false, not, ◌&&◌, cond, eqb, ◌==◌, is_none, List, [], ◌∷◌, Option, Some, None, Result, Ok, Err, ◌⊎◌, inl, inr, sym, refl, ap, ◌∙◌, subst, arith}
+use Rattle.std.proofs.Common.{◌≡◌, ◌≢◌, ℕ, zero, suc, ◌+◌, ◌-◌, ◌*◌, ◌<◌, ◌≤◌, Bool, true, false, not, ◌&&◌, cond, eqb, ◌==◌, is_none, List, [], ◌∷◌, Option, Some, None, Result, Ok, Err, ◌⊎◌, inl, inr, sym, refl, ap, ◌∙◌, subst, arith, eq-eqb, ne_eqb}
 use Rattle.drc_base.specs.declared.kinds.Kind.{Kind}
 use Rattle.drc_base.specs.declared.kinds.Kind.TheVariants as kind
 use Rattle.drc_base.specs.declared.faults.Fault.{Fault}
@@ -171,3 +171,51 @@ split_steps n s b a rest left t u h e =
     split_to_point n s b a rest left t u h
     ∙ must_hold (not (same (side_before s.built s.glued b) a)) kind.SamePoint s.built (λ v. Ok (record (grown s (glue (side s.built second) b (glue (side s.built third) a s.glued)) left 0) { reserved = release s.built s.reserved }))
         (ap not (not_same (side_before s.built s.glued b) a e))
+
+-- a side is closed as a boundary
+pub close_boundary : (p : Plan) (s : State) (a : Side) (rest : List Side) → s.stack ≡ a ∷ rest → close p false s ≡ Ok (the_state s.built s.glued rest s.reserved s.events s.made (suc s.closes))
+unfolding close
+close_boundary p s a rest e = ap (λ (t : List Side). close_top (p.symbols + s.closes) p false t s) e
+
+-- or its loop is filled
+pub close_interior : (p : Plan) (s : State) (a : Side) (rest : List Side) → s.stack ≡ a ∷ rest → close p true s ≡ fill (p.symbols + s.closes) p a rest s
+unfolding close
+close_interior p s a rest e = ap (λ (t : List Side). close_top (p.symbols + s.closes) p true t s) e
+
+abbrev pub loop_test : State → Side → Bool
+loop_test s a =
+    let b = side_before s.built s.glued a in
+    let c = side_before s.built s.glued b in
+    not (same b a) && not (same c a) && same (side_before s.built s.glued c) a
+
+abbrev pub filled_state : Side → List Side → State → State
+filled_state a rest s =
+    let b = side_before s.built s.glued a in
+    let c = side_before s.built s.glued b in
+    the_state (suc s.built) (glue (side s.built third) c (glue (side s.built second) b (glue (side s.built first) a s.glued))) rest s.reserved s.events s.made (suc s.closes)
+
+abbrev pub fill_count : Plan → Side → List Side → State → Unit {0} → Next
+fill_count p a rest s u = must (not (s.built == p.faces)) kind.FaceCount s.built >>= λ v. Ok (filled_state a rest s)
+
+abbrev pub fill_loop : ℕ → Plan → Side → List Side → State → Unit {0} → Next
+fill_loop n p a rest s u = must (loop_test s a) kind.Loop n >>= fill_count p a rest s
+
+pub fill_gone : (n : ℕ) (p : Plan) (s : State) (a x : Side) (rest : List Side) → s.glued a ≡ Some x → fill n p a rest s ≡ Err (fault kind.Gone n)
+fill_gone n p s a x rest e = must_fail (is_none (s.glued a)) kind.Gone n (fill_loop n p a rest s) (ap {A = Option Side} is_none e)
+
+pub fill_no_loop : (n : ℕ) (p : Plan) (s : State) (a : Side) (rest : List Side) → s.glued a ≡ None → loop_test s a ≡ false → fill n p a rest s ≡ Err (fault kind.Loop n)
+fill_no_loop n p s a rest e h =
+    must_hold (is_none (s.glued a)) kind.Gone n (fill_loop n p a rest s) (ap {A = Option Side} is_none e)
+    ∙ must_fail (loop_test s a) kind.Loop n (fill_count p a rest s) h
+
+pub fill_full : (n : ℕ) (p : Plan) (s : State) (a : Side) (rest : List Side) → s.glued a ≡ None → loop_test s a ≡ true → s.built ≡ p.faces → fill n p a rest s ≡ Err (fault kind.FaceCount s.built)
+fill_full n p s a rest e h q =
+    must_hold (is_none (s.glued a)) kind.Gone n (fill_loop n p a rest s) (ap {A = Option Side} is_none e)
+    ∙ must_hold (loop_test s a) kind.Loop n (fill_count p a rest s) h
+    ∙ must_fail (not (s.built == p.faces)) kind.FaceCount s.built (λ v. Ok (filled_state a rest s)) (ap not (eq-eqb s.built p.faces q))
+
+pub fill_steps : (n : ℕ) (p : Plan) (s : State) (a : Side) (rest : List Side) → s.glued a ≡ None → loop_test s a ≡ true → s.built ≢ p.faces → fill n p a rest s ≡ Ok (filled_state a rest s)
+fill_steps n p s a rest e h q =
+    must_hold (is_none (s.glued a)) kind.Gone n (fill_loop n p a rest s) (ap {A = Option Side} is_none e)
+    ∙ must_hold (loop_test s a) kind.Loop n (fill_count p a rest s) h
+    ∙ must_hold (not (s.built == p.faces)) kind.FaceCount s.built (λ v. Ok (filled_state a rest s)) (ap not (ne_eqb s.built p.faces q))

@@ -4,9 +4,11 @@
 #![tactic(auto)]
 
 mod built;
+mod link_rebuild;
 mod rebuild;
 mod side_stack;
 mod splits;
 
 pub use built::Built;
+pub use link_rebuild::LinkRebuild;
 pub use rebuild::Rebuild;
