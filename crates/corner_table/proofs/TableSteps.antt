@@ -36,7 +36,7 @@ before_more {faces} {g} G x X =
     sym (side_before_only (more_faces (suc faces) (omega arith) G) (side_before faces g x) x (free_more (side_before faces g x) f.0) (follows_more (side_before faces g x) x f.1))
 
 -- the sides of a new face
-new_side : {faces : ℕ} {g : Gluing} → IsGluing faces g → (k : Place) → IsFree (suc faces) g (side faces k)
+pub new_side : {faces : ℕ} {g : Gluing} → IsGluing faces g → (k : Place) → IsFree (suc faces) g (side faces k)
 new_side {faces} G k = record { within = omega arith; free = new_free G (side faces k) (omega arith) }
 
 new_follows : {faces : ℕ} {g : Gluing} → IsGluing faces g → (j k : Place) → prev (side faces j) ≡ next (side faces k) → Follows (suc faces) g (side faces j) (side faces k)

@@ -41,7 +41,7 @@ impl SideTable {
     ghost use Rattle.std.specs.Prelude.{◌≡◌, ◌≢◌, ℕ, suc, ◌+◌, ◌*◌, ◌/◌, ◌<◌, ◌≤◌, IfOk, IfSome, length};
     ghost use Rattle.std.specs.Option.{option_map};
     ghost use Rattle.drc_base.specs.declared.limits.TheConstants.{MAX_FACES as most_faces};
-    ghost use Rattle.corner_table.specs.Sides.{Side as side_value, side_at, unglued, glue, IsGluing};
+    ghost use Rattle.corner_table.specs.Sides.{Side as side_value, Place, side, side_at, unglued, glue, IsGluing};
     ghost use Rattle.corner_table.specs.Fans.{swing_left, swing_right, side_after, side_before, Follows};
     ghost use Rattle.corner_table.specs.Table.{side_of, gluing_of, room_of, IsFreeIn};
 
@@ -80,6 +80,7 @@ impl SideTable {
         ensures face { result ≡ self.old.faces }
         ensures faces { self.new.faces ≡ self.old.faces + 1 }
         ensures entries { self.new.entries ≡ self.old.entries }
+        ensures free { (k : Place) → IsFreeIn self.new (side result k) }
         ensures steps { steps.new ≡ steps.old + 1 }
     {
         steps.tick();

@@ -2,3 +2,4 @@ mod Rows
 pub mod Lists
 pub mod Noting
 pub mod Steps
+pub mod Linking

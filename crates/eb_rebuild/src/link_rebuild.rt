@@ -39,6 +39,13 @@ fn number_of(s: Side) -> u32
     3 * s.face + u32::from(s.k)
 }
 
+/// Whether two sides are one.
+fn is_same(a: Side, b: Side) -> bool
+    ensures { result ≡ same (side_of a) (side_of b) }
+{
+    a.face == b.face && a.k == b.k
+}
+
 /// A rebuilding that keeps the boundary by links.
 #[derive(Debug, Drop)]
 pub struct LinkRebuild {
@@ -100,6 +107,112 @@ impl LinkRebuild {
                 Some(_) => Err(Fault {
                     kind: Kind::Gone,
                     at: u64::from(self.table.face_count()),
+                }),
+            },
+        }
+    }
+
+    /// E: a new face, no side of which is glued.
+    fn take_end<L: Ledger>(&mut self, steps: &mut Steps<L>) -> Result<(), Fault>
+        requires { self.old.table.faces < self.old.plan.symbols }
+        ensures does { Does (step self.old.plan.symbols kinds.E (state_of self.old)) (state_of self.new) result }
+        ensures plan { self.new.plan ≡ self.old.plan }
+        ensures cost { steps.new ≤ steps.old + 4 }
+    {
+        let face = self.table.add_face(steps);
+        self.stack.push(3 * face);
+        self.made += 3;
+        self.splits.note(face)
+    }
+
+    /// R: side 2 of the new face is glued to the top side.
+    fn take_right<L: Ledger>(&mut self, steps: &mut Steps<L>) -> Result<(), Fault>
+        requires { self.old.table.faces < self.old.plan.symbols }
+        ensures does { Does (step self.old.plan.symbols kinds.R (state_of self.old)) (state_of self.new) result }
+        ensures plan { self.new.plan ≡ self.old.plan }
+        ensures cost { steps.new ≤ steps.old + 4 }
+    {
+        let a = match self.take_side(steps) {
+            Ok(a) => a,
+            Err(fault) => return Err(fault),
+        };
+        let face = self.table.add_face(steps);
+        self.table.glue(Side { face, k: 2 }, side_with(a), steps);
+        self.stack.push(3 * face);
+        self.made += 1;
+        self.splits.note(face)
+    }
+
+    /// L: side 1 of the new face is glued to the top side.
+    fn take_left<L: Ledger>(&mut self, steps: &mut Steps<L>) -> Result<(), Fault>
+        requires { self.old.table.faces < self.old.plan.symbols }
+        ensures does { Does (step self.old.plan.symbols kinds.L (state_of self.old)) (state_of self.new) result }
+        ensures plan { self.new.plan ≡ self.old.plan }
+        ensures cost { steps.new ≤ steps.old + 4 }
+    {
+        let a = match self.take_side(steps) {
+            Ok(a) => a,
+            Err(fault) => return Err(fault),
+        };
+        let face = self.table.add_face(steps);
+        self.table.glue(Side { face, k: 1 }, side_with(a), steps);
+        self.stack.push(3 * face);
+        self.made += 1;
+        self.splits.note(face)
+    }
+
+    /// C: the new face closes the vertex at which the top side starts. Its side 1 is glued to the top
+    /// side, its side 2 to the free side before that.
+    fn take_tip<L: Ledger>(&mut self, steps: &mut Steps<L>) -> Result<(), Fault>
+        requires { self.old.table.faces < self.old.plan.symbols }
+        ensures does { Does (step self.old.plan.symbols kinds.C (state_of self.old)) (state_of self.new) result }
+        ensures plan { self.new.plan ≡ self.old.plan }
+        ensures cost { steps.new ≤ steps.old + 5 }
+        ensures refused { OnErr result (steps.new ≤ steps.old + 4) }
+    {
+        let a = match self.take_side(steps) {
+            Ok(a) => a,
+            Err(fault) => return Err(fault),
+        };
+        let top = side_with(a);
+        let before = self.table.prev_open(top, steps);
+        if is_same(before, top) {
+            return Err(Fault {
+                kind: Kind::Alone,
+                at: u64::from(self.table.face_count()),
+            });
+        }
+        let face = self.table.add_face(steps);
+        self.table.glue(Side { face, k: 1 }, top, steps);
+        self.table.glue(Side { face, k: 2 }, before, steps);
+        self.stack.push(3 * face);
+        Ok(())
+    }
+
+    /// The second side of an S: the one that an event keeps for it, else the top side. It has to be
+    /// free.
+    fn take_second<L: Ledger>(&mut self, steps: &mut Steps<L>) -> Result<u32, Fault>
+        requires { self.old.table.faces < self.old.plan.symbols }
+        ensures ok {
+            IfOk result (λ a. (top self.old.table.faces (gluing_of self.old.table) (pushed (kept_in self.old.splits.kept self.old.table.faces) (map side_at self.old.stack.sides)) ≡ Ok (side_at a, map side_at self.new.stack.sides))
+                × (gluing_of self.old.table (side_at a) ≡ None) × (a < 3 * self.old.table.faces))
+        }
+        ensures err {
+            IfErr result (λ f. top self.old.table.faces (gluing_of self.old.table) (pushed (kept_in self.old.splits.kept self.old.table.faces) (map side_at self.old.stack.sides)) ≡ Err f)
+        }
+        ensures kept { kept_in self.new.splits.kept ≡ release self.old.table.faces (kept_in self.old.splits.kept) }
+        ensures events { self.new.splits.events ≡ self.old.splits.events }
+        ensures rest { self.new ≡ record self.old { stack = self.new.stack; splits = self.new.splits } }
+        ensures cost { steps.new ≤ steps.old + 1 }
+    {
+        let number = self.table.face_count();
+        match self.splits.take(number) {
+            None => self.take_side(steps),
+            Some(a) => match self.table.other(side_with(a), steps) {
+                None => Ok(a),
+                Some(_) => Err(Fault {
+                    kind: Kind::Gone,
+                    at: u64::from(number),
                 }),
             },
         }
