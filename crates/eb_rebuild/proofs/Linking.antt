@@ -190,3 +190,8 @@ tip_does old mid value new a t T N e h =
             (ap (λ (x : Side). glue (side value.table.faces third) x (glue (side value.table.faces second) (side_at a) (gluing_of value.table))) (sym e) ∙ sym N.glued)
             (raised value.table.faces value.stack.sides new.stack.sides N.stack)
             (ap (λ (x : SplitsValue). kept_in x.kept) (sym N.splits)) (ap (λ (x : SplitsValue). x.events) (sym N.splits)) (add-zero value.made ∙ sym N.made) (sym N.closes)))
+
+-- other sides are kept
+pub link_kept : (v : LinkValue) (splits : SplitsValue) → IsLinkState v → length splits.kept ≡ length v.splits.kept → AreKeptBelow v.table.faces splits.kept → IsLinkState (record v { splits = splits })
+link_kept v splits I e K = record {
+    limit = I.limit; room = I.room; fewer = I.fewer; slots = e ∙ I.slots; stack_room = I.stack_room; low = I.low; few = I.few; sides = I.sides; kept = K; made = I.made }
