@@ -10,10 +10,10 @@ use Rattle.corner_table.proofs.Gluings.{free_after}
 use Rattle.drc_base.specs.declared.kinds.Kind.TheVariants as kind
 use Rattle.corner_table.specs.Table.{Table, gluing_of, glued_in, room_of}
 use Rattle.corner_table.proofs.Numbers.{side_at-number}
-use Rattle.eb_rebuild.specs.Machine.{State, Plan, top, note_events, step, fault}
+use Rattle.eb_rebuild.specs.Machine.{State, Plan, top, pushed, release, note_events, step, fault}
 use Rattle.eb_rebuild.specs.Kept.{SplitsValue, kept_in, AreSidesBelow, AreKeptBelow}
 use Rattle.eb_rebuild.specs.Linked.{LinkValue, IsLinkState, state_of, Does}
-use Rattle.eb_rebuild.proofs.Steps.{tip_alone, tip_steps, Next, top_free, the_state, same_state, right_steps, right_refused, right_no_top, left_steps, left_refused, left_no_top}
+use Rattle.eb_rebuild.proofs.Steps.{split_no_second, split_one_side, split_one_point, split_steps, tip_alone, tip_steps, Next, top_free, the_state, same_state, right_steps, right_refused, right_no_top, left_steps, left_refused, left_no_top}
 
 -- side 0 of a face
 pub side_at_first : (f : ℕ) → side_at (3 * f) ≡ side f first
@@ -195,3 +195,68 @@ tip_does old mid value new a t T N e h =
 pub link_kept : (v : LinkValue) (splits : SplitsValue) → IsLinkState v → length splits.kept ≡ length v.splits.kept → AreKeptBelow v.table.faces splits.kept → IsLinkState (record v { splits = splits })
 link_kept v splits I e K = record {
     limit = I.limit; room = I.room; fewer = I.fewer; slots = e ∙ I.slots; stack_room = I.stack_room; low = I.low; few = I.few; sides = I.sides; kept = K; made = I.made }
+
+-- both sides of an S just taken off
+pub record TakenTwo (old one two value : LinkValue) (b a : ℕ) : Type 0 where
+  pub first_taken : Taken old one one b
+  pub second_top : top one.table.faces (gluing_of one.table) (pushed (kept_in one.splits.kept one.table.faces) (map side_at one.stack.sides)) ≡ Ok (side_at a, map side_at two.stack.sides)
+  pub second_free : gluing_of one.table (side_at a) ≡ None
+  pub second_below : a < 3 * one.table.faces
+  pub kept : kept_in two.splits.kept ≡ release one.table.faces (kept_in one.splits.kept)
+  pub events : two.splits.events ≡ one.splits.events
+  pub rest : two ≡ record one { stack = two.stack; splits = two.splits }
+  pub view : value ≡ two
+
+-- the table is the same all along
+pub same_table : {old one two value : LinkValue} {b a : ℕ} → TakenTwo old one two value b a → value.table ≡ one.table
+same_table T = ap (λ (v : LinkValue). v.table) (T.view ∙ T.rest)
+
+pub second_is_free : {old one two value : LinkValue} {b a : ℕ} → TakenTwo old one two value b a → IsFree value.table.faces (gluing_of value.table) (side_at a)
+second_is_free {old} {one} {two} {value} {b} {a} T =
+    subst (λ (t : Table). IsFree t.faces (gluing_of t) (side_at a)) (sym (same_table T)) (record { within = (let h = T.second_below in omega arith); free = T.second_free })
+
+pub first_is_free : {old one two value : LinkValue} {b a : ℕ} → TakenTwo old one two value b a → IsFree value.table.faces (gluing_of value.table) (side_at b)
+first_is_free {old} {one} {two} {value} {b} {a} T = subst (λ (t : Table). IsFree t.faces (gluing_of t) (side_at b)) (sym (same_table T)) (taken_free T.first_taken)
+
+pub split_no_second_does : (old one : LinkValue) (b : ℕ) (f : Fault) → Taken old one one b → top one.table.faces (gluing_of one.table) (pushed (kept_in one.splits.kept one.table.faces) (map side_at one.stack.sides)) ≡ Err f →
+    step old.plan.symbols S (state_of old) ≡ Err f
+split_no_second_does old one b f T e =
+    steps_taken old one one b (λ m s. step m S s) (Err f) T
+        (split_no_second one.plan.symbols (taken_state one b) (side_at b) (map side_at one.stack.sides) f (taken_top old one one b T) e)
+
+pub split_one_side_does : (old one two value : LinkValue) (b a : ℕ) (n : ℕ) → TakenTwo old one two value b a → side_at a ≡ side_at b → n ≡ value.table.faces → step old.plan.symbols S (state_of old) ≡ Err (fault kind.Gone n)
+split_one_side_does old one two value b a n T h q =
+    steps_taken old one one b (λ m s. step m S s) (Err (fault kind.Gone n)) T.first_taken
+        (split_one_side one.plan.symbols (taken_state one b) (side_at b) (side_at a) (map side_at one.stack.sides) (map side_at two.stack.sides) (taken_top old one one b T.first_taken) T.second_top h
+        ∙ ap (λ (m : ℕ). let x : Next = Err (fault kind.Gone m) in x) (sym (q ∙ ap (λ (t : Table). t.faces) (same_table T))))
+
+pub split_one_point_does : (old one two value : LinkValue) (b a : ℕ) (t : Side) (n : ℕ) → TakenTwo old one two value b a → side_at a ≢ side_at b → t ≡ side_before value.table.faces (gluing_of value.table) (side_at b) → t ≡ side_at a → n ≡ value.table.faces →
+    step old.plan.symbols S (state_of old) ≡ Err (fault kind.SamePoint n)
+split_one_point_does old one two value b a t n T h e k q =
+    steps_taken old one one b (λ m s. step m S s) (Err (fault kind.SamePoint n)) T.first_taken
+        (split_one_point one.plan.symbols (taken_state one b) (side_at b) (side_at a) (map side_at one.stack.sides) (map side_at two.stack.sides) (taken_top old one one b T.first_taken) T.second_top h
+            (ap (λ (u : Table). side_before u.faces (gluing_of u) (side_at b)) (sym (same_table T)) ∙ sym e ∙ k)
+        ∙ ap (λ (m : ℕ). let x : Next = Err (fault kind.SamePoint m) in x) (sym (q ∙ ap (λ (t : Table). t.faces) (same_table T))))
+
+pub record SplitGrown (value new : LinkValue) (b a : ℕ) : Type 0 where
+  pub faces : new.table.faces ≡ suc value.table.faces
+  pub glued : gluing_of new.table ≡ glue (side value.table.faces second) (side_at b) (glue (side value.table.faces third) (side_at a) (gluing_of value.table))
+  pub stack : new.stack.sides ≡ (3 * value.table.faces) ∷ value.stack.sides
+  pub splits : new.splits ≡ value.splits
+  pub made : new.made ≡ value.made
+  pub closes : new.closes ≡ value.closes
+
+pub split_does : (old one two value new : LinkValue) (b a : ℕ) (t : Side) → TakenTwo old one two value b a → SplitGrown value new b a → side_at a ≢ side_at b → t ≡ side_before value.table.faces (gluing_of value.table) (side_at b) → t ≢ side_at a →
+    step old.plan.symbols S (state_of old) ≡ Ok (state_of new)
+split_does old one two value new b a t T N h e k =
+    steps_taken old one one b (λ m s. step m S s) (Ok (state_of new)) T.first_taken
+        (split_steps one.plan.symbols (taken_state one b) (side_at b) (side_at a) (map side_at one.stack.sides) (map side_at two.stack.sides) (taken_top old one one b T.first_taken) T.second_top h
+            (λ q. k (e ∙ ap (λ (u : Table). side_before u.faces (gluing_of u) (side_at b)) (same_table T) ∙ q))
+        ∙ ap {A = State} Ok (same_state
+            (ap (λ (u : Table). suc u.faces) (sym (same_table T)) ∙ sym N.faces)
+            (ap (λ (u : Table). glue (side u.faces second) (side_at b) (glue (side u.faces third) (side_at a) (gluing_of u))) (sym (same_table T)) ∙ sym N.glued)
+            (ap (λ (u : Table). side u.faces first ∷ map side_at two.stack.sides) (sym (same_table T)) ∙ ap (λ (v : LinkValue). side value.table.faces first ∷ map side_at v.stack.sides) (sym T.view) ∙ raised value.table.faces value.stack.sides new.stack.sides N.stack)
+            (sym T.kept ∙ ap (λ (v : LinkValue). kept_in v.splits.kept) (sym T.view) ∙ ap (λ (x : SplitsValue). kept_in x.kept) (sym N.splits))
+            (sym T.events ∙ ap (λ (v : LinkValue). v.splits.events) (sym T.view) ∙ ap (λ (x : SplitsValue). x.events) (sym N.splits))
+            (add-zero one.made ∙ ap (λ (v : LinkValue). v.made) (sym (T.view ∙ T.rest)) ∙ sym N.made)
+            (ap (λ (v : LinkValue). v.closes) (sym (T.view ∙ T.rest)) ∙ sym N.closes)))

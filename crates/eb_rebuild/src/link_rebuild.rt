@@ -217,4 +217,43 @@ impl LinkRebuild {
             },
         }
     }
+
+    /// S: the new face joins the top side and the second side. Its side 1 is glued to the top side, its
+    /// side 2 to the second.
+    fn take_split<L: Ledger>(&mut self, steps: &mut Steps<L>) -> Result<(), Fault>
+        requires { self.old.table.faces < self.old.plan.symbols }
+        ensures does { Does (step self.old.plan.symbols kinds.S (state_of self.old)) (state_of self.new) result }
+        ensures plan { self.new.plan ≡ self.old.plan }
+        ensures cost { steps.new ≤ steps.old + 6 }
+        ensures refused { OnErr result (steps.new ≤ steps.old + 4) }
+    {
+        let b = match self.take_side(steps) {
+            Ok(b) => b,
+            Err(fault) => return Err(fault),
+        };
+        let a = match self.take_second(steps) {
+            Ok(a) => a,
+            Err(fault) => return Err(fault),
+        };
+        let top = side_with(b);
+        let second = side_with(a);
+        if is_same(second, top) {
+            return Err(Fault {
+                kind: Kind::Gone,
+                at: u64::from(self.table.face_count()),
+            });
+        }
+        let before = self.table.prev_open(top, steps);
+        if is_same(before, second) {
+            return Err(Fault {
+                kind: Kind::SamePoint,
+                at: u64::from(self.table.face_count()),
+            });
+        }
+        let face = self.table.add_face(steps);
+        self.table.glue(Side { face, k: 2 }, second, steps);
+        self.table.glue(Side { face, k: 1 }, top, steps);
+        self.stack.push(3 * face);
+        Ok(())
+    }
 }
