@@ -1,19 +1,21 @@
 -- A rebuilding by links after a step: its lists, its room and its state.
-use Rattle.std.proofs.Common.{◌≡◌, ◌≢◌, ℕ, zero, suc, ◌+◌, ◌-◌, ◌*◌, ◌/◌, ◌<◌, ◌≤◌, Bool, true, false, List, [], ◌∷◌, length, map, Option, Some, None, Result, Ok, Err, MatchResult, sym, refl, ap, ◌∙◌, subst, arith, add-one, add-zero}
+use Rattle.std.proofs.Common.{◌≡◌, ◌≢◌, ℕ, zero, suc, ◌+◌, ◌-◌, ◌*◌, ◌/◌, ◌<◌, ◌≤◌, Bool, true, false, not, ◌&&◌, List, [], ◌∷◌, length, map, Option, Some, None, Result, Ok, Err, MatchResult, sym, refl, ap, ◌∙◌, subst, arith, add-one, add-zero}
 use Rattle.drc_base.specs.declared.faults.Fault.{Fault}
 use Rattle.drc_base.specs.declared.limits.TheConstants.{MAX_FACES}
 use Rattle.corner_table.specs.declared.symbols.Event.{Event}
 use Rattle.corner_table.specs.declared.symbols.Symbol.TheVariants.{C, S, L, R}
-use Rattle.corner_table.specs.Sides.{Side, Place, first, second, third, side, side_at, number, Gluing, glue, IsFree}
+use Rattle.corner_table.specs.Sides.{Side, Place, first, second, third, side, side_at, number, Gluing, glue, same, IsFree}
+use Rattle.corner_table.proofs.Places.{same-true, same-false}
+use Rattle.std.proofs.lemmas.Bool.{and_parts, not-true}
 use Rattle.corner_table.specs.Fans.{side_before}
 use Rattle.corner_table.proofs.Gluings.{free_after}
 use Rattle.drc_base.specs.declared.kinds.Kind.TheVariants as kind
 use Rattle.corner_table.specs.Table.{Table, gluing_of, glued_in, room_of}
 use Rattle.corner_table.proofs.Numbers.{side_at-number}
-use Rattle.eb_rebuild.specs.Machine.{State, Plan, top, pushed, release, note_events, step, fault}
-use Rattle.eb_rebuild.specs.Kept.{SplitsValue, kept_in, AreSidesBelow, AreKeptBelow}
+use Rattle.eb_rebuild.specs.Machine.{State, Plan, close, fill, top, pushed, release, note_events, step, fault}
+use Rattle.eb_rebuild.specs.Kept.{StackValue, SplitsValue, kept_in, AreSidesBelow, AreKeptBelow}
 use Rattle.eb_rebuild.specs.Linked.{LinkValue, IsLinkState, state_of, Does}
-use Rattle.eb_rebuild.proofs.Steps.{split_no_second, split_one_side, split_one_point, split_steps, tip_alone, tip_steps, Next, top_free, the_state, same_state, right_steps, right_refused, right_no_top, left_steps, left_refused, left_no_top}
+use Rattle.eb_rebuild.proofs.Steps.{close_boundary, close_interior, loop_test, fill_gone, fill_no_loop, fill_full, fill_steps, split_no_second, split_one_side, split_one_point, split_steps, tip_alone, tip_steps, Next, top_free, the_state, same_state, right_steps, right_refused, right_no_top, left_steps, left_refused, left_no_top}
 
 -- side 0 of a face
 pub side_at_first : (f : ℕ) → side_at (3 * f) ≡ side f first
@@ -260,3 +262,97 @@ split_does old one two value new b a t T N h e k =
             (sym T.events ∙ ap (λ (v : LinkValue). v.splits.events) (sym T.view) ∙ ap (λ (x : SplitsValue). x.events) (sym N.splits))
             (add-zero one.made ∙ ap (λ (v : LinkValue). v.made) (sym (T.view ∙ T.rest)) ∙ sym N.made)
             (ap (λ (v : LinkValue). v.closes) (sym (T.view ∙ T.rest)) ∙ sym N.closes)))
+
+-- a close: what the top side's loop is
+loop_test_is : (s : State) (a b c d : Side) → b ≡ side_before s.built s.glued a → c ≡ side_before s.built s.glued b → d ≡ side_before s.built s.glued c →
+    loop_test s a ≡ (not (same b a) && not (same c a) && same d a)
+loop_test_is s a b c d p q r =
+    let before : Side → Side = side_before s.built s.glued in
+    let q' : c ≡ before (before a) = q ∙ ap before p in
+    let r' : d ≡ before (before (before a)) = r ∙ ap before q' in
+    ap (λ (x : Side). not (same x a) && not (same (before (before a)) a) && same (before (before (before a))) a) (sym p)
+    ∙ ap (λ (x : Side). not (same b a) && not (same x a) && same (before (before (before a))) a) (sym q')
+    ∙ ap (λ (x : Side). not (same b a) && not (same c a) && same x a) (sym r')
+
+-- the sides of a loop that is to be filled
+pub record IsLoop (v : LinkValue) (a : ℕ) (rest : List ℕ) (b c d : Side) : Type 0 where
+  pub stack : v.stack.sides ≡ a ∷ rest
+  pub free : gluing_of v.table (side_at a) ≡ None
+  pub first_before : b ≡ side_before v.table.faces (gluing_of v.table) (side_at a)
+  pub second_before : c ≡ side_before v.table.faces (gluing_of v.table) b
+  pub third_before : d ≡ side_before v.table.faces (gluing_of v.table) c
+
+to_fill : (v : LinkValue) (a : ℕ) (rest : List ℕ) → v.stack.sides ≡ a ∷ rest → close v.plan true (state_of v) ≡ fill (v.plan.symbols + v.closes) v.plan (side_at a) (map side_at rest) (state_of v)
+to_fill v a rest e = close_interior v.plan (state_of v) (side_at a) (map side_at rest) (ap (map side_at) e)
+
+pub fill_gone_does : (v : LinkValue) (a : ℕ) (rest : List ℕ) (x : Side) (n : ℕ) → v.stack.sides ≡ a ∷ rest → gluing_of v.table (side_at a) ≡ Some x → n ≡ v.plan.symbols + v.closes → close v.plan true (state_of v) ≡ Err (fault kind.Gone n)
+fill_gone_does v a rest x n e h q =
+    to_fill v a rest e ∙ fill_gone (v.plan.symbols + v.closes) v.plan (state_of v) (side_at a) x (map side_at rest) h ∙ ap (λ (m : ℕ). let y : Next = Err (fault kind.Gone m) in y) (sym q)
+
+pub fill_no_loop_does : (v : LinkValue) (a : ℕ) (rest : List ℕ) (b c d : Side) (t : Bool) (n : ℕ) → IsLoop v a rest b c d → t ≡ (not (same b (side_at a)) && not (same c (side_at a)) && same d (side_at a)) → t ≡ false → n ≡ v.plan.symbols + v.closes →
+    close v.plan true (state_of v) ≡ Err (fault kind.Loop n)
+fill_no_loop_does v a rest b c d t n W h f q =
+    to_fill v a rest W.stack
+    ∙ fill_no_loop (v.plan.symbols + v.closes) v.plan (state_of v) (side_at a) (map side_at rest) W.free (loop_test_is (state_of v) (side_at a) b c d W.first_before W.second_before W.third_before ∙ sym h ∙ f)
+    ∙ ap (λ (m : ℕ). let y : Next = Err (fault kind.Loop m) in y) (sym q)
+
+pub fill_full_does : (v : LinkValue) (a : ℕ) (rest : List ℕ) (b c d : Side) (t : Bool) (n : ℕ) → IsLoop v a rest b c d → t ≡ (not (same b (side_at a)) && not (same c (side_at a)) && same d (side_at a)) → t ≡ true → v.table.faces ≡ v.plan.faces → n ≡ v.table.faces →
+    close v.plan true (state_of v) ≡ Err (fault kind.FaceCount n)
+fill_full_does v a rest b c d t n W h f e q =
+    to_fill v a rest W.stack
+    ∙ fill_full (v.plan.symbols + v.closes) v.plan (state_of v) (side_at a) (map side_at rest) W.free (loop_test_is (state_of v) (side_at a) b c d W.first_before W.second_before W.third_before ∙ sym h ∙ f) e
+    ∙ ap (λ (m : ℕ). let y : Next = Err (fault kind.FaceCount m) in y) (sym q)
+
+pub record Filled (v new : LinkValue) (a : ℕ) (rest : List ℕ) (b c : Side) : Type 0 where
+  pub faces : new.table.faces ≡ suc v.table.faces
+  pub glued : gluing_of new.table ≡ glue (side v.table.faces third) c (glue (side v.table.faces second) b (glue (side v.table.faces first) (side_at a) (gluing_of v.table)))
+  pub stack : new.stack.sides ≡ rest
+  pub splits : new.splits ≡ v.splits
+  pub made : new.made ≡ v.made
+  pub closes : new.closes ≡ suc v.closes
+
+pub fill_does : (v new : LinkValue) (a : ℕ) (rest : List ℕ) (b c d : Side) (t : Bool) → IsLoop v a rest b c d → Filled v new a rest b c → t ≡ (not (same b (side_at a)) && not (same c (side_at a)) && same d (side_at a)) → t ≡ true → v.table.faces ≢ v.plan.faces →
+    close v.plan true (state_of v) ≡ Ok (state_of new)
+fill_does v new a rest b c d t W N h f e =
+    to_fill v a rest W.stack
+    ∙ fill_steps (v.plan.symbols + v.closes) v.plan (state_of v) (side_at a) (map side_at rest) W.free (loop_test_is (state_of v) (side_at a) b c d W.first_before W.second_before W.third_before ∙ sym h ∙ f) e
+    ∙ ap {A = State} Ok (same_state
+        (sym N.faces)
+        (ap (λ (x : Side). glue (side v.table.faces third) (side_before v.table.faces (gluing_of v.table) x) (glue (side v.table.faces second) x (glue (side v.table.faces first) (side_at a) (gluing_of v.table)))) (sym W.first_before)
+            ∙ ap (λ (x : Side). glue (side v.table.faces third) x (glue (side v.table.faces second) b (glue (side v.table.faces first) (side_at a) (gluing_of v.table)))) (sym W.second_before) ∙ sym N.glued)
+        (ap (map side_at) (sym N.stack))
+        (ap (λ (x : SplitsValue). kept_in x.kept) (sym N.splits)) (ap (λ (x : SplitsValue). x.events) (sym N.splits)) (sym N.made) (sym N.closes))
+
+-- the tests of a loop that passes
+pub loop_tells : (a b c d : Side) (t : Bool) → t ≡ (not (same b a) && not (same c a) && same d a) → t ≡ true → (b ≢ a) × (c ≢ a) × (d ≡ a)
+loop_tells a b c d t h e =
+    let both = and_parts (not (same b a) && not (same c a)) (same d a) (sym h ∙ e) in
+    let two = and_parts (not (same b a)) (not (same c a)) both.0 in
+    (same-false b a (not-true (same b a) two.0), same-false c a (not-true (same c a) two.1), same-true d a both.1)
+
+-- the second and the third side of a loop of three differ
+pub loop_apart : (v : LinkValue) (a : ℕ) (rest : List ℕ) (b c d : Side) → IsLoop v a rest b c d → b ≢ side_at a → d ≡ side_at a → c ≢ b
+loop_apart v a rest b c d W n e q = n (sym q ∙ W.second_before ∙ ap (side_before v.table.faces (gluing_of v.table)) (sym q) ∙ sym W.third_before ∙ e)
+
+-- what closing keeps
+pub link_closed : {v new : LinkValue} → IsLinkState v → (a : ℕ) (rest : List ℕ) (more : ℕ) → v.stack.sides ≡ a ∷ rest → new.plan ≡ v.plan → room_of new.table ≡ room_of v.table → new.table.faces ≡ v.table.faces + more → new.stack.sides ≡ rest → new.stack.room ≡ v.stack.room →
+    new.splits ≡ v.splits → new.made ≡ v.made → new.closes ≡ suc v.closes → AreSidesBelow new.table.faces rest → AreKeptBelow new.table.faces v.splits.kept → IsLinkState new
+link_closed {v} {new} I a rest more e p r f s t u m c K B = record {
+    limit = subst (λ (p : Plan). p.faces ≤ MAX_FACES) (sym p) I.limit;
+    room = r ∙ I.room ∙ ap (λ (p : Plan). p.faces) (sym p);
+    fewer = subst (λ (p : Plan). p.symbols ≤ p.faces) (sym p) I.fewer;
+    slots = ap (λ (x : SplitsValue). length x.kept) u ∙ I.slots ∙ ap (λ (p : Plan). p.symbols) (sym p);
+    stack_room = t ∙ I.stack_room ∙ ap (λ (p : Plan). p.symbols) (sym p);
+    low = (let h = ap {A = List ℕ} length e in let k = ap {A = List ℕ} length s in let l = I.low in omega arith);
+    few = (let h = ap {A = List ℕ} length e in let k = ap {A = List ℕ} length s in let l = I.few in let q = ap (λ (p : Plan). p.symbols) p in omega arith);
+    sides = subst (AreSidesBelow new.table.faces) (sym s) K;
+    kept = subst (λ (x : SplitsValue). AreKeptBelow new.table.faces x.kept) (sym u) B;
+    made = (let l = I.made in omega arith) }
+
+-- the top side of a list of sides, and the rest
+pub sides_rest : (f : ℕ) (sides : List ℕ) (a : ℕ) (rest : List ℕ) → sides ≡ a ∷ rest → AreSidesBelow f sides → AreSidesBelow f (a ∷ rest)
+sides_rest f sides a rest e h = subst (AreSidesBelow f) e h
+
+-- a boundary is left
+pub close_boundary_does : (v : LinkValue) (popped : StackValue) (a : ℕ) → v.stack.sides ≡ a ∷ popped.sides → close v.plan false (state_of v) ≡ Ok (state_of (record v { stack = popped; closes = suc v.closes }))
+close_boundary_does v popped a e = close_boundary v.plan (state_of v) (side_at a) (map side_at popped.sides) (ap (map side_at) e)

@@ -18,7 +18,7 @@ ghost use Rattle.std.specs.Prelude.{◌≡◌, ◌/◌, ◌%◌};
 ghost use Rattle.corner_table.specs.Sides.{side_at, same, number};
 ghost use Rattle.corner_table.specs.Table.{side_of};
 ghost use Rattle.drc_base.specs.declared.limits.TheConstants.{MAX_FACES as most_faces};
-ghost use Rattle.std.specs.Prelude.{◌<◌, ◌*◌, ◌+◌};
+ghost use Rattle.std.specs.Prelude.{◌<◌, ◌*◌, ◌+◌, not, ◌&&◌};
 
 /// The side with a number.
 fn side_with(number: u32) -> Side
@@ -44,6 +44,16 @@ fn is_same(a: Side, b: Side) -> bool
     ensures { result ≡ same (side_of a) (side_of b) }
 {
     a.face == b.face && a.k == b.k
+}
+
+/// Whether b and c, which come before a round the boundary, are two more sides, and d, which comes
+/// before these, is a again: a loop of just three.
+fn is_loop(a: Side, b: Side, c: Side, d: Side) -> bool
+    ensures {
+        result ≡ (not (same (side_of b) (side_of a)) && not (same (side_of c) (side_of a)) && same (side_of d) (side_of a))
+    }
+{
+    !is_same(b, a) && !is_same(c, a) && is_same(d, a)
 }
 
 /// A rebuilding that keeps the boundary by links.
@@ -78,11 +88,11 @@ impl Model for LinkRebuild {
 }
 
 impl LinkRebuild {
-    ghost use Rattle.std.specs.Prelude.{◌≡◌, ℕ, suc, ◌+◌, ◌*◌, ◌<◌, ◌≤◌, None, ◌∷◌, Ok, Err, map, length, IfOk, IfErr, OnOk, OnErr};
+    ghost use Rattle.std.specs.Prelude.{◌≡◌, ℕ, suc, ◌+◌, ◌*◌, ◌<◌, ◌≤◌, true, false, None, ◌∷◌, Ok, Err, map, length, IfOk, IfErr, OnOk, OnErr};
     ghost use Rattle.corner_table.specs.declared.symbols.Symbol.TheVariants as kinds;
     ghost use Rattle.corner_table.specs.Sides.{side_at};
     ghost use Rattle.corner_table.specs.Table.{gluing_of};
-    ghost use Rattle.eb_rebuild.specs.Machine.{top, step, pushed, release};
+    ghost use Rattle.eb_rebuild.specs.Machine.{top, step, close, pushed, release};
     ghost use Rattle.eb_rebuild.specs.Kept.{kept_in};
     ghost use Rattle.eb_rebuild.specs.Linked.{state_of, Does};
 
@@ -254,6 +264,65 @@ impl LinkRebuild {
         self.table.glue(Side { face, k: 2 }, second, steps);
         self.table.glue(Side { face, k: 1 }, top, steps);
         self.stack.push(3 * face);
+        Ok(())
+    }
+
+    /// Leaves the top side a boundary.
+    fn close_boundary(&mut self)
+        requires { 0 < length self.old.stack.sides }
+        ensures does { close self.old.plan false (state_of self.old) ≡ Ok (state_of self.new) }
+        ensures plan { self.new.plan ≡ self.old.plan }
+    {
+        match self.stack.pop() {
+            None => (),
+            Some(_) => self.closes += 1,
+        }
+    }
+
+    /// Fills the loop of the top side with a face.
+    fn close_interior<L: Ledger>(&mut self, steps: &mut Steps<L>) -> Result<(), Fault>
+        requires { 0 < length self.old.stack.sides }
+        ensures does { Does (close self.old.plan true (state_of self.old)) (state_of self.new) result }
+        ensures plan { self.new.plan ≡ self.old.plan }
+        ensures cost { steps.new ≤ steps.old + 8 }
+        ensures refused { OnErr result (steps.new ≤ steps.old + 4) }
+    {
+        let number = u64::from(self.symbols) + u64::from(self.closes);
+        let a = match self.stack.pop() {
+            Some(a) => a,
+            None => return Ok(()),
+        };
+        let top = side_with(a);
+        match self.table.other(top, steps) {
+            None => (),
+            Some(_) => {
+                return Err(Fault {
+                    kind: Kind::Gone,
+                    at: number,
+                });
+            }
+        }
+        let second = self.table.prev_open(top, steps);
+        let third = self.table.prev_open(second, steps);
+        let last = self.table.prev_open(third, steps);
+        if !is_loop(top, second, third, last) {
+            return Err(Fault {
+                kind: Kind::Loop,
+                at: number,
+            });
+        }
+        let built = self.table.face_count();
+        if built == self.faces {
+            return Err(Fault {
+                kind: Kind::FaceCount,
+                at: u64::from(built),
+            });
+        }
+        let face = self.table.add_face(steps);
+        self.table.glue(Side { face, k: 0 }, top, steps);
+        self.table.glue(Side { face, k: 1 }, second, steps);
+        self.table.glue(Side { face, k: 2 }, third, steps);
+        self.closes += 1;
         Ok(())
     }
 }
