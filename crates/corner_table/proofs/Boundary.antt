@@ -64,7 +64,7 @@ rightmost_tells g (suc n) c =
       | inr p ↦ inr (right_more g n c d (rightmost g n d) s p) ]
 
 -- a walk has been at each number of swings up to its own
-left_passed : (g : Gluing) (i n : ℕ) (c d : Side) → i ≤ n → left_by g n c ≡ Some d → (x : Side) × (left_by g i c ≡ Some x)
+pub left_passed : (g : Gluing) (i n : ℕ) (c d : Side) → i ≤ n → left_by g n c ≡ Some d → (x : Side) × (left_by g i c ≡ Some x)
 left_passed g zero n c d h p = (c, left_none g c)
 left_passed g (suc i) zero c d h p = absurd (omega arith)
 left_passed g (suc i) (suc n) c d h p =
@@ -72,7 +72,7 @@ left_passed g (suc i) (suc n) c d h p =
     let t = left_passed g i n m.0 d (omega arith) m.2 in
     (t.0, left_more g i c m.0 t.0 m.1 t.1)
 
-right_passed : (g : Gluing) (i n : ℕ) (c d : Side) → i ≤ n → right_by g n c ≡ Some d → (x : Side) × (right_by g i c ≡ Some x)
+pub right_passed : (g : Gluing) (i n : ℕ) (c d : Side) → i ≤ n → right_by g n c ≡ Some d → (x : Side) × (right_by g i c ≡ Some x)
 right_passed g zero n c d h p = (c, right_none g c)
 right_passed g (suc i) zero c d h p = absurd (omega arith)
 right_passed g (suc i) (suc n) c d h p =

@@ -8,3 +8,4 @@ pub mod LinkLists
 pub mod TableSteps
 pub mod Labelling
 pub mod LabelAll
+pub mod Meeting
