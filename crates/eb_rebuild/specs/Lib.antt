@@ -3,3 +3,4 @@ pub mod Degree
 pub mod Rebuilding
 pub mod Kept
 pub mod Linked
+pub mod Alike

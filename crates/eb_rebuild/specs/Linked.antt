@@ -1,6 +1,8 @@
 -- What a rebuilding that keeps the boundary by links holds, and the machine's state that it stands for.
 use Rattle.std.specs.Prelude.{◌≡◌, ℕ, ◌+◌, ◌*◌, ◌≤◌, ◌<◌, List, length, map, Result, Ok, Err}
 use Rattle.drc_base.specs.declared.faults.Fault.{Fault}
+use Rattle.drc_base.specs.declared.faults.Refusal.{Refusal}
+use Rattle.drc_base.specs.declared.faults.Refusal.TheVariants as refusal
 use Rattle.drc_base.specs.declared.limits.TheConstants.{MAX_FACES}
 use Rattle.corner_table.specs.Sides.{side_at}
 use Rattle.corner_table.specs.Table.{Table, gluing_of, room_of}
@@ -38,3 +40,8 @@ pub record IsLinkState (v : LinkValue) : Type 0 where
 abbrev pub Does : Result State Fault → State → Result (Unit {0}) Fault → Type 0
 Does next new (Ok done) = next ≡ Ok new
 Does next new (Err f) = next ≡ Err f
+
+-- a fault is a refusal
+abbrev pub refused_by : Result (Unit {0}) Fault → Result (Unit {0}) Refusal
+refused_by (Ok done) = Ok done
+refused_by (Err f) = Err (refusal.Fault f)

@@ -4,6 +4,7 @@
 #![tactic(auto)]
 
 mod built;
+mod degenerate;
 mod link_rebuild;
 mod rebuild;
 mod side_stack;

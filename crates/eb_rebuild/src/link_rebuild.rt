@@ -5,6 +5,7 @@
 //! before.
 
 use crate::built::Built;
+use crate::degenerate::first_equal;
 use crate::rebuild::Rebuild;
 use crate::side_stack::SideStack;
 use crate::splits::Splits;
@@ -17,6 +18,7 @@ use std::sync::ledger::Ledger;
 ghost use Rattle.std.specs.Prelude.{◌≡◌, ◌/◌, ◌%◌};
 ghost use Rattle.corner_table.specs.Sides.{side_at, same, number};
 ghost use Rattle.corner_table.specs.Table.{side_of};
+ghost use Rattle.eb_rebuild.specs.Linked.{refused_by};
 ghost use Rattle.drc_base.specs.declared.limits.TheConstants.{MAX_FACES as most_faces};
 ghost use Rattle.std.specs.Prelude.{◌<◌, ◌*◌, ◌+◌, not, ◌&&◌};
 
@@ -54,6 +56,16 @@ fn is_loop(a: Side, b: Side, c: Side, d: Side) -> bool
     }
 {
     !is_same(b, a) && !is_same(c, a) && is_same(d, a)
+}
+
+/// A fault is a refusal.
+fn refused(done: Result<(), Fault>) -> Result<(), Refusal>
+    ensures { result ≡ refused_by done }
+{
+    match done {
+        Ok(()) => Ok(()),
+        Err(fault) => Err(Refusal::Fault(fault)),
+    }
 }
 
 /// A rebuilding that keeps the boundary by links.
@@ -324,5 +336,87 @@ impl LinkRebuild {
         self.table.glue(Side { face, k: 2 }, third, steps);
         self.closes += 1;
         Ok(())
+    }
+}
+
+impl Rebuild for LinkRebuild {
+    ghost use Rattle.std.specs.Prelude.{true};
+    ghost use Rattle.eb_rebuild.specs.Linked.{state_of};
+
+    ghost plan = { λ r. r.plan };
+
+    ghost state = { λ r. state_of r };
+
+    ghost live = { λ _. true };
+
+    ghost linked = { λ _. true };
+
+    fn new(
+        alloc: Global,
+        faces: u32,
+        created: u32,
+        symbols: u32,
+        events: Vec<Event>,
+    ) -> Result<LinkRebuild, Memory> {
+        let table = SideTable::with_room(alloc, faces)?;
+        let stack = SideStack::with_room(alloc, symbols)?;
+        let splits = Splits::new(alloc, symbols, events)?;
+        Ok(LinkRebuild {
+            table,
+            stack,
+            splits,
+            faces,
+            created,
+            symbols,
+            made: 0,
+            closes: 0,
+        })
+    }
+
+    fn symbol<L: Ledger>(&mut self, symbol: Symbol, steps: &mut Steps<L>) -> Result<(), Refusal> {
+        match symbol {
+            Symbol::C => refused(self.take_tip(steps)),
+            Symbol::S => refused(self.take_split(steps)),
+            Symbol::L => refused(self.take_left(steps)),
+            Symbol::R => refused(self.take_right(steps)),
+            Symbol::E => refused(self.take_end(steps)),
+        }
+    }
+
+    fn pending(&self) -> u32 {
+        self.stack.len()
+    }
+
+    fn close<L: Ledger>(&mut self, interior: bool, steps: &mut Steps<L>) -> Result<(), Refusal> {
+        if interior {
+            refused(self.close_interior(steps))
+        } else {
+            self.close_boundary();
+            Ok(())
+        }
+    }
+
+    fn finish(self, alloc: Global) -> Result<Built, Refusal> {
+        let built = self.table.face_count();
+        if built != self.faces {
+            return Err(Refusal::Fault(Fault {
+                kind: Kind::FaceCount,
+                at: u64::from(built),
+            }));
+        }
+        if self.created < self.made {
+            return Err(Refusal::Fault(Fault {
+                kind: Kind::VertexCount,
+                at: u64::from(self.made),
+            }));
+        }
+        let classes = self.table.label_vertices(alloc)?;
+        match first_equal(classes.of_corner.as_slice(), built) {
+            None => Ok(Built::new(self.table, true)),
+            Some(face) => Err(Refusal::Fault(Fault {
+                kind: Kind::Degenerate,
+                at: u64::from(face),
+            })),
+        }
     }
 }

@@ -4,7 +4,6 @@ ghost use Rattle.std.specs.Prelude.{◌≡◌, ◌≢◌, ℕ, ◌+◌, ◌<◌,
 ghost use Rattle.drc_base.specs.declared.limits.TheConstants.{MAX_FACES as most_faces};
 ghost use Rattle.drc_base.specs.declared.faults.Refusal.TheVariants as refusal;
 ghost use Rattle.eb_rebuild.specs.Machine.{Plan as MachinePlan, State as MachineState, start, step, close};
-ghost use Rattle.eb_rebuild.specs.Degree.{top_degree};
 ghost use Rattle.eb_rebuild.specs.Rebuilding.{Moves, Ends, IsEventOf};
 
 use crate::built::Built;
@@ -61,14 +60,6 @@ pub trait Rebuild: Sized + Drop {
         ensures memory { IsTrue (linked self.old) → result ≢ Err refusal.Memory }
         ensures cost { IsTrue (linked self.old) → OnOk result (steps.new ≤ steps.old + 12) }
         ensures refused { IsTrue (linked self.old) → OnErr result (steps.new ≤ steps.old + 4) };
-
-    /// The degree of the vertex at which the top side starts: its corners, plus 1 for the top side
-    /// itself. The next symbol's valence context goes by it.
-    fn degree(&self) -> u32
-        requires live { IsTrue (live self.now) }
-        requires some { 0 < (state self.now).built }
-        requires unclosed { (state self.now).closes ≡ 0 }
-        ensures { result ≡ top_degree (state self.now) };
 
     /// How many sides wait to be closed.
     fn pending(&self) -> u32
