@@ -1,8 +1,8 @@
 -- The boundary: from each free side one free side follows, and one comes before it.
-use Rattle.std.proofs.Common.{◌≡◌, ◌≢◌, ℕ, zero, suc, ◌+◌, ◌*◌, ◌<◌, ◌≤◌, Option, Some, None, ◌⊎◌, inl, inr, sym, refl, ap, ◌∙◌, subst, arith, option_map}
-use Rattle.corner_table.specs.Sides.{Side, side, next, prev, number, Gluing, IsGluing, IsFree}
-use Rattle.corner_table.specs.Fans.{swing_left, swing_right, InFan, here, leftwards, rightwards, leftmost, rightmost, side_before, side_after, Follows}
-use Rattle.corner_table.proofs.Places.{option_tells, Some_injective, next-prev, prev-next, next_injective, prev_injective}
+use Rattle.std.proofs.Common.{◌≡◌, ℕ, zero, suc, ◌*◌, ◌<◌, ◌≤◌, Option, Some, None, ◌⊎◌, inl, inr, sym, refl, ap, ◌∙◌, subst, arith, option_map}
+use Rattle.corner_table.specs.Sides.{Side, next, prev, number, Gluing, IsGluing, IsFree}
+use Rattle.corner_table.specs.Fans.{swing_left, swing_right, InFan, leftmost, rightmost, side_before, side_after, Follows}
+use Rattle.corner_table.proofs.Places.{option_tells, next-prev, prev-next, next_injective, prev_injective}
 use Rattle.corner_table.proofs.Numbers.{number-lt, number_injective, no_room}
 use Rattle.corner_table.proofs.Walks.{left_by, right_by, left_by-zero, right_by-zero, left_none, right_none, left_more, right_more, left_split, right_split, left_back, right_back, left_by-fan, right_by-fan, right_count, left_count, left-within, right-within, ends_once, starts_once, fan_sym, fan_trans}
 
@@ -41,27 +41,29 @@ pub leftmost_tells : (g : Gluing) (n : ℕ) (c : Side) → LeftEnds g n c (leftm
 leftmost_tells g zero c = inr (left_none g c ∙ ap {A = Side} Some (sym (leftmost-zero g c)))
 leftmost_tells g (suc n) c =
     elim (option_tells (swing_left g c)) [
-        inl h ↦ subst (LeftEnds g (suc n) c) (sym (leftmost-none g n c h)) (inl (zero, left_none g c, h))
+      | inl h ↦ subst (LeftEnds g (suc n) c) (sym (leftmost-none g n c h)) (inl (zero, left_none g c, h))
       | inr d ↦ subst (LeftEnds g (suc n) c) (sym (leftmost-some g n c d.0 d.1)) (more d.0 d.1 (leftmost_tells g n d.0))
     ]
   where
     more : (d : Side) → swing_left g c ≡ Some d → LeftEnds g n d (leftmost g n d) → LeftEnds g (suc n) c (leftmost g n d)
     more d s t = elim t [
-        inl e ↦ inl (suc e.0, left_more g e.0 c d (leftmost g n d) s e.1, e.2)
-      | inr p ↦ inr (left_more g n c d (leftmost g n d) s p) ]
+      | inl e ↦ inl (suc e.0, left_more g e.0 c d (leftmost g n d) s e.1, e.2)
+      | inr p ↦ inr (left_more g n c d (leftmost g n d) s p)
+    ]
 
 pub rightmost_tells : (g : Gluing) (n : ℕ) (c : Side) → RightEnds g n c (rightmost g n c)
 rightmost_tells g zero c = inr (right_none g c ∙ ap {A = Side} Some (sym (rightmost-zero g c)))
 rightmost_tells g (suc n) c =
     elim (option_tells (swing_right g c)) [
-        inl h ↦ subst (RightEnds g (suc n) c) (sym (rightmost-none g n c h)) (inl (zero, right_none g c, h))
+      | inl h ↦ subst (RightEnds g (suc n) c) (sym (rightmost-none g n c h)) (inl (zero, right_none g c, h))
       | inr d ↦ subst (RightEnds g (suc n) c) (sym (rightmost-some g n c d.0 d.1)) (more d.0 d.1 (rightmost_tells g n d.0))
     ]
   where
     more : (d : Side) → swing_right g c ≡ Some d → RightEnds g n d (rightmost g n d) → RightEnds g (suc n) c (rightmost g n d)
     more d s t = elim t [
-        inl e ↦ inl (suc e.0, right_more g e.0 c d (rightmost g n d) s e.1, e.2)
-      | inr p ↦ inr (right_more g n c d (rightmost g n d) s p) ]
+      | inl e ↦ inl (suc e.0, right_more g e.0 c d (rightmost g n d) s e.1, e.2)
+      | inr p ↦ inr (right_more g n c d (rightmost g n d) s p)
+    ]
 
 -- a walk has been at each number of swings up to its own
 pub left_passed : (g : Gluing) (i n : ℕ) (c d : Side) → i ≤ n → left_by g n c ≡ Some d → (x : Side) × (left_by g i c ≡ Some x)
@@ -106,12 +108,14 @@ left_short {faces} {g} G c d h k p = no_room (3 * faces) f small apart
   where
     f : ℕ → ℕ
     f i = number_or (left_by g i c)
+
     small : (i : ℕ) → i ≤ 3 * faces → number_or (left_by g i c) < 3 * faces
     small i l =
         let t = left_passed g i (3 * faces) c d l p in
         let e = number_or-some (left_by g i c) t.0 t.1 in
         let b = number-lt t.0 faces (left_by-within G i c t.0 h t.1) in
         omega arith
+
     apart : (i j : ℕ) → i ≤ 3 * faces → j ≤ 3 * faces → number_or (left_by g i c) ≡ number_or (left_by g j c) → i ≡ j
     apart i j l m e =
         let t = left_passed g i (3 * faces) c d l p in
@@ -124,12 +128,14 @@ right_short {faces} {g} G c d h k p = no_room (3 * faces) f small apart
   where
     f : ℕ → ℕ
     f i = number_or (right_by g i c)
+
     small : (i : ℕ) → i ≤ 3 * faces → number_or (right_by g i c) < 3 * faces
     small i l =
         let t = right_passed g i (3 * faces) c d l p in
         let e = number_or-some (right_by g i c) t.0 t.1 in
         let b = number-lt t.0 faces (right_by-within G i c t.0 h t.1) in
         omega arith
+
     apart : (i j : ℕ) → i ≤ 3 * faces → j ≤ 3 * faces → number_or (right_by g i c) ≡ number_or (right_by g j c) → i ≡ j
     apart i j l m e =
         let t = right_passed g i (3 * faces) c d l p in
@@ -169,25 +175,27 @@ side_after-follows {faces} {g} G a A =
     let d = rightmost g (3 * faces) (prev a) in
     let t = rightmost_ends G (prev a) A.within (free-left g a A.free) in
     record {
-        free = record { within = right_by-within G t.0 (prev a) d A.within t.1; free = right-free g d t.2 };
-        meets = subst (InFan g (prev a)) (sym (next-prev d)) (right_by-fan g t.0 (prev a) d t.1) }
+      free = record { within = right_by-within G t.0 (prev a) d A.within t.1; free = right-free g d t.2 };
+      meets = subst (InFan g (prev a)) (sym (next-prev d)) (right_by-fan g t.0 (prev a) d t.1);
+    }
 
 pub side_after_only : {faces : ℕ} {g : Gluing} → IsGluing faces g → (a b : Side) → IsFree faces g a → Follows faces g a b → b ≡ side_after faces g a
 side_after_only {faces} {g} G a b A B =
     let f = side_after-follows G a A in
     next_injective b (side_after faces g a)
-        (starts_once G (fan_trans (fan_sym G B.meets) f.meets) (free-right g b B.free.free) (free-right g (side_after faces g a) f.free.free))
+    (starts_once G (fan_trans (fan_sym G B.meets) f.meets) (free-right g b B.free.free) (free-right g (side_after faces g a) f.free.free))
 
 -- the free side before a: a follows it, and no other has a after it
 pub side_before-follows : {faces : ℕ} {g : Gluing} → IsGluing faces g → (a : Side) → IsFree faces g a → IsFree faces g (side_before faces g a) × Follows faces g (side_before faces g a) a
 side_before-follows {faces} {g} G a A =
     let d = leftmost g (3 * faces) (next a) in
-    let t = leftmost_ends G (next a) A.within (free-right g a A.free) in
-    (record { within = left_by-within G t.0 (next a) d A.within t.1; free = left-free g d t.2 },
-     record { free = A; meets = subst (λ x. InFan g x (next a)) (sym (prev-next d)) (fan_sym G (left_by-fan g t.0 (next a) d t.1)) })
+    let t = leftmost_ends G (next a) A.within (free-right g a A.free) in (
+      record { within = left_by-within G t.0 (next a) d A.within t.1; free = left-free g d t.2 },
+      record { free = A; meets = subst (λ x. InFan g x (next a)) (sym (prev-next d)) (fan_sym G (left_by-fan g t.0 (next a) d t.1)) },
+    )
 
 pub side_before_only : {faces : ℕ} {g : Gluing} → IsGluing faces g → (z a : Side) → IsFree faces g z → Follows faces g z a → z ≡ side_before faces g a
 side_before_only {faces} {g} G z a Z A =
     let f = side_before-follows G a A.free in
     prev_injective z (side_before faces g a)
-        (ends_once G (fan_trans A.meets (fan_sym G f.1.meets)) (free-left g z Z.free) (free-left g (side_before faces g a) f.0.free))
+    (ends_once G (fan_trans A.meets (fan_sym G f.1.meets)) (free-left g z Z.free) (free-left g (side_before faces g a) f.0.free))

@@ -1,8 +1,8 @@
 -- What one more face and one more pair change: gluings, fans, and the boundary.
-use Rattle.std.proofs.Common.{◌≡◌, ◌≢◌, ℕ, zero, suc, ◌+◌, ◌*◌, ◌<◌, ◌≤◌, Option, Some, None, ◌⊎◌, inl, inr, sym, refl, ap, ◌∙◌, subst, arith, option_map}
-use Rattle.corner_table.specs.Sides.{Side, side, next, prev, number, Gluing, unglued, glue, IsGluing, IsFree}
-use Rattle.corner_table.specs.Fans.{swing_left, swing_right, InFan, here, leftwards, rightwards, side_before, side_after, Follows}
-use Rattle.corner_table.proofs.Places.{option_tells, Some_injective, next-prev, prev-next, face_apart, glue_first, glue_second, glue_other, glue_tells, GlueCase, at_first, at_second, elsewhere}
+use Rattle.std.proofs.Common.{◌≡◌, ◌≢◌, ℕ, ◌<◌, ◌≤◌, Some, None, inl, inr, sym, refl, ap, ◌∙◌, subst, arith}
+use Rattle.corner_table.specs.Sides.{Side, next, prev, Gluing, unglued, glue, IsGluing, IsFree}
+use Rattle.corner_table.specs.Fans.{InFan, here, leftwards, rightwards, Follows}
+use Rattle.corner_table.proofs.Places.{option_tells, Some_injective, next-prev, prev-next, face_apart, glue_first, glue_second, glue_other, glue_tells, at_first, at_second, elsewhere}
 use Rattle.corner_table.proofs.Walks.{left_crosses, right_crosses, crosses-left, crosses-right, fan_trans, fan_sym}
 
 pub unglued_is : (faces : ℕ) → IsGluing faces unglued
@@ -28,19 +28,24 @@ glued_is {faces} {g} a b G A B h = record { paired = paired; within = within; ap
   where
     paired : (x y : Side) → glue a b g x ≡ Some y → glue a b g y ≡ Some x
     paired x y e = elim (glue_tells a b x g) [
-        at_first p q ↦ ap (glue a b g) (Some_injective _ _ (sym e ∙ q)) ∙ glue_second a b g (face_apart a b h) ∙ ap {A = Side} Some (sym p)
+      | at_first p q ↦ ap (glue a b g) (Some_injective _ _ (sym e ∙ q)) ∙ glue_second a b g (face_apart a b h) ∙ ap {A = Side} Some (sym p)
       | at_second k p q ↦ ap (glue a b g) (Some_injective _ _ (sym e ∙ q)) ∙ glue_first a b g ∙ ap {A = Side} Some (sym p)
-      | elsewhere k l q ↦ glued_stays a b A B y x (G.paired x y (sym q ∙ e)) ]
+      | elsewhere k l q ↦ glued_stays a b A B y x (G.paired x y (sym q ∙ e))
+    ]
+
     within : (x y : Side) → glue a b g x ≡ Some y → x.face < faces
     within x y e = elim (glue_tells a b x g) [
-        at_first p q ↦ subst (λ (z : Side). z.face < faces) (sym p) A.within
+      | at_first p q ↦ subst (λ (z : Side). z.face < faces) (sym p) A.within
       | at_second k p q ↦ subst (λ (z : Side). z.face < faces) (sym p) B.within
-      | elsewhere k l q ↦ G.within x y (sym q ∙ e) ]
+      | elsewhere k l q ↦ G.within x y (sym q ∙ e)
+    ]
+
     apart : (x y : Side) → glue a b g x ≡ Some y → x.face ≢ y.face
     apart x y e f = elim (glue_tells a b x g) [
-        at_first p q ↦ h (sym (ap (λ (z : Side). z.face) p) ∙ f ∙ ap (λ (z : Side). z.face) (Some_injective _ _ (sym e ∙ q)))
+      | at_first p q ↦ h (sym (ap (λ (z : Side). z.face) p) ∙ f ∙ ap (λ (z : Side). z.face) (Some_injective _ _ (sym e ∙ q)))
       | at_second k p q ↦ h (sym (ap (λ (z : Side). z.face) (Some_injective _ _ (sym e ∙ q))) ∙ sym f ∙ ap (λ (z : Side). z.face) p)
-      | elsewhere k l q ↦ G.apart x y (sym q ∙ e) f ]
+      | elsewhere k l q ↦ G.apart x y (sym q ∙ e) f
+    ]
 
 -- the free sides after a gluing
 pub free_before : {faces : ℕ} {g : Gluing} (a b x : Side) → a ≢ b → IsFree faces (glue a b g) x → (x ≢ a) × (x ≢ b) × IsFree faces g x
@@ -73,32 +78,36 @@ alike_after f {g} a b same_fan e h (leftwards {c = c} {d = d} s p) = across ∙ 
   where
     crossed : glue a b g (next c) ≡ Some (prev d)
     crossed = left_crosses (glue a b g) c d s
+
     across : f c ≡ f d
     across = elim (glue_tells a b (next c) g) [
-        at_first k q ↦ (
-            let x : c ≡ prev a = sym (prev-next c) ∙ ap prev k in
-            let y : d ≡ next b = sym (next-prev d) ∙ ap next (Some_injective _ _ (sym crossed ∙ q)) in
-            ap f x ∙ e ∙ ap f (sym y))
+      | at_first k q ↦ (
+          let x : c ≡ prev a = sym (prev-next c) ∙ ap prev k in
+          let y : d ≡ next b = sym (next-prev d) ∙ ap next (Some_injective _ _ (sym crossed ∙ q)) in
+          ap f x ∙ e ∙ ap f (sym y))
       | at_second l k q ↦ (
-            let x : c ≡ prev b = sym (prev-next c) ∙ ap prev k in
-            let y : d ≡ next a = sym (next-prev d) ∙ ap next (Some_injective _ _ (sym crossed ∙ q)) in
-            ap f x ∙ sym h ∙ ap f (sym y))
-      | elsewhere k l q ↦ same_fan c d (leftwards (crosses-left g c d (sym q ∙ crossed)) here) ]
+          let x : c ≡ prev b = sym (prev-next c) ∙ ap prev k in
+          let y : d ≡ next a = sym (next-prev d) ∙ ap next (Some_injective _ _ (sym crossed ∙ q)) in
+          ap f x ∙ sym h ∙ ap f (sym y))
+      | elsewhere k l q ↦ same_fan c d (leftwards (crosses-left g c d (sym q ∙ crossed)) here)
+    ]
 alike_after f {g} a b same_fan e h (rightwards {c = c} {d = d} s p) = across ∙ alike_after f a b same_fan e h p
   where
     crossed : glue a b g (prev c) ≡ Some (next d)
     crossed = right_crosses (glue a b g) c d s
+
     across : f c ≡ f d
     across = elim (glue_tells a b (prev c) g) [
-        at_first k q ↦ (
-            let x : c ≡ next a = sym (next-prev c) ∙ ap next k in
-            let y : d ≡ prev b = sym (prev-next d) ∙ ap prev (Some_injective _ _ (sym crossed ∙ q)) in
-            ap f x ∙ h ∙ ap f (sym y))
+      | at_first k q ↦ (
+          let x : c ≡ next a = sym (next-prev c) ∙ ap next k in
+          let y : d ≡ prev b = sym (prev-next d) ∙ ap prev (Some_injective _ _ (sym crossed ∙ q)) in
+          ap f x ∙ h ∙ ap f (sym y))
       | at_second l k q ↦ (
-            let x : c ≡ next b = sym (next-prev c) ∙ ap next k in
-            let y : d ≡ prev a = sym (prev-next d) ∙ ap prev (Some_injective _ _ (sym crossed ∙ q)) in
-            ap f x ∙ sym e ∙ ap f (sym y))
-      | elsewhere k l q ↦ same_fan c d (rightwards (crosses-right g c d (sym q ∙ crossed)) here) ]
+          let x : c ≡ next b = sym (next-prev c) ∙ ap next k in
+          let y : d ≡ prev a = sym (prev-next d) ∙ ap prev (Some_injective _ _ (sym crossed ∙ q)) in
+          ap f x ∙ sym e ∙ ap f (sym y))
+      | elsewhere k l q ↦ same_fan c d (rightwards (crosses-right g c d (sym q ∙ crossed)) here)
+    ]
 
 -- the boundary after a gluing
 pub follows_kept : {faces : ℕ} {g : Gluing} (a b x y : Side) → IsFree faces g a → IsFree faces g b → y ≢ a → y ≢ b → Follows faces g x y → Follows faces (glue a b g) x y
@@ -116,10 +125,14 @@ follows_over_second {faces} {g} a b x y G A B p q F H =
 -- b is alone in its loop: what follows a follows what came before a
 pub follows_past_second : {faces : ℕ} {g : Gluing} (a b x y : Side) → IsGluing faces (glue a b g) → IsFree faces g a → IsFree faces g b → y ≢ a → y ≢ b → Follows faces g x a → Follows faces g b b → Follows faces g a y → Follows faces (glue a b g) x y
 follows_past_second {faces} {g} a b x y G A B p q F K H =
-    record { free = free_after a b y p q H.free;
-        meets = fan_trans (fan_stays a b A B F.meets) (fan_trans (starts_join a b g) (fan_trans (fan_stays a b A B K.meets) (fan_trans (fan_sym G (ends_join a b g)) (fan_stays a b A B H.meets)))) }
+    record {
+      free = free_after a b y p q H.free;
+      meets = fan_trans (fan_stays a b A B F.meets) (fan_trans (starts_join a b g) (fan_trans (fan_stays a b A B K.meets) (fan_trans (fan_sym G (ends_join a b g)) (fan_stays a b A B H.meets))));
+    }
 
 pub follows_past_first : {faces : ℕ} {g : Gluing} (a b x y : Side) → IsGluing faces (glue a b g) → IsFree faces g a → IsFree faces g b → y ≢ a → y ≢ b → Follows faces g x b → Follows faces g a a → Follows faces g b y → Follows faces (glue a b g) x y
 follows_past_first {faces} {g} a b x y G A B p q F K H =
-    record { free = free_after a b y p q H.free;
-        meets = fan_trans (fan_stays a b A B F.meets) (fan_trans (fan_sym G (ends_join a b g)) (fan_trans (fan_stays a b A B K.meets) (fan_trans (starts_join a b g) (fan_stays a b A B H.meets)))) }
+    record {
+      free = free_after a b y p q H.free;
+      meets = fan_trans (fan_stays a b A B F.meets) (fan_trans (fan_sym G (ends_join a b g)) (fan_trans (fan_stays a b A B K.meets) (fan_trans (starts_join a b g) (fan_stays a b A B H.meets))));
+    }

@@ -1,14 +1,13 @@
 -- The two lists of links after a new face and after a gluing.
-use Rattle.std.proofs.Common.{◌≡◌, ◌≢◌, ℕ, zero, suc, ◌+◌, ◌*◌, ◌<◌, ◌≤◌, Bool, true, false, cond, eqb, List, length, get_or, set, Option, Some, None, ◌⊎◌, inl, inr, sym, refl, ap, ◌∙◌, subst, arith, length-set, eqb-true, eq-eqb, ne_eqb}
+use Rattle.std.proofs.Common.{◌≡◌, ◌≢◌, ℕ, ◌*◌, ◌≤◌, true, false, eqb, List, length, get_or, set, ◌⊎◌, inl, inr, sym, ap, ◌∙◌, subst, arith, length-set, eqb-true}
 use Rattle.std.proofs.lemmas.Bool.{cases_Bool, cond-true, cond-false, eqb-false}
-use Rattle.corner_table.specs.Sides.{Side, Place, first, second, third, side, next, prev, number, Gluing, glue, IsGluing, IsFree}
-use Rattle.corner_table.specs.Fans.{InFan, here, side_before, side_after, Follows}
-use Rattle.corner_table.specs.Links.{IsLinked, joined, taken_out, relinked, new_loop}
-use Rattle.corner_table.proofs.Places.{same_tells, face_apart}
-use Rattle.corner_table.proofs.Numbers.{number-lt, number_injective}
-use Rattle.corner_table.proofs.Boundary.{side_after-follows, side_after_only, side_before-follows, side_before_only}
-use Rattle.corner_table.proofs.Gluings.{more_faces, new_free, glued_is, free_before}
-use Rattle.corner_table.proofs.LinkSteps.{number_apart, read_here, read_else, after-before, before-after, after_free, before_free, after_injective, after-glue, before-glue, NextCase, PrevCase, stays, over_first, over_second, past_second, past_first, was_stays, was_over_first, was_over_second, was_past_second, was_past_first}
+use Rattle.corner_table.specs.Sides.{Side, number, Gluing, glue, IsGluing, IsFree}
+use Rattle.corner_table.specs.Fans.{side_before, side_after}
+use Rattle.corner_table.specs.Links.{IsLinked, taken_out, relinked}
+use Rattle.corner_table.proofs.Places.{face_apart}
+use Rattle.corner_table.proofs.Numbers.{number_injective}
+use Rattle.corner_table.proofs.Gluings.{free_before}
+use Rattle.corner_table.proofs.LinkSteps.{read_here, read_else, after-before, before-after, after_free, before_free, after_injective, after-glue, before-glue, stays, over_first, over_second, past_second, past_first, was_stays, was_over_first, was_over_second, was_past_second, was_past_first}
 
 -- the neighbours of two free sides about to be glued, with what is known of them
 pub record Around (faces : ℕ) (g : Gluing) (a b : Side) (A B : List ℕ) : Type 0 where
@@ -68,14 +67,15 @@ module _ (faces : ℕ) (g : Gluing) (a b : Side) (A B : List ℕ) (R : Around fa
       let fpa = before_free R.gluing a R.first_free in
       let fpb = before_free R.gluing b R.second_free in
       elim (after-glue R.gluing a b R.first_free R.second_free R.apart x X) [
-        stays m k e ↦ read_else A1 pb x v1 (not_before x b R.second_free k) ∙ read_else A pa x (number (side_after faces g b)) (not_before x a R.first_free m) ∙ R.linked.after_is x F.2 ∙ ap number (sym e)
-      | over_first e o q ↦
-          read_else A1 pb x v1 (not_before x b R.second_free (not_other (side_after faces g x) a b ne e))
-          ∙ ap (λ (z : Side). get_or A1 (number z) 0) (was_before x a F.2 e) ∙ read_here A pa (number (side_after faces g b)) faces fpa.within R.room_after ∙ ap number (sym q)
-      | over_second e o q ↦
-          ap (λ (z : Side). get_or (set A1 (number pb) v1) (number z) 0) (was_before x b F.2 e) ∙ read_here A1 pb v1 faces fpb.within l1 ∙ ap number (sym q)
-      | past_second e o q ↦ absurd (v o)
-      | past_first e o q ↦ absurd (u o) ]
+        | stays m k e ↦ read_else A1 pb x v1 (not_before x b R.second_free k) ∙ read_else A pa x (number (side_after faces g b)) (not_before x a R.first_free m) ∙ R.linked.after_is x F.2 ∙ ap number (sym e)
+        | over_first e o q ↦
+            read_else A1 pb x v1 (not_before x b R.second_free (not_other (side_after faces g x) a b ne e))
+            ∙ ap (λ (z : Side). get_or A1 (number z) 0) (was_before x a F.2 e) ∙ read_here A pa (number (side_after faces g b)) faces fpa.within R.room_after ∙ ap number (sym q)
+        | over_second e o q ↦
+            ap (λ (z : Side). get_or (set A1 (number pb) v1) (number z) 0) (was_before x b F.2 e) ∙ read_here A1 pb v1 faces fpb.within l1 ∙ ap number (sym q)
+        | past_second e o q ↦ absurd (v o)
+        | past_first e o q ↦ absurd (u o)
+      ]
 
   before_neither : side_after faces g a ≢ a → side_after faces g b ≢ b →
       BeforeIs faces g a b (set (set B (number (side_after faces g b)) (number (side_before faces g a))) (number (side_after faces g a)) (number (side_before faces g b)))
@@ -89,14 +89,15 @@ module _ (faces : ℕ) (g : Gluing) (a b : Side) (A B : List ℕ) (R : Around fa
       let fna = after_free R.gluing a R.first_free in
       let fnb = after_free R.gluing b R.second_free in
       elim (before-glue R.gluing a b R.first_free R.second_free R.apart x X) [
-        was_stays m k e ↦ read_else B1 na x v1 (not_after x a R.first_free m) ∙ read_else B nb x (number (side_before faces g a)) (not_after x b R.second_free k) ∙ R.linked.before_is x F.2 ∙ ap number (sym e)
-      | was_over_first e o q ↦
-          read_else B1 na x v1 (not_after x a R.first_free (not_other (side_before faces g x) b a (λ r. ne (sym r)) e))
-          ∙ ap (λ (z : Side). get_or B1 (number z) 0) (was_after x b F.2 e) ∙ read_here B nb (number (side_before faces g a)) faces fnb.within R.room_before ∙ ap number (sym q)
-      | was_over_second e o q ↦
-          ap (λ (z : Side). get_or (set B1 (number na) v1) (number z) 0) (was_after x a F.2 e) ∙ read_here B1 na v1 faces fna.within l1 ∙ ap number (sym q)
-      | was_past_second e o q ↦ absurd (v o)
-      | was_past_first e o q ↦ absurd (u o) ]
+        | was_stays m k e ↦ read_else B1 na x v1 (not_after x a R.first_free m) ∙ read_else B nb x (number (side_before faces g a)) (not_after x b R.second_free k) ∙ R.linked.before_is x F.2 ∙ ap number (sym e)
+        | was_over_first e o q ↦
+            read_else B1 na x v1 (not_after x a R.first_free (not_other (side_before faces g x) b a (λ r. ne (sym r)) e))
+            ∙ ap (λ (z : Side). get_or B1 (number z) 0) (was_after x b F.2 e) ∙ read_here B nb (number (side_before faces g a)) faces fnb.within R.room_before ∙ ap number (sym q)
+        | was_over_second e o q ↦
+            ap (λ (z : Side). get_or (set B1 (number na) v1) (number z) 0) (was_after x a F.2 e) ∙ read_here B1 na v1 faces fna.within l1 ∙ ap number (sym q)
+        | was_past_second e o q ↦ absurd (v o)
+        | was_past_first e o q ↦ absurd (u o)
+      ]
 
   after_first_lone : side_after faces g a ≡ a → side_after faces g b ≢ b → AfterIs faces g a b (set A (number (side_before faces g b)) (number (side_after faces g b)))
   after_first_lone u v x X =
@@ -105,11 +106,12 @@ module _ (faces : ℕ) (g : Gluing) (a b : Side) (A B : List ℕ) (R : Around fa
       let v1 = number (side_after faces g b) in
       let fpb = before_free R.gluing b R.second_free in
       elim (after-glue R.gluing a b R.first_free R.second_free R.apart x X) [
-        stays m k e ↦ read_else A pb x v1 (not_before x b R.second_free k) ∙ R.linked.after_is x F.2 ∙ ap number (sym e)
-      | over_first e o q ↦ absurd (lone_no_other x a F.2 R.first_free F.0 u e)
-      | over_second e o q ↦ absurd (o u)
-      | past_second e o q ↦ absurd (v o)
-      | past_first e o q ↦ ap (λ (z : Side). get_or (set A (number pb) v1) (number z) 0) (was_before x b F.2 e) ∙ read_here A pb v1 faces fpb.within R.room_after ∙ ap number (sym q) ]
+        | stays m k e ↦ read_else A pb x v1 (not_before x b R.second_free k) ∙ R.linked.after_is x F.2 ∙ ap number (sym e)
+        | over_first e o q ↦ absurd (lone_no_other x a F.2 R.first_free F.0 u e)
+        | over_second e o q ↦ absurd (o u)
+        | past_second e o q ↦ absurd (v o)
+        | past_first e o q ↦ ap (λ (z : Side). get_or (set A (number pb) v1) (number z) 0) (was_before x b F.2 e) ∙ read_here A pb v1 faces fpb.within R.room_after ∙ ap number (sym q)
+      ]
 
   before_first_lone : side_after faces g a ≡ a → side_after faces g b ≢ b → BeforeIs faces g a b (set B (number (side_after faces g b)) (number (side_before faces g b)))
   before_first_lone u v x X =
@@ -118,11 +120,12 @@ module _ (faces : ℕ) (g : Gluing) (a b : Side) (A B : List ℕ) (R : Around fa
       let v1 = number (side_before faces g b) in
       let fnb = after_free R.gluing b R.second_free in
       elim (before-glue R.gluing a b R.first_free R.second_free R.apart x X) [
-        was_stays m k e ↦ read_else B nb x v1 (not_after x b R.second_free k) ∙ R.linked.before_is x F.2 ∙ ap number (sym e)
-      | was_over_first e o q ↦ absurd (o u)
-      | was_over_second e o q ↦ absurd (lone_no_next x a F.2 R.first_free F.0 u e)
-      | was_past_second e o q ↦ absurd (v o)
-      | was_past_first e o q ↦ ap (λ (z : Side). get_or (set B (number nb) v1) (number z) 0) (was_after x b F.2 e) ∙ read_here B nb v1 faces fnb.within R.room_before ∙ ap number (sym q) ]
+        | was_stays m k e ↦ read_else B nb x v1 (not_after x b R.second_free k) ∙ R.linked.before_is x F.2 ∙ ap number (sym e)
+        | was_over_first e o q ↦ absurd (o u)
+        | was_over_second e o q ↦ absurd (lone_no_next x a F.2 R.first_free F.0 u e)
+        | was_past_second e o q ↦ absurd (v o)
+        | was_past_first e o q ↦ ap (λ (z : Side). get_or (set B (number nb) v1) (number z) 0) (was_after x b F.2 e) ∙ read_here B nb v1 faces fnb.within R.room_before ∙ ap number (sym q)
+      ]
 
   after_second_lone : side_after faces g a ≢ a → side_after faces g b ≡ b → AfterIs faces g a b (set A (number (side_before faces g a)) (number (side_after faces g a)))
   after_second_lone u v x X =
@@ -131,11 +134,12 @@ module _ (faces : ℕ) (g : Gluing) (a b : Side) (A B : List ℕ) (R : Around fa
       let v1 = number (side_after faces g a) in
       let fpa = before_free R.gluing a R.first_free in
       elim (after-glue R.gluing a b R.first_free R.second_free R.apart x X) [
-        stays m k e ↦ read_else A pa x v1 (not_before x a R.first_free m) ∙ R.linked.after_is x F.2 ∙ ap number (sym e)
-      | over_first e o q ↦ absurd (o v)
-      | over_second e o q ↦ absurd (lone_no_other x b F.2 R.second_free F.1 v e)
-      | past_second e o q ↦ ap (λ (z : Side). get_or (set A (number pa) v1) (number z) 0) (was_before x a F.2 e) ∙ read_here A pa v1 faces fpa.within R.room_after ∙ ap number (sym q)
-      | past_first e o q ↦ absurd (u o) ]
+        | stays m k e ↦ read_else A pa x v1 (not_before x a R.first_free m) ∙ R.linked.after_is x F.2 ∙ ap number (sym e)
+        | over_first e o q ↦ absurd (o v)
+        | over_second e o q ↦ absurd (lone_no_other x b F.2 R.second_free F.1 v e)
+        | past_second e o q ↦ ap (λ (z : Side). get_or (set A (number pa) v1) (number z) 0) (was_before x a F.2 e) ∙ read_here A pa v1 faces fpa.within R.room_after ∙ ap number (sym q)
+        | past_first e o q ↦ absurd (u o)
+      ]
 
   before_second_lone : side_after faces g a ≢ a → side_after faces g b ≡ b → BeforeIs faces g a b (set B (number (side_after faces g a)) (number (side_before faces g a)))
   before_second_lone u v x X =
@@ -144,31 +148,34 @@ module _ (faces : ℕ) (g : Gluing) (a b : Side) (A B : List ℕ) (R : Around fa
       let v1 = number (side_before faces g a) in
       let fna = after_free R.gluing a R.first_free in
       elim (before-glue R.gluing a b R.first_free R.second_free R.apart x X) [
-        was_stays m k e ↦ read_else B na x v1 (not_after x a R.first_free m) ∙ R.linked.before_is x F.2 ∙ ap number (sym e)
-      | was_over_first e o q ↦ absurd (lone_no_next x b F.2 R.second_free F.1 v e)
-      | was_over_second e o q ↦ absurd (o v)
-      | was_past_second e o q ↦ ap (λ (z : Side). get_or (set B (number na) v1) (number z) 0) (was_after x a F.2 e) ∙ read_here B na v1 faces fna.within R.room_before ∙ ap number (sym q)
-      | was_past_first e o q ↦ absurd (u o) ]
+        | was_stays m k e ↦ read_else B na x v1 (not_after x a R.first_free m) ∙ R.linked.before_is x F.2 ∙ ap number (sym e)
+        | was_over_first e o q ↦ absurd (lone_no_next x b F.2 R.second_free F.1 v e)
+        | was_over_second e o q ↦ absurd (o v)
+        | was_past_second e o q ↦ ap (λ (z : Side). get_or (set B (number na) v1) (number z) 0) (was_after x a F.2 e) ∙ read_here B na v1 faces fna.within R.room_before ∙ ap number (sym q)
+        | was_past_first e o q ↦ absurd (u o)
+      ]
 
   after_both_lone : side_after faces g a ≡ a → side_after faces g b ≡ b → AfterIs faces g a b A
   after_both_lone u v x X =
       let F = frees x X in
       elim (after-glue R.gluing a b R.first_free R.second_free R.apart x X) [
-        stays m k e ↦ R.linked.after_is x F.2 ∙ ap number (sym e)
-      | over_first e o q ↦ absurd (o v)
-      | over_second e o q ↦ absurd (o u)
-      | past_second e o q ↦ absurd (lone_no_other x a F.2 R.first_free F.0 u e)
-      | past_first e o q ↦ absurd (lone_no_other x b F.2 R.second_free F.1 v e) ]
+        | stays m k e ↦ R.linked.after_is x F.2 ∙ ap number (sym e)
+        | over_first e o q ↦ absurd (o v)
+        | over_second e o q ↦ absurd (o u)
+        | past_second e o q ↦ absurd (lone_no_other x a F.2 R.first_free F.0 u e)
+        | past_first e o q ↦ absurd (lone_no_other x b F.2 R.second_free F.1 v e)
+      ]
 
   before_both_lone : side_after faces g a ≡ a → side_after faces g b ≡ b → BeforeIs faces g a b B
   before_both_lone u v x X =
       let F = frees x X in
       elim (before-glue R.gluing a b R.first_free R.second_free R.apart x X) [
-        was_stays m k e ↦ R.linked.before_is x F.2 ∙ ap number (sym e)
-      | was_over_first e o q ↦ absurd (o u)
-      | was_over_second e o q ↦ absurd (o v)
-      | was_past_second e o q ↦ absurd (lone_no_next x a F.2 R.first_free F.0 u e)
-      | was_past_first e o q ↦ absurd (lone_no_next x b F.2 R.second_free F.1 v e) ]
+        | was_stays m k e ↦ R.linked.before_is x F.2 ∙ ap number (sym e)
+        | was_over_first e o q ↦ absurd (o u)
+        | was_over_second e o q ↦ absurd (o v)
+        | was_past_second e o q ↦ absurd (lone_no_next x a F.2 R.first_free F.0 u e)
+        | was_past_first e o q ↦ absurd (lone_no_next x b F.2 R.second_free F.1 v e)
+      ]
 
 -- both lists after a gluing
 IsRelinked : ℕ → Gluing → Side → Side → List ℕ × List ℕ → Type 0
@@ -183,10 +190,13 @@ known_linked faces g a b A B R = go (cases_Bool (eqb (number (side_after faces g
   where
     lone : (z : Side) → eqb (number (side_after faces g z)) (number z) ≡ true → side_after faces g z ≡ z
     lone z e = number_injective _ _ (eqb-true _ _ e)
+
     not_lone : (z : Side) → eqb (number (side_after faces g z)) (number z) ≡ false → side_after faces g z ≢ z
     not_lone z e q = eqb-false _ _ e (ap number q)
+
     pick : (links : List ℕ × List ℕ) → known faces g a b (A, B) ≡ links → AfterIs faces g a b links.0 → BeforeIs faces g a b links.1 → IsRelinked faces g a b (known faces g a b (A, B))
     pick links e x y = subst (IsRelinked faces g a b) (sym e) (record { after_is = x; before_is = y })
+
     go : (eqb (number (side_after faces g a)) (number a) ≡ true) ⊎ (eqb (number (side_after faces g a)) (number a) ≡ false) → (eqb (number (side_after faces g b)) (number b) ≡ true) ⊎ (eqb (number (side_after faces g b)) (number b) ≡ false) → IsRelinked faces g a b (known faces g a b (A, B))
     go (inl u) (inl v) = pick (A, B) (cond-true _ _ _ u ∙ cond-true _ _ _ v) (after_both_lone faces g a b A B R (lone a u) (lone b v)) (before_both_lone faces g a b A B R (lone a u) (lone b v))
     go (inl u) (inr v) = pick _ (cond-true _ _ _ u ∙ cond-false _ _ _ v) (after_first_lone faces g a b A B R (lone a u) (not_lone b v)) (before_first_lone faces g a b A B R (lone a u) (not_lone b v))

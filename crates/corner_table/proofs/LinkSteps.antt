@@ -1,13 +1,11 @@
 -- The links after a new face and after a gluing are those of the new boundary.
-use Rattle.std.proofs.Common.{◌≡◌, ◌≢◌, ℕ, zero, suc, ◌+◌, ◌*◌, ◌<◌, ◌≤◌, Bool, true, false, cond, eqb, List, length, get_or, set, Option, Some, None, ◌⊎◌, inl, inr, sym, refl, ap, ◌∙◌, subst, arith, get_or-set_other, get_or-set_same, length-set, eqb-true, eq-eqb, ne_eqb}
-use Rattle.std.proofs.lemmas.Bool.{cases_Bool, cond-true, cond-false, eqb-false}
-use Rattle.corner_table.specs.Sides.{Side, Place, first, second, third, side, next, prev, number, Gluing, glue, IsGluing, IsFree}
-use Rattle.corner_table.specs.Fans.{InFan, here, side_before, side_after, Follows}
-use Rattle.corner_table.specs.Links.{IsLinked, joined, relinked, new_loop}
+use Rattle.std.proofs.Common.{◌≡◌, ◌≢◌, ℕ, ◌*◌, ◌<◌, ◌≤◌, List, length, get_or, set, ◌⊎◌, inl, inr, sym, ap, ◌∙◌, subst, arith, get_or-set_other, get_or-set_same}
+use Rattle.corner_table.specs.Sides.{Side, number, Gluing, glue, IsGluing, IsFree}
+use Rattle.corner_table.specs.Fans.{side_before, side_after, Follows}
 use Rattle.corner_table.proofs.Places.{same_tells, face_apart}
 use Rattle.corner_table.proofs.Numbers.{number-lt, number_injective}
 use Rattle.corner_table.proofs.Boundary.{side_after-follows, side_after_only, side_before-follows, side_before_only}
-use Rattle.corner_table.proofs.Gluings.{more_faces, new_free, glued_is, free_before, free_after, follows_kept, follows_over_first, follows_over_second, follows_past_first, follows_past_second}
+use Rattle.corner_table.proofs.Gluings.{glued_is, free_before, free_after, follows_kept, follows_over_first, follows_over_second, follows_past_first, follows_past_second}
 
 pub number_apart : (x y : Side) → x ≢ y → number x ≢ number y
 number_apart x y h e = h (number_injective x y e)
@@ -49,20 +47,28 @@ after-glue {faces} {g} G a b A B h x X = go (same_tells (n x) a) (same_tells (n 
   where
     n : Side → Side
     n = side_after faces g
+
     G' : IsGluing faces (glue a b g)
     G' = glued_is a b G A B h
+
     ne : a ≢ b
     ne = face_apart a b h
+
     F : (x ≢ a) × (x ≢ b) × IsFree faces g x
     F = free_before a b x ne X
+
     fx : Follows faces g x (side_after faces g x)
     fx = side_after-follows G x F.2
+
     fa : Follows faces g a (side_after faces g a)
     fa = side_after-follows G a A
+
     fb : Follows faces g b (side_after faces g b)
     fb = side_after-follows G b B
+
     only : (y : Side) → Follows faces (glue a b g) x y → side_after faces (glue a b g) x ≡ y
     only y f = sym (side_after_only G' x y X f)
+
     -- x comes before a: it isn't b, and a isn't alone
     case_first : side_after faces g x ≡ a → (side_after faces g b ≡ b) ⊎ (side_after faces g b ≢ b) → NextCase faces g a b x (side_after faces (glue a b g) x)
     case_first e (inl lone) =
@@ -72,6 +78,7 @@ after-glue {faces} {g} G a b A B h x X = go (same_tells (n x) a) (same_tells (n 
     case_first e (inr other) =
         let p : side_after faces g b ≢ a = λ q. F.1 (after_injective G x b F.2 B (e ∙ sym q)) in
         over_first e other (only _ (follows_over_first a b x (side_after faces g b) A B p other (subst (Follows faces g x) e fx) fb))
+
     case_second : side_after faces g x ≡ b → (side_after faces g a ≡ a) ⊎ (side_after faces g a ≢ a) → NextCase faces g a b x (side_after faces (glue a b g) x)
     case_second e (inl lone) =
         let p : side_after faces g b ≢ a = λ q. ne (sym (after_injective G b a B A (q ∙ sym lone))) in
@@ -80,6 +87,7 @@ after-glue {faces} {g} G a b A B h x X = go (same_tells (n x) a) (same_tells (n 
     case_second e (inr other) =
         let q : side_after faces g a ≢ b = λ q. F.0 (after_injective G x a F.2 A (e ∙ sym q)) in
         over_second e other (only _ (follows_over_second a b x (side_after faces g a) G' A B other q (subst (Follows faces g x) e fx) fa))
+
     go : (side_after faces g x ≡ a) ⊎ (side_after faces g x ≢ a) → (side_after faces g x ≡ b) ⊎ (side_after faces g x ≢ b) → NextCase faces g a b x (side_after faces (glue a b g) x)
     go (inl e) k = case_first e (same_tells (side_after faces g b) b)
     go (inr m) (inl e) = case_second e (same_tells (side_after faces g a) a)
@@ -99,23 +107,32 @@ before-glue {faces} {g} G a b A B h x X = go (same_tells (side_before faces g x)
   where
     G' : IsGluing faces (glue a b g)
     G' = glued_is a b G A B h
+
     ne : a ≢ b
     ne = face_apart a b h
+
     F : (x ≢ a) × (x ≢ b) × IsFree faces g x
     F = free_before a b x ne X
+
     fx : IsFree faces g (side_before faces g x) × Follows faces g (side_before faces g x) x
     fx = side_before-follows G x F.2
+
     fa : IsFree faces g (side_before faces g a) × Follows faces g (side_before faces g a) a
     fa = side_before-follows G a A
+
     fb : IsFree faces g (side_before faces g b) × Follows faces g (side_before faces g b) b
     fb = side_before-follows G b B
+
     only : (y : Side) → y ≢ a → y ≢ b → IsFree faces g y → Follows faces (glue a b g) y x → side_before faces (glue a b g) x ≡ y
     only y p q Y f = sym (side_before_only G' y x (free_after a b y p q Y) f)
+
     -- if the side before x is z, x is what follows z
     next_is : (z : Side) → side_before faces g x ≡ z → side_after faces g z ≡ x
     next_is z e = ap (side_after faces g) (sym e) ∙ after-before G x F.2
+
     alone_back : (z : Side) → IsFree faces g z → side_before faces g z ≡ z → side_after faces g z ≡ z
     alone_back z Z e = ap (side_after faces g) (sym e) ∙ after-before G z Z
+
     case_first : side_before faces g x ≡ b → (side_after faces g a ≡ a) ⊎ (side_after faces g a ≢ a) → PrevCase faces g a b x (side_before faces (glue a b g) x)
     case_first e (inl lone) =
         let p : side_before faces g b ≢ a = λ q. (let r : side_after faces g a ≡ b = ap (side_after faces g) (sym q) ∙ after-before G b B in ne (sym lone ∙ r)) in
@@ -125,6 +142,7 @@ before-glue {faces} {g} G a b A B h x X = go (same_tells (side_before faces g x)
         let p : side_before faces g a ≢ a = λ q. other (alone_back a A q) in
         let q : side_before faces g a ≢ b = λ q. F.0 (sym (next_is b e) ∙ ap (side_after faces g) (sym q) ∙ after-before G a A) in
         was_over_first e other (only (side_before faces g a) p q fa.0 (follows_over_first a b (side_before faces g a) x A B F.0 F.1 fa.1 (subst (λ z. Follows faces g z x) e fx.1)))
+
     case_second : side_before faces g x ≡ a → (side_after faces g b ≡ b) ⊎ (side_after faces g b ≢ b) → PrevCase faces g a b x (side_before faces (glue a b g) x)
     case_second e (inl lone) =
         let p : side_before faces g a ≢ a = λ q. F.0 (sym (next_is a e) ∙ alone_back a A q) in
@@ -134,6 +152,7 @@ before-glue {faces} {g} G a b A B h x X = go (same_tells (side_before faces g x)
         let p : side_before faces g b ≢ b = λ q. other (alone_back b B q) in
         let q : side_before faces g b ≢ a = λ q. F.1 (sym (next_is a e) ∙ ap (side_after faces g) (sym q) ∙ after-before G b B) in
         was_over_second e other (only (side_before faces g b) q p fb.0 (follows_over_second a b (side_before faces g b) x G' A B F.0 F.1 fb.1 (subst (λ z. Follows faces g z x) e fx.1)))
+
     go : (side_before faces g x ≡ a) ⊎ (side_before faces g x ≢ a) → (side_before faces g x ≡ b) ⊎ (side_before faces g x ≢ b) → PrevCase faces g a b x (side_before faces (glue a b g) x)
     go (inl e) k = case_second e (same_tells (side_after faces g b) b)
     go (inr m) (inl e) = case_first e (same_tells (side_after faces g a) a)

@@ -1,11 +1,11 @@
 -- The test of one fan finds just the corners of the fan.
-use Rattle.std.proofs.Common.{◌≡◌, ◌≢◌, ℕ, zero, suc, ◌+◌, ◌*◌, ◌<◌, ◌≤◌, Bool, true, false, cond, ◌||◌, Option, Some, None, ◌⊎◌, inl, inr, sym, refl, ap, ◌∙◌, subst, arith, eq-or-lt_of_le}
-use Rattle.std.proofs.lemmas.Bool.{cases_Bool, cases_eq, cases_lt, cases_order, cond-true, cond-false, or_cases, or_from}
+use Rattle.std.proofs.Common.{◌≡◌, ℕ, zero, suc, ◌+◌, ◌*◌, ◌<◌, ◌≤◌, Bool, true, false, cond, ◌||◌, Option, Some, None, ◌⊎◌, inl, inr, sym, refl, ap, ◌∙◌, subst, arith}
+use Rattle.std.proofs.lemmas.Bool.{cases_Bool, cases_eq, cases_lt, cases_order, or_cases}
 use Rattle.corner_table.specs.Sides.{Side, number, same, Gluing, IsGluing}
 use Rattle.corner_table.specs.Fans.{swing_left, swing_right, InFan, here, leftwards, rightwards, walks_left, walks_right, meets}
 use Rattle.corner_table.proofs.Places.{option_tells, Some_injective, same-true, same_refl}
 use Rattle.corner_table.proofs.Numbers.{number-lt, number_injective, no_room}
-use Rattle.corner_table.proofs.Walks.{left_by, right_by, left_by-zero, left_none, left_more, left_split, left_last, left_back, right_back, right_split, right_by-zero, right_none, right_more, left_by-fan, right_by-fan, left_then_right, right_then_left, Trail, trail}
+use Rattle.corner_table.proofs.Walks.{left_by, right_by, left_by-zero, left_none, left_more, left_split, left_last, left_back, right_split, right_by-zero, left_then_right, Trail, trail}
 use Rattle.corner_table.proofs.Boundary.{left_by-within, left_passed}
 
 walks_left-none : (g : Gluing) (n : ℕ) (c d : Side) → swing_left g c ≡ None → walks_left g (suc n) c d ≡ cond (same c d) true false
@@ -48,29 +48,36 @@ cond_second false u e = e
 pub walks_left-fan : (g : Gluing) (n : ℕ) (c d : Side) → walks_left g n c d ≡ true → InFan g c d
 walks_left-fan g zero c d e = subst (InFan g c) (same-true c d (sym (walks_left-zero g c d) ∙ e)) here
 walks_left-fan g (suc n) c d e = elim (option_tells (swing_left g c)) [
-    inl h ↦ elim (cond_either (same c d) false (sym (walks_left-none g n c d h) ∙ e)) [
-        inl q ↦ subst (InFan g c) (same-true c d q) here
-      | inr q ↦ absurd (let no : false ≡ true = q in cc) ]
+  | inl h ↦ elim (cond_either (same c d) false (sym (walks_left-none g n c d h) ∙ e)) [
+    | inl q ↦ subst (InFan g c) (same-true c d q) here
+    | inr q ↦ absurd (let no : false ≡ true = q in cc)
+  ]
   | inr x ↦ elim (cond_either (same c d) (walks_left g n x.0 d) (sym (walks_left-some g n c d x.0 x.1) ∙ e)) [
-        inl q ↦ subst (InFan g c) (same-true c d q) here
-      | inr q ↦ leftwards x.1 (walks_left-fan g n x.0 d q) ] ]
+    | inl q ↦ subst (InFan g c) (same-true c d q) here
+    | inr q ↦ leftwards x.1 (walks_left-fan g n x.0 d q)
+  ]
+]
 
 pub walks_right-fan : (g : Gluing) (n : ℕ) (c d : Side) → walks_right g n c d ≡ true → InFan g c d
 walks_right-fan g zero c d e = subst (InFan g c) (same-true c d (sym (walks_right-zero g c d) ∙ e)) here
 walks_right-fan g (suc n) c d e = elim (option_tells (swing_right g c)) [
-    inl h ↦ elim (cond_either (same c d) false (sym (walks_right-none g n c d h) ∙ e)) [
-        inl q ↦ subst (InFan g c) (same-true c d q) here
-      | inr q ↦ absurd (let no : false ≡ true = q in cc) ]
+  | inl h ↦ elim (cond_either (same c d) false (sym (walks_right-none g n c d h) ∙ e)) [
+    | inl q ↦ subst (InFan g c) (same-true c d q) here
+    | inr q ↦ absurd (let no : false ≡ true = q in cc)
+  ]
   | inr x ↦ elim (cond_either (same c d) (walks_right g n x.0 d) (sym (walks_right-some g n c d x.0 x.1) ∙ e)) [
-        inl q ↦ subst (InFan g c) (same-true c d q) here
-      | inr q ↦ rightwards x.1 (walks_right-fan g n x.0 d q) ] ]
+    | inl q ↦ subst (InFan g c) (same-true c d q) here
+    | inr q ↦ rightwards x.1 (walks_right-fan g n x.0 d q)
+  ]
+]
 
 -- a walk finds what its swings lead to
 hits_self : (g : Gluing) (n : ℕ) (c d : Side) → c ≡ d → walks_left g n c d ≡ true
 hits_self g zero c d e = walks_left-zero g c d ∙ ap (same c) (sym e) ∙ same_refl c
 hits_self g (suc n) c d e = elim (option_tells (swing_left g c)) [
-    inl h ↦ walks_left-none g n c d h ∙ cond_first (same c d) false (ap (same c) (sym e) ∙ same_refl c)
-  | inr x ↦ walks_left-some g n c d x.0 x.1 ∙ cond_first (same c d) (walks_left g n x.0 d) (ap (same c) (sym e) ∙ same_refl c) ]
+  | inl h ↦ walks_left-none g n c d h ∙ cond_first (same c d) false (ap (same c) (sym e) ∙ same_refl c)
+  | inr x ↦ walks_left-some g n c d x.0 x.1 ∙ cond_first (same c d) (walks_left g n x.0 d) (ap (same c) (sym e) ∙ same_refl c)
+]
 
 pub left_hits : (g : Gluing) (m n : ℕ) (c d : Side) → m ≤ n → left_by g m c ≡ Some d → walks_left g n c d ≡ true
 left_hits g zero n c d h p = hits_self g n c d (left_by-zero g c d p)
@@ -82,8 +89,9 @@ left_hits g (suc m) (suc n) c d h p =
 right_hits_self : (g : Gluing) (n : ℕ) (c d : Side) → c ≡ d → walks_right g n c d ≡ true
 right_hits_self g zero c d e = walks_right-zero g c d ∙ ap (same c) (sym e) ∙ same_refl c
 right_hits_self g (suc n) c d e = elim (option_tells (swing_right g c)) [
-    inl h ↦ walks_right-none g n c d h ∙ cond_first (same c d) false (ap (same c) (sym e) ∙ same_refl c)
-  | inr x ↦ walks_right-some g n c d x.0 x.1 ∙ cond_first (same c d) (walks_right g n x.0 d) (ap (same c) (sym e) ∙ same_refl c) ]
+  | inl h ↦ walks_right-none g n c d h ∙ cond_first (same c d) false (ap (same c) (sym e) ∙ same_refl c)
+  | inr x ↦ walks_right-some g n c d x.0 x.1 ∙ cond_first (same c d) (walks_right g n x.0 d) (ap (same c) (sym e) ∙ same_refl c)
+]
 
 pub right_hits : (g : Gluing) (m n : ℕ) (c d : Side) → m ≤ n → right_by g m c ≡ Some d → walks_right g n c d ≡ true
 right_hits g zero n c d h p = right_hits_self g n c d (right_by-zero g c d p)
@@ -103,10 +111,11 @@ left_unlast g (suc k) b d e =
 -- one swing more, or round again
 one_more : (g : Gluing) (p : ℕ) (c d x : Side) → 0 < p → left_by g p c ≡ Some c → swing_left g x ≡ Some d → (m : ℕ) × (m < p) × (left_by g m c ≡ Some x) → (m : ℕ) × (m < p) × (left_by g m c ≡ Some d)
 one_more g p c d x h r s u = elim (cases_eq (suc u.0) p) [
-    inl e ↦ (
-        let at : left_by g p c ≡ Some d = ap (λ (n : ℕ). left_by g n c) (sym e) ∙ left_last g u.0 c x d u.2 s in
-        (zero, h, left_none g c ∙ sym r ∙ at))
-  | inr n ↦ (let l = u.1 in (suc u.0, omega arith, left_last g u.0 c x d u.2 s)) ]
+  | inl e ↦ (
+      let at : left_by g p c ≡ Some d = ap (λ (n : ℕ). left_by g n c) (sym e) ∙ left_last g u.0 c x d u.2 s in
+      (zero, h, left_none g c ∙ sym r ∙ at))
+  | inr n ↦ (let l = u.1 in (suc u.0, omega arith, left_last g u.0 c x d u.2 s))
+]
 
 -- a walk that comes back goes round
 round_again : (g : Gluing) (p n : ℕ) (c d : Side) → 0 < p → left_by g p c ≡ Some c → left_by g n c ≡ Some d → (m : ℕ) × (m < p) × (left_by g m c ≡ Some d)
@@ -161,12 +170,14 @@ left_found {faces} {g} G n c d h p = elim (cases_Bool (walks_left g (3 * faces) 
       where
         missed : walks_left g (3 * faces) c d ≡ false → (m : ℕ) → m ≤ 3 * faces → left_by g m c ≡ Some d → ⊥
         missed f m le q = let no : false ≡ true = sym f ∙ left_hits g m (3 * faces) c d le q in cc
+
         small : 3 * faces < n → (i : ℕ) → i ≤ 3 * faces → number_at (left_by g i c) < 3 * faces
         small lt i l =
             let t = left_passed g i n c d (omega arith) p in
             let e = number_at-some (left_by g i c) t.0 t.1 in
             let b = number-lt t.0 faces (left_by-within G i c t.0 h t.1) in
             omega arith
+
         -- two equal corners at i < j would make the walk come back in j - i swings
         equal : walks_left g (3 * faces) c d ≡ false → (i j : ℕ) (x : Side) → i < j → j ≤ 3 * faces → left_by g i c ≡ Some x → left_by g j c ≡ Some x → ⊥
         equal f i j x l m a b =
@@ -176,16 +187,19 @@ left_found {faces} {g} G n c d h p = elim (cases_Bool (walks_left g (3 * faces) 
             let v = round_again g u.0 n c d (omega arith) back p in
             let w = v.1 in
             missed f v.0 (omega arith) v.2
+
         apart : 3 * faces < n → walks_left g (3 * faces) c d ≡ false → (i j : ℕ) → i ≤ 3 * faces → j ≤ 3 * faces → number_at (left_by g i c) ≡ number_at (left_by g j c) → i ≡ j
         apart lt f i j l m e =
             let t = left_passed g i n c d (omega arith) p in
             let u = left_passed g j n c d (omega arith) p in
             let q : t.0 ≡ u.0 = number_injective t.0 u.0 (sym (number_at-some (left_by g i c) t.0 t.1) ∙ e ∙ number_at-some (left_by g j c) u.0 u.1) in
             elim (cases_order i j) [
-                inl r ↦ r
+              | inl r ↦ r
               | inr r ↦ elim r [
-                    inl less ↦ absurd (equal f i j u.0 less m (t.1 ∙ ap {A = Side} Some q) u.1)
-                  | inr more ↦ absurd (equal f j i u.0 more l u.1 (t.1 ∙ ap {A = Side} Some q)) ] ]
+                | inl less ↦ absurd (equal f i j u.0 less m (t.1 ∙ ap {A = Side} Some q) u.1)
+                | inr more ↦ absurd (equal f j i u.0 more l u.1 (t.1 ∙ ap {A = Side} Some q))
+              ]
+            ]
 
 either_first : (t u : Bool) → t ≡ true → (t || u) ≡ true
 either_first true u e = refl
@@ -199,12 +213,15 @@ either_second false u e = e
 left_hit_tells : (g : Gluing) (n : ℕ) (c d : Side) → walks_left g n c d ≡ true → (m : ℕ) × (m ≤ n) × (left_by g m c ≡ Some d)
 left_hit_tells g zero c d e = (zero, omega arith, left_none g c ∙ ap {A = Side} Some (same-true c d (sym (walks_left-zero g c d) ∙ e)))
 left_hit_tells g (suc n) c d e = elim (option_tells (swing_left g c)) [
-    inl h ↦ elim (cond_either (same c d) false (sym (walks_left-none g n c d h) ∙ e)) [
-        inl q ↦ (zero, omega arith, left_none g c ∙ ap {A = Side} Some (same-true c d q))
-      | inr q ↦ absurd (let no : false ≡ true = q in cc) ]
+  | inl h ↦ elim (cond_either (same c d) false (sym (walks_left-none g n c d h) ∙ e)) [
+    | inl q ↦ (zero, omega arith, left_none g c ∙ ap {A = Side} Some (same-true c d q))
+    | inr q ↦ absurd (let no : false ≡ true = q in cc)
+  ]
   | inr x ↦ elim (cond_either (same c d) (walks_left g n x.0 d) (sym (walks_left-some g n c d x.0 x.1) ∙ e)) [
-        inl q ↦ (zero, omega arith, left_none g c ∙ ap {A = Side} Some (same-true c d q))
-      | inr q ↦ (let t = left_hit_tells g n x.0 d q in let l = t.1 in (suc t.0, omega arith, left_more g t.0 c x.0 d x.1 t.2)) ] ]
+    | inl q ↦ (zero, omega arith, left_none g c ∙ ap {A = Side} Some (same-true c d q))
+    | inr q ↦ (let t = left_hit_tells g n x.0 d q in let l = t.1 in (suc t.0, omega arith, left_more g t.0 c x.0 d x.1 t.2))
+  ]
+]
 
 -- the test finds every corner of the fan
 pub fan_meets : {faces : ℕ} {g : Gluing} → IsGluing faces g → (c d : Side) → c.face < faces → d.face < faces → InFan g c d → meets faces g c d ≡ true
@@ -212,13 +229,15 @@ fan_meets {faces} {g} G c d h k p = go (trail G p)
   where
     go : Trail g c d → meets faces g c d ≡ true
     go t = elim t.1 [
-        inl q ↦ either_first _ _ (left_found G t.0 c d h q)
+      | inl q ↦ either_first _ _ (left_found G t.0 c d h q)
       | inr q ↦ (
-            let m = left_hit_tells g (3 * faces) d c (left_found G t.0 d c k q) in
-            either_second _ _ (right_hits g m.0 (3 * faces) c d m.1 (left_back G m.0 d c m.2))) ]
+          let m = left_hit_tells g (3 * faces) d c (left_found G t.0 d c k q) in
+          either_second _ _ (right_hits g m.0 (3 * faces) c d m.1 (left_back G m.0 d c m.2)))
+    ]
 
 -- and no other
 pub meets-fan : (faces : ℕ) (g : Gluing) (c d : Side) → meets faces g c d ≡ true → InFan g c d
 meets-fan faces g c d e = elim (or_cases (walks_left g (3 * faces) c d) (walks_right g (3 * faces) c d) e) [
-    inl q ↦ walks_left-fan g (3 * faces) c d q
-  | inr q ↦ walks_right-fan g (3 * faces) c d q ]
+  | inl q ↦ walks_left-fan g (3 * faces) c d q
+  | inr q ↦ walks_right-fan g (3 * faces) c d q
+]

@@ -1,5 +1,5 @@
 -- Sides by their numbers, and that no map of more numbers into fewer keeps all apart.
-use Rattle.std.proofs.Common.{◌≡◌, ◌≢◌, ℕ, zero, suc, ◌+◌, ◌*◌, ◌/◌, ◌%◌, ◌<◌, ◌≤◌, Bool, true, false, cond, eqb, ◌⊎◌, inl, inr, sym, refl, ap, ◌∙◌, subst, arith, eqb-true}
+use Rattle.std.proofs.Common.{◌≡◌, ◌≢◌, ℕ, zero, suc, ◌+◌, ◌*◌, ◌/◌, ◌%◌, ◌<◌, ◌≤◌, cond, eqb, inl, inr, sym, refl, ap, ◌∙◌, arith, eqb-true}
 use Rattle.std.proofs.lemmas.Bool.{cases_Bool, cond-true, cond-false, eqb-false, cases_eq}
 use Rattle.corner_table.specs.Sides.{Side, Place, first, second, third, side, number, side_at, place_number, place_of}
 
@@ -11,6 +11,7 @@ side_at-number s = go s.place refl
         let q : (3 * s.face + place_number k) / 3 ≡ s.face = omega arith in
         let r : (3 * s.face + place_number k) % 3 ≡ j = omega arith in
         ap (λ (n : ℕ). side n (place_of ((3 * s.face + place_number k) % 3))) q ∙ ap (λ (n : ℕ). side s.face (place_of n)) r ∙ ap (side s.face) f
+
     go : (k : Place) → s.place ≡ k → side_at (number s) ≡ s
     go first e = ap (λ (k : Place). side_at (3 * s.face + place_number k)) e ∙ at first 0 refl refl (omega arith) ∙ ap (side s.face) (sym e)
     go second e = ap (λ (k : Place). side_at (3 * s.face + place_number k)) e ∙ at second 1 refl refl (omega arith) ∙ ap (side s.face) (sym e)
@@ -59,31 +60,33 @@ no_room (suc n) f small apart = no_room n (moved n f) below distinct
   where
     last : f (suc n) < suc n
     last = small (suc n) (omega arith)
+
     below : (i : ℕ) → i ≤ n → moved n f i < n
     below i h =
         elim (cases_eq (f i) n) [
-            inl e ↦
-                let m = moved_at n f i e in
-                let k : f (suc n) ≢ n = λ q. (let r = apart i (suc n) (omega arith) (omega arith) (e ∙ sym q) in absurd (omega arith)) in
-                omega arith
+          | inl e ↦
+              let m = moved_at n f i e in
+              let k : f (suc n) ≢ n = λ q. (let r = apart i (suc n) (omega arith) (omega arith) (e ∙ sym q) in absurd (omega arith)) in
+              omega arith
           | inr e ↦
-                let m = moved_off n f i e in
-                let s = small i (omega arith) in
-                omega arith
+              let m = moved_off n f i e in
+              let s = small i (omega arith) in
+              omega arith
         ]
+
     distinct : (i j : ℕ) → i ≤ n → j ≤ n → moved n f i ≡ moved n f j → i ≡ j
     distinct i j h k e =
         elim (cases_eq (f i) n) [
-            inl p ↦ elim (cases_eq (f j) n) [
-                inl q ↦ apart i j (omega arith) (omega arith) (p ∙ sym q)
-              | inr q ↦
-                  let r = apart j (suc n) (omega arith) (omega arith) (sym (moved_off n f j q) ∙ sym e ∙ moved_at n f i p) in
-                  absurd (omega arith)
-            ]
+          | inl p ↦ elim (cases_eq (f j) n) [
+            | inl q ↦ apart i j (omega arith) (omega arith) (p ∙ sym q)
+            | inr q ↦
+                let r = apart j (suc n) (omega arith) (omega arith) (sym (moved_off n f j q) ∙ sym e ∙ moved_at n f i p) in
+                absurd (omega arith)
+          ]
           | inr p ↦ elim (cases_eq (f j) n) [
-                inl q ↦
-                  let r = apart i (suc n) (omega arith) (omega arith) (sym (moved_off n f i p) ∙ e ∙ moved_at n f j q) in
-                  absurd (omega arith)
-              | inr q ↦ apart i j (omega arith) (omega arith) (sym (moved_off n f i p) ∙ e ∙ moved_off n f j q)
-            ]
+            | inl q ↦
+                let r = apart i (suc n) (omega arith) (omega arith) (sym (moved_off n f i p) ∙ e ∙ moved_at n f j q) in
+                absurd (omega arith)
+            | inr q ↦ apart i j (omega arith) (omega arith) (sym (moved_off n f i p) ∙ e ∙ moved_off n f j q)
+          ]
         ]

@@ -1,7 +1,7 @@
 -- Places, sides, tests on them, and what one gluing changes.
-use Rattle.std.proofs.Common.{◌≡◌, ◌≢◌, ℕ, zero, suc, ◌+◌, ◌*◌, ◌/◌, ◌%◌, ◌<◌, ◌≤◌, Bool, true, false, cond, ◌&&◌, eqb, Option, Some, None, ◌⊎◌, inl, inr, sym, refl, ap, ◌∙◌, subst, arith, eqb-true, eq-eqb, ne_eqb, false-eqb}
-use Rattle.std.proofs.lemmas.Bool.{and_parts, and_cases, cases_Bool, cond-true, cond-false, eqb-false, false≢true, true≢false}
-use Rattle.corner_table.specs.Sides.{Side, Place, first, second, third, side, next, prev, place_after, place_before, place_eq, same, Gluing, glue, IsGluing, IsFree}
+use Rattle.std.proofs.Common.{◌≡◌, ◌≢◌, ℕ, true, false, eqb, Option, Some, None, ◌⊎◌, inl, inr, sym, refl, ap, ◌∙◌, eqb-true, eq-eqb}
+use Rattle.std.proofs.lemmas.Bool.{and_parts, cases_Bool, cond-true, cond-false, false≢true}
+use Rattle.corner_table.specs.Sides.{Side, Place, first, second, third, side, next, prev, place_after, place_before, place_eq, same, Gluing, glue}
 
 pub after-before : (k : Place) → place_after (place_before k) ≡ k
 after-before first = refl
@@ -113,9 +113,9 @@ pub data GlueCase (a b x : Side) (g : Gluing) : Type 0 where
 pub glue_tells : (a b x : Side) (g : Gluing) → GlueCase a b x g
 glue_tells a b x g =
     elim (same_tells x a) [
-        inl e ↦ at_first e (cond-true (same x a) _ _ (ap (same x) (sym e) ∙ same_refl x))
+      | inl e ↦ at_first e (cond-true (same x a) _ _ (ap (same x) (sym e) ∙ same_refl x))
       | inr h ↦ elim (same_tells x b) [
-            inl f ↦ at_second h f (cond-false (same x a) _ _ (not_same x a h) ∙ cond-true (same x b) _ _ (ap (same x) (sym f) ∙ same_refl x))
-          | inr k ↦ elsewhere h k (glue_other a b x g h k)
-        ]
+        | inl f ↦ at_second h f (cond-false (same x a) _ _ (not_same x a h) ∙ cond-true (same x b) _ _ (ap (same x) (sym f) ∙ same_refl x))
+        | inr k ↦ elsewhere h k (glue_other a b x g h k)
+      ]
     ]

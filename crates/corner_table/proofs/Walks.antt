@@ -1,17 +1,17 @@
 -- Walks round a vertex: swings are inverse, and a fan is one walk.
-use Rattle.std.proofs.Common.{◌≡◌, ◌≢◌, ℕ, zero, suc, ◌+◌, ◌*◌, ◌<◌, ◌≤◌, Option, Some, None, ◌⊎◌, inl, inr, sym, refl, ap, ◌∙◌, subst, arith, option_map}
-use Rattle.corner_table.specs.Sides.{Side, side, next, prev, Gluing, IsGluing}
+use Rattle.std.proofs.Common.{◌≡◌, ℕ, zero, suc, ◌<◌, Option, Some, None, ◌⊎◌, inl, inr, sym, refl, ap, ◌∙◌, subst, option_map}
+use Rattle.corner_table.specs.Sides.{Side, next, prev, Gluing, IsGluing}
 use Rattle.corner_table.specs.Fans.{swing_left, swing_right, InFan, here, leftwards, rightwards}
-use Rattle.corner_table.proofs.Places.{option_tells, Some_injective, next-prev, prev-next, next_injective, prev_injective}
+use Rattle.corner_table.proofs.Places.{option_tells, Some_injective, next-prev, prev-next}
 
 -- a swing to the left crosses the pair of the side after c and the side before d
 pub left_crosses : (g : Gluing) (c d : Side) → swing_left g c ≡ Some d → g (next c) ≡ Some (prev d)
 left_crosses g c d e =
     elim (option_tells (g (next c))) [
-        inl n ↦ (let q : None ≡ Some d = sym (ap (option_map next) n) ∙ e in cc)
+      | inl n ↦ (let q : None ≡ Some d = sym (ap (option_map next) n) ∙ e in cc)
       | inr y ↦ (
-            let q : Some (next y.0) ≡ Some d = sym (ap (option_map next) y.1) ∙ e in
-            y.1 ∙ ap {A = Side} Some (sym (prev-next y.0) ∙ ap prev (Some_injective _ _ q)))
+          let q : Some (next y.0) ≡ Some d = sym (ap (option_map next) y.1) ∙ e in
+          y.1 ∙ ap {A = Side} Some (sym (prev-next y.0) ∙ ap prev (Some_injective _ _ q)))
     ]
 
 pub crosses-left : (g : Gluing) (c d : Side) → g (next c) ≡ Some (prev d) → swing_left g c ≡ Some d
@@ -20,10 +20,10 @@ crosses-left g c d e = ap (option_map next) e ∙ ap {A = Side} Some (next-prev 
 pub right_crosses : (g : Gluing) (c d : Side) → swing_right g c ≡ Some d → g (prev c) ≡ Some (next d)
 right_crosses g c d e =
     elim (option_tells (g (prev c))) [
-        inl n ↦ (let q : None ≡ Some d = sym (ap (option_map prev) n) ∙ e in cc)
+      | inl n ↦ (let q : None ≡ Some d = sym (ap (option_map prev) n) ∙ e in cc)
       | inr y ↦ (
-            let q : Some (prev y.0) ≡ Some d = sym (ap (option_map prev) y.1) ∙ e in
-            y.1 ∙ ap {A = Side} Some (sym (next-prev y.0) ∙ ap next (Some_injective _ _ q)))
+          let q : Some (prev y.0) ≡ Some d = sym (ap (option_map prev) y.1) ∙ e in
+          y.1 ∙ ap {A = Side} Some (sym (next-prev y.0) ∙ ap next (Some_injective _ _ q)))
     ]
 
 pub crosses-right : (g : Gluing) (c d : Side) → g (prev c) ≡ Some (next d) → swing_right g c ≡ Some d
@@ -93,7 +93,7 @@ pub left_split : (g : Gluing) (n : ℕ) (c e : Side) → left_by g (suc n) c ≡
 unfolding left_by
 left_split g n c e p =
     elim (option_tells (swing_left g c)) [
-        inl s ↦ (let q : None ≡ Some e = sym (rw (s, left_by) refl) ∙ p in cc)
+      | inl s ↦ (let q : None ≡ Some e = sym (rw (s, left_by) refl) ∙ p in cc)
       | inr d ↦ (d.0, d.1, sym (rw (d.1, left_by) refl) ∙ p)
     ]
 
@@ -101,7 +101,7 @@ pub right_split : (g : Gluing) (n : ℕ) (c e : Side) → right_by g (suc n) c �
 unfolding right_by
 right_split g n c e p =
     elim (option_tells (swing_right g c)) [
-        inl s ↦ (let q : None ≡ Some e = sym (rw (s, right_by) refl) ∙ p in cc)
+      | inl s ↦ (let q : None ≡ Some e = sym (rw (s, right_by) refl) ∙ p in cc)
       | inr d ↦ (d.0, d.1, sym (rw (d.1, right_by) refl) ∙ p)
     ]
 
@@ -155,18 +155,21 @@ trail {faces} {g} G (leftwards {c = c} {d = x} {e = d} s p) = go (trail G p)
         let m = right_split g n x d (left_back G (suc n) d x q) in
         let e : m.0 ≡ c = Some_injective _ _ (sym m.1 ∙ left_then_right G c x s) in
         (n, inr (right_back G n c d (ap (right_by g n) (sym e) ∙ m.2)))
+
     go : Trail g x d → Trail g c d
     go t = elim t.1 [ inl q ↦ (suc t.0, inl (left_more g t.0 c x d s q)) | inr q ↦ behind t.0 q ]
 trail {faces} {g} G (rightwards {c = c} {d = x} {e = d} s p) = go (trail G p)
   where
     back : swing_left g x ≡ Some c
     back = right_then_left G c x s
+
     ahead : (n : ℕ) → left_by g n x ≡ Some d → Trail g c d
     ahead zero q = (1, inr (left_more g zero d c c (ap (swing_left g) (sym (left_by-zero g x d q)) ∙ back) (left_none g c)))
     ahead (suc n) q =
         let m = left_split g n x d q in
         let e : m.0 ≡ c = Some_injective _ _ (sym m.1 ∙ back) in
         (n, inl (ap (left_by g n) (sym e) ∙ m.2))
+
     go : Trail g x d → Trail g c d
     go t = elim t.1 [ inl q ↦ ahead t.0 q | inr q ↦ (suc t.0, inr (left_last g t.0 d x c q back)) ]
 
@@ -177,6 +180,7 @@ to_leftmost {faces} {g} G {c} {d} p h = go (trail G p)
     wrong : (n : ℕ) → left_by g n d ≡ Some c → (n : ℕ) × (left_by g n c ≡ Some d)
     wrong zero q = (zero, left_none g c ∙ ap {A = Side} Some (sym (left_by-zero g d c q)))
     wrong (suc n) q = let m = left_split g n d c q in (let no_swing : None ≡ Some m.0 = sym h ∙ m.1 in cc)
+
     go : Trail g c d → (n : ℕ) × (left_by g n c ≡ Some d)
     go t = elim t.1 [ inl q ↦ (t.0, q) | inr q ↦ wrong t.0 q ]
 
@@ -186,6 +190,7 @@ to_rightmost {faces} {g} G {c} {d} p h = go (trail G p)
     wrong : (n : ℕ) → left_by g n c ≡ Some d → (n : ℕ) × (right_by g n c ≡ Some d)
     wrong zero q = (zero, right_none g c ∙ ap {A = Side} Some (left_by-zero g c d q))
     wrong (suc n) q = let m = right_split g n d c (left_back G (suc n) c d q) in (let no_swing : None ≡ Some m.0 = sym h ∙ m.1 in cc)
+
     go : Trail g c d → (n : ℕ) × (right_by g n c ≡ Some d)
     go t = elim t.1 [ inl q ↦ wrong t.0 q | inr q ↦ (t.0, left_back G t.0 d c q) ]
 

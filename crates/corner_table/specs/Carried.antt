@@ -1,5 +1,5 @@
 -- A surface under new numbers of its faces, each face turned.
-use Rattle.std.specs.Prelude.{◌≡◌, ℕ, zero, suc, ◌<◌, ◌↔◌, List, length, get_or, Option, Some, None}
+use Rattle.std.specs.Prelude.{◌≡◌, ℕ, zero, suc, ◌<◌, ◌↔◌, List, length, get_or, Some}
 use Rattle.corner_table.specs.Sides.{Side, Place, side, place_after, Gluing}
 
 -- a place turned by k

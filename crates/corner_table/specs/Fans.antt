@@ -1,6 +1,6 @@
 -- The corners that meet at one vertex: fans, their ends, and the boundary from one free side to the next.
-use Rattle.std.specs.Prelude.{◌≡◌, ◌≢◌, ℕ, zero, suc, ◌+◌, ◌*◌, ◌<◌, ◌⊎◌, Bool, true, false, ◌||◌, cond, List, [], ◌∷◌, ◌++◌, Option, Some, None, option_map}
-use Rattle.corner_table.specs.Sides.{Side, Place, first, second, third, side, next, prev, same, Gluing, IsGluing, IsFree}
+use Rattle.std.specs.Prelude.{◌≡◌, ℕ, zero, suc, ◌*◌, ◌<◌, ◌⊎◌, Bool, true, false, ◌||◌, cond, List, [], ◌∷◌, ◌++◌, Option, Some, None, option_map}
+use Rattle.corner_table.specs.Sides.{Side, first, second, third, side, next, prev, same, Gluing, IsGluing, IsFree}
 
 -- the next corner to the left round c's vertex: across the side after c, the corner after the one found there
 abbrev pub swing_left : Gluing → Side → Option Side

@@ -1,5 +1,5 @@
 -- Vertices of a finished surface: a number for each fan.
-use Rattle.std.specs.Prelude.{◌≡◌, ◌≢◌, ℕ, ◌*◌, ◌<◌, ◌≤◌, ◌⊎◌, ◌↔◌, Bool, true, false, IsTrue, List, length, get_or, Option, Some, None}
+use Rattle.std.specs.Prelude.{◌≡◌, ◌≢◌, ℕ, ◌*◌, ◌<◌, ◌≤◌, ◌⊎◌, ◌↔◌, Bool, true, false, IsTrue, List, length, get_or, Some, None}
 use Rattle.corner_table.specs.Sides.{Side, number, Gluing}
 use Rattle.corner_table.specs.Fans.{InFan, MeetsBoundary, swing_left, swing_right}
 use Rattle.corner_table.specs.Table.{free_entry}

@@ -1,5 +1,5 @@
 -- The boundary kept as links: for each free side the one that follows it and the one before it.
-use Rattle.std.specs.Prelude.{◌≡◌, ℕ, ◌+◌, ◌*◌, Bool, cond, eqb, List, get_or, set}
+use Rattle.std.specs.Prelude.{◌≡◌, ℕ, cond, eqb, List, get_or, set}
 use Rattle.corner_table.specs.Sides.{Side, side, first, second, third, number, Gluing, IsFree}
 use Rattle.corner_table.specs.Fans.{side_before, side_after}
 
@@ -17,8 +17,8 @@ joined x y links = (set links.0 x y, set links.1 y x)
 abbrev pub taken_out : ℕ → ℕ → ℕ → ℕ → ℕ → ℕ → List ℕ × List ℕ → List ℕ × List ℕ
 taken_out after_a before_a after_b before_b a b links =
     cond (eqb after_a a)
-        (cond (eqb after_b b) links (joined before_b after_b links))
-        (cond (eqb after_b b) (joined before_a after_a links) (joined before_b after_a (joined before_a after_b links)))
+    (cond (eqb after_b b) links (joined before_b after_b links))
+    (cond (eqb after_b b) (joined before_a after_a links) (joined before_b after_a (joined before_a after_b links)))
 
 -- the same with the neighbours that the links tell
 abbrev pub relinked : ℕ → ℕ → List ℕ × List ℕ → List ℕ × List ℕ

@@ -1,5 +1,5 @@
 -- Corners and sides of triangles, and the gluing of sides in pairs (a corner table, after Rossignac 1999).
-use Rattle.std.specs.Prelude.{◌≡◌, ◌≢◌, ℕ, zero, suc, ◌+◌, ◌*◌, ◌/◌, ◌%◌, ◌<◌, Bool, true, false, ◌&&◌, eqb, cond, Option, Some, None, option_map}
+use Rattle.std.specs.Prelude.{◌≡◌, ◌≢◌, ℕ, zero, suc, ◌+◌, ◌*◌, ◌/◌, ◌%◌, ◌<◌, Bool, true, false, ◌&&◌, eqb, cond, Option, Some, None}
 
 -- which of the three corners of a face
 pub data Place : Type 0 where

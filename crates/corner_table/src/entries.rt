@@ -1,13 +1,13 @@
 //! Sides by their numbers, and the writes of a table.
 
-use drc_base::{Memory, Side};
-use std::alloc::Global;
-
 ghost use Rattle.std.specs.Prelude.{◌≡◌, ◌≢◌, ℕ, suc, ◌+◌, ◌*◌, ◌/◌, ◌<◌, ◌≤◌, get_or, set, vec_len, IfOk, replicate};
 ghost use Rattle.drc_base.specs.declared.limits.TheConstants.{MAX_FACES as most_faces};
 ghost use Rattle.corner_table.specs.Sides.{next, prev, number, side_at};
 ghost use Rattle.corner_table.specs.Table.{side_of, free_entry};
 ghost use Rattle.corner_table.specs.Links.{relinked, new_loop};
+
+use drc_base::{Memory, Side};
+use std::alloc::Global;
 
 /// The number 3f + k of a side or corner.
 pub(crate) fn number_of(s: Side) -> u32
@@ -50,7 +50,11 @@ pub(crate) fn next_number(corner: u32) -> u32
     ensures number { result ≡ number (next (side_at corner)) }
     ensures face { result / 3 ≡ corner / 3 }
 {
-    if corner % 3 == 2 { corner - 2 } else { corner + 1 }
+    if corner % 3 == 2 {
+        corner - 2
+    } else {
+        corner + 1
+    }
 }
 
 /// The number of the corner before one in its face.
@@ -59,7 +63,11 @@ pub(crate) fn previous_number(corner: u32) -> u32
     ensures number { result ≡ number (prev (side_at corner)) }
     ensures face { result / 3 ≡ corner / 3 }
 {
-    if corner % 3 == 0 { corner + 2 } else { corner - 1 }
+    if corner % 3 == 0 {
+        corner + 2
+    } else {
+        corner - 1
+    }
 }
 
 /// The corner after `c` in its face.

@@ -26,9 +26,7 @@ fn label_left(table: &SideTable, labels: &mut Vec<u32>, start: u32, label: u32) 
     requires room { vec_len labels.old ≡ 3 * table.now.faces }
     requires real { label < free_entry }
     ensures len { vec_len labels.new ≡ vec_len labels.old }
-    ensures left {
-        IsReady (gluing_of table.now) label labels.old.items (side_at start) → IsLeftDone (gluing_of table.now) label labels.old.items labels.new.items (side_at start) result
-    }
+    ensures left { IsReady (gluing_of table.now) label labels.old.items (side_at start) → IsLeftDone (gluing_of table.now) label labels.old.items labels.new.items (side_at start) result }
 {
     labels[start as usize] = label;
     let mut at = start;
@@ -53,9 +51,7 @@ fn label_right(table: &SideTable, labels: &mut Vec<u32>, start: u32, label: u32)
     requires room { vec_len labels.old ≡ 3 * table.now.faces }
     requires real { label < free_entry }
     ensures len { vec_len labels.new ≡ vec_len labels.old }
-    ensures right {
-        (before : List ℕ) (open_left : Bool) → IsReady (gluing_of table.now) label before (side_at start) → IsLeftDone (gluing_of table.now) label before labels.old.items (side_at start) open_left → IsRightDone (gluing_of table.now) label before labels.old.items labels.new.items (side_at start) result
-    }
+    ensures right { (before : List ℕ) (open_left : Bool) → IsReady (gluing_of table.now) label before (side_at start) → IsLeftDone (gluing_of table.now) label before labels.old.items (side_at start) open_left → IsRightDone (gluing_of table.now) label before labels.old.items labels.new.items (side_at start) result }
 {
     let mut at = start;
     'rightwards: loop {
@@ -79,9 +75,7 @@ fn label_fan(table: &SideTable, labels: &mut Vec<u32>, start: u32, label: u32) -
     requires room { vec_len labels.old ≡ 3 * table.now.faces }
     requires real { label < free_entry }
     ensures len { vec_len labels.new ≡ vec_len labels.old }
-    ensures fan {
-        IsReady (gluing_of table.now) label labels.old.items (side_at start) → IsFanLabelled (gluing_of table.now) label labels.old.items labels.new.items (side_at start) result
-    }
+    ensures fan { IsReady (gluing_of table.now) label labels.old.items (side_at start) → IsFanLabelled (gluing_of table.now) label labels.old.items labels.new.items (side_at start) result }
 {
     let left = label_left(table, labels, start, label);
     let right = label_right(table, labels, start, label);
@@ -92,9 +86,7 @@ impl SideTable {
     /// Labels the vertices: a class for each fan, numbered by the fans' least corners, and of each
     /// class whether a free side meets it.
     pub fn label_vertices(&self, alloc: Global) -> Result<Classes, Memory>
-        ensures {
-            IfOk result (λ c. IsLabelled self.now.faces (gluing_of self.now) c.of_corner c.count c.ends)
-        }
+        ensures { IfOk result (λ c. IsLabelled self.now.faces (gluing_of self.now) c.of_corner c.count c.ends) }
     {
         let corners = 3 * self.face_count();
         let mut labels = filled(alloc, NONE, corners as usize)?;

@@ -9,6 +9,8 @@ mod labels;
 mod side_table;
 mod steps;
 mod symbols;
+#[cfg(test)]
+mod tests;
 
 pub use corner_lists::{Classes, Order};
 pub use side_table::SideTable;

@@ -153,9 +153,7 @@ impl SideTable {
         requires { IsFreeIn self.now (side_of s) }
         ensures next { side_of result ≡ side_after self.now.faces (gluing_of self.now) (side_of s) }
         ensures follows { Follows self.now.faces (gluing_of self.now) (side_of s) (side_of result) }
-        ensures only {
-            (x : side_value) → Follows self.now.faces (gluing_of self.now) (side_of s) x → x ≡ side_of result
-        }
+        ensures only { (x : side_value) → Follows self.now.faces (gluing_of self.now) (side_of s) x → x ≡ side_of result }
         ensures steps { steps.new ≡ steps.old + 1 }
     {
         steps.tick();
@@ -170,9 +168,7 @@ impl SideTable {
         ensures previous { side_of result ≡ side_before self.now.faces (gluing_of self.now) (side_of s) }
         ensures free { IsFreeIn self.now (side_of result) }
         ensures follows { Follows self.now.faces (gluing_of self.now) (side_of result) (side_of s) }
-        ensures only {
-            (x : side_value) → IsFreeIn self.now x → Follows self.now.faces (gluing_of self.now) x (side_of s) → x ≡ side_of result
-        }
+        ensures only { (x : side_value) → IsFreeIn self.now x → Follows self.now.faces (gluing_of self.now) x (side_of s) → x ≡ side_of result }
         ensures steps { steps.new ≡ steps.old + 1 }
     {
         steps.tick();
@@ -187,7 +183,11 @@ impl SideTable {
     {
         let _ = &self.faces;
         let entry = self.across[number_of(s) as usize];
-        if entry == FREE { None } else { Some(side_with(entry)) }
+        if entry == FREE {
+            None
+        } else {
+            Some(side_with(entry))
+        }
     }
 
     /// The next corner to the left round the vertex of a corner, by their numbers.
@@ -198,7 +198,11 @@ impl SideTable {
     {
         let _ = &self.faces;
         let side = entry_or_free(&self.across, next_number(corner));
-        if side == FREE { None } else { Some(next_number(side)) }
+        if side == FREE {
+            None
+        } else {
+            Some(next_number(side))
+        }
     }
 
     /// The next corner to the right round the vertex of a corner, by their numbers.
@@ -209,6 +213,10 @@ impl SideTable {
     {
         let _ = &self.faces;
         let side = entry_or_free(&self.across, previous_number(corner));
-        if side == FREE { None } else { Some(previous_number(side)) }
+        if side == FREE {
+            None
+        } else {
+            Some(previous_number(side))
+        }
     }
 }

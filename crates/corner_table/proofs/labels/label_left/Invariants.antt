@@ -10,7 +10,8 @@ abbrev pub invariant-leftwards : goal.invariant-leftwards
 invariant-leftwards l = record {
   len : vec_len l.labels ≡ vec_len l.fn.labels;
   within : l.at < 3 * l.table.faces;
-  walk : IsReady (gluing_of l.table) l.label l.fn.labels.items (side_at l.start) → IsLeftwards (gluing_of l.table) l.label l.fn.labels.items l.labels.items (side_at l.start) (side_at l.at) }
+  walk : IsReady (gluing_of l.table) l.label l.fn.labels.items (side_at l.start) → IsLeftwards (gluing_of l.table) l.label l.fn.labels.items l.labels.items (side_at l.start) (side_at l.at);
+}
 
 abbrev pub decreases-leftwards : goal.decreases-leftwards
 decreases-leftwards l = sum_by unlabelled l.labels.items

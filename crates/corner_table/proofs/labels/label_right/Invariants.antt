@@ -10,7 +10,8 @@ abbrev pub invariant-rightwards : goal.invariant-rightwards
 invariant-rightwards l = record {
   len : vec_len l.labels ≡ vec_len l.fn.labels;
   within : l.at < 3 * l.table.faces;
-  walk : (before : List ℕ) (open_left : Bool) → IsReady (gluing_of l.table) l.label before (side_at l.start) → IsLeftDone (gluing_of l.table) l.label before l.fn.labels.items (side_at l.start) open_left → IsRightwards (gluing_of l.table) l.label before l.fn.labels.items l.labels.items (side_at l.start) (side_at l.at) }
+  walk : (before : List ℕ) (open_left : Bool) → IsReady (gluing_of l.table) l.label before (side_at l.start) → IsLeftDone (gluing_of l.table) l.label before l.fn.labels.items (side_at l.start) open_left → IsRightwards (gluing_of l.table) l.label before l.fn.labels.items l.labels.items (side_at l.start) (side_at l.at);
+}
 
 abbrev pub decreases-rightwards : goal.decreases-rightwards
 decreases-rightwards l = sum_by unlabelled l.labels.items

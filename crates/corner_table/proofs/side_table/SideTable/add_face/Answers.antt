@@ -1,5 +1,5 @@
 -- The lists with one more face are those of a table.
-use Rattle.std.proofs.Common.{◌≡◌, ℕ, suc, ◌+◌, ◌*◌, ◌/◌, ◌<◌, ◌≤◌, length, sym, subst, arith, add-one}
+use Rattle.std.proofs.Common.{◌<◌, sym, subst, arith, add-one}
 use Rattle.corner_table.specs.Table.{Table, room_of}
 use Rattle.corner_table.proofs.TableSteps.{table_grown, new_side}
 use Rattle.corner_table.proofs.side_table.SideTable.add_face.Goals as goal

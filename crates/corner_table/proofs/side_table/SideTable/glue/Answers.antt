@@ -1,7 +1,6 @@
 -- Gluing: the neighbours' links are in range, the lists are those of a table, and its gluing has the new pair.
-use Rattle.std.proofs.Common.{◌≡◌, ℕ, suc, ◌+◌, ◌*◌, ◌/◌, ◌<◌, ◌≤◌, length, sym, ap, subst, ◌∙◌, arith}
-use Rattle.corner_table.specs.Sides.{glue}
-use Rattle.corner_table.specs.Table.{Table, side_of, gluing_of, glued_in, IsFreeIn}
+use Rattle.std.proofs.Common.{sym, subst, arith}
+use Rattle.corner_table.specs.Table.{Table, side_of, IsFreeIn}
 use Rattle.corner_table.proofs.Places.{face_apart}
 use Rattle.corner_table.proofs.TableSteps.{table_glued, glued_in-set, next_within, previous_within}
 use Rattle.corner_table.proofs.side_table.SideTable.glue.Goals as goal
@@ -31,12 +30,12 @@ invariant_of-self g c =
     let first = subst (λ (t : Table). IsFreeIn t (side_of c.args.a)) (sym c.self.view_is) c.requires.first in
     let second = subst (λ (t : Table). IsFreeIn t (side_of c.args.b)) (sym c.self.view_is) c.requires.second in
     rw (c.relink.ensures.after, c.relink.ensures.before, c.number_of-first.ensures.number, c.number_of-second.ensures.number)
-        (table_glued (side_of c.args.a) (side_of c.args.b) c.self.invariant first second c.requires.apart)
+    (table_glued (side_of c.args.a) (side_of c.args.b) c.self.invariant first second c.requires.apart)
 
 pub returns-clause-glued : goal.returns-clause-glued
 returns-clause-glued g c =
     let first = subst (λ (t : Table). IsFreeIn t (side_of c.args.a)) (sym c.self.view_is) c.requires.first in
     let second = subst (λ (t : Table). IsFreeIn t (side_of c.args.b)) (sym c.self.view_is) c.requires.second in
     rw (← c.self.view_is, c.number_of-first.ensures.number, c.number_of-second.ensures.number)
-        (glued_in-set c.self.inside.across.items (side_of c.args.a) (side_of c.args.b) c.self.inside.faces first.within second.within
-            (face_apart (side_of c.args.a) (side_of c.args.b) c.requires.apart) c.self.invariant.fits (omega arith))
+    (glued_in-set c.self.inside.across.items (side_of c.args.a) (side_of c.args.b) c.self.inside.faces first.within second.within
+    (face_apart (side_of c.args.a) (side_of c.args.b) c.requires.apart) c.self.invariant.fits (omega arith))

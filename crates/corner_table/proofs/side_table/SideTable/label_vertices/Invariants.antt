@@ -8,4 +8,5 @@ abbrev pub invariant-loop-corner : goal.invariant-loop-corner
 invariant-loop-corner l = record {
   len : vec_len l.labels ≡ 3 * l.self.faces;
   few : l.count ≤ l.corner;
-  labelling : IsLabelling l.self.faces (gluing_of l.self) l.corner l.count l.labels.items l.ends.items }
+  labelling : IsLabelling l.self.faces (gluing_of l.self) l.corner l.count l.labels.items l.ends.items;
+}

@@ -1,5 +1,5 @@
 -- What is found across is a corner of one of the faces.
-use Rattle.std.proofs.Common.{◌≡◌, ℕ, ◌*◌, ◌/◌, ◌<◌, ap, ◌∙◌, arith, get_or}
+use Rattle.std.proofs.Common.{ℕ, ap, ◌∙◌, arith, get_or}
 use Rattle.corner_table.specs.Sides.{next, side_at}
 use Rattle.corner_table.specs.Table.{free_entry}
 use Rattle.corner_table.proofs.TableSteps.{entry_within}

@@ -1,8 +1,7 @@
 -- The link is the side that follows, which is the only one.
-use Rattle.std.proofs.Common.{◌≡◌, ℕ, sym, ap, subst, ◌∙◌, get_or}
-use Rattle.corner_table.specs.Sides.{Side, side_at}
-use Rattle.corner_table.specs.Fans.{side_after, Follows}
-use Rattle.corner_table.specs.Table.{Table, side_of, gluing_of, IsFreeIn, IsSideTable}
+use Rattle.std.proofs.Common.{ℕ, sym, ap, subst, ◌∙◌, get_or}
+use Rattle.corner_table.specs.Sides.{side_at}
+use Rattle.corner_table.specs.Table.{Table, side_of, IsFreeIn}
 use Rattle.corner_table.proofs.Boundary.{side_after-follows, side_after_only}
 use Rattle.corner_table.proofs.TableSteps.{next_is}
 use Rattle.corner_table.proofs.side_table.SideTable.next_open.Goals as goal

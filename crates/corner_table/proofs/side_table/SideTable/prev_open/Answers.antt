@@ -1,8 +1,7 @@
 -- The link is the side before, which is the only one.
-use Rattle.std.proofs.Common.{◌≡◌, ℕ, sym, ap, subst, ◌∙◌, get_or}
-use Rattle.corner_table.specs.Sides.{Side, side_at}
-use Rattle.corner_table.specs.Fans.{side_before, Follows}
-use Rattle.corner_table.specs.Table.{Table, side_of, gluing_of, IsFreeIn, IsSideTable}
+use Rattle.std.proofs.Common.{ℕ, sym, ap, subst, ◌∙◌, get_or}
+use Rattle.corner_table.specs.Sides.{side_at}
+use Rattle.corner_table.specs.Table.{Table, side_of, IsFreeIn}
 use Rattle.corner_table.proofs.Boundary.{side_before-follows, side_before_only}
 use Rattle.corner_table.proofs.TableSteps.{previous_is}
 use Rattle.corner_table.proofs.side_table.SideTable.prev_open.Goals as goal
