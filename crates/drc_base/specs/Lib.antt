@@ -1,1 +1,6 @@
 pub mod Kind
+pub mod Counters
+pub mod Refusals
+pub mod Sources
+pub mod Sinks
+pub mod InMemory

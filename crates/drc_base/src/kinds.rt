@@ -1,6 +1,6 @@
 //! The kinds of faults, one word each.
 
-ghost use Rattle.std.specs.Prelude.{◌≡◌};
+ghost use Rattle.std.specs.Prelude.{◌≡◌, ◌≤◌, length};
 ghost use Rattle.drc_base.specs.Kind.{kind_word};
 
 /// What is wrong with an input. A fault's `at` is the place of the item that shows it: the number of
@@ -152,10 +152,11 @@ pub enum Kind {
 }
 
 impl Kind {
-    /// The kind's word, as notes spell it.
+    /// The kind's word, as notes spell it: at most twelve bytes of ASCII.
     #[tactic(auto, unfolding(crate::specs::Kind::kind_word))]
     pub fn word(self) -> &'static str
-        ensures { result.now ≡ kind_word self }
+        ensures word { result.now ≡ kind_word self }
+        ensures len { length result.now ≤ 12 }
     {
         match self {
             Kind::Magic => "Magic",

@@ -5,17 +5,38 @@
 //! the faults follow the Draco Bitstream Specification 2.2 and ASCII PLY 1.0.
 #![tactic(auto)]
 
+mod ends;
 mod faults;
 mod kinds;
 mod limits;
+mod mem_sink;
+mod mem_source;
+mod reading;
 mod sequences;
 mod sides;
+mod sinks;
+mod sources;
+mod std_sink;
+mod std_source;
+mod writing;
 
+pub use ends::ReadEnd;
 pub use faults::{Failed, Fault, Memory, Refusal};
 pub use kinds::Kind;
 pub use limits::{
     MAX_ATTRIBUTES, MAX_COMPONENTS, MAX_FACES, MAX_INPUT_BYTES, MAX_POINTS, MAX_TABLE_SYMBOLS,
     MAX_VALUES,
 };
+pub use mem_sink::MemSink;
+pub use mem_source::MemSource;
+pub use reading::read_all;
 pub use sequences::Sequence;
 pub use sides::Side;
+pub use sinks::Sink;
+pub use sources::Source;
+pub use std_sink::StdSink;
+pub use std_source::StdSource;
+pub use writing::write_all;
+
+#[cfg(test)]
+mod tests;

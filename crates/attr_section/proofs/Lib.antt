@@ -1,0 +1,4 @@
+pub mod Each
+pub mod Spelling
+pub mod Loops
+pub mod Columned

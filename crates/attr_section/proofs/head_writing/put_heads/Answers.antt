@@ -1,0 +1,12 @@
+use Rattle.std.proofs.Common.{◌<◌, length, arith}
+use Rattle.drc_bits.specs.Spells.{Spells}
+use Rattle.attr_section.specs.Heads.{head_at, head_bytes, bare_head}
+use Rattle.attr_section.proofs.Loops.{appended-more, all-more}
+use Rattle.attr_section.proofs.head_writing.put_heads.Goals as goal
+
+pub loop-head-preserved : goal.loop-head-preserved
+loop-head-preserved c =
+    let within : c.loop-head.head-index < length c.args.heads.now = omega arith in (
+      appended-more head_bytes c.args.heads.now c.loop-head.head-index c.head-item.result c.args.out.now.items c.loop-head.out.items c.put_head.new.out.items within c.head-item.is c.loop-head.invariant.0 c.in_ok-put_head.ensures.bytes,
+      all-more (λ h. Spells head_at (head_bytes h) (bare_head h)) c.args.heads.now c.loop-head.head-index c.head-item.result within c.head-item.is c.loop-head.invariant.1 c.in_ok-put_head.ensures.again,
+    )

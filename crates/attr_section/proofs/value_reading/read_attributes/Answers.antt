@@ -1,0 +1,37 @@
+use Rattle.std.proofs.Common.{◌≡◌, ◌+◌, ◌++◌, ◌∷◌, [], List, length, arith}
+use Rattle.std.proofs.lemmas.Grind.{common_steps}
+use Rattle.std.proofs.lemmas.Result.{err_from_is_err_and}
+use Rattle.attr_section.specs.declared.values.Values.{Values}
+use Rattle.attr_section.specs.Values.{values_at, values_in, attributes_at}
+use Rattle.attr_section.proofs.Columned.{AreColumns-next}
+use Rattle.attr_section.proofs.Each.{each_at-next, each_at-refuses, each_at-end}
+use Rattle.attr_section.proofs.value_reading.read_attributes.Goals as goal
+
+values_in-push : (vs : List Values) (v : Values) → values_in (vs ++ v ∷ []) ≡ values_in vs + length v.values
+values_in-push vs v = grind (arith, common_steps)
+
+pub returns-in_err-values-clause-item : goal.returns-in_err-values-clause-item
+unfolding attributes_at
+returns-in_err-values-clause-item c =
+    let p = err_from_is_err_and c.from_residual.result c.from_residual.ensures.1 in
+    rw (p.1, p.2) (each_at-refuses (λ before h. values_at h c.args.entries (c.args.spent + values_in before)) c.args.heads.now c.loop-head.head-index c.head-item.result c.loop-head.attributes.items c.loop-head.c c.in_err-values.field-0.0
+    (attributes_at c.args.heads.now c.args.entries c.args.spent c.args.c.now) c.loop-head.invariant.0 (omega arith) c.head-item.is
+    (rw c.loop-head.invariant.1 at c.in_err-values.ensures.item))
+
+pub loop-head-preserved : goal.loop-head-preserved
+unfolding attributes_at
+loop-head-preserved c =
+    let count : c.len.result ≡ length c.in_ok-values.values.values = c.len.ensures in
+    rw (c.in_ok-push.ensures.items, values_in-push, count) (
+      each_at-next (λ before h. values_at h c.args.entries (c.args.spent + values_in before)) c.args.heads.now c.loop-head.head-index c.head-item.result c.loop-head.attributes.items c.loop-head.c c.read_values.new.c c.in_ok-values.values
+          (attributes_at c.args.heads.now c.args.entries c.args.spent c.args.c.now) c.loop-head.invariant.0 (omega arith) c.head-item.is
+          (rw c.loop-head.invariant.1 at c.in_ok-values.ensures.item),
+      omega (arith, c.loop-head.invariant.1),
+      c.in_ok-values.ensures.few,
+      AreColumns-next c.args.entries c.loop-head.head-index c.args.heads.now c.loop-head.attributes.items c.head-item.result c.in_ok-values.values c.loop-head.invariant.3 (omega arith) c.head-item.is c.in_ok-values.ensures.len
+    )
+
+pub returns-clause-item : goal.returns-clause-item
+unfolding attributes_at
+returns-clause-item c =
+    each_at-end (λ before h. values_at h c.args.entries (c.args.spent + values_in before)) c.args.heads.now c.loop-head.head-index c.loop-head.attributes.items c.loop-head.c (attributes_at c.args.heads.now c.args.entries c.args.spent c.args.c.now) c.loop-head.invariant.0 (omega arith)

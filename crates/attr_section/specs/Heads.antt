@@ -1,0 +1,192 @@
+-- The heads of attribute decoders (Draco Bitstream Specification 2.2, sections "Attributes Decoder" and "Sequential
+-- Attributes"; the limits and what is refused are this project's choice).
+use Rattle.std.specs.Prelude.{◌≡◌, ◌≤◌, ◌<◌, ℕ, ◌+◌, ◌==◌, ◌&&◌, ◌||◌, Bool, false, not, IsTrue, List, [], ◌∷◌, ◌++◌, length, map, replicate, Option, None, Some, Ok, sum_by, nat_le, nat_lt, if◌then◌else◌, All, flat_map}
+use Rattle.std.specs.List.{list_any, range_with_len}
+use Rattle.drc_base.specs.declared.kinds.Kind.TheVariants as kind
+use Rattle.drc_base.specs.declared.limits.TheConstants.{MAX_ATTRIBUTES, MAX_COMPONENTS}
+use Rattle.mesh_model.specs.declared.heads.Head.{Head}
+use Rattle.drc_bits.specs.Reading.{◌>>=◌, Reading, Item, must, many_at}
+use Rattle.drc_bits.specs.Numbers.{number_at}
+use Rattle.drc_bits.specs.Varint.{var32_at, spelling}
+use Rattle.drc_bits.specs.Spells.{Spells}
+use Rattle.attr_section.specs.declared.decoder_heads.DecoderHead.{DecoderHead}
+use Rattle.attr_section.specs.declared.links.Link.{Link}
+use Rattle.attr_section.specs.Each.{each_at}
+
+-- the connectivity of the positions
+abbrev pub position_id : ℕ
+position_id = 255
+
+-- a decoder of a sequential stream is linked to none
+abbrev pub no_link : Link
+no_link = record { data_id = None; corner = false }
+
+-- the number of decoders
+unfoldable pub decoder_count_at : Reading → Item ℕ
+decoder_count_at c = must kind.AttrLimit (λ n. nat_le n MAX_ATTRIBUTES) (must kind.NoAttribute (λ n. nat_lt 0 n) (number_at 1)) c
+
+-- whether a link's data id is this one
+abbrev pub is_id : ℕ → Option ℕ → Bool
+is_id id None = false
+is_id id (Some n) = n == id
+
+-- a data id is the positions' or the number of an attribute data
+abbrev pub is_known_id : ℕ → ℕ → Bool
+is_known_id attr_data id = id == position_id || nat_lt id attr_data
+
+-- a link before has this data id
+abbrev pub is_used_id : List Link → ℕ → Bool
+is_used_id before id = list_any (λ l. is_id id l.data_id) before
+
+-- the greatest element type: at the positions' connectivity values belong to vertices alone
+abbrev pub most_element : ℕ → ℕ
+most_element id = if id == position_id then 0 else 1
+
+-- the link of an Edgebreaker decoder behind those before: data id, element type and walk, which is depth first
+unfoldable pub link_at : ℕ → List Link → Reading → Item Link
+link_at attr_data before c = do
+  id ← must kind.DataId (λ id. is_known_id attr_data id && not (is_used_id before id)) (number_at 1) c
+  element ← must kind.Element (λ e. nat_le e (most_element id.0)) (number_at 1) id.1
+  walk ← must kind.Walk (λ w. w == 0) (number_at 1) element.1
+  Ok (record { data_id = Some id.0; corner = (element.0 == 1) }, walk.1)
+
+-- the links of n decoders beside so many attribute data
+unfoldable pub linked_at : ℕ → ℕ → Reading → Item (List Link)
+linked_at attr_data n c = each_at (λ before _. link_at attr_data before) [] (range_with_len 0 n) c
+
+-- the links of n decoders; under Edgebreaker, beside so many attribute data, they are read
+unfoldable pub links_at : Option ℕ → ℕ → Reading → Item (List Link)
+links_at None n c = Ok (replicate n no_link, c)
+links_at (Some attr_data) n c = linked_at attr_data n c
+
+-- whether a data type is accepted: 1 to 6 are integers, and 9 is a float32
+abbrev pub is_type : ℕ → Bool
+is_type dtype = (nat_le 1 dtype && nat_le dtype 6) || dtype == 9
+
+-- the head of an attribute; a quantisation is read later
+unfoldable pub head_at : Reading → Item Head
+head_at c = do
+  usage ← must kind.AttrType (λ n. nat_le n 4) (number_at 1) c
+  dtype ← must kind.DataType is_type (number_at 1) usage.1
+  comps ← must kind.Components (λ n. nat_le 1 n && nat_le n MAX_COMPONENTS) (number_at 1) dtype.1
+  normalized ← number_at 1 comps.1
+  id ← var32_at normalized.1
+  Ok (record { usage = usage.0; dtype = dtype.0; comps = comps.0; normalized = normalized.0; id = id.0; quant = None }, id.1)
+
+-- the coding of a data type: 1 integers, 2 quantised floats
+abbrev pub coding_of : ℕ → ℕ
+coding_of dtype = if dtype == 9 then 2 else 1
+
+-- the coding of an attribute of this type; 0 is that of floats as they are, 3 that of octahedral normals
+unfoldable pub coding_at : ℕ → Reading → Item ℕ
+coding_at dtype c =
+    must kind.Coding (λ k. k == coding_of dtype) (must kind.Octahedral (λ k. not (k == 3)) (must kind.Generic (λ k. not (k == 0)) (number_at 1))) c
+
+-- the codings of attributes
+abbrev pub codings_at : List Head → Reading → Item (List ℕ)
+codings_at heads c = each_at (λ _ h. coding_at h.dtype) [] heads c
+
+-- how many attributes decoders have
+abbrev pub attributes_of : List DecoderHead → ℕ
+attributes_of decoders = sum_by (λ d. length d.heads) decoders
+
+-- how many attributes a decoder has, behind so many others
+abbrev pub attribute_count_at : ℕ → Reading → Item ℕ
+attribute_count_at before c =
+    must kind.AttrLimit (λ n. nat_le (before + n) MAX_ATTRIBUTES) (must kind.NoAttribute (λ n. nat_lt 0 n) var32_at) c
+
+-- a decoder of this link, behind so many attributes
+unfoldable pub decoder_at : ℕ → Link → Reading → Item DecoderHead
+decoder_at before link c = do
+  n ← attribute_count_at before c
+  heads ← many_at head_at n.0 n.1
+  codings ← codings_at heads.0 heads.1
+  Ok (record { data_id = link.data_id; corner = link.corner; degree = false; heads = heads.0 }, codings.1)
+
+-- the decoders of these links
+unfoldable pub decoders_at : List Link → Reading → Item (List DecoderHead)
+decoders_at links c = each_at (λ before link. decoder_at (attributes_of before) link) [] links c
+
+-- the heads of all decoders; under Edgebreaker there are so many attribute data
+unfoldable pub heads_at : Option ℕ → Reading → Item (List DecoderHead)
+heads_at attr_data c = do
+  n ← decoder_count_at c
+  links ← links_at attr_data n.0 n.1
+  decoders_at links.0 links.1
+
+-- the byte of a data id
+abbrev pub id_byte : Option ℕ → ℕ
+id_byte None = 0
+id_byte (Some id) = id
+
+-- the bytes of a link: data id, element type and walk
+abbrev pub link_bytes : DecoderHead → List ℕ
+link_bytes d = id_byte d.data_id ∷ (if d.corner then 1 else 0) ∷ (if d.degree then 1 else 0) ∷ []
+
+-- the bytes of a head
+abbrev pub head_bytes : Head → List ℕ
+head_bytes h = h.usage ∷ h.dtype ∷ h.comps ∷ h.normalized ∷ spelling 5 h.id
+
+-- the bytes of a decoder's heads: their number, the heads, their codings
+abbrev pub decoder_bytes : DecoderHead → List ℕ
+decoder_bytes d = spelling 5 (length d.heads) ++ (flat_map head_bytes d.heads ++ map (λ h. coding_of h.dtype) d.heads)
+
+-- the bytes of the links, which stand under Edgebreaker alone
+abbrev pub links_bytes : Bool → List DecoderHead → List ℕ
+links_bytes eb decoders = if eb then flat_map link_bytes decoders else []
+
+-- the bytes of the heads of all decoders, with their links under Edgebreaker
+unfoldable pub heads_bytes : Bool → List DecoderHead → List ℕ
+heads_bytes eb decoders = length decoders ∷ links_bytes eb decoders ++ flat_map decoder_bytes decoders
+
+-- a head without its quantisation
+abbrev pub bare_head : Head → Head
+bare_head h = record h { quant = None }
+
+-- a decoder without the quantisations of its heads
+abbrev pub bare_decoder : DecoderHead → DecoderHead
+bare_decoder d = record d { heads = map bare_head d.heads }
+
+-- the link of a decoder
+abbrev pub link_of : DecoderHead → Link
+link_of d = record { data_id = d.data_id; corner = d.corner }
+
+-- a head that is accepted
+pub record HeadPasses (h : Head) : Type 0 where
+  pub usage : h.usage ≤ 4
+  pub dtype : IsTrue (is_type h.dtype)
+  pub some : 1 ≤ h.comps
+  pub few : h.comps ≤ MAX_COMPONENTS
+
+-- a decoder whose heads are accepted, and whose walk is depth first
+pub record DecoderPasses (d : DecoderHead) : Type 0 where
+  pub some : 0 < length d.heads
+  pub heads : All HeadPasses d.heads
+  pub depth_first : d.degree ≡ false
+
+-- decoders whose heads are accepted
+pub record DecodersPass (decoders : List DecoderHead) : Type 0 where
+  pub some : 0 < length decoders
+  pub few : attributes_of decoders ≤ MAX_ATTRIBUTES
+  pub each : All DecoderPasses decoders
+
+-- behind these links a decoder's link is accepted beside so many attribute data
+pub record LinkPasses (attr_data : ℕ) (before : List Link) (d : DecoderHead) : Type 0 where
+  pub has : d.data_id ≡ Some (id_byte d.data_id)
+  pub known : IsTrue (is_known_id attr_data (id_byte d.data_id))
+  pub unused : is_used_id before (id_byte d.data_id) ≡ false
+  pub vertex : id_byte d.data_id ≡ position_id → d.corner ≡ false
+
+-- behind these links each decoder's link is accepted
+abbrev pub LinksPass : ℕ → List Link → List DecoderHead → Type 0
+LinksPass attr_data before [] = Unit {0}
+LinksPass attr_data before (d ∷ decoders) = LinkPasses attr_data before d × LinksPass attr_data (before ++ link_of d ∷ []) decoders
+
+-- the links are those of a sequential stream, or are accepted beside so many attribute data
+abbrev pub AreLinked : Option ℕ → List DecoderHead → Type 0
+AreLinked None decoders = map link_of decoders ≡ replicate (length decoders) no_link
+AreLinked (Some attr_data) decoders = LinksPass attr_data [] decoders
+
+-- a decoder is read back behind others
+pub record DecoderSpelled (d : DecoderHead) : Type 0 where
+  pub behind : (before : ℕ) → before + length d.heads ≤ MAX_ATTRIBUTES → Spells (decoder_at before (link_of d)) (decoder_bytes d) (bare_decoder d)

@@ -1,0 +1,151 @@
+-- The values of attributes (Draco Bitstream Specification 2.2, sections "Sequential Attributes", "Prediction Decoder" and
+-- "Quantization"; the limits and what is refused are this project's choice).
+use Rattle.std.specs.Prelude.{◌≡◌, ℕ, ◌+◌, ◌-◌, ◌*◌, ◌/◌, ◌%◌, ◌^◌, ◌==◌, ◌&&◌, ◌||◌, Bool, ℤ, pos, negsuc, ◌-ℤ◌, List, [], ◌∷◌, length, map, Option, None, Some, Ok, sum_by, nat_le, int_le, int_lt, if◌then◌else◌}
+use Rattle.std.specs.List.{list_all}
+use Rattle.std.specs.Ordering.{int_eq}
+use Rattle.drc_base.specs.declared.kinds.Kind.TheVariants as kind
+use Rattle.drc_base.specs.declared.limits.TheConstants.{MAX_VALUES}
+use Rattle.drc_bits.specs.Reading.{◌>>=◌, Reading, Item, must, many_at, fault_at}
+use Rattle.drc_bits.specs.Numbers.{number_at, signed_at}
+use Rattle.mesh_model.specs.declared.heads.Head.{Head}
+use Rattle.mesh_model.specs.declared.heads.Quant.{Quant}
+use Rattle.mesh_model.specs.Head.{in_type}
+use Rattle.predict.specs.Wrap.{Range}
+use Rattle.symbol_coding.specs.Block.{block_at}
+use Rattle.predict.specs.Restored.{restored, entry_before}
+use Rattle.attr_section.specs.declared.decoder_heads.DecoderHead.{DecoderHead}
+use Rattle.attr_section.specs.declared.values.Values.{Values}
+use Rattle.attr_section.specs.Each.{each_at}
+
+-- no prediction
+abbrev pub no_prediction : ℤ
+no_prediction = negsuc 1
+
+-- the prediction of a byte: -2 none, 0 difference
+abbrev pub prediction_of : ℕ → ℤ
+prediction_of b = if b == 254 then no_prediction else pos b
+
+-- the prediction of an attribute
+unfoldable pub prediction_at : Reading → Item ℤ
+prediction_at c = must kind.Prediction (λ b. b == 254 || b == 0) (number_at 1) c >>= λ x. Ok (prediction_of x.0, x.1)
+
+-- the integer of a zigzag symbol: 0, -1, 1, -2 and so on
+abbrev pub signed_of : ℕ → ℤ
+signed_of symbol = if symbol % 2 == 0 then pos (symbol / 2) else negsuc (symbol / 2)
+
+-- the integer of a zigzag symbol of so many bytes
+unfoldable pub plain_value_at : ℕ → Reading → Item ℤ
+plain_value_at width c = number_at width c >>= λ x. Ok (signed_of x.0, x.1)
+
+-- how many bytes a plain value has
+unfoldable pub byte_width_at : Reading → Item ℕ
+byte_width_at c = must kind.ByteWidth (λ w. nat_le 1 w && nat_le w 4) (number_at 1) c
+
+-- n integers as they are
+unfoldable pub plain_values_at : ℕ → Reading → Item (List ℤ)
+plain_values_at n c = do
+  width ← byte_width_at c
+  many_at (plain_value_at width.0) n width.1
+
+-- the range of a wrap; corrections can wrap in it
+abbrev pub can_wrap : Range → Bool
+can_wrap r = int_le r.low r.high && int_lt (r.high -ℤ r.low) (pos (2 ^ 31 - 1))
+
+-- a range, which is refused at its start
+abbrev pub tested_range : Reading → Range → Reading → Item Range
+tested_range c r after = if can_wrap r then Ok (r, after) else fault_at kind.WrapRange c
+
+-- the range of an attribute's values
+unfoldable pub range_at : Reading → Item Range
+range_at c = do
+  low ← signed_at c
+  high ← signed_at low.1
+  tested_range c (record { low = low.0; high = high.0 }) high.1
+
+-- the transform of corrections: wrap
+abbrev pub transform_at : Reading → Item ℕ
+transform_at c = must kind.Transform (λ t. t == 1) (number_at 1) c
+
+-- n integers of entries of so many components, in a symbol block
+unfoldable pub compressed_values_at : ℕ → ℕ → Reading → Item (List ℤ)
+compressed_values_at comps n c = block_at n comps c >>= λ x. Ok (map signed_of x.0, x.1)
+
+-- n integers of entries of so many components: as they are, or compressed
+unfoldable pub integers_at : ℕ → ℕ → Reading → Item (List ℤ)
+integers_at comps n c = do
+  compressed ← number_at 1 c
+  if compressed.0 == 0 then plain_values_at n compressed.1 else compressed_values_at comps n compressed.1
+
+-- n values that are restored from corrections by difference
+unfoldable pub differences_at : ℕ → ℕ → Reading → Item (List ℤ)
+differences_at comps n c = do
+  transform ← transform_at c
+  corrections ← integers_at comps n transform.1
+  range ← range_at corrections.1
+  Ok (restored (entry_before comps) range.0 corrections.0, range.1)
+
+-- n values of this prediction
+abbrev pub predicted_at : ℤ → ℕ → ℕ → Reading → Item (List ℤ)
+predicted_at predict comps n c = if int_eq predict no_prediction then integers_at comps n c else differences_at comps n c
+
+-- n values of an attribute, each of which is in its data type
+unfoldable pub typed_values_at : Head → ℕ → Reading → Item Values
+typed_values_at h n c = do
+  predict ← prediction_at c
+  values ← predicted_at predict.0 h.comps n predict.1
+  if list_all (in_type h.dtype) values.0 then Ok (record { values = values.0; predict = predict.0; at = c.place }, values.1) else fault_at kind.ValueRange c
+
+-- the values of an attribute for so many entries, behind so many values of other attributes
+unfoldable pub values_at : Head → ℕ → ℕ → Reading → Item Values
+values_at h entries spent c =
+    if nat_le (spent + entries * h.comps) MAX_VALUES then typed_values_at h (entries * h.comps) c else fault_at kind.ValueLimit c
+
+-- how many bits quantised values have
+abbrev pub quant_bits_at : Reading → Item ℕ
+quant_bits_at c = must kind.QuantBits (λ b. nat_le 1 b && nat_le b 30) (number_at 1) c
+
+-- a quantisation: a minimum for each component, the range, the bits
+unfoldable pub quant_at : ℕ → Reading → Item Quant
+quant_at comps c = do
+  min ← many_at (number_at 4) comps c
+  range ← number_at 4 min.1
+  bits ← quant_bits_at range.1
+  Ok (record { bits = bits.0; range = range.0; min = min.0 }, bits.1)
+
+-- the quantisation of a head, which stands at quantised floats alone
+unfoldable pub quant_of_at : Head → Reading → Item (Option Quant)
+quant_of_at h c = if h.dtype == 9 then (quant_at h.comps c >>= λ q. Ok (Some q.0, q.1)) else Ok (None, c)
+
+-- a head with its quantisation
+unfoldable pub quantised_at : Head → Reading → Item Head
+quantised_at h c = quant_of_at h c >>= λ q. Ok (record h { quant = q.0 }, q.1)
+
+-- how many values attributes have
+abbrev pub values_in : List Values → ℕ
+values_in attributes = sum_by (λ v. length v.values) attributes
+
+-- the values of these attributes for so many entries, behind so many other values
+unfoldable pub attributes_at : List Head → ℕ → ℕ → Reading → Item (List Values)
+attributes_at heads entries spent c = each_at (λ before h. values_at h entries (spent + values_in before)) [] heads c
+
+-- these heads with their quantisations
+unfoldable pub quants_at : List Head → Reading → Item (List Head)
+quants_at heads c = each_at (λ _ h. quantised_at h) [] heads c
+
+-- a decoder's values for so many entries, behind so many other values, and the decoder with its quantisations
+unfoldable pub decoder_values_at : DecoderHead → ℕ → ℕ → Reading → Item (List Values × DecoderHead)
+decoder_values_at d entries spent c = do
+  values ← attributes_at d.heads entries spent c
+  heads ← quants_at d.heads values.1
+  Ok ((values.0, record d { heads = heads.0 }), heads.1)
+
+-- each head has its values, for n entries
+abbrev pub AreColumns : ℕ → List Head → List Values → Type 0
+AreColumns n [] [] = Unit {0}
+AreColumns n [] (v ∷ values) = ⊥
+AreColumns n (h ∷ heads) [] = ⊥
+AreColumns n (h ∷ heads) (v ∷ values) = (length v.values ≡ n * h.comps) × AreColumns n heads values
+
+-- how many components heads have
+abbrev pub comps_of : List Head → List ℕ
+comps_of heads = map (λ h. h.comps) heads

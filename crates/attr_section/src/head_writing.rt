@@ -1,0 +1,133 @@
+//! Writing the heads of attribute decoders.
+
+ghost use Rattle.std.specs.Prelude.{◌≡◌, ◌≤◌, ◌++◌, Option, ℕ, IfOk, OnOk, All, flat_map, map, is_some, length};
+ghost use Rattle.drc_bits.specs.Reading.{many_at};
+ghost use Rattle.drc_bits.specs.Spells.{Spells};
+ghost use Rattle.attr_section.specs.Heads.{id_byte, head_at, coding_of, decoder_at, heads_at, head_bytes, link_bytes, decoder_bytes, links_bytes, heads_bytes, bare_head, bare_decoder, link_of, HeadPasses, DecoderPasses, DecodersPass, DecoderSpelled, AreLinked};
+
+use crate::decoder_heads::DecoderHead;
+use crate::head_items::coding_of;
+use drc_base::Memory;
+use drc_bits::put_var32;
+use mesh_model::Head;
+use std::alloc::Global;
+
+/// Appends the bytes of a head.
+fn put_head(out: &mut Vec<u8>, head: &Head) -> Result<(), Memory>
+    requires { HeadPasses head.now }
+    ensures bytes { OnOk result (out.new.items ≡ out.old.items ++ head_bytes head.now) }
+    ensures again { OnOk result (Spells head_at (head_bytes head.now) (bare_head head.now)) }
+{
+    out.push(head.usage)?;
+    out.push(head.dtype)?;
+    out.push(head.comps)?;
+    out.push(head.normalized)?;
+    out.extend_from_slice(&put_var32(head.id))?;
+    Ok(())
+}
+
+/// Appends the bytes of heads.
+fn put_heads(out: &mut Vec<u8>, heads: &[Head]) -> Result<(), Memory>
+    requires { All HeadPasses heads.now }
+    ensures bytes { OnOk result (out.new.items ≡ out.old.items ++ flat_map head_bytes heads.now) }
+    ensures again { OnOk result (All (λ h. Spells head_at (head_bytes h) (bare_head h)) heads.now) }
+{
+    for head in heads {
+        put_head(out, head)?;
+    }
+    Ok(())
+}
+
+/// Appends the codings of heads.
+fn put_codings(out: &mut Vec<u8>, heads: &[Head]) -> Result<(), Memory>
+    ensures { OnOk result (out.new.items ≡ out.old.items ++ map (λ h. coding_of h.dtype) heads.now) }
+{
+    for head in heads {
+        out.push(coding_of(head.dtype))?;
+    }
+    Ok(())
+}
+
+/// Appends the bytes of a decoder's heads.
+fn put_decoder(out: &mut Vec<u8>, decoder: &DecoderHead) -> Result<(), Memory>
+    requires passes { DecoderPasses decoder.now }
+    requires few { length decoder.now.heads ≤ 16 }
+    ensures bytes { OnOk result (out.new.items ≡ out.old.items ++ decoder_bytes decoder.now) }
+    ensures again { OnOk result (DecoderSpelled decoder.now) }
+{
+    let heads = decoder.heads.as_slice();
+    out.extend_from_slice(&put_var32(heads.len() as u32))?;
+    put_heads(out, heads)?;
+    put_codings(out, heads)?;
+    Ok(())
+}
+
+/// The byte of a data id.
+fn id_byte(data_id: Option<u8>) -> u8
+    ensures { result ≡ id_byte data_id }
+{
+    match data_id {
+        None => 0,
+        Some(id) => id,
+    }
+}
+
+/// Appends the bytes of a link.
+fn put_link(out: &mut Vec<u8>, decoder: &DecoderHead) -> Result<(), Memory>
+    ensures { OnOk result (out.new.items ≡ out.old.items ++ link_bytes decoder.now) }
+{
+    let corner = if decoder.corner { 1 } else { 0 };
+    let degree = if decoder.degree { 1 } else { 0 };
+    out.extend_from_slice(&[id_byte(decoder.data_id), corner, degree])?;
+    Ok(())
+}
+
+/// Appends the bytes of links.
+fn put_links(out: &mut Vec<u8>, decoders: &[DecoderHead]) -> Result<(), Memory>
+    ensures { OnOk result (out.new.items ≡ out.old.items ++ flat_map link_bytes decoders.now) }
+{
+    for decoder in decoders {
+        put_link(out, decoder)?;
+    }
+    Ok(())
+}
+
+/// Appends the bytes of the heads of decoders.
+fn put_decoders(out: &mut Vec<u8>, decoders: &[DecoderHead]) -> Result<(), Memory>
+    requires { DecodersPass decoders.now }
+    ensures bytes { OnOk result (out.new.items ≡ out.old.items ++ flat_map decoder_bytes decoders.now) }
+    ensures again { OnOk result (All DecoderSpelled decoders.now) }
+{
+    for decoder in decoders {
+        put_decoder(out, decoder)?;
+    }
+    Ok(())
+}
+
+/// The bytes of the heads of decoders, each of which is read back.
+#[tactic(auto, unfolding(crate::specs::Heads::heads_bytes))]
+fn written_heads(alloc: Global, d: &[DecoderHead], eb: bool) -> Result<Vec<u8>, Memory>
+    requires { DecodersPass d.now }
+    ensures bytes { IfOk result (λ v. v.items ≡ heads_bytes eb d.now) }
+    ensures again { OnOk result (All DecoderSpelled d.now) }
+{
+    let mut out = Vec::new(alloc);
+    out.push(d.len() as u8)?;
+    if eb {
+        put_links(&mut out, d)?;
+    }
+    put_decoders(&mut out, d)?;
+    Ok(out)
+}
+
+/// The bytes of the heads of the decoders `d`, with their links under Edgebreaker. They are read
+/// back, whatever follows them, without the quantisations of the heads, where the links are those of
+/// a sequential stream, or are accepted beside the number of attribute data.
+pub fn write_heads(alloc: Global, d: &[DecoderHead], eb: bool) -> Result<Vec<u8>, Memory>
+    requires { DecodersPass d.now }
+    ensures bytes { IfOk result (λ v. v.items ≡ heads_bytes eb d.now) }
+    ensures again { IfOk result (λ v. (attr_data : Option ℕ) → is_some attr_data ≡ eb → AreLinked attr_data d.now → Spells (heads_at attr_data) v.items (map bare_decoder d.now)) }
+{
+    let out = written_heads(alloc, d, eb)?;
+    Ok(out)
+}

@@ -1,0 +1,143 @@
+//! The integers that stand for values in a stream.
+
+ghost use Rattle.std.specs.Prelude.{◌≡◌, ◌≤◌, ◌<◌, ◌%◌, IfOk, length, map};
+ghost use Rattle.drc_bits.specs.Reading.{Reads, Gives, many_at};
+ghost use Rattle.drc_bits.specs.Numbers.{number_at};
+ghost use Rattle.attr_section.specs.Values.{signed_of, plain_value_at, byte_width_at, plain_values_at, compressed_values_at, integers_at};
+
+use drc_base::{Fault, Kind, MAX_VALUES, Refusal};
+use drc_bits::Cursor;
+use std::alloc::{AllocError, Global};
+use symbol_coding::read_symbols;
+
+/// The integer of a zigzag symbol.
+pub fn signed_of(symbol: u32) -> i32
+    ensures { result ≡ signed_of symbol }
+{
+    let half = (symbol / 2) as i32;
+    if symbol % 2 == 0 { half } else { -1 - half }
+}
+
+/// The next number of three bytes, little-endian.
+fn get_u24(c: &mut Cursor<'_>) -> Result<u32, Fault>
+    ensures { Reads (λ n. n) (number_at 3 c.old) c.new result }
+{
+    let piece = c.slice(3)?;
+    Ok(u32::from_le_bytes([piece[0], piece[1], piece[2], 0]))
+}
+
+/// The next number of one to four bytes, little-endian.
+fn read_number(c: &mut Cursor<'_>, width: u8) -> Result<u32, Fault>
+    requires some { 1 ≤ width }
+    requires few { width ≤ 4 }
+    ensures { Reads (λ n. n) (number_at width c.old) c.new result }
+{
+    match width {
+        1 => Ok(c.get_u8()? as u32),
+        2 => Ok(c.get_u16()? as u32),
+        3 => get_u24(c),
+        _ => c.get_u32(),
+    }
+}
+
+/// The integer of the next zigzag symbol of so many bytes.
+#[tactic(auto, unfolding(crate::specs::Values::plain_value_at))]
+fn read_plain_value(c: &mut Cursor<'_>, width: u8) -> Result<i32, Fault>
+    requires some { 1 ≤ width }
+    requires few { width ≤ 4 }
+    ensures { Reads (λ x. x) (plain_value_at width c.old) c.new result }
+{
+    let symbol = read_number(c, width)?;
+    Ok(signed_of(symbol))
+}
+
+/// How many bytes a plain value has.
+#[tactic(auto, unfolding(crate::specs::Values::byte_width_at))]
+fn read_byte_width(c: &mut Cursor<'_>) -> Result<u8, Fault>
+    ensures item { Reads (λ n. n) (byte_width_at c.old) c.new result }
+    ensures some { IfOk result (λ n. 1 ≤ n) }
+    ensures few { IfOk result (λ n. n ≤ 4) }
+{
+    let at = c.place();
+    let width = c.get_u8()?;
+    if width < 1 || width > 4 {
+        return Err(Fault {
+            kind: Kind::ByteWidth,
+            at,
+        });
+    }
+    Ok(width)
+}
+
+/// `n` integers of so many bytes.
+fn read_plain_of(alloc: Global, c: &mut Cursor<'_>, width: u8, n: u32) -> Result<Vec<i32>, Refusal>
+    requires some { 1 ≤ width }
+    requires few { width ≤ 4 }
+    ensures item { Gives (λ v. v.items) (many_at (plain_value_at width) n c.old) c.new result }
+    ensures len { IfOk result (λ v. length v.items ≡ n) }
+{
+    let mut values = Vec::with_capacity(alloc, n as usize)?;
+    for _number in 0..n {
+        let value = read_plain_value(c, width)?;
+        values.push(value)?;
+    }
+    Ok(values)
+}
+
+/// `n` integers as they are.
+#[tactic(auto, unfolding(crate::specs::Values::plain_values_at))]
+fn read_plain_values(alloc: Global, c: &mut Cursor<'_>, n: u32) -> Result<Vec<i32>, Refusal>
+    ensures item { Gives (λ v. v.items) (plain_values_at n c.old) c.new result }
+    ensures len { IfOk result (λ v. length v.items ≡ n) }
+{
+    let width = read_byte_width(c)?;
+    read_plain_of(alloc, c, width, n)
+}
+
+/// The integers of zigzag symbols.
+fn signed_values(alloc: Global, symbols: &[u32]) -> Result<Vec<i32>, AllocError>
+    ensures { IfOk result (λ v. v.items ≡ map signed_of symbols.now) }
+{
+    symbols.iter().map(|s| signed_of(*s)).collect(alloc)
+}
+
+/// `n` integers of entries of `comps` components, in a symbol block.
+#[tactic(auto, unfolding(crate::specs::Values::compressed_values_at))]
+fn read_compressed_values(
+    alloc: Global,
+    c: &mut Cursor<'_>,
+    comps: u32,
+    n: u32,
+) -> Result<Vec<i32>, Refusal>
+    requires some { 0 < comps }
+    requires whole { n % comps ≡ 0 }
+    requires few { n ≤ MAX_VALUES }
+    ensures item { Gives (λ v. v.items) (compressed_values_at comps n c.old) c.new result }
+    ensures len { IfOk result (λ v. length v.items ≡ n) }
+{
+    let symbols = read_symbols(alloc, c, n, comps)?;
+    let values = signed_values(alloc, &symbols)?;
+    Ok(values)
+}
+
+/// `n` integers of entries of `comps` components: as they are, or compressed.
+#[tactic(auto, unfolding(crate::specs::Values::integers_at))]
+pub fn read_integers(
+    alloc: Global,
+    c: &mut Cursor<'_>,
+    comps: u32,
+    n: u32,
+) -> Result<Vec<i32>, Refusal>
+    requires some { 0 < comps }
+    requires whole { n % comps ≡ 0 }
+    requires few { n ≤ MAX_VALUES }
+    ensures item { Gives (λ v. v.items) (integers_at comps n c.old) c.new result }
+    ensures len { IfOk result (λ v. length v.items ≡ n) }
+{
+    let compressed = c.get_u8()?;
+    if compressed == 0 {
+        read_plain_values(alloc, c, n)
+    } else {
+        read_compressed_values(alloc, c, comps, n)
+    }
+}

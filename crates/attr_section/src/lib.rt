@@ -1,0 +1,22 @@
+//! Attributes of a stream: the heads of their decoders and their values. The contract above it: what
+//! is read is the attribute part of its definition at the cursor's place, or its first fault, and
+//! what is written is read back with just its length. After the Draco Bitstream Specification 2.2,
+//! sections "Attributes Decoder" and "Sequential Attributes".
+#![tactic(auto)]
+
+mod decoder_heads;
+mod head_items;
+mod head_reading;
+mod head_writing;
+mod integers;
+mod links;
+mod quants;
+mod types;
+mod value_reading;
+mod values;
+
+pub use decoder_heads::DecoderHead;
+pub use head_reading::read_heads;
+pub use head_writing::write_heads;
+pub use value_reading::read_decoder;
+pub use values::Values;

@@ -1,0 +1,53 @@
+-- What a command line came to before anything is written, and what was then written (this project's choice).
+use Rattle.std.specs.Prelude.{◌≡◌, ℕ, zero, suc, ◌⊎◌, List, Option, Result, Ok, Err, IfSome, IsOk, IsOkAnd}
+use Rattle.drc_base.specs.Sinks.{AppendsFront}
+use Rattle.drc_base.specs.declared.faults.Fault.{Fault}
+use Rattle.drc_app.specs.Ends.{Taking, Putting, HasReadFault, HasWriteFault, IsReadWhole, IsPastMost, IsUntaken, IsUntouched, IsWritten, IsTried}
+use Rattle.drc_app.specs.Notes.{refused_note, bad_word_note, read_failed_note, write_failed_note, memory_note}
+use Rattle.drc_app.specs.Due.{due}
+use Rattle.drc_app.specs.declared.commands.Command.{Command}
+use Rattle.drc_app.specs.declared.outcomes.Outcome.{Outcome}
+use Rattle.drc_app.specs.declared.outcomes.Outcome.TheVariants as outcome
+
+-- the input was read to its end, or past the most bytes
+abbrev pub WasRead : Taking → Type 0
+WasRead input = IsReadWhole input ⊎ IsPastMost input
+
+-- where the source tells its bytes, this is what the command gives from them
+abbrev pub Gives : Command → Taking → Result (List ℕ × List ℕ) Fault → Type 0
+Gives c input answer = IfSome input.left (λ bytes. due c bytes ≡ answer)
+
+-- what the line and its input came to
+abbrev pub IsOutcome : Result Command ℕ → Taking → Outcome → Type 0
+IsOutcome line input (outcome.BadWord i) = (line ≡ Err i) × IsUntaken input
+IsOutcome line input outcome.ReadFailed = IsOk line × HasReadFault input
+IsOutcome line input outcome.NoMemory = IsOk line
+IsOutcome line input (outcome.Refused f) = IsOkAnd line (λ c. WasRead input × Gives c input (Err f))
+IsOutcome line input (outcome.Done d) = IsOkAnd line (λ c. IsReadWhole input × Gives c input (Ok (d.output.items, d.note.items)))
+
+-- what a command came to on all bytes of its input
+abbrev pub IsOutcomeAt : Command → List ℕ → Outcome → Type 0
+IsOutcomeAt c bytes (outcome.BadWord i) = ⊥
+IsOutcomeAt c bytes outcome.ReadFailed = ⊥
+IsOutcomeAt c bytes outcome.NoMemory = Unit {0}
+IsOutcomeAt c bytes (outcome.Refused f) = due c bytes ≡ Err f
+IsOutcomeAt c bytes (outcome.Done d) = due c bytes ≡ Ok (d.output.items, d.note.items)
+
+-- the writing of an output and then of its note stopped: in the output, and then the note of the failure is tried; or in the note
+abbrev pub IsCutShort : Putting → Putting → List ℕ → List ℕ → Type 0
+IsCutShort output notes text note =
+    (HasWriteFault output × AppendsFront output.held output.held_after text × IsTried notes write_failed_note)
+    ⊎ (IsWritten output text × HasWriteFault notes × AppendsFront notes.held notes.held_after note)
+
+-- an output and its note were written, and the status is 0; or the writing stopped, and it is 4
+abbrev pub IsDelivered : Putting → Putting → List ℕ → List ℕ → ℕ → Type 0
+IsDelivered output notes text note zero = IsWritten output text × IsWritten notes note
+IsDelivered output notes text note (suc k) = (k ≡ 3) × IsCutShort output notes text note
+
+-- what was written of an outcome, and its status
+abbrev pub Delivers : Outcome → Putting → Putting → ℕ → Type 0
+Delivers (outcome.BadWord i) output notes status = (status ≡ 1) × IsUntouched output × IsTried notes (bad_word_note i)
+Delivers (outcome.Refused f) output notes status = (status ≡ 2) × IsUntouched output × IsTried notes (refused_note f)
+Delivers outcome.ReadFailed output notes status = (status ≡ 3) × IsUntouched output × IsTried notes read_failed_note
+Delivers outcome.NoMemory output notes status = (status ≡ 5) × IsUntouched output × IsTried notes memory_note
+Delivers (outcome.Done d) output notes status = IsDelivered output notes d.output.items d.note.items status

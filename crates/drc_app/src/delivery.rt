@@ -1,0 +1,54 @@
+//! Writing what a command came to.
+
+ghost use Rattle.std.specs.Prelude.{◌≡◌, ◌≤◌};
+ghost use Rattle.drc_app.specs.Ends.{puts, IsTried};
+ghost use Rattle.drc_app.specs.Outcome.{Delivers, IsDelivered};
+
+use crate::notes::{bad_word, refused};
+use crate::outcomes::{Due, Outcome};
+use drc_base::{Sink, write_all};
+
+/// Writes the outcome and its note, and answers its status: 0 where all that was due was written, 1
+/// for a bad word, 2 for a refusal, 3 where reading failed, 4 where writing failed, 5 for want of
+/// memory. It takes no memory.
+pub fn deliver<O: Sink, N: Sink>(outcome: &Outcome, output: &mut O, notes: &mut N) -> u8
+    ensures delivered { Delivers outcome.now
+        (puts O.held O.faults O.finished output.old output.new) (puts N.held N.faults N.finished notes.old notes.new) result }
+    ensures output_counts { O.faults output.old ≤ O.faults output.new }
+    ensures note_counts { N.faults notes.old ≤ N.faults notes.new }
+{
+    match outcome {
+        Outcome::Done(due) => deliver_due(due, output, notes),
+        Outcome::Refused(fault) => leave_note(notes, refused(*fault).as_bytes(), 2),
+        Outcome::BadWord(index) => leave_note(notes, bad_word(*index).as_bytes(), 1),
+        Outcome::ReadFailed => leave_note(notes, b"read failed\n", 3),
+        Outcome::NoMemory => leave_note(notes, b"memory wanting\n", 5),
+    }
+}
+
+/// Writes an output and then its note; where the output failed, the note of that.
+fn deliver_due<O: Sink, N: Sink>(due: &Due, output: &mut O, notes: &mut N) -> u8
+    ensures delivered { IsDelivered
+        (puts O.held O.faults O.finished output.old output.new) (puts N.held N.faults N.finished notes.old notes.new)
+        due.now.output.items due.now.note.items result }
+    ensures output_counts { O.faults output.old ≤ O.faults output.new }
+    ensures note_counts { N.faults notes.old ≤ N.faults notes.new }
+{
+    if write_all(output, &due.output).is_err() {
+        return leave_note(notes, b"write failed\n", 4);
+    }
+    if write_all(notes, &due.note).is_err() {
+        return 4;
+    }
+    0
+}
+
+/// Tries to write a note, and answers the status given.
+fn leave_note<N: Sink>(notes: &mut N, text: &[u8], status: u8) -> u8
+    ensures status { result ≡ status }
+    ensures tried { IsTried (puts N.held N.faults N.finished notes.old notes.new) text.now }
+    ensures counts { N.faults notes.old ≤ N.faults notes.new }
+{
+    let _ = write_all(notes, text);
+    status
+}

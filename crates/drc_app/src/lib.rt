@@ -1,0 +1,13 @@
+//! The commands, over any source and sinks. The contract above it, on `run`: every call returns;
+//! decoding writes exactly what the bytes mean or names their first fault; each status and note has
+//! its cause. The command lines, statuses and notes are this project's choice.
+#![tactic(auto)]
+
+mod commands;
+mod delivery;
+mod notes;
+mod outcomes;
+mod running;
+
+pub use commands::Command;
+pub use running::run;

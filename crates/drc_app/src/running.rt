@@ -1,0 +1,34 @@
+//! The top call.
+
+ghost use Rattle.std.specs.Prelude.{◌≡◌, ◌≤◌, map, string_bytes};
+ghost use Rattle.drc_app.specs.Line.{line_of};
+ghost use Rattle.drc_app.specs.Ends.{takes, puts};
+ghost use Rattle.drc_app.specs.Run.{HasRun, IsComplete, NamesFault};
+
+use crate::delivery::deliver;
+use crate::outcomes::outcome_of;
+use drc_base::{Sink, Source};
+use std::alloc::Global;
+
+/// Runs the command of `words`, without the program's name: reads `input`, writes `output` and leaves
+/// a note. It answers the status: 0 done, 1 bad words, 2 the input is refused, 3 reading failed, 4
+/// writing failed, 5 memory was wanting.
+pub fn run<I: Source, O: Sink, N: Sink>(
+    alloc: Global,
+    words: &[String],
+    input: &mut I,
+    output: &mut O,
+    notes: &mut N,
+) -> u8
+    ensures ran { HasRun (line_of (map string_bytes words.now)) (takes I.left I.given I.faults I.ended input.old input.new)
+        (puts O.held O.faults O.finished output.old output.new) (puts N.held N.faults N.finished notes.old notes.new) result }
+    ensures complete { IsComplete (line_of (map string_bytes words.now)) (takes I.left I.given I.faults I.ended input.old input.new)
+        (puts O.held O.faults O.finished output.old output.new) (puts N.held N.faults N.finished notes.old notes.new) result }
+    ensures named { NamesFault (line_of (map string_bytes words.now)) (takes I.left I.given I.faults I.ended input.old input.new) result }
+    ensures input_counts { I.faults input.old ≤ I.faults input.new }
+    ensures output_counts { O.faults output.old ≤ O.faults output.new }
+    ensures note_counts { N.faults notes.old ≤ N.faults notes.new }
+{
+    let outcome = outcome_of(alloc, words, input);
+    deliver(&outcome, output, notes)
+}

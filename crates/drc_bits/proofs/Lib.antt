@@ -1,0 +1,10 @@
+pub mod Results
+pub mod Groups
+pub mod Many
+pub mod Spelled
+pub mod BitLists
+pub mod Buffers
+pub mod Loading
+pub mod Packing
+mod BitExamples
+pub mod Written

@@ -1,0 +1,5 @@
+pub mod Reading
+pub mod Numbers
+pub mod Varint
+pub mod Spells
+pub mod Bits

@@ -1,0 +1,99 @@
+-- What a stream means (Draco Bitstream Specification 2.2, section "Draco Decoder"; the stream of clouds is this project's
+-- choice).
+use Rattle.std.specs.Prelude.{ℕ, ◌+◌, ◌-◌, ℤ, List, [], ◌∷◌, ◌++◌, length, map, Option, None, Result, Ok, Err}
+use Rattle.drc_base.specs.declared.faults.Fault.{Fault}
+use Rattle.drc_base.specs.declared.kinds.Kind.TheVariants as kind
+use Rattle.drc_bits.specs.Reading.{◌>>=◌, Reading, Item, start_of}
+use Rattle.mesh_model.specs.declared.heads.Head.{Head}
+use Rattle.mesh_model.specs.declared.geometries.Geometry.{Geometry}
+use Rattle.mesh_model.specs.declared.geometries.Geometry.TheVariants as geometry
+use Rattle.mesh_model.specs.Parts.{mesh_of, cloud_of}
+use Rattle.seq_section.specs.Indices.{opening_at, indices_at}
+use Rattle.attr_section.specs.declared.decoder_heads.DecoderHead.{DecoderHead}
+use Rattle.attr_section.specs.declared.values.Values.{Values}
+use Rattle.attr_section.specs.Heads.{heads_at}
+use Rattle.attr_section.specs.Values.{decoder_values_at, values_in}
+use Rattle.drc_container.specs.Header.{header_at, cloud_points_at}
+use Rattle.drc_container.specs.Columns.{row_at, cells_at}
+use Rattle.drc_container.specs.declared.choices.Method.TheVariants as method
+use Rattle.drc_container.specs.declared.headers.Form.{Form}
+use Rattle.drc_container.specs.declared.headers.Form.TheVariants as form
+use Rattle.drc_container.specs.declared.attributes.Attributes.{Attributes}
+use Rattle.drc_container.specs.declared.seen.AttrSeen.{AttrSeen}
+use Rattle.drc_container.specs.declared.seen.Seen.{Seen}
+use Rattle.drc_container.specs.declared.seen.Decoded.{Decoded}
+
+-- the attributes of these decoders in turn, for so many entries, behind other attributes
+unfoldable pub decoders_at : ℕ → Attributes → List DecoderHead → Reading → Item Attributes
+decoders_at entries before [] c = Ok (before, c)
+decoders_at entries before (d ∷ decoders) c =
+    decoder_values_at d entries (values_in before.values) c >>= λ x.
+    decoders_at entries (record { heads = before.heads ++ x.0.1.heads; values = before.values ++ x.0.0 }) decoders x.1
+
+-- all attributes of a sequential stream: the heads of its decoders, and the values of each decoder in turn
+unfoldable pub attributes_at : ℕ → Reading → Item Attributes
+attributes_at entries c = do
+  decoders ← heads_at None c
+  decoders_at entries (record { heads = []; values = [] }) decoders.0 decoders.1
+
+-- what was seen of these attributes
+abbrev pub attrs_seen : ℕ → List Head → List Values → List AttrSeen
+attrs_seen entries [] values = []
+attrs_seen entries (h ∷ heads) [] = []
+attrs_seen entries (h ∷ heads) (v ∷ values) = record { head = h; predict = v.predict; entries = entries; at = v.at } ∷ attrs_seen entries heads values
+
+-- what was seen of a sequential stream: its connectivity stands between two places, and its end is a reading
+abbrev pub seen_of : ℕ → ℕ → ℕ → Attributes → Reading → Seen
+seen_of from to entries a end = record
+    { method = method.Seq; connectivity = (from, to - from); symbols = 0; splits = 0; events = 0
+    ; attrs = attrs_seen entries a.heads a.values; end = end.place; rest = length end.rest }
+
+-- the integers of point i that attributes give
+abbrev pub row_of : Attributes → ℕ → List ℤ
+row_of a i = row_at a.heads (map (λ v. v.values) a.values) i
+
+-- the cells of the points that attributes give
+abbrev pub points_of : ℕ → Attributes → List ℤ
+points_of points a = cells_at a.heads (map (λ v. v.values) a.values) points
+
+-- a sequential mesh behind its header
+unfoldable pub mesh_at : Reading → Result Decoded Fault
+mesh_at c = do
+  indices ← indices_at c
+  attributes ← attributes_at indices.0.points indices.1
+  mesh ← mesh_of attributes.0.heads (points_of indices.0.points attributes.0) indices.0.faces
+  Ok (record { geometry = geometry.Mesh mesh; seen = seen_of c.place indices.1.place indices.0.points attributes.0 attributes.1 })
+
+-- a cloud behind its header
+unfoldable pub cloud_at : Reading → Result Decoded Fault
+cloud_at c = do
+  points ← cloud_points_at c
+  attributes ← attributes_at points.0 points.1
+  cloud ← cloud_of attributes.0.heads (points_of points.0 attributes.0)
+  Ok (record { geometry = geometry.Cloud cloud; seen = seen_of c.place points.1.place points.0 attributes.0 attributes.1 })
+
+-- what follows a header of this form
+abbrev pub body_at : Form → Reading → Result Decoded Fault
+body_at form.SequentialMesh c = mesh_at c
+body_at form.EdgebreakerMesh c = Err (record { kind = kind.NotYet; at = 8 })
+body_at form.Cloud c = cloud_at c
+
+-- what a stream means: its geometry, and where its parts stand; or its first fault. Bytes after its end count for nothing
+unfoldable pub stream : List ℕ → Result Decoded Fault
+stream bytes = do
+  header ← header_at (start_of bytes)
+  body_at header.0 header.1
+
+-- the geometry that a stream means, or its first fault
+abbrev pub meaning_of : List ℕ → Result Geometry Fault
+meaning_of bytes = stream bytes >>= λ d. Ok d.geometry
+
+-- the front of a stream, whose faults come before memory is taken: the header, then a cloud's number of points, or the two
+-- numbers and the method of sequential connectivity
+abbrev pub front_at : Form → Reading → Result ℕ Fault
+front_at form.SequentialMesh c = opening_at c >>= λ x. Ok x.1.place
+front_at form.EdgebreakerMesh c = Err (record { kind = kind.NotYet; at = 8 })
+front_at form.Cloud c = cloud_points_at c >>= λ x. Ok x.1.place
+
+unfoldable pub front_of : List ℕ → Result ℕ Fault
+front_of bytes = header_at (start_of bytes) >>= λ h. front_at h.0 h.1

@@ -1,0 +1,62 @@
+-- The data types and the width of the heads so far.
+use Rattle.std.proofs.Common.{◌≡◌, ℕ, ◌+◌, ◌-◌, ◌<◌, ◌≤◌, ◌*◌, leb, None, List, [], ◌∷◌, ◌++◌, length, get_or, take, drop, replicate, ap, ◌∙◌, sym, arith}
+use Rattle.std.proofs.lemmas.List.{take_more, append-nil, length-take, length-drop}
+use Rattle.std.proofs.lemmas.List.Sums.{sum_by_more, sum_by-take-le, sum_by-cons}
+use Rattle.std.proofs.lemmas.List.Concat.{flat_map-append}
+use Rattle.mesh_model.specs.declared.heads.Head.{Head}
+use Rattle.std.proofs.lemmas.Bool.{and_parts, leb-true}
+use Rattle.drc_base.specs.declared.kinds.Kind.TheVariants.{NoAttribute, AttrLimit, AttrType, DataType, Components}
+use Rattle.mesh_model.specs.FirstFault.{unless}
+use Rattle.mesh_model.specs.Head.{types_of, width_of, has_type, head_fault, each_fault, heads_fault}
+use Rattle.mesh_model.proofs.FirstFaults.{unless-none, first_fault-none}
+
+-- one more head has its data type once for each component
+pub types_of-more : (heads : List Head) (i : ℕ) (h : Head) → i < length heads → h ≡ get_or heads i h → types_of (take (i + 1) heads) ≡ types_of (take i heads) ++ replicate h.comps h.dtype
+types_of-more heads i h inside is =
+    ap types_of (take_more heads i h inside)
+    ∙ flat_map-append (λ (g : Head). replicate g.comps g.dtype) (take i heads) (get_or heads i h ∷ [])
+    ∙ ap (λ xs. types_of (take i heads) ++ xs) (append-nil (replicate (get_or heads i h).comps (get_or heads i h).dtype))
+    ∙ ap (λ (g : Head). types_of (take i heads) ++ replicate g.comps g.dtype) (sym is)
+
+-- one more head adds its components to the width
+pub width_of-more : (heads : List Head) (i : ℕ) (h : Head) → i < length heads → h ≡ get_or heads i h → width_of (take (i + 1) heads) ≡ width_of (take i heads) + h.comps
+width_of-more heads i h inside is =
+    sum_by_more (λ (g : Head). g.comps) heads i h inside ∙ ap (λ (g : Head). width_of (take i heads) + g.comps) (sym is)
+
+-- the heads so far are no wider than all of them
+pub width_of-take_le : (heads : List Head) (i : ℕ) → width_of (take i heads) ≤ width_of heads
+width_of-take_le heads i = sum_by-take-le (λ (g : Head). g.comps) heads i
+
+-- the length of the part from `at` on for n elements
+pub length-part : {X : Type 0} (at n : ℕ) (xs : List X) → at + n ≤ length xs → length (take (at + n - at) (drop at xs)) ≡ n
+length-part at n xs fits = simp (length-take, length-drop) (omega arith)
+
+-- a head without a fault has 1 to 8 components
+head_fault-comps : (k : ℕ) (h : Head) → head_fault k h ≡ None → (1 ≤ h.comps) × (h.comps ≤ 8)
+head_fault-comps k h e =
+    let usage = first_fault-none (unless (leb h.usage 4) AttrType k) _ e in
+    let types = first_fault-none (unless (has_type h.dtype h.quant) DataType k) _ usage.1 in
+    let comps = and_parts _ _ (unless-none _ Components k (first_fault-none _ _ types.1).0) in
+    let bounds = and_parts _ _ comps.0 in
+    (leb-true 1 h.comps bounds.0 , leb-true h.comps 8 bounds.1)
+
+-- heads without a fault are at least as wide as they are many, and at most eight times as wide
+each_fault-width : (k : ℕ) (heads : List Head) → each_fault k heads ≡ None → (length heads ≤ width_of heads) × (width_of heads ≤ 8 * length heads)
+each_fault-width k [] e = (omega arith , omega arith)
+each_fault-width k (h ∷ heads) e =
+    let parts = first_fault-none (head_fault k h) _ e in
+    let here = head_fault-comps k h parts.0 in
+    let rest = each_fault-width (k + 1) heads parts.1 in
+    let sum = sum_by-cons (λ (g : Head). g.comps) h heads in
+    (omega (arith, here.0, rest.0, sum) , omega (arith, here.1, rest.1, sum))
+
+-- the width of heads that pass is 1 to 128
+pub width_of-bounds : (heads : List Head) → heads_fault heads ≡ None → (0 < width_of heads) × (width_of heads ≤ 128)
+unfolding heads_fault
+width_of-bounds heads e =
+    let some = first_fault-none (unless (leb 1 (length heads)) NoAttribute (length heads)) _ e in
+    let few = first_fault-none (unless (leb (length heads) 16) AttrLimit (length heads)) _ some.1 in
+    let each = each_fault-width 0 heads (first_fault-none _ _ few.1).0 in
+    let one = leb-true 1 (length heads) (unless-none _ NoAttribute (length heads) some.0) in
+    let most = leb-true (length heads) 16 (unless-none _ AttrLimit (length heads) few.0) in
+    (omega (arith, one, each.0) , omega (arith, most, each.1))

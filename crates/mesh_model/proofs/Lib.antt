@@ -1,0 +1,11 @@
+pub mod Columns
+pub mod DistinctRows
+pub mod FirstFaults
+pub mod Indexes
+pub mod Made
+pub mod Names
+pub mod Pairs
+pub mod Parted
+pub mod Places
+pub mod Ranges
+pub mod Rows

@@ -1,0 +1,60 @@
+-- Where the first value outside its data type stands.
+use Rattle.std.proofs.Common.{◌≡◌, ℕ, ◌+◌, ◌*◌, ◌%◌, ◌<◌, ◌≤◌, Bool, true, false, not, List, length, get_or, take, Option, Some, None, ℤ, pos, refl, sym, ap, ◌∙◌, zero-add, arith}
+use Rattle.std.specs.List.{position, enumerate_from}
+use Rattle.std.proofs.lemmas.List.{get_or-take}
+use Rattle.std.proofs.lemmas.List.FromFn.{get_or-enumerate_from, length-enumerate_from}
+use Rattle.std.proofs.lemmas.Nat.{mod-mul-add}
+use Rattle.drc_base.specs.declared.faults.Fault.{Fault}
+use Rattle.drc_base.specs.declared.kinds.Kind.TheVariants.{ValueRange}
+use Rattle.mesh_model.specs.declared.heads.Head.{Head}
+use Rattle.mesh_model.specs.FirstFault.{at_place}
+use Rattle.mesh_model.specs.Head.{in_type, types_of, width_of}
+use Rattle.mesh_model.specs.Parts.{range_fault}
+use Rattle.mesh_model.proofs.Places.{position-none, position-at, position-none_back}
+use Rattle.mesh_model.proofs.FirstFaults.{at_place-none}
+use Rattle.std.proofs.lemmas.Bool.{not-false}
+
+-- whether cell k is in its type
+abbrev pub fits_at : List Head → List ℤ → ℕ → Bool
+fits_at heads cells k = in_type (get_or (types_of heads) (k % width_of heads) 0) (get_or cells k (pos 0))
+
+-- the test of an enumerated cell
+abbrev fails_at : List Head → ℕ × ℤ → Bool
+fails_at heads (i, value) = not (in_type (get_or (types_of heads) (i % width_of heads) 0) value)
+
+fails_at-get_or : (heads : List Head) (cells : List ℤ) (k : ℕ) → k < length cells → fails_at heads (get_or (enumerate_from 0 cells) k (0, pos 0)) ≡ not (fits_at heads cells k)
+fails_at-get_or heads cells k inside =
+    ap (fails_at heads) (get_or-enumerate_from 0 cells k (0, pos 0) inside) ∙ ap (λ i. fails_at heads (i, get_or cells k (pos 0))) (zero-add k)
+
+-- every cell is in its type
+pub range_fault-none : (heads : List Head) (cells : List ℤ) → ((k : ℕ) → k < length cells → fits_at heads cells k ≡ true) → range_fault heads cells ≡ None
+unfolding range_fault
+range_fault-none heads cells fit =
+    let long : length (enumerate_from 0 cells) ≡ length cells = length-enumerate_from 0 cells in
+    ap (at_place ValueRange) (position-none (fails_at heads) (enumerate_from 0 cells) (0, pos 0)
+        (λ k below. let inside : k < length cells = omega arith in fails_at-get_or heads cells k inside ∙ ap not (fit k inside)))
+
+-- cell i is the first that is not
+pub range_fault-at : (heads : List Head) (cells : List ℤ) (i : ℕ) → i < length cells → ((k : ℕ) → k < i → fits_at heads cells k ≡ true) → fits_at heads cells i ≡ false → range_fault heads cells ≡ Some (record { kind = ValueRange; at = i })
+unfolding range_fault
+range_fault-at heads cells i inside fit fails =
+    let long : length (enumerate_from 0 cells) ≡ length cells = length-enumerate_from 0 cells in
+    ap (at_place ValueRange) (position-at (fails_at heads) (enumerate_from 0 cells) i (0, pos 0) (omega arith)
+        (λ k below. let inside : k < length cells = omega arith in fails_at-get_or heads cells k inside ∙ ap not (fit k below))
+        (fails_at-get_or heads cells i inside ∙ ap not fails))
+
+-- the type of a column, read from an array that has the types at its front
+pub fits_at-column : (heads : List Head) (cells : List ℤ) (types : List ℕ) (k r column : ℕ) → take (width_of heads) types ≡ types_of heads → k ≡ r * width_of heads + column → column < width_of heads → fits_at heads cells k ≡ in_type (get_or types column 0) (get_or cells k (pos 0))
+fits_at-column heads cells types k r column front place narrow =
+    let at : k % width_of heads ≡ column = ap (λ n. n % width_of heads) place ∙ mod-mul-add r (width_of heads) column narrow in
+    let dtype : get_or (types_of heads) (k % width_of heads) 0 ≡ get_or types column 0 =
+        ap (λ n. get_or (types_of heads) n 0) at ∙ ap (λ xs. get_or xs column 0) (sym front) ∙ get_or-take (width_of heads) types column 0 narrow in
+    ap (λ d. in_type d (get_or cells k (pos 0))) dtype
+
+-- where there is no fault, every cell is in its type
+pub range_fault-none_back : (heads : List Head) (cells : List ℤ) → range_fault heads cells ≡ None → (k : ℕ) → k < length cells → fits_at heads cells k ≡ true
+unfolding range_fault
+range_fault-none_back heads cells none k inside =
+    let long : length (enumerate_from 0 cells) ≡ length cells = length-enumerate_from 0 cells in
+    let fails = position-none_back (fails_at heads) (enumerate_from 0 cells) (at_place-none ValueRange _ none) k (0, pos 0) (omega arith) in
+    not-false (fits_at heads cells k) (sym (fails_at-get_or heads cells k inside) ∙ fails)

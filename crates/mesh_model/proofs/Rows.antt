@@ -1,0 +1,77 @@
+-- Rows and the flat list that stores them.
+use Rattle.std.proofs.Common.{◌≡◌, ℕ, zero, suc, ◌+◌, ◌-◌, ◌*◌, ◌/◌, ◌<◌, ◌≤◌, List, [], ◌∷◌, ◌++◌, length, get_or, take, drop, map, min, ℤ, pos, refl, sym, ap, ◌∙◌, arith}
+use Rattle.std.specs.List.{range_with_len, flat_map, All}
+use Rattle.std.proofs.lemmas.List.{length-append, length-take, length-drop, take_at, drop_at, drop-drop, get_or-take, get_or-drop, get_or_append_left, same_lists, drop_more, get_or_default}
+use Rattle.std.proofs.lemmas.List.FromFn.{length-map-range_with_len, get_or-map-range_with_len}
+use Rattle.std.proofs.lemmas.List.Elements.{All-head, All-tail}
+use Rattle.std.proofs.lemmas.Nat.{div-mul-add, mul-le}
+use Rattle.std.proofs.Math.Nat.{mul-div_cancel}
+use Rattle.mesh_model.specs.Parts.{rows_of, cells_of}
+
+-- how many rows there are
+pub length-rows_of : (width : ℕ) (cells : List ℤ) → length (rows_of width cells) ≡ length cells / width
+length-rows_of width cells = length-map-range_with_len (λ (i : ℕ). take width (drop (i * width) cells)) 0 (length cells / width)
+
+-- row i
+pub get_or-rows_of : (width : ℕ) (cells : List ℤ) (i : ℕ) (d : List ℤ) → i < length cells / width → get_or (rows_of width cells) i d ≡ take width (drop (i * width) cells)
+get_or-rows_of width cells i d below = get_or-map-range_with_len (λ (i : ℕ). take width (drop (i * width) cells)) 0 (length cells / width) i i d below (omega arith)
+
+-- a stored row has `width` cells
+pub length-stored_row : (width count : ℕ) (cells : List ℤ) (i : ℕ) → length cells ≡ count * width → i < count → length (take width (drop (i * width) cells)) ≡ width
+length-stored_row width count cells i whole below =
+    let fits : (i + 1) * width ≤ count * width = mul-le (i + 1) width count width (omega arith) (omega arith) in
+    simp (length-take, length-drop) (omega arith)
+
+-- cell j of row i
+pub get_or-stored_row : (width : ℕ) (cells : List ℤ) (i j : ℕ) (d : ℤ) → j < width → get_or (take width (drop (i * width) cells)) j d ≡ get_or cells (i * width + j) d
+get_or-stored_row width cells i j d below = get_or-take width (drop (i * width) cells) j d below ∙ get_or-drop (i * width) cells j d
+
+-- as many cells as rows times their width
+pub length-cells_of : (width : ℕ) (points : List (List ℤ)) → All (λ row. length row ≡ width) points → length (cells_of points) ≡ length points * width
+length-cells_of width [] long = omega arith
+length-cells_of width (row ∷ points) long =
+    let here : length row ≡ width = All-head (λ (r : List ℤ). length r ≡ width) row points long in
+    let more = length-cells_of width points (All-tail (λ (r : List ℤ). length r ≡ width) row points long) in
+    length-append row (cells_of points) ∙ omega (arith, here, more)
+
+drop_nil : (n : ℕ) → drop {A = ℤ} n [] ≡ []
+drop_nil zero = refl
+drop_nil (suc n) = refl
+
+-- what is left of the cells after i rows
+pub drop-cells_of : (width : ℕ) (points : List (List ℤ)) (i : ℕ) → All (λ row. length row ≡ width) points → drop (i * width) (cells_of points) ≡ cells_of (drop i points)
+drop-cells_of width points zero long = let none : 0 * width ≡ 0 = omega arith in ap (λ n. drop n (cells_of points)) none
+drop-cells_of width [] (suc i) long = drop_nil (suc i * width)
+drop-cells_of width (row ∷ points) (suc i) long =
+    let here : length row ≡ width = All-head (λ (r : List ℤ). length r ≡ width) row points long in
+    let more : suc i * width ≡ length row + i * width = omega arith in
+    ap (λ n. drop n (row ++ cells_of points)) more
+    ∙ sym (drop-drop (i * width) (length row) (row ++ cells_of points))
+    ∙ ap (drop (i * width)) (drop_at row (cells_of points) (length row) refl)
+    ∙ drop-cells_of width points i (All-tail (λ (r : List ℤ). length r ≡ width) row points long)
+
+-- as many whole rows as there were
+pub length-cells_of-div : (width : ℕ) (points : List (List ℤ)) → 0 < width → All (λ row. length row ≡ width) points → length (cells_of points) / width ≡ length points
+length-cells_of-div width points wide long =
+    ap (λ n. n / width) (length-cells_of width points long) ∙ mul-div_cancel (length points) wide
+
+-- cell j of row i stands in the flat list at i * width + j
+pub get_or-cells_of : (width : ℕ) (points : List (List ℤ)) (i j : ℕ) (d : ℤ) → All (λ row. length row ≡ width) points → i < length points → j < width → get_or (cells_of points) (i * width + j) d ≡ get_or (get_or points i []) j d
+get_or-cells_of width points i j d long below narrow =
+    let here : length (get_or points i []) ≡ width = long i [] below in
+    sym (get_or-drop (i * width) (cells_of points) j d)
+    ∙ ap (λ xs. get_or xs j d) (drop-cells_of width points i long ∙ ap cells_of (drop_more points i [] below))
+    ∙ get_or_append_left (get_or points i []) (cells_of (drop (i + 1) points)) d j (omega arith)
+
+-- the rows of the flat list of rows are the rows
+pub rows_of-cells_of : (width : ℕ) (points : List (List ℤ)) → 0 < width → All (λ row. length row ≡ width) points → rows_of width (cells_of points) ≡ points
+rows_of-cells_of width points wide long =
+    let many = length-cells_of-div width points wide long in
+    same_lists (rows_of width (cells_of points)) points (length-rows_of width (cells_of points) ∙ many)
+    (λ k d below.
+      let fewer : k < length (cells_of points) / width = omega (arith, below, length-rows_of width (cells_of points)) in
+      let inside : k < length points = omega (arith, fewer, many) in
+      let here : length (get_or points k d) ≡ width = long k d inside in
+      get_or-rows_of width (cells_of points) k d fewer
+      ∙ ap (take width) (drop-cells_of width points k long ∙ ap cells_of (drop_more points k d inside))
+      ∙ take_at (get_or points k d) (cells_of (drop (k + 1) points)) width here)

@@ -1,0 +1,24 @@
+use Rattle.std.proofs.Common.{◌≡◌, ◌*◌, ◌/◌, ◌<◌, ◌≤◌, None, length, sym, subst, rules}
+use Rattle.mesh_model.specs.Head.{width_of, heads_fault}
+use Rattle.mesh_model.specs.Parts.{count_fault, range_fault}
+use Rattle.mesh_model.specs.Stored.{AreStored}
+use Rattle.mesh_model.proofs.Made.{ArePoints-made, whole-rows}
+use Rattle.mesh_model.proofs.clouds.Cloud.new.Goals as goal
+
+pub invariant_of-result : goal.invariant_of-result
+invariant_of-result c =
+    let heads = c.args.heads.items in
+    let cells = c.args.points.items in
+    let width = c.in_ok-width.width in
+    let count = c.len.result / width in
+    let pass : heads_fault heads ≡ None = search rules in
+    let width_is : width ≡ width_of heads = search rules in
+    let wide : 0 < width = search rules in
+    let narrow : width ≤ 128 = search rules in
+    let whole : length cells ≡ count * width =
+        let many : c.len.result ≡ length cells = search rules in
+        subst (λ n. length cells ≡ n / width * width) (sym many) (whole-rows heads cells width c.requires pass width_is) in
+    let stored : AreStored heads cells width count = record { width_is = width_is; wide = wide; narrow = narrow; whole = whole } in
+    let counts : count_fault count width ≡ None = search rules in
+    let ranges : range_fault heads cells ≡ None = search rules in
+    (stored , ArePoints-made heads cells width count stored pass counts ranges)

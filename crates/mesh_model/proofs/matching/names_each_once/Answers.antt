@@ -1,0 +1,37 @@
+use Rattle.std.proofs.Common.{◌≡◌, ◌+◌, ◌<◌, true, false, ◌++◌, [], ◌∷◌, length, get_or, set, take, sym, ap, ◌∙◌, subst, rules, arith}
+use Rattle.std.specs.List.{list_all}
+use Rattle.std.proofs.lemmas.Bool.{false≢true}
+use Rattle.std.proofs.lemmas.List.{get_or_read, take_more, take_all}
+use Rattle.mesh_model.proofs.Names.{Marks, Marks-more, Marks-all, Marks-back, named_twice}
+use Rattle.mesh_model.proofs.matching.names_each_once.Goals as goal
+
+pub returns-then-index : goal.returns-then-index
+returns-then-index c =
+    let rows = c.args.rows.now in
+    let i = c.loop-row.row-index in
+    let seen = c.loop-row.seen.items in
+    let f = (get_or rows i (0, 0)).0 in
+    let below : f < length seen = search rules in
+    let marked : get_or seen f false ≡ true = sym (get_or_read seen f c.index.result.now below c.index.ensures false) ∙ c.if-index.true in
+    (λ no. absurd (false≢true no) ,
+     λ names. absurd (named_twice c.args.count seen rows i c.loop-row-test.true c.loop-row.invariant (omega (arith, below, c.loop-row.invariant.long)) marked names))
+
+pub loop-row-preserved : goal.loop-row-preserved
+loop-row-preserved c =
+    let rows = c.args.rows.now in
+    let i = c.loop-row.row-index in
+    let seen = c.loop-row.seen.items in
+    let row = get_or rows i (0, 0) in
+    let below : row.0 < length seen = search rules in
+    let new : get_or seen row.0 false ≡ false = sym (get_or_read seen row.0 c.index.result.now below c.index.ensures false) ∙ c.if-index.false in
+    subst (λ rs. Marks c.args.count (set seen row.0 true) rs) (sym (take_more rows i (0, 0) c.loop-row-test.true))
+        (Marks-more c.args.count seen (take i rows) row c.loop-row.invariant (omega (arith, below, c.loop-row.invariant.long)) new)
+
+pub returns : goal.returns
+returns c =
+    let rows = c.args.rows.now in
+    let seen = c.loop-row.seen.items in
+    let marks = subst (λ rs. Marks c.args.count seen rs) (take_all c.loop-row.row-index rows c.loop-row-test.false) c.loop-row.invariant in
+    let told : c.all_true.result ≡ list_all (λ mark. mark) seen = search rules in
+    (λ yes. Marks-all c.args.count seen rows marks (sym told ∙ yes) ,
+     λ names. told ∙ Marks-back c.args.count seen rows marks names)

@@ -1,0 +1,16 @@
+-- A hash of rows, by which equal rows are found: any function of the row serves (this project's
+-- choice).
+use Rattle.std.specs.Prelude.{ℕ, ◌*◌, ◌/◌, ◌%◌, ◌^◌, ℤ, List, fold, bit_and, bit_xor}
+use Rattle.std.specs.Int.{w32, cast_unsigned}
+
+-- one more value
+unfoldable pub mixed : ℕ → ℤ → ℕ
+mixed hash value = (bit_xor hash (cast_unsigned w32 value) * 0x9e37_79b1) % 2 ^ 32
+
+-- more values
+abbrev pub hash_from : ℕ → List ℤ → ℕ
+hash_from hash values = fold mixed hash values
+
+-- the bucket of a row among mask + 1
+unfoldable pub bucket_of : ℕ → List ℤ → ℕ
+bucket_of mask row = let hash = hash_from 0 row in bit_and (bit_xor hash (hash / 2 ^ 15)) mask

@@ -1,0 +1,11 @@
+pub mod FirstFault
+pub mod Head
+pub mod Parts
+pub mod Stored
+pub mod IsGeometry
+pub mod Same
+pub mod Renumbering
+pub mod MapText
+pub mod Assembled
+pub mod Hash
+pub mod RowIndex

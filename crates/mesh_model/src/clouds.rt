@@ -1,0 +1,90 @@
+//! Point clouds.
+
+use crate::heads::{Head, test_heads};
+use crate::row_rules::{stored_row, test_counts, test_values};
+use drc_base::Refusal;
+use std::marker::Model;
+
+/// A point cloud: heads and points, within the limits. Contracts see its points as rows, one integer
+/// for each component of each head, in order.
+#[derive(Debug, Drop)]
+pub struct Cloud {
+    heads: Vec<Head>,
+    cells: Vec<i32>,
+    width: u32,
+    count: u32,
+}
+
+impl Model for Cloud {
+    ghost use Rattle.mesh_model.specs.Parts.{CloudParts, IsCloud, rows_of};
+    ghost use Rattle.mesh_model.specs.Stored.{AreStored};
+
+    ghost Value = { CloudParts };
+
+    ghost view = { λ c. record { heads = c.heads.items; points = rows_of c.width c.cells.items } };
+
+    ghost invariant = { λ c.
+        AreStored c.heads.items c.cells.items c.width c.count
+        × IsCloud (record { heads = c.heads.items; points = rows_of c.width c.cells.items }) };
+}
+
+impl Cloud {
+    ghost use Rattle.std.specs.Prelude.{◌≡◌, ◌<◌, ◌≤◌, [], length, slice_index_or};
+    ghost use Rattle.mesh_model.specs.FirstFault.{answer_of};
+    ghost use Rattle.mesh_model.specs.Head.{width_of};
+    ghost use Rattle.mesh_model.specs.Parts.{AreRows, IsCloud, cloud_of};
+
+    /// The cloud of these heads and points (row after row). It takes no memory. Refusals, the first
+    /// that applies: NoAttribute and AttrLimit at the number of heads; AttrType, DataType,
+    /// Components and QuantBits at the number of the first head that has one; PointLimit at the
+    /// number of points, ValueLimit at points times width; ValueRange at the first integer of
+    /// `points` outside its data type.
+    pub fn new(heads: Vec<Head>, points: Vec<i32>) -> Result<Cloud, Refusal>
+        requires { AreRows heads.items points.items }
+        ensures { result ≡ answer_of (cloud_of heads.items points.items) }
+    {
+        let width = test_heads(heads.as_slice())?;
+        let count = points.len() as u64 / width as u64;
+        test_counts(count, width)?;
+        test_values(heads.as_slice(), width, points.as_slice())?;
+        Ok(Cloud {
+            heads,
+            cells: points,
+            width,
+            count: count as u32,
+        })
+    }
+
+    /// The heads of its attributes.
+    pub fn heads(&self) -> &[Head]
+        ensures value { result.now ≡ self.now.heads }
+        ensures sound { IsCloud self.now }
+    {
+        self.heads.as_slice()
+    }
+
+    /// How many integers a point has: the sum of the components, 1 to 128.
+    pub fn width(&self) -> u32
+        ensures value { result ≡ width_of self.now.heads }
+        ensures bounds { (0 < result) × (result ≤ 128) }
+    {
+        self.width
+    }
+
+    /// How many points there are.
+    pub fn point_count(&self) -> u32
+        ensures value { result ≡ length self.now.points }
+        ensures sound { IsCloud self.now }
+    {
+        self.count
+    }
+
+    /// The integers of point `i`.
+    pub fn point(&self, i: u32) -> &[i32]
+        requires { i < length self.now.points }
+        ensures row { result.now ≡ slice_index_or self.now.points i [] }
+        ensures len { length result.now ≡ width_of self.now.heads }
+    {
+        stored_row(self.cells.as_slice(), self.width, self.count, i)
+    }
+}

@@ -1,0 +1,157 @@
+//! The heads of attributes: what each column of integers is.
+
+ghost use Rattle.std.specs.Prelude.{◌≡◌, ◌<◌, ◌≤◌, None, IsOk, IfOk, OnOk, length};
+ghost use Rattle.mesh_model.specs.FirstFault.{Tests};
+ghost use Rattle.mesh_model.specs.Head.{has_type, has_minima, has_bits, head_fault, each_fault, heads_fault, width_of};
+
+use drc_base::{Fault, Kind, MAX_ATTRIBUTES, MAX_COMPONENTS, Memory, Sequence};
+use std::alloc::Global;
+
+/// How the integers of an attribute stand for floats: value i of a component with minimum m is
+/// m + i * range / (2^bits - 1). The range and the minima are the bit patterns of 32-bit floats,
+/// which are carried and never computed with (Draco Bitstream Specification 2.2, quantization
+/// data).
+#[derive(Debug, Drop)]
+pub struct Quant {
+    /// Bits of each integer, 1 to 30.
+    pub bits: u8,
+    /// The bit pattern of the range.
+    pub range: u32,
+    /// The bit pattern of the minimum of each component.
+    pub min: Sequence<u32>,
+}
+
+/// What an attribute is (Draco Bitstream Specification 2.2, attribute decoders).
+#[derive(Debug, Drop)]
+pub struct Head {
+    /// 0 position, 1 normal, 2 colour, 3 texture coordinate, 4 generic.
+    pub usage: u8,
+    /// 1 int8, 2 uint8, 3 int16, 4 uint16, 5 int32, 6 uint32 (values up to 2^31 - 1), 9 quantised
+    /// float32.
+    pub dtype: u8,
+    /// Integers of one point, 1 to 8.
+    pub comps: u8,
+    /// The flag `normalized`, carried as it is.
+    pub normalized: u8,
+    /// The attribute's own id, carried as it is.
+    pub id: u32,
+    /// The quantisation, exactly where `dtype` is 9.
+    pub quant: Option<Quant>,
+}
+
+impl Quant {
+    /// An equal quantisation.
+    fn copy(&self, alloc: Global) -> Result<Quant, Memory>
+        ensures { IfOk result (λ q. q ≡ self.now) }
+    {
+        let min = Vec::from_slice(alloc, self.min.as_slice())?;
+        Ok(Quant {
+            bits: self.bits,
+            range: self.range,
+            min: Sequence::from_vec(min),
+        })
+    }
+}
+
+impl Head {
+    /// An equal head. Without a quantisation it takes no memory, and the answer is `Ok`.
+    pub fn copy(&self, alloc: Global) -> Result<Head, Memory>
+        ensures same { IfOk result (λ h. h ≡ self.now) }
+        ensures plain { self.now.quant ≡ None → IsOk result }
+    {
+        let quant = match &self.quant {
+            None => None,
+            Some(quant) => Some(quant.copy(alloc)?),
+        };
+        Ok(Head {
+            usage: self.usage,
+            dtype: self.dtype,
+            comps: self.comps,
+            normalized: self.normalized,
+            id: self.id,
+            quant,
+        })
+    }
+
+    fn has_type(&self) -> bool
+        ensures { result ≡ has_type self.now.dtype self.now.quant }
+    {
+        match &self.quant {
+            None => 1 <= self.dtype && self.dtype <= 6,
+            Some(_) => self.dtype == 9,
+        }
+    }
+
+    fn has_minima(&self) -> bool
+        ensures { result ≡ has_minima self.now.comps self.now.quant }
+    {
+        match &self.quant {
+            None => true,
+            Some(quant) => quant.min.len() == self.comps as usize,
+        }
+    }
+
+    fn has_bits(&self) -> bool
+        ensures { result ≡ has_bits self.now.quant }
+    {
+        match &self.quant {
+            None => true,
+            Some(quant) => 1 <= quant.bits && quant.bits <= 30,
+        }
+    }
+}
+
+/// The first fault of head `k`.
+fn test_head(k: usize, head: &Head) -> Result<(), Fault>
+    ensures tested { Tests (head_fault k head.now) result }
+    ensures comps { OnOk result ((1 ≤ head.now.comps) × (head.now.comps ≤ 8)) }
+{
+    let at = k as u64;
+    if head.usage > 4 {
+        return Err(Fault { kind: Kind::AttrType, at });
+    }
+    if !head.has_type() {
+        return Err(Fault { kind: Kind::DataType, at });
+    }
+    if head.comps < 1 || head.comps as u32 > MAX_COMPONENTS || !head.has_minima() {
+        return Err(Fault { kind: Kind::Components, at });
+    }
+    if !head.has_bits() {
+        return Err(Fault { kind: Kind::QuantBits, at });
+    }
+    Ok(())
+}
+
+/// The first fault of each head in turn; without one, the width of a row.
+fn test_each_head(heads: &[Head]) -> Result<u32, Fault>
+    requires { length heads.now ≤ 16 }
+    ensures tested { Tests (each_fault 0 heads.now) result }
+    ensures width { IfOk result (λ width. width ≡ width_of heads.now) }
+    ensures bounds { IfOk result (λ width. (length heads.now ≤ width) × (width ≤ 128)) }
+{
+    let mut width: u32 = 0;
+    for (k, head) in heads.iter().enumerate() {
+        test_head(k, head)?;
+        width += head.comps as u32;
+    }
+    Ok(width)
+}
+
+/// The first fault of the heads of a geometry: NoAttribute and AttrLimit at their number, then
+/// AttrType, DataType, Components and QuantBits at the first head that has one, in this order.
+/// Without a fault, the width of a row.
+#[tactic(auto, unfolding(crate::specs::Head::heads_fault))]
+pub(crate) fn test_heads(heads: &[Head]) -> Result<u32, Fault>
+    ensures tested { Tests (heads_fault heads.now) result }
+    ensures width { IfOk result (λ width. width ≡ width_of heads.now) }
+    ensures bounds { IfOk result (λ width. (0 < width) × (width ≤ 128)) }
+{
+    let at = heads.len() as u64;
+    if heads.is_empty() {
+        return Err(Fault { kind: Kind::NoAttribute, at });
+    }
+    if at > MAX_ATTRIBUTES as u64 {
+        return Err(Fault { kind: Kind::AttrLimit, at });
+    }
+    test_each_head(heads)
+}

@@ -1,0 +1,28 @@
+//! Geometry: meshes and clouds of integer rows, the renumbering of one into another, and their
+//! assembling from tables of attributes. The contract above it: a geometry is its heads, its points
+//! as rows of integers and its faces as triples of point numbers, within the limits; two geometries
+//! are the same by a renumbering exactly where each face (or point) of one stands once in the
+//! other, turned at most, with the same integers. Heads follow the Draco Bitstream Specification
+//! 2.2; the rest is this project's choice.
+#![tactic(auto)]
+
+mod clouds;
+mod corners;
+mod geometries;
+mod heads;
+mod mapping;
+mod matching;
+mod meshes;
+mod renumberings;
+mod row_index;
+mod row_rules;
+mod tables;
+
+pub use clouds::Cloud;
+pub use geometries::Geometry;
+pub use heads::{Head, Quant};
+pub use mapping::map_text;
+pub use matching::matches;
+pub use meshes::CornerMesh;
+pub use renumberings::Renumber;
+pub use tables::AttrTable;

@@ -1,0 +1,123 @@
+//! Triangle meshes.
+
+use crate::heads::{Head, test_heads};
+use crate::row_rules::{stored_row, test_counts, test_face_count, test_indices, test_values};
+use drc_base::Refusal;
+use std::marker::Model;
+
+/// A triangle mesh: heads, points and faces of three point numbers, within the limits. Contracts
+/// see its points as rows, one integer for each component of each head, in order.
+#[derive(Debug, Drop)]
+pub struct CornerMesh {
+    heads: Vec<Head>,
+    cells: Vec<i32>,
+    faces: Vec<[u32; 3]>,
+    width: u32,
+    count: u32,
+}
+
+impl Model for CornerMesh {
+    ghost use Rattle.mesh_model.specs.Parts.{MeshParts, IsMesh, rows_of};
+    ghost use Rattle.mesh_model.specs.Stored.{AreStored};
+
+    ghost Value = { MeshParts };
+
+    ghost view = { λ m. record { heads = m.heads.items; points = rows_of m.width m.cells.items; faces = m.faces.items } };
+
+    ghost invariant = { λ m.
+        AreStored m.heads.items m.cells.items m.width m.count
+        × IsMesh (record { heads = m.heads.items; points = rows_of m.width m.cells.items; faces = m.faces.items }) };
+}
+
+impl CornerMesh {
+    ghost use Rattle.std.specs.Prelude.{◌≡◌, ◌<◌, ◌≤◌, [], All, length, slice_index_or};
+    ghost use Rattle.mesh_model.specs.FirstFault.{answer_of};
+    ghost use Rattle.mesh_model.specs.Head.{width_of};
+    ghost use Rattle.mesh_model.specs.Parts.{AreRows, IsMesh, corner, mesh_of};
+
+    /// The mesh of these heads, points (row after row) and faces. It takes no memory. Refusals, the
+    /// first that applies: NoAttribute and AttrLimit at the number of heads; AttrType, DataType,
+    /// Components and QuantBits at the number of the first head that has one; PointLimit at the
+    /// number of points, ValueLimit at points times width, FaceLimit at the number of faces;
+    /// IndexRange at the first face with a number that is no number of a point; ValueRange at the
+    /// first integer of `points` outside its data type.
+    pub fn new(heads: Vec<Head>, points: Vec<i32>, faces: Vec<[u32; 3]>) -> Result<CornerMesh, Refusal>
+        requires { AreRows heads.items points.items }
+        ensures { result ≡ answer_of (mesh_of heads.items points.items faces.items) }
+    {
+        let width = test_heads(heads.as_slice())?;
+        let count = points.len() as u64 / width as u64;
+        test_counts(count, width)?;
+        test_face_count(faces.as_slice())?;
+        test_indices(count as u32, faces.as_slice())?;
+        test_values(heads.as_slice(), width, points.as_slice())?;
+        Ok(CornerMesh {
+            heads,
+            cells: points,
+            faces,
+            width,
+            count: count as u32,
+        })
+    }
+
+    /// The heads of its attributes.
+    pub fn heads(&self) -> &[Head]
+        ensures value { result.now ≡ self.now.heads }
+        ensures sound { IsMesh self.now }
+    {
+        self.heads.as_slice()
+    }
+
+    /// How many integers a point has: the sum of the components, 1 to 128.
+    pub fn width(&self) -> u32
+        ensures value { result ≡ width_of self.now.heads }
+        ensures bounds { (0 < result) × (result ≤ 128) }
+    {
+        self.width
+    }
+
+    /// How many points there are.
+    pub fn point_count(&self) -> u32
+        ensures value { result ≡ length self.now.points }
+        ensures sound { IsMesh self.now }
+    {
+        self.count
+    }
+
+    /// The integers of point `i`.
+    pub fn point(&self, i: u32) -> &[i32]
+        requires { i < length self.now.points }
+        ensures row { result.now ≡ slice_index_or self.now.points i [] }
+        ensures len { length result.now ≡ width_of self.now.heads }
+    {
+        stored_row(self.cells.as_slice(), self.width, self.count, i)
+    }
+
+    /// How many faces there are.
+    pub fn face_count(&self) -> u32
+        ensures value { result ≡ length self.now.faces }
+        ensures sound { IsMesh self.now }
+    {
+        self.faces.len() as u32
+    }
+
+    /// The numbers of the three points of face `f`, each below the number of points.
+    pub fn face(&self, f: u32) -> [u32; 3]
+        requires { f < length self.now.faces }
+        ensures face { result ≡ slice_index_or self.now.faces f [] }
+        ensures in_range { All (λ p. p < length self.now.points) result }
+    {
+        self.faces[f as usize]
+    }
+
+    /// The integers of corner `k` of face `f`: those of its point.
+    pub fn corner(&self, f: u32, k: u8) -> &[i32]
+        requires face { f < length self.now.faces }
+        requires place { k < 3 }
+        ensures row { result.now ≡ corner self.now f k }
+        ensures len { length result.now ≡ width_of self.now.heads }
+    {
+        let face = self.face(f);
+        self.point(face[k as usize])
+    }
+}

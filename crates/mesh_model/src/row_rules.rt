@@ -1,0 +1,143 @@
+//! The tests that the points and faces of a geometry pass, in their order.
+
+ghost use Rattle.std.specs.Prelude.{◌≡◌, ◌+◌, ◌*◌, ◌/◌, ◌<◌, ◌≤◌, ◌^◌, ℕ, [], length, slice_index_or, nat_lt, not, All, position, take, IsTrue};
+ghost use Rattle.std.specs.List.{list_all};
+ghost use Rattle.mesh_model.specs.FirstFault.{Tests};
+ghost use Rattle.mesh_model.specs.Head.{in_type, types_of, width_of};
+ghost use Rattle.mesh_model.specs.Parts.{count_fault, faces_fault, index_fault, range_fault, rows_of};
+
+use crate::heads::Head;
+use drc_base::{Fault, Kind, MAX_FACES, MAX_POINTS, MAX_VALUES};
+
+/// The most integers of a row: as many attributes as there may be, each of as many components.
+const MAX_WIDTH: usize = 128;
+
+/// Row `i` of `count` rows of `width` integers.
+pub(crate) fn stored_row(cells: &[i32], width: u32, count: u32, i: u32) -> &[i32]
+    requires whole { length cells.now ≡ count * width }
+    requires wide { 0 < width }
+    requires below { i < count }
+    ensures row { result.now ≡ slice_index_or (rows_of width cells.now) i [] }
+    ensures len { length result.now ≡ width }
+{
+    let start = i as usize * width as usize;
+    let end = start + width as usize;
+    &cells[start..end]
+}
+
+/// PointLimit at the number of points, then ValueLimit at points times width.
+pub(crate) fn test_counts(points: u64, width: u32) -> Result<(), Fault>
+    requires { points * width < 2 ^ 64 }
+    ensures { Tests (count_fault points width) result }
+{
+    if points > MAX_POINTS as u64 {
+        return Err(Fault {
+            kind: Kind::PointLimit,
+            at: points,
+        });
+    }
+    let values = points * width as u64;
+    if values > MAX_VALUES as u64 {
+        return Err(Fault {
+            kind: Kind::ValueLimit,
+            at: values,
+        });
+    }
+    Ok(())
+}
+
+/// FaceLimit at the number of faces.
+pub(crate) fn test_face_count(faces: &[[u32; 3]]) -> Result<(), Fault>
+    ensures tested { Tests (faces_fault faces.now) result }
+    ensures three { All (λ face. length face ≡ 3) faces.now }
+{
+    if faces.len() > MAX_FACES as usize {
+        return Err(Fault {
+            kind: Kind::FaceLimit,
+            at: faces.len() as u64,
+        });
+    }
+    Ok(())
+}
+
+/// Whether each number of a face is below the number of points.
+fn names_points(points: u32, face: &[u32; 3]) -> bool
+    ensures { result ≡ list_all (λ p. nat_lt p points) face.now }
+{
+    face.iter().all(|p| *p < points)
+}
+
+/// The first face with a number that is no number of a point.
+fn first_outside(points: u32, faces: &[[u32; 3]]) -> Option<usize>
+    ensures { result ≡ position (λ face. not (list_all (λ p. nat_lt p points) face)) faces.now }
+{
+    faces.iter().position(|face| !names_points(points, face))
+}
+
+/// IndexRange at the first face with a number that is no number of a point.
+#[tactic(auto, unfolding(crate::specs::Parts::index_fault))]
+pub(crate) fn test_indices(points: u32, faces: &[[u32; 3]]) -> Result<(), Fault>
+    ensures { Tests (index_fault points faces.now) result }
+{
+    match first_outside(points, faces) {
+        None => Ok(()),
+        Some(at) => Err(Fault {
+            kind: Kind::IndexRange,
+            at: at as u64,
+        }),
+    }
+}
+
+/// Whether a value is in the range of a data type.
+#[tactic(auto, unfolding(crate::specs::Head::in_type))]
+fn in_type(dtype: u8, value: i32) -> bool
+    ensures { result ≡ in_type dtype value }
+{
+    match dtype {
+        1 => -128 <= value && value <= 127,
+        2 => 0 <= value && value <= 255,
+        3 => -32768 <= value && value <= 32767,
+        4 => 0 <= value && value <= 65535,
+        5 | 9 => true,
+        _ => 0 <= value,
+    }
+}
+
+/// The data type of each integer of a row, at the front of an array.
+fn column_types(heads: &[Head]) -> [u8; MAX_WIDTH]
+    requires { width_of heads.now ≤ 128 }
+    ensures { take (width_of heads.now) result ≡ types_of heads.now }
+{
+    let mut types = [0u8; MAX_WIDTH];
+    let mut at: usize = 0;
+    for head in heads {
+        let end = at + head.comps as usize;
+        types[at..end].fill(head.dtype);
+        at = end;
+    }
+    types
+}
+
+/// ValueRange at the first cell outside its data type, which its column in the row tells.
+#[tactic(auto, unfolding(crate::specs::Parts::range_fault))]
+pub(crate) fn test_values(heads: &[Head], width: u32, cells: &[i32]) -> Result<(), Fault>
+    requires width { width ≡ width_of heads.now }
+    requires bounds { (0 < width) × (width ≤ 128) }
+    ensures { Tests (range_fault heads.now cells.now) result }
+{
+    let types = column_types(heads);
+    let mut column: usize = 0;
+    for (i, value) in cells.iter().enumerate() {
+        if !in_type(types[column], *value) {
+            return Err(Fault {
+                kind: Kind::ValueRange,
+                at: i as u64,
+            });
+        }
+        column += 1;
+        if column == width as usize {
+            column = 0;
+        }
+    }
+    Ok(())
+}

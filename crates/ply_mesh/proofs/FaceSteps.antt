@@ -1,0 +1,62 @@
+-- Faces that are read token by token.
+use Rattle.std.proofs.Common.{◌≡◌, ℕ, zero, suc, ◌+◌, ◌<◌, ◌≤◌, Bool, true, false, cond, List, [], ◌∷◌, length, drop, get_or, map, Option, Some, None, Result, Ok, Err, refl, sym, ap, subst, ◌∙◌, arith}
+use Rattle.std.specs.Prelude.{ℤ, pos, option_and_then}
+use Rattle.std.specs.Borrow.{Bor}
+use Rattle.std.specs.Ordering.{int_eq}
+use Rattle.std.proofs.lemmas.Bool.{ne_eqb}
+use Rattle.std.proofs.lemmas.List.{length-map}
+use Rattle.drc_base.specs.declared.faults.Fault.{Fault}
+use Rattle.drc_base.specs.declared.kinds.Kind.TheVariants.{PlyRow, PlyNumber, PlyFace}
+use Rattle.ply_text.specs.Faults.{or_refuse, ◌>>=◌}
+use Rattle.ply_text.specs.Tokens.{tokens_of}
+use Rattle.ply_text.specs.Numbers.{integer_of, first_integer, is_between}
+use Rattle.ply_mesh.specs.Body.{IsRange, number_of, numbers_of, points_of, indices_of, count_of, counted_face, face_of, texts}
+use Rattle.ply_mesh.proofs.Types.{number_in}
+use Rattle.ply_mesh.proofs.RowSteps.{first_parts}
+
+pub three_texts : (found : List (Bor (List ℕ))) (a b c : Bor (List ℕ)) → length found ≡ 3 → texts found ≡ (get_or found 0 a).now ∷ (get_or found 1 b).now ∷ (get_or found 2 c).now ∷ []
+three_texts [] a b c e = absurd (omega arith)
+three_texts (x ∷ []) a b c e = absurd (omega arith)
+three_texts (x ∷ y ∷ []) a b c e = absurd (omega arith)
+three_texts (x ∷ y ∷ z ∷ []) a b c e = refl
+three_texts (x ∷ y ∷ z ∷ w ∷ ws) a b c e = absurd (omega arith)
+
+pub first_text : (found : List (Bor (List ℕ))) (a : Bor (List ℕ)) → 0 < length found → texts found ≡ (get_or found 0 a).now ∷ texts (drop 1 found)
+first_text [] a h = absurd (omega arith)
+first_text (x ∷ xs) a h = refl
+
+pub not_three : (itype points at : ℕ) (found : List (Bor (List ℕ))) → (length found ≡ 3 → ⊥) → indices_of itype points at (texts found) ≡ Err (record { kind = PlyRow; at = at })
+unfolding indices_of
+not_three itype points at found ne = rw (ne_eqb (length (texts found)) 3 (λ h. ne (sym (length-map found (λ (t : Bor (List ℕ)). t.now)) ∙ h))) refl
+
+pub no_face : (list : ℕ × ℕ) (points at : ℕ) (found : List (Bor (List ℕ))) → length found ≡ 0 → face_of list points at (texts found) ≡ Err (record { kind = PlyRow; at = at })
+unfolding face_of
+no_face list points at [] e = refl
+no_face list points at (x ∷ xs) e = absurd (omega arith)
+
+pub face_is : (list : ℕ × ℕ) (points at : ℕ) (found : List (Bor (List ℕ))) (a : Bor (List ℕ)) → 0 < length found → face_of list points at (texts found) ≡ counted_face list points at (get_or found 0 a).now (texts (drop 1 found))
+unfolding face_of
+face_is list points at found a h = ap (face_of list points at) (first_text found a h)
+
+-- the face of four numbers and no more
+pub face_whole : (list : ℕ × ℕ) (points : ℕ) (line : List ℕ) (p0 p1 p2 p3 low high below most : ℕ) (v a b c : ℤ) (face : List ℕ) → IsRange list.0 low high → IsRange list.1 below most → v ≡ pos 3
+    → first_integer (tokens_of (drop 0 line)) ≡ Some (v, tokens_of (drop p0 line)) → is_between low high v ≡ true
+    → first_integer (tokens_of (drop p0 line)) ≡ Some (a, tokens_of (drop p1 line)) → is_between below most a ≡ true
+    → first_integer (tokens_of (drop p1 line)) ≡ Some (b, tokens_of (drop p2 line)) → is_between below most b ≡ true
+    → first_integer (tokens_of (drop p2 line)) ≡ Some (c, tokens_of (drop p3 line)) → is_between below most c ≡ true
+    → tokens_of (drop p3 line) ≡ [] → points_of points (a ∷ b ∷ c ∷ []) ≡ Some face → (at : ℕ) → face_of list points at (tokens_of line) ≡ Ok face
+unfolding face_of indices_of
+face_whole list points line p0 p1 p2 p3 low high below most v a b c face r0 r1 three e0 i0 ea ia eb ib ec ic last made at =
+    let t0 = first_parts (tokens_of line) (tokens_of (drop p0 line)) v e0 in
+    let ta = first_parts (tokens_of (drop p0 line)) (tokens_of (drop p1 line)) a ea in
+    let tb = first_parts (tokens_of (drop p1 line)) (tokens_of (drop p2 line)) b eb in
+    let tc = first_parts (tokens_of (drop p2 line)) (tokens_of (drop p3 line)) c ec in
+    let n0 = number_in list.0 low high t0.0 v r0 t0.2 i0 in
+    let na = number_in list.1 below most ta.0 a r1 ta.2 ia in
+    let nb = number_in list.1 below most tb.0 b r1 tb.2 ib in
+    let nc = number_in list.1 below most tc.0 c r1 tc.2 ic in
+    let whole : tokens_of line ≡ t0.0 ∷ ta.0 ∷ tb.0 ∷ tc.0 ∷ [] =
+        t0.1 ∙ ap (λ (ts : List (List ℕ)). t0.0 ∷ ts) (ta.1 ∙ ap (λ (ts : List (List ℕ)). ta.0 ∷ ts) (tb.1 ∙ ap (λ (ts : List (List ℕ)). tb.0 ∷ ts) (tc.1 ∙ ap (λ (ts : List (List ℕ)). tc.0 ∷ ts) last))) in
+    let counted : count_of list.0 at t0.0 ≡ Ok v = ap (λ (o : Option ℤ). or_refuse PlyNumber at o >>= λ n. cond (int_eq n (pos 3)) (Ok n) (Err (record { kind = PlyFace; at = at }))) n0 ∙ ap (λ (z : ℤ). cond (int_eq z (pos 3)) (Ok v) (Err (record { kind = PlyFace; at = at }))) three in
+    let values : numbers_of (list.1 ∷ list.1 ∷ list.1 ∷ []) (ta.0 ∷ tb.0 ∷ tc.0 ∷ []) ≡ Some (a ∷ b ∷ c ∷ []) = rw (na, nb, nc) refl in
+    ap (face_of list points at) whole ∙ rw (counted, values, made) refl

@@ -1,0 +1,251 @@
+-- Rows and faces that are read fit the header.
+use Rattle.std.proofs.Common.{◌≡◌, ℕ, zero, suc, ◌+◌, ◌*◌, ◌<◌, ◌≤◌, Bool, true, false, ◌&&◌, ◌||◌, cond, eqb, leb, ltb, List, [], ◌∷◌, ◌++◌, length, get_or, map, All, Option, Some, None, Result, Ok, Err, refl, sym, ap, subst, ◌∙◌, inl, inr, arith}
+use Rattle.std.specs.Prelude.{ℤ, pos, negsuc, option_and_then, option_map, IfSome, replicate, int_le, sum_by, is_some, is_none}
+use Rattle.std.specs.Ordering.{int_eq}
+use Rattle.std.specs.List.{flat_map, AllByRecursion}
+use Rattle.std.proofs.lemmas.Bool.{cases_Bool, eqb-true, eqb-false, eq-eqb, ltb-true, le-leb, leb-true, and_parts, and_from, or_cases, false≢true}
+use Rattle.std.proofs.lemmas.List.{length-append, length-map, length-replicate, map-append}
+use Rattle.std.proofs.lemmas.List.Elements.{All-from_recursion, recursion_from_All}
+use Rattle.std.proofs.lemmas.List.Sums.{sum_by-cons}
+use Rattle.std.proofs.lemmas.Option.{same_Some}
+use Rattle.drc_base.specs.declared.faults.Fault.{Fault}
+use Rattle.drc_base.specs.declared.kinds.Kind.TheVariants.{PlyRow, PlyNumber, PlyFace, PlyIndex}
+use Rattle.mesh_model.specs.declared.heads.Head.{Head}
+use Rattle.mesh_model.specs.Head.{width_of, types_of, in_type, least_of, greatest_of, has_type, has_minima, has_bits, head_fault, each_fault, heads_fault}
+use Rattle.mesh_model.proofs.FirstFaults.{unless-true, first_fault-cons}
+use Rattle.drc_base.specs.declared.kinds.Kind.TheVariants.{NoAttribute, AttrLimit, AttrType, DataType, Components, QuantBits}
+use Rattle.drc_base.specs.declared.limits.TheConstants.{MAX_ATTRIBUTES, MAX_COMPONENTS, MAX_VALUES, MAX_FACES}
+use Rattle.mesh_model.specs.Parts.{RowFits, IsFaceOf, ArePoints, AreRows, IsMesh, cells_of, cloud_of, mesh_of}
+use Rattle.mesh_model.proofs.Made.{AreRows-cells_of, cloud_of-IsCloud, mesh_of-IsMesh}
+use Rattle.ply_text.specs.declared.headers.PlyHead.{PlyHead}
+use Rattle.ply_text.specs.Faults.{refuse, or_refuse, ◌>>=◌}
+use Rattle.ply_text.specs.Numbers.{integer_of, only_if}
+use Rattle.ply_text.specs.declared.headers.PlyQuant.{PlyQuant}
+use Rattle.ply_text.specs.declared.headers.Header.{Header}
+use Rattle.ply_text.specs.Header.{column_type, column_types, is_typed}
+use Rattle.ply_text.specs.IsHeader.{QuantFits, HeadFits, IsHeader}
+use Rattle.ply_text.specs.Comments.{is_dtype}
+use Rattle.ply_mesh.specs.Body.{number_of, numbers_of, row_of, point_of, points_of, indices_of, count_of, counted_face, face_of, items_from}
+use Rattle.ply_mesh.specs.Read.{quant_of, head_of}
+use Rattle.ply_mesh.proofs.Binds.{bind_ok, some_ok, then_ok, then_some, only_test}
+
+-- ---- items
+
+abbrev done : {A : Type 0} → A → Result A Fault
+done x = Ok x
+
+ok_is : {A : Type 0} (x y : A) → done x ≡ done y → x ≡ y
+ok_is x y e = cc
+
+pub pair_ok : {A B : Type 0} (a x : A) (b y : B) → ◌≡◌ {A = Result (A × B) Fault} (Ok (a, b)) (Ok (x, y)) → (a ≡ x) × (b ≡ y)
+pair_ok {A} {B} a x b y e = let p : ◌≡◌ {A = A × B} (a, b) (x, y) = ok_is (a, b) (x, y) e in (ap (λ (q : A × B). q.0) p, ap (λ (q : A × B). q.1) p)
+
+pub items_count : {A : Type 0} (item : ℕ → List (List ℕ) → Result A Fault) (n at : ℕ) (lines : List (List (List ℕ))) (xs : List A) (rest : List (List (List ℕ))) → items_from item n at lines ≡ Ok (xs, rest) → length xs ≡ n
+items_count {A} item zero at lines xs rest e = let p : ◌≡◌ {A = Result (List A × List (List (List ℕ))) Fault} (Ok ([], lines)) (Ok (xs, rest)) = e in ap length (sym (pair_ok [] xs lines rest p).0)
+items_count item (suc n) at [] xs rest e = absurd cc
+items_count {A} item (suc n) at (line ∷ lines) xs rest e =
+    let a = bind_ok (item at line) (λ first. items_from item n (at + 1) lines >>= λ (y : List A × List (List (List ℕ))). Ok (first ∷ y.0, y.1)) (xs, rest) e in
+    let b = bind_ok (items_from item n (at + 1) lines) (λ (y : List A × List (List (List ℕ))). Ok (a.0 ∷ y.0, y.1)) (xs, rest) a.2 in
+    let p = pair_ok (a.0 ∷ b.0.0) xs b.0.1 rest b.2 in
+    ap length (sym p.0) ∙ ap suc (items_count item n (at + 1) lines b.0.0 b.0.1 b.1)
+
+pub items_all : {A : Type 0} (P : A → Type 0) (item : ℕ → List (List ℕ) → Result A Fault) → ((at : ℕ) (line : List (List ℕ)) (x : A) → item at line ≡ Ok x → P x) → (n at : ℕ) (lines : List (List (List ℕ))) (xs : List A) (rest : List (List (List ℕ))) → items_from item n at lines ≡ Ok (xs, rest) → AllByRecursion P xs
+items_all {A} P item each zero at lines xs rest e = subst (AllByRecursion P) (pair_ok [] xs lines rest e).0 tt
+items_all P item each (suc n) at [] xs rest e = absurd cc
+items_all {A} P item each (suc n) at (line ∷ lines) xs rest e =
+    let a = bind_ok (item at line) (λ first. items_from item n (at + 1) lines >>= λ (y : List A × List (List (List ℕ))). Ok (first ∷ y.0, y.1)) (xs, rest) e in
+    let b = bind_ok (items_from item n (at + 1) lines) (λ (y : List A × List (List (List ℕ))). Ok (a.0 ∷ y.0, y.1)) (xs, rest) a.2 in
+    let p = pair_ok (a.0 ∷ b.0.0) xs b.0.1 rest b.2 in
+    subst (AllByRecursion P) p.0 (each at line a.0 a.1, items_all P item each n (at + 1) lines b.0.0 b.0.1 b.1)
+
+-- ---- rows
+
+-- a number for each type
+abbrev pub IsTyped : List ℕ → List ℤ → Type 0
+IsTyped [] [] = Unit {0}
+IsTyped [] (v ∷ vs) = ⊥
+IsTyped (d ∷ ds) [] = ⊥
+IsTyped (d ∷ ds) (v ∷ vs) = (in_type d v ≡ true) × IsTyped ds vs
+
+number_typed : (d : ℕ) (token : List ℕ) (v : ℤ) → number_of d token ≡ Some v → in_type d v ≡ true
+unfolding number_of
+number_typed d token v e = (only_test (in_type d) (integer_of token) v e).0
+
+pub numbers_typed : (ds : List ℕ) (tokens : List (List ℕ)) (vs : List ℤ) → numbers_of ds tokens ≡ Some vs → IsTyped ds vs
+numbers_typed [] [] vs e = subst (IsTyped []) (same_Some [] vs e) tt
+numbers_typed [] (t ∷ ts) vs e = absurd cc
+numbers_typed (d ∷ ds) [] vs e = absurd cc
+numbers_typed (d ∷ ds) (t ∷ ts) vs e =
+    let a = then_some (number_of d t) (λ first. option_and_then (λ others. Some (first ∷ others)) (numbers_of ds ts)) vs e in
+    let b = then_some (numbers_of ds ts) (λ others. Some (a.0 ∷ others)) vs a.2 in
+    subst (IsTyped (d ∷ ds)) (same_Some (a.0 ∷ b.0) vs b.2) (number_typed d t a.0 a.1, numbers_typed ds ts b.0 b.1)
+
+pub row_typed : (ds : List ℕ) (at : ℕ) (line : List (List ℕ)) (row : List ℤ) → row_of ds at line ≡ Ok row → IsTyped ds row
+unfolding row_of
+row_typed ds at line row e =
+    let t = then_ok (eqb (length line) (length ds)) (or_refuse PlyNumber at (numbers_of ds line)) PlyRow at row e in
+    numbers_typed ds line row (some_ok PlyNumber at (numbers_of ds line) row t.1)
+
+-- a quantised value has the range of int
+column_same : (d : ℕ) (v : ℤ) → in_type (column_type d) v ≡ in_type d v
+unfolding in_type
+column_same d v = elim (cases_Bool (eqb d 9)) [
+  | inl nine ↦ subst (λ n. in_type (column_type n) v ≡ in_type n v) (sym (eqb-true d 9 nine)) refl
+  | inr other ↦ ap (λ b. in_type (cond b 5 d) v) other
+  ]
+
+typed_columns : (ds : List ℕ) (vs : List ℤ) → IsTyped (map column_type ds) vs → IsTyped ds vs
+typed_columns [] [] h = tt
+typed_columns [] (v ∷ vs) h = absurd h
+typed_columns (d ∷ ds) [] h = absurd h
+typed_columns (d ∷ ds) (v ∷ vs) h = (sym (column_same d v) ∙ h.0, typed_columns ds vs h.1)
+
+map-replicate : (n d : ℕ) → replicate n (column_type d) ≡ map column_type (replicate n d)
+map-replicate zero d = refl
+map-replicate (suc n) d = ap (λ (ds : List ℕ). column_type d ∷ ds) (map-replicate n d)
+
+-- the columns of heads that are read
+pub columns_are : (heads : List PlyHead) → column_types heads ≡ map column_type (types_of (map head_of heads))
+unfolding column_types
+columns_are [] = refl
+columns_are (h ∷ hs) =
+    ap (λ (ds : List ℕ). ds ++ column_types hs) (map-replicate h.comps h.dtype) ∙ ap (λ (ds : List ℕ). map column_type (replicate h.comps h.dtype) ++ ds) (columns_are hs)
+    ∙ sym (map-append column_type (replicate h.comps h.dtype) (types_of (map head_of hs)))
+
+pub length-types_of : (heads : List Head) → length (types_of heads) ≡ width_of heads
+length-types_of [] = refl
+length-types_of (h ∷ hs) =
+    length-append (replicate h.comps h.dtype) (types_of hs) ∙ ap (λ n. n + length (types_of hs)) (length-replicate h.comps h.dtype) ∙ ap (λ n. h.comps + n) (length-types_of hs)
+    ∙ sym (sum_by-cons (λ (x : Head). x.comps) h hs)
+
+typed_at : (ds : List ℕ) (vs : List ℤ) → IsTyped ds vs → (length vs ≡ length ds) × ((j : ℕ) → j < length ds → in_type (get_or ds j 0) (get_or vs j (pos 0)) ≡ true)
+typed_at [] [] h = (refl, λ j lt. absurd (omega arith))
+typed_at [] (v ∷ vs) h = absurd h
+typed_at (d ∷ ds) [] h = absurd h
+typed_at (d ∷ ds) (v ∷ vs) h = let t = typed_at ds vs h.1 in (ap suc t.0, at t) where
+  at : (length vs ≡ length ds) × ((j : ℕ) → j < length ds → in_type (get_or ds j 0) (get_or vs j (pos 0)) ≡ true) → (j : ℕ) → j < suc (length ds) → in_type (get_or (d ∷ ds) j 0) (get_or (v ∷ vs) j (pos 0)) ≡ true
+  at t zero lt = h.0
+  at t (suc j) lt = t.1 j (omega arith)
+
+pub row_fits : (heads : List PlyHead) (types : List ℕ) (row : List ℤ) → column_types heads ≡ types → IsTyped types row → RowFits (map head_of heads) row
+row_fits heads types row e h =
+    let t = typed_at (types_of (map head_of heads)) row (typed_columns (types_of (map head_of heads)) row (subst (λ (ds : List ℕ). IsTyped ds row) (sym e ∙ columns_are heads) h)) in
+    let n = length-types_of (map head_of heads) in
+    (t.0 ∙ n, λ j lt. t.1 j (omega arith))
+
+-- ---- faces
+
+point_inside : (points : ℕ) (v : ℤ) (p : ℕ) → point_of points v ≡ Some p → p < points
+point_inside points (pos n) p e = go (ltb n points) refl e where
+  go : (b : Bool) → ltb n points ≡ b → cond b (Some n) None ≡ Some p → p < points
+  go true t e = let s : n ≡ p = same_Some n p e in omega (arith, ltb-true n points t)
+  go false t e = absurd cc
+point_inside points (negsuc n) p e = absurd cc
+
+points_inside : (points : ℕ) (vs : List ℤ) (face : List ℕ) → points_of points vs ≡ Some face → (length face ≡ length vs) × AllByRecursion (λ p. p < points) face
+points_inside points [] face e = subst (λ (f : List ℕ). (length f ≡ 0) × AllByRecursion (λ p. p < points) f) (same_Some [] face e) (refl, tt)
+points_inside points (v ∷ vs) face e =
+    let a = then_some (point_of points v) (λ first. option_and_then (λ others. Some (first ∷ others)) (points_of points vs)) face e in
+    let b = then_some (points_of points vs) (λ others. Some (a.0 ∷ others)) face a.2 in
+    let r = points_inside points vs b.0 b.1 in
+    subst (λ (f : List ℕ). (length f ≡ suc (length vs)) × AllByRecursion (λ p. p < points) f) (same_Some (a.0 ∷ b.0) face b.2) (ap suc r.0, (point_inside points v a.0 a.1, r.1))
+
+pub face_fits : (list : ℕ × ℕ) (points at : ℕ) (line : List (List ℕ)) (face : List ℕ) → face_of list points at line ≡ Ok face → IsFaceOf points face
+unfolding face_of indices_of
+face_fits list points at [] face e = absurd cc
+face_fits list points at (count ∷ tokens) face e =
+    let a = bind_ok (count_of list.0 at count) (λ _. indices_of list.1 points at tokens) face e in
+    let ds = list.1 ∷ list.1 ∷ list.1 ∷ [] in
+    let t = then_ok (eqb (length tokens) 3) (or_refuse PlyNumber at (numbers_of ds tokens) >>= λ values. or_refuse PlyIndex at (points_of points values)) PlyRow at face a.2 in
+    let b = bind_ok (or_refuse PlyNumber at (numbers_of ds tokens)) (λ values. or_refuse PlyIndex at (points_of points values)) face t.1 in
+    let vs = numbers_typed ds tokens b.0 (some_ok PlyNumber at (numbers_of ds tokens) b.0 b.1) in
+    let n : length b.0 ≡ 3 = (typed_at ds b.0 vs).0 in
+    let r = points_inside points b.0 face (some_ok PlyIndex at (points_of points b.0) face b.2) in
+    (r.0 ∙ n, All-from_recursion (λ p. p < points) face r.1)
+
+-- ---- heads
+
+type_right : (h : PlyHead) → HeadFits h → is_typed h ≡ true → has_type h.dtype (option_map quant_of h.quant) ≡ true
+type_right h fits typed = go h.quant refl where
+  go : (q : Option PlyQuant) → h.quant ≡ q → has_type h.dtype (option_map quant_of q) ≡ true
+  go None e = elim (cases_Bool (eqb h.dtype 9)) [
+    | inl nine ↦ absurd (false≢true (ap is_some (sym e) ∙ sym (ap (λ b. cond b (is_some h.quant) (is_none h.quant)) nine) ∙ typed))
+    | inr other ↦
+        let p = and_parts (leb 1 h.dtype) (leb h.dtype 6 || eqb h.dtype 9) fits.dtype in
+        elim (or_cases (leb h.dtype 6) (eqb h.dtype 9) p.1) [
+          | inl le ↦ and_from _ _ p.0 le
+          | inr nine ↦ absurd (false≢true (sym other ∙ nine))
+        ]
+    ]
+  go (Some q) e = elim (cases_Bool (eqb h.dtype 9)) [
+    | inl nine ↦ nine
+    | inr other ↦ absurd (false≢true (ap is_none (sym e) ∙ sym (ap (λ b. cond b (is_some h.quant) (is_none h.quant)) other) ∙ typed))
+    ]
+
+minima_right : (h : PlyHead) → HeadFits h → has_minima h.comps (option_map quant_of h.quant) ≡ true
+minima_right h fits = go h.quant fits.quant where
+  go : (q : Option PlyQuant) → IfSome q (QuantFits h.comps) → has_minima h.comps (option_map quant_of q) ≡ true
+  go None f = refl
+  go (Some q) f = eq-eqb (length q.min) h.comps f.minima
+
+bits_right : (q : Option PlyQuant) (comps : ℕ) → IfSome q (QuantFits comps) → has_bits (option_map quant_of q) ≡ true
+bits_right None comps f = refl
+bits_right (Some q) comps f = and_from _ _ (le-leb 1 q.bits f.some_bits) (le-leb q.bits 30 f.few_bits)
+
+passes : (k : ℕ) (h : PlyHead) → HeadFits h → is_typed h ≡ true → head_fault k (head_of h) ≡ None
+passes k h fits typed =
+    first_fault-cons _ _ (unless-true _ AttrType k (le-leb h.usage 4 fits.usage))
+    (first_fault-cons _ _ (unless-true _ DataType k (type_right h fits typed))
+    (first_fault-cons _ _ (unless-true _ Components k (and_from _ _ (and_from _ _ (le-leb 1 h.comps fits.some) (le-leb h.comps MAX_COMPONENTS fits.few)) (minima_right h fits)))
+    (first_fault-cons _ [] (unless-true _ QuantBits k (bits_right h.quant h.comps fits.quant)) refl)))
+
+each_passes : (k : ℕ) (hs : List PlyHead) → AllByRecursion (λ h. HeadFits h × (is_typed h ≡ true)) hs → each_fault k (map head_of hs) ≡ None
+each_passes k [] all = refl
+each_passes k (h ∷ hs) all = first_fault-cons _ _ (passes k h all.0.0 all.0.1) (each_passes (k + 1) hs all.1)
+
+pub heads_pass : (h : Header) → IsHeader h → heads_fault (map head_of h.heads) ≡ None
+unfolding heads_fault
+heads_pass h is =
+    let n = length-map h.heads head_of in
+    let all : All (λ x. HeadFits x × (is_typed x ≡ true)) h.heads = λ k d lt. (is.heads k d lt, is.typed k d lt) in
+    first_fault-cons _ _ (unless-true _ NoAttribute _ (le-leb 1 (length (map head_of h.heads)) (omega (arith, is.some_heads))))
+    (first_fault-cons _ _ (unless-true _ AttrLimit _ (le-leb (length (map head_of h.heads)) MAX_ATTRIBUTES (omega (arith, is.few_heads))))
+    (first_fault-cons _ [] (each_passes 0 h.heads (recursion_from_All (λ x. HeadFits x × (is_typed x ≡ true)) h.heads all)) refl))
+
+-- ---- geometries
+
+pub points_fit : (h : Header) → IsHeader h → (lines rest : List (List (List ℕ))) (rows : List (List ℤ)) → items_from (row_of h.types) h.vertices h.body_line lines ≡ Ok (rows, rest) → ArePoints (map head_of h.heads) rows × (length rows ≡ h.vertices)
+points_fit h is lines rest rows e =
+    let heads = map head_of h.heads in
+    let n = items_count (row_of h.types) h.vertices h.body_line lines rows rest e in
+    let typed = items_all (IsTyped h.types) (row_of h.types) (λ at line row r. row_typed h.types at line row r) h.vertices h.body_line lines rows rest e in
+    let columns : length h.types ≡ width_of heads = ap length (sym is.types) ∙ ap length (columns_are h.heads) ∙ length-map (types_of heads) column_type ∙ length-types_of heads in
+    (record {
+      heads_pass = heads_pass h is;
+      few_points = omega (arith, n, is.vertices);
+      few_values = subst (λ k. k * width_of heads ≤ MAX_VALUES) (sym n) (subst (λ w. h.vertices * w ≤ MAX_VALUES) columns is.values);
+      rows_fit = λ k d lt. row_fits h.heads h.types (get_or rows k d) is.types (All-from_recursion (IsTyped h.types) rows typed k d lt);
+    }, n)
+
+pub cloud_fits : (h : Header) → IsHeader h → (lines rest : List (List (List ℕ))) (rows : List (List ℤ)) (heads : List Head) (cells : List ℤ) → heads ≡ map head_of h.heads → cells ≡ cells_of rows → items_from (row_of h.types) h.vertices h.body_line lines ≡ Ok (rows, rest)
+    → AreRows heads cells × (cloud_of heads cells ≡ Ok (record { heads = heads; points = rows }))
+cloud_fits h is lines rest rows heads cells he ce e =
+    let p = points_fit h is lines rest rows e in
+    let are : ArePoints heads rows = subst (λ (hs : List Head). ArePoints hs rows) (sym he) p.0 in
+    rw ce (AreRows-cells_of heads rows are, cloud_of-IsCloud (record { heads = heads; points = rows }) are)
+
+pub mesh_fits : (h : Header) (list : ℕ × ℕ) (count at : ℕ) → IsHeader h → (lines rest more : List (List (List ℕ))) (rows : List (List ℤ)) (faces : List (List ℕ)) (heads : List Head) (cells : List ℤ) → heads ≡ map head_of h.heads → cells ≡ cells_of rows → items_from (row_of h.types) h.vertices h.body_line lines ≡ Ok (rows, rest)
+    → h.faces ≡ Some count → items_from (face_of list h.vertices) count at rest ≡ Ok (faces, more)
+    → AreRows heads cells × (mesh_of heads cells faces ≡ Ok (record { heads = heads; points = rows; faces = faces }))
+mesh_fits h list count at is lines rest more rows faces heads cells he ce e fe fs =
+    let p = points_fit h is lines rest rows e in
+    let are : ArePoints heads rows = subst (λ (hs : List Head). ArePoints hs rows) (sym he) p.0 in
+    let n = items_count (face_of list h.vertices) count at rest faces more fs in
+    let few : count ≤ MAX_FACES = subst (λ (o : Option ℕ). IfSome o (λ k. k ≤ MAX_FACES)) fe is.faces in
+    let each = items_all (IsFaceOf h.vertices) (face_of list h.vertices) (λ a line f r. face_fits list h.vertices a line f r) count at rest faces more fs in
+    let whole : IsMesh (record { heads = heads; points = rows; faces = faces }) = record {
+      points = are;
+      few_faces = omega (arith, n, few);
+      faces = subst (λ k. All (IsFaceOf k) faces) (sym p.1) (All-from_recursion (IsFaceOf h.vertices) faces each);
+    } in
+    rw ce (AreRows-cells_of heads rows are, mesh_of-IsMesh (record { heads = heads; points = rows; faces = faces }) whole)

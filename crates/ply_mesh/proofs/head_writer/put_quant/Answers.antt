@@ -1,0 +1,16 @@
+use Rattle.std.proofs.Common.{◌∷◌, [], ◌∙◌, List, ℕ, map, ap, sym}
+use Rattle.std.specs.Fmt.{decimal}
+use Rattle.ply_mesh.specs.Text.{spaced, pattern_text}
+use Rattle.ply_mesh.proofs.LineTexts.{onto, quant_text}
+use Rattle.ply_mesh.proofs.head_writer.put_quant.Goals as goal
+
+pub returns : goal.returns
+returns c =
+    let q = c.args.quant.now in
+    let patterns = rw c.as_slice.ensures.items at c.in_ok-put_patterns.ensures in
+    onto (10 ∷ []) c.in_ok-push.ensures.items
+    (onto (spaced (map pattern_text q.min)) patterns
+    (onto (32 ∷ pattern_text q.range) c.in_ok-put_pattern.ensures
+    (onto (32 ∷ decimal q.bits) c.in_ok-put_number-2.ensures
+    (onto (32 ∷ decimal c.args.k) c.in_ok-put_number.ensures c.in_ok-extend_from_slice.ensures.items))))
+    ∙ quant_text c.args.out.now.items c.args.k q

@@ -1,0 +1,48 @@
+-- What a PLY text means: a definition on its lines and each line's tokens (PLY 1.0, in this project's
+-- profile).
+use Rattle.std.specs.Prelude.{ℕ, ◌+◌, ◌-◌, List, length, map, drop, Option, None, Some, option_map, unwrap_or, Result, Ok, ℤ}
+use Rattle.drc_base.specs.declared.faults.Fault.{Fault}
+use Rattle.mesh_model.specs.declared.heads.Quant.{Quant}
+use Rattle.mesh_model.specs.declared.heads.Head.{Head}
+use Rattle.mesh_model.specs.declared.geometries.Geometry.{Geometry}
+use Rattle.mesh_model.specs.declared.geometries.Geometry.TheVariants.{Mesh, Cloud}
+use Rattle.ply_text.specs.declared.headers.PlyQuant.{PlyQuant}
+use Rattle.ply_text.specs.declared.headers.PlyHead.{PlyHead}
+use Rattle.ply_text.specs.declared.headers.Header.{Header}
+use Rattle.ply_text.specs.Faults.{◌>>=◌}
+use Rattle.ply_text.specs.Tokens.{token_lines}
+use Rattle.ply_text.specs.Header.{header_of}
+use Rattle.ply_mesh.specs.Body.{row_of, face_of, items_from, ends}
+
+-- the same quantisation of a geometry
+abbrev pub quant_of : PlyQuant → Quant
+quant_of q = record { bits = q.bits; range = q.range; min = q.min }
+
+-- the same head of a geometry
+abbrev pub head_of : PlyHead → Head
+head_of h = record { usage = h.usage; dtype = h.dtype; comps = h.comps; normalized = h.normalized; id = h.id; quant = option_map quant_of h.quant }
+
+-- the geometry of a header, points and faces: without an element of faces it is a cloud
+abbrev pub geometry_of : List Head → List (List ℤ) → Option (List (List ℕ)) → Geometry
+geometry_of heads points None = Cloud (record { heads = heads; points = points })
+geometry_of heads points (Some faces) = Mesh (record { heads = heads; points = points; faces = faces })
+
+-- the faces, where there is an element of them, and the lines after them
+abbrev pub faces_from : Header → ℕ → List (List (List ℕ)) → Option ℕ → Result (Option (List (List ℕ)) × List (List (List ℕ))) Fault
+faces_from h at lines None = Ok (None, lines)
+faces_from h at lines (Some count) = do
+  faces ← items_from (face_of (unwrap_or h.list (0, 0)) h.vertices) count at lines
+  Ok (Some faces.0, faces.1)
+
+-- the lines of a body: the points, then the faces, then nothing
+unfoldable pub body_of : Header → List (List (List ℕ)) → Result Geometry Fault
+body_of h lines = do
+  points ← items_from (row_of h.types) h.vertices h.body_line lines
+  faces ← faces_from h (h.body_line + h.vertices) points.1 h.faces
+  ends (geometry_of (map head_of h.heads) points.0 faces.0) (h.body_line + h.vertices + unwrap_or h.faces 0) faces.1
+
+-- the geometry of a PLY text, or its first fault
+unfoldable pub ply_read : List ℕ → Result Geometry Fault
+ply_read text = do
+  h ← header_of text
+  body_of h (drop (h.body_line - 1) (token_lines text))

@@ -1,0 +1,154 @@
+//! Lines of faces.
+
+ghost use Rattle.std.specs.Prelude.{◌≡◌, ◌∷◌, [], Ok, ℕ, length, drop, IfSome};
+ghost use Rattle.drc_base.specs.Refusals.{Answers};
+ghost use Rattle.ply_text.specs.Tokens.{tokens_of};
+ghost use Rattle.ply_mesh.specs.Body.{point_of, points_of, indices_of, counted_face, face_of, texts};
+
+use crate::numbers::{number_of, range_of};
+use crate::rows::refusal;
+use drc_base::{Kind, Refusal};
+use ply_text::{int_at, is_at_end, tokens};
+use std::alloc::Global;
+
+/// The number of a point.
+fn point_of(points: u32, value: i32) -> Option<u32>
+    ensures { result ≡ point_of points value }
+{
+    if value < 0 || value as u32 >= points {
+        return None;
+    }
+    Some(value as u32)
+}
+
+/// The numbers of three points.
+fn points_of(points: u32, a: i32, b: i32, c: i32) -> Option<[u32; 3]>
+    ensures { result ≡ points_of points (a ∷ b ∷ c ∷ []) }
+{
+    let a = point_of(points, a)?;
+    let b = point_of(points, b)?;
+    let c = point_of(points, c)?;
+    Some([a, b, c])
+}
+
+/// The face of a line, read in place; None says no more than that this call doesn't tell.
+#[tactic(auto, using(crate::proofs::FaceSteps::face_whole))]
+fn face_in_place(list: (u8, u8), points: u32, line: &[u8]) -> Option<[u32; 3]>
+    ensures { IfSome result (λ face. (at : ℕ) → face_of list points at (tokens_of line.now) ≡ Ok face) }
+{
+    let counts = range_of(list.0);
+    let indices = range_of(list.1);
+    let count = int_at(line, 0, counts.0, counts.1)?;
+    if count.0 != 3 {
+        return None;
+    }
+    let a = int_at(line, count.1, indices.0, indices.1)?;
+    let b = int_at(line, a.1, indices.0, indices.1)?;
+    let c = int_at(line, b.1, indices.0, indices.1)?;
+    if !is_at_end(line, c.1) {
+        return None;
+    }
+    match points_of(points, a.0, b.0, c.0) {
+        None => None,
+        Some(face) => Some(face),
+    }
+}
+
+/// The points of a face, from the three tokens after its count.
+#[tactic(auto, unfolding(crate::specs::Body::indices_of))]
+fn indices_of(
+    itype: u8,
+    points: u32,
+    at: u64,
+    first: &[u8],
+    second: &[u8],
+    third: &[u8],
+) -> Result<[u32; 3], Refusal>
+    ensures { Answers (λ face. face) (indices_of itype points at (first.now ∷ second.now ∷ third.now ∷ [])) result }
+{
+    let Some(a) = number_of(itype, first) else {
+        return Err(refusal(Kind::PlyNumber, at));
+    };
+    let Some(b) = number_of(itype, second) else {
+        return Err(refusal(Kind::PlyNumber, at));
+    };
+    let Some(c) = number_of(itype, third) else {
+        return Err(refusal(Kind::PlyNumber, at));
+    };
+    match points_of(points, a, b, c) {
+        None => Err(refusal(Kind::PlyIndex, at)),
+        Some(face) => Ok(face),
+    }
+}
+
+/// The points of a face, from the tokens after its count.
+#[tactic(auto, using(crate::proofs::FaceSteps::not_three, crate::proofs::FaceSteps::three_texts))]
+fn indices_by_tokens(
+    itype: u8,
+    points: u32,
+    at: u64,
+    found: &[&[u8]],
+) -> Result<[u32; 3], Refusal>
+    ensures { Answers (λ face. face) (indices_of itype points at (texts found.now)) result }
+{
+    if found.len() != 3 {
+        return Err(refusal(Kind::PlyRow, at));
+    }
+    indices_of(itype, points, at, found[0], found[1], found[2])
+}
+
+/// A face behind its count: PlyNumber where the count is no number of its type, PlyFace where it
+/// isn't 3, then as its points.
+fn counted_face(
+    list: (u8, u8),
+    points: u32,
+    at: u64,
+    count: &[u8],
+    rest: &[&[u8]],
+) -> Result<[u32; 3], Refusal>
+    ensures { Answers (λ face. face) (counted_face list points at count.now (texts rest.now)) result }
+{
+    let Some(n) = number_of(list.0, count) else {
+        return Err(refusal(Kind::PlyNumber, at));
+    };
+    if n != 3 {
+        return Err(refusal(Kind::PlyFace, at));
+    }
+    indices_by_tokens(list.1, points, at, rest)
+}
+
+/// The face of a line's tokens.
+#[tactic(auto, using(crate::proofs::FaceSteps::no_face))]
+fn face_by_tokens(
+    list: (u8, u8),
+    points: u32,
+    at: u64,
+    found: &[&[u8]],
+) -> Result<[u32; 3], Refusal>
+    ensures { Answers (λ face. face) (face_of list points at (texts found.now)) result }
+{
+    if found.len() == 0 {
+        return Err(refusal(Kind::PlyRow, at));
+    }
+    counted_face(list, points, at, found[0], &found[1..])
+}
+
+/// The face of line number `at`: three numbers of points, each below `points`. In this order PlyRow
+/// where no token stands there, PlyNumber where the first is no number of its type, PlyFace where it
+/// isn't 3, PlyRow where another number of tokens than four stands there, PlyNumber where an index is
+/// no number of its type, PlyIndex where it is no number of a point.
+pub(crate) fn read_face(
+    alloc: Global,
+    list: (u8, u8),
+    points: u32,
+    at: u64,
+    line: &[u8],
+) -> Result<[u32; 3], Refusal>
+    ensures { Answers (λ face. face) (face_of list points at (tokens_of line.now)) result }
+{
+    if let Some(face) = face_in_place(list, points, line) {
+        return Ok(face);
+    }
+    let found = tokens(alloc, line)?;
+    face_by_tokens(list, points, at, found.as_slice())
+}

@@ -1,0 +1,55 @@
+//! Numbers in the range of a data type.
+
+ghost use Rattle.std.specs.Prelude.{◌≡◌, ◌≤◌, ◌<◌, ◌^◌, IsTrue, FitsSigned};
+ghost use Rattle.std.specs.Int.{w32};
+ghost use Rattle.ply_text.specs.Numbers.{is_between};
+ghost use Rattle.ply_mesh.specs.Body.{IsRange, number_of};
+
+use ply_text::read_int;
+
+/// How far the numbers of a data type go below 0, and the greatest of them.
+pub(crate) fn range_of(dtype: u8) -> (u32, u32)
+    ensures range { IsRange dtype result.0 result.1 }
+    ensures below { result.0 ≤ 2 ^ 31 }
+    ensures most { result.1 < 2 ^ 31 }
+{
+    if dtype == 1 {
+        return (128, 127);
+    }
+    if dtype == 2 {
+        return (0, 255);
+    }
+    if dtype == 3 {
+        return (32768, 32767);
+    }
+    if dtype == 4 {
+        return (0, 65535);
+    }
+    if dtype == 5 || dtype == 9 {
+        return (0x8000_0000, 0x7fff_ffff);
+    }
+    (0, 0x7fff_ffff)
+}
+
+/// Whether a number is from `-below` up to `most`.
+fn is_within(v: i64, below: u32, most: u32) -> bool
+    ensures value { result ≡ is_between below most v }
+    ensures fits { IsTrue result → below ≤ 2 ^ 31 → most < 2 ^ 31 → FitsSigned w32 v }
+{
+    -(below as i64) <= v && v <= most as i64
+}
+
+/// The number of a token, if it is in the range of a data type.
+#[tactic(auto, using(crate::proofs::Types::typed_some, crate::proofs::Types::typed_none, crate::proofs::Types::typed_out))]
+pub(crate) fn number_of(dtype: u8, token: &[u8]) -> Option<i32>
+    ensures { result ≡ number_of dtype token.now }
+{
+    let range = range_of(dtype);
+    let Some(v) = read_int(token) else {
+        return None;
+    };
+    if !is_within(v, range.0, range.1) {
+        return None;
+    }
+    Some(v as i32)
+}

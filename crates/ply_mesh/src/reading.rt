@@ -1,0 +1,143 @@
+//! Geometry from PLY text.
+
+ghost use Rattle.std.specs.Prelude.{◌≡◌, ◌+◌, ◌<◌, ◌-◌, ◌^◌, ◌≤◌, None, Some, length, map, IfOk};
+ghost use Rattle.drc_base.specs.Refusals.{Answers};
+ghost use Rattle.ply_text.specs.Tokens.{tokens_of};
+ghost use Rattle.ply_text.specs.IsHeader.{IsHeader};
+ghost use Rattle.ply_mesh.specs.Read.{quant_of, head_of, body_of, ply_read};
+
+use crate::bodies::{read_end, read_faces, read_rows, skip_lines};
+use drc_base::{Memory, Refusal, Sequence};
+use mesh_model::{Cloud, CornerMesh, Geometry, Head, Quant};
+use ply_text::{Header, Lines, PlyHead, PlyQuant, read_header};
+use std::alloc::Global;
+
+fn quant_of(alloc: Global, quant: &PlyQuant) -> Result<Quant, Memory>
+    ensures { IfOk result (λ q. q ≡ quant_of quant.now) }
+{
+    let min = Vec::from_slice(alloc, quant.min.as_slice())?;
+    Ok(Quant {
+        bits: quant.bits,
+        range: quant.range,
+        min: Sequence::from_vec(min),
+    })
+}
+
+fn head_of(alloc: Global, head: &PlyHead) -> Result<Head, Memory>
+    ensures { IfOk result (λ h. h ≡ head_of head.now) }
+{
+    let quant = match &head.quant {
+        None => None,
+        Some(quant) => Some(quant_of(alloc, quant)?),
+    };
+    Ok(Head {
+        usage: head.usage,
+        dtype: head.dtype,
+        comps: head.comps,
+        normalized: head.normalized,
+        id: head.id,
+        quant,
+    })
+}
+
+fn heads_of(alloc: Global, heads: &[PlyHead]) -> Result<Vec<Head>, Memory>
+    ensures { IfOk result (λ made. made.items ≡ map head_of heads.now) }
+{
+    let mut made = Vec::new(alloc);
+    for i in 0..heads.len() {
+        made.push(head_of(alloc, &heads[i])?)?;
+    }
+    Ok(made)
+}
+
+/// The cloud of a body.
+fn read_cloud(
+    alloc: Global,
+    header: &Header,
+    lines: &mut Lines<'_>,
+    size: usize,
+) -> Result<Geometry, Refusal>
+    requires header { IsHeader header.now }
+    requires faces { header.now.faces ≡ None }
+    requires room { header.now.body_line + length lines.old < 2 ^ 63 + 8 }
+    ensures { Answers (λ g. g) (body_of header.now (map tokens_of lines.old)) result }
+{
+    let at = header.body_line;
+    let types = header.types.as_slice();
+    let room = room_of(header.vertices, types.len(), size);
+    let cells = read_rows(alloc, lines, types, header.vertices, at, room)?;
+    read_end(lines, at + header.vertices as u64)?;
+    let heads = heads_of(alloc, header.heads.as_slice())?;
+    let cloud = Cloud::new(heads, cells)?;
+    Ok(Geometry::Cloud(cloud))
+}
+
+/// The mesh of a body with `count` faces.
+fn read_mesh(
+    alloc: Global,
+    header: &Header,
+    count: u32,
+    lines: &mut Lines<'_>,
+    size: usize,
+) -> Result<Geometry, Refusal>
+    requires header { IsHeader header.now }
+    requires faces { header.now.faces ≡ Some count }
+    requires room { header.now.body_line + length lines.old < 2 ^ 63 + 8 }
+    ensures { Answers (λ g. g) (body_of header.now (map tokens_of lines.old)) result }
+{
+    let at = header.body_line;
+    let types = header.types.as_slice();
+    let room = room_of(header.vertices, types.len(), size);
+    let cells = read_rows(alloc, lines, types, header.vertices, at, room)?;
+    let list = header.list.unwrap_or((0, 0));
+    let at = at + header.vertices as u64;
+    let room = room_of(count, 1, size);
+    let faces = read_faces(alloc, lines, list, header.vertices, count, at, room)?;
+    read_end(lines, at + count as u64)?;
+    let heads = heads_of(alloc, header.heads.as_slice())?;
+    let mesh = CornerMesh::new(heads, cells, faces)?;
+    Ok(Geometry::Mesh(mesh))
+}
+
+/// Room for `width` numbers of each of `count` lines, but for no more than a text of `size` bytes can
+/// hold.
+fn room_of(count: u32, width: usize, size: usize) -> usize
+    ensures { result ≤ size }
+{
+    let most = size / 2;
+    if width == 0 || count as usize > most / width {
+        most
+    } else {
+        count as usize * width
+    }
+}
+
+/// The geometry of a body.
+fn read_body(
+    alloc: Global,
+    header: &Header,
+    lines: &mut Lines<'_>,
+    size: usize,
+) -> Result<Geometry, Refusal>
+    requires header { IsHeader header.now }
+    requires room { header.now.body_line + length lines.old < 2 ^ 63 + 8 }
+    ensures { Answers (λ g. g) (body_of header.now (map tokens_of lines.old)) result }
+{
+    match header.faces {
+        None => read_cloud(alloc, header, lines, size),
+        Some(count) => read_mesh(alloc, header, count, lines, size),
+    }
+}
+
+/// The geometry of a PLY text, or its first fault with its line: the faults of the header, then PlyRow
+/// and PlyNumber at the lines of points, PlyRow, PlyNumber, PlyFace and PlyIndex at the lines of
+/// faces, PlyShort where the text ends too early, and PlyRest where more follows than lines without
+/// tokens (PLY 1.0, in this project's profile).
+pub fn read_ply(alloc: Global, bytes: &[u8]) -> Result<Geometry, Refusal>
+    ensures { Answers (λ g. g) (ply_read bytes.now) result }
+{
+    let header = read_header(alloc, bytes)?;
+    let mut lines = Lines::new(bytes);
+    skip_lines(&mut lines, header.body_line - 1);
+    read_body(alloc, &header, &mut lines, bytes.len())
+}

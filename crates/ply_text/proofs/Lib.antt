@@ -1,0 +1,9 @@
+pub mod Cutting
+pub mod Splitting
+pub mod Digits
+pub mod Signs
+pub mod Patterns
+pub mod Heads
+pub mod Names
+pub mod Columns
+pub mod InPlace

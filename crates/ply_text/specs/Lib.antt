@@ -1,0 +1,11 @@
+pub mod Numbers
+pub mod Tokens
+pub mod Words
+pub mod Comments
+pub mod Declarations
+pub mod Faults
+pub mod Draft
+pub mod NamedHeads
+pub mod Header
+pub mod IsHeader
+pub mod InPlace

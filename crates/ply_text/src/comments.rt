@@ -1,0 +1,159 @@
+//! The comment lines that describe attributes.
+
+ghost use Rattle.std.specs.Prelude.{◌≡◌, ◌≤◌, ◌<◌, length, option_map, IfOk, IfSome};
+ghost use Rattle.ply_text.specs.Tokens.{tokens_of};
+ghost use Rattle.ply_text.specs.Comments.{head_of, attr_of, patterns_of, fields_of, quant_of};
+ghost use Rattle.ply_text.specs.IsHeader.{HeadFits, QuantFits, FitsAt};
+
+use crate::bit_patterns::pattern_of;
+use crate::headers::{PlyHead, PlyQuant};
+use crate::integers::natural_within;
+use crate::token_reader::TokenReader;
+use drc_base::{MAX_COMPONENTS, Memory, Sequence};
+use std::alloc::Global;
+
+/// The attribute that the fields of its line give.
+#[tactic(auto, unfolding(crate::specs::Comments::head_of))]
+fn head_of(
+    number: u64,
+    k: &[u8],
+    usage: &[u8],
+    dtype: &[u8],
+    comps: &[u8],
+    normalized: &[u8],
+    id: &[u8],
+) -> Option<PlyHead>
+    ensures head { result ≡ head_of number k.now usage.now dtype.now comps.now normalized.now id.now }
+    ensures fits { IfSome result HeadFits }
+{
+    let k = natural_within(k, 15)?;
+    if k != number {
+        return None;
+    }
+    let usage = natural_within(usage, 4)?;
+    let dtype = natural_within(dtype, 9)?;
+    if dtype == 0 || dtype == 7 || dtype == 8 {
+        return None;
+    }
+    let comps = natural_within(comps, MAX_COMPONENTS as u64)?;
+    if comps == 0 {
+        return None;
+    }
+    let normalized = natural_within(normalized, 255)?;
+    let id = natural_within(id, u32::MAX as u64)?;
+    Some(PlyHead {
+        usage: usage as u8,
+        dtype: dtype as u8,
+        comps: comps as u8,
+        normalized: normalized as u8,
+        id: id as u32,
+        quant: None,
+    })
+}
+
+/// The attribute that an `attr` line gives, if its number is `number`.
+#[tactic(auto, unfolding(crate::specs::Comments::attr_of))]
+pub(crate) fn attr_of(number: u64, line: &[u8]) -> Option<PlyHead>
+    ensures head { result ≡ attr_of number (tokens_of line.now) }
+    ensures fits { IfSome result HeadFits }
+{
+    let mut tokens = TokenReader::new(line);
+    let _word = tokens.next()?;
+    let _drc = tokens.next()?;
+    let _form = tokens.next()?;
+    let k = tokens.next()?;
+    let usage = tokens.next()?;
+    let dtype = tokens.next()?;
+    let comps = tokens.next()?;
+    let normalized = tokens.next()?;
+    let id = tokens.next()?;
+    if tokens.next().is_some() {
+        return None;
+    }
+    head_of(number, k, usage, dtype, comps, normalized, id)
+}
+
+/// The bit patterns of the tokens that are left, if each is one.
+fn patterns_of(alloc: Global, tokens: &mut TokenReader<'_>) -> Result<Option<Vec<u32>>, Memory>
+    ensures { IfOk result (λ found. option_map (λ patterns. patterns.items) found ≡ patterns_of tokens.old) }
+{
+    let mut patterns = Vec::new(alloc);
+    while let Some(token) = tokens.next() {
+        let Some(pattern) = pattern_of(token) else {
+            return Ok(None);
+        };
+        patterns.push(pattern)?;
+    }
+    Ok(Some(patterns))
+}
+
+/// The quantisation of a head that isn't quantised yet, if the fields of its line give one.
+#[tactic(auto, unfolding(crate::specs::Comments::fields_of))]
+fn fields_of(
+    alloc: Global,
+    head: &PlyHead,
+    bits: &[u8],
+    range: &[u8],
+    minima: &mut TokenReader<'_>,
+) -> Result<Option<PlyQuant>, Memory>
+    ensures found { IfOk result (λ found. found ≡ fields_of head.now bits.now range.now minima.old) }
+    ensures fits { IfOk result (λ found. IfSome found (QuantFits head.now.comps)) }
+{
+    let Some(bits) = natural_within(bits, 30) else {
+        return Ok(None);
+    };
+    if bits == 0 {
+        return Ok(None);
+    }
+    let Some(range) = pattern_of(range) else {
+        return Ok(None);
+    };
+    let Some(min) = patterns_of(alloc, minima)? else {
+        return Ok(None);
+    };
+    if head.quant.is_some() || min.len() != head.comps as usize {
+        return Ok(None);
+    }
+    Ok(Some(PlyQuant {
+        bits: bits as u8,
+        range,
+        min: Sequence::from_vec(min),
+    }))
+}
+
+/// The number of a head and the quantisation that a `quant` line gives to it.
+#[tactic(auto, unfolding(crate::specs::Comments::quant_of))]
+pub(crate) fn quant_of(
+    alloc: Global,
+    heads: &[PlyHead],
+    line: &[u8],
+) -> Result<Option<(usize, PlyQuant)>, Memory>
+    ensures found { IfOk result (λ found. found ≡ quant_of heads.now (tokens_of line.now)) }
+    ensures number { IfOk result (λ found. IfSome found (λ f. f.0 < length heads.now)) }
+    ensures fits { IfOk result (λ found. IfSome found (λ f. FitsAt heads.now f.0 f.1)) }
+{
+    let mut tokens = TokenReader::new(line);
+    let _word = tokens.next();
+    let _drc = tokens.next();
+    let _form = tokens.next();
+    let Some(k) = tokens.next() else {
+        return Ok(None);
+    };
+    let Some(bits) = tokens.next() else {
+        return Ok(None);
+    };
+    let Some(range) = tokens.next() else {
+        return Ok(None);
+    };
+    let Some(number) = natural_within(k, 15) else {
+        return Ok(None);
+    };
+    let number = number as usize;
+    if number >= heads.len() {
+        return Ok(None);
+    }
+    match fields_of(alloc, &heads[number], bits, range, &mut tokens)? {
+        None => Ok(None),
+        Some(quant) => Ok(Some((number, quant))),
+    }
+}

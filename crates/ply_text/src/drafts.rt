@@ -1,0 +1,225 @@
+//! A header that is read line by line.
+
+ghost use Rattle.std.specs.Prelude.{◌≡◌, ◌<◌, ◌≤◌, [], All, IfSome, OnOk, vec_len};
+ghost use Rattle.drc_base.specs.Refusals.{Answers};
+ghost use Rattle.drc_base.specs.declared.faults.Refusal.TheVariants as refusals;
+ghost use Rattle.ply_text.specs.Tokens.{tokens_of};
+ghost use Rattle.ply_text.specs.Draft.{draft_of, element, scalar, list, attribute, quantisation, comment, declaration, body, statement};
+ghost use Rattle.ply_text.specs.Comments.{with_quant};
+ghost use Rattle.ply_text.specs.IsHeader.{HeadFits, FitsAt, HasType, IsDraft};
+
+use crate::comments::{attr_of, quant_of};
+use crate::headers::{PlyHead, PlyQuant, Property};
+use crate::integers::natural_within;
+use crate::statements::{element_of, is_form, is_format, is_list, keyword_at, list_of, scalar_of};
+use crate::words::{Keyword, is_indices, is_word, name_of, type_of};
+use drc_base::{Fault, Kind, MAX_ATTRIBUTES, MAX_FACES, MAX_POINTS, Refusal};
+use std::alloc::Global;
+
+/// What the lines of a header have declared so far.
+#[derive(Drop)]
+pub(crate) struct HeaderDraft {
+    /// Whether the format's line came.
+    pub formatted: bool,
+    pub heads: Vec<PlyHead>,
+    pub vertices: Option<u32>,
+    pub properties: Vec<Property>,
+    pub faces: Option<u32>,
+    pub list: Option<(u8, u8)>,
+}
+
+pub(crate) fn refusal(kind: Kind, at: u64) -> Refusal
+    ensures { result ≡ refusals.Fault (record { kind = kind; at = at }) }
+{
+    Refusal::Fault(Fault { kind, at })
+}
+
+impl HeaderDraft {
+    /// An `element` line.
+    #[tactic(auto, unfolding(crate::specs::Draft::element))]
+    fn element(&mut self, at: u64, line: &[u8]) -> Result<(), Refusal>
+        requires { IsDraft (draft_of self.old) }
+        ensures step { Answers (λ _. draft_of self.new) (element at (draft_of self.old) (tokens_of line.now)) result }
+        ensures sound { OnOk result (IsDraft (draft_of self.new)) }
+    {
+        let Some((name, number)) = element_of(line) else {
+            return Err(refusal(Kind::PlyHeader, at));
+        };
+        if is_word(name, b"vertex") && self.vertices.is_none() {
+            let Some(count) = natural_within(number, MAX_POINTS as u64) else {
+                return Err(refusal(Kind::PointLimit, at));
+            };
+            self.vertices = Some(count as u32);
+            return Ok(());
+        }
+        if is_word(name, b"face") && self.vertices.is_some() && self.faces.is_none() {
+            let Some(count) = natural_within(number, MAX_FACES as u64) else {
+                return Err(refusal(Kind::FaceLimit, at));
+            };
+            self.faces = Some(count as u32);
+            return Ok(());
+        }
+        Err(refusal(Kind::PlyElement, at))
+    }
+
+    /// A property of numbers.
+    #[tactic(auto, unfolding(crate::specs::Draft::scalar))]
+    fn scalar(&mut self, at: u64, line: &[u8]) -> Result<(), Refusal>
+        requires { IsDraft (draft_of self.old) }
+        ensures step { Answers (λ _. draft_of self.new) (scalar at (draft_of self.old) (tokens_of line.now)) result }
+        ensures sound { OnOk result (IsDraft (draft_of self.new)) }
+    {
+        let Some((word, name)) = scalar_of(line) else {
+            return Err(refusal(Kind::PlyHeader, at));
+        };
+        let Some(dtype) = type_of(word) else {
+            return Err(refusal(Kind::PlyType, at));
+        };
+        if self.vertices.is_none() || self.faces.is_some() {
+            return Err(refusal(Kind::PlyElement, at));
+        }
+        self.properties.push(Property {
+            dtype,
+            name: name_of(name),
+        })?;
+        Ok(())
+    }
+
+    /// A property of lists.
+    #[tactic(auto, unfolding(crate::specs::Draft::list))]
+    fn list(&mut self, at: u64, line: &[u8]) -> Result<(), Refusal>
+        requires { IsDraft (draft_of self.old) }
+        ensures step { Answers (λ _. draft_of self.new) (list at (draft_of self.old) (tokens_of line.now)) result }
+        ensures sound { OnOk result (IsDraft (draft_of self.new)) }
+    {
+        let Some((count, index, name)) = list_of(line) else {
+            return Err(refusal(Kind::PlyHeader, at));
+        };
+        let Some(ctype) = type_of(count) else {
+            return Err(refusal(Kind::PlyType, at));
+        };
+        let Some(itype) = type_of(index) else {
+            return Err(refusal(Kind::PlyType, at));
+        };
+        if self.vertices.is_some() && self.faces.is_none() {
+            return Err(refusal(Kind::PlyType, at));
+        }
+        if self.faces.is_some() && self.list.is_none() && is_indices(name) {
+            self.list = Some((ctype, itype));
+            return Ok(());
+        }
+        Err(refusal(Kind::PlyElement, at))
+    }
+
+    /// An attribute's line.
+    #[tactic(auto, unfolding(crate::specs::Draft::attribute))]
+    fn attribute(&mut self, at: u64, line: &[u8]) -> Result<(), Refusal>
+        requires { IsDraft (draft_of self.old) }
+        ensures step { Answers (λ _. draft_of self.new) (attribute at (draft_of self.old) (tokens_of line.now)) result }
+        ensures sound { OnOk result (IsDraft (draft_of self.new)) }
+    {
+        if self.heads.len() >= MAX_ATTRIBUTES as usize {
+            return Err(refusal(Kind::AttrLimit, at));
+        }
+        let Some(head) = attr_of(self.heads.len() as u64, line) else {
+            return Err(refusal(Kind::PlyAttr, at));
+        };
+        self.heads.push(head)?;
+        Ok(())
+    }
+
+    /// A quantisation's line.
+    #[tactic(auto, unfolding(crate::specs::Draft::quantisation))]
+    fn quantisation(&mut self, alloc: Global, at: u64, line: &[u8]) -> Result<(), Refusal>
+        requires { IsDraft (draft_of self.old) }
+        ensures step { Answers (λ _. draft_of self.new) (quantisation at (draft_of self.old) (tokens_of line.now)) result }
+        ensures sound { OnOk result (IsDraft (draft_of self.new)) }
+    {
+        match quant_of(alloc, &self.heads, line)? {
+            None => Err(refusal(Kind::PlyAttr, at)),
+            Some(found) => {
+                set_quant(&mut self.heads, found.0, found.1);
+                Ok(())
+            }
+        }
+    }
+
+    /// A comment: any but the two forms of this project's own says nothing.
+    #[tactic(auto, unfolding(crate::specs::Draft::comment))]
+    fn comment(&mut self, alloc: Global, at: u64, line: &[u8]) -> Result<(), Refusal>
+        requires { IsDraft (draft_of self.old) }
+        ensures step { Answers (λ _. draft_of self.new) (comment at (draft_of self.old) (tokens_of line.now)) result }
+        ensures sound { OnOk result (IsDraft (draft_of self.new)) }
+    {
+        if is_form(b"attr", line) {
+            return self.attribute(at, line);
+        }
+        if is_form(b"quant", line) {
+            return self.quantisation(alloc, at, line);
+        }
+        Ok(())
+    }
+
+    /// A line after the format's.
+    fn declaration(&mut self, at: u64, line: &[u8], word: Keyword) -> Result<(), Refusal>
+        requires { IsDraft (draft_of self.old) }
+        ensures step { Answers (λ _. draft_of self.new) (declaration at (draft_of self.old) (tokens_of line.now) word) result }
+        ensures sound { OnOk result (IsDraft (draft_of self.new)) }
+    {
+        match word {
+            Keyword::Element => self.element(at, line),
+            Keyword::Property => {
+                if is_list(line) {
+                    return self.list(at, line);
+                }
+                self.scalar(at, line)
+            }
+            _ => Err(refusal(Kind::PlyHeader, at)),
+        }
+    }
+
+    /// Any other line than a comment: the first is the format's.
+    #[tactic(auto, unfolding(crate::specs::Draft::body))]
+    fn body(&mut self, at: u64, line: &[u8], word: Keyword) -> Result<(), Refusal>
+        requires { IsDraft (draft_of self.old) }
+        ensures step { Answers (λ _. draft_of self.new) (body at (draft_of self.old) (tokens_of line.now) word) result }
+        ensures sound { OnOk result (IsDraft (draft_of self.new)) }
+    {
+        if self.formatted {
+            return self.declaration(at, line, word);
+        }
+        if !is_format(line) {
+            return Err(refusal(Kind::PlyFormat, at));
+        }
+        self.formatted = true;
+        Ok(())
+    }
+
+    /// Any line of a header but the first and the last.
+    #[tactic(auto, unfolding(crate::specs::Draft::statement))]
+    pub(crate) fn statement(&mut self, alloc: Global, at: u64, line: &[u8]) -> Result<(), Refusal>
+        requires { IsDraft (draft_of self.old) }
+        ensures step { Answers (λ _. draft_of self.new) (statement at (draft_of self.old) (tokens_of line.now)) result }
+        ensures sound { OnOk result (IsDraft (draft_of self.new)) }
+    {
+        match keyword_at(line) {
+            Keyword::Comment => self.comment(alloc, at, line),
+            Keyword::ObjInfo => Ok(()),
+            word => self.body(at, line, word),
+        }
+    }
+}
+
+/// Gives head `number` a quantisation.
+#[tactic(auto, using(crate::proofs::Heads::with_quant_is))]
+fn set_quant(heads: &mut Vec<PlyHead>, number: usize, quant: PlyQuant)
+    requires number { number < vec_len heads.old }
+    requires heads { All HeadFits heads.old.items }
+    requires quant { FitsAt heads.old.items number quant }
+    ensures set { heads.new.items ≡ with_quant number quant heads.old.items }
+    ensures heads { All HeadFits heads.new.items }
+    ensures len { vec_len heads.new ≡ vec_len heads.old }
+{
+    let head = &mut heads[number];
+    head.quant = Some(quant);
+}

@@ -1,0 +1,4 @@
+pub mod Bits
+pub mod Pushes
+pub mod Again
+mod Examples

@@ -1,0 +1,69 @@
+-- Binary range coding: a bit is a symbol with two intervals of 256 slots, the ones below the zeros (Draco
+-- Bitstream Specification 2.2, section Rans Decoding). The probability that is written, and the refusal of 0,
+-- are this project's choice.
+use Rattle.std.specs.Prelude.{ℕ, zero, suc, ◌+◌, ◌-◌, ◌*◌, ◌/◌, ◌%◌, ◌^◌, ◌<◌, ◌≤◌, ◌≡◌, Bool, true, false, not, min, max, nat_lt, List, [], ◌∷◌, ◌++◌, map, length, count_by, Option, Some, None, Result, Ok, Err, if◌then◌else◌}
+use Rattle.drc_base.specs.declared.kinds.Kind.TheVariants as kind
+use Rattle.drc_bits.specs.Reading.{◌>>=◌, Reading, Item, must, fault_at, bytes_at, advanced}
+use Rattle.drc_bits.specs.Numbers.{number_at}
+use Rattle.drc_bits.specs.Varint.{var32_at, spelling}
+use Rattle.rans_core.specs.Coder.{Interval, State, Pulled, pulled, refilled, started, all_spelled}
+
+-- a block between two bits: how many of the 256 slots are ones, and the coder's state
+pub record Block : Type 0 where
+  pub ones : ℕ
+  pub state : State
+
+-- the slots of a bit
+abbrev pub interval_of : ℕ → Bool → Interval
+interval_of ones true = record { cum = 0; prob = ones }
+interval_of ones false = record { cum = ones; prob = 256 - ones }
+
+-- the state after its refill: its number is at least 4096, where bytes are left for that
+abbrev pub refilled_block : Block → State
+refilled_block b = refilled 4096 b.state.number b.state.bytes
+
+-- the next bit: whether the slot is one of the ones
+abbrev pub next_bit : Block → Bool
+next_bit b = nat_lt ((refilled_block b).number % 256) b.ones
+
+-- the block after the next bit
+abbrev pub after_bit : Block → Block
+after_bit b = record { ones = b.ones; state = pulled 256 (interval_of b.ones (next_bit b)) (refilled_block b) }
+
+-- the next n bits
+abbrev pub first_bits : ℕ → Block → List Bool
+first_bits zero b = []
+first_bits (suc n) b = next_bit b ∷ first_bits n (after_bit b)
+
+-- the bits are pulled one after another
+abbrev pub BitsPulled : Block → List Bool → Type 0
+BitsPulled b bits = Pulled 16 256 b.state (map (interval_of b.ones) bits)
+
+-- the block that starts with this state, or BadStart where its coded bytes begin; its other end is where they end
+abbrev pub block_from : ℕ → Reading → Reading → Option State → Item Block
+block_from none begin end (Some s) = Ok (record { ones = 256 - none; state = s }, end)
+block_from none begin end None = fault_at kind.BadStart begin
+
+-- a block at the front: how many slots are zeros, the size of its bytes, and the bytes
+unfoldable pub block_at : Reading → Item Block
+block_at c = do
+  zeros ← must kind.BadProb (λ n. nat_lt 0 n) (number_at 1) c
+  size ← var32_at zeros.1
+  coded ← bytes_at size.0 size.1
+  block_from zeros.0 size.1 coded.1 (started 3 4096 coded.0)
+
+-- how many of the 256 slots are zeros: their part of the bits, rounded, and neither none nor all
+abbrev pub zeros_for : List Bool → ℕ
+zeros_for bits = let n = max 1 (length bits) in max 1 (min 255 ((256 * count_by not bits + n / 2) / n))
+
+-- the coded bytes of bits, the last one pushed first
+abbrev pub coded_bits : ℕ → List Bool → List ℕ
+coded_bits zeros bits = all_spelled 16 256 (map (interval_of (256 - zeros)) bits)
+
+-- the bytes of a block of bits
+unfoldable pub block : List Bool → List ℕ
+block bits = let coded = coded_bits (zeros_for bits) bits in zeros_for bits ∷ spelling 5 (length coded) ++ coded
+
+-- the block at the front has these bits first, and is so many bytes long
+abbrev pub IsBlockOf : List Bool → ℕ → Reading → Type 0
+IsBlockOf bits size c = (b : Block) × (block_at c ≡ Ok (b, advanced size c)) × BitsPulled b bits × (first_bits (length bits) b ≡ bits)

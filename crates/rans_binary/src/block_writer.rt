@@ -1,0 +1,127 @@
+//! Writing a block.
+
+ghost use Rattle.std.specs.Prelude.{◌≡◌, ℕ, ◌+◌, ◌-◌, ◌*◌, ◌/◌, ◌%◌, ◌^◌, ◌<◌, ◌≤◌, List, Bool, [], ◌∷◌, ◌++◌, length, drop, map, not, count_by, reverse, if◌then◌else◌, IfOk, OnOk, OnErr, vec_len};
+ghost use Rattle.drc_bits.specs.Reading.{Reading};
+ghost use Rattle.rans_core.specs.Coder.{State, all_pushed, drained, pushed};
+ghost use Rattle.rans_binary.specs.Blocks.{IsBlockOf, block, coded_bits, interval_of, zeros_for};
+
+use drc_base::Memory;
+use drc_bits::put_var32;
+use rans_core::end_bytes;
+use std::alloc::Global;
+
+/// How many of the bits are zeros.
+fn count_zeros(bits: &[bool]) -> usize
+    ensures { result ≡ count_by not bits.now }
+{
+    bits.iter().filter(|bit| !**bit).count()
+}
+
+/// How many of the 256 slots are zeros in a block of these bits.
+fn zeros_of(bits: &[bool]) -> u32
+    requires { length bits.now < 2 ^ 31 }
+    ensures zeros { result ≡ zeros_for bits.now }
+    ensures least { 1 ≤ result }
+    ensures most { result ≤ 255 }
+{
+    let zeros = count_zeros(bits) as u64;
+    let all = (bits.len() as u64).max(1);
+    ((256 * zeros + all / 2) / all).min(255).max(1) as u32
+}
+
+/// The slots of a bit: how many lie below them, and how many they are.
+fn slots_of(ones: u32, bit: bool) -> (u32, u32)
+    requires some { 0 < ones }
+    requires ones { ones < 256 }
+    ensures interval { interval_of ones bit ≡ record { cum = result.0; prob = result.1 } }
+    ensures some { 0 < result.1 }
+    ensures within { result.0 + result.1 ≤ 256 }
+{
+    if bit { (0, ones) } else { (ones, 256 - ones) }
+}
+
+/// Emits the low byte of a number that is at least 4096 times `prob`. Gives what is left of the number.
+fn drain_once(out: &mut Vec<u8>, number: u32, prob: u32) -> Result<u32, Memory>
+    requires some { 0 < prob }
+    requires prob { prob ≤ 256 }
+    requires above { 4096 ≤ number }
+    requires below { number < 2 ^ 20 }
+    ensures drained { IfOk result (λ n. drained 4 (256 * (16 * prob)) number (reverse out.old.items)
+        ≡ record { number = n; bytes = reverse out.new.items }) }
+    ensures above { IfOk result (λ n. 16 * prob ≤ n) }
+    ensures below { IfOk result (λ n. n < 256 * (16 * prob)) }
+    ensures len { vec_len out.new ≤ vec_len out.old + 1 }
+{
+    if number < 4096 * prob {
+        return Ok(number);
+    }
+    out.push((number & 255) as u8)?;
+    Ok(number >> 8)
+}
+
+/// The number after a push: `rest` is what is left of it after the byte that was emitted.
+#[tactic(auto, using(crate::proofs::Pushes::pushed_fits))]
+fn number_with(rest: u32, cum: u32, prob: u32) -> u32
+    requires some { 0 < prob }
+    requires within { cum + prob ≤ 256 }
+    requires above { 16 * prob ≤ rest }
+    requires below { rest < 256 * (16 * prob) }
+    ensures pushed { result ≡ rest / prob * 256 + rest % prob + cum }
+    ensures above { 4096 ≤ result }
+    ensures below { result < 2 ^ 20 }
+{
+    rest / prob * 256 + rest % prob + cum
+}
+
+/// Pushes a bit: emits at most one byte, and gives the number after it.
+fn push_bit(out: &mut Vec<u8>, number: u32, ones: u32, bit: bool) -> Result<u32, Memory>
+    requires some { 0 < ones }
+    requires ones { ones < 256 }
+    requires above { 4096 ≤ number }
+    requires below { number < 2 ^ 20 }
+    ensures pushed { IfOk result (λ n. pushed 16 256 (interval_of ones bit) (record { number = number; bytes = reverse out.old.items })
+        ≡ record { number = n; bytes = reverse out.new.items }) }
+    ensures above { IfOk result (λ n. 4096 ≤ n) }
+    ensures below { IfOk result (λ n. n < 2 ^ 20) }
+    ensures len { vec_len out.new ≤ vec_len out.old + 1 }
+{
+    let (cum, prob) = slots_of(ones, bit);
+    let rest = drain_once(out, number, prob)?;
+    Ok(number_with(rest, cum, prob))
+}
+
+/// The coded bytes of the bits, the last one pushed first.
+fn code_bits(alloc: Global, bits: &[bool], zeros: u32) -> Result<Vec<u8>, Memory>
+    requires least { 1 ≤ zeros }
+    requires most { zeros ≤ 255 }
+    requires length { length bits.now < 2 ^ 31 }
+    ensures coded { IfOk result (λ v. v.items ≡ coded_bits zeros bits.now) }
+    ensures length { IfOk result (λ v. vec_len v < 2 ^ 32) }
+{
+    let mut out = Vec::new(alloc);
+    let mut number = 4096;
+    let last = bits.len();
+    for k in 0..last {
+        number = push_bit(&mut out, number, 256 - zeros, bits[last - 1 - k])?;
+    }
+    let end = end_bytes(number - 4096);
+    out.extend_from_slice(end.as_slice())?;
+    Ok(out)
+}
+
+/// The block of the bits: its probability of a zero, the size of the coded bytes, and these. Read at
+/// its front, whatever bytes follow, it gives the bits.
+#[tactic(auto, unfolding(crate::specs::Blocks::block))]
+pub fn write_block(alloc: Global, bits: &[bool]) -> Result<Vec<u8>, Memory>
+    requires { length bits.now < 2 ^ 31 }
+    ensures block { IfOk result (λ v. v.items ≡ block bits.now) }
+    ensures again { IfOk result (λ v. (place : ℕ) (rest : List ℕ) → IsBlockOf bits.now (length v.items) (record { place = place; rest = v.items ++ rest })) }
+{
+    let zeros = zeros_of(bits);
+    let coded = code_bits(alloc, bits, zeros)?;
+    let mut out = Vec::new(alloc);
+    out.push(zeros as u8)?;
+    out.extend_from_slice(put_var32(coded.len() as u32).as_slice())?;
+    out.extend_from_slice(coded.as_slice())?;
+    Ok(out)
+}

@@ -1,0 +1,11 @@
+//! The connectivity of sequential meshes: faces as indices of points, plain or packed. The contract
+//! above it: reading gives the section's item or its first fault, and written indices, followed by
+//! any bytes, are read back. After the Draco Bitstream Specification 2.2, section "Sequential
+//! Connectivity".
+#![tactic(auto)]
+
+mod plain;
+mod reading;
+mod writing;
+
+pub use reading::{SeqRead, read_indices};

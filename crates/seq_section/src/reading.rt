@@ -1,0 +1,98 @@
+//! Reading the connectivity of a sequential mesh.
+
+ghost use Rattle.std.specs.Prelude.{◌≡◌, ◌≤◌, Err, IfOk, nat_le};
+ghost use Rattle.drc_base.specs.declared.faults.Fault.{Fault as AnyFault};
+ghost use Rattle.drc_base.specs.declared.faults.Refusal.TheVariants as refusal;
+ghost use Rattle.drc_bits.specs.Reading.{Reads, Gives, must};
+ghost use Rattle.drc_bits.specs.Numbers.{number_at};
+ghost use Rattle.drc_bits.specs.Varint.{var32_at};
+ghost use Rattle.seq_section.specs.Indices.{opening_at, indices_at};
+
+use crate::plain::read_faces;
+use drc_base::{Fault, Kind, MAX_FACES, MAX_POINTS, Refusal, Sequence};
+use drc_bits::Cursor;
+use std::alloc::Global;
+
+/// The faces of a sequential mesh, each three indices below its number of points.
+#[derive(Debug, Drop)]
+pub struct SeqRead {
+    /// The faces, at most 2^20.
+    pub faces: Sequence<[u32; 3]>,
+    /// The number of points, at most 2^20.
+    pub points: u32,
+}
+
+/// The two numbers and the method at the front of the section.
+#[derive(Clone, Copy, Debug, PartialEq, Eq)]
+pub struct Opening {
+    /// The number of faces, at most 2^20.
+    pub faces: u32,
+    /// The number of points, at most 2^20.
+    pub points: u32,
+    /// How indices are coded: 0 packed, 1 plain.
+    pub method: u8,
+}
+
+/// Reads the connectivity of a sequential mesh: `FaceLimit`, `PointLimit`, `IndexMethod`,
+/// `IndexRange`, and `Short` or `Long` of a number that isn't whole, the first at its place. The
+/// faults of the two numbers and of the method come before memory is taken.
+#[tactic(auto, unfolding(crate::specs::Indices::indices_at))]
+pub fn read_indices(alloc: Global, c: &mut Cursor<'_>) -> Result<SeqRead, Refusal>
+    ensures indices { Gives (λ r. r) (indices_at c.old) c.new result }
+    ensures early { (f : AnyFault) → opening_at c.old ≡ Err f → result ≡ Err (refusal.Fault f) }
+{
+    let opening = read_opening(c)?;
+    if opening.method != PLAIN {
+        return Err(Refusal::Fault(c.fault(Kind::NotYet)));
+    }
+    let faces = read_faces(alloc, c, opening.faces, opening.points)?;
+    Ok(SeqRead {
+        faces: Sequence::from_vec(faces),
+        points: opening.points,
+    })
+}
+
+/// The method of indices that are coded each by itself.
+const PLAIN: u8 = 1;
+
+/// Reads the front of the section.
+#[tactic(auto, unfolding(crate::specs::Indices::opening_at))]
+fn read_opening(c: &mut Cursor<'_>) -> Result<Opening, Fault>
+    ensures opening { Reads (λ o. o) (opening_at c.old) c.new result }
+    ensures faces { IfOk result (λ o. o.faces ≤ MAX_FACES) }
+    ensures points { IfOk result (λ o. o.points ≤ MAX_POINTS) }
+{
+    let faces = read_count(c, MAX_FACES, Kind::FaceLimit)?;
+    let points = read_count(c, MAX_POINTS, Kind::PointLimit)?;
+    let method = read_method(c)?;
+    Ok(Opening {
+        faces,
+        points,
+        method,
+    })
+}
+
+/// Reads a number that is at most `most`, else a fault of this kind.
+fn read_count(c: &mut Cursor<'_>, most: u32, kind: Kind) -> Result<u32, Fault>
+    ensures count { Reads (λ n. n) (must kind (λ n. nat_le n most) var32_at c.old) c.new result }
+    ensures bound { IfOk result (λ n. n ≤ most) }
+{
+    let fault = c.fault(kind);
+    let count = c.var32()?;
+    if count > most {
+        return Err(fault);
+    }
+    Ok(count)
+}
+
+/// Reads the method of the indices.
+fn read_method(c: &mut Cursor<'_>) -> Result<u8, Fault>
+    ensures { Reads (λ n. n) (must Kind.IndexMethod (λ n. nat_le n 1) (number_at 1) c.old) c.new result }
+{
+    let fault = c.fault(Kind::IndexMethod);
+    let method = c.get_u8()?;
+    if method > PLAIN {
+        return Err(fault);
+    }
+    Ok(method)
+}

@@ -1,0 +1,70 @@
+-- Symbols of a coder: each has the slots that a probability table gives it (Draco Bitstream Specification 2.2,
+-- sections Symbol Decoding and Rans Decoding). How often symbols occur, and what that costs, is this project's choice
+-- of an encoder.
+use Rattle.std.specs.Prelude.{◌≡◌, ℕ, zero, suc, ◌+◌, ◌*◌, ◌/◌, ◌%◌, ◌^◌, Bool, ◌==◌, nat_lt, List, [], ◌∷◌, ◌++◌, map, length, slice_index, count_by, Option, Some, None, Ok, if◌then◌else◌}
+use Rattle.std.specs.List.{range_with_len}
+use Rattle.drc_base.specs.declared.kinds.Kind.TheVariants as kind
+use Rattle.drc_bits.specs.Reading.{◌>>=◌, Reading, Item, fault_at, bytes_at}
+use Rattle.drc_bits.specs.Varint.{var64_at, spelling}
+use Rattle.rans_core.specs.Coder.{Interval, State, all_spelled, pulled, refilled, started}
+use Rattle.symbol_tables.specs.Tables.{cum_of, symbol_of}
+use Rattle.symbol_tables.specs.Normal.{greatest_of}
+
+-- the slots of a symbol
+abbrev pub interval_of : List ℕ → ℕ → Interval
+interval_of probs s = record { cum = cum_of probs s; prob = slice_index probs s }
+
+-- ---- reading
+
+-- the state after its refill
+abbrev pub full : ℕ → State → State
+full bits s = refilled (4 * 2 ^ bits) s.number s.bytes
+
+-- the symbol that comes next: the one that has the slot of the refilled state
+abbrev pub next_symbol : ℕ → List ℕ → State → ℕ
+next_symbol bits probs s = symbol_of probs ((full bits s).number % 2 ^ bits)
+
+-- the state after that symbol
+abbrev pub after_symbol : ℕ → List ℕ → State → State
+after_symbol bits probs s = pulled (2 ^ bits) (interval_of probs (next_symbol bits probs s)) (full bits s)
+
+-- the next n symbols
+unfoldable pub next_symbols : ℕ → ℕ → List ℕ → State → List ℕ
+next_symbols zero bits probs s = []
+next_symbols (suc n) bits probs s = next_symbol bits probs s ∷ next_symbols n bits probs (after_symbol bits probs s)
+
+-- coded symbols: the place of their first byte, and their first state
+pub record Coded : Type 0 where
+  pub place : ℕ
+  pub state : State
+
+-- coded bytes between two places that start with this state; BadStart at the first of them where there is none
+abbrev pub coded_from : Reading → Reading → Option State → Item Coded
+coded_from first end (Some s) = Ok (record { place = first.place; state = s }, end)
+coded_from first end None = fault_at kind.BadStart first
+
+-- coded symbols at the front: the number of their bytes, and the bytes
+unfoldable pub coded_at : ℕ → Reading → Item Coded
+coded_at bits c = do
+  size ← var64_at c
+  bytes ← bytes_at size.0 size.1
+  coded_from size.1 bytes.1 (started 4 (4 * 2 ^ bits) bytes.0)
+
+-- ---- writing
+
+-- the bytes of coded symbols, the last one pushed first, behind their number
+unfoldable pub coded_bytes : ℕ → List ℕ → List ℕ → List ℕ
+coded_bytes bits probs symbols = let coded = all_spelled 4 (2 ^ bits) (map (interval_of probs) symbols) in spelling 10 (length coded) ++ coded
+
+-- how often each symbol occurs, up to the greatest one
+unfoldable pub counts_of : List ℕ → List ℕ
+counts_of symbols = map (λ s. count_by (λ v. v == s) symbols) (range_with_len 0 (greatest_of symbols + 1))
+
+-- the number of binary digits of a number below 2 ^ most
+unfoldable pub digits_in : ℕ → ℕ → ℕ
+digits_in zero v = 0
+digits_in (suc most) v = if v == 0 then 0 else 1 + digits_in most (v / 2)
+
+-- the number of binary digits of a number of 32 bits
+abbrev pub digits : ℕ → ℕ
+digits v = digits_in 32 v

@@ -1,0 +1,78 @@
+//! Coded symbols: the bytes of a range coder behind their number.
+
+ghost use Rattle.std.specs.Prelude.{◌≡◌, ℕ, ◌+◌, ◌*◌, ◌/◌, ◌^◌, ◌<◌, ◌≤◌, length, max, min, sum, slice_index, IfOk};
+ghost use Rattle.drc_bits.specs.Reading.{Reads};
+ghost use Rattle.symbol_tables.specs.Tables.{HasSymbol};
+ghost use Rattle.symbol_coding.specs.Block.{precision};
+ghost use Rattle.symbol_coding.specs.Symbols.{after_symbol, coded_at, next_symbol, next_symbols};
+
+use drc_base::{Fault, Kind, Memory};
+use drc_bits::Cursor;
+use rans_core::Decoder;
+use std::alloc::Global;
+use symbol_tables::Table;
+
+/// The precision in bits of a coder for symbols of so many bits.
+pub fn precision(length: u32) -> u32
+    requires { length ≤ 32 }
+    ensures precision { result ≡ precision length }
+    ensures low { 12 ≤ result }
+    ensures high { result ≤ 20 }
+{
+    (3 * length / 2).min(20).max(12)
+}
+
+/// Reads the coded bytes of symbols, their number first: a decoder of them, and the place of the first
+/// one. `Short` and `Long` of the number, `Short` of the bytes, and `BadStart` at the first of them
+/// where they hold no first state.
+#[tactic(auto, unfolding(crate::specs::Symbols::coded_at))]
+pub fn read_coded<'a>(c: &mut Cursor<'a>, bits: u32) -> Result<(Decoder<'a>, u64), Fault>
+    requires low { 12 ≤ bits }
+    requires high { bits ≤ 20 }
+    ensures coded { Reads (λ r. record { place = r.1; state = r.0.state }) (coded_at bits c.old) c.new result }
+    ensures bits { IfOk result (λ r. r.0.bits ≡ bits) }
+{
+    let size = c.var64()?;
+    let bad_start = c.fault(Kind::BadStart);
+    let coded = c.slice(size)?;
+    match Decoder::start(coded, bits) {
+        Some(decoder) => Ok((decoder, bad_start.at)),
+        None => Err(bad_start),
+    }
+}
+
+/// Pulls the next symbol. `slots` is the symbol of each slot.
+#[tactic(auto, using(crate::proofs::Slots::within))]
+pub fn pull(decoder: &mut Decoder<'_>, table: &Table, slots: &[u32]) -> u32
+    requires whole { sum table.now ≡ 2 ^ decoder.old.bits }
+    requires len { length slots.now ≡ sum table.now }
+    requires slots { (slot : ℕ) → slot < sum table.now → HasSymbol table.now slot (slice_index slots.now slot) }
+    ensures symbol { result ≡ next_symbol decoder.old.bits table.now decoder.old.state }
+    ensures after { decoder.new ≡ record { bits = decoder.old.bits; state = after_symbol decoder.old.bits table.now decoder.old.state } }
+{
+    let slot = decoder.slot();
+    let symbol = slots[slot as usize];
+    decoder.take(table.cum(symbol), table.prob(symbol));
+    symbol
+}
+
+/// Pulls the next `n` symbols.
+pub fn pull_all(
+    alloc: Global,
+    decoder: Decoder<'_>,
+    table: &Table,
+    n: u32,
+) -> Result<Vec<u32>, Memory>
+    requires { sum table.now ≡ 2 ^ decoder.bits }
+    ensures symbols { IfOk result (λ v. v.items ≡ next_symbols n decoder.entry.bits table.now decoder.entry.state) }
+    ensures len { IfOk result (λ v. length v.items ≡ n) }
+{
+    let mut decoder = decoder;
+    let slots = table.slots();
+    let mut symbols = Vec::with_capacity(alloc, n as usize)?;
+    for _k in 0..n {
+        let symbol = pull(&mut decoder, table, slots);
+        symbols.push_reserved(symbol);
+    }
+    Ok(symbols)
+}

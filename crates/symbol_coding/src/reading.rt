@@ -1,0 +1,162 @@
+//! Reading a symbol block.
+
+ghost use Rattle.std.specs.Prelude.{◌≡◌, ℕ, ◌+◌, ◌*◌, ◌/◌, ◌%◌, ◌^◌, ◌<◌, ◌≤◌, List, ◌++◌, length, replicate, sum, Err, IfOk, MatchBool, vec_len, vec_capacity};
+ghost use Rattle.drc_base.specs.Refusals.{Answers};
+ghost use Rattle.drc_base.specs.declared.faults.Fault.{Fault as TheFault};
+ghost use Rattle.drc_base.specs.declared.kinds.Kind.TheVariants as kind;
+ghost use Rattle.drc_bits.specs.Bits.{bits_left, bytes_for};
+ghost use Rattle.drc_bits.specs.Reading.{Gives};
+ghost use Rattle.symbol_tables.specs.Tables.{count_at};
+ghost use Rattle.symbol_coding.specs.Block.{block_at, opening_at, raw_at, raw_opening_at, tagged_at, values_in, widths, with_values};
+ghost use Rattle.symbol_coding.specs.Symbols.{next_symbols};
+
+use crate::coded::{precision, pull, pull_all, read_coded};
+use drc_base::{Fault, Kind, Refusal};
+use drc_bits::{BitReader, Cursor};
+use rans_core::Decoder;
+use std::alloc::Global;
+use symbol_tables::Table;
+
+/// Reads a block whose values are symbols, behind its scheme.
+#[tactic(auto, unfolding(crate::specs::Block::raw_at, crate::specs::Block::raw_opening_at))]
+fn read_raw(alloc: Global, c: &mut Cursor<'_>, n: u32) -> Result<Vec<u32>, Refusal>
+    ensures block { Gives (λ v. v.items) (raw_at n c.old) c.new result }
+    ensures len { IfOk result (λ v. length v.items ≡ n) }
+    ensures early { (f : TheFault) → raw_opening_at c.old ≡ Err f → result ≡ Err (Refusal.Fault f) }
+{
+    let bad_length = c.fault(Kind::Length);
+    let length = u32::from(c.get_u8()?);
+    if length < 1 || length > 18 {
+        return Err(Refusal::Fault(bad_length));
+    }
+    let bits = precision(length);
+    let table = Table::read(alloc, c, bits)?;
+    let (decoder, _) = read_coded(c, bits)?;
+    Ok(pull_all(alloc, decoder, &table, n)?)
+}
+
+/// Reads the values of a group of this bit length into room that is there. Whether all of them were
+/// there.
+fn read_group(reader: &mut BitReader<'_>, values: &mut Vec<u32>, width: u32, comps: u32) -> bool
+    requires width { width ≤ 32 }
+    requires room { vec_len values.old + comps ≤ vec_capacity values.old }
+    ensures values { MatchBool result
+        ((long short : ℕ) (ws : List ℕ) → with_values values.old.items (values_in long short (replicate comps width ++ ws) (bits_left reader.old))
+        ≡ with_values values.new.items (values_in long short ws (bits_left reader.new)))
+        ((long short : ℕ) (ws : List ℕ) → with_values values.old.items (values_in long short (replicate comps width ++ ws) (bits_left reader.old))
+        ≡ Err (record { kind = kind.Short; at = short })) }
+    ensures bytes { reader.new.bytes ≡ reader.old.bytes }
+    ensures taken { MatchBool result (reader.new.taken ≡ reader.old.taken + comps * width) (Unit {0}) }
+    ensures within { reader.old.taken ≤ 8 * length reader.old.bytes → reader.new.taken ≤ 8 * length reader.old.bytes }
+    ensures len { MatchBool result (vec_len values.new ≡ vec_len values.old + comps) (Unit {0}) }
+    ensures capacity { vec_capacity values.new ≡ vec_capacity values.old }
+{
+    for _k in 0..comps {
+        match reader.bits(width) {
+            Some(value) => values.push_reserved(value),
+            None => return false,
+        }
+    }
+    true
+}
+
+/// Reads the values of `groups` groups from bits: each group's bit length is the next symbol. Gives the
+/// values, and the number of bytes that were begun. `Length`, the first fault, where a length is above 32;
+/// `Short`, the second, where the bits run out.
+fn read_groups(
+    alloc: Global,
+    decoder: Decoder<'_>,
+    table: &Table,
+    reader: BitReader<'_>,
+    groups: u32,
+    comps: u32,
+    long: Fault,
+    short: Fault,
+) -> Result<(Vec<u32>, usize), Refusal>
+    requires whole { sum table.now ≡ 2 ^ decoder.bits }
+    requires comps { 0 < comps }
+    requires few { groups * comps ≤ 2 ^ 24 }
+    requires start { reader.taken ≡ 0 }
+    requires long { long.kind ≡ kind.Length }
+    requires short { short.kind ≡ kind.Short }
+    ensures values { Answers (λ r. r.0.items) (values_in long.at short.at (widths comps (next_symbols groups decoder.entry.bits table.now decoder.entry.state)) (bits_left reader.entry)) result }
+    ensures used { IfOk result (λ r. r.1 ≡ bytes_for (sum (widths comps (next_symbols groups decoder.entry.bits table.now decoder.entry.state)))) }
+    ensures within { IfOk result (λ r. r.1 ≤ length reader.entry.bytes) }
+    ensures len { IfOk result (λ r. length r.0.items ≡ groups * comps) }
+{
+    let mut decoder = decoder;
+    let mut reader = reader;
+    let slots = table.slots();
+    let mut values = Vec::with_capacity(alloc, (groups * comps) as usize)?;
+    for g in 0..groups {
+        let width = pull(&mut decoder, table, slots);
+        if width > 32 {
+            return Err(Refusal::Fault(long));
+        }
+        if !read_group(&mut reader, &mut values, width, comps) {
+            return Err(Refusal::Fault(short));
+        }
+    }
+    Ok((values, reader.used()))
+}
+
+/// Reads a block of groups, behind its scheme.
+#[tactic(auto, unfolding(crate::specs::Block::tagged_at))]
+fn read_tagged(
+    alloc: Global,
+    c: &mut Cursor<'_>,
+    groups: u32,
+    comps: u32,
+) -> Result<Vec<u32>, Refusal>
+    requires comps { 0 < comps }
+    requires few { groups * comps ≤ 2 ^ 24 }
+    ensures block { Gives (λ v. v.items) (tagged_at groups comps c.old) c.new result }
+    ensures len { IfOk result (λ v. length v.items ≡ groups * comps) }
+    ensures early { (f : TheFault) → count_at c.old ≡ Err f → result ≡ Err (Refusal.Fault f) }
+{
+    let bits = precision(5);
+    let table = Table::read(alloc, c, bits)?;
+    let (decoder, place) = read_coded(c, bits)?;
+    let long = Fault {
+        kind: Kind::Length,
+        at: place,
+    };
+    let short = c.fault(Kind::Short);
+    let reader = BitReader::new(c.rest());
+    let (values, used) = read_groups(alloc, decoder, &table, reader, groups, comps, long, short)?;
+    c.skip(used);
+    Ok(values)
+}
+
+/// Reads a block of `n` values in groups of `comps` components; `n` is a multiple of `comps`. `Scheme`
+/// where the scheme is none; for symbols `Length` where their bit length isn't 1 to 18; the faults of
+/// the table and of the coded bytes; for groups `Length` at the first coded byte where a group's bit
+/// length is above 32, and `Short` where the bits of the values begin if they run out. The faults up to
+/// the table's number of symbols come before any memory is taken.
+#[tactic(auto, unfolding(crate::specs::Block::block_at, crate::specs::Block::opening_at))]
+pub fn read_symbols(
+    alloc: Global,
+    c: &mut Cursor<'_>,
+    n: u32,
+    comps: u32,
+) -> Result<Vec<u32>, Refusal>
+    requires comps { 0 < comps }
+    requires divides { n % comps ≡ 0 }
+    requires few { n ≤ 2 ^ 24 }
+    ensures block { Gives (λ v. v.items) (block_at n comps c.old) c.new result }
+    ensures len { IfOk result (λ v. length v.items ≡ n) }
+    ensures early { (f : TheFault) → opening_at n c.old ≡ Err f → result ≡ Err (Refusal.Fault f) }
+{
+    if n == 0 {
+        return Ok(Vec::new(alloc));
+    }
+    let no_scheme = c.fault(Kind::Scheme);
+    let scheme = c.get_u8()?;
+    if scheme == 0 {
+        return read_tagged(alloc, c, n / comps, comps);
+    }
+    if scheme == 1 {
+        return read_raw(alloc, c, n);
+    }
+    Err(Refusal::Fault(no_scheme))
+}

@@ -1,0 +1,4 @@
+pub mod Symbols
+pub mod Sharing
+pub mod Probs
+pub mod Spelling

@@ -1,0 +1,125 @@
+//! A table and its look-ups.
+
+ghost use Rattle.std.specs.Prelude.{◌≡◌, ℕ, ◌+◌, ◌*◌, ◌^◌, ◌<◌, ◌≤◌, List, length, sum, take, slice_index, IfOk, OnOk, OnErr, ◌++◌, [], ◌∷◌, vec_len};
+ghost use Rattle.symbol_tables.specs.Tables.{HasSymbol, cum_of};
+
+use drc_base::Memory;
+use std::alloc::Global;
+use std::marker::Model;
+
+/// The probabilities of symbols 0, 1, and so on: how many slots each has. Contracts see it as the list
+/// of the probabilities. The slots of a symbol follow those of the symbols before it, and are all slots
+/// together. Draco Bitstream Specification 2.2, section Symbol Decoding.
+#[derive(Drop)]
+pub struct Table {
+    probs: Vec<u32>,
+    cums: Vec<u32>,
+    slots: Vec<u32>,
+}
+
+impl Model for Table {
+    ghost use Rattle.std.specs.Prelude.{ℕ, List};
+    ghost use Rattle.symbol_tables.specs.Tables.{IsTable};
+
+    ghost Value = { List ℕ };
+
+    ghost view = { λ t. t.probs.items };
+
+    ghost invariant = { λ t. IsTable t.probs.items t.cums.items t.slots.items };
+}
+
+/// How many slots lie below those of each symbol.
+fn cums_of(alloc: Global, probs: &[u32]) -> Result<Vec<u32>, Memory>
+    requires { sum probs.now ≤ 2 ^ 20 }
+    ensures len { IfOk result (λ v. length v.items ≡ length probs.now) }
+    ensures cums { IfOk result (λ v. (s : ℕ) → s < length probs.now → slice_index v.items s ≡ cum_of probs.now s) }
+{
+    let mut cums = Vec::new(alloc);
+    let mut cum = 0u32;
+    for s in 0..probs.len() {
+        cums.push(cum)?;
+        cum += probs[s];
+    }
+    Ok(cums)
+}
+
+/// The symbol of each slot.
+fn slots_of(alloc: Global, probs: &[u32]) -> Result<Vec<u32>, Memory>
+    requires few { length probs.now ≤ 2 ^ 20 }
+    requires small { sum probs.now ≤ 2 ^ 20 }
+    ensures len { IfOk result (λ v. length v.items ≡ sum probs.now) }
+    ensures slots { IfOk result (λ v. (slot : ℕ) → slot < sum probs.now → HasSymbol probs.now slot (slice_index v.items slot)) }
+{
+    let mut slots = Vec::new(alloc);
+    for s in 0..probs.len() {
+        let end = slots.len() + probs[s] as usize;
+        slots.resize(end, s as u32)?;
+    }
+    Ok(slots)
+}
+
+impl Table {
+    /// The table of these probabilities.
+    pub(crate) fn build(alloc: Global, probs: Vec<u32>) -> Result<Table, Memory>
+        requires some { 0 < length probs.items }
+        requires few { length probs.items ≤ 2 ^ 20 }
+        requires small { sum probs.items ≤ 2 ^ 20 }
+        ensures { IfOk result (λ t. t ≡ probs.items) }
+    {
+        let cums = cums_of(alloc, probs.as_slice())?;
+        let slots = slots_of(alloc, probs.as_slice())?;
+        Ok(Table { probs, cums, slots })
+    }
+
+    /// The probabilities, at least one and none of them above the number of slots.
+    pub(crate) fn probs(&self) -> &[u32]
+        ensures probs { result.now ≡ self.now }
+        ensures some { 0 < length self.now }
+        ensures few { length self.now ≤ 2 ^ 20 }
+        ensures small { sum self.now ≤ 2 ^ 20 }
+    {
+        self.probs.as_slice()
+    }
+
+    /// How many symbols there are, at least one.
+    pub fn len(&self) -> u32
+        ensures len { result ≡ length self.now }
+        ensures some { 0 < result }
+    {
+        self.probs.len() as u32
+    }
+
+    /// How many slots lie below those of symbol `s`.
+    pub fn cum(&self, s: u32) -> u32
+        requires { s < length self.now }
+        ensures { result ≡ cum_of self.now s }
+    {
+        self.cums[s as usize]
+    }
+
+    /// How many slots symbol `s` has.
+    pub fn prob(&self, s: u32) -> u32
+        requires { s < length self.now }
+        ensures { result ≡ slice_index self.now s }
+    {
+        self.probs[s as usize]
+    }
+
+    /// The symbol of each slot, as many as there are slots. It takes no memory.
+    pub fn slots(&self) -> &[u32]
+        ensures len { length result.now ≡ sum self.now }
+        ensures slots { (slot : ℕ) → slot < sum self.now → HasSymbol self.now slot (slice_index result.now slot) }
+    {
+        self.slots.as_slice()
+    }
+
+    /// The one symbol that has slot `r`.
+    pub fn find(&self, r: u32) -> u32
+        requires { r < sum self.now }
+        ensures symbol { HasSymbol self.now r result }
+        ensures only { (s : ℕ) → HasSymbol self.now r s → s ≡ result }
+    {
+        let slots = self.slots();
+        slots[r as usize]
+    }
+}
