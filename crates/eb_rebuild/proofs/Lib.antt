@@ -5,3 +5,4 @@ pub mod Steps
 pub mod Linking
 pub mod Equals
 pub mod Ends
+pub mod Counts

@@ -100,7 +100,7 @@ unfolding step
 left_no_top n s f t = then_err (top s.built s.glued s.stack) f (λ x. with_events n s (grown s (glue (side s.built second) x.0 s.glued) x.1 1)) t
 
 -- C
-abbrev tip_rest : State → Side × List Side → Next
+abbrev pub tip_rest : State → Side × List Side → Next
 tip_rest s a =
     let t = side_before s.built s.glued a.0 in
     must (not (same t a.0)) kind.Alone s.built >>= λ u.
@@ -124,13 +124,13 @@ unfolding step
 tip_no_top n s f t = then_err (top s.built s.glued s.stack) f (tip_rest s) t
 
 -- S
-abbrev split_last : State → Side → Side × List Side → Next
+abbrev pub split_last : State → Side → Side × List Side → Next
 split_last s b a =
     must (not (same a.0 b)) kind.Gone s.built >>= λ u.
     must (not (same (side_before s.built s.glued b) a.0)) kind.SamePoint s.built >>= λ v.
     Ok (record (grown s (glue (side s.built second) b (glue (side s.built third) a.0 s.glued)) a.1 0) { reserved = release s.built s.reserved })
 
-abbrev split_rest : State → Side × List Side → Next
+abbrev pub split_rest : State → Side × List Side → Next
 split_rest s b = top s.built s.glued (pushed (s.reserved s.built) b.1) >>= split_last s b.0
 
 pub split_no_top : (n : ℕ) (s : State) (f : Fault) → top s.built s.glued s.stack ≡ Err f → step n S s ≡ Err f
