@@ -1,8 +1,7 @@
 -- The tests at the end, one outcome at a time.
-use Rattle.std.proofs.Common.{◌≡◌, ◌≢◌, ℕ, suc, ◌<◌, ◌≤◌, Bool, true, false, not, ◌==◌, nat_le, Option, Some, None, Result, Ok, Err, sym, refl, ap, ◌∙◌, subst, arith, eq-eqb, ne_eqb, le-leb, List}
+use Rattle.std.proofs.Common.{◌≡◌, ◌≢◌, ℕ, ◌<◌, ◌≤◌, ◌==◌, nat_le, Option, Some, None, Ok, Err, sym, ap, ◌∙◌, eq-eqb, ne_eqb, le-leb}
 use Rattle.std.proofs.lemmas.Bool.{lt-leb}
 use Rattle.drc_base.specs.declared.kinds.Kind.TheVariants as kind
-use Rattle.drc_base.specs.declared.faults.Fault.{Fault}
 use Rattle.eb_rebuild.specs.Machine.{State, Plan, finish, must, fault, ◌>>=◌, first_degenerate}
 use Rattle.eb_rebuild.proofs.Steps.{Next, must_hold, must_fail}
 

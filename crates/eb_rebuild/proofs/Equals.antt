@@ -1,8 +1,8 @@
 -- The first face with two equal labels is the first with two equal vertices.
-use Rattle.std.proofs.Common.{◌≡◌, ◌≢◌, ℕ, zero, suc, ◌+◌, ◌-◌, ◌*◌, ◌<◌, ◌≤◌, Bool, true, false, ◌||◌, ◌==◌, cond, eqb, List, Option, Some, None, ◌⊎◌, inl, inr, sym, refl, ap, ◌∙◌, subst, arith, eqb-true, eq-eqb}
-use Rattle.std.proofs.lemmas.Bool.{cases_Bool, cases_eq, cond-true, cond-false}
+use Rattle.std.proofs.Common.{◌≡◌, ℕ, zero, suc, ◌<◌, ◌≤◌, Bool, true, false, ◌||◌, ◌==◌, cond, List, Option, Some, None, inl, inr, sym, refl, ap, ◌∙◌, arith, eqb-true, eq-eqb}
+use Rattle.std.proofs.lemmas.Bool.{cases_eq, cond-true, cond-false}
 use Rattle.corner_table.specs.Sides.{Side, Place, first, second, third, side, Gluing, IsGluing}
-use Rattle.corner_table.specs.Fans.{InFan, meets}
+use Rattle.corner_table.specs.Fans.{meets}
 use Rattle.corner_table.specs.Labels.{label_at, IsLabelled}
 use Rattle.corner_table.proofs.Meeting.{fan_meets, meets-fan}
 use Rattle.eb_rebuild.specs.Machine.{is_degenerate, first_degenerate}
@@ -28,8 +28,9 @@ alike_before labels n f h = rw (h, first_alike) refl
 pub alike_found : (labels : List ℕ) (n m f : ℕ) → n ≤ m → first_alike labels n ≡ Some f → first_alike labels m ≡ Some f
 alike_found labels n zero f h e = ap (first_alike labels) (let q : 0 ≡ n = omega arith in q) ∙ e
 alike_found labels n (suc m) f h e = elim (cases_eq n (suc m)) [
-    inl q ↦ ap (first_alike labels) (sym q) ∙ e
-  | inr q ↦ alike_before labels m f (alike_found labels n m f (omega arith) e) ]
+  | inl q ↦ ap (first_alike labels) (sym q) ∙ e
+  | inr q ↦ alike_before labels m f (alike_found labels n m f (omega arith) e)
+]
 
 one_truth : (t u : Bool) → (t ≡ true → u ≡ true) → (u ≡ true → t ≡ true) → t ≡ u
 one_truth true u f g = sym (f refl)

@@ -1,10 +1,10 @@
 -- A rebuilding by links after a step: its lists, its room and its state.
-use Rattle.std.proofs.Common.{◌≡◌, ◌≢◌, ℕ, zero, suc, ◌+◌, ◌-◌, ◌*◌, ◌/◌, ◌<◌, ◌≤◌, Bool, true, false, not, ◌&&◌, List, [], ◌∷◌, length, map, Option, Some, None, Result, Ok, Err, MatchResult, sym, refl, ap, ◌∙◌, subst, arith, add-one, add-zero}
+use Rattle.std.proofs.Common.{◌≡◌, ◌≢◌, ℕ, suc, ◌+◌, ◌*◌, ◌<◌, ◌≤◌, Bool, true, false, not, ◌&&◌, List, [], ◌∷◌, length, map, Option, Some, None, Result, Ok, Err, MatchResult, sym, refl, ap, ◌∙◌, subst, arith, add-zero}
 use Rattle.drc_base.specs.declared.faults.Fault.{Fault}
 use Rattle.drc_base.specs.declared.limits.TheConstants.{MAX_FACES}
 use Rattle.corner_table.specs.declared.symbols.Event.{Event}
 use Rattle.corner_table.specs.declared.symbols.Symbol.TheVariants.{C, S, L, R}
-use Rattle.corner_table.specs.Sides.{Side, Place, first, second, third, side, side_at, number, Gluing, glue, same, IsFree}
+use Rattle.corner_table.specs.Sides.{Side, Place, first, second, third, side, side_at, Gluing, glue, same, IsFree}
 use Rattle.corner_table.proofs.Places.{same-true, same-false}
 use Rattle.std.proofs.lemmas.Bool.{and_parts, not-true}
 use Rattle.corner_table.specs.Fans.{side_before}
@@ -15,7 +15,7 @@ use Rattle.corner_table.proofs.Numbers.{side_at-number}
 use Rattle.eb_rebuild.specs.Machine.{State, Plan, close, fill, top, pushed, release, note_events, step, fault}
 use Rattle.eb_rebuild.specs.Kept.{StackValue, SplitsValue, kept_in, AreSidesBelow, AreKeptBelow}
 use Rattle.eb_rebuild.specs.Linked.{LinkValue, IsLinkState, state_of, Does}
-use Rattle.eb_rebuild.proofs.Steps.{close_boundary, close_interior, loop_test, fill_gone, fill_no_loop, fill_full, fill_steps, split_no_second, split_one_side, split_one_point, split_steps, tip_alone, tip_steps, Next, top_free, the_state, same_state, right_steps, right_refused, right_no_top, left_steps, left_refused, left_no_top}
+use Rattle.eb_rebuild.proofs.Steps.{close_boundary, close_interior, loop_test, fill_gone, fill_no_loop, fill_full, fill_steps, split_no_second, split_one_side, split_one_point, split_steps, tip_alone, tip_steps, Next, top_free, the_state, same_state, right_steps, right_refused, left_steps, left_refused}
 
 -- side 0 of a face
 pub side_at_first : (f : ℕ) → side_at (3 * f) ≡ side f first
@@ -47,16 +47,17 @@ pub record Grown (old new : LinkValue) : Type 0 where
 
 pub link_grown : {old new : LinkValue} → IsLinkState old → Grown old new → IsLinkState new
 link_grown {old} {new} I W = record {
-    limit = subst (λ (p : Plan). p.faces ≤ MAX_FACES) (sym W.plan) I.limit;
-    room = W.room ∙ I.room ∙ ap (λ (p : Plan). p.faces) (sym W.plan);
-    fewer = subst (λ (p : Plan). p.symbols ≤ p.faces) (sym W.plan) I.fewer;
-    slots = W.slots ∙ I.slots ∙ ap (λ (p : Plan). p.symbols) (sym W.plan);
-    stack_room = W.stack_room ∙ I.stack_room ∙ ap (λ (p : Plan). p.symbols) (sym W.plan);
-    low = (let a = ap {A = List ℕ} length W.sides in let b = W.shorter in let c = I.low in let d = W.faces in let e = W.closes in omega arith);
-    few = (let a = ap {A = List ℕ} length W.sides in let b = W.shorter in let c = I.low in let d = W.more in let e = W.closes in let f = ap (λ (p : Plan). p.symbols) W.plan in omega arith);
-    sides = subst (λ (n : ℕ). AreSidesBelow n new.stack.sides) (sym W.faces) (subst (AreSidesBelow (suc old.table.faces)) (sym W.sides) (omega arith, sides_below_more old.table.faces W.rest W.below));
-    kept = subst (λ (n : ℕ). AreKeptBelow n new.splits.kept) (sym W.faces) W.kept;
-    made = (let a = W.made in let b = I.made in let c = W.faces in omega arith) }
+  limit = subst (λ (p : Plan). p.faces ≤ MAX_FACES) (sym W.plan) I.limit;
+  room = W.room ∙ I.room ∙ ap (λ (p : Plan). p.faces) (sym W.plan);
+  fewer = subst (λ (p : Plan). p.symbols ≤ p.faces) (sym W.plan) I.fewer;
+  slots = W.slots ∙ I.slots ∙ ap (λ (p : Plan). p.symbols) (sym W.plan);
+  stack_room = W.stack_room ∙ I.stack_room ∙ ap (λ (p : Plan). p.symbols) (sym W.plan);
+  low = (let a = ap {A = List ℕ} length W.sides in let b = W.shorter in let c = I.low in let d = W.faces in let e = W.closes in omega arith);
+  few = (let a = ap {A = List ℕ} length W.sides in let b = W.shorter in let c = I.low in let d = W.more in let e = W.closes in let f = ap (λ (p : Plan). p.symbols) W.plan in omega arith);
+  sides = subst (λ (n : ℕ). AreSidesBelow n new.stack.sides) (sym W.faces) (subst (AreSidesBelow (suc old.table.faces)) (sym W.sides) (omega arith, sides_below_more old.table.faces W.rest W.below));
+  kept = subst (λ (n : ℕ). AreKeptBelow n new.splits.kept) (sym W.faces) W.kept;
+  made = (let a = W.made in let b = I.made in let c = W.faces in omega arith);
+}
 
 -- a step that notes events at its end
 pub noted_does : (next : Next) (t : State) (n f m i : ℕ) (events events' : List Event) (kept kept' : ℕ → Option Side) (r : Result (Unit {0}) Fault) → m ≡ n → i ≡ f →
@@ -71,13 +72,13 @@ pub before_taken : (old mid value : LinkValue) (a : ℕ) → mid ≡ record old 
 before_taken old mid value a r v e =
     let m : value ≡ record old { stack = mid.stack } = v ∙ r in
     same_state
-        (sym (ap (λ (x : LinkValue). x.table.faces) m))
-        (sym (ap (λ (x : LinkValue). gluing_of x.table) m))
-        (ap (map side_at) e ∙ ap (λ (x : LinkValue). side_at a ∷ map side_at x.stack.sides) (sym v))
-        (sym (ap (λ (x : LinkValue). (state_of x).reserved) m))
-        (sym (ap (λ (x : LinkValue). x.splits.events) m))
-        (sym (ap (λ (x : LinkValue). x.made) m))
-        (sym (ap (λ (x : LinkValue). x.closes) m))
+    (sym (ap (λ (x : LinkValue). x.table.faces) m))
+    (sym (ap (λ (x : LinkValue). gluing_of x.table) m))
+    (ap (map side_at) e ∙ ap (λ (x : LinkValue). side_at a ∷ map side_at x.stack.sides) (sym v))
+    (sym (ap (λ (x : LinkValue). (state_of x).reserved) m))
+    (sym (ap (λ (x : LinkValue). x.splits.events) m))
+    (sym (ap (λ (x : LinkValue). x.made) m))
+    (sym (ap (λ (x : LinkValue). x.closes) m))
 
 -- so a step from there is one from the values after it
 pub from_taken : (old mid value : LinkValue) (a : ℕ) (step_from : ℕ → State → Next) (t : State) (r : Result (Unit {0}) Fault) → mid ≡ record old { stack = mid.stack } → value ≡ mid → old.stack.sides ≡ a ∷ mid.stack.sides →
@@ -85,7 +86,7 @@ pub from_taken : (old mid value : LinkValue) (a : ℕ) (step_from : ℕ → Stat
 from_taken old mid value a step_from t r k v e h =
     let n : value.plan.symbols ≡ old.plan.symbols = ap (λ (x : LinkValue). x.plan.symbols) (v ∙ k) in
     subst (λ (m : ℕ). Does (step_from m (state_of old)) t r) n
-        (subst (λ (s : State). Does (step_from value.plan.symbols s) t r) (sym (before_taken old mid value a k v e)) h)
+    (subst (λ (s : State). Does (step_from value.plan.symbols s) t r) (sym (before_taken old mid value a k v e)) h)
 
 -- a face that is glued to the side just taken off
 pub record Attached (old mid value new : LinkValue) (a : ℕ) (k : Place) : Type 0 where
@@ -110,7 +111,7 @@ attached_state old mid value new a k A = same_state (sym A.faces) (sym A.glued) 
 abbrev pub NotedBy : LinkValue → LinkValue → ℕ → ℕ → Result (Unit {0}) Fault → Type 0
 NotedBy value new m i r =
     MatchResult r (λ u. note_events m i value.splits.events (kept_in value.splits.kept) ≡ Ok (new.splits.events, kept_in new.splits.kept))
-        (λ x. note_events m i value.splits.events (kept_in value.splits.kept) ≡ Err x)
+    (λ x. note_events m i value.splits.events (kept_in value.splits.kept) ≡ Err x)
 
 pub right_does : (old mid value new : LinkValue) (a : ℕ) → Attached old mid value new a third → (m i : ℕ) (r : Result (Unit {0}) Fault) → m ≡ value.plan.symbols → i ≡ value.table.faces → NotedBy value new m i r →
     Does (step old.plan.symbols R (state_of old)) (state_of new) r
@@ -119,9 +120,9 @@ right_does old mid value new a A m i r p q h =
     let free : gluing_of value.table (side_at a) ≡ None = ap (λ (v : LinkValue). gluing_of v.table (side_at a)) (A.view ∙ A.rest) ∙ A.free in
     let t = top_free value.table.faces (gluing_of value.table) (side_at a) (map side_at value.stack.sides) free in
     from_taken old mid value a (λ n x. step n R x) (state_of new) r A.rest A.view A.sides
-        (noted_does (step value.plan.symbols R s) (state_of new) value.plan.symbols value.table.faces m i value.splits.events new.splits.events (kept_in value.splits.kept) (kept_in new.splits.kept) r p q h
-            (λ e. right_steps value.plan.symbols s (side_at a) (map side_at value.stack.sides) new.splits.events (kept_in new.splits.kept) t e ∙ ap {A = State} Ok (attached_state old mid value new a third A))
-            (λ x e. right_refused value.plan.symbols s (side_at a) (map side_at value.stack.sides) x t e))
+    (noted_does (step value.plan.symbols R s) (state_of new) value.plan.symbols value.table.faces m i value.splits.events new.splits.events (kept_in value.splits.kept) (kept_in new.splits.kept) r p q h
+    (λ e. right_steps value.plan.symbols s (side_at a) (map side_at value.stack.sides) new.splits.events (kept_in new.splits.kept) t e ∙ ap {A = State} Ok (attached_state old mid value new a third A))
+    (λ x e. right_refused value.plan.symbols s (side_at a) (map side_at value.stack.sides) x t e))
 
 pub left_does : (old mid value new : LinkValue) (a : ℕ) → Attached old mid value new a second → (m i : ℕ) (r : Result (Unit {0}) Fault) → m ≡ value.plan.symbols → i ≡ value.table.faces → NotedBy value new m i r →
     Does (step old.plan.symbols L (state_of old)) (state_of new) r
@@ -130,9 +131,9 @@ left_does old mid value new a A m i r p q h =
     let free : gluing_of value.table (side_at a) ≡ None = ap (λ (v : LinkValue). gluing_of v.table (side_at a)) (A.view ∙ A.rest) ∙ A.free in
     let t = top_free value.table.faces (gluing_of value.table) (side_at a) (map side_at value.stack.sides) free in
     from_taken old mid value a (λ n x. step n L x) (state_of new) r A.rest A.view A.sides
-        (noted_does (step value.plan.symbols L s) (state_of new) value.plan.symbols value.table.faces m i value.splits.events new.splits.events (kept_in value.splits.kept) (kept_in new.splits.kept) r p q h
-            (λ e. left_steps value.plan.symbols s (side_at a) (map side_at value.stack.sides) new.splits.events (kept_in new.splits.kept) t e ∙ ap {A = State} Ok (attached_state old mid value new a second A))
-            (λ x e. left_refused value.plan.symbols s (side_at a) (map side_at value.stack.sides) x t e))
+    (noted_does (step value.plan.symbols L s) (state_of new) value.plan.symbols value.table.faces m i value.splits.events new.splits.events (kept_in value.splits.kept) (kept_in new.splits.kept) r p q h
+    (λ e. left_steps value.plan.symbols s (side_at a) (map side_at value.stack.sides) new.splits.events (kept_in new.splits.kept) t e ∙ ap {A = State} Ok (attached_state old mid value new a second A))
+    (λ x e. left_refused value.plan.symbols s (side_at a) (map side_at value.stack.sides) x t e))
 
 -- what stays free when two others are glued
 pub still_free : (faces : ℕ) (g : Gluing) (new : Table) (a b x : Side) → new.faces ≡ faces → gluing_of new ≡ glue a b g → IsFree faces g x → x ≢ a → x ≢ b → IsFree new.faces (gluing_of new) x
@@ -153,8 +154,9 @@ pub record Taken (old mid value : LinkValue) (a : ℕ) : Type 0 where
 
 pub taken_free : {old mid value : LinkValue} {a : ℕ} → Taken old mid value a → IsFree value.table.faces (gluing_of value.table) (side_at a)
 taken_free {old} {mid} {value} {a} T = record {
-    within = (let b = T.below in let e = ap (λ (v : LinkValue). v.table.faces) (T.view ∙ T.rest) in omega arith);
-    free = ap (λ (v : LinkValue). gluing_of v.table (side_at a)) (T.view ∙ T.rest) ∙ T.free }
+  within = (let b = T.below in let e = ap (λ (v : LinkValue). v.table.faces) (T.view ∙ T.rest) in omega arith);
+  free = ap (λ (v : LinkValue). gluing_of v.table (side_at a)) (T.view ∙ T.rest) ∙ T.free;
+}
 
 abbrev taken_state : LinkValue → ℕ → State
 taken_state value a = record (state_of value) { stack = side_at a ∷ map side_at value.stack.sides }
@@ -173,7 +175,7 @@ pub tip_alone_does : (old mid value : LinkValue) (a : ℕ) (t : Side) (n : ℕ) 
     step old.plan.symbols C (state_of old) ≡ Err (fault kind.Alone n)
 tip_alone_does old mid value a t n T e h q =
     steps_taken old mid value a (λ m s. step m C s) (Err (fault kind.Alone n)) T
-        (tip_alone value.plan.symbols (taken_state value a) (side_at a) (map side_at value.stack.sides) (taken_top old mid value a T) (sym e ∙ h) ∙ ap (λ (m : ℕ). let x : Next = Err (fault kind.Alone m) in x) (sym q))
+    (tip_alone value.plan.symbols (taken_state value a) (side_at a) (map side_at value.stack.sides) (taken_top old mid value a T) (sym e ∙ h) ∙ ap (λ (m : ℕ). let x : Next = Err (fault kind.Alone m) in x) (sym q))
 
 pub record TipGrown (value new : LinkValue) (a : ℕ) (t : Side) : Type 0 where
   pub faces : new.table.faces ≡ suc value.table.faces
@@ -187,16 +189,26 @@ pub tip_does : (old mid value new : LinkValue) (a : ℕ) (t : Side) → Taken ol
     step old.plan.symbols C (state_of old) ≡ Ok (state_of new)
 tip_does old mid value new a t T N e h =
     steps_taken old mid value a (λ m s. step m C s) (Ok (state_of new)) T
-        (tip_steps value.plan.symbols (taken_state value a) (side_at a) (map side_at value.stack.sides) (taken_top old mid value a T) (λ q. h (e ∙ q))
-        ∙ ap {A = State} Ok (same_state (sym N.faces)
-            (ap (λ (x : Side). glue (side value.table.faces third) x (glue (side value.table.faces second) (side_at a) (gluing_of value.table))) (sym e) ∙ sym N.glued)
-            (raised value.table.faces value.stack.sides new.stack.sides N.stack)
-            (ap (λ (x : SplitsValue). kept_in x.kept) (sym N.splits)) (ap (λ (x : SplitsValue). x.events) (sym N.splits)) (add-zero value.made ∙ sym N.made) (sym N.closes)))
+    (tip_steps value.plan.symbols (taken_state value a) (side_at a) (map side_at value.stack.sides) (taken_top old mid value a T) (λ q. h (e ∙ q))
+    ∙ ap {A = State} Ok (same_state (sym N.faces)
+    (ap (λ (x : Side). glue (side value.table.faces third) x (glue (side value.table.faces second) (side_at a) (gluing_of value.table))) (sym e) ∙ sym N.glued)
+    (raised value.table.faces value.stack.sides new.stack.sides N.stack)
+    (ap (λ (x : SplitsValue). kept_in x.kept) (sym N.splits)) (ap (λ (x : SplitsValue). x.events) (sym N.splits)) (add-zero value.made ∙ sym N.made) (sym N.closes)))
 
 -- other sides are kept
 pub link_kept : (v : LinkValue) (splits : SplitsValue) → IsLinkState v → length splits.kept ≡ length v.splits.kept → AreKeptBelow v.table.faces splits.kept → IsLinkState (record v { splits = splits })
 link_kept v splits I e K = record {
-    limit = I.limit; room = I.room; fewer = I.fewer; slots = e ∙ I.slots; stack_room = I.stack_room; low = I.low; few = I.few; sides = I.sides; kept = K; made = I.made }
+  limit = I.limit;
+  room = I.room;
+  fewer = I.fewer;
+  slots = e ∙ I.slots;
+  stack_room = I.stack_room;
+  low = I.low;
+  few = I.few;
+  sides = I.sides;
+  kept = K;
+  made = I.made;
+}
 
 -- both sides of an S just taken off
 pub record TakenTwo (old one two value : LinkValue) (b a : ℕ) : Type 0 where
@@ -224,21 +236,21 @@ pub split_no_second_does : (old one : LinkValue) (b : ℕ) (f : Fault) → Taken
     step old.plan.symbols S (state_of old) ≡ Err f
 split_no_second_does old one b f T e =
     steps_taken old one one b (λ m s. step m S s) (Err f) T
-        (split_no_second one.plan.symbols (taken_state one b) (side_at b) (map side_at one.stack.sides) f (taken_top old one one b T) e)
+    (split_no_second one.plan.symbols (taken_state one b) (side_at b) (map side_at one.stack.sides) f (taken_top old one one b T) e)
 
 pub split_one_side_does : (old one two value : LinkValue) (b a : ℕ) (n : ℕ) → TakenTwo old one two value b a → side_at a ≡ side_at b → n ≡ value.table.faces → step old.plan.symbols S (state_of old) ≡ Err (fault kind.Gone n)
 split_one_side_does old one two value b a n T h q =
     steps_taken old one one b (λ m s. step m S s) (Err (fault kind.Gone n)) T.first_taken
-        (split_one_side one.plan.symbols (taken_state one b) (side_at b) (side_at a) (map side_at one.stack.sides) (map side_at two.stack.sides) (taken_top old one one b T.first_taken) T.second_top h
-        ∙ ap (λ (m : ℕ). let x : Next = Err (fault kind.Gone m) in x) (sym (q ∙ ap (λ (t : Table). t.faces) (same_table T))))
+    (split_one_side one.plan.symbols (taken_state one b) (side_at b) (side_at a) (map side_at one.stack.sides) (map side_at two.stack.sides) (taken_top old one one b T.first_taken) T.second_top h
+    ∙ ap (λ (m : ℕ). let x : Next = Err (fault kind.Gone m) in x) (sym (q ∙ ap (λ (t : Table). t.faces) (same_table T))))
 
 pub split_one_point_does : (old one two value : LinkValue) (b a : ℕ) (t : Side) (n : ℕ) → TakenTwo old one two value b a → side_at a ≢ side_at b → t ≡ side_before value.table.faces (gluing_of value.table) (side_at b) → t ≡ side_at a → n ≡ value.table.faces →
     step old.plan.symbols S (state_of old) ≡ Err (fault kind.SamePoint n)
 split_one_point_does old one two value b a t n T h e k q =
     steps_taken old one one b (λ m s. step m S s) (Err (fault kind.SamePoint n)) T.first_taken
-        (split_one_point one.plan.symbols (taken_state one b) (side_at b) (side_at a) (map side_at one.stack.sides) (map side_at two.stack.sides) (taken_top old one one b T.first_taken) T.second_top h
-            (ap (λ (u : Table). side_before u.faces (gluing_of u) (side_at b)) (sym (same_table T)) ∙ sym e ∙ k)
-        ∙ ap (λ (m : ℕ). let x : Next = Err (fault kind.SamePoint m) in x) (sym (q ∙ ap (λ (t : Table). t.faces) (same_table T))))
+    (split_one_point one.plan.symbols (taken_state one b) (side_at b) (side_at a) (map side_at one.stack.sides) (map side_at two.stack.sides) (taken_top old one one b T.first_taken) T.second_top h
+    (ap (λ (u : Table). side_before u.faces (gluing_of u) (side_at b)) (sym (same_table T)) ∙ sym e ∙ k)
+    ∙ ap (λ (m : ℕ). let x : Next = Err (fault kind.SamePoint m) in x) (sym (q ∙ ap (λ (t : Table). t.faces) (same_table T))))
 
 pub record SplitGrown (value new : LinkValue) (b a : ℕ) : Type 0 where
   pub faces : new.table.faces ≡ suc value.table.faces
@@ -252,16 +264,16 @@ pub split_does : (old one two value new : LinkValue) (b a : ℕ) (t : Side) → 
     step old.plan.symbols S (state_of old) ≡ Ok (state_of new)
 split_does old one two value new b a t T N h e k =
     steps_taken old one one b (λ m s. step m S s) (Ok (state_of new)) T.first_taken
-        (split_steps one.plan.symbols (taken_state one b) (side_at b) (side_at a) (map side_at one.stack.sides) (map side_at two.stack.sides) (taken_top old one one b T.first_taken) T.second_top h
-            (λ q. k (e ∙ ap (λ (u : Table). side_before u.faces (gluing_of u) (side_at b)) (same_table T) ∙ q))
-        ∙ ap {A = State} Ok (same_state
-            (ap (λ (u : Table). suc u.faces) (sym (same_table T)) ∙ sym N.faces)
-            (ap (λ (u : Table). glue (side u.faces second) (side_at b) (glue (side u.faces third) (side_at a) (gluing_of u))) (sym (same_table T)) ∙ sym N.glued)
-            (ap (λ (u : Table). side u.faces first ∷ map side_at two.stack.sides) (sym (same_table T)) ∙ ap (λ (v : LinkValue). side value.table.faces first ∷ map side_at v.stack.sides) (sym T.view) ∙ raised value.table.faces value.stack.sides new.stack.sides N.stack)
-            (sym T.kept ∙ ap (λ (v : LinkValue). kept_in v.splits.kept) (sym T.view) ∙ ap (λ (x : SplitsValue). kept_in x.kept) (sym N.splits))
-            (sym T.events ∙ ap (λ (v : LinkValue). v.splits.events) (sym T.view) ∙ ap (λ (x : SplitsValue). x.events) (sym N.splits))
-            (add-zero one.made ∙ ap (λ (v : LinkValue). v.made) (sym (T.view ∙ T.rest)) ∙ sym N.made)
-            (ap (λ (v : LinkValue). v.closes) (sym (T.view ∙ T.rest)) ∙ sym N.closes)))
+    (split_steps one.plan.symbols (taken_state one b) (side_at b) (side_at a) (map side_at one.stack.sides) (map side_at two.stack.sides) (taken_top old one one b T.first_taken) T.second_top h
+    (λ q. k (e ∙ ap (λ (u : Table). side_before u.faces (gluing_of u) (side_at b)) (same_table T) ∙ q))
+    ∙ ap {A = State} Ok (same_state
+    (ap (λ (u : Table). suc u.faces) (sym (same_table T)) ∙ sym N.faces)
+    (ap (λ (u : Table). glue (side u.faces second) (side_at b) (glue (side u.faces third) (side_at a) (gluing_of u))) (sym (same_table T)) ∙ sym N.glued)
+    (ap (λ (u : Table). side u.faces first ∷ map side_at two.stack.sides) (sym (same_table T)) ∙ ap (λ (v : LinkValue). side value.table.faces first ∷ map side_at v.stack.sides) (sym T.view) ∙ raised value.table.faces value.stack.sides new.stack.sides N.stack)
+    (sym T.kept ∙ ap (λ (v : LinkValue). kept_in v.splits.kept) (sym T.view) ∙ ap (λ (x : SplitsValue). kept_in x.kept) (sym N.splits))
+    (sym T.events ∙ ap (λ (v : LinkValue). v.splits.events) (sym T.view) ∙ ap (λ (x : SplitsValue). x.events) (sym N.splits))
+    (add-zero one.made ∙ ap (λ (v : LinkValue). v.made) (sym (T.view ∙ T.rest)) ∙ sym N.made)
+    (ap (λ (v : LinkValue). v.closes) (sym (T.view ∙ T.rest)) ∙ sym N.closes)))
 
 -- a close: what the top side's loop is
 loop_test_is : (s : State) (a b c d : Side) → b ≡ side_before s.built s.glued a → c ≡ side_before s.built s.glued b → d ≡ side_before s.built s.glued c →
@@ -317,11 +329,11 @@ fill_does v new a rest b c d t W N h f e =
     to_fill v a rest W.stack
     ∙ fill_steps (v.plan.symbols + v.closes) v.plan (state_of v) (side_at a) (map side_at rest) W.free (loop_test_is (state_of v) (side_at a) b c d W.first_before W.second_before W.third_before ∙ sym h ∙ f) e
     ∙ ap {A = State} Ok (same_state
-        (sym N.faces)
-        (ap (λ (x : Side). glue (side v.table.faces third) (side_before v.table.faces (gluing_of v.table) x) (glue (side v.table.faces second) x (glue (side v.table.faces first) (side_at a) (gluing_of v.table)))) (sym W.first_before)
-            ∙ ap (λ (x : Side). glue (side v.table.faces third) x (glue (side v.table.faces second) b (glue (side v.table.faces first) (side_at a) (gluing_of v.table)))) (sym W.second_before) ∙ sym N.glued)
-        (ap (map side_at) (sym N.stack))
-        (ap (λ (x : SplitsValue). kept_in x.kept) (sym N.splits)) (ap (λ (x : SplitsValue). x.events) (sym N.splits)) (sym N.made) (sym N.closes))
+    (sym N.faces)
+    (ap (λ (x : Side). glue (side v.table.faces third) (side_before v.table.faces (gluing_of v.table) x) (glue (side v.table.faces second) x (glue (side v.table.faces first) (side_at a) (gluing_of v.table)))) (sym W.first_before)
+    ∙ ap (λ (x : Side). glue (side v.table.faces third) x (glue (side v.table.faces second) b (glue (side v.table.faces first) (side_at a) (gluing_of v.table)))) (sym W.second_before) ∙ sym N.glued)
+    (ap (map side_at) (sym N.stack))
+    (ap (λ (x : SplitsValue). kept_in x.kept) (sym N.splits)) (ap (λ (x : SplitsValue). x.events) (sym N.splits)) (sym N.made) (sym N.closes))
 
 -- the tests of a loop that passes
 pub loop_tells : (a b c d : Side) (t : Bool) → t ≡ (not (same b a) && not (same c a) && same d a) → t ≡ true → (b ≢ a) × (c ≢ a) × (d ≡ a)
@@ -338,16 +350,17 @@ loop_apart v a rest b c d W n e q = n (sym q ∙ W.second_before ∙ ap (side_be
 pub link_closed : {v new : LinkValue} → IsLinkState v → (a : ℕ) (rest : List ℕ) (more : ℕ) → v.stack.sides ≡ a ∷ rest → new.plan ≡ v.plan → room_of new.table ≡ room_of v.table → new.table.faces ≡ v.table.faces + more → new.stack.sides ≡ rest → new.stack.room ≡ v.stack.room →
     new.splits ≡ v.splits → new.made ≡ v.made → new.closes ≡ suc v.closes → AreSidesBelow new.table.faces rest → AreKeptBelow new.table.faces v.splits.kept → IsLinkState new
 link_closed {v} {new} I a rest more e p r f s t u m c K B = record {
-    limit = subst (λ (p : Plan). p.faces ≤ MAX_FACES) (sym p) I.limit;
-    room = r ∙ I.room ∙ ap (λ (p : Plan). p.faces) (sym p);
-    fewer = subst (λ (p : Plan). p.symbols ≤ p.faces) (sym p) I.fewer;
-    slots = ap (λ (x : SplitsValue). length x.kept) u ∙ I.slots ∙ ap (λ (p : Plan). p.symbols) (sym p);
-    stack_room = t ∙ I.stack_room ∙ ap (λ (p : Plan). p.symbols) (sym p);
-    low = (let h = ap {A = List ℕ} length e in let k = ap {A = List ℕ} length s in let l = I.low in omega arith);
-    few = (let h = ap {A = List ℕ} length e in let k = ap {A = List ℕ} length s in let l = I.few in let q = ap (λ (p : Plan). p.symbols) p in omega arith);
-    sides = subst (AreSidesBelow new.table.faces) (sym s) K;
-    kept = subst (λ (x : SplitsValue). AreKeptBelow new.table.faces x.kept) (sym u) B;
-    made = (let l = I.made in omega arith) }
+  limit = subst (λ (p : Plan). p.faces ≤ MAX_FACES) (sym p) I.limit;
+  room = r ∙ I.room ∙ ap (λ (p : Plan). p.faces) (sym p);
+  fewer = subst (λ (p : Plan). p.symbols ≤ p.faces) (sym p) I.fewer;
+  slots = ap (λ (x : SplitsValue). length x.kept) u ∙ I.slots ∙ ap (λ (p : Plan). p.symbols) (sym p);
+  stack_room = t ∙ I.stack_room ∙ ap (λ (p : Plan). p.symbols) (sym p);
+  low = (let h = ap {A = List ℕ} length e in let k = ap {A = List ℕ} length s in let l = I.low in omega arith);
+  few = (let h = ap {A = List ℕ} length e in let k = ap {A = List ℕ} length s in let l = I.few in let q = ap (λ (p : Plan). p.symbols) p in omega arith);
+  sides = subst (AreSidesBelow new.table.faces) (sym s) K;
+  kept = subst (λ (x : SplitsValue). AreKeptBelow new.table.faces x.kept) (sym u) B;
+  made = (let l = I.made in omega arith);
+}
 
 -- the top side of a list of sides, and the rest
 pub sides_rest : (f : ℕ) (sides : List ℕ) (a : ℕ) (rest : List ℕ) → sides ≡ a ∷ rest → AreSidesBelow f sides → AreSidesBelow f (a ∷ rest)

@@ -1,5 +1,5 @@
 -- Lists that are read from a place downwards.
-use Rattle.std.proofs.Common.{◌≡◌, ◌≢◌, ℕ, zero, suc, ◌+◌, ◌*◌, ◌<◌, ◌≤◌, List, [], ◌∷◌, ◌++◌, length, get_or, set, take, reverse, sym, refl, ap, ◌∙◌, subst, arith, get_or-set_other, get_or-set_same, add-one}
+use Rattle.std.proofs.Common.{◌≡◌, ◌≢◌, ℕ, zero, suc, ◌<◌, ◌≤◌, List, [], ◌∷◌, length, get_or, set, take, reverse, sym, refl, ap, ◌∙◌, arith, get_or-set_other, get_or-set_same, add-one}
 use Rattle.std.proofs.lemmas.List.{take_all, take_more, reverse-append}
 use Rattle.eb_rebuild.specs.Kept.{counted_down}
 

@@ -1,17 +1,15 @@
 -- How the machine notes events, one at a time, and what that does to a list of kept sides.
-use Rattle.std.proofs.Common.{◌≡◌, ◌≢◌, ℕ, zero, suc, ◌+◌, ◌-◌, ◌*◌, ◌/◌, ◌%◌, ◌<◌, ◌≤◌, Bool, true, false, not, cond, eqb, nat_lt, ◌==◌, is_none, List, [], ◌∷◌, ◌++◌, length, get_or, set, take, reverse, Option, Some, None, Result, Ok, Err, ◌⊎◌, inl, inr, sym, refl, ap, ◌∙◌, subst, arith, get_or-set_other, get_or-set_same, lt-ltb, le-ltb, eq-eqb, ne_eqb, eqb-true}
-use Rattle.std.proofs.lemmas.Bool.{cases_Bool, cases_eq, cond-true, cond-false, eqb-false}
+use Rattle.std.proofs.Common.{◌≡◌, ◌≢◌, ℕ, zero, suc, ◌+◌, ◌-◌, ◌*◌, ◌<◌, Bool, true, false, not, cond, eqb, is_none, List, [], ◌∷◌, length, get_or, set, Option, Some, None, Result, Ok, Err, inl, inr, sym, refl, ap, ◌∙◌, subst, arith, get_or-set_other, get_or-set_same, lt-ltb, le-ltb, eq-eqb, ne_eqb, eqb-true}
+use Rattle.std.proofs.lemmas.Bool.{cases_Bool, cases_eq, cond-true, cond-false}
 use mathlib.Core.Path.{fun_ext}
-use Rattle.drc_base.specs.declared.kinds.Kind.{Kind}
 use Rattle.drc_base.specs.declared.kinds.Kind.TheVariants as kind
 use Rattle.drc_base.specs.declared.faults.Fault.{Fault}
 use Rattle.drc_base.specs.declared.limits.TheConstants.{MAX_FACES}
 use Rattle.corner_table.specs.declared.symbols.Event.{Event}
-use Rattle.corner_table.specs.Sides.{Side, Place, second, third, side, number, side_at}
+use Rattle.corner_table.specs.Sides.{Side, side, number, side_at}
 use Rattle.corner_table.specs.Table.{other_at, free_entry}
-use Rattle.corner_table.proofs.Numbers.{side_at-number, number-lt}
 use Rattle.corner_table.proofs.TableSteps.{entry_taken}
-use Rattle.eb_rebuild.specs.Machine.{note_events, must, fault, ◌>>=◌, reserve, release, event_place}
+use Rattle.eb_rebuild.specs.Machine.{note_events, must, fault, ◌>>=◌, reserve, event_place}
 use Rattle.eb_rebuild.specs.Kept.{counted_down, no_event, kept_in, AreKeptBelow}
 
 abbrev pub Noted : Type 0
@@ -59,8 +57,9 @@ kept-some kept k v e h = ap other_at (sym e) ∙ (elim (cases_Bool (eqb v free_e
 -- a write keeps a side for one symbol
 pub kept_in-set : (kept : List ℕ) (j : ℕ) (a : Side) → j < length kept → a.face < MAX_FACES → kept_in (set kept j (number a)) ≡ reserve j a (kept_in kept)
 kept_in-set kept j a h l = fun_ext (λ k. elim (cases_eq k j) [
-    inl e ↦ ap (λ (m : ℕ). kept_in (set kept j (number a)) m) e ∙ ap other_at (get_or-set_same kept j (number a) free_entry h) ∙ entry_taken a MAX_FACES l (omega arith) ∙ sym (cond-true _ _ _ (eq-eqb k j e))
-  | inr n ↦ ap other_at (get_or-set_other kept j k (number a) free_entry n) ∙ sym (cond-false _ _ _ (ne_eqb k j n)) ])
+  | inl e ↦ ap (λ (m : ℕ). kept_in (set kept j (number a)) m) e ∙ ap other_at (get_or-set_same kept j (number a) free_entry h) ∙ entry_taken a MAX_FACES l (omega arith) ∙ sym (cond-true _ _ _ (eq-eqb k j e))
+  | inr n ↦ ap other_at (get_or-set_other kept j k (number a) free_entry n) ∙ sym (cond-false _ _ _ (ne_eqb k j n))
+])
 
 pub event_number : (face : ℕ) (right : Bool) → number (side face (event_place right)) ≡ 3 * face + cond right 1 2
 event_number face true = refl
@@ -69,19 +68,21 @@ event_number face false = refl
 -- the kept sides stay among the faces
 pub kept_below-set : (faces : ℕ) (kept : List ℕ) (j v : ℕ) → j < length kept → AreKeptBelow faces kept → v < 3 * suc faces → AreKeptBelow (suc faces) (set kept j v)
 kept_below-set faces kept j v h K b k n = elim (cases_eq k j) [
-    inl e ↦ (let q : get_or (set kept j v) k free_entry ≡ v = ap (λ (m : ℕ). get_or (set kept j v) m free_entry) e ∙ get_or-set_same kept j v free_entry h in omega arith)
+  | inl e ↦ (let q : get_or (set kept j v) k free_entry ≡ v = ap (λ (m : ℕ). get_or (set kept j v) m free_entry) e ∙ get_or-set_same kept j v free_entry h in omega arith)
   | inr m ↦ (
-        let q = get_or-set_other kept j k v free_entry m in
-        let old : get_or kept k free_entry < 3 * faces = K k (λ w. n (q ∙ w)) in
-        omega arith) ]
+      let q = get_or-set_other kept j k v free_entry m in
+      let old : get_or kept k free_entry < 3 * faces = K k (λ w. n (q ∙ w)) in
+      omega arith)
+]
 
 pub kept_below-set_more : (faces : ℕ) (kept : List ℕ) (j v : ℕ) → j < length kept → AreKeptBelow (suc faces) kept → v < 3 * suc faces → AreKeptBelow (suc faces) (set kept j v)
 kept_below-set_more faces kept j v h K b k n = elim (cases_eq k j) [
-    inl e ↦ (let q : get_or (set kept j v) k free_entry ≡ v = ap (λ (m : ℕ). get_or (set kept j v) m free_entry) e ∙ get_or-set_same kept j v free_entry h in omega arith)
+  | inl e ↦ (let q : get_or (set kept j v) k free_entry ≡ v = ap (λ (m : ℕ). get_or (set kept j v) m free_entry) e ∙ get_or-set_same kept j v free_entry h in omega arith)
   | inr m ↦ (
-        let q = get_or-set_other kept j k v free_entry m in
-        let old : get_or kept k free_entry < 3 * suc faces = K k (λ w. n (q ∙ w)) in
-        omega arith) ]
+      let q = get_or-set_other kept j k v free_entry m in
+      let old : get_or kept k free_entry < 3 * suc faces = K k (λ w. n (q ∙ w)) in
+      omega arith)
+]
 
 pub kept_below_more : (faces : ℕ) (kept : List ℕ) → AreKeptBelow faces kept → AreKeptBelow (suc faces) kept
 kept_below_more faces kept K k n = let h = K k n in omega arith
@@ -118,7 +119,7 @@ left_taken n i left events kept e v h q l m r f =
     let P : List Event → Type 0 = λ es. note_events n i es (kept_in kept) ≡ Err (fault kind.Taken i) in
     let w : n - 1 - e.split ≡ n - suc e.split = omega arith in
     subst P (sym (last_event left events e h q))
-        (note_taken n i e (counted_down no_event (left - 1) events) (kept_in kept) (side_at v) (omega arith) (ap (kept_in kept) (sym w) ∙ kept-some kept (n - 1 - e.split) v r f))
+    (note_taken n i e (counted_down no_event (left - 1) events) (kept_in kept) (side_at v) (omega arith) (ap (kept_in kept) (sym w) ∙ kept-some kept (n - 1 - e.split) v r f))
 
 pub left_more : (n i left : ℕ) (events : List Event) (kept : List ℕ) (e : Event) (v w : ℕ) → (left ≡ 0 → ⊥) → e ≡ get_or events (left - 1) no_event → (e.source < n - 1 - i → ⊥) → (n - 1 - i < e.source → ⊥) →
     v ≡ get_or kept (n - 1 - e.split) free_entry → v ≡ free_entry → w ≡ number (side i (event_place e.right)) → n - 1 - e.split < length kept → i < MAX_FACES →

@@ -1,5 +1,5 @@
 -- Worked surfaces and faulty streams, computed: what the machine glues and how many vertices it makes, or its first fault.
-use Rattle.std.specs.Prelude.{◌≡◌, ℕ, zero, suc, ◌+◌, Bool, true, false, List, [], ◌∷◌, map, Option, Some, None, Result, Ok, Err, get_or, refl}
+use Rattle.std.specs.Prelude.{◌≡◌, ℕ, suc, Bool, true, false, List, [], ◌∷◌, map, Option, Some, None, Result, Ok, Err, get_or, refl}
 use Rattle.drc_base.specs.declared.kinds.Kind.{Kind}
 use Rattle.drc_base.specs.declared.kinds.Kind.TheVariants as kind
 use Rattle.drc_base.specs.declared.faults.Fault.{Fault}
@@ -8,8 +8,7 @@ use Rattle.corner_table.specs.declared.symbols.Symbol.TheVariants.{C, S, L, R, E
 use Rattle.corner_table.specs.declared.symbols.Event.{Event}
 use Rattle.corner_table.specs.Sides.{Side, number}
 use Rattle.corner_table.specs.Fans.{corners_of, leftmost, walks_left, walks_right}
-use Rattle.eb_rebuild.specs.Machine.{State, Plan, rebuild, start, take_symbols, step, close, close_all, finish, note_events, first_degenerate, fault}
-use Rattle.eb_rebuild.specs.Degree.{top_degree}
+use Rattle.eb_rebuild.specs.Machine.{State, rebuild, take_symbols, step, close, close_all, finish, note_events, first_degenerate, fault}
 
 -- one more than the number of the other side, and 0 for a free one
 entry : Option Side → ℕ
@@ -106,4 +105,3 @@ lone_side_glued = refl
 lone_side_no_loop : run 4 9 4 (E ∷ C ∷ C ∷ R ∷ []) ([]) (true ∷ []) ≡ refuses kind.Loop 4
 unfolding gives refuses run bits event told entries entry corners_of rebuild take_symbols step close close_all finish note_events first_degenerate leftmost walks_left walks_right
 lone_side_no_loop = refl
-

@@ -1,14 +1,13 @@
 -- The rules of the machine, one outcome at a time.
-use Rattle.std.proofs.Common.{◌≡◌, ◌≢◌, ℕ, zero, suc, ◌+◌, ◌-◌, ◌*◌, ◌<◌, ◌≤◌, Bool, true, false, not, ◌&&◌, cond, eqb, ◌==◌, is_none, List, [], ◌∷◌, Option, Some, None, Result, Ok, Err, ◌⊎◌, inl, inr, sym, refl, ap, ◌∙◌, subst, arith, eq-eqb, ne_eqb}
+use Rattle.std.proofs.Common.{◌≡◌, ◌≢◌, ℕ, suc, ◌+◌, Bool, true, false, not, ◌&&◌, ◌==◌, is_none, List, [], ◌∷◌, Option, Some, None, Result, Ok, Err, refl, ap, ◌∙◌, eq-eqb, ne_eqb}
 use Rattle.drc_base.specs.declared.kinds.Kind.{Kind}
 use Rattle.drc_base.specs.declared.kinds.Kind.TheVariants as kind
 use Rattle.drc_base.specs.declared.faults.Fault.{Fault}
-use Rattle.corner_table.specs.declared.symbols.Symbol.{Symbol}
 use Rattle.corner_table.specs.declared.symbols.Symbol.TheVariants.{C, S, L, R, E}
 use Rattle.corner_table.specs.declared.symbols.Event.{Event}
-use Rattle.corner_table.specs.Sides.{Side, Place, first, second, third, side, same, Gluing, glue}
+use Rattle.corner_table.specs.Sides.{Side, first, second, third, side, same, Gluing, glue}
 use Rattle.corner_table.specs.Fans.{side_before}
-use Rattle.corner_table.proofs.Places.{same-true, same-false, not_same, same_refl}
+use Rattle.corner_table.proofs.Places.{not_same, same_refl}
 use Rattle.eb_rebuild.specs.Machine.{State, Plan, step, close, close_top, fill, top, pushed, release, must, fault, ◌>>=◌, with_events, grown, note_events}
 
 -- a state from its parts
@@ -149,28 +148,28 @@ pub split_one_side : (n : ℕ) (s : State) (b a : Side) (rest left : List Side) 
 split_one_side n s b a rest left t u h =
     split_to_last n s b a rest left t u
     ∙ must_fail (not (same a b)) kind.Gone s.built (λ u. must (not (same (side_before s.built s.glued b) a)) kind.SamePoint s.built >>= λ v.
-        Ok (record (grown s (glue (side s.built second) b (glue (side s.built third) a s.glued)) left 0) { reserved = release s.built s.reserved })) (ap not (ap (λ (x : Side). same x b) h ∙ same_refl b))
+    Ok (record (grown s (glue (side s.built second) b (glue (side s.built third) a s.glued)) left 0) { reserved = release s.built s.reserved })) (ap not (ap (λ (x : Side). same x b) h ∙ same_refl b))
 
 split_to_point : (n : ℕ) (s : State) (b a : Side) (rest left : List Side) → top s.built s.glued s.stack ≡ Ok (b, rest) → top s.built s.glued (pushed (s.reserved s.built) rest) ≡ Ok (a, left) → a ≢ b →
     step n S s ≡ (must (not (same (side_before s.built s.glued b) a)) kind.SamePoint s.built >>= λ v. Ok (record (grown s (glue (side s.built second) b (glue (side s.built third) a s.glued)) left 0) { reserved = release s.built s.reserved }))
 split_to_point n s b a rest left t u h =
     split_to_last n s b a rest left t u
     ∙ must_hold (not (same a b)) kind.Gone s.built (λ u. must (not (same (side_before s.built s.glued b) a)) kind.SamePoint s.built >>= λ v.
-        Ok (record (grown s (glue (side s.built second) b (glue (side s.built third) a s.glued)) left 0) { reserved = release s.built s.reserved })) (ap not (not_same a b h))
+    Ok (record (grown s (glue (side s.built second) b (glue (side s.built third) a s.glued)) left 0) { reserved = release s.built s.reserved })) (ap not (not_same a b h))
 
 pub split_one_point : (n : ℕ) (s : State) (b a : Side) (rest left : List Side) → top s.built s.glued s.stack ≡ Ok (b, rest) → top s.built s.glued (pushed (s.reserved s.built) rest) ≡ Ok (a, left) → a ≢ b → side_before s.built s.glued b ≡ a →
     step n S s ≡ Err (fault kind.SamePoint s.built)
 split_one_point n s b a rest left t u h e =
     split_to_point n s b a rest left t u h
     ∙ must_fail (not (same (side_before s.built s.glued b) a)) kind.SamePoint s.built (λ v. Ok (record (grown s (glue (side s.built second) b (glue (side s.built third) a s.glued)) left 0) { reserved = release s.built s.reserved }))
-        (ap not (ap (λ (x : Side). same x a) e ∙ same_refl a))
+    (ap not (ap (λ (x : Side). same x a) e ∙ same_refl a))
 
 pub split_steps : (n : ℕ) (s : State) (b a : Side) (rest left : List Side) → top s.built s.glued s.stack ≡ Ok (b, rest) → top s.built s.glued (pushed (s.reserved s.built) rest) ≡ Ok (a, left) → a ≢ b → side_before s.built s.glued b ≢ a →
     step n S s ≡ Ok (the_state (suc s.built) (glue (side s.built second) b (glue (side s.built third) a s.glued)) (side s.built first ∷ left) (release s.built s.reserved) s.events (s.made + 0) s.closes)
 split_steps n s b a rest left t u h e =
     split_to_point n s b a rest left t u h
     ∙ must_hold (not (same (side_before s.built s.glued b) a)) kind.SamePoint s.built (λ v. Ok (record (grown s (glue (side s.built second) b (glue (side s.built third) a s.glued)) left 0) { reserved = release s.built s.reserved }))
-        (ap not (not_same (side_before s.built s.glued b) a e))
+    (ap not (not_same (side_before s.built s.glued b) a e))
 
 -- a side is closed as a boundary
 pub close_boundary : (p : Plan) (s : State) (a : Side) (rest : List Side) → s.stack ≡ a ∷ rest → close p false s ≡ Ok (the_state s.built s.glued rest s.reserved s.events s.made (suc s.closes))

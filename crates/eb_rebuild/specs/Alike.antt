@@ -1,5 +1,5 @@
 -- Faces two of whose corners have one label.
-use Rattle.std.specs.Prelude.{ℕ, zero, suc, ◌+◌, ◌*◌, Bool, ◌||◌, ◌==◌, cond, List, get_or, Option, Some, None}
+use Rattle.std.specs.Prelude.{ℕ, zero, suc, Bool, ◌||◌, ◌==◌, cond, List, Option, Some, None}
 use Rattle.corner_table.specs.Sides.{first, second, third, side}
 use Rattle.corner_table.specs.Labels.{label_at}
 

@@ -1,5 +1,5 @@
 -- The degree of a vertex while a surface is rebuilt, by which the valence coder picks its contexts (Draco Bitstream Specification 2.2, Edgebreaker valence).
-use Rattle.std.specs.Prelude.{ℕ, zero, suc, ◌+◌, Bool, true, false, ◌&&◌, cond, is_none, List, [], ◌∷◌, count_by}
+use Rattle.std.specs.Prelude.{ℕ, ◌+◌, ◌&&◌, cond, is_none, [], ◌∷◌, count_by}
 use Rattle.std.specs.List.{list_any}
 use Rattle.corner_table.specs.Sides.{Side, next, Gluing}
 use Rattle.corner_table.specs.Fans.{meets, corners_of}

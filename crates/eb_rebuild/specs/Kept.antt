@@ -1,9 +1,8 @@
 -- The lists that a rebuilding keeps, as the machine reads them.
-use Rattle.std.specs.Prelude.{◌≡◌, ◌≢◌, ℕ, zero, suc, ◌+◌, ◌*◌, ◌<◌, ◌≤◌, Bool, false, List, [], ◌∷◌, get_or, length, map, Option}
+use Rattle.std.specs.Prelude.{◌≢◌, ℕ, zero, suc, ◌*◌, ◌<◌, false, List, [], ◌∷◌, get_or, Option}
 use Rattle.corner_table.specs.declared.symbols.Event.{Event}
-use Rattle.corner_table.specs.Sides.{Side, side_at}
-use Rattle.corner_table.specs.Table.{Table, gluing_of, room_of, other_at, free_entry}
-use Rattle.eb_rebuild.specs.Machine.{State, Plan}
+use Rattle.corner_table.specs.Sides.{Side}
+use Rattle.corner_table.specs.Table.{other_at, free_entry}
 
 -- the first n items, the last first
 abbrev pub counted_down : {A : Type 0} → A → ℕ → List A → List A

@@ -1,5 +1,5 @@
 -- What a rebuilding that keeps the boundary by links holds, and the machine's state that it stands for.
-use Rattle.std.specs.Prelude.{◌≡◌, ℕ, ◌+◌, ◌*◌, ◌≤◌, ◌<◌, List, length, map, Result, Ok, Err}
+use Rattle.std.specs.Prelude.{◌≡◌, ℕ, ◌+◌, ◌*◌, ◌≤◌, length, map, Result, Ok, Err}
 use Rattle.drc_base.specs.declared.faults.Fault.{Fault}
 use Rattle.drc_base.specs.declared.faults.Refusal.{Refusal}
 use Rattle.drc_base.specs.declared.faults.Refusal.TheVariants as refusal
@@ -20,8 +20,14 @@ pub record LinkValue : Type 0 where
 -- the machine's state
 abbrev pub state_of : LinkValue → State
 state_of v = record {
-  built = v.table.faces; glued = gluing_of v.table; stack = map side_at v.stack.sides;
-  reserved = kept_in v.splits.kept; events = v.splits.events; made = v.made; closes = v.closes }
+  built = v.table.faces;
+  glued = gluing_of v.table;
+  stack = map side_at v.stack.sides;
+  reserved = kept_in v.splits.kept;
+  events = v.splits.events;
+  made = v.made;
+  closes = v.closes;
+}
 
 -- there is room for what is to come, and the sides that wait and that are kept are those of built faces
 pub record IsLinkState (v : LinkValue) : Type 0 where

@@ -1,13 +1,13 @@
 -- The machine that rebuilds a surface from its symbols, the last first (reverse decoding: Isenburg and Snoeyink 2001; Draco Bitstream
 -- Specification 2.2, Edgebreaker). A vertex is a fan of what is glued so far; an active side is a free side of a built face.
-use Rattle.std.specs.Prelude.{◌≡◌, ℕ, zero, suc, ◌+◌, ◌-◌, ◌*◌, ◌<◌, Bool, true, false, not, ◌&&◌, ◌||◌, nat_lt, nat_le, ◌==◌, cond, is_none, List, [], ◌∷◌, length, Option, Some, None, Result, Ok, Err}
+use Rattle.std.specs.Prelude.{ℕ, zero, suc, ◌+◌, ◌-◌, Bool, true, false, not, ◌&&◌, ◌||◌, nat_lt, nat_le, ◌==◌, cond, is_none, List, [], ◌∷◌, length, Option, Some, None, Result, Ok, Err}
 use Rattle.drc_base.specs.declared.kinds.Kind.{Kind}
 use Rattle.drc_base.specs.declared.kinds.Kind.TheVariants as kind
 use Rattle.drc_base.specs.declared.faults.Fault.{Fault}
 use Rattle.corner_table.specs.declared.symbols.Symbol.{Symbol}
 use Rattle.corner_table.specs.declared.symbols.Symbol.TheVariants.{C, S, L, R, E}
 use Rattle.corner_table.specs.declared.symbols.Event.{Event}
-use Rattle.corner_table.specs.Sides.{Side, Place, first, second, third, side, next, prev, same, Gluing, unglued, glue}
+use Rattle.corner_table.specs.Sides.{Side, Place, first, second, third, side, same, Gluing, unglued, glue}
 use Rattle.corner_table.specs.Fans.{side_before, meets}
 
 -- a step and what follows it, unless it is a fault
@@ -76,8 +76,8 @@ note_events n i [] kept = Ok ([], kept)
 note_events n i (e ∷ events) kept =
     cond (nat_lt e.source (n - suc i)) (Ok (e ∷ events, kept))
     (must (not (nat_lt (n - suc i) e.source)) kind.EventOrder i >>= λ _.
-     must (is_none (kept (n - suc e.split))) kind.Taken i >>= λ _.
-     note_events n i events (reserve (n - suc e.split) (side i (event_place e.right)) kept))
+    must (is_none (kept (n - suc e.split))) kind.Taken i >>= λ _.
+    note_events n i events (reserve (n - suc e.split) (side i (event_place e.right)) kept))
 
 -- the state after an E, L or R, once its events are noted
 abbrev pub with_events : ℕ → State → State → Result State Fault
@@ -119,8 +119,11 @@ fill n p a rest s =
     must (not (same b a) && not (same c a) && same (side_before s.built s.glued c) a) kind.Loop n >>= λ _.
     must (not (s.built == p.faces)) kind.FaceCount s.built >>= λ _.
     Ok (record s {
-        built = suc s.built; stack = rest; closes = suc s.closes;
-        glued = glue (side s.built third) c (glue (side s.built second) b (glue (side s.built first) a s.glued)) })
+      built = suc s.built;
+      stack = rest;
+      closes = suc s.closes;
+      glued = glue (side s.built third) c (glue (side s.built second) b (glue (side s.built first) a s.glued));
+    })
 
 -- what closing the top of a stack does: nothing more where it is a boundary, else a face fills its loop
 abbrev pub close_top : ℕ → Plan → Bool → List Side → State → Result State Fault

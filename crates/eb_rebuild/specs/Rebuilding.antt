@@ -1,5 +1,5 @@
 -- What the calls of a rebuilding answer, against the machine.
-use Rattle.std.specs.Prelude.{◌≡◌, ℕ, suc, ◌+◌, ◌*◌, ◌<◌, ◌≤◌, Bool, true, IsTrue, List, get_or, length, Result, Ok, Err, Contains, All}
+use Rattle.std.specs.Prelude.{◌≡◌, ℕ, ◌<◌, ◌≤◌, Bool, IsTrue, Result, Ok, Err}
 use Rattle.drc_base.specs.declared.faults.Fault.{Fault}
 use Rattle.drc_base.specs.declared.faults.Refusal.{Refusal}
 use Rattle.drc_base.specs.declared.faults.Refusal.TheVariants as refusal

@@ -12,9 +12,7 @@ fn has_equal_labels(labels: &[u32], face: u32) -> bool
     ensures { result ≡ is_alike labels.now face }
 {
     let at = 3 * face as usize;
-    labels[at] == labels[at + 1]
-        || labels[at + 1] == labels[at + 2]
-        || labels[at + 2] == labels[at]
+    labels[at] == labels[at + 1] || labels[at + 1] == labels[at + 2] || labels[at + 2] == labels[at]
 }
 
 /// The least face with two equal labels.

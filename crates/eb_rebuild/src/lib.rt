@@ -9,6 +9,8 @@ mod link_rebuild;
 mod rebuild;
 mod side_stack;
 mod splits;
+#[cfg(test)]
+mod tests;
 
 pub use built::Built;
 pub use link_rebuild::LinkRebuild;

@@ -4,6 +4,13 @@
 //! free; the table's links tell both at once. So a symbol takes a few table calls, whatever was built
 //! before.
 
+ghost use Rattle.std.specs.Prelude.{◌≡◌, ◌/◌, ◌%◌};
+ghost use Rattle.corner_table.specs.Sides.{side_at, same, number};
+ghost use Rattle.corner_table.specs.Table.{side_of};
+ghost use Rattle.eb_rebuild.specs.Linked.{refused_by};
+ghost use Rattle.drc_base.specs.declared.limits.TheConstants.{MAX_FACES as most_faces};
+ghost use Rattle.std.specs.Prelude.{◌<◌, ◌*◌, ◌+◌, not, ◌&&◌};
+
 use crate::built::Built;
 use crate::degenerate::first_equal;
 use crate::rebuild::Rebuild;
@@ -14,13 +21,6 @@ use drc_base::{Fault, Kind, Memory, Refusal, Side};
 use std::alloc::Global;
 use std::marker::Model;
 use std::sync::ledger::Ledger;
-
-ghost use Rattle.std.specs.Prelude.{◌≡◌, ◌/◌, ◌%◌};
-ghost use Rattle.corner_table.specs.Sides.{side_at, same, number};
-ghost use Rattle.corner_table.specs.Table.{side_of};
-ghost use Rattle.eb_rebuild.specs.Linked.{refused_by};
-ghost use Rattle.drc_base.specs.declared.limits.TheConstants.{MAX_FACES as most_faces};
-ghost use Rattle.std.specs.Prelude.{◌<◌, ◌*◌, ◌+◌, not, ◌&&◌};
 
 /// The side with a number.
 fn side_with(number: u32) -> Side
@@ -51,9 +51,7 @@ fn is_same(a: Side, b: Side) -> bool
 /// Whether b and c, which come before a round the boundary, are two more sides, and d, which comes
 /// before these, is a again: a loop of just three.
 fn is_loop(a: Side, b: Side, c: Side, d: Side) -> bool
-    ensures {
-        result ≡ (not (same (side_of b) (side_of a)) && not (same (side_of c) (side_of a)) && same (side_of d) (side_of a))
-    }
+    ensures { result ≡ (not (same (side_of b) (side_of a)) && not (same (side_of c) (side_of a)) && same (side_of d) (side_of a)) }
 {
     !is_same(b, a) && !is_same(c, a) && is_same(d, a)
 }
@@ -86,17 +84,23 @@ impl Model for LinkRebuild {
 
     ghost Value = { LinkValue };
 
-    ghost view = {
-        λ r. record {
-            plan = record { faces = r.faces; created = r.created; symbols = r.symbols };
-            table = r.table; stack = r.stack; splits = r.splits; made = r.made; closes = r.closes }
-    };
+    ghost view = { λ r. record {
+      plan = record { faces = r.faces; created = r.created; symbols = r.symbols };
+      table = r.table;
+      stack = r.stack;
+      splits = r.splits;
+      made = r.made;
+      closes = r.closes;
+    } };
 
-    ghost invariant = {
-        λ r. IsLinkState (record {
-            plan = record { faces = r.faces; created = r.created; symbols = r.symbols };
-            table = r.table; stack = r.stack; splits = r.splits; made = r.made; closes = r.closes })
-    };
+    ghost invariant = { λ r. IsLinkState (record {
+      plan = record { faces = r.faces; created = r.created; symbols = r.symbols };
+      table = r.table;
+      stack = r.stack;
+      splits = r.splits;
+      made = r.made;
+      closes = r.closes;
+    }) };
 }
 
 impl LinkRebuild {
@@ -110,12 +114,8 @@ impl LinkRebuild {
 
     /// Takes the top side off, which has to be free.
     fn take_side<L: Ledger>(&mut self, steps: &mut Steps<L>) -> Result<u32, Fault>
-        ensures ok {
-            IfOk result (λ a. (self.old.stack.sides ≡ a ∷ self.new.stack.sides) × (gluing_of self.old.table (side_at a) ≡ None) × (a < 3 * self.old.table.faces))
-        }
-        ensures err {
-            IfErr result (λ f. top self.old.table.faces (gluing_of self.old.table) (map side_at self.old.stack.sides) ≡ Err f)
-        }
+        ensures ok { IfOk result (λ a. (self.old.stack.sides ≡ a ∷ self.new.stack.sides) × (gluing_of self.old.table (side_at a) ≡ None) × (a < 3 * self.old.table.faces)) }
+        ensures err { IfErr result (λ f. top self.old.table.faces (gluing_of self.old.table) (map side_at self.old.stack.sides) ≡ Err f) }
         ensures rest { self.new ≡ record self.old { stack = self.new.stack } }
         ensures cost { steps.new ≤ steps.old + 1 }
     {
@@ -215,13 +215,9 @@ impl LinkRebuild {
     /// free.
     fn take_second<L: Ledger>(&mut self, steps: &mut Steps<L>) -> Result<u32, Fault>
         requires { self.old.table.faces < self.old.plan.symbols }
-        ensures ok {
-            IfOk result (λ a. (top self.old.table.faces (gluing_of self.old.table) (pushed (kept_in self.old.splits.kept self.old.table.faces) (map side_at self.old.stack.sides)) ≡ Ok (side_at a, map side_at self.new.stack.sides))
-                × (gluing_of self.old.table (side_at a) ≡ None) × (a < 3 * self.old.table.faces))
-        }
-        ensures err {
-            IfErr result (λ f. top self.old.table.faces (gluing_of self.old.table) (pushed (kept_in self.old.splits.kept self.old.table.faces) (map side_at self.old.stack.sides)) ≡ Err f)
-        }
+        ensures ok { IfOk result (λ a. (top self.old.table.faces (gluing_of self.old.table) (pushed (kept_in self.old.splits.kept self.old.table.faces) (map side_at self.old.stack.sides)) ≡ Ok (side_at a, map side_at self.new.stack.sides))
+            × (gluing_of self.old.table (side_at a) ≡ None) × (a < 3 * self.old.table.faces)) }
+        ensures err { IfErr result (λ f. top self.old.table.faces (gluing_of self.old.table) (pushed (kept_in self.old.splits.kept self.old.table.faces) (map side_at self.old.stack.sides)) ≡ Err f) }
         ensures kept { kept_in self.new.splits.kept ≡ release self.old.table.faces (kept_in self.old.splits.kept) }
         ensures events { self.new.splits.events ≡ self.old.splits.events }
         ensures rest { self.new ≡ record self.old { stack = self.new.stack; splits = self.new.splits } }

@@ -40,9 +40,7 @@ pub trait Rebuild: Sized + Drop {
         requires faces { faces ≤ most_faces }
         requires symbols { symbols ≤ faces }
         requires events { All (IsEventOf symbols) events.items }
-        ensures plan {
-            IfOk result (λ r. plan r ≡ record { faces = faces; created = created; symbols = symbols })
-        }
+        ensures plan { IfOk result (λ r. plan r ≡ record { faces = faces; created = created; symbols = symbols }) }
         ensures state { IfOk result (λ r. state r ≡ start (reverse events.items)) }
         ensures live { IfOk result (λ r. IsTrue (live r)) };
 
@@ -52,9 +50,7 @@ pub trait Rebuild: Sized + Drop {
         requires live { IsTrue (live self.old) }
         requires more { (state self.old).built < (plan self.old).symbols }
         requires unclosed { (state self.old).closes ≡ 0 }
-        ensures moves {
-            Moves (step (plan self.old).symbols symbol (state self.old)) (state self.new) (live self.new) result
-        }
+        ensures moves { Moves (step (plan self.old).symbols symbol (state self.old)) (state self.new) (live self.new) result }
         ensures plan { OnOk result (plan self.new ≡ plan self.old) }
         ensures linked { OnOk result (linked self.new ≡ linked self.old) }
         ensures memory { IsTrue (linked self.old) → result ≢ Err refusal.Memory }
@@ -74,9 +70,7 @@ pub trait Rebuild: Sized + Drop {
         requires live { IsTrue (live self.old) }
         requires all { (plan self.old).symbols ≤ (state self.old).built }
         requires pending { 0 < length (state self.old).stack }
-        ensures moves {
-            Moves (close (plan self.old) interior (state self.old)) (state self.new) (live self.new) result
-        }
+        ensures moves { Moves (close (plan self.old) interior (state self.old)) (state self.new) (live self.new) result }
         ensures plan { OnOk result (plan self.new ≡ plan self.old) }
         ensures linked { OnOk result (linked self.new ≡ linked self.old) }
         ensures memory { IsTrue (linked self.old) → result ≢ Err refusal.Memory }

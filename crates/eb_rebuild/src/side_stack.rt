@@ -56,9 +56,7 @@ impl SideStack {
 
     /// Takes the top side off; None where none waits.
     pub(crate) fn pop(&mut self) -> Option<u32>
-        ensures top {
-            MatchOption result ((self.old.sides ≡ []) × (self.new.sides ≡ [])) (λ side. self.old.sides ≡ side ∷ self.new.sides)
-        }
+        ensures top { MatchOption result ((self.old.sides ≡ []) × (self.new.sides ≡ [])) (λ side. self.old.sides ≡ side ∷ self.new.sides) }
         ensures room { self.new.room ≡ self.old.room }
     {
         if self.height == 0 {

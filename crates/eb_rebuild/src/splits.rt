@@ -86,11 +86,9 @@ impl Splits {
     pub(crate) fn note(&mut self, face: u32) -> Result<(), Fault>
         requires face { face < length self.old.kept }
         requires limit { length self.old.kept ≤ most_faces }
-        ensures noted {
-            MatchResult result
-                (λ _. note_events (length self.old.kept) face self.old.events (kept_in self.old.kept) ≡ Ok (self.new.events, kept_in self.new.kept))
-                (λ f. note_events (length self.old.kept) face self.old.events (kept_in self.old.kept) ≡ Err f)
-        }
+        ensures noted { MatchResult result
+            (λ _. note_events (length self.old.kept) face self.old.events (kept_in self.old.kept) ≡ Ok (self.new.events, kept_in self.new.kept))
+            (λ f. note_events (length self.old.kept) face self.old.events (kept_in self.old.kept) ≡ Err f) }
         ensures long { length self.new.kept ≡ length self.old.kept }
         ensures below { AreKeptBelow face self.old.kept → AreKeptBelow (suc face) self.new.kept }
     {

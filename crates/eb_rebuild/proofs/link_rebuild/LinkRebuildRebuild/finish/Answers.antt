@@ -1,8 +1,6 @@
 -- Each test of the code is that of the machine.
-use Rattle.std.proofs.Common.{◌≡◌, ℕ, ◌≤◌, Some, None, sym, ap, ◌∙◌, arith, refl}
-use Rattle.corner_table.specs.Table.{gluing_of}
-use Rattle.eb_rebuild.specs.Linked.{LinkValue, state_of}
-use Rattle.eb_rebuild.specs.Machine.{first_degenerate}
+use Rattle.std.proofs.Common.{sym, ap, ◌∙◌, arith, refl}
+use Rattle.eb_rebuild.specs.Linked.{state_of}
 use Rattle.eb_rebuild.specs.Alike.{first_alike}
 use Rattle.eb_rebuild.proofs.Ends.{finish_faces, finish_vertices, finish_degenerate, finish_done}
 use Rattle.eb_rebuild.proofs.Equals.{first_degenerate_is}

@@ -1,5 +1,5 @@
 -- The stack's length is its height.
-use Rattle.std.proofs.Common.{◌≡◌, ℕ, ◌≤◌, length, sym, ap, subst, ◌∙◌, arith}
+use Rattle.std.proofs.Common.{◌≤◌, length, sym, ap, subst, ◌∙◌, arith}
 use Rattle.eb_rebuild.specs.Kept.{StackValue}
 use Rattle.eb_rebuild.proofs.Lists.{length-counted_down}
 use Rattle.eb_rebuild.proofs.side_stack.SideStack.len.Goals as goal

@@ -1,6 +1,6 @@
 -- There is room, and the side is on top.
-use Rattle.std.proofs.Common.{◌≡◌, ℕ, suc, ◌+◌, ◌<◌, ◌≤◌, ◌∷◌, List, length, vec_len, sym, ap, subst, ◌∙◌, arith, add-one}
-use Rattle.eb_rebuild.specs.Kept.{StackValue, counted_down}
+use Rattle.std.proofs.Common.{◌<◌, ◌∷◌, length, sym, ap, subst, ◌∙◌, arith, add-one}
+use Rattle.eb_rebuild.specs.Kept.{StackValue}
 use Rattle.eb_rebuild.proofs.Lists.{length-counted_down, counted_down_push}
 use Rattle.eb_rebuild.proofs.side_stack.SideStack.push.Goals as goal
 

@@ -1,5 +1,5 @@
 -- All events are left.
-use Rattle.std.proofs.Common.{◌≡◌, ℕ, ◌∙◌, ap, length, sym}
+use Rattle.std.proofs.Common.{ℕ, ◌∙◌, ap}
 use Rattle.eb_rebuild.specs.Kept.{counted_down, no_event}
 use Rattle.eb_rebuild.proofs.Lists.{counted_down_reverse}
 use Rattle.eb_rebuild.proofs.splits.Splits.new.Goals as goal
