@@ -1,6 +1,6 @@
 -- Symbols as bits (Draco Bitstream Specification 2.2, Edgebreaker standard traversal): C is the bit 0, and S, L, R and E are the
 -- three bits of 1, 3, 5 and 7, the lowest first.
-use Rattle.std.specs.Prelude.{ℕ, zero, suc, ◌+◌, Bool, true, false, cond, ◌==◌, List, [], ◌∷◌, ◌++◌, Option, Some, None, is_some}
+use Rattle.std.specs.Prelude.{ℕ, zero, suc, Bool, true, false, cond, ◌==◌, List, [], ◌∷◌, ◌++◌, Option, Some, None}
 use Rattle.drc_bits.specs.Bits.{BitPlace, next_bits, after_bits, low_bits}
 use Rattle.corner_table.specs.declared.symbols.Symbol.{Symbol}
 use Rattle.corner_table.specs.declared.symbols.Symbol.TheVariants.{C, S, L, R, E}

@@ -4,6 +4,8 @@
 
 mod packing;
 mod symbol_reader;
+#[cfg(test)]
+mod tests;
 
 pub use packing::pack;
 pub use symbol_reader::SymbolReader;

@@ -1,5 +1,5 @@
 -- The symbols from this one on are written.
-use Rattle.std.proofs.Common.{◌≡◌, ◌≤◌, drop, length}
+use Rattle.std.proofs.Common.{◌≡◌, drop}
 use Rattle.eb_standard.specs.SymbolBits.{reversed_bits}
 use Rattle.eb_standard.proofs.packing.pack.Given as goal
 
