@@ -1,1 +1,2 @@
 pub mod SymbolBits
+pub mod ReadBack

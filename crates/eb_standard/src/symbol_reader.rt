@@ -2,6 +2,7 @@
 
 ghost use Rattle.std.specs.Prelude.{◌≡◌, false, Some, None};
 ghost use Rattle.eb_standard.specs.SymbolBits.{next_symbol, after_symbol, symbol_of, longer, after_longer};
+ghost use Rattle.eb_standard.specs.ReadBack.{ReadsBack};
 
 use corner_table::Symbol;
 use drc_bits::BitReader;
@@ -49,6 +50,15 @@ impl<'a> SymbolReader<'a> {
     /// The next symbol. None exactly where not all of its bits are there; then no symbol follows. It
     /// takes no memory.
     pub fn next(&mut self) -> Option<Symbol>
+        ensures symbol { result ≡ next_symbol self.old }
+        ensures after { self.new ≡ after_symbol self.old }
+        ensures back { ReadsBack self.old self.new result }
+    {
+        self.next_found()
+    }
+
+    /// The next symbol.
+    fn next_found(&mut self) -> Option<Symbol>
         ensures symbol { result ≡ next_symbol self.old }
         ensures after { self.new ≡ after_symbol self.old }
     {
