@@ -1,0 +1,11 @@
+pub mod Places
+pub mod Numbers
+pub mod Walks
+pub mod Boundary
+pub mod Gluings
+pub mod LinkSteps
+pub mod LinkLists
+pub mod TableSteps
+pub mod Labelling
+pub mod LabelAll
+pub mod Meeting

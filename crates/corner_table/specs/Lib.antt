@@ -1,0 +1,6 @@
+pub mod Sides
+pub mod Fans
+pub mod Carried
+pub mod Links
+pub mod Table
+pub mod Labels

@@ -1,0 +1,33 @@
+-- The boundary kept as links: for each free side the one that follows it and the one before it.
+use Rattle.std.specs.Prelude.{◌≡◌, ℕ, cond, eqb, List, get_or, set}
+use Rattle.corner_table.specs.Sides.{Side, side, first, second, third, number, Gluing, IsFree}
+use Rattle.corner_table.specs.Fans.{side_before, side_after}
+
+-- each free side's entry in `after` is the number of the side that follows it, and in `before` of the one that comes before it
+pub record IsLinked (faces : ℕ) (g : Gluing) (after before : List ℕ) : Type 0 where
+  pub after_is : (x : Side) → IsFree faces g x → get_or after (number x) 0 ≡ number (side_after faces g x)
+  pub before_is : (x : Side) → IsFree faces g x → get_or before (number x) 0 ≡ number (side_before faces g x)
+
+-- side number y follows side number x from now on
+abbrev pub joined : ℕ → ℕ → List ℕ × List ℕ → List ℕ × List ℕ
+joined x y links = (set links.0 x y, set links.1 y x)
+
+-- sides a and b are taken out of the boundary: the side before each is joined to the side after the other. Where one of them is
+-- alone in its loop, both its ends are one vertex, and what comes before the other is joined to what follows the other
+abbrev pub taken_out : ℕ → ℕ → ℕ → ℕ → ℕ → ℕ → List ℕ × List ℕ → List ℕ × List ℕ
+taken_out after_a before_a after_b before_b a b links =
+    cond (eqb after_a a)
+    (cond (eqb after_b b) links (joined before_b after_b links))
+    (cond (eqb after_b b) (joined before_a after_a links) (joined before_b after_a (joined before_a after_b links)))
+
+-- the same with the neighbours that the links tell
+abbrev pub relinked : ℕ → ℕ → List ℕ × List ℕ → List ℕ × List ℕ
+relinked a b links = taken_out (get_or links.0 a 0) (get_or links.1 a 0) (get_or links.0 b 0) (get_or links.1 b 0) a b links
+
+-- the three sides of a new face follow one another
+abbrev pub new_loop : ℕ → List ℕ × List ℕ → List ℕ × List ℕ
+new_loop f links =
+    let x = number (side f first) in
+    let y = number (side f second) in
+    let z = number (side f third) in
+    joined z x (joined y z (joined x y links))

@@ -1,0 +1,108 @@
+//! Labels of vertices.
+//!
+//! Corners are taken in order. One without a label begins a new fan: from it the fan is walked to the
+//! left until it ends or comes round, and then to the right. Each corner is labelled once.
+
+ghost use Rattle.std.specs.Prelude.{◌≡◌, ℕ, ◌*◌, ◌<◌, Bool, List, IfOk, vec_len};
+ghost use Rattle.std.specs.Option.{option_map};
+ghost use Rattle.corner_table.specs.Sides.{side_at, IsGluing};
+ghost use Rattle.corner_table.specs.Fans.{swing_left, swing_right};
+ghost use Rattle.corner_table.specs.Table.{gluing_of, free_entry};
+ghost use Rattle.corner_table.specs.Labels.{label_at, IsLabelled, IsReady, IsLeftDone, IsRightDone, IsFanLabelled};
+
+use crate::corner_lists::Classes;
+use crate::entries::{entry_or_free, filled};
+use crate::side_table::SideTable;
+use drc_base::{Memory, Sequence};
+use std::alloc::Global;
+
+/// The label of a corner that has none yet.
+const NONE: u32 = u32::MAX;
+
+/// Labels the fan of corner `start` from there to the left; whether it came to an end.
+fn label_left(table: &SideTable, labels: &mut Vec<u32>, start: u32, label: u32) -> bool
+    requires gluing { IsGluing table.now.faces (gluing_of table.now) }
+    requires start { start < 3 * table.now.faces }
+    requires room { vec_len labels.old ≡ 3 * table.now.faces }
+    requires real { label < free_entry }
+    ensures len { vec_len labels.new ≡ vec_len labels.old }
+    ensures left { IsReady (gluing_of table.now) label labels.old.items (side_at start) → IsLeftDone (gluing_of table.now) label labels.old.items labels.new.items (side_at start) result }
+{
+    labels[start as usize] = label;
+    let mut at = start;
+    'leftwards: loop {
+        match table.left_of(at) {
+            None => return true,
+            Some(found) => {
+                if entry_or_free(labels, found) != NONE {
+                    return false;
+                }
+                labels[found as usize] = label;
+                at = found;
+            }
+        }
+    }
+}
+
+/// Labels the rest of the fan, from corner `start` to the right; whether it came to an end.
+fn label_right(table: &SideTable, labels: &mut Vec<u32>, start: u32, label: u32) -> bool
+    requires gluing { IsGluing table.now.faces (gluing_of table.now) }
+    requires start { start < 3 * table.now.faces }
+    requires room { vec_len labels.old ≡ 3 * table.now.faces }
+    requires real { label < free_entry }
+    ensures len { vec_len labels.new ≡ vec_len labels.old }
+    ensures right { (before : List ℕ) (open_left : Bool) → IsReady (gluing_of table.now) label before (side_at start) → IsLeftDone (gluing_of table.now) label before labels.old.items (side_at start) open_left → IsRightDone (gluing_of table.now) label before labels.old.items labels.new.items (side_at start) result }
+{
+    let mut at = start;
+    'rightwards: loop {
+        match table.right_of(at) {
+            None => return true,
+            Some(found) => {
+                if entry_or_free(labels, found) != NONE {
+                    return false;
+                }
+                labels[found as usize] = label;
+                at = found;
+            }
+        }
+    }
+}
+
+/// Labels the whole fan of corner `start`; whether it meets a boundary.
+fn label_fan(table: &SideTable, labels: &mut Vec<u32>, start: u32, label: u32) -> bool
+    requires gluing { IsGluing table.now.faces (gluing_of table.now) }
+    requires start { start < 3 * table.now.faces }
+    requires room { vec_len labels.old ≡ 3 * table.now.faces }
+    requires real { label < free_entry }
+    ensures len { vec_len labels.new ≡ vec_len labels.old }
+    ensures fan { IsReady (gluing_of table.now) label labels.old.items (side_at start) → IsFanLabelled (gluing_of table.now) label labels.old.items labels.new.items (side_at start) result }
+{
+    let left = label_left(table, labels, start, label);
+    let right = label_right(table, labels, start, label);
+    left || right
+}
+
+impl SideTable {
+    /// Labels the vertices: a class for each fan, numbered by the fans' least corners, and of each
+    /// class whether a free side meets it.
+    pub fn label_vertices(&self, alloc: Global) -> Result<Classes, Memory>
+        ensures { IfOk result (λ c. IsLabelled self.now.faces (gluing_of self.now) c.of_corner c.count c.ends) }
+    {
+        let corners = 3 * self.face_count();
+        let mut labels = filled(alloc, NONE, corners as usize)?;
+        let mut ends = Vec::new(alloc);
+        let mut count = 0u32;
+        for corner in 0..corners {
+            if entry_or_free(&labels, corner) == NONE {
+                let open = label_fan(self, &mut labels, corner, count);
+                ends.push(open)?;
+                count += 1;
+            }
+        }
+        Ok(Classes {
+            of_corner: Sequence::from_vec(labels),
+            count,
+            ends: Sequence::from_vec(ends),
+        })
+    }
+}

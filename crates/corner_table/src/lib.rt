@@ -1,0 +1,18 @@
+//! Triangles glued side to side: a corner table (after Rossignac 1999), the types that a walk over it
+//! notes, and the count of table calls. Contracts see a table as its number of faces and the gluing
+//! of its sides; the fans of corners round each vertex follow from the gluing.
+#![tactic(auto)]
+
+mod corner_lists;
+mod entries;
+mod labels;
+mod side_table;
+mod steps;
+mod symbols;
+#[cfg(test)]
+mod tests;
+
+pub use corner_lists::{Classes, Order};
+pub use side_table::SideTable;
+pub use steps::Steps;
+pub use symbols::{Event, Symbol};

@@ -1,0 +1,222 @@
+//! The table of glued sides.
+//!
+//! The side across is kept in a list by the number 3f + k. Beside it stands, for each free side, the
+//! free side that follows it round the boundary and the one before it, so that the ends of an open
+//! fan are found without a walk.
+
+use crate::entries::{
+    entry_at, entry_or_free, filled, link_face, next_number, next_of, number_of, previous_number,
+    previous_of, relink, side_with,
+};
+use crate::steps::Steps;
+use drc_base::{MAX_FACES, Memory, Side};
+use std::alloc::Global;
+use std::marker::Model;
+use std::sync::ledger::Ledger;
+
+/// The entry of a side that is in no pair.
+const FREE: u32 = u32::MAX;
+
+/// Faces and the gluing of their sides in pairs. Contracts see it as the number of its faces and the
+/// list of its entries, which tells the gluing.
+#[derive(Debug, Drop)]
+pub struct SideTable {
+    faces: u32,
+    across: Vec<u32>,
+    after: Vec<u32>,
+    before: Vec<u32>,
+}
+
+impl Model for SideTable {
+    ghost use Rattle.corner_table.specs.Table.{Table, IsSideTable};
+
+    ghost Value = { Table };
+
+    ghost view = { λ t. record { faces = t.faces; entries = t.across.items } };
+
+    ghost invariant = { λ t. IsSideTable t.faces t.across.items t.after.items t.before.items };
+}
+
+impl SideTable {
+    ghost use Rattle.std.specs.Prelude.{◌≡◌, ◌≢◌, ℕ, suc, ◌+◌, ◌*◌, ◌/◌, ◌<◌, ◌≤◌, IfOk, IfSome, length};
+    ghost use Rattle.std.specs.Option.{option_map};
+    ghost use Rattle.drc_base.specs.declared.limits.TheConstants.{MAX_FACES as most_faces};
+    ghost use Rattle.corner_table.specs.Sides.{Side as side_value, Place, side, side_at, unglued, glue, IsGluing};
+    ghost use Rattle.corner_table.specs.Fans.{swing_left, swing_right, side_after, side_before, Follows};
+    ghost use Rattle.corner_table.specs.Table.{side_of, gluing_of, room_of, IsFreeIn};
+
+    /// A table without faces, and room for `faces` of them.
+    pub fn with_room(alloc: Global, faces: u32) -> Result<SideTable, Memory>
+        requires { faces ≤ most_faces }
+        ensures none { IfOk result (λ t. t.faces ≡ 0) }
+        ensures room { IfOk result (λ t. room_of t ≡ faces) }
+        ensures unglued { IfOk result (λ t. gluing_of t ≡ unglued) }
+    {
+        let count = 3 * faces as usize;
+        let across = filled(alloc, FREE, count)?;
+        let after = filled(alloc, 0, count)?;
+        let before = filled(alloc, 0, count)?;
+        Ok(SideTable {
+            faces: 0,
+            across,
+            after,
+            before,
+        })
+    }
+
+    /// How many faces there are.
+    pub fn face_count(&self) -> u32
+        ensures count { result ≡ self.now.faces }
+        ensures room { result ≤ room_of self.now }
+        ensures limit { room_of self.now ≤ most_faces }
+        ensures gluing { IsGluing self.now.faces (gluing_of self.now) }
+    {
+        self.faces
+    }
+
+    /// Adds a face, no side of which is glued, and answers its number.
+    pub fn add_face<L: Ledger>(&mut self, steps: &mut Steps<L>) -> u32
+        requires { self.old.faces < room_of self.old }
+        ensures face { result ≡ self.old.faces }
+        ensures faces { self.new.faces ≡ self.old.faces + 1 }
+        ensures entries { self.new.entries ≡ self.old.entries }
+        ensures free { (k : Place) → IsFreeIn self.new (side result k) }
+        ensures steps { steps.new ≡ steps.old + 1 }
+    {
+        steps.tick();
+        let face = self.faces;
+        link_face(&mut self.after, &mut self.before, face);
+        self.faces = face + 1;
+        face
+    }
+
+    /// Glues two free sides of two faces.
+    pub fn glue<L: Ledger>(&mut self, a: Side, b: Side, steps: &mut Steps<L>)
+        requires first { IsFreeIn self.old (side_of a) }
+        requires second { IsFreeIn self.old (side_of b) }
+        requires apart { a.face ≢ b.face }
+        ensures faces { self.new.faces ≡ self.old.faces }
+        ensures room { room_of self.new ≡ room_of self.old }
+        ensures glued { gluing_of self.new ≡ glue (side_of a) (side_of b) (gluing_of self.old) }
+        ensures steps { steps.new ≡ steps.old + 1 }
+    {
+        steps.tick();
+        let _ = &self.faces;
+        let first = number_of(a);
+        let second = number_of(b);
+        relink(&mut self.after, &mut self.before, first, second);
+        self.across[first as usize] = second;
+        self.across[second as usize] = first;
+    }
+
+    /// The side that `s` is glued to; None where `s` is free.
+    pub fn other<L: Ledger>(&self, s: Side, steps: &mut Steps<L>) -> Option<Side>
+        requires { s.face < self.now.faces }
+        ensures other { option_map side_of result ≡ gluing_of self.now (side_of s) }
+        ensures steps { steps.new ≡ steps.old + 1 }
+    {
+        steps.tick();
+        self.across_of(s)
+    }
+
+    /// The next corner to the left round the vertex of corner `c`: across the side of the corner
+    /// after it. None where that side is free.
+    pub fn swing_left<L: Ledger>(&self, c: Side, steps: &mut Steps<L>) -> Option<Side>
+        requires { c.face < self.now.faces }
+        ensures corner { option_map side_of result ≡ swing_left (gluing_of self.now) (side_of c) }
+        ensures steps { steps.new ≡ steps.old + 1 }
+    {
+        steps.tick();
+        match self.across_of(next_of(c)) {
+            Some(found) => Some(next_of(found)),
+            None => None,
+        }
+    }
+
+    /// The next corner to the right round the vertex of corner `c`: across the side of the corner
+    /// before it. None where that side is free.
+    pub fn swing_right<L: Ledger>(&self, c: Side, steps: &mut Steps<L>) -> Option<Side>
+        requires { c.face < self.now.faces }
+        ensures corner { option_map side_of result ≡ swing_right (gluing_of self.now) (side_of c) }
+        ensures steps { steps.new ≡ steps.old + 1 }
+    {
+        steps.tick();
+        match self.across_of(previous_of(c)) {
+            Some(found) => Some(previous_of(found)),
+            None => None,
+        }
+    }
+
+    /// The free side that starts at the vertex where the free side `s` ends, and at no other fan of
+    /// it: the one that follows round the boundary.
+    pub fn next_open<L: Ledger>(&self, s: Side, steps: &mut Steps<L>) -> Side
+        requires { IsFreeIn self.now (side_of s) }
+        ensures next { side_of result ≡ side_after self.now.faces (gluing_of self.now) (side_of s) }
+        ensures follows { Follows self.now.faces (gluing_of self.now) (side_of s) (side_of result) }
+        ensures only { (x : side_value) → Follows self.now.faces (gluing_of self.now) (side_of s) x → x ≡ side_of result }
+        ensures steps { steps.new ≡ steps.old + 1 }
+    {
+        steps.tick();
+        let _ = &self.faces;
+        side_with(entry_at(&self.after, number_of(s)))
+    }
+
+    /// The free side that ends at the vertex where the free side `s` starts: the one before it round
+    /// the boundary.
+    pub fn prev_open<L: Ledger>(&self, s: Side, steps: &mut Steps<L>) -> Side
+        requires { IsFreeIn self.now (side_of s) }
+        ensures previous { side_of result ≡ side_before self.now.faces (gluing_of self.now) (side_of s) }
+        ensures free { IsFreeIn self.now (side_of result) }
+        ensures follows { Follows self.now.faces (gluing_of self.now) (side_of result) (side_of s) }
+        ensures only { (x : side_value) → IsFreeIn self.now x → Follows self.now.faces (gluing_of self.now) x (side_of s) → x ≡ side_of result }
+        ensures steps { steps.new ≡ steps.old + 1 }
+    {
+        steps.tick();
+        let _ = &self.faces;
+        side_with(entry_at(&self.before, number_of(s)))
+    }
+
+    /// The side that `s` is glued to.
+    fn across_of(&self, s: Side) -> Option<Side>
+        requires { s.face < self.now.faces }
+        ensures { option_map side_of result ≡ gluing_of self.now (side_of s) }
+    {
+        let _ = &self.faces;
+        let entry = self.across[number_of(s) as usize];
+        if entry == FREE {
+            None
+        } else {
+            Some(side_with(entry))
+        }
+    }
+
+    /// The next corner to the left round the vertex of a corner, by their numbers.
+    pub(crate) fn left_of(&self, corner: u32) -> Option<u32>
+        requires { corner < 3 * self.now.faces }
+        ensures corner { option_map side_at result ≡ swing_left (gluing_of self.now) (side_at corner) }
+        ensures within { IfSome result (λ n. n < 3 * self.now.faces) }
+    {
+        let _ = &self.faces;
+        let side = entry_or_free(&self.across, next_number(corner));
+        if side == FREE {
+            None
+        } else {
+            Some(next_number(side))
+        }
+    }
+
+    /// The next corner to the right round the vertex of a corner, by their numbers.
+    pub(crate) fn right_of(&self, corner: u32) -> Option<u32>
+        requires { corner < 3 * self.now.faces }
+        ensures corner { option_map side_at result ≡ swing_right (gluing_of self.now) (side_at corner) }
+        ensures within { IfSome result (λ n. n < 3 * self.now.faces) }
+    {
+        let _ = &self.faces;
+        let side = entry_or_free(&self.across, previous_number(corner));
+        if side == FREE {
+            None
+        } else {
+            Some(previous_number(side))
+        }
+    }
+}

@@ -1,0 +1,157 @@
+//! Worked surfaces: their vertices and their boundaries.
+
+ghost use Rattle.std.specs.Prelude.{◌≡◌, ◌≤◌, ◌<◌};
+ghost use Rattle.drc_base.specs.declared.limits.TheConstants.{MAX_FACES as most_faces};
+ghost use Rattle.corner_table.specs.Table.{room_of};
+
+use crate::side_table::SideTable;
+use crate::steps::Steps;
+use drc_base::Side;
+use std::alloc::Global;
+use std::marker::Brand;
+use std::process::Abort;
+use std::sync::ledger::{Blank, Ledger};
+
+/// The side with a number.
+fn numbered(number: u32) -> Side {
+    Side {
+        face: number / 3,
+        k: (number % 3) as u8,
+    }
+}
+
+/// The number of a side, or -1 for none.
+fn number_of(side: Option<Side>) -> i64 {
+    match side {
+        Some(s) => 3 * i64::from(s.face) + i64::from(s.k),
+        None => -1,
+    }
+}
+
+/// Adds all faces that there is room for.
+fn add_faces<L: Ledger>(table: &mut SideTable, faces: u32, steps: &mut Steps<L>)
+    requires none { table.old.faces ≡ 0 }
+    requires room { room_of table.old ≡ faces }
+    ensures { table.new.faces ≡ faces }
+{
+    for _ in 0..faces {
+        let _ = table.add_face(steps);
+    }
+}
+
+/// Glues two sides, which have to be free sides of two faces.
+fn glue_pair<L: Ledger>(
+    rt: &impl Abort,
+    table: &mut SideTable,
+    pair: (u32, u32),
+    steps: &mut Steps<L>,
+) {
+    let (a, b) = (numbered(pair.0), numbered(pair.1));
+    assert!(rt; a.face < table.face_count() && b.face < table.face_count() && a.face != b.face);
+    match (table.other(a, steps), table.other(b, steps)) {
+        (None, None) => table.glue(a, b, steps),
+        _ => assert!(rt; false, "a side is glued already"),
+    }
+}
+
+/// The number of vertices, and what follows each side that is asked for, or -1 where it isn't free.
+fn told<L: Ledger>(
+    rt: &impl Abort,
+    alloc: Global,
+    faces: u32,
+    pairs: &[(u32, u32)],
+    asked: &[u32],
+    blank: Blank,
+) -> (u32, Vec<i64>)
+    requires few { faces ≤ most_faces }
+    requires name { blank.name ≡ L.name }
+    requires parts { blank.parts ≡ L.parts }
+    requires some { 0 < L.parts }
+{
+    let mut steps = Steps::<L>::new(blank);
+    let mut table = SideTable::with_room(alloc, faces).expect(rt, "room");
+    add_faces(&mut table, faces, &mut steps);
+    for pair in pairs {
+        glue_pair(rt, &mut table, *pair, &mut steps);
+    }
+    let mut follows = Vec::new(alloc);
+    for side in asked {
+        let s = numbered(*side);
+        assert!(rt; s.face < table.face_count());
+        let next = match table.other(s, &mut steps) {
+            Some(_) => -1,
+            None => number_of(Some(table.next_open(s, &mut steps))),
+        };
+        follows.push(next).expect(rt, "an answer");
+    }
+    let classes = table.label_vertices(alloc).expect(rt, "labels");
+    (classes.count, follows)
+}
+
+#[test]
+fn labels_and_follows(rt: HostRuntime) {
+    let tetrahedron = [(0, 5), (1, 10), (2, 8), (3, 7), (4, 11), (6, 9)];
+    let torus = [
+        (0, 11),
+        (1, 23),
+        (2, 35),
+        (3, 7),
+        (4, 38),
+        (5, 20),
+        (6, 10),
+        (8, 29),
+        (9, 14),
+        (12, 16),
+        (13, 40),
+        (15, 19),
+        (17, 32),
+        (18, 22),
+        (21, 26),
+        (24, 28),
+        (25, 41),
+        (27, 31),
+        (30, 34),
+        (33, 37),
+        (36, 39),
+    ];
+    let ring = [(0, 5), (1, 17), (3, 7), (6, 11), (9, 13), (12, 16)];
+    let closed = told::<Brand>(&rt, rt.alloc(), 4, &tetrahedron, &[0], Blank::new(1));
+    assert_eq!(&rt; closed.0, 4);
+    let round = told::<Brand>(&rt, rt.alloc(), 14, &torus, &[0], Blank::new(1));
+    assert_eq!(&rt; round.0, 7);
+    let holed = told::<Brand>(
+        &rt,
+        rt.alloc(),
+        6,
+        &ring,
+        &[2, 4, 8, 10, 14, 15],
+        Blank::new(1),
+    );
+    assert_eq!(&rt; holed.0, 6);
+    assert!(&rt; holed.1.as_slice() == [8, 15, 14, 4, 2, 10].as_slice());
+    // Two mirrored faces are never joined: each is its own loop of three.
+    let apart = told::<Brand>(&rt, rt.alloc(), 2, &[], &[0, 1, 2, 5], Blank::new(1));
+    assert_eq!(&rt; apart.0, 6);
+    assert!(&rt; apart.1.as_slice() == [1, 2, 0, 3].as_slice());
+    // Three faces glued until one side is left, which is alone in its loop.
+    let lone = told::<Brand>(
+        &rt,
+        rt.alloc(),
+        3,
+        &[(4, 0), (5, 2), (7, 3), (8, 1)],
+        &[6, 0],
+        Blank::new(1),
+    );
+    assert!(&rt; lone.1.as_slice() == [6, -1].as_slice());
+    // Gluing it to a side of another face joins what comes before that side to what follows it.
+    let taken = told::<Brand>(
+        &rt,
+        rt.alloc(),
+        4,
+        &[(4, 0), (5, 2), (7, 3), (8, 1), (10, 6)],
+        &[9, 11],
+        Blank::new(1),
+    );
+    assert!(&rt; taken.1.as_slice() == [11, 9].as_slice());
+    assert_eq!(&rt; taken.0, 4);
+}

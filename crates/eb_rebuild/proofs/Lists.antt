@@ -1,0 +1,33 @@
+-- Lists that are read from a place downwards.
+use Rattle.std.proofs.Common.{◌≡◌, ◌≢◌, ℕ, zero, suc, ◌<◌, ◌≤◌, List, [], ◌∷◌, length, get_or, set, take, reverse, sym, refl, ap, ◌∙◌, arith, get_or-set_other, get_or-set_same, add-one}
+use Rattle.std.proofs.lemmas.List.{take_all, take_more, reverse-append}
+use Rattle.eb_rebuild.specs.Kept.{counted_down}
+
+-- how many
+pub length-counted_down : {A : Type 0} (d : A) (n : ℕ) (xs : List A) → length (counted_down d n xs) ≡ n
+length-counted_down d zero xs = refl
+length-counted_down d (suc n) xs = ap suc (length-counted_down d n xs)
+
+-- a write at or above the place isn't seen
+pub counted_down-set : {A : Type 0} (d : A) (n i : ℕ) (xs : List A) (v : A) → n ≤ i → counted_down d n (set xs i v) ≡ counted_down d n xs
+counted_down-set d zero i xs v h = refl
+counted_down-set {A} d (suc n) i xs v h =
+    let e : get_or (set xs i v) n d ≡ get_or xs n d = (let ne : n ≢ i = omega arith in get_or-set_other xs i n v d ne) in
+    ap (λ (a : A). a ∷ counted_down d n (set xs i v)) e ∙ ap (λ (l : List A). get_or xs n d ∷ l) (counted_down-set d n i xs v (omega arith))
+
+-- one more on top
+pub counted_down_push : {A : Type 0} (d : A) (n : ℕ) (xs : List A) (v : A) → n < length xs → counted_down d (suc n) (set xs n v) ≡ v ∷ counted_down d n xs
+counted_down_push {A} d n xs v h =
+    ap (λ (a : A). a ∷ counted_down d n (set xs n v)) (get_or-set_same xs n v d h) ∙ ap (λ (l : List A). v ∷ l) (counted_down-set d n n xs v (omega arith))
+
+-- a part of a list, read downwards, is the part in reverse
+pub counted_down_take : {A : Type 0} (d : A) (xs : List A) (n : ℕ) → n ≤ length xs → counted_down d n xs ≡ reverse (take n xs)
+counted_down_take d xs zero h = refl
+counted_down_take {A} d xs (suc n) h =
+    ap (λ (l : List A). get_or xs n d ∷ l) (counted_down_take d xs n (omega arith))
+    ∙ sym (reverse-append (take n xs) (get_or xs n d ∷ []))
+    ∙ sym (ap {A = List A} reverse (ap (λ (m : ℕ). take m xs) (sym (add-one n)) ∙ take_more xs n d (omega arith)))
+
+-- all of a list, read downwards, is the list in reverse
+pub counted_down_reverse : {A : Type 0} (d : A) (xs : List A) → counted_down d (length xs) xs ≡ reverse xs
+counted_down_reverse {A} d xs = counted_down_take d xs (length xs) (omega arith) ∙ ap {A = List A} reverse (take_all (length xs) xs (omega arith))

@@ -1,0 +1,135 @@
+-- How the machine notes events, one at a time, and what that does to a list of kept sides.
+use Rattle.std.proofs.Common.{◌≡◌, ◌≢◌, ℕ, zero, suc, ◌+◌, ◌-◌, ◌*◌, ◌<◌, Bool, true, false, not, cond, eqb, is_none, List, [], ◌∷◌, length, get_or, set, Option, Some, None, Result, Ok, Err, inl, inr, sym, refl, ap, ◌∙◌, subst, arith, get_or-set_other, get_or-set_same, lt-ltb, le-ltb, eq-eqb, ne_eqb, eqb-true}
+use Rattle.std.proofs.lemmas.Bool.{cases_Bool, cases_eq, cond-true, cond-false}
+use mathlib.Core.Path.{fun_ext}
+use Rattle.drc_base.specs.declared.kinds.Kind.TheVariants as kind
+use Rattle.drc_base.specs.declared.faults.Fault.{Fault}
+use Rattle.drc_base.specs.declared.limits.TheConstants.{MAX_FACES}
+use Rattle.corner_table.specs.declared.symbols.Event.{Event}
+use Rattle.corner_table.specs.Sides.{Side, side, number, side_at}
+use Rattle.corner_table.specs.Table.{other_at, free_entry}
+use Rattle.corner_table.proofs.TableSteps.{entry_taken}
+use Rattle.eb_rebuild.specs.Machine.{note_events, must, fault, ◌>>=◌, reserve, event_place}
+use Rattle.eb_rebuild.specs.Kept.{counted_down, no_event, kept_in, AreKeptBelow}
+
+abbrev pub Noted : Type 0
+Noted = Result (List Event × (ℕ → Option Side)) Fault
+
+-- nothing is left
+pub note_none : (n i : ℕ) (kept : ℕ → Option Side) → note_events n i [] kept ≡ Ok ([], kept)
+unfolding note_events
+note_none n i kept = refl
+
+-- the last event is due later
+pub note_later : (n i : ℕ) (e : Event) (es : List Event) (kept : ℕ → Option Side) → e.source < n - suc i → note_events n i (e ∷ es) kept ≡ Ok (e ∷ es, kept)
+unfolding note_events
+note_later n i e es kept h = cond-true _ _ _ (lt-ltb e.source (n - suc i) h)
+
+-- its source is passed
+pub note_passed : (n i : ℕ) (e : Event) (es : List Event) (kept : ℕ → Option Side) → n - suc i < e.source → note_events n i (e ∷ es) kept ≡ Err (fault kind.EventOrder i)
+unfolding note_events
+note_passed n i e es kept h =
+    cond-false _ _ _ (le-ltb e.source (n - suc i) (omega arith))
+    ∙ ap (λ (t : Bool). must (not t) kind.EventOrder i >>= λ u. must (is_none (kept (n - suc e.split))) kind.Taken i >>= λ v. note_events n i es (reserve (n - suc e.split) (side i (event_place e.right)) kept)) (lt-ltb (n - suc i) e.source h)
+
+-- it is due: what is kept for its split decides
+pub note_due : (n i : ℕ) (e : Event) (es : List Event) (kept : ℕ → Option Side) → e.source ≡ n - suc i → note_events n i (e ∷ es) kept ≡ (must (is_none (kept (n - suc e.split))) kind.Taken i >>= λ v. note_events n i es (reserve (n - suc e.split) (side i (event_place e.right)) kept))
+unfolding note_events
+note_due n i e es kept h =
+    cond-false _ _ _ (le-ltb e.source (n - suc i) (omega arith))
+    ∙ ap (λ (t : Bool). must (not t) kind.EventOrder i >>= λ u. must (is_none (kept (n - suc e.split))) kind.Taken i >>= λ v. note_events n i es (reserve (n - suc e.split) (side i (event_place e.right)) kept)) (le-ltb (n - suc i) e.source (omega arith))
+
+pub note_taken : (n i : ℕ) (e : Event) (es : List Event) (kept : ℕ → Option Side) (a : Side) → e.source ≡ n - suc i → kept (n - suc e.split) ≡ Some a → note_events n i (e ∷ es) kept ≡ Err (fault kind.Taken i)
+note_taken n i e es kept a h k =
+    note_due n i e es kept h ∙ ap (λ (o : Option Side). must (is_none o) kind.Taken i >>= λ v. note_events n i es (reserve (n - suc e.split) (side i (event_place e.right)) kept)) k
+
+pub note_more : (n i : ℕ) (e : Event) (es : List Event) (kept : ℕ → Option Side) → e.source ≡ n - suc i → kept (n - suc e.split) ≡ None → note_events n i (e ∷ es) kept ≡ note_events n i es (reserve (n - suc e.split) (side i (event_place e.right)) kept)
+note_more n i e es kept h k =
+    note_due n i e es kept h ∙ ap (λ (o : Option Side). must (is_none o) kind.Taken i >>= λ v. note_events n i es (reserve (n - suc e.split) (side i (event_place e.right)) kept)) k
+
+-- a kept entry that is none, and one that is a side
+pub kept-none : (kept : List ℕ) (k v : ℕ) → v ≡ get_or kept k free_entry → v ≡ free_entry → kept_in kept k ≡ None
+kept-none kept k v e h = ap other_at (sym e ∙ h)
+
+pub kept-some : (kept : List ℕ) (k v : ℕ) → v ≡ get_or kept k free_entry → v ≢ free_entry → kept_in kept k ≡ Some (side_at v)
+kept-some kept k v e h = ap other_at (sym e) ∙ (elim (cases_Bool (eqb v free_entry)) [ inl t ↦ absurd (h (eqb-true v free_entry t)) | inr t ↦ cond-false _ _ _ t ])
+
+-- a write keeps a side for one symbol
+pub kept_in-set : (kept : List ℕ) (j : ℕ) (a : Side) → j < length kept → a.face < MAX_FACES → kept_in (set kept j (number a)) ≡ reserve j a (kept_in kept)
+kept_in-set kept j a h l = fun_ext (λ k. elim (cases_eq k j) [
+  | inl e ↦ ap (λ (m : ℕ). kept_in (set kept j (number a)) m) e ∙ ap other_at (get_or-set_same kept j (number a) free_entry h) ∙ entry_taken a MAX_FACES l (omega arith) ∙ sym (cond-true _ _ _ (eq-eqb k j e))
+  | inr n ↦ ap other_at (get_or-set_other kept j k (number a) free_entry n) ∙ sym (cond-false _ _ _ (ne_eqb k j n))
+])
+
+pub event_number : (face : ℕ) (right : Bool) → number (side face (event_place right)) ≡ 3 * face + cond right 1 2
+event_number face true = refl
+event_number face false = refl
+
+-- the kept sides stay among the faces
+pub kept_below-set : (faces : ℕ) (kept : List ℕ) (j v : ℕ) → j < length kept → AreKeptBelow faces kept → v < 3 * suc faces → AreKeptBelow (suc faces) (set kept j v)
+kept_below-set faces kept j v h K b k n = elim (cases_eq k j) [
+  | inl e ↦ (let q : get_or (set kept j v) k free_entry ≡ v = ap (λ (m : ℕ). get_or (set kept j v) m free_entry) e ∙ get_or-set_same kept j v free_entry h in omega arith)
+  | inr m ↦ (
+      let q = get_or-set_other kept j k v free_entry m in
+      let old : get_or kept k free_entry < 3 * faces = K k (λ w. n (q ∙ w)) in
+      omega arith)
+]
+
+pub kept_below-set_more : (faces : ℕ) (kept : List ℕ) (j v : ℕ) → j < length kept → AreKeptBelow (suc faces) kept → v < 3 * suc faces → AreKeptBelow (suc faces) (set kept j v)
+kept_below-set_more faces kept j v h K b k n = elim (cases_eq k j) [
+  | inl e ↦ (let q : get_or (set kept j v) k free_entry ≡ v = ap (λ (m : ℕ). get_or (set kept j v) m free_entry) e ∙ get_or-set_same kept j v free_entry h in omega arith)
+  | inr m ↦ (
+      let q = get_or-set_other kept j k v free_entry m in
+      let old : get_or kept k free_entry < 3 * suc faces = K k (λ w. n (q ∙ w)) in
+      omega arith)
+]
+
+pub kept_below_more : (faces : ℕ) (kept : List ℕ) → AreKeptBelow faces kept → AreKeptBelow (suc faces) kept
+kept_below_more faces kept K k n = let h = K k n in omega arith
+
+-- the last event that is left
+pub last_event : (left : ℕ) (events : List Event) (e : Event) → (left ≡ 0 → ⊥) → e ≡ get_or events (left - 1) no_event → counted_down no_event left events ≡ e ∷ counted_down no_event (left - 1) events
+last_event zero events e h q = absurd (h refl)
+last_event (suc n) events e h q =
+    let m : suc n - 1 ≡ n = omega arith in
+    let r : get_or events n no_event ≡ e = ap (λ (k : ℕ). get_or events k no_event) (sym m) ∙ sym q in
+    ap (λ (a : Event). a ∷ counted_down no_event n events) r ∙ ap (λ (k : ℕ). e ∷ counted_down no_event k events) (sym m)
+
+-- the four ways on, from what is left and kept in lists
+pub left_none : (n i left : ℕ) (events : List Event) (kept : List ℕ) → left ≡ 0 → note_events n i (counted_down no_event left events) (kept_in kept) ≡ Ok (counted_down no_event left events, kept_in kept)
+left_none n i left events kept h =
+    let P : ℕ → Type 0 = λ m. note_events n i (counted_down no_event m events) (kept_in kept) ≡ Ok (counted_down no_event m events, kept_in kept) in
+    subst P (sym h) (note_none n i (kept_in kept))
+
+pub left_later : (n i left : ℕ) (events : List Event) (kept : List ℕ) (e : Event) → (left ≡ 0 → ⊥) → e ≡ get_or events (left - 1) no_event → e.source < n - 1 - i →
+    note_events n i (counted_down no_event left events) (kept_in kept) ≡ Ok (counted_down no_event left events, kept_in kept)
+left_later n i left events kept e h q l =
+    let P : List Event → Type 0 = λ es. note_events n i es (kept_in kept) ≡ Ok (es, kept_in kept) in
+    subst P (sym (last_event left events e h q)) (note_later n i e (counted_down no_event (left - 1) events) (kept_in kept) (omega arith))
+
+pub left_passed : (n i left : ℕ) (events : List Event) (kept : List ℕ) (e : Event) → (left ≡ 0 → ⊥) → e ≡ get_or events (left - 1) no_event → n - 1 - i < e.source →
+    note_events n i (counted_down no_event left events) (kept_in kept) ≡ Err (fault kind.EventOrder i)
+left_passed n i left events kept e h q l =
+    let P : List Event → Type 0 = λ es. note_events n i es (kept_in kept) ≡ Err (fault kind.EventOrder i) in
+    subst P (sym (last_event left events e h q)) (note_passed n i e (counted_down no_event (left - 1) events) (kept_in kept) (omega arith))
+
+pub left_taken : (n i left : ℕ) (events : List Event) (kept : List ℕ) (e : Event) (v : ℕ) → (left ≡ 0 → ⊥) → e ≡ get_or events (left - 1) no_event → (e.source < n - 1 - i → ⊥) → (n - 1 - i < e.source → ⊥) →
+    v ≡ get_or kept (n - 1 - e.split) free_entry → v ≢ free_entry → note_events n i (counted_down no_event left events) (kept_in kept) ≡ Err (fault kind.Taken i)
+left_taken n i left events kept e v h q l m r f =
+    let P : List Event → Type 0 = λ es. note_events n i es (kept_in kept) ≡ Err (fault kind.Taken i) in
+    let w : n - 1 - e.split ≡ n - suc e.split = omega arith in
+    subst P (sym (last_event left events e h q))
+    (note_taken n i e (counted_down no_event (left - 1) events) (kept_in kept) (side_at v) (omega arith) (ap (kept_in kept) (sym w) ∙ kept-some kept (n - 1 - e.split) v r f))
+
+pub left_more : (n i left : ℕ) (events : List Event) (kept : List ℕ) (e : Event) (v w : ℕ) → (left ≡ 0 → ⊥) → e ≡ get_or events (left - 1) no_event → (e.source < n - 1 - i → ⊥) → (n - 1 - i < e.source → ⊥) →
+    v ≡ get_or kept (n - 1 - e.split) free_entry → v ≡ free_entry → w ≡ number (side i (event_place e.right)) → n - 1 - e.split < length kept → i < MAX_FACES →
+    note_events n i (counted_down no_event left events) (kept_in kept) ≡ note_events n i (counted_down no_event (left - 1) events) (kept_in (set kept (n - 1 - e.split) w))
+left_more n i left events kept e v w h q l m r f s t u =
+    let k : n - suc e.split ≡ n - 1 - e.split = omega arith in
+    let rest = counted_down no_event (left - 1) events in
+    let a = side i (event_place e.right) in
+    ap (λ (es : List Event). note_events n i es (kept_in kept)) (last_event left events e h q)
+    ∙ note_more n i e rest (kept_in kept) (omega arith) (ap (kept_in kept) k ∙ kept-none kept (n - 1 - e.split) v r f)
+    ∙ ap (λ (j : ℕ). note_events n i rest (reserve j a (kept_in kept))) k
+    ∙ ap (note_events n i rest) (sym (kept_in-set kept (n - 1 - e.split) a t u))
+    ∙ ap (λ (x : ℕ). note_events n i rest (kept_in (set kept (n - 1 - e.split) x))) (sym s)

@@ -1,0 +1,144 @@
+-- A face more, glued to the top side and to the second side.
+use Rattle.std.proofs.Common.{◌≡◌, ℕ, ◌*◌, ◌/◌, ◌<◌, ◌∷◌, List, length, sym, refl, ap, ◌∙◌, subst, arith, add-one}
+use Rattle.corner_table.specs.Sides.{Side, side_at, side, second, third, glue, IsFree}
+use Rattle.corner_table.specs.Fans.{side_before}
+use Rattle.corner_table.specs.Table.{side_of, glued_in, gluing_of}
+use Rattle.corner_table.proofs.Places.{same-true, same-false, face_apart}
+use Rattle.eb_rebuild.specs.Linked.{LinkValue, state_of}
+use Rattle.eb_rebuild.proofs.Steps.{split_no_top}
+use Rattle.eb_rebuild.proofs.Noting.{kept_below_more}
+use Rattle.eb_rebuild.proofs.Linking.{link_grown, split_does, split_no_second_does, split_one_side_does, split_one_point_does, still_free, free_grown, first_is_free}
+use Rattle.eb_rebuild.proofs.link_rebuild.LinkRebuild.take_split.Goals as goal
+
+pub returns-in-Err-clause-does : goal.returns-in-Err-clause-does
+returns-in-Err-clause-does g c = split_no_top _ (state_of c.args.self.now) _ c.in-Err.ensures.err
+
+pub returns-in-Err-take_second-clause-does : goal.returns-in-Err-take_second-clause-does
+returns-in-Err-take_second-clause-does g c = split_no_second_does c.args.self.now c.take_side.new.self c.in-Ok.b c.in-Err-take_second.fault
+    (record { rest = c.take_side.ensures.rest; view = refl; sides = c.in-Ok.ensures.ok.0; free = c.in-Ok.ensures.ok.1; below = c.in-Ok.ensures.ok.2 }) c.in-Err-take_second.ensures.err
+
+pub returns-then-is_same-clause-does : goal.returns-then-is_same-clause-does
+returns-then-is_same-clause-does g c =
+    split_one_side_does c.args.self.now c.take_side.new.self c.take_second.new.self
+    (record { plan = record { faces = c.self.inside.faces; created = c.self.inside.created; symbols = c.self.inside.symbols }; table = c.self.inside.table; stack = c.self.inside.stack; splits = c.self.inside.splits; made = c.self.inside.made; closes = c.self.inside.closes })
+    c.in-Ok.b c.in-Ok-take_second.a c.from.result
+    (record {
+      first_taken = record { rest = c.take_side.ensures.rest; view = refl; sides = c.in-Ok.ensures.ok.0; free = c.in-Ok.ensures.ok.1; below = c.in-Ok.ensures.ok.2 };
+      second_top = c.in-Ok-take_second.ensures.ok.0;
+      second_free = c.in-Ok-take_second.ensures.ok.1;
+      second_below = c.in-Ok-take_second.ensures.ok.2;
+      kept = c.take_second.ensures.kept;
+      events = c.take_second.ensures.events;
+      rest = c.take_second.ensures.rest;
+      view = c.self.view_is;
+    })
+    (sym c.side_with-second.ensures.side ∙ same-true _ _ (sym c.is_same.ensures ∙ c.if-is_same.true) ∙ c.side_with-top.ensures.side)
+    (c.from.ensures ∙ c.face_count.ensures.count)
+
+pub returns-then-is_same-2-clause-does : goal.returns-then-is_same-2-clause-does
+returns-then-is_same-2-clause-does g c =
+    split_one_point_does c.args.self.now c.take_side.new.self c.take_second.new.self
+    (record { plan = record { faces = c.self.inside.faces; created = c.self.inside.created; symbols = c.self.inside.symbols }; table = c.self.inside.table; stack = c.self.inside.stack; splits = c.self.inside.splits; made = c.self.inside.made; closes = c.self.inside.closes })
+    c.in-Ok.b c.in-Ok-take_second.a (side_of c.prev_open-before.result) c.from-then-is_same-2.result
+    (record {
+      first_taken = record { rest = c.take_side.ensures.rest; view = refl; sides = c.in-Ok.ensures.ok.0; free = c.in-Ok.ensures.ok.1; below = c.in-Ok.ensures.ok.2 };
+      second_top = c.in-Ok-take_second.ensures.ok.0;
+      second_free = c.in-Ok-take_second.ensures.ok.1;
+      second_below = c.in-Ok-take_second.ensures.ok.2;
+      kept = c.take_second.ensures.kept;
+      events = c.take_second.ensures.events;
+      rest = c.take_second.ensures.rest;
+      view = c.self.view_is;
+    })
+    (λ e. same-false _ _ (sym c.is_same.ensures ∙ c.if-is_same.false) (c.side_with-second.ensures.side ∙ e ∙ sym c.side_with-top.ensures.side))
+    (c.prev_open-before.ensures.previous ∙ ap (side_before c.self.inside.table.faces (gluing_of c.self.inside.table)) c.side_with-top.ensures.side)
+    (same-true _ _ (sym c.is_same-2.ensures ∙ c.if-is_same-2.true) ∙ c.side_with-second.ensures.side)
+    (c.from-then-is_same-2.ensures ∙ c.face_count-then-is_same-2.ensures.count)
+
+pub glue-requires-clause-first : goal.glue-requires-clause-first
+glue-requires-clause-first g c = c.add_face-face.ensures.free third
+
+pub glue-requires-2-clause-first : goal.glue-requires-2-clause-first
+glue-requires-2-clause-first g c =
+    let f = c.add_face-face.ensures.face in
+    let below = c.in-Ok-take_second.ensures.ok.2 in
+    let is = ap (λ (v : LinkValue). v.table.faces) (c.self.view_is ∙ c.take_second.ensures.rest) in
+    let at = c.side_with-second.ensures.face in
+    still_free c.add_face-face.new.self.faces (gluing_of c.add_face-face.new.self) c.glue.new.self (side c.add_face-face.result third) (side_of c.side_with-second.result) (side c.add_face-face.result second)
+    c.glue.ensures.faces c.glue.ensures.glued (c.add_face-face.ensures.free second)
+    (λ e. (let no = ap (λ (x : Side). x.place) e in cc))
+    (face_apart _ _ (λ e. (let no : c.add_face-face.result ≡ c.side_with-second.result.face = e in absurd (omega arith))))
+
+pub glue-requires-2-clause-second : goal.glue-requires-2-clause-second
+glue-requires-2-clause-second g c =
+    let f = c.add_face-face.ensures.face in
+    let free : IsFree c.self.inside.table.faces (gluing_of c.self.inside.table) (side_of c.side_with-top.result) =
+    subst (IsFree c.self.inside.table.faces (gluing_of c.self.inside.table)) (sym c.side_with-top.ensures.side)
+    (first_is_free {old = c.args.self.now} {one = c.take_side.new.self} {two = c.take_second.new.self} {value = (record { plan = record { faces = c.self.inside.faces; created = c.self.inside.created; symbols = c.self.inside.symbols }; table = c.self.inside.table; stack = c.self.inside.stack; splits = c.self.inside.splits; made = c.self.inside.made; closes = c.self.inside.closes })} {b = c.in-Ok.b} {a = c.in-Ok-take_second.a} (record {
+      first_taken = record { rest = c.take_side.ensures.rest; view = refl; sides = c.in-Ok.ensures.ok.0; free = c.in-Ok.ensures.ok.1; below = c.in-Ok.ensures.ok.2 };
+      second_top = c.in-Ok-take_second.ensures.ok.0;
+      second_free = c.in-Ok-take_second.ensures.ok.1;
+      second_below = c.in-Ok-take_second.ensures.ok.2;
+      kept = c.take_second.ensures.kept;
+      events = c.take_second.ensures.events;
+      rest = c.take_second.ensures.rest;
+      view = c.self.view_is;
+    })) in
+    let w = free.within in
+    still_free c.add_face-face.new.self.faces (gluing_of c.add_face-face.new.self) c.glue.new.self (side c.add_face-face.result third) (side_of c.side_with-second.result) (side_of c.side_with-top.result)
+    c.glue.ensures.faces c.glue.ensures.glued (free_grown c.self.inside.table c.add_face-face.new.self (side_of c.side_with-top.result) c.add_face-face.ensures.faces c.add_face-face.ensures.entries free)
+    (face_apart _ _ (λ e. (let no : c.side_with-top.result.face ≡ c.add_face-face.result = e in absurd (omega arith))))
+    (λ e. same-false _ _ (sym c.is_same.ensures ∙ c.if-is_same.false) (sym e))
+
+pub invariant_of-self : goal.invariant_of-self
+invariant_of-self g c =
+    let whole = c.self.view_is ∙ c.take_second.ensures.rest in
+    let before = c.take_side.ensures.rest in
+    let more : c.self.inside.table.faces < c.self.inside.symbols =
+    subst (λ (v : LinkValue). v.table.faces < v.plan.symbols) (sym whole) (subst (λ (v : LinkValue). v.table.faces < v.plan.symbols) (sym before) c.requires) in
+    link_grown c.self.invariant (record {
+      plan = refl;
+      more = more;
+      faces = c.glue-2.ensures.faces ∙ c.glue.ensures.faces ∙ c.add_face-face.ensures.faces ∙ add-one _;
+      room = c.glue-2.ensures.room ∙ c.glue.ensures.room ∙ ap (λ (l : List ℕ). length l / 3) c.add_face-face.ensures.entries;
+      stack_room = c.push.ensures.room;
+      rest = c.self.inside.stack.sides;
+      below = c.self.invariant.sides;
+      shorter = omega arith;
+      sides = c.push.ensures.sides ∙ ap (λ (n : ℕ). (3 * n) ∷ c.self.inside.stack.sides) c.add_face-face.ensures.face;
+      slots = refl;
+      kept = kept_below_more _ _ c.self.invariant.kept;
+      made = omega arith;
+      closes = refl;
+    })
+
+pub returns-clause-does : goal.returns-clause-does
+returns-clause-does g c =
+    split_does c.args.self.now c.take_side.new.self c.take_second.new.self
+    (record { plan = record { faces = c.self.inside.faces; created = c.self.inside.created; symbols = c.self.inside.symbols }; table = c.self.inside.table; stack = c.self.inside.stack; splits = c.self.inside.splits; made = c.self.inside.made; closes = c.self.inside.closes })
+    (record { plan = record { faces = c.self.inside.faces; created = c.self.inside.created; symbols = c.self.inside.symbols }; table = c.glue-2.new.self; stack = c.push.new.self; splits = c.self.inside.splits; made = c.self.inside.made; closes = c.self.inside.closes })
+    c.in-Ok.b c.in-Ok-take_second.a (side_of c.prev_open-before.result)
+    (record {
+      first_taken = record { rest = c.take_side.ensures.rest; view = refl; sides = c.in-Ok.ensures.ok.0; free = c.in-Ok.ensures.ok.1; below = c.in-Ok.ensures.ok.2 };
+      second_top = c.in-Ok-take_second.ensures.ok.0;
+      second_free = c.in-Ok-take_second.ensures.ok.1;
+      second_below = c.in-Ok-take_second.ensures.ok.2;
+      kept = c.take_second.ensures.kept;
+      events = c.take_second.ensures.events;
+      rest = c.take_second.ensures.rest;
+      view = c.self.view_is;
+    })
+    (record {
+      faces = c.glue-2.ensures.faces ∙ c.glue.ensures.faces ∙ c.add_face-face.ensures.faces ∙ add-one _;
+      glued = c.glue-2.ensures.glued ∙ ap (glue (side c.add_face-face.result second) (side_of c.side_with-top.result)) (c.glue.ensures.glued ∙ ap (λ (l : List ℕ). glue (side c.add_face-face.result third) (side_of c.side_with-second.result) (glued_in l)) c.add_face-face.ensures.entries)
+          ∙ ap (λ (n : ℕ). glue (side n second) (side_of c.side_with-top.result) (glue (side n third) (side_of c.side_with-second.result) (gluing_of c.self.inside.table))) c.add_face-face.ensures.face
+          ∙ ap (λ (x : Side). glue (side c.self.inside.table.faces second) x (glue (side c.self.inside.table.faces third) (side_of c.side_with-second.result) (gluing_of c.self.inside.table))) c.side_with-top.ensures.side
+          ∙ ap (λ (x : Side). glue (side c.self.inside.table.faces second) (side_at c.in-Ok.b) (glue (side c.self.inside.table.faces third) x (gluing_of c.self.inside.table))) c.side_with-second.ensures.side;
+      stack = c.push.ensures.sides ∙ ap (λ (n : ℕ). (3 * n) ∷ c.self.inside.stack.sides) c.add_face-face.ensures.face;
+      splits = refl;
+      made = refl;
+      closes = refl;
+    })
+    (λ e. same-false _ _ (sym c.is_same.ensures ∙ c.if-is_same.false) (c.side_with-second.ensures.side ∙ e ∙ sym c.side_with-top.ensures.side))
+    (c.prev_open-before.ensures.previous ∙ ap (side_before c.self.inside.table.faces (gluing_of c.self.inside.table)) c.side_with-top.ensures.side)
+    (λ e. same-false _ _ (sym c.is_same-2.ensures ∙ c.if-is_same-2.false) (e ∙ sym c.side_with-second.ensures.side))

@@ -1,0 +1,89 @@
+-- A face more, glued to the top side and to the side before it.
+use Rattle.std.proofs.Common.{◌≡◌, ℕ, ◌*◌, ◌/◌, ◌<◌, ◌∷◌, List, length, sym, refl, ap, ◌∙◌, subst, arith, add-one}
+use Rattle.corner_table.specs.Sides.{Side, side, second, third, glue}
+use Rattle.corner_table.specs.Fans.{side_before}
+use Rattle.corner_table.specs.Table.{side_of, glued_in, gluing_of}
+use Rattle.corner_table.proofs.Places.{same-true, same-false, face_apart}
+use Rattle.eb_rebuild.specs.Linked.{LinkValue, state_of}
+use Rattle.eb_rebuild.proofs.Steps.{tip_no_top}
+use Rattle.eb_rebuild.proofs.Noting.{kept_below_more}
+use Rattle.eb_rebuild.proofs.Linking.{link_grown, tip_does, tip_alone_does, still_free, free_grown}
+use Rattle.eb_rebuild.proofs.link_rebuild.LinkRebuild.take_tip.Goals as goal
+
+pub returns-in-Err-clause-does : goal.returns-in-Err-clause-does
+returns-in-Err-clause-does g c = tip_no_top _ (state_of c.args.self.now) _ c.in-Err.ensures.err
+
+pub returns-then-is_same-clause-does : goal.returns-then-is_same-clause-does
+returns-then-is_same-clause-does g c =
+    let taken = c.in-Ok.ensures.ok in
+    tip_alone_does c.args.self.now c.take_side.new.self
+    (record { plan = record { faces = c.self.inside.faces; created = c.self.inside.created; symbols = c.self.inside.symbols }; table = c.self.inside.table; stack = c.self.inside.stack; splits = c.self.inside.splits; made = c.self.inside.made; closes = c.self.inside.closes })
+    c.in-Ok.a (side_of c.prev_open-before.result) c.from.result
+    (record { rest = c.take_side.ensures.rest; view = c.self.view_is; sides = taken.0; free = taken.1; below = taken.2 })
+    (c.prev_open-before.ensures.previous ∙ ap (side_before c.self.inside.table.faces (gluing_of c.self.inside.table)) c.side_with-top.ensures.side)
+    (same-true _ _ (sym c.is_same.ensures ∙ c.if-is_same.true) ∙ c.side_with-top.ensures.side)
+    (c.from.ensures ∙ c.face_count.ensures.count)
+
+pub glue-requires-clause-first : goal.glue-requires-clause-first
+glue-requires-clause-first g c = c.add_face-face.ensures.free second
+
+pub glue-requires-2-clause-first : goal.glue-requires-2-clause-first
+glue-requires-2-clause-first g c =
+    let f = c.add_face-face.ensures.face in
+    let below = c.in-Ok.ensures.ok.2 in
+    let is = ap (λ (v : LinkValue). v.table.faces) (c.self.view_is ∙ c.take_side.ensures.rest) in
+    let at = c.side_with-top.ensures.face in
+    still_free c.add_face-face.new.self.faces (gluing_of c.add_face-face.new.self) c.glue.new.self (side c.add_face-face.result second) (side_of c.side_with-top.result) (side c.add_face-face.result third)
+    c.glue.ensures.faces c.glue.ensures.glued (c.add_face-face.ensures.free third)
+    (λ e. (let no = ap (λ (x : Side). x.place) e in cc))
+    (face_apart _ _ (λ e. (let no : c.add_face-face.result ≡ c.side_with-top.result.face = e in absurd (omega arith))))
+
+pub glue-requires-2-clause-second : goal.glue-requires-2-clause-second
+glue-requires-2-clause-second g c =
+    let f = c.add_face-face.ensures.face in
+    let w = c.prev_open-before.ensures.free.within in
+    still_free c.add_face-face.new.self.faces (gluing_of c.add_face-face.new.self) c.glue.new.self (side c.add_face-face.result second) (side_of c.side_with-top.result) (side_of c.prev_open-before.result)
+    c.glue.ensures.faces c.glue.ensures.glued (free_grown c.self.inside.table c.add_face-face.new.self (side_of c.prev_open-before.result) c.add_face-face.ensures.faces c.add_face-face.ensures.entries c.prev_open-before.ensures.free)
+    (face_apart _ _ (λ e. (let no : c.prev_open-before.result.face ≡ c.add_face-face.result = e in absurd (omega arith))))
+    (same-false _ _ (sym c.is_same.ensures ∙ c.if-is_same.false))
+
+pub invariant_of-self : goal.invariant_of-self
+invariant_of-self g c =
+    let whole = c.self.view_is ∙ c.take_side.ensures.rest in
+    let more = subst (λ (v : LinkValue). v.table.faces < v.plan.symbols) (sym whole) c.requires in
+    link_grown c.self.invariant (record {
+      plan = refl;
+      more = more;
+      faces = c.glue-2.ensures.faces ∙ c.glue.ensures.faces ∙ c.add_face-face.ensures.faces ∙ add-one _;
+      room = c.glue-2.ensures.room ∙ c.glue.ensures.room ∙ ap (λ (l : List ℕ). length l / 3) c.add_face-face.ensures.entries;
+      stack_room = c.push.ensures.room;
+      rest = c.self.inside.stack.sides;
+      below = c.self.invariant.sides;
+      shorter = omega arith;
+      sides = c.push.ensures.sides ∙ ap (λ (n : ℕ). (3 * n) ∷ c.self.inside.stack.sides) c.add_face-face.ensures.face;
+      slots = refl;
+      kept = kept_below_more _ _ c.self.invariant.kept;
+      made = omega arith;
+      closes = refl;
+    })
+
+pub returns-clause-does : goal.returns-clause-does
+returns-clause-does g c =
+    let taken = c.in-Ok.ensures.ok in
+    tip_does c.args.self.now c.take_side.new.self
+    (record { plan = record { faces = c.self.inside.faces; created = c.self.inside.created; symbols = c.self.inside.symbols }; table = c.self.inside.table; stack = c.self.inside.stack; splits = c.self.inside.splits; made = c.self.inside.made; closes = c.self.inside.closes })
+    (record { plan = record { faces = c.self.inside.faces; created = c.self.inside.created; symbols = c.self.inside.symbols }; table = c.glue-2.new.self; stack = c.push.new.self; splits = c.self.inside.splits; made = c.self.inside.made; closes = c.self.inside.closes })
+    c.in-Ok.a (side_of c.prev_open-before.result)
+    (record { rest = c.take_side.ensures.rest; view = c.self.view_is; sides = taken.0; free = taken.1; below = taken.2 })
+    (record {
+      faces = c.glue-2.ensures.faces ∙ c.glue.ensures.faces ∙ c.add_face-face.ensures.faces ∙ add-one _;
+      glued = c.glue-2.ensures.glued ∙ ap (glue (side c.add_face-face.result third) (side_of c.prev_open-before.result)) (c.glue.ensures.glued ∙ ap (λ (l : List ℕ). glue (side c.add_face-face.result second) (side_of c.side_with-top.result) (glued_in l)) c.add_face-face.ensures.entries)
+          ∙ ap (λ (n : ℕ). glue (side n third) (side_of c.prev_open-before.result) (glue (side n second) (side_of c.side_with-top.result) (gluing_of c.self.inside.table))) c.add_face-face.ensures.face
+          ∙ ap (λ (x : Side). glue (side c.self.inside.table.faces third) (side_of c.prev_open-before.result) (glue (side c.self.inside.table.faces second) x (gluing_of c.self.inside.table))) c.side_with-top.ensures.side;
+      stack = c.push.ensures.sides ∙ ap (λ (n : ℕ). (3 * n) ∷ c.self.inside.stack.sides) c.add_face-face.ensures.face;
+      splits = refl;
+      made = refl;
+      closes = refl;
+    })
+    (c.prev_open-before.ensures.previous ∙ ap (side_before c.self.inside.table.faces (gluing_of c.self.inside.table)) c.side_with-top.ensures.side)
+    (λ e. same-false _ _ (sym c.is_same.ensures ∙ c.if-is_same.false) (e ∙ sym c.side_with-top.ensures.side))

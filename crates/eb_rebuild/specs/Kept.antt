@@ -1,0 +1,37 @@
+-- The lists that a rebuilding keeps, as the machine reads them.
+use Rattle.std.specs.Prelude.{◌≢◌, ℕ, zero, suc, ◌*◌, ◌<◌, false, List, [], ◌∷◌, get_or, Option}
+use Rattle.corner_table.specs.declared.symbols.Event.{Event}
+use Rattle.corner_table.specs.Sides.{Side}
+use Rattle.corner_table.specs.Table.{other_at, free_entry}
+
+-- the first n items, the last first
+abbrev pub counted_down : {A : Type 0} → A → ℕ → List A → List A
+counted_down d zero xs = []
+counted_down d (suc n) xs = get_or xs n d ∷ counted_down d n xs
+
+-- an event that stands for none
+abbrev pub no_event : Event
+no_event = record { source = 0; split = 0; right = false }
+
+-- a stack of side numbers, the top first, and how many it has room for
+pub record StackValue : Type 0 where
+  pub sides : List ℕ
+  pub room : ℕ
+
+-- the sides kept by symbol number, and the events left, the last first
+pub record SplitsValue : Type 0 where
+  pub kept : List ℕ
+  pub events : List Event
+
+-- the side kept for a symbol
+abbrev pub kept_in : List ℕ → ℕ → Option Side
+kept_in kept k = other_at (get_or kept k free_entry)
+
+-- each number is one of a side of the faces below a number
+abbrev pub AreSidesBelow : ℕ → List ℕ → Type 0
+AreSidesBelow faces [] = Unit {0}
+AreSidesBelow faces (x ∷ xs) = (x < 3 * faces) × AreSidesBelow faces xs
+
+-- each side that is kept is one of the faces below a number
+abbrev pub AreKeptBelow : ℕ → List ℕ → Type 0
+AreKeptBelow faces kept = (k : ℕ) → get_or kept k free_entry ≢ free_entry → get_or kept k free_entry < 3 * faces

@@ -1,0 +1,6 @@
+pub mod Machine
+pub mod Degree
+pub mod Rebuilding
+pub mod Kept
+pub mod Linked
+pub mod Alike

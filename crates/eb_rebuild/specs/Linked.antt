@@ -1,0 +1,53 @@
+-- What a rebuilding that keeps the boundary by links holds, and the machine's state that it stands for.
+use Rattle.std.specs.Prelude.{◌≡◌, ℕ, ◌+◌, ◌*◌, ◌≤◌, length, map, Result, Ok, Err}
+use Rattle.drc_base.specs.declared.faults.Fault.{Fault}
+use Rattle.drc_base.specs.declared.faults.Refusal.{Refusal}
+use Rattle.drc_base.specs.declared.faults.Refusal.TheVariants as refusal
+use Rattle.drc_base.specs.declared.limits.TheConstants.{MAX_FACES}
+use Rattle.corner_table.specs.Sides.{side_at}
+use Rattle.corner_table.specs.Table.{Table, gluing_of, room_of}
+use Rattle.eb_rebuild.specs.Machine.{State, Plan}
+use Rattle.eb_rebuild.specs.Kept.{StackValue, SplitsValue, kept_in, AreSidesBelow, AreKeptBelow}
+
+pub record LinkValue : Type 0 where
+  pub plan : Plan
+  pub table : Table
+  pub stack : StackValue
+  pub splits : SplitsValue
+  pub made : ℕ
+  pub closes : ℕ
+
+-- the machine's state
+abbrev pub state_of : LinkValue → State
+state_of v = record {
+  built = v.table.faces;
+  glued = gluing_of v.table;
+  stack = map side_at v.stack.sides;
+  reserved = kept_in v.splits.kept;
+  events = v.splits.events;
+  made = v.made;
+  closes = v.closes;
+}
+
+-- there is room for what is to come, and the sides that wait and that are kept are those of built faces
+pub record IsLinkState (v : LinkValue) : Type 0 where
+  pub limit : v.plan.faces ≤ MAX_FACES
+  pub room : room_of v.table ≡ v.plan.faces
+  pub fewer : v.plan.symbols ≤ v.plan.faces
+  pub slots : length v.splits.kept ≡ v.plan.symbols
+  pub stack_room : v.stack.room ≡ v.plan.symbols
+  pub low : length v.stack.sides + v.closes ≤ v.table.faces
+  pub few : length v.stack.sides + v.closes ≤ v.plan.symbols
+  pub sides : AreSidesBelow v.table.faces v.stack.sides
+  pub kept : AreKeptBelow v.table.faces v.splits.kept
+  pub made : v.made ≤ 3 * v.table.faces
+
+-- a step of the machine that is a fault or goes well
+abbrev pub Does : Result State Fault → State → Result (Unit {0}) Fault → Type 0
+Does next new (Ok done) = next ≡ Ok new
+Does next new (Err f) = next ≡ Err f
+
+-- a fault is a refusal
+abbrev pub refused_by : Result (Unit {0}) Fault → Result (Unit {0}) Refusal
+refused_by (Ok done) = Ok done
+refused_by (Err f) = Err (refusal.Fault f)

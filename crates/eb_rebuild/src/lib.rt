@@ -1,0 +1,17 @@
+//! Rebuilding a surface from Edgebreaker symbols in reverse (Rossignac 1999; Isenburg and Snoeyink
+//! 2001; Draco Bitstream Specification 2.2, Edgebreaker). The contract above it is the trait
+//! `Rebuild`: each call gives the next state of the machine, or exactly the fault of its rule.
+#![tactic(auto)]
+
+mod built;
+mod degenerate;
+mod link_rebuild;
+mod rebuild;
+mod side_stack;
+mod splits;
+#[cfg(test)]
+mod tests;
+
+pub use built::Built;
+pub use link_rebuild::LinkRebuild;
+pub use rebuild::Rebuild;

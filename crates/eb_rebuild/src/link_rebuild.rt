@@ -1,0 +1,418 @@
+//! Rebuilding over the links of the boundary.
+//!
+//! The rules ask only which side comes before a free side round the boundary, and whether a side is
+//! free; the table's links tell both at once. So a symbol takes a few table calls, whatever was built
+//! before.
+
+ghost use Rattle.std.specs.Prelude.{◌≡◌, ◌/◌, ◌%◌};
+ghost use Rattle.corner_table.specs.Sides.{side_at, same, number};
+ghost use Rattle.corner_table.specs.Table.{side_of};
+ghost use Rattle.eb_rebuild.specs.Linked.{refused_by};
+ghost use Rattle.drc_base.specs.declared.limits.TheConstants.{MAX_FACES as most_faces};
+ghost use Rattle.std.specs.Prelude.{◌<◌, ◌*◌, ◌+◌, not, ◌&&◌};
+
+use crate::built::Built;
+use crate::degenerate::first_equal;
+use crate::rebuild::Rebuild;
+use crate::side_stack::SideStack;
+use crate::splits::Splits;
+use corner_table::{Event, SideTable, Steps, Symbol};
+use drc_base::{Fault, Kind, Memory, Refusal, Side};
+use std::alloc::Global;
+use std::marker::Model;
+use std::sync::ledger::Ledger;
+
+/// The side with a number.
+fn side_with(number: u32) -> Side
+    ensures side { side_of result ≡ side_at number }
+    ensures face { result.face ≡ number / 3 }
+{
+    Side {
+        face: number / 3,
+        k: (number % 3) as u8,
+    }
+}
+
+/// The number of a side.
+fn number_of(s: Side) -> u32
+    requires { s.face < most_faces }
+    ensures { result ≡ number (side_of s) }
+{
+    3 * s.face + u32::from(s.k)
+}
+
+/// Whether two sides are one.
+fn is_same(a: Side, b: Side) -> bool
+    ensures { result ≡ same (side_of a) (side_of b) }
+{
+    a.face == b.face && a.k == b.k
+}
+
+/// Whether b and c, which come before a round the boundary, are two more sides, and d, which comes
+/// before these, is a again: a loop of just three.
+fn is_loop(a: Side, b: Side, c: Side, d: Side) -> bool
+    ensures { result ≡ (not (same (side_of b) (side_of a)) && not (same (side_of c) (side_of a)) && same (side_of d) (side_of a)) }
+{
+    !is_same(b, a) && !is_same(c, a) && is_same(d, a)
+}
+
+/// A fault is a refusal.
+fn refused(done: Result<(), Fault>) -> Result<(), Refusal>
+    ensures { result ≡ refused_by done }
+{
+    match done {
+        Ok(()) => Ok(()),
+        Err(fault) => Err(Refusal::Fault(fault)),
+    }
+}
+
+/// A rebuilding that keeps the boundary by links.
+#[derive(Debug, Drop)]
+pub struct LinkRebuild {
+    table: SideTable,
+    stack: SideStack,
+    splits: Splits,
+    faces: u32,
+    created: u32,
+    symbols: u32,
+    made: u32,
+    closes: u32,
+}
+
+impl Model for LinkRebuild {
+    ghost use Rattle.eb_rebuild.specs.Linked.{LinkValue, IsLinkState};
+
+    ghost Value = { LinkValue };
+
+    ghost view = { λ r. record {
+      plan = record { faces = r.faces; created = r.created; symbols = r.symbols };
+      table = r.table;
+      stack = r.stack;
+      splits = r.splits;
+      made = r.made;
+      closes = r.closes;
+    } };
+
+    ghost invariant = { λ r. IsLinkState (record {
+      plan = record { faces = r.faces; created = r.created; symbols = r.symbols };
+      table = r.table;
+      stack = r.stack;
+      splits = r.splits;
+      made = r.made;
+      closes = r.closes;
+    }) };
+}
+
+impl LinkRebuild {
+    ghost use Rattle.std.specs.Prelude.{◌≡◌, ℕ, suc, ◌+◌, ◌*◌, ◌<◌, ◌≤◌, true, false, None, ◌∷◌, Ok, Err, map, length, IfOk, IfErr, OnOk, OnErr};
+    ghost use Rattle.corner_table.specs.declared.symbols.Symbol.TheVariants as kinds;
+    ghost use Rattle.corner_table.specs.Sides.{side_at};
+    ghost use Rattle.corner_table.specs.Table.{gluing_of};
+    ghost use Rattle.eb_rebuild.specs.Machine.{top, step, close, pushed, release};
+    ghost use Rattle.eb_rebuild.specs.Kept.{kept_in};
+    ghost use Rattle.eb_rebuild.specs.Linked.{state_of, Does};
+
+    /// Takes the top side off, which has to be free.
+    fn take_side<L: Ledger>(&mut self, steps: &mut Steps<L>) -> Result<u32, Fault>
+        ensures ok { IfOk result (λ a. (self.old.stack.sides ≡ a ∷ self.new.stack.sides) × (gluing_of self.old.table (side_at a) ≡ None) × (a < 3 * self.old.table.faces)) }
+        ensures err { IfErr result (λ f. top self.old.table.faces (gluing_of self.old.table) (map side_at self.old.stack.sides) ≡ Err f) }
+        ensures rest { self.new ≡ record self.old { stack = self.new.stack } }
+        ensures cost { steps.new ≤ steps.old + 1 }
+    {
+        match self.stack.pop() {
+            None => Err(Fault {
+                kind: Kind::NoActive,
+                at: u64::from(self.table.face_count()),
+            }),
+            Some(a) => match self.table.other(side_with(a), steps) {
+                None => Ok(a),
+                Some(_) => Err(Fault {
+                    kind: Kind::Gone,
+                    at: u64::from(self.table.face_count()),
+                }),
+            },
+        }
+    }
+
+    /// E: a new face, no side of which is glued.
+    fn take_end<L: Ledger>(&mut self, steps: &mut Steps<L>) -> Result<(), Fault>
+        requires { self.old.table.faces < self.old.plan.symbols }
+        ensures does { Does (step self.old.plan.symbols kinds.E (state_of self.old)) (state_of self.new) result }
+        ensures plan { self.new.plan ≡ self.old.plan }
+        ensures cost { steps.new ≤ steps.old + 4 }
+    {
+        let face = self.table.add_face(steps);
+        self.stack.push(3 * face);
+        self.made += 3;
+        self.splits.note(face)
+    }
+
+    /// R: side 2 of the new face is glued to the top side.
+    fn take_right<L: Ledger>(&mut self, steps: &mut Steps<L>) -> Result<(), Fault>
+        requires { self.old.table.faces < self.old.plan.symbols }
+        ensures does { Does (step self.old.plan.symbols kinds.R (state_of self.old)) (state_of self.new) result }
+        ensures plan { self.new.plan ≡ self.old.plan }
+        ensures cost { steps.new ≤ steps.old + 4 }
+    {
+        let a = match self.take_side(steps) {
+            Ok(a) => a,
+            Err(fault) => return Err(fault),
+        };
+        let face = self.table.add_face(steps);
+        self.table.glue(Side { face, k: 2 }, side_with(a), steps);
+        self.stack.push(3 * face);
+        self.made += 1;
+        self.splits.note(face)
+    }
+
+    /// L: side 1 of the new face is glued to the top side.
+    fn take_left<L: Ledger>(&mut self, steps: &mut Steps<L>) -> Result<(), Fault>
+        requires { self.old.table.faces < self.old.plan.symbols }
+        ensures does { Does (step self.old.plan.symbols kinds.L (state_of self.old)) (state_of self.new) result }
+        ensures plan { self.new.plan ≡ self.old.plan }
+        ensures cost { steps.new ≤ steps.old + 4 }
+    {
+        let a = match self.take_side(steps) {
+            Ok(a) => a,
+            Err(fault) => return Err(fault),
+        };
+        let face = self.table.add_face(steps);
+        self.table.glue(Side { face, k: 1 }, side_with(a), steps);
+        self.stack.push(3 * face);
+        self.made += 1;
+        self.splits.note(face)
+    }
+
+    /// C: the new face closes the vertex at which the top side starts. Its side 1 is glued to the top
+    /// side, its side 2 to the free side before that.
+    fn take_tip<L: Ledger>(&mut self, steps: &mut Steps<L>) -> Result<(), Fault>
+        requires { self.old.table.faces < self.old.plan.symbols }
+        ensures does { Does (step self.old.plan.symbols kinds.C (state_of self.old)) (state_of self.new) result }
+        ensures plan { self.new.plan ≡ self.old.plan }
+        ensures cost { steps.new ≤ steps.old + 5 }
+        ensures refused { OnErr result (steps.new ≤ steps.old + 4) }
+    {
+        let a = match self.take_side(steps) {
+            Ok(a) => a,
+            Err(fault) => return Err(fault),
+        };
+        let top = side_with(a);
+        let before = self.table.prev_open(top, steps);
+        if is_same(before, top) {
+            return Err(Fault {
+                kind: Kind::Alone,
+                at: u64::from(self.table.face_count()),
+            });
+        }
+        let face = self.table.add_face(steps);
+        self.table.glue(Side { face, k: 1 }, top, steps);
+        self.table.glue(Side { face, k: 2 }, before, steps);
+        self.stack.push(3 * face);
+        Ok(())
+    }
+
+    /// The second side of an S: the one that an event keeps for it, else the top side. It has to be
+    /// free.
+    fn take_second<L: Ledger>(&mut self, steps: &mut Steps<L>) -> Result<u32, Fault>
+        requires { self.old.table.faces < self.old.plan.symbols }
+        ensures ok { IfOk result (λ a. (top self.old.table.faces (gluing_of self.old.table) (pushed (kept_in self.old.splits.kept self.old.table.faces) (map side_at self.old.stack.sides)) ≡ Ok (side_at a, map side_at self.new.stack.sides))
+            × (gluing_of self.old.table (side_at a) ≡ None) × (a < 3 * self.old.table.faces)) }
+        ensures err { IfErr result (λ f. top self.old.table.faces (gluing_of self.old.table) (pushed (kept_in self.old.splits.kept self.old.table.faces) (map side_at self.old.stack.sides)) ≡ Err f) }
+        ensures kept { kept_in self.new.splits.kept ≡ release self.old.table.faces (kept_in self.old.splits.kept) }
+        ensures events { self.new.splits.events ≡ self.old.splits.events }
+        ensures rest { self.new ≡ record self.old { stack = self.new.stack; splits = self.new.splits } }
+        ensures cost { steps.new ≤ steps.old + 1 }
+    {
+        let number = self.table.face_count();
+        match self.splits.take(number) {
+            None => self.take_side(steps),
+            Some(a) => match self.table.other(side_with(a), steps) {
+                None => Ok(a),
+                Some(_) => Err(Fault {
+                    kind: Kind::Gone,
+                    at: u64::from(number),
+                }),
+            },
+        }
+    }
+
+    /// S: the new face joins the top side and the second side. Its side 1 is glued to the top side, its
+    /// side 2 to the second.
+    fn take_split<L: Ledger>(&mut self, steps: &mut Steps<L>) -> Result<(), Fault>
+        requires { self.old.table.faces < self.old.plan.symbols }
+        ensures does { Does (step self.old.plan.symbols kinds.S (state_of self.old)) (state_of self.new) result }
+        ensures plan { self.new.plan ≡ self.old.plan }
+        ensures cost { steps.new ≤ steps.old + 6 }
+        ensures refused { OnErr result (steps.new ≤ steps.old + 4) }
+    {
+        let b = match self.take_side(steps) {
+            Ok(b) => b,
+            Err(fault) => return Err(fault),
+        };
+        let a = match self.take_second(steps) {
+            Ok(a) => a,
+            Err(fault) => return Err(fault),
+        };
+        let top = side_with(b);
+        let second = side_with(a);
+        if is_same(second, top) {
+            return Err(Fault {
+                kind: Kind::Gone,
+                at: u64::from(self.table.face_count()),
+            });
+        }
+        let before = self.table.prev_open(top, steps);
+        if is_same(before, second) {
+            return Err(Fault {
+                kind: Kind::SamePoint,
+                at: u64::from(self.table.face_count()),
+            });
+        }
+        let face = self.table.add_face(steps);
+        self.table.glue(Side { face, k: 2 }, second, steps);
+        self.table.glue(Side { face, k: 1 }, top, steps);
+        self.stack.push(3 * face);
+        Ok(())
+    }
+
+    /// Leaves the top side a boundary.
+    fn close_boundary(&mut self)
+        requires { 0 < length self.old.stack.sides }
+        ensures does { close self.old.plan false (state_of self.old) ≡ Ok (state_of self.new) }
+        ensures plan { self.new.plan ≡ self.old.plan }
+    {
+        match self.stack.pop() {
+            None => (),
+            Some(_) => self.closes += 1,
+        }
+    }
+
+    /// Fills the loop of the top side with a face.
+    fn close_interior<L: Ledger>(&mut self, steps: &mut Steps<L>) -> Result<(), Fault>
+        requires { 0 < length self.old.stack.sides }
+        ensures does { Does (close self.old.plan true (state_of self.old)) (state_of self.new) result }
+        ensures plan { self.new.plan ≡ self.old.plan }
+        ensures cost { steps.new ≤ steps.old + 8 }
+        ensures refused { OnErr result (steps.new ≤ steps.old + 4) }
+    {
+        let number = u64::from(self.symbols) + u64::from(self.closes);
+        let a = match self.stack.pop() {
+            Some(a) => a,
+            None => return Ok(()),
+        };
+        let top = side_with(a);
+        match self.table.other(top, steps) {
+            None => (),
+            Some(_) => {
+                return Err(Fault {
+                    kind: Kind::Gone,
+                    at: number,
+                });
+            }
+        }
+        let second = self.table.prev_open(top, steps);
+        let third = self.table.prev_open(second, steps);
+        let last = self.table.prev_open(third, steps);
+        if !is_loop(top, second, third, last) {
+            return Err(Fault {
+                kind: Kind::Loop,
+                at: number,
+            });
+        }
+        let built = self.table.face_count();
+        if built == self.faces {
+            return Err(Fault {
+                kind: Kind::FaceCount,
+                at: u64::from(built),
+            });
+        }
+        let face = self.table.add_face(steps);
+        self.table.glue(Side { face, k: 0 }, top, steps);
+        self.table.glue(Side { face, k: 1 }, second, steps);
+        self.table.glue(Side { face, k: 2 }, third, steps);
+        self.closes += 1;
+        Ok(())
+    }
+}
+
+impl Rebuild for LinkRebuild {
+    ghost use Rattle.std.specs.Prelude.{true};
+    ghost use Rattle.eb_rebuild.specs.Linked.{state_of};
+
+    ghost plan = { λ r. r.plan };
+
+    ghost state = { λ r. state_of r };
+
+    ghost live = { λ _. true };
+
+    ghost linked = { λ _. true };
+
+    fn new(
+        alloc: Global,
+        faces: u32,
+        created: u32,
+        symbols: u32,
+        events: Vec<Event>,
+    ) -> Result<LinkRebuild, Memory> {
+        let table = SideTable::with_room(alloc, faces)?;
+        let stack = SideStack::with_room(alloc, symbols)?;
+        let splits = Splits::new(alloc, symbols, events)?;
+        Ok(LinkRebuild {
+            table,
+            stack,
+            splits,
+            faces,
+            created,
+            symbols,
+            made: 0,
+            closes: 0,
+        })
+    }
+
+    fn symbol<L: Ledger>(&mut self, symbol: Symbol, steps: &mut Steps<L>) -> Result<(), Refusal> {
+        match symbol {
+            Symbol::C => refused(self.take_tip(steps)),
+            Symbol::S => refused(self.take_split(steps)),
+            Symbol::L => refused(self.take_left(steps)),
+            Symbol::R => refused(self.take_right(steps)),
+            Symbol::E => refused(self.take_end(steps)),
+        }
+    }
+
+    fn pending(&self) -> u32 {
+        self.stack.len()
+    }
+
+    fn close<L: Ledger>(&mut self, interior: bool, steps: &mut Steps<L>) -> Result<(), Refusal> {
+        if interior {
+            refused(self.close_interior(steps))
+        } else {
+            self.close_boundary();
+            Ok(())
+        }
+    }
+
+    fn finish(self, alloc: Global) -> Result<Built, Refusal> {
+        let built = self.table.face_count();
+        if built != self.faces {
+            return Err(Refusal::Fault(Fault {
+                kind: Kind::FaceCount,
+                at: u64::from(built),
+            }));
+        }
+        if self.created < self.made {
+            return Err(Refusal::Fault(Fault {
+                kind: Kind::VertexCount,
+                at: u64::from(self.made),
+            }));
+        }
+        let classes = self.table.label_vertices(alloc)?;
+        match first_equal(classes.of_corner.as_slice(), built) {
+            None => Ok(Built::new(self.table, true)),
+            Some(face) => Err(Refusal::Fault(Fault {
+                kind: Kind::Degenerate,
+                at: u64::from(face),
+            })),
+        }
+    }
+}

@@ -1,0 +1,141 @@
+//! The split events that are left, and the sides that earlier ones keep.
+
+ghost use Rattle.std.specs.Prelude.{◌≡◌, ◌+◌, ◌*◌, ◌<◌, vec_len, slice_index_or, get_or};
+ghost use Rattle.drc_base.specs.declared.limits.TheConstants.{MAX_FACES as most_faces};
+ghost use Rattle.corner_table.specs.Sides.{side, number};
+ghost use Rattle.corner_table.specs.Table.{free_entry};
+ghost use Rattle.eb_rebuild.specs.Machine.{event_place};
+ghost use Rattle.eb_rebuild.specs.Kept.{no_event};
+
+use corner_table::Event;
+use drc_base::{Fault, Kind, Memory};
+use std::alloc::Global;
+use std::marker::Model;
+
+/// The entry of a symbol that no side is kept for.
+const NONE: u32 = u32::MAX;
+
+/// Sides kept for the symbols of a rebuilding, and the events left. Events stand in the encoder's
+/// order, so the last ones are due first.
+#[derive(Debug, Drop)]
+pub(crate) struct Splits {
+    kept: Vec<u32>,
+    events: Vec<Event>,
+    left: usize,
+}
+
+impl Model for Splits {
+    ghost use Rattle.std.specs.Prelude.{◌<◌, ◌≤◌, ◌*◌, ◌^◌, vec_len, All};
+    ghost use Rattle.eb_rebuild.specs.Kept.{SplitsValue, counted_down, no_event};
+    ghost use Rattle.eb_rebuild.specs.Rebuilding.{IsEventOf};
+
+    ghost Value = { SplitsValue };
+
+    ghost view = { λ s. record { kept = s.kept.items; events = counted_down no_event s.left s.events.items } };
+
+    ghost invariant = { λ s. (s.left ≤ vec_len s.events) × (vec_len s.kept < 2 ^ 24) × All (IsEventOf (vec_len s.kept)) s.events.items };
+}
+
+/// The event with a number.
+fn event_at(events: &Vec<Event>, number: usize) -> Event
+    requires { number < vec_len events.now }
+    ensures { result ≡ slice_index_or events.now.items number no_event }
+{
+    events[number]
+}
+
+/// The side kept for a symbol.
+fn kept_at(kept: &Vec<u32>, symbol: u32) -> u32
+    requires { symbol < vec_len kept.now }
+    ensures { result ≡ get_or kept.now.items symbol free_entry }
+{
+    kept[symbol as usize]
+}
+
+/// The side of a face that an event keeps: the one of the corner after the walk's corner, or before it.
+fn event_side(face: u32, right: bool) -> u32
+    requires { face < most_faces }
+    ensures side { result ≡ number (side face (event_place right)) }
+    ensures within { result < 3 * face + 3 }
+{
+    if right { 3 * face + 1 } else { 3 * face + 2 }
+}
+
+impl Splits {
+    ghost use Rattle.std.specs.Prelude.{◌≡◌, ℕ, suc, ◌+◌, ◌<◌, ◌≤◌, ◌*◌, List, length, reverse, All, IfOk, OnOk, IfErr, IfSome, IfNone, Ok, Err, replicate, MatchResult};
+    ghost use Rattle.std.specs.Option.{option_map};
+    ghost use Rattle.corner_table.specs.Sides.{side_at};
+    ghost use Rattle.eb_rebuild.specs.Machine.{note_events, release};
+    ghost use Rattle.eb_rebuild.specs.Kept.{kept_in, AreKeptBelow};
+    ghost use Rattle.eb_rebuild.specs.Rebuilding.{IsEventOf};
+
+    /// No side kept, for as many symbols as are said, with events in the encoder's order.
+    pub(crate) fn new(alloc: Global, symbols: u32, events: Vec<Event>) -> Result<Splits, Memory>
+        requires symbols { symbols ≤ most_faces }
+        requires events { All (IsEventOf symbols) events.items }
+        ensures kept { IfOk result (λ s. s.kept ≡ replicate symbols free_entry) }
+        ensures events { IfOk result (λ s. s.events ≡ reverse events.items) }
+    {
+        let left = events.len();
+        let kept = vec![in alloc; NONE; symbols as usize]?;
+        Ok(Splits { kept, events, left })
+    }
+
+    /// Notes the events of a symbol, whose face has its number: each keeps a side of the face for the
+    /// symbol that it names.
+    pub(crate) fn note(&mut self, face: u32) -> Result<(), Fault>
+        requires face { face < length self.old.kept }
+        requires limit { length self.old.kept ≤ most_faces }
+        ensures noted { MatchResult result
+            (λ _. note_events (length self.old.kept) face self.old.events (kept_in self.old.kept) ≡ Ok (self.new.events, kept_in self.new.kept))
+            (λ f. note_events (length self.old.kept) face self.old.events (kept_in self.old.kept) ≡ Err f) }
+        ensures long { length self.new.kept ≡ length self.old.kept }
+        ensures below { AreKeptBelow face self.old.kept → AreKeptBelow (suc face) self.new.kept }
+    {
+        let symbols = self.kept.len() as u32;
+        let due = symbols - 1 - face;
+        'noting: loop {
+            if self.left == 0 {
+                return Ok(());
+            }
+            let event = event_at(&self.events, self.left - 1);
+            if event.source < due {
+                return Ok(());
+            }
+            if due < event.source {
+                return Err(Fault {
+                    kind: Kind::EventOrder,
+                    at: u64::from(face),
+                });
+            }
+            let split = symbols - 1 - event.split;
+            if kept_at(&self.kept, split) != NONE {
+                return Err(Fault {
+                    kind: Kind::Taken,
+                    at: u64::from(face),
+                });
+            }
+            self.kept[split as usize] = event_side(face, event.right);
+            self.left -= 1;
+        }
+    }
+
+    /// The side kept for a symbol, which is kept no more.
+    pub(crate) fn take(&mut self, symbol: u32) -> Option<u32>
+        requires { symbol < length self.old.kept }
+        ensures side { option_map side_at result ≡ kept_in self.old.kept symbol }
+        ensures released { kept_in self.new.kept ≡ release symbol (kept_in self.old.kept) }
+        ensures events { self.new.events ≡ self.old.events }
+        ensures long { length self.new.kept ≡ length self.old.kept }
+        ensures below { (faces : ℕ) → AreKeptBelow faces self.old.kept → AreKeptBelow faces self.new.kept }
+        ensures within { (faces : ℕ) → AreKeptBelow faces self.old.kept → IfSome result (λ side. side < 3 * faces) }
+    {
+        let side = kept_at(&self.kept, symbol);
+        if side == NONE {
+            None
+        } else {
+            self.kept[symbol as usize] = NONE;
+            Some(side)
+        }
+    }
+}

@@ -1,0 +1,68 @@
+-- Reading back what was written, symbol by symbol.
+use Rattle.std.proofs.Common.{◌≡◌, ℕ, ◌+◌, ◌*◌, ◌≤◌, Bool, true, false, cond, ◌==◌, nat_le, List, ◌∷◌, ◌++◌, length, take, drop, Option, Some, None, sym, ap, ◌∙◌, subst, arith, le-leb, if◌then◌else◌}
+use Rattle.std.proofs.lemmas.Bool.{cond-true}
+use Rattle.std.proofs.lemmas.List.{drop-drop}
+use Rattle.drc_bits.specs.Bits.{BitPlace, next_bits, after_bits, bits_left, bits_of, low_bits, number_of}
+use Rattle.corner_table.specs.declared.symbols.Symbol.{Symbol}
+use Rattle.corner_table.specs.declared.symbols.Symbol.TheVariants.{C, S, L, R, E}
+use Rattle.eb_standard.specs.SymbolBits.{SymbolPlace, symbol_bits, symbol_of, next_symbol, after_symbol, longer, after_longer}
+use Rattle.eb_standard.specs.ReadBack.{ReadsBack}
+
+-- the next bits are those at the front
+next_is : (n : ℕ) (r : BitPlace) (ws : List ℕ) → bits_left r ≡ ws → n ≤ length ws → next_bits n r ≡ Some (number_of (take n ws))
+next_is n r ws e h = ap (λ (l : List ℕ). if nat_le n (length l) then Some (number_of (take n l)) else None) e ∙ cond-true _ _ _ (le-leb n (length ws) h)
+
+-- and they are gone afterwards
+left_is : (n : ℕ) (r : BitPlace) (ws : List ℕ) → bits_left r ≡ ws → n ≤ length ws → bits_left (after_bits n r) ≡ drop n ws
+left_is n r ws e h =
+    let many : nat_le n (length (bits_left r)) ≡ true = ap (λ (l : List ℕ). nat_le n (length l)) e ∙ le-leb n (length ws) h in
+    ap bits_left (cond-true (nat_le n (length (bits_left r))) (record { bytes = r.bytes; taken = r.taken + n }) r many)
+    ∙ sym (drop-drop n r.taken (bits_of r.bytes)) ∙ ap (drop n) e
+
+abbrev place_of : BitPlace → Bool → SymbolPlace
+place_of r b = record { place = r; begun = b }
+
+-- the other two bits of a longer symbol
+longer_is : (r : BitPlace) (a b : ℕ) (rest : List ℕ) → bits_left r ≡ a ∷ b ∷ rest → (longer r ≡ Some (symbol_of (a + 2 * (b + 2 * 0)))) × (bits_left (after_longer r).place ≡ rest) × ((after_longer r).begun ≡ false)
+longer_is r a b rest e =
+    let n : next_bits 2 r ≡ Some (a + 2 * (b + 2 * 0)) = next_is 2 r (a ∷ b ∷ rest) e (omega arith) in
+    let f : Option ℕ → SymbolPlace = λ o. elim o [ None ↦ place_of r true | Some n ↦ place_of (after_bits 2 r) false ] in (
+      ap (λ (o : Option ℕ). let x : Option Symbol = elim o [ None ↦ None | Some n ↦ Some (symbol_of n) ] in x) n,
+      ap (λ (o : Option ℕ). bits_left (f o).place) n ∙ left_is 2 r (a ∷ b ∷ rest) e (omega arith),
+      ap (λ (o : Option ℕ). (f o).begun) n,
+    )
+
+-- a longer symbol, from its first bit on
+whole_is : (r : BitPlace) (a b : ℕ) (rest : List ℕ) → bits_left r ≡ 1 ∷ a ∷ b ∷ rest →
+    (next_symbol (place_of r false) ≡ Some (symbol_of (a + 2 * (b + 2 * 0)))) × (bits_left (after_symbol (place_of r false)).place ≡ rest) × ((after_symbol (place_of r false)).begun ≡ false)
+whole_is r a b rest e =
+    let n : next_bits 1 r ≡ Some 1 = next_is 1 r (1 ∷ a ∷ b ∷ rest) e (omega arith) in
+    let l = longer_is (after_bits 1 r) a b rest (left_is 1 r (1 ∷ a ∷ b ∷ rest) e (omega arith)) in
+    let f : Option ℕ → Option Symbol = λ o. elim o [ None ↦ None | Some b ↦ cond (b == 0) (Some C) (longer (after_bits 1 r)) ] in
+    let g : Option ℕ → SymbolPlace = λ o. elim o [ None ↦ place_of r false | Some b ↦ cond (b == 0) (place_of (after_bits 1 r) false) (after_longer (after_bits 1 r)) ] in
+    (ap f n ∙ l.0, ap (λ (o : Option ℕ). bits_left (g o).place) n ∙ l.1, ap (λ (o : Option ℕ). (g o).begun) n ∙ l.2)
+
+-- C
+tip_is : (r : BitPlace) (rest : List ℕ) → bits_left r ≡ 0 ∷ rest → (next_symbol (place_of r false) ≡ Some C) × (bits_left (after_symbol (place_of r false)).place ≡ rest) × ((after_symbol (place_of r false)).begun ≡ false)
+tip_is r rest e =
+    let n : next_bits 1 r ≡ Some 0 = next_is 1 r (0 ∷ rest) e (omega arith) in
+    let f : Option ℕ → Option Symbol = λ o. elim o [ None ↦ None | Some b ↦ cond (b == 0) (Some C) (longer (after_bits 1 r)) ] in
+    let g : Option ℕ → SymbolPlace = λ o. elim o [ None ↦ place_of r false | Some b ↦ cond (b == 0) (place_of (after_bits 1 r) false) (after_longer (after_bits 1 r)) ] in
+    (ap f n, ap (λ (o : Option ℕ). bits_left (g o).place) n ∙ left_is 1 r (0 ∷ rest) e (omega arith), ap (λ (o : Option ℕ). (g o).begun) n)
+
+each_is : (x : Symbol) (r : BitPlace) (rest : List ℕ) → bits_left r ≡ symbol_bits x ++ rest → (next_symbol (place_of r false) ≡ Some x) × (bits_left (after_symbol (place_of r false)).place ≡ rest) × ((after_symbol (place_of r false)).begun ≡ false)
+unfolding low_bits
+each_is C r rest e = tip_is r rest e
+each_is S r rest e = whole_is r 0 0 rest e
+each_is L r rest e = whole_is r 1 0 rest e
+each_is R r rest e = whole_is r 0 1 rest e
+each_is E r rest e = whole_is r 1 1 rest e
+
+pub reads_back : (s : SymbolPlace) → ReadsBack s (after_symbol s) (next_symbol s)
+reads_back s x rest b e =
+    let same : place_of s.place false ≡ s = ap (place_of s.place) (sym b) in
+    let P : SymbolPlace → Type 0 = λ t. (next_symbol t ≡ Some x) × (bits_left (after_symbol t).place ≡ rest) × ((after_symbol t).begun ≡ false) in
+    subst P same (each_is x s.place rest e)
+
+pub reads_back_as : (s t : SymbolPlace) (o : Option Symbol) → o ≡ next_symbol s → t ≡ after_symbol s → ReadsBack s t o
+reads_back_as s t o p q = subst (λ (u : SymbolPlace). ReadsBack s u o) (sym q) (subst (ReadsBack s (after_symbol s)) (sym p) (reads_back s))

@@ -1,0 +1,2 @@
+pub mod SymbolBits
+pub mod ReadBack
