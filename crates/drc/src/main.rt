@@ -4,9 +4,8 @@
 
 use drc_app::run;
 use drc_base::{StdSink, StdSource};
-use std::env;
-use std::io;
 use std::process::ExitCode;
+use std::{env, io};
 
 /// The status where the system doesn't give the words of the command line.
 const NO_WORDS: u8 = 7;

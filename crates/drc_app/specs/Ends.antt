@@ -25,9 +25,15 @@ pub record Putting : Type 0 where
 
 -- the source with these members, before and after
 abbrev pub takes : {S : Type 0} → (S → Option (List ℕ)) → (S → ℕ) → (S → ℕ) → (S → Bool) → S → S → Taking
-takes left given faults ended old new = record
-    { left = left old; left_after = left new; given = given old; given_after = given new
-    ; faults = faults old; faults_after = faults new; ended = ended new }
+takes left given faults ended old new = record {
+  left = left old;
+  left_after = left new;
+  given = given old;
+  given_after = given new;
+  faults = faults old;
+  faults_after = faults new;
+  ended = ended new;
+}
 
 -- the sink with these members, before and after
 abbrev pub puts : {S : Type 0} → (S → Option (List ℕ)) → (S → ℕ) → (S → Bool) → S → S → Putting

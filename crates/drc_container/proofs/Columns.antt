@@ -43,12 +43,14 @@ row_at-columns_of [] rows i h wide = none_of (get_or rows i []) (wide i h)
 row_at-columns_of (head ∷ heads) rows i h wide =
     let whole : width_of (head ∷ heads) ≡ head.comps + width_of heads = sum_by-cons (λ x. x.comps) head heads in
     let few : (j : ℕ) → j < length rows → length (take head.comps (get_or rows j [])) ≡ head.comps =
-        λ j k. length-take-le head.comps (get_or rows j []) (omega (arith, whole, wide j k)) in
+    λ j k. length-take-le head.comps (get_or rows j []) (omega (arith, whole, wide j k)) in
     let others : i < length (map (λ row. drop head.comps row) rows) = rw (length-map rows (λ row. drop head.comps row)) h in
-    rw (piece (λ row. take head.comps row) head.comps rows i h few
-        , row_at-columns_of heads (map (λ row. drop head.comps row) rows) i others (AreWide-drop head.comps (width_of heads) rows (λ j k. wide j k ∙ whole))
-        , get_or-map (λ row. drop head.comps row) rows i [] [] h)
-        (take-append-drop head.comps (get_or rows i []))
+    rw (
+      piece (λ row. take head.comps row) head.comps rows i h few,
+      row_at-columns_of heads (map (λ row. drop head.comps row) rows) i others (AreWide-drop head.comps (width_of heads) rows (λ j k. wide j k ∙ whole)),
+      get_or-map (λ row. drop head.comps row) rows i [] [] h,
+    )
+    (take-append-drop head.comps (get_or rows i []))
 
 -- the rows from row a on, one after another, are the rows that the columns were taken from
 rows_from : (heads : List Head) (rows : List (List ℤ)) (a n : ℕ) → a + n ≡ length rows → AreWide (width_of heads) rows

@@ -19,15 +19,18 @@ length-row_at n i (h ∷ heads) [] are below = absurd are
 length-row_at n i (h ∷ heads) (v ∷ values) are below =
     let whole : width_of (h ∷ heads) ≡ h.comps + width_of heads = sum_by-cons (λ x. x.comps) h heads in
     let piece : length (take h.comps (drop (i * h.comps) v.values)) ≡ h.comps =
-        length-take-le h.comps (drop (i * h.comps) v.values) (rw (length-drop (i * h.comps) v.values) (omega (arith, piece_within n i h.comps (length v.values) below are.0))) in
+    length-take-le h.comps (drop (i * h.comps) v.values) (rw (length-drop (i * h.comps) v.values) (omega (arith, piece_within n i h.comps (length v.values) below are.0))) in
     rw (length-append (take h.comps (drop (i * h.comps) v.values)) (row_at heads (columns values) i), piece, length-row_at n i heads values are.1 below, whole) refl
 
 length-rows : (n : ℕ) (heads : List Head) (values : List Values) (a m : ℕ) → AreColumns n heads values → a + m ≤ n
     → length (flat_map (row_at heads (columns values)) (range_with_len a m)) ≡ m * width_of heads
 length-rows n heads values a zero are within = omega arith
 length-rows n heads values a (suc m) are within =
-    rw (length-append (row_at heads (columns values) a) (flat_map (row_at heads (columns values)) (range_with_len (a + 1) m))
-        , length-row_at n a heads values are (omega (arith, within)), length-rows n heads values (a + 1) m are (omega (arith, within))) (omega arith)
+    rw (
+      length-append (row_at heads (columns values) a) (flat_map (row_at heads (columns values)) (range_with_len (a + 1) m)),
+      length-row_at n a heads values are (omega (arith, within)),
+      length-rows n heads values (a + 1) m are (omega (arith, within)),
+    ) (omega arith)
 
 -- the cells are whole rows
 pub cells_at-whole : (n : ℕ) (heads : List Head) (values : List Values) → AreColumns n heads values

@@ -35,11 +35,12 @@ ColumnAt-of n (x ∷ heads) [] (suc k) i h v from has is_h is_v =
 ColumnAt-of n (x ∷ heads) (y ∷ values) (suc k) i h v from has is_h is_v =
     let at : ColumnAt n heads values k h v i = ColumnAt-of n heads values k i h v (record { rest = from.rest }) (omega (arith, has)) is_h is_v in
     let next : suc k + 1 ≡ suc (k + 1) = omega arith in
-    record
-        { within = omega (arith, at.within)
-        ; long = at.long
-        ; next = rw next (record { rest = at.next.rest })
-        ; row = rw next at.row }
+    record {
+      within = omega (arith, at.within);
+      long = at.long;
+      next = rw next (record { rest = at.next.rest });
+      row = rw next at.row;
+    }
 
 -- no column is left
 pub row_at-end : (n : ℕ) (heads : List Head) (values : List Values) (k i : ℕ) → length heads ≤ k → row_at (drop k heads) (columns (drop k values)) i ≡ []

@@ -28,5 +28,6 @@ attrs_seen-end n k heads values front whole so done = sym (append-nil front) ∙
   where
     none : attrs_seen n (drop k heads) (drop k values) ≡ []
     none = elim (cases_lt k (length heads)) [
-        inr few ↦ rw (drop_all k heads few) refl
-      | inl many ↦ rw (drop_all k values (omega (arith, done, many))) (no_heads n (drop k heads)) ]
+      | inr few ↦ rw (drop_all k heads few) refl
+      | inl many ↦ rw (drop_all k values (omega (arith, done, many))) (no_heads n (drop k heads))
+    ]

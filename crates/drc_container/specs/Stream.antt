@@ -45,9 +45,16 @@ attrs_seen entries (h ∷ heads) (v ∷ values) = record { head = h; predict = v
 
 -- what was seen of a sequential stream: its connectivity stands between two places, and its end is a reading
 abbrev pub seen_of : ℕ → ℕ → ℕ → Attributes → Reading → Seen
-seen_of from to entries a end = record
-    { method = method.Seq; connectivity = (from, to - from); symbols = 0; splits = 0; events = 0
-    ; attrs = attrs_seen entries a.heads a.values; end = end.place; rest = length end.rest }
+seen_of from to entries a end = record {
+  method = method.Seq;
+  connectivity = (from, to - from);
+  symbols = 0;
+  splits = 0;
+  events = 0;
+  attrs = attrs_seen entries a.heads a.values;
+  end = end.place;
+  rest = length end.rest;
+}
 
 -- the integers of point i that attributes give
 abbrev pub row_of : Attributes → ℕ → List ℤ

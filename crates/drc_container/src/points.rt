@@ -21,12 +21,7 @@ pub fn points_of(alloc: Global, points: u32, attributes: &Attributes) -> Result<
 }
 
 /// Appends the integers of point `i`.
-fn put_row(
-    cells: &mut Vec<i32>,
-    points: u32,
-    attributes: &Attributes,
-    i: u32,
-) -> Result<(), Memory>
+fn put_row(cells: &mut Vec<i32>, points: u32, attributes: &Attributes, i: u32) -> Result<(), Memory>
     requires columns { AreColumns points attributes.now.heads attributes.now.values }
     requires point { i < points }
     ensures { OnOk result (cells.new.items ≡ cells.old.items ++ row_of attributes.now i) }
@@ -35,18 +30,18 @@ fn put_row(
     let values = attributes.values.as_slice();
     for k in 0..heads.len() {
         let comps = heads[k].comps as usize;
-        put_piece(cells, values[k].values.as_slice(), i as usize * comps, comps)?;
+        put_piece(
+            cells,
+            values[k].values.as_slice(),
+            i as usize * comps,
+            comps,
+        )?;
     }
     Ok(())
 }
 
 /// Appends `comps` integers of a column, from `start` on.
-fn put_piece(
-    cells: &mut Vec<i32>,
-    column: &[i32],
-    start: usize,
-    comps: usize,
-) -> Result<(), Memory>
+fn put_piece(cells: &mut Vec<i32>, column: &[i32], start: usize, comps: usize) -> Result<(), Memory>
     requires { start + comps ≤ length column.now }
     ensures { OnOk result (cells.new.items ≡ cells.old.items ++ take comps (drop start column.now)) }
 {

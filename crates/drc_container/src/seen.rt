@@ -80,11 +80,7 @@ pub fn seen_of(
 }
 
 /// What was seen of these attributes.
-fn attrs_seen(
-    alloc: Global,
-    entries: u32,
-    attributes: &Attributes,
-) -> Result<Vec<AttrSeen>, Memory>
+fn attrs_seen(alloc: Global, entries: u32, attributes: &Attributes) -> Result<Vec<AttrSeen>, Memory>
     ensures { IfOk result (λ v. v.items ≡ attrs_seen entries attributes.now.heads attributes.now.values) }
 {
     let heads = attributes.heads.as_slice();

@@ -68,7 +68,7 @@ count_le [] = omega arith
 count_le (c ∷ cs) = elim (cases_Bool (is_lf c)) [
   | inl yes' ↦ omega (arith, count_le cs, ap length (slice_split-cons_yes is_lf c cs yes'))
   | inr no' ↦ omega (arith, count_le cs, ap length (slice_split-cons_no is_lf c cs no'), length-onto c (slice_split is_lf cs), length-slice_split is_lf cs)
-  ] where
+] where
   length-onto : (c : ℕ) (parts : List (List ℕ)) → 0 < length parts → length (onto_first c parts) ≡ length parts
   length-onto c [] h = absurd (omega arith)
   length-onto c (p ∷ ps) h = refl

@@ -34,10 +34,10 @@ within_after_is most n [] h = rw (le-leb n most h) refl
 within_after_is most n (c ∷ cs) h = elim (cases_Bool (is_digit c)) [
   | inr other ↦ rw (other) refl
   | inl digit ↦ elim (cases_lt most (n * 10 + (c - 48))) [
-      | inl past ↦ rw (digit, lt-leb (n * 10 + (c - 48)) most past) (sym (bounded_past most (value_after (n * 10 + (c - 48)) cs) (list_all is_digit cs) (omega (arith, le_value_after (n * 10 + (c - 48)) cs))))
-      | inr le ↦ rw (digit, le-leb (n * 10 + (c - 48)) most le) (within_after_is most (n * 10 + (c - 48)) cs le)
-    ]
+    | inl past ↦ rw (digit, lt-leb (n * 10 + (c - 48)) most past) (sym (bounded_past most (value_after (n * 10 + (c - 48)) cs) (list_all is_digit cs) (omega (arith, le_value_after (n * 10 + (c - 48)) cs))))
+    | inr le ↦ rw (digit, le-leb (n * 10 + (c - 48)) most le) (within_after_is most (n * 10 + (c - 48)) cs le)
   ]
+]
 
 pub natural_within_is : (most : ℕ) (token : List ℕ) → 0 < length token → natural_within most token ≡ within_after most 0 token
 unfolding natural_within natural_of is_digits digits_value

@@ -16,7 +16,7 @@ leb-suc : (n b : ℕ) → leb n b ≡ leb (suc n) (suc b)
 leb-suc n b = elim (cases_lt b n) [
   | inl lt ↦ lt-leb n b lt ∙ sym (lt-leb (suc n) (suc b) (omega arith))
   | inr le ↦ le-leb n b le ∙ sym (le-leb (suc n) (suc b) (omega arith))
-  ]
+]
 
 pub minus_between : (below most n : ℕ) → is_between below most (neg_ℤ (pos n)) ≡ leb n below
 minus_between zero most zero = le-leb 0 most (omega arith)

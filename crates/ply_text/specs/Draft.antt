@@ -47,8 +47,8 @@ element at d line = do
   if bytes_eq e.0 (codes "vertex") && is_none d.vertices
       then (or_refuse PointLimit at (natural_within MAX_POINTS e.1) >>= λ n. Ok (record d { vertices = Some n }))
       else (if bytes_eq e.0 (codes "face") && in_vertex d
-          then (or_refuse FaceLimit at (natural_within MAX_FACES e.1) >>= λ n. Ok (record d { faces = Some n }))
-          else refuse PlyElement at)
+      then (or_refuse FaceLimit at (natural_within MAX_FACES e.1) >>= λ n. Ok (record d { faces = Some n }))
+      else refuse PlyElement at)
 
 -- a property of numbers: its form, then its type, then its place
 unfoldable pub scalar : ℕ → Draft → List (List ℕ) → Result Draft Fault

@@ -31,12 +31,15 @@ FitsWidth (Some n) i = i < 256 ^ n
 
 FitsWidth-index_width : (points i : ℕ) → i < points → points < 2 ^ 32 → FitsWidth (index_width points) i
 FitsWidth-index_width points i below few = elim (cases_lt points 256) [
-    inl a ↦ let t : nat_lt points 256 ≡ true = grind (arith, a) in rw t (omega arith)
+  | inl a ↦ let t : nat_lt points 256 ≡ true = grind (arith, a) in rw t (omega arith)
   | inr a ↦ let t : nat_lt points 256 ≡ false = grind (arith, a) in rw t (elim (cases_lt points 65536) [
-      inl b ↦ let u : nat_lt points 65536 ≡ true = grind (arith, b) in rw u (omega arith)
+    | inl b ↦ let u : nat_lt points 65536 ≡ true = grind (arith, b) in rw u (omega arith)
     | inr b ↦ let u : nat_lt points 65536 ≡ false = grind (arith, b) in rw u (elim (cases_lt points 2097152) [
-        inl c ↦ let v : nat_lt points 2097152 ≡ true = grind (arith, c) in rw v (omega arith)
-      | inr c ↦ let v : nat_lt points 2097152 ≡ false = grind (arith, c) in rw v (omega arith) ]) ]) ]
+      | inl c ↦ let v : nat_lt points 2097152 ≡ true = grind (arith, c) in rw v (omega arith)
+      | inr c ↦ let v : nat_lt points 2097152 ≡ false = grind (arith, c) in rw v (omega arith)
+    ])
+  ])
+]
 
 Spells-width : (w : Option ℕ) (i : ℕ) → FitsWidth w i → Spells (number_of_width w) (bytes_of_width w i) i
 Spells-width None i fits = Spells-var32 i fits
@@ -46,18 +49,18 @@ Spells-index : (points i : ℕ) → i < points → points < 2 ^ 32 → Spells (i
 Spells-index points i below few =
     let passes : nat_lt i points ≡ true = grind (arith, below) in
     Spells-must kind.IndexRange (λ x. nat_lt x points) (number_of_width (index_width points)) (index_bytes points i) i passes
-        (Spells-width (index_width points) i (FitsWidth-index_width points i below few))
+    (Spells-width (index_width points) i (FitsWidth-index_width points i below few))
 
 Spells-three : (points a b d : ℕ) → a < points → b < points → d < points → points < 2 ^ 32
     → Spells (face_at points) (face_bytes points (a ∷ b ∷ d ∷ [])) (a ∷ b ∷ d ∷ [])
 unfolding face_at
 Spells-three points a b d below_a below_b below_d few =
     Spells-then (index_at points) (λ x c. index_at points c >>= λ y. index_at points y.1 >>= λ z. Ok (x ∷ y.0 ∷ z.0 ∷ [], z.1))
-        (index_bytes points a) (index_bytes points b ++ (index_bytes points d ++ [])) a (a ∷ b ∷ d ∷ []) (Spells-index points a below_a few)
-        (Spells-then (index_at points) (λ y c. index_at points c >>= λ z. Ok (a ∷ y ∷ z.0 ∷ [], z.1))
-            (index_bytes points b) (index_bytes points d ++ []) b (a ∷ b ∷ d ∷ []) (Spells-index points b below_b few)
-            (Spells-then (index_at points) (λ z c. Ok (a ∷ b ∷ z ∷ [], c)) (index_bytes points d) [] d (a ∷ b ∷ d ∷ [])
-                (Spells-index points d below_d few) (Spells-none (a ∷ b ∷ d ∷ []))))
+    (index_bytes points a) (index_bytes points b ++ (index_bytes points d ++ [])) a (a ∷ b ∷ d ∷ []) (Spells-index points a below_a few)
+    (Spells-then (index_at points) (λ y c. index_at points c >>= λ z. Ok (a ∷ y ∷ z.0 ∷ [], z.1))
+    (index_bytes points b) (index_bytes points d ++ []) b (a ∷ b ∷ d ∷ []) (Spells-index points b below_b few)
+    (Spells-then (index_at points) (λ z c. Ok (a ∷ b ∷ z ∷ [], c)) (index_bytes points d) [] d (a ∷ b ∷ d ∷ [])
+    (Spells-index points d below_d few) (Spells-none (a ∷ b ∷ d ∷ []))))
 
 Spells-face : (points : ℕ) (face : List ℕ) → IsFaceBelow points face → points < 2 ^ 32 → Spells (face_at points) (face_bytes points face) face
 Spells-face points [] is few = absurd (omega (arith, is.0))
@@ -73,8 +76,8 @@ unfolding many_at
 Spells-faces points [] are few = Spells-none []
 Spells-faces points (face ∷ faces) are few =
     Spells-then (face_at points) (λ f c. many_at (face_at points) (length faces) c >>= λ fs. Ok (f ∷ fs.0, fs.1))
-        (face_bytes points face) (flat_map (face_bytes points) faces) face (face ∷ faces) (Spells-face points face (are 0 [] (omega arith)) few)
-        (record { reads = λ place rest. rw ((Spells-faces points faces (λ k d h. are (suc k) d (omega (arith, h))) few).reads place rest) refl })
+    (face_bytes points face) (flat_map (face_bytes points) faces) face (face ∷ faces) (Spells-face points face (are 0 [] (omega arith)) few)
+    (record { reads = λ place rest. rw ((Spells-faces points faces (λ k d h. are (suc k) d (omega (arith, h))) few).reads place rest) refl })
 
 -- the opening of a written section
 Spells-opening : (faces points method : ℕ) → faces ≤ MAX_FACES → points ≤ MAX_POINTS → method ≤ 1
@@ -85,18 +88,18 @@ Spells-opening faces points method few_faces few_points known =
     let points_pass : nat_le points MAX_POINTS ≡ true = grind (arith, few_points) in
     let method_passes : nat_le method 1 ≡ true = grind (arith, known) in
     Spells-then (must kind.FaceLimit (λ n. nat_le n MAX_FACES) var32_at)
-        (λ f c. must kind.PointLimit (λ n. nat_le n MAX_POINTS) var32_at c >>= λ p. must kind.IndexMethod (λ n. nat_le n 1) (number_at 1) p.1 >>= λ m.
-            Ok (record { faces = f; points = p.0; method = m.0 }, m.1))
-        (spelling 5 faces) (spelling 5 points ++ (method ∷ [])) faces (record { faces = faces; points = points; method = method })
-        (Spells-must kind.FaceLimit (λ n. nat_le n MAX_FACES) var32_at (spelling 5 faces) faces faces_pass (Spells-var32 faces (omega (arith, few_faces))))
-        (Spells-then (must kind.PointLimit (λ n. nat_le n MAX_POINTS) var32_at)
-            (λ p c. must kind.IndexMethod (λ n. nat_le n 1) (number_at 1) c >>= λ m. Ok (record { faces = faces; points = p; method = m.0 }, m.1))
-            (spelling 5 points) (method ∷ []) points (record { faces = faces; points = points; method = method })
-            (Spells-must kind.PointLimit (λ n. nat_le n MAX_POINTS) var32_at (spelling 5 points) points points_pass (Spells-var32 points (omega (arith, few_points))))
-            (Spells-then (must kind.IndexMethod (λ n. nat_le n 1) (number_at 1)) (λ m c. Ok (record { faces = faces; points = points; method = m }, c))
-                (method ∷ []) [] method (record { faces = faces; points = points; method = method })
-                (Spells-must kind.IndexMethod (λ n. nat_le n 1) (number_at 1) (method ∷ []) method method_passes (Spells-byte method))
-                (Spells-none (record { faces = faces; points = points; method = method }))))
+    (λ f c. must kind.PointLimit (λ n. nat_le n MAX_POINTS) var32_at c >>= λ p. must kind.IndexMethod (λ n. nat_le n 1) (number_at 1) p.1 >>= λ m.
+    Ok (record { faces = f; points = p.0; method = m.0 }, m.1))
+    (spelling 5 faces) (spelling 5 points ++ (method ∷ [])) faces (record { faces = faces; points = points; method = method })
+    (Spells-must kind.FaceLimit (λ n. nat_le n MAX_FACES) var32_at (spelling 5 faces) faces faces_pass (Spells-var32 faces (omega (arith, few_faces))))
+    (Spells-then (must kind.PointLimit (λ n. nat_le n MAX_POINTS) var32_at)
+    (λ p c. must kind.IndexMethod (λ n. nat_le n 1) (number_at 1) c >>= λ m. Ok (record { faces = faces; points = p; method = m.0 }, m.1))
+    (spelling 5 points) (method ∷ []) points (record { faces = faces; points = points; method = method })
+    (Spells-must kind.PointLimit (λ n. nat_le n MAX_POINTS) var32_at (spelling 5 points) points points_pass (Spells-var32 points (omega (arith, few_points))))
+    (Spells-then (must kind.IndexMethod (λ n. nat_le n 1) (number_at 1)) (λ m c. Ok (record { faces = faces; points = points; method = m }, c))
+    (method ∷ []) [] method (record { faces = faces; points = points; method = method })
+    (Spells-must kind.IndexMethod (λ n. nat_le n 1) (number_at 1) (method ∷ []) method method_passes (Spells-byte method))
+    (Spells-none (record { faces = faces; points = points; method = method }))))
 
 -- a written section with plain indices is read back
 pub Spells-plain : (faces : List (List ℕ)) (points : ℕ) → length faces ≤ MAX_FACES → points ≤ MAX_POINTS → All (IsFaceBelow points) faces
@@ -105,11 +108,11 @@ unfolding indices_at plain_bytes
 Spells-plain faces points few_faces few_points are =
     subst (λ bytes. Spells indices_at bytes (record { faces = faces; points = points })) (regrouped (spelling 5 (length faces)) (spelling 5 points) 1 (flat_map (face_bytes points) faces))
     (Spells-then opening_at (λ o c. (if o.method == 1 then many_at (face_at o.points) o.faces c else fault_at kind.NotYet c) >>= λ fs. Ok (record { faces = fs.0; points = o.points }, fs.1))
-        (spelling 5 (length faces) ++ (spelling 5 points ++ (1 ∷ []))) (flat_map (face_bytes points) faces ++ []) (record { faces = length faces; points = points; method = 1 })
-        (record { faces = faces; points = points })
-        (Spells-opening (length faces) points 1 few_faces few_points (omega arith))
-        (Spells-then (many_at (face_at points) (length faces)) (λ fs c. Ok (record { faces = fs; points = points }, c)) (flat_map (face_bytes points) faces) []
-            faces (record { faces = faces; points = points }) (Spells-faces points faces are (omega (arith, few_points))) (Spells-none (record { faces = faces; points = points }))))
+    (spelling 5 (length faces) ++ (spelling 5 points ++ (1 ∷ []))) (flat_map (face_bytes points) faces ++ []) (record { faces = length faces; points = points; method = 1 })
+    (record { faces = faces; points = points })
+    (Spells-opening (length faces) points 1 few_faces few_points (omega arith))
+    (Spells-then (many_at (face_at points) (length faces)) (λ fs c. Ok (record { faces = fs; points = points }, c)) (flat_map (face_bytes points) faces) []
+    faces (record { faces = faces; points = points }) (Spells-faces points faces are (omega (arith, few_points))) (Spells-none (record { faces = faces; points = points }))))
   where
     regrouped : (a b : List ℕ) (m : ℕ) (c : List ℕ) → (a ++ (b ++ (m ∷ []))) ++ (c ++ []) ≡ a ++ b ++ m ∷ c
     regrouped a b m c = rw (append-nil c, ← append_assoc a b (m ∷ [])) (append_assoc (a ++ b) (m ∷ []) c)

@@ -9,7 +9,7 @@ use Rattle.drc_container.proofs.attributes.read_decoders.Given as goal
 abbrev pub invariant-loop-decoder : goal.invariant-loop-decoder
 invariant-loop-decoder l =
     (decoders_at l.entries (record { heads = l.heads.items; values = l.values.items }) (into_iter_items l.decoder-iterator) l.c
-        ≡ decoders_at l.entries (record { heads = []; values = [] }) l.fn.decoders.items l.fn.c)
+    ≡ decoders_at l.entries (record { heads = []; values = [] }) l.fn.decoders.items l.fn.c)
     × (l.spent ≡ values_in l.values.items) × (l.spent ≤ MAX_VALUES)
     × AreColumns l.entries l.heads.items l.values.items
     × All (λ d. All (λ h. 0 < h.comps) d.heads) (into_iter_items l.decoder-iterator)

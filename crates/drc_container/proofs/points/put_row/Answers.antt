@@ -6,20 +6,21 @@ use Rattle.drc_container.proofs.points.put_row.Goals as goal
 pub put_piece-requires : goal.put_piece-requires
 put_piece-requires c =
     let at : ColumnAt c.args.points c.as_slice-heads.result.now c.as_slice-values.result.now c.loop-k.k c.index-heads-k.result c.index-values-k.result c.args.i =
-        ColumnAt-of _ _ _ _ _ _ _ c.loop-k.invariant.0 c.loop-k-test.true c.index-heads-k.is c.index-values-k.is in
+    ColumnAt-of _ _ _ _ _ _ _ c.loop-k.invariant.0 c.loop-k-test.true c.index-heads-k.is c.index-values-k.is in
     let long : length c.as_slice.result.now ≡ c.args.points * c.index-heads-k.result.comps =
-        rw (c.as_slice.ensures.items, ← c.index-values-k.is) at.long in
+    rw (c.as_slice.ensures.items, ← c.index-values-k.is) at.long in
     rw (← c.index-heads-k.is) (piece_within c.args.points c.args.i c.index-heads-k.result.comps (length c.as_slice.result.now) c.requires.point long)
 
 pub loop-k-preserved : goal.loop-k-preserved
 loop-k-preserved c =
     let at : ColumnAt c.args.points c.as_slice-heads.result.now c.as_slice-values.result.now c.loop-k.k c.index-heads-k.result c.index-values-k.result c.args.i =
-        ColumnAt-of _ _ _ _ _ _ _ c.loop-k.invariant.0 c.loop-k-test.true c.index-heads-k.is c.index-values-k.is in
-    ( at.next
-    , rw c.in_ok-put_piece.ensures (rw (← c.index-heads-k.is, c.as_slice.ensures.items, ← c.index-values-k.is)
-        ( append_assoc c.loop-k.cells.items (take c.index-heads-k.result.comps (drop (c.args.i * c.index-heads-k.result.comps) c.index-values-k.result.values)) (row_at (drop (c.loop-k.k + 1) c.as_slice-heads.result.now) (columns (drop (c.loop-k.k + 1) c.as_slice-values.result.now)) c.args.i)
-        ∙ ap (λ r. c.loop-k.cells.items ++ r) (sym at.row)
-        ∙ c.loop-k.invariant.1)) )
+    ColumnAt-of _ _ _ _ _ _ _ c.loop-k.invariant.0 c.loop-k-test.true c.index-heads-k.is c.index-values-k.is in (
+      at.next,
+      rw c.in_ok-put_piece.ensures (rw (← c.index-heads-k.is, c.as_slice.ensures.items, ← c.index-values-k.is)
+          (append_assoc c.loop-k.cells.items (take c.index-heads-k.result.comps (drop (c.args.i * c.index-heads-k.result.comps) c.index-values-k.result.values)) (row_at (drop (c.loop-k.k + 1) c.as_slice-heads.result.now) (columns (drop (c.loop-k.k + 1) c.as_slice-values.result.now)) c.args.i)
+          ∙ ap (λ r. c.loop-k.cells.items ++ r) (sym at.row)
+          ∙ c.loop-k.invariant.1)),
+    )
 
 pub returns : goal.returns
 returns c =
