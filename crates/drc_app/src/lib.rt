@@ -11,3 +11,6 @@ mod running;
 
 pub use commands::Command;
 pub use running::run;
+
+#[cfg(test)]
+mod tests;
