@@ -15,10 +15,11 @@ returns-in_err-new-clause-items c =
 pub loop-head-preserved : goal.loop-head-preserved
 unfolding quants_at
 loop-head-preserved c =
-    rw c.in_ok-push.ensures.items
-    ( each_at-next (λ _ h. quantised_at h) c.args.heads.now c.loop-head.head-index c.head-item.result c.loop-head.quantised.items c.loop-head.c c.read_quantised.new.c c.in_ok-new.new
-    (quants_at c.args.heads.now c.args.c.now) c.loop-head.invariant.0 (omega arith) c.head-item.is c.in_ok-new.ensures.item
-    , comps_of-next c.loop-head.head-index c.args.heads.now c.loop-head.quantised.items c.head-item.result c.in_ok-new.new c.loop-head.invariant.1 (omega arith) c.head-item.is c.in_ok-new.ensures.comps )
+    rw c.in_ok-push.ensures.items (
+      each_at-next (λ _ h. quantised_at h) c.args.heads.now c.loop-head.head-index c.head-item.result c.loop-head.quantised.items c.loop-head.c c.read_quantised.new.c c.in_ok-new.new
+          (quants_at c.args.heads.now c.args.c.now) c.loop-head.invariant.0 (omega arith) c.head-item.is c.in_ok-new.ensures.item,
+      comps_of-next c.loop-head.head-index c.args.heads.now c.loop-head.quantised.items c.head-item.result c.in_ok-new.new c.loop-head.invariant.1 (omega arith) c.head-item.is c.in_ok-new.ensures.comps,
+    )
 
 pub returns-clause-items : goal.returns-clause-items
 unfolding quants_at

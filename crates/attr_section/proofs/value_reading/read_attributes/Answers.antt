@@ -28,7 +28,7 @@ loop-head-preserved c =
           (rw c.loop-head.invariant.1 at c.in_ok-values.ensures.item),
       omega (arith, c.loop-head.invariant.1),
       c.in_ok-values.ensures.few,
-      AreColumns-next c.args.entries c.loop-head.head-index c.args.heads.now c.loop-head.attributes.items c.head-item.result c.in_ok-values.values c.loop-head.invariant.3 (omega arith) c.head-item.is c.in_ok-values.ensures.len
+      AreColumns-next c.args.entries c.loop-head.head-index c.args.heads.now c.loop-head.attributes.items c.head-item.result c.in_ok-values.values c.loop-head.invariant.3 (omega arith) c.head-item.is c.in_ok-values.ensures.len,
     )
 
 pub returns-clause-item : goal.returns-clause-item
