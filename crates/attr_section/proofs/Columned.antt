@@ -1,5 +1,5 @@
 -- Each head has its values, for so many entries.
-use Rattle.std.proofs.Common.{◌≡◌, ℕ, zero, suc, ◌+◌, ◌*◌, ◌<◌, ◌≤◌, List, [], ◌∷◌, ◌++◌, length, take, drop, get_or, map, refl, sym, ◌∙◌, ap, subst, arith}
+use Rattle.std.proofs.Common.{◌≡◌, ℕ, ◌+◌, ◌*◌, ◌<◌, List, [], ◌∷◌, ◌++◌, length, take, drop, get_or, refl, ap, arith}
 use Rattle.std.proofs.lemmas.List.{take_more, map-append}
 use Rattle.mesh_model.specs.declared.heads.Head.{Head}
 use Rattle.attr_section.specs.declared.values.Values.{Values}

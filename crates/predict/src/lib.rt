@@ -10,3 +10,6 @@ mod wraps;
 
 pub use differences::{correct_difference, restore_difference};
 pub use wraps::Wrap;
+
+#[cfg(test)]
+mod tests;

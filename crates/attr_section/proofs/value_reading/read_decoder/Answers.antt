@@ -1,5 +1,5 @@
-use Rattle.std.proofs.Common.{◌≡◌, ap, ◌∙◌, sym}
-use Rattle.attr_section.specs.Values.{AreColumns, comps_of}
+use Rattle.std.proofs.Common.{ap, ◌∙◌, sym}
+use Rattle.attr_section.specs.Values.{comps_of}
 use Rattle.attr_section.proofs.Columned.{AreColumns-comps}
 use Rattle.attr_section.proofs.value_reading.read_decoder.Goals as goal
 
