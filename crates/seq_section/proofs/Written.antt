@@ -10,7 +10,7 @@ use Rattle.drc_bits.specs.Varint.{var32_at, spelling}
 use Rattle.drc_bits.specs.Bits.{low_bytes}
 use Rattle.drc_bits.specs.Spells.{Spells}
 use Rattle.drc_bits.proofs.Spelled.{Spells-none, Spells-then, Spells-must, Spells-number, Spells-var32, Spells-byte}
-use Rattle.seq_section.specs.Indices.{index_width, number_of_width, bytes_of_width, index_at, face_at, index_bytes, face_bytes, IsFaceBelow, opening_at, indices_at, plain_bytes}
+use Rattle.seq_section.specs.Indices.{index_width, number_of_width, bytes_of_width, index_at, face_at, index_bytes, face_bytes, IsFaceBelow, method_at, opening_at, indices_at, plain_bytes}
 
 length-low_bytes : (n v : ℕ) → length (low_bytes n v) ≡ n
 length-low_bytes zero v = refl
@@ -80,26 +80,25 @@ Spells-faces points (face ∷ faces) are few =
     (record { reads = λ place rest. rw ((Spells-faces points faces (λ k d h. are (suc k) d (omega (arith, h))) few).reads place rest) refl })
 
 -- the opening of a written section
-Spells-opening : (faces points method : ℕ) → faces ≤ MAX_FACES → points ≤ MAX_POINTS → method ≤ 1
-    → Spells opening_at (spelling 5 faces ++ (spelling 5 points ++ (method ∷ []))) (record { faces = faces; points = points; method = method })
+Spells-opening : (faces points : ℕ) → faces ≤ MAX_FACES → points ≤ MAX_POINTS
+    → Spells opening_at (spelling 5 faces ++ (spelling 5 points ++ (1 ∷ []))) (record { faces = faces; points = points; method = 1 })
 unfolding opening_at
-Spells-opening faces points method few_faces few_points known =
+Spells-opening faces points few_faces few_points =
     let faces_pass : nat_le faces MAX_FACES ≡ true = grind (arith, few_faces) in
     let points_pass : nat_le points MAX_POINTS ≡ true = grind (arith, few_points) in
-    let method_passes : nat_le method 1 ≡ true = grind (arith, known) in
     Spells-then (must kind.FaceLimit (λ n. nat_le n MAX_FACES) var32_at)
-    (λ f c. must kind.PointLimit (λ n. nat_le n MAX_POINTS) var32_at c >>= λ p. must kind.IndexMethod (λ n. nat_le n 1) (number_at 1) p.1 >>= λ m.
-    Ok (record { faces = f; points = p.0; method = m.0 }, m.1))
-    (spelling 5 faces) (spelling 5 points ++ (method ∷ [])) faces (record { faces = faces; points = points; method = method })
+    (λ f c. must kind.PointLimit (λ n. nat_le n MAX_POINTS) var32_at c >>= λ p. method_at p.1 >>= λ m. Ok (record { faces = f; points = p.0; method = m.0 }, m.1))
+    (spelling 5 faces) (spelling 5 points ++ (1 ∷ [])) faces (record { faces = faces; points = points; method = 1 })
     (Spells-must kind.FaceLimit (λ n. nat_le n MAX_FACES) var32_at (spelling 5 faces) faces faces_pass (Spells-var32 faces (omega (arith, few_faces))))
     (Spells-then (must kind.PointLimit (λ n. nat_le n MAX_POINTS) var32_at)
-    (λ p c. must kind.IndexMethod (λ n. nat_le n 1) (number_at 1) c >>= λ m. Ok (record { faces = faces; points = p; method = m.0 }, m.1))
-    (spelling 5 points) (method ∷ []) points (record { faces = faces; points = points; method = method })
+    (λ p c. method_at c >>= λ m. Ok (record { faces = faces; points = p; method = m.0 }, m.1))
+    (spelling 5 points) (1 ∷ []) points (record { faces = faces; points = points; method = 1 })
     (Spells-must kind.PointLimit (λ n. nat_le n MAX_POINTS) var32_at (spelling 5 points) points points_pass (Spells-var32 points (omega (arith, few_points))))
-    (Spells-then (must kind.IndexMethod (λ n. nat_le n 1) (number_at 1)) (λ m c. Ok (record { faces = faces; points = points; method = m }, c))
-    (method ∷ []) [] method (record { faces = faces; points = points; method = method })
-    (Spells-must kind.IndexMethod (λ n. nat_le n 1) (number_at 1) (method ∷ []) method method_passes (Spells-byte method))
-    (Spells-none (record { faces = faces; points = points; method = method }))))
+    (Spells-then method_at (λ m c. Ok (record { faces = faces; points = points; method = m }, c))
+    (1 ∷ []) [] 1 (record { faces = faces; points = points; method = 1 })
+    (Spells-must kind.NotYet (λ n. n == 1) (must kind.IndexMethod (λ n. nat_le n 1) (number_at 1)) (1 ∷ []) 1 refl
+    (Spells-must kind.IndexMethod (λ n. nat_le n 1) (number_at 1) (1 ∷ []) 1 refl (Spells-byte 1)))
+    (Spells-none (record { faces = faces; points = points; method = 1 }))))
 
 -- a written section with plain indices is read back
 pub Spells-plain : (faces : List (List ℕ)) (points : ℕ) → length faces ≤ MAX_FACES → points ≤ MAX_POINTS → All (IsFaceBelow points) faces
@@ -107,10 +106,10 @@ pub Spells-plain : (faces : List (List ℕ)) (points : ℕ) → length faces ≤
 unfolding indices_at plain_bytes
 Spells-plain faces points few_faces few_points are =
     subst (λ bytes. Spells indices_at bytes (record { faces = faces; points = points })) (regrouped (spelling 5 (length faces)) (spelling 5 points) 1 (flat_map (face_bytes points) faces))
-    (Spells-then opening_at (λ o c. (if o.method == 1 then many_at (face_at o.points) o.faces c else fault_at kind.NotYet c) >>= λ fs. Ok (record { faces = fs.0; points = o.points }, fs.1))
+    (Spells-then opening_at (λ o c. many_at (face_at o.points) o.faces c >>= λ fs. Ok (record { faces = fs.0; points = o.points }, fs.1))
     (spelling 5 (length faces) ++ (spelling 5 points ++ (1 ∷ []))) (flat_map (face_bytes points) faces ++ []) (record { faces = length faces; points = points; method = 1 })
     (record { faces = faces; points = points })
-    (Spells-opening (length faces) points 1 few_faces few_points (omega arith))
+    (Spells-opening (length faces) points few_faces few_points)
     (Spells-then (many_at (face_at points) (length faces)) (λ fs c. Ok (record { faces = fs; points = points }, c)) (flat_map (face_bytes points) faces) []
     faces (record { faces = faces; points = points }) (Spells-faces points faces are (omega (arith, few_points))) (Spells-none (record { faces = faces; points = points }))))
   where

@@ -4,19 +4,23 @@ use Rattle.std.specs.Prelude.{◌≡◌, ℕ, ◌<◌, ◌==◌, List, [], ◌�
 use Rattle.std.specs.List.{flat_map}
 use Rattle.drc_base.specs.declared.kinds.Kind.TheVariants as kind
 use Rattle.drc_base.specs.declared.limits.TheConstants.{MAX_FACES, MAX_POINTS}
-use Rattle.drc_bits.specs.Reading.{◌>>=◌, Reading, Item, must, many_at, fault_at}
+use Rattle.drc_bits.specs.Reading.{◌>>=◌, Reading, Item, must, many_at}
 use Rattle.drc_bits.specs.Numbers.{number_at}
 use Rattle.drc_bits.specs.Varint.{var32_at, spelling}
 use Rattle.drc_bits.specs.Bits.{low_bytes}
 use Rattle.seq_section.specs.declared.reading.SeqRead.{SeqRead}
 use Rattle.seq_section.specs.declared.reading.Opening.{Opening}
 
--- the opening of the section: faces, points, and the coding of the indices, 0 packed or 1 plain
+-- the coding of the indices: 0 packed, which isn't built yet, or 1 plain
+abbrev pub method_at : Reading → Item ℕ
+method_at c = must kind.NotYet (λ n. n == 1) (must kind.IndexMethod (λ n. nat_le n 1) (number_at 1)) c
+
+-- the opening of the section: faces, points, and the coding of the indices
 unfoldable pub opening_at : Reading → Item Opening
 opening_at c = do
   faces ← must kind.FaceLimit (λ n. nat_le n MAX_FACES) var32_at c
   points ← must kind.PointLimit (λ n. nat_le n MAX_POINTS) var32_at faces.1
-  method ← must kind.IndexMethod (λ n. nat_le n 1) (number_at 1) points.1
+  method ← method_at points.1
   Ok (record { faces = faces.0; points = points.0; method = method.0 }, method.1)
 
 -- how many bytes a plain index beside so many points has: one below 2^8, two below 2^16, those of a varint (None) below
@@ -53,7 +57,7 @@ face_at points c = do
 unfoldable pub indices_at : Reading → Item SeqRead
 indices_at c = do
   opening ← opening_at c
-  faces ← if opening.0.method == 1 then many_at (face_at opening.0.points) opening.0.faces opening.1 else fault_at kind.NotYet opening.1
+  faces ← many_at (face_at opening.0.points) opening.0.faces opening.1
   Ok (record { faces = faces.0; points = opening.0.points }, faces.1)
 
 -- the bytes of a plain index beside so many points

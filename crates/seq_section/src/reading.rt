@@ -4,9 +4,8 @@ ghost use Rattle.std.specs.Prelude.{◌≡◌, ◌≤◌, Err, IfOk, nat_le};
 ghost use Rattle.drc_base.specs.declared.faults.Fault.{Fault as AnyFault};
 ghost use Rattle.drc_base.specs.declared.faults.Refusal.TheVariants as refusal;
 ghost use Rattle.drc_bits.specs.Reading.{Reads, Gives, must};
-ghost use Rattle.drc_bits.specs.Numbers.{number_at};
 ghost use Rattle.drc_bits.specs.Varint.{var32_at};
-ghost use Rattle.seq_section.specs.Indices.{opening_at, indices_at};
+ghost use Rattle.seq_section.specs.Indices.{method_at, opening_at, indices_at};
 
 use crate::plain::read_faces;
 use drc_base::{Fault, Kind, MAX_FACES, MAX_POINTS, Refusal, Sequence};
@@ -34,7 +33,7 @@ pub struct Opening {
 }
 
 /// Reads the connectivity of a sequential mesh: `FaceLimit`, `PointLimit`, `IndexMethod`,
-/// `IndexRange`, and `Short` or `Long` of a number that isn't whole, the first at its place. The
+/// `NotYet` where the indices are packed, `IndexRange`, and `Short` or `Long` of a number that isn't whole, the first at its place. The
 /// faults of the two numbers and of the method come before memory is taken.
 #[tactic(auto, unfolding(crate::specs::Indices::indices_at))]
 pub fn read_indices(alloc: Global, c: &mut Cursor<'_>) -> Result<SeqRead, Refusal>
@@ -42,9 +41,6 @@ pub fn read_indices(alloc: Global, c: &mut Cursor<'_>) -> Result<SeqRead, Refusa
     ensures early { (f : AnyFault) → opening_at c.old ≡ Err f → result ≡ Err (refusal.Fault f) }
 {
     let opening = read_opening(c)?;
-    if opening.method != PLAIN {
-        return Err(Refusal::Fault(c.fault(Kind::NotYet)));
-    }
     let faces = read_faces(alloc, c, opening.faces, opening.points)?;
     Ok(SeqRead {
         faces: Sequence::from_vec(faces),
@@ -87,12 +83,16 @@ fn read_count(c: &mut Cursor<'_>, most: u32, kind: Kind) -> Result<u32, Fault>
 
 /// Reads the method of the indices.
 fn read_method(c: &mut Cursor<'_>) -> Result<u8, Fault>
-    ensures { Reads (λ n. n) (must Kind.IndexMethod (λ n. nat_le n 1) (number_at 1) c.old) c.new result }
+    ensures { Reads (λ n. n) (method_at c.old) c.new result }
 {
-    let fault = c.fault(Kind::IndexMethod);
+    let unknown = c.fault(Kind::IndexMethod);
+    let unbuilt = c.fault(Kind::NotYet);
     let method = c.get_u8()?;
     if method > PLAIN {
-        return Err(fault);
+        return Err(unknown);
+    }
+    if method != PLAIN {
+        return Err(unbuilt);
     }
     Ok(method)
 }
