@@ -56,7 +56,7 @@ face_whole list points line p0 p1 p2 p3 low high below most v a b c face r0 r1 t
     let nb = number_in list.1 below most tb.0 b r1 tb.2 ib in
     let nc = number_in list.1 below most tc.0 c r1 tc.2 ic in
     let whole : tokens_of line ≡ t0.0 ∷ ta.0 ∷ tb.0 ∷ tc.0 ∷ [] =
-        t0.1 ∙ ap (λ (ts : List (List ℕ)). t0.0 ∷ ts) (ta.1 ∙ ap (λ (ts : List (List ℕ)). ta.0 ∷ ts) (tb.1 ∙ ap (λ (ts : List (List ℕ)). tb.0 ∷ ts) (tc.1 ∙ ap (λ (ts : List (List ℕ)). tc.0 ∷ ts) last))) in
+    t0.1 ∙ ap (λ (ts : List (List ℕ)). t0.0 ∷ ts) (ta.1 ∙ ap (λ (ts : List (List ℕ)). ta.0 ∷ ts) (tb.1 ∙ ap (λ (ts : List (List ℕ)). tb.0 ∷ ts) (tc.1 ∙ ap (λ (ts : List (List ℕ)). tc.0 ∷ ts) last))) in
     let counted : count_of list.0 at t0.0 ≡ Ok v = ap (λ (o : Option ℤ). or_refuse PlyNumber at o >>= λ n. cond (int_eq n (pos 3)) (Ok n) (Err (record { kind = PlyFace; at = at }))) n0 ∙ ap (λ (z : ℤ). cond (int_eq z (pos 3)) (Ok v) (Err (record { kind = PlyFace; at = at }))) three in
     let values : numbers_of (list.1 ∷ list.1 ∷ list.1 ∷ []) (ta.0 ∷ tb.0 ∷ tc.0 ∷ []) ≡ Some (a ∷ b ∷ c ∷ []) = rw (na, nb, nc) refl in
     ap (face_of list points at) whole ∙ rw (counted, values, made) refl

@@ -40,9 +40,11 @@ pub Passes-one : (d : Draft) (line : List (List ℕ)) (d' : Draft) → is_end d 
 Passes-one d line d' e step = record { passes = λ at rest. rw (e, step at) refl }
 
 pub Passes-append : (d d' d'' : Draft) (ls ms : Lines) → Passes d ls d' → Passes d' ms d'' → Passes d (ls ++ ms) d''
-Passes-append d d' d'' ls ms p q = record { passes = λ at rest.
-    let n : at + length ls + length ms ≡ at + length (ls ++ ms) = omega (arith, length-append ls ms) in
-    ap (header_from at d) (append_assoc ls ms rest) ∙ p.passes at (ms ++ rest) ∙ q.passes (at + length ls) rest ∙ ap (λ k. header_from k d'' rest) n }
+Passes-append d d' d'' ls ms p q = record {
+  passes = λ at rest.
+      let n : at + length ls + length ms ≡ at + length (ls ++ ms) = omega (arith, length-append ls ms) in
+      ap (header_from at d) (append_assoc ls ms rest) ∙ p.passes at (ms ++ rest) ∙ q.passes (at + length ls) rest ∙ ap (λ k. header_from k d'' rest) n;
+}
 
 -- ---- heads
 
@@ -65,8 +67,17 @@ head_again : (number : ℕ) (h : Head) → number ≤ 15 → HeadPasses h → Ha
 unfolding head_of
 head_again number h few p f =
     let t = dtype_right h.dtype h.quant p.type-is in
-    rw (within_again 15 number few (omega arith), eq-eqb number number refl, within_again 4 h.usage p.usage (omega arith), within_again 9 h.dtype t.1 (omega arith), t.0,
-        within_again 8 h.comps p.few (omega arith), le-leb 1 h.comps p.some, within_again 255 h.normalized (omega (arith, f.normalized)) (omega arith), within_again (2 ^ 32 - 1) h.id (omega (arith, f.id)) (omega arith)) refl
+    rw (
+      within_again 15 number few (omega arith),
+      eq-eqb number number refl,
+      within_again 4 h.usage p.usage (omega arith),
+      within_again 9 h.dtype t.1 (omega arith),
+      t.0,
+      within_again 8 h.comps p.few (omega arith),
+      le-leb 1 h.comps p.some,
+      within_again 255 h.normalized (omega (arith, f.normalized)) (omega arith),
+      within_again (2 ^ 32 - 1) h.id (omega (arith, f.id)) (omega arith),
+    ) refl
 
 -- a header whose heads are read
 abbrev pub with_heads : List PlyHead → Draft
@@ -111,6 +122,7 @@ one_head : (done : List PlyHead) (h : Head) → length done ≤ 15 → HeadPasse
 one_head done h few p f = go h.quant refl where
   first : Passes (with_heads done) (attr_line (length done) h ∷ []) (with_heads (done ++ bare h ∷ []))
   first = Passes-one (with_heads done) (attr_line (length done) h) (with_heads (done ++ bare h ∷ [])) (attr_end done (length done) h) (λ at. attr_step done h at few p f)
+
   go : (o : Option Quant) → h.quant ≡ o → Passes (with_heads done) (attr_line (length done) h ∷ quant_lines (length done) o) (with_heads (done ++ record (bare h) { quant = option_map ply_quant o } ∷ []))
   go None e = first
   go (Some q) e =
@@ -118,7 +130,7 @@ one_head done h few p f = go h.quant refl where
       let b = subst (λ (o : Option Quant). has_bits o ≡ true) e p.bits in
       let fq = subst (λ (o : Option Quant). IfSome o QuantFields) e f.quant in
       Passes-append (with_heads done) (with_heads (done ++ bare h ∷ [])) (with_heads (done ++ record (bare h) { quant = Some (ply_quant q) } ∷ [])) (attr_line (length done) h ∷ []) (quant_line (length done) q ∷ []) first
-          (Passes-one (with_heads (done ++ bare h ∷ [])) (quant_line (length done) q) (with_heads (done ++ record (bare h) { quant = Some (ply_quant q) } ∷ [])) (quant_end (done ++ bare h ∷ []) (length done) q) (λ at. quant_step done h q at few m b fq))
+      (Passes-one (with_heads (done ++ bare h ∷ [])) (quant_line (length done) q) (with_heads (done ++ record (bare h) { quant = Some (ply_quant q) } ∷ [])) (quant_end (done ++ bare h ∷ []) (length done) q) (λ at. quant_step done h q at few m b fq))
 
 pub heads_step : (k : ℕ) (done : List PlyHead) (hs : List Head) → k ≡ length done → length done + length hs ≤ 16 → AllByRecursion HeadPasses hs → AllByRecursion HasFields hs → Passes (with_heads done) (head_lines k hs) (with_heads (done ++ map ply_head hs))
 heads_step k done [] e few p f = subst (λ (xs : List PlyHead). Passes (with_heads done) [] (with_heads xs)) (sym (append-nil done)) (Passes-nil (with_heads done))
@@ -127,7 +139,7 @@ heads_step k done (h ∷ hs) e few p f =
     let one : Passes (with_heads done) (attr_line k h ∷ quant_lines k h.quant) (with_heads (done ++ ply_head h ∷ [])) = subst (λ (j : ℕ). Passes (with_heads done) (attr_line j h ∷ quant_lines j h.quant) (with_heads (done ++ ply_head h ∷ []))) (sym e) (one_head done h (omega arith) p.0 f.0) in
     let rest = heads_step (k + 1) (done ++ ply_head h ∷ []) hs (ap (λ j. j + 1) e ∙ sym n) (omega arith) p.1 f.1 in
     subst (λ (xs : List PlyHead). Passes (with_heads done) (head_lines k (h ∷ hs)) (with_heads xs)) (append_assoc done (ply_head h ∷ []) (map ply_head hs))
-        (Passes-append (with_heads done) (with_heads (done ++ ply_head h ∷ [])) (with_heads ((done ++ ply_head h ∷ []) ++ map ply_head hs)) (attr_line k h ∷ quant_lines k h.quant) (head_lines (k + 1) hs) one rest)
+    (Passes-append (with_heads done) (with_heads (done ++ ply_head h ∷ [])) (with_heads ((done ++ ply_head h ∷ []) ++ map ply_head hs)) (attr_line k h ∷ quant_lines k h.quant) (head_lines (k + 1) hs) one rest)
 
 -- ---- points
 
@@ -182,7 +194,7 @@ components_step heads n ps named k h j (suc m) t =
     let one = Passes-one (with_points heads n ps) (property_line h.dtype (name_at named k h.usage j)) (with_points heads n (ps ++ p ∷ [])) (property_end heads n ps h.dtype (name_at named k h.usage j)) (λ at. property_is heads n ps h.dtype (name_at named k h.usage j) at t) in
     let rest = components_step heads n (ps ++ p ∷ []) named k h (j + 1) m t in
     subst (λ (xs : List PropertyParts). Passes (with_points heads n ps) (component_lines named k h j (suc m)) (with_points heads n xs)) (append_assoc ps (p ∷ []) (components_of named k h (j + 1) m))
-        (Passes-append (with_points heads n ps) (with_points heads n (ps ++ p ∷ [])) (with_points heads n ((ps ++ p ∷ []) ++ components_of named k h (j + 1) m)) (property_line h.dtype (name_at named k h.usage j) ∷ []) (component_lines named k h (j + 1) m) one rest)
+    (Passes-append (with_points heads n ps) (with_points heads n (ps ++ p ∷ [])) (with_points heads n ((ps ++ p ∷ []) ++ components_of named k h (j + 1) m)) (property_line h.dtype (name_at named k h.usage j) ∷ []) (component_lines named k h (j + 1) m) one rest)
 
 -- the properties that heads give
 abbrev pub all_properties : List Head → ℕ → List Head → List PropertyParts
@@ -196,7 +208,7 @@ properties_step heads n ps all k (h ∷ hs) p =
     let one = components_step heads n ps (is_named all k h) k h 0 h.comps (dtype_right h.dtype h.quant p.0.type-is) in
     let rest = properties_step heads n (ps ++ cs) all (k + 1) hs p.1 in
     subst (λ (xs : List PropertyParts). Passes (with_points heads n ps) (property_lines all k (h ∷ hs)) (with_points heads n xs)) (append_assoc ps cs (all_properties all (k + 1) hs))
-        (Passes-append (with_points heads n ps) (with_points heads n (ps ++ cs)) (with_points heads n ((ps ++ cs) ++ all_properties all (k + 1) hs)) (component_lines (is_named all k h) k h 0 h.comps) (property_lines all (k + 1) hs) one rest)
+    (Passes-append (with_points heads n ps) (with_points heads n (ps ++ cs)) (with_points heads n ((ps ++ cs) ++ all_properties all (k + 1) hs)) (component_lines (is_named all k h) k h 0 h.comps) (property_lines all (k + 1) hs) one rest)
 
 -- ---- faces
 
@@ -222,5 +234,5 @@ list_end heads n ps m = refl
 pub faces_step : (heads : List PlyHead) (n : ℕ) (ps : List PropertyParts) (m : ℕ) → m ≤ MAX_FACES → Passes (with_points heads n ps) (element_line (codes "face") m ∷ list_line ∷ []) (with_faces heads n ps m (Some (2, 5)))
 faces_step heads n ps m few =
     Passes-append (with_points heads n ps) (with_faces heads n ps m None) (with_faces heads n ps m (Some (2, 5))) (element_line (codes "face") m ∷ []) (list_line ∷ [])
-        (Passes-one (with_points heads n ps) (element_line (codes "face") m) (with_faces heads n ps m None) (face_end heads n ps m) (λ at. face_is heads n ps m at few))
-        (Passes-one (with_faces heads n ps m None) list_line (with_faces heads n ps m (Some (2, 5))) (list_end heads n ps m) (λ at. list_is heads n ps m at))
+    (Passes-one (with_points heads n ps) (element_line (codes "face") m) (with_faces heads n ps m None) (face_end heads n ps m) (λ at. face_is heads n ps m at few))
+    (Passes-one (with_faces heads n ps m None) list_line (with_faces heads n ps m (Some (2, 5))) (list_end heads n ps m) (λ at. list_is heads n ps m at))

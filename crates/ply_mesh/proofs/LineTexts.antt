@@ -37,7 +37,7 @@ pub head_more : (out : List ℕ) (heads : List Head) (k : ℕ) (h : Head) → k 
 head_more out heads k h lt e =
     append_assoc out (text_of (attr_line k h ∷ quant_lines k h.quant)) (text_of (head_lines (k + 1) (drop (k + 1) heads)))
     ∙ ap (λ (t : List ℕ). out ++ t) (sym (flat_map-append line_text (attr_line k h ∷ quant_lines k h.quant) (head_lines (k + 1) (drop (k + 1) heads)))
-      ∙ ap (λ (x : Head). text_of ((attr_line k x ∷ quant_lines k x.quant) ++ head_lines (k + 1) (drop (k + 1) heads))) e ∙ sym (at_drop_more (λ (hs : List Head). text_of (head_lines k hs)) heads k h lt))
+    ∙ ap (λ (x : Head). text_of ((attr_line k x ∷ quant_lines k x.quant) ++ head_lines (k + 1) (drop (k + 1) heads))) e ∙ sym (at_drop_more (λ (hs : List Head). text_of (head_lines k hs)) heads k h lt))
 
 pub quant_after : (out : List ℕ) (k : ℕ) (h : Head) (q : Quant) → h.quant ≡ Some q → (out ++ line_text (attr_line k h)) ++ line_text (quant_line k q) ≡ out ++ text_of (attr_line k h ∷ quant_lines k h.quant)
 quant_after out k h q e = append_assoc out (line_text (attr_line k h)) (line_text (quant_line k q)) ∙ ap (λ (t : List ℕ). out ++ (line_text (attr_line k h) ++ t)) (sym (append-nil (line_text (quant_line k q))) ∙ ap (λ (o : Option Quant). text_of (quant_lines k o)) (sym e))

@@ -88,13 +88,13 @@ glyph_back d h = elim (cases_lt d 10) [
   | inr le ↦
       let e : 87 + d - 87 ≡ d = omega arith in
       rw (le-ltb d 10 le, lt-leb (87 + d) 57 (omega arith), le-leb 48 (87 + d) (omega arith), le-leb 97 (87 + d) (omega arith), le-leb (87 + d) 102 (omega arith), e) refl
-  ]
+]
 
 glyph_above : (d : ℕ) → 32 < hex_digit d
 glyph_above d = elim (cases_Bool (ltb d 10)) [
   | inl yes' ↦ rw yes' (omega arith)
   | inr no' ↦ rw no' (omega arith)
-  ]
+]
 
 hex_step : (n : ℕ) (o : Option ℕ) (xs ys : List ℕ) → ((m : ℕ) → hex_after m (xs ++ ys) ≡ option_and_then (λ k. hex_after k ys) (hex_after m xs)) → option_and_then (λ d. hex_after (n * 16 + d) (xs ++ ys)) o ≡ option_and_then (λ m. hex_after m ys) (option_and_then (λ d. hex_after (n * 16 + d) xs) o)
 hex_step n None xs ys f = refl

@@ -24,4 +24,4 @@ pub properties_more : (out : List ℕ) (heads : List Head) (k : ℕ) (h : Head) 
 properties_more out heads k h lt e =
     append_assoc out (text_of (component_lines (is_named heads k h) k h 0 h.comps)) (text_of (property_lines heads (k + 1) (drop (k + 1) heads)))
     ∙ ap (λ (t : List ℕ). out ++ t) (sym (flat_map-append line_text (component_lines (is_named heads k h) k h 0 h.comps) (property_lines heads (k + 1) (drop (k + 1) heads)))
-      ∙ ap (λ (x : Head). text_of (component_lines (is_named heads k x) k x 0 x.comps ++ property_lines heads (k + 1) (drop (k + 1) heads))) e ∙ sym (at_drop_more (λ (hs : List Head). text_of (property_lines heads k hs)) heads k h lt))
+    ∙ ap (λ (x : Head). text_of (component_lines (is_named heads k x) k x 0 x.comps ++ property_lines heads (k + 1) (drop (k + 1) heads))) e ∙ sym (at_drop_more (λ (hs : List Head). text_of (property_lines heads k hs)) heads k h lt))

@@ -105,16 +105,26 @@ module _ (hs : List Head) (n : ℕ) (p : HeadsPass hs) (f : AllByRecursion HasFi
   cloud_end : (at : ℕ) → header_at at (with_points (map ply_head hs) n ps) end_line ≡ Ok (made hs n None None (at + 1))
   unfolding header_at is_whole heads_of header_by
   cloud_end at =
-      rw (lt-ltb 0 (length ps) (omega (arith, columns)), lt-ltb 0 (length (map ply_head hs)) (omega (arith, p.some, length-map hs ply_head)),
-          le-ltb MAX_ATTRIBUTES (length (map ply_head hs)) (omega (arith, p.few, length-map hs ply_head)), agreed,
-          le-ltb MAX_VALUES (n * length ps) (subst (λ w. n * w ≤ MAX_VALUES) (sym columns) values), all_types hs 0 hs) refl
+      rw (
+        lt-ltb 0 (length ps) (omega (arith, columns)),
+        lt-ltb 0 (length (map ply_head hs)) (omega (arith, p.some, length-map hs ply_head)),
+        le-ltb MAX_ATTRIBUTES (length (map ply_head hs)) (omega (arith, p.few, length-map hs ply_head)),
+        agreed,
+        le-ltb MAX_VALUES (n * length ps) (subst (λ w. n * w ≤ MAX_VALUES) (sym columns) values),
+        all_types hs 0 hs,
+      ) refl
 
   mesh_end : (m at : ℕ) → header_at at (with_faces (map ply_head hs) n ps m (Some (2, 5))) end_line ≡ Ok (made hs n (Some m) (Some (2, 5)) (at + 1))
   unfolding header_at is_whole heads_of header_by
   mesh_end m at =
-      rw (lt-ltb 0 (length ps) (omega (arith, columns)), lt-ltb 0 (length (map ply_head hs)) (omega (arith, p.some, length-map hs ply_head)),
-          le-ltb MAX_ATTRIBUTES (length (map ply_head hs)) (omega (arith, p.few, length-map hs ply_head)), agreed,
-          le-ltb MAX_VALUES (n * length ps) (subst (λ w. n * w ≤ MAX_VALUES) (sym columns) values), all_types hs 0 hs) refl
+      rw (
+        lt-ltb 0 (length ps) (omega (arith, columns)),
+        lt-ltb 0 (length (map ply_head hs)) (omega (arith, p.some, length-map hs ply_head)),
+        le-ltb MAX_ATTRIBUTES (length (map ply_head hs)) (omega (arith, p.few, length-map hs ply_head)),
+        agreed,
+        le-ltb MAX_VALUES (n * length ps) (subst (λ w. n * w ≤ MAX_VALUES) (sym columns) values),
+        all_types hs 0 hs,
+      ) refl
 
 -- `format ascii 1.0`
 abbrev format_line : List (List ℕ)
@@ -153,8 +163,8 @@ unfolding ply_read header_of
 read_again text xs d h rest g cut pass formatted last place meaning =
     let regrouped : (xs ++ end_line ∷ []) ++ rest ≡ xs ++ (end_line ∷ rest) = append_assoc xs (end_line ∷ []) rest in
     let header : header_of_lines (token_lines text) ≡ Ok h =
-        ap header_of_lines cut ∙ cond-true (is_magic (codes "ply" ∷ [])) (header_from 2 no_draft ((xs ++ end_line ∷ []) ++ rest)) _ magic_is ∙ ap (header_from 2 no_draft) regrouped ∙ pass.passes 2 (end_line ∷ rest)
-        ∙ cond-true (is_end d end_line) (header_at (2 + length xs) d end_line) _ (end_is d formatted) ∙ last in
+    ap header_of_lines cut ∙ cond-true (is_magic (codes "ply" ∷ [])) (header_from 2 no_draft ((xs ++ end_line ∷ []) ++ rest)) _ magic_is ∙ ap (header_from 2 no_draft) regrouped ∙ pass.passes 2 (end_line ∷ rest)
+    ∙ cond-true (is_end d end_line) (header_at (2 + length xs) d end_line) _ (end_is d formatted) ∙ last in
     let before : h.body_line - 1 ≡ length (((codes "ply" ∷ []) ∷ xs) ++ end_line ∷ []) = omega (arith, place, length-append ((codes "ply" ∷ []) ∷ xs) (end_line ∷ [])) in
     let after : drop (h.body_line - 1) (token_lines text) ≡ rest = ap (drop (h.body_line - 1)) cut ∙ drop_at (((codes "ply" ∷ []) ∷ xs) ++ end_line ∷ []) rest (h.body_line - 1) (sym before) in
     ap (λ (r : Result Header Fault). r >>= λ (y : Header). body_of y (drop (y.body_line - 1) (token_lines text))) header ∙ ap (body_of h) after ∙ meaning
@@ -206,8 +216,8 @@ module _ (hs : List Head) (points : List (List ℤ)) (is : ArePoints hs points) 
   rows_back : (at : ℕ) (rest : Lines) → items_from (row_of (column_types (map ply_head hs))) (length points) at (point_lines points ++ rest) ≡ Ok (points, rest)
   rows_back at rest =
       items_back (RowFits hs) (row_of (column_types (map ply_head hs))) (λ (row : List ℤ). map signed_decimal row)
-          (λ line row fit. ap (λ (ds : List ℕ). row_of ds line (map signed_decimal row)) types_are ∙ row_back (map column_type (column_dtypes hs)) line row (row_typed_back hs row fit))
-          points at rest fits
+      (λ line row fit. ap (λ (ds : List ℕ). row_of ds line (map signed_decimal row)) types_are ∙ row_back (map column_type (column_dtypes hs)) line row (row_typed_back hs row fit))
+      points at rest fits
 
   points_few : length points < 2 ^ 32
   points_few = let few = is.few_points in omega arith
@@ -238,7 +248,7 @@ mesh_part hs points faces = Mesh (record { heads = hs; points = points; faces = 
 cut_again : (xs rest : Lines) → are_lines xs ≡ true → are_lines rest ≡ true → token_lines (text_of (((ply_line ∷ xs) ++ end_line ∷ []) ++ rest)) ≡ ((ply_line ∷ xs) ++ end_line ∷ []) ++ rest
 cut_again xs rest a b =
     lines_again (((ply_line ∷ xs) ++ end_line ∷ []) ++ rest)
-        (list_all-append are_tokens ((ply_line ∷ xs) ++ end_line ∷ []) rest (list_all-append are_tokens (ply_line ∷ xs) (end_line ∷ []) (and_from _ _ refl a) refl) b)
+    (list_all-append are_tokens ((ply_line ∷ xs) ++ end_line ∷ []) rest (list_all-append are_tokens (ply_line ∷ xs) (end_line ∷ []) (and_from _ _ refl a) refl) b)
 
 cloud_body : (hs : List Head) (points : List (List ℤ)) → ArePoints hs points → AllByRecursion HasFields hs → (line : ℕ) → body_of (made hs (length points) None None line) (point_lines points) ≡ Ok (cloud_part hs points)
 cloud_body hs points is f line =
@@ -252,12 +262,12 @@ cloud_again hs points is f =
     let line = 2 + length xs + 1 in
     let pass = passing hs points is f in
     read_again (text_of (((ply_line ∷ xs) ++ end_line ∷ []) ++ point_lines points)) xs (with_points (map ply_head hs) (length points) (all_properties hs 0 hs)) (made hs (length points) None None line) (point_lines points) (cloud_part hs points)
-        (cut_again xs (point_lines points) (rest_lines hs points is f) (rows_lines hs points is f))
-        (points_pass hs (length points) pass f is.few_points)
-        refl
-        (cloud_end hs (length points) pass f (wide_enough hs points is f) is.few_values (2 + length xs))
-        refl
-        (cloud_body hs points is f line)
+    (cut_again xs (point_lines points) (rest_lines hs points is f) (rows_lines hs points is f))
+    (points_pass hs (length points) pass f is.few_points)
+    refl
+    (cloud_end hs (length points) pass f (wide_enough hs points is f) is.few_values (2 + length xs))
+    refl
+    (cloud_body hs points is f line)
 
 -- the header's lines of a mesh after the first
 abbrev mesh_rest : List Head → ℕ → ℕ → Lines
@@ -290,8 +300,8 @@ module _ (hs : List Head) (points : List (List ℤ)) (faces : List (List ℕ)) (
   mesh_pass : Passes no_draft (mesh_rest hs (length points) (length faces)) (with_faces (map ply_head hs) (length points) (all_properties hs 0 hs) (length faces) (Some (2, 5)))
   mesh_pass =
       Passes-append no_draft (with_points (map ply_head hs) (length points) (all_properties hs 0 hs)) (with_faces (map ply_head hs) (length points) (all_properties hs 0 hs) (length faces) (Some (2, 5))) (points_rest hs (length points)) (faces_header (length faces))
-          (points_pass hs (length points) (passing hs points is f) f is.few_points)
-          (faces_step (map ply_head hs) (length points) (all_properties hs 0 hs) (length faces) few)
+      (points_pass hs (length points) (passing hs points is f) f is.few_points)
+      (faces_step (map ply_head hs) (length points) (all_properties hs 0 hs) (length faces) few)
 
   mesh_again : ply_read (ply_text (mesh_part hs points faces)) ≡ Ok (mesh_part hs points faces)
   unfolding ply_text
@@ -302,12 +312,12 @@ module _ (hs : List Head) (points : List (List ℤ)) (faces : List (List ℕ)) (
       let head = (ply_line ∷ xs) ++ end_line ∷ [] in
       let regrouped : (head ++ point_lines points) ++ face_lines faces ≡ head ++ rest = append_assoc head (point_lines points) (face_lines faces) in
       read_again (text_of ((head ++ point_lines points) ++ face_lines faces)) xs (with_faces (map ply_head hs) (length points) (all_properties hs 0 hs) (length faces) (Some (2, 5))) (mesh_header line) rest (mesh_part hs points faces)
-          (ap (λ (ls : Lines). token_lines (text_of ls)) regrouped ∙ cut_again xs rest mesh_lines body_lines)
-          mesh_pass
-          refl
-          (mesh_end hs (length points) (passing hs points is f) f (wide_enough hs points is f) is.few_values (length faces) (2 + length xs))
-          refl
-          (mesh_body line)
+      (ap (λ (ls : Lines). token_lines (text_of ls)) regrouped ∙ cut_again xs rest mesh_lines body_lines)
+      mesh_pass
+      refl
+      (mesh_end hs (length points) (passing hs points is f) f (wide_enough hs points is f) is.few_values (length faces) (2 + length xs))
+      refl
+      (mesh_body line)
 
 -- what is written of a geometry is read as that geometry
 pub geometry_again : (g : Geometry) → IsGeometry g → AllByRecursion HasFields (heads_in g) → ply_read (ply_text g) ≡ Ok g

@@ -16,10 +16,12 @@ row_begun start [] d h = absurd (omega arith)
 row_begun start (v ∷ vs) d h = record { whole = append_assoc start (signed_decimal v) (rest_text (map signed_decimal vs)) }
 
 pub row_more : (start out : List ℕ) (row : List ℤ) (j : ℕ) (d : ℤ) → j < length row → IsRowWritten start out row j → IsRowWritten start ((out ++ 32 ∷ []) ++ signed_decimal (get_or row j d)) row (j + 1)
-row_more start out row j d lt h = record { whole =
-    append_assoc (out ++ 32 ∷ []) (signed_decimal (get_or row j d)) (rest_text (map signed_decimal (drop (j + 1) row)))
-    ∙ append_assoc out (32 ∷ []) (signed_decimal (get_or row j d) ++ rest_text (map signed_decimal (drop (j + 1) row)))
-    ∙ ap (λ (t : List ℕ). out ++ t) (sym (at_drop_more (λ (vs : List ℤ). rest_text (map signed_decimal vs)) row j d lt)) ∙ h.whole }
+row_more start out row j d lt h = record {
+  whole =
+      append_assoc (out ++ 32 ∷ []) (signed_decimal (get_or row j d)) (rest_text (map signed_decimal (drop (j + 1) row)))
+      ∙ append_assoc out (32 ∷ []) (signed_decimal (get_or row j d) ++ rest_text (map signed_decimal (drop (j + 1) row)))
+      ∙ ap (λ (t : List ℕ). out ++ t) (sym (at_drop_more (λ (vs : List ℤ). rest_text (map signed_decimal vs)) row j d lt)) ∙ h.whole;
+}
 
 pub row_end : (start out : List ℕ) (row : List ℤ) (j : ℕ) → length row ≤ j → IsRowWritten start out row j → out ++ 10 ∷ [] ≡ start ++ line_text (map signed_decimal row)
 row_end start out row j le h = ap (λ (t : List ℕ). out ++ t) (sym (at_drop_all (λ (vs : List ℤ). rest_text (map signed_decimal vs)) row j le)) ∙ h.whole

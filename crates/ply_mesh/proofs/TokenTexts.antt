@@ -59,7 +59,7 @@ component_tokens named k h j zero hk hj = refl
 component_tokens named k h j (suc n) hk hj =
     let name = name_at named k h.usage j in
     and_from _ _ (more (codes "property") (type_word h.dtype ∷ name ∷ []) refl (more (type_word h.dtype) (name ∷ []) (word_token h.dtype) (more name [] (name_token named k h.usage j (omega arith) (omega arith)) refl)))
-        (component_tokens named k h (j + 1) n hk (omega arith))
+    (component_tokens named k h (j + 1) n hk (omega arith))
 
 pub property_tokens : (all : List Head) (k : ℕ) (hs : List Head) → k + length hs < 2 ^ 32 → AllByRecursion HeadPasses hs → are_lines (property_lines all k hs) ≡ true
 property_tokens all k [] hk p = refl
@@ -98,8 +98,8 @@ pub head_tokens : (k : ℕ) (hs : List Head) → k + length hs < 2 ^ 32 → AllB
 head_tokens k [] hk p f d = refl
 head_tokens k (h ∷ hs) hk p f d =
     list_all-append are_tokens (attr_line k h ∷ quant_lines k h.quant) (head_lines (k + 1) hs)
-        (and_from _ _ (attr_tokens k h (omega arith) p.0 f.0 d.0) (quants_tokens k h.quant (omega arith) p.0.bits))
-        (head_tokens (k + 1) hs (omega arith) p.1 f.1 d.1)
+    (and_from _ _ (attr_tokens k h (omega arith) p.0 f.0 d.0) (quants_tokens k h.quant (omega arith) p.0.bits))
+    (head_tokens (k + 1) hs (omega arith) p.1 f.1 d.1)
 
 element_all : (name : List ℕ) (n : ℕ) → Token name → n < 2 ^ 32 → Tokens (element_line name n)
 unfolding element_line

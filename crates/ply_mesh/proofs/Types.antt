@@ -26,7 +26,7 @@ some_of test None v e = absurd cc
 some_of test (Some w) v e = elim (cases_Bool (test w)) [
   | inl t ↦ sym (ap (λ b. cond b (Some w) None) t) ∙ e
   | inr f ↦ let n : None ≡ Some v = sym (ap (λ b. cond b (Some w) None) f) ∙ e in absurd cc
-  ]
+]
 
 -- a token that is no number of 64 bits is none of the type
 none_of : (dtype below most : ℕ) (o : Option ℤ) → IsRange dtype below most → only_if (is_between (2 ^ 63) (2 ^ 63 - 1)) o ≡ None → only_if (in_type dtype) o ≡ None
@@ -36,7 +36,7 @@ none_of dtype below most (Some v) r e = elim (cases_Bool (is_between below most 
       let wide : is_between (2 ^ 63) (2 ^ 63 - 1) v ≡ true = wider below most (2 ^ 63) (2 ^ 63 - 1) v (omega (arith, r.few)) (omega (arith, r.small)) t in
       let n : Some v ≡ None = sym (ap (λ b. cond b (Some v) None) wide) ∙ e in absurd cc
   | inr f ↦ ap (λ b. cond b (Some v) None) (in_type_is dtype below most v r ∙ f)
-  ]
+]
 
 pub typed_none : (dtype below most : ℕ) (token : List ℕ) → IsRange dtype below most → only_if (is_between (2 ^ 63) (2 ^ 63 - 1)) (integer_of token) ≡ None → number_of dtype token ≡ None
 unfolding number_of

@@ -92,7 +92,7 @@ unfolding in_type
 column_same d v = elim (cases_Bool (eqb d 9)) [
   | inl nine ↦ subst (λ n. in_type (column_type n) v ≡ in_type n v) (sym (eqb-true d 9 nine)) refl
   | inr other ↦ ap (λ b. in_type (cond b 5 d) v) other
-  ]
+]
 
 typed_columns : (ds : List ℕ) (vs : List ℤ) → IsTyped (map column_type ds) vs → IsTyped ds vs
 typed_columns [] [] h = tt
@@ -176,11 +176,11 @@ type_right h fits typed = go h.quant refl where
           | inl le ↦ and_from _ _ p.0 le
           | inr nine ↦ absurd (false≢true (sym other ∙ nine))
         ]
-    ]
+  ]
   go (Some q) e = elim (cases_Bool (eqb h.dtype 9)) [
     | inl nine ↦ nine
     | inr other ↦ absurd (false≢true (ap is_none (sym e) ∙ sym (ap (λ b. cond b (is_some h.quant) (is_none h.quant)) other) ∙ typed))
-    ]
+  ]
 
 minima_right : (h : PlyHead) → HeadFits h → has_minima h.comps (option_map quant_of h.quant) ≡ true
 minima_right h fits = go h.quant fits.quant where
@@ -219,13 +219,15 @@ points_fit h is lines rest rows e =
     let heads = map head_of h.heads in
     let n = items_count (row_of h.types) h.vertices h.body_line lines rows rest e in
     let typed = items_all (IsTyped h.types) (row_of h.types) (λ at line row r. row_typed h.types at line row r) h.vertices h.body_line lines rows rest e in
-    let columns : length h.types ≡ width_of heads = ap length (sym is.types) ∙ ap length (columns_are h.heads) ∙ length-map (types_of heads) column_type ∙ length-types_of heads in
-    (record {
-      heads_pass = heads_pass h is;
-      few_points = omega (arith, n, is.vertices);
-      few_values = subst (λ k. k * width_of heads ≤ MAX_VALUES) (sym n) (subst (λ w. h.vertices * w ≤ MAX_VALUES) columns is.values);
-      rows_fit = λ k d lt. row_fits h.heads h.types (get_or rows k d) is.types (All-from_recursion (IsTyped h.types) rows typed k d lt);
-    }, n)
+    let columns : length h.types ≡ width_of heads = ap length (sym is.types) ∙ ap length (columns_are h.heads) ∙ length-map (types_of heads) column_type ∙ length-types_of heads in (
+      record {
+        heads_pass = heads_pass h is;
+        few_points = omega (arith, n, is.vertices);
+        few_values = subst (λ k. k * width_of heads ≤ MAX_VALUES) (sym n) (subst (λ w. h.vertices * w ≤ MAX_VALUES) columns is.values);
+        rows_fit = λ k d lt. row_fits h.heads h.types (get_or rows k d) is.types (All-from_recursion (IsTyped h.types) rows typed k d lt);
+      },
+      n,
+    )
 
 pub cloud_fits : (h : Header) → IsHeader h → (lines rest : List (List (List ℕ))) (rows : List (List ℤ)) (heads : List Head) (cells : List ℤ) → heads ≡ map head_of h.heads → cells ≡ cells_of rows → items_from (row_of h.types) h.vertices h.body_line lines ≡ Ok (rows, rest)
     → AreRows heads cells × (cloud_of heads cells ≡ Ok (record { heads = heads; points = rows }))

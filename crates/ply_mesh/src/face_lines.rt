@@ -83,12 +83,7 @@ fn indices_of(
 
 /// The points of a face, from the tokens after its count.
 #[tactic(auto, using(crate::proofs::FaceSteps::not_three, crate::proofs::FaceSteps::three_texts))]
-fn indices_by_tokens(
-    itype: u8,
-    points: u32,
-    at: u64,
-    found: &[&[u8]],
-) -> Result<[u32; 3], Refusal>
+fn indices_by_tokens(itype: u8, points: u32, at: u64, found: &[&[u8]]) -> Result<[u32; 3], Refusal>
     ensures { Answers (λ face. face) (indices_of itype points at (texts found.now)) result }
 {
     if found.len() != 3 {

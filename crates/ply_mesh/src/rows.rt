@@ -46,12 +46,7 @@ fn row_in_place(dtypes: &[u8], line: &[u8], out: &mut Vec<i32>) -> Result<bool, 
 }
 
 /// Appends the numbers of tokens, one for each data type, or gives PlyNumber.
-fn put_numbers(
-    dtypes: &[u8],
-    found: &[&[u8]],
-    at: u64,
-    out: &mut Vec<i32>,
-) -> Result<(), Refusal>
+fn put_numbers(dtypes: &[u8], found: &[&[u8]], at: u64, out: &mut Vec<i32>) -> Result<(), Refusal>
     requires { length found.now ≡ length dtypes.now }
     ensures { MatchResult result
         (λ _. Appends (or_refuse PlyNumber at (numbers_of dtypes.now (texts found.now))) out.old.items out.new.items)

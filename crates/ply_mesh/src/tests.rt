@@ -7,8 +7,11 @@ use std::alloc::Global;
 use std::test::Fail;
 
 const HEADER: &str = "ply\nformat ascii 1.0\ncomment drc attr 0 0 5 3 0 0\nelement vertex 3\n";
+
 const PROPERTIES: &str = "property int x\nproperty int y\nproperty int z\n";
+
 const FACES: &str = "element face 1\nproperty list uchar int vertex_indices\nend_header\n";
+
 const ROWS: &str = "0 0 0\n10 0 0\n0 10 -1\n";
 
 /// The text of these pieces.
@@ -74,8 +77,17 @@ fn refuses_the_first_fault(rt: HostRuntime) -> Result<(), Fail> {
         let answer = fault(alloc, &[HEADER, PROPERTIES, FACES, rows, faces])?;
         assert_eq!(rt; answer, Some(Refusal::Fault(Fault { kind, at })));
     }
-    let answer = fault(alloc, &[HEADER, "property float x\n", PROPERTIES, FACES, ROWS])?;
-    assert_eq!(rt; answer, Some(Refusal::Fault(Fault { kind: Kind::PlyType, at: 5 })));
+    let answer = fault(
+        alloc,
+        &[HEADER, "property float x\n", PROPERTIES, FACES, ROWS],
+    )?;
+    assert_eq!(rt;
+        answer,
+        Some(Refusal::Fault(Fault {
+            kind: Kind::PlyType,
+            at: 5
+        }))
+    );
     Ok(())
 }
 
@@ -89,7 +101,13 @@ fn keeps_each_type_within_its_range(rt: HostRuntime) -> Result<(), Fail> {
         ("uchar", "-0", "-1", "255", "256"),
         ("short", "-32768", "-32769", "32767", "32768"),
         ("ushort", "000", "-1", "65535", "65536"),
-        ("int", "-2147483648", "-2147483649", "0002147483647", "2147483648"),
+        (
+            "int",
+            "-2147483648",
+            "-2147483649",
+            "0002147483647",
+            "2147483648",
+        ),
         ("uint", "0", "-1", "2147483647", "2147483648"),
     ] {
         for row in [least, greatest] {
@@ -97,7 +115,13 @@ fn keeps_each_type_within_its_range(rt: HostRuntime) -> Result<(), Fail> {
         }
         for row in [below, above] {
             let answer = fault(alloc, &[start, word, end, row])?;
-            assert_eq!(rt; answer, Some(Refusal::Fault(Fault { kind: Kind::PlyNumber, at: 6 })));
+            assert_eq!(rt;
+                answer,
+                Some(Refusal::Fault(Fault {
+                    kind: Kind::PlyNumber,
+                    at: 6
+                }))
+            );
         }
     }
     Ok(())
@@ -106,21 +130,31 @@ fn keeps_each_type_within_its_range(rt: HostRuntime) -> Result<(), Fail> {
 #[test]
 fn reads_a_scanned_mesh(rt: HostRuntime) -> Result<(), Fail> {
     let alloc = rt.alloc();
-    let text = b"ply\r\nformat ascii 1.0\r\ncomment made by a scanner\r\nobj_info part 7\r\ncomment drc attr 0 0 9 3 0 0\r\ncomment drc attr 1 2 2 3 1 1\r\ncomment drc quant 0 11 3F800000 00000000 00000000 bf800000\r\nelement vertex 4\r\nproperty int x\r\nproperty int y\r\nproperty int z\r\nproperty uint8 red\r\nproperty uchar green\r\nproperty uchar blue\r\nelement face 2\r\nproperty list uchar int vertex_index\r\nend_header\r\n0 0 1023 255 0 0\r\n2047 0 1023 255 0 0\r\n0 02047 1023 0 255 0\r\n 2047\t2047 1023 0 255 -0 \r\n3 0 1 2\r\n3 2 1 3\r\n\r\n";
-    let written = b"ply\nformat ascii 1.0\ncomment drc attr 0 0 9 3 0 0\ncomment drc quant 0 11 3f800000 00000000 00000000 bf800000\ncomment drc attr 1 2 2 3 1 1\nelement vertex 4\nproperty int x\nproperty int y\nproperty int z\nproperty uchar red\nproperty uchar green\nproperty uchar blue\nelement face 2\nproperty list uchar int vertex_indices\nend_header\n0 0 1023 255 0 0\n2047 0 1023 255 0 0\n0 2047 1023 0 255 0\n2047 2047 1023 0 255 0\n3 0 1 2\n3 2 1 3\n";
+    let text =
+        b"ply\r\nformat ascii 1.0\r\ncomment made by a scanner\r\nobj_info part 7\r\ncomment drc attr 0 0 9 3 0 0\r\ncomment drc attr 1 2 2 3 1 1\r\ncomment drc quant 0 11 3F800000 00000000 00000000 bf800000\r\nelement vertex 4\r\nproperty int x\r\nproperty int y\r\nproperty int z\r\nproperty uint8 red\r\nproperty uchar green\r\nproperty uchar blue\r\nelement face 2\r\nproperty list uchar int vertex_index\r\nend_header\r\n0 0 1023 255 0 0\r\n2047 0 1023 255 0 0\r\n0 02047 1023 0 255 0\r\n 2047\t2047 1023 0 255 -0 \r\n3 0 1 2\r\n3 2 1 3\r\n\r\n";
+    let written =
+        b"ply\nformat ascii 1.0\ncomment drc attr 0 0 9 3 0 0\ncomment drc quant 0 11 3f800000 00000000 00000000 bf800000\ncomment drc attr 1 2 2 3 1 1\nelement vertex 4\nproperty int x\nproperty int y\nproperty int z\nproperty uchar red\nproperty uchar green\nproperty uchar blue\nelement face 2\nproperty list uchar int vertex_indices\nend_header\n0 0 1023 255 0 0\n2047 0 1023 255 0 0\n0 2047 1023 0 255 0\n2047 2047 1023 0 255 0\n3 0 1 2\n3 2 1 3\n";
     assert_eq!(rt; again(alloc, text)?.as_slice(), written.as_slice());
-    let start = "ply\nformat ascii 1.0\ncomment made by a scanner\nobj_info part 7\ncomment drc attr 0 0 9 3 0 0\ncomment drc attr 1 2 2 3 1 1\nelement vertex 4\n";
+    let start =
+        "ply\nformat ascii 1.0\ncomment made by a scanner\nobj_info part 7\ncomment drc attr 0 0 9 3 0 0\ncomment drc attr 1 2 2 3 1 1\nelement vertex 4\n";
     let rest = "property uchar red\nproperty uchar green\nproperty uchar blue\n";
     let faces = "element face 2\nproperty list uchar int vertex_indices\nend_header\n";
     let answer = fault(alloc, &[start, PROPERTIES, rest, faces])?;
-    assert_eq!(rt; answer, Some(Refusal::Fault(Fault { kind: Kind::PlyAttr, at: 16 })));
+    assert_eq!(rt;
+        answer,
+        Some(Refusal::Fault(Fault {
+            kind: Kind::PlyAttr,
+            at: 16
+        }))
+    );
     Ok(())
 }
 
 #[test]
 fn names_the_components_of_a_cloud(rt: HostRuntime) -> Result<(), Fail> {
     let alloc = rt.alloc();
-    let text = b"ply\nformat ascii 1.0\ncomment drc attr 0 0 5 2 0 0\ncomment drc attr 1 0 3 3 0 1\ncomment drc attr 2 2 2 4 1 2\ncomment drc attr 3 0 1 3 0 3\ncomment drc attr 4 3 6 2 0 4\nelement vertex 1\nproperty int a0_0\nproperty int a0_1\nproperty short x\nproperty short y\nproperty short z\nproperty uchar red\nproperty uchar green\nproperty uchar blue\nproperty uchar alpha\nproperty char a3_0\nproperty char a3_1\nproperty char a3_2\nproperty uint s\nproperty uint t\nend_header\n1 2 3 4 5 6 7 8 9 -1 -2 -3 10 11\n";
+    let text =
+        b"ply\nformat ascii 1.0\ncomment drc attr 0 0 5 2 0 0\ncomment drc attr 1 0 3 3 0 1\ncomment drc attr 2 2 2 4 1 2\ncomment drc attr 3 0 1 3 0 3\ncomment drc attr 4 3 6 2 0 4\nelement vertex 1\nproperty int a0_0\nproperty int a0_1\nproperty short x\nproperty short y\nproperty short z\nproperty uchar red\nproperty uchar green\nproperty uchar blue\nproperty uchar alpha\nproperty char a3_0\nproperty char a3_1\nproperty char a3_2\nproperty uint s\nproperty uint t\nend_header\n1 2 3 4 5 6 7 8 9 -1 -2 -3 10 11\n";
     if let Geometry::Cloud(cloud) = read_ply(alloc, text)? {
         assert_eq!(rt; (cloud.point_count(), cloud.width()), (1, 14));
     } else {
@@ -128,7 +162,8 @@ fn names_the_components_of_a_cloud(rt: HostRuntime) -> Result<(), Fail> {
     }
     assert_eq!(rt; again(alloc, text)?.as_slice(), text.as_slice());
     let none = b"ply\nformat ascii 1.0\nelement vertex 0\nproperty int q\nend_header\n";
-    let written = b"ply\nformat ascii 1.0\ncomment drc attr 0 4 5 1 0 0\nelement vertex 0\nproperty int a0_0\nend_header\n";
+    let written =
+        b"ply\nformat ascii 1.0\ncomment drc attr 0 4 5 1 0 0\nelement vertex 0\nproperty int a0_0\nend_header\n";
     assert_eq!(rt; again(alloc, none)?.as_slice(), written.as_slice());
     Ok(())
 }
@@ -142,7 +177,13 @@ fn tells_where_a_text_ends_too_early(rt: HostRuntime) -> Result<(), Fail> {
     for i in 0..bytes.len() {
         if i == 0 || bytes[i - 1] == b'\n' {
             let answer = read_ply(alloc, &bytes[..i]).err();
-            assert_eq!(rt; answer, Some(Refusal::Fault(Fault { kind: Kind::PlyShort, at })));
+            assert_eq!(rt;
+                answer,
+                Some(Refusal::Fault(Fault {
+                    kind: Kind::PlyShort,
+                    at
+                }))
+            );
             if at < 99 {
                 at += 1;
             }

@@ -23,6 +23,8 @@ pub loop-i-preserved : goal.loop-i-preserved
 loop-i-preserved c =
     let item = row_of c.args.dtypes.now in
     let due = items_from item c.args.count c.args.at (map tokens_of c.args.lines.now) in
-    let shorter = ap length c.in-Some.ensures in
-    (rows_more due item c.loop-i.cells.items c.read_row.new.out.items c.args.count c.loop-i.i c.args.at (tokens_of c.in-Some.line.now) (map tokens_of c.next.new.self) c.loop-i-test.true c.in_ok-read_row.ensures
-        (subst (λ (ls : List (List ℕ)). AreRowsSoFar due c.loop-i.cells.items (items_from item (c.args.count - c.loop-i.i) (c.args.at + c.loop-i.i) (map tokens_of ls))) c.in-Some.ensures c.loop-i.invariant.0), omega arith)
+    let shorter = ap length c.in-Some.ensures in (
+      rows_more due item c.loop-i.cells.items c.read_row.new.out.items c.args.count c.loop-i.i c.args.at (tokens_of c.in-Some.line.now) (map tokens_of c.next.new.self) c.loop-i-test.true c.in_ok-read_row.ensures
+          (subst (λ (ls : List (List ℕ)). AreRowsSoFar due c.loop-i.cells.items (items_from item (c.args.count - c.loop-i.i) (c.args.at + c.loop-i.i) (map tokens_of ls))) c.in-Some.ensures c.loop-i.invariant.0),
+      omega arith,
+    )
