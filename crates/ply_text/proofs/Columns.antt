@@ -1,5 +1,5 @@
 -- Columns head by head.
-use Rattle.std.proofs.Common.{◌≡◌, ℕ, ◌+◌, ◌<◌, ◌≤◌, Bool, true, All, List, [], ◌∷◌, ◌++◌, length, drop, get_or, refl, sym, ap, ◌∙◌, append_assoc, arith}
+use Rattle.std.proofs.Common.{◌≡◌, ℕ, ◌+◌, ◌<◌, ◌≤◌, Bool, true, All, List, ◌++◌, length, drop, get_or, sym, ap, ◌∙◌, append_assoc}
 use Rattle.std.specs.Prelude.{replicate}
 use Rattle.std.proofs.lemmas.List.{at_drop_more, at_drop_all, append-nil}
 use Rattle.ply_text.specs.declared.headers.PlyHead.{PlyHead}
@@ -14,11 +14,13 @@ pub record AreColumns (heads : List PlyHead) (types : List ℕ) (i : ℕ) : Type
 pub more_columns : (heads : List PlyHead) (types : List ℕ) (i : ℕ) (h : PlyHead) → i < length heads → h ≡ get_or heads i h → AreColumns heads types i
     → AreColumns heads (types ++ replicate h.comps (column_type h.dtype)) (i + 1)
 unfolding column_types
-more_columns heads types i h lt e so_far = record { whole =
-    append_assoc types (replicate h.comps (column_type h.dtype)) (column_types (drop (i + 1) heads))
-    ∙ ap (λ (x : PlyHead). types ++ (replicate x.comps (column_type x.dtype) ++ column_types (drop (i + 1) heads))) e
-    ∙ ap (λ (ts : List ℕ). types ++ ts) (sym (at_drop_more column_types heads i h lt))
-    ∙ so_far.whole }
+more_columns heads types i h lt e so_far = record {
+  whole =
+      append_assoc types (replicate h.comps (column_type h.dtype)) (column_types (drop (i + 1) heads))
+      ∙ ap (λ (x : PlyHead). types ++ (replicate x.comps (column_type x.dtype) ++ column_types (drop (i + 1) heads))) e
+      ∙ ap (λ (ts : List ℕ). types ++ ts) (sym (at_drop_more column_types heads i h lt))
+      ∙ so_far.whole;
+}
 
 pub all_columns : (heads : List PlyHead) (types : List ℕ) (i : ℕ) → length heads ≤ i → AreColumns heads types i → types ≡ column_types heads
 unfolding column_types

@@ -1,9 +1,8 @@
 -- Digits read from the left, up to a bound.
-use Rattle.std.proofs.Common.{◌≡◌, ℕ, suc, ◌+◌, ◌-◌, ◌*◌, ◌/◌, ◌<◌, ◌≤◌, Bool, true, false, cond, leb, ltb, ◌&&◌, List, [], ◌∷◌, length, take, drop, get_or, Option, Some, None, refl, sym, ap, ◌∙◌, inl, inr, arith}
+use Rattle.std.proofs.Common.{◌≡◌, ℕ, ◌+◌, ◌-◌, ◌*◌, ◌<◌, ◌≤◌, Bool, true, false, cond, leb, ◌&&◌, List, [], ◌∷◌, length, Option, Some, None, refl, sym, inl, inr, arith}
 use Rattle.std.specs.Prelude.{fold}
 use Rattle.std.specs.List.{list_all}
-use Rattle.std.proofs.lemmas.Bool.{cases_lt, cases_Bool, le-leb, lt-leb, lt-ltb, and_left, and_right}
-use Rattle.std.proofs.lemmas.List.{at_drop_more, at_drop_all}
+use Rattle.std.proofs.lemmas.Bool.{cases_lt, cases_Bool, le-leb, lt-leb, lt-ltb}
 use Rattle.ply_text.specs.Numbers.{is_digit, is_digits, digits_value, natural_of, only_if, natural_within}
 
 -- the number that the digits write when they follow those of n
@@ -34,10 +33,10 @@ within_after_is most n [] h = rw (le-leb n most h) refl
 within_after_is most n (c ∷ cs) h = elim (cases_Bool (is_digit c)) [
   | inr other ↦ rw (other) refl
   | inl digit ↦ elim (cases_lt most (n * 10 + (c - 48))) [
-      | inl past ↦ rw (digit, lt-leb (n * 10 + (c - 48)) most past) (sym (bounded_past most (value_after (n * 10 + (c - 48)) cs) (list_all is_digit cs) (omega (arith, le_value_after (n * 10 + (c - 48)) cs))))
-      | inr le ↦ rw (digit, le-leb (n * 10 + (c - 48)) most le) (within_after_is most (n * 10 + (c - 48)) cs le)
-    ]
+    | inl past ↦ rw (digit, lt-leb (n * 10 + (c - 48)) most past) (sym (bounded_past most (value_after (n * 10 + (c - 48)) cs) (list_all is_digit cs) (omega (arith, le_value_after (n * 10 + (c - 48)) cs))))
+    | inr le ↦ rw (digit, le-leb (n * 10 + (c - 48)) most le) (within_after_is most (n * 10 + (c - 48)) cs le)
   ]
+]
 
 pub natural_within_is : (most : ℕ) (token : List ℕ) → 0 < length token → natural_within most token ≡ within_after most 0 token
 unfolding natural_within natural_of is_digits digits_value

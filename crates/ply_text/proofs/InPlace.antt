@@ -1,10 +1,9 @@
 -- Digits at a place of a line, and the token that they are or end.
-use Rattle.std.proofs.Common.{◌≡◌, ℕ, zero, suc, ◌+◌, ◌-◌, ◌*◌, ◌<◌, ◌≤◌, Bool, true, false, ◌&&◌, leb, List, [], ◌∷◌, ◌++◌, length, take, drop, get_or, Option, Some, None, refl, sym, ap, subst, ◌∙◌, inl, inr, arith}
-use Rattle.std.specs.Prelude.{fold, ℤ, pos, neg_ℤ, option_map}
+use Rattle.std.proofs.Common.{◌≡◌, ℕ, suc, ◌+◌, ◌-◌, ◌*◌, ◌<◌, ◌≤◌, true, false, leb, List, [], ◌∷◌, ◌++◌, length, take, drop, get_or, Some, refl, sym, ap, ◌∙◌, inl, inr, arith}
+use Rattle.std.specs.Prelude.{fold, pos, neg_ℤ, option_map}
 use Rattle.std.specs.List.{list_all}
-use Rattle.std.proofs.lemmas.Bool.{cases_lt, le-leb, lt-ltb, leb-true, ne_eqb, eq-eqb, cases_Bool, and_parts}
-use Rattle.std.proofs.lemmas.Bool.Decides.{nat_tests}
-use Rattle.std.proofs.lemmas.List.{take_more, drop_more, get_or-drop, get_or-take, get_or_default, length-take, length-drop}
+use Rattle.std.proofs.lemmas.Bool.{cases_lt, le-leb, lt-ltb, leb-true, ne_eqb, and_parts}
+use Rattle.std.proofs.lemmas.List.{take_more, drop_more, get_or-drop, get_or-take, length-take, length-drop}
 use Rattle.ply_text.specs.Tokens.{is_blank, tokens_of}
 use Rattle.ply_text.specs.Numbers.{is_digit, is_digits, digits_value, natural_of, integer_of, first_integer}
 use Rattle.ply_text.specs.InPlace.{AreDigits}
@@ -49,13 +48,15 @@ digit_solid c h =
     rw (ne_eqb c 32 (λ e. omega arith)) (ne_eqb c 9 (λ e. omega arith))
 
 digits_solid : (line : List ℕ) (i j n : ℕ) → i ≤ j → j ≤ length line → AreDigits line i j n → IsSolid line i j
-digits_solid line i j n le in' h = record { solid = λ k from below.
-    let t = take (j - i) (drop i line) in
-    let short : k - i < j - i = omega arith in
-    let inside : k - i < length t = omega (arith, length-take (j - i) (drop i line), length-drop i line) in
-    let at : i + (k - i) ≡ k = omega arith in
-    let e : get_or t (k - i) 0 ≡ get_or line k 0 = get_or-take (j - i) (drop i line) (k - i) 0 short ∙ get_or-drop i line (k - i) 0 ∙ ap (λ m. get_or line m 0) at in
-    ap is_blank (sym e) ∙ digit_solid (get_or t (k - i) 0) (AllPass-from_list_all is_digit t h.digits (k - i) 0 inside) }
+digits_solid line i j n le in' h = record {
+  solid = λ k from below.
+      let t = take (j - i) (drop i line) in
+      let short : k - i < j - i = omega arith in
+      let inside : k - i < length t = omega (arith, length-take (j - i) (drop i line), length-drop i line) in
+      let at : i + (k - i) ≡ k = omega arith in
+      let e : get_or t (k - i) 0 ≡ get_or line k 0 = get_or-take (j - i) (drop i line) (k - i) 0 short ∙ get_or-drop i line (k - i) 0 ∙ ap (λ m. get_or line m 0) at in
+      ap is_blank (sym e) ∙ digit_solid (get_or t (k - i) 0) (AllPass-from_list_all is_digit t h.digits (k - i) 0 inside);
+}
 
 digits_natural : (t : List ℕ) → 0 < length t → list_all is_digit t ≡ true → natural_of t ≡ Some (digits_value t)
 unfolding natural_of is_digits
@@ -83,10 +84,12 @@ minus_at line i j n minus h lt in' stops =
     let ds = take (j - (i + 1)) (drop (i + 1) line) in
     let long : 0 < length ds = omega (arith, length-take (j - (i + 1)) (drop (i + 1) line), length-drop (i + 1) line) in
     let rest = digits_solid line (i + 1) j n (omega arith) in' h in
-    let whole : IsSolid line i j = record { solid = λ k from below. elim (cases_lt i k) [
-      | inl after ↦ rest.solid k (omega arith) below
-      | inr at ↦ let e : k ≡ i = omega arith in ap (λ m. is_blank (get_or line m 0)) e ∙ ap is_blank minus
-      ] } in
+    let whole : IsSolid line i j = record {
+      solid = λ k from below. elim (cases_lt i k) [
+        | inl after ↦ rest.solid k (omega arith) below
+        | inr at ↦ let e : k ≡ i = omega arith in ap (λ m. is_blank (get_or line m 0)) e ∙ ap is_blank minus
+      ];
+    } in
     let n-is : j - i ≡ suc (j - (i + 1)) = omega arith in
     let front : take (j - i) (drop i line) ≡ 45 ∷ ds = ap (λ k. take k (drop i line)) n-is ∙ ap (take (suc (j - (i + 1)))) (drop_more line i 0 (omega arith)) ∙ ap (λ c. c ∷ ds) minus in
     let taken = takes_token line i j (omega arith) in' whole stops ∙ ap (λ (t : List ℕ). t ∷ tokens_of (drop j line)) front in

@@ -1,5 +1,5 @@
 -- Attributes that are named from the left.
-use Rattle.std.proofs.Common.{◌≡◌, ℕ, zero, suc, ◌+◌, ◌-◌, ◌<◌, ◌≤◌, List, [], ◌∷◌, ◌++◌, length, drop, get_or, refl, sym, ap, ◌∙◌, append_assoc, arith}
+use Rattle.std.proofs.Common.{◌≡◌, ℕ, zero, suc, ◌+◌, ◌-◌, ◌<◌, ◌≤◌, List, [], ◌∷◌, ◌++◌, length, drop, get_or, sym, ap, ◌∙◌, append_assoc, arith}
 use Rattle.std.proofs.lemmas.List.{at_drop_more, at_drop_all, append-nil, length-append, length_push, drop_more}
 use Rattle.ply_text.specs.declared.headers.PlyHead.{PlyHead}
 use Rattle.ply_text.specs.declared.headers.Property.{Property}
@@ -34,11 +34,13 @@ pub adds : (ps : List Property) (heads : List PlyHead) (i : ℕ) (p : Property) 
 adds ps heads i p lt e h =
     let head = named_head (length heads) p.dtype (run_of p.dtype (drop i ps)) in
     let skip = (run_of p.dtype (drop i ps)).1 - 1 in
-    record { whole =
-        ap (λ (k : ℕ). (heads ++ head ∷ []) ++ named_heads k skip (drop (i + 1) ps)) (length_push heads head)
-        ∙ append_assoc heads (head ∷ []) (named_heads (length heads + 1) skip (drop (i + 1) ps))
-        ∙ ap (λ (hs : List PlyHead). heads ++ hs) (sym (first_is ps (length heads) i p lt e))
-        ∙ h.whole }
+    record {
+      whole =
+          ap (λ (k : ℕ). (heads ++ head ∷ []) ++ named_heads k skip (drop (i + 1) ps)) (length_push heads head)
+          ∙ append_assoc heads (head ∷ []) (named_heads (length heads + 1) skip (drop (i + 1) ps))
+          ∙ ap (λ (hs : List PlyHead). heads ++ hs) (sym (first_is ps (length heads) i p lt e))
+          ∙ h.whole;
+    }
 
 pub too_many : (ps : List Property) (heads : List PlyHead) (i : ℕ) → i < length ps → IsNamedSoFar ps heads 0 i → 16 ≤ length heads → 16 < length (named_heads 0 0 ps)
 too_many ps heads i lt h many =

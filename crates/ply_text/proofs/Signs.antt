@@ -1,6 +1,6 @@
 -- Numbers with a sign, up to bounds.
-use Rattle.std.proofs.Common.{◌≡◌, ℕ, zero, suc, ◌+◌, ◌<◌, ◌≤◌, Bool, true, false, cond, leb, eqb, List, [], ◌∷◌, length, drop, get_or, Option, Some, None, refl, sym, ap, ◌∙◌, inl, inr, arith}
-use Rattle.std.specs.Prelude.{ℤ, pos, negsuc, neg_ℤ, option_map, int_le, nat_le, ◌&&◌}
+use Rattle.std.proofs.Common.{◌≡◌, ℕ, zero, suc, ◌<◌, Bool, true, false, cond, leb, List, [], ◌∷◌, length, drop, get_or, Option, Some, None, refl, sym, ap, ◌∙◌, inl, inr, arith}
+use Rattle.std.specs.Prelude.{ℤ, pos, neg_ℤ, option_map, ◌&&◌}
 use Rattle.std.proofs.lemmas.Bool.{eq-eqb, ne_eqb, cases_lt, le-leb, lt-leb}
 use Rattle.ply_text.specs.Numbers.{natural_of, integer_of, only_if, natural_within, is_between}
 
@@ -16,7 +16,7 @@ leb-suc : (n b : ℕ) → leb n b ≡ leb (suc n) (suc b)
 leb-suc n b = elim (cases_lt b n) [
   | inl lt ↦ lt-leb n b lt ∙ sym (lt-leb (suc n) (suc b) (omega arith))
   | inr le ↦ le-leb n b le ∙ sym (le-leb (suc n) (suc b) (omega arith))
-  ]
+]
 
 pub minus_between : (below most n : ℕ) → is_between below most (neg_ℤ (pos n)) ≡ leb n below
 minus_between zero most zero = le-leb 0 most (omega arith)

@@ -1,6 +1,6 @@
 -- What the lines of a header have declared so far, and what one more line adds or which fault it has
 -- (PLY 1.0, in this project's profile; the order of the tests is this project's choice).
-use Rattle.std.specs.Prelude.{ℕ, ◌++◌, ◌&&◌, Bool, true, List, [], ◌∷◌, length, Option, None, Some, Result, Ok, codes, nat_le, is_none, is_some, if◌then◌else◌}
+use Rattle.std.specs.Prelude.{ℕ, ◌++◌, ◌&&◌, Bool, true, List, [], ◌∷◌, length, Option, Some, Result, Ok, codes, nat_le, is_none, is_some, if◌then◌else◌}
 use Rattle.std.specs.Str.{bytes_eq}
 use Rattle.drc_base.specs.declared.faults.Fault.{Fault}
 use Rattle.drc_base.specs.declared.kinds.Kind.TheVariants.{PlyFormat, PlyHeader, PlyType, PlyElement, PlyAttr, PointLimit, FaceLimit, AttrLimit}
@@ -47,8 +47,8 @@ element at d line = do
   if bytes_eq e.0 (codes "vertex") && is_none d.vertices
       then (or_refuse PointLimit at (natural_within MAX_POINTS e.1) >>= λ n. Ok (record d { vertices = Some n }))
       else (if bytes_eq e.0 (codes "face") && in_vertex d
-          then (or_refuse FaceLimit at (natural_within MAX_FACES e.1) >>= λ n. Ok (record d { faces = Some n }))
-          else refuse PlyElement at)
+      then (or_refuse FaceLimit at (natural_within MAX_FACES e.1) >>= λ n. Ok (record d { faces = Some n }))
+      else refuse PlyElement at)
 
 -- a property of numbers: its form, then its type, then its place
 unfoldable pub scalar : ℕ → Draft → List (List ℕ) → Result Draft Fault

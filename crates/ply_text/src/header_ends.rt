@@ -13,7 +13,9 @@ use crate::headers::{Header, PlyHead, Property};
 use crate::named_heads::named_heads;
 use crate::statements::is_alone;
 use crate::words::is_word;
-use drc_base::{Kind, MAX_ATTRIBUTES, MAX_FACES, MAX_POINTS, MAX_VALUES, Memory, Refusal, Sequence};
+use drc_base::{
+    Kind, MAX_ATTRIBUTES, MAX_FACES, MAX_POINTS, MAX_VALUES, Memory, Refusal, Sequence,
+};
 use std::alloc::Global;
 use std::mem;
 
@@ -164,14 +166,7 @@ fn header_by(
     if vertices as u128 * draft.properties.len() as u128 > MAX_VALUES as u128 {
         return Err(refusal(Kind::ValueLimit, at));
     }
-    Ok(header_made(
-        heads,
-        vertices,
-        draft.faces,
-        types,
-        draft.list,
-        at + 1,
-    ))
+    Ok(header_made(heads, vertices, draft.faces, types, draft.list, at + 1))
 }
 
 /// The header that ends at this line.

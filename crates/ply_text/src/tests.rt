@@ -6,6 +6,7 @@ use std::alloc::Global;
 use std::test::Fail;
 
 const START: &str = "ply\nformat ascii 1.0\n";
+
 const POINT: &str = "ply\nformat ascii 1.0\nelement vertex 1\nproperty int q\n";
 
 /// The header of a text in two pieces.
@@ -20,7 +21,12 @@ fn heads_text(alloc: Global, header: &Header) -> Result<Vec<u8>, Refusal> {
     let mut text = Vec::new(alloc);
     let heads = header.heads.as_slice();
     for k in 0..heads.len() {
-        for n in [heads[k].usage, heads[k].comps, heads[k].normalized, heads[k].dtype] {
+        for n in [
+            heads[k].usage,
+            heads[k].comps,
+            heads[k].normalized,
+            heads[k].dtype,
+        ] {
             put_int(&mut text, n as i64)?;
         }
         put_int(&mut text, heads[k].id as i64)?;
@@ -75,17 +81,29 @@ fn reads_and_writes_numbers(rt: HostRuntime) -> Result<(), Fail> {
         put_int(&mut text, number)?;
         text.push(b' ')?;
     }
-    assert_eq!(rt; text.as_slice(), b"n 0 -1 1048576 -9223372036854775808 ".as_slice());
+    assert_eq!(rt;
+        text.as_slice(),
+        b"n 0 -1 1048576 -9223372036854775808 ".as_slice()
+    );
     Ok(())
 }
 
 #[test]
 fn reads_a_scanned_header(rt: HostRuntime) -> Result<(), Fail> {
     let alloc = rt.alloc();
-    let h = read_header(alloc, b"ply\r\nformat ascii 1.0\r\ncomment made by a scanner\r\nobj_info part 7\r\ncomment drc attr 0 0 9 3 0 0\r\ncomment drc attr 1 2 2 3 1 1\r\ncomment drc quant 0 11 3F800000 00000000 00000000 bf800000\r\nelement vertex 4\r\nproperty int x\r\nproperty int y\r\nproperty int32 z\r\nproperty uchar red\r\nproperty uint8 green\r\nproperty uchar blue\r\nelement face 2\r\nproperty list uchar int vertex_index\r\nend_header\r\n0 0 1023 255 0 0\r\n")?;
-    assert_eq!(rt; (h.vertices, h.faces, h.list, h.body_line), (4, Some(2), Some((2, 5)), 18));
+    let h = read_header(
+        alloc,
+        b"ply\r\nformat ascii 1.0\r\ncomment made by a scanner\r\nobj_info part 7\r\ncomment drc attr 0 0 9 3 0 0\r\ncomment drc attr 1 2 2 3 1 1\r\ncomment drc quant 0 11 3F800000 00000000 00000000 bf800000\r\nelement vertex 4\r\nproperty int x\r\nproperty int y\r\nproperty int32 z\r\nproperty uchar red\r\nproperty uint8 green\r\nproperty uchar blue\r\nelement face 2\r\nproperty list uchar int vertex_index\r\nend_header\r\n0 0 1023 255 0 0\r\n",
+    )?;
+    assert_eq!(rt;
+        (h.vertices, h.faces, h.list, h.body_line),
+        (4, Some(2), Some((2, 5)), 18)
+    );
     assert_eq!(rt; h.types.as_slice(), [5, 5, 5, 2, 2, 2].as_slice());
-    assert_eq!(rt; heads_text(alloc, &h)?.as_slice(), b"03090 23121 ".as_slice());
+    assert_eq!(rt;
+        heads_text(alloc, &h)?.as_slice(),
+        b"03090 23121 ".as_slice()
+    );
     for head in h.heads.into_vec() {
         if let Some(quant) = head.quant {
             assert_eq!(rt; (quant.bits, quant.range), (11, 0x3f80_0000));
@@ -99,12 +117,30 @@ fn reads_a_scanned_header(rt: HostRuntime) -> Result<(), Fail> {
 fn makes_heads_of_names(rt: HostRuntime) -> Result<(), Fail> {
     let alloc = rt.alloc();
     for (properties, heads) in [
-        ("property int x\nproperty int y\nproperty int32 z\n", "03050 "),
-        ("property int x\nproperty int y\nproperty uint z\n", "41050 41051 41062 "),
-        ("property char nx\nproperty char ny\nproperty char nz\nproperty int x\n", "13010 41051 "),
-        ("property uchar red\nproperty uchar green\nproperty uchar blue\nproperty uchar alpha\n", "24120 "),
-        ("property uchar red\nproperty uchar green\nproperty uchar blue\nproperty char alpha\n", "23120 41011 "),
-        ("property short s\nproperty short t\nproperty ushort u\nproperty ushort v\n", "32030 32041 "),
+        (
+            "property int x\nproperty int y\nproperty int32 z\n",
+            "03050 ",
+        ),
+        (
+            "property int x\nproperty int y\nproperty uint z\n",
+            "41050 41051 41062 ",
+        ),
+        (
+            "property char nx\nproperty char ny\nproperty char nz\nproperty int x\n",
+            "13010 41051 ",
+        ),
+        (
+            "property uchar red\nproperty uchar green\nproperty uchar blue\nproperty uchar alpha\n",
+            "24120 ",
+        ),
+        (
+            "property uchar red\nproperty uchar green\nproperty uchar blue\nproperty char alpha\n",
+            "23120 41011 ",
+        ),
+        (
+            "property short s\nproperty short t\nproperty ushort u\nproperty ushort v\n",
+            "32030 32041 ",
+        ),
         ("property short s\nproperty short v\n", "41030 41031 "),
     ] {
         let mut text = b"element vertex 0\n".as_slice().to_vec(alloc)?;
@@ -142,20 +178,60 @@ fn refuses_the_first_fault(rt: HostRuntime) -> Result<(), Fail> {
         (START, "property float\n", Kind::PlyHeader, 3),
         (START, "property float x\n", Kind::PlyType, 3),
         (START, "property int x\n", Kind::PlyElement, 3),
-        (START, "property list uchar float vertex_indices\n", Kind::PlyType, 3),
-        (START, "property list uchar int vertex_indices\n", Kind::PlyElement, 3),
+        (
+            START,
+            "property list uchar float vertex_indices\n",
+            Kind::PlyType,
+            3,
+        ),
+        (
+            START,
+            "property list uchar int vertex_indices\n",
+            Kind::PlyElement,
+            3,
+        ),
         (START, "end_header 1\n", Kind::PlyHeader, 3),
         (START, "end_header\n", Kind::PlyElement, 3),
-        (START, "element vertex 1\nelement vertex 1\n", Kind::PlyElement, 4),
+        (
+            START,
+            "element vertex 1\nelement vertex 1\n",
+            Kind::PlyElement,
+            4,
+        ),
         (START, "element vertex 1\nend_header\n", Kind::PlyElement, 4),
         (POINT, "", Kind::PlyShort, 5),
-        (POINT, "property list uchar int vertex_indices\n", Kind::PlyType, 5),
+        (
+            POINT,
+            "property list uchar int vertex_indices\n",
+            Kind::PlyType,
+            5,
+        ),
         (POINT, "element face 1048577\n", Kind::FaceLimit, 5),
         (POINT, "element face 1\nend_header\n", Kind::PlyElement, 6),
-        (POINT, "element face 1\nproperty float q\n", Kind::PlyType, 6),
-        (POINT, "element face 1\nproperty int q\n", Kind::PlyElement, 6),
-        (POINT, "element face 1\nproperty list uchar int q\n", Kind::PlyElement, 6),
-        (POINT, "element face 1\nelement face 1\n", Kind::PlyElement, 6),
+        (
+            POINT,
+            "element face 1\nproperty float q\n",
+            Kind::PlyType,
+            6,
+        ),
+        (
+            POINT,
+            "element face 1\nproperty int q\n",
+            Kind::PlyElement,
+            6,
+        ),
+        (
+            POINT,
+            "element face 1\nproperty list uchar int q\n",
+            Kind::PlyElement,
+            6,
+        ),
+        (
+            POINT,
+            "element face 1\nelement face 1\n",
+            Kind::PlyElement,
+            6,
+        ),
     ] {
         let answer = header(alloc, start, rest).err();
         assert_eq!(rt; answer, Some(Refusal::Fault(Fault { kind, at })));
@@ -177,22 +253,49 @@ fn refuses_wrong_lines_of_attributes(rt: HostRuntime) -> Result<(), Fail> {
         ("comment drc attr 0 4 5 1 0\n", 5),
         ("comment drc attr 0 4 5 1 0 -0\n", 5),
         ("comment drc quant 0 11 3f800000 00000000\n", 5),
-        ("comment drc attr 0 4 9 1 0 0\ncomment drc quant 0 31 3f800000 00000000\n", 6),
-        ("comment drc attr 0 4 9 1 0 0\ncomment drc quant 0 11 3f800000 0000000g\n", 6),
-        ("comment drc attr 0 4 9 1 0 0\ncomment drc quant 0 11 3f800000 0000000\n", 6),
-        ("comment drc attr 0 4 9 1 0 0\ncomment drc quant 0 11 3f800000\n", 6),
-        ("comment drc attr 0 4 9 1 0 0\ncomment drc quant 0 11 3f800000 00000000\ncomment drc quant 0 11 3f800000 00000000\n", 7),
+        (
+            "comment drc attr 0 4 9 1 0 0\ncomment drc quant 0 31 3f800000 00000000\n",
+            6,
+        ),
+        (
+            "comment drc attr 0 4 9 1 0 0\ncomment drc quant 0 11 3f800000 0000000g\n",
+            6,
+        ),
+        (
+            "comment drc attr 0 4 9 1 0 0\ncomment drc quant 0 11 3f800000 0000000\n",
+            6,
+        ),
+        (
+            "comment drc attr 0 4 9 1 0 0\ncomment drc quant 0 11 3f800000\n",
+            6,
+        ),
+        (
+            "comment drc attr 0 4 9 1 0 0\ncomment drc quant 0 11 3f800000 00000000\ncomment drc quant 0 11 3f800000 00000000\n",
+            7,
+        ),
         ("comment drc attr 0 4 6 1 0 0\nend_header\n", 6),
         ("comment drc attr 0 4 5 2 0 0\nend_header\n", 6),
         ("comment drc attr 0 4 9 1 0 0\nend_header\n", 6),
-        ("comment drc attr 0 4 5 1 0 0\ncomment drc quant 0 11 3f800000 00000000\nend_header\n", 7),
+        (
+            "comment drc attr 0 4 5 1 0 0\ncomment drc quant 0 11 3f800000 00000000\nend_header\n",
+            7,
+        ),
     ] {
         let kind = Kind::PlyAttr;
-        assert_eq!(rt; header(alloc, POINT, rest).err(), Some(Refusal::Fault(Fault { kind, at })));
+        assert_eq!(rt;
+            header(alloc, POINT, rest).err(),
+            Some(Refusal::Fault(Fault { kind, at }))
+        );
     }
     for (rest, heads) in [
-        ("comment drc attr 00 04 005 01 0255 04294967295\nend_header\n", "4125554294967295 "),
-        ("comment drc other\ncomment drc attr 0 4 9 1 0 0\ncomment drc quant 00 030 ffFFffFF 00000000\nend_header\n", "41090 "),
+        (
+            "comment drc attr 00 04 005 01 0255 04294967295\nend_header\n",
+            "4125554294967295 ",
+        ),
+        (
+            "comment drc other\ncomment drc attr 0 4 9 1 0 0\ncomment drc quant 00 030 ffFFffFF 00000000\nend_header\n",
+            "41090 ",
+        ),
     ] {
         let h = header(alloc, POINT, rest)?;
         assert_eq!(rt; heads_text(alloc, &h)?.as_slice(), heads.as_bytes());
@@ -221,8 +324,14 @@ fn takes_sixteen_attributes(rt: HostRuntime) -> Result<(), Fail> {
     let alloc = rt.alloc();
     let kind = Kind::AttrLimit;
     assert_eq!(rt; many(alloc, 16, 16)?, None);
-    assert_eq!(rt; many(alloc, 17, 17)?, Some(Refusal::Fault(Fault { kind, at: 19 })));
+    assert_eq!(rt;
+        many(alloc, 17, 17)?,
+        Some(Refusal::Fault(Fault { kind, at: 19 }))
+    );
     assert_eq!(rt; many(alloc, 0, 16)?, None);
-    assert_eq!(rt; many(alloc, 0, 17)?, Some(Refusal::Fault(Fault { kind, at: 21 })));
+    assert_eq!(rt;
+        many(alloc, 0, 17)?,
+        Some(Refusal::Fault(Fault { kind, at: 21 }))
+    );
     Ok(())
 }
