@@ -1,19 +1,17 @@
 -- Rows and faces that are written are read again.
-use Rattle.std.proofs.Common.{◌≡◌, ℕ, zero, suc, ◌+◌, ◌-◌, ◌<◌, ◌≤◌, ◌^◌, Bool, true, false, ◌&&◌, cond, leb, ltb, eqb, List, [], ◌∷◌, ◌++◌, length, get_or, map, All, Option, Some, None, Result, Ok, Err, refl, sym, ap, subst, ◌∙◌, arith}
-use Rattle.std.specs.Prelude.{ℤ, pos, negsuc, int_le, IsTrue}
+use Rattle.std.proofs.Common.{◌≡◌, ℕ, suc, ◌+◌, ◌<◌, ◌≤◌, ◌^◌, true, cond, eqb, List, [], ◌∷◌, ◌++◌, length, get_or, map, Some, None, Result, Ok, refl, sym, ap, ◌∙◌, arith}
+use Rattle.std.specs.Prelude.{ℤ, pos, negsuc, int_le}
 use Rattle.std.specs.List.{AllByRecursion}
-use Rattle.std.specs.Fmt.{decimal, signed_decimal}
+use Rattle.std.specs.Fmt.{signed_decimal}
 use Rattle.std.proofs.lemmas.Bool.{cond_both, leb-true, lt-ltb, le-leb, eq-eqb, and_parts, false≢true}
 use Rattle.std.proofs.lemmas.List.{length-map}
-use Rattle.std.proofs.lemmas.List.Elements.{recursion_from_All}
 use Rattle.drc_base.specs.declared.faults.Fault.{Fault}
 use Rattle.mesh_model.specs.declared.heads.Head.{Head}
-use Rattle.mesh_model.specs.Head.{width_of, types_of, in_type, least_of, greatest_of}
+use Rattle.mesh_model.specs.Head.{types_of, in_type, least_of, greatest_of}
 use Rattle.mesh_model.specs.Parts.{RowFits, IsFaceOf}
-use Rattle.ply_text.specs.Faults.{or_refuse, ◌>>=◌}
 use Rattle.ply_text.specs.Numbers.{integer_of, only_if, natural_of, is_digits, digits_value}
 use Rattle.ply_text.specs.Header.{column_type}
-use Rattle.ply_mesh.specs.Body.{number_of, numbers_of, row_of, points_of, indices_of, face_of, items_from}
+use Rattle.ply_mesh.specs.Body.{number_of, numbers_of, row_of, indices_of, face_of, items_from}
 use Rattle.ply_mesh.specs.Text.{face_line}
 use Rattle.ply_mesh.proofs.NumberTexts.{IsSmall, integer_again}
 use Rattle.ply_mesh.proofs.WellFormed.{IsTyped, column_same, length-types_of}

@@ -1,17 +1,15 @@
 -- A body part by part.
-use Rattle.std.proofs.Common.{◌≡◌, ℕ, ◌+◌, ◌-◌, drop, List, [], ◌∷◌, map, Option, Some, None, Result, Ok, Err, refl, sym, ap, subst, ◌∙◌, add-zero, arith}
+use Rattle.std.proofs.Common.{◌≡◌, ℕ, ◌+◌, ◌-◌, drop, List, map, Option, Some, None, Result, Ok, Err, refl, sym, ap, ◌∙◌, add-zero}
 use Rattle.std.specs.Prelude.{ℤ, unwrap_or}
 use Rattle.drc_base.specs.declared.faults.Fault.{Fault}
 use Rattle.drc_base.specs.declared.faults.Refusal.{Refusal}
 use Rattle.drc_base.specs.declared.faults.Refusal.TheVariants as refusal
 use Rattle.drc_base.specs.Refusals.{Refuses}
-use Rattle.mesh_model.specs.declared.heads.Head.{Head}
-use Rattle.mesh_model.specs.declared.geometries.Geometry.{Geometry}
 use Rattle.mesh_model.specs.declared.geometries.Geometry.TheVariants.{Mesh, Cloud}
 use Rattle.ply_text.specs.declared.headers.Header.{Header}
 use Rattle.ply_text.specs.Faults.{◌>>=◌}
 use Rattle.ply_mesh.specs.Body.{row_of, face_of, items_from, ends}
-use Rattle.ply_mesh.specs.Read.{head_of, geometry_of, faces_from, body_of, ply_read}
+use Rattle.ply_mesh.specs.Read.{head_of, geometry_of, body_of, ply_read}
 use Rattle.std.specs.Str.Lines.{lines}
 use Rattle.std.proofs.lemmas.List.{drop-map}
 use Rattle.ply_text.specs.Tokens.{tokens_of, token_lines}

@@ -1,16 +1,15 @@
 -- Faces that are read token by token.
-use Rattle.std.proofs.Common.{◌≡◌, ℕ, zero, suc, ◌+◌, ◌<◌, ◌≤◌, Bool, true, false, cond, List, [], ◌∷◌, length, drop, get_or, map, Option, Some, None, Result, Ok, Err, refl, sym, ap, subst, ◌∙◌, arith}
-use Rattle.std.specs.Prelude.{ℤ, pos, option_and_then}
+use Rattle.std.proofs.Common.{◌≡◌, ℕ, ◌<◌, true, cond, List, [], ◌∷◌, length, drop, get_or, Option, Some, Ok, Err, refl, sym, ap, ◌∙◌, arith}
+use Rattle.std.specs.Prelude.{ℤ, pos}
 use Rattle.std.specs.Borrow.{Bor}
 use Rattle.std.specs.Ordering.{int_eq}
 use Rattle.std.proofs.lemmas.Bool.{ne_eqb}
 use Rattle.std.proofs.lemmas.List.{length-map}
-use Rattle.drc_base.specs.declared.faults.Fault.{Fault}
 use Rattle.drc_base.specs.declared.kinds.Kind.TheVariants.{PlyRow, PlyNumber, PlyFace}
 use Rattle.ply_text.specs.Faults.{or_refuse, ◌>>=◌}
 use Rattle.ply_text.specs.Tokens.{tokens_of}
-use Rattle.ply_text.specs.Numbers.{integer_of, first_integer, is_between}
-use Rattle.ply_mesh.specs.Body.{IsRange, number_of, numbers_of, points_of, indices_of, count_of, counted_face, face_of, texts}
+use Rattle.ply_text.specs.Numbers.{first_integer, is_between}
+use Rattle.ply_mesh.specs.Body.{IsRange, numbers_of, points_of, indices_of, count_of, counted_face, face_of, texts}
 use Rattle.ply_mesh.proofs.Types.{number_in}
 use Rattle.ply_mesh.proofs.RowSteps.{first_parts}
 

@@ -1,16 +1,15 @@
 -- The last steps of reading: the geometry is made, and never refused.
-use Rattle.std.proofs.Common.{◌≡◌, ℕ, ◌+◌, List, [], ◌∷◌, map, Option, Some, None, Result, Ok, Err, refl, sym, ap, subst, ◌∙◌}
+use Rattle.std.proofs.Common.{◌≡◌, ℕ, ◌+◌, List, map, Some, None, Result, Ok, Err, sym, ap, ◌∙◌}
 use Rattle.std.specs.Prelude.{ℤ, unwrap_or}
-use Rattle.drc_base.specs.declared.faults.Fault.{Fault}
 use Rattle.drc_base.specs.declared.faults.Refusal.{Refusal}
 use Rattle.mesh_model.specs.declared.heads.Head.{Head}
 use Rattle.mesh_model.specs.declared.geometries.Geometry.{Geometry}
 use Rattle.mesh_model.specs.declared.geometries.Geometry.TheVariants.{Mesh, Cloud}
 use Rattle.mesh_model.specs.FirstFault.{answer_of}
-use Rattle.mesh_model.specs.Parts.{MeshParts, CloudParts, AreRows, cells_of, cloud_of, mesh_of}
+use Rattle.mesh_model.specs.Parts.{MeshParts, CloudParts, AreRows, cloud_of, mesh_of}
 use Rattle.ply_text.specs.declared.headers.Header.{Header}
 use Rattle.ply_text.specs.IsHeader.{IsHeader}
-use Rattle.ply_mesh.specs.Body.{row_of, face_of, items_from, ends, AreRowsRead}
+use Rattle.ply_mesh.specs.Body.{face_of, items_from, ends, AreRowsRead}
 use Rattle.ply_mesh.specs.Read.{head_of, body_of}
 use Rattle.ply_mesh.proofs.WellFormed.{cloud_fits, mesh_fits}
 use Rattle.ply_mesh.proofs.BodySteps.{rows_from, cloud_from, mesh_ends}

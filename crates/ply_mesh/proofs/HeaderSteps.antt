@@ -1,26 +1,22 @@
 -- A header that is written is read line by line.
-use Rattle.std.proofs.Common.{◌≡◌, ℕ, zero, suc, ◌+◌, ◌-◌, ◌*◌, ◌<◌, ◌≤◌, ◌^◌, Bool, true, false, ◌&&◌, ◌||◌, cond, leb, ltb, eqb, List, [], ◌∷◌, ◌++◌, length, map, Option, Some, None, Result, Ok, Err, refl, sym, ap, subst, ◌∙◌, append_assoc, inl, inr, arith}
-use Rattle.std.specs.Prelude.{codes, option_map, option_and_then, is_none, is_some, IfSome, slice_get, replicate}
-use Rattle.std.specs.List.{AllByRecursion, flat_map}
+use Rattle.std.proofs.Common.{◌≡◌, ℕ, zero, suc, ◌+◌, ◌-◌, ◌<◌, ◌≤◌, ◌^◌, Bool, true, false, leb, List, [], ◌∷◌, ◌++◌, length, map, Option, Some, None, Ok, refl, sym, ap, subst, ◌∙◌, append_assoc, arith}
+use Rattle.std.specs.Prelude.{codes, option_map, IfSome, slice_get}
+use Rattle.std.specs.List.{AllByRecursion}
 use Rattle.std.specs.Fmt.{decimal}
 use Rattle.std.specs.Str.{bytes_eq}
-use Rattle.std.proofs.lemmas.Bool.{lt-leb, le-leb, eq-eqb, leb-true, eqb-true, and_parts, and_from, and_right, or_cases, cases_Bool, false≢true}
+use Rattle.std.proofs.lemmas.Bool.{lt-leb, le-leb, eq-eqb, leb-true, eqb-true, and_parts, false≢true}
 use Rattle.std.proofs.lemmas.List.{length-append, append-nil}
-use Rattle.drc_base.specs.declared.faults.Fault.{Fault}
 use Rattle.drc_base.specs.declared.limits.TheConstants.{MAX_POINTS, MAX_FACES}
 use Rattle.mesh_model.specs.declared.heads.Head.{Head}
 use Rattle.mesh_model.specs.declared.heads.Quant.{Quant}
 use Rattle.mesh_model.specs.Head.{has_type, has_minima, has_bits}
 use Rattle.ply_text.specs.declared.headers.PlyHead.{PlyHead}
 use Rattle.ply_text.specs.declared.headers.PlyQuant.{PlyQuant}
-use Rattle.ply_text.specs.declared.headers.Header.{Header}
-use Rattle.ply_text.specs.Faults.{refuse, or_refuse, ◌>>=◌}
-use Rattle.ply_text.specs.Numbers.{natural_within, only_if, pattern_of}
-use Rattle.ply_text.specs.Words.{keyword_of, type_of, name_of, is_indices}
+use Rattle.ply_text.specs.Words.{keyword_of, type_of, is_indices}
 use Rattle.ply_text.specs.Comments.{is_form, is_dtype, head_of, attr_of, patterns_of, fields_of, quant_of, with_quant}
-use Rattle.ply_text.specs.Declarations.{is_format, keyword_at, element_of, is_list, scalar_of, list_of}
-use Rattle.ply_text.specs.Draft.{Draft, PropertyParts, property, element, scalar, list, attribute, quantisation, comment, declaration, body, statement}
-use Rattle.ply_text.specs.Header.{column_type, is_end, header_at, header_from}
+use Rattle.ply_text.specs.Declarations.{element_of, is_list, scalar_of, list_of}
+use Rattle.ply_text.specs.Draft.{Draft, PropertyParts, property, element, scalar, list, attribute, quantisation, comment, body, statement}
+use Rattle.ply_text.specs.Header.{column_type, is_end, header_from}
 use Rattle.ply_mesh.specs.Fields.{QuantFields, HasFields}
 use Rattle.ply_mesh.specs.Text.{pattern_text, attr_line, quant_line, quant_lines, head_lines, type_word, name_at, property_line, component_lines, property_lines, is_named, element_line, list_line}
 use Rattle.ply_mesh.proofs.Passed.{HeadPasses}

@@ -1,17 +1,16 @@
 -- Items that are read line by line.
-use Rattle.std.proofs.Common.{◌≡◌, ℕ, zero, suc, ◌+◌, ◌-◌, ◌<◌, ◌≤◌, List, [], ◌∷◌, ◌++◌, length, map, Result, Ok, Err, refl, sym, ap, subst, ◌∙◌, append_assoc, arith}
+use Rattle.std.proofs.Common.{◌≡◌, ℕ, suc, ◌+◌, ◌-◌, ◌<◌, ◌≤◌, List, [], ◌∷◌, ◌++◌, Result, Ok, Err, refl, sym, ap, ◌∙◌, append_assoc, arith}
 use Rattle.std.specs.Prelude.{ℤ}
-use Rattle.std.specs.List.{flat_map}
 use Rattle.std.proofs.lemmas.List.{append-nil}
 use Rattle.std.proofs.lemmas.List.Concat.{flat_map-append}
 use Rattle.drc_base.specs.declared.faults.Fault.{Fault}
 use Rattle.drc_base.specs.declared.faults.Refusal.{Refusal}
 use Rattle.drc_base.specs.declared.faults.Refusal.TheVariants as refusal
-use Rattle.drc_base.specs.declared.kinds.Kind.TheVariants.{PlyShort, PlyRest}
+use Rattle.drc_base.specs.declared.kinds.Kind.TheVariants.{PlyShort}
 use Rattle.drc_base.specs.Refusals.{Refuses}
 use Rattle.mesh_model.specs.Parts.{cells_of}
 use Rattle.ply_text.specs.Faults.{◌>>=◌}
-use Rattle.ply_mesh.specs.Body.{items_from, ends, Appends, AreRowsRead}
+use Rattle.ply_mesh.specs.Body.{items_from, Appends, AreRowsRead}
 
 -- items in front of those that are still read
 abbrev pub with_front : {A : Type 0} → List A → Result (List A × List (List (List ℕ))) Fault → Result (List A × List (List (List ℕ))) Fault

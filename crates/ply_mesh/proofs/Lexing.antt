@@ -1,14 +1,14 @@
 -- What is written is cut into its lines and tokens again.
-use Rattle.std.proofs.Common.{◌≡◌, ℕ, zero, suc, ◌+◌, ◌-◌, ◌<◌, ◌≤◌, Bool, true, false, ◌&&◌, cond, ltb, eqb, List, [], ◌∷◌, ◌++◌, length, get_or, take, map, All, refl, sym, ap, subst, ◌∙◌, append_assoc, arith}
-use Rattle.std.specs.List.{list_all, flat_map}
+use Rattle.std.proofs.Common.{◌≡◌, ℕ, zero, suc, ◌-◌, Bool, true, ◌&&◌, ltb, eqb, List, [], ◌∷◌, ◌++◌, length, get_or, take, map, refl, sym, ap, ◌∙◌, append_assoc, arith}
+use Rattle.std.specs.List.{list_all}
 use Rattle.std.specs.Str.Lines.{lines, strip_carriage_return}
 use Rattle.std.proofs.lemmas.Bool.{ltb-true, ne_eqb, and_parts, and_from, lt-ltb, cond-false}
 use Rattle.std.proofs.lemmas.List.{append-nil}
-use Rattle.std.proofs.lemmas.List.Sums.{AllPass-from_list_all, list_all-from_AllPass}
-use Rattle.ply_text.specs.Tokens.{is_blank, tokens_of, token_lines}
+use Rattle.std.proofs.lemmas.List.Sums.{AllPass-from_list_all}
+use Rattle.ply_text.specs.Tokens.{tokens_of, token_lines}
 use Rattle.ply_text.proofs.Splitting.{HasNoBlank, tokens_of-nil, tokens_of-one, tokens_of-first}
 use Rattle.ply_text.proofs.Cutting.{IsOneLine, lines-nil, lines-first}
-use Rattle.ply_mesh.specs.Text.{spaced, rest_text, line_text, text_of}
+use Rattle.ply_mesh.specs.Text.{spaced, line_text, text_of}
 use Rattle.ply_mesh.proofs.LineTexts.{rest_is}
 
 -- one byte or more, each above the space

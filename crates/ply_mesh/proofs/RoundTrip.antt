@@ -1,36 +1,33 @@
 -- What is written of a geometry is read as that geometry.
-use Rattle.std.proofs.Common.{◌≡◌, ℕ, zero, suc, ◌+◌, ◌-◌, ◌*◌, ◌<◌, ◌≤◌, ◌^◌, Bool, true, false, not, ◌&&◌, ◌||◌, cond, leb, ltb, eqb, List, [], ◌∷◌, ◌++◌, length, get_or, drop, map, All, Option, Some, None, Result, Ok, Err, refl, sym, ap, subst, ◌∙◌, append_assoc, arith}
-use Rattle.std.specs.Prelude.{codes, ℤ, pos, option_map, is_some, is_none, IfSome, replicate, flat_map, unwrap_or, IsTrue}
+use Rattle.std.proofs.Common.{◌≡◌, ℕ, zero, suc, ◌+◌, ◌-◌, ◌*◌, ◌<◌, ◌≤◌, ◌^◌, Bool, true, false, cond, leb, eqb, List, [], ◌∷◌, ◌++◌, length, drop, map, Option, Some, None, Result, Ok, refl, sym, ap, subst, ◌∙◌, append_assoc, arith}
+use Rattle.std.specs.Prelude.{codes, ℤ, option_map, is_some, is_none, replicate}
 use Rattle.std.specs.List.{AllByRecursion, list_all}
-use Rattle.std.specs.Fmt.{decimal, signed_decimal}
-use Rattle.std.specs.Str.{bytes_eq}
-use Rattle.std.proofs.lemmas.Bool.{lt-ltb, le-ltb, eq-eqb, ne_eqb, eqb-true, and_from, and_parts, leb-true, lt-leb, le-leb, cases_Bool, cond-true, cond-false, false≢true}
+use Rattle.std.specs.Fmt.{signed_decimal}
+use Rattle.std.proofs.lemmas.Bool.{lt-ltb, le-ltb, ne_eqb, eqb-true, and_from, and_parts, leb-true, cond-true, cond-false}
 use Rattle.std.proofs.lemmas.Slice.Eq.{bytes_eq-Decides}
 use Rattle.std.proofs.lemmas.List.{length-append, length-map, drop_at, map-append, append-nil}
-use Rattle.std.proofs.lemmas.List.Elements.{recursion_from_All, All-weaker}
+use Rattle.std.proofs.lemmas.List.Elements.{recursion_from_All}
 use Rattle.drc_base.specs.declared.faults.Fault.{Fault}
 use Rattle.drc_base.specs.declared.limits.TheConstants.{MAX_POINTS, MAX_FACES, MAX_VALUES, MAX_ATTRIBUTES}
 use Rattle.mesh_model.specs.declared.heads.Head.{Head}
 use Rattle.mesh_model.specs.declared.heads.Quant.{Quant}
 use Rattle.mesh_model.specs.declared.geometries.Geometry.{Geometry}
 use Rattle.mesh_model.specs.declared.geometries.Geometry.TheVariants.{Mesh, Cloud}
-use Rattle.mesh_model.specs.Head.{width_of, types_of as column_dtypes, has_type, in_type, heads_fault}
-use Rattle.mesh_model.specs.Parts.{MeshParts, CloudParts, RowFits, ArePoints, IsFaceOf, IsMesh, IsCloud}
+use Rattle.mesh_model.specs.Head.{width_of, types_of as column_dtypes, has_type}
+use Rattle.mesh_model.specs.Parts.{RowFits, ArePoints, IsFaceOf}
 use Rattle.mesh_model.proofs.Columns.{width_of-bounds}
 use Rattle.mesh_model.specs.IsGeometry.{IsGeometry}
-use Rattle.ply_text.specs.declared.headers.PlyHead.{PlyHead}
-use Rattle.ply_text.specs.declared.headers.PlyQuant.{PlyQuant}
 use Rattle.ply_text.specs.declared.headers.Header.{Header}
-use Rattle.ply_text.specs.Faults.{refuse, or_refuse, ◌>>=◌}
+use Rattle.ply_text.specs.Faults.{◌>>=◌}
 use Rattle.ply_text.specs.Tokens.{token_lines}
 use Rattle.ply_text.specs.Words.{keyword_of}
-use Rattle.ply_text.specs.Declarations.{is_magic, is_format, keyword_at, is_alone}
-use Rattle.ply_text.specs.Draft.{Draft, PropertyParts, property, statement, body}
+use Rattle.ply_text.specs.Declarations.{is_magic, is_format}
+use Rattle.ply_text.specs.Draft.{Draft, PropertyParts, statement, body}
 use Rattle.ply_text.specs.Header.{column_type, column_types, is_typed, types_of, is_whole, heads_of, agrees, header_by, header_at, is_end, header_from, no_draft, header_of_lines, header_of}
 use Rattle.ply_mesh.specs.Fields.{HasFields, heads_in}
-use Rattle.ply_mesh.specs.Body.{row_of, face_of, items_from, ends}
-use Rattle.ply_mesh.specs.Read.{quant_of, head_of, geometry_of, faces_from, body_of, ply_read}
-use Rattle.ply_mesh.specs.Text.{head_lines, name_at, is_named, property_lines, element_line, first_lines, points_header, faces_header, list_line, last_line, point_lines, face_line, face_lines, ply_lines, ply_text, text_of}
+use Rattle.ply_mesh.specs.Body.{row_of, face_of, items_from}
+use Rattle.ply_mesh.specs.Read.{quant_of, head_of, body_of, ply_read}
+use Rattle.ply_mesh.specs.Text.{head_lines, is_named, property_lines, element_line, faces_header, point_lines, face_line, face_lines, ply_text, text_of}
 use Rattle.ply_mesh.proofs.Passed.{HeadPasses, HeadsPass, heads_of_pass}
 use Rattle.ply_mesh.proofs.Lexing.{are_tokens, are_lines, list_all-append, lines_again}
 use Rattle.ply_mesh.proofs.NumberTexts.{IsSmall}

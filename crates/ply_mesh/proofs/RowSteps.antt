@@ -1,5 +1,5 @@
 -- Rows that are read number by number.
-use Rattle.std.proofs.Common.{◌≡◌, ℕ, zero, suc, ◌+◌, ◌-◌, ◌<◌, ◌≤◌, Bool, true, false, List, [], ◌∷◌, ◌++◌, length, take, drop, get_or, map, Option, Some, None, Result, Ok, Err, refl, sym, ap, subst, ◌∙◌, append_assoc, arith}
+use Rattle.std.proofs.Common.{◌≡◌, ℕ, suc, ◌+◌, ◌<◌, ◌≤◌, true, List, [], ◌∷◌, ◌++◌, length, take, drop, get_or, Option, Some, None, Err, refl, sym, ap, subst, ◌∙◌, append_assoc, arith}
 use Rattle.std.specs.Prelude.{ℤ, option_map, option_and_then}
 use Rattle.std.proofs.lemmas.List.{append-nil, drop_more, drop_all, take_at, length-map, get_or-map}
 use Rattle.std.proofs.lemmas.Option.{some_pair_parts}
@@ -7,7 +7,6 @@ use Rattle.ply_text.specs.Tokens.{tokens_of}
 use Rattle.ply_text.specs.Numbers.{integer_of, first_integer, is_between}
 use Rattle.std.specs.Borrow.{Bor}
 use Rattle.std.proofs.lemmas.Bool.{eq-eqb, ne_eqb}
-use Rattle.drc_base.specs.declared.faults.Fault.{Fault}
 use Rattle.drc_base.specs.declared.kinds.Kind.TheVariants.{PlyRow, PlyNumber}
 use Rattle.ply_text.specs.Faults.{or_refuse}
 use Rattle.ply_mesh.specs.Body.{IsRange, number_of, numbers_of, row_of, texts, Appends, AppendsSome}

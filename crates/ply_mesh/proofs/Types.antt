@@ -1,8 +1,8 @@
 -- Numbers in the range of a data type, which all fit 64 bits.
-use Rattle.std.proofs.Common.{◌≡◌, ℕ, zero, suc, ◌+◌, ◌-◌, ◌<◌, ◌≤◌, ◌^◌, Bool, true, false, ◌&&◌, cond, leb, eqb, List, Option, Some, None, refl, sym, ap, ◌∙◌, inl, inr, arith}
+use Rattle.std.proofs.Common.{◌≡◌, ℕ, suc, ◌-◌, ◌≤◌, ◌^◌, Bool, true, false, ◌&&◌, cond, List, Option, Some, None, refl, sym, ap, ◌∙◌, inl, inr, arith}
 use Rattle.std.specs.Prelude.{ℤ, pos, negsuc, neg_ℤ, int_le}
-use Rattle.std.proofs.lemmas.Bool.{cases_Bool, cases_lt, leb-true, le-leb, lt-leb}
-use Rattle.mesh_model.specs.Head.{least_of, greatest_of, in_type}
+use Rattle.std.proofs.lemmas.Bool.{cases_Bool, leb-true, le-leb}
+use Rattle.mesh_model.specs.Head.{greatest_of, in_type}
 use Rattle.ply_text.specs.Numbers.{integer_of, only_if, is_between}
 use Rattle.ply_text.proofs.Signs.{plus_between, minus_between}
 use Rattle.ply_mesh.specs.Body.{IsRange, number_of}

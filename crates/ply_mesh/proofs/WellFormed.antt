@@ -1,31 +1,29 @@
 -- Rows and faces that are read fit the header.
-use Rattle.std.proofs.Common.{◌≡◌, ℕ, zero, suc, ◌+◌, ◌*◌, ◌<◌, ◌≤◌, Bool, true, false, ◌&&◌, ◌||◌, cond, eqb, leb, ltb, List, [], ◌∷◌, ◌++◌, length, get_or, map, All, Option, Some, None, Result, Ok, Err, refl, sym, ap, subst, ◌∙◌, inl, inr, arith}
-use Rattle.std.specs.Prelude.{ℤ, pos, negsuc, option_and_then, option_map, IfSome, replicate, int_le, sum_by, is_some, is_none}
-use Rattle.std.specs.Ordering.{int_eq}
-use Rattle.std.specs.List.{flat_map, AllByRecursion}
-use Rattle.std.proofs.lemmas.Bool.{cases_Bool, eqb-true, eqb-false, eq-eqb, ltb-true, le-leb, leb-true, and_parts, and_from, or_cases, false≢true}
+use Rattle.std.proofs.Common.{◌≡◌, ℕ, zero, suc, ◌+◌, ◌*◌, ◌<◌, ◌≤◌, Bool, true, false, ◌||◌, cond, eqb, leb, ltb, List, [], ◌∷◌, ◌++◌, length, get_or, map, All, Option, Some, None, Result, Ok, refl, sym, ap, subst, ◌∙◌, inl, inr, arith}
+use Rattle.std.specs.Prelude.{ℤ, pos, negsuc, option_and_then, option_map, IfSome, replicate, is_some, is_none}
+use Rattle.std.specs.List.{AllByRecursion}
+use Rattle.std.proofs.lemmas.Bool.{cases_Bool, eqb-true, eq-eqb, ltb-true, le-leb, and_parts, and_from, or_cases, false≢true}
 use Rattle.std.proofs.lemmas.List.{length-append, length-map, length-replicate, map-append}
 use Rattle.std.proofs.lemmas.List.Elements.{All-from_recursion, recursion_from_All}
 use Rattle.std.proofs.lemmas.List.Sums.{sum_by-cons}
 use Rattle.std.proofs.lemmas.Option.{same_Some}
 use Rattle.drc_base.specs.declared.faults.Fault.{Fault}
-use Rattle.drc_base.specs.declared.kinds.Kind.TheVariants.{PlyRow, PlyNumber, PlyFace, PlyIndex}
+use Rattle.drc_base.specs.declared.kinds.Kind.TheVariants.{PlyRow, PlyNumber, PlyIndex}
 use Rattle.mesh_model.specs.declared.heads.Head.{Head}
-use Rattle.mesh_model.specs.Head.{width_of, types_of, in_type, least_of, greatest_of, has_type, has_minima, has_bits, head_fault, each_fault, heads_fault}
+use Rattle.mesh_model.specs.Head.{width_of, types_of, in_type, has_type, has_minima, has_bits, head_fault, each_fault, heads_fault}
 use Rattle.mesh_model.proofs.FirstFaults.{unless-true, first_fault-cons}
 use Rattle.drc_base.specs.declared.kinds.Kind.TheVariants.{NoAttribute, AttrLimit, AttrType, DataType, Components, QuantBits}
 use Rattle.drc_base.specs.declared.limits.TheConstants.{MAX_ATTRIBUTES, MAX_COMPONENTS, MAX_VALUES, MAX_FACES}
 use Rattle.mesh_model.specs.Parts.{RowFits, IsFaceOf, ArePoints, AreRows, IsMesh, cells_of, cloud_of, mesh_of}
 use Rattle.mesh_model.proofs.Made.{AreRows-cells_of, cloud_of-IsCloud, mesh_of-IsMesh}
 use Rattle.ply_text.specs.declared.headers.PlyHead.{PlyHead}
-use Rattle.ply_text.specs.Faults.{refuse, or_refuse, ◌>>=◌}
-use Rattle.ply_text.specs.Numbers.{integer_of, only_if}
+use Rattle.ply_text.specs.Faults.{or_refuse, ◌>>=◌}
+use Rattle.ply_text.specs.Numbers.{integer_of}
 use Rattle.ply_text.specs.declared.headers.PlyQuant.{PlyQuant}
 use Rattle.ply_text.specs.declared.headers.Header.{Header}
 use Rattle.ply_text.specs.Header.{column_type, column_types, is_typed}
 use Rattle.ply_text.specs.IsHeader.{QuantFits, HeadFits, IsHeader}
-use Rattle.ply_text.specs.Comments.{is_dtype}
-use Rattle.ply_mesh.specs.Body.{number_of, numbers_of, row_of, point_of, points_of, indices_of, count_of, counted_face, face_of, items_from}
+use Rattle.ply_mesh.specs.Body.{number_of, numbers_of, row_of, point_of, points_of, indices_of, count_of, face_of, items_from}
 use Rattle.ply_mesh.specs.Read.{quant_of, head_of}
 use Rattle.ply_mesh.proofs.Binds.{bind_ok, some_ok, then_ok, then_some, only_test}
 

@@ -1,5 +1,5 @@
 -- What the widths of its fields say of a head.
-use Rattle.std.specs.Prelude.{ℕ, ◌<◌, ◌^◌, List, Option, IfSome}
+use Rattle.std.specs.Prelude.{◌<◌, ◌^◌, List, IfSome}
 use Rattle.std.specs.List.{AllByRecursion}
 use Rattle.mesh_model.specs.declared.heads.Quant.{Quant}
 use Rattle.mesh_model.specs.declared.heads.Head.{Head}

@@ -1,6 +1,6 @@
 -- What a PLY text means: a definition on its lines and each line's tokens (PLY 1.0, in this project's
 -- profile).
-use Rattle.std.specs.Prelude.{ℕ, ◌+◌, ◌-◌, List, length, map, drop, Option, None, Some, option_map, unwrap_or, Result, Ok, ℤ}
+use Rattle.std.specs.Prelude.{ℕ, ◌+◌, ◌-◌, List, map, drop, Option, None, Some, option_map, unwrap_or, Result, Ok, ℤ}
 use Rattle.drc_base.specs.declared.faults.Fault.{Fault}
 use Rattle.mesh_model.specs.declared.heads.Quant.{Quant}
 use Rattle.mesh_model.specs.declared.heads.Head.{Head}

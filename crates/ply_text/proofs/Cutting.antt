@@ -1,9 +1,9 @@
 -- How the lines of a text begin.
-use Rattle.std.proofs.Common.{◌≡◌, ℕ, suc, ◌+◌, ◌<◌, ◌≤◌, Bool, true, false, eqb, List, [], ◌∷◌, ◌++◌, length, take, drop, get_or, All, refl, sym, ap, ◌∙◌, inl, inr, arith}
+use Rattle.std.proofs.Common.{◌≡◌, ℕ, suc, ◌+◌, ◌<◌, ◌≤◌, Bool, false, eqb, List, [], ◌∷◌, ◌++◌, length, take, drop, get_or, All, refl, sym, ap, ◌∙◌, inl, inr, arith}
 use Rattle.std.specs.List.{slice_split, onto_first}
 use Rattle.std.specs.Str.Lines.{lines, lines_of_parts, strip_carriage_return}
 use Rattle.std.proofs.lemmas.Bool.{cond-false, cond_both, ne_eqb, cases_lt, cases_Bool}
-use Rattle.std.proofs.lemmas.List.{drop_more, drop_all, take_all, take-append-drop, length-take, get_or-take, get_or_default}
+use Rattle.std.proofs.lemmas.List.{drop_more, take-append-drop, length-take, get_or-take, get_or_default}
 use Rattle.std.proofs.lemmas.List.Splits.{slice_split-cons_yes, slice_split-cons_no, slice_split_none, slice_split_at, length-slice_split}
 
 abbrev is_lf : ℕ → Bool

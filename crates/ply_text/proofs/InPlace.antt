@@ -1,10 +1,9 @@
 -- Digits at a place of a line, and the token that they are or end.
-use Rattle.std.proofs.Common.{◌≡◌, ℕ, zero, suc, ◌+◌, ◌-◌, ◌*◌, ◌<◌, ◌≤◌, Bool, true, false, ◌&&◌, leb, List, [], ◌∷◌, ◌++◌, length, take, drop, get_or, Option, Some, None, refl, sym, ap, subst, ◌∙◌, inl, inr, arith}
-use Rattle.std.specs.Prelude.{fold, ℤ, pos, neg_ℤ, option_map}
+use Rattle.std.proofs.Common.{◌≡◌, ℕ, suc, ◌+◌, ◌-◌, ◌*◌, ◌<◌, ◌≤◌, true, false, leb, List, [], ◌∷◌, ◌++◌, length, take, drop, get_or, Some, refl, sym, ap, ◌∙◌, inl, inr, arith}
+use Rattle.std.specs.Prelude.{fold, pos, neg_ℤ, option_map}
 use Rattle.std.specs.List.{list_all}
-use Rattle.std.proofs.lemmas.Bool.{cases_lt, le-leb, lt-ltb, leb-true, ne_eqb, eq-eqb, cases_Bool, and_parts}
-use Rattle.std.proofs.lemmas.Bool.Decides.{nat_tests}
-use Rattle.std.proofs.lemmas.List.{take_more, drop_more, get_or-drop, get_or-take, get_or_default, length-take, length-drop}
+use Rattle.std.proofs.lemmas.Bool.{cases_lt, le-leb, lt-ltb, leb-true, ne_eqb, and_parts}
+use Rattle.std.proofs.lemmas.List.{take_more, drop_more, get_or-drop, get_or-take, length-take, length-drop}
 use Rattle.ply_text.specs.Tokens.{is_blank, tokens_of}
 use Rattle.ply_text.specs.Numbers.{is_digit, is_digits, digits_value, natural_of, integer_of, first_integer}
 use Rattle.ply_text.specs.InPlace.{AreDigits}

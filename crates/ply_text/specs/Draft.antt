@@ -1,6 +1,6 @@
 -- What the lines of a header have declared so far, and what one more line adds or which fault it has
 -- (PLY 1.0, in this project's profile; the order of the tests is this project's choice).
-use Rattle.std.specs.Prelude.{ℕ, ◌++◌, ◌&&◌, Bool, true, List, [], ◌∷◌, length, Option, None, Some, Result, Ok, codes, nat_le, is_none, is_some, if◌then◌else◌}
+use Rattle.std.specs.Prelude.{ℕ, ◌++◌, ◌&&◌, Bool, true, List, [], ◌∷◌, length, Option, Some, Result, Ok, codes, nat_le, is_none, is_some, if◌then◌else◌}
 use Rattle.std.specs.Str.{bytes_eq}
 use Rattle.drc_base.specs.declared.faults.Fault.{Fault}
 use Rattle.drc_base.specs.declared.kinds.Kind.TheVariants.{PlyFormat, PlyHeader, PlyType, PlyElement, PlyAttr, PointLimit, FaceLimit, AttrLimit}

@@ -1,5 +1,5 @@
 -- The header of a PLY text: a definition on its lines' tokens (PLY 1.0, in this project's profile).
-use Rattle.std.specs.Prelude.{ℕ, ◌+◌, ◌*◌, ◌&&◌, ◌||◌, Bool, true, false, not, List, [], ◌∷◌, length, map, replicate, flat_map, Option, None, Some, Result, Ok, Err, nat_lt, nat_le, ◌==◌, is_some, is_none, unwrap_or, if◌then◌else◌}
+use Rattle.std.specs.Prelude.{ℕ, ◌+◌, ◌*◌, ◌&&◌, ◌||◌, Bool, true, false, not, List, [], ◌∷◌, length, map, replicate, flat_map, None, Result, Ok, nat_lt, ◌==◌, is_some, is_none, unwrap_or, if◌then◌else◌}
 use Rattle.std.specs.List.{list_all}
 use Rattle.std.specs.Str.{bytes_eq}
 use Rattle.drc_base.specs.declared.faults.Fault.{Fault}

@@ -1,7 +1,6 @@
 -- Digits at a place of a line.
-use Rattle.std.specs.Prelude.{ℕ, ◌≡◌, ◌-◌, ◌<◌, ◌≤◌, true, false, List, take, drop, slice_index}
+use Rattle.std.specs.Prelude.{ℕ, ◌≡◌, ◌-◌, true, List, take, drop}
 use Rattle.std.specs.List.{list_all}
-use Rattle.ply_text.specs.Tokens.{is_blank}
 use Rattle.ply_text.specs.Numbers.{is_digit, digits_value}
 
 -- from i to j there are digits alone, and they write n

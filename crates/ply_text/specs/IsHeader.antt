@@ -1,5 +1,5 @@
 -- What holds of every header that is read.
-use Rattle.std.specs.Prelude.{ℕ, ◌≡◌, ◌≤◌, ◌*◌, IsTrue, List, length, Option, Some, IfSome, IsSome, All, slice_index_or}
+use Rattle.std.specs.Prelude.{ℕ, ◌≡◌, ◌≤◌, ◌*◌, IsTrue, List, length, IfSome, IsSome, All, slice_index_or}
 use Rattle.drc_base.specs.declared.limits.TheConstants.{MAX_POINTS, MAX_FACES, MAX_ATTRIBUTES, MAX_COMPONENTS, MAX_VALUES}
 use Rattle.ply_text.specs.declared.headers.PlyQuant.{PlyQuant}
 use Rattle.ply_text.specs.declared.headers.PlyHead.{PlyHead}

@@ -1,5 +1,5 @@
 -- The words of a PLY header (PLY 1.0; the attribute names that mean something are this project's choice).
-use Rattle.std.specs.Prelude.{ℕ, ◌||◌, ◌&&◌, Bool, false, List, [], ◌∷◌, Option, None, Some, codes, if◌then◌else◌}
+use Rattle.std.specs.Prelude.{ℕ, ◌||◌, Bool, List, Option, None, Some, codes, if◌then◌else◌}
 use Rattle.std.specs.Str.{bytes_eq}
 use Rattle.ply_text.specs.declared.words.Keyword.{Keyword}
 use Rattle.ply_text.specs.declared.words.Keyword.TheVariants.{Comment, ObjInfo, Element, Property, EndHeader, Other}

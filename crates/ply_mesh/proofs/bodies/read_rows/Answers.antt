@@ -1,8 +1,8 @@
-use Rattle.std.proofs.Common.{◌≡◌, ◌∙◌, ◌∷◌, ◌+◌, ◌-◌, List, [], ℕ, length, map, ap, sym, subst, refl, arith}
+use Rattle.std.proofs.Common.{◌∙◌, ◌+◌, ◌-◌, List, ℕ, length, map, ap, sym, subst, arith}
 use Rattle.std.proofs.lemmas.Result.{err_from_is_err_and}
 use Rattle.ply_text.specs.Tokens.{tokens_of}
 use Rattle.ply_mesh.specs.Body.{row_of, items_from}
-use Rattle.ply_mesh.proofs.ItemSteps.{with_front, AreRowsSoFar, rows_begun, rows_more, rows_last, item_short, item_fault}
+use Rattle.ply_mesh.proofs.ItemSteps.{with_front, AreRowsSoFar, rows_more, item_short, item_fault}
 use Rattle.ply_mesh.proofs.bodies.read_rows.Goals as goal
 
 pub returns-in_default-clause-rows : goal.returns-in_default-clause-rows

@@ -1,4 +1,4 @@
-use Rattle.std.proofs.Common.{◌≡◌, ◌+◌, ◌-◌, ◌≤◌, length, map}
+use Rattle.std.proofs.Common.{◌+◌, ◌-◌, ◌≤◌, length, map}
 use Rattle.ply_text.specs.Tokens.{tokens_of}
 use Rattle.ply_mesh.specs.Body.{row_of, items_from}
 use Rattle.ply_mesh.proofs.ItemSteps.{AreRowsSoFar}

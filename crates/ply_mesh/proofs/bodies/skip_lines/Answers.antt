@@ -1,4 +1,4 @@
-use Rattle.std.proofs.Common.{◌≡◌, ◌∙◌, ◌∷◌, ◌+◌, List, [], ℕ, Option, Some, None, suc, drop, length, ap, sym, refl, inl, inr, arith}
+use Rattle.std.proofs.Common.{◌≡◌, ◌∙◌, ◌∷◌, ◌+◌, List, [], ℕ, Option, Some, None, drop, ap, sym}
 use Rattle.std.specs.Prelude.{MatchOption}
 use Rattle.std.proofs.lemmas.List.{drop-drop}
 use Rattle.ply_mesh.proofs.bodies.skip_lines.Goals as goal

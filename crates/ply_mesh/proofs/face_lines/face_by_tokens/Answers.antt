@@ -1,10 +1,9 @@
-use Rattle.std.proofs.Common.{◌≡◌, ◌∙◌, ◌<◌, ap, sym, subst, List, length, drop, get_or, arith}
+use Rattle.std.proofs.Common.{◌<◌, sym, subst, List, length, arith}
 use Rattle.std.specs.Borrow.{Bor}
 use Rattle.std.specs.Prelude.{ℕ, Result}
 use Rattle.std.proofs.lemmas.List.{take_rest}
 use Rattle.drc_base.specs.declared.faults.Fault.{Fault}
 use Rattle.drc_base.specs.Refusals.{Answers}
-use Rattle.ply_mesh.specs.Body.{face_of, texts}
 use Rattle.ply_mesh.proofs.FaceSteps.{face_is}
 use Rattle.ply_mesh.proofs.face_lines.face_by_tokens.Goals as goal
 

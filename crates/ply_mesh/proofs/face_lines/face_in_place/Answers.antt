@@ -1,4 +1,4 @@
-use Rattle.std.proofs.Common.{◌≡◌, ◌∷◌, [], ◌∙◌, List, ℕ, Option, Some, ℤ, pos, sym, refl, rules, arith}
+use Rattle.std.proofs.Common.{◌≡◌, ◌∷◌, [], Some, pos, refl, rules}
 use Rattle.ply_mesh.specs.Body.{points_of}
 use Rattle.ply_mesh.proofs.FaceSteps.{face_whole}
 use Rattle.ply_mesh.proofs.face_lines.face_in_place.Goals as goal

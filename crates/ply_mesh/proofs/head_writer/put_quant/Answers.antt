@@ -1,4 +1,4 @@
-use Rattle.std.proofs.Common.{◌∷◌, [], ◌∙◌, List, ℕ, map, ap, sym}
+use Rattle.std.proofs.Common.{◌∷◌, [], ◌∙◌, map}
 use Rattle.std.specs.Fmt.{decimal}
 use Rattle.ply_mesh.specs.Text.{spaced, pattern_text}
 use Rattle.ply_mesh.proofs.LineTexts.{onto, quant_text}

@@ -1,8 +1,6 @@
-use Rattle.std.proofs.Common.{◌≡◌, ◌∙◌, sym, ap, subst, Some, rules, refl, arith, to_z, of_z, w64, ℤ}
+use Rattle.std.proofs.Common.{◌≡◌, ◌∙◌, sym, ap, Some, rules, refl, to_z, of_z, w64, ℤ}
 use Rattle.std.specs.Int.{w32}
-use Rattle.std.specs.Prelude.{FitsSigned}
 use Rattle.std.proofs.lemmas.Int.{to_z-of_z}
-use Rattle.ply_text.specs.Numbers.{is_between}
 use Rattle.ply_mesh.proofs.Types.{typed_some}
 use Rattle.ply_mesh.proofs.numbers.number_of.Goals as goal
 

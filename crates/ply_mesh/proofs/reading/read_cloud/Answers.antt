@@ -1,12 +1,9 @@
-use Rattle.std.proofs.Common.{◌≡◌, ◌∙◌, ◌+◌, List, ℕ, map, ap, sym, subst, refl, Result, Ok, Err}
+use Rattle.std.proofs.Common.{◌∙◌, map, ap}
 use Rattle.std.proofs.lemmas.Result.{err_from_is_err_and}
-use Rattle.mesh_model.specs.declared.heads.Head.{Head}
 use Rattle.mesh_model.specs.declared.geometries.Geometry.TheVariants.{Cloud}
-use Rattle.drc_base.specs.Refusals.{Refuses}
 use Rattle.ply_text.specs.Tokens.{tokens_of}
-use Rattle.ply_mesh.specs.Body.{AreRowsRead}
-use Rattle.ply_mesh.specs.Read.{head_of, body_of}
-use Rattle.ply_mesh.proofs.BodySteps.{rows_from, rows_fault, cloud_from}
+use Rattle.ply_mesh.specs.Read.{head_of}
+use Rattle.ply_mesh.proofs.BodySteps.{rows_fault, cloud_from}
 use Rattle.ply_mesh.proofs.Finish.{cloud_rows, cloud_never, cloud_is}
 use Rattle.ply_mesh.proofs.reading.read_cloud.Goals as goal
 

@@ -1,10 +1,8 @@
-use Rattle.std.proofs.Common.{◌≡◌, ◌∙◌, ◌+◌, List, ℕ, map, ap, sym, subst, refl, Result, Ok, Err}
+use Rattle.std.proofs.Common.{◌∙◌, map, ap}
 use Rattle.std.proofs.lemmas.Result.{err_from_is_err_and}
-use Rattle.mesh_model.specs.declared.heads.Head.{Head}
 use Rattle.mesh_model.specs.declared.geometries.Geometry.TheVariants.{Mesh}
-use Rattle.drc_base.specs.Refusals.{Refuses}
 use Rattle.ply_text.specs.Tokens.{tokens_of}
-use Rattle.ply_mesh.specs.Read.{head_of, body_of}
+use Rattle.ply_mesh.specs.Read.{head_of}
 use Rattle.ply_mesh.proofs.BodySteps.{rows_fault, faces_fault, mesh_ends}
 use Rattle.ply_mesh.proofs.Finish.{mesh_rows, mesh_never, mesh_is}
 use Rattle.ply_mesh.proofs.reading.read_mesh.Goals as goal

@@ -1,4 +1,4 @@
-use Rattle.std.proofs.Common.{◌≡◌, ◌∙◌, ◌-◌, List, ℕ, map, drop, ap, sym, subst, refl, Result}
+use Rattle.std.proofs.Common.{◌∙◌, ◌-◌, drop, ap, subst, Result}
 use Rattle.std.proofs.lemmas.Result.{err_from_is_err_and}
 use Rattle.drc_base.specs.declared.faults.Fault.{Fault}
 use Rattle.drc_base.specs.Refusals.{Answers}

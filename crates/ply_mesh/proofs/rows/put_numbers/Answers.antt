@@ -1,9 +1,6 @@
-use Rattle.std.proofs.Common.{◌≡◌, ◌++◌, ◌∷◌, [], ◌∙◌, ◌<◌, ap, sym, refl, List, ℤ, ℕ, Option, length, drop, get_or, arith, rules}
-use Rattle.drc_base.specs.Refusals.{Refuses}
-use Rattle.drc_base.specs.declared.kinds.Kind.TheVariants.{PlyNumber}
-use Rattle.ply_text.specs.Faults.{or_refuse}
+use Rattle.std.proofs.Common.{◌≡◌, ◌++◌, ◌∷◌, [], ◌∙◌, ◌<◌, sym, refl, length, arith, rules}
 use Rattle.ply_mesh.specs.Body.{numbers_of, texts}
-use Rattle.ply_mesh.proofs.RowSteps.{IsRowSoFar, row_begun, token_more, tokens_done, token_none}
+use Rattle.ply_mesh.proofs.RowSteps.{row_begun, token_more, tokens_done, token_none}
 use Rattle.ply_mesh.proofs.rows.put_numbers.Goals as goal
 
 pub loop-j-init : goal.loop-j-init

@@ -1,5 +1,4 @@
-use Rattle.std.proofs.Common.{◌≡◌, length, drop}
-use Rattle.ply_text.specs.Tokens.{tokens_of}
+use Rattle.std.proofs.Common.{drop}
 use Rattle.ply_mesh.specs.Body.{numbers_of, texts}
 use Rattle.ply_mesh.proofs.RowSteps.{IsRowSoFar}
 use Rattle.ply_mesh.proofs.rows.put_numbers.Given as goal

@@ -1,7 +1,7 @@
-use Rattle.std.proofs.Common.{◌≡◌, ◌++◌, ◌∷◌, [], ◌∙◌, ap, sym, subst, refl, List, ℤ, ℕ, length, drop, arith, rules}
+use Rattle.std.proofs.Common.{◌≡◌, ◌++◌, ◌∷◌, [], refl, rules}
 use Rattle.ply_text.specs.Tokens.{tokens_of}
 use Rattle.ply_mesh.specs.Body.{numbers_of}
-use Rattle.ply_mesh.proofs.RowSteps.{IsRowSoFar, row_more}
+use Rattle.ply_mesh.proofs.RowSteps.{row_more}
 use Rattle.ply_mesh.proofs.rows.row_in_place.Goals as goal
 
 pub loop-j-preserved : goal.loop-j-preserved

@@ -1,4 +1,4 @@
-use Rattle.std.proofs.Common.{◌≡◌, ◌++◌, ◌∷◌, [], List, ℕ, get_or, pos, rules}
+use Rattle.std.proofs.Common.{◌≡◌, ◌++◌, ◌∷◌, [], get_or, pos, rules}
 use Rattle.std.specs.Fmt.{signed_decimal}
 use Rattle.ply_mesh.proofs.RowTexts.{row_more}
 use Rattle.ply_mesh.proofs.writing.put_row.Goals as goal

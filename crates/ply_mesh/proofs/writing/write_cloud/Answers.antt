@@ -1,4 +1,4 @@
-use Rattle.std.proofs.Common.{◌≡◌, ◌∷◌, [], ◌∙◌, List, ℕ, length, map, ap, sym, rules}
+use Rattle.std.proofs.Common.{◌∙◌, length, ap}
 use Rattle.ply_mesh.specs.Text.{text_of, points_header, last_line, point_lines, ply_text}
 use Rattle.ply_mesh.proofs.LineTexts.{onto}
 use Rattle.ply_mesh.proofs.RowTexts.{three_parts}

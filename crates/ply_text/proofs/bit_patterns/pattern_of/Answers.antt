@@ -1,4 +1,4 @@
-use Rattle.std.proofs.Common.{◌<◌, ◌+◌, ◌*◌, ◌≡◌, sym, ap, ◌∙◌, cond, List, ℕ, length, drop, get_or, Option, arith}
+use Rattle.std.proofs.Common.{◌<◌, ◌+◌, ◌*◌, sym, ap, ◌∙◌, drop, arith}
 use Rattle.std.specs.Prelude.{option_and_then}
 use Rattle.std.proofs.lemmas.List.{at_drop_more}
 use Rattle.ply_text.specs.Numbers.{hex_after}

@@ -1,5 +1,5 @@
-use Rattle.std.proofs.Common.{◌≡◌, ap, ◌∙◌, sym, List, ℕ, length, drop, w32, rules, arith}
-use Rattle.std.specs.Prelude.{Some, Option, ℤ, pos, neg_ℤ}
+use Rattle.std.proofs.Common.{ap, ◌∙◌, sym, drop, w32, rules, arith}
+use Rattle.std.specs.Prelude.{Some}
 use Rattle.std.proofs.lemmas.Int.{to_z-of_z, to_z_pos}
 use Rattle.ply_text.specs.Tokens.{tokens_of}
 use Rattle.ply_text.specs.Numbers.{first_integer}

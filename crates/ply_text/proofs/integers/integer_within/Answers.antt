@@ -1,4 +1,4 @@
-use Rattle.std.proofs.Common.{ℕ, length, List, ap, ◌∙◌}
+use Rattle.std.proofs.Common.{ℕ, List, ap, ◌∙◌}
 use Rattle.std.specs.Prelude.{pos, neg_ℤ, option_map}
 use Rattle.std.proofs.lemmas.List.{take_rest}
 use Rattle.ply_text.specs.Numbers.{natural_within}

@@ -1,5 +1,5 @@
 use Rattle.std.proofs.Common.{◌≡◌, ◌≤◌, length, arith}
-use Rattle.ply_text.proofs.Names.{IsNamedSoFar, too_many}
+use Rattle.ply_text.proofs.Names.{too_many}
 use Rattle.ply_text.proofs.named_heads.named_heads.Goals as goal
 
 pub returns-then-len-clause-heads : goal.returns-then-len-clause-heads

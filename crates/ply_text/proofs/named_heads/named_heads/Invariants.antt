@@ -1,4 +1,4 @@
-use Rattle.std.proofs.Common.{◌≡◌, ◌≤◌, length, drop, All}
+use Rattle.std.proofs.Common.{◌≤◌, length, All}
 use Rattle.ply_text.specs.IsHeader.{HeadFits}
 use Rattle.ply_text.proofs.Names.{IsNamedSoFar}
 use Rattle.ply_text.proofs.named_heads.named_heads.Given as goal
