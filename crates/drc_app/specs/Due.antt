@@ -12,6 +12,8 @@ use Rattle.drc_app.specs.declared.commands.Command.TheVariants as command
 -- what the command gives from bytes within the limit: for `dec` the text of the geometry that they mean, and no note
 unfoldable pub worked : Command → List ℕ → Result (List ℕ × List ℕ) Fault
 worked command.Dec bytes = meaning_of bytes >>= λ g. Ok (ply_text g, [])
+worked command.Info bytes = Ok ([], [])
+worked (command.Enc c) bytes = Ok ([], [])
 
 -- too many bytes of input
 abbrev pub input_limit : Fault

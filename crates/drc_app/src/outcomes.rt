@@ -90,5 +90,7 @@ fn work(alloc: Global, command: Command, bytes: &[u8]) -> Result<Due, Refusal>
                 note: Vec::new(alloc),
             })
         }
+        Command::Info => Err(Refusal::Memory),
+        Command::Enc(_) => Err(Refusal::Memory),
     }
 }

@@ -4,12 +4,13 @@
 #![tactic(auto)]
 
 mod attributes;
+mod choices;
 mod decoding;
 mod headers;
-mod methods;
+
 mod points;
 mod seen;
 
 pub use decoding::{decode, decode_whole};
-pub use methods::Method;
+pub use choices::{Choice, Index, Method, Predict, Walk};
 pub use seen::{AttrSeen, Decoded, Seen};
