@@ -5,15 +5,38 @@ use Rattle.drc_base.specs.declared.kinds.Kind.TheVariants as kind
 use Rattle.drc_base.specs.declared.limits.TheConstants.{MAX_INPUT_BYTES}
 use Rattle.drc_bits.specs.Reading.{◌>>=◌}
 use Rattle.ply_mesh.specs.Text.{ply_text}
+use Rattle.mesh_model.specs.MapText.{map_text_of}
+use Rattle.ply_mesh.specs.Read.{ply_read}
+use Rattle.drc_container.specs.declared.choices.Choice.{Choice}
+use Rattle.drc_container.specs.Encoded.{encoded}
 use Rattle.drc_container.specs.Stream.{meaning_of}
 use Rattle.drc_app.specs.declared.commands.Command.{Command}
 use Rattle.drc_app.specs.declared.commands.Command.TheVariants as command
 
--- what the command gives from bytes within the limit: for `dec` the text of the geometry that they mean, and no note
-unfoldable pub worked : Command → List ℕ → Result (List ℕ × List ℕ) Fault
-worked command.Dec bytes = meaning_of bytes >>= λ g. Ok (ply_text g, [])
-worked command.Info bytes = Ok ([], [])
-worked (command.Enc c) bytes = Ok ([], [])
+-- the stream of the geometry that a text means, coded as chosen, and the map of its faces or points
+unfoldable pub stream_of : Choice → List ℕ → Result (List ℕ × List ℕ) Fault
+stream_of choice text = do
+  g ← ply_read text
+  stream ← encoded g choice
+  Ok (stream.0, map_text_of g stream.1)
+
+-- the text of the geometry that a stream means; no note
+unfoldable pub text_of : List ℕ → Result (List ℕ × List ℕ) Fault
+text_of stream = do
+  g ← meaning_of stream
+  Ok (ply_text g, [])
+
+-- the report on a stream; no note
+unfoldable pub report_of : List ℕ → Result (List ℕ × List ℕ) Fault
+report_of stream = do
+  text ← info_text_of stream
+  Ok (text, [])
+
+-- what the command gives from bytes within the limit
+abbrev pub worked : Command → List ℕ → Result (List ℕ × List ℕ) Fault
+worked (command.Enc choice) bytes = stream_of choice bytes
+worked command.Dec bytes = text_of bytes
+worked command.Info bytes = report_of bytes
 
 -- too many bytes of input
 abbrev pub input_limit : Fault

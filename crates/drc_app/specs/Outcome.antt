@@ -5,6 +5,7 @@ use Rattle.drc_base.specs.declared.faults.Fault.{Fault}
 use Rattle.drc_app.specs.Ends.{Taking, Putting, HasReadFault, HasWriteFault, IsReadWhole, IsPastMost, IsUntaken, IsUntouched, IsWritten, IsTried}
 use Rattle.drc_app.specs.Notes.{refused_note, bad_word_note, read_failed_note, write_failed_note, memory_note}
 use Rattle.drc_app.specs.Due.{due}
+use Rattle.drc_app.specs.Kept.{Keeps}
 use Rattle.drc_app.specs.declared.commands.Command.{Command}
 use Rattle.drc_app.specs.declared.outcomes.Outcome.{Outcome}
 use Rattle.drc_app.specs.declared.outcomes.Outcome.TheVariants as outcome
@@ -17,13 +18,17 @@ WasRead input = IsReadWhole input ⊎ IsPastMost input
 abbrev pub Gives : Command → Taking → Result (List ℕ × List ℕ) Fault → Type 0
 Gives c input answer = IfSome input.left (λ bytes. due c bytes ≡ answer)
 
+-- where the source tells its bytes, the command keeps of them what it has to
+abbrev pub Kept : Command → Taking → List ℕ × List ℕ → Type 0
+Kept c input answer = IfSome input.left (λ bytes. Keeps c bytes answer)
+
 -- what the line and its input came to
 abbrev pub IsOutcome : Result Command ℕ → Taking → Outcome → Type 0
 IsOutcome line input (outcome.BadWord i) = (line ≡ Err i) × IsUntaken input
 IsOutcome line input outcome.ReadFailed = IsOk line × HasReadFault input
 IsOutcome line input outcome.NoMemory = IsOk line
 IsOutcome line input (outcome.Refused f) = IsOkAnd line (λ c. WasRead input × Gives c input (Err f))
-IsOutcome line input (outcome.Done d) = IsOkAnd line (λ c. IsReadWhole input × Gives c input (Ok (d.output.items, d.note.items)))
+IsOutcome line input (outcome.Done d) = IsOkAnd line (λ c. IsReadWhole input × Gives c input (Ok (d.output.items, d.note.items)) × Kept c input (d.output.items, d.note.items))
 
 -- what a command came to on all bytes of its input
 abbrev pub IsOutcomeAt : Command → List ℕ → Outcome → Type 0
@@ -31,7 +36,7 @@ IsOutcomeAt c bytes (outcome.BadWord i) = ⊥
 IsOutcomeAt c bytes outcome.ReadFailed = ⊥
 IsOutcomeAt c bytes outcome.NoMemory = Unit {0}
 IsOutcomeAt c bytes (outcome.Refused f) = due c bytes ≡ Err f
-IsOutcomeAt c bytes (outcome.Done d) = due c bytes ≡ Ok (d.output.items, d.note.items)
+IsOutcomeAt c bytes (outcome.Done d) = (due c bytes ≡ Ok (d.output.items, d.note.items)) × Keeps c bytes (d.output.items, d.note.items)
 
 -- the writing of an output and then of its note stopped: in the output, and then the note of the failure is tried; or in the note
 abbrev pub IsCutShort : Putting → Putting → List ℕ → List ℕ → Type 0

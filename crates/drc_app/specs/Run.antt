@@ -4,14 +4,15 @@ use Rattle.drc_base.specs.declared.faults.Fault.{Fault}
 use Rattle.drc_app.specs.Ends.{Taking, Putting, HasReadFault, HasWriteFault, IsReadWhole, IsUntaken, IsUntouched, IsWritten, IsTried}
 use Rattle.drc_app.specs.Notes.{refused_note, bad_word_note, read_failed_note, memory_note}
 use Rattle.drc_app.specs.Due.{due}
-use Rattle.drc_app.specs.Outcome.{WasRead, Gives, IsCutShort}
+use Rattle.drc_app.specs.Outcome.{WasRead, Gives, Kept, IsCutShort}
 use Rattle.drc_app.specs.declared.commands.Command.{Command}
 
--- the words are a command, the whole input was read, and all that it gives was written
+-- the words are a command, the whole input was read, and all that it gives was written; what the command has to keep of its
+-- input it kept
 abbrev pub IsDone : Command → Taking → Putting → Putting → Type 0
 IsDone c input output notes =
     IsReadWhole input
-    × ((text : List ℕ) × (note : List ℕ) × Gives c input (Ok (text, note)) × IsWritten output text × IsWritten notes note)
+    × ((text : List ℕ) × (note : List ℕ) × Gives c input (Ok (text, note)) × Kept c input (text, note) × IsWritten output text × IsWritten notes note)
 
 -- the words are a command, all was read, and this fault is the input's first
 abbrev pub IsRefused : Command → Taking → Putting → Type 0

@@ -1,16 +1,19 @@
 //! What a command line and its input come to, before anything is written.
 
-ghost use Rattle.std.specs.Prelude.{◌≡◌, ◌≤◌, map, string_bytes, length};
+ghost use Rattle.std.specs.Prelude.{◌≡◌, ◌≤◌, map, string_bytes, length, IfOk};
 ghost use Rattle.drc_base.specs.Refusals.{Answers};
 ghost use Rattle.drc_app.specs.Line.{line_of};
 ghost use Rattle.drc_app.specs.Ends.{takes};
-ghost use Rattle.drc_app.specs.Due.{input_limit, worked};
+ghost use Rattle.drc_app.specs.Due.{input_limit, worked, stream_of, text_of, report_of};
+ghost use Rattle.drc_app.specs.Kept.{Keeps, KeepsGeometry};
 ghost use Rattle.drc_app.specs.Outcome.{IsOutcome, IsOutcomeAt};
 
 use crate::commands::{Command, command_of};
 use drc_base::{Fault, Kind, MAX_INPUT_BYTES, ReadEnd, Refusal, Source, read_all};
-use drc_container::decode;
-use ply_mesh::write_ply;
+use drc_container::{Choice, decode, encode};
+use drc_info::report;
+use mesh_model::map_text;
+use ply_mesh::{read_ply, write_ply};
 use std::alloc::Global;
 
 /// An output and its note, both whole.
@@ -77,20 +80,50 @@ fn outcome_at(alloc: Global, command: Command, bytes: &[u8]) -> Outcome
 }
 
 /// What the command gives from these bytes.
-#[tactic(auto, unfolding(crate::specs::Due::worked))]
 fn work(alloc: Global, command: Command, bytes: &[u8]) -> Result<Due, Refusal>
-    ensures { Answers (λ d. (d.output.items, d.note.items)) (worked command bytes.now) result }
+    ensures answer { Answers (λ d. (d.output.items, d.note.items)) (worked command bytes.now) result }
+    ensures kept { IfOk result (λ d. Keeps command bytes.now (d.output.items, d.note.items)) }
 {
     match command {
-        Command::Dec => {
-            let geometry = decode(alloc, bytes)?;
-            let output = write_ply(alloc, &geometry)?;
-            Ok(Due {
-                output,
-                note: Vec::new(alloc),
-            })
-        }
-        Command::Info => Err(Refusal::Memory),
-        Command::Enc(_) => Err(Refusal::Memory),
+        Command::Enc(choice) => stream_of(alloc, &choice, bytes),
+        Command::Dec => text_of(alloc, bytes),
+        Command::Info => report_of(alloc, bytes),
     }
+}
+
+/// The stream of the geometry that a text means, coded as chosen, and the map of its faces or points.
+#[tactic(auto, unfolding(crate::specs::Due::stream_of))]
+fn stream_of(alloc: Global, choice: &Choice, text: &[u8]) -> Result<Due, Refusal>
+    ensures answer { Answers (λ d. (d.output.items, d.note.items)) (stream_of choice.now text.now) result }
+    ensures kept { IfOk result (λ d. KeepsGeometry choice.now text.now d.output.items d.note.items) }
+{
+    let geometry = read_ply(alloc, text)?;
+    let (output, rows) = encode(alloc, &geometry, choice)?;
+    let note = map_text(alloc, &geometry, &rows)?;
+    Ok(Due { output, note })
+}
+
+/// The text of the geometry that a stream means, and no note.
+#[tactic(auto, unfolding(crate::specs::Due::text_of))]
+fn text_of(alloc: Global, stream: &[u8]) -> Result<Due, Refusal>
+    ensures { Answers (λ d. (d.output.items, d.note.items)) (text_of stream.now) result }
+{
+    let geometry = decode(alloc, stream)?;
+    let output = write_ply(alloc, &geometry)?;
+    Ok(Due {
+        output,
+        note: Vec::new(alloc),
+    })
+}
+
+/// The report on a stream, and no note.
+#[tactic(auto, unfolding(crate::specs::Due::report_of))]
+fn report_of(alloc: Global, stream: &[u8]) -> Result<Due, Refusal>
+    ensures { Answers (λ d. (d.output.items, d.note.items)) (report_of stream.now) result }
+{
+    let output = report(alloc, stream)?;
+    Ok(Due {
+        output,
+        note: Vec::new(alloc),
+    })
 }
