@@ -4,8 +4,11 @@
 //! Connectivity".
 #![tactic(auto)]
 
+mod methods;
+mod packed;
 mod plain;
 mod reading;
 mod writing;
 
 pub use reading::{SeqRead, read_indices};
+pub use writing::write_indices;
