@@ -39,6 +39,9 @@ point-is o n (pos i) p is = elim (cases_lt i n) [
 ]
 point-is o n (negsuc i) p is = absurd (err≢ok is)
 
+in_turn : (face rest more : List ℕ) (a b d : ℕ) → face ≡ a ∷ rest → rest ≡ b ∷ more → more ≡ d ∷ [] → face ≡ a ∷ b ∷ d ∷ []
+in_turn face rest more a b d p q r = cc
+
 -- three numbers that are points: the last of them
 three-last : (o : Fault) (n : ℕ) (x y z : ℤ) (face : List ℕ) → points_of o n (x ∷ y ∷ z ∷ []) ≡ Ok face
     → (z ≡ pos (get_or face 2 0)) × (get_or face 2 0 < n) × (a : ℕ) × (b : ℕ) × (d : ℕ) × (face ≡ a ∷ b ∷ d ∷ [])
@@ -52,7 +55,7 @@ three-last o n x y z face is =
     let e1 : face ≡ first.0 ∷ rest.0 = sym (Ok-injective rest.2) in
     let e2 : rest.0 ≡ second.0 ∷ more.0 = sym (Ok-injective more.2) in
     let e3 : more.0 ≡ third.0 ∷ [] = sym (Ok-injective third.2) in
-    let there : face ≡ first.0 ∷ second.0 ∷ third.0 ∷ [] = e1 ∙ ap (λ l. first.0 ∷ l) (e2 ∙ ap (λ l. second.0 ∷ l) e3) in
+    let there : face ≡ first.0 ∷ second.0 ∷ third.0 ∷ [] = in_turn face rest.0 more.0 first.0 second.0 third.0 e1 e2 e3 in
     let told : get_or face 2 0 ≡ third.0 = ap (λ l. get_or l 2 0) there in
     (last.0 ∙ ap pos (sym told), omega (arith, told, last.1), first.0, second.0, third.0, there)
 

@@ -8,6 +8,8 @@ mod methods;
 mod packed;
 mod plain;
 mod reading;
+#[cfg(test)]
+mod tests;
 mod writing;
 
 pub use reading::{SeqRead, read_indices};
