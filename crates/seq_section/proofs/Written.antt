@@ -1,16 +1,17 @@
 -- Written indices are read back.
-use Rattle.std.proofs.Common.{◌≡◌, ℕ, zero, suc, ◌+◌, ◌*◌, ◌/◌, ◌%◌, ◌^◌, ◌<◌, ◌≤◌, Bool, true, false, List, [], ◌∷◌, ◌++◌, length, Option, None, Some, Result, Ok, nat_lt, if◌then◌else◌, refl, sym, ◌∙◌, ap, subst, arith, inl, inr, append_assoc, append-nil, nat_le, ◌==◌}
+use Rattle.std.proofs.Common.{◌≡◌, ℕ, zero, suc, ◌/◌, ◌^◌, ◌<◌, ◌≤◌, Bool, true, false, List, [], ◌∷◌, ◌++◌, length, Option, None, Some, Ok, nat_lt, if◌then◌else◌, refl, sym, ap, subst, arith, inl, inr, append_assoc, append-nil, nat_le}
 use Rattle.std.specs.List.{All, flat_map}
 use Rattle.std.proofs.lemmas.Bool.{cases_lt}
 use Rattle.drc_base.specs.declared.kinds.Kind.TheVariants as kind
 use Rattle.drc_base.specs.declared.limits.TheConstants.{MAX_FACES, MAX_POINTS}
-use Rattle.drc_bits.specs.Reading.{◌>>=◌, Reading, Item, must, many_at, fault_at}
+use Rattle.drc_bits.specs.Reading.{◌>>=◌, must, many_at}
 use Rattle.drc_bits.specs.Numbers.{number_at, little_endian}
 use Rattle.drc_bits.specs.Varint.{var32_at, spelling}
 use Rattle.drc_bits.specs.Bits.{low_bytes}
 use Rattle.drc_bits.specs.Spells.{Spells}
 use Rattle.drc_bits.proofs.Spelled.{Spells-none, Spells-then, Spells-must, Spells-number, Spells-var32, Spells-byte}
-use Rattle.seq_section.specs.Indices.{index_width, number_of_width, bytes_of_width, index_at, face_at, index_bytes, face_bytes, IsFaceBelow, method_at, opening_at, indices_at, plain_bytes}
+use Rattle.seq_section.specs.declared.reading.Opening.{Opening}
+use Rattle.seq_section.specs.Indices.{index_width, number_of_width, bytes_of_width, index_at, face_at, index_bytes, face_bytes, IsFaceBelow, method_at, opening_at, faces_at, indices_at, opening_bytes, faces_bytes, indices_bytes}
 
 length-low_bytes : (n v : ℕ) → length (low_bytes n v) ≡ n
 length-low_bytes zero v = refl
@@ -70,7 +71,8 @@ Spells-face points (a ∷ b ∷ d ∷ []) is few =
     Spells-three points a b d (is.1 0 0 (omega arith)) (is.1 1 0 (omega arith)) (is.1 2 0 (omega arith)) few
 Spells-face points (a ∷ b ∷ d ∷ e ∷ face) is few = absurd (omega (arith, is.0))
 
-Spells-faces : (points : ℕ) (faces : List (List ℕ)) → All (IsFaceBelow points) faces → points < 2 ^ 32
+-- the faces are read back where each index stands by itself
+pub Spells-faces : (points : ℕ) (faces : List (List ℕ)) → All (IsFaceBelow points) faces → points < 2 ^ 32
     → Spells (many_at (face_at points) (length faces)) (flat_map (face_bytes points) faces) faces
 unfolding many_at
 Spells-faces points [] are few = Spells-none []
@@ -80,38 +82,39 @@ Spells-faces points (face ∷ faces) are few =
     (record { reads = λ place rest. rw ((Spells-faces points faces (λ k d h. are (suc k) d (omega (arith, h))) few).reads place rest) refl })
 
 -- the opening of a written section
-Spells-opening : (faces points : ℕ) → faces ≤ MAX_FACES → points ≤ MAX_POINTS
-    → Spells opening_at (spelling 5 faces ++ (spelling 5 points ++ (1 ∷ []))) (record { faces = faces; points = points; method = 1 })
+Spells-opening : (faces points method : ℕ) → faces ≤ MAX_FACES → points ≤ MAX_POINTS → method ≤ 1
+    → Spells opening_at (opening_bytes faces points method) (record { faces = faces; points = points; method = method })
 unfolding opening_at
-Spells-opening faces points few_faces few_points =
+Spells-opening faces points method few_faces few_points known =
     let faces_pass : nat_le faces MAX_FACES ≡ true = grind (arith, few_faces) in
     let points_pass : nat_le points MAX_POINTS ≡ true = grind (arith, few_points) in
-    Spells-then (must kind.FaceLimit (λ n. nat_le n MAX_FACES) var32_at)
+    let method_passes : nat_le method 1 ≡ true = grind (arith, known) in
+    subst (λ bytes. Spells opening_at bytes (record { faces = faces; points = points; method = method })) (sym (append_assoc (spelling 5 faces) (spelling 5 points) (method ∷ [])))
+    (Spells-then (must kind.FaceLimit (λ n. nat_le n MAX_FACES) var32_at)
     (λ f c. must kind.PointLimit (λ n. nat_le n MAX_POINTS) var32_at c >>= λ p. method_at p.1 >>= λ m. Ok (record { faces = f; points = p.0; method = m.0 }, m.1))
-    (spelling 5 faces) (spelling 5 points ++ (1 ∷ [])) faces (record { faces = faces; points = points; method = 1 })
+    (spelling 5 faces) (spelling 5 points ++ (method ∷ [])) faces (record { faces = faces; points = points; method = method })
     (Spells-must kind.FaceLimit (λ n. nat_le n MAX_FACES) var32_at (spelling 5 faces) faces faces_pass (Spells-var32 faces (omega (arith, few_faces))))
     (Spells-then (must kind.PointLimit (λ n. nat_le n MAX_POINTS) var32_at)
     (λ p c. method_at c >>= λ m. Ok (record { faces = faces; points = p; method = m.0 }, m.1))
-    (spelling 5 points) (1 ∷ []) points (record { faces = faces; points = points; method = 1 })
+    (spelling 5 points) (method ∷ []) points (record { faces = faces; points = points; method = method })
     (Spells-must kind.PointLimit (λ n. nat_le n MAX_POINTS) var32_at (spelling 5 points) points points_pass (Spells-var32 points (omega (arith, few_points))))
     (Spells-then method_at (λ m c. Ok (record { faces = faces; points = points; method = m }, c))
-    (1 ∷ []) [] 1 (record { faces = faces; points = points; method = 1 })
-    (Spells-must kind.NotYet (λ n. n == 1) (must kind.IndexMethod (λ n. nat_le n 1) (number_at 1)) (1 ∷ []) 1 refl
-    (Spells-must kind.IndexMethod (λ n. nat_le n 1) (number_at 1) (1 ∷ []) 1 refl (Spells-byte 1)))
-    (Spells-none (record { faces = faces; points = points; method = 1 }))))
+    (method ∷ []) [] method (record { faces = faces; points = points; method = method })
+    (Spells-must kind.IndexMethod (λ n. nat_le n 1) (number_at 1) (method ∷ []) method method_passes (Spells-byte method))
+    (Spells-none (record { faces = faces; points = points; method = method })))))
 
--- a written section with plain indices is read back
-pub Spells-plain : (faces : List (List ℕ)) (points : ℕ) → length faces ≤ MAX_FACES → points ≤ MAX_POINTS → All (IsFaceBelow points) faces
-    → Spells indices_at (plain_bytes faces points) (record { faces = faces; points = points })
-unfolding indices_at plain_bytes
-Spells-plain faces points few_faces few_points are =
-    subst (λ bytes. Spells indices_at bytes (record { faces = faces; points = points })) (regrouped (spelling 5 (length faces)) (spelling 5 points) 1 (flat_map (face_bytes points) faces))
-    (Spells-then opening_at (λ o c. many_at (face_at o.points) o.faces c >>= λ fs. Ok (record { faces = fs.0; points = o.points }, fs.1))
-    (spelling 5 (length faces) ++ (spelling 5 points ++ (1 ∷ []))) (flat_map (face_bytes points) faces ++ []) (record { faces = length faces; points = points; method = 1 })
-    (record { faces = faces; points = points })
-    (Spells-opening (length faces) points few_faces few_points)
-    (Spells-then (many_at (face_at points) (length faces)) (λ fs c. Ok (record { faces = fs; points = points }, c)) (flat_map (face_bytes points) faces) []
-    faces (record { faces = faces; points = points }) (Spells-faces points faces are (omega (arith, few_points))) (Spells-none (record { faces = faces; points = points }))))
-  where
-    regrouped : (a b : List ℕ) (m : ℕ) (c : List ℕ) → (a ++ (b ++ (m ∷ []))) ++ (c ++ []) ≡ a ++ b ++ m ∷ c
-    regrouped a b m c = rw (append-nil c, ← append_assoc a b (m ∷ [])) (append_assoc (a ++ b) (m ∷ []) c)
+-- a written section is read back where its faces are
+pub Spells-section : (packed : Bool) (faces : List (List ℕ)) (points : ℕ) → length faces ≤ MAX_FACES → points ≤ MAX_POINTS
+    → Spells (faces_at (record { faces = length faces; points = points; method = if packed then 0 else 1 })) (faces_bytes packed faces points) faces
+    → Spells indices_at (indices_bytes packed faces points) (record { faces = faces; points = points })
+unfolding indices_at indices_bytes
+Spells-section packed faces points few_faces few_points behind =
+    let opening : Opening = record { faces = length faces; points = points; method = if packed then 0 else 1 } in
+    let front : List ℕ = opening_bytes (length faces) points (if packed then 0 else 1) in
+    let known : (if packed then 0 else 1) ≤ 1 = elim packed as (λ b. (if b then 0 else 1) ≤ 1) [ true ↦ omega arith | false ↦ omega arith ] in
+    subst (λ bytes. Spells indices_at bytes (record { faces = faces; points = points })) (ap (λ l. front ++ l) (append-nil (faces_bytes packed faces points)))
+    (Spells-then opening_at (λ o c. faces_at o c >>= λ fs. Ok (record { faces = fs.0; points = o.points }, fs.1))
+    front (faces_bytes packed faces points ++ []) opening (record { faces = faces; points = points })
+    (Spells-opening (length faces) points (if packed then 0 else 1) few_faces few_points known)
+    (Spells-then (faces_at opening) (λ fs c. Ok (record { faces = fs; points = points }, c)) (faces_bytes packed faces points) []
+    faces (record { faces = faces; points = points }) behind (Spells-none (record { faces = faces; points = points }))))

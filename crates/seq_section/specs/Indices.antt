@@ -1,6 +1,6 @@
 -- The connectivity of a sequential mesh (Draco Bitstream Specification 2.2, section "Sequential Connectivity"; the limits
 -- are this project's choice).
-use Rattle.std.specs.Prelude.{◌≡◌, ℕ, ◌<◌, ◌==◌, List, [], ◌∷◌, ◌++◌, length, Option, None, Some, Ok, nat_le, nat_lt, if◌then◌else◌, All}
+use Rattle.std.specs.Prelude.{◌≡◌, ℕ, ◌*◌, ◌<◌, Bool, ◌==◌, List, [], ◌∷◌, ◌++◌, length, Option, None, Some, Ok, nat_le, nat_lt, if◌then◌else◌, All}
 use Rattle.std.specs.List.{flat_map}
 use Rattle.drc_base.specs.declared.kinds.Kind.TheVariants as kind
 use Rattle.drc_base.specs.declared.limits.TheConstants.{MAX_FACES, MAX_POINTS}
@@ -8,12 +8,14 @@ use Rattle.drc_bits.specs.Reading.{◌>>=◌, Reading, Item, must, many_at}
 use Rattle.drc_bits.specs.Numbers.{number_at}
 use Rattle.drc_bits.specs.Varint.{var32_at, spelling}
 use Rattle.drc_bits.specs.Bits.{low_bytes}
+use Rattle.symbol_coding.specs.Block.{block_at, block_bytes}
+use Rattle.seq_section.specs.Packed.{faces_of, symbols_of}
 use Rattle.seq_section.specs.declared.reading.SeqRead.{SeqRead}
 use Rattle.seq_section.specs.declared.reading.Opening.{Opening}
 
--- the coding of the indices: 0 packed, which isn't built yet, or 1 plain
+-- the coding of the indices: 0 packed, or 1 plain
 abbrev pub method_at : Reading → Item ℕ
-method_at c = must kind.NotYet (λ n. n == 1) (must kind.IndexMethod (λ n. nat_le n 1) (number_at 1)) c
+method_at c = must kind.IndexMethod (λ n. nat_le n 1) (number_at 1) c
 
 -- the opening of the section: faces, points, and the coding of the indices
 unfoldable pub opening_at : Reading → Item Opening
@@ -53,11 +55,23 @@ face_at points c = do
   d ← index_at points b.1
   Ok (a.0 ∷ b.0 ∷ d.0 ∷ [], d.1)
 
+-- faces of packed indices: a block of symbols, and where it begins IndexRange if an index is no point
+unfoldable pub packed_at : ℕ → ℕ → Reading → Item (List (List ℕ))
+packed_at points faces c = do
+  symbols ← block_at (3 * faces) 1 c
+  corners ← faces_of (record { kind = kind.IndexRange; at = c.place }) points symbols.0
+  Ok (corners, symbols.1)
+
+-- the faces behind the opening
+abbrev pub faces_at : Opening → Reading → Item (List (List ℕ))
+faces_at opening c = if opening.method == 0 then packed_at opening.points opening.faces c
+    else many_at (face_at opening.points) opening.faces c
+
 -- the section
 unfoldable pub indices_at : Reading → Item SeqRead
 indices_at c = do
   opening ← opening_at c
-  faces ← many_at (face_at opening.0.points) opening.0.faces opening.1
+  faces ← faces_at opening.0 opening.1
   Ok (record { faces = faces.0; points = opening.0.points }, faces.1)
 
 -- the bytes of a plain index beside so many points
@@ -68,9 +82,17 @@ index_bytes points i = bytes_of_width (index_width points) i
 abbrev pub face_bytes : ℕ → List ℕ → List ℕ
 face_bytes points face = flat_map (index_bytes points) face
 
--- the bytes of the section with plain indices
-unfoldable pub plain_bytes : List (List ℕ) → ℕ → List ℕ
-plain_bytes faces points = spelling 5 (length faces) ++ spelling 5 points ++ 1 ∷ flat_map (face_bytes points) faces
+-- the bytes of the opening
+abbrev pub opening_bytes : ℕ → ℕ → ℕ → List ℕ
+opening_bytes faces points method = spelling 5 faces ++ spelling 5 points ++ (method ∷ [])
+
+-- the bytes behind the opening: those of a block of symbols, or of each face
+abbrev pub faces_bytes : Bool → List (List ℕ) → ℕ → List ℕ
+faces_bytes packed faces points = if packed then block_bytes (symbols_of faces) 1 else flat_map (face_bytes points) faces
+
+-- the bytes of the section, with packed or with plain indices
+unfoldable pub indices_bytes : Bool → List (List ℕ) → ℕ → List ℕ
+indices_bytes packed faces points = opening_bytes (length faces) points (if packed then 0 else 1) ++ faces_bytes packed faces points
 
 -- a face of points: three indices below their number
 abbrev pub IsFaceBelow : ℕ → List ℕ → Type 0

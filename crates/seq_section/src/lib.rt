@@ -4,8 +4,13 @@
 //! Connectivity".
 #![tactic(auto)]
 
+mod methods;
+mod packed;
 mod plain;
 mod reading;
+#[cfg(test)]
+mod tests;
 mod writing;
 
 pub use reading::{SeqRead, read_indices};
+pub use writing::write_indices;

@@ -1,11 +1,12 @@
 //! Indices that are coded each by itself.
 
-ghost use Rattle.std.specs.Prelude.{◌≡◌};
+ghost use Rattle.std.specs.Prelude.{◌≡◌, ◌++◌, OnOk};
+ghost use Rattle.std.specs.List.{flat_map};
 ghost use Rattle.drc_bits.specs.Reading.{Reads, Gives, many_at};
-ghost use Rattle.seq_section.specs.Indices.{index_width, number_of_width, index_at, face_at};
+ghost use Rattle.seq_section.specs.Indices.{index_width, number_of_width, index_at, face_at, index_bytes, face_bytes};
 
-use drc_base::{Fault, Kind, Refusal};
-use drc_bits::Cursor;
+use drc_base::{Fault, Kind, Memory, Refusal};
+use drc_bits::{Cursor, put_var32};
 use std::alloc::Global;
 
 /// Reads so many faces of plain indices below `points`.
@@ -62,4 +63,41 @@ fn read_number(c: &mut Cursor<'_>, points: u32) -> Result<u32, Fault>
         return c.var32();
     }
     c.get_u32()
+}
+
+/// Appends the faces, each index by itself.
+pub fn put_plain(out: &mut Vec<u8>, faces: &[[u32; 3]], points: u32) -> Result<(), Memory>
+    ensures { OnOk result (out.new.items ≡ out.old.items ++ flat_map (face_bytes points) faces.now) }
+{
+    for face in faces {
+        put_face(out, *face, points)?;
+    }
+    Ok(())
+}
+
+/// Appends the three indices of a face.
+fn put_face(out: &mut Vec<u8>, face: [u32; 3], points: u32) -> Result<(), Memory>
+    ensures { OnOk result (out.new.items ≡ out.old.items ++ face_bytes points face) }
+{
+    let [first, second, third] = face;
+    put_index(out, first, points)?;
+    put_index(out, second, points)?;
+    put_index(out, third, points)
+}
+
+/// Appends an index in the width that indices below `points` have.
+fn put_index(out: &mut Vec<u8>, index: u32, points: u32) -> Result<(), Memory>
+    ensures { OnOk result (out.new.items ≡ out.old.items ++ index_bytes points index) }
+{
+    let bytes = index.to_le_bytes();
+    if points < 0x100 {
+        out.push(bytes[0])?;
+    } else if points < 0x1_0000 {
+        out.extend_from_slice(&bytes[..2])?;
+    } else if points < 0x20_0000 {
+        out.extend_from_slice(&put_var32(index))?;
+    } else {
+        out.extend_from_slice(&bytes)?;
+    }
+    Ok(())
 }

@@ -5,8 +5,10 @@ ghost use Rattle.drc_base.specs.declared.faults.Fault.{Fault as AnyFault};
 ghost use Rattle.drc_base.specs.declared.faults.Refusal.TheVariants as refusal;
 ghost use Rattle.drc_bits.specs.Reading.{Reads, Gives, must};
 ghost use Rattle.drc_bits.specs.Varint.{var32_at};
-ghost use Rattle.seq_section.specs.Indices.{method_at, opening_at, indices_at};
+ghost use Rattle.seq_section.specs.Indices.{method_at, opening_at, faces_at, indices_at};
 
+use crate::methods::{PACKED, PLAIN};
+use crate::packed::read_packed;
 use crate::plain::read_faces;
 use drc_base::{Fault, Kind, MAX_FACES, MAX_POINTS, Refusal, Sequence};
 use drc_bits::Cursor;
@@ -32,24 +34,39 @@ pub struct Opening {
     pub method: u8,
 }
 
-/// Reads the connectivity of a sequential mesh: `FaceLimit`, `PointLimit`, `IndexMethod`,
-/// `NotYet` where the indices are packed, `IndexRange`, and `Short` or `Long` of a number that isn't whole, the first at its place. The
-/// faults of the two numbers and of the method come before memory is taken.
+/// Reads the connectivity of a sequential mesh, or its first fault at its place: `FaceLimit`,
+/// `PointLimit`, `IndexMethod`, `IndexRange`, `Short` or `Long` of a number that isn't whole, and those
+/// of a symbol block where the indices are packed. Such a block is read whole first, and an index in it
+/// that isn't below the number of points is `IndexRange` where the block begins. The faults of the two
+/// numbers and of the method come before memory is taken.
 #[tactic(auto, unfolding(crate::specs::Indices::indices_at))]
 pub fn read_indices(alloc: Global, c: &mut Cursor<'_>) -> Result<SeqRead, Refusal>
     ensures indices { Gives (λ r. r) (indices_at c.old) c.new result }
     ensures early { (f : AnyFault) → opening_at c.old ≡ Err f → result ≡ Err (refusal.Fault f) }
 {
     let opening = read_opening(c)?;
-    let faces = read_faces(alloc, c, opening.faces, opening.points)?;
+    let faces = read_behind(alloc, c, opening)?;
     Ok(SeqRead {
         faces: Sequence::from_vec(faces),
         points: opening.points,
     })
 }
 
-/// The method of indices that are coded each by itself.
-const PLAIN: u8 = 1;
+/// Reads the faces behind the front of the section.
+fn read_behind(
+    alloc: Global,
+    c: &mut Cursor<'_>,
+    opening: Opening,
+) -> Result<Vec<[u32; 3]>, Refusal>
+    requires few_faces { opening.faces ≤ MAX_FACES }
+    requires few_points { opening.points ≤ MAX_POINTS }
+    ensures { Gives (λ v. v.items) (faces_at opening c.old) c.new result }
+{
+    if opening.method == PACKED {
+        return read_packed(alloc, c, opening.faces, opening.points);
+    }
+    read_faces(alloc, c, opening.faces, opening.points)
+}
 
 /// Reads the front of the section.
 #[tactic(auto, unfolding(crate::specs::Indices::opening_at))]
@@ -86,13 +103,9 @@ fn read_method(c: &mut Cursor<'_>) -> Result<u8, Fault>
     ensures { Reads (λ n. n) (method_at c.old) c.new result }
 {
     let unknown = c.fault(Kind::IndexMethod);
-    let unbuilt = c.fault(Kind::NotYet);
     let method = c.get_u8()?;
     if method > PLAIN {
         return Err(unknown);
-    }
-    if method != PLAIN {
-        return Err(unbuilt);
     }
     Ok(method)
 }

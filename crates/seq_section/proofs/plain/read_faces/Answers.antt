@@ -1,4 +1,4 @@
-use Rattle.std.proofs.Common.{◌≡◌, ◌-◌, arith, refl, sym, ◌∙◌}
+use Rattle.std.proofs.Common.{◌≡◌, ◌-◌, arith}
 use Rattle.std.proofs.lemmas.Result.{err_from_is_err_and}
 use Rattle.drc_bits.specs.Reading.{many_at}
 use Rattle.drc_bits.proofs.Many.{with_front-nil, many_at-next, many_at-fault, many_at-end}

@@ -1,0 +1,82 @@
+-- The report of a stream (this project's choice).
+use Rattle.std.specs.Prelude.{ℕ, ◌+◌, List, [], ◌∷◌, ◌++◌, length, codes, decimal, Result, Ok}
+use Rattle.std.specs.List.{flat_map}
+use Rattle.std.specs.Fmt.{signed_decimal}
+use Rattle.drc_base.specs.declared.faults.Fault.{Fault}
+use Rattle.drc_bits.specs.Reading.{◌>>=◌}
+use Rattle.mesh_model.specs.declared.geometries.Geometry.{Geometry}
+use Rattle.mesh_model.specs.declared.geometries.Geometry.TheVariants as geometry
+use Rattle.drc_container.specs.Stream.{stream}
+use Rattle.drc_container.specs.declared.methods.Method.{Method}
+use Rattle.drc_container.specs.declared.methods.Method.TheVariants as method
+use Rattle.drc_container.specs.declared.seen.AttrSeen.{AttrSeen}
+use Rattle.drc_container.specs.declared.seen.Seen.{Seen}
+use Rattle.drc_container.specs.declared.seen.Decoded.{Decoded}
+
+-- a word, and numbers behind it, each after a space
+abbrev pub field : List ℕ → List ℕ → List ℕ
+field word numbers = word ++ flat_map (λ n. 32 ∷ decimal n) numbers
+
+-- the end of a line
+abbrev pub newline : List ℕ
+newline = 10 ∷ []
+
+-- a line of one word and its numbers
+abbrev pub line : List ℕ → List ℕ → List ℕ
+line word numbers = field word numbers ++ newline
+
+-- the version, the geometry and the method of a mesh
+abbrev pub mesh_words : Method → List ℕ
+mesh_words method.Seq = codes "drc 2.2 mesh seq"
+mesh_words method.Eb = codes "drc 2.2 mesh eb"
+mesh_words method.Valence = codes "drc 2.2 mesh valence"
+
+-- the version, the geometry and the method
+abbrev pub form_words : Geometry → Method → List ℕ
+form_words (geometry.Mesh m) how = mesh_words how
+form_words (geometry.Cloud c) how = codes "drc 2.3 cloud seq"
+
+-- the number of faces; a cloud has none
+abbrev pub face_count : Geometry → ℕ
+face_count (geometry.Mesh m) = length m.faces
+face_count (geometry.Cloud c) = 0
+
+-- the number of points
+abbrev pub point_count : Geometry → ℕ
+point_count (geometry.Mesh m) = length m.points
+point_count (geometry.Cloud c) = length c.points
+
+-- the declared numbers of Edgebreaker connectivity; a sequential stream has none
+abbrev pub declared_line : Seen → Method → List ℕ
+declared_line seen method.Seq = []
+declared_line seen how = field (codes "symbols") (seen.symbols ∷ []) ++ field (codes " splits") (seen.splits ∷ []) ++ line (codes " events") (seen.events ∷ [])
+
+-- the line of attribute k: its head, its prediction, the number of its entries, and the place of its prediction
+abbrev pub attr_line : ℕ → AttrSeen → List ℕ
+attr_line k a = field (codes "attr") (k ∷ a.head.usage ∷ a.head.dtype ∷ a.head.comps ∷ a.head.normalized ∷ a.head.id ∷ [])
+    ++ codes " predict " ++ signed_decimal a.predict ++ field (codes " entries") (a.entries ∷ []) ++ line (codes " at") (a.at ∷ [])
+
+-- the lines of attributes, the first of them attribute k
+abbrev pub attr_lines : ℕ → List AttrSeen → List ℕ
+attr_lines k [] = []
+attr_lines k (a ∷ attrs) = attr_line k a ++ attr_lines (k + 1) attrs
+
+-- the form of the stream, and where its connectivity stands: its place and its length
+unfoldable pub first_lines : Decoded → List ℕ
+first_lines d = form_words d.geometry d.seen.method ++ newline ++ line (codes "connectivity") (d.seen.connectivity.0 ∷ d.seen.connectivity.1 ∷ [])
+
+-- how many things the stream holds
+unfoldable pub count_lines : Decoded → List ℕ
+count_lines d = line (codes "faces") (face_count d.geometry ∷ []) ++ line (codes "points") (point_count d.geometry ∷ []) ++ declared_line d.seen d.seen.method
+
+-- the last line: where the stream ends, and how many bytes follow
+unfoldable pub end_line : Seen → List ℕ
+end_line seen = field (codes "end") (seen.end ∷ []) ++ line (codes " rest") (seen.rest ∷ [])
+
+-- the report of what a stream means and what was seen of it
+unfoldable pub info_text : Decoded → List ℕ
+info_text d = first_lines d ++ count_lines d ++ attr_lines 0 d.seen.attrs ++ end_line d.seen
+
+-- the report of a stream, or its first fault
+abbrev pub report_of : List ℕ → Result (List ℕ) Fault
+report_of bytes = stream bytes >>= λ d. Ok (info_text d)
