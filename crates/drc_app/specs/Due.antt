@@ -10,33 +10,34 @@ use Rattle.ply_mesh.specs.Read.{ply_read}
 use Rattle.drc_container.specs.declared.choices.Choice.{Choice}
 use Rattle.drc_container.specs.Encoded.{encoded}
 use Rattle.drc_container.specs.Stream.{meaning_of}
+use Rattle.drc_info.specs.InfoText.{report_of}
 use Rattle.drc_app.specs.declared.commands.Command.{Command}
 use Rattle.drc_app.specs.declared.commands.Command.TheVariants as command
 
 -- the stream of the geometry that a text means, coded as chosen, and the map of its faces or points
-unfoldable pub stream_of : Choice → List ℕ → Result (List ℕ × List ℕ) Fault
-stream_of choice text = do
+unfoldable pub stream_due : Choice → List ℕ → Result (List ℕ × List ℕ) Fault
+stream_due choice text = do
   g ← ply_read text
   stream ← encoded g choice
   Ok (stream.0, map_text_of g stream.1)
 
 -- the text of the geometry that a stream means; no note
-unfoldable pub text_of : List ℕ → Result (List ℕ × List ℕ) Fault
-text_of stream = do
+unfoldable pub text_due : List ℕ → Result (List ℕ × List ℕ) Fault
+text_due stream = do
   g ← meaning_of stream
   Ok (ply_text g, [])
 
 -- the report on a stream; no note
-unfoldable pub report_of : List ℕ → Result (List ℕ × List ℕ) Fault
-report_of stream = do
-  text ← info_text_of stream
+unfoldable pub report_due : List ℕ → Result (List ℕ × List ℕ) Fault
+report_due stream = do
+  text ← report_of stream
   Ok (text, [])
 
 -- what the command gives from bytes within the limit
 abbrev pub worked : Command → List ℕ → Result (List ℕ × List ℕ) Fault
-worked (command.Enc choice) bytes = stream_of choice bytes
-worked command.Dec bytes = text_of bytes
-worked command.Info bytes = report_of bytes
+worked (command.Enc choice) bytes = stream_due choice bytes
+worked command.Dec bytes = text_due bytes
+worked command.Info bytes = report_due bytes
 
 -- too many bytes of input
 abbrev pub input_limit : Fault

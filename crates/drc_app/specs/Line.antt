@@ -3,8 +3,8 @@ use Rattle.std.specs.Prelude.{ℕ, ◌+◌, Bool, true, false, List, [], ◌∷�
 use Rattle.std.specs.Option.{option_map}
 use Rattle.std.specs.Str.{bytes_eq}
 use Rattle.drc_container.specs.declared.choices.Choice.{Choice}
-use Rattle.drc_container.specs.declared.choices.Method.{Method}
-use Rattle.drc_container.specs.declared.choices.Method.TheVariants as method
+use Rattle.drc_container.specs.declared.methods.Method.{Method}
+use Rattle.drc_container.specs.declared.methods.Method.TheVariants as method
 use Rattle.drc_container.specs.declared.choices.Index.{Index}
 use Rattle.drc_container.specs.declared.choices.Index.TheVariants as index
 use Rattle.drc_container.specs.declared.choices.Predict.{Predict}

@@ -4,7 +4,7 @@ ghost use Rattle.std.specs.Prelude.{◌≡◌, ◌≤◌, map, string_bytes, len
 ghost use Rattle.drc_base.specs.Refusals.{Answers};
 ghost use Rattle.drc_app.specs.Line.{line_of};
 ghost use Rattle.drc_app.specs.Ends.{takes};
-ghost use Rattle.drc_app.specs.Due.{input_limit, worked, stream_of, text_of, report_of};
+ghost use Rattle.drc_app.specs.Due.{input_limit, worked, stream_due, text_due, report_due};
 ghost use Rattle.drc_app.specs.Kept.{Keeps, KeepsGeometry};
 ghost use Rattle.drc_app.specs.Outcome.{IsOutcome, IsOutcomeAt};
 
@@ -85,16 +85,16 @@ fn work(alloc: Global, command: Command, bytes: &[u8]) -> Result<Due, Refusal>
     ensures kept { IfOk result (λ d. Keeps command bytes.now (d.output.items, d.note.items)) }
 {
     match command {
-        Command::Enc(choice) => stream_of(alloc, &choice, bytes),
-        Command::Dec => text_of(alloc, bytes),
-        Command::Info => report_of(alloc, bytes),
+        Command::Enc(choice) => stream_due(alloc, &choice, bytes),
+        Command::Dec => text_due(alloc, bytes),
+        Command::Info => report_due(alloc, bytes),
     }
 }
 
 /// The stream of the geometry that a text means, coded as chosen, and the map of its faces or points.
-#[tactic(auto, unfolding(crate::specs::Due::stream_of))]
-fn stream_of(alloc: Global, choice: &Choice, text: &[u8]) -> Result<Due, Refusal>
-    ensures answer { Answers (λ d. (d.output.items, d.note.items)) (stream_of choice.now text.now) result }
+#[tactic(auto, unfolding(crate::specs::Due::stream_due))]
+fn stream_due(alloc: Global, choice: &Choice, text: &[u8]) -> Result<Due, Refusal>
+    ensures answer { Answers (λ d. (d.output.items, d.note.items)) (stream_due choice.now text.now) result }
     ensures kept { IfOk result (λ d. KeepsGeometry choice.now text.now d.output.items d.note.items) }
 {
     let geometry = read_ply(alloc, text)?;
@@ -104,9 +104,9 @@ fn stream_of(alloc: Global, choice: &Choice, text: &[u8]) -> Result<Due, Refusal
 }
 
 /// The text of the geometry that a stream means, and no note.
-#[tactic(auto, unfolding(crate::specs::Due::text_of))]
-fn text_of(alloc: Global, stream: &[u8]) -> Result<Due, Refusal>
-    ensures { Answers (λ d. (d.output.items, d.note.items)) (text_of stream.now) result }
+#[tactic(auto, unfolding(crate::specs::Due::text_due))]
+fn text_due(alloc: Global, stream: &[u8]) -> Result<Due, Refusal>
+    ensures { Answers (λ d. (d.output.items, d.note.items)) (text_due stream.now) result }
 {
     let geometry = decode(alloc, stream)?;
     let output = write_ply(alloc, &geometry)?;
@@ -117,9 +117,9 @@ fn text_of(alloc: Global, stream: &[u8]) -> Result<Due, Refusal>
 }
 
 /// The report on a stream, and no note.
-#[tactic(auto, unfolding(crate::specs::Due::report_of))]
-fn report_of(alloc: Global, stream: &[u8]) -> Result<Due, Refusal>
-    ensures { Answers (λ d. (d.output.items, d.note.items)) (report_of stream.now) result }
+#[tactic(auto, unfolding(crate::specs::Due::report_due))]
+fn report_due(alloc: Global, stream: &[u8]) -> Result<Due, Refusal>
+    ensures { Answers (λ d. (d.output.items, d.note.items)) (report_due stream.now) result }
 {
     let output = report(alloc, stream)?;
     Ok(Due {

@@ -16,7 +16,7 @@ use Rattle.attr_section.specs.Heads.{heads_at}
 use Rattle.attr_section.specs.Values.{decoder_values_at, values_in}
 use Rattle.drc_container.specs.Header.{header_at, cloud_points_at}
 use Rattle.drc_container.specs.Columns.{row_at, cells_at}
-use Rattle.drc_container.specs.declared.choices.Method.TheVariants as method
+use Rattle.drc_container.specs.declared.methods.Method.TheVariants as method
 use Rattle.drc_container.specs.declared.headers.Form.{Form}
 use Rattle.drc_container.specs.declared.headers.Form.TheVariants as form
 use Rattle.drc_container.specs.declared.attributes.Attributes.{Attributes}

@@ -4,13 +4,12 @@
 #![tactic(auto)]
 
 mod attributes;
-mod choices;
 mod decoding;
 mod headers;
-
+mod methods;
 mod points;
 mod seen;
 
 pub use decoding::{decode, decode_whole};
-pub use choices::{Choice, Index, Method, Predict, Walk};
+pub use methods::Method;
 pub use seen::{AttrSeen, Decoded, Seen};

@@ -4,7 +4,7 @@ ghost use Rattle.std.specs.Prelude.{◌≡◌, IfOk};
 ghost use Rattle.drc_container.specs.Stream.{attrs_seen, seen_of};
 
 use crate::attributes::Attributes;
-use crate::choices::Method;
+use crate::methods::Method;
 use drc_base::{Memory, Sequence};
 use drc_bits::Cursor;
 use mesh_model::{Geometry, Head};
