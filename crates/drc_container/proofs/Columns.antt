@@ -1,7 +1,7 @@
 -- The rows of columns are the rows that the columns were taken from.
-use Rattle.std.proofs.Common.{◌≡◌, ℕ, zero, suc, ◌+◌, ◌-◌, ◌*◌, ◌<◌, ◌≤◌, ℤ, List, [], ◌∷◌, ◌++◌, map, length, take, drop, get_or, refl, sym, ◌∙◌, ap, arith, add-one, drop-cons}
+use Rattle.std.proofs.Common.{◌≡◌, ℕ, zero, suc, ◌+◌, ◌*◌, ◌<◌, ℤ, List, [], ◌∷◌, map, length, take, drop, get_or, refl, ◌∙◌, arith, add-one, drop-cons}
 use Rattle.std.specs.List.{flat_map, range_with_len}
-use Rattle.std.proofs.lemmas.List.{take_at, drop_at, take-append-drop, length-take-le, length-drop, length-map, get_or-map, drop_all}
+use Rattle.std.proofs.lemmas.List.{take_at, take-append-drop, length-take-le, length-drop, length-map, get_or-map, drop_all}
 use Rattle.std.proofs.Math.Seq.{drop-append-add}
 use Rattle.std.proofs.lemmas.List.Sums.{sum_by-cons}
 use Rattle.mesh_model.specs.declared.heads.Head.{Head}

@@ -1,6 +1,6 @@
 -- The integers of points attribute by attribute: a column has those of one attribute, point after point (Draco Bitstream
 -- Specification 2.2, section "Sequential Attributes").
-use Rattle.std.specs.Prelude.{ℕ, ◌*◌, ℤ, List, [], ◌∷◌, ◌++◌, map, length, take, drop}
+use Rattle.std.specs.Prelude.{ℕ, ◌*◌, ℤ, List, [], ◌∷◌, ◌++◌, map, take, drop}
 use Rattle.std.specs.List.{flat_map, range_with_len}
 use Rattle.mesh_model.specs.declared.heads.Head.{Head}
 

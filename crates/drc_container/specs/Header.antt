@@ -1,12 +1,12 @@
 -- The header of a stream (Draco Bitstream Specification 2.2, section "Header"; clouds of version 2.3 and the order of
 -- the tests are this project's choice).
-use Rattle.std.specs.Prelude.{◌≡◌, ℕ, ◌<◌, ◌≤◌, Bool, ◌==◌, ◌&&◌, ◌||◌, not, List, [], ◌∷◌, ◌++◌, Option, None, Some, Result, Ok, Err, codes, nat_le, nat_lt, if◌then◌else◌}
+use Rattle.std.specs.Prelude.{ℕ, Bool, ◌==◌, ◌&&◌, not, List, Result, Ok, Err, codes, nat_le, nat_lt, if◌then◌else◌}
 use Rattle.std.specs.Str.{bytes_eq}
 use Rattle.drc_base.specs.declared.faults.Fault.{Fault}
 use Rattle.drc_base.specs.declared.kinds.Kind.{Kind}
 use Rattle.drc_base.specs.declared.kinds.Kind.TheVariants as kind
 use Rattle.drc_base.specs.declared.limits.TheConstants.{MAX_POINTS}
-use Rattle.drc_bits.specs.Reading.{◌>>=◌, Reading, Item, must, bytes_at, fault_at}
+use Rattle.drc_bits.specs.Reading.{◌>>=◌, Reading, Item, must, bytes_at}
 use Rattle.drc_bits.specs.Numbers.{number_at}
 use Rattle.drc_container.specs.declared.headers.Form.{Form}
 use Rattle.drc_container.specs.declared.headers.Form.TheVariants as form

@@ -1,3 +1,9 @@
 pub mod Header
 pub mod Columns
 pub mod Stream
+pub mod Contents
+pub mod Choice
+pub mod Written
+pub mod Refused
+pub mod Encoded
+pub mod Layout

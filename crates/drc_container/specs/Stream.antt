@@ -1,6 +1,6 @@
 -- What a stream means (Draco Bitstream Specification 2.2, section "Draco Decoder"; the stream of clouds is this project's
 -- choice).
-use Rattle.std.specs.Prelude.{ℕ, ◌+◌, ◌-◌, ℤ, List, [], ◌∷◌, ◌++◌, length, map, Option, None, Result, Ok, Err}
+use Rattle.std.specs.Prelude.{ℕ, ◌-◌, ℤ, List, [], ◌∷◌, ◌++◌, length, map, None, Result, Ok, Err}
 use Rattle.drc_base.specs.declared.faults.Fault.{Fault}
 use Rattle.drc_base.specs.declared.kinds.Kind.TheVariants as kind
 use Rattle.drc_bits.specs.Reading.{◌>>=◌, Reading, Item, start_of}

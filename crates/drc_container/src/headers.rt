@@ -19,16 +19,16 @@ pub enum Form {
 }
 
 /// The first five bytes of every stream.
-const MAGIC: &[u8; 5] = b"DRACO";
+pub const MAGIC: &[u8; 5] = b"DRACO";
 
 /// The geometry type of clouds.
-const CLOUD: u8 = 0;
+pub const CLOUD: u8 = 0;
 
 /// The geometry type of meshes.
-const MESH: u8 = 1;
+pub const MESH: u8 = 1;
 
 /// The major version of every stream.
-const MAJOR: u8 = 2;
+pub const MAJOR: u8 = 2;
 
 /// The method of clouds as kd-trees.
 const KD_TREE: u8 = 1;
@@ -94,7 +94,7 @@ fn refused(kind: Kind, at: u64) -> Result<Form, Fault>
 }
 
 /// The minor version of a geometry type.
-fn minor_of(geometry: u8) -> u8
+pub fn minor_of(geometry: u8) -> u8
     ensures { result ≡ minor_of geometry }
 {
     if geometry == CLOUD { 3 } else { 2 }

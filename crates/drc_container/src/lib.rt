@@ -1,15 +1,29 @@
 //! A whole `.drc` stream, both ways. The contract above it: decoding gives exactly the geometry that
-//! the bytes mean, or their first fault. After the Draco Bitstream Specification 2.2, section
-//! "Draco Decoder"; the stream of clouds is this project's profile.
+//! the bytes mean, or their first fault; encoding gives exactly the bytes that a choice fixes, which
+//! mean the geometry that was given and are coded as chosen, or the first fault of the two. After the
+//! Draco Bitstream Specification 2.2, section "Draco Decoder"; the stream of clouds and what the
+//! encoder chooses are this project's profile.
 #![tactic(auto)]
 
 mod attributes;
+mod choices;
+mod choosing;
+mod coded_values;
+mod contents;
 mod decoding;
+mod encoding;
 mod headers;
 mod methods;
 mod points;
+mod refusals;
 mod seen;
+mod writing;
 
+pub use choices::{Choice, Index, Predict, Walk};
 pub use decoding::{decode, decode_whole};
+pub use encoding::encode;
 pub use methods::Method;
 pub use seen::{AttrSeen, Decoded, Seen};
+
+#[cfg(test)]
+mod tests;

@@ -1,4 +1,4 @@
-use Rattle.std.proofs.Common.{◌≡◌, Err, refl, sym, ◌∙◌, ap}
+use Rattle.std.proofs.Common.{Err, refl, ap}
 use Rattle.std.proofs.lemmas.Result.{err_from_is_err_and}
 use Rattle.drc_base.specs.declared.faults.Refusal.TheVariants as refusal
 use Rattle.drc_bits.proofs.Results.{Err-injective}

@@ -1,4 +1,3 @@
-use Rattle.std.proofs.Common.{◌≡◌, sym, ◌∙◌}
 use Rattle.drc_container.proofs.Lengths.{cells_at-whole}
 use Rattle.drc_container.proofs.Fronts.{Answers-answer_of}
 use Rattle.drc_container.proofs.decoding.mesh_of.Goals as goal

@@ -1,4 +1,4 @@
-use Rattle.std.proofs.Common.{◌≡◌, sym, ◌∙◌}
+use Rattle.std.proofs.Common.{sym}
 use Rattle.drc_container.specs.Stream.{row_of}
 use Rattle.drc_container.proofs.Rows.{rows_more}
 use Rattle.drc_container.proofs.points.points_of.Goals as goal

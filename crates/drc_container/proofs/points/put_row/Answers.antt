@@ -1,6 +1,6 @@
-use Rattle.std.proofs.Common.{◌≡◌, ◌<◌, ◌≤◌, ◌+◌, ◌*◌, ◌++◌, length, take, drop, arith, refl, sym, ◌∙◌, ap, append_assoc, append-nil, rules, ℤ, List}
+use Rattle.std.proofs.Common.{◌≡◌, ◌+◌, ◌*◌, ◌++◌, length, take, drop, sym, ◌∙◌, ap, append_assoc, append-nil}
 use Rattle.drc_container.specs.Columns.{row_at}
-use Rattle.drc_container.proofs.Rows.{columns, ColumnAt, ColumnAt-of, ColumnsFrom, row_at-end, piece_within}
+use Rattle.drc_container.proofs.Rows.{columns, ColumnAt, ColumnAt-of, row_at-end, piece_within}
 use Rattle.drc_container.proofs.points.put_row.Goals as goal
 
 pub put_piece-requires : goal.put_piece-requires

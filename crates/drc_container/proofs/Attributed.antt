@@ -1,0 +1,61 @@
+-- A geometry's one decoder and its values are what the calls that write them ask for.
+use Rattle.std.proofs.Common.{◌≡◌, ℕ, ◌≤◌, [], ◌∷◌, length, refl, arith}
+use Rattle.std.specs.List.{range_with_len}
+use Rattle.std.proofs.Common.{◌+◌, ◌++◌, map, ap, ◌∙◌, add-one}
+use Rattle.std.proofs.lemmas.List.{map-append}
+use Rattle.std.proofs.lemmas.List.Elements.{All-nil, All-cons, All-weaker}
+use Rattle.drc_base.specs.declared.limits.TheConstants.{MAX_ATTRIBUTES}
+use Rattle.mesh_model.specs.declared.geometries.Geometry.{Geometry}
+use Rattle.mesh_model.specs.Parts.{ArePoints}
+use Rattle.mesh_model.specs.Renumbering.{plain}
+use Rattle.attr_section.specs.Heads.{attributes_of, HeadPasses, DecoderPasses, DecodersPass}
+use Rattle.attr_section.specs.Written.{HasQuant, DecoderValuesPass}
+use Rattle.drc_container.specs.declared.choices.Choice.{Choice}
+use Rattle.drc_container.specs.Contents.{heads_in, points_in}
+use Rattle.drc_container.specs.Choice.{prediction_of}
+use Rattle.drc_container.specs.Written.{decoder_of, values_of}
+use Rattle.drc_container.specs.Encoded.{CanCode}
+use Rattle.drc_container.proofs.Passing.{HeadSays, heads_say}
+use Rattle.drc_container.proofs.Codable.{ColumnsPass, columns_pass}
+use Rattle.drc_container.proofs.Rows.{range_more}
+
+-- the decoder passes
+pub decoder_passes : (g : Geometry) → ArePoints (heads_in g) (points_in g) → DecodersPass (decoder_of g ∷ [])
+decoder_passes g are =
+    let say = heads_say (heads_in g) are.heads_pass in
+    let few : attributes_of (decoder_of g ∷ []) ≤ MAX_ATTRIBUTES = omega (arith, say.few) in
+    record {
+      some = omega arith;
+      few = few;
+      each = All-cons DecoderPasses (decoder_of g) [] (record {
+        some = omega (arith, say.some);
+        heads = All-weaker HeadSays HeadPasses (λ h says. says.passes) (heads_in g) say.each;
+        depth_first = refl;
+      }) (All-nil DecoderPasses);
+    }
+
+-- the values pass
+pub columns_of_geometry : (g : Geometry) (choice : Choice) → CanCode g choice → ArePoints (heads_in g) (points_in g)
+    → ColumnsPass (length (points_in g)) (heads_in g) (values_of g (prediction_of g choice))
+columns_of_geometry g choice can are =
+    columns_pass (prediction_of g choice) (heads_in g) (points_in g) (heads_say (heads_in g) are.heads_pass).each are.rows_fit can.some are.few_values can.predicted
+
+pub decoder_values_pass : (g : Geometry) (choice : Choice) → CanCode g choice → ArePoints (heads_in g) (points_in g)
+    → DecoderValuesPass (heads_in g) (values_of g (prediction_of g choice))
+decoder_values_pass g choice can are =
+    let pass = columns_of_geometry g choice can are in
+    record {
+      each_head = pass.each_head;
+      quants = All-weaker HeadSays (λ h. HasQuant h h.quant) (λ h says. says.quant) (heads_in g) (heads_say (heads_in g) are.heads_pass).each;
+      each = pass.each;
+    }
+
+-- one row more of a plain renumbering
+pub plain-more : (n : ℕ) → plain (n + 1) ≡ plain n ++ (n, 0) ∷ []
+plain-more n =
+    let row : ℕ → ℕ × ℕ = λ i. (i, 0) in
+    let here : 0 + n ≡ n = omega arith in
+    ap (λ m. map row (range_with_len 0 m)) (add-one n)
+    ∙ ap (map row) (range_more 0 n)
+    ∙ map-append row (range_with_len 0 n) ((0 + n) ∷ [])
+    ∙ ap (λ m. plain n ++ (m, 0) ∷ []) here

@@ -1,0 +1,179 @@
+-- Which fault a geometry is refused with, and what holds where there is none.
+use Rattle.std.proofs.Common.{◌≡◌, ◌⊎◌, ◌-◌, ◌^◌, ◌<◌, true, false, Bool, leb, ltb, ◌&&◌, List, [], ◌∷◌, length, Option, None, Some, Ok, Err, refl, sym, ◌∙◌, ap, subst, inl, inr, get_or, arith}
+use Rattle.std.specs.Prelude.{ℤ, pos, ◌-ℤ◌, ◌||◌, not, position, is_none, int_le, int_lt, if◌then◌else◌}
+use Rattle.std.specs.List.{All}
+use Rattle.std.proofs.lemmas.Int.{ints}
+use Rattle.std.proofs.lemmas.Bool.{le-leb, ltb-true, and_parts, not-false}
+use Rattle.std.proofs.lemmas.List.Elements.{All-from_get_or}
+use Rattle.drc_base.specs.declared.faults.Fault.{Fault}
+use Rattle.drc_base.specs.declared.faults.Refusal.{Refusal}
+use Rattle.drc_base.specs.declared.faults.Refusal.TheVariants as refusal
+use Rattle.drc_base.specs.declared.kinds.Kind.TheVariants.{Choice as ChoiceKind, Empty, NotYet, ValueLimit, Range}
+use Rattle.drc_base.specs.declared.limits.TheConstants.{MAX_VALUES}
+use Rattle.drc_base.specs.Refusals.{Refuses}
+use Rattle.mesh_model.specs.declared.geometries.Geometry.{Geometry}
+use Rattle.mesh_model.specs.Parts.{ArePoints}
+use Rattle.mesh_model.specs.FirstFault.{unless, first_fault, value_unless}
+use Rattle.mesh_model.proofs.FirstFaults.{unless-none, unless-true, at_place-none, first_fault-none}
+use Rattle.mesh_model.proofs.Places.{position-none_back}
+use Rattle.predict.specs.Wrap.{Range as WrapRange, CanWrap}
+use Rattle.attr_section.specs.declared.values.Values.{Values}
+use Rattle.attr_section.specs.Values.{no_prediction, can_wrap}
+use Rattle.attr_section.specs.Written.{range_of}
+use Rattle.drc_container.specs.declared.methods.Method.{Method}
+use Rattle.drc_container.specs.declared.methods.Method.TheVariants as method
+use Rattle.drc_container.specs.declared.choices.Predict.{Predict}
+use Rattle.drc_container.specs.declared.choices.Predict.TheVariants as predict
+use Rattle.drc_container.specs.declared.choices.Choice.{Choice}
+use Rattle.drc_container.specs.Contents.{is_mesh, heads_in, points_in, faces_in}
+use Rattle.drc_container.specs.Choice.{method_of, is_sequential, prediction_of}
+use Rattle.drc_container.specs.Refused.{chooses_parallelogram, choice_fault, empty_fault, position_fault, unbuilt_fault, early_fault, coded_values, limit_fault, range_fault, refused}
+use Rattle.drc_container.specs.Written.{values_of}
+use Rattle.drc_container.specs.Encoded.{CanCode}
+
+-- the first of a fault and others
+first_fault-some : (t : Option Fault) (f : Fault) (ts : List (Option Fault)) → t ≡ Some f → first_fault (t ∷ ts) ≡ Some f
+first_fault-some t f ts is = ap (λ x. first_fault (x ∷ ts)) is
+
+first_fault-one : (t : Option Fault) → first_fault (t ∷ []) ≡ t
+first_fault-one None = refl
+first_fault-one (Some f) = refl
+
+-- an early fault is the first
+pub refused-early : (g : Geometry) (choice : Choice) (f : Fault) → early_fault g choice ≡ Some f → refused g choice ≡ Some f
+unfolding refused
+refused-early g choice f is = first_fault-some (early_fault g choice) f _ is
+
+-- a geometry has no more values than may be coded
+limit-none : (g : Geometry) → ArePoints (heads_in g) (points_in g) → limit_fault g ≡ None
+limit-none g are = unless-true (leb (coded_values g) MAX_VALUES) ValueLimit (coded_values g) (le-leb (coded_values g) MAX_VALUES are.few_values)
+
+-- where there is no early fault, the values alone can be refused
+pub refused-later : (g : Geometry) (choice : Choice) → ArePoints (heads_in g) (points_in g) → early_fault g choice ≡ None
+    → refused g choice ≡ range_fault (prediction_of g choice) (values_of g (prediction_of g choice))
+unfolding refused
+refused-later g choice are none =
+    let r = range_fault (prediction_of g choice) (values_of g (prediction_of g choice)) in
+    ap (λ x. first_fault (x ∷ limit_fault g ∷ r ∷ [])) none
+    ∙ ap (λ x. first_fault (x ∷ r ∷ [])) (limit-none g are)
+    ∙ first_fault-one r
+
+-- a refusal doesn't depend on the value that isn't given
+pub refuses-alike : {A B : Type 0} (r : Option Fault) (a : A) (b : B) (e : Refusal) → Refuses (value_unless r a) e → Refuses (value_unless r b) e
+refuses-alike r a b refusal.Memory refuses = tt
+refuses-alike None a b (refusal.Fault f) refuses = cc
+refuses-alike (Some g) a b (refusal.Fault f) refuses = cc
+
+-- a value is given where there is no fault
+pub value-given : {A : Type 0} (r : Option Fault) (a x : A) → value_unless r a ≡ Ok x → r ≡ None
+value-given None a x is = refl
+value-given (Some f) a x is = cc
+
+sequential-is : (m : Method) → is_sequential m ≡ true → m ≡ method.Seq
+sequential-is method.Seq is = refl
+sequential-is method.Eb is = cc
+sequential-is method.Valence is = cc
+
+-- the tests of a sequential encoding
+record EarlyPasses (g : Geometry) (choice : Choice) : Type 0 where
+  pub sequential : method_of g choice ≡ method.Seq
+  pub some : 0 < length (points_in g)
+  pub no_parallelogram : chooses_parallelogram choice.predict ≡ false
+
+early_passes : (g : Geometry) (choice : Choice) → early_fault g choice ≡ None → EarlyPasses g choice
+unfolding early_fault
+early_passes g choice e =
+    let s = is_sequential (method_of g choice) in
+    let a = first_fault-none (choice_fault g choice) (empty_fault g choice ∷ position_fault g choice ∷ unbuilt_fault g choice ∷ []) e in
+    let b = first_fault-none (empty_fault g choice) (position_fault g choice ∷ unbuilt_fault g choice ∷ []) a.1 in
+    let d = first_fault-none (position_fault g choice) (unbuilt_fault g choice ∷ []) b.1 in
+    let u = first_fault-none (unbuilt_fault g choice) [] d.1 in
+    let is : s ≡ true = unless-none s NotYet 0 u.0 in
+    let t0 = unless (is_mesh g || s) ChoiceKind 0 in
+    let t1 = unless (is_none choice.index || (is_mesh g && s)) ChoiceKind 1 in
+    let t2 = unless (not (chooses_parallelogram choice.predict && s)) ChoiceKind 2 in
+    let t3 = unless (is_none choice.walk || not s) ChoiceKind 3 in
+    let c0 = first_fault-none t0 (t1 ∷ t2 ∷ t3 ∷ []) a.0 in
+    let c1 = first_fault-none t1 (t2 ∷ t3 ∷ []) c0.1 in
+    let c2 = first_fault-none t2 (t3 ∷ []) c1.1 in
+    let no : not (chooses_parallelogram choice.predict && s) ≡ true = unless-none (not (chooses_parallelogram choice.predict && s)) ChoiceKind 2 c2.0 in
+    let counted = if s then length (points_in g) else length (faces_in g) in
+    let some : 0 < counted = ltb-true 0 counted (unless-none (ltb 0 counted) Empty 0 b.0) in
+    record {
+      sequential = sequential-is (method_of g choice) is;
+      some = rw is at some;
+      no_parallelogram = neither (chooses_parallelogram choice.predict) s no is;
+    }
+  where
+    neither : (a b : Bool) → not (a && b) ≡ true → b ≡ true → a ≡ false
+    neither true true kept is = cc
+    neither true false kept is = cc
+    neither false b kept is = refl
+
+-- without a parallelogram the prediction is none or difference
+prediction-is : (g : Geometry) (choice : Choice) → method_of g choice ≡ method.Seq → chooses_parallelogram choice.predict ≡ false
+    → (prediction_of g choice ≡ no_prediction) ⊎ (prediction_of g choice ≡ pos 0)
+prediction-is g choice sequential none = go choice.predict refl none
+  where
+    go : (p : Option Predict) → choice.predict ≡ p → chooses_parallelogram p ≡ false → (prediction_of g choice ≡ no_prediction) ⊎ (prediction_of g choice ≡ pos 0)
+    go None is none = inr (rw (is, sequential) refl)
+    go (Some predict.Off) is none = inl (rw is refl)
+    go (Some predict.Diff) is none = inr (rw is refl)
+    go (Some predict.Para) is none = cc
+
+can_wraps : (r : WrapRange) → can_wrap r ≡ true → CanWrap r
+can_wraps r is =
+    let p = and_parts (int_le r.low r.high) (int_lt (r.high -ℤ r.low) (pos (2 ^ 31 - 1))) is in
+    record { ordered = grind (arith, ints, p.0); narrow = grind (arith, ints, p.1) }
+
+-- values without a fault of range can wrap
+wraps : (values : List Values) → range_fault (pos 0) values ≡ None → All (λ v. CanWrap (range_of v.values)) values
+wraps values e =
+    let test = λ (v : Values). not (can_wrap (range_of v.values)) in
+    let d : Values = record { values = []; predict = pos 0; at = 0 } in
+    All-from_get_or (λ (v : Values). CanWrap (range_of v.values)) values d (λ i below.
+    can_wraps (range_of (get_or values i d).values)
+    (not-false (can_wrap (range_of (get_or values i d).values)) (position-none_back test values (at_place-none Range (position test values) e) i d below)))
+
+-- a geometry that isn't refused can be coded
+pub can-code : (g : Geometry) (choice : Choice) → early_fault g choice ≡ None
+    → range_fault (prediction_of g choice) (values_of g (prediction_of g choice)) ≡ None → CanCode g choice
+can-code g choice early none =
+    let p = early_passes g choice early in
+    record {
+      sequential = p.sequential;
+      some = p.some;
+      predicted = elim (prediction-is g choice p.sequential p.no_parallelogram) [
+        | inl off ↦ inl off
+        | inr on ↦ inr (on, wraps (values_of g (prediction_of g choice)) (subst (λ q. range_fault q (values_of g (prediction_of g choice)) ≡ None) on none))
+      ];
+    }
+
+-- values with a fault of range are refused
+pub later-refuses : (g : Geometry) (choice : Choice) (p : ℤ) (values : List Values) (f : Fault) → ArePoints (heads_in g) (points_in g) → early_fault g choice ≡ None
+    → p ≡ prediction_of g choice → values ≡ values_of g p → range_fault p values ≡ Some f
+    → value_unless (refused g choice) (values_of g (prediction_of g choice)) ≡ Err f
+later-refuses g choice p values f are early is_p is_values fault =
+    let own : List Values = values_of g (prediction_of g choice) in
+    let same : range_fault (prediction_of g choice) own ≡ Some f =
+    sym (ap (λ q. range_fault q (values_of g q)) is_p) ∙ sym (ap (range_fault p) is_values) ∙ fault in
+    ap (λ r. value_unless r own) (refused-later g choice are early ∙ same)
+
+none-there : (g : Geometry) (choice : Choice) (p : ℤ) (values : List Values) → p ≡ prediction_of g choice → values ≡ values_of g p → range_fault p values ≡ None
+    → range_fault (prediction_of g choice) (values_of g (prediction_of g choice)) ≡ None
+none-there g choice p values is_p is_values none =
+    sym (ap (λ q. range_fault q (values_of g q)) is_p) ∙ sym (ap (range_fault p) is_values) ∙ none
+
+-- other values are given
+pub later-gives : (g : Geometry) (choice : Choice) (p : ℤ) (values : List Values) → ArePoints (heads_in g) (points_in g) → early_fault g choice ≡ None
+    → p ≡ prediction_of g choice → values ≡ values_of g p → range_fault p values ≡ None
+    → value_unless (refused g choice) (values_of g (prediction_of g choice)) ≡ Ok values
+later-gives g choice p values are early is_p is_values none =
+    let own : List Values = values_of g (prediction_of g choice) in
+    ap (λ r. value_unless r own) (refused-later g choice are early ∙ none-there g choice p values is_p is_values none)
+    ∙ ap Ok (sym (is_values ∙ ap (values_of g) is_p))
+
+-- and their geometry can be coded
+pub later-can : (g : Geometry) (choice : Choice) (p : ℤ) (values : List Values) → early_fault g choice ≡ None
+    → p ≡ prediction_of g choice → values ≡ values_of g p → range_fault p values ≡ None → CanCode g choice
+later-can g choice p values early is_p is_values none = can-code g choice early (none-there g choice p values is_p is_values none)

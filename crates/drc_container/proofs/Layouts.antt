@@ -1,0 +1,174 @@
+-- A written stream is coded as chosen.
+use Rattle.std.proofs.Common.{◌≡◌, ◌⊎◌, ℕ, ◌+◌, ◌≤◌, true, false, Bool, List, [], ◌∷◌, ◌++◌, map, length, get_or, Option, None, Some, Ok, refl, sym, ◌∙◌, ap, subst, inl, inr, arith, append_assoc, length-append, nat_le, if◌then◌else◌}
+use Rattle.std.specs.Prelude.{ℤ, pos, slice_index}
+use Rattle.std.specs.Ordering.{int_eq}
+use Rattle.std.proofs.lemmas.List.{get_or-append-add, length-map}
+use Rattle.drc_base.specs.declared.kinds.Kind.TheVariants as kind
+use Rattle.drc_base.specs.declared.limits.TheConstants.{MAX_FACES, MAX_POINTS}
+use Rattle.drc_bits.specs.Reading.{◌>>=◌, must}
+use Rattle.drc_bits.specs.Numbers.{number_at}
+use Rattle.drc_bits.specs.Varint.{var32_at, spelling}
+use Rattle.drc_bits.specs.Spells.{Spells}
+use Rattle.drc_bits.proofs.Spelled.{Spells-then, Spells-must, Spells-byte, Spells-var32}
+use Rattle.mesh_model.specs.declared.heads.Head.{Head}
+use Rattle.mesh_model.specs.declared.geometries.Geometry.{Geometry}
+use Rattle.mesh_model.specs.declared.geometries.Geometry.TheVariants.{Mesh, Cloud}
+use Rattle.mesh_model.specs.Parts.{MeshParts, IsMesh}
+use Rattle.mesh_model.specs.IsGeometry.{IsGeometry}
+use Rattle.seq_section.specs.declared.reading.Opening.{Opening}
+use Rattle.seq_section.specs.Indices.{method_at, opening_at, opening_bytes, faces_bytes, indices_bytes}
+use Rattle.predict.specs.Restored.{corrections, entry_before}
+use Rattle.attr_section.specs.declared.values.Values.{Values}
+use Rattle.attr_section.specs.Values.{no_prediction}
+use Rattle.attr_section.specs.Written.{range_of, range_bytes, integers_bytes, differences_bytes, values_bytes, attributes_bytes as columns_bytes, quants_bytes, decoder_values_bytes, placed}
+use Rattle.drc_container.specs.declared.methods.Method.TheVariants as method
+use Rattle.drc_container.specs.declared.choices.Choice.{Choice}
+use Rattle.drc_container.specs.Columns.{columns_of}
+use Rattle.drc_container.specs.Contents.{is_mesh, heads_in, points_in}
+use Rattle.drc_container.specs.Choice.{method_of, prediction_of, index_of, is_packed}
+use Rattle.drc_container.specs.Stream.{attrs_seen}
+use Rattle.drc_container.specs.Written.{header_bytes, connectivity_bytes, attribute_heads_bytes, attributes_bytes, values_of, stream_bytes}
+use Rattle.drc_container.specs.Encoded.{CanCode, ConnectivitySpelled, AttributesSpelled}
+use Rattle.drc_container.specs.Layout.{AttrLayout, Layout, attr_layout, index_layout, opening_method, layout_seen, layout_of, method_byte, layout_chosen}
+use Rattle.drc_container.proofs.Meanings.{connectivity_place, attributes_place, seen_written, stream-written}
+
+-- whether values are compressed, as a byte
+abbrev compressed_byte : Bool → ℕ
+compressed_byte plain = if plain then 0 else 1
+
+-- integers begin with that byte
+integers-first : (plain : Bool) (comps : ℕ) (values : List ℤ) (rest : List ℕ) → get_or (integers_bytes plain comps values ++ rest) 0 0 ≡ compressed_byte plain
+unfolding integers_bytes
+integers-first true comps values rest = refl
+integers-first false comps values rest = refl
+
+-- how values are predicted
+abbrev pub IsPredicted : ℤ → Type 0
+IsPredicted predict = (predict ≡ no_prediction) ⊎ (predict ≡ pos 0)
+
+-- where that byte stands in the values of an attribute
+compressed-at : (plain : Bool) (comps : ℕ) (values : List ℤ) (predict : ℤ) (rest : List ℕ) → IsPredicted predict
+    → get_or (values_bytes plain comps (record { values = values; predict = predict; at = 0 }) ++ rest) (if int_eq predict no_prediction then 1 else 2) 0 ≡ compressed_byte plain
+unfolding values_bytes differences_bytes
+compressed-at plain comps values predict rest (inl off) = rw off (integers-first plain comps values rest)
+compressed-at plain comps values predict rest (inr on) =
+    let r = range_of values in
+    let cs = corrections (entry_before comps) r values in
+    rw on (ap (λ bytes. get_or bytes 0 0) (append_assoc (integers_bytes plain comps cs) (range_bytes r) rest) ∙ integers-first plain comps cs (range_bytes r ++ rest))
+
+-- the attributes that are seen in these bytes are coded with this prediction
+layouts : (plain : Bool) (n : ℕ) (bytes front rest : List ℕ) (place : ℕ) (predict : ℤ) (heads : List Head) (columns : List (List ℤ))
+    → IsPredicted predict → length columns ≡ length heads → place ≡ length front
+    → bytes ≡ front ++ (columns_bytes plain heads (map (λ column. record { values = column; predict = predict; at = 0 }) columns) ++ rest)
+    → map (attr_layout bytes) (attrs_seen n heads (placed plain place heads (map (λ column. record { values = column; predict = predict; at = 0 }) columns)))
+    ≡ map (λ _. record { predict = predict; compressed = compressed_byte plain }) heads
+layouts plain n bytes front rest place predict [] columns predicted same at is = refl
+layouts plain n bytes front rest place predict (h ∷ heads) [] predicted same at is = absurd (omega (arith, same))
+layouts plain n bytes front rest place predict (h ∷ heads) (column ∷ columns) predicted same at is =
+    let made = λ (column : List ℤ). let v : Values = record { values = column; predict = predict; at = 0 } in v in
+    let this = values_bytes plain h.comps (made column) in
+    let others = columns_bytes plain heads (map made columns) in
+    let skip : ℕ = if int_eq predict no_prediction then 1 else 2 in
+    let parted : bytes ≡ front ++ (this ++ (others ++ rest)) = is ∙ ap (λ l. front ++ l) (append_assoc this others rest) in
+    let byte : get_or bytes (place + skip) 0 ≡ compressed_byte plain =
+    ap (λ l. get_or l (place + skip) 0) parted
+    ∙ ap (λ p. get_or (front ++ (this ++ (others ++ rest))) (p + skip) 0) at
+    ∙ get_or-append-add front (this ++ (others ++ rest)) skip 0
+    ∙ compressed-at plain h.comps column predict (others ++ rest) predicted in
+    let again = layouts plain n bytes (front ++ this) rest (place + length this) predict heads columns predicted (omega (arith, same))
+    (omega (arith, at, length-append front this)) (parted ∙ sym (append_assoc front this (others ++ rest))) in
+    ap (λ c. record { predict = predict; compressed = c } ∷ map (attr_layout bytes) (attrs_seen n heads (placed plain (place + length this) heads (map made columns)))) byte
+    ∙ ap (λ l. record { predict = predict; compressed = compressed_byte plain } ∷ l) again
+
+-- the opening of indices
+opening-spelled : (faces points method : ℕ) → faces ≤ MAX_FACES → points ≤ MAX_POINTS → method ≤ 1
+    → Spells opening_at (opening_bytes faces points method) (record { faces = faces; points = points; method = method })
+unfolding opening_at
+opening-spelled faces points method few_faces few_points known =
+    let opening : Opening = record { faces = faces; points = points; method = method } in
+    let f : nat_le faces MAX_FACES ≡ true = grind (arith, few_faces) in
+    let p : nat_le points MAX_POINTS ≡ true = grind (arith, few_points) in
+    let m : nat_le method 1 ≡ true = grind (arith, known) in
+    subst (λ bytes. Spells opening_at bytes opening) (sym (append_assoc (spelling 5 faces) (spelling 5 points) (method ∷ [])))
+    (Spells-then (must kind.FaceLimit (λ n. nat_le n MAX_FACES) var32_at) (λ f c. must kind.PointLimit (λ n. nat_le n MAX_POINTS) var32_at c >>= λ p. method_at p.1 >>= λ m. Ok (record { faces = f; points = p.0; method = m.0 }, m.1))
+    (spelling 5 faces) (spelling 5 points ++ (method ∷ [])) faces opening
+    (Spells-must kind.FaceLimit (λ n. nat_le n MAX_FACES) var32_at (spelling 5 faces) faces f (Spells-var32 faces (omega (arith, few_faces))))
+    (Spells-then (must kind.PointLimit (λ n. nat_le n MAX_POINTS) var32_at) (λ p c. method_at c >>= λ m. Ok (record { faces = faces; points = p; method = m.0 }, m.1))
+    (spelling 5 points) (method ∷ []) points opening
+    (Spells-must kind.PointLimit (λ n. nat_le n MAX_POINTS) var32_at (spelling 5 points) points p (Spells-var32 points (omega (arith, few_points))))
+    (record { reads = λ place rest. rw ((Spells-must kind.IndexMethod (λ n. nat_le n 1) (number_at 1) (method ∷ []) method m (Spells-byte method)).reads place rest) refl })))
+
+-- the method of the indices of a written mesh
+index-mesh : (m : MeshParts) (packed : Bool) (place : ℕ) (rest : List ℕ) → IsMesh m
+    → opening_method (opening_at (record { place = place; rest = connectivity_bytes packed (Mesh m) ++ rest })) ≡ Some (if packed then 0 else 1)
+unfolding indices_bytes
+index-mesh m packed place rest is =
+    let code = if packed then 0 else 1 in
+    let known : code ≤ 1 = code_known packed in
+    let back = faces_bytes packed m.faces (length m.points) in
+    ap (λ bytes. opening_method (opening_at (record { place = place; rest = bytes }))) (append_assoc (opening_bytes (length m.faces) (length m.points) code) back rest)
+    ∙ ap opening_method ((opening-spelled (length m.faces) (length m.points) code is.few_faces is.points.few_points known).reads place (back ++ rest))
+  where
+    code_known : (packed : Bool) → (if packed then 0 else 1) ≤ 1
+    code_known true = omega arith
+    code_known false = omega arith
+
+-- the parts of the bytes of a written stream
+parts : (g : Geometry) (choice : Choice)
+    → stream_bytes g choice ≡ (header_bytes g ++ (connectivity_bytes (is_packed (index_of choice)) g ++ attribute_heads_bytes g))
+    ++ (columns_bytes choice.plain_values (heads_in g) (values_of g (prediction_of g choice)) ++ quants_bytes (heads_in g))
+unfolding stream_bytes attributes_bytes decoder_values_bytes
+parts g choice =
+    let h = header_bytes g in
+    let c = connectivity_bytes (is_packed (index_of choice)) g in
+    let a = attribute_heads_bytes g in
+    let v = columns_bytes choice.plain_values (heads_in g) (values_of g (prediction_of g choice)) ++ quants_bytes (heads_in g) in
+    ap (λ l. h ++ l) (sym (append_assoc c a v)) ∙ sym (append_assoc h (c ++ a) v)
+
+method-written : (g : Geometry) (choice : Choice) → slice_index (stream_bytes g choice) 8 ≡ 0
+unfolding stream_bytes header_bytes
+method-written g choice = refl
+
+index-written : (g : Geometry) (choice : Choice) → IsGeometry g
+    → index_layout (stream_bytes g choice) (connectivity_place g) ≡ (if is_mesh g then Some (if is_packed (index_of choice) then 0 else 1) else None)
+unfolding stream_bytes header_bytes
+index-written (Mesh m) choice is =
+    index-mesh m (is_packed (index_of choice)) (connectivity_place (Mesh m)) (attributes_bytes choice.plain_values (Mesh m) (prediction_of (Mesh m) choice)) is
+index-written (Cloud c) choice is = refl
+
+index-chosen : (g : Geometry) (choice : Choice) → method_of g choice ≡ method.Seq
+    → (layout_chosen g choice).index ≡ (if is_mesh g then Some (if is_packed (index_of choice) then 0 else 1) else None)
+index-chosen (Mesh m) choice sequential = rw sequential refl
+index-chosen (Cloud c) choice sequential = refl
+
+predicted-of : (g : Geometry) (choice : Choice) → CanCode g choice → IsPredicted (prediction_of g choice)
+predicted-of g choice can = elim can.predicted [ inl off ↦ inl off | inr on ↦ inr on.0 ]
+
+attributes-written : (g : Geometry) (choice : Choice) → CanCode g choice → length (values_of g (prediction_of g choice)) ≡ length (heads_in g)
+    → map (attr_layout (stream_bytes g choice)) (seen_written g choice).attrs ≡ (layout_chosen g choice).attributes
+attributes-written g choice can same =
+    let h = header_bytes g in
+    let c = connectivity_bytes (is_packed (index_of choice)) g in
+    let a = attribute_heads_bytes g in
+    let columns = columns_of (heads_in g) (points_in g) in
+    layouts choice.plain_values (length (points_in g)) (stream_bytes g choice) (h ++ (c ++ a)) (quants_bytes (heads_in g)) (attributes_place g choice + length a)
+    (prediction_of g choice) (heads_in g) columns (predicted-of g choice can)
+    (sym (length-map columns (λ column. let v : Values = record { values = column; predict = prediction_of g choice; at = 0 } in v)) ∙ same)
+    (omega (arith, length-append h (c ++ a), length-append c a)) (parts g choice)
+
+-- a written stream is coded as chosen
+pub layout-written : (g : Geometry) (choice : Choice) → CanCode g choice → IsGeometry g → ConnectivitySpelled (is_packed (index_of choice)) g
+    → AttributesSpelled choice.plain_values g (prediction_of g choice) → length (values_of g (prediction_of g choice)) ≡ length (heads_in g)
+    → layout_of (stream_bytes g choice) ≡ Ok (layout_chosen g choice)
+layout-written g choice can is connectivity attributes same =
+    let bytes = stream_bytes g choice in
+    let seen = seen_written g choice in
+    let made : ℕ → Option ℕ → List AttrLayout → Layout = λ m i a. record { method = m; index = i; attributes = a } in
+    let m : slice_index bytes 8 ≡ (layout_chosen g choice).method = method-written g choice ∙ sym (ap method_byte can.sequential) in
+    let i : index_layout bytes seen.connectivity.0 ≡ (layout_chosen g choice).index = index-written g choice is ∙ sym (index-chosen g choice can.sequential) in
+    let a : map (attr_layout bytes) seen.attrs ≡ (layout_chosen g choice).attributes = attributes-written g choice can same in
+    ap (λ r. r >>= λ d. Ok (layout_seen bytes d.seen)) (stream-written g choice is connectivity attributes same)
+    ∙ ap Ok (
+    ap (λ m. made m (index_layout bytes seen.connectivity.0) (map (attr_layout bytes) seen.attrs)) m
+    ∙ ap (λ i. made (layout_chosen g choice).method i (map (attr_layout bytes) seen.attrs)) i
+    ∙ ap (λ a. made (layout_chosen g choice).method (layout_chosen g choice).index a) a)

@@ -1,0 +1,155 @@
+-- A written stream means the geometry that was written.
+use Rattle.std.proofs.Common.{◌≡◌, ℕ, ◌+◌, List, [], ◌∷◌, ◌++◌, map, length, Ok, refl, sym, ◌∙◌, ap, arith, append-nil, length-append}
+use Rattle.std.specs.Prelude.{ℤ, Bool}
+use Rattle.std.specs.List.{All}
+use Rattle.drc_bits.specs.Reading.{◌>>=◌, Reading}
+use Rattle.mesh_model.specs.declared.heads.Head.{Head}
+use Rattle.mesh_model.specs.declared.geometries.Geometry.{Geometry}
+use Rattle.mesh_model.specs.declared.geometries.Geometry.TheVariants.{Mesh, Cloud}
+use Rattle.mesh_model.specs.Head.{width_of}
+use Rattle.mesh_model.specs.Parts.{MeshParts, CloudParts, RowFits, IsMesh, IsCloud, mesh_of, cloud_of, cells_of}
+use Rattle.mesh_model.specs.IsGeometry.{IsGeometry}
+use Rattle.mesh_model.specs.Renumbering.{plain as plain_rows}
+use Rattle.mesh_model.specs.SameLaws.{count_of}
+use Rattle.mesh_model.proofs.SameLaws.{same-refl}
+use Rattle.mesh_model.proofs.Made.{mesh_of-IsMesh, cloud_of-IsCloud}
+use Rattle.attr_section.specs.declared.values.Values.{Values}
+use Rattle.attr_section.specs.Written.{placed, values_bytes}
+use Rattle.drc_container.specs.declared.choices.Choice.{Choice}
+use Rattle.drc_container.specs.declared.seen.Seen.{Seen}
+use Rattle.drc_container.specs.declared.seen.Decoded.{Decoded}
+use Rattle.drc_container.specs.Columns.{columns_of, cells_at}
+use Rattle.drc_container.specs.Contents.{heads_in, points_in}
+use Rattle.drc_container.specs.Choice.{prediction_of, index_of, is_packed}
+use Rattle.drc_container.specs.Stream.{stream, body_at, mesh_at, mesh_behind, cloud_at, cloud_behind, attributes_at, seen_of, points_of}
+use Rattle.drc_container.specs.Written.{header_bytes, connectivity_bytes, attributes_bytes, attribute_heads_bytes, values_of, stream_bytes}
+use Rattle.drc_container.specs.Encoded.{ConnectivitySpelled, AttributesSpelled, attributes_again, Means}
+use Rattle.drc_container.proofs.Columns.{AreWide, cells_at-columns_of}
+use Rattle.drc_container.proofs.Extracted.{valued}
+use Rattle.drc_container.proofs.Again.{written_form, header_spelled}
+
+-- values keep their integers where their places are told
+placed-columns : (plain : Bool) (place : ℕ) (heads : List Head) (values : List Values) → length values ≡ length heads
+    → map (λ v. v.values) (placed plain place heads values) ≡ map (λ v. v.values) values
+placed-columns plain place [] [] same = refl
+placed-columns plain place [] (v ∷ values) same = absurd (omega (arith, same))
+placed-columns plain place (h ∷ heads) [] same = refl
+placed-columns plain place (h ∷ heads) (v ∷ values) same =
+    ap (λ l. v.values ∷ l) (placed-columns plain (place + length (values_bytes plain h.comps v)) heads values (omega (arith, same)))
+
+valued-columns : (predict : ℤ) (columns : List (List ℤ)) → map (λ v. v.values) (valued predict columns) ≡ columns
+valued-columns predict [] = refl
+valued-columns predict (column ∷ columns) = ap (λ l. column ∷ l) (valued-columns predict columns)
+
+-- each row is as wide as the heads say
+wide-rows : (heads : List Head) (points : List (List ℤ)) → All (RowFits heads) points → AreWide (width_of heads) points
+wide-rows heads points fit = λ j below. (fit j [] below).0
+
+-- the cells that are read back are those of the points
+cells-again : (plain : Bool) (place : ℕ) (predict : ℤ) (heads : List Head) (points : List (List ℤ)) → All (RowFits heads) points
+    → length (valued predict (columns_of heads points)) ≡ length heads
+    → cells_at heads (map (λ v. v.values) (placed plain place heads (valued predict (columns_of heads points)))) (length points) ≡ cells_of points
+cells-again plain place predict heads points fit same =
+    ap (λ columns. cells_at heads columns (length points))
+    (placed-columns plain place heads (valued predict (columns_of heads points)) same ∙ valued-columns predict (columns_of heads points))
+    ∙ cells_at-columns_of heads points (wide-rows heads points fit)
+
+-- where connectivity and attributes of a written stream begin, and where it ends
+abbrev pub connectivity_place : Geometry → ℕ
+connectivity_place g = 0 + length (header_bytes g)
+
+abbrev pub attributes_place : Geometry → Choice → ℕ
+attributes_place g choice = connectivity_place g + length (connectivity_bytes (is_packed (index_of choice)) g)
+
+abbrev pub end_place : Geometry → Choice → ℕ
+end_place g choice = attributes_place g choice + length (attributes_bytes choice.plain_values g (prediction_of g choice))
+
+-- what is seen of a written stream
+abbrev pub seen_written : Geometry → Choice → Seen
+seen_written g choice =
+    seen_of (connectivity_place g) (attributes_place g choice) (length (points_in g))
+    (attributes_again choice.plain_values g (prediction_of g choice) (attributes_place g choice)) (record { place = end_place g choice; rest = [] })
+
+-- what a written stream means
+abbrev pub decoded_written : Geometry → Choice → Decoded
+decoded_written g choice = record { geometry = g; seen = seen_written g choice }
+
+-- where the connectivity of a written stream begins
+abbrev behind_header : Geometry → Choice → Reading
+behind_header g choice = record {
+  place = connectivity_place g;
+  rest = connectivity_bytes (is_packed (index_of choice)) g ++ attributes_bytes choice.plain_values g (prediction_of g choice);
+}
+
+body-mesh : (m : MeshParts) (choice : Choice) → IsMesh m → ConnectivitySpelled (is_packed (index_of choice)) (Mesh m)
+    → AttributesSpelled choice.plain_values (Mesh m) (prediction_of (Mesh m) choice)
+    → length (values_of (Mesh m) (prediction_of (Mesh m) choice)) ≡ length m.heads
+    → mesh_at (behind_header (Mesh m) choice) ≡ Ok (decoded_written (Mesh m) choice)
+unfolding mesh_at mesh_behind
+body-mesh m choice is connectivity attributes same =
+    let predict = prediction_of (Mesh m) choice in
+    let bytes = attributes_bytes choice.plain_values (Mesh m) predict in
+    let p = connectivity_place (Mesh m) in
+    let q = attributes_place (Mesh m) choice in
+    let n = length m.points in
+    let a = attributes_again choice.plain_values (Mesh m) predict q in
+    let end : Reading = record { place = end_place (Mesh m) choice; rest = [] } in
+    ap (λ x. x >>= λ indices. mesh_behind p indices.0 indices.1) (connectivity.reads p bytes)
+    ∙ ap (λ rest. attributes_at n (record { place = q; rest = rest }) >>= λ a. mesh_of a.0.heads (points_of n a.0) m.faces >>= λ mesh. Ok (record { geometry = Mesh mesh; seen = seen_of p q n a.0 a.1 })) (sym (append-nil bytes))
+    ∙ ap (λ x. x >>= λ a. mesh_of a.0.heads (points_of n a.0) m.faces >>= λ mesh. Ok (record { geometry = Mesh mesh; seen = seen_of p q n a.0 a.1 })) (attributes.reads q [])
+    ∙ ap (λ x. x >>= λ mesh. Ok (record { geometry = Mesh mesh; seen = seen_of p q n a end }))
+    (ap (λ cells. mesh_of m.heads cells m.faces) (cells-again choice.plain_values (q + length (attribute_heads_bytes (Mesh m))) predict m.heads m.points is.points.rows_fit same) ∙ mesh_of-IsMesh m is)
+
+body-cloud : (m : CloudParts) (choice : Choice) → IsCloud m → ConnectivitySpelled (is_packed (index_of choice)) (Cloud m)
+    → AttributesSpelled choice.plain_values (Cloud m) (prediction_of (Cloud m) choice)
+    → length (values_of (Cloud m) (prediction_of (Cloud m) choice)) ≡ length m.heads
+    → cloud_at (behind_header (Cloud m) choice) ≡ Ok (decoded_written (Cloud m) choice)
+unfolding cloud_at cloud_behind
+body-cloud m choice is connectivity attributes same =
+    let predict = prediction_of (Cloud m) choice in
+    let bytes = attributes_bytes choice.plain_values (Cloud m) predict in
+    let p = connectivity_place (Cloud m) in
+    let q = attributes_place (Cloud m) choice in
+    let n = length m.points in
+    let a = attributes_again choice.plain_values (Cloud m) predict q in
+    let end : Reading = record { place = end_place (Cloud m) choice; rest = [] } in
+    ap (λ x. x >>= λ points. cloud_behind p points.0 points.1) (connectivity.reads p bytes)
+    ∙ ap (λ rest. attributes_at n (record { place = q; rest = rest }) >>= λ a. cloud_of a.0.heads (points_of n a.0) >>= λ cloud. Ok (record { geometry = Cloud cloud; seen = seen_of p q n a.0 a.1 })) (sym (append-nil bytes))
+    ∙ ap (λ x. x >>= λ a. cloud_of a.0.heads (points_of n a.0) >>= λ cloud. Ok (record { geometry = Cloud cloud; seen = seen_of p q n a.0 a.1 })) (attributes.reads q [])
+    ∙ ap (λ x. x >>= λ cloud. Ok (record { geometry = Cloud cloud; seen = seen_of p q n a end }))
+    (ap (λ cells. cloud_of m.heads cells) (cells-again choice.plain_values (q + length (attribute_heads_bytes (Cloud m))) predict m.heads m.points is.rows_fit same) ∙ cloud_of-IsCloud m is)
+
+body-written : (g : Geometry) (choice : Choice) → IsGeometry g → ConnectivitySpelled (is_packed (index_of choice)) g
+    → AttributesSpelled choice.plain_values g (prediction_of g choice) → length (values_of g (prediction_of g choice)) ≡ length (heads_in g)
+    → body_at (written_form g) (behind_header g choice) ≡ Ok (decoded_written g choice)
+body-written (Mesh m) choice is connectivity attributes same = body-mesh m choice is connectivity attributes same
+body-written (Cloud m) choice is connectivity attributes same = body-cloud m choice is connectivity attributes same
+
+-- a written stream means its geometry
+pub stream-written : (g : Geometry) (choice : Choice) → IsGeometry g → ConnectivitySpelled (is_packed (index_of choice)) g
+    → AttributesSpelled choice.plain_values g (prediction_of g choice) → length (values_of g (prediction_of g choice)) ≡ length (heads_in g)
+    → stream (stream_bytes g choice) ≡ Ok (decoded_written g choice)
+unfolding stream stream_bytes
+stream-written g choice is connectivity attributes same =
+    ap (λ x. x >>= λ header. body_at header.0 header.1)
+    ((header_spelled g).reads 0 (connectivity_bytes (is_packed (index_of choice)) g ++ attributes_bytes choice.plain_values g (prediction_of g choice)))
+    ∙ body-written g choice is connectivity attributes same
+
+length-written : (g : Geometry) (choice : Choice) → end_place g choice ≡ length (stream_bytes g choice)
+unfolding stream_bytes
+length-written g choice =
+    let h = header_bytes g in
+    let c = connectivity_bytes (is_packed (index_of choice)) g in
+    let a = attributes_bytes choice.plain_values g (prediction_of g choice) in
+    omega (arith, length-append h (c ++ a), length-append c a)
+
+pub means : (g : Geometry) (choice : Choice) → IsGeometry g → ConnectivitySpelled (is_packed (index_of choice)) g
+    → AttributesSpelled choice.plain_values g (prediction_of g choice) → length (values_of g (prediction_of g choice)) ≡ length (heads_in g)
+    → Means g (stream_bytes g choice) (plain_rows (count_of g))
+means g choice is connectivity attributes same = record {
+  decoded = decoded_written g choice;
+  stream_is = stream-written g choice is connectivity attributes same;
+  same = same-refl g;
+  points = refl;
+  whole = length-written g choice;
+}

@@ -1,0 +1,51 @@
+-- What a choice says of an encoding, with what is written where nothing is chosen (this project's choice).
+use Rattle.std.specs.Prelude.{ℤ, pos, negsuc, Bool, true, false, unwrap_or, if◌then◌else◌}
+use Rattle.mesh_model.specs.declared.geometries.Geometry.{Geometry}
+use Rattle.drc_container.specs.declared.methods.Method.{Method}
+use Rattle.drc_container.specs.declared.methods.Method.TheVariants as method
+use Rattle.drc_container.specs.declared.choices.Index.{Index}
+use Rattle.drc_container.specs.declared.choices.Index.TheVariants as indexed
+use Rattle.drc_container.specs.declared.choices.Predict.{Predict}
+use Rattle.drc_container.specs.declared.choices.Predict.TheVariants as predict
+use Rattle.drc_container.specs.declared.choices.Choice.{Choice}
+use Rattle.drc_container.specs.Contents.{is_mesh}
+
+-- the method: Edgebreaker with standard symbols for a mesh and sequential for a cloud, where none is chosen
+abbrev pub method_of : Geometry → Choice → Method
+method_of g choice = unwrap_or choice.method (if is_mesh g then method.Eb else method.Seq)
+
+-- whether a method is sequential
+abbrev pub is_sequential : Method → Bool
+is_sequential method.Seq = true
+is_sequential method.Eb = false
+is_sequential method.Valence = false
+
+-- whether indices are packed
+abbrev pub is_packed : Index → Bool
+is_packed indexed.Plain = false
+is_packed indexed.Packed = true
+
+-- whether a prediction is by a parallelogram
+abbrev pub is_parallelogram : Predict → Bool
+is_parallelogram predict.Off = false
+is_parallelogram predict.Diff = false
+is_parallelogram predict.Para = true
+
+-- how indices are written: plain, where nothing is chosen
+abbrev pub index_of : Choice → Index
+index_of choice = unwrap_or choice.index indexed.Plain
+
+-- how values are predicted: by the entry before under the sequential method and by a parallelogram else, where nothing is
+-- chosen
+abbrev pub predict_of : Method → Choice → Predict
+predict_of m choice = unwrap_or choice.predict (if is_sequential m then predict.Diff else predict.Para)
+
+-- the number of a prediction: -2 none, 0 difference, 1 parallelogram
+abbrev pub number_of_predict : Predict → ℤ
+number_of_predict predict.Off = negsuc 1
+number_of_predict predict.Diff = pos 0
+number_of_predict predict.Para = pos 1
+
+-- the number of the prediction of a geometry's values
+abbrev pub prediction_of : Geometry → Choice → ℤ
+prediction_of g choice = number_of_predict (predict_of (method_of g choice) choice)

@@ -1,0 +1,88 @@
+//! Encoding a geometry.
+
+ghost use Rattle.std.specs.Prelude.{◌≡◌, ◌<◌, ◌≤◌, Ok, Err, Some, None, length, IfOk};
+ghost use Rattle.drc_base.specs.declared.faults.Fault.{Fault as AnyFault};
+ghost use Rattle.drc_base.specs.declared.faults.Refusal.TheVariants as refusal;
+ghost use Rattle.drc_base.specs.Refusals.{Answers};
+ghost use Rattle.mesh_model.specs.FirstFault.{value_unless};
+ghost use Rattle.mesh_model.specs.Renumbering.{plain};
+ghost use Rattle.mesh_model.specs.SameLaws.{count_of};
+ghost use Rattle.drc_container.specs.Choice.{prediction_of};
+ghost use Rattle.drc_container.specs.Refused.{early_fault, refused};
+ghost use Rattle.drc_container.specs.Written.{values_of};
+ghost use Rattle.drc_container.specs.Encoded.{due, CanCode, Means};
+ghost use Rattle.drc_container.specs.Layout.{layout_of, layout_chosen};
+
+use crate::choices::Choice;
+use crate::choosing::prediction_of;
+use crate::coded_values::values_of;
+use crate::contents::point_count;
+use crate::refusals::{test_early, test_ranges};
+use crate::writing::write_stream;
+use attr_section::Values;
+use drc_base::{Memory, Refusal, Sequence};
+use mesh_model::{Geometry, Renumber};
+use std::alloc::Global;
+
+/// The stream of a geometry, coded as chosen, and the rows by which its geometry is the one that is
+/// encoded: row i is (i, 0), since faces and points keep their order. The stream means the same
+/// points in the same order and the same faces, with the same integers.
+///
+/// Refusals, the first that applies. `Choice`: at 0 a cloud with Edgebreaker, at 1 an index method
+/// where the method isn't sequential on a mesh, at 2 a parallelogram and at 3 a walk where the method
+/// is sequential. `Empty` at 0: no points under the sequential method, no faces else. `NoPosition` at
+/// 0: Edgebreaker, and the first attribute is no position. `NotYet` at 0: Edgebreaker, which isn't
+/// built yet. `ValueLimit` at the number of coded values where that is above 2^24. `Range` at the
+/// number of the first attribute that is predicted though its greatest value is 2^31 - 1 or more
+/// above its least. Before the last two no memory is taken.
+pub fn encode(alloc: Global, g: &Geometry, choice: &Choice) -> Result<(Vec<u8>, Renumber), Refusal>
+    ensures answer { Answers (λ r. (r.0.items, r.1.rows)) (due g.now choice.now) result }
+    ensures early { (f : AnyFault) → early_fault g.now choice.now ≡ Some f → result ≡ Err (refusal.Fault f) }
+    ensures means { IfOk result (λ r. Means g.now r.0.items r.1.rows) }
+    ensures layout { IfOk result (λ r. layout_of r.0.items ≡ Ok (layout_chosen g.now choice.now)) }
+{
+    test_early(g, choice)?;
+    let values = coded_values(alloc, g, choice)?;
+    let bytes = write_stream(alloc, g, choice, values.as_slice())?;
+    let rows = plain_rows(alloc, row_count(g))?;
+    Ok((
+        bytes,
+        Renumber {
+            rows: Sequence::from_vec(rows),
+        },
+    ))
+}
+
+/// The coded values of a geometry that has no earlier fault.
+fn coded_values(alloc: Global, g: &Geometry, choice: &Choice) -> Result<Vec<Values>, Refusal>
+    requires { early_fault g.now choice.now ≡ None }
+    ensures answer { Answers (λ v. v.items) (value_unless (refused g.now choice.now) (values_of g.now (prediction_of g.now choice.now))) result }
+    ensures can { IfOk result (λ _. CanCode g.now choice.now) }
+{
+    let _count = point_count(g);
+    let predict = prediction_of(g, choice);
+    let values = values_of(alloc, g, predict)?;
+    test_ranges(predict, values.as_slice())?;
+    Ok(values)
+}
+
+/// How many rows a renumbering of a geometry has: its faces, or the points of a cloud.
+fn row_count(g: &Geometry) -> u32
+    ensures { result ≡ count_of g.now }
+{
+    match g {
+        Geometry::Mesh(mesh) => mesh.face_count(),
+        Geometry::Cloud(cloud) => cloud.point_count(),
+    }
+}
+
+/// So many rows, each of which names its own number and has no turn.
+fn plain_rows(alloc: Global, count: u32) -> Result<Vec<(u32, u8)>, Memory>
+    ensures { IfOk result (λ v. v.items ≡ plain count) }
+{
+    let mut rows = Vec::with_capacity(alloc, count as usize)?;
+    for i in 0..count {
+        rows.push((i, 0))?;
+    }
+    Ok(rows)
+}

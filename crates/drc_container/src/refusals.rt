@@ -1,0 +1,155 @@
+//! Which geometries and choices are refused.
+
+ghost use Rattle.std.specs.Prelude.{◌≡◌, ◌<◌, length, position, not};
+ghost use Rattle.std.specs.Int.{int_min, int_max};
+ghost use Rattle.std.specs.List.{fold};
+ghost use Rattle.mesh_model.specs.FirstFault.{Tests, unless};
+ghost use Rattle.attr_section.specs.Values.{can_wrap};
+ghost use Rattle.attr_section.specs.Written.{range_of};
+ghost use Rattle.drc_container.specs.Contents.{heads_in};
+ghost use Rattle.drc_container.specs.Refused.{choice_fault, empty_fault, position_fault, unbuilt_fault, early_fault, begins_with_position, range_fault};
+
+use crate::choices::{Choice, Predict};
+use crate::choosing::is_sequential;
+use crate::contents::{face_count, heads_in, is_mesh, point_count};
+use attr_section::Values;
+use drc_base::{Fault, Kind};
+use mesh_model::{Geometry, Head};
+
+/// No prediction.
+const NO_PREDICTION: i8 = -2;
+
+/// A fault of this kind with this number, where a test doesn't hold.
+fn unless(holds: bool, kind: Kind, at: u64) -> Result<(), Fault>
+    ensures { Tests (unless holds kind at) result }
+{
+    if holds {
+        Ok(())
+    } else {
+        Err(Fault { kind, at })
+    }
+}
+
+/// The first fault of a choice for this geometry.
+fn test_choice(g: &Geometry, choice: &Choice) -> Result<(), Fault>
+    ensures { Tests (choice_fault g.now choice.now) result }
+{
+    let is_mesh = is_mesh(g);
+    let sequential = is_sequential(g, choice);
+    unless(is_mesh || sequential, Kind::Choice, 0)?;
+    unless(
+        choice.index.is_none() || (is_mesh && sequential),
+        Kind::Choice,
+        1,
+    )?;
+    unless(
+        !(choice.predict == Some(Predict::Para) && sequential),
+        Kind::Choice,
+        2,
+    )?;
+    unless(choice.walk.is_none() || !sequential, Kind::Choice, 3)
+}
+
+/// The fault of a geometry of which nothing is encoded.
+fn test_empty(g: &Geometry, choice: &Choice) -> Result<(), Fault>
+    ensures { Tests (empty_fault g.now choice.now) result }
+{
+    let count = if is_sequential(g, choice) {
+        point_count(g)
+    } else {
+        face_count(g)
+    };
+    unless(count > 0, Kind::Empty, 0)
+}
+
+/// Whether the first attribute is a position.
+fn begins_with_position(heads: &[Head]) -> bool
+    ensures { result ≡ begins_with_position heads.now }
+{
+    match heads {
+        [] => false,
+        [first, ..] => first.usage == 0,
+    }
+}
+
+/// The fault of a geometry without positions.
+fn test_position(g: &Geometry, choice: &Choice) -> Result<(), Fault>
+    ensures { Tests (position_fault g.now choice.now) result }
+{
+    let holds = is_sequential(g, choice) || begins_with_position(heads_in(g));
+    unless(holds, Kind::NoPosition, 0)
+}
+
+/// The first fault that is found before memory is taken.
+#[tactic(auto, unfolding(crate::specs::Refused::early_fault))]
+pub fn test_early(g: &Geometry, choice: &Choice) -> Result<(), Fault>
+    ensures { Tests (early_fault g.now choice.now) result }
+{
+    test_choice(g, choice)?;
+    test_empty(g, choice)?;
+    test_position(g, choice)?;
+    unless(is_sequential(g, choice), Kind::NotYet, 0)
+}
+
+/// The least and the greatest of a value and others.
+fn range_from(first: i32, rest: &[i32]) -> (i32, i32)
+    ensures low { result.0 ≡ fold int_min first rest.now }
+    ensures high { result.1 ≡ fold int_max first rest.now }
+{
+    let mut low = first;
+    let mut high = first;
+    for value in rest {
+        low = low.min(*value);
+        high = high.max(*value);
+    }
+    (low, high)
+}
+
+/// The least and the greatest of values.
+fn range_of(values: &[i32]) -> (i32, i32)
+    requires { 0 < length values.now }
+    ensures { range_of values.now ≡ record { low = result.0; high = result.1 } }
+{
+    range_from(values[0], &values[1..])
+}
+
+/// Whether corrections can wrap between these: the greatest is less than 2^31 - 1 above the least.
+fn can_wrap_between(low: i32, high: i32) -> bool
+    ensures { result ≡ can_wrap (record { low = low; high = high }) }
+{
+    low <= high && (high as i64 - low as i64) < 0x7fff_ffff
+}
+
+/// Whether corrections of these values can wrap.
+fn can_wrap(values: &[i32]) -> bool
+    ensures { result ≡ can_wrap (range_of values.now) }
+{
+    if values.is_empty() {
+        return true;
+    }
+    let (low, high) = range_of(values);
+    can_wrap_between(low, high)
+}
+
+/// The first attribute whose values can't be predicted.
+fn first_wide(values: &[Values]) -> Option<usize>
+    ensures { result ≡ position (λ v. not (can_wrap (range_of v.values))) values.now }
+{
+    values.iter().position(|v| !can_wrap(v.values.as_slice()))
+}
+
+/// The fault of the first attribute whose values can't be predicted, where they are to be.
+pub fn test_ranges(predict: i8, values: &[Values]) -> Result<(), Fault>
+    ensures { Tests (range_fault predict values.now) result }
+{
+    if predict == NO_PREDICTION {
+        return Ok(());
+    }
+    match first_wide(values) {
+        None => Ok(()),
+        Some(at) => Err(Fault {
+            kind: Kind::Range,
+            at: at as u64,
+        }),
+    }
+}

@@ -1,0 +1,159 @@
+//! Writing a stream.
+
+ghost use Rattle.std.specs.Prelude.{◌≡◌, ◌≤◌, ◌<◌, ◌++◌, Ok, IfOk, OnOk, length};
+ghost use Rattle.drc_bits.specs.Bits.{low_bytes};
+ghost use Rattle.drc_bits.specs.Spells.{Spells};
+ghost use Rattle.drc_base.specs.declared.limits.TheConstants.{MAX_POINTS};
+ghost use Rattle.mesh_model.specs.declared.geometries.Geometry.TheVariants as geometry;
+ghost use Rattle.mesh_model.specs.Parts.{ArePoints};
+ghost use Rattle.mesh_model.specs.Renumbering.{plain};
+ghost use Rattle.mesh_model.specs.SameLaws.{count_of};
+ghost use Rattle.seq_section.specs.Indices.{indices_at};
+ghost use Rattle.drc_container.specs.Contents.{heads_in, points_in};
+ghost use Rattle.drc_container.specs.Choice.{prediction_of, index_of, is_packed};
+ghost use Rattle.drc_container.specs.Header.{cloud_points_at};
+ghost use Rattle.drc_container.specs.Written.{header_bytes, connectivity_bytes, attributes_bytes, decoder_of, values_of, stream_bytes};
+ghost use Rattle.drc_container.specs.Encoded.{CanCode, ConnectivitySpelled, AttributesSpelled, Means};
+ghost use Rattle.drc_container.specs.Layout.{layout_of, layout_chosen};
+
+use crate::choices::Choice;
+use crate::choosing::packs;
+use crate::contents::{faces_of, heads_in, is_mesh, point_count};
+use crate::headers::{CLOUD, MAGIC, MAJOR, MESH, minor_of};
+use attr_section::{DecoderHead, Values, write_decoder, write_heads};
+use drc_base::{MAX_POINTS, Memory, Sequence};
+use mesh_model::{CornerMesh, Geometry, Head};
+use seq_section::write_indices;
+use std::alloc::Global;
+
+/// The method of sequential streams.
+const SEQUENTIAL: u8 = 0;
+
+/// Appends the header.
+#[tactic(auto, unfolding(crate::specs::Written::header_bytes))]
+fn put_header(out: &mut Vec<u8>, g: &Geometry) -> Result<(), Memory>
+    ensures { OnOk result (out.new.items ≡ out.old.items ++ header_bytes g.now) }
+{
+    let geometry = if is_mesh(g) { MESH } else { CLOUD };
+    out.extend_from_slice(MAGIC)?;
+    out.extend_from_slice(&[MAJOR, minor_of(geometry), geometry, SEQUENTIAL, 0, 0])?;
+    Ok(())
+}
+
+/// The indices of a mesh.
+fn mesh_connectivity(alloc: Global, mesh: &CornerMesh, packed: bool) -> Result<Vec<u8>, Memory>
+    ensures bytes { IfOk result (λ v. v.items ≡ connectivity_bytes packed (geometry.Mesh mesh.now)) }
+    ensures again { OnOk result (ConnectivitySpelled packed (geometry.Mesh mesh.now)) }
+{
+    let faces = faces_of(alloc, mesh)?;
+    let bytes = write_indices(alloc, faces.as_slice(), mesh.point_count(), packed)?;
+    Ok(bytes)
+}
+
+/// The number of points of a cloud.
+fn cloud_connectivity(alloc: Global, points: u32) -> Result<Vec<u8>, Memory>
+    requires { points ≤ MAX_POINTS }
+    ensures bytes { IfOk result (λ v. v.items ≡ low_bytes 4 points) }
+    ensures again { OnOk result (Spells cloud_points_at (low_bytes 4 points) points) }
+{
+    Ok(Vec::from_slice(alloc, &points.to_le_bytes())?)
+}
+
+/// The connectivity of a geometry.
+fn connectivity(alloc: Global, g: &Geometry, packed: bool) -> Result<Vec<u8>, Memory>
+    ensures bytes { IfOk result (λ v. v.items ≡ connectivity_bytes packed g.now) }
+    ensures again { OnOk result (ConnectivitySpelled packed g.now) }
+{
+    match g {
+        Geometry::Mesh(mesh) => mesh_connectivity(alloc, mesh, packed),
+        Geometry::Cloud(cloud) => cloud_connectivity(alloc, cloud.point_count()),
+    }
+}
+
+/// Equal heads.
+fn copies_of(alloc: Global, heads: &[Head]) -> Result<Vec<Head>, Memory>
+    ensures { IfOk result (λ v. v.items ≡ heads.now) }
+{
+    let mut copies = Vec::new(alloc);
+    for head in heads {
+        copies.push(head.copy(alloc)?)?;
+    }
+    Ok(copies)
+}
+
+/// The one decoder of all attributes.
+fn decoder_of(alloc: Global, g: &Geometry) -> Result<DecoderHead, Memory>
+    ensures { IfOk result (λ d. d ≡ decoder_of g.now) }
+{
+    let heads = copies_of(alloc, heads_in(g))?;
+    Ok(DecoderHead {
+        data_id: None,
+        corner: false,
+        degree: false,
+        heads: Sequence::from_vec(heads),
+    })
+}
+
+/// The attributes: their heads, and then their values.
+#[tactic(auto, unfolding(crate::specs::Written::attributes_bytes))]
+fn attributes(
+    alloc: Global,
+    g: &Geometry,
+    choice: &Choice,
+    values: &[Values],
+) -> Result<Vec<u8>, Memory>
+    requires can { CanCode g.now choice.now }
+    requires sound { ArePoints (heads_in g.now) (points_in g.now) }
+    requires values { values.now ≡ values_of g.now (prediction_of g.now choice.now) }
+    ensures bytes { IfOk result (λ v. v.items ≡ attributes_bytes choice.now.plain_values g.now (prediction_of g.now choice.now)) }
+    ensures again { OnOk result (AttributesSpelled choice.now.plain_values g.now (prediction_of g.now choice.now)) }
+{
+    let mut decoders = Vec::new(alloc);
+    decoders.push(decoder_of(alloc, g)?)?;
+    let mut out = write_heads(alloc, decoders.as_slice(), false)?;
+    let body = write_decoder(alloc, &decoders[0], values, choice.plain_values)?;
+    out.extend_from_slice(body.as_slice())?;
+    Ok(out)
+}
+
+/// The bytes of the stream, each part of which is read back.
+#[tactic(auto, unfolding(crate::specs::Written::stream_bytes))]
+fn written_stream(
+    alloc: Global,
+    g: &Geometry,
+    choice: &Choice,
+    values: &[Values],
+) -> Result<Vec<u8>, Memory>
+    requires can { CanCode g.now choice.now }
+    requires sound { ArePoints (heads_in g.now) (points_in g.now) }
+    requires values { values.now ≡ values_of g.now (prediction_of g.now choice.now) }
+    ensures bytes { IfOk result (λ v. v.items ≡ stream_bytes g.now choice.now) }
+    ensures connectivity { OnOk result (ConnectivitySpelled (is_packed (index_of choice.now)) g.now) }
+    ensures attributes { OnOk result (AttributesSpelled choice.now.plain_values g.now (prediction_of g.now choice.now)) }
+{
+    let mut out = Vec::new(alloc);
+    put_header(&mut out, g)?;
+    let connectivity = connectivity(alloc, g, packs(choice))?;
+    out.extend_from_slice(connectivity.as_slice())?;
+    let attributes = attributes(alloc, g, choice, values)?;
+    out.extend_from_slice(attributes.as_slice())?;
+    Ok(out)
+}
+
+/// The stream of a geometry with these values. It means the geometry, and is coded as chosen.
+pub fn write_stream(
+    alloc: Global,
+    g: &Geometry,
+    choice: &Choice,
+    values: &[Values],
+) -> Result<Vec<u8>, Memory>
+    requires can { CanCode g.now choice.now }
+    requires values { values.now ≡ values_of g.now (prediction_of g.now choice.now) }
+    ensures bytes { IfOk result (λ v. v.items ≡ stream_bytes g.now choice.now) }
+    ensures means { IfOk result (λ v. Means g.now v.items (plain (count_of g.now))) }
+    ensures layout { IfOk result (λ v. layout_of v.items ≡ Ok (layout_chosen g.now choice.now)) }
+{
+    let _count = point_count(g);
+    let out = written_stream(alloc, g, choice, values)?;
+    Ok(out)
+}
