@@ -8,7 +8,7 @@ use Rattle.ply_mesh.specs.Text.{ply_text}
 use Rattle.mesh_model.specs.MapText.{map_text_of}
 use Rattle.ply_mesh.specs.Read.{ply_read}
 use Rattle.drc_container.specs.declared.choices.Choice.{Choice}
-use Rattle.drc_container.specs.Encoded.{encoded}
+use Rattle.drc_container.specs.Encoded.{due as encoded}
 use Rattle.drc_container.specs.Stream.{meaning_of}
 use Rattle.drc_info.specs.InfoText.{report_of}
 use Rattle.drc_app.specs.declared.commands.Command.{Command}
