@@ -13,7 +13,6 @@ use Rattle.drc_container.specs.declared.choices.Walk.{Walk}
 use Rattle.drc_container.specs.declared.choices.Walk.TheVariants as walk
 use Rattle.drc_app.specs.declared.commands.Command.{Command}
 use Rattle.drc_app.specs.declared.commands.Command.TheVariants as command
-
 use Rattle.drc_app.specs.declared.commands.OptionWord.{OptionWord}
 use Rattle.drc_app.specs.declared.commands.OptionWord.TheVariants as option
 use Rattle.drc_app.specs.declared.commands.Progress.{Progress}

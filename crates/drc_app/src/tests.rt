@@ -14,6 +14,49 @@ const TRIANGLE: [u8; 64] = [
 const TEXT: &str =
     "ply\nformat ascii 1.0\ncomment drc attr 0 0 5 3 0 0\nelement vertex 3\nproperty int x\nproperty int y\nproperty int z\nelement face 1\nproperty list uchar int vertex_indices\nend_header\n0 0 0\n10 0 0\n0 10 -1\n3 0 1 2\n";
 
+/// The stream of that text with few bytes for each value.
+const NARROW: [u8; 37] = [
+    68, 82, 65, 67, 79, 2, 2, 1, 0, 0, 0, 1, 3, 1, 0, 1, 2, 1, 1, 0, 5, 3, 0, 0, 1, 254, 0, 1, 0,
+    0, 0, 20, 0, 0, 0, 20, 1,
+];
+
+/// The text of a cloud.
+const CLOUD_TEXT: &str =
+    "ply\nformat ascii 1.0\nelement vertex 3\nproperty int x\nproperty int y\nproperty int z\nend_header\n5 5 5\n5 5 5\n5 5 6\n";
+
+/// Its stream, predicted by difference, with plain values.
+const CLOUD: [u8; 44] = [
+    68, 82, 65, 67, 79, 2, 3, 0, 0, 0, 0, 3, 0, 0, 0, 1, 1, 0, 5, 3, 0, 0, 1, 0, 1, 0, 1, 0, 0, 0,
+    0, 0, 0, 0, 0, 1, 5, 0, 0, 0, 6, 0, 0, 0,
+];
+
+/// The report on the triangle's stream.
+const REPORT: &str =
+    "drc 2.2 mesh seq\nconnectivity 11 6\nfaces 1\npoints 3\nattr 0 0 5 3 0 0 predict -2 entries 3 at 25\nend 64 rest 0\n";
+
+/// The words of a command, parted by spaces; its input; its output and its note.
+type Case = (&'static str, &'static [u8], &'static [u8], &'static str);
+
+/// What each command is due.
+fn cases() -> [Case; 4] {
+    [
+        ("dec", &TRIANGLE, TEXT.as_bytes(), ""),
+        (
+            "enc --method seq --predict none --plain-values",
+            TEXT.as_bytes(),
+            &NARROW,
+            "map mesh 1\n0 0\n",
+        ),
+        (
+            "enc --plain-values",
+            CLOUD_TEXT.as_bytes(),
+            &CLOUD,
+            "map cloud 3\n0 0\n1 0\n2 0\n",
+        ),
+        ("info", &TRIANGLE, REPORT.as_bytes(), ""),
+    ]
+}
+
 /// What a run left: its status, its output and its note.
 #[derive(Drop)]
 struct Ran {
@@ -32,10 +75,18 @@ fn only(alloc: Global, call: u64) -> Result<Vec<u64>, Fail> {
 /// No call that comes.
 const NEVER: u64 = 1_000_000;
 
-/// Runs one word over these bytes, with the failing calls of the source and of both sinks.
-fn run_word(alloc: Global, word: &str, bytes: &[u8], fails: [u64; 3]) -> Result<Ran, Fail> {
+/// The front of a text that so many whole pieces have.
+fn front(text: &[u8], pieces: u64, piece: usize) -> Result<&[u8], Fail> {
+    let len = (pieces.min(1000) as usize * piece.min(1000)).min(text.len());
+    Ok(text.get(..len).ok_or("a front")?)
+}
+
+/// Runs the words over these bytes, with the failing calls of the source and of both sinks.
+fn run_line(alloc: Global, line: &str, bytes: &[u8], fails: [u64; 3]) -> Result<Ran, Fail> {
     let mut words = Vec::new(alloc);
-    words.push(String::from_str(alloc, word)?)?;
+    for word in line.split(' ') {
+        words.push(String::from_str(alloc, word)?)?;
+    }
     let bytes = Vec::from_slice(alloc, bytes)?;
     let mut input = MemSource::new(bytes, 16, only(alloc, fails[0])?);
     let mut output = MemSink::new(alloc, 16, 1000, only(alloc, fails[1])?)?;
@@ -49,51 +100,67 @@ fn run_word(alloc: Global, word: &str, bytes: &[u8], fails: [u64; 3]) -> Result<
 }
 
 #[test]
-fn a_triangle_becomes_its_text(rt: HostRuntime) -> Result<(), Fail> {
-    let done = run_word(rt.alloc(), "dec", &TRIANGLE, [NEVER, NEVER, NEVER])?;
-    assert_eq!(rt; done.status, 0);
-    assert_eq!(rt; done.output.held(), TEXT.as_bytes());
-    assert!(rt; done.notes.held().is_empty());
+fn each_command_gives_what_is_due(rt: HostRuntime) -> Result<(), Fail> {
+    for (line, input, output, note) in cases() {
+        let done = run_line(rt.alloc(), line, input, [NEVER, NEVER, NEVER])?;
+        assert_eq!(rt; done.status, 0);
+        assert_eq!(rt; done.output.held(), output);
+        assert_eq!(rt; done.notes.held(), note.as_bytes());
+    }
     Ok(())
 }
 
 #[test]
 fn a_failed_take_is_never_the_end(rt: HostRuntime) -> Result<(), Fail> {
-    for call in 0..5u64 {
-        let done = run_word(rt.alloc(), "dec", &TRIANGLE, [call, NEVER, NEVER])?;
-        assert_eq!(rt; done.status, 3);
-        assert!(rt; done.output.held().is_empty());
-        assert_eq!(rt; done.notes.held(), b"read failed\n".as_slice());
+    for (line, input, _, _) in cases() {
+        for call in 0..(input.len() as u64 / 16 + 1) {
+            let done = run_line(rt.alloc(), line, input, [call, NEVER, NEVER])?;
+            assert_eq!(rt; done.status, 3);
+            assert!(rt; done.output.held().is_empty());
+            assert_eq!(rt; done.notes.held(), b"read failed\n".as_slice());
+        }
     }
     Ok(())
 }
 
 #[test]
 fn an_output_that_fails_keeps_a_front(rt: HostRuntime) -> Result<(), Fail> {
-    for call in 0..14u64 {
-        let done = run_word(rt.alloc(), "dec", &TRIANGLE, [NEVER, call, NEVER])?;
-        let front = TEXT.as_bytes().get(..(call as usize * 16).min(TEXT.len()));
-        assert_eq!(rt; done.status, 4);
-        assert_eq!(rt; done.output.held(), front.ok_or("a front")?);
-        assert_eq!(rt; done.notes.held(), b"write failed\n".as_slice());
+    for (line, input, output, _) in cases() {
+        for call in 0..(output.len() as u64 / 16 + 1) {
+            let done = run_line(rt.alloc(), line, input, [NEVER, call, NEVER])?;
+            assert_eq!(rt; done.status, 4);
+            assert_eq!(rt; done.output.held(), front(output, call, 16)?);
+            assert_eq!(rt; done.notes.held(), b"write failed\n".as_slice());
+        }
     }
     Ok(())
 }
 
 #[test]
-fn failing_notes_leave_the_status(rt: HostRuntime) -> Result<(), Fail> {
-    for (word, bytes, status, note) in [
+fn notes_that_fail_keep_a_front(rt: HostRuntime) -> Result<(), Fail> {
+    for (line, input, output, note) in cases() {
+        for call in 0..(note.len() as u64 / 4 + 1) {
+            let done = run_line(rt.alloc(), line, input, [NEVER, NEVER, call])?;
+            assert_eq!(rt; done.status, 4);
+            assert_eq!(rt; done.output.held(), output);
+            assert_eq!(rt; done.notes.held(), front(note.as_bytes(), call, 4)?);
+        }
+    }
+    for (line, input, status, note) in [
         ("dec", &TRIANGLE[..20], 2, "refused Short 20\n"),
         ("dcd", &TRIANGLE[..], 1, "bad word 0\n"),
+        (
+            "enc --method eb",
+            CLOUD_TEXT.as_bytes(),
+            2,
+            "refused Choice 0\n",
+        ),
     ] {
         for call in 0..4u64 {
-            let done = run_word(rt.alloc(), word, bytes, [NEVER, NEVER, call])?;
-            let front = note.as_bytes().get(..(call as usize * 4).min(note.len()));
+            let done = run_line(rt.alloc(), line, input, [NEVER, NEVER, call])?;
             assert_eq!(rt; done.status, status);
             assert!(rt; done.output.held().is_empty());
-            if call as usize * 4 < note.len() {
-                assert_eq!(rt; done.notes.held(), front.ok_or("a front")?);
-            }
+            assert_eq!(rt; done.notes.held(), front(note.as_bytes(), call, 4)?);
         }
     }
     Ok(())
