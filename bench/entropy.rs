@@ -1,5 +1,5 @@
 //! The entropy layer's work in good safe Rust, on the same numbers as the proved program of
-//! `entropy.sh`: bits of 11, a binary block, and a raw symbol block. Writes `raw.bin` for both.
+//! `entropy.txt`: bits of 11, a binary block, and a raw symbol block. Writes `raw.bin` for both.
 use std::time::Instant;
 
 const COUNT: usize = 1 << 20;

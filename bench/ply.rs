@@ -1,4 +1,4 @@
-//! Reading and writing PLY text in good safe Rust, beside the proved program of `ply.sh`: a grid of
+//! Reading and writing PLY text in good safe Rust, beside the proved program of `ply.txt`: a grid of
 //! 263,169 points and 524,288 faces. Writes `grid.ply` for both.
 use std::time::Instant;
 

@@ -1,4 +1,5 @@
 pub mod Bits
+pub mod Quotients
 pub mod Pushes
 pub mod Again
 mod Examples

@@ -29,15 +29,42 @@ fn zeros_of(bits: &[bool]) -> u32
     ((256 * zeros + all / 2) / all).min(255).max(1) as u32
 }
 
-/// The slots of a bit: how many lie below them, and how many they are.
-fn slots_of(ones: u32, bit: bool) -> (u32, u32)
-    requires some { 0 < ones }
-    requires ones { ones < 256 }
-    ensures interval { interval_of ones bit ≡ record { cum = result.0; prob = result.1 } }
-    ensures some { 0 < result.1 }
-    ensures within { result.0 + result.1 ≤ 256 }
+/// The slots of a bit.
+#[derive(Clone, Copy)]
+struct Slots {
+    /// How many slots lie below them.
+    below: u32,
+    /// How many they are.
+    count: u32,
+    /// What a number is multiplied by in the place of dividing it by their count.
+    reciprocal: u64,
+    ghost some: { 0 < count },
+    ghost within: { below + count ≤ 256 },
+    ghost exact: { reciprocal ≡ (2 ^ 32 + count - 1) / count },
+}
+
+/// These slots.
+fn slots_from(below: u32, count: u32) -> Slots
+    requires some { 0 < count }
+    requires within { below + count ≤ 256 }
+    ensures below { result.below ≡ below }
+    ensures count { result.count ≡ count }
 {
-    if bit { (0, ones) } else { (ones, 256 - ones) }
+    Slots {
+        below,
+        count,
+        reciprocal: ((1 << 32) + u64::from(count) - 1) / u64::from(count),
+    }
+}
+
+/// The quotient of a number and the count of slots. A multiplication takes the place of the division: the
+/// reciprocal is too great by less than the count, which a number of 20 bits doesn't show.
+#[tactic(auto, using(crate::proofs::Quotients::quotient_is))]
+fn quotient(number: u32, slots: Slots) -> u32
+    requires { number < 2 ^ 20 }
+    ensures { result ≡ number / slots.count }
+{
+    (u64::from(number) * slots.reciprocal >> 32) as u32
 }
 
 /// Emits the low byte of a number that is at least 4096 times `prob`. Gives what is left of the number.
@@ -61,33 +88,29 @@ fn drain_once(out: &mut Vec<u8>, number: u32, prob: u32) -> Result<u32, Memory>
 
 /// The number after a push: `rest` is what is left of it after the byte that was emitted.
 #[tactic(auto, using(crate::proofs::Pushes::pushed_fits))]
-fn number_with(rest: u32, cum: u32, prob: u32) -> u32
-    requires some { 0 < prob }
-    requires within { cum + prob ≤ 256 }
-    requires above { 16 * prob ≤ rest }
-    requires below { rest < 256 * (16 * prob) }
-    ensures pushed { result ≡ rest / prob * 256 + rest % prob + cum }
+fn number_with(rest: u32, slots: Slots) -> u32
+    requires above { 16 * slots.count ≤ rest }
+    requires below { rest < 256 * (16 * slots.count) }
+    ensures pushed { result ≡ rest / slots.count * 256 + rest % slots.count + slots.below }
     ensures above { 4096 ≤ result }
     ensures below { result < 2 ^ 20 }
 {
-    rest / prob * 256 + rest % prob + cum
+    let part = quotient(rest, slots);
+    part * 256 + (rest - part * slots.count) + slots.below
 }
 
-/// Pushes a bit: emits at most one byte, and gives the number after it.
-fn push_bit(out: &mut Vec<u8>, number: u32, ones: u32, bit: bool) -> Result<u32, Memory>
-    requires some { 0 < ones }
-    requires ones { ones < 256 }
+/// Pushes a bit of these slots: emits at most one byte, and gives the number after it.
+fn push_bit(out: &mut Vec<u8>, number: u32, slots: Slots) -> Result<u32, Memory>
     requires above { 4096 ≤ number }
     requires below { number < 2 ^ 20 }
-    ensures pushed { IfOk result (λ n. pushed 16 256 (interval_of ones bit) (record { number = number; bytes = reverse out.old.items })
+    ensures pushed { IfOk result (λ n. pushed 16 256 (record { cum = slots.below; prob = slots.count }) (record { number = number; bytes = reverse out.old.items })
         ≡ record { number = n; bytes = reverse out.new.items }) }
     ensures above { IfOk result (λ n. 4096 ≤ n) }
     ensures below { IfOk result (λ n. n < 2 ^ 20) }
     ensures len { vec_len out.new ≤ vec_len out.old + 1 }
 {
-    let (cum, prob) = slots_of(ones, bit);
-    let rest = drain_once(out, number, prob)?;
-    Ok(number_with(rest, cum, prob))
+    let rest = drain_once(out, number, slots.count)?;
+    Ok(number_with(rest, slots))
 }
 
 /// The coded bytes of the bits, the last one pushed first.
@@ -100,9 +123,12 @@ fn code_bits(alloc: Global, bits: &[bool], zeros: u32) -> Result<Vec<u8>, Memory
 {
     let mut out = Vec::new(alloc);
     let mut number = 4096;
+    let ones = slots_from(0, 256 - zeros);
+    let none = slots_from(256 - zeros, zeros);
     let last = bits.len();
     for k in 0..last {
-        number = push_bit(&mut out, number, 256 - zeros, bits[last - 1 - k])?;
+        let slots = if bits[last - 1 - k] { ones } else { none };
+        number = push_bit(&mut out, number, slots)?;
     }
     let end = end_bytes(number - 4096);
     out.extend_from_slice(end.as_slice())?;
