@@ -4,3 +4,4 @@ pub mod Loops
 pub mod SpelledIntegers
 pub mod SpelledValues
 pub mod Spelling
+pub mod Examples

@@ -2,3 +2,4 @@ pub mod Each
 pub mod Heads
 pub mod Values
 pub mod Written
+pub mod Examples

@@ -25,3 +25,6 @@ pub use head_reading::read_heads;
 pub use head_writing::write_heads;
 pub use value_reading::read_decoder;
 pub use values::Values;
+
+#[cfg(test)]
+mod tests;

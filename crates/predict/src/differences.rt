@@ -1,8 +1,8 @@
 //! Prediction by the difference to the entry before.
 
-ghost use Rattle.std.specs.Prelude.{◌≡◌, ◌<◌, ◌%◌, ◌≤ℤ◌, length, take, IfOk};
+ghost use Rattle.std.specs.Prelude.{◌≡◌, ◌<◌, ◌%◌, ◌≤ℤ◌, length, take, pos, slice_index_or, IfOk};
 ghost use Rattle.std.specs.List.{All};
-ghost use Rattle.predict.specs.Wrap.{least_correction, greatest_correction};
+ghost use Rattle.predict.specs.Wrap.{least_correction, greatest_correction, restored_value};
 ghost use Rattle.predict.specs.Restored.{restored, corrections, entry_before};
 
 use crate::wraps::Wrap;
@@ -18,6 +18,15 @@ fn prediction_at(comps: usize, v: &[i32], i: usize) -> i32
     if i < comps { 0 } else { v[i - comps] }
 }
 
+/// Value `i` from its correction and the values before it.
+fn restored_at(w: &Wrap, comps: usize, v: &[i32], i: usize) -> i32
+    requires some { 0 < comps }
+    requires within { i < length v.now }
+    ensures { result ≡ restored_value w.now (entry_before comps (take i v.now)) (slice_index_or v.now i (pos 0)) }
+{
+    w.restored(prediction_at(comps, v, i), v[i])
+}
+
 /// Turns the corrections `v` of entries of `comps` components into their values, in place.
 pub fn restore_difference(w: &Wrap, comps: u32, v: &mut [i32])
     requires some { 0 < comps }
@@ -26,8 +35,8 @@ pub fn restore_difference(w: &Wrap, comps: u32, v: &mut [i32])
 {
     let comps = comps as usize;
     for i in 0..v.len() {
-        let correction = v[i];
-        v[i] = w.restored(prediction_at(comps, v, i), correction);
+        let value = restored_at(w, comps, v, i);
+        v[i] = value;
     }
 }
 

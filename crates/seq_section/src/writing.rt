@@ -1,9 +1,9 @@
 //! Writing the connectivity of a sequential mesh.
 
-ghost use Rattle.std.specs.Prelude.{◌≡◌, ◌≤◌, ◌++◌, length, IfOk, OnOk, All};
+ghost use Rattle.std.specs.Prelude.{◌≡◌, ◌≤◌, ◌++◌, length, IfOk, OnOk, All, if◌then◌else◌};
 ghost use Rattle.std.specs.List.{flat_map};
 ghost use Rattle.drc_bits.specs.Spells.{Spells};
-ghost use Rattle.seq_section.specs.Indices.{indices_at, opening_bytes, indices_bytes, IsFaceBelow};
+ghost use Rattle.seq_section.specs.Indices.{faces_at, indices_at, opening_bytes, faces_bytes, indices_bytes, IsFaceBelow};
 
 use crate::methods::{PACKED, PLAIN};
 use crate::packed::put_packed;
@@ -14,7 +14,6 @@ use std::alloc::Global;
 
 /// The section of these faces beside `points` points, with packed indices or with each by itself. Read
 /// at its front, whatever bytes follow, it gives the faces and the number of points.
-#[tactic(auto, unfolding(crate::specs::Indices::indices_bytes))]
 pub fn write_indices(
     alloc: Global,
     faces: &[[u32; 3]],
@@ -26,6 +25,24 @@ pub fn write_indices(
     requires below { All (IsFaceBelow points) faces.now }
     ensures bytes { IfOk result (λ v. v.items ≡ indices_bytes packed faces.now points) }
     ensures again { IfOk result (λ v. Spells indices_at v.items (record { faces = faces.now; points = points })) }
+{
+    let out = written_indices(alloc, faces, points, packed)?;
+    Ok(out)
+}
+
+/// The bytes of the section, whose faces are read back behind the opening.
+#[tactic(auto, unfolding(crate::specs::Indices::indices_bytes))]
+fn written_indices(
+    alloc: Global,
+    faces: &[[u32; 3]],
+    points: u32,
+    packed: bool,
+) -> Result<Vec<u8>, Memory>
+    requires few_faces { length faces.now ≤ MAX_FACES }
+    requires few_points { points ≤ MAX_POINTS }
+    requires below { All (IsFaceBelow points) faces.now }
+    ensures bytes { IfOk result (λ v. v.items ≡ indices_bytes packed faces.now points) }
+    ensures behind { OnOk result (Spells (faces_at (record { faces = length faces.now; points = points; method = if packed then 0 else 1 })) (faces_bytes packed faces.now points) faces.now) }
 {
     let mut out = Vec::new(alloc);
     if packed {
