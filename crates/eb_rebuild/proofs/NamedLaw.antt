@@ -505,7 +505,7 @@ equal_is {x} W f h =
     ∙ ap (λ (t : Bool). m first second || t || e third first) (test second third)
     ∙ ap (λ (t : Bool). m first second || m second third || t) (test third first)
 
-first_is : {x : NamedState} → Stands x → (n : ℕ) → n ≤ length x.triangles → first_with_equal x.triangles n ≡ first_degenerate (length x.triangles) x.glued n
+pub first_is : {x : NamedState} → Stands x → (n : ℕ) → n ≤ length x.triangles → first_with_equal x.triangles n ≡ first_degenerate (length x.triangles) x.glued n
 unfolding first_with_equal first_degenerate
 first_is W zero h = refl
 first_is {x} W (suc n) h =

@@ -6,3 +6,4 @@ pub mod Linked
 pub mod Alike
 pub mod Named
 pub mod Shown
+pub mod Rowed
