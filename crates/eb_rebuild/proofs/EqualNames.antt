@@ -1,5 +1,5 @@
 -- The search for a triangle with two equal names, one triangle at a time.
-use Rattle.std.proofs.Common.{◌≡◌, ℕ, zero, suc, ◌≤◌, Bool, true, false, cond, List, get_or, Option, Some, None, inl, inr, sym, refl, ap, ◌∙◌, arith}
+use Rattle.std.proofs.Common.{◌≡◌, ℕ, zero, suc, ◌≤◌, true, false, List, get_or, Some, None, inl, inr, sym, refl, ap, ◌∙◌, arith}
 use Rattle.std.proofs.lemmas.Bool.{cases_eq, cond-true, cond-false}
 use Rattle.eb_rebuild.specs.Named.{Triangle, no_triangle, has_equal, first_with_equal}
 

@@ -16,3 +16,4 @@ mod NamedRows
 pub mod RowTables
 pub mod EqualNames
 pub mod RowSteps
+pub mod Degrees

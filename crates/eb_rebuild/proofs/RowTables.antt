@@ -1,7 +1,6 @@
 -- A table with names after a face more, and what its rows tell of its free sides.
-use Rattle.std.proofs.Common.{◌≡◌, ◌≢◌, ℕ, suc, ◌+◌, ◌*◌, ◌<◌, ◌≤◌, Bool, true, false, not, ◌==◌, List, [], ◌∷◌, ◌++◌, length, map, filter, find, Option, Some, None, ◌⊎◌, inl, inr, sym, refl, ap, ◌∙◌, subst, arith, cond, option_map, eqb-true, eq-eqb, length-append}
+use Rattle.std.proofs.Common.{◌≡◌, ◌≢◌, ℕ, suc, ◌+◌, ◌*◌, ◌<◌, ◌≤◌, Bool, true, false, not, ◌==◌, List, [], ◌∷◌, ◌++◌, length, map, filter, find, Option, Some, None, inl, inr, sym, refl, ap, ◌∙◌, subst, arith, cond, option_map, eqb-true, eq-eqb, length-append}
 use Rattle.std.proofs.lemmas.List.{length-map}
-use Rattle.std.proofs.lemmas.Bool.{cases_Bool, cond-true, cond-false}
 use Rattle.corner_table.specs.Sides.{Side, Place, first, second, third, side, glue, side_at, number, same, next, prev, Gluing, IsGluing, IsFree}
 use Rattle.corner_table.specs.Fans.{side_before}
 use Rattle.corner_table.specs.Table.{Table, gluing_of}

@@ -7,3 +7,4 @@ pub mod Alike
 pub mod Named
 pub mod Shown
 pub mod Rowed
+pub mod Counted

@@ -1,9 +1,11 @@
 //! Active sides with the vertices at their ends, in a plain list.
 
-ghost use Rattle.std.specs.Prelude.{◌≡◌, ◌+◌, ◌*◌, ◌<◌, ◌==◌, not, [], ◌∷◌, ◌++◌, ◌≤◌, map, filter, find, length, slice_index_or, IfOk};
+ghost use Rattle.std.specs.Prelude.{◌≡◌, ◌+◌, ◌*◌, ◌/◌, ◌%◌, ◌<◌, ◌≤◌, ◌==◌, not, [], ◌∷◌, ◌++◌, map, filter, find, length, slice_index_or, sum_by, cond, IfOk};
+ghost use Rattle.std.specs.List.{list_any};
 ghost use Rattle.drc_base.specs.declared.limits.TheConstants.{MAX_FACES as most_faces};
-ghost use Rattle.corner_table.specs.Sides.{first, second, third};
-ghost use Rattle.eb_rebuild.specs.Named.{renamed, renamed_triangle, new_row, no_triangle, has_equal, first_with_equal};
+ghost use Rattle.corner_table.specs.Sides.{first, second, third, place_after, place_of};
+ghost use Rattle.eb_rebuild.specs.Named.{renamed, renamed_triangle, new_row, no_triangle, corner, has_equal, first_with_equal};
+ghost use Rattle.eb_rebuild.specs.Counted.{times_in};
 ghost use Rattle.eb_rebuild.specs.Rowed.{listed};
 
 use drc_base::Memory;
@@ -190,4 +192,52 @@ pub(crate) fn first_with_equal(triangles: &[(u32, u32, u32)], faces: u32) -> Opt
         }
     }
     None
+}
+
+/// One where something holds, else none.
+pub(crate) fn one_if(holds: bool) -> u32
+    ensures { result ≡ cond holds 1 0 }
+{
+    if holds { 1 } else { 0 }
+}
+
+/// How many corners of a triangle have a name.
+fn times_in(vertex: u32, t: (u32, u32, u32)) -> u32
+    ensures times { result ≡ times_in vertex t }
+    ensures few { result ≤ 3 }
+{
+    one_if(vertex == t.0) + one_if(vertex == t.1) + one_if(vertex == t.2)
+}
+
+/// How many corners have a name.
+pub(crate) fn corners_named(triangles: &[(u32, u32, u32)], vertex: u32) -> u32
+    requires { length triangles.now ≤ most_faces }
+    ensures corners { result ≡ sum_by (times_in vertex) triangles.now }
+    ensures few { result ≤ 3 * length triangles.now }
+{
+    let mut count = 0u32;
+    for t in triangles {
+        count += times_in(vertex, *t);
+    }
+    count
+}
+
+/// Whether a row starts at a vertex.
+pub(crate) fn starts_row(rows: &[Row], vertex: u32) -> bool
+    ensures { result ≡ list_any (λ r. r.from == vertex) rows.now }
+{
+    rows.iter().any(|r| r.from == vertex)
+}
+
+/// The name of the corner after that of a number, at which the side of the number starts.
+pub(crate) fn start_name(triangles: &[(u32, u32, u32)], side: u32) -> u32
+    requires { side / 3 < length triangles.now }
+    ensures { result ≡ corner (slice_index_or triangles.now (side / 3) no_triangle) (place_after (place_of (side % 3))) }
+{
+    let t = triangle_at(triangles, side / 3);
+    match side % 3 {
+        0 => t.1,
+        1 => t.2,
+        _ => t.0,
+    }
 }

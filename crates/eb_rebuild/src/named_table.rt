@@ -11,8 +11,9 @@ ghost use Rattle.corner_table.specs.Sides.{side_at, number};
 ghost use Rattle.corner_table.specs.Table.{side_of};
 
 use crate::active_rows::{
-    Row, all_rows, first_row, first_with_equal, renamed_rows, renamed_triangles, row_of, row_to,
-    second_row, third_row, triangle_renamed, with_row, with_triangle, without,
+    Row, all_rows, corners_named, first_row, first_with_equal, one_if, renamed_rows,
+    renamed_triangles, row_of, row_to, second_row, start_name, starts_row, third_row,
+    triangle_renamed, with_row, with_triangle, without,
 };
 use crate::link_rebuild::side_with;
 use corner_table::{SideTable, Steps};
@@ -43,9 +44,10 @@ impl Model for NamedTable {
 
 impl NamedTable {
     ghost use Rattle.std.specs.Prelude.{◌≢◌, suc, ◌≤◌, ◌==◌, [], IfOk, OnOk, OnErr, IfSome, IfNone};
-    ghost use Rattle.corner_table.specs.Sides.{side, first, second, third, unglued, glue, same, IsGluing};
+    ghost use Rattle.corner_table.specs.Sides.{next, side, first, second, third, unglued, glue, same, IsGluing};
     ghost use Rattle.corner_table.specs.Fans.{side_before};
     ghost use Rattle.corner_table.specs.Table.{gluing_of, room_of};
+    ghost use Rattle.eb_rebuild.specs.Degree.{degree};
     ghost use Rattle.eb_rebuild.specs.Machine.{first_degenerate};
     ghost use Rattle.eb_rebuild.specs.Rowed.{IsRowIn, IsGluedIn};
 
@@ -134,6 +136,19 @@ impl NamedTable {
     {
         let _ = &self.made;
         b.from == a.to
+    }
+
+    /// The degree of the vertex at which a side starts: how many corners have its name, and one more
+    /// where a row starts there.
+    pub(crate) fn degree_at(&self, side: u32) -> u32
+        requires { side < 3 * self.now.table.faces }
+        ensures { result ≡ degree self.now.table.faces (gluing_of self.now.table) (next (side_at side)) }
+    {
+        let _room = self.table.face_count();
+        let vertex = start_name(self.triangles.as_slice(), side);
+        let corners = corners_named(self.triangles.as_slice(), vertex);
+        let starts = starts_row(self.rows.as_slice(), vertex);
+        corners + one_if(starts)
     }
 
     /// A face of three new vertices, no side of which is glued.

@@ -1,10 +1,9 @@
 -- The names and rows fit the new face, and its sides and those that it is glued to are free.
-use Rattle.std.proofs.Common.{◌≡◌, ◌≢◌, ℕ, ◌+◌, List, [], ◌∷◌, ◌++◌, map, sym, ap, ◌∙◌, subst, arith, refl}
-use Rattle.corner_table.specs.Sides.{Side, Gluing, side, first, second, third, side_at, glue}
-use Rattle.corner_table.specs.Fans.{side_before}
-use Rattle.corner_table.specs.Table.{side_of, glued_in, gluing_of}
-use Rattle.eb_rebuild.specs.Named.{Triangle, without, new_row, renamed, renamed_triangle, renamed_row}
-use Rattle.eb_rebuild.specs.Rowed.{NamedTable, IsRowIn, listed, all_listed}
+use Rattle.std.proofs.Common.{◌+◌, List, [], ◌∷◌, ◌++◌, ap, ◌∙◌, arith}
+use Rattle.corner_table.specs.Sides.{Gluing, first, second, third}
+use Rattle.corner_table.specs.Table.{glued_in, gluing_of}
+use Rattle.eb_rebuild.specs.Named.{Triangle, new_row}
+use Rattle.eb_rebuild.specs.Rowed.{NamedTable, all_listed}
 use Rattle.eb_rebuild.proofs.RowTables.{end_table, listed_three}
 use Rattle.eb_rebuild.proofs.named_table.NamedTable.add_end.Goals as goal
 

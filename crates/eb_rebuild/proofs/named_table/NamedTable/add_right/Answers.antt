@@ -1,9 +1,9 @@
 -- The names and rows fit the new face.
-use Rattle.std.proofs.Common.{◌+◌, List, [], ◌∷◌, ◌++◌, sym, ap, ◌∙◌, subst, arith, refl}
-use Rattle.corner_table.specs.Sides.{side, first, second, third, side_at}
+use Rattle.std.proofs.Common.{List, [], ◌∷◌, ◌++◌, sym, ap, ◌∙◌, subst, arith}
+use Rattle.corner_table.specs.Sides.{first, second, third, side_at}
 use Rattle.corner_table.specs.Table.{side_of, glued_in, gluing_of}
 use Rattle.eb_rebuild.specs.Named.{Triangle, without, new_row}
-use Rattle.eb_rebuild.specs.Rowed.{NamedTable, IsRowIn, listed, all_listed}
+use Rattle.eb_rebuild.specs.Rowed.{NamedTable, IsRowIn, all_listed}
 use Rattle.eb_rebuild.proofs.RowTables.{right_table, listed_two, listed_without, glued_by}
 use Rattle.eb_rebuild.proofs.named_table.NamedTable.add_right.Goals as goal
 

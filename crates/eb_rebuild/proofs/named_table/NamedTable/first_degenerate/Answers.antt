@@ -1,5 +1,5 @@
 -- Two equal names are two equal vertices.
-use Rattle.std.proofs.Common.{◌≡◌, ℕ, List, sym, ap, ◌∙◌, subst, arith}
+use Rattle.std.proofs.Common.{ℕ, List, ap, ◌∙◌}
 use Rattle.corner_table.specs.Table.{gluing_of}
 use Rattle.eb_rebuild.specs.Machine.{first_degenerate}
 use Rattle.eb_rebuild.specs.Named.{Triangle, first_with_equal}

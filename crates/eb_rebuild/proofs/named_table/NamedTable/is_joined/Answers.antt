@@ -1,9 +1,9 @@
 -- Two ends have one name where one side comes before the other.
-use Rattle.std.proofs.Common.{◌≡◌, ◌==◌, sym, ap, ◌∙◌, subst}
+use Rattle.std.proofs.Common.{◌≡◌, ◌==◌, sym, subst}
 use Rattle.corner_table.specs.Sides.{side_at, same}
 use Rattle.corner_table.specs.Fans.{side_before}
 use Rattle.corner_table.specs.Table.{gluing_of}
-use Rattle.eb_rebuild.specs.Rowed.{NamedTable, IsRowIn, IsGluedIn, all_listed}
+use Rattle.eb_rebuild.specs.Rowed.{NamedTable, IsRowIn, all_listed}
 use Rattle.eb_rebuild.proofs.RowTables.{joined_is}
 use Rattle.eb_rebuild.proofs.named_table.NamedTable.is_joined.Goals as goal
 

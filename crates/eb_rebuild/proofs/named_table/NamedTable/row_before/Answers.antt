@@ -1,9 +1,9 @@
 -- The row that ends where another starts is that of the free side before it.
-use Rattle.std.proofs.Common.{◌≡◌, ◌*◌, ◌<◌, sym, ap, ◌∙◌, subst}
-use Rattle.corner_table.specs.Sides.{side_at, same}
+use Rattle.std.proofs.Common.{◌≡◌, sym, ap, subst}
+use Rattle.corner_table.specs.Sides.{side_at}
 use Rattle.corner_table.specs.Fans.{side_before}
 use Rattle.corner_table.specs.Table.{gluing_of}
-use Rattle.eb_rebuild.specs.Rowed.{NamedTable, IsRowIn, IsGluedIn, all_listed}
+use Rattle.eb_rebuild.specs.Rowed.{NamedTable, IsRowIn, all_listed}
 use Rattle.eb_rebuild.proofs.RowTables.{before_some, before_none}
 use Rattle.eb_rebuild.proofs.named_table.NamedTable.row_before.Goals as goal
 

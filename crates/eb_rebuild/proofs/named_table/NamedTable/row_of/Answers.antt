@@ -1,8 +1,6 @@
 -- The list has the row of a side exactly where it is free.
-use Rattle.std.proofs.Common.{◌≡◌, ◌*◌, ◌<◌, sym, ap, ◌∙◌, subst}
-use Rattle.corner_table.specs.Sides.{side_at, same}
-use Rattle.corner_table.specs.Fans.{side_before}
-use Rattle.corner_table.specs.Table.{gluing_of}
+use Rattle.std.proofs.Common.{◌*◌, ◌<◌, sym, ap, subst}
+use Rattle.corner_table.specs.Sides.{side_at}
 use Rattle.eb_rebuild.specs.Rowed.{NamedTable, IsRowIn, IsGluedIn, all_listed}
 use Rattle.eb_rebuild.proofs.RowTables.{found_row, no_row_found}
 use Rattle.eb_rebuild.proofs.named_table.NamedTable.row_of.Goals as goal

@@ -1,5 +1,5 @@
 -- Each test of the code is that of the machine.
-use Rattle.std.proofs.Common.{sym, ap, ◌∙◌, arith, refl}
+use Rattle.std.proofs.Common.{sym, ◌∙◌, arith, refl}
 use Rattle.eb_rebuild.specs.Linked.{state_of}
 use Rattle.eb_rebuild.specs.Rowed.{plain_of}
 use Rattle.eb_rebuild.proofs.Ends.{finish_faces, finish_vertices, finish_degenerate, finish_done}
