@@ -6,3 +6,14 @@ pub mod Linking
 pub mod Equals
 pub mod Ends
 pub mod Counts
+pub mod RowLists
+pub mod ManyGlued
+pub mod Naming
+pub mod NamedRules
+pub mod NamedLaw
+pub mod RowsOnce
+mod NamedRows
+pub mod RowTables
+pub mod EqualNames
+pub mod RowSteps
+pub mod Degrees

@@ -4,3 +4,7 @@ pub mod Rebuilding
 pub mod Kept
 pub mod Linked
 pub mod Alike
+pub mod Named
+pub mod Shown
+pub mod Rowed
+pub mod Counted
