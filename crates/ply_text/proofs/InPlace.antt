@@ -41,7 +41,7 @@ more_digits line i j n le lt low high h =
       value = ap digits_value e ∙ value_push 0 (take (j - i) (drop i line)) (get_or line j 0) ∙ ap (λ m. m * 10 + (get_or line j 0 - 48)) h.value;
     }
 
-pub digit_solid : (c : ℕ) → is_digit c ≡ true → is_blank c ≡ false
+digit_solid : (c : ℕ) → is_digit c ≡ true → is_blank c ≡ false
 digit_solid c h =
     let p = and_parts (leb 48 c) (leb c 57) h in
     let low : 48 ≤ c = leb-true 48 c p.0 in
