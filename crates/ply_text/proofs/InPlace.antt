@@ -47,7 +47,7 @@ digit_solid c h =
     let low : 48 ≤ c = leb-true 48 c p.0 in
     rw (ne_eqb c 32 (λ e. omega arith)) (ne_eqb c 9 (λ e. omega arith))
 
-digits_solid : (line : List ℕ) (i j n : ℕ) → i ≤ j → j ≤ length line → AreDigits line i j n → IsSolid line i j
+pub digits_solid : (line : List ℕ) (i j n : ℕ) → i ≤ j → j ≤ length line → AreDigits line i j n → IsSolid line i j
 digits_solid line i j n le in' h = record {
   solid = λ k from below.
       let t = take (j - i) (drop i line) in

@@ -7,3 +7,4 @@ pub mod Heads
 pub mod Names
 pub mod Columns
 pub mod InPlace
+pub mod NoNumber

@@ -1,14 +1,15 @@
 //! Numbers of a line that are read in place, for long rows.
 
-ghost use Rattle.std.specs.Prelude.{◌≡◌, ◌+◌, ◌<◌, ◌≤◌, ◌^◌, true, false, [], Some, length, drop, pos, neg_ℤ, slice_index, IfSome, IsTrue};
+ghost use Rattle.std.specs.Prelude.{◌≡◌, ◌+◌, ◌<◌, ◌≤◌, ◌^◌, true, false, [], Some, length, drop, pos, neg_ℤ, slice_index, IfNone, IfSome, IsTrue};
 ghost use Rattle.ply_text.specs.Tokens.{is_blank, tokens_of};
 ghost use Rattle.ply_text.specs.Numbers.{first_integer, is_between};
-ghost use Rattle.ply_text.specs.InPlace.{AreDigits};
+ghost use Rattle.ply_text.specs.InPlace.{AreDigits, HasNoNumber};
 
 use crate::blanks::{is_blank, token_start};
 
 /// The number of the digits at `start`, if it is at most `most`, and the place after them, where a
-/// blank or the end of the line stands.
+/// blank or the end of the line stands. None exactly where what stands from `start` up to there is
+/// nothing, not digits alone, or a number above `most`.
 #[tactic(auto, using(crate::proofs::InPlace::no_digits, crate::proofs::InPlace::more_digits))]
 fn digits_at(line: &[u8], start: usize, most: u32) -> Option<(u32, usize)>
     requires { start ≤ length line.now }
@@ -17,6 +18,7 @@ fn digits_at(line: &[u8], start: usize, most: u32) -> Option<(u32, usize)>
     ensures within { IfSome result (λ r. r.1 ≤ length line.now) }
     ensures stops { IfSome result (λ r. r.1 < length line.now → is_blank (slice_index line.now r.1) ≡ true) }
     ensures few { IfSome result (λ r. r.0 ≤ most) }
+    ensures none { IfNone result (HasNoNumber line.now start most) }
 {
     let limit = most as u64;
     let mut value: u64 = 0;
@@ -49,7 +51,8 @@ fn negated(n: u32) -> i32
 }
 
 /// The number of the first token from `place` on, and the place after it, if that token is a number
-/// from `-below` up to `most`; None says no more than that this call doesn't tell.
+/// from `-below` up to `most`. None exactly where no token is left from `place` on, or the first one
+/// is no number, or a number outside those bounds.
 #[tactic(auto, using(crate::proofs::InPlace::plus_at, crate::proofs::InPlace::minus_at, crate::proofs::InPlace::between))]
 pub fn int_at(line: &[u8], place: usize, below: u32, most: u32) -> Option<(i32, usize)>
     requires place { place ≤ length line.now }
@@ -58,6 +61,7 @@ pub fn int_at(line: &[u8], place: usize, below: u32, most: u32) -> Option<(i32, 
     ensures first { IfSome result (λ r. first_integer (tokens_of (drop place line.now)) ≡ Some (r.0, tokens_of (drop r.1 line.now))) }
     ensures within { IfSome result (λ r. r.1 ≤ length line.now) }
     ensures range { IfSome result (λ r. is_between below most r.0 ≡ true) }
+    ensures none { IfNone result (IfSome (first_integer (tokens_of (drop place line.now))) (λ r. is_between below most r.0 ≡ false)) }
 {
     let start = token_start(line, place);
     if start >= line.len() {
