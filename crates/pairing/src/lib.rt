@@ -10,5 +10,7 @@ mod degenerate;
 mod numbering;
 mod positions;
 mod surfaces;
+#[cfg(test)]
+mod tests;
 
 pub use surfaces::pair;
