@@ -46,7 +46,7 @@ pub(crate) fn number_pairs(
     ensures numbered { IfOk result (λ n. AreNumbered firsts.now seconds.now n.of.items n.count) }
     ensures count { IfOk result (λ n. n.count ≤ length firsts.now) }
 {
-    let mut known = HashMap::new(alloc);
+    let mut known = HashMap::with_capacity(alloc, firsts.len())?;
     let mut of = Vec::with_capacity(alloc, firsts.len())?;
     let mut count = 0u32;
     for i in 0..firsts.len() {
