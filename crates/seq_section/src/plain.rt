@@ -3,6 +3,7 @@
 ghost use Rattle.std.specs.Prelude.{◌≡◌, ◌++◌, OnOk};
 ghost use Rattle.std.specs.List.{flat_map};
 ghost use Rattle.drc_bits.specs.Reading.{Reads, Gives, many_at};
+ghost use Rattle.drc_bits.specs.Varint.{spelling};
 ghost use Rattle.seq_section.specs.Indices.{index_width, number_of_width, index_at, face_at, index_bytes, face_bytes};
 
 use drc_base::{Fault, Kind, Memory, Refusal};
@@ -95,9 +96,28 @@ fn put_index(out: &mut Vec<u8>, index: u32, points: u32) -> Result<(), Memory>
     } else if points < 0x1_0000 {
         out.extend_from_slice(&bytes[..2])?;
     } else if points < 0x20_0000 {
-        out.extend_from_slice(&put_var32(index))?;
+        put_varint(out, index)?;
     } else {
         out.extend_from_slice(&bytes)?;
+    }
+    Ok(())
+}
+
+/// Appends a varint. Up to three bytes, which is what indices have, are appended one by one.
+#[tactic(auto, using(crate::proofs::Varints::one_byte, crate::proofs::Varints::two_bytes, crate::proofs::Varints::three_bytes))]
+fn put_varint(out: &mut Vec<u8>, n: u32) -> Result<(), Memory>
+    ensures { OnOk result (out.new.items ≡ out.old.items ++ spelling 5 n) }
+{
+    let first = (n % 128 + 128) as u8;
+    if n < 0x80 {
+        out.push(n as u8)?;
+    } else if n < 0x4000 {
+        out.extend_from_slice(&[first, (n / 128) as u8])?;
+    } else if n < 0x20_0000 {
+        let second = (n / 128 % 128 + 128) as u8;
+        out.extend_from_slice(&[first, second, (n / 128 / 128) as u8])?;
+    } else {
+        out.extend_from_slice(&put_var32(n))?;
     }
     Ok(())
 }
