@@ -6,3 +6,10 @@ pub mod Linking
 pub mod Equals
 pub mod Ends
 pub mod Counts
+pub mod RowLists
+pub mod ManyGlued
+pub mod Naming
+pub mod NamedRules
+pub mod NamedLaw
+pub mod RowsOnce
+mod NamedRows

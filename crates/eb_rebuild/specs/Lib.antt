@@ -4,3 +4,5 @@ pub mod Rebuilding
 pub mod Kept
 pub mod Linked
 pub mod Alike
+pub mod Named
+pub mod Shown

@@ -5,6 +5,7 @@
 
 mod built;
 mod degenerate;
+mod laws;
 mod link_rebuild;
 mod rebuild;
 mod side_stack;
@@ -13,5 +14,6 @@ mod splits;
 mod tests;
 
 pub use built::Built;
+pub use laws::{names_are_fans, rows_are_one_each};
 pub use link_rebuild::LinkRebuild;
 pub use rebuild::Rebuild;

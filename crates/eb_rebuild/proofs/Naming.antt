@@ -1,0 +1,267 @@
+-- Names stay the names of the fans when a face is added, some of whose sides are glued.
+use Rattle.std.proofs.Common.{◌≡◌, ◌≢◌, ℕ, zero, suc, ◌<◌, Bool, true, false, not, List, [], ◌∷◌, ◌++◌, length, get_or, map, ◌⊎◌, inl, inr, sym, refl, ap, ◌∙◌, subst, arith, length-append}
+use Rattle.std.proofs.lemmas.Bool.{cases_lt}
+use Rattle.std.proofs.lemmas.List.{length-map}
+use Rattle.corner_table.specs.Sides.{Side, Place, first, second, third, side, same, next, prev, place_after, place_before, Gluing, IsGluing, IsFree}
+use Rattle.corner_table.specs.Fans.{InFan, here, leftwards, rightwards}
+use Rattle.corner_table.proofs.Places.{not_same, same_refl, same_tells}
+use Rattle.corner_table.proofs.Walks.{fan_trans, fan_sym, left-within, right-within, left_crosses, right_crosses}
+use Rattle.eb_rebuild.specs.Named.{Triangle, corner, no_triangle, Row, new_row, without, renamed_triangle, renamed_row}
+use Rattle.eb_rebuild.specs.Shown.{name_of, row_named, Among, AreNames}
+use Rattle.eb_rebuild.proofs.RowLists.{among_filter, from_filter, among_map, from_map, among_first, among_last, from_append}
+use Rattle.eb_rebuild.proofs.ManyGlued.{Pairs, glue_all, IsOther, IsOtherPlace, AreApart, all_gluing, Meet, all_alike, Touches, Meeting, all_meet, free_tells, new_is_free, old_is_free}
+
+-- a list with one item more, read before the item and at it
+get_or-before_last : {A : Type 0} (xs : List A) (y d : A) (i : ℕ) → i < length xs → get_or (xs ++ (y ∷ [])) i d ≡ get_or xs i d
+get_or-before_last [] y d i h = absurd (omega arith)
+get_or-before_last (x ∷ xs) y d zero h = refl
+get_or-before_last (x ∷ xs) y d (suc i) h = get_or-before_last xs y d i (omega arith)
+
+get_or-last : {A : Type 0} (xs : List A) (y d : A) → get_or (xs ++ (y ∷ [])) (length xs) d ≡ y
+get_or-last [] y d = refl
+get_or-last (x ∷ xs) y d = get_or-last xs y d
+
+get_or-renamed : (rename : ℕ → ℕ) (ts : List Triangle) (i : ℕ) → i < length ts → get_or (map (renamed_triangle rename) ts) i no_triangle ≡ renamed_triangle rename (get_or ts i no_triangle)
+get_or-renamed rename [] i h = absurd (omega arith)
+get_or-renamed rename (t ∷ ts) zero h = refl
+get_or-renamed rename (t ∷ ts) (suc i) h = get_or-renamed rename ts i (omega arith)
+
+corner-renamed : (rename : ℕ → ℕ) (t : Triangle) (k : Place) → corner (renamed_triangle rename t) k ≡ rename (corner t k)
+corner-renamed rename t first = refl
+corner-renamed rename t second = refl
+corner-renamed rename t third = refl
+
+-- the triangles with a face more, after a renaming
+abbrev pub more_triangles : (ℕ → ℕ) → List Triangle → Triangle → List Triangle
+more_triangles rename ts t = map (renamed_triangle rename) ts ++ (t ∷ [])
+
+pub length-more : (rename : ℕ → ℕ) (ts : List Triangle) (t : Triangle) → length (more_triangles rename ts t) ≡ suc (length ts)
+length-more rename ts t =
+    let a = length-append (map (renamed_triangle rename) ts) (t ∷ []) in
+    let b = length-map ts (renamed_triangle rename) in
+    omega arith
+
+name_old : (rename : ℕ → ℕ) (ts : List Triangle) (t : Triangle) (c : Side) → c.face < length ts → name_of (more_triangles rename ts t) c ≡ rename (name_of ts c)
+name_old rename ts t c h =
+    let l : c.face < length (map (renamed_triangle rename) ts) = (let b = length-map ts (renamed_triangle rename) in omega arith) in
+    ap (λ (u : Triangle). corner u c.place) (get_or-before_last (map (renamed_triangle rename) ts) t no_triangle c.face l ∙ get_or-renamed rename ts c.face h)
+    ∙ corner-renamed rename (get_or ts c.face no_triangle) c.place
+
+name_new : (rename : ℕ → ℕ) (ts : List Triangle) (t : Triangle) (k : Place) → name_of (more_triangles rename ts t) (side (length ts) k) ≡ corner t k
+name_new rename ts t k =
+    ap (λ (u : Triangle). corner u k)
+    (ap (λ (n : ℕ). get_or (more_triangles rename ts t) n no_triangle) (sym (length-map ts (renamed_triangle rename))) ∙ get_or-last (map (renamed_triangle rename) ts) t no_triangle)
+
+-- the rows that stay, and those of a new face
+abbrev pub without_all : Pairs → List Row → List Row
+without_all [] rows = rows
+without_all (p ∷ ps) rows = without p.1 (without_all ps rows)
+
+abbrev pub new_rows : ℕ → Triangle → List Place → List Row
+new_rows f t [] = []
+new_rows f t (k ∷ ks) = new_row f t k ∷ new_rows f t ks
+
+abbrev pub HasPlace : Place → List Place → Type 0
+HasPlace k [] = ⊥
+HasPlace k (j ∷ ks) = (j ≡ k) ⊎ HasPlace k ks
+
+among_without_all : (r : Row) (ps : Pairs) (rows : List Row) → Among r rows → IsOther r.side ps → Among r (without_all ps rows)
+among_without_all r [] rows h o = h
+among_without_all r (p ∷ ps) rows h o = among_filter (λ (q : Row). not (same q.side p.1)) r (without_all ps rows) (among_without_all r ps rows h o.1) (ap not (not_same r.side p.1 o.0))
+
+not_true : (b : Bool) → not b ≡ true → b ≡ false
+not_true true e = absurd (cc)
+not_true false e = refl
+
+apart_from : (x y : Side) → same x y ≡ false → x ≢ y
+apart_from x y f e = let no : false ≡ true = sym f ∙ ap (same x) (sym e) ∙ same_refl x in cc
+
+from_without_all : (r : Row) (ps : Pairs) (rows : List Row) → Among r (without_all ps rows) → Among r rows × IsOther r.side ps
+from_without_all r [] rows h = (h, tt)
+from_without_all r (p ∷ ps) rows h =
+    let t = from_filter (λ (q : Row). not (same q.side p.1)) r (without_all ps rows) h in
+    let u = from_without_all r ps rows t.0 in
+    (u.0, (apart_from r.side p.1 (not_true _ t.1), u.1))
+
+among_new : (f : ℕ) (t : Triangle) (k : Place) (ks : List Place) → HasPlace k ks → Among (new_row f t k) (new_rows f t ks)
+among_new f t k [] h = h
+among_new f t k (j ∷ ks) h = elim h [ inl e ↦ inl (ap (new_row f t) e) | inr m ↦ inr (among_new f t k ks m) ]
+
+from_new : (f : ℕ) (t : Triangle) (r : Row) (ks : List Place) → Among r (new_rows f t ks) → (k : Place) × HasPlace k ks × (new_row f t k ≡ r)
+from_new f t r [] h = absurd h
+from_new f t r (j ∷ ks) h = elim h [ inl e ↦ (j, inl refl, e) | inr m ↦ (let u = from_new f t r ks m in (u.0, inr u.1, u.2)) ]
+
+-- the names of a new triangle fit those at the ends of the sides that it is glued to
+abbrev pub FitsNames : List Triangle → (ℕ → ℕ) → Triangle → Pairs → Type 0
+FitsNames ts rename t [] = Unit {0}
+FitsNames ts rename t (p ∷ ps) = (corner t (place_before p.0) ≡ rename (name_of ts (next p.1))) × (corner t (place_after p.0) ≡ rename (name_of ts (prev p.1))) × FitsNames ts rename t ps
+
+-- a corner with a name of its own
+abbrev pub IsNewName : List Triangle → (ℕ → ℕ) → Triangle → Place → Type 0
+IsNewName ts rename t k = ((c : Side) → c.face < length ts → rename (name_of ts c) ≢ corner t k) × ((j : Place) → j ≢ k → corner t j ≢ corner t k)
+
+-- what a face more, with some sides glued, has to be
+pub record Grows (ts : List Triangle) (rows : List Row) (g : Gluing) (made made' : ℕ) (rename : ℕ → ℕ) (t : Triangle) (ps : Pairs) (ks : List Place) : Type 0 where
+  pub names : AreNames ts rows g made
+  pub apart : AreApart (length ts) g ps
+  pub fits : FitsNames ts rename t ps
+  pub left : (k : Place) → IsOtherPlace k ps → HasPlace k ks
+  pub left_only : (k : Place) → HasPlace k ks → IsOtherPlace k ps
+  pub merged : (c d : Side) → c.face < length ts → d.face < length ts → rename (name_of ts c) ≡ rename (name_of ts d) → InFan (glue_all (length ts) ps g) c d
+  pub corners : (k : Place) → Touches k ps ⊎ IsNewName ts rename t k
+  pub below_old : (m : ℕ) → m < made → rename m < made'
+  pub below_new : (k : Place) → corner t k < made'
+
+-- a fan is one corner, or lies in the faces
+fan_within : {f : ℕ} {g : Gluing} → IsGluing f g → {c d : Side} → InFan g c d → (c ≡ d) ⊎ ((c.face < f) × (d.face < f))
+fan_within {f} {g} G here = inl refl
+fan_within {f} {g} G (leftwards {c = c} {d = x} {e = d} s w) =
+    let from : c.face < f = G.within (next c) (prev x) (left_crosses g c x s) in
+    elim (fan_within G w) [
+      | inl e ↦ inr (from, subst (λ (y : Side). y.face < f) e (left-within G c x s))
+      | inr t ↦ inr (from, t.1)
+    ]
+fan_within {f} {g} G (rightwards {c = c} {d = x} {e = d} s w) =
+    let from : c.face < f = G.within (prev c) (next x) (right_crosses g c x s) in
+    elim (fan_within G w) [
+      | inl e ↦ inr (from, subst (λ (y : Side). y.face < f) e (right-within G c x s))
+      | inr t ↦ inr (from, t.1)
+    ]
+
+face_of : (f : ℕ) (x : Side) → x.face ≡ f → x ≡ side f x.place
+face_of f x e = ap (λ (n : ℕ). side n x.place) e
+
+pub names_grow : (ts : List Triangle) (rows : List Row) (g : Gluing) (made made' : ℕ) (rename : ℕ → ℕ) (t : Triangle) (ps : Pairs) (ks : List Place) → Grows ts rows g made made' rename t ps ks →
+    AreNames (more_triangles rename ts t) (map (renamed_row rename) (without_all ps rows) ++ new_rows (length ts) t ks) (glue_all (length ts) ps g) made'
+names_grow ts rows g made made' rename t ps ks W = record {
+  gluing = subst (λ (n : ℕ). IsGluing n h) (sym long) G;
+  rows_are = λ r m. let u = are r m in (subst (λ (n : ℕ). IsFree n h r.side) (sym long) u.0, u.1);
+  sides_are = λ a A. become a (subst (λ (n : ℕ). IsFree n h a) long A);
+  one_name = alike;
+  one_fan = λ c d l k e. together c d (subst (λ (n : ℕ). c.face < n) long l) (subst (λ (n : ℕ). d.face < n) long k) e;
+  below = λ c l. under c (subst (λ (n : ℕ). c.face < n) long l);
+}
+  where
+    f : ℕ
+    f = length ts
+
+    h : Gluing
+    h = glue_all f ps g
+
+    new : List Triangle
+    new = more_triangles rename ts t
+
+    long : length new ≡ suc f
+    long = length-more rename ts t
+
+    N : AreNames ts rows g made
+    N = W.names
+
+    G : IsGluing (suc f) h
+    G = all_gluing N.gluing ps W.apart
+
+    -- along the fans before
+    old_alike : (c d : Side) → InFan g c d → name_of new c ≡ name_of new d
+    old_alike c d w = elim (fan_within N.gluing w) [
+      | inl e ↦ ap (name_of new) e
+      | inr l ↦ name_old rename ts t c l.0 ∙ ap rename (N.one_name c d w) ∙ sym (name_old rename ts t d l.1)
+    ]
+
+    meeting : (qs : Pairs) → AreApart f g qs → FitsNames ts rename t qs → Meet f (name_of new) qs
+    meeting [] A F = tt
+    meeting (p ∷ qs) A F = (
+      name_new rename ts t (place_before p.0) ∙ F.0 ∙ sym (name_old rename ts t (next p.1) A.0.within),
+      name_new rename ts t (place_after p.0) ∙ F.1 ∙ sym (name_old rename ts t (prev p.1) A.0.within),
+      meeting qs A.3 F.2,
+    )
+
+    meets : Meet f (name_of new) ps
+    meets = meeting ps W.apart W.fits
+
+    alike : (c d : Side) → InFan h c d → name_of new c ≡ name_of new d
+    alike = all_alike f (name_of new) ps old_alike meets
+
+    -- each corner is in a fan with an old one of its name, or has its name alone
+    Stands : Side → Type 0
+    Stands c = Meeting f h (name_of new) c ⊎ ((d : Side) → d.face < suc f → name_of new d ≡ name_of new c → c ≡ d)
+
+    alone : (k : Place) → IsNewName ts rename t k → (d : Side) → d.face < suc f → name_of new d ≡ name_of new (side f k) → side f k ≡ d
+    alone k n d l e = elim (cases_lt d.face f) [
+      | inl m ↦ absurd (n.0 d m (sym (name_old rename ts t d m) ∙ e ∙ name_new rename ts t k))
+      | inr m ↦ (
+          let at : d ≡ side f d.place = face_of f d (omega arith) in
+          elim (same_tells d (side f k)) [
+            | inl q ↦ sym q
+            | inr q ↦ absurd (n.1 d.place (λ p. q (at ∙ ap (side f) p)) (sym (name_new rename ts t d.place) ∙ ap (name_of new) (sym at) ∙ e ∙ name_new rename ts t k))
+          ])
+    ]
+
+    stands_new : (k : Place) → Stands (side f k)
+    stands_new k = elim (W.corners k) [
+      | inl m ↦ inl (all_meet N.gluing (name_of new) ps W.apart meets k m)
+      | inr n ↦ inr (alone k n)
+    ]
+
+    stands : (c : Side) → c.face < suc f → Stands c
+    stands c l = elim (cases_lt c.face f) [
+      | inl m ↦ inl (record { old = c; within = m; in_fan = here; one_name = refl })
+      | inr m ↦ subst Stands (sym (face_of f c (omega arith))) (stands_new c.place)
+    ]
+
+    joined : (c d : Side) → Meeting f h (name_of new) c → Meeting f h (name_of new) d → name_of new c ≡ name_of new d → InFan h c d
+    joined c d m n e =
+        fan_trans m.in_fan
+        (fan_trans
+        (W.merged m.old n.old m.within n.within (sym (name_old rename ts t m.old m.within) ∙ sym m.one_name ∙ e ∙ n.one_name ∙ name_old rename ts t n.old n.within))
+        (fan_sym G n.in_fan))
+
+    together : (c d : Side) → c.face < suc f → d.face < suc f → name_of new c ≡ name_of new d → InFan h c d
+    together c d l k e = elim (stands c l) [
+      | inr n ↦ subst (InFan h c) (n d k (sym e)) here
+      | inl m ↦ elim (stands d k) [
+        | inr n ↦ subst (InFan h c) (sym (n c l e)) here
+        | inl n ↦ joined c d m n e
+      ]
+    ]
+
+    under : (c : Side) → c.face < suc f → name_of new c < made'
+    under c l = elim (cases_lt c.face f) [
+      | inl m ↦ subst (λ (n : ℕ). n < made') (sym (name_old rename ts t c m)) (W.below_old (name_of ts c) (N.below c m))
+      | inr m ↦ subst (λ (n : ℕ). n < made') (sym (ap (name_of new) (face_of f c (omega arith)) ∙ name_new rename ts t c.place)) (W.below_new c.place)
+    ]
+
+    -- the rows
+    old_row : (a : Side) → a.face < f → renamed_row rename (row_named ts a) ≡ row_named new a
+    old_row a l = ap (λ (n : ℕ). record { side = a; from = n; to = rename (name_of ts (prev a)) }) (sym (name_old rename ts t (next a) l)) ∙ ap (λ (n : ℕ). record { side = a; from = name_of new (next a); to = n }) (sym (name_old rename ts t (prev a) l))
+
+    fresh_row : (k : Place) → new_row f t k ≡ row_named new (side f k)
+    fresh_row k = ap (λ (n : ℕ). record { side = side f k; from = n; to = corner t (place_before k) }) (sym (name_new rename ts t (place_after k))) ∙ ap (λ (n : ℕ). record { side = side f k; from = name_of new (next (side f k)); to = n }) (sym (name_new rename ts t (place_before k)))
+
+    IsOf : Row → Type 0
+    IsOf r = IsFree (suc f) h r.side × (r ≡ row_named new r.side)
+
+    stays_row : (r : Row) → Among r rows → IsOther r.side ps → IsOf (renamed_row rename r)
+    stays_row r m o =
+        let u = N.rows_are r m in
+        (old_is_free f g ps r.side u.0 o, ap (renamed_row rename) u.1 ∙ old_row r.side u.0.within)
+
+    are : (r : Row) → Among r (map (renamed_row rename) (without_all ps rows) ++ new_rows f t ks) → IsOf r
+    are r m = elim (from_append r (map (renamed_row rename) (without_all ps rows)) (new_rows f t ks) m) [
+      | inl o ↦ (
+          let u = from_map (renamed_row rename) r (without_all ps rows) o in
+          let w = from_without_all u.0 ps rows u.1 in
+          subst IsOf u.2 (stays_row u.0 w.0 w.1))
+      | inr n ↦ (
+          let u = from_new f t r ks n in
+          subst IsOf u.2 (new_is_free N.gluing ps u.0 W.apart (W.left_only u.0 u.1), fresh_row u.0))
+    ]
+
+    become : (a : Side) → IsFree (suc f) h a → Among (row_named new a) (map (renamed_row rename) (without_all ps rows) ++ new_rows f t ks)
+    become a A = elim (free_tells N.gluing ps a W.apart A) [
+      | inl o ↦ among_first (row_named new a) _ (new_rows f t ks)
+          (subst (λ (r : Row). Among r (map (renamed_row rename) (without_all ps rows))) (old_row a o.0.within)
+          (among_map (renamed_row rename) (row_named ts a) (without_all ps rows) (among_without_all (row_named ts a) ps rows (N.sides_are a o.0) o.1)))
+      | inr n ↦ among_last (row_named new a) (map (renamed_row rename) (without_all ps rows)) _
+          (subst (λ (r : Row). Among r (new_rows f t ks)) (fresh_row a.place ∙ ap (row_named new) (sym (face_of f a n.0)))
+          (among_new f t a.place ks (W.left a.place n.1)))
+    ]
