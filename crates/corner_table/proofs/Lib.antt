@@ -9,3 +9,5 @@ pub mod TableSteps
 pub mod Labelling
 pub mod LabelAll
 pub mod Meeting
+pub mod Carrying
+pub mod CarriedLists

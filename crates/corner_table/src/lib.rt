@@ -6,6 +6,7 @@
 mod corner_lists;
 mod entries;
 mod labels;
+mod renumbering;
 mod side_table;
 mod steps;
 mod symbols;

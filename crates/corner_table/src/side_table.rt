@@ -8,6 +8,7 @@ use crate::entries::{
     entry_at, entry_or_free, filled, link_face, next_number, next_of, number_of, previous_number,
     previous_of, relink, side_with,
 };
+use crate::renumbering::{carried, places_of, sources_of};
 use crate::steps::Steps;
 use drc_base::{MAX_FACES, Memory, Side};
 use std::alloc::Global;
@@ -44,6 +45,7 @@ impl SideTable {
     ghost use Rattle.corner_table.specs.Sides.{Side as side_value, Place, side, side_at, unglued, glue, IsGluing};
     ghost use Rattle.corner_table.specs.Fans.{swing_left, swing_right, side_after, side_before, Follows};
     ghost use Rattle.corner_table.specs.Table.{side_of, gluing_of, room_of, IsFreeIn};
+    ghost use Rattle.corner_table.specs.Carried.{IsRenumbering, IsCarried};
 
     /// A table without faces, and room for `faces` of them.
     pub fn with_room(alloc: Global, faces: u32) -> Result<SideTable, Memory>
@@ -174,6 +176,28 @@ impl SideTable {
         steps.tick();
         let _ = &self.faces;
         side_with(entry_at(&self.before, number_of(s)))
+    }
+
+    /// The same surface under new numbers: row i says which face the new face i is, and by how much it
+    /// is turned, so that its corner k is corner k + turn, modulo 3, of that face. Its pairs are those
+    /// of this table, renumbered, and no others. Refused for want of memory alone.
+    pub fn renumbered(&self, alloc: Global, rows: &[(u32, u8)]) -> Result<SideTable, Memory>
+        requires { IsRenumbering self.now.faces rows.now }
+        ensures faces { IfOk result (λ t. t.faces ≡ self.now.faces) }
+        ensures carried { IfOk result (λ t. IsCarried self.now.faces (gluing_of self.now) rows.now (gluing_of t)) }
+    {
+        let faces = self.face_count();
+        let sources = sources_of(alloc, faces, rows)?;
+        let places = places_of(alloc, &sources)?;
+        let across = carried(alloc, &sources, &places, &self.across)?;
+        let after = carried(alloc, &sources, &places, &self.after)?;
+        let before = carried(alloc, &sources, &places, &self.before)?;
+        Ok(SideTable {
+            faces,
+            across,
+            after,
+            before,
+        })
     }
 
     /// The side that `s` is glued to.
