@@ -172,3 +172,59 @@ adds_pair {faces} {g} G m x y e l p h rest = fun_ext (λ z. elim (glue_tells x y
   | at_second n q r ↦ ap (below (suc m) g) q ∙ below_in (suc m) g y x (omega arith) (G.paired x y p) (omega arith) ∙ sym r
   | elsewhere n k r ↦ rest z n k ∙ sym r
 ])
+
+-- of a new face some sides are glued, and the others are past: all that is neither of the former nor across them stays
+pub unchanged_but : {faces : ℕ} {g : Gluing} → IsGluing faces g → (m : ℕ) (Glued : Side → Type 0) → ((x : Side) → x.face ≡ m → Glued x ⊎ IsPast g x) →
+    (z : Side) → (Glued z → ⊥) → ((y : Side) → g z ≡ Some y → Glued y → ⊥) → below (suc m) g z ≡ below m g z
+unchanged_but {faces} {g} G m Glued new z n k = unchanged m g z own across
+  where
+    own : (y : Side) → g z ≡ Some y → z.face ≡ m → y.face ≤ m → ⊥
+    own y e f l = elim (new z f) [ inl q ↦ n q | inr q ↦ (let h = q y e in omega arith) ]
+
+    across : (y : Side) → g z ≡ Some y → y.face ≡ m → z.face ≤ m → ⊥
+    across y e f l = elim (new y f) [ inl q ↦ k y e q | inr q ↦ (let h = q z (G.paired z y e) in omega arith) ]
+
+pub adds_one : {faces : ℕ} {g : Gluing} → IsGluing faces g → (m : ℕ) (x y : Side) → x.face ≡ m → y.face < m → g x ≡ Some y → ((z : Side) → z.face ≡ m → (z ≡ x) ⊎ IsPast g z) →
+    below (suc m) g ≡ glue x y (below m g)
+adds_one {faces} {g} G m x y e l p new = adds_pair G m x y e l p (below m g)
+    (λ z n k. unchanged_but G m (λ w. w ≡ x) new z n (λ w f q. k (Some_injective _ _ (sym (G.paired z w f) ∙ ap g q ∙ p))))
+
+pub adds_two : {faces : ℕ} {g : Gluing} → IsGluing faces g → (m : ℕ) (x y u v : Side) → x.face ≡ m → y.face < m → g x ≡ Some y → u.face ≡ m → v.face < m → g u ≡ Some v →
+    ((z : Side) → z.face ≡ m → ((z ≡ x) ⊎ (z ≡ u)) ⊎ IsPast g z) → below (suc m) g ≡ glue x y (glue u v (below m g))
+adds_two {faces} {g} G m x y u v e l p f k q new = adds_pair G m x y e l p (glue u v (below m g)) rest
+  where
+    rest : (z : Side) → z ≢ x → z ≢ y → below (suc m) g z ≡ glue u v (below m g) z
+    rest z a b = elim (glue_tells u v z (below m g)) [
+      | at_first i r ↦ ap (below (suc m) g) i ∙ below_in (suc m) g u v (omega arith) q (omega arith) ∙ sym r
+      | at_second n i r ↦ ap (below (suc m) g) i ∙ below_in (suc m) g v u (omega arith) (G.paired u v q) (omega arith) ∙ sym r
+      | elsewhere c d r ↦ unchanged_but G m (λ w. (w ≡ x) ⊎ (w ≡ u)) new z
+          (λ t. elim t [ inl i ↦ a i | inr i ↦ c i ])
+          (λ w i t. elim t [
+            | inl o ↦ b (Some_injective _ _ (sym (G.paired z w i) ∙ ap g o ∙ p))
+            | inr o ↦ d (Some_injective _ _ (sym (G.paired z w i) ∙ ap g o ∙ q))
+          ])
+          ∙ sym r
+    ]
+
+pub adds_three : {faces : ℕ} {g : Gluing} → IsGluing faces g → (m : ℕ) (a b c : Side) → a.face < m → b.face < m → c.face < m → g (side m first) ≡ Some a → g (side m second) ≡ Some b → g (side m third) ≡ Some c →
+    below (suc m) g ≡ glue (side m third) c (glue (side m second) b (glue (side m first) a (below m g)))
+adds_three {faces} {g} G m a b c h k l p q r = adds_pair G m (side m third) c refl l r (glue (side m second) b (glue (side m first) a (below m g))) at_two
+  where
+    last : (z : Side) → z ≢ side m third → z ≢ c → z ≢ side m second → z ≢ b → z ≢ side m first → z ≢ a → below (suc m) g z ≡ below m g z
+    last z n o s t u v = unchanged_but G m (λ w. w.face ≡ m) (λ x e. inl e) z
+      (λ e. by_place (λ w. w ≢ side m third → w ≢ side m second → w ≢ side m first → ⊥) m (λ i j d. d refl) (λ i j d. j refl) (λ i j d. i refl) z e n s u)
+      (λ w i e. by_place (λ x. g x ≡ Some z → ⊥) m (λ d. v (Some_injective _ _ (sym d ∙ p))) (λ d. t (Some_injective _ _ (sym d ∙ q))) (λ d. o (Some_injective _ _ (sym d ∙ r))) w e (G.paired z w i))
+
+    at_one : (z : Side) → z ≢ side m third → z ≢ c → z ≢ side m second → z ≢ b → below (suc m) g z ≡ glue (side m first) a (below m g) z
+    at_one z n o s t = elim (glue_tells (side m first) a z (below m g)) [
+      | at_first i e ↦ ap (below (suc m) g) i ∙ below_in (suc m) g (side m first) a (omega arith) p (omega arith) ∙ sym e
+      | at_second d i e ↦ ap (below (suc m) g) i ∙ below_in (suc m) g a (side m first) (omega arith) (G.paired (side m first) a p) (omega arith) ∙ sym e
+      | elsewhere d i e ↦ last z n o s t d i ∙ sym e
+    ]
+
+    at_two : (z : Side) → z ≢ side m third → z ≢ c → below (suc m) g z ≡ glue (side m second) b (glue (side m first) a (below m g)) z
+    at_two z n o = elim (glue_tells (side m second) b z (glue (side m first) a (below m g))) [
+      | at_first i e ↦ ap (below (suc m) g) i ∙ below_in (suc m) g (side m second) b (omega arith) q (omega arith) ∙ sym e
+      | at_second d i e ↦ ap (below (suc m) g) i ∙ below_in (suc m) g b (side m second) (omega arith) (G.paired (side m second) b q) (omega arith) ∙ sym e
+      | elsewhere d i e ↦ at_one z n o d i ∙ sym e
+    ]

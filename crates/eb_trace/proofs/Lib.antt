@@ -1,1 +1,4 @@
 pub mod Below
+pub mod Waiting
+pub mod Kept
+pub mod Events
