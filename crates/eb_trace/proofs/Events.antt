@@ -155,18 +155,42 @@ module _ (faces : ℕ) (g : Gluing) (n : ℕ) (word : ℕ → Symbol) (T : IsRea
       let l = t.0 in
       (t.1, kept_is n g word m j (omega arith) t.1 t.2 ∙ waiting_later m (g (side j third)) (side m k) t.3 (omega arith))
 
+  -- the events that are left before face m are its own, and then those left after it
+  told : (m : ℕ) → m < n → events_left n g word (n - m) ≡ events_at n g word m false ++ (events_at n g word m true ++ events_left n g word (n - suc m))
+  told m h =
+      let d = n - suc m in
+      let count : n - m ≡ suc d = omega arith in
+      let face : n - suc d ≡ m = omega arith in
+      ap (events_left n g word) count ∙ left_suc n g word d ∙ ap (λ (i : ℕ). events_at n g word i false ++ (events_at n g word i true ++ events_left n g word d)) face
+
   -- face m notes its events, and keeps what waits after it
   pub notes_face : (m : ℕ) → m < n → is_split (word m) ≡ false → note_events n m (events_left n g word (n - m)) (kept_for n g word m) ≡ Ok (events_left n g word (n - suc m), kept_for n g word (suc m))
   notes_face m h s =
       let d = n - suc m in
-      let count : n - m ≡ suc d = omega arith in
-      let face : n - suc d ≡ m = omega arith in
       let rest = events_left n g word d in
-      let told : events_left n g word (n - m) ≡ events_at n g word m false ++ (events_at n g word m true ++ rest) =
-          ap (events_left n g word) count ∙ left_suc n g word d ∙ ap (λ (i : ℕ). events_at n g word i false ++ (events_at n g word i true ++ rest)) face in
-      ap (λ (es : List Event). note_events n m es (kept_for n g word m)) told
+      ap (λ (es : List Event). note_events n m es (kept_for n g word m)) (told m h)
       ∙ note_told n m false (on_left m) (events_at n g word m true ++ rest) (kept_for n g word m) (λ j e. unkept m j third (λ q. (cc)) e)
       ∙ note_told n m true (on_right m) rest (kept_by (on_left m) (side m third) (kept_for n g word m))
         (λ j e. (let t = unkept m j second (λ q. (cc)) e in (t.0, by_miss (on_left m) (side m third) _ j (λ a. not_both m j a e) ∙ t.1)))
       ∙ note_leads n m d rest (kept_both m) (omega arith) (leads n g word d (omega arith))
       ∙ ap (λ (kept : ℕ → Option Side). Ok (rest, kept)) (fun_ext (kept_after m s))
+
+  -- what is glued to an earlier face met no split
+  unmet : (m : ℕ) (k : Place) (y : Side) → k ≢ first → g (side m k) ≡ Some y → y.face < m → split_met n word m (g (side m k)) ≡ None
+  unmet m k y ne e h = elim (option_tells (split_met n word m (g (side m k)))) [
+    | inl o ↦ o
+    | inr j ↦ (
+        let t = met_third T m k j.0 ne j.1 in
+        let l = t.0 in
+        let q : y ≡ side j.0 third = Some_injective _ _ (sym e ∙ T.gluing.paired (side j.0 third) (side m k) t.3) in
+        let f : y.face ≡ j.0 = ap (λ (z : Side). z.face) q in
+        absurd (omega arith))
+  ]
+
+  -- a face with both sides glued to earlier faces tells no event
+  pub tells_none : (m : ℕ) → m < n → (x y : Side) → g (side m second) ≡ Some x → x.face < m → g (side m third) ≡ Some y → y.face < m → events_left n g word (n - m) ≡ events_left n g word (n - suc m)
+  tells_none m h x y r rl l ll =
+      let rest = events_left n g word (n - suc m) in
+      told m h
+      ∙ ap (λ (o : Option ℕ). event_told n m false o ++ (events_at n g word m true ++ rest)) (unmet m third y (λ q. (cc)) l ll)
+      ∙ ap (λ (o : Option ℕ). event_told n m true o ++ rest) (unmet m second x (λ q. (cc)) r rl)

@@ -2,3 +2,4 @@ pub mod Below
 pub mod Waiting
 pub mod Kept
 pub mod Events
+pub mod StepLaws
