@@ -2,10 +2,11 @@
 use Rattle.std.proofs.Common.{◌≡◌, ◌≢◌, ℕ, zero, suc, ◌+◌, ◌<◌, ◌≤◌, true, false, cond, nat_lt, Option, Some, None, ◌⊎◌, inl, inr, sym, refl, ap, ◌∙◌, subst, arith, lt-ltb, le-ltb}
 use Rattle.std.proofs.lemmas.Bool.{cases_lt, cases_eq, cond-true, cond-false, ltb-true}
 use mathlib.Core.Path.{fun_ext}
-use Rattle.corner_table.specs.Sides.{Side, Place, first, second, third, side, next, prev, place_after, place_before, Gluing, glue, IsGluing, IsFree}
-use Rattle.corner_table.specs.Fans.{swing_left, InFan, here, leftwards}
+use Rattle.corner_table.specs.Sides.{Side, Place, first, second, third, side, next, prev, place_after, place_before, Gluing, unglued, glue, IsGluing, IsFree}
+use Rattle.corner_table.specs.Fans.{swing_left, InFan, here, leftwards, side_before}
 use Rattle.corner_table.proofs.Places.{option_tells, Some_injective, next-prev, prev-next, face_apart, glue_tells, at_first, at_second, elsewhere}
-use Rattle.corner_table.proofs.Walks.{left_crosses, crosses-left, left_by, left_by-zero, left_split, to_leftmost}
+use Rattle.corner_table.proofs.Walks.{left_crosses, crosses-left, left_by, left_by-zero, left_split, to_leftmost, fan_sym}
+use Rattle.corner_table.proofs.Boundary.{side_before_only}
 use Rattle.eb_trace.specs.Readable.{WalksBelow, there, onwards, IsRinged, IsPast}
 use Rattle.eb_trace.specs.Front.{if_below, below}
 
@@ -60,8 +61,8 @@ below_whole {faces} {g} G = fun_ext (λ x. elim (option_tells (g x)) [
   | inr y ↦ below_in faces g x y.0 (G.within x y.0 y.1) y.1 (G.within y.0 x (G.paired x y.0 y.1)) ∙ sym y.1
 ])
 
-below_none : (g : Gluing) → below 0 g ≡ (λ (x : Side). None)
-below_none g = fun_ext (λ x. below_new 0 g x (omega arith))
+pub below_nothing : (g : Gluing) → below 0 g ≡ unglued
+below_nothing g = fun_ext (λ x. below_new 0 g x (omega arith))
 
 -- a swing of two faces below is one among them
 swing_below : (m : ℕ) (g : Gluing) (c d : Side) → c.face < m → d.face < m → swing_left g c ≡ Some d → swing_left (below m g) c ≡ Some d
@@ -115,6 +116,13 @@ gap {faces} {g} G m c r = (prev r.from, next r.to, record {
   left_below = end_below r.round;
   meets = subst (λ d. InFan (below m g) d (prev (next r.to))) (sym (next-prev r.from)) (subst (InFan (below m g) r.from) (sym (prev-next r.to)) (walk_fan r.round));
 })
+
+-- round the boundary, the one comes before the other
+pub gap_before : {faces : ℕ} {g : Gluing} → IsGluing faces g → (m : ℕ) (c x y : Side) → m ≤ c.face → Gap g m c x y → y ≡ side_before m (below m g) x
+gap_before {faces} {g} G m c x y h p =
+    let x_free : IsFree m (below m g) x = record { within = p.right_below; free = below_past m g x (next c) (G.paired (next c) x p.right) h } in
+    let y_free : IsFree m (below m g) y = record { within = p.left_below; free = below_past m g y (prev c) (G.paired (prev c) y p.left) h } in
+    side_before_only (below_is m G) y x y_free (record { free = x_free; meets = fan_sym (below_is m G) p.meets })
 
 -- a corner whose two sides meet one fan of the faces below is ringed by them
 pub meets_ring : {faces : ℕ} {g : Gluing} → IsGluing faces g → (m : ℕ) (c x y : Side) → m ≤ c.face → g (next c) ≡ Some x → g (prev c) ≡ Some y → x.face < m → InFan (below m g) (next x) (prev y) → IsRinged g m c

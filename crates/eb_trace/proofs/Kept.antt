@@ -30,7 +30,7 @@ three_third true false false e = refl
 three_third false true false e = refl
 three_third false false false e = refl
 
-three_all : (a b c : Bool) → a ≡ true → b ≡ true → c ≡ true → (a && b && c) ≡ true
+pub three_all : (a b c : Bool) → a ≡ true → b ≡ true → c ≡ true → (a && b && c) ≡ true
 three_all true true true e f h = refl
 three_all false b c e f h = absurd (cc)
 three_all true false c e f h = absurd (cc)

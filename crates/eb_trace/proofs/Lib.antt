@@ -3,3 +3,5 @@ pub mod Waiting
 pub mod Kept
 pub mod Events
 pub mod StepLaws
+pub mod Closing
+pub mod Whole

@@ -15,7 +15,7 @@ use Rattle.eb_rebuild.specs.Shown.{is_split}
 use Rattle.eb_rebuild.proofs.Steps.{Next, same_state, top_free, end_steps, right_steps, left_steps, tip_steps, split_steps}
 use Rattle.eb_trace.specs.Readable.{IsReadable, Says, IsPast, GoesOn, IsNewTip, IsSplit}
 use Rattle.eb_trace.specs.Front.{below, free_firsts, waiting, kept_for, events_left, made_by, vertices_made, front}
-use Rattle.eb_trace.proofs.Below.{below_in, below_past, below_is, Gap, gap, meets_ring, by_place, unchanged_but, adds_none, adds_one, adds_two}
+use Rattle.eb_trace.proofs.Below.{below_in, below_past, below_is, Gap, gap, gap_before, meets_ring, by_place, unchanged_but, adds_none, adds_one, adds_two}
 use Rattle.eb_trace.proofs.Waiting.{firsts_free, firsts_glued, firsts_alike, firsts_skip, firsts_last, firsts_unlast, past_free}
 use Rattle.eb_trace.proofs.Kept.{kept_early, kept_unsplit, kept_is, kept_stays, waiting_here, waiting_entry}
 use Rattle.eb_trace.proofs.Events.{notes_face, tells_none}
@@ -144,15 +144,8 @@ module _ (faces : ℕ) (g : Gluing) (n : ℕ) (word : ℕ → Symbol) (T : IsRea
           x_is : x ≡ side t.right.before first
           x_is = Some_injective _ _ (sym p.right ∙ t.right.onto)
 
-          l_free : IsFree m (below m g) l
-          l_free = record { within = p.left_below; free = below_past m g l (side m third) (T.gluing.paired (side m third) l p.left) (omega arith) }
-
-          a_free : IsFree m (below m g) (side t.right.before first)
-          a_free = record { within = before_less m second t.right; free = top_glued m second t.right }
-
           before_is : l ≡ side_before m (below m g) (side t.right.before first)
-          before_is = side_before_only (below_is m T.gluing) l (side t.right.before first) l_free
-              (record { free = a_free; meets = fan_sym (below_is m T.gluing) (subst (λ (z : Side). InFan (below m g) (next z) (prev l)) x_is p.meets) })
+          before_is = gap_before T.gluing m (side m first) x l (omega arith) p ∙ ap (side_before m (below m g)) x_is
 
           glued : glue (side m third) (side_before m (below m g) (side t.right.before first)) (glue (side m second) (side t.right.before first) (below m g)) ≡ below (suc m) g
           glued =
