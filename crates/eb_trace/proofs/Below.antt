@@ -1,10 +1,10 @@
 -- What is glued among the faces below a number: its walks, and what one more face brings.
-use Rattle.std.proofs.Common.{◌≡◌, ◌≢◌, ℕ, zero, suc, ◌+◌, ◌<◌, ◌≤◌, true, false, cond, nat_lt, Option, Some, None, ◌⊎◌, inl, inr, sym, refl, ap, ◌∙◌, subst, arith, lt-ltb, le-ltb}
-use Rattle.std.proofs.lemmas.Bool.{cases_lt, cases_eq, cond-true, cond-false, ltb-true}
+use Rattle.std.proofs.Common.{◌≡◌, ◌≢◌, ℕ, zero, suc, ◌<◌, ◌≤◌, nat_lt, Some, None, option_map, ◌⊎◌, inl, inr, sym, refl, ap, ◌∙◌, subst, arith, lt-ltb, le-ltb}
+use Rattle.std.proofs.lemmas.Bool.{cases_lt, cases_eq, cond-true, cond-false}
 use mathlib.Core.Path.{fun_ext}
-use Rattle.corner_table.specs.Sides.{Side, Place, first, second, third, side, next, prev, place_after, place_before, Gluing, unglued, glue, IsGluing, IsFree}
+use Rattle.corner_table.specs.Sides.{Side, Place, first, second, third, side, next, prev, Gluing, unglued, glue, IsGluing, IsFree}
 use Rattle.corner_table.specs.Fans.{swing_left, InFan, here, leftwards, side_before}
-use Rattle.corner_table.proofs.Places.{option_tells, Some_injective, next-prev, prev-next, face_apart, glue_tells, at_first, at_second, elsewhere}
+use Rattle.corner_table.proofs.Places.{option_tells, Some_injective, next-prev, prev-next, glue_tells, at_first, at_second, elsewhere}
 use Rattle.corner_table.proofs.Walks.{left_crosses, crosses-left, left_by, left_by-zero, left_split, to_leftmost, fan_sym}
 use Rattle.corner_table.proofs.Boundary.{side_before_only}
 use Rattle.eb_trace.specs.Readable.{WalksBelow, there, onwards, IsRinged, IsPast}
@@ -109,13 +109,17 @@ pub record Gap (g : Gluing) (m : ℕ) (c x y : Side) : Type 0 where
   pub meets : InFan (below m g) (next x) (prev y)
 
 pub gap : {faces : ℕ} {g : Gluing} → IsGluing faces g → (m : ℕ) (c : Side) → IsRinged g m c → (x y : Side) × Gap g m c x y
-gap {faces} {g} G m c r = (prev r.from, next r.to, record {
-  right = left_crosses g c r.from r.leaves;
-  left = G.paired (next r.to) (prev c) (left_crosses g r.to c r.returns);
-  right_below = start_below r.round;
-  left_below = end_below r.round;
-  meets = subst (λ d. InFan (below m g) d (prev (next r.to))) (sym (next-prev r.from)) (subst (InFan (below m g) r.from) (sym (prev-next r.to)) (walk_fan r.round));
-})
+gap {faces} {g} G m c r = (
+  prev r.from,
+  next r.to,
+  record {
+    right = left_crosses g c r.from r.leaves;
+    left = G.paired (next r.to) (prev c) (left_crosses g r.to c r.returns);
+    right_below = start_below r.round;
+    left_below = end_below r.round;
+    meets = subst (λ d. InFan (below m g) d (prev (next r.to))) (sym (next-prev r.from)) (subst (InFan (below m g) r.from) (sym (prev-next r.to)) (walk_fan r.round));
+  },
+)
 
 -- round the boundary, the one comes before the other
 pub gap_before : {faces : ℕ} {g : Gluing} → IsGluing faces g → (m : ℕ) (c x y : Side) → m ≤ c.face → Gap g m c x y → y ≡ side_before m (below m g) x
@@ -127,7 +131,7 @@ gap_before {faces} {g} G m c x y h p =
 -- a corner whose two sides meet one fan of the faces below is ringed by them
 pub meets_ring : {faces : ℕ} {g : Gluing} → IsGluing faces g → (m : ℕ) (c x y : Side) → m ≤ c.face → g (next c) ≡ Some x → g (prev c) ≡ Some y → x.face < m → InFan (below m g) (next x) (prev y) → IsRinged g m c
 meets_ring {faces} {g} G m c x y h r l k p =
-    let last : swing_left (below m g) (prev y) ≡ None = ap (Rattle.std.specs.Prelude.option_map next) (ap (below m g) (next-prev y) ∙ below_past m g y (prev c) (G.paired (prev c) y l) h) in
+    let last : swing_left (below m g) (prev y) ≡ None = ap (option_map next) (ap (below m g) (next-prev y) ∙ below_past m g y (prev c) (G.paired (prev c) y l) h) in
     let t = to_leftmost (below_is m G) p last in
     record {
       from = next x;
@@ -220,8 +224,8 @@ adds_three {faces} {g} G m a b c h k l p q r = adds_pair G m (side m third) c re
   where
     last : (z : Side) → z ≢ side m third → z ≢ c → z ≢ side m second → z ≢ b → z ≢ side m first → z ≢ a → below (suc m) g z ≡ below m g z
     last z n o s t u v = unchanged_but G m (λ w. w.face ≡ m) (λ x e. inl e) z
-      (λ e. by_place (λ w. w ≢ side m third → w ≢ side m second → w ≢ side m first → ⊥) m (λ i j d. d refl) (λ i j d. j refl) (λ i j d. i refl) z e n s u)
-      (λ w i e. by_place (λ x. g x ≡ Some z → ⊥) m (λ d. v (Some_injective _ _ (sym d ∙ p))) (λ d. t (Some_injective _ _ (sym d ∙ q))) (λ d. o (Some_injective _ _ (sym d ∙ r))) w e (G.paired z w i))
+        (λ e. by_place (λ w. w ≢ side m third → w ≢ side m second → w ≢ side m first → ⊥) m (λ i j d. d refl) (λ i j d. j refl) (λ i j d. i refl) z e n s u)
+        (λ w i e. by_place (λ x. g x ≡ Some z → ⊥) m (λ d. v (Some_injective _ _ (sym d ∙ p))) (λ d. t (Some_injective _ _ (sym d ∙ q))) (λ d. o (Some_injective _ _ (sym d ∙ r))) w e (G.paired z w i))
 
     at_one : (z : Side) → z ≢ side m third → z ≢ c → z ≢ side m second → z ≢ b → below (suc m) g z ≡ glue (side m first) a (below m g) z
     at_one z n o s t = elim (glue_tells (side m first) a z (below m g)) [

@@ -1,13 +1,13 @@
 -- The start bits: each side that waits is closed, a boundary or an interior start face, until the whole table is built.
-use Rattle.std.proofs.Common.{◌≡◌, ◌≢◌, ℕ, zero, suc, ◌+◌, ◌<◌, ◌≤◌, Bool, true, false, not, is_some, List, [], ◌∷◌, length, get_or, map, Option, Some, None, Result, Ok, ◌⊎◌, inl, inr, sym, refl, ap, ◌∙◌, subst, arith}
+use Rattle.std.proofs.Common.{◌≡◌, ◌≢◌, ℕ, zero, suc, ◌+◌, ◌<◌, ◌≤◌, Bool, true, false, not, is_some, List, [], ◌∷◌, length, get_or, map, Option, Some, None, Ok, inl, inr, sym, refl, ap, ◌∙◌, subst, arith}
 use Rattle.std.proofs.lemmas.Bool.{cases_lt, cases_eq}
-use Rattle.corner_table.specs.Sides.{Side, Place, first, second, third, side, next, prev, same, Gluing, glue}
+use Rattle.corner_table.specs.Sides.{Side, Place, first, second, third, side, same, Gluing, glue}
 use Rattle.corner_table.specs.Fans.{side_before}
 use Rattle.corner_table.proofs.Places.{option_tells, Some_injective, same_refl, not_same}
 use Rattle.eb_rebuild.specs.Machine.{State, Plan, close, close_all, ◌>>=◌}
-use Rattle.eb_rebuild.proofs.Steps.{Next, the_state, same_state, then_ok, close_boundary, close_interior, fill_steps, filled_state, loop_test}
+use Rattle.eb_rebuild.proofs.Steps.{Next, the_state, same_state, then_ok, close_boundary, close_interior, fill_steps, loop_test}
 use Rattle.corner_table.specs.declared.symbols.Symbol.{Symbol}
-use Rattle.eb_trace.specs.Readable.{IsReadable, IsInterior}
+use Rattle.eb_trace.specs.Readable.{IsReadable, IsInterior, IsRinged}
 use Rattle.eb_trace.specs.Front.{below, free_firsts}
 use Rattle.eb_trace.proofs.Below.{below_in, below_past, below_tells, Gap, gap, gap_before, ring_more, adds_three}
 use Rattle.eb_trace.proofs.Waiting.{firsts_none, firsts_free, firsts_glued}
@@ -67,18 +67,18 @@ module _ (p : Plan) (g : Gluing) (n : ℕ) (word : ℕ → Symbol) (T : IsReadab
       inner : IsInterior g n f
       inner = T.interior f h l
 
-      ring : (q : Place) → Rattle.eb_trace.specs.Readable.IsRinged g f (side f q)
+      ring : (q : Place) → IsRinged g f (side f q)
       ring q = ring_more f (side f q) h (inner.rings q)
 
       go : (x y : Side) × Gap g f (side f first) x y → (x y : Side) × Gap g f (side f second) x y → (x y : Side) × Gap g f (side f third) x y → close p true (stage f (side j first ∷ waits) c) ≡ Ok (stage (suc f) waits (suc c))
       go (b, d, u) (d2, a1, v) (a2, b2, w) =
           close_interior p (stage f (side j first ∷ waits) c) (side j first) waits refl
           ∙ fill_steps (p.symbols + c) p (stage f (side j first ∷ waits) c) (side j first) waits
-            (below_past f g (side j first) (side f first) (T.gluing.paired (side f first) (side j first) e) (omega arith))
-            (loop_holds (stage f (side j first ∷ waits) c) (side j first) b d before_a before_b before_d
-              (λ q. apart first second (λ i. (cc)) (side j first) e (u.right ∙ ap {A = Side} Some q))
-              (λ q. apart first third (λ i. (cc)) (side j first) e (u.left ∙ ap {A = Side} Some q)))
-            (λ q. (omega arith))
+          (below_past f g (side j first) (side f first) (T.gluing.paired (side f first) (side j first) e) (omega arith))
+          (loop_holds (stage f (side j first ∷ waits) c) (side j first) b d before_a before_b before_d
+          (λ q. apart first second (λ i. (cc)) (side j first) e (u.right ∙ ap {A = Side} Some q))
+          (λ q. apart first third (λ i. (cc)) (side j first) e (u.left ∙ ap {A = Side} Some q)))
+          (λ q. (omega arith))
           ∙ ap {A = State} (λ s. let x : Next = Ok s in x) (same_state refl glued refl refl refl refl refl)
         where
           -- two sides of the face aren't glued to one
@@ -139,17 +139,17 @@ module _ (p : Plan) (g : Gluing) (n : ℕ) (word : ℕ → Symbol) (T : IsReadab
         to = H.to;
         done = λ i k a b q. (let w = H.done i k a b q in omega arith);
         due = λ i k a b q. (
-          let w = H.due i k a b q in
-          elim (cases_eq k j) [
-            | inr ne ↦ (omega arith)
-            | inl s ↦ (
-                let t = below_tells n g (side j first) z e in
-                let back : g (side j first) ≡ Some (side i first) = T.gluing.paired (side i first) (side j first) (q ∙ ap (λ (x : ℕ). Some (side x first)) s) in
-                let u : z.face ≡ i = ap (λ (x : Side). x.face) (Some_injective _ _ (sym t.1 ∙ back)) in
-                let v = t.2 in
-                let r = H.from in
-                absurd (omega arith))
-          ]);
+            let w = H.due i k a b q in
+            elim (cases_eq k j) [
+              | inr ne ↦ (omega arith)
+              | inl s ↦ (
+                  let t = below_tells n g (side j first) z e in
+                  let back : g (side j first) ≡ Some (side i first) = T.gluing.paired (side i first) (side j first) (q ∙ ap (λ (x : ℕ). Some (side x first)) s) in
+                  let u : z.face ≡ i = ap (λ (x : Side). x.face) (Some_injective _ _ (sym t.1 ∙ back)) in
+                  let v = t.2 in
+                  let r = H.from in
+                  absurd (omega arith))
+            ]);
       }
 
       boundary : g (side j first) ≡ None → IsHalfway f j
@@ -158,14 +158,14 @@ module _ (p : Plan) (g : Gluing) (n : ℕ) (word : ℕ → Symbol) (T : IsReadab
         to = H.to;
         done = λ i k a b q. (let w = H.done i k a b q in omega arith);
         due = λ i k a b q. (
-          let w = H.due i k a b q in
-          elim (cases_eq k j) [
-            | inr ne ↦ (omega arith)
-            | inl s ↦ absurd (
-                let back : g (side j first) ≡ Some (side i first) = T.gluing.paired (side i first) (side j first) (q ∙ ap (λ (x : ℕ). Some (side x first)) s) in
-                let no : None ≡ Some (side i first) = sym o ∙ back in
-                cc)
-          ]);
+            let w = H.due i k a b q in
+            elim (cases_eq k j) [
+              | inr ne ↦ (omega arith)
+              | inl s ↦ absurd (
+                  let back : g (side j first) ≡ Some (side i first) = T.gluing.paired (side i first) (side j first) (q ∙ ap (λ (x : ℕ). Some (side x first)) s) in
+                  let no : None ≡ Some (side i first) = sym o ∙ back in
+                  cc)
+            ]);
       }
 
       -- what lies across is the next interior start face
@@ -208,8 +208,8 @@ module _ (p : Plan) (g : Gluing) (n : ℕ) (word : ℕ → Symbol) (T : IsReadab
     to = T.fewer;
     done = λ e j a h q. (absurd (omega arith));
     due = λ e j a h q. (
-      let i = T.interior e a h in
-      let r = i.is_run in
-      let s : i.run ≡ j = ap (λ (x : Side). x.face) (Some_injective _ _ (sym i.entered ∙ q)) in
-      omega arith);
+        let i = T.interior e a h in
+        let r = i.is_run in
+        let s : i.run ≡ j = ap (λ (x : Side). x.face) (Some_injective _ _ (sym i.entered ∙ q)) in
+        omega arith);
   }) b

@@ -1,5 +1,5 @@
 -- The events of one face: the machine notes just them, and keeps just the sides that wait.
-use Rattle.std.proofs.Common.{◌≡◌, ◌≢◌, ℕ, zero, suc, ◌-◌, ◌<◌, ◌≤◌, Bool, true, false, List, [], ◌∷◌, ◌++◌, Option, Some, None, Ok, ◌⊎◌, inl, inr, sym, refl, ap, ◌∙◌, subst, arith, cond, ◌==◌, eq-eqb, ne_eqb}
+use Rattle.std.proofs.Common.{◌≡◌, ◌≢◌, ℕ, zero, suc, ◌-◌, ◌<◌, ◌≤◌, Bool, true, false, List, [], ◌∷◌, ◌++◌, Option, Some, None, Ok, ◌⊎◌, inl, inr, sym, refl, ap, ◌∙◌, subst, arith, ◌==◌, eq-eqb, ne_eqb}
 use Rattle.std.proofs.lemmas.Bool.{cases_lt, cases_eq, cond-true, cond-false, cases_Bool}
 use mathlib.Core.Path.{fun_ext}
 use Rattle.corner_table.specs.declared.symbols.Symbol.{Symbol}
@@ -24,7 +24,7 @@ leads_told n i d right (Some j) events h l = inr (record { source = n - suc i; s
 leads_more : (d : ℕ) (events : List Event) → Leads d events → Leads (suc d) events
 leads_more d events l = elim l [ inl e ↦ inl e | inr t ↦ (let h = t.3 in inr (t.0, t.1, t.2, omega arith)) ]
 
-left_zero : (n : ℕ) (g : Gluing) (word : ℕ → Symbol) → events_left n g word zero ≡ []
+pub left_zero : (n : ℕ) (g : Gluing) (word : ℕ → Symbol) → events_left n g word zero ≡ []
 unfolding events_left
 left_zero n g word = refl
 
@@ -171,7 +171,7 @@ module _ (faces : ℕ) (g : Gluing) (n : ℕ) (word : ℕ → Symbol) (T : IsRea
       ap (λ (es : List Event). note_events n m es (kept_for n g word m)) (told m h)
       ∙ note_told n m false (on_left m) (events_at n g word m true ++ rest) (kept_for n g word m) (λ j e. unkept m j third (λ q. (cc)) e)
       ∙ note_told n m true (on_right m) rest (kept_by (on_left m) (side m third) (kept_for n g word m))
-        (λ j e. (let t = unkept m j second (λ q. (cc)) e in (t.0, by_miss (on_left m) (side m third) _ j (λ a. not_both m j a e) ∙ t.1)))
+      (λ j e. (let t = unkept m j second (λ q. (cc)) e in (t.0, by_miss (on_left m) (side m third) _ j (λ a. not_both m j a e) ∙ t.1)))
       ∙ note_leads n m d rest (kept_both m) (omega arith) (leads n g word d (omega arith))
       ∙ ap (λ (kept : ℕ → Option Side). Ok (rest, kept)) (fun_ext (kept_after m s))
 

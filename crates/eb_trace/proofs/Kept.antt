@@ -1,9 +1,9 @@
 -- What is kept for splits to come, before and after one more face.
-use Rattle.std.proofs.Common.{◌≡◌, ◌≢◌, ℕ, zero, suc, ◌<◌, ◌≤◌, Bool, true, false, ◌&&◌, cond, nat_lt, nat_le, Option, Some, None, ◌⊎◌, inl, inr, sym, refl, ap, ◌∙◌, subst, arith, lt-ltb, le-ltb, le-leb}
+use Rattle.std.proofs.Common.{◌≡◌, ◌≢◌, ℕ, suc, ◌<◌, ◌≤◌, Bool, true, false, ◌&&◌, cond, nat_lt, nat_le, Option, Some, None, inl, inr, sym, refl, ap, ◌∙◌, subst, arith, lt-ltb, le-ltb, le-leb}
 use Rattle.std.proofs.lemmas.Bool.{cases_lt, cases_eq, cond-true, cond-false, lt-leb, cases_Bool, ltb-true}
 use Rattle.corner_table.specs.declared.symbols.Symbol.{Symbol}
 use Rattle.corner_table.specs.declared.symbols.Symbol.TheVariants.{C, S, L, R, E}
-use Rattle.corner_table.specs.Sides.{Side, Place, first, second, third, side, Gluing, IsGluing}
+use Rattle.corner_table.specs.Sides.{Side, Place, first, second, third, side, Gluing}
 use Rattle.corner_table.proofs.Places.{option_tells, Some_injective}
 use Rattle.eb_rebuild.specs.Shown.{is_split}
 use Rattle.eb_trace.specs.Readable.{IsReadable, IsSplit, Says}
@@ -146,9 +146,9 @@ third_of_split {faces} {g} {n} {word} T i k y ne e h l s = go y.place refl
     go : (p : Place) → y.place ≡ p → y ≡ side y.face third
     go first q = absurd (let c = T.gates y.face l (side i k) (at first q) in omega arith)
     go second q = absurd (
-      let r = splits.right in
-      let f : side r.before first ≡ side i k = Some_injective _ _ (sym r.onto ∙ at second q) in
-      ne (sym (ap (λ (x : Side). x.place) f)))
+        let r = splits.right in
+        let f : side r.before first ≡ side i k = Some_injective _ _ (sym r.onto ∙ at second q) in
+        ne (sym (ap (λ (x : Side). x.place) f)))
     go third q = ap (side y.face) q
 
 pub met_third : {faces : ℕ} {g : Gluing} {n : ℕ} {word : ℕ → Symbol} → IsReadable faces g n word → (i : ℕ) (k : Place) (j : ℕ) → k ≢ first → split_met n word i (g (side i k)) ≡ Some j →
@@ -164,3 +164,16 @@ met_third {faces} {g} {n} {word} T i k j ne e =
 pub third_met : {faces : ℕ} {g : Gluing} {n : ℕ} {word : ℕ → Symbol} → IsReadable faces g n word → (i : ℕ) (k : Place) (j : ℕ) → i < j → j < n → is_split (word j) ≡ true → g (side j third) ≡ Some (side i k) →
     split_met n word i (g (side i k)) ≡ Some j
 third_met {faces} {g} {n} {word} T i k j h l s e = met_is n word i (g (side i k)) (side j third) (T.gluing.paired (side j third) (side i k) e) h l s
+
+-- nothing waits while nothing is built
+pub kept_none_yet : (n : ℕ) (g : Gluing) (word : ℕ → Symbol) (k : ℕ) → kept_for n g word 0 k ≡ None
+kept_none_yet n g word k = elim (cases_lt k n) [
+  | inr l ↦ kept_late n g word 0 k l
+  | inl l ↦ elim (cases_Bool (is_split (word k))) [
+    | inr s ↦ kept_unsplit n g word 0 k s
+    | inl s ↦ kept_is n g word 0 k (omega arith) l s ∙ elim (option_tells (g (side k third))) [
+      | inl o ↦ ap (waiting 0) o
+      | inr x ↦ waiting_later 0 (g (side k third)) x.0 x.1 (omega arith)
+    ]
+  ]
+]

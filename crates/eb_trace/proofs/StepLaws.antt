@@ -1,15 +1,14 @@
 -- Each symbol takes the state before its face to the state after it.
-use Rattle.std.proofs.Common.{◌≡◌, ◌≢◌, ℕ, zero, suc, ◌+◌, ◌-◌, ◌<◌, ◌≤◌, Bool, true, false, List, [], ◌∷◌, Option, Some, None, Result, Ok, ◌⊎◌, inl, inr, sym, refl, ap, ◌∙◌, subst, arith, cond, ◌==◌, eq-eqb, ne_eqb}
+use Rattle.std.proofs.Common.{◌≡◌, ◌≢◌, ℕ, suc, ◌+◌, ◌-◌, ◌<◌, ◌≤◌, List, ◌∷◌, Option, Some, None, Ok, ◌⊎◌, inl, inr, sym, refl, ap, ◌∙◌, subst, arith, ◌==◌, eq-eqb, ne_eqb}
 use Rattle.std.proofs.lemmas.Bool.{cases_eq, cond-true, cond-false}
 use mathlib.Core.Path.{fun_ext}
-use Rattle.drc_base.specs.declared.faults.Fault.{Fault}
 use Rattle.corner_table.specs.declared.symbols.Symbol.{Symbol}
 use Rattle.corner_table.specs.declared.symbols.Symbol.TheVariants.{C, S, L, R, E}
-use Rattle.corner_table.specs.Sides.{Side, Place, first, second, third, side, next, prev, Gluing, glue, IsGluing, IsFree}
-use Rattle.corner_table.specs.Fans.{InFan, side_before, Follows}
+use Rattle.corner_table.specs.Sides.{Side, Place, first, second, third, side, next, prev, Gluing, glue, IsFree}
+use Rattle.corner_table.specs.Fans.{InFan, side_before}
 use Rattle.corner_table.proofs.Places.{Some_injective}
 use Rattle.corner_table.proofs.Walks.{fan_sym}
-use Rattle.corner_table.proofs.Boundary.{side_before-follows, side_before_only}
+use Rattle.corner_table.proofs.Boundary.{side_before-follows}
 use Rattle.eb_rebuild.specs.Machine.{State, step, top, pushed, release}
 use Rattle.eb_rebuild.specs.Shown.{is_split}
 use Rattle.eb_rebuild.proofs.Steps.{Next, same_state, top_free, end_steps, right_steps, left_steps, tip_steps, split_steps}
@@ -151,11 +150,11 @@ module _ (faces : ℕ) (g : Gluing) (n : ℕ) (word : ℕ → Symbol) (T : IsRea
           glued =
               ap (λ (z : Side). glue (side m third) z (glue (side m second) (side t.right.before first) (below m g))) (sym before_is)
               ∙ sym (adds_two T.gluing m (side m third) l (side m second) (side t.right.before first) refl p.left_below p.left refl (before_less m second t.right) t.right.onto
-                (λ z i. elim (both_new m h z i) [ inr q ↦ inr q | inl q ↦ elim q [ inl o ↦ inl (inr o) | inr o ↦ inl (inl o) ] ]))
+              (λ z i. elim (both_new m h z i) [ inr q ↦ inr q | inl q ↦ elim q [ inl o ↦ inl (inr o) | inr o ↦ inl (inl o) ] ]))
 
           stack : side m first ∷ free_firsts (below m g) t.right.before ≡ free_firsts (below (suc m) g) (suc m)
           stack = sym (stack_after m h second t.right ∙ ap (λ (s : List Side). side m first ∷ s)
-            (firsts_alike (below (suc m) g) (below m g) t.right.before (λ j b. both_alike m h t.right l p.left j b (λ q. t.left l p.left (ap (λ (s : Side). s.place) q)))))
+              (firsts_alike (below (suc m) g) (below m g) t.right.before (λ j b. both_alike m h t.right l p.left j b (λ q. t.left l p.left (ap (λ (s : Side). s.place) q)))))
 
           kept : kept_for n g word m ≡ kept_for n g word (suc m)
           kept = fun_ext (λ k. elim (cases_eq k m) [
@@ -204,21 +203,21 @@ module _ (faces : ℕ) (g : Gluing) (n : ℕ) (word : ℕ → Symbol) (T : IsRea
       by_event : t.across.place ≢ first → step n S (front n g word m) ≡ Ok (front n g word (suc m))
       by_event ne = from (free_firsts (below m g) t.right.before)
           (ap (λ (o : Option Side). top m (below m g) (pushed o (free_firsts (below m g) t.right.before))) (waits ∙ waiting_here m (g (side m third)) t.across t.left t.below ne)
-            ∙ top_free m (below m g) t.across (free_firsts (below m g) t.right.before) l_free)
+          ∙ top_free m (below m g) t.across (free_firsts (below m g) t.right.before) l_free)
           (sym (stack_after m h second t.right ∙ ap (λ (s : List Side). side m first ∷ s)
-            (firsts_alike (below (suc m) g) (below m g) t.right.before (λ j i. both_alike m h t.right t.across t.left j i (λ q. ne (ap (λ (s : Side). s.place) q))))))
+          (firsts_alike (below (suc m) g) (below m g) t.right.before (λ j i. both_alike m h t.right t.across t.left j i (λ q. ne (ap (λ (s : Side). s.place) q))))))
 
       -- or it is the side below the top
       by_stack : t.across.place ≡ first → step n S (front n g word m) ≡ Ok (front n g word (suc m))
       by_stack q = from (free_firsts (below m g) f)
           (ap (λ (o : Option Side). top m (below m g) (pushed o (free_firsts (below m g) t.right.before))) (waits ∙ waiting_entry m (g (side m third)) t.across t.left q)
-            ∙ ap (top m (below m g)) (firsts_skip (below m g) (suc f) t.right.before f_more (λ j i k. (let z = entered j (omega arith) (omega arith) in (z.0, below_in m g (side j first) z.0 (omega arith) z.1 z.2)))
-              ∙ firsts_free (below m g) f (ap (below m g) (sym l_is) ∙ l_free) ∙ ap (λ (s : Side). s ∷ free_firsts (below m g) f) (sym l_is))
-            ∙ top_free m (below m g) t.across (free_firsts (below m g) f) l_free)
+          ∙ ap (top m (below m g)) (firsts_skip (below m g) (suc f) t.right.before f_more (λ j i k. (let z = entered j (omega arith) (omega arith) in (z.0, below_in m g (side j first) z.0 (omega arith) z.1 z.2)))
+          ∙ firsts_free (below m g) f (ap (below m g) (sym l_is) ∙ l_free) ∙ ap (λ (s : Side). s ∷ free_firsts (below m g) f) (sym l_is))
+          ∙ top_free m (below m g) t.across (free_firsts (below m g) f) l_free)
           (sym (stack_after m h second t.right ∙ ap (λ (s : List Side). side m first ∷ s)
-            (firsts_skip (below (suc m) g) (suc f) t.right.before f_more (λ j i k. (let z = entered j (omega arith) (omega arith) in let w = z.2 in (z.0, below_in (suc m) g (side j first) z.0 (omega arith) z.1 (omega arith))))
-              ∙ firsts_glued (below (suc m) g) f (side m third) (below_in (suc m) g (side f first) (side m third) (omega arith) (ap g (sym l_is) ∙ T.gluing.paired (side m third) t.across t.left) (omega arith))
-              ∙ firsts_alike (below (suc m) g) (below m g) f (λ j i. both_alike m h t.right t.across t.left j (let w = f_less in omega arith) (λ o. (let w : f ≡ j = ap (λ (s : Side). s.face) o in omega arith))))))
+          (firsts_skip (below (suc m) g) (suc f) t.right.before f_more (λ j i k. (let z = entered j (omega arith) (omega arith) in let w = z.2 in (z.0, below_in (suc m) g (side j first) z.0 (omega arith) z.1 (omega arith))))
+          ∙ firsts_glued (below (suc m) g) f (side m third) (below_in (suc m) g (side f first) (side m third) (omega arith) (ap g (sym l_is) ∙ T.gluing.paired (side m third) t.across t.left) (omega arith))
+          ∙ firsts_alike (below (suc m) g) (below m g) f (λ j i. both_alike m h t.right t.across t.left j (let w = f_less in omega arith) (λ o. (let w : f ≡ j = ap (λ (s : Side). s.face) o in omega arith))))))
         where
           f : ℕ
           f = t.across.face

@@ -1,7 +1,7 @@
 -- The sides that wait: the free sides 0, the last first.
-use Rattle.std.proofs.Common.{◌≡◌, ◌≢◌, ℕ, zero, suc, ◌<◌, ◌≤◌, true, false, cond, is_none, List, [], ◌∷◌, Option, Some, None, ◌⊎◌, inl, inr, sym, refl, ap, ◌∙◌, arith}
+use Rattle.std.proofs.Common.{◌≡◌, ℕ, zero, suc, ◌<◌, ◌≤◌, is_none, List, [], ◌∷◌, Option, Some, None, inl, inr, sym, refl, ap, ◌∙◌, arith}
 use Rattle.std.proofs.lemmas.Bool.{cases_eq, cond-true, cond-false}
-use Rattle.corner_table.specs.Sides.{Side, first, side, Gluing, IsGluing}
+use Rattle.corner_table.specs.Sides.{Side, first, side, Gluing}
 use Rattle.corner_table.proofs.Places.{option_tells}
 use Rattle.eb_trace.specs.Readable.{IsPast}
 use Rattle.eb_trace.specs.Front.{below, free_firsts}

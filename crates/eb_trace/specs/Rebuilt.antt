@@ -1,6 +1,5 @@
 -- Reverse decoding reads every readable table: the steps, and the whole.
-use Rattle.std.specs.Prelude.{◌≡◌, ℕ, suc, ◌<◌, ◌≤◌, false, List, length, get_or, None, [], Result, Ok}
-use Rattle.drc_base.specs.declared.faults.Fault.{Fault}
+use Rattle.std.specs.Prelude.{◌≡◌, ℕ, suc, ◌<◌, ◌≤◌, false, List, length, get_or, None, [], Ok}
 use Rattle.corner_table.specs.declared.symbols.Symbol.{Symbol}
 use Rattle.corner_table.specs.declared.symbols.Symbol.TheVariants.{E}
 use Rattle.corner_table.specs.Sides.{Gluing}
