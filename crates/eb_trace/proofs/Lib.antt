@@ -5,3 +5,4 @@ pub mod Events
 pub mod StepLaws
 pub mod Closing
 pub mod Whole
+pub mod Examples

@@ -1,3 +1,4 @@
 pub mod Readable
 pub mod Front
 pub mod Rebuilt
+pub mod Trace
