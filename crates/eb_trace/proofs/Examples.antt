@@ -135,3 +135,43 @@ ring_starts = refl
 ring_rebuilt : pairs_of 6 (rebuild (record { faces = 6; created = 7; symbols = 6 }) (E ∷ R ∷ L ∷ R ∷ L ∷ S ∷ []) (record { source = 5; split = 0; right = true } ∷ []) (λ k. get_or (false ∷ []) k false)) ≡ map ring_decoded (corners_of 6)
 unfolding ring_decoded corners_of rebuild take_symbols step note_events leftmost close_all close finish first_degenerate walks_left walks_right
 ring_rebuilt = refl
+
+-- a torus of seven points: faces i, i + 1, i + 3 and i, i + 3, i + 2 modulo 7
+torus : Gluing
+torus = glued_in (25 ∷ 23 ∷ 36 ∷ 28 ∷ 26 ∷ 39 ∷ 31 ∷ 29 ∷ 21 ∷ 34 ∷ 32 ∷ 24 ∷ 37 ∷ 35 ∷ 27 ∷ 40 ∷ 38 ∷ 30 ∷ 22 ∷ 41 ∷ 33 ∷ 8 ∷ 18 ∷ 1 ∷ 11 ∷ 0 ∷ 4 ∷ 14 ∷ 3 ∷ 7 ∷ 17 ∷ 6 ∷ 10 ∷ 20 ∷ 9 ∷ 13 ∷ 2 ∷ 12 ∷ 16 ∷ 5 ∷ 15 ∷ 19 ∷ [])
+
+torus_word : word_of (trace 14 torus) ≡ E ∷ E ∷ L ∷ S ∷ R ∷ L ∷ S ∷ S ∷ R ∷ C ∷ C ∷ C ∷ C ∷ []
+unfolding torus walked run rightmost corners_of walks_left walks_right split_of take_kept
+torus_word = refl
+
+torus_order : order_of (trace 14 torus) ≡ (9, 0) ∷ (6, 2) ∷ (11, 2) ∷ (4, 0) ∷ (12, 2) ∷ (5, 0) ∷ (13, 0) ∷ (1, 1) ∷ (8, 0) ∷ (3, 1) ∷ (10, 1) ∷ (2, 2) ∷ (7, 2) ∷ (0, 1) ∷ []
+unfolding torus walked run rightmost corners_of walks_left walks_right split_of take_kept
+torus_order = refl
+
+torus_events : (trace 14 torus).events ≡ record { source = 12; split = 5; right = true } ∷ record { source = 11; split = 6; right = false } ∷ []
+unfolding torus walked run rightmost corners_of walks_left walks_right split_of take_kept
+torus_events = refl
+
+torus_bits : (trace 14 torus).bits ≡ true ∷ []
+unfolding torus walked run rightmost corners_of walks_left walks_right split_of take_kept
+torus_bits = refl
+
+torus_fans : fan_count 14 torus ≡ 7
+unfolding torus corners_of walks_left walks_right
+torus_fans = refl
+
+-- the same with its faces in the order of decoding
+torus_decoded : Gluing
+torus_decoded = glued_in (11 ∷ 23 ∷ 35 ∷ 7 ∷ 38 ∷ 20 ∷ 10 ∷ 3 ∷ 29 ∷ 14 ∷ 6 ∷ 0 ∷ 16 ∷ 40 ∷ 9 ∷ 19 ∷ 12 ∷ 32 ∷ 22 ∷ 15 ∷ 5 ∷ 26 ∷ 18 ∷ 1 ∷ 28 ∷ 41 ∷ 21 ∷ 31 ∷ 24 ∷ 8 ∷ 34 ∷ 27 ∷ 17 ∷ 37 ∷ 30 ∷ 2 ∷ 39 ∷ 33 ∷ 4 ∷ 36 ∷ 13 ∷ 25 ∷ [])
+
+torus_told : events_left 13 torus_decoded (symbol_at (E ∷ E ∷ L ∷ S ∷ R ∷ L ∷ S ∷ S ∷ R ∷ C ∷ C ∷ C ∷ C ∷ [])) 13 ≡ record { source = 12; split = 5; right = true } ∷ record { source = 11; split = 6; right = false } ∷ []
+unfolding torus_decoded events_left
+torus_told = refl
+
+torus_starts : start_bits 13 torus_decoded ≡ true ∷ []
+unfolding torus_decoded free_firsts
+torus_starts = refl
+
+torus_rebuilt : pairs_of 14 (rebuild (record { faces = 14; created = 10; symbols = 13 }) (E ∷ E ∷ L ∷ S ∷ R ∷ L ∷ S ∷ S ∷ R ∷ C ∷ C ∷ C ∷ C ∷ []) (record { source = 12; split = 5; right = true } ∷ record { source = 11; split = 6; right = false } ∷ []) (λ k. get_or (true ∷ []) k false)) ≡ map torus_decoded (corners_of 14)
+unfolding torus_decoded corners_of rebuild take_symbols step note_events leftmost close_all close finish first_degenerate walks_left walks_right
+torus_rebuilt = refl
