@@ -6,3 +6,4 @@ pub mod StepLaws
 pub mod Closing
 pub mod Whole
 pub mod Examples
+pub mod Rings
