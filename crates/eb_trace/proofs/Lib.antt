@@ -7,3 +7,4 @@ pub mod Closing
 pub mod Whole
 pub mod Examples
 pub mod Rings
+pub mod Covered
