@@ -8,3 +8,4 @@ pub mod Whole
 pub mod Examples
 pub mod Rings
 pub mod Covered
+pub mod Visited
