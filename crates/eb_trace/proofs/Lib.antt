@@ -9,3 +9,5 @@ pub mod Examples
 pub mod Rings
 pub mod Covered
 pub mod Visited
+pub mod Log
+pub mod Moments

@@ -7,7 +7,7 @@ use Rattle.corner_table.specs.declared.symbols.Symbol.{Symbol}
 use Rattle.corner_table.specs.declared.symbols.Symbol.TheVariants.{C, S, L, R, E}
 use Rattle.corner_table.specs.Sides.{Side, Place, first, second, third, side, next, prev, Gluing, IsGluing}
 use Rattle.corner_table.specs.Fans.{InFan, here, leftwards, rightwards, meets, corners_of}
-use Rattle.corner_table.proofs.Places.{option_tells}
+use Rattle.corner_table.proofs.Places.{option_tells, Some_injective}
 use Rattle.corner_table.proofs.Walks.{left-within, right-within}
 use Rattle.corner_table.proofs.Meeting.{fan_meets, meets-fan}
 use Rattle.eb_trace.specs.Trace.{Entry, Walk, is_visited, is_closed, is_new_vertex, symbol_for, symbol_at_corner, after_symbol, go_back, take_kept, entered, visit, run, events_noted}
@@ -75,6 +75,9 @@ Extends all entries = (more : List Entry) × (all ≡ more ++ entries)
 
 pub extends_rest : (all : List Entry) (e : Entry) (entries : List Entry) → Extends all (e ∷ entries) → Extends all entries
 extends_rest all e entries x = (x.0 ++ (e ∷ []), x.1 ∙ sym (append_assoc x.0 (e ∷ []) entries))
+
+pub extends_trans : (all some entries : List Entry) → Extends all some → Extends some entries → Extends all entries
+extends_trans all some entries x y = (x.0 ++ y.0, x.1 ∙ ap (λ (l : List Entry). x.0 ++ l) y.1 ∙ sym (append_assoc x.0 y.0 entries))
 
 more_at : (more entries : List Entry) (k : ℕ) → k < length entries → entry_at (more ++ entries) k ≡ entry_at entries k
 more_at [] entries k h = refl
@@ -227,6 +230,22 @@ take_none w (c ∷ kept) e f q = elim (cases_Bool (is_visited w c.face)) [
     | inr z ↦ take_none w kept (sym (cond-true (is_visited w c.face) _ _ v) ∙ e) f z
   ]
 ]
+
+-- what is taken is of an unvisited face
+pub take_some : (w : Walk) (kept : List Side) (d : Side) (rest : List Side) → take_kept w kept ≡ Some (d, rest) → (is_visited w d.face ≡ false) × ((f : ℕ) → IsFaceOf f kept → IsFaceOf f (d ∷ rest) ⊎ (is_visited w f ≡ true))
+unfolding take_kept
+take_some w [] d rest e = absurd (let no : None ≡ Some (d, rest) = e in cc)
+take_some w (c ∷ kept) d rest e = elim (cases_Bool (is_visited w c.face)) [
+  | inr u ↦ (
+      let q : (c, kept) ≡ (d, rest) = Some_injective _ _ (sym (cond-false (is_visited w c.face) _ _ u) ∙ e) in
+      (ap (λ (p : Side × List Side). is_visited w p.0.face) (sym q) ∙ u, λ f h. inl (subst (λ (p : Side × List Side). IsFaceOf f (p.0 ∷ p.1)) q h)))
+  | inl v ↦ (
+      let t = take_some w kept d rest (sym (cond-true (is_visited w c.face) _ _ v) ∙ e) in
+      (t.0, λ f h. elim h [ inl z ↦ inr (ap (is_visited w) (sym z) ∙ v) | inr z ↦ t.1 f z ]))
+]
+
+pub same_visited : (v w : Walk) → v.entries ≡ w.entries → v.interior ≡ w.interior → (f : ℕ) → is_visited v f ≡ is_visited w f
+same_visited v w e i f = ap (λ (l : List Entry). has_entry l f || is_inside v.interior f) e ∙ ap (λ (l : List ℕ). has_entry w.entries f || is_inside l f) i
 
 -- what one symbol leaves as it was
 back_entries : (w : Walk) (o : Option (Side × List Side)) → (go_back w o).0.entries ≡ w.entries
