@@ -11,3 +11,4 @@ pub mod Covered
 pub mod Visited
 pub mod Log
 pub mod Moments
+pub mod Walking

@@ -15,7 +15,7 @@ use Rattle.eb_trace.proofs.Covered.{IsClosed, IsFaceOf, IsCovered, IsPart, IsVis
 use Rattle.eb_trace.proofs.Visited.{is_inside, entered_visits, entry_at, Extends, extends_rest, extends_top, extends_trans, same_visited, visited_tells, number_visited, inside_visited, not_inside, closed_tells, open_tells, SymbolTells, symbol_tells, new_tells, old_tells, take_none, take_some, after_entries, after_interior, run_none, run_ends, run_goes_on, run_extends}
 use Rattle.eb_trace.proofs.Log.{AfterEnd, GoesRight, InOrder, Gate, at_boundary, at_inside, after_right, after_left, after_kept, ComesAfter, KeptFrom, Seen, Unseen, SeenAcross, MetBefore, Raw}
 
-true_not_false : (b : Bool) → b ≡ true → b ≡ false → ⊥
+pub true_not_false : (b : Bool) → b ≡ true → b ≡ false → ⊥
 true_not_false b e f = (let no : true ≡ false = sym e ∙ f in cc)
 
 glued_swings : (g : Gluing) (d : Side) → g (next d) ≢ None → (e : Side) × (swing_left g d ≡ Some e)
@@ -332,7 +332,7 @@ module _ (faces : ℕ) (g : Gluing) (G : IsGluing faces g) (F : HasThreeFans fac
     visit_ok E e lo t = visit_end lo t
 
   -- a whole run
-  run_ok : (a turns : ℕ) (w : Walk) (c : Side) → Moment a w c → a ≤ length w.entries → unvisited_count (is_visited w) faces ≤ turns → Extends all (run faces g turns w c).entries → Ended a (run faces g turns w c)
+  pub run_ok : (a turns : ℕ) (w : Walk) (c : Side) → Moment a w c → a ≤ length w.entries → unvisited_count (is_visited w) faces ≤ turns → Extends all (run faces g turns w c).entries → Ended a (run faces g turns w c)
   run_ok a zero w c M l h x = absurd (let s = count_some (is_visited w) faces c.face M.within M.fresh in omega arith)
   run_ok a (suc turns) w c M l h x = elim (option_tells (visit faces g w c).1) [
     | inl n ↦ (
