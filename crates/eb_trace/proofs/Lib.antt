@@ -12,3 +12,4 @@ pub mod Visited
 pub mod Log
 pub mod Moments
 pub mod Walking
+pub mod Walked

@@ -73,11 +73,11 @@ module _ (faces : ℕ) (g : Gluing) (G : IsGluing faces g) (F : HasThreeFans fac
       go E t = t
 
   -- a corner of an interior start face has a ring of faces with symbols
-  abbrev InsideRing : Side → Type 0
+  abbrev pub InsideRing : Side → Type 0
   InsideRing c = Ring g (λ d. (j : ℕ) × (j < length all) × ((at j).face ≡ d.face)) c
 
   -- interior start faces, the last first, with the numbers of the first symbols of their runs
-  abbrev Insides : ℕ → List ℕ → Type 0
+  abbrev pub Insides : ℕ → List ℕ → Type 0
   Insides bound [] = Unit {0}
   Insides bound (f ∷ fs) = (a : ℕ) × (a < bound) × (f < faces) × (g (side f second) ≡ Some (at a)) × ((p : Place) → InsideRing (side f p)) × (is_inside fs f ≡ false) × Insides a fs
 
@@ -121,7 +121,7 @@ module _ (faces : ℕ) (g : Gluing) (G : IsGluing faces g) (F : HasThreeFans fac
   }
 
   -- what a start corner is: its side is free, and it lies in the part of the face that it starts from
-  abbrev IsStart : ℕ → Side → Type 0
+  abbrev pub IsStart : ℕ → Side → Type 0
   IsStart f c = (g c ≡ None) × (c.face < faces) × ((V : ℕ → Bool) → IsClosed g V → V f ≡ false → V c.face ≡ false)
 
   none_is : (o : Option Side) → is_none o ≡ true → o ≡ None
@@ -157,10 +157,10 @@ module _ (faces : ℕ) (g : Gluing) (G : IsGluing faces g) (F : HasThreeFans fac
   ]
 
   -- a face tells a start corner, or is inside: its sides are glued, and its fans have no ends
-  abbrev IsInside : ℕ → Type 0
+  abbrev pub IsInside : ℕ → Type 0
   IsInside f = (p : Place) → (g (side f p) ≢ None) × GoesRound g (side f p)
 
-  start_corner_tells : (f : ℕ) → f < faces → ((c : Side) × (start_corner faces g f ≡ Some c) × IsStart f c) ⊎ ((start_corner faces g f ≡ None) × IsInside f)
+  pub start_corner_tells : (f : ℕ) → f < faces → ((c : Side) × (start_corner faces g f ≡ Some c) × IsStart f c) ⊎ ((start_corner faces g f ≡ None) × IsInside f)
   start_corner_tells f h = elim (start_tells (side f first) h _ refl) [
     | inl t ↦ inl (t.0, ap (λ (o : Option Side). or_else o (or_else (start_by faces g (side f second)) (start_by faces g (side f third)))) t.1, t.2)
     | inr a ↦ elim (start_tells (side f second) h _ refl) [
@@ -185,7 +185,7 @@ module _ (faces : ℕ) (g : Gluing) (G : IsGluing faces g) (F : HasThreeFans fac
   enough w = count_most (is_visited w) faces
 
   -- a run from a boundary
-  from_boundary : (w : Walk) → Between w → ((x : ℕ) → is_inside w.interior x ≡ true → is_inside insides x ≡ true) → (f : ℕ) → f < faces → is_visited w f ≡ false → (c : Side) → IsStart f c → (bits : List Bool) →
+  pub from_boundary : (w : Walk) → Between w → ((x : ℕ) → is_inside w.interior x ≡ true → is_inside insides x ≡ true) → (f : ℕ) → f < faces → is_visited w f ≡ false → (c : Side) → IsStart f c → (bits : List Bool) →
       Extends all (run faces g faces (record w { bits = bits }) c).entries → Between (run faces g faces (record w { bits = bits }) c) × (is_visited (run faces g faces (record w { bits = bits }) c) f ≡ true)
   from_boundary w B known f h u c start bits x = (ended_between w v B N x inner, visits)
     where
@@ -231,7 +231,7 @@ module _ (faces : ℕ) (g : Gluing) (G : IsGluing faces g) (F : HasThreeFans fac
       ]
 
   -- a run round an interior start face
-  from_inside : (w : Walk) → Between w → (f : ℕ) → ((x : ℕ) → is_inside (f ∷ w.interior) x ≡ true → is_inside insides x ≡ true) → f < faces → is_visited w f ≡ false → IsInside f → (c : Side) → g (side f second) ≡ Some c → (bits : List Bool) →
+  pub from_inside : (w : Walk) → Between w → (f : ℕ) → ((x : ℕ) → is_inside (f ∷ w.interior) x ≡ true → is_inside insides x ≡ true) → f < faces → is_visited w f ≡ false → IsInside f → (c : Side) → g (side f second) ≡ Some c → (bits : List Bool) →
       Extends all (run faces g faces (record w { interior = f ∷ w.interior; bits = bits }) c).entries → Between (run faces g faces (record w { interior = f ∷ w.interior; bits = bits }) c) × (is_visited (run faces g faces (record w { interior = f ∷ w.interior; bits = bits }) c) f ≡ true)
   from_inside w B f known h u inside c across bits x = (ended_between w v B N x inner, visits)
     where
