@@ -13,3 +13,4 @@ pub mod Log
 pub mod Moments
 pub mod Walking
 pub mod Walked
+pub mod Order

@@ -54,7 +54,7 @@ inside_visits w f bits = record {
 }
 
 -- the entry of symbol number k, counted in the order of the walk
-abbrev no_entry : Entry
+abbrev pub no_entry : Entry
 no_entry = record { corner = side 0 first; symbol = E }
 
 unfoldable pub entry_at : List Entry → ℕ → Entry
