@@ -14,3 +14,4 @@ pub mod Moments
 pub mod Walking
 pub mod Walked
 pub mod Order
+pub mod Decoded

@@ -13,7 +13,7 @@ use Rattle.eb_trace.proofs.Moments.{true_not_false}
 use Rattle.eb_trace.proofs.Walking.{Between, Insides, InsideRing}
 use Rattle.eb_trace.proofs.Walked.{entries_of, insides_of, trace_ok}
 
-entry_of : (entries : List Entry) (i k : ℕ) → suc (i + k) ≡ length entries → get_or entries i no_entry ≡ entry_at entries k
+pub entry_of : (entries : List Entry) (i k : ℕ) → suc (i + k) ≡ length entries → get_or entries i no_entry ≡ entry_at entries k
 entry_of [] i k e = absurd (let q : suc (i + k) ≡ 0 = e in omega arith)
 entry_of (x ∷ entries) zero k e =
     let q : suc (0 + k) ≡ suc (length entries) = e in
@@ -51,7 +51,7 @@ turn_less third = omega arith
 pub inside_is : (fs : List ℕ) (r : ℕ) → r < length fs → is_inside fs (get_or fs r 0) ≡ true
 inside_is fs r h = list_any_at (λ (k : ℕ). k == get_or fs r 0) fs r 0 h (eq-eqb (get_or fs r 0) (get_or fs r 0) refl)
 
-inside_tells : (fs : List ℕ) (f : ℕ) → is_inside fs f ≡ true → (r : ℕ) × (r < length fs) × (get_or fs r 0 ≡ f)
+pub inside_tells : (fs : List ℕ) (f : ℕ) → is_inside fs f ≡ true → (r : ℕ) × (r < length fs) × (get_or fs r 0 ≡ f)
 inside_tells [] f h = absurd (let no : false ≡ true = h in cc)
 inside_tells (x ∷ fs) f h = elim (or_cases (x == f) (is_inside fs f) h) [
   | inl a ↦ (0, omega arith, eqb-true x f a)
