@@ -38,6 +38,10 @@ module _ (faces : ℕ) (g : Gluing) (G : IsGluing faces g) (F : HasThreeFans fac
   abbrev pub symbol : ℕ → Symbol
   symbol k = (entry_at all k).symbol
 
+  -- a corner is entered from a face with a symbol before number k
+  abbrev pub EnteredFrom : ℕ → Side → Type 0
+  EnteredFrom k x = (j : ℕ) × (j < k) × (z : Side) × (g x ≡ Some z) × (z.face ≡ (corner j).face)
+
   -- what has been noted; a is the number of the first symbol of the run
   pub record Logged (a count : ℕ) (now : List ℕ) : Type 0 where
     pub gates : (k : ℕ) → k < count → Gate g corner symbol insides k (corner k)
@@ -45,6 +49,7 @@ module _ (faces : ℕ) (g : Gluing) (G : IsGluing faces g) (F : HasThreeFans fac
     pub apart : (i j : ℕ) → i < count → j < count → (corner i).face ≡ (corner j).face → i ≡ j
     pub outside : (j : ℕ) → j < count → is_inside now (corner j).face ≡ false
     pub bounded : (j : ℕ) → j < count → (corner j).face < faces
+    pub joined : (k : ℕ) → a < k → k < count → EnteredFrom k (corner k)
 
   -- before a corner is visited
   pub record Moment (a : ℕ) (w : Walk) (c : Side) : Type 0 where
@@ -56,6 +61,7 @@ module _ (faces : ℕ) (g : Gluing) (G : IsGluing faces g) (F : HasThreeFans fac
     pub covered : IsCovered g (is_visited w) (c ∷ w.kept)
     pub kept : KeptFrom g corner symbol (length w.entries) c (length w.entries) w.kept
     pub known : (f : ℕ) → is_inside w.interior f ≡ true → is_inside insides f ≡ true
+    pub joined : a < length w.entries → EnteredFrom (length w.entries) c
 
   -- after the last corner of a run
   pub record Ended (a : ℕ) (w : Walk) : Type 0 where
@@ -157,6 +163,10 @@ module _ (faces : ℕ) (g : Gluing) (G : IsGluing faces g) (F : HasThreeFans fac
         | inr n ↦ M.logged.bounded j (omega arith)
         | inl e ↦ subst (λ (d : Side). d.face < faces) (sym (ap corner e ∙ corner_is s x)) M.within
       ];
+      joined = λ k l h. elim (cases_eq k (length w.entries)) [
+        | inr n ↦ M.logged.joined k l (omega arith)
+        | inl e ↦ subst (λ (j : ℕ). EnteredFrom j (corner j)) (sym e) (subst (EnteredFrom (length w.entries)) (sym (corner_is s x)) (M.joined (omega arith)))
+      ];
     }
       where
         new_face : (j : ℕ) → j < length w.entries → (corner (length w.entries)).face ≡ (corner j).face → ⊥
@@ -201,6 +211,7 @@ module _ (faces : ℕ) (g : Gluing) (G : IsGluing faces g) (F : HasThreeFans fac
       covered = cover;
       kept = K;
       known = M.known;
+      joined = λ l. (length w.entries, omega arith, x, G.paired x d e, f ∙ ap (λ (z : Side). z.face) (sym (corner_is s lo)));
     }
 
     same_kept : (s : Symbol) → Logging s → (x d : Side) → x.face ≡ c.face → g x ≡ Some d → KeptFrom g corner symbol (suc (length w.entries)) d (suc (length w.entries)) w.kept
@@ -322,6 +333,7 @@ module _ (faces : ℕ) (g : Gluing) (G : IsGluing faces g) (F : HasThreeFans fac
                   kept = kept_less (suc (length w.entries)) d i (suc (length w.entries)) (omega arith) rest
                     (kept_on (length w.entries) c d (corner_is E lo) i (omega arith) rest (λ j l u. (i, l, omega arith, prev (corner i), back, refl)) others);
                   known = M.known;
+                  joined = λ l. (i, omega arith, prev (corner i), back, refl);
                 }
 
     visit_ok : (s : Symbol) → symbol_at_corner faces g w c ≡ s → Logging s → SymbolTells s (is_new_vertex faces g w c) (is_closed w (g (next c))) (is_closed w (g (prev c))) → Outcome a (after_symbol g w c s).0 (after_symbol g w c s).1

@@ -263,6 +263,17 @@ after_entries g w c L = refl
 after_entries g w c R = refl
 after_entries g w c E = back_entries (record (entered w c E) { events = events_noted g w.entries c ++ w.events }) (take_kept (entered w c E) w.kept)
 
+back_bits : (w : Walk) (o : Option (Side × List Side)) → (go_back w o).0.bits ≡ w.bits
+back_bits w None = refl
+back_bits w (Some c) = refl
+
+pub after_bits : (g : Gluing) (w : Walk) (c : Side) (s : Symbol) → (after_symbol g w c s).0.bits ≡ w.bits
+after_bits g w c C = refl
+after_bits g w c S = refl
+after_bits g w c L = refl
+after_bits g w c R = refl
+after_bits g w c E = back_bits (record (entered w c E) { events = events_noted g w.entries c ++ w.events }) (take_kept (entered w c E) w.kept)
+
 pub after_interior : (g : Gluing) (w : Walk) (c : Side) (s : Symbol) → (after_symbol g w c s).0.interior ≡ w.interior
 after_interior g w c C = refl
 after_interior g w c S = refl
@@ -304,4 +315,13 @@ run_interior faces g (suc turns) w c =
     elim (option_tells (visit faces g w c).1) [
       | inl n ↦ ap (λ (x : Walk). x.interior) (run_ends faces g turns w c n) ∙ at
       | inr d ↦ ap (λ (x : Walk). x.interior) (run_goes_on faces g turns w c d.0 d.1) ∙ run_interior faces g turns (visit faces g w c).0 d.0 ∙ at
+    ]
+
+pub run_bits : (faces : ℕ) (g : Gluing) (turns : ℕ) (w : Walk) (c : Side) → (run faces g turns w c).bits ≡ w.bits
+run_bits faces g zero w c = ap (λ (x : Walk). x.bits) (run_none faces g w c)
+run_bits faces g (suc turns) w c =
+    let at = after_bits g w c (symbol_at_corner faces g w c) in
+    elim (option_tells (visit faces g w c).1) [
+      | inl n ↦ ap (λ (x : Walk). x.bits) (run_ends faces g turns w c n) ∙ at
+      | inr d ↦ ap (λ (x : Walk). x.bits) (run_goes_on faces g turns w c d.0 d.1) ∙ run_bits faces g turns (visit faces g w c).0 d.0 ∙ at
     ]

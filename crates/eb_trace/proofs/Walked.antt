@@ -47,11 +47,11 @@ module _ (faces : ℕ) (g : Gluing) (G : IsGluing faces g) (F : HasThreeFans fac
     | inl t ↦ subst (Goes f) (sym (cond-true (is_visited w f) _ _ t)) (λ x k. (B, t))
     | inr t ↦ subst (Goes f) (sym (cond-false (is_visited w f) _ _ t)) (elim (start_corner_tells faces g G F all insides f h) [
       | inl c ↦ subst (λ (o : Option Side). Goes f (begun faces g f w o)) (sym c.1) (λ x k.
-          from_boundary faces g G F all insides w B (λ y q. k y (ap (λ (l : List ℕ). is_inside l y) (run_interior faces g faces (record w { bits = false ∷ w.bits }) c.0) ∙ q)) f h t c.0 c.2 (false ∷ w.bits) x)
+          from_boundary faces g G F all insides w B (λ y q. k y (ap (λ (l : List ℕ). is_inside l y) (run_interior faces g faces (record w { bits = false ∷ w.bits }) c.0) ∙ q)) f h t c.0 c.2 (false ∷ w.bits) refl x)
       | inr inside ↦ subst (λ (o : Option Side). Goes f (begun faces g f w o)) (sym inside.0) (elim (option_tells (g (side f second))) [
         | inl n ↦ absurd ((inside.1 second).0 n)
         | inr c ↦ subst (λ (o : Option Side). Goes f (begun_inside faces g f w o)) (sym c.1) (λ x k.
-            from_inside faces g G F all insides w B f (λ y q. k y (ap (λ (l : List ℕ). is_inside l y) (run_interior faces g faces (record w { interior = f ∷ w.interior; bits = true ∷ w.bits }) c.0) ∙ q)) h t inside.1 c.0 c.1 (true ∷ w.bits) x)
+            from_inside faces g G F all insides w B f (λ y q. k y (ap (λ (l : List ℕ). is_inside l y) (run_interior faces g faces (record w { interior = f ∷ w.interior; bits = true ∷ w.bits }) c.0) ∙ q)) h t inside.1 c.0 c.1 (true ∷ w.bits) refl x)
       ])
     ])
   ]
@@ -65,12 +65,14 @@ module _ (faces : ℕ) (g : Gluing) (G : IsGluing faces g) (F : HasThreeFans fac
       apart = λ i j h. absurd (let l : i < 0 = h in omega arith);
       outside = λ j h. absurd (let l : j < 0 = h in omega arith);
       bounded = λ j h. absurd (let l : j < 0 = h in omega arith);
+      joined = λ k a h. absurd (let l : k < 0 = h in omega arith);
     };
     settled = λ k h. absurd (let l : k < 0 = h in omega arith);
     closed = λ x y e h. refl;
     last = λ j e. absurd (let q : 0 ≡ suc j = e in omega arith);
     kept = refl;
     inner = tt;
+    bits = λ O. sym (Rattle.eb_trace.proofs.Walking.bits_none faces g G F all insides);
   }
 
   -- what is visited stays visited

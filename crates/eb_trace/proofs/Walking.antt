@@ -11,7 +11,7 @@ use Rattle.corner_table.proofs.Boundary.{rightmost_tells}
 use Rattle.eb_trace.specs.Trace.{Entry, Walk, is_visited, run, start_by, start_corner, or_else, begun, begun_inside, walked_from, walked, nothing_walked, symbol_at_corner, visit}
 use Rattle.eb_trace.proofs.Rings.{Through, Ring, GoesRound, OtherInFan, ring_of, through_map, ring_map, through_first, through_last, long_walk}
 use Rattle.eb_trace.proofs.Covered.{IsClosed, IsFaceOf, IsCovered, IsPart, IsVisiting, closed_covered, not_yet, still_unvisited, part_back, part_forth, three_sides, fan_unvisited, closed_visited, through_visited, count_most}
-use Rattle.eb_trace.proofs.Visited.{is_inside, inside_visits, entry_at, Extends, extends_rest, extends_trans, extends_top, extends_length, visited_tells, number_visited, inside_visited, not_inside, fan_within, after_entries, run_extends, run_interior, run_goes_on, run_ends}
+use Rattle.eb_trace.proofs.Visited.{is_inside, inside_visits, entry_at, Extends, extends_rest, extends_trans, extends_top, extends_length, visited_tells, number_visited, inside_visited, not_inside, fan_within, after_entries, run_extends, run_interior, run_bits, run_goes_on, run_ends}
 use Rattle.eb_trace.proofs.Log.{AfterEnd, Gate, at_boundary, at_inside, KeptFrom, Seen, Unseen, Later, MetBefore, Raw, Settled}
 use Rattle.eb_trace.proofs.Moments.{corner, symbol, Logged, Moment, Ended, run_ok, other_face, true_not_false}
 
@@ -85,6 +85,19 @@ module _ (faces : ℕ) (g : Gluing) (G : IsGluing faces g) (F : HasThreeFans fac
   insides_more b bound l [] I = tt
   insides_more b bound l (f ∷ fs) (a, h, w, e, r, n, rest) = (a, omega arith, w, e, r, n, rest)
 
+  -- the start bits of the symbols below number k, the last first: of each that no other symbol was entered before
+  abbrev pub bits_across : Option Side → List Bool
+  bits_across None = false ∷ []
+  bits_across (Some y) = cond (is_inside insides y.face) (true ∷ []) []
+
+  unfoldable pub bits_to : ℕ → List Bool
+  bits_to zero = []
+  bits_to (suc k) = bits_across (g (at k)) ++ bits_to k
+
+  -- in the end, no face with a symbol is an interior start face
+  abbrev pub AreOutside : Type 0
+  AreOutside = (k : ℕ) → k < length all → is_inside insides (at k).face ≡ false
+
   -- between two runs
   pub record Between (w : Walk) : Type 0 where
     pub logged : Logs (length w.entries) (length w.entries) w.interior
@@ -93,6 +106,29 @@ module _ (faces : ℕ) (g : Gluing) (G : IsGluing faces g) (F : HasThreeFans fac
     pub last : AfterEnd word (length w.entries)
     pub kept : w.kept ≡ []
     pub inner : Insides (length w.entries) w.interior
+    pub bits : AreOutside → w.bits ≡ bits_to (length w.entries)
+
+  pub bits_none : bits_to zero ≡ []
+  unfolding bits_to
+  bits_none = refl
+
+  pub bits_more : (k : ℕ) → bits_to (suc k) ≡ bits_across (g (at k)) ++ bits_to k
+  unfolding bits_to
+  bits_more k = refl
+
+  -- symbols that are no first ones add no bits
+  bits_same : (a count : ℕ) → a < count → (known : (f : ℕ) → f < count → is_inside insides (at f).face ≡ false) → ((k : ℕ) → a < k → k < count → (j : ℕ) × (j < k) × (z : Side) × (g (at k) ≡ Some z) × (z.face ≡ (at j).face)) → bits_to count ≡ bits_to (suc a)
+  bits_same a zero h known joined = absurd (omega arith)
+  bits_same a (suc k) h known joined = elim (cases_eq a k) [
+    | inl e ↦ ap (λ (j : ℕ). bits_to (suc j)) (sym e)
+    | inr n ↦ (
+        let t = joined k (omega arith) (omega arith) in
+        let l = t.1 in
+        bits_more k
+        ∙ ap (λ (o : Option Side). bits_across o ++ bits_to k) t.3
+        ∙ ap (λ (b : Bool). cond b (true ∷ []) [] ++ bits_to k) (ap (is_inside insides) t.4 ∙ known t.0 (omega arith))
+        ∙ bits_same a k (omega arith) (λ f q. known f (omega arith)) (λ i u v. joined i u (omega arith)))
+  ]
 
   -- the first symbol of a run has the corner that it starts at
   run_first : (turns : ℕ) (w : Walk) (c : Side) → Extends all (run faces g (suc turns) w c).entries → (at (length w.entries) ≡ c) × (length w.entries < length (run faces g (suc turns) w c).entries)
@@ -110,14 +146,15 @@ module _ (faces : ℕ) (g : Gluing) (G : IsGluing faces g) (F : HasThreeFans fac
       )
 
   -- a run that has ended settles its symbols
-  ended_between : (w v : Walk) → Between w → Ends (length w.entries) v → Extends all v.entries → Insides (length v.entries) v.interior → Between v
-  ended_between w v B N x I = record {
-    logged = record { gates = N.logged.gates; raw = λ k h l. absurd (omega arith); apart = N.logged.apart; outside = N.logged.outside; bounded = N.logged.bounded };
+  ended_between : (w v : Walk) → Between w → Ends (length w.entries) v → Extends all v.entries → Insides (length v.entries) v.interior → (AreOutside → v.bits ≡ bits_to (length v.entries)) → Between v
+  ended_between w v B N x I bits = record {
+    logged = record { gates = N.logged.gates; raw = λ k h l. absurd (omega arith); apart = N.logged.apart; outside = N.logged.outside; bounded = N.logged.bounded; joined = λ k l h. absurd (omega arith) };
     settled = λ k h. elim (cases_lt k (length w.entries)) [ inl l ↦ B.settled k l | inr l ↦ settle (length w.entries) v N x k l h ];
     closed = N.closed;
     last = N.last;
     kept = N.kept;
     inner = I;
+    bits = bits;
   }
 
   -- what a start corner is: its side is free, and it lies in the part of the face that it starts from
@@ -185,9 +222,9 @@ module _ (faces : ℕ) (g : Gluing) (G : IsGluing faces g) (F : HasThreeFans fac
   enough w = count_most (is_visited w) faces
 
   -- a run from a boundary
-  pub from_boundary : (w : Walk) → Between w → ((x : ℕ) → is_inside w.interior x ≡ true → is_inside insides x ≡ true) → (f : ℕ) → f < faces → is_visited w f ≡ false → (c : Side) → IsStart f c → (bits : List Bool) →
+  pub from_boundary : (w : Walk) → Between w → ((x : ℕ) → is_inside w.interior x ≡ true → is_inside insides x ≡ true) → (f : ℕ) → f < faces → is_visited w f ≡ false → (c : Side) → IsStart f c → (bits : List Bool) → bits ≡ false ∷ w.bits →
       Extends all (run faces g faces (record w { bits = bits }) c).entries → Between (run faces g faces (record w { bits = bits }) c) × (is_visited (run faces g faces (record w { bits = bits }) c) f ≡ true)
-  from_boundary w B known f h u c start bits x = (ended_between w v B N x inner, visits)
+  from_boundary w B known f h u c start bits told x = (ended_between w v B N x inner bits_are, visits)
     where
       w1 : Walk
       w1 = record w { bits = bits }
@@ -205,6 +242,7 @@ module _ (faces : ℕ) (g : Gluing) (G : IsGluing faces g) (F : HasThreeFans fac
         covered = closed_covered g (is_visited w) (c ∷ w.kept) B.closed;
         kept = subst (KeptFrom g at word (length w.entries) c (length w.entries)) (sym B.kept) tt;
         known = known;
+        joined = λ l. absurd (omega arith);
       }
 
       N : Ends (length w.entries) (run faces g faces (record w { bits = bits }) c)
@@ -219,6 +257,15 @@ module _ (faces : ℕ) (g : Gluing) (G : IsGluing faces g) (F : HasThreeFans fac
           subst (λ (m : ℕ). Extends all (run faces g m (record w { bits = bits }) c).entries → (at (length w.entries) ≡ c) × (length w.entries < length (run faces g m (record w { bits = bits }) c).entries)) (sym e)
           (λ y. run_first n (record w { bits = bits }) c y) x
 
+      bits_are : AreOutside → (run faces g faces (record w { bits = bits }) c).bits ≡ bits_to (length (run faces g faces (record w { bits = bits }) c).entries)
+      bits_are O =
+          let b = begins faces refl in
+          let l = extends_length all (run faces g faces (record w { bits = bits }) c).entries x in
+          run_bits faces g faces (record w { bits = bits }) c ∙ told ∙ ap (λ (t : List Bool). false ∷ t) (B.bits O)
+          ∙ sym (ap (λ (d : Side). bits_across (g d) ++ bits_to (length w.entries)) b.0 ∙ ap (λ (o : Option Side). bits_across o ++ bits_to (length w.entries)) start.0)
+          ∙ sym (bits_more (length w.entries))
+          ∙ sym (bits_same (length w.entries) (length (run faces g faces (record w { bits = bits }) c).entries) b.1 (λ k q. O k (omega arith)) N.logged.joined)
+
       inner : Insides (length (run faces g faces (record w { bits = bits }) c).entries) (run faces g faces (record w { bits = bits }) c).interior
       inner = (let l = (begins faces refl).1 in subst (Insides (length (run faces g faces (record w { bits = bits }) c).entries)) (sym same) (insides_more (length w.entries) (length (run faces g faces (record w { bits = bits }) c).entries) (omega arith) w.interior B.inner))
 
@@ -231,9 +278,9 @@ module _ (faces : ℕ) (g : Gluing) (G : IsGluing faces g) (F : HasThreeFans fac
       ]
 
   -- a run round an interior start face
-  pub from_inside : (w : Walk) → Between w → (f : ℕ) → ((x : ℕ) → is_inside (f ∷ w.interior) x ≡ true → is_inside insides x ≡ true) → f < faces → is_visited w f ≡ false → IsInside f → (c : Side) → g (side f second) ≡ Some c → (bits : List Bool) →
+  pub from_inside : (w : Walk) → Between w → (f : ℕ) → ((x : ℕ) → is_inside (f ∷ w.interior) x ≡ true → is_inside insides x ≡ true) → f < faces → is_visited w f ≡ false → IsInside f → (c : Side) → g (side f second) ≡ Some c → (bits : List Bool) → bits ≡ true ∷ w.bits →
       Extends all (run faces g faces (record w { interior = f ∷ w.interior; bits = bits }) c).entries → Between (run faces g faces (record w { interior = f ∷ w.interior; bits = bits }) c) × (is_visited (run faces g faces (record w { interior = f ∷ w.interior; bits = bits }) c) f ≡ true)
-  from_inside w B f known h u inside c across bits x = (ended_between w v B N x inner, visits)
+  from_inside w B f known h u inside c across bits told x = (ended_between w v B N x inner bits_are, visits)
     where
       w1 : Walk
       w1 = record w { interior = f ∷ w.interior; bits = bits }
@@ -285,6 +332,7 @@ module _ (faces : ℕ) (g : Gluing) (G : IsGluing faces g) (F : HasThreeFans fac
           apart = B.logged.apart;
           outside = λ j l. or_from (f == (at j).face) _ (ne_eqb f (at j).face (λ q. true_not_false (is_visited w f) (ap (is_visited w) q ∙ visited_before j l) u)) (B.logged.outside j l);
           bounded = B.logged.bounded;
+          joined = λ k l q. absurd (omega arith);
         };
         within = G.within c (side f second) (G.paired (side f second) c across);
         fresh = not_yet visiting c.face (B.closed (side f second) c across u) (λ q. G.apart (side f second) c across (sym q));
@@ -293,6 +341,7 @@ module _ (faces : ℕ) (g : Gluing) (G : IsGluing faces g) (F : HasThreeFans fac
         covered = cover;
         kept = subst (KeptFrom g at word (length w.entries) c (length w.entries)) (sym B.kept) tt;
         known = known;
+        joined = λ l. absurd (omega arith);
       }
         where
           visited_before : (j : ℕ) → j < length w.entries → is_visited w (at j).face ≡ true
@@ -335,6 +384,17 @@ module _ (faces : ℕ) (g : Gluing) (G : IsGluing faces g) (F : HasThreeFans fac
                 round = through_map (λ d. (j : ℕ) × (j < length all) × ((at j).face ≡ d.face)) (λ d q. numbered d q.0 q.1) (through_visited G (is_visited (run faces g faces (record w { interior = f ∷ w.interior; bits = bits }) c)) N.closed (OtherInFan g (side f p)) r.round start);
                 returns = r.returns;
               }
+
+      bits_are : AreOutside → (run faces g faces (record w { interior = f ∷ w.interior; bits = bits }) c).bits ≡ bits_to (length (run faces g faces (record w { interior = f ∷ w.interior; bits = bits }) c).entries)
+      bits_are O =
+          let b = begins faces refl in
+          let l = extends_length all (run faces g faces (record w { interior = f ∷ w.interior; bits = bits }) c).entries x in
+          run_bits faces g faces (record w { interior = f ∷ w.interior; bits = bits }) c ∙ told ∙ ap (λ (t : List Bool). true ∷ t) (B.bits O)
+          ∙ sym (ap (λ (d : Side). bits_across (g d) ++ bits_to (length w.entries)) b.0
+            ∙ ap (λ (o : Option Side). bits_across o ++ bits_to (length w.entries)) (G.paired (side f second) c across)
+            ∙ ap (λ (t : Bool). cond t (true ∷ []) [] ++ bits_to (length w.entries)) (known f (or_left (f == f) _ (eq-eqb f f refl))))
+          ∙ sym (bits_more (length w.entries))
+          ∙ sym (bits_same (length w.entries) (length (run faces g faces (record w { interior = f ∷ w.interior; bits = bits }) c).entries) b.1 (λ k q. O k (omega arith)) N.logged.joined)
 
       inner : Insides (length (run faces g faces (record w { interior = f ∷ w.interior; bits = bits }) c).entries) (run faces g faces (record w { interior = f ∷ w.interior; bits = bits }) c).interior
       inner =
