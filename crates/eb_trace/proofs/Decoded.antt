@@ -34,31 +34,31 @@ after_is_second second e = absurd (cc)
 after_is_second third e = absurd (cc)
 
 module _ (faces : ℕ) (g : Gluing) (G : IsGluing faces g) (F : HasThreeFans faces g) (h : Gluing) (K : IsCarried faces g (order_of (trace faces g)) h) where
-  abbrev n : ℕ
+  abbrev pub n : ℕ
   n = length (entries_of faces g)
 
-  abbrev m : ℕ
+  abbrev pub m : ℕ
   m = length (insides_of faces g)
 
-  abbrev cor : ℕ → Side
+  abbrev pub cor : ℕ → Side
   cor k = at faces g G F k
 
-  abbrev sym_of : ℕ → Symbol
+  abbrev pub sym_of : ℕ → Symbol
   sym_of k = (entry_at (entries_of faces g) k).symbol
 
-  abbrev φ : Side → Side
+  abbrev pub φ : Side → Side
   φ x = carry (order_of (trace faces g)) x
 
-  H : IsGluing faces h
+  pub H : IsGluing faces h
   H = carried_gluing G K
 
-  gates_of : (k : ℕ) → k < n → Gate g cor sym_of (insides_of faces g) k (cor k)
+  pub gates_of : (k : ℕ) → k < n → Gate g cor sym_of (insides_of faces g) k (cor k)
   gates_of k l = (trace_ok faces g G F).0.logged.gates k l
 
-  apart_of : (i j : ℕ) → i < n → j < n → (cor i).face ≡ (cor j).face → i ≡ j
+  pub apart_of : (i j : ℕ) → i < n → j < n → (cor i).face ≡ (cor j).face → i ≡ j
   apart_of i j a b e = (trace_ok faces g G F).0.logged.apart i j a b e
 
-  outside_of : (k : ℕ) → k < n → is_inside (insides_of faces g) (cor k).face ≡ false
+  pub outside_of : (k : ℕ) → k < n → is_inside (insides_of faces g) (cor k).face ≡ false
   outside_of k l = (trace_ok faces g G F).0.logged.outside k l
 
   settled_of : (k : ℕ) → k < n → Settled g cor (insides_of faces g) n k (sym_of k)
@@ -68,30 +68,30 @@ module _ (faces : ℕ) (g : Gluing) (G : IsGluing faces g) (F : HasThreeFans fac
   last_of = (trace_ok faces g G F).0.last
 
   -- pairs both ways
-  down : (x y : Side) → h x ≡ Some y → g (φ x) ≡ Some (φ y)
+  pub down : (x y : Side) → h x ≡ Some y → g (φ x) ≡ Some (φ y)
   down x y e = (let w = K.within x y e in (K.pairs x y w.0 w.1).0 e)
 
-  up : (x z : Side) → x.face < faces → g (φ x) ≡ Some z → (y : Side) × (y.face < faces) × (φ y ≡ z) × (h x ≡ Some y)
+  pub up : (x z : Side) → x.face < faces → g (φ x) ≡ Some z → (y : Side) × (y.face < faces) × (φ y ≡ z) × (h x ≡ Some y)
   up x z l e =
       let t = carry_onto (renumbers faces g G F) z (G.within z (φ x) (G.paired (φ x) z e)) in
       (t.0, t.1, t.2, (K.pairs x t.0 l t.1).1 (e ∙ ap {A = Side} Some (sym t.2)))
 
-  up_to : (x y : Side) → x.face < faces → y.face < faces → g (φ x) ≡ Some (φ y) → h x ≡ Some y
+  pub up_to : (x y : Side) → x.face < faces → y.face < faces → g (φ x) ≡ Some (φ y) → h x ≡ Some y
   up_to x y l k e = (K.pairs x y l k).1 e
 
   -- a decoded face of a number at least n is an interior start face
-  number_of : (i : ℕ) → i < faces → Numbered faces g G F i
+  pub number_of : (i : ℕ) → i < faces → Numbered faces g G F i
   number_of i l = (let t = total_is faces g G F in numbered faces g G F i (omega arith))
 
   -- a face of a symbol has a number below n
-  symbol_face : (y k : ℕ) → y < faces → k < n → (cor k).face ≡ face_of faces g G F y → suc (y + k) ≡ n
+  pub symbol_face : (y k : ℕ) → y < faces → k < n → (cor k).face ≡ face_of faces g G F y → suc (y + k) ≡ n
   symbol_face y k l b e = go (number_of y l)
     where
       go : Numbered faces g G F y → suc (y + k) ≡ n
       go (of_symbol j a c) = (let s : k ≡ j = apart_of k j b (omega arith) (e ∙ c) in omega arith)
       go (of_inside q r s c d) = absurd (true_not_false (is_inside (insides_of faces g) (cor k).face) (ap (is_inside (insides_of faces g)) (e ∙ d) ∙ inside_is (insides_of faces g) r (omega arith)) (outside_of k b))
 
-  inside_face : (y f : ℕ) → y < faces → is_inside (insides_of faces g) f ≡ true → f ≡ face_of faces g G F y → n ≤ y
+  pub inside_face : (y f : ℕ) → y < faces → is_inside (insides_of faces g) f ≡ true → f ≡ face_of faces g G F y → n ≤ y
   inside_face y f l i e = go (number_of y l)
     where
       go : Numbered faces g G F y → n ≤ y
@@ -259,7 +259,7 @@ module _ (faces : ℕ) (g : Gluing) (G : IsGluing faces g) (F : HasThreeFans fac
         (ap sym_of (sym number) ∙ s, subst (λ (x : ℕ). InOrder g cor x j) number o))
 
   -- a decoded side 0 below n is the corner of a symbol
-  first_corner : (y : Side) → y.face < n → y.place ≡ first → (j : ℕ) × (suc (y.face + j) ≡ n) × (φ y ≡ cor j)
+  pub first_corner : (y : Side) → y.face < n → y.place ≡ first → (j : ℕ) × (suc (y.face + j) ≡ n) × (φ y ≡ cor j)
   first_corner y l p =
       let j = n - suc y.face in
       let e : suc (y.face + j) ≡ n = omega arith in
@@ -390,7 +390,7 @@ module _ (faces : ℕ) (g : Gluing) (G : IsGluing faces g) (F : HasThreeFans fac
       omega arith
 
   -- the word by numbers
-  word_is : (i k : ℕ) → suc (i + k) ≡ n → symbol_at (word_of (trace faces g)) i ≡ sym_of k
+  pub word_is : (i k : ℕ) → suc (i + k) ≡ n → symbol_at (word_of (trace faces g)) i ≡ sym_of k
   word_is i k e = get_or-map (λ (x : Entry). x.symbol) (entries_of faces g) i no_entry E (omega arith) ∙ ap (λ (x : Entry). x.symbol) (entry_of (entries_of faces g) i k e)
 
   pub readable : IsReadable faces h n (symbol_at (word_of (trace faces g)))

@@ -28,7 +28,7 @@ pub left_zero : (n : ℕ) (g : Gluing) (word : ℕ → Symbol) → events_left n
 unfolding events_left
 left_zero n g word = refl
 
-left_suc : (n : ℕ) (g : Gluing) (word : ℕ → Symbol) (d : ℕ) → events_left n g word (suc d) ≡ events_at n g word (n - suc d) false ++ (events_at n g word (n - suc d) true ++ events_left n g word d)
+pub left_suc : (n : ℕ) (g : Gluing) (word : ℕ → Symbol) (d : ℕ) → events_left n g word (suc d) ≡ events_at n g word (n - suc d) false ++ (events_at n g word (n - suc d) true ++ events_left n g word d)
 unfolding events_left
 left_suc n g word d = refl
 

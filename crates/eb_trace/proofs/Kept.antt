@@ -9,14 +9,14 @@ use Rattle.eb_rebuild.specs.Shown.{is_split}
 use Rattle.eb_trace.specs.Readable.{IsReadable, IsSplit, Says}
 use Rattle.eb_trace.specs.Front.{is_entry, waiting, kept_for, split_met}
 
-three_first : (a b c : Bool) → a ≡ false → (a && b && c) ≡ false
+pub three_first : (a b c : Bool) → a ≡ false → (a && b && c) ≡ false
 three_first true b c e = absurd (cc)
 three_first false true true e = refl
 three_first false true false e = refl
 three_first false false true e = refl
 three_first false false false e = refl
 
-three_second : (a b c : Bool) → b ≡ false → (a && b && c) ≡ false
+pub three_second : (a b c : Bool) → b ≡ false → (a && b && c) ≡ false
 three_second a true c e = absurd (cc)
 three_second true false true e = refl
 three_second true false false e = refl

@@ -15,3 +15,4 @@ pub mod Walking
 pub mod Walked
 pub mod Order
 pub mod Decoded
+pub mod Noted

@@ -8,11 +8,11 @@ use Rattle.eb_trace.specs.Trace.{Entry, Walk, is_visited, run, start_corner, beg
 use Rattle.eb_trace.proofs.Visited.{is_inside, Extends, extends_trans, extends_length, visited_tells, number_visited, inside_visited, run_extends, run_interior}
 use Rattle.eb_trace.proofs.Walking.{Between, start_corner_tells, from_boundary, from_inside}
 
-walked_none : (faces : ℕ) (g : Gluing) → walked faces g zero ≡ nothing_walked
+pub walked_none : (faces : ℕ) (g : Gluing) → walked faces g zero ≡ nothing_walked
 unfolding walked
 walked_none faces g = refl
 
-walked_more : (faces : ℕ) (g : Gluing) (f : ℕ) → walked faces g (suc f) ≡ walked_from faces g f (walked faces g f)
+pub walked_more : (faces : ℕ) (g : Gluing) (f : ℕ) → walked faces g (suc f) ≡ walked_from faces g f (walked faces g f)
 unfolding walked
 walked_more faces g f = refl
 
