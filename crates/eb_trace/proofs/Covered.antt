@@ -1,11 +1,11 @@
 -- A walk comes to all that it can reach: each part of the unvisited faces that touches a visited one has the current corner's face or one
 -- of a kept corner.
-use Rattle.std.proofs.Common.{◌≡◌, ◌≢◌, ℕ, zero, suc, ◌+◌, ◌<◌, ◌≤◌, Bool, true, false, not, cond, List, [], ◌∷◌, Option, Some, None, ◌⊎◌, inl, inr, sym, refl, ap, ◌∙◌, subst, arith}
+use Rattle.std.proofs.Common.{◌≡◌, ◌≢◌, ℕ, zero, suc, ◌+◌, ◌<◌, ◌≤◌, Bool, true, false, not, cond, List, [], ◌∷◌, Some, ◌⊎◌, inl, inr, sym, refl, ap, ◌∙◌, arith}
 use Rattle.std.proofs.lemmas.Bool.{cases_Bool, cases_eq, not_from_false, false_from_ne_true}
 use Rattle.corner_table.specs.Sides.{Side, Place, first, second, third, side, next, prev, place_after, place_before, Gluing, IsGluing}
-use Rattle.corner_table.specs.Fans.{swing_left, swing_right, InFan, here, leftwards, rightwards}
+use Rattle.corner_table.specs.Fans.{InFan, here, leftwards, rightwards}
 use Rattle.corner_table.proofs.Walks.{left_crosses, right_crosses}
-use Rattle.eb_trace.proofs.Rings.{Through, at, by, Ring}
+use Rattle.eb_trace.proofs.Rings.{Through, at, by}
 
 -- no pair joins a visited and an unvisited face
 abbrev pub IsClosed : Gluing → (ℕ → Bool) → Type 0

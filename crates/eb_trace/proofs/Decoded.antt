@@ -1,16 +1,16 @@
 -- A surface in the order of decoding is readable.
-use Rattle.std.proofs.Common.{◌≡◌, ◌≢◌, ℕ, zero, suc, ◌+◌, ◌-◌, ◌<◌, ◌≤◌, Bool, true, false, List, map, length, get_or, Option, Some, None, option_map, ◌⊎◌, inl, inr, sym, refl, ap, ◌∙◌, subst, arith}
-use Rattle.std.proofs.lemmas.Bool.{cases_eq, cases_lt}
+use Rattle.std.proofs.Common.{◌≡◌, ◌≢◌, ℕ, suc, ◌+◌, ◌-◌, ◌<◌, ◌≤◌, true, false, length, get_or, Some, None, option_map, ◌⊎◌, inl, inr, sym, refl, ap, ◌∙◌, subst, arith}
+use Rattle.std.proofs.lemmas.Bool.{cases_eq}
 use Rattle.std.proofs.lemmas.List.{get_or-map}
 use Rattle.corner_table.specs.declared.symbols.Symbol.{Symbol}
 use Rattle.corner_table.specs.declared.symbols.Symbol.TheVariants.{C, S, L, R, E}
 use Rattle.corner_table.specs.Sides.{Side, Place, first, second, third, side, next, prev, place_after, place_before, Gluing, IsGluing}
-use Rattle.corner_table.specs.Fans.{swing_left, swing_right, InFan, HasThreeFans}
+use Rattle.corner_table.specs.Fans.{swing_left, InFan, HasThreeFans}
 use Rattle.corner_table.specs.Carried.{carry, IsCarried}
-use Rattle.corner_table.proofs.Places.{Some_injective, next-prev, prev-next}
+use Rattle.corner_table.proofs.Places.{Some_injective, next-prev}
 use Rattle.corner_table.proofs.Walks.{left_crosses, right_crosses}
-use Rattle.corner_table.proofs.Carrying.{carry-next, carry-prev, carry-within, carry_injective, carry_onto, carried_gluing, fans_carried}
-use Rattle.eb_trace.specs.Readable.{WalksBelow, there, onwards, IsRinged, IsPast, GoesOn, IsKeptLast, IsNewTip, IsSplit, Says, IsInterior, IsReadable}
+use Rattle.corner_table.proofs.Carrying.{carry-next, carry-prev, carry_injective, carry_onto, carried_gluing, fans_carried}
+use Rattle.eb_trace.specs.Readable.{WalksBelow, there, onwards, IsRinged, IsPast, GoesOn, Says, IsInterior, IsReadable}
 use Rattle.eb_trace.specs.Rebuilt.{symbol_at}
 use Rattle.eb_trace.specs.Trace.{Entry, trace, order_of, word_of}
 use Rattle.eb_trace.proofs.Rings.{Through, at as stays, by as swings, Ring, ring_has, through_last}
@@ -18,7 +18,7 @@ use Rattle.eb_trace.proofs.Visited.{entry_at, no_entry, is_inside}
 use Rattle.eb_trace.proofs.Log.{AfterEnd, GoesRight, InOrder, Gate, at_boundary, at_inside, after_right, after_left, after_kept, Seen, Later, SeenAcross, MetBefore, Settled}
 use Rattle.eb_trace.proofs.Moments.{true_not_false}
 use Rattle.eb_trace.proofs.Walked.{entries_of, insides_of, trace_ok}
-use Rattle.eb_trace.proofs.Order.{at, entry_of, first_is, second_is, third_is, inner_is, facts_of, order_facts, Numbered, of_symbol, of_inside, numbered, face_of, inside_is, inside_tells, total_is, renumbers}
+use Rattle.eb_trace.proofs.Order.{at, entry_of, first_is, second_is, third_is, inner_is, facts_of, order_facts, Numbered, of_symbol, of_inside, numbered, face_of, inside_is, total_is, renumbers}
 
 next_not_prev : (x : Side) → next x ≢ prev x
 next_not_prev x e = go x.place (ap (λ (s : Side). s.place) e)
@@ -213,7 +213,7 @@ module _ (faces : ℕ) (g : Gluing) (G : IsGluing faces g) (F : HasThreeFans fac
       let w = within_n i k e in
       let t = carry_onto (renumbers faces g G F) d (Rattle.eb_trace.proofs.Visited.fan_within G p ((trace_ok faces g G F).0.logged.bounded k (omega arith))) in
       let q : InFan h (side i first) t.0 = (fans_carried G (renumbers faces g G F) K (side i first) t.0 w t.1).1
-        (subst (InFan g (φ (side i first))) (sym t.2) (subst (λ (x : Side). InFan g x d) (sym (first_is faces g G F i k e)) p)) in
+      (subst (InFan g (φ (side i first))) (sym t.2) (subst (λ (x : Side). InFan g x d) (sym (first_is faces g G F i k e)) p)) in
       let has = ring_has H (λ x. x.face < i) (side i first) t.0 (ring_from i (side i first) r) q in
       elim why [
         | inl none ↦ (
@@ -244,19 +244,19 @@ module _ (faces : ℕ) (g : Gluing) (G : IsGluing faces g) (F : HasThreeFans fac
       go : Gate g cor sym_of (insides_of faces g) j (cor j) → (sym_of k ≡ R) ⊎ ((sym_of k ≡ S) × InOrder g cor k j)
       go (at_boundary a q) = absurd (let no : None ≡ Some (prev (cor k)) = sym q ∙ back in cc)
       go (at_inside f a i q) = absurd (true_not_false (is_inside (insides_of faces g) (cor k).face)
-        (ap (λ (s : Side). is_inside (insides_of faces g) s.face) (Some_injective _ _ (sym back ∙ q)) ∙ i) (outside_of k l))
+          (ap (λ (s : Side). is_inside (insides_of faces g) s.face) (Some_injective _ _ (sym back ∙ q)) ∙ i) (outside_of k l))
       go (after_right i a s q) = absurd (
-        let same : next (cor i) ≡ prev (cor k) = Some_injective _ _ (sym q ∙ back) in
-        let number : i ≡ k = apart_of i k (omega arith) l (ap (λ (s : Side). s.face) same) in
-        next_not_prev (cor k) (ap (λ (x : ℕ). next (cor x)) (sym number) ∙ same))
+          let same : next (cor i) ≡ prev (cor k) = Some_injective _ _ (sym q ∙ back) in
+          let number : i ≡ k = apart_of i k (omega arith) l (ap (λ (s : Side). s.face) same) in
+          next_not_prev (cor k) (ap (λ (x : ℕ). next (cor x)) (sym number) ∙ same))
       go (after_left i a s q) = inl (
-        let same : prev (cor i) ≡ prev (cor k) = Some_injective _ _ (sym q ∙ back) in
-        let number : i ≡ k = apart_of i k (omega arith) l (ap (λ (s : Side). s.face) same) in
-        ap sym_of (sym number) ∙ s)
+          let same : prev (cor i) ≡ prev (cor k) = Some_injective _ _ (sym q ∙ back) in
+          let number : i ≡ k = apart_of i k (omega arith) l (ap (λ (s : Side). s.face) same) in
+          ap sym_of (sym number) ∙ s)
       go (after_kept i a b s q o) = inr (
-        let same : prev (cor i) ≡ prev (cor k) = Some_injective _ _ (sym q ∙ back) in
-        let number : i ≡ k = apart_of i k (omega arith) l (ap (λ (s : Side). s.face) same) in
-        (ap sym_of (sym number) ∙ s, subst (λ (x : ℕ). InOrder g cor x j) number o))
+          let same : prev (cor i) ≡ prev (cor k) = Some_injective _ _ (sym q ∙ back) in
+          let number : i ≡ k = apart_of i k (omega arith) l (ap (λ (s : Side). s.face) same) in
+          (ap sym_of (sym number) ∙ s, subst (λ (x : ℕ). InOrder g cor x j) number o))
 
   -- a decoded side 0 below n is the corner of a symbol
   pub first_corner : (y : Side) → y.face < n → y.place ≡ first → (j : ℕ) × (suc (y.face + j) ≡ n) × (φ y ≡ cor j)
@@ -274,15 +274,15 @@ module _ (faces : ℕ) (g : Gluing) (G : IsGluing faces g) (F : HasThreeFans fac
         right = goes_on i k e (side i second) refl r.0 (ap g (second_is faces g G F i k e) ∙ r.1);
         ring = ring_up (λ d. Later cor n k d.face) i (λ x b t. later_below i k e x b t) (side i first) w (cor k) (first_is faces g G F i k e) ring;
         left = λ y a p. (
-          let z = K.within (side i third) y a in
-          let o : g (prev (cor k)) ≡ Some (φ y) = ap g (sym (third_is faces g G F i k e)) ∙ down (side i third) y a in
-          let to : g (prev (cor k)) ≡ Some (next ring.to) = G.paired (next ring.to) (prev (cor k)) (left_crosses g ring.to (cor k) ring.returns) in
-          let below = later_below i k e y z.1 (subst (λ (f : ℕ). Later cor n k f) (ap (λ (s : Side). s.face) (Some_injective _ _ (sym to ∙ o))) (through_last ring.round)) in
-          let c = first_corner y (omega arith) p in
-          elim (gate_of_left k c.0 l (let d = c.1 in omega arith) (o ∙ ap {A = Side} Some c.2)) [
-            | inl t ↦ (let no : C ≡ R = sym q ∙ t in cc)
-            | inr t ↦ (let no : C ≡ S = sym q ∙ t.0 in cc)
-          ]);
+            let z = K.within (side i third) y a in
+            let o : g (prev (cor k)) ≡ Some (φ y) = ap g (sym (third_is faces g G F i k e)) ∙ down (side i third) y a in
+            let to : g (prev (cor k)) ≡ Some (next ring.to) = G.paired (next ring.to) (prev (cor k)) (left_crosses g ring.to (cor k) ring.returns) in
+            let below = later_below i k e y z.1 (subst (λ (f : ℕ). Later cor n k f) (ap (λ (s : Side). s.face) (Some_injective _ _ (sym to ∙ o))) (through_last ring.round)) in
+            let c = first_corner y (omega arith) p in
+            elim (gate_of_left k c.0 l (let d = c.1 in omega arith) (o ∙ ap {A = Side} Some c.2)) [
+              | inl t ↦ (let no : C ≡ R = sym q ∙ t in cc)
+              | inr t ↦ (let no : C ≡ S = sym q ∙ t.0 in cc)
+            ]);
       }
   says i k e S q (x, a, later, met) =
       let l : k < n = omega arith in
@@ -296,20 +296,20 @@ module _ (faces : ℕ) (g : Gluing) (G : IsGluing faces g) (F : HasThreeFans fac
         left = t.3;
         below = later_below i k e t.0 t.1 (subst (λ (z : Side). Later cor n k z.face) (sym t.2) later);
         kept_last = λ p j b c. (
-          let under = later_below i k e t.0 t.1 (subst (λ (z : Side). Later cor n k z.face) (sym t.2) later) in
-          let y = first_corner t.0 (omega arith) p in
-          let ye = y.1 in
-          elim (gate_of_left k y.0 l (omega arith) (a ∙ ap {A = Side} Some (sym t.2 ∙ y.2))) [
-            | inl u ↦ absurd (let no : S ≡ R = sym q ∙ u in cc)
-            | inr u ↦ (
-                let lj = n - suc j in
-                let le : suc (j + lj) ≡ n = omega arith in
-                let o = u.1 lj (omega arith) (omega arith) in
-                let o1 = o.1 in
-                let o2 = o.2 in
-                let v = up (side j first) o.3 (omega arith) (ap g (first_is faces g G F j lj le) ∙ o.4) in
-                (v.0, v.3, later_below i k e v.0 v.1 (o.0, o1, omega arith, sym o.5 ∙ ap (λ (s : Side). s.face) (sym v.2))))
-          ]);
+            let under = later_below i k e t.0 t.1 (subst (λ (z : Side). Later cor n k z.face) (sym t.2) later) in
+            let y = first_corner t.0 (omega arith) p in
+            let ye = y.1 in
+            elim (gate_of_left k y.0 l (omega arith) (a ∙ ap {A = Side} Some (sym t.2 ∙ y.2))) [
+              | inl u ↦ absurd (let no : S ≡ R = sym q ∙ u in cc)
+              | inr u ↦ (
+                  let lj = n - suc j in
+                  let le : suc (j + lj) ≡ n = omega arith in
+                  let o = u.1 lj (omega arith) (omega arith) in
+                  let o1 = o.1 in
+                  let o2 = o.2 in
+                  let v = up (side j first) o.3 (omega arith) (ap g (first_is faces g G F j lj le) ∙ o.4) in
+                  (v.0, v.3, later_below i k e v.0 v.1 (o.0, o1, omega arith, sym o.5 ∙ ap (λ (s : Side). s.face) (sym v.2))))
+            ]);
       }
   says i k e L q s =
       let l : k < n = omega arith in
@@ -398,13 +398,13 @@ module _ (faces : ℕ) (g : Gluing) (G : IsGluing faces g) (F : HasThreeFans fac
     gluing = H;
     fewer = (let t = total_is faces g G F in omega arith);
     gates = λ i l. (
-      let k = n - suc i in
-      let e : suc (i + k) ≡ n = omega arith in
-      past i k e (side i first) refl (subst (SeenAcross g cor (insides_of faces g) k) (sym (first_is faces g G F i k e)) (gate_seen k (omega arith))));
+        let k = n - suc i in
+        let e : suc (i + k) ≡ n = omega arith in
+        past i k e (side i first) refl (subst (SeenAcross g cor (insides_of faces g) k) (sym (first_is faces g G F i k e)) (gate_seen k (omega arith))));
     symbols = λ i l. (
-      let k = n - suc i in
-      let e : suc (i + k) ≡ n = omega arith in
-      subst (Says h i) (sym (word_is i k e)) (says i k e (sym_of k) refl (settled_of k (omega arith))));
+        let k = n - suc i in
+        let e : suc (i + k) ≡ n = omega arith in
+        subst (Says h i) (sym (word_is i k e)) (says i k e (sym_of k) refl (settled_of k (omega arith))));
     interior = inner_ok;
     starts = starts_ok;
     order = order_ok;

@@ -1,8 +1,7 @@
 -- Worked surfaces, computed: their walks, and reverse decoding of what the walks note.
-use Rattle.std.proofs.Common.{◌≡◌, ℕ, Bool, true, false, List, [], ◌∷◌, get_or, map, Option, Some, None, Result, Ok, Err, refl}
+use Rattle.std.proofs.Common.{◌≡◌, ℕ, true, false, List, [], ◌∷◌, get_or, map, Option, Result, Ok, Err, refl}
 use Rattle.drc_base.specs.declared.faults.Fault.{Fault}
 use Rattle.corner_table.specs.declared.symbols.Symbol.TheVariants.{C, S, L, R, E}
-use Rattle.corner_table.specs.declared.symbols.Event.{Event}
 use Rattle.corner_table.specs.Sides.{Side, Gluing}
 use Rattle.corner_table.specs.Fans.{corners_of, leftmost, rightmost, walks_left, walks_right}
 use Rattle.corner_table.specs.Table.{glued_in, free_entry}

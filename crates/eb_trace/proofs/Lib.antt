@@ -16,3 +16,4 @@ pub mod Walked
 pub mod Order
 pub mod Decoded
 pub mod Noted
+pub mod StartBits

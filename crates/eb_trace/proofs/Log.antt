@@ -1,5 +1,5 @@
 -- What is known of each symbol of a walk, by its number in the order of the walk.
-use Rattle.std.proofs.Common.{◌≡◌, ◌≢◌, ℕ, suc, ◌<◌, ◌≤◌, false, true, Bool, List, [], ◌∷◌, Some, None, ◌⊎◌, sym, refl, ap, ◌∙◌}
+use Rattle.std.proofs.Common.{◌≡◌, ℕ, suc, ◌<◌, false, true, List, [], ◌∷◌, Some, None, ◌⊎◌}
 use Rattle.corner_table.specs.declared.symbols.Symbol.{Symbol}
 use Rattle.corner_table.specs.declared.symbols.Symbol.TheVariants.{C, S, L, R, E}
 use Rattle.corner_table.specs.Sides.{Side, second, side, next, prev, Gluing}

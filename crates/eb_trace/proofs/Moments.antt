@@ -1,19 +1,19 @@
 -- One symbol of a run: what holds at a corner holds at the next, and at the end all that could be reached is visited.
-use Rattle.std.proofs.Common.{◌≡◌, ◌≢◌, ℕ, zero, suc, ◌+◌, ◌<◌, ◌≤◌, Bool, true, false, List, [], ◌∷◌, ◌++◌, length, Option, Some, None, option_map, ◌⊎◌, inl, inr, sym, refl, ap, ◌∙◌, subst, arith}
-use Rattle.std.proofs.lemmas.Bool.{cases_Bool, cases_eq, cases_lt, cond-true, cond-false}
+use Rattle.std.proofs.Common.{◌≡◌, ◌≢◌, ℕ, zero, suc, ◌<◌, ◌≤◌, Bool, true, false, List, [], ◌∷◌, ◌++◌, length, Option, Some, None, option_map, ◌⊎◌, inl, inr, sym, refl, ap, ◌∙◌, subst, arith}
+use Rattle.std.proofs.lemmas.Bool.{cases_Bool, cases_eq, cond-true, cond-false}
 use Rattle.corner_table.specs.declared.symbols.Symbol.{Symbol}
 use Rattle.corner_table.specs.declared.symbols.Symbol.TheVariants.{C, S, L, R, E}
 use Rattle.corner_table.specs.declared.symbols.Event.{Event}
-use Rattle.corner_table.specs.Sides.{Side, side, next, prev, Gluing, IsGluing}
+use Rattle.corner_table.specs.Sides.{Side, next, prev, Gluing, IsGluing}
 use Rattle.corner_table.specs.Fans.{swing_left, InFan, here, leftwards, HasThreeFans}
-use Rattle.corner_table.proofs.Places.{option_tells, Some_injective, next-prev, prev-next}
+use Rattle.corner_table.proofs.Places.{option_tells, Some_injective, next-prev}
 use Rattle.corner_table.proofs.Walks.{left_crosses, fan_sym}
 use Rattle.eb_rebuild.specs.Machine.{pushed}
-use Rattle.eb_trace.specs.Trace.{Entry, Walk, is_visited, is_closed, is_new_vertex, symbol_for, symbol_at_corner, after_symbol, go_back, take_kept, entered, visit, run, events_noted}
-use Rattle.eb_trace.proofs.Rings.{Ring, GoesRound, OtherInFan, ring_of, through_last}
-use Rattle.eb_trace.proofs.Covered.{IsClosed, IsFaceOf, IsCovered, IsPart, IsVisiting, IsBlocked, blocked_visited, blocked_ahead, covered_step, covered_closed, not_yet, part_back, three_sides, unvisited_count, count_less, count_some}
-use Rattle.eb_trace.proofs.Visited.{is_inside, entered_visits, entry_at, Extends, extends_rest, extends_top, extends_trans, same_visited, visited_tells, number_visited, inside_visited, not_inside, closed_tells, open_tells, SymbolTells, symbol_tells, new_tells, old_tells, take_none, take_some, after_entries, after_interior, run_none, run_ends, run_goes_on, run_extends}
-use Rattle.eb_trace.proofs.Log.{AfterEnd, GoesRight, InOrder, Gate, at_boundary, at_inside, after_right, after_left, after_kept, ComesAfter, KeptFrom, Seen, Unseen, SeenAcross, MetBefore, Raw}
+use Rattle.eb_trace.specs.Trace.{Entry, Walk, is_visited, is_closed, is_new_vertex, symbol_at_corner, after_symbol, go_back, take_kept, entered, visit, run, events_noted}
+use Rattle.eb_trace.proofs.Rings.{Ring, GoesRound, OtherInFan, ring_of}
+use Rattle.eb_trace.proofs.Covered.{IsClosed, IsFaceOf, IsCovered, IsVisiting, IsBlocked, blocked_visited, blocked_ahead, covered_step, covered_closed, not_yet, part_back, three_sides, unvisited_count, count_less, count_some}
+use Rattle.eb_trace.proofs.Visited.{is_inside, entered_visits, entry_at, Extends, extends_rest, extends_top, extends_trans, same_visited, visited_tells, number_visited, not_inside, closed_tells, open_tells, SymbolTells, symbol_tells, new_tells, old_tells, take_none, take_some, after_entries, after_interior, run_ends, run_goes_on, run_extends}
+use Rattle.eb_trace.proofs.Log.{AfterEnd, GoesRight, InOrder, Gate, after_right, after_left, after_kept, ComesAfter, KeptFrom, Seen, Unseen, SeenAcross, MetBefore, Raw}
 
 pub true_not_false : (b : Bool) → b ≡ true → b ≡ false → ⊥
 true_not_false b e f = (let no : true ≡ false = sym e ∙ f in cc)
@@ -227,8 +227,8 @@ module _ (faces : ℕ) (g : Gluing) (G : IsGluing faces g) (F : HasThreeFans fac
         go : (y : Side) × (g (next c) ≡ Some y) × (is_visited w y.face ≡ false) → Outcome a (after_symbol g w c L).0 (g (next c))
         go (d, e, h) = subst (Outcome a (after_symbol g w c L).0) (sym e)
             (goes L lo (next c) d refl e h (right_gate L lo tt d e) (across L lo (prev (corner (length w.entries))) (prev c) (corner_is L lo) (closed_tells w (g (prev c)) t.2) (ap prev (corner_is L lo))) w.kept (events_noted g w.entries c ++ w.events)
-              (covered_step G (is_visited w) (is_visited (entered w c L)) c w.kept (d ∷ w.kept) (visiting L) M.covered (λ f q. inl (inr q)) (gate_blocked L (d ∷ w.kept)) (ahead_blocked L d w.kept (next c) e) (closed_blocked L (d ∷ w.kept) (prev c) t.2))
-              (same_kept L lo (next c) d refl e))
+            (covered_step G (is_visited w) (is_visited (entered w c L)) c w.kept (d ∷ w.kept) (visiting L) M.covered (λ f q. inl (inr q)) (gate_blocked L (d ∷ w.kept)) (ahead_blocked L d w.kept (next c) e) (closed_blocked L (d ∷ w.kept) (prev c) t.2))
+            (same_kept L lo (next c) d refl e))
 
     visit_right : Logging R → SymbolTells R (is_new_vertex faces g w c) (is_closed w (g (next c))) (is_closed w (g (prev c))) → Outcome a (after_symbol g w c R).0 (g (prev c))
     visit_right lo t = go (open_tells w (g (prev c)) t.2)
@@ -236,9 +236,9 @@ module _ (faces : ℕ) (g : Gluing) (G : IsGluing faces g) (F : HasThreeFans fac
         go : (y : Side) × (g (prev c) ≡ Some y) × (is_visited w y.face ≡ false) → Outcome a (after_symbol g w c R).0 (g (prev c))
         go (d, e, h) = subst (Outcome a (after_symbol g w c R).0) (sym e)
             (goes R lo (prev c) d refl e h (after_left (length w.entries) refl (symbol_is R lo) (G.paired (prev c) d e ∙ ap (λ (z : Side). Some (prev z)) (sym (corner_is R lo))))
-              (across R lo (next (corner (length w.entries))) (next c) (corner_is R lo) (closed_tells w (g (next c)) t.1) (ap next (corner_is R lo))) w.kept (events_noted g w.entries c ++ w.events)
-              (covered_step G (is_visited w) (is_visited (entered w c R)) c w.kept (d ∷ w.kept) (visiting R) M.covered (λ f q. inl (inr q)) (gate_blocked R (d ∷ w.kept)) (closed_blocked R (d ∷ w.kept) (next c) t.1) (ahead_blocked R d w.kept (prev c) e))
-              (same_kept R lo (prev c) d refl e))
+            (across R lo (next (corner (length w.entries))) (next c) (corner_is R lo) (closed_tells w (g (next c)) t.1) (ap next (corner_is R lo))) w.kept (events_noted g w.entries c ++ w.events)
+            (covered_step G (is_visited w) (is_visited (entered w c R)) c w.kept (d ∷ w.kept) (visiting R) M.covered (λ f q. inl (inr q)) (gate_blocked R (d ∷ w.kept)) (closed_blocked R (d ∷ w.kept) (next c) t.1) (ahead_blocked R d w.kept (prev c) e))
+            (same_kept R lo (prev c) d refl e))
 
     met_before : (s : Symbol) → Logging s → is_new_vertex faces g w c ≡ false → MetBefore g corner insides (length w.entries)
     met_before s lo h =
@@ -251,10 +251,10 @@ module _ (faces : ℕ) (g : Gluing) (G : IsGluing faces g) (F : HasThreeFans fac
         go : (y : Side) × (g (next c) ≡ Some y) × (is_visited w y.face ≡ false) → (y : Side) × (g (prev c) ≡ Some y) × (is_visited w y.face ≡ false) → Outcome a (after_symbol g w c S).0 (g (next c))
         go (d, e, h) (l, i, m) =
             let moment : Moment a (record (entered w c S) { kept = l ∷ w.kept }) d =
-              goes S lo (next c) d refl e h (right_gate S lo tt d e) (l, ap g (ap prev (corner_is S lo)) ∙ i, unseen S lo l.face m, met_before S lo t.0) (l ∷ w.kept) w.events
-                (covered_step G (is_visited w) (is_visited (entered w c S)) c w.kept (d ∷ l ∷ w.kept) (visiting S) M.covered (λ f q. inl (inr (inr q))) (gate_blocked S (d ∷ l ∷ w.kept)) (ahead_blocked S d (l ∷ w.kept) (next c) e)
-                  (blocked_ahead g (is_visited (entered w c S)) (d ∷ l ∷ w.kept) (prev c) (λ y o. inr (inl (ap (λ (z : Side). z.face) (Some_injective _ _ (sym i ∙ o)))))))
-                (length w.entries, omega arith, symbol_is S lo, ap g (ap prev (corner_is S lo)) ∙ i, (λ m u v. (absurd (omega arith))), (λ u. (absurd (omega arith))), kept_on (length w.entries) c d (corner_is S lo) (length w.entries) (omega arith) w.kept (next_comes S lo (next c) d refl e) M.kept)
+            goes S lo (next c) d refl e h (right_gate S lo tt d e) (l, ap g (ap prev (corner_is S lo)) ∙ i, unseen S lo l.face m, met_before S lo t.0) (l ∷ w.kept) w.events
+            (covered_step G (is_visited w) (is_visited (entered w c S)) c w.kept (d ∷ l ∷ w.kept) (visiting S) M.covered (λ f q. inl (inr (inr q))) (gate_blocked S (d ∷ l ∷ w.kept)) (ahead_blocked S d (l ∷ w.kept) (next c) e)
+            (blocked_ahead g (is_visited (entered w c S)) (d ∷ l ∷ w.kept) (prev c) (λ y o. inr (inl (ap (λ (z : Side). z.face) (Some_injective _ _ (sym i ∙ o)))))))
+            (length w.entries, omega arith, symbol_is S lo, ap g (ap prev (corner_is S lo)) ∙ i, (λ m u v. (absurd (omega arith))), (λ u. (absurd (omega arith))), kept_on (length w.entries) c d (corner_is S lo) (length w.entries) (omega arith) w.kept (next_comes S lo (next c) d refl e) M.kept)
             in
             subst (Outcome a (after_symbol g w c S).0) (sym e) (subst (λ (kept : List Side). Moment a (record (entered w c S) { kept = kept }) d) (sym (ap (λ (o : Option Side). pushed o w.kept) i)) moment)
 
@@ -277,14 +277,14 @@ module _ (faces : ℕ) (g : Gluing) (G : IsGluing faces g) (F : HasThreeFans fac
             let e : g (next c) ≡ Some (prev r.from) = left_crosses g c r.from r.leaves in
             let back : g (prev c) ≡ Some (next r.to) = G.paired (next r.to) (prev c) (left_crosses g r.to c r.returns) in
             let to_left : IsBlocked g (is_visited (entered w c C)) (prev r.from ∷ w.kept) (prev c) = λ T part x i u.
-              true_not_false (T r.from.face)
-              (part_back G (is_visited (entered w c C)) (prev r.from ∷ w.kept) T part (OtherInFan g c) free r.round (ap (λ (z : Side). T z.face) (Some_injective _ _ (sym back ∙ i)) ∙ u))
-              (part.apart r.from.face (inl refl))
+            true_not_false (T r.from.face)
+            (part_back G (is_visited (entered w c C)) (prev r.from ∷ w.kept) T part (OtherInFan g c) free r.round (ap (λ (z : Side). T z.face) (Some_injective _ _ (sym back ∙ i)) ∙ u))
+            (part.apart r.from.face (inl refl))
             in
             subst (Outcome a (after_symbol g w c C).0) (sym e)
             (goes C lo (next c) (prev r.from) refl e (new_tells G w c r.from M.within t (leftwards r.leaves here)).2 (right_gate C lo tt (prev r.from) e) raw w.kept w.events
-              (covered_step G (is_visited w) (is_visited (entered w c C)) c w.kept (prev r.from ∷ w.kept) (visiting C) M.covered (λ f q. inl (inr q)) (gate_blocked C (prev r.from ∷ w.kept)) (ahead_blocked C (prev r.from) w.kept (next c) e) to_left)
-              (same_kept C lo (next c) (prev r.from) refl e))
+            (covered_step G (is_visited w) (is_visited (entered w c C)) c w.kept (prev r.from ∷ w.kept) (visiting C) M.covered (λ f q. inl (inr q)) (gate_blocked C (prev r.from ∷ w.kept)) (ahead_blocked C (prev r.from) w.kept (next c) e) to_left)
+            (same_kept C lo (next c) (prev r.from) refl e))
 
     -- at an end the last kept corner of an unvisited face is taken
     visit_end : Logging E → SymbolTells E (is_new_vertex faces g w c) (is_closed w (g (next c))) (is_closed w (g (prev c))) → Outcome a (after_symbol g w c E).0 (after_symbol g w c E).1
@@ -331,7 +331,7 @@ module _ (faces : ℕ) (g : Gluing) (G : IsGluing faces g) (F : HasThreeFans fac
                   gate = after_kept i after (omega arith) s back (order_on (length w.entries) c (corner_is E lo) i order comes);
                   covered = cover (d ∷ rest) some.1;
                   kept = kept_less (suc (length w.entries)) d i (suc (length w.entries)) (omega arith) rest
-                    (kept_on (length w.entries) c d (corner_is E lo) i (omega arith) rest (λ j l u. (i, l, omega arith, prev (corner i), back, refl)) others);
+                      (kept_on (length w.entries) c d (corner_is E lo) i (omega arith) rest (λ j l u. (i, l, omega arith, prev (corner i), back, refl)) others);
                   known = M.known;
                   joined = λ l. (i, omega arith, prev (corner i), back, refl);
                 }

@@ -1,25 +1,25 @@
 -- The events that the walk notes are those that the decoded table tells.
-use Rattle.std.proofs.Common.{◌≡◌, ◌≢◌, ℕ, zero, suc, ◌+◌, ◌-◌, ◌<◌, ◌≤◌, Bool, true, false, ◌&&◌, ◌==◌, cond, nat_lt, List, [], ◌∷◌, ◌++◌, length, Option, Some, None, ◌⊎◌, inl, inr, sym, refl, ap, ◌∙◌, subst, arith, append_assoc, eq-eqb, ne_eqb, lt-ltb, le-ltb}
+use Rattle.std.proofs.Common.{◌≡◌, ◌≢◌, ℕ, zero, suc, ◌+◌, ◌-◌, ◌<◌, Bool, true, false, ◌&&◌, ◌==◌, cond, nat_lt, List, [], ◌∷◌, ◌++◌, length, Option, Some, None, inl, inr, sym, refl, ap, ◌∙◌, subst, arith, append_assoc, eq-eqb, ne_eqb, lt-ltb, le-ltb}
 use Rattle.std.proofs.lemmas.Bool.{cases_Bool, cases_eq, cases_lt, cond-true, cond-false}
 use Rattle.corner_table.specs.declared.symbols.Symbol.{Symbol}
 use Rattle.corner_table.specs.declared.symbols.Symbol.TheVariants.{C, S, L, R, E}
 use Rattle.corner_table.specs.declared.symbols.Event.{Event}
-use Rattle.corner_table.specs.Sides.{Side, Place, first, second, third, side, next, prev, Gluing, IsGluing}
+use Rattle.corner_table.specs.Sides.{Side, first, second, third, side, next, prev, Gluing, IsGluing}
 use Rattle.corner_table.specs.Fans.{HasThreeFans}
 use Rattle.corner_table.specs.Carried.{carry, IsCarried}
-use Rattle.corner_table.proofs.Places.{option_tells, Some_injective}
+use Rattle.corner_table.proofs.Places.{option_tells}
 use Rattle.eb_rebuild.specs.Shown.{is_split}
-use Rattle.eb_trace.specs.Readable.{IsReadable, IsNewTip, IsSplit, Says}
+use Rattle.eb_trace.specs.Readable.{IsNewTip, IsSplit, Says}
 use Rattle.eb_trace.specs.Front.{split_met, event_told, events_at, events_left}
 use Rattle.eb_trace.specs.Rebuilt.{symbol_at}
-use Rattle.eb_trace.specs.Trace.{Entry, Walk, trace, order_of, word_of, split_of, split_across, event_noted, events_noted, after_symbol, go_back, take_kept, entered, visit, run, symbol_at_corner, is_visited, start_corner, begun, begun_inside, walked_from, walked, nothing_walked}
-use Rattle.eb_trace.proofs.Below.{Gap, gap}
+use Rattle.eb_trace.specs.Trace.{Entry, Walk, trace, order_of, word_of, split_of, split_across, event_noted, events_noted, after_symbol, go_back, take_kept, entered, visit, run, symbol_at_corner, is_visited, start_corner, begun, begun_inside, walked}
+use Rattle.eb_trace.proofs.Below.{gap}
 use Rattle.eb_trace.proofs.Kept.{three_first, three_second}
 use Rattle.eb_trace.proofs.Events.{left_zero, left_suc, tells_none}
 use Rattle.eb_trace.proofs.Visited.{is_inside, entry_at, at_top, at_rest, Extends, extends_rest, extends_top, extends_at, extends_length, run_none, run_ends, run_goes_on}
 use Rattle.eb_trace.proofs.Moments.{true_not_false}
 use Rattle.eb_trace.proofs.Walked.{entries_of, insides_of, walked_none, walked_more}
-use Rattle.eb_trace.proofs.Order.{Numbered, of_symbol, of_inside, face_of, inside_is, second_is, third_is}
+use Rattle.eb_trace.proofs.Order.{Numbered, of_symbol, of_inside, inside_is, second_is, third_is}
 use Rattle.eb_trace.proofs.Decoded.{cor, sym_of, H, apart_of, outside_of, down, up, number_of, word_is, readable}
 
 -- the events of one symbol, and of all
@@ -144,23 +144,23 @@ module _ (faces : ℕ) (g : Gluing) (G : IsGluing faces g) (F : HasThreeFans fac
       go : (y : Side) → Numbered faces g G F y.face → event_noted (length entries) right (split_of entries (carry (order_of (trace faces g)) y).face) ≡ event_told count i right (split_met count word i (Some y))
       go y (of_inside q r s c d) = no_split i y (three_second (nat_lt i y.face) (nat_lt y.face count) (is_split (word y.face)) (le-ltb y.face count (omega arith))) entries right (carry (order_of (trace faces g)) y).face
           (split_miss entries (carry (order_of (trace faces g)) y).face (λ j u v. (
-            let len = extends_length (entries_of faces g) entries E2 in
-            true_not_false (is_inside (insides_of faces g) (cor faces g G F h K j).face)
-            (ap (is_inside (insides_of faces g)) (ap (λ (z : Entry). z.corner.face) (extends_at (entries_of faces g) entries E2 j u) ∙ v ∙ d) ∙ inside_is (insides_of faces g) r (omega arith)) (outside_of faces g G F h K j (omega arith)))))
+          let len = extends_length (entries_of faces g) entries E2 in
+          true_not_false (is_inside (insides_of faces g) (cor faces g G F h K j).face)
+          (ap (is_inside (insides_of faces g)) (ap (λ (z : Entry). z.corner.face) (extends_at (entries_of faces g) entries E2 j u) ∙ v ∙ d) ∙ inside_is (insides_of faces g) r (omega arith)) (outside_of faces g G F h K j (omega arith)))))
       go y (of_symbol j a b) = elim (cases_lt j (length entries)) [
         | inr m ↦ no_split i y (three_first (nat_lt i y.face) (nat_lt y.face count) (is_split (word y.face)) (le-ltb i y.face (omega arith))) entries right (carry (order_of (trace faces g)) y).face
             (split_miss entries (carry (order_of (trace faces g)) y).face (λ k u v. (
-              let len = extends_length (entries_of faces g) entries E2 in
-              let s : k ≡ j = apart_of faces g G F h K k j (omega arith) (omega arith) (ap (λ (z : Entry). z.corner.face) (extends_at (entries_of faces g) entries E2 k u) ∙ v ∙ b) in
-              omega arith)))
+            let len = extends_length (entries_of faces g) entries E2 in
+            let s : k ≡ j = apart_of faces g G F h K k j (omega arith) (omega arith) (ap (λ (z : Entry). z.corner.face) (extends_at (entries_of faces g) entries E2 k u) ∙ v ∙ b) in
+            omega arith)))
         | inl m ↦ (
             let len = extends_length (entries_of faces g) entries E2 in
             let same = extends_at (entries_of faces g) entries E2 j m in
             let hit = split_hit entries (carry (order_of (trace faces g)) y).face j m (sym (ap (λ (z : Entry). z.corner.face) same) ∙ sym b)
-              (λ k u v. apart_of faces g G F h K k j (omega arith) (omega arith) (ap (λ (z : Entry). z.corner.face) (extends_at (entries_of faces g) entries E2 k u) ∙ v ∙ b)) in
+            (λ k u v. apart_of faces g G F h K k j (omega arith) (omega arith) (ap (λ (z : Entry). z.corner.face) (extends_at (entries_of faces g) entries E2 k u) ∙ v ∙ b)) in
             let symbol : is_split (word y.face) ≡ is_split (sym_of faces g G F h K j) = ap is_split (word_is faces g G F h K y.face j a) in
             let test : (nat_lt i y.face && nat_lt y.face count && is_split (word y.face)) ≡ is_split (sym_of faces g G F h K j) =
-              three_last (nat_lt i y.face) (nat_lt y.face count) (is_split (word y.face)) (lt-ltb i y.face (omega arith)) (lt-ltb y.face count (omega arith)) ∙ symbol in
+            three_last (nat_lt i y.face) (nat_lt y.face count) (is_split (word y.face)) (lt-ltb i y.face (omega arith)) (lt-ltb y.face count (omega arith)) ∙ symbol in
             ap (event_noted (length entries) right) (hit ∙ ap (λ (z : Entry). cond (is_split z.symbol) (Some j) None) (sym same))
             ∙ by_symbol (is_split (sym_of faces g G F h K j)) y.face j a
             ∙ sym (ap (λ (t : Bool). event_told count i right (cond t (Some y.face) None)) test))
@@ -197,9 +197,9 @@ module _ (faces : ℕ) (g : Gluing) (G : IsGluing faces g) (F : HasThreeFans fac
           let right_is : noted_at entries true (side i second) ≡ told_at i true (side i second) = side_told i entries before number true (side i second) l in
           append_assoc (event_noted (length entries) false (split_across entries (g (prev e.corner)))) (event_noted (length entries) true (split_across entries (g (next e.corner)))) (all_events g entries)
           ∙ ap (λ (c : Side). event_noted (length entries) false (split_across entries (g c)) ++ (event_noted (length entries) true (split_across entries (g (next e.corner))) ++ all_events g entries))
-            (ap prev corner_is ∙ sym (third_is faces g G F i (length entries) number))
+          (ap prev corner_is ∙ sym (third_is faces g G F i (length entries) number))
           ∙ ap (λ (c : Side). noted_at entries false (side i third) ++ (event_noted (length entries) true (split_across entries (g c)) ++ all_events g entries))
-            (ap next corner_is ∙ sym (second_is faces g G F i (length entries) number))
+          (ap next corner_is ∙ sym (second_is faces g G F i (length entries) number))
           ∙ ap (λ (l : List Event). l ++ (noted_at entries true (side i second) ++ all_events g entries)) left_is
           ∙ ap (λ (l : List Event). told_at i false (side i third) ++ (l ++ all_events g entries)) right_is
           ∙ ap (λ (l : List Event). told_at i false (side i third) ++ (told_at i true (side i second) ++ l)) rest

@@ -1,13 +1,13 @@
 -- The order of decoding lists each face once.
-use Rattle.std.proofs.Common.{◌≡◌, ◌≢◌, ℕ, zero, suc, ◌+◌, ◌-◌, ◌<◌, ◌≤◌, Bool, true, false, ◌||◌, ◌==◌, List, [], ◌∷◌, ◌++◌, map, reverse, length, get_or, Some, ◌⊎◌, inl, inr, sym, refl, ap, ◌∙◌, subst, arith, length-append, eq-eqb, eqb-true}
-use Rattle.std.proofs.lemmas.Bool.{cases_Bool, cases_eq, cases_lt, or_cases}
+use Rattle.std.proofs.Common.{◌≡◌, ℕ, zero, suc, ◌+◌, ◌-◌, ◌<◌, ◌≤◌, true, false, ◌==◌, List, [], ◌∷◌, map, reverse, length, get_or, Some, ◌⊎◌, inl, inr, sym, refl, ap, ◌∙◌, subst, arith, length-append, eq-eqb, eqb-true}
+use Rattle.std.proofs.lemmas.Bool.{cases_lt, or_cases}
 use Rattle.std.proofs.lemmas.List.{get_or-map, get_or-reverse, get_or_append_left, get_or-append-add, length-map, length-reverse}
 use Rattle.std.proofs.lemmas.List.Folds.{list_any_at}
 use Rattle.corner_table.specs.Sides.{Side, Place, first, second, third, side, next, prev, place_after, place_before, place_number, Gluing, IsGluing}
 use Rattle.corner_table.specs.Fans.{HasThreeFans}
 use Rattle.corner_table.specs.Carried.{carry, turned, IsRenumbering}
 use Rattle.corner_table.proofs.Numbers.{no_room}
-use Rattle.eb_trace.specs.Trace.{Entry, Walk, trace, order_of, is_visited}
+use Rattle.eb_trace.specs.Trace.{Entry, trace, order_of}
 use Rattle.eb_trace.proofs.Visited.{is_inside, entry_at, no_entry, at_top, at_rest, visited_tells}
 use Rattle.eb_trace.proofs.Moments.{true_not_false}
 use Rattle.eb_trace.proofs.Walking.{Between, Insides, InsideRing}

@@ -1,6 +1,6 @@
 -- Visited faces, the numbers of symbols, and what the tests of a walk tell.
-use Rattle.std.proofs.Common.{◌≡◌, ◌≢◌, ℕ, zero, suc, ◌+◌, ◌<◌, ◌≤◌, Bool, true, false, not, ◌||◌, ◌&&◌, ◌==◌, cond, is_none, List, [], ◌∷◌, ◌++◌, length, Option, Some, None, ◌⊎◌, inl, inr, sym, refl, ap, ◌∙◌, subst, arith, append_assoc, length-append, eq-eqb, ne_eqb, eqb-true}
-use Rattle.std.proofs.lemmas.Bool.{cases_Bool, cases_eq, cases_lt, cond-true, cond-false, or_cases, or_left, or_right, or_parts, and_parts, and_from}
+use Rattle.std.proofs.Common.{◌≡◌, ◌≢◌, ℕ, zero, suc, ◌<◌, ◌≤◌, Bool, true, false, not, ◌||◌, ◌&&◌, ◌==◌, cond, is_none, List, [], ◌∷◌, ◌++◌, length, Option, Some, None, ◌⊎◌, inl, inr, sym, refl, ap, ◌∙◌, subst, arith, append_assoc, length-append, eq-eqb, ne_eqb, eqb-true}
+use Rattle.std.proofs.lemmas.Bool.{cases_Bool, cases_eq, cond-true, cond-false, or_cases, or_left, or_right, or_parts, and_parts, and_from}
 use Rattle.std.proofs.lemmas.List.Folds.{list_any-append}
 use Rattle.std.specs.List.{list_any}
 use Rattle.corner_table.specs.declared.symbols.Symbol.{Symbol}
@@ -206,18 +206,21 @@ new_tells {faces} {g} G w c d h new p = (
     wrong t =
         let all = not_true _ new in
         let found = any_corner (λ (d : Side). meets faces g c d && (is_none (g (next d)) || is_none (g (prev d)) || is_visited w d.face)) faces d (fan_within G p h)
-            (and_from (meets faces g c d) _ (fan_meets G c d h (fan_within G p h) p) t) in
+        (and_from (meets faces g c d) _ (fan_meets G c d h (fan_within G p h) p) t) in
         (let no : false ≡ true = sym all ∙ found in cc)
 
 -- one that isn't new has a free side, or a visited face
 pub old_tells : (faces : ℕ) (g : Gluing) (w : Walk) (c : Side) → is_new_vertex faces g w c ≡ false → (d : Side) × InFan g c d × ((g (next d) ≡ None) ⊎ ((g (prev d) ≡ None) ⊎ (is_visited w d.face ≡ true)))
 old_tells faces g w c old =
     let t = any_tells (λ (d : Side). meets faces g c d && (is_none (g (next d)) || is_none (g (prev d)) || is_visited w d.face)) (corners_of faces) (not_false _ old) in
-    let p = and_parts (meets faces g c t.0) _ t.1 in
-    (t.0, meets-fan faces g c t.0 p.0, elim (or_cases ((is_none (g (next t.0))) || (is_none (g (prev t.0)))) _ p.1) [
-      | inl a ↦ elim (or_cases (is_none (g (next t.0))) _ a) [ inl b ↦ inl (none_is _ b) | inr b ↦ inr (inl (none_is _ b)) ]
-      | inr v ↦ inr (inr v)
-    ])
+    let p = and_parts (meets faces g c t.0) _ t.1 in (
+      t.0,
+      meets-fan faces g c t.0 p.0,
+      elim (or_cases ((is_none (g (next t.0))) || (is_none (g (prev t.0)))) _ p.1) [
+        | inl a ↦ elim (or_cases (is_none (g (next t.0))) _ a) [ inl b ↦ inl (none_is _ b) | inr b ↦ inr (inl (none_is _ b)) ]
+        | inr v ↦ inr (inr v)
+      ],
+    )
 
 -- kept corners that are passed over are of visited faces
 pub take_none : (w : Walk) (kept : List Side) → take_kept w kept ≡ None → (f : ℕ) → IsFaceOf f kept → is_visited w f ≡ true

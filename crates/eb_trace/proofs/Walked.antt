@@ -1,10 +1,10 @@
 -- The walk over the whole surface comes to each face once, and all of its symbols are settled.
-use Rattle.std.proofs.Common.{◌≡◌, ◌≢◌, ℕ, zero, suc, ◌<◌, ◌≤◌, Bool, true, false, ◌||◌, ◌==◌, cond, List, [], ◌∷◌, ◌++◌, length, Option, Some, None, ◌⊎◌, inl, inr, sym, refl, ap, ◌∙◌, subst, arith}
+use Rattle.std.proofs.Common.{◌≡◌, ℕ, zero, suc, ◌<◌, ◌≤◌, true, false, ◌==◌, List, [], ◌∷◌, Option, Some, None, inl, inr, sym, refl, ap, ◌∙◌, subst, arith}
 use Rattle.std.proofs.lemmas.Bool.{cases_Bool, cases_eq, cond-true, cond-false, or_right}
-use Rattle.corner_table.specs.Sides.{Side, Place, first, second, third, side, Gluing, IsGluing}
+use Rattle.corner_table.specs.Sides.{Side, second, side, Gluing, IsGluing}
 use Rattle.corner_table.specs.Fans.{HasThreeFans}
 use Rattle.corner_table.proofs.Places.{option_tells}
-use Rattle.eb_trace.specs.Trace.{Entry, Walk, is_visited, run, start_corner, begun, begun_inside, walked_from, walked, nothing_walked, trace}
+use Rattle.eb_trace.specs.Trace.{Entry, Walk, is_visited, start_corner, begun, begun_inside, walked_from, walked, nothing_walked, trace}
 use Rattle.eb_trace.proofs.Visited.{is_inside, Extends, extends_trans, extends_length, visited_tells, number_visited, inside_visited, run_extends, run_interior}
 use Rattle.eb_trace.proofs.Walking.{Between, start_corner_tells, from_boundary, from_inside}
 
@@ -24,9 +24,10 @@ begun_on : (faces : ℕ) (g : Gluing) (f : ℕ) (w : Walk) (o : Option Side) →
 begun_on faces g f w (Some c) = (run_extends faces g faces (record w { bits = false ∷ w.bits }) c, λ x h. ap (λ (l : List ℕ). is_inside l x) (run_interior faces g faces (record w { bits = false ∷ w.bits }) c) ∙ h)
 begun_on faces g f w None = elim (option_tells (g (side f second))) [
   | inl n ↦ subst (λ (o : Option Side). GoesOnFrom (begun_inside faces g f w o) w) (sym n) (([], refl), λ x h. h)
-  | inr c ↦ subst (λ (o : Option Side). GoesOnFrom (begun_inside faces g f w o) w) (sym c.1)
-      (run_extends faces g faces (record w { interior = f ∷ w.interior; bits = true ∷ w.bits }) c.0,
-        λ x h. ap (λ (l : List ℕ). is_inside l x) (run_interior faces g faces (record w { interior = f ∷ w.interior; bits = true ∷ w.bits }) c.0) ∙ or_right (f == x) (is_inside w.interior x) h)
+  | inr c ↦ subst (λ (o : Option Side). GoesOnFrom (begun_inside faces g f w o) w) (sym c.1) (
+    run_extends faces g faces (record w { interior = f ∷ w.interior; bits = true ∷ w.bits }) c.0,
+    λ x h. ap (λ (l : List ℕ). is_inside l x) (run_interior faces g faces (record w { interior = f ∷ w.interior; bits = true ∷ w.bits }) c.0) ∙ or_right (f == x) (is_inside w.interior x) h,
+  )
 ]
 
 from_on : (faces : ℕ) (g : Gluing) (f : ℕ) (w : Walk) → GoesOnFrom (walked_from faces g f w) w
@@ -91,13 +92,15 @@ module _ (faces : ℕ) (g : Gluing) (G : IsGluing faces g) (F : HasThreeFans fac
   walk_ok : (n : ℕ) → n ≤ faces → Walks n (walked faces g n)
   walk_ok zero h = subst (Walks zero) (sym (walked_none faces g)) (λ x k. (nothing_ok, λ e l. absurd (omega arith)))
   walk_ok (suc f) h = subst (Walks (suc f)) (sym (walked_more faces g f)) (λ x k.
-    let on = from_on faces g f (walked faces g f) in
-    let B = walk_ok f (omega arith) (extends_trans all (walked_from faces g f (walked faces g f)).entries (walked faces g f).entries x on.0) (λ y q. k y (on.1 y q)) in
-    let N = from_ok f (omega arith) (walked faces g f) B.0 x k in
-    (N.0, λ e l. elim (cases_eq e f) [
-      | inl q ↦ ap (is_visited (walked_from faces g f (walked faces g f))) q ∙ N.1
-      | inr q ↦ stays_visited (walked_from faces g f (walked faces g f)) (walked faces g f) x on e (B.1 e (omega arith))
-    ]))
+      let on = from_on faces g f (walked faces g f) in
+      let B = walk_ok f (omega arith) (extends_trans all (walked_from faces g f (walked faces g f)).entries (walked faces g f).entries x on.0) (λ y q. k y (on.1 y q)) in
+      let N = from_ok f (omega arith) (walked faces g f) B.0 x k in (
+        N.0,
+        λ e l. elim (cases_eq e f) [
+          | inl q ↦ ap (is_visited (walked_from faces g f (walked faces g f))) q ∙ N.1
+          | inr q ↦ stays_visited (walked_from faces g f (walked faces g f)) (walked faces g f) x on e (B.1 e (omega arith))
+        ],
+      ))
 
 -- the whole walk
 abbrev pub entries_of : ℕ → Gluing → List Entry

@@ -1,18 +1,18 @@
 -- The whole walk: what its runs say once they have ended, where they start, and that they come to every face.
-use Rattle.std.proofs.Common.{◌≡◌, ◌≢◌, ℕ, zero, suc, ◌+◌, ◌*◌, ◌<◌, ◌≤◌, Bool, true, false, ◌||◌, ◌==◌, cond, is_none, List, [], ◌∷◌, ◌++◌, length, Option, Some, None, option_map, ◌⊎◌, inl, inr, sym, refl, ap, ◌∙◌, subst, arith, eq-eqb, ne_eqb, eqb-true}
-use Rattle.std.proofs.lemmas.Bool.{cases_Bool, cases_eq, cases_lt, cond-true, cond-false, or_from, or_cases, or_right, or_left}
+use Rattle.std.proofs.Common.{◌≡◌, ◌≢◌, ℕ, zero, suc, ◌*◌, ◌<◌, ◌≤◌, Bool, true, false, ◌==◌, cond, is_none, List, [], ◌∷◌, ◌++◌, length, Option, Some, None, option_map, ◌⊎◌, inl, inr, sym, refl, ap, ◌∙◌, subst, arith, eq-eqb, ne_eqb, eqb-true}
+use Rattle.std.proofs.lemmas.Bool.{cases_Bool, cases_eq, cases_lt, cond-true, cond-false, or_from, or_cases, or_left}
 use Rattle.corner_table.specs.declared.symbols.Symbol.{Symbol}
 use Rattle.corner_table.specs.declared.symbols.Symbol.TheVariants.{C, S, L, R, E}
 use Rattle.corner_table.specs.Sides.{Side, Place, first, second, third, side, next, prev, Gluing, IsGluing}
-use Rattle.corner_table.specs.Fans.{swing_left, swing_right, InFan, here, leftwards, rightmost, HasThreeFans}
-use Rattle.corner_table.proofs.Places.{option_tells, Some_injective, next-prev, prev-next}
+use Rattle.corner_table.specs.Fans.{InFan, rightmost, HasThreeFans}
+use Rattle.corner_table.proofs.Places.{option_tells, Some_injective}
 use Rattle.corner_table.proofs.Walks.{left_crosses, right_by-fan}
 use Rattle.corner_table.proofs.Boundary.{rightmost_tells}
-use Rattle.eb_trace.specs.Trace.{Entry, Walk, is_visited, run, start_by, start_corner, or_else, begun, begun_inside, walked_from, walked, nothing_walked, symbol_at_corner, visit}
-use Rattle.eb_trace.proofs.Rings.{Through, Ring, GoesRound, OtherInFan, ring_of, through_map, ring_map, through_first, through_last, long_walk}
+use Rattle.eb_trace.specs.Trace.{Entry, Walk, is_visited, run, start_by, start_corner, or_else, symbol_at_corner, visit}
+use Rattle.eb_trace.proofs.Rings.{Ring, GoesRound, OtherInFan, ring_of, through_map, long_walk}
 use Rattle.eb_trace.proofs.Covered.{IsClosed, IsFaceOf, IsCovered, IsPart, IsVisiting, closed_covered, not_yet, still_unvisited, part_back, part_forth, three_sides, fan_unvisited, closed_visited, through_visited, count_most}
-use Rattle.eb_trace.proofs.Visited.{is_inside, inside_visits, entry_at, Extends, extends_rest, extends_trans, extends_top, extends_length, visited_tells, number_visited, inside_visited, not_inside, fan_within, after_entries, run_extends, run_interior, run_bits, run_goes_on, run_ends}
-use Rattle.eb_trace.proofs.Log.{AfterEnd, Gate, at_boundary, at_inside, KeptFrom, Seen, Unseen, Later, MetBefore, Raw, Settled}
+use Rattle.eb_trace.proofs.Visited.{is_inside, inside_visits, Extends, extends_trans, extends_top, extends_length, visited_tells, number_visited, inside_visited, not_inside, fan_within, after_entries, run_extends, run_interior, run_bits, run_goes_on, run_ends}
+use Rattle.eb_trace.proofs.Log.{AfterEnd, at_boundary, at_inside, KeptFrom, Unseen, Later, Raw, Settled}
 use Rattle.eb_trace.proofs.Moments.{corner, symbol, Logged, Moment, Ended, run_ok, other_face, true_not_false}
 
 module _ (faces : ℕ) (g : Gluing) (G : IsGluing faces g) (F : HasThreeFans faces g) (all : List Entry) (insides : List ℕ) where
@@ -44,14 +44,18 @@ module _ (faces : ℕ) (g : Gluing) (G : IsGluing faces g) (F : HasThreeFans fac
         | inr i ↦ absurd (true_not_false (is_inside w.interior f) i u.1)
         | inl t ↦ (
             let n = extends_length all w.entries x in
-            let b = t.1 in
-            (t.0, elim (cases_lt k t.0) [
-              | inl q ↦ q
-              | inr q ↦ elim (cases_eq t.0 k) [
-                | inl e ↦ absurd (ne (sym t.2 ∙ ap (λ (j : ℕ). (at j).face) e))
-                | inr e ↦ absurd (u.0 t.0 (omega arith) t.2)
-              ]
-            ], omega arith, t.2))
+            let b = t.1 in (
+              t.0,
+              elim (cases_lt k t.0) [
+                | inl q ↦ q
+                | inr q ↦ elim (cases_eq t.0 k) [
+                  | inl e ↦ absurd (ne (sym t.2 ∙ ap (λ (j : ℕ). (at j).face) e))
+                  | inr e ↦ absurd (u.0 t.0 (omega arith) t.2)
+                ]
+              ],
+              omega arith,
+              t.2,
+            ))
       ]
 
       go : (s : Symbol) → Raw g at insides w.interior k s → Settled g at insides (length all) k s
@@ -177,19 +181,21 @@ module _ (faces : ℕ) (g : Gluing) (G : IsGluing faces g) (F : HasThreeFans fac
     | inl t ↦ inl (x, sym e ∙ cond-true (is_none (g x)) _ _ t, (none_is (g x) t, h, λ V K u. u))
     | inr t ↦ elim (cases_Bool (is_none (g (prev (rightmost g (3 * faces) x))))) [
       | inl u ↦ inl (
-          prev (rightmost g (3 * faces) x),
-          sym e ∙ cond-false (is_none (g x)) _ _ t ∙ cond-true (is_none (g (prev (rightmost g (3 * faces) x)))) _ _ u,
-          (none_is _ u, fan_within G (last_in_fan x) h, λ V K v. fan_unvisited V K (last_in_fan x) v))
+        prev (rightmost g (3 * faces) x),
+        sym e ∙ cond-false (is_none (g x)) _ _ t ∙ cond-true (is_none (g (prev (rightmost g (3 * faces) x)))) _ _ u,
+        (none_is _ u, fan_within G (last_in_fan x) h, λ V K v. fan_unvisited V K (last_in_fan x) v),
+      )
       | inr u ↦ inr (
-          sym e ∙ cond-false (is_none (g x)) _ _ t ∙ cond-false (is_none (g (prev (rightmost g (3 * faces) x)))) _ _ u,
-          some_is (g x) t,
-          elim (rightmost_tells g (3 * faces) x) [
-            | inr p ↦ long_walk G x (rightmost g (3 * faces) x) h p
-            | inl q ↦ absurd (elim (option_tells (g (prev (rightmost g (3 * faces) x)))) [
-              | inl n ↦ some_is _ u n
-              | inr y ↦ (let no : Some (prev y.0) ≡ None = sym (ap (option_map prev) y.1) ∙ q.2 in cc)
-            ])
+        sym e ∙ cond-false (is_none (g x)) _ _ t ∙ cond-false (is_none (g (prev (rightmost g (3 * faces) x)))) _ _ u,
+        some_is (g x) t,
+        elim (rightmost_tells g (3 * faces) x) [
+          | inr p ↦ long_walk G x (rightmost g (3 * faces) x) h p
+          | inl q ↦ absurd (elim (option_tells (g (prev (rightmost g (3 * faces) x)))) [
+            | inl n ↦ some_is _ u n
+            | inr y ↦ (let no : Some (prev y.0) ≡ None = sym (ap (option_map prev) y.1) ∙ q.2 in cc)
           ])
+        ],
+      )
     ]
   ]
 
@@ -391,8 +397,8 @@ module _ (faces : ℕ) (g : Gluing) (G : IsGluing faces g) (F : HasThreeFans fac
           let l = extends_length all (run faces g faces (record w { interior = f ∷ w.interior; bits = bits }) c).entries x in
           run_bits faces g faces (record w { interior = f ∷ w.interior; bits = bits }) c ∙ told ∙ ap (λ (t : List Bool). true ∷ t) (B.bits O)
           ∙ sym (ap (λ (d : Side). bits_across (g d) ++ bits_to (length w.entries)) b.0
-            ∙ ap (λ (o : Option Side). bits_across o ++ bits_to (length w.entries)) (G.paired (side f second) c across)
-            ∙ ap (λ (t : Bool). cond t (true ∷ []) [] ++ bits_to (length w.entries)) (known f (or_left (f == f) _ (eq-eqb f f refl))))
+          ∙ ap (λ (o : Option Side). bits_across o ++ bits_to (length w.entries)) (G.paired (side f second) c across)
+          ∙ ap (λ (t : Bool). cond t (true ∷ []) [] ++ bits_to (length w.entries)) (known f (or_left (f == f) _ (eq-eqb f f refl))))
           ∙ sym (bits_more (length w.entries))
           ∙ sym (bits_same (length w.entries) (length (run faces g faces (record w { interior = f ∷ w.interior; bits = bits }) c).entries) b.1 (λ k q. O k (omega arith)) N.logged.joined)
 

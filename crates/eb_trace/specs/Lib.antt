@@ -2,3 +2,4 @@ pub mod Readable
 pub mod Front
 pub mod Rebuilt
 pub mod Trace
+pub mod Kept

@@ -4,4 +4,4 @@
 
 mod laws;
 
-pub use laws::readable_is_rebuilt;
+pub use laws::{readable_is_rebuilt, walk_keeps_surface};
