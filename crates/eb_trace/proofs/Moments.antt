@@ -111,9 +111,6 @@ module _ (faces : ℕ) (g : Gluing) (G : IsGluing faces g) (F : HasThreeFans fac
 
   -- one corner
   module _ (a : ℕ) (w : Walk) (c : Side) (M : Moment a w c) (first : a ≤ length w.entries) where
-    count : ℕ
-    count = length w.entries
-
     abbrev Logging : Symbol → Type 0
     Logging s = Extends all (record { corner = c; symbol = s } ∷ w.entries)
 

@@ -59,20 +59,8 @@ inside_tells (x ∷ fs) f h = elim (or_cases (x == f) (is_inside fs f) h) [
 ]
 
 module _ (faces : ℕ) (g : Gluing) (G : IsGluing faces g) (F : HasThreeFans faces g) where
-  abbrev pub entries : List Entry
-  entries = entries_of faces g
-
-  abbrev pub insides : List ℕ
-  insides = insides_of faces g
-
   abbrev pub at : ℕ → Side
   at k = (entry_at (entries_of faces g) k).corner
-
-  abbrev pub rows : List (ℕ × ℕ)
-  rows = order_of (trace faces g)
-
-  abbrev pub done : Between faces g G F (entries_of faces g) (insides_of faces g) (trace faces g)
-  done = (trace_ok faces g G F).0
 
   -- the row of a symbol, and of an interior start face
   symbol_row : (i k : ℕ) → suc (i + k) ≡ length (entries_of faces g) → get_or (order_of (trace faces g)) i (0, 0) ≡ row_of (entry_at (entries_of faces g) k)
@@ -152,9 +140,6 @@ module _ (faces : ℕ) (g : Gluing) (G : IsGluing faces g) (F : HasThreeFans fac
   order_facts r s h l = inner_order (length (entries_of faces g)) (insides_of faces g) (trace_ok faces g G F).0.inner r s h l
 
   -- what a number of the order is: of a symbol, or of an interior start face
-  abbrev pub total : ℕ
-  total = length (entries_of faces g) + length (insides_of faces g)
-
   abbrev pub face_of : ℕ → ℕ
   face_of i = (get_or (order_of (trace faces g)) i (0, 0)).0
 

@@ -232,9 +232,6 @@ module _ (faces : ℕ) (g : Gluing) (G : IsGluing faces g) (F : HasThreeFans fac
       Extends all (run faces g faces (record w { bits = bits }) c).entries → Between (run faces g faces (record w { bits = bits }) c) × (is_visited (run faces g faces (record w { bits = bits }) c) f ≡ true)
   from_boundary w B known f h u c start bits told x = (ended_between w v B N x inner bits_are, visits)
     where
-      w1 : Walk
-      w1 = record w { bits = bits }
-
       v : Walk
       v = run faces g faces (record w { bits = bits }) c
 
@@ -288,9 +285,6 @@ module _ (faces : ℕ) (g : Gluing) (G : IsGluing faces g) (F : HasThreeFans fac
       Extends all (run faces g faces (record w { interior = f ∷ w.interior; bits = bits }) c).entries → Between (run faces g faces (record w { interior = f ∷ w.interior; bits = bits }) c) × (is_visited (run faces g faces (record w { interior = f ∷ w.interior; bits = bits }) c) f ≡ true)
   from_inside w B f known h u inside c across bits told x = (ended_between w v B N x inner bits_are, visits)
     where
-      w1 : Walk
-      w1 = record w { interior = f ∷ w.interior; bits = bits }
-
       v : Walk
       v = run faces g faces (record w { interior = f ∷ w.interior; bits = bits }) c
 
