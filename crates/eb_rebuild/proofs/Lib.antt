@@ -13,3 +13,7 @@ pub mod NamedRules
 pub mod NamedLaw
 pub mod RowsOnce
 mod NamedRows
+pub mod RowTables
+pub mod EqualNames
+pub mod RowSteps
+pub mod Degrees

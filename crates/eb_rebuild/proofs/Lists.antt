@@ -1,7 +1,7 @@
 -- Lists that are read from a place downwards.
-use Rattle.std.proofs.Common.{◌≡◌, ◌≢◌, ℕ, zero, suc, ◌<◌, ◌≤◌, List, [], ◌∷◌, length, get_or, set, take, reverse, sym, refl, ap, ◌∙◌, arith, get_or-set_other, get_or-set_same, add-one}
+use Rattle.std.proofs.Common.{◌≡◌, ◌≢◌, ℕ, zero, suc, ◌<◌, ◌≤◌, Some, None, List, [], ◌∷◌, length, get_or, set, take, reverse, sym, refl, ap, ◌∙◌, arith, get_or-set_other, get_or-set_same, add-one}
 use Rattle.std.proofs.lemmas.List.{take_all, take_more, reverse-append}
-use Rattle.eb_rebuild.specs.Kept.{counted_down}
+use Rattle.eb_rebuild.specs.Kept.{counted_down, first_side}
 
 -- how many
 pub length-counted_down : {A : Type 0} (d : A) (n : ℕ) (xs : List A) → length (counted_down d n xs) ≡ n
@@ -31,3 +31,8 @@ counted_down_take {A} d xs (suc n) h =
 -- all of a list, read downwards, is the list in reverse
 pub counted_down_reverse : {A : Type 0} (d : A) (xs : List A) → counted_down d (length xs) xs ≡ reverse xs
 counted_down_reverse {A} d xs = counted_down_take d xs (length xs) (omega arith) ∙ ap {A = List A} reverse (take_all (length xs) xs (omega arith))
+
+-- the first of a list, and the rest
+pub first_some : (xs : List ℕ) (a : ℕ) → Some a ≡ first_side xs → (rest : List ℕ) × (xs ≡ a ∷ rest)
+first_some [] a e = absurd (let no : Some a ≡ None = e in cc)
+first_some (x ∷ xs) a e = (xs, ap (λ (y : ℕ). y ∷ xs) (let q : Some a ≡ Some x = e in let r : a ≡ x = cc in sym r))

@@ -486,7 +486,7 @@ pub closes_agree : (p : Plan) (interior : Bool) (x : NamedState) (s : State) →
 closes_agree p interior x s W = subst (λ (t : State). Agree Shows (named_close p interior x) (close p interior t)) W.state (close_agrees p interior x (stands W))
 
 -- one name is one fan
-name_test : {x : NamedState} → Stands x → (c d : Side) → c.face < length x.triangles → d.face < length x.triangles → (name_of x.triangles c == name_of x.triangles d) ≡ meets (length x.triangles) x.glued c d
+pub name_test : {x : NamedState} → Stands x → (c d : Side) → c.face < length x.triangles → d.face < length x.triangles → (name_of x.triangles c == name_of x.triangles d) ≡ meets (length x.triangles) x.glued c d
 name_test {x} W c d h k = one_truth _ _
     (λ e. fan_meets W.names.gluing c d h k (W.names.one_fan c d h k (eqb-true (name_of x.triangles c) (name_of x.triangles d) e)))
     (λ e. eq-eqb (name_of x.triangles c) (name_of x.triangles d) (W.names.one_name c d (meets-fan (length x.triangles) x.glued c d e)))
@@ -505,7 +505,7 @@ equal_is {x} W f h =
     ∙ ap (λ (t : Bool). m first second || t || e third first) (test second third)
     ∙ ap (λ (t : Bool). m first second || m second third || t) (test third first)
 
-first_is : {x : NamedState} → Stands x → (n : ℕ) → n ≤ length x.triangles → first_with_equal x.triangles n ≡ first_degenerate (length x.triangles) x.glued n
+pub first_is : {x : NamedState} → Stands x → (n : ℕ) → n ≤ length x.triangles → first_with_equal x.triangles n ≡ first_degenerate (length x.triangles) x.glued n
 unfolding first_with_equal first_degenerate
 first_is W zero h = refl
 first_is {x} W (suc n) h =

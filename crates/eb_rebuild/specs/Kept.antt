@@ -1,5 +1,5 @@
 -- The lists that a rebuilding keeps, as the machine reads them.
-use Rattle.std.specs.Prelude.{◌≢◌, ℕ, zero, suc, ◌*◌, ◌<◌, false, List, [], ◌∷◌, get_or, Option}
+use Rattle.std.specs.Prelude.{◌≢◌, ℕ, zero, suc, ◌*◌, ◌<◌, false, List, [], ◌∷◌, get_or, Option, Some, None}
 use Rattle.corner_table.specs.declared.symbols.Event.{Event}
 use Rattle.corner_table.specs.Sides.{Side}
 use Rattle.corner_table.specs.Table.{other_at, free_entry}
@@ -35,3 +35,8 @@ AreSidesBelow faces (x ∷ xs) = (x < 3 * faces) × AreSidesBelow faces xs
 -- each side that is kept is one of the faces below a number
 abbrev pub AreKeptBelow : ℕ → List ℕ → Type 0
 AreKeptBelow faces kept = (k : ℕ) → get_or kept k free_entry ≢ free_entry → get_or kept k free_entry < 3 * faces
+
+-- the first of a list of side numbers
+abbrev pub first_side : List ℕ → Option ℕ
+first_side [] = None
+first_side (x ∷ xs) = Some x

@@ -6,3 +6,5 @@ pub mod Linked
 pub mod Alike
 pub mod Named
 pub mod Shown
+pub mod Rowed
+pub mod Counted

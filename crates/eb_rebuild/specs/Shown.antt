@@ -1,14 +1,12 @@
 -- Names are fans: what a state with named vertices shows when the names are left out, and that both machines give the same answers.
-use Rattle.std.specs.Prelude.{◌≡◌, ℕ, zero, suc, ◌+◌, ◌<◌, ◌⊎◌, Bool, true, false, ◌||◌, ◌==◌, List, [], ◌∷◌, ◌++◌, length, get_or, count_by, Option, Some, None, Result, Ok, Err}
-use Rattle.std.specs.List.{list_any}
+use Rattle.std.specs.Prelude.{◌≡◌, ℕ, ◌<◌, ◌⊎◌, Bool, List, [], ◌∷◌, length, get_or, Option, Some, None, Result, Ok, Err}
 use Rattle.drc_base.specs.declared.faults.Fault.{Fault}
 use Rattle.corner_table.specs.declared.symbols.Symbol.{Symbol}
-use Rattle.corner_table.specs.declared.symbols.Symbol.TheVariants.{C, S, L, R, E}
 use Rattle.corner_table.specs.declared.symbols.Event.{Event}
 use Rattle.corner_table.specs.Sides.{Side, first, side, next, prev, Gluing, IsGluing, IsFree}
 use Rattle.corner_table.specs.Fans.{InFan}
 use Rattle.eb_rebuild.specs.Machine.{State, Plan, step, close, finish, rebuild}
-use Rattle.eb_rebuild.specs.Named.{Triangle, corner, no_triangle, Row, NamedState, named_start, named_step, named_close, named_finish, named_symbols, named_rebuild}
+use Rattle.eb_rebuild.specs.Named.{Triangle, corner, no_triangle, Row, NamedState, named_step, named_close, named_finish, named_rebuild}
 
 -- the name of a corner's vertex
 abbrev pub name_of : List Triangle → Side → ℕ
@@ -87,26 +85,3 @@ OneRowEach = (x : NamedState) (s : State) → Shows x s → (r q : Row) → Amon
 -- after each symbol the top side is side 0 of its face, and is free
 abbrev pub TopIsFree : Type 0
 TopIsFree = (n : ℕ) (symbol : Symbol) (x : NamedState) (s t : State) → Shows x s → step n symbol s ≡ Ok t → (rest : List Side) × (t.stack ≡ side s.built first ∷ rest) × (t.glued (side s.built first) ≡ None)
-
--- the numbers below n, and whether a number is a name
-abbrev pub numbers_below : ℕ → List ℕ
-numbers_below zero = []
-numbers_below (suc n) = numbers_below n ++ (n ∷ [])
-
-abbrev pub is_name : List Triangle → ℕ → Bool
-is_name triangles v = list_any (λ (t : Triangle). (t.0 == v) || (t.1 == v) || (t.2 == v)) triangles
-
--- how many names there are
-abbrev pub name_count : NamedState → ℕ
-name_count x = count_by (is_name x.triangles) (numbers_below x.made)
-
-abbrev pub is_split : Symbol → Bool
-is_split S = true
-is_split C = false
-is_split L = false
-is_split R = false
-is_split E = false
-
--- each S makes one vertex of two, and nothing else does
-abbrev pub MadeIsCounted : Type 0
-MadeIsCounted = (n : ℕ) (symbols : List Symbol) (events : List Event) (x : NamedState) → named_symbols n symbols (named_start events) ≡ Ok x → x.made ≡ name_count x + count_by is_split symbols

@@ -3,11 +3,14 @@
 //! `Rebuild`: each call gives the next state of the machine, or exactly the fault of its rule.
 #![tactic(auto)]
 
+mod active_rows;
 mod built;
 mod degenerate;
 mod laws;
 mod link_rebuild;
+mod named_table;
 mod rebuild;
+mod row_rebuild;
 mod side_stack;
 mod splits;
 #[cfg(test)]
@@ -17,3 +20,4 @@ pub use built::Built;
 pub use laws::{names_are_fans, rows_are_one_each};
 pub use link_rebuild::LinkRebuild;
 pub use rebuild::Rebuild;
+pub use row_rebuild::RowRebuild;

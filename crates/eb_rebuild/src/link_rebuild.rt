@@ -23,7 +23,7 @@ use std::marker::Model;
 use std::sync::ledger::Ledger;
 
 /// The side with a number.
-fn side_with(number: u32) -> Side
+pub(crate) fn side_with(number: u32) -> Side
     ensures side { side_of result ≡ side_at number }
     ensures face { result.face ≡ number / 3 }
 {
@@ -57,7 +57,7 @@ fn is_loop(a: Side, b: Side, c: Side, d: Side) -> bool
 }
 
 /// A fault is a refusal.
-fn refused(done: Result<(), Fault>) -> Result<(), Refusal>
+pub(crate) fn refused(done: Result<(), Fault>) -> Result<(), Refusal>
     ensures { result ≡ refused_by done }
 {
     match done {

@@ -24,6 +24,7 @@ impl Model for SideStack {
 
 impl SideStack {
     ghost use Rattle.std.specs.Prelude.{◌≡◌, ℕ, ◌<◌, ◌≤◌, [], ◌∷◌, length, IfOk, MatchOption};
+    ghost use Rattle.eb_rebuild.specs.Kept.{first_side};
 
     /// An empty stack with room for `room` sides.
     pub(crate) fn with_room(alloc: Global, room: u32) -> Result<SideStack, Memory>
@@ -52,6 +53,17 @@ impl SideStack {
     {
         self.sides[self.height as usize] = side;
         self.height += 1;
+    }
+
+    /// The top side; None where none waits.
+    pub(crate) fn top(&self) -> Option<u32>
+        ensures { result ≡ first_side self.now.sides }
+    {
+        if self.height == 0 {
+            None
+        } else {
+            Some(self.sides[self.height as usize - 1])
+        }
     }
 
     /// Takes the top side off; None where none waits.

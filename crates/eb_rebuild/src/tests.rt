@@ -1,71 +1,75 @@
-//! Worked surfaces and hostile streams, rebuilt.
+//! Worked surfaces and hostile streams, rebuilt by links and by rows.
 
-ghost use Rattle.std.specs.Prelude.{◌≡◌, ◌<◌, ◌≤◌, length, None, All};
+ghost use Rattle.std.specs.Prelude.{◌≡◌, ◌<◌, ◌≤◌, length, All, OnOk, IsTrue};
 ghost use Rattle.drc_base.specs.declared.limits.TheConstants.{MAX_FACES as most_faces};
 ghost use Rattle.eb_rebuild.specs.Rebuilding.{IsEventOf};
 
+use crate::built::Built;
 use crate::link_rebuild::LinkRebuild;
 use crate::rebuild::Rebuild;
+use crate::row_rebuild::RowRebuild;
 use corner_table::{Event, Steps, Symbol};
-use drc_base::{Fault, Kind, Refusal};
+use drc_base::{Kind, Refusal};
 use std::alloc::Global;
 use std::marker::Brand;
 use std::process::Abort;
 use std::sync::ledger::{Blank, Ledger};
 
-/// Takes all symbols; the first fault.
-fn take_all<L: Ledger>(
-    machine: &mut LinkRebuild,
+/// Takes all symbols.
+fn take_all<R: Rebuild, L: Ledger>(
+    machine: &mut R,
     symbols: &[Symbol],
     steps: &mut Steps<L>,
-) -> Option<Fault>
-    requires none { machine.old.table.faces ≡ 0 }
-    requires unclosed { machine.old.closes ≡ 0 }
-    requires all { machine.old.plan.symbols ≡ length symbols.now }
-    ensures { result ≡ None → machine.new.plan.symbols ≤ machine.new.table.faces }
+) -> Result<(), Refusal>
+    requires live { IsTrue (R.live machine.old) }
+    requires none { (R.state machine.old).built ≡ 0 }
+    requires unclosed { (R.state machine.old).closes ≡ 0 }
+    requires all { (R.plan machine.old).symbols ≡ length symbols.now }
+    ensures live { OnOk result (IsTrue (R.live machine.new)) }
+    ensures all { OnOk result ((R.plan machine.new).symbols ≤ (R.state machine.new).built) }
 {
     for symbol in symbols {
         match machine.symbol(*symbol, steps) {
             Ok(()) => (),
-            Err(Refusal::Fault(fault)) => return Some(fault),
-            Err(Refusal::Memory) => unreachable!(),
+            Err(refusal) => return Err(refusal),
         }
     }
-    None
+    Ok(())
 }
 
-/// Closes all sides that wait, each by its bit; the first fault.
-fn close_all<L: Ledger>(
-    machine: &mut LinkRebuild,
+/// Closes all sides that wait, each by its bit.
+fn close_all<R: Rebuild, L: Ledger>(
+    machine: &mut R,
     bits: &[bool],
     steps: &mut Steps<L>,
-) -> Option<Fault>
-    requires { machine.old.plan.symbols ≤ machine.old.table.faces }
-    ensures { result ≡ None → (machine.new.plan.symbols ≤ machine.new.table.faces) × (length machine.new.stack.sides ≡ 0) }
+) -> Result<(), Refusal>
+    requires live { IsTrue (R.live machine.old) }
+    requires all { (R.plan machine.old).symbols ≤ (R.state machine.old).built }
+    ensures live { OnOk result (IsTrue (R.live machine.new)) }
+    ensures all { OnOk result ((R.plan machine.new).symbols ≤ (R.state machine.new).built) }
+    ensures none { OnOk result (length (R.state machine.new).stack ≡ 0) }
 {
     let mut number = 0usize;
     'closing: while machine.pending() > 0 {
         let bit = number < bits.len() && bits[number];
         match machine.close(bit, steps) {
             Ok(()) => (),
-            Err(Refusal::Fault(fault)) => return Some(fault),
-            Err(Refusal::Memory) => unreachable!(),
+            Err(refusal) => return Err(refusal),
         }
         number = number.saturating_add(1);
     }
-    None
+    Ok(())
 }
 
-/// The first fault of a whole rebuilding.
-fn first_fault<L: Ledger>(
-    rt: &impl Abort,
+/// A whole rebuilding.
+fn rebuilt<R: Rebuild, L: Ledger>(
     alloc: Global,
     plan: (u32, u32),
     symbols: &[Symbol],
     events: Vec<Event>,
     bits: &[bool],
     blank: Blank,
-) -> Option<Fault>
+) -> Result<Built, Refusal>
     requires faces { plan.0 ≤ most_faces }
     requires symbols { length symbols.now ≤ plan.0 }
     requires events { All (IsEventOf (length symbols.now)) events.items }
@@ -74,18 +78,17 @@ fn first_fault<L: Ledger>(
     requires some { 0 < L.parts }
 {
     let mut steps = Steps::<L>::new(blank);
-    let mut machine = LinkRebuild::new(alloc, plan.0, plan.1, symbols.len() as u32, events).expect(
-        rt, "room",
-    );
-    if let Some(fault) = take_all(&mut machine, symbols, &mut steps) {
-        return Some(fault);
-    }
-    if let Some(fault) = close_all(&mut machine, bits, &mut steps) {
-        return Some(fault);
-    }
-    match machine.finish(alloc) {
+    let mut machine = R::new(alloc, plan.0, plan.1, symbols.len() as u32, events)?;
+    take_all(&mut machine, symbols, &mut steps)?;
+    close_all(&mut machine, bits, &mut steps)?;
+    machine.finish(alloc)
+}
+
+/// The kind and the number of a fault, or none.
+fn told(rt: &impl Abort, done: Result<Built, Refusal>) -> Option<(Kind, u64)> {
+    match done {
         Ok(_) => None,
-        Err(Refusal::Fault(fault)) => Some(fault),
+        Err(Refusal::Fault(f)) => Some((f.kind, f.at)),
         Err(Refusal::Memory) => {
             assert!(rt; false, "memory");
             None
@@ -93,81 +96,124 @@ fn first_fault<L: Ledger>(
     }
 }
 
-/// The fault's kind and number, or none.
-fn told(fault: Option<Fault>) -> Option<(Kind, u64)> {
-    match fault {
-        Some(f) => Some((f.kind, f.at)),
-        None => None,
-    }
+/// One event.
+fn one_event(rt: &impl Abort, alloc: Global, source: u32, split: u32, right: bool) -> Vec<Event>
+    ensures { All (λ e. (e.source ≡ source) × (e.split ≡ split)) result.items }
+{
+    let mut events = Vec::new(alloc);
+    let event = Event {
+        source,
+        split,
+        right,
+    };
+    events.push(event).expect(rt, "room");
+    events
+}
+
+/// Surfaces that are rebuilt, and streams with one fault each.
+fn rebuilds_and_refuses<R: Rebuild>(rt: &impl Abort, alloc: Global) {
+    use Symbol::{C, E, L, R as Right, S};
+    // A tetrahedron with an interior start face.
+    let none = Vec::new(alloc);
+    let done = rebuilt::<R, Brand>(alloc, (4, 4), &[E, Right, C], none, &[true], Blank::new(1));
+    assert!(rt; told(rt, done) == None);
+    // A ring with a hole, which wants an event.
+    let ring = [E, Right, L, Right, L, S];
+    let events = one_event(rt, alloc, 5, 0, true);
+    let done = rebuilt::<R, Brand>(alloc, (6, 7), &ring, events, &[false], Blank::new(1));
+    assert!(rt; told(rt, done) == None);
+    // The same with the event of the other side, and without it.
+    let events = one_event(rt, alloc, 5, 0, false);
+    let done = rebuilt::<R, Brand>(alloc, (6, 7), &ring, events, &[true], Blank::new(1));
+    assert!(rt; told(rt, done) == Some((Kind::Loop, 6)));
+    let none = Vec::new(alloc);
+    let done = rebuilt::<R, Brand>(alloc, (6, 7), &ring, none, &[false], Blank::new(1));
+    assert!(rt; told(rt, done) == Some((Kind::NoActive, 5)));
+    // A side that is kept is one with the top.
+    let events = one_event(rt, alloc, 1, 0, false);
+    let done = rebuilt::<R, Brand>(alloc, (2, 4), &[E, S], events, &[], Blank::new(1));
+    assert!(rt; told(rt, done) == Some((Kind::SamePoint, 1)));
+    // The kept side is glued when it is wanted.
+    let events = one_event(rt, alloc, 2, 0, false);
+    let done = rebuilt::<R, Brand>(alloc, (3, 4), &[E, C, S], events, &[], Blank::new(1));
+    assert!(rt; told(rt, done) == Some((Kind::Gone, 2)));
+    // An event that is due before its symbol.
+    let events = one_event(rt, alloc, 1, 0, false);
+    let done = rebuilt::<R, Brand>(alloc, (3, 5), &[E, C, Right], events, &[], Blank::new(1));
+    assert!(rt; told(rt, done) == Some((Kind::EventOrder, 2)));
+    // The top side is alone in its loop.
+    let none = Vec::new(alloc);
+    let done = rebuilt::<R, Brand>(alloc, (4, 3), &[E, C, C, C], none, &[], Blank::new(1));
+    assert!(rt; told(rt, done) == Some((Kind::Alone, 3)));
+    // Two corners of a face are one vertex, with a lone side glued; and the same without the last
+    // symbol, its loop to be filled.
+    let none = Vec::new(alloc);
+    let done = rebuilt::<R, Brand>(
+        alloc,
+        (5, 9),
+        &[E, C, C, Right, C],
+        none,
+        &[],
+        Blank::new(1),
+    );
+    assert!(rt; told(rt, done) == Some((Kind::Degenerate, 2)));
+    let none = Vec::new(alloc);
+    let done = rebuilt::<R, Brand>(
+        alloc,
+        (4, 9),
+        &[E, C, C, Right],
+        none,
+        &[true],
+        Blank::new(1),
+    );
+    assert!(rt; told(rt, done) == Some((Kind::Loop, 4)));
+    // Fewer faces than are declared, and more vertices.
+    let none = Vec::new(alloc);
+    let done = rebuilt::<R, Brand>(alloc, (2, 3), &[E], none, &[false], Blank::new(1));
+    assert!(rt; told(rt, done) == Some((Kind::FaceCount, 1)));
+    let none = Vec::new(alloc);
+    let done = rebuilt::<R, Brand>(alloc, (1, 2), &[E], none, &[false], Blank::new(1));
+    assert!(rt; told(rt, done) == Some((Kind::VertexCount, 3)));
+}
+
+/// The degree of the vertex at which the top side starts, after some symbols.
+fn degree_after<L: Ledger>(alloc: Global, symbols: &[Symbol], blank: Blank) -> Result<u32, Refusal>
+    requires symbols { length symbols.now ≤ most_faces }
+    requires name { blank.name ≡ L.name }
+    requires parts { blank.parts ≡ L.parts }
+    requires some { 0 < L.parts }
+{
+    let count = symbols.len() as u32;
+    let none = Vec::new(alloc);
+    let mut steps = Steps::<L>::new(blank);
+    let mut machine = RowRebuild::new(alloc, count, 9, count, none)?;
+    take_all(&mut machine, symbols, &mut steps)?;
+    Ok(machine.degree())
 }
 
 #[test]
-fn rebuilds_and_refuses(rt: HostRuntime) {
+fn degrees_are_counted(rt: HostRuntime) {
+    use Symbol::{C, E, L, R, S};
     let alloc = rt.alloc();
-    // A tetrahedron with an interior start face.
-    let none = Vec::new(alloc);
-    let tetrahedron = first_fault::<Brand>(
-        &rt,
-        alloc,
-        (4, 4),
-        &[Symbol::E, Symbol::R, Symbol::C],
-        none,
-        &[true],
-        Blank::new(1),
-    );
-    assert!(&rt; told(tetrahedron) == None);
-    // A ring with a hole, which wants an event.
-    let ring = [
-        Symbol::E,
-        Symbol::R,
-        Symbol::L,
-        Symbol::R,
-        Symbol::L,
-        Symbol::S,
-    ];
-    let event = Event {
-        source: 5,
-        split: 0,
-        right: true,
-    };
-    let mut events = Vec::new(alloc);
-    events.push(event).expect(&rt, "room");
-    let holed = first_fault::<Brand>(&rt, alloc, (6, 7), &ring, events, &[false], Blank::new(1));
-    assert!(&rt; told(holed) == None);
-    // The top side is alone in its loop.
-    let none = Vec::new(alloc);
-    let alone = first_fault::<Brand>(
-        &rt,
-        alloc,
-        (4, 3),
-        &[Symbol::E, Symbol::C, Symbol::C, Symbol::C],
-        none,
-        &[],
-        Blank::new(1),
-    );
-    assert!(&rt; told(alone) == Some((Kind::Alone, 3)));
-    // Two corners of a face are one vertex, with a lone side glued.
-    let none = Vec::new(alloc);
-    let lone = first_fault::<Brand>(
-        &rt,
-        alloc,
-        (5, 9),
-        &[Symbol::E, Symbol::C, Symbol::C, Symbol::R, Symbol::C],
-        none,
-        &[],
-        Blank::new(1),
-    );
-    assert!(&rt; told(lone) == Some((Kind::Degenerate, 2)));
-    // The same without the last symbol, its loop to be filled.
-    let none = Vec::new(alloc);
-    let no_loop = first_fault::<Brand>(
-        &rt,
-        alloc,
-        (4, 9),
-        &[Symbol::E, Symbol::C, Symbol::C, Symbol::R],
-        none,
-        &[true],
-        Blank::new(1),
-    );
-    assert!(&rt; told(no_loop) == Some((Kind::Loop, 4)));
+    let one = degree_after::<Brand>(alloc, &[E], Blank::new(1));
+    assert!(&rt; one == Ok(2));
+    let right = degree_after::<Brand>(alloc, &[E, R], Blank::new(1));
+    assert!(&rt; right == Ok(3));
+    let left = degree_after::<Brand>(alloc, &[E, R, L], Blank::new(1));
+    assert!(&rt; left == Ok(2));
+    let tip = degree_after::<Brand>(alloc, &[E, R, C], Blank::new(1));
+    assert!(&rt; tip == Ok(3));
+    // The second side is alone in its loop, and its vertex takes in the first side's.
+    let merged = degree_after::<Brand>(alloc, &[E, C, C, E, S], Blank::new(1));
+    assert!(&rt; merged == Ok(8));
+}
+
+#[test]
+fn links_rebuild_and_refuse(rt: HostRuntime) {
+    rebuilds_and_refuses::<LinkRebuild>(&rt, rt.alloc());
+}
+
+#[test]
+fn rows_rebuild_and_refuse(rt: HostRuntime) {
+    rebuilds_and_refuses::<RowRebuild>(&rt, rt.alloc());
 }

@@ -1,0 +1,7 @@
+-- The degree of a vertex by names.
+use Rattle.std.specs.Prelude.{ℕ, ◌+◌, ◌==◌, cond}
+use Rattle.eb_rebuild.specs.Named.{Triangle}
+
+-- how many corners of a triangle have a name
+abbrev pub times_in : ℕ → Triangle → ℕ
+times_in v t = cond (v == t.0) 1 0 + cond (v == t.1) 1 0 + cond (v == t.2) 1 0

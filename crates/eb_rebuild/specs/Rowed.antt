@@ -1,0 +1,59 @@
+-- What a rebuilding that keeps its rows in a list holds, and the machine's state that it stands for.
+use Rattle.std.specs.Prelude.{◌≡◌, ℕ, ◌*◌, ◌≤◌, List, length, map, Some, Result, Ok, Err}
+use Rattle.drc_base.specs.declared.faults.Fault.{Fault}
+use Rattle.drc_base.specs.declared.faults.Refusal.{Refusal}
+use Rattle.drc_base.specs.declared.faults.Refusal.TheVariants as refusal
+use Rattle.corner_table.specs.Sides.{Side, side_at}
+use Rattle.corner_table.specs.Table.{Table, gluing_of, IsFreeIn}
+use Rattle.eb_rebuild.specs.declared.active_rows.Row.{Row as NumberedRow}
+use Rattle.eb_rebuild.specs.Machine.{State, Plan}
+use Rattle.eb_rebuild.specs.Named.{Triangle, Row}
+use Rattle.eb_rebuild.specs.Shown.{AreNames, row_named}
+use Rattle.eb_rebuild.specs.Kept.{StackValue, SplitsValue}
+use Rattle.eb_rebuild.specs.Linked.{LinkValue}
+
+-- a row by the number of its side
+abbrev pub listed : NumberedRow → Row
+listed r = record { side = side_at r.side; from = r.from; to = r.to }
+
+abbrev pub all_listed : List NumberedRow → List Row
+all_listed rows = map listed rows
+
+-- a table, the names of each face's corners, the rows, and how many vertices were made
+pub record NamedTable : Type 0 where
+  pub table : Table
+  pub triangles : List Triangle
+  pub rows : List Row
+  pub made : ℕ
+
+-- names are fans, and rows are free sides
+pub record IsNamedTable (v : NamedTable) : Type 0 where
+  pub long : length v.triangles ≡ v.table.faces
+  pub names : AreNames v.triangles v.rows (gluing_of v.table) v.made
+  pub few : v.made ≤ 3 * v.table.faces
+
+-- a row of a table: a free side with the names of its ends
+pub record IsRowIn (v : NamedTable) (r : NumberedRow) : Type 0 where
+  pub free : IsFreeIn v.table (side_at r.side)
+  pub is : listed r ≡ row_named v.triangles (side_at r.side)
+
+-- a side that is in a pair
+abbrev pub IsGluedIn : Table → Side → Type 0
+IsGluedIn t a = (b : Side) × (gluing_of t a ≡ Some b)
+
+pub record RowValue : Type 0 where
+  pub plan : Plan
+  pub named : NamedTable
+  pub stack : StackValue
+  pub splits : SplitsValue
+  pub closes : ℕ
+
+-- the value without names
+abbrev pub plain_of : RowValue → LinkValue
+plain_of v = record { plan = v.plan; table = v.named.table; stack = v.stack; splits = v.splits; made = v.named.made; closes = v.closes }
+
+-- a step of the machine that is a fault, goes well or wants memory
+abbrev pub Tries : Result State Fault → State → Result (Unit {0}) Refusal → Type 0
+Tries next new (Ok done) = next ≡ Ok new
+Tries next new (Err (refusal.Fault f)) = next ≡ Err f
+Tries next new (Err refusal.Memory) = Unit {0}

@@ -1,0 +1,343 @@
+//! The table with the vertices of its corners by name, and its active sides in a list.
+//!
+//! A new face brings its own row for each side that isn't glued, and takes away those of the sides
+//! that it is glued to. Where two vertices become one, one of the names is written over in all
+//! triangles and rows. What allocates comes before what changes the table, so that for want of memory
+//! all is as before.
+
+ghost use Rattle.std.specs.Prelude.{◌≡◌, ◌+◌, ◌*◌, ◌<◌};
+ghost use Rattle.drc_base.specs.declared.limits.TheConstants.{MAX_FACES as most_faces};
+ghost use Rattle.corner_table.specs.Sides.{side_at, number};
+ghost use Rattle.corner_table.specs.Table.{side_of};
+
+use crate::active_rows::{
+    Row, all_rows, corners_named, first_row, first_with_equal, one_if, renamed_rows,
+    renamed_triangles, row_of, row_to, second_row, start_name, starts_row, third_row,
+    triangle_renamed, with_row, with_triangle, without,
+};
+use crate::link_rebuild::side_with;
+use corner_table::{SideTable, Steps};
+use drc_base::{Memory, Side};
+use std::alloc::Global;
+use std::marker::Model;
+use std::sync::ledger::Ledger;
+
+/// A table of sides, the names of each face's corners, and the rows.
+#[derive(Debug, Drop)]
+pub(crate) struct NamedTable {
+    alloc: Global,
+    table: SideTable,
+    triangles: Vec<(u32, u32, u32)>,
+    rows: Vec<Row>,
+    made: u32,
+}
+
+impl Model for NamedTable {
+    ghost use Rattle.eb_rebuild.specs.Rowed.{NamedTable as named_value, IsNamedTable, all_listed};
+
+    ghost Value = { named_value };
+
+    ghost view = { λ n. record { table = n.table; triangles = n.triangles.items; rows = all_listed n.rows.items; made = n.made } };
+
+    ghost invariant = { λ n. IsNamedTable (record { table = n.table; triangles = n.triangles.items; rows = all_listed n.rows.items; made = n.made }) };
+}
+
+impl NamedTable {
+    ghost use Rattle.std.specs.Prelude.{◌≢◌, suc, ◌≤◌, ◌==◌, [], IfOk, OnOk, OnErr, IfSome, IfNone};
+    ghost use Rattle.corner_table.specs.Sides.{next, side, first, second, third, unglued, glue, same, IsGluing};
+    ghost use Rattle.corner_table.specs.Fans.{side_before};
+    ghost use Rattle.corner_table.specs.Table.{gluing_of, room_of};
+    ghost use Rattle.eb_rebuild.specs.Degree.{degree};
+    ghost use Rattle.eb_rebuild.specs.Machine.{first_degenerate};
+    ghost use Rattle.eb_rebuild.specs.Rowed.{IsRowIn, IsGluedIn};
+
+    /// No faces, and room for `faces` of them.
+    pub(crate) fn with_room(alloc: Global, faces: u32) -> Result<NamedTable, Memory>
+        requires { faces ≤ most_faces }
+        ensures none { IfOk result (λ n. n.table.faces ≡ 0) }
+        ensures room { IfOk result (λ n. room_of n.table ≡ faces) }
+        ensures unglued { IfOk result (λ n. gluing_of n.table ≡ unglued) }
+        ensures made { IfOk result (λ n. n.made ≡ 0) }
+    {
+        let table = SideTable::with_room(alloc, faces)?;
+        Ok(NamedTable {
+            alloc,
+            table,
+            triangles: Vec::new(alloc),
+            rows: Vec::new(alloc),
+            made: 0,
+        })
+    }
+
+    /// How many faces there are.
+    pub(crate) fn face_count(&self) -> u32
+        ensures count { result ≡ self.now.table.faces }
+        ensures room { result ≤ room_of self.now.table }
+        ensures limit { room_of self.now.table ≤ most_faces }
+        ensures gluing { IsGluing self.now.table.faces (gluing_of self.now.table) }
+    {
+        self.table.face_count()
+    }
+
+    /// How many vertices were made.
+    pub(crate) fn made(&self) -> u32
+        ensures { result ≡ self.now.made }
+    {
+        self.made
+    }
+
+    /// The table, given back.
+    pub(crate) fn into_table(self) -> SideTable
+        ensures { result ≡ self.table }
+    {
+        self.table
+    }
+
+    /// The row of a side; None where the side is glued.
+    pub(crate) fn row_of(&self, side: u32) -> Option<Row>
+        requires { side < 3 * self.now.table.faces }
+        ensures side { IfSome result (λ r. r.side ≡ side) }
+        ensures row { IfSome result (λ r. IsRowIn self.now r) }
+        ensures none { IfNone result (IsGluedIn self.now.table (side_at side)) }
+    {
+        let _ = &self.made;
+        match row_of(self.rows.as_slice(), side) {
+            Some(row) => Some(row),
+            None => None,
+        }
+    }
+
+    /// The row that ends where a row starts.
+    pub(crate) fn row_before(&self, row: Row) -> Row
+        requires { IsRowIn self.now row }
+        ensures row { IsRowIn self.now result }
+        ensures before { side_at result.side ≡ side_before self.now.table.faces (gluing_of self.now.table) (side_at row.side) }
+    {
+        let _ = &self.made;
+        match row_to(self.rows.as_slice(), row.from) {
+            Some(found) => found,
+            None => row,
+        }
+    }
+
+    /// The least face with two equal vertices.
+    pub(crate) fn first_degenerate(&self) -> Option<u32>
+        ensures { result ≡ first_degenerate self.now.table.faces (gluing_of self.now.table) self.now.table.faces }
+    {
+        let faces = self.table.face_count();
+        first_with_equal(self.triangles.as_slice(), faces)
+    }
+
+    /// Whether row b starts where row a ends.
+    pub(crate) fn is_joined(&self, b: Row, a: Row) -> bool
+        requires first { IsRowIn self.now b }
+        requires second { IsRowIn self.now a }
+        ensures { result ≡ same (side_before self.now.table.faces (gluing_of self.now.table) (side_at b.side)) (side_at a.side) }
+    {
+        let _ = &self.made;
+        b.from == a.to
+    }
+
+    /// The degree of the vertex at which a side starts: how many corners have its name, and one more
+    /// where a row starts there.
+    pub(crate) fn degree_at(&self, side: u32) -> u32
+        requires { side < 3 * self.now.table.faces }
+        ensures { result ≡ degree self.now.table.faces (gluing_of self.now.table) (next (side_at side)) }
+    {
+        let _room = self.table.face_count();
+        let vertex = start_name(self.triangles.as_slice(), side);
+        let corners = corners_named(self.triangles.as_slice(), vertex);
+        let starts = starts_row(self.rows.as_slice(), vertex);
+        corners + one_if(starts)
+    }
+
+    /// A face of three new vertices, no side of which is glued.
+    pub(crate) fn add_end<L: Ledger>(&mut self, steps: &mut Steps<L>) -> Result<(), Memory>
+        requires { self.old.table.faces < room_of self.old.table }
+        ensures faces { OnOk result (self.new.table.faces ≡ suc self.old.table.faces) }
+        ensures room { OnOk result (room_of self.new.table ≡ room_of self.old.table) }
+        ensures glued { OnOk result (gluing_of self.new.table ≡ gluing_of self.old.table) }
+        ensures made { OnOk result (self.new.made ≡ self.old.made + 3) }
+        ensures err { OnErr result (self.new ≡ self.old) }
+    {
+        let face = self.table.face_count();
+        let t = (self.made, self.made + 1, self.made + 2);
+        let triangles = with_triangle(self.alloc, self.triangles.as_slice(), t)?;
+        let kept = all_rows(self.alloc, self.rows.as_slice())?;
+        let one = with_row(kept, first_row(face, t))?;
+        let two = with_row(one, second_row(face, t))?;
+        let rows = with_row(two, third_row(face, t))?;
+        self.table.add_face(steps);
+        self.triangles = triangles;
+        self.rows = rows;
+        self.made += 3;
+        Ok(())
+    }
+
+    /// A face whose side 2 is glued to a row, with a new vertex.
+    pub(crate) fn add_right<L: Ledger>(
+        &mut self,
+        a: Row,
+        steps: &mut Steps<L>,
+    ) -> Result<(), Memory>
+        requires room { self.old.table.faces < room_of self.old.table }
+        requires row { IsRowIn self.old a }
+        ensures faces { OnOk result (self.new.table.faces ≡ suc self.old.table.faces) }
+        ensures room { OnOk result (room_of self.new.table ≡ room_of self.old.table) }
+        ensures glued { OnOk result (gluing_of self.new.table ≡ glue (side self.old.table.faces third) (side_at a.side) (gluing_of self.old.table)) }
+        ensures made { OnOk result (self.new.made ≡ self.old.made + 1) }
+        ensures err { OnErr result (self.new ≡ self.old) }
+    {
+        let face = self.table.face_count();
+        let t = (a.to, a.from, self.made);
+        let triangles = with_triangle(self.alloc, self.triangles.as_slice(), t)?;
+        let kept = without(self.alloc, self.rows.as_slice(), a.side)?;
+        let one = with_row(kept, first_row(face, t))?;
+        let rows = with_row(one, second_row(face, t))?;
+        let face = self.table.add_face(steps);
+        self.table
+            .glue(Side { face, k: 2 }, side_with(a.side), steps);
+        self.triangles = triangles;
+        self.rows = rows;
+        self.made += 1;
+        Ok(())
+    }
+
+    /// A face whose side 1 is glued to a row, with a new vertex.
+    pub(crate) fn add_left<L: Ledger>(&mut self, a: Row, steps: &mut Steps<L>) -> Result<(), Memory>
+        requires room { self.old.table.faces < room_of self.old.table }
+        requires row { IsRowIn self.old a }
+        ensures faces { OnOk result (self.new.table.faces ≡ suc self.old.table.faces) }
+        ensures room { OnOk result (room_of self.new.table ≡ room_of self.old.table) }
+        ensures glued { OnOk result (gluing_of self.new.table ≡ glue (side self.old.table.faces second) (side_at a.side) (gluing_of self.old.table)) }
+        ensures made { OnOk result (self.new.made ≡ self.old.made + 1) }
+        ensures err { OnErr result (self.new ≡ self.old) }
+    {
+        let face = self.table.face_count();
+        let t = (a.from, self.made, a.to);
+        let triangles = with_triangle(self.alloc, self.triangles.as_slice(), t)?;
+        let kept = without(self.alloc, self.rows.as_slice(), a.side)?;
+        let one = with_row(kept, first_row(face, t))?;
+        let rows = with_row(one, third_row(face, t))?;
+        let face = self.table.add_face(steps);
+        self.table
+            .glue(Side { face, k: 1 }, side_with(a.side), steps);
+        self.triangles = triangles;
+        self.rows = rows;
+        self.made += 1;
+        Ok(())
+    }
+
+    /// A face whose side 1 is glued to row a and whose side 2 to row b, which ends where a starts.
+    pub(crate) fn add_tip<L: Ledger>(
+        &mut self,
+        a: Row,
+        b: Row,
+        steps: &mut Steps<L>,
+    ) -> Result<(), Memory>
+        requires room { self.old.table.faces < room_of self.old.table }
+        requires first { IsRowIn self.old a }
+        requires second { IsRowIn self.old b }
+        requires apart { side_at b.side ≢ side_at a.side }
+        requires joined { side_at b.side ≡ side_before self.old.table.faces (gluing_of self.old.table) (side_at a.side) }
+        ensures faces { OnOk result (self.new.table.faces ≡ suc self.old.table.faces) }
+        ensures room { OnOk result (room_of self.new.table ≡ room_of self.old.table) }
+        ensures glued { OnOk result (gluing_of self.new.table ≡ glue (side self.old.table.faces third) (side_at b.side) (glue (side self.old.table.faces second) (side_at a.side) (gluing_of self.old.table))) }
+        ensures made { OnOk result (self.new.made ≡ self.old.made) }
+        ensures err { OnErr result (self.new ≡ self.old) }
+    {
+        let face = self.table.face_count();
+        let t = (a.from, b.from, a.to);
+        let triangles = with_triangle(self.alloc, self.triangles.as_slice(), t)?;
+        let some = without(self.alloc, self.rows.as_slice(), a.side)?;
+        let kept = without(self.alloc, some.as_slice(), b.side)?;
+        let rows = with_row(kept, first_row(face, t))?;
+        let face = self.table.add_face(steps);
+        let top = side_with(a.side);
+        let before = side_with(b.side);
+        self.table.glue(Side { face, k: 1 }, top, steps);
+        self.table.glue(Side { face, k: 2 }, before, steps);
+        self.triangles = triangles;
+        self.rows = rows;
+        Ok(())
+    }
+
+    /// A face whose side 1 is glued to row b and whose side 2 to row a. The vertex at which b starts
+    /// becomes the one at which a ends.
+    pub(crate) fn add_split<L: Ledger>(
+        &mut self,
+        b: Row,
+        a: Row,
+        steps: &mut Steps<L>,
+    ) -> Result<(), Memory>
+        requires room { self.old.table.faces < room_of self.old.table }
+        requires first { IsRowIn self.old b }
+        requires second { IsRowIn self.old a }
+        requires apart { side_at b.side ≢ side_at a.side }
+        ensures faces { OnOk result (self.new.table.faces ≡ suc self.old.table.faces) }
+        ensures room { OnOk result (room_of self.new.table ≡ room_of self.old.table) }
+        ensures glued { OnOk result (gluing_of self.new.table ≡ glue (side self.old.table.faces second) (side_at b.side) (glue (side self.old.table.faces third) (side_at a.side) (gluing_of self.old.table))) }
+        ensures made { OnOk result (self.new.made ≡ self.old.made) }
+        ensures err { OnErr result (self.new ≡ self.old) }
+    {
+        let face = self.table.face_count();
+        let from = b.from;
+        let to = a.to;
+        let t = triangle_renamed(from, to, (a.to, a.from, b.to));
+        let old = renamed_triangles(self.alloc, self.triangles.as_slice(), from, to)?;
+        let triangles = with_triangle(self.alloc, old.as_slice(), t)?;
+        let some = without(self.alloc, self.rows.as_slice(), a.side)?;
+        let kept = without(self.alloc, some.as_slice(), b.side)?;
+        let told = renamed_rows(self.alloc, kept.as_slice(), from, to)?;
+        let rows = with_row(told, first_row(face, t))?;
+        let face = self.table.add_face(steps);
+        let second = side_with(a.side);
+        let top = side_with(b.side);
+        self.table.glue(Side { face, k: 2 }, second, steps);
+        self.table.glue(Side { face, k: 1 }, top, steps);
+        self.triangles = triangles;
+        self.rows = rows;
+        Ok(())
+    }
+
+    /// A face that fills the loop of three rows: b ends where a starts, c ends where b starts, and a
+    /// ends where c starts.
+    pub(crate) fn fill<L: Ledger>(
+        &mut self,
+        a: Row,
+        b: Row,
+        c: Row,
+        steps: &mut Steps<L>,
+    ) -> Result<(), Memory>
+        requires room { self.old.table.faces < room_of self.old.table }
+        requires first { IsRowIn self.old a }
+        requires second { IsRowIn self.old b }
+        requires third { IsRowIn self.old c }
+        requires apart { side_at b.side ≢ side_at a.side }
+        requires apart_again { side_at c.side ≢ side_at a.side }
+        requires joined { side_at b.side ≡ side_before self.old.table.faces (gluing_of self.old.table) (side_at a.side) }
+        requires joined_again { side_at c.side ≡ side_before self.old.table.faces (gluing_of self.old.table) (side_at b.side) }
+        requires joined_round { side_before self.old.table.faces (gluing_of self.old.table) (side_at c.side) ≡ side_at a.side }
+        ensures faces { OnOk result (self.new.table.faces ≡ suc self.old.table.faces) }
+        ensures room { OnOk result (room_of self.new.table ≡ room_of self.old.table) }
+        ensures glued { OnOk result (gluing_of self.new.table ≡ glue (side self.old.table.faces third) (side_at c.side) (glue (side self.old.table.faces second) (side_at b.side) (glue (side self.old.table.faces first) (side_at a.side) (gluing_of self.old.table)))) }
+        ensures made { OnOk result (self.new.made ≡ self.old.made) }
+        ensures err { OnErr result (self.new ≡ self.old) }
+    {
+        let t = (b.from, a.to, a.from);
+        let triangles = with_triangle(self.alloc, self.triangles.as_slice(), t)?;
+        let some = without(self.alloc, self.rows.as_slice(), a.side)?;
+        let fewer = without(self.alloc, some.as_slice(), b.side)?;
+        let rows = without(self.alloc, fewer.as_slice(), c.side)?;
+        let face = self.table.add_face(steps);
+        let top = side_with(a.side);
+        let second = side_with(b.side);
+        let third = side_with(c.side);
+        self.table.glue(Side { face, k: 0 }, top, steps);
+        self.table.glue(Side { face, k: 1 }, second, steps);
+        self.table.glue(Side { face, k: 2 }, third, steps);
+        self.triangles = triangles;
+        self.rows = rows;
+        Ok(())
+    }
+}

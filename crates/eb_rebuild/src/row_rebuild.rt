@@ -1,0 +1,371 @@
+//! Rebuilding with rows in a plain list.
+//!
+//! The machine as the format tells it: each vertex has a name, an active side stands in a list with
+//! the names of its ends, and an S writes one name over another in all triangles and rows. So each
+//! call looks through the list. It answers for the other rebuilding, which is fast.
+
+ghost use Rattle.std.specs.Prelude.{◌≡◌, not, ◌&&◌, Bool};
+ghost use Rattle.corner_table.specs.Sides.{side_at, same};
+
+use crate::active_rows::Row;
+use crate::built::Built;
+use crate::link_rebuild::refused;
+use crate::named_table::NamedTable;
+use crate::rebuild::Rebuild;
+use crate::side_stack::SideStack;
+use crate::splits::Splits;
+use corner_table::{Event, Steps, Symbol};
+use drc_base::{Fault, Kind, Memory, Refusal};
+use std::alloc::Global;
+use std::marker::Model;
+use std::sync::ledger::Ledger;
+
+/// Whether two sides are one, by their numbers.
+fn is_one(a: u32, b: u32) -> bool
+    ensures { result ≡ same (side_at a) (side_at b) }
+{
+    a == b
+}
+
+/// Whether sides b and c are two more than a, and row c starts where row a ends.
+fn is_three(a: u32, b: u32, c: u32, round: bool) -> bool
+    ensures { result ≡ (not (same (side_at b) (side_at a)) && not (same (side_at c) (side_at a)) && round) }
+{
+    !is_one(b, a) && !is_one(c, a) && round
+}
+
+/// A rebuilding that keeps its rows in a list.
+#[derive(Debug, Drop)]
+pub struct RowRebuild {
+    named: NamedTable,
+    stack: SideStack,
+    splits: Splits,
+    faces: u32,
+    created: u32,
+    symbols: u32,
+    closes: u32,
+}
+
+impl Model for RowRebuild {
+    ghost use Rattle.eb_rebuild.specs.Linked.{IsLinkState};
+    ghost use Rattle.eb_rebuild.specs.Rowed.{RowValue, plain_of};
+
+    ghost Value = { RowValue };
+
+    ghost view = { λ r. record {
+      plan = record { faces = r.faces; created = r.created; symbols = r.symbols };
+      named = r.named;
+      stack = r.stack;
+      splits = r.splits;
+      closes = r.closes;
+    } };
+
+    ghost invariant = { λ r. IsLinkState (plain_of (record {
+      plan = record { faces = r.faces; created = r.created; symbols = r.symbols };
+      named = r.named;
+      stack = r.stack;
+      splits = r.splits;
+      closes = r.closes;
+    })) };
+}
+
+impl RowRebuild {
+    ghost use Rattle.std.specs.Prelude.{ℕ, suc, ◌+◌, ◌*◌, ◌<◌, ◌≤◌, true, false, None, ◌∷◌, Ok, Err, map, length, IfOk, IfErr};
+    ghost use Rattle.corner_table.specs.declared.symbols.Symbol.TheVariants as kinds;
+    ghost use Rattle.corner_table.specs.Table.{gluing_of};
+    ghost use Rattle.eb_rebuild.specs.Machine.{top, step, close, pushed, release};
+    ghost use Rattle.eb_rebuild.specs.Degree.{top_degree};
+    ghost use Rattle.eb_rebuild.specs.Kept.{kept_in};
+    ghost use Rattle.eb_rebuild.specs.Linked.{state_of};
+    ghost use Rattle.eb_rebuild.specs.Rowed.{plain_of, Tries, IsRowIn};
+
+    /// The degree of the vertex at which the top side starts: the number of corners there, and one more
+    /// where a row starts there; 0 where no side waits.
+    pub fn degree(&self) -> u32
+        ensures { result ≡ top_degree (state_of (plain_of self.now)) }
+    {
+        match self.stack.top() {
+            None => 0,
+            Some(a) => self.named.degree_at(a),
+        }
+    }
+
+    /// Takes the top side off, which has to be a row.
+    fn take_row(&mut self) -> Result<Row, Fault>
+        ensures ok { IfOk result (λ a. (self.old.stack.sides ≡ a.side ∷ self.new.stack.sides) × IsRowIn self.old.named a) }
+        ensures err { IfErr result (λ f. top self.old.named.table.faces (gluing_of self.old.named.table) (map side_at self.old.stack.sides) ≡ Err f) }
+        ensures rest { self.new ≡ record self.old { stack = self.new.stack } }
+    {
+        match self.stack.pop() {
+            None => Err(Fault {
+                kind: Kind::NoActive,
+                at: u64::from(self.named.face_count()),
+            }),
+            Some(a) => match self.named.row_of(a) {
+                Some(row) => Ok(row),
+                None => Err(Fault {
+                    kind: Kind::Gone,
+                    at: u64::from(self.named.face_count()),
+                }),
+            },
+        }
+    }
+
+    /// The second side of an S: the one that an event keeps for it, else the top side. It has to be a
+    /// row.
+    fn take_second(&mut self) -> Result<Row, Fault>
+        requires { self.old.named.table.faces < self.old.plan.symbols }
+        ensures ok { IfOk result (λ a. (top self.old.named.table.faces (gluing_of self.old.named.table) (pushed (kept_in self.old.splits.kept self.old.named.table.faces) (map side_at self.old.stack.sides)) ≡ Ok (side_at a.side, map side_at self.new.stack.sides))
+            × IsRowIn self.old.named a) }
+        ensures err { IfErr result (λ f. top self.old.named.table.faces (gluing_of self.old.named.table) (pushed (kept_in self.old.splits.kept self.old.named.table.faces) (map side_at self.old.stack.sides)) ≡ Err f) }
+        ensures kept { kept_in self.new.splits.kept ≡ release self.old.named.table.faces (kept_in self.old.splits.kept) }
+        ensures events { self.new.splits.events ≡ self.old.splits.events }
+        ensures rest { self.new ≡ record self.old { stack = self.new.stack; splits = self.new.splits } }
+    {
+        let number = self.named.face_count();
+        match self.splits.take(number) {
+            None => self.take_row(),
+            Some(a) => match self.named.row_of(a) {
+                Some(row) => Ok(row),
+                None => Err(Fault {
+                    kind: Kind::Gone,
+                    at: u64::from(number),
+                }),
+            },
+        }
+    }
+
+    /// E: three new vertices.
+    fn take_end<L: Ledger>(&mut self, steps: &mut Steps<L>) -> Result<(), Refusal>
+        requires { self.old.named.table.faces < self.old.plan.symbols }
+        ensures does { Tries (step self.old.plan.symbols kinds.E (state_of (plain_of self.old))) (state_of (plain_of self.new)) result }
+        ensures plan { self.new.plan ≡ self.old.plan }
+    {
+        let face = self.named.face_count();
+        self.named.add_end(steps)?;
+        self.stack.push(3 * face);
+        refused(self.splits.note(face))
+    }
+
+    /// R: a new vertex at the right of the top side.
+    fn take_right<L: Ledger>(&mut self, steps: &mut Steps<L>) -> Result<(), Refusal>
+        requires { self.old.named.table.faces < self.old.plan.symbols }
+        ensures does { Tries (step self.old.plan.symbols kinds.R (state_of (plain_of self.old))) (state_of (plain_of self.new)) result }
+        ensures plan { self.new.plan ≡ self.old.plan }
+    {
+        let a = match self.take_row() {
+            Ok(a) => a,
+            Err(fault) => return Err(Refusal::Fault(fault)),
+        };
+        let face = self.named.face_count();
+        self.named.add_right(a, steps)?;
+        self.stack.push(3 * face);
+        refused(self.splits.note(face))
+    }
+
+    /// L: a new vertex at the left of the top side.
+    fn take_left<L: Ledger>(&mut self, steps: &mut Steps<L>) -> Result<(), Refusal>
+        requires { self.old.named.table.faces < self.old.plan.symbols }
+        ensures does { Tries (step self.old.plan.symbols kinds.L (state_of (plain_of self.old))) (state_of (plain_of self.new)) result }
+        ensures plan { self.new.plan ≡ self.old.plan }
+    {
+        let a = match self.take_row() {
+            Ok(a) => a,
+            Err(fault) => return Err(Refusal::Fault(fault)),
+        };
+        let face = self.named.face_count();
+        self.named.add_left(a, steps)?;
+        self.stack.push(3 * face);
+        refused(self.splits.note(face))
+    }
+
+    /// C: the new face closes the vertex at which the top row starts.
+    fn take_tip<L: Ledger>(&mut self, steps: &mut Steps<L>) -> Result<(), Refusal>
+        requires { self.old.named.table.faces < self.old.plan.symbols }
+        ensures does { Tries (step self.old.plan.symbols kinds.C (state_of (plain_of self.old))) (state_of (plain_of self.new)) result }
+        ensures plan { self.new.plan ≡ self.old.plan }
+    {
+        let a = match self.take_row() {
+            Ok(a) => a,
+            Err(fault) => return Err(Refusal::Fault(fault)),
+        };
+        let before = self.named.row_before(a);
+        let face = self.named.face_count();
+        if is_one(before.side, a.side) {
+            return Err(Refusal::Fault(Fault {
+                kind: Kind::Alone,
+                at: u64::from(face),
+            }));
+        }
+        self.named.add_tip(a, before, steps)?;
+        self.stack.push(3 * face);
+        Ok(())
+    }
+
+    /// S: the vertex at which the top row starts becomes the one at which the second row ends.
+    fn take_split<L: Ledger>(&mut self, steps: &mut Steps<L>) -> Result<(), Refusal>
+        requires { self.old.named.table.faces < self.old.plan.symbols }
+        ensures does { Tries (step self.old.plan.symbols kinds.S (state_of (plain_of self.old))) (state_of (plain_of self.new)) result }
+        ensures plan { self.new.plan ≡ self.old.plan }
+    {
+        let b = match self.take_row() {
+            Ok(b) => b,
+            Err(fault) => return Err(Refusal::Fault(fault)),
+        };
+        let a = match self.take_second() {
+            Ok(a) => a,
+            Err(fault) => return Err(Refusal::Fault(fault)),
+        };
+        let face = self.named.face_count();
+        if is_one(a.side, b.side) {
+            return Err(Refusal::Fault(Fault {
+                kind: Kind::Gone,
+                at: u64::from(face),
+            }));
+        }
+        if self.named.is_joined(b, a) {
+            return Err(Refusal::Fault(Fault {
+                kind: Kind::SamePoint,
+                at: u64::from(face),
+            }));
+        }
+        self.named.add_split(b, a, steps)?;
+        self.stack.push(3 * face);
+        Ok(())
+    }
+
+    /// Leaves the top side a boundary.
+    fn close_boundary(&mut self)
+        requires { 0 < length self.old.stack.sides }
+        ensures does { close self.old.plan false (state_of (plain_of self.old)) ≡ Ok (state_of (plain_of self.new)) }
+        ensures plan { self.new.plan ≡ self.old.plan }
+    {
+        match self.stack.pop() {
+            None => (),
+            Some(_) => self.closes += 1,
+        }
+    }
+
+    /// Fills the loop of the top row with a face.
+    fn close_interior<L: Ledger>(&mut self, steps: &mut Steps<L>) -> Result<(), Refusal>
+        requires { 0 < length self.old.stack.sides }
+        ensures does { Tries (close self.old.plan true (state_of (plain_of self.old))) (state_of (plain_of self.new)) result }
+        ensures plan { self.new.plan ≡ self.old.plan }
+    {
+        let number = u64::from(self.symbols) + u64::from(self.closes);
+        let a = match self.stack.pop() {
+            Some(a) => a,
+            None => return Ok(()),
+        };
+        let top = match self.named.row_of(a) {
+            Some(row) => row,
+            None => {
+                return Err(Refusal::Fault(Fault {
+                    kind: Kind::Gone,
+                    at: number,
+                }));
+            }
+        };
+        let second = self.named.row_before(top);
+        let third = self.named.row_before(second);
+        let round = self.named.is_joined(third, top);
+        if !is_three(top.side, second.side, third.side, round) {
+            return Err(Refusal::Fault(Fault {
+                kind: Kind::Loop,
+                at: number,
+            }));
+        }
+        let built = self.named.face_count();
+        if built == self.faces {
+            return Err(Refusal::Fault(Fault {
+                kind: Kind::FaceCount,
+                at: u64::from(built),
+            }));
+        }
+        self.named.fill(top, second, third, steps)?;
+        self.closes += 1;
+        Ok(())
+    }
+}
+
+impl Rebuild for RowRebuild {
+    ghost use Rattle.std.specs.Prelude.{true, false};
+    ghost use Rattle.eb_rebuild.specs.Linked.{state_of};
+    ghost use Rattle.eb_rebuild.specs.Rowed.{plain_of};
+
+    ghost plan = { λ r. r.plan };
+
+    ghost state = { λ r. state_of (plain_of r) };
+
+    ghost live = { λ _. true };
+
+    ghost linked = { λ _. false };
+
+    fn new(
+        alloc: Global,
+        faces: u32,
+        created: u32,
+        symbols: u32,
+        events: Vec<Event>,
+    ) -> Result<RowRebuild, Memory> {
+        let named = NamedTable::with_room(alloc, faces)?;
+        let stack = SideStack::with_room(alloc, symbols)?;
+        let splits = Splits::new(alloc, symbols, events)?;
+        Ok(RowRebuild {
+            named,
+            stack,
+            splits,
+            faces,
+            created,
+            symbols,
+            closes: 0,
+        })
+    }
+
+    fn symbol<L: Ledger>(&mut self, symbol: Symbol, steps: &mut Steps<L>) -> Result<(), Refusal> {
+        match symbol {
+            Symbol::C => self.take_tip(steps),
+            Symbol::S => self.take_split(steps),
+            Symbol::L => self.take_left(steps),
+            Symbol::R => self.take_right(steps),
+            Symbol::E => self.take_end(steps),
+        }
+    }
+
+    fn pending(&self) -> u32 {
+        self.stack.len()
+    }
+
+    fn close<L: Ledger>(&mut self, interior: bool, steps: &mut Steps<L>) -> Result<(), Refusal> {
+        if interior {
+            self.close_interior(steps)
+        } else {
+            self.close_boundary();
+            Ok(())
+        }
+    }
+
+    fn finish(self, _alloc: Global) -> Result<Built, Refusal> {
+        let built = self.named.face_count();
+        if built != self.faces {
+            return Err(Refusal::Fault(Fault {
+                kind: Kind::FaceCount,
+                at: u64::from(built),
+            }));
+        }
+        let made = self.named.made();
+        if self.created < made {
+            return Err(Refusal::Fault(Fault {
+                kind: Kind::VertexCount,
+                at: u64::from(made),
+            }));
+        }
+        match self.named.first_degenerate() {
+            None => Ok(Built::new(self.named.into_table(), false)),
+            Some(face) => Err(Refusal::Fault(Fault {
+                kind: Kind::Degenerate,
+                at: u64::from(face),
+            })),
+        }
+    }
+}
