@@ -11,3 +11,4 @@ pub mod LabelAll
 pub mod Meeting
 pub mod Carrying
 pub mod CarriedLists
+pub mod Prefixing

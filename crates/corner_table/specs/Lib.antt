@@ -1,6 +1,7 @@
 pub mod Sides
 pub mod Fans
 pub mod Carried
+pub mod Prefixes
 pub mod Renumbering
 pub mod Links
 pub mod Table

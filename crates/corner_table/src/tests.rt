@@ -45,7 +45,9 @@ fn glue_pair<L: Ledger>(
     table: &mut SideTable,
     pair: (u32, u32),
     steps: &mut Steps<L>,
-) {
+)
+    ensures { table.new.faces ≡ table.old.faces }
+{
     let (a, b) = (numbered(pair.0), numbered(pair.1));
     assert!(rt; a.face < table.face_count() && b.face < table.face_count() && a.face != b.face);
     match (table.other(a, steps), table.other(b, steps)) {
@@ -154,4 +156,36 @@ fn labels_and_follows(rt: HostRuntime) {
     );
     assert!(&rt; taken.1.as_slice() == [11, 9].as_slice());
     assert_eq!(&rt; taken.0, 4);
+}
+
+/// Two faces glued at sides 0 and 5, under new numbers: for each new side the side across, or for a
+/// free one -1 less the side that follows it.
+fn renumbered_pair<L: Ledger>(rt: &impl Abort, alloc: Global, blank: Blank) -> Vec<i64>
+    requires name { blank.name ≡ L.name }
+    requires parts { blank.parts ≡ L.parts }
+    requires some { 0 < L.parts }
+{
+    let mut steps = Steps::<L>::new(blank);
+    let mut table = SideTable::with_room(alloc, 2).expect(rt, "room");
+    add_faces(&mut table, 2, &mut steps);
+    glue_pair(rt, &mut table, (0, 5), &mut steps);
+    let rows = [(1, 1), (0, 2)];
+    let now = table.renumbered(alloc, &rows).expect(rt, "a table");
+    let mut told = Vec::new(alloc);
+    for side in 0..6 {
+        let s = numbered(side);
+        assert!(rt; s.face < now.face_count());
+        let number = match now.other(s, &mut steps) {
+            Some(t) => number_of(Some(t)),
+            None => -1 - number_of(Some(now.next_open(s, &mut steps))),
+        };
+        told.push(number).expect(rt, "a number");
+    }
+    told
+}
+
+#[test]
+fn renumbers_pairs_and_links(rt: HostRuntime) {
+    let told = renumbered_pair::<Brand>(&rt, rt.alloc(), Blank::new(1));
+    assert!(&rt; told.as_slice() == [-6, 4, -1, -3, 1, -4].as_slice());
 }

@@ -1,0 +1,12 @@
+pub mod Widths
+pub mod Least
+pub mod Pushes
+pub mod Turns
+pub mod Proper
+pub mod PairNumbers
+pub mod PositionLists
+pub mod ClassLists
+pub mod ChainLists
+pub mod Choices
+pub mod Sides
+pub mod Starts

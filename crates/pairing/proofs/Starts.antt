@@ -1,0 +1,107 @@
+-- The sides of a mesh at the beginning, and the surface at the end.
+use Rattle.std.proofs.Common.{◌≡◌, ◌≢◌, ℕ, ◌-◌, ◌*◌, ◌^◌, ◌<◌, ◌≤◌, Bool, true, false, ◌||◌, List, length, get_or, replicate, Some, None, inl, inr, sym, refl, ap, ◌∙◌, arith}
+use Rattle.std.proofs.lemmas.Bool.{cases_eq, eq-eqb, ne_eqb, cases_lt}
+use Rattle.std.proofs.lemmas.List.{get_or-replicate, get_or_past, length-replicate}
+use Rattle.drc_base.specs.declared.kinds.Kind.TheVariants.{Degenerate}
+use Rattle.mesh_model.specs.FirstFault.{at_place}
+use Rattle.mesh_model.specs.Parts.{MeshParts, IsMesh}
+use Rattle.mesh_model.proofs.DistinctRows.{same_row-refl, same_row-apart}
+use Rattle.corner_table.specs.Sides.{Side, Place, first, second, third, side, next, side_at, unglued}
+use Rattle.corner_table.specs.Fans.{IsProper}
+use Rattle.corner_table.proofs.Numbers.{face-lt, number-side_at}
+use Rattle.pairing.specs.Pairing.{corner_position, same_position, paired, pairing}
+use Rattle.pairing.specs.Degenerate.{is_degenerate, degenerate_fault}
+use Rattle.pairing.specs.Positions.{position_in, same_in, AreCornerNumbers, AreTriangles}
+use Rattle.pairing.specs.Classes.{AreClasses, AreLinked, AreFirsts}
+use Rattle.pairing.specs.Turns.{AreSides, IsUpTo}
+use Rattle.pairing.proofs.Least.{found, missing, least_tells}
+use Rattle.pairing.proofs.Turns.{paired-congr, pairs_are}
+use Rattle.pairing.proofs.Proper.{pairs_proper}
+
+or_false : (a b : Bool) → (a || b) ≡ false → (a ≡ false) × (b ≡ false)
+or_false true b e = absurd (cc)
+or_false false b e = (refl, e)
+
+-- without a degenerate face each face has three positions
+none_degenerate : (m : MeshParts) → degenerate_fault m ≡ None → (f : ℕ) → f < length m.faces → is_degenerate m f ≡ false
+none_degenerate m e f h = elim (least_tells (is_degenerate m) (length m.faces)) [
+  | found i q I ↦ absurd (let no : Some (record { kind = Degenerate; at = i }) ≡ None = sym (ap (at_place Degenerate) q) ∙ e in cc)
+  | missing q k ↦ k f h
+]
+
+pub triangles_are : (m : MeshParts) (numbers : List ℕ) → degenerate_fault m ≡ None → AreCornerNumbers m numbers → AreTriangles (length m.faces) numbers
+triangles_are m numbers e N = record { each = N.each; apart = λ c h. at c.face c.place h }
+  where
+    differ : (c d : Side) → c.face < length m.faces → d.face < length m.faces → same_position m c d ≡ false → position_in numbers c ≢ position_in numbers d
+    differ c d h k f q =
+        let no : true ≡ false = sym (same_row-refl (corner_position m c) (corner_position m d) (N.apart c d h k q)) ∙ f in cc
+
+    at : (f : ℕ) (p : Place) → f < length m.faces → position_in numbers (side f p) ≢ position_in numbers (next (side f p))
+    at f first h =
+        let t = or_false (same_position m (side f first) (side f second) || same_position m (side f second) (side f third)) (same_position m (side f third) (side f first)) (none_degenerate m e f h) in
+        differ (side f first) (side f second) h h (or_false (same_position m (side f first) (side f second)) (same_position m (side f second) (side f third)) t.0).0
+    at f second h =
+        let t = or_false (same_position m (side f first) (side f second) || same_position m (side f second) (side f third)) (same_position m (side f third) (side f first)) (none_degenerate m e f h) in
+        differ (side f second) (side f third) h h (or_false (same_position m (side f first) (side f second)) (same_position m (side f second) (side f third)) t.0).1
+    at f third h =
+        let t = or_false (same_position m (side f first) (side f second) || same_position m (side f second) (side f third)) (same_position m (side f third) (side f first)) (none_degenerate m e f h) in
+        differ (side f third) (side f first) h h t.1
+
+-- what is known of the sides
+pub sides_are : (m : MeshParts) (numbers classes nexts : List ℕ) (count : ℕ) → IsMesh m → degenerate_fault m ≡ None → AreCornerNumbers m numbers → AreClasses numbers classes count → count ≤ 6 * length m.faces → AreLinked classes nexts 0 → AreSides (length m.faces) numbers classes nexts count
+sides_are m numbers classes nexts count M e N C n L = record {
+  few = M.few_faces;
+  narrow = (let f = M.few_faces in omega arith);
+  triangles = triangles_are m numbers e N;
+  classes_are = C;
+  known = record {
+    each_third = sym C.each;
+    linked = L;
+    below = λ x h. C.below x (let l = C.each in omega arith);
+    few = (let l = C.each in let k = N.each in let f = M.few_faces in omega arith);
+    third_below = third_below;
+  };
+}
+  where
+    third_below : (x : ℕ) → x < length classes → get_or numbers x 0 < 2 ^ 32 - 1
+    third_below x h =
+        let l = C.each in
+        let k = N.each in
+        let b = N.below (side_at x) (face-lt x (length m.faces) (omega arith)) in
+        let q : position_in numbers (side_at x) ≡ get_or numbers x 0 = ap (λ (i : ℕ). get_or numbers i 0) (number-side_at x) in
+        let p = M.points.few_points in
+        omega arith
+
+-- no side is taken, and the places are the first sides
+none_taken : (n z : ℕ) → get_or (replicate n false) z false ≡ false
+none_taken n z = elim (cases_lt z n) [
+  | inl h ↦ get_or-replicate n z false false h
+  | inr h ↦ get_or_past (replicate n false) z false (let l = length-replicate n false in omega arith)
+]
+
+pub up_to_begins : (thirds classes firsts : List ℕ) (count n : ℕ) → n ≡ length classes → AreFirsts classes firsts count 0 → IsUpTo thirds classes count unglued (replicate n false) firsts firsts
+up_to_begins thirds classes firsts count n e F = record {
+  long = length-replicate n false ∙ e;
+  taken_are = λ z h. none_taken n z;
+  placed = record {
+    each_first = F.each;
+    each_other = F.each;
+    first_same = F.same;
+    other_same = F.same;
+    passed = λ z h k. absurd (let l = F.least z (omega arith) h in omega arith);
+    alike = λ z h k f. absurd (let l = F.least z (omega arith) h in omega arith);
+  };
+}
+
+-- the pairs by numbers are the mesh's
+pub pairing_is : (m : MeshParts) (numbers : List ℕ) → AreCornerNumbers m numbers → paired (same_in numbers) (3 * length m.faces) ≡ pairing m
+pairing_is m numbers N = paired-congr agree (3 * length m.faces) (omega arith)
+  where
+    agree : (c d : Side) → c.face < length m.faces → d.face < length m.faces → same_in numbers c d ≡ same_position m c d
+    agree c d h k = elim (cases_eq (position_in numbers c) (position_in numbers d)) [
+      | inl e ↦ eq-eqb (position_in numbers c) (position_in numbers d) e ∙ sym (same_row-refl (corner_position m c) (corner_position m d) (N.apart c d h k e))
+      | inr n ↦ ne_eqb (position_in numbers c) (position_in numbers d) n ∙ sym (same_row-apart (corner_position m c) (corner_position m d) (λ e. n (N.alike c d h k e)))
+    ]
+
+pub surface_proper : (faces : ℕ) (numbers : List ℕ) → AreTriangles faces numbers → IsProper faces (paired (same_in numbers) (3 * faces))
+surface_proper faces numbers T = pairs_proper T (pairs_are T (3 * faces) (omega arith))

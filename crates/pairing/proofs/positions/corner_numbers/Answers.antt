@@ -1,0 +1,23 @@
+-- The corners of one face more.
+use Rattle.std.proofs.Common.{[], length, get_or, arith}
+use Rattle.mesh_model.specs.Parts.{IsFaceOf}
+use Rattle.pairing.proofs.PositionLists.{face_more, point_number, number_read}
+use Rattle.pairing.proofs.positions.corner_numbers.Goals as goal
+
+pub loop-f-preserved : goal.loop-f-preserved
+loop-f-preserved c =
+    let t = c.loop-f-test.true in
+    let n = c.face_count-f-end.ensures.value in
+    let l = c.loop-f.invariant.long in
+    let F : IsFaceOf (length c.args.m.now.points) (get_or c.args.m.now.faces c.loop-f.f []) = c.face_count-f-end.ensures.sound.faces c.loop-f.f [] (omega arith) in
+    let P = c.in_ok-of_point.ensures.each in
+    record {
+      long = (let a = c.in_ok-push.ensures.len in let b = c.in_ok-push-2.ensures.len in let d = c.in_ok-push-3.ensures.len in omega arith);
+      was = rw (c.in_ok-push-3.ensures.items, c.in_ok-push-2.ensures.items, c.in_ok-push.ensures.items) (face_more (point_number c.args.m.now.faces c.in_ok-of_point.of_point.items) _ _ _ _ _ (record {
+        long = l;
+        was = c.loop-f.invariant.was;
+        first_is = number_read _ _ _ _ F P 0 (omega arith) c.face-face.ensures.face c.index.ensures;
+        second_is = number_read _ _ _ _ F P 1 (omega arith) c.face-face.ensures.face c.index-in-loop-f.ensures;
+        third_is = number_read _ _ _ _ F P 2 (omega arith) c.face-face.ensures.face c.index-in-loop-f-2.ensures;
+      }));
+    }

@@ -1,0 +1,11 @@
+-- The pairs by numbers are the mesh's, and its surface is proper.
+use Rattle.std.proofs.Common.{◌∙◌}
+use Rattle.pairing.proofs.Starts.{pairing_is, surface_proper}
+use Rattle.pairing.proofs.surfaces.surface_of.Goals as goal
+
+pub returns-clause-pairs : goal.returns-clause-pairs
+returns-clause-pairs c = c.in_ok-table.ensures.pairs ∙ rw c.face_count-faces.ensures.value (pairing_is _ _ c.in_ok-sides.ensures.numbers)
+
+pub returns-clause-proper : goal.returns-clause-proper
+returns-clause-proper c =
+    rw (c.in_ok-table.ensures.faces, c.in_ok-table.ensures.pairs, c.face_count-faces.ensures.value) (surface_proper _ _ c.in_ok-sides.ensures.sides.triangles)

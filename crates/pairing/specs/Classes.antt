@@ -1,0 +1,43 @@
+-- Sides in classes: those that run the same way between the same positions, each class linked in
+-- the order of its sides (this project's choice).
+use Rattle.std.specs.Prelude.{◌≡◌, ℕ, ◌+◌, ◌-◌, ◌*◌, ◌%◌, ◌<◌, ◌≤◌, cond, eqb, min, max, List, length, get_or}
+use Rattle.corner_table.specs.Sides.{next, prev, side_at}
+use Rattle.pairing.specs.Positions.{position_in}
+
+-- the lower and the higher position of each side
+pub record AreBounds (numbers lows highs : List ℕ) : Type 0 where
+  pub each_low : length lows ≡ length numbers
+  pub each_high : length highs ≡ length numbers
+  pub low : (x : ℕ) → x < length numbers → get_or lows x 0 ≡ min (position_in numbers (next (side_at x))) (position_in numbers (prev (side_at x)))
+  pub high : (x : ℕ) → x < length numbers → get_or highs x 0 ≡ max (position_in numbers (next (side_at x))) (position_in numbers (prev (side_at x)))
+
+-- the class of a side of edge e that starts at a position, where the edge's lower one is known
+abbrev pub class_at : ℕ → ℕ → ℕ → ℕ
+class_at edge start low = cond (eqb start low) (2 * edge) (2 * edge + 1)
+
+-- the class of the sides that run the other way: classes 2e and 2e + 1 are those of one edge
+abbrev pub reversed : ℕ → ℕ
+reversed c = c + 1 - 2 * (c % 2)
+
+-- sides run between the same positions, one way and the other, exactly where their classes are each other's reverse
+pub record AreClasses (numbers classes : List ℕ) (count : ℕ) : Type 0 where
+  pub each : length classes ≡ length numbers
+  pub below : (x : ℕ) → x < length numbers → get_or classes x 0 < count
+  pub reverse_below : (x : ℕ) → x < length numbers → reversed (get_or classes x 0) < count
+  pub alike : (x y : ℕ) → x < length numbers → y < length numbers → position_in numbers (next (side_at x)) ≡ position_in numbers (prev (side_at y)) → position_in numbers (prev (side_at x)) ≡ position_in numbers (next (side_at y)) → get_or classes x 0 ≡ reversed (get_or classes y 0)
+  pub apart : (x y : ℕ) → x < length numbers → y < length numbers → get_or classes x 0 ≡ reversed (get_or classes y 0) →
+      (position_in numbers (next (side_at x)) ≡ position_in numbers (prev (side_at y))) × (position_in numbers (prev (side_at x)) ≡ position_in numbers (next (side_at y)))
+
+-- each side is linked to the next one of its class; after the last one comes a number that is no side's
+pub record AreLinked (classes nexts : List ℕ) (from : ℕ) : Type 0 where
+  pub each : length nexts ≡ length classes
+  pub later : (x : ℕ) → from ≤ x → x < length classes → x < get_or nexts x 0
+  pub same : (x : ℕ) → from ≤ x → x < length classes → get_or nexts x 0 < length classes → get_or classes (get_or nexts x 0) 0 ≡ get_or classes x 0
+  pub none_between : (x z : ℕ) → from ≤ x → x < z → z < length classes → get_or classes z 0 ≡ get_or classes x 0 → get_or nexts x 0 ≤ z
+
+-- for each class its least side that isn't below `from`
+pub record AreFirsts (classes firsts : List ℕ) (count from : ℕ) : Type 0 where
+  pub each : length firsts ≡ count
+  pub later : (c : ℕ) → c < count → from ≤ get_or firsts c 0
+  pub same : (c : ℕ) → c < count → get_or firsts c 0 < length classes → get_or classes (get_or firsts c 0) 0 ≡ c
+  pub least : (z : ℕ) → from ≤ z → z < length classes → get_or firsts (get_or classes z 0) 0 ≤ z

@@ -1,0 +1,98 @@
+//! The classes of sides: those that run the same way between the same positions.
+//!
+//! Edges are numbered by their lower and their higher position. Edge e has the classes 2e, for sides
+//! that run upwards, and 2e + 1.
+
+ghost use Rattle.std.specs.Prelude.{◌≡◌, ℕ, ◌+◌, ◌-◌, ◌*◌, ◌/◌, ◌%◌, ◌^◌, ◌<◌, ◌≤◌, IfOk, length, slice_index, vec_len, min, max, if◌then◌else◌, nat_lt};
+ghost use Rattle.drc_base.specs.declared.limits.TheConstants.{MAX_FACES as most_faces};
+ghost use Rattle.corner_table.specs.Sides.{next, prev, number, side_at};
+ghost use Rattle.pairing.specs.Positions.{position_in, AreTriangles};
+ghost use Rattle.pairing.specs.Classes.{class_at, reversed, AreBounds, AreClasses};
+
+use crate::numbering::number_pairs;
+use drc_base::Memory;
+use std::alloc::Global;
+
+/// The position at which side `x` starts: that of the next corner.
+fn start_of(numbers: &[u32], faces: u32, x: u32) -> u32
+    requires few { faces ≤ most_faces }
+    requires triangles { AreTriangles faces numbers.now }
+    requires side { x < 3 * faces }
+    ensures { result ≡ position_in numbers.now (next (side_at x)) }
+{
+    let corner = if x % 3 == 2 { x - 2 } else { x + 1 };
+    numbers[corner as usize]
+}
+
+/// The position at which side `x` ends: that of the corner before.
+fn end_of(numbers: &[u32], faces: u32, x: u32) -> u32
+    requires few { faces ≤ most_faces }
+    requires triangles { AreTriangles faces numbers.now }
+    requires side { x < 3 * faces }
+    ensures { result ≡ position_in numbers.now (prev (side_at x)) }
+{
+    let corner = if x % 3 == 0 { x + 2 } else { x - 1 };
+    numbers[corner as usize]
+}
+
+/// The lower and the higher position of each side.
+fn bounds_of(alloc: Global, numbers: &[u32], faces: u32) -> Result<(Vec<u32>, Vec<u32>), Memory>
+    requires few { faces ≤ most_faces }
+    requires triangles { AreTriangles faces numbers.now }
+    ensures { IfOk result (λ bounds. AreBounds numbers.now bounds.0.items bounds.1.items) }
+{
+    let mut lows = Vec::with_capacity(alloc, numbers.len())?;
+    let mut highs = Vec::with_capacity(alloc, numbers.len())?;
+    for x in 0..3 * faces {
+        let start = start_of(numbers, faces, x);
+        let end = end_of(numbers, faces, x);
+        lows.push(start.min(end))?;
+        highs.push(start.max(end))?;
+    }
+    Ok((lows, highs))
+}
+
+/// The classes of sides, and a number above them all.
+#[derive(Drop)]
+pub(crate) struct Classes {
+    /// The class of each side.
+    pub of: Vec<u32>,
+    /// The classes are below this even number.
+    pub count: u32,
+}
+
+/// The class of a side of an edge that starts at `start`.
+fn class_at(edge: u32, start: u32, low: u32) -> u32
+    requires { edge < 3 * most_faces }
+    ensures { result ≡ class_at edge start low }
+{
+    if start == low { 2 * edge } else { 2 * edge + 1 }
+}
+
+/// Puts each side in its class.
+pub(crate) fn classes_of(alloc: Global, numbers: &[u32], faces: u32) -> Result<Classes, Memory>
+    requires few { faces ≤ most_faces }
+    requires triangles { AreTriangles faces numbers.now }
+    ensures classes { IfOk result (λ classes. AreClasses numbers.now classes.of.items classes.count) }
+    ensures count { IfOk result (λ classes. classes.count ≤ 6 * faces) }
+{
+    let (lows, highs) = bounds_of(alloc, numbers, faces)?;
+    let edges = number_pairs(alloc, lows.as_slice(), highs.as_slice())?;
+    let mut of = Vec::with_capacity(alloc, numbers.len())?;
+    for x in 0..3 * faces {
+        let start = start_of(numbers, faces, x);
+        of.push(class_at(edges.of[x as usize], start, lows[x as usize]))?;
+    }
+    Ok(Classes {
+        of,
+        count: 2 * edges.count,
+    })
+}
+
+/// The class of the sides that run the other way.
+pub(crate) fn reversed(class: u32) -> u32
+    requires { class < 6 * most_faces }
+    ensures { result ≡ reversed class }
+{
+    if class % 2 == 0 { class + 1 } else { class - 1 }
+}

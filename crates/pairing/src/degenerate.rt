@@ -1,0 +1,50 @@
+//! The test for faces with two equal positions.
+
+ghost use Rattle.std.specs.Prelude.{◌≡◌, ◌<◌, length, take};
+ghost use Rattle.mesh_model.specs.FirstFault.{Tests};
+ghost use Rattle.corner_table.specs.Sides.{side, first, second, third};
+ghost use Rattle.corner_table.specs.Sides.{place_of};
+ghost use Rattle.pairing.specs.Pairing.{corner_position};
+ghost use Rattle.pairing.specs.Degenerate.{is_degenerate, degenerate_fault};
+
+use crate::positions::first_width;
+use drc_base::{Fault, Kind};
+use mesh_model::CornerMesh;
+
+/// The position of corner `k` of face `f`.
+fn position_at(m: &CornerMesh, f: u32, k: u8) -> &[i32]
+    requires face { f < length m.now.faces }
+    requires place { k < 3 }
+    ensures { result.now ≡ corner_position m.now (side f (place_of k)) }
+{
+    let width = first_width(m.heads());
+    &m.corner(f, k)[..width as usize]
+}
+
+/// Whether two corners of face `f` have one position.
+fn is_degenerate(m: &CornerMesh, f: u32) -> bool
+    requires { f < length m.now.faces }
+    ensures { result ≡ is_degenerate m.now f }
+{
+    let (p, q, r) = (
+        position_at(m, f, 0),
+        position_at(m, f, 1),
+        position_at(m, f, 2),
+    );
+    p == q || q == r || r == p
+}
+
+/// Degenerate at the first face with two equal positions.
+pub(crate) fn test_faces(m: &CornerMesh) -> Result<(), Fault>
+    ensures { Tests (degenerate_fault m.now) result }
+{
+    for f in 0..m.face_count() {
+        if is_degenerate(m, f) {
+            return Err(Fault {
+                kind: Kind::Degenerate,
+                at: u64::from(f),
+            });
+        }
+    }
+    Ok(())
+}

@@ -1,0 +1,77 @@
+//! The positions of corners as numbers.
+//!
+//! Points are numbered by their first integer, then by that number and the next integer, and so on
+//! over the integers of the first attribute. A corner has the number of its point.
+
+ghost use Rattle.std.specs.Prelude.{◌≡◌, ℕ, pos, ◌+◌, ◌*◌, ◌<◌, ◌≤◌, [], IfOk, OnOk, length, slice_index, slice_index_or, vec_len};
+ghost use Rattle.std.specs.Int.{w32, cast_signed, cast_unsigned};
+ghost use Rattle.mesh_model.specs.Head.{width_of};
+ghost use Rattle.corner_table.specs.Sides.{number};
+ghost use Rattle.corner_table.specs.Table.{side_of};
+ghost use Rattle.pairing.specs.Pairing.{first_width};
+ghost use Rattle.pairing.specs.Positions.{IsColumn, ArePointNumbers, AreCornerNumbers};
+
+use crate::numbering::number_pairs;
+use drc_base::Memory;
+use mesh_model::{CornerMesh, Head};
+use std::alloc::Global;
+
+/// How many integers the first attribute has.
+#[tactic(auto, using(crate::proofs::Widths::first_width_le))]
+pub(crate) fn first_width(heads: &[Head]) -> u32
+    ensures width { result ≡ first_width heads.now }
+    ensures narrow { result ≤ width_of heads.now }
+{
+    match heads.first() {
+        Some(head) => u32::from(head.comps),
+        None => 0,
+    }
+}
+
+/// The bits of an integer.
+fn bits_of(value: i32) -> u32
+    ensures bits { result ≡ cast_unsigned w32 value }
+    ensures value { cast_signed w32 result ≡ value }
+{
+    value.cast_unsigned()
+}
+
+/// Integer `j` of each point, by its bits.
+fn column(alloc: Global, m: &CornerMesh, j: u32) -> Result<Vec<u32>, Memory>
+    requires { j < width_of m.now.heads }
+    ensures { IfOk result (λ v. IsColumn m.now.points j v.items (length m.now.points)) }
+{
+    let points = m.point_count();
+    let mut bits = Vec::with_capacity(alloc, points as usize)?;
+    for p in 0..points {
+        bits.push(bits_of(m.point(p)[j as usize]))?;
+    }
+    Ok(bits)
+}
+
+/// The numbers of points by their positions.
+fn point_numbers(alloc: Global, m: &CornerMesh) -> Result<Vec<u32>, Memory>
+    ensures { IfOk result (λ numbers. ArePointNumbers m.now.points (first_width m.now.heads) numbers.items) }
+{
+    let mut numbers: Vec<u32> = vec![in alloc; 0; m.point_count() as usize]?;
+    for j in 0..first_width(m.heads()) {
+        let bits = column(alloc, m, j)?;
+        numbers = number_pairs(alloc, numbers.as_slice(), bits.as_slice())?.of;
+    }
+    Ok(numbers)
+}
+
+/// The numbers of corners by their positions.
+pub(crate) fn corner_numbers(alloc: Global, m: &CornerMesh) -> Result<Vec<u32>, Memory>
+    ensures { IfOk result (λ numbers. AreCornerNumbers m.now numbers.items) }
+{
+    let of_point = point_numbers(alloc, m)?;
+    let mut numbers = Vec::with_capacity(alloc, 3 * m.face_count() as usize)?;
+    for f in 0..m.face_count() {
+        let face = m.face(f);
+        numbers.push(of_point[face[0] as usize])?;
+        numbers.push(of_point[face[1] as usize])?;
+        numbers.push(of_point[face[2] as usize])?;
+    }
+    Ok(numbers)
+}

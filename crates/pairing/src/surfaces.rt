@@ -1,0 +1,185 @@
+//! The surface of a mesh.
+//!
+//! Sides take their turns in order. Each looks among the sides of the class that runs the other way
+//! for the least one that is free and has another third position, and is glued to it.
+
+ghost use Rattle.std.specs.Prelude.{◌≡◌, ◌+◌, ◌*◌, ◌<◌, ◌≤◌, ◌↔◌, Ok, Err, Some, None, IfOk, length, replicate, false};
+ghost use Rattle.drc_base.specs.declared.faults.Fault.{Fault as fault_value};
+ghost use Rattle.drc_base.specs.declared.faults.Refusal.TheVariants as refusal;
+ghost use Rattle.drc_base.specs.declared.limits.TheConstants.{MAX_FACES as most_faces};
+ghost use Rattle.corner_table.specs.Sides.{side_at, unglued};
+ghost use Rattle.corner_table.specs.Fans.{IsProper};
+ghost use Rattle.corner_table.specs.Table.{gluing_of, room_of, side_of};
+ghost use Rattle.pairing.specs.Pairing.{paired, pairing};
+ghost use Rattle.pairing.specs.Degenerate.{degenerate_fault};
+ghost use Rattle.pairing.specs.Positions.{AreCornerNumbers, same_in};
+ghost use Rattle.pairing.specs.Turns.{AreSides, IsUpTo};
+
+use crate::chains::chains_of;
+use crate::choosing::{Places, Sides, choose};
+use crate::classes::{classes_of, reversed};
+use crate::degenerate::test_faces;
+use crate::positions::corner_numbers;
+use corner_table::{SideTable, Steps};
+use drc_base::{Memory, Refusal, Side};
+use mesh_model::CornerMesh;
+use std::alloc::Global;
+use std::marker::Brand;
+use std::sync::ledger::{Blank, Ledger};
+
+/// The side with a number.
+fn side_with(number: u32) -> Side
+    ensures { side_of result ≡ side_at number }
+{
+    Side {
+        face: number / 3,
+        k: (number % 3) as u8,
+    }
+}
+
+/// The turn of side `y`: it is glued to the least earlier side that it may take, if there is one.
+fn take_turn<L: Ledger>(
+    table: &mut SideTable,
+    sides: &Sides,
+    places: &mut Places,
+    count: u32,
+    y: u32,
+    steps: &mut Steps<L>,
+)
+    requires sides { AreSides table.old.faces sides.now.thirds.items sides.now.classes.items sides.now.nexts.items count }
+    requires turn { y < 3 * table.old.faces }
+    requires pairs { gluing_of table.old ≡ paired (same_in sides.now.thirds.items) y }
+    requires up_to { IsUpTo sides.now.thirds.items sides.now.classes.items count (gluing_of table.old) places.old.taken.items places.old.firsts.items places.old.others.items }
+    ensures faces { table.new.faces ≡ table.old.faces }
+    ensures pairs { gluing_of table.new ≡ paired (same_in sides.now.thirds.items) (y + 1) }
+    ensures up_to { IsUpTo sides.now.thirds.items sides.now.classes.items count (gluing_of table.new) places.new.taken.items places.new.firsts.items places.new.others.items }
+{
+    let class = reversed(sides.classes[y as usize]);
+    let third = sides.thirds[y as usize];
+    match choose(sides, places, count, class, third, y) {
+        None => {}
+        Some(x) => {
+            table.glue(side_with(x), side_with(y), steps);
+            places.taken[x as usize] = true;
+            places.taken[y as usize] = true;
+        }
+    }
+}
+
+/// A table of this many faces, no side of which is glued.
+fn unglued_table<L: Ledger>(
+    alloc: Global,
+    faces: u32,
+    steps: &mut Steps<L>,
+) -> Result<SideTable, Memory>
+    requires { faces ≤ most_faces }
+    ensures faces { IfOk result (λ t. t.faces ≡ faces) }
+    ensures unglued { IfOk result (λ t. gluing_of t ≡ unglued) }
+{
+    let mut table = SideTable::with_room(alloc, faces)?;
+    for _ in 0..faces {
+        let _ = table.add_face(steps);
+    }
+    Ok(table)
+}
+
+/// The table of these faces once all sides have had their turns.
+fn paired_table<L: Ledger>(
+    alloc: Global,
+    faces: u32,
+    sides: &Sides,
+    places: Places,
+    count: u32,
+    blank: Blank,
+) -> Result<SideTable, Memory>
+    requires sides { AreSides faces sides.now.thirds.items sides.now.classes.items sides.now.nexts.items count }
+    requires up_to { IsUpTo sides.now.thirds.items sides.now.classes.items count unglued places.taken.items places.firsts.items places.others.items }
+    requires name { blank.name ≡ L.name }
+    requires parts { blank.parts ≡ L.parts }
+    requires some { 0 < L.parts }
+    ensures faces { IfOk result (λ t. t.faces ≡ faces) }
+    ensures pairs { IfOk result (λ t. gluing_of t ≡ paired (same_in sides.now.thirds.items) (3 * faces)) }
+{
+    let mut steps = Steps::<L>::new(blank);
+    let mut table = unglued_table(alloc, faces, &mut steps)?;
+    let mut kept = places;
+    for y in 0..3 * faces {
+        take_turn(&mut table, sides, &mut kept, count, y, &mut steps);
+    }
+    Ok(table)
+}
+
+/// What is known of the sides of a mesh, and the places at the beginning.
+#[derive(Drop)]
+struct Start {
+    sides: Sides,
+    places: Places,
+    count: u32,
+}
+
+/// No side is taken.
+fn none_taken(alloc: Global, count: usize) -> Result<Vec<bool>, Memory>
+    ensures { IfOk result (λ v. v.items ≡ replicate count false) }
+{
+    Ok(vec![in alloc; false; count]?)
+}
+
+/// The sides of a mesh without degenerate faces.
+fn start_of(alloc: Global, m: &CornerMesh) -> Result<Start, Memory>
+    requires { degenerate_fault m.now ≡ None }
+    ensures numbers { IfOk result (λ s. AreCornerNumbers m.now s.sides.thirds.items) }
+    ensures sides { IfOk result (λ s. AreSides (length m.now.faces) s.sides.thirds.items s.sides.classes.items s.sides.nexts.items s.count) }
+    ensures up_to { IfOk result (λ s. IsUpTo s.sides.thirds.items s.sides.classes.items s.count unglued s.places.taken.items s.places.firsts.items s.places.others.items) }
+{
+    let thirds = corner_numbers(alloc, m)?;
+    let classes = classes_of(alloc, thirds.as_slice(), m.face_count())?;
+    let chains = chains_of(alloc, classes.of.as_slice(), classes.count)?;
+    let taken = none_taken(alloc, thirds.len())?;
+    let others = Vec::from_slice(alloc, chains.firsts.as_slice())?;
+    Ok(Start {
+        sides: Sides {
+            thirds,
+            classes: classes.of,
+            nexts: chains.nexts,
+        },
+        places: Places {
+            taken,
+            firsts: chains.firsts,
+            others,
+        },
+        count: classes.count,
+    })
+}
+
+/// The surface of a mesh without degenerate faces.
+fn surface_of(alloc: Global, m: &CornerMesh) -> Result<SideTable, Memory>
+    requires { degenerate_fault m.now ≡ None }
+    ensures faces { IfOk result (λ t. t.faces ≡ length m.now.faces) }
+    ensures pairs { IfOk result (λ t. gluing_of t ≡ pairing m.now) }
+    ensures proper { IfOk result (λ t. IsProper t.faces (gluing_of t)) }
+{
+    let Start {
+        sides,
+        places,
+        count,
+    } = start_of(alloc, m)?;
+    let faces = m.face_count();
+    let table = paired_table::<Brand>(alloc, faces, &sides, places, count, Blank::new(1))?;
+    Ok(table)
+}
+
+/// The surface of a mesh: its faces, and its sides glued in pairs. Sides 3f + k take their turns in
+/// order; each is glued to the least earlier free side that runs between the same two positions the
+/// other way and whose third position is another. A position is what the first attribute has at a
+/// point. The surface is proper. Refusals: Degenerate at the first face with two equal positions,
+/// and want of memory, which is told of meshes without such a face alone.
+pub fn pair(alloc: Global, m: &CornerMesh) -> Result<SideTable, Refusal>
+    ensures faces { IfOk result (λ t. t.faces ≡ length m.now.faces) }
+    ensures pairs { IfOk result (λ t. gluing_of t ≡ pairing m.now) }
+    ensures proper { IfOk result (λ t. IsProper t.faces (gluing_of t)) }
+    ensures degenerate { (f : fault_value) → (result ≡ Err (refusal.Fault f)) ↔ (degenerate_fault m.now ≡ Some f) }
+    ensures memory { result ≡ Err refusal.Memory → degenerate_fault m.now ≡ None }
+{
+    test_faces(m)?;
+    Ok(surface_of(alloc, m)?)
+}
