@@ -1,0 +1,5 @@
+use Rattle.eb_trace.proofs.StartBits.{walk_orders, walk_is_readable, walk_is_kept}
+use Rattle.eb_trace.proofs.laws.walk_keeps_surface.Goals as goal
+
+pub returns : goal.returns
+returns c = record { order = walk_orders; told = walk_is_readable; kept = walk_is_kept }

@@ -1,0 +1,5 @@
+pub mod Readable
+pub mod Front
+pub mod Rebuilt
+pub mod Trace
+pub mod Kept

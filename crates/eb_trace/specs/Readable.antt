@@ -1,0 +1,77 @@
+-- What a table and a word of symbols have to be for reverse decoding to read the table from the word: facts of one face each, where face i
+-- is that of symbol i in the order of decoding, turned so that the walk's corner is corner 0 (Rossignac 1999; Isenburg and Snoeyink 2001).
+use Rattle.std.specs.Prelude.{◌≡◌, ◌≢◌, ℕ, suc, ◌<◌, ◌≤◌, Some}
+use Rattle.corner_table.specs.declared.symbols.Symbol.{Symbol}
+use Rattle.corner_table.specs.declared.symbols.Symbol.TheVariants.{C, S, L, R, E}
+use Rattle.corner_table.specs.Sides.{Side, Place, first, second, third, side, Gluing, IsGluing}
+use Rattle.corner_table.specs.Fans.{swing_left}
+
+-- swings to the left lead from c to d, over corners of faces below m alone
+pub data WalksBelow (g : Gluing) (m : ℕ) : Side → Side → Type 0 where
+  there : {c : Side} → c.face < m → WalksBelow g m c c
+  onwards : {c d e : Side} → c.face < m → swing_left g c ≡ Some d → WalksBelow g m d e → WalksBelow g m c e
+
+-- the fan of c is a ring, and all its other corners are of faces below m
+pub record IsRinged (g : Gluing) (m : ℕ) (c : Side) : Type 0 where
+  pub from : Side
+  pub to : Side
+  pub leaves : swing_left g c ≡ Some from
+  pub round : WalksBelow g m from to
+  pub returns : swing_left g to ≡ Some c
+
+-- what lies across a side is missing, or of a later face: in the order of the walk, it was visited before
+abbrev pub IsPast : Gluing → Side → Type 0
+IsPast g x = (y : Side) → g x ≡ Some y → x.face < y.face
+
+-- the walk went on across a side: it is glued to side 0 of the face before
+pub record GoesOn (g : Gluing) (x : Side) : Type 0 where
+  pub before : ℕ
+  pub is_before : x.face ≡ suc before
+  pub onto : g x ≡ Some (side before first)
+
+-- the corner kept last is taken first: the walks of the faces between the two entered these from faces below m
+abbrev pub IsKeptLast : Gluing → ℕ → ℕ → Type 0
+IsKeptLast g m kept = (j : ℕ) → kept < j → suc j < m → (z : Side) × (g (side j first) ≡ Some z) × (z.face < m)
+
+-- the tip is a new vertex: its ring was unvisited, and the face across side 2 isn't entered there
+pub record IsNewTip (g : Gluing) (i : ℕ) : Type 0 where
+  pub right : GoesOn g (side i second)
+  pub ring : IsRinged g i (side i first)
+  pub left : (y : Side) → g (side i third) ≡ Some y → y.place ≢ first
+
+-- the walk splits: both other faces are unvisited, and the tip was met before
+pub record IsSplit (g : Gluing) (i : ℕ) : Type 0 where
+  pub right : GoesOn g (side i second)
+  pub met : IsRinged g i (side i first) → ⊥
+  pub across : Side
+  pub left : g (side i third) ≡ Some across
+  pub below : across.face < i
+  pub kept_last : across.place ≡ first → IsKeptLast g i across.face
+
+-- what each symbol says of its face
+abbrev pub Says : Gluing → ℕ → Symbol → Type 0
+Says g i C = IsNewTip g i
+Says g i S = IsSplit g i
+Says g i L = GoesOn g (side i second) × IsPast g (side i third)
+Says g i R = IsPast g (side i second) × GoesOn g (side i third)
+Says g i E = IsPast g (side i second) × IsPast g (side i third)
+
+-- the faces from number n on are interior start faces: each is entered from its side 0, and its three fans are rings of faces below n
+pub record IsInterior (g : Gluing) (n f : ℕ) : Type 0 where
+  pub run : ℕ
+  pub is_run : run < n
+  pub entered : g (side f first) ≡ Some (side run first)
+  pub rings : (k : Place) → IsRinged g n (side f k)
+
+-- a table that reverse decoding reads from a word of n symbols
+pub record IsReadable (faces : ℕ) (g : Gluing) (n : ℕ) (word : ℕ → Symbol) : Type 0 where
+  pub gluing : IsGluing faces g
+  pub fewer : n ≤ faces
+  -- the side that each walk entered by
+  pub gates : (i : ℕ) → i < n → IsPast g (side i first)
+  pub symbols : (i : ℕ) → i < n → Says g i (word i)
+  -- interior start faces, and that a run begins across side 0 of one of them
+  pub interior : (f : ℕ) → n ≤ f → f < faces → IsInterior g n f
+  pub starts : (j : ℕ) (y : Side) → j < n → g (side j first) ≡ Some y → n ≤ y.face → y.place ≡ first
+  -- their runs: a later start face has the run of a lesser face
+  pub order : (e f i j : ℕ) → n ≤ e → e < f → g (side e first) ≡ Some (side i first) → g (side f first) ≡ Some (side j first) → j < i

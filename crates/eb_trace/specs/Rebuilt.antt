@@ -1,0 +1,42 @@
+-- Reverse decoding reads every readable table: the steps, and the whole.
+use Rattle.std.specs.Prelude.{◌≡◌, ℕ, suc, ◌<◌, ◌≤◌, false, List, length, get_or, None, [], Ok}
+use Rattle.corner_table.specs.declared.symbols.Symbol.{Symbol}
+use Rattle.corner_table.specs.declared.symbols.Symbol.TheVariants.{E}
+use Rattle.corner_table.specs.Sides.{Gluing}
+use Rattle.corner_table.specs.Fans.{HasThreeFans}
+use Rattle.eb_rebuild.specs.Machine.{State, Plan, start, step, take_symbols, close_all, rebuild, ◌>>=◌}
+use Rattle.eb_trace.specs.Readable.{IsReadable}
+use Rattle.eb_trace.specs.Front.{front, events_left, start_bits, made_by}
+
+-- the symbols of a word by their numbers
+abbrev pub symbol_at : List Symbol → ℕ → Symbol
+symbol_at word i = get_or word i E
+
+-- each symbol takes the state before it to the state after it
+abbrev pub EachStepReads : Type 0
+EachStepReads = (faces : ℕ) (g : Gluing) (n : ℕ) (word : ℕ → Symbol) → IsReadable faces g n word → (m : ℕ) → m < n → step n (word m) (front n g word m) ≡ Ok (front n g word (suc m))
+
+-- the state in which the whole table is built
+abbrev pub finished : ℕ → Gluing → List Symbol → State
+finished faces g word = record {
+  built = faces;
+  glued = g;
+  stack = [];
+  reserved = λ k. None;
+  events = [];
+  made = made_by (symbol_at word) (length word);
+  closes = length (start_bits (length word) g);
+}
+
+-- the machine that is fed the word, all events and the start bits meets no fault, and has built the table
+abbrev pub ReadsWord : Type 0
+ReadsWord = (p : Plan) (g : Gluing) (word : List Symbol) → IsReadable p.faces g (length word) (symbol_at word) → p.symbols ≡ length word →
+    let n = length word in
+    let bits : ℕ → _ = λ k. get_or (start_bits n g) k false in
+    (take_symbols n word (start (events_left n g (symbol_at word) n)) >>= λ s. close_all p bits (length s.stack) s) ≡ Ok (finished p.faces g word)
+
+-- where its faces have three fans each and no fewer vertices are declared than are made, it passes the tests at the end
+abbrev pub RebuildsWord : Type 0
+RebuildsWord = (p : Plan) (g : Gluing) (word : List Symbol) → IsReadable p.faces g (length word) (symbol_at word) → p.symbols ≡ length word →
+    HasThreeFans p.faces g → made_by (symbol_at word) (length word) ≤ p.created →
+    rebuild p word (events_left (length word) g (symbol_at word) (length word)) (λ k. get_or (start_bits (length word) g) k false) ≡ Ok (finished p.faces g word)
