@@ -10,7 +10,7 @@ use Rattle.corner_table.proofs.Numbers.{no_room}
 use Rattle.eb_trace.specs.Trace.{Entry, trace, order_of}
 use Rattle.eb_trace.proofs.Visited.{is_inside, entry_at, no_entry, at_top, at_rest, visited_tells}
 use Rattle.eb_trace.proofs.Moments.{true_not_false}
-use Rattle.eb_trace.proofs.Walking.{Between, Insides, InsideRing}
+use Rattle.eb_trace.proofs.Walking.{Insides, InsideRing}
 use Rattle.eb_trace.proofs.Walked.{entries_of, insides_of, trace_ok}
 
 pub entry_of : (entries : List Entry) (i k : ℕ) → suc (i + k) ≡ length entries → get_or entries i no_entry ≡ entry_at entries k

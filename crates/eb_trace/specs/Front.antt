@@ -5,7 +5,13 @@ use Rattle.corner_table.specs.declared.symbols.Symbol.TheVariants.{C, S, L, R, E
 use Rattle.corner_table.specs.declared.symbols.Event.{Event}
 use Rattle.corner_table.specs.Sides.{Side, Place, first, second, third, side, Gluing}
 use Rattle.eb_rebuild.specs.Machine.{State, event_place}
-use Rattle.eb_rebuild.specs.Shown.{is_split}
+
+abbrev pub is_split : Symbol → Bool
+is_split S = true
+is_split C = false
+is_split L = false
+is_split R = false
+is_split E = false
 
 -- a side, if its face is below m
 abbrev pub if_below : ℕ → Option Side → Option Side
