@@ -17,3 +17,6 @@ pub mod Order
 pub mod Decoded
 pub mod Noted
 pub mod StartBits
+pub mod Tables
+pub mod Marking
+pub mod Going

@@ -17,7 +17,7 @@ unfolding walked
 walked_more faces g f = refl
 
 -- what was walked stays
-abbrev GoesOnFrom : Walk → Walk → Type 0
+abbrev pub GoesOnFrom : Walk → Walk → Type 0
 GoesOnFrom v w = Extends v.entries w.entries × ((x : ℕ) → is_inside w.interior x ≡ true → is_inside v.interior x ≡ true)
 
 begun_on : (faces : ℕ) (g : Gluing) (f : ℕ) (w : Walk) (o : Option Side) → GoesOnFrom (begun faces g f w o) w
@@ -30,7 +30,7 @@ begun_on faces g f w None = elim (option_tells (g (side f second))) [
   )
 ]
 
-from_on : (faces : ℕ) (g : Gluing) (f : ℕ) (w : Walk) → GoesOnFrom (walked_from faces g f w) w
+pub from_on : (faces : ℕ) (g : Gluing) (f : ℕ) (w : Walk) → GoesOnFrom (walked_from faces g f w) w
 from_on faces g f w = elim (cases_Bool (is_visited w f)) [
   | inl t ↦ subst (λ (v : Walk). GoesOnFrom v w) (sym (cond-true (is_visited w f) _ _ t)) (([], refl), λ x h. h)
   | inr t ↦ subst (λ (v : Walk). GoesOnFrom v w) (sym (cond-false (is_visited w f) _ _ t)) (begun_on faces g f w (start_corner faces g f))

@@ -2,4 +2,5 @@ pub mod Readable
 pub mod Front
 pub mod Rebuilt
 pub mod Trace
+pub mod Stored
 pub mod Kept

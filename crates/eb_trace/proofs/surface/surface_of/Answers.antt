@@ -1,0 +1,8 @@
+-- The lists are those of the table.
+use Rattle.std.proofs.Common.{◌≤◌, refl, arith}
+use Rattle.eb_trace.proofs.Tables.{surface_is}
+use Rattle.eb_trace.proofs.surface.surface_of.Goals as goal
+
+pub returns-clause-surface : goal.returns-clause-surface
+returns-clause-surface c = surface_is _ _ _ _ _ _ c.face_count.ensures.count (let r = c.face_count.ensures.room in let l = c.face_count.ensures.limit in omega arith)
+    c.in_ok-across.ensures.long c.in_ok-across.ensures.gluing c.face_count.ensures.gluing c.in_ok-classes.ensures c.into_vec.ensures c.into_vec-2.ensures refl

@@ -1,0 +1,181 @@
+//! A surface as the walk reads it: the side across each side, the label of each corner's vertex, and
+//! which vertices meet a boundary.
+
+ghost use Rattle.std.specs.Prelude.{◌≡◌, ◌*◌, ◌<◌, ◌≤◌, IfOk, IfSome, MatchOption, vec_len, get_or, false};
+ghost use Rattle.std.specs.Option.{option_map};
+ghost use Rattle.drc_base.specs.declared.limits.TheConstants.{MAX_FACES as most_faces};
+ghost use Rattle.corner_table.specs.Sides.{side_at, number};
+ghost use Rattle.corner_table.specs.Fans.{rightmost, swing_right};
+ghost use Rattle.corner_table.specs.Labels.{label_at};
+ghost use Rattle.corner_table.specs.Table.{side_of, gluing_of, glued_in, other_at, free_entry};
+ghost use Rattle.eb_trace.specs.Stored.{gluing_in, IsSurface};
+ghost use Rattle.eb_trace.specs.Trace.{start_by, start_corner};
+
+use crate::numbers::{NONE, entry_at, next_number, previous_number, side_with};
+use corner_table::{SideTable, Steps};
+use drc_base::{Memory, Side};
+use std::alloc::Global;
+use std::marker::Brand;
+use std::sync::ledger::{Blank, Ledger};
+
+/// A surface by lists that go by the numbers of its sides, its corners and its vertices.
+#[derive(Drop)]
+pub(crate) struct Surface {
+    pub(crate) faces: u32,
+    pub(crate) vertices: u32,
+    pub(crate) across: Vec<u32>,
+    pub(crate) labels: Vec<u32>,
+    pub(crate) ends: Vec<bool>,
+}
+
+/// The number of a side, as a list has it.
+fn number_or_none(side: Option<Side>) -> u32
+    requires { IfSome side (λ x. x.face < most_faces) }
+    ensures { MatchOption side (result ≡ free_entry) (λ x. result ≡ number (side_of x)) }
+{
+    match side {
+        None => NONE,
+        Some(s) => 3 * s.face + u32::from(s.k),
+    }
+}
+
+/// The number of the side across.
+fn number_across<L: Ledger>(t: &SideTable, side: u32, steps: &mut Steps<L>) -> u32
+    requires { side < 3 * t.now.faces }
+    ensures { other_at result ≡ gluing_of t.now (side_at side) }
+{
+    let _ = t.face_count();
+    let found = t.other(side_with(side), steps);
+    number_or_none(found)
+}
+
+/// For each side the number of the side across.
+fn across_all<L: Ledger>(alloc: Global, t: &SideTable, blank: Blank) -> Result<Vec<u32>, Memory>
+    requires name { blank.name ≡ L.name }
+    requires parts { blank.parts ≡ L.parts }
+    requires some { 0 < L.parts }
+    ensures long { IfOk result (λ v. vec_len v ≡ 3 * t.now.faces) }
+    ensures gluing { IfOk result (λ v. glued_in v.items ≡ gluing_of t.now) }
+{
+    let mut steps = Steps::<L>::new(blank);
+    let mut across = Vec::new(alloc);
+    for side in 0..3 * t.face_count() {
+        let found = number_across(t, side, &mut steps);
+        across.push(found)?;
+    }
+    Ok(across)
+}
+
+/// The lists of a table.
+pub(crate) fn surface_of(alloc: Global, t: &SideTable) -> Result<Surface, Memory>
+    ensures surface { IfOk result (λ s. IsSurface s) }
+    ensures faces { IfOk result (λ s. s.faces ≡ t.now.faces) }
+    ensures gluing { IfOk result (λ s. gluing_in s ≡ gluing_of t.now) }
+{
+    let across = across_all::<Brand>(alloc, t, Blank::new(1))?;
+    let classes = t.label_vertices(alloc)?;
+    Ok(Surface {
+        faces: t.face_count(),
+        vertices: classes.count,
+        across,
+        labels: classes.of_corner.into_vec(),
+        ends: classes.ends.into_vec(),
+    })
+}
+
+impl Surface {
+    /// The side across.
+    pub(crate) fn across_of(&self, side: u32) -> Option<u32>
+        requires surface { IsSurface self.now }
+        requires side { side < 3 * self.now.faces }
+        ensures other { option_map side_at result ≡ gluing_in self.now (side_at side) }
+        ensures within { IfSome result (λ n. n < 3 * self.now.faces) }
+    {
+        let found = entry_at(&self.across, side);
+        if found == NONE { None } else { Some(found) }
+    }
+
+    /// The label of a corner's vertex.
+    pub(crate) fn label_of(&self, corner: u32) -> u32
+        requires surface { IsSurface self.now }
+        requires corner { corner < 3 * self.now.faces }
+        ensures label { result ≡ label_at self.now.labels.items (side_at corner) }
+        ensures within { result < vec_len self.now.ends }
+    {
+        entry_at(&self.labels, corner)
+    }
+
+    /// Whether the vertex of a corner meets a boundary.
+    pub(crate) fn is_end(&self, corner: u32) -> bool
+        requires surface { IsSurface self.now }
+        requires corner { corner < 3 * self.now.faces }
+        ensures { result ≡ get_or self.now.ends.items (label_at self.now.labels.items (side_at corner)) false }
+    {
+        self.ends[self.label_of(corner) as usize]
+    }
+
+    /// The next corner to the right round a corner's vertex.
+    fn right_of(&self, corner: u32) -> Option<u32>
+        requires surface { IsSurface self.now }
+        requires corner { corner < 3 * self.now.faces }
+        ensures corner { option_map side_at result ≡ swing_right (gluing_in self.now) (side_at corner) }
+        ensures within { IfSome result (λ n. n < 3 * self.now.faces) }
+    {
+        match self.across_of(previous_number(corner)) {
+            None => None,
+            Some(side) => Some(previous_number(side)),
+        }
+    }
+
+    /// The last corner to the right round a corner's vertex.
+    fn rightmost(&self, corner: u32) -> u32
+        requires surface { IsSurface self.now }
+        requires corner { corner < 3 * self.now.faces }
+        ensures corner { side_at result ≡ rightmost (gluing_in self.now) (3 * self.now.faces) (side_at corner) }
+        ensures within { result < 3 * self.now.faces }
+    {
+        let mut at = corner;
+        for turn in 0..3 * self.faces {
+            match self.right_of(at) {
+                None => return at,
+                Some(next) => at = next,
+            }
+        }
+        at
+    }
+
+    /// The start corner that one corner of a face tells.
+    fn start_by(&self, corner: u32) -> Option<u32>
+        requires surface { IsSurface self.now }
+        requires corner { corner < 3 * self.now.faces }
+        ensures corner { option_map side_at result ≡ start_by self.now.faces (gluing_in self.now) (side_at corner) }
+        ensures within { IfSome result (λ n. n < 3 * self.now.faces) }
+    {
+        match self.across_of(corner) {
+            None => Some(corner),
+            Some(_) => {
+                if self.is_end(corner) {
+                    Some(previous_number(self.rightmost(corner)))
+                } else {
+                    None
+                }
+            }
+        }
+    }
+
+    /// The corner from which the run of a face starts; None where the run starts inside.
+    pub(crate) fn start_corner(&self, face: u32) -> Option<u32>
+        requires surface { IsSurface self.now }
+        requires face { face < self.now.faces }
+        ensures corner { option_map side_at result ≡ start_corner self.now.faces (gluing_in self.now) face }
+        ensures within { IfSome result (λ n. n < 3 * self.now.faces) }
+    {
+        match self.start_by(3 * face) {
+            Some(first) => Some(first),
+            None => match self.start_by(3 * face + 1) {
+                Some(second) => Some(second),
+                None => self.start_by(3 * face + 2),
+            },
+        }
+    }
+}

@@ -1,0 +1,96 @@
+//! The trace of a surface.
+
+ghost use Rattle.std.specs.Prelude.{◌≡◌, ◌≤◌, IfOk, length, map, reverse};
+ghost use Rattle.corner_table.specs.Fans.{IsProper};
+ghost use Rattle.corner_table.specs.Table.{gluing_of};
+ghost use Rattle.eb_trace.specs.declared.notes.Entered.{Entered as entered_value};
+ghost use Rattle.eb_trace.specs.Stored.{gluing_in, walk_of, row_of, IsSurface, HasVertices};
+ghost use Rattle.eb_trace.specs.Trace.{trace, word_of, order_of};
+
+use crate::marks::no_marks;
+use crate::notes::{Entered, Notes, no_notes};
+use crate::surface::{Surface, surface_of};
+use crate::walk::walk_from;
+use corner_table::{Event, SideTable, Symbol};
+use drc_base::{Memory, Sequence};
+use std::alloc::{AllocError, Global};
+
+/// What the walk over a surface notes.
+#[derive(Debug, Drop)]
+pub struct Traced {
+    /// The symbols, in the order of the walk.
+    pub symbols: Sequence<Symbol>,
+    /// The split events, in the order of the walk.
+    pub events: Sequence<Event>,
+    /// For each run, in order, whether it starts round an interior face.
+    pub starts: Sequence<bool>,
+    /// For each face in the order of decoding, which it is, and by how much it is turned.
+    pub order: Sequence<(u32, u8)>,
+    /// How many vertices the surface has.
+    pub vertices: u32,
+}
+
+/// The notes of the whole walk.
+fn walk_all(alloc: Global, s: &Surface) -> Result<Notes, Memory>
+    requires surface { IsSurface s.now }
+    requires few { length (trace s.now.faces (gluing_in s.now)).entries ≤ s.now.faces }
+    ensures { IfOk result (λ n. walk_of n ≡ trace s.now.faces (gluing_in s.now)) }
+{
+    let mut marks = no_marks(alloc, s)?;
+    let mut notes = no_notes(alloc);
+    for face in 0..s.faces {
+        walk_from(s, &mut marks, &mut notes, face)?;
+    }
+    Ok(notes)
+}
+
+/// The symbols of the entries.
+fn symbols_of(alloc: Global, entries: &[Entered]) -> Result<Vec<Symbol>, AllocError>
+    ensures { IfOk result (λ v. v.items ≡ map (λ (e : entered_value). e.symbol) entries.now) }
+{
+    entries.iter().map(|e| e.symbol).collect(alloc)
+}
+
+/// The rows of the entries, the last first.
+fn rows_of(alloc: Global, entries: &[Entered]) -> Result<Vec<(u32, u8)>, AllocError>
+    ensures { IfOk result (λ v. v.items ≡ map row_of (reverse entries.now)) }
+{
+    entries
+        .iter()
+        .rev()
+        .map(|e| (e.corner / 3, (e.corner % 3) as u8))
+        .collect(alloc)
+}
+
+/// The faces in the order of decoding.
+fn rows_in_order(alloc: Global, notes: &Notes) -> Result<Vec<(u32, u8)>, Memory>
+    ensures { IfOk result (λ v. v.items ≡ order_of (walk_of notes.now)) }
+{
+    let mut rows = rows_of(alloc, notes.entries.as_slice())?;
+    for face in &notes.interior {
+        rows.push((*face, 1))?;
+    }
+    Ok(rows)
+}
+
+/// The walk over a proper surface.
+pub fn trace(alloc: Global, t: &SideTable) -> Result<Traced, Memory>
+    requires proper { IsProper t.now.faces (gluing_of t.now) }
+    ensures symbols { IfOk result (λ r. r.symbols ≡ reverse (word_of (trace t.now.faces (gluing_of t.now)))) }
+    ensures events { IfOk result (λ r. r.events ≡ reverse (trace t.now.faces (gluing_of t.now)).events) }
+    ensures starts { IfOk result (λ r. r.starts ≡ reverse (trace t.now.faces (gluing_of t.now)).bits) }
+    ensures order { IfOk result (λ r. r.order ≡ order_of (trace t.now.faces (gluing_of t.now))) }
+    ensures vertices { IfOk result (λ r. HasVertices t.now.faces (gluing_of t.now) r.vertices) }
+{
+    let surface = surface_of(alloc, t)?;
+    let notes = walk_all(alloc, &surface)?;
+    let symbols = symbols_of(alloc, notes.entries.as_slice())?;
+    let order = rows_in_order(alloc, &notes)?;
+    Ok(Traced {
+        symbols: Sequence::from_vec(symbols),
+        events: Sequence::from_vec(notes.events),
+        starts: Sequence::from_vec(notes.bits),
+        order: Sequence::from_vec(order),
+        vertices: surface.vertices,
+    })
+}
