@@ -1,20 +1,19 @@
 -- What marking a face changes, and what entering it notes.
-use Rattle.std.proofs.Common.{◌≡◌, ◌≢◌, ℕ, zero, suc, ◌+◌, ◌*◌, ◌/◌, ◌<◌, ◌≤◌, Bool, true, false, ◌==◌, cond, eqb, List, [], ◌∷◌, ◌++◌, length, get_or, set, replicate, map, reverse, All, Option, Some, None, ◌⊎◌, inl, inr, sym, refl, ap, ◌∙◌, subst, arith, eq-eqb, ne_eqb, length-set, get_or-set_other, get_or-set_same, vec_len, Vec}
+use Rattle.std.proofs.Common.{◌≡◌, ◌≢◌, ℕ, ◌+◌, ◌*◌, ◌/◌, ◌<◌, ◌≤◌, Bool, true, false, ◌==◌, cond, eqb, List, [], ◌∷◌, length, get_or, set, replicate, reverse, All, Some, None, ◌⊎◌, inl, inr, sym, refl, ap, ◌∙◌, subst, arith, eq-eqb, ne_eqb, length-set, get_or-set_other, get_or-set_same, vec_len, Vec}
 use Rattle.std.proofs.lemmas.Bool.{cases_Bool, cases_eq, cases_lt, cond-true, cond-false}
 use Rattle.std.proofs.lemmas.List.{get_or_past, length-map, length-reverse, length-replicate, get_or-replicate}
 use Rattle.std.proofs.lemmas.List.Elements.{All-nil}
 use Rattle.corner_table.specs.declared.symbols.Symbol.{Symbol}
 use Rattle.corner_table.specs.declared.symbols.Symbol.TheVariants.{C, S, L, R, E}
-use Rattle.corner_table.specs.Sides.{Side, Place, first, second, third, side, number, place_number, side_at, Gluing}
+use Rattle.corner_table.specs.Sides.{Side, Place, first, second, third, side, place_number, side_at, Gluing}
 use Rattle.corner_table.specs.Table.{free_entry}
 use Rattle.corner_table.specs.Labels.{IsLabelled, label_at}
-use Rattle.corner_table.proofs.Numbers.{face-lt}
 use Rattle.eb_trace.specs.declared.surface.Surface.{Surface}
 use Rattle.eb_trace.specs.declared.marks.Marks.{Marks}
 use Rattle.eb_trace.specs.declared.notes.Notes.{Notes}
 use Rattle.eb_trace.specs.Front.{is_split}
-use Rattle.eb_trace.specs.Trace.{Entry, Walk, is_visited, split_of, entered, nothing_walked}
-use Rattle.eb_trace.specs.Stored.{IsSurface, walk_of, entry_of, AreSized, split_told, split_entry, AreMarked, AreMarksOf, met_after, AreWithin, IsStored}
+use Rattle.eb_trace.specs.Trace.{Entry, is_visited, split_of, entered, nothing_walked}
+use Rattle.eb_trace.specs.Stored.{IsSurface, walk_of, entry_of, AreSized, split_told, split_entry, AreMarked, AreMarksOf, met_after, IsStored}
 use Rattle.eb_trace.proofs.Covered.{IsVisiting, not_yet}
 use Rattle.eb_trace.proofs.Visited.{entered_visits, inside_visits}
 

@@ -1,15 +1,15 @@
 -- Surfaces by lists: what is found across, which vertices are new, and which corners tell a start.
-use Rattle.std.proofs.Common.{◌≡◌, ◌≢◌, ℕ, zero, suc, ◌+◌, ◌*◌, ◌/◌, ◌<◌, ◌≤◌, Bool, true, false, not, ◌&&◌, cond, eqb, is_none, List, [], ◌∷◌, ◌++◌, length, get_or, Option, Some, None, option_map, ◌⊎◌, inl, inr, sym, refl, ap, ◌∙◌, subst, arith, ne_eqb, eqb-true, vec_len}
+use Rattle.std.proofs.Common.{◌≡◌, ◌≢◌, ℕ, zero, suc, ◌+◌, ◌*◌, ◌<◌, ◌≤◌, Bool, true, false, not, ◌&&◌, eqb, is_none, List, [], ◌∷◌, ◌++◌, length, get_or, Option, Some, None, option_map, inl, inr, sym, refl, ap, ◌∙◌, arith, eqb-true, vec_len}
 use Rattle.std.proofs.lemmas.Bool.{cases_Bool, cases_eq, cases_lt, cond-true, cond-false, false_from_ne_true}
 use Rattle.std.proofs.lemmas.List.{get_or_past, get_or_append_left}
 use Rattle.std.proofs.Math.Seq.{get_or-append_seam}
 use Rattle.std.specs.Option.{MatchOption, IfSome}
 use Rattle.drc_base.specs.declared.sides.Side.{Side as NumberedSide}
 use Rattle.corner_table.specs.Sides.{Side, Place, first, second, third, side, next, prev, place_number, number, side_at, Gluing, IsGluing}
-use Rattle.corner_table.specs.Fans.{InFan, MeetsBoundary, rightmost, swing_left, swing_right}
+use Rattle.corner_table.specs.Fans.{InFan, MeetsBoundary, rightmost, swing_right}
 use Rattle.corner_table.specs.Table.{side_of, glued_in, other_at, free_entry}
 use Rattle.corner_table.specs.Labels.{IsLabelled, label_at}
-use Rattle.corner_table.proofs.Numbers.{side_at-number, number-side_at, number-lt, face-lt}
+use Rattle.corner_table.proofs.Numbers.{side_at-number, number-lt}
 use Rattle.corner_table.proofs.Places.{option_tells}
 use Rattle.corner_table.proofs.Gluings.{new_free}
 use Rattle.corner_table.proofs.Walks.{right_by-fan}
@@ -17,7 +17,7 @@ use Rattle.corner_table.proofs.Boundary.{rightmost_tells}
 use Rattle.eb_trace.specs.Trace.{Walk, is_visited, is_new_vertex, start_by, start_corner, or_else}
 use Rattle.eb_trace.specs.Stored.{AreMarked, IsSurface}
 use Rattle.eb_trace.specs.declared.surface.Surface.{Surface}
-use Rattle.eb_trace.proofs.Rings.{GoesRound, ring_of, ring_has, long_walk}
+use Rattle.eb_trace.proofs.Rings.{ring_of, ring_has, long_walk}
 use Rattle.eb_trace.proofs.Visited.{new_tells, old_tells, fan_within}
 use Rattle.eb_trace.proofs.Moments.{true_not_false}
 

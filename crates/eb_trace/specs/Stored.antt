@@ -1,9 +1,8 @@
 -- How the walk of the code lies in its tables.
-use Rattle.std.specs.Prelude.{◌≡◌, ℕ, suc, ◌+◌, ◌*◌, ◌/◌, ◌%◌, ◌<◌, ◌≤◌, Bool, true, false, cond, eqb, List, length, get_or, set, map, reverse, Option, Some, None, All, vec_len}
+use Rattle.std.specs.Prelude.{◌≡◌, ℕ, ◌+◌, ◌*◌, ◌/◌, ◌%◌, ◌<◌, ◌≤◌, Bool, true, false, cond, eqb, List, get_or, set, map, reverse, Option, Some, None, All, vec_len}
 use Rattle.drc_base.specs.declared.limits.TheConstants.{MAX_FACES}
 use Rattle.corner_table.specs.declared.symbols.Symbol.{Symbol}
-use Rattle.corner_table.specs.declared.symbols.Event.{Event}
-use Rattle.corner_table.specs.Sides.{Side, side_at, number, Gluing, IsGluing}
+use Rattle.corner_table.specs.Sides.{Side, side_at, Gluing, IsGluing}
 use Rattle.corner_table.specs.Table.{glued_in, free_entry}
 use Rattle.corner_table.specs.Labels.{IsLabelled, label_at}
 use Rattle.eb_trace.specs.declared.surface.Surface.{Surface}

@@ -1,5 +1,5 @@
 -- One side more has its entry, and in the end all have.
-use Rattle.std.proofs.Common.{◌*◌, ◌≡◌, length, sym, ap, ◌∙◌, arith}
+use Rattle.std.proofs.Common.{◌*◌, ◌≡◌, length, sym, ◌∙◌, arith}
 use Rattle.corner_table.specs.Table.{gluing_of}
 use mathlib.Core.Path.{fun_ext}
 use Rattle.eb_trace.proofs.Tables.{one_more, all_told}

@@ -1,5 +1,5 @@
 -- The lists are those of the table.
-use Rattle.std.proofs.Common.{◌≤◌, refl, arith}
+use Rattle.std.proofs.Common.{refl, arith}
 use Rattle.eb_trace.proofs.Tables.{surface_is}
 use Rattle.eb_trace.proofs.surface.surface_of.Goals as goal
 

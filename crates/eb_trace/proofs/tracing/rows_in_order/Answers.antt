@@ -1,9 +1,7 @@
 -- All interior faces have their rows.
-use Rattle.std.proofs.Common.{◌≡◌, ◌≤◌, ℕ, List, ◌++◌, map, reverse, take, length, sym, ap, ◌∙◌, arith}
+use Rattle.std.proofs.Common.{◌≡◌, ◌≤◌, ℕ, List, ◌++◌, map, reverse, length, sym, ap, ◌∙◌, arith}
 use Rattle.std.proofs.lemmas.List.{take_all, reverse-reverse}
-use Rattle.corner_table.specs.Sides.{place_number}
-use Rattle.eb_trace.specs.Trace.{Entry}
-use Rattle.eb_trace.specs.Stored.{row_of, entry_of}
+use Rattle.eb_trace.specs.Stored.{row_of}
 use Rattle.eb_trace.proofs.Going.{rows_are}
 use Rattle.eb_trace.proofs.tracing.rows_in_order.Goals as goal
 

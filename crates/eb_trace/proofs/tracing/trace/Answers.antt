@@ -1,5 +1,5 @@
 -- What is given out is the walk's.
-use Rattle.std.proofs.Common.{List, map, reverse, sym, ap, ◌∙◌}
+use Rattle.std.proofs.Common.{List, map, reverse, ap, ◌∙◌}
 use Rattle.eb_trace.specs.Trace.{Walk, word_of}
 use Rattle.eb_trace.specs.declared.notes.Entered.{Entered}
 use Rattle.eb_trace.proofs.Going.{few_of, trace_same, symbols_are}

@@ -1,5 +1,5 @@
 -- Each face is walked from in its turn.
-use Rattle.std.proofs.Common.{sym, ◌∙◌, arith}
+use Rattle.std.proofs.Common.{sym, ◌∙◌}
 use Rattle.eb_trace.specs.Stored.{walk_of}
 use Rattle.eb_trace.proofs.Walked.{walked_none}
 use Rattle.eb_trace.proofs.Marking.{stored_nothing}

@@ -1,5 +1,5 @@
 -- Each turn takes one kept corner off.
-use Rattle.std.proofs.Common.{◌≡◌, ◌*◌, ◌/◌, ◌<◌, ℕ, Some, [], map, reverse, All, length, sym, ap, ◌∙◌, arith}
+use Rattle.std.proofs.Common.{◌≡◌, ◌*◌, ◌/◌, ◌<◌, ℕ, Some, [], map, reverse, sym, ap, ◌∙◌, arith}
 use Rattle.std.proofs.lemmas.List.Elements.{All-pop}
 use Rattle.corner_table.specs.Sides.{side_at}
 use Rattle.eb_trace.specs.declared.notes.Notes.{Notes}

@@ -1,5 +1,5 @@
 -- The first corner that tells a start.
-use Rattle.std.proofs.Common.{refl, sym}
+use Rattle.std.proofs.Common.{refl}
 use Rattle.corner_table.specs.Sides.{side_at}
 use Rattle.eb_trace.specs.Stored.{gluing_in}
 use Rattle.eb_trace.proofs.Tables.{started_first, started_second, started_third}
