@@ -17,3 +17,4 @@ pub mod Order
 pub mod Decoded
 pub mod Noted
 pub mod StartBits
+pub mod Naming
