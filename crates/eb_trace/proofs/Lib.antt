@@ -18,3 +18,4 @@ pub mod Decoded
 pub mod Noted
 pub mod StartBits
 pub mod Naming
+pub mod Adding
