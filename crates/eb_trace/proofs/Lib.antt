@@ -19,3 +19,4 @@ pub mod Noted
 pub mod StartBits
 pub mod Naming
 pub mod Adding
+pub mod FanCount
