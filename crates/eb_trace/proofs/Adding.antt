@@ -23,14 +23,14 @@ abbrev pub HasFans : ℕ → Gluing → ℕ → Type 0
 HasFans m g k = (f : Side → ℕ) × IsNaming (InFan g) (Among m) k f
 
 -- a pair joins the end of each of its sides with the start of the other
-ends_meet : (g : Gluing) (x y : Side) → g x ≡ Some y → InFan g (prev x) (next y)
+pub ends_meet : (g : Gluing) (x y : Side) → g x ≡ Some y → InFan g (prev x) (next y)
 ends_meet g x y e = leftwards (crosses-left g (prev x) (next y) (ap g (next-prev x) ∙ e ∙ ap {A = Side} Some (sym (prev-next y)))) here
 
-starts_meet : (g : Gluing) (x y : Side) → g x ≡ Some y → InFan g (next x) (prev y)
+pub starts_meet : (g : Gluing) (x y : Side) → g x ≡ Some y → InFan g (next x) (prev y)
 starts_meet g x y e = rightwards (crosses-right g (next x) (prev y) (ap g (prev-next x) ∙ e ∙ ap {A = Side} Some (sym (next-prev y)))) here
 
 -- fans only grow
-fan_more : (m : ℕ) (g : Gluing) {c d : Side} → InFan (below m g) c d → InFan (below (suc m) g) c d
+pub fan_more : (m : ℕ) (g : Gluing) {c d : Side} → InFan (below m g) c d → InFan (below (suc m) g) c d
 fan_more m g here = here
 fan_more m g (leftwards {c = c} {d = d} s p) =
     let t = below_tells m g (next c) (prev d) (left_crosses (below m g) c d s) in
@@ -55,19 +55,19 @@ within_or_one {m} {h} H (rightwards {c = c} {d = x} {e = d} s p) =
     let b : x.face < m = right-within H c x s in
     elim (within_or_one H p) [ inl t ↦ inl (a, t.1) | inr e ↦ inl (a, subst (λ (z : Side). z.face < m) e b) ]
 
-abbrev at_place : Place → ℕ → ℕ → ℕ → ℕ
+abbrev pub at_place : Place → ℕ → ℕ → ℕ → ℕ
 at_place first u v w = u
 at_place second u v w = v
 at_place third u v w = w
 
 -- names u, v and w for the corners of face m
-abbrev spread : ℕ → (Side → ℕ) → ℕ → ℕ → ℕ → Side → ℕ
+abbrev pub spread : ℕ → (Side → ℕ) → ℕ → ℕ → ℕ → Side → ℕ
 spread m f u v w x = cond (x.face == m) (at_place x.place u v w) (f x)
 
-spread_old : (m : ℕ) (f : Side → ℕ) (u v w : ℕ) (x : Side) → x.face < m → spread m f u v w x ≡ f x
+pub spread_old : (m : ℕ) (f : Side → ℕ) (u v w : ℕ) (x : Side) → x.face < m → spread m f u v w x ≡ f x
 spread_old m f u v w x h = cond-false (x.face == m) _ _ (ne_eqb x.face m (λ e. (omega arith)))
 
-spread_new : (m : ℕ) (f : Side → ℕ) (u v w : ℕ) (p : Place) → spread m f u v w (side m p) ≡ at_place p u v w
+pub spread_new : (m : ℕ) (f : Side → ℕ) (u v w : ℕ) (p : Place) → spread m f u v w (side m p) ≡ at_place p u v w
 spread_new m f u v w p = cond-true (m == m) _ _ (eq-eqb m m refl)
 
 -- names of the corners below m: one for each of their fans, or for two fans that become one
@@ -78,12 +78,12 @@ pub record IsBase (m : ℕ) (g : Gluing) (k : ℕ) (f : Side → ℕ) : Type 0 w
   pub fan : (c d : Side) → c.face < m → d.face < m → f c ≡ f d → InFan (below (suc m) g) c d
 
 -- where no fans become one
-base_of : (m : ℕ) (g : Gluing) (k : ℕ) (f : Side → ℕ) → IsNaming (InFan (below m g)) (Among m) k f → IsBase m g k f
+pub base_of : (m : ℕ) (g : Gluing) (k : ℕ) (f : Side → ℕ) → IsNaming (InFan (below m g)) (Among m) k f → IsBase m g k f
 base_of m g k f N = record { bounded = N.bounded; used = N.used; one = N.one; fan = λ c d a b e. fan_more m g (N.fan c d a b e) }
 
 module _ (faces : ℕ) (g : Gluing) (G : IsGluing faces g) (m k : ℕ) (f : Side → ℕ) (B : IsBase m g k f) where
   -- the spread names go along the fans before
-  spread_alike : (u v w : ℕ) (c d : Side) → InFan (below m g) c d → spread m f u v w c ≡ spread m f u v w d
+  pub spread_alike : (u v w : ℕ) (c d : Side) → InFan (below m g) c d → spread m f u v w c ≡ spread m f u v w d
   spread_alike u v w c d p = elim (within_or_one (below_is m G) p) [
     | inl t ↦ spread_old m f u v w c t.0 ∙ B.one c d t.0 t.1 p ∙ sym (spread_old m f u v w d t.1)
     | inr e ↦ ap (spread m f u v w) e

@@ -20,3 +20,4 @@ pub mod StartBits
 pub mod Naming
 pub mod Adding
 pub mod FanCount
+pub mod Counting
