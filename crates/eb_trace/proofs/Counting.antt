@@ -1,6 +1,6 @@
 -- Each symbol makes as many vertices as it brings fans, and S takes one away; interior start faces bring none.
-use Rattle.std.proofs.Common.{◌≡◌, ◌≢◌, ℕ, zero, suc, ◌+◌, ◌<◌, ◌≤◌, cond, ◌==◌, Some, ◌⊎◌, inl, inr, sym, refl, ap, ◌∙◌, subst, arith, eq-eqb, ne_eqb}
-use Rattle.std.proofs.lemmas.Bool.{cases_eq, cases_order, cond-true, cond-false}
+use Rattle.std.proofs.Common.{◌≡◌, ◌≢◌, ℕ, zero, suc, ◌+◌, ◌<◌, ◌≤◌, cond, ◌==◌, Some, ◌⊎◌, inl, inr, sym, refl, ap, ◌∙◌, subst, arith}
+use Rattle.std.proofs.lemmas.Bool.{cases_lt}
 use Rattle.corner_table.specs.declared.symbols.Symbol.{Symbol}
 use Rattle.corner_table.specs.declared.symbols.Symbol.TheVariants.{C, S, L, R, E}
 use Rattle.corner_table.specs.Sides.{Side, Place, first, second, third, side, next, prev, Gluing, glue}
@@ -12,115 +12,8 @@ use Rattle.eb_trace.specs.Readable.{IsReadable, Says, IsPast, GoesOn, IsNewTip, 
 use Rattle.eb_trace.specs.Front.{below, is_split, vertices_made, made_by}
 use Rattle.eb_trace.proofs.Below.{below_in, below_is, below_whole, by_place, Gap, gap, meets_ring, ring_more, adds_none, adds_one, adds_two, adds_three}
 use Rattle.eb_trace.proofs.Naming.{IsNaming}
+use Rattle.eb_trace.proofs.Merging.{IsMerging, merging_any}
 use Rattle.eb_trace.proofs.Adding.{Among, HasFans, IsBase, base_of, at_place, spread, spread_old, spread_new, spread_alike, fan_more, ends_meet, starts_meet, none_new, one_new, three_new}
-
--- of the numbers up to k, two become one, and the last takes the place that is free
-pub record IsMerging (k p q : ℕ) (to : ℕ → ℕ) : Type 0 where
-  pub bounded : (n : ℕ) → n < suc k → to n < k
-  pub used : (j : ℕ) → j < k → (n : ℕ) × (n < suc k) × (to n ≡ j)
-  pub meets : to p ≡ to q
-  pub tells : (a b : ℕ) → to a ≡ to b → (a ≡ b) ⊎ (((a ≡ p) × (b ≡ q)) ⊎ ((a ≡ q) × (b ≡ p)))
-
-abbrev merge_to : ℕ → ℕ → ℕ → ℕ → ℕ
-merge_to k p q n = cond (n == q) p (cond (n == k) q n)
-
-abbrev Merges : ℕ → ℕ → ℕ → ℕ → Type 0
-Merges k p q n = ((n ≡ q) × (merge_to k p q n ≡ p)) ⊎ (((n ≢ q) × (n ≡ k) × (merge_to k p q n ≡ q)) ⊎ ((n ≢ q) × (n ≢ k) × (merge_to k p q n ≡ n)))
-
-merges : (k p q n : ℕ) → Merges k p q n
-merges k p q n = elim (cases_eq n q) [
-  | inl e ↦ inl (e, cond-true (n == q) p (cond (n == k) q n) (eq-eqb n q e))
-  | inr e ↦ elim (cases_eq n k) [
-    | inl i ↦ inr (inl (e, i, cond-false (n == q) p (cond (n == k) q n) (ne_eqb n q e) ∙ cond-true (n == k) q n (eq-eqb n k i)))
-    | inr i ↦ inr (inr (e, i, cond-false (n == q) p (cond (n == k) q n) (ne_eqb n q e) ∙ cond-false (n == k) q n (ne_eqb n k i)))
-  ]
-]
-
-merging : (k p q : ℕ) → p < q → q < suc k → IsMerging k p q (merge_to k p q)
-merging k p q l h = record { bounded = bounded; used = used; meets = meets; tells = tells }
-  where
-    bounded : (n : ℕ) → n < suc k → merge_to k p q n < k
-    bounded n b = elim (merges k p q n) [
-      | inl t ↦ (let e : merge_to k p q n ≡ p = t.1 in omega arith)
-      | inr s ↦ elim s [
-        | inl t ↦ (let e : merge_to k p q n ≡ q = t.2 in let i : n ≡ k = t.1 in let o : n ≢ q = t.0 in omega arith)
-        | inr t ↦ (let e : merge_to k p q n ≡ n = t.2 in let i : n ≢ k = t.1 in omega arith)
-      ]
-    ]
-
-    used : (j : ℕ) → j < k → (n : ℕ) × (n < suc k) × (merge_to k p q n ≡ j)
-    used j b = elim (cases_eq j q) [
-      | inl e ↦ elim (merges k p q k) [
-        | inl t ↦ absurd (let i : k ≡ q = t.0 in omega arith)
-        | inr s ↦ elim s [
-          | inl t ↦ (k, omega arith, t.2 ∙ sym e)
-          | inr t ↦ absurd (t.1 refl)
-        ]
-      ]
-      | inr e ↦ elim (merges k p q j) [
-        | inl t ↦ absurd (e t.0)
-        | inr s ↦ elim s [
-          | inl t ↦ absurd (let i : j ≡ k = t.1 in omega arith)
-          | inr t ↦ (j, omega arith, t.2)
-        ]
-      ]
-    ]
-
-    meets : merge_to k p q p ≡ merge_to k p q q
-    meets = elim (merges k p q q) [
-      | inr s ↦ elim s [ inl t ↦ absurd (t.0 refl) | inr t ↦ absurd (t.0 refl) ]
-      | inl u ↦ elim (merges k p q p) [
-        | inl t ↦ absurd (let i : p ≡ q = t.0 in omega arith)
-        | inr s ↦ elim s [
-          | inl t ↦ absurd (let i : p ≡ k = t.1 in omega arith)
-          | inr t ↦ t.2 ∙ sym u.1
-        ]
-      ]
-    ]
-
-    tells : (a b : ℕ) → merge_to k p q a ≡ merge_to k p q b → (a ≡ b) ⊎ (((a ≡ p) × (b ≡ q)) ⊎ ((a ≡ q) × (b ≡ p)))
-    tells a b e = elim (merges k p q a) [
-      | inl t ↦ elim (merges k p q b) [
-        | inl u ↦ inl (t.0 ∙ sym u.0)
-        | inr s ↦ elim s [
-          | inl u ↦ absurd (let i : p ≡ q = sym t.1 ∙ e ∙ u.2 in omega arith)
-          | inr u ↦ inr (inr (t.0, sym (sym t.1 ∙ e ∙ u.2)))
-        ]
-      ]
-      | inr s ↦ elim s [
-        | inl t ↦ elim (merges k p q b) [
-          | inl u ↦ absurd (let i : q ≡ p = sym t.2 ∙ e ∙ u.1 in omega arith)
-          | inr s2 ↦ elim s2 [
-            | inl u ↦ inl (t.1 ∙ sym u.1)
-            | inr u ↦ absurd (u.0 (sym (sym t.2 ∙ e ∙ u.2)))
-          ]
-        ]
-        | inr t ↦ elim (merges k p q b) [
-          | inl u ↦ inr (inl (sym t.2 ∙ e ∙ u.1, u.0))
-          | inr s2 ↦ elim s2 [
-            | inl u ↦ absurd (t.0 (sym t.2 ∙ e ∙ u.2))
-            | inr u ↦ inl (sym t.2 ∙ e ∙ u.2)
-          ]
-        ]
-      ]
-    ]
-
--- in either order
-pub merging_any : (k p q : ℕ) → p ≢ q → p < suc k → q < suc k → (to : ℕ → ℕ) × IsMerging k p q to
-merging_any k p q n a b = elim (cases_order p q) [
-  | inl e ↦ absurd (n e)
-  | inr s ↦ elim s [
-    | inl l ↦ (merge_to k p q, merging k p q l b)
-    | inr l ↦ (merge_to k q p, (
-        let m = merging k q p l a in
-        record {
-          bounded = m.bounded;
-          used = m.used;
-          meets = sym m.meets;
-          tells = λ x y e. elim (m.tells x y e) [ inl i ↦ inl i | inr t ↦ elim t [ inl u ↦ inr (inr u) | inr u ↦ inr (inl u) ] ];
-        }))
-  ]
-]
 
 module _ (faces : ℕ) (g : Gluing) (n : ℕ) (word : ℕ → Symbol) (T : IsReadable faces g n word) where
   -- what a symbol brings to k fans: as many as the vertices that it makes, but an S one fewer
@@ -158,3 +51,131 @@ module _ (faces : ℕ) (g : Gluing) (n : ℕ) (word : ℕ → Symbol) (T : IsRea
       alike : (c d : Side) → InFan (below (suc m) g) c d → spread m f (f (next r)) (f (next l)) (f (prev r)) c ≡ spread m f (f (next r)) (f (next l)) (f (prev r)) d
       alike c d p = alike_after (spread m f (f (next r)) (f (next l)) (f (prev r))) (side m third) l inner
           (new second ∙ sym (old (next l) b)) (new first ∙ e ∙ sym (old (prev l) b)) (subst (λ (h : Gluing). InFan h c d) glued p)
+
+  -- one side is glued: its corner has a fan of its own, and the two others come into fans that were there
+  right_brings : (m k : ℕ) → m < n → HasFans m (below m g) k → IsPast g (side m second) → GoesOn g (side m third) → Brings m k R
+  right_brings m k h (f, N) b o = (suc k, one_new faces g T.gluing m k f B (f (prev r)) (f (next r)) k alike first second third
+      (by_place (λ x. (x ≡ side m first) ⊎ ((x ≡ side m second) ⊎ (x ≡ side m third))) m (inl refl) (inr (inl refl)) (inr (inr refl)))
+      refl (N.bounded (prev r) less) (N.bounded (next r) less) (prev r) (next r) less less
+      (starts_meet (below (suc m) g) (side m third) r onto) (ends_meet (below (suc m) g) (side m third) r onto), omega arith)
+    where
+      B : IsBase m g k f
+      B = base_of m g k f N
+
+      r : Side
+      r = side o.before first
+
+      less : o.before < m
+      less = let e : m ≡ suc o.before = o.is_before in omega arith
+
+      onto : below (suc m) g (side m third) ≡ Some (side o.before first)
+      onto = let l = less in below_in (suc m) g (side m third) (side o.before first) (omega arith) o.onto (omega arith)
+
+      glued : below (suc m) g ≡ glue (side m third) (side o.before first) (below m g)
+      glued = adds_one T.gluing m (side m third) (side o.before first) refl less o.onto
+          (by_place (λ z. (z ≡ side m third) ⊎ IsPast g z) m (inr (T.gates m h)) (inr b) (inl refl))
+
+      new : (p : Place) → spread m f (f (prev r)) (f (next r)) k (side m p) ≡ at_place p (f (prev r)) (f (next r)) k
+      new p = spread_new m f (f (prev r)) (f (next r)) k p
+
+      old : (x : Side) → x.face < m → spread m f (f (prev r)) (f (next r)) k x ≡ f x
+      old x l = spread_old m f (f (prev r)) (f (next r)) k x l
+
+      alike : (c d : Side) → InFan (below (suc m) g) c d → spread m f (f (prev r)) (f (next r)) k c ≡ spread m f (f (prev r)) (f (next r)) k d
+      alike c d p = alike_after (spread m f (f (prev r)) (f (next r)) k) (side m third) r (spread_alike faces g T.gluing m k f B (f (prev r)) (f (next r)) k)
+          (new second ∙ sym (old (next r) less)) (new first ∙ sym (old (prev r) less)) (subst (λ (h : Gluing). InFan h c d) glued p)
+
+  left_brings : (m k : ℕ) → m < n → HasFans m (below m g) k → GoesOn g (side m second) → IsPast g (side m third) → Brings m k L
+  left_brings m k h (f, N) o b = (suc k, one_new faces g T.gluing m k f B (f (next r)) k (f (prev r)) alike first third second
+      (by_place (λ x. (x ≡ side m first) ⊎ ((x ≡ side m third) ⊎ (x ≡ side m second))) m (inl refl) (inr (inr refl)) (inr (inl refl)))
+      refl (N.bounded (next r) less) (N.bounded (prev r) less) (next r) (prev r) less less
+      (ends_meet (below (suc m) g) (side m second) r onto) (starts_meet (below (suc m) g) (side m second) r onto), omega arith)
+    where
+      B : IsBase m g k f
+      B = base_of m g k f N
+
+      r : Side
+      r = side o.before first
+
+      less : o.before < m
+      less = let e : m ≡ suc o.before = o.is_before in omega arith
+
+      onto : below (suc m) g (side m second) ≡ Some (side o.before first)
+      onto = let l = less in below_in (suc m) g (side m second) (side o.before first) (omega arith) o.onto (omega arith)
+
+      glued : below (suc m) g ≡ glue (side m second) (side o.before first) (below m g)
+      glued = adds_one T.gluing m (side m second) (side o.before first) refl less o.onto
+          (by_place (λ z. (z ≡ side m second) ⊎ IsPast g z) m (inr (T.gates m h)) (inl refl) (inr b))
+
+      new : (p : Place) → spread m f (f (next r)) k (f (prev r)) (side m p) ≡ at_place p (f (next r)) k (f (prev r))
+      new p = spread_new m f (f (next r)) k (f (prev r)) p
+
+      old : (x : Side) → x.face < m → spread m f (f (next r)) k (f (prev r)) x ≡ f x
+      old x l = spread_old m f (f (next r)) k (f (prev r)) x l
+
+      alike : (c d : Side) → InFan (below (suc m) g) c d → spread m f (f (next r)) k (f (prev r)) c ≡ spread m f (f (next r)) k (f (prev r)) d
+      alike c d p = alike_after (spread m f (f (next r)) k (f (prev r))) (side m second) r (spread_alike faces g T.gluing m k f B (f (next r)) k (f (prev r)))
+          (new first ∙ sym (old (next r) less)) (new third ∙ sym (old (prev r) less)) (subst (λ (h : Gluing). InFan h c d) glued p)
+
+  -- C: the two sides meet one fan already
+  tip_brings : (m k : ℕ) → m < n → HasFans m (below m g) k → IsNewTip g m → Brings m k C
+  tip_brings m k h (f, N) t = go (gap T.gluing m (side m first) t.ring)
+    where
+      go : (x y : Side) × Gap g m (side m first) x y → Brings m k C
+      go (x, l, p) = (k, both_glued m k h f (base_of m g k f N) x l p.right p.left p.right_below p.left_below (N.one (next x) (prev l) p.right_below p.left_below p.meets), omega arith)
+
+  -- S: two fans become one
+  split_brings : (m k : ℕ) → m < n → HasFans m (below m g) k → IsSplit g m → Brings m k S
+  split_brings m zero h (f, N) t = absurd (let b = N.bounded (prev t.across) t.below in omega arith)
+  split_brings m (suc k) h (f, N) t = go (merging_any k (f (next r)) (f (prev l)) two (N.bounded (next r) less) (N.bounded (prev l) t.below))
+    where
+      r : Side
+      r = side t.right.before first
+
+      l : Side
+      l = t.across
+
+      less : t.right.before < m
+      less = let e : m ≡ suc t.right.before = t.right.is_before in omega arith
+
+      -- else the tip would be ringed
+      two : f (next (side t.right.before first)) ≢ f (prev t.across)
+      two e = t.met (meets_ring T.gluing m (side m first) r l (omega arith) t.right.onto t.left less (N.fan (next r) (prev l) less t.below e))
+
+      joined : InFan (below (suc m) g) (next (side t.right.before first)) (prev t.across)
+      joined = (
+          let w = less in
+          let v = t.below in
+          fan_trans
+          (fan_sym (below_is (suc m) T.gluing) (ends_meet (below (suc m) g) (side m second) r (below_in (suc m) g (side m second) r (omega arith) t.right.onto (omega arith))))
+          (starts_meet (below (suc m) g) (side m third) l (below_in (suc m) g (side m third) l (omega arith) t.left (omega arith))))
+
+      go : (to : ℕ → ℕ) × IsMerging k (f (next (side t.right.before first))) (f (prev t.across)) to → Brings m (suc k) S
+      go (to, M) = (k, both_glued m k h (λ c. to (f c)) base r l t.right.onto t.left less t.below M.meets, omega arith)
+        where
+          held : (c d : Side) → c.face < m → d.face < m → f c ≡ f d → InFan (below (suc m) g) c d
+          held c d a b e = fan_more m g (N.fan c d a b e)
+
+          base : IsBase m g k (λ c. to (f c))
+          base = record {
+            bounded = λ c a. M.bounded (f c) (N.bounded c a);
+            used = λ j a. (let u = M.used j a in let v = N.used u.0 u.1 in (v.0, v.1, ap to v.2 ∙ u.2));
+            one = λ c d a b p. ap to (N.one c d a b p);
+            fan = λ c d a b e. elim (M.tells (f c) (f d) e) [
+              | inl i ↦ held c d a b i
+              | inr s ↦ elim s [
+                | inl i ↦ fan_trans (held c (next r) a less i.0) (fan_trans joined (held (prev l) d t.below b (sym i.1)))
+                | inr i ↦ fan_trans (held c (prev l) a t.below i.0) (fan_trans (fan_sym (below_is (suc m) T.gluing) joined) (held (next r) d less b (sym i.1)))
+              ]
+            ];
+          }
+
+  symbol_brings : (m k : ℕ) → m < n → HasFans m (below m g) k → Brings m k (word m)
+  symbol_brings m k h H = go (word m) (T.symbols m h)
+    where
+      go : (s : Symbol) → Says g m s → Brings m k s
+      go C t = tip_brings m k h H t
+      go S t = split_brings m k h H t
+      go L t = left_brings m k h H t.0 t.1
+      go R t = right_brings m k h H t.0 t.1
+      go E t = end_brings m k h H t.0 t.1

@@ -20,4 +20,5 @@ pub mod StartBits
 pub mod Naming
 pub mod Adding
 pub mod FanCount
+pub mod Merging
 pub mod Counting
