@@ -1,5 +1,5 @@
 -- Each symbol makes as many vertices as it brings fans, and S takes one away; interior start faces bring none.
-use Rattle.std.proofs.Common.{◌≡◌, ◌≢◌, ℕ, zero, suc, ◌+◌, ◌<◌, ◌≤◌, cond, ◌==◌, Some, ◌⊎◌, inl, inr, sym, refl, ap, ◌∙◌, subst, arith}
+use Rattle.std.proofs.Common.{◌≡◌, ◌≢◌, ℕ, zero, suc, ◌+◌, ◌-◌, ◌<◌, ◌≤◌, cond, Some, ◌⊎◌, inl, inr, sym, refl, ap, ◌∙◌, subst, arith}
 use Rattle.std.proofs.lemmas.Bool.{cases_lt}
 use Rattle.corner_table.specs.declared.symbols.Symbol.{Symbol}
 use Rattle.corner_table.specs.declared.symbols.Symbol.TheVariants.{C, S, L, R, E}
@@ -179,3 +179,113 @@ module _ (faces : ℕ) (g : Gluing) (n : ℕ) (word : ℕ → Symbol) (T : IsRea
       go L t = left_brings m k h H t.0 t.1
       go R t = right_brings m k h H t.0 t.1
       go E t = end_brings m k h H t.0 t.1
+
+  -- an interior start face: each of its corners closes a fan
+  pub interior_brings : (i k : ℕ) → n ≤ i → i < faces → HasFans i (below i g) k → HasFans (suc i) (below (suc i) g) k
+  interior_brings i k h less (f, N) = go (gap T.gluing i (side i first) (ring first)) (gap T.gluing i (side i second) (ring second)) (gap T.gluing i (side i third) (ring third))
+    where
+      ring : (q : Place) → IsRinged g i (side i q)
+      ring q = ring_more i (side i q) h ((T.interior i h less).rings q)
+
+      go : (x y : Side) × Gap g i (side i first) x y → (x y : Side) × Gap g i (side i second) x y → (x y : Side) × Gap g i (side i third) x y → HasFans (suc i) (below (suc i) g) k
+      go (b, c, u) (c2, a2, v) (a, b2, w) = none_new faces g T.gluing i k f B (f (next b)) (f (next c)) (f (next a)) alike (next b) (next c) (next a) u.right_below u.left_below w.right_below
+          (ends_meet (below (suc i) g) (side i second) b (onto second b u.right u.right_below)) (ends_meet (below (suc i) g) (side i third) c (onto third c u.left u.left_below)) (ends_meet (below (suc i) g) (side i first) a (onto first a w.right w.right_below))
+        where
+          B : IsBase i g k f
+          B = base_of i g k f N
+
+          onto : (q : Place) (x : Side) → g (side i q) ≡ Some x → x.face < i → below (suc i) g (side i q) ≡ Some x
+          onto q x e l = below_in (suc i) g (side i q) x (omega arith) e (omega arith)
+
+          glued : below (suc i) g ≡ glue (side i third) c (glue (side i second) b (glue (side i first) a (below i g)))
+          glued = adds_three T.gluing i a b c w.right_below u.right_below u.left_below w.right u.right u.left
+
+          c_is : c2 ≡ c
+          c_is = Some_injective _ _ (sym v.right ∙ u.left)
+
+          a_is : a2 ≡ a
+          a_is = Some_injective _ _ (sym v.left ∙ w.right)
+
+          b_is : b2 ≡ b
+          b_is = Some_injective _ _ (sym w.left ∙ u.right)
+
+          at_first : f (next b) ≡ f (prev c)
+          at_first = N.one (next b) (prev c) u.right_below u.left_below u.meets
+
+          at_second : f (next c) ≡ f (prev a)
+          at_second = ap (λ (x : Side). f (next x)) (sym c_is) ∙ N.one (next c2) (prev a2) v.right_below v.left_below v.meets ∙ ap (λ (x : Side). f (prev x)) a_is
+
+          at_third : f (next a) ≡ f (prev b)
+          at_third = N.one (next a) (prev b2) w.right_below w.left_below w.meets ∙ ap (λ (x : Side). f (prev x)) b_is
+
+          new : (p : Place) → spread i f (f (next b)) (f (next c)) (f (next a)) (side i p) ≡ at_place p (f (next b)) (f (next c)) (f (next a))
+          new p = spread_new i f (f (next b)) (f (next c)) (f (next a)) p
+
+          old : (x : Side) → x.face < i → spread i f (f (next b)) (f (next c)) (f (next a)) x ≡ f x
+          old x l = spread_old i f (f (next b)) (f (next c)) (f (next a)) x l
+
+          inner : (x y : Side) → InFan (glue (side i first) a (below i g)) x y → spread i f (f (next b)) (f (next c)) (f (next a)) x ≡ spread i f (f (next b)) (f (next c)) (f (next a)) y
+          inner x y p = alike_after (spread i f (f (next b)) (f (next c)) (f (next a))) (side i first) a (spread_alike faces g T.gluing i k f B (f (next b)) (f (next c)) (f (next a)))
+              (new third ∙ sym (old (next a) w.right_below)) (new second ∙ at_second ∙ sym (old (prev a) w.right_below)) p
+
+          middle : (x y : Side) → InFan (glue (side i second) b (glue (side i first) a (below i g))) x y → spread i f (f (next b)) (f (next c)) (f (next a)) x ≡ spread i f (f (next b)) (f (next c)) (f (next a)) y
+          middle x y p = alike_after (spread i f (f (next b)) (f (next c)) (f (next a))) (side i second) b inner
+              (new first ∙ sym (old (next b) u.right_below)) (new third ∙ at_third ∙ sym (old (prev b) u.right_below)) p
+
+          alike : (x y : Side) → InFan (below (suc i) g) x y → spread i f (f (next b)) (f (next c)) (f (next a)) x ≡ spread i f (f (next b)) (f (next c)) (f (next a)) y
+          alike x y p = alike_after (spread i f (f (next b)) (f (next c)) (f (next a))) (side i third) c middle
+              (new second ∙ sym (old (next c) u.left_below)) (new first ∙ at_first ∙ sym (old (prev c) u.left_below)) (subst (λ (h : Gluing). InFan h x y) glued p)
+
+  -- the S among the first symbols
+  unfoldable pub splits_before : ℕ → ℕ
+  splits_before zero = 0
+  splits_before (suc m) = splits_before m + cond (is_split (word m)) 1 0
+
+  made_none : made_by word 0 ≡ 0
+  unfolding made_by
+  made_none = refl
+
+  made_more : (m : ℕ) → made_by word (suc m) ≡ made_by word m + vertices_made (word m)
+  unfolding made_by
+  made_more m = refl
+
+  pub splits_none : splits_before 0 ≡ 0
+  unfolding splits_before
+  splits_none = refl
+
+  pub splits_more : (m : ℕ) → splits_before (suc m) ≡ splits_before m + cond (is_split (word m)) 1 0
+  unfolding splits_before
+  splits_more m = refl
+
+  -- the vertices made by the first symbols are the fans of what is built, and the S so far
+  made_so_far : (m : ℕ) → m ≤ n → (k : ℕ) × HasFans m (below m g) k × (made_by word m ≡ k + splits_before m)
+  made_so_far zero h = (0, (λ x. 0, record {
+    bounded = λ c l. absurd (omega arith);
+    used = λ j l. absurd (omega arith);
+    one = λ c d a b p. refl;
+    fan = λ c d a b e. absurd (omega arith);
+  }), let a = made_none in let b = splits_none in let e : made_by word 0 ≡ 0 + splits_before 0 = omega arith in e)
+  made_so_far (suc m) h =
+      let t = made_so_far m (omega arith) in
+      let u = symbol_brings m t.0 (omega arith) t.1 in
+      let a = made_more m in
+      let b = splits_more m in
+      let x : made_by word m ≡ t.0 + splits_before m = t.2 in
+      let y : u.0 + cond (is_split (word m)) 1 0 ≡ t.0 + vertices_made (word m) = u.2 in
+      let e : made_by word (suc m) ≡ u.0 + splits_before (suc m) = omega arith in
+      (u.0, u.1, e)
+
+  -- interior start faces add none
+  interiors : (d k : ℕ) → n + d ≤ faces → HasFans n (below n g) k → HasFans (n + d) (below (n + d) g) k
+  interiors zero k h H = subst (λ (m : ℕ). HasFans m (below m g) k) (let e : n ≡ n + 0 = omega arith in e) H
+  interiors (suc d) k h H =
+      let e : suc (n + d) ≡ n + suc d = omega arith in
+      subst (λ (m : ℕ). HasFans m (below m g) k) e (interior_brings (n + d) k (omega arith) (omega arith) (interiors d k (omega arith) H))
+
+  -- the vertices made by all symbols are the fans of the table, and the S
+  pub made_in_all : (k : ℕ) × HasFans faces g k × (made_by word n ≡ k + splits_before n)
+  made_in_all = (
+      let t = made_so_far n (omega arith) in
+      let few = T.fewer in
+      let e : n + (faces - n) ≡ faces = omega arith in
+      (t.0, subst (λ (h : Gluing). HasFans faces h t.0) (below_whole T.gluing) (subst (λ (m : ℕ). HasFans m (below m g) t.0) e (interiors (faces - n) t.0 (omega arith) t.1)), t.2))
