@@ -54,10 +54,14 @@ module _ (faces : ℕ) (g : Gluing) (n : ℕ) (word : ℕ → Symbol) (T : IsRea
 
   -- one side is glued: its corner has a fan of its own, and the two others come into fans that were there
   right_brings : (m k : ℕ) → m < n → HasFans m (below m g) k → IsPast g (side m second) → GoesOn g (side m third) → Brings m k R
-  right_brings m k h (f, N) b o = (suc k, one_new faces g T.gluing m k f B (f (prev r)) (f (next r)) k alike first second third
-      (by_place (λ x. (x ≡ side m first) ⊎ ((x ≡ side m second) ⊎ (x ≡ side m third))) m (inl refl) (inr (inl refl)) (inr (inr refl)))
-      refl (N.bounded (prev r) less) (N.bounded (next r) less) (prev r) (next r) less less
-      (starts_meet (below (suc m) g) (side m third) r onto) (ends_meet (below (suc m) g) (side m third) r onto), omega arith)
+  right_brings m k h (f, N) b o = (
+    suc k,
+    one_new faces g T.gluing m k f B (f (prev r)) (f (next r)) k alike first second third
+        (by_place (λ x. (x ≡ side m first) ⊎ ((x ≡ side m second) ⊎ (x ≡ side m third))) m (inl refl) (inr (inl refl)) (inr (inr refl)))
+        refl (N.bounded (prev r) less) (N.bounded (next r) less) (prev r) (next r) less less
+        (starts_meet (below (suc m) g) (side m third) r onto) (ends_meet (below (suc m) g) (side m third) r onto),
+    omega arith,
+  )
     where
       B : IsBase m g k f
       B = base_of m g k f N
@@ -86,10 +90,14 @@ module _ (faces : ℕ) (g : Gluing) (n : ℕ) (word : ℕ → Symbol) (T : IsRea
           (new second ∙ sym (old (next r) less)) (new first ∙ sym (old (prev r) less)) (subst (λ (h : Gluing). InFan h c d) glued p)
 
   left_brings : (m k : ℕ) → m < n → HasFans m (below m g) k → GoesOn g (side m second) → IsPast g (side m third) → Brings m k L
-  left_brings m k h (f, N) o b = (suc k, one_new faces g T.gluing m k f B (f (next r)) k (f (prev r)) alike first third second
-      (by_place (λ x. (x ≡ side m first) ⊎ ((x ≡ side m third) ⊎ (x ≡ side m second))) m (inl refl) (inr (inr refl)) (inr (inl refl)))
-      refl (N.bounded (next r) less) (N.bounded (prev r) less) (next r) (prev r) less less
-      (ends_meet (below (suc m) g) (side m second) r onto) (starts_meet (below (suc m) g) (side m second) r onto), omega arith)
+  left_brings m k h (f, N) o b = (
+    suc k,
+    one_new faces g T.gluing m k f B (f (next r)) k (f (prev r)) alike first third second
+        (by_place (λ x. (x ≡ side m first) ⊎ ((x ≡ side m third) ⊎ (x ≡ side m second))) m (inl refl) (inr (inr refl)) (inr (inl refl)))
+        refl (N.bounded (next r) less) (N.bounded (prev r) less) (next r) (prev r) less less
+        (ends_meet (below (suc m) g) (side m second) r onto) (starts_meet (below (suc m) g) (side m second) r onto),
+    omega arith,
+  )
     where
       B : IsBase m g k f
       B = base_of m g k f N
@@ -259,12 +267,19 @@ module _ (faces : ℕ) (g : Gluing) (n : ℕ) (word : ℕ → Symbol) (T : IsRea
 
   -- the vertices made by the first symbols are the fans of what is built, and the S so far
   made_so_far : (m : ℕ) → m ≤ n → (k : ℕ) × HasFans m (below m g) k × (made_by word m ≡ k + splits_before m)
-  made_so_far zero h = (0, (λ x. 0, record {
-    bounded = λ c l. absurd (omega arith);
-    used = λ j l. absurd (omega arith);
-    one = λ c d a b p. refl;
-    fan = λ c d a b e. absurd (omega arith);
-  }), let a = made_none in let b = splits_none in let e : made_by word 0 ≡ 0 + splits_before 0 = omega arith in e)
+  made_so_far zero h = (
+    0,
+    (
+      λ x. 0,
+      record {
+        bounded = λ c l. absurd (omega arith);
+        used = λ j l. absurd (omega arith);
+        one = λ c d a b p. refl;
+        fan = λ c d a b e. absurd (omega arith);
+      },
+    ),
+    let a = made_none in let b = splits_none in let e : made_by word 0 ≡ 0 + splits_before 0 = omega arith in e,
+  )
   made_so_far (suc m) h =
       let t = made_so_far m (omega arith) in
       let u = symbol_brings m t.0 (omega arith) t.1 in

@@ -80,12 +80,15 @@ module _ (faces : ℕ) (g : Gluing) (G : IsGluing faces g) where
           more_numbers n k c e _ (add_known (InFan g) (λ x. number x < n) k f (fans_sort G) N c d (omega arith) (meets-fan faces g c d p.1))
 
   counted : (n : ℕ) → n ≤ faces → Numbered g (3 * n) (count_by (is_least faces g) (corners_of n))
-  counted zero h = (λ x. 0, record {
-    bounded = λ c l. absurd (omega arith);
-    used = λ j l. absurd (let e = count_none (is_least faces g) in omega arith);
-    one = λ c d a b p. refl;
-    fan = λ c d a b e. absurd (omega arith);
-  })
+  counted zero h = (
+    λ x. 0,
+    record {
+      bounded = λ c l. absurd (omega arith);
+      used = λ j l. absurd (let e = count_none (is_least faces g) in omega arith);
+      one = λ c d a b p. refl;
+      fan = λ c d a b e. absurd (omega arith);
+    },
+  )
   counted (suc n) h =
       let p = is_least faces g in
       let a = next_corner (3 * n) (count_by p (corners_of n)) (side n first) (let e : number (side n first) ≡ 3 * n = omega arith in e) (omega arith) (counted n (omega arith)) in

@@ -22,3 +22,4 @@ pub mod Adding
 pub mod FanCount
 pub mod Merging
 pub mod Counting
+pub mod Counted

@@ -99,13 +99,16 @@ merging_any k p q n a b = elim (cases_order p q) [
   | inl e ↦ absurd (n e)
   | inr s ↦ elim s [
     | inl l ↦ (merge_to k p q, merging k p q l b)
-    | inr l ↦ (merge_to k q p, (
-        let m = merging k q p l a in
-        record {
-          bounded = m.bounded;
-          used = m.used;
-          meets = sym m.meets;
-          tells = λ x y e. elim (m.tells x y e) [ inl i ↦ inl i | inr t ↦ elim t [ inl u ↦ inr (inr u) | inr u ↦ inr (inl u) ] ];
-        }))
+    | inr l ↦ (
+      merge_to k q p,
+      (
+          let m = merging k q p l a in
+          record {
+            bounded = m.bounded;
+            used = m.used;
+            meets = sym m.meets;
+            tells = λ x y e. elim (m.tells x y e) [ inl i ↦ inl i | inr t ↦ elim t [ inl u ↦ inr (inr u) | inr u ↦ inr (inl u) ] ];
+          }),
+    )
   ]
 ]
