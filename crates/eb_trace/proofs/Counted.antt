@@ -20,17 +20,11 @@ use Rattle.eb_trace.specs.Trace.{fan_count, trace, order_of, word_of}
 use Rattle.eb_trace.specs.Kept.{WalkIsCounted, WalkIsKept}
 use Rattle.eb_trace.proofs.Naming.{IsNaming, namings_agree}
 use Rattle.eb_trace.proofs.Adding.{Among, HasFans}
-use Rattle.eb_trace.proofs.FanCount.{fan_count_is}
+use Rattle.eb_trace.proofs.Vertices.{fans_are, renumbered_alike}
 use Rattle.eb_trace.proofs.Counting.{splits_before, splits_none, splits_more, made_in_all}
 use Rattle.eb_trace.proofs.Order.{renumbers}
 use Rattle.eb_trace.proofs.StartBits.{word_readable, word_events, word_bits}
 use Rattle.eb_trace.proofs.Whole.{rebuilds_word}
-
--- whoever counts the fans gets the count of fans
-pub fans_are : (faces : ℕ) (g : Gluing) → IsGluing faces g → (k : ℕ) → HasFans faces g k → fan_count faces g ≡ k
-fans_are faces g G k (f, N) =
-    let t = fan_count_is faces g G in
-    namings_agree (InFan g) (Among faces) (fan_count faces g) k t.0 f t.1 N
 
 count_zero : (xs : List Symbol) → count_by is_split (take 0 xs) ≡ 0
 count_zero xs = refl
@@ -64,26 +58,6 @@ module _ (faces : ℕ) (g : Gluing) (word : List Symbol) (T : IsReadable faces g
 
 pub counts_word : CountsWord
 counts_word faces g word T = made_is faces g word T
-
--- a surface under new numbers has as many fans
-pub fan_count_carried : (faces : ℕ) (g h : Gluing) (rows : List (ℕ × ℕ)) → IsGluing faces g → IsGluing faces h → IsRenumbering faces rows → IsCarried faces g rows h → fan_count faces h ≡ fan_count faces g
-fan_count_carried faces g h rows G H R C =
-    let t = fan_count_is faces g G in
-    fans_are faces h H (fan_count faces g) (go t.0 t.1)
-  where
-    go : (f : Side → ℕ) → IsNaming (InFan g) (Among faces) (fan_count faces g) f → HasFans faces h (fan_count faces g)
-    go f N = (
-      λ x. f (carry rows x),
-      record {
-        bounded = λ c a. N.bounded (carry rows c) (carry-within R c a);
-        used = λ j l. (
-            let u = N.used j l in
-            let v = carry_onto R u.0 u.1 in
-            (v.0, v.1, ap f v.2 ∙ u.2));
-        one = λ c d a b p. N.one (carry rows c) (carry rows d) (carry-within R c a) (carry-within R d b) ((fans_carried G R C c d a b).0 p);
-        fan = λ c d a b e. (fans_carried G R C c d a b).1 (N.fan (carry rows c) (carry rows d) (carry-within R c a) (carry-within R d b) e);
-      },
-    )
 
 -- there is a surface under new numbers
 module _ (faces : ℕ) (g : Gluing) (rows : List (ℕ × ℕ)) (G : IsGluing faces g) (R : IsRenumbering faces rows) where
@@ -154,7 +128,7 @@ walk_is_counted faces g G F = go (is_renumbered faces g (order_of (trace faces g
     go (h, K) =
         let T = word_readable faces g G F h K in
         made_is faces h (word_of (trace faces g)) T
-        ∙ ap (λ (k : ℕ). k + count_by is_split (word_of (trace faces g))) (fan_count_carried faces g h (order_of (trace faces g)) G T.gluing (renumbers faces g G F) K)
+        ∙ ap (λ (k : ℕ). k + count_by is_split (word_of (trace faces g))) (renumbered_alike faces g h (order_of (trace faces g)) G (renumbers faces g G F) K)
 
 pub walk_is_kept : WalkIsKept
 walk_is_kept p g h G F K symbols enough =

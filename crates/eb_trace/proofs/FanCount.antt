@@ -20,7 +20,7 @@ lesser faces g c d = nat_lt (number d) (number c) && meets faces g c d
 abbrev is_least : ℕ → Gluing → Side → Bool
 is_least faces g c = not (list_any (λ (d : Side). lesser faces g c d) (corners_of faces))
 
-count_none : (p : Side → Bool) → count_by p (corners_of zero) ≡ 0
+pub count_none : (p : Side → Bool) → count_by p (corners_of zero) ≡ 0
 unfolding corners_of
 count_none p = refl
 

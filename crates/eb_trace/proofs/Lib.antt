@@ -20,6 +20,7 @@ pub mod StartBits
 pub mod Naming
 pub mod Adding
 pub mod FanCount
+pub mod Vertices
 pub mod Merging
 pub mod Counting
 pub mod Counted

@@ -2,6 +2,7 @@
 
 ghost use Rattle.eb_trace.specs.Rebuilt.{CountsWord, EachStepReads, ReadsWord, RebuildsWord};
 ghost use Rattle.eb_trace.specs.Kept.{WalkIsCounted, WalkIsKept, WalkIsReadable, WalkOrders};
+ghost use Rattle.eb_trace.specs.Vertices.{FaceAddsThree, LabelsAreFans, NothingHasNone, RenumberedAlike};
 
 /// Reverse decoding reads every readable table from its word: each symbol takes the state before its
 /// face, read from the table, to the state after it. The whole run over the word, with its events and
@@ -27,4 +28,14 @@ pub fn walk_keeps_surface()
     ensures told { WalkIsReadable }
     ensures counted { WalkIsCounted }
     ensures kept { WalkIsKept }
+{}
+
+/// The number of fans, which is the number of vertices of a surface: none without faces, three more for a
+/// face with no side glued, as many as there are labels where the vertices are labelled, and the same
+/// under new numbers of the faces. This is the contract of a call that does nothing.
+pub fn fans_are_counted()
+    ensures none { NothingHasNone }
+    ensures face { FaceAddsThree }
+    ensures labels { LabelsAreFans }
+    ensures renumbered { RenumberedAlike }
 {}
