@@ -1,9 +1,10 @@
 -- The vertices made are the fans of the surface and the S of its word, so that no fewer need be declared.
-use Rattle.std.proofs.Common.{◌≡◌, ℕ, zero, suc, ◌+◌, ◌*◌, ◌<◌, ◌≤◌, Bool, true, false, cond, nat_lt, List, [], length, get_or, take, reverse, Option, Some, None, ◌⊎◌, inl, inr, sym, refl, ap, ◌∙◌, subst, arith, add-one, lt-ltb, le-ltb}
+use Rattle.std.proofs.Common.{◌≡◌, ℕ, zero, suc, ◌+◌, ◌*◌, ◌<◌, ◌≤◌, Bool, true, false, cond, nat_lt, List, [], length, get_or, take, reverse, Option, Some, None, Err, ◌⊎◌, inl, inr, sym, refl, ap, ◌∙◌, subst, arith, add-one, lt-ltb, le-ltb}
 use Rattle.std.proofs.lemmas.Bool.{cases_lt, cases_Bool, cond-true, cond-false}
 use Rattle.std.proofs.lemmas.List.{take_all}
 use Rattle.std.proofs.lemmas.List.Sums.{count_by_more_yes, count_by_more_no}
 use Rattle.std.specs.List.{count_by}
+use Rattle.drc_base.specs.declared.kinds.Kind.TheVariants as kind
 use Rattle.corner_table.specs.declared.symbols.Symbol.{Symbol}
 use Rattle.corner_table.specs.declared.symbols.Symbol.TheVariants.{E}
 use Rattle.corner_table.specs.declared.symbols.Event.{Event}
@@ -12,19 +13,20 @@ use Rattle.corner_table.specs.Fans.{InFan, HasThreeFans}
 use Rattle.corner_table.specs.Carried.{carry, IsRenumbering, IsCarried}
 use Rattle.corner_table.proofs.Places.{option_tells, Some_injective}
 use Rattle.corner_table.proofs.Carrying.{carry-within, carry_injective, carry_onto, fans_carried, three_fans_carried}
-use Rattle.eb_rebuild.specs.Machine.{rebuild}
+use Rattle.eb_rebuild.specs.Machine.{Plan, rebuild, fault}
+use Rattle.eb_rebuild.proofs.Steps.{Next}
 use Rattle.eb_trace.specs.Readable.{IsReadable}
 use Rattle.eb_trace.specs.Front.{is_split, made_by, events_left, start_bits}
 use Rattle.eb_trace.specs.Rebuilt.{symbol_at, CountsWord}
 use Rattle.eb_trace.specs.Trace.{fan_count, trace, order_of, word_of}
-use Rattle.eb_trace.specs.Kept.{WalkIsCounted, WalkIsKept}
+use Rattle.eb_trace.specs.Kept.{WalkIsCounted, WalkIsKept, WalkNeedsAll}
 use Rattle.eb_trace.proofs.Naming.{IsNaming, namings_agree}
 use Rattle.eb_trace.proofs.Adding.{Among, HasFans}
 use Rattle.eb_trace.proofs.Vertices.{fans_are, renumbered_alike}
 use Rattle.eb_trace.proofs.Counting.{splits_before, splits_none, splits_more, made_in_all}
 use Rattle.eb_trace.proofs.Order.{renumbers}
 use Rattle.eb_trace.proofs.StartBits.{word_readable, word_events, word_bits}
-use Rattle.eb_trace.proofs.Whole.{rebuilds_word}
+use Rattle.eb_trace.proofs.Whole.{rebuilds_word, refuses_fewer}
 
 count_zero : (xs : List Symbol) → count_by is_split (take 0 xs) ≡ 0
 count_zero xs = refl
@@ -130,11 +132,28 @@ walk_is_counted faces g G F = go (is_renumbered faces g (order_of (trace faces g
         made_is faces h (word_of (trace faces g)) T
         ∙ ap (λ (k : ℕ). k + count_by is_split (word_of (trace faces g))) (renumbered_alike faces g h (order_of (trace faces g)) G (renumbers faces g G F) K)
 
+-- the walk's own events and bits are those that the surface tells
+as_told : (p : Plan) (g h : Gluing) (G : IsGluing p.faces g) (F : HasThreeFans p.faces g) (K : IsCarried p.faces g (order_of (trace p.faces g)) h) →
+    rebuild p (word_of (trace p.faces g)) (trace p.faces g).events (λ k. get_or (reverse (trace p.faces g).bits) k false)
+    ≡ rebuild p (word_of (trace p.faces g)) (events_left (length (word_of (trace p.faces g))) h (symbol_at (word_of (trace p.faces g))) (length (word_of (trace p.faces g)))) (λ k. get_or (start_bits (length (word_of (trace p.faces g))) h) k false)
+as_told p g h G F K =
+    let w = word_of (trace p.faces g) in
+    ap (λ (events : List Event). rebuild p w events (λ k. get_or (reverse (trace p.faces g).bits) k false)) (word_events p.faces g G F h K)
+    ∙ ap (λ (bits : List Bool). rebuild p w (events_left (length w) h (symbol_at w) (length w)) (λ k. get_or bits k false)) (word_bits p.faces g G F h K)
+
 pub walk_is_kept : WalkIsKept
 walk_is_kept p g h G F K symbols enough =
     let w = word_of (trace p.faces g) in
     let made = walk_is_counted p.faces g G F in
     let few : made_by (symbol_at w) (length w) ≤ p.created = subst (λ (k : ℕ). k ≤ p.created) (sym made) enough in
-    ap (λ (events : List Event). rebuild p w events (λ k. get_or (reverse (trace p.faces g).bits) k false)) (word_events p.faces g G F h K)
-    ∙ ap (λ (bits : List Bool). rebuild p w (events_left (length w) h (symbol_at w) (length w)) (λ k. get_or bits k false)) (word_bits p.faces g G F h K)
+    as_told p g h G F K
     ∙ rebuilds_word p h w (word_readable p.faces g G F h K) symbols (three_fans_carried (renumbers p.faces g G F) K F) few
+
+pub walk_needs_all : WalkNeedsAll
+walk_needs_all p g h G F K symbols few =
+    let w = word_of (trace p.faces g) in
+    let made = walk_is_counted p.faces g G F in
+    let less : p.created < made_by (symbol_at w) (length w) = subst (λ (k : ℕ). p.created < k) (sym made) few in
+    as_told p g h G F K
+    ∙ refuses_fewer p h w (word_readable p.faces g G F h K) symbols less
+    ∙ ap (λ (k : ℕ). let x : Next = Err (fault kind.VertexCount k) in x) made

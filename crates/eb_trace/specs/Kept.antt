@@ -1,9 +1,10 @@
 -- The walk keeps the surface: reverse decoding of what it notes rebuilds the surface, with its faces in the order of decoding.
-use Rattle.std.specs.Prelude.{◌≡◌, ℕ, ◌+◌, ◌≤◌, false, reverse, length, get_or, Ok, count_by}
+use Rattle.std.specs.Prelude.{◌≡◌, ℕ, ◌+◌, ◌<◌, ◌≤◌, false, reverse, length, get_or, Ok, Err, count_by}
+use Rattle.drc_base.specs.declared.kinds.Kind.TheVariants as kind
 use Rattle.corner_table.specs.Sides.{Gluing, IsGluing}
 use Rattle.corner_table.specs.Fans.{HasThreeFans}
 use Rattle.corner_table.specs.Carried.{IsRenumbering, IsCarried}
-use Rattle.eb_rebuild.specs.Machine.{Plan, rebuild}
+use Rattle.eb_rebuild.specs.Machine.{Plan, rebuild, fault}
 use Rattle.eb_trace.specs.Readable.{IsReadable}
 use Rattle.eb_trace.specs.Front.{is_split, events_left, start_bits, made_by}
 use Rattle.eb_trace.specs.Rebuilt.{symbol_at, finished}
@@ -34,3 +35,9 @@ abbrev pub WalkIsKept : Type 0
 WalkIsKept = (p : Plan) (g h : Gluing) → IsGluing p.faces g → HasThreeFans p.faces g → IsCarried p.faces g (order_of (trace p.faces g)) h → p.symbols ≡ length (word_of (trace p.faces g)) →
     fan_count p.faces g + count_by is_split (word_of (trace p.faces g)) ≤ p.created →
     rebuild p (word_of (trace p.faces g)) (trace p.faces g).events (λ k. get_or (reverse (trace p.faces g).bits) k false) ≡ Ok (finished p.faces h (word_of (trace p.faces g)))
+
+-- no fewer vertices will do: they are refused, and the fault says how many it takes
+abbrev pub WalkNeedsAll : Type 0
+WalkNeedsAll = (p : Plan) (g h : Gluing) → IsGluing p.faces g → HasThreeFans p.faces g → IsCarried p.faces g (order_of (trace p.faces g)) h → p.symbols ≡ length (word_of (trace p.faces g)) →
+    p.created < fan_count p.faces g + count_by is_split (word_of (trace p.faces g)) →
+    rebuild p (word_of (trace p.faces g)) (trace p.faces g).events (λ k. get_or (reverse (trace p.faces g).bits) k false) ≡ Err (fault kind.VertexCount (fan_count p.faces g + count_by is_split (word_of (trace p.faces g))))

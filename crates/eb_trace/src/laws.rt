@@ -1,19 +1,20 @@
 //! What holds of the definitions themselves.
 
-ghost use Rattle.eb_trace.specs.Rebuilt.{CountsWord, EachStepReads, ReadsWord, RebuildsWord};
-ghost use Rattle.eb_trace.specs.Kept.{WalkIsCounted, WalkIsKept, WalkIsReadable, WalkOrders};
+ghost use Rattle.eb_trace.specs.Rebuilt.{CountsWord, EachStepReads, ReadsWord, RebuildsWord, RefusesFewer};
+ghost use Rattle.eb_trace.specs.Kept.{WalkIsCounted, WalkIsKept, WalkIsReadable, WalkNeedsAll, WalkOrders};
 ghost use Rattle.eb_trace.specs.Vertices.{FaceAddsThree, LabelsAreFans, NothingHasNone, RenumberedAlike};
 
 /// Reverse decoding reads every readable table from its word: each symbol takes the state before its
 /// face, read from the table, to the state after it. The whole run over the word, with its events and
 /// start bits, meets no fault and ends with the table built; and where the faces have three fans each
-/// and no fewer vertices are declared than are made, it passes the tests at the end too. The vertices
-/// made are as many as the fans of the table and the S of the word together. This is the contract of a
-/// call that does nothing.
+/// and no fewer vertices are declared than are made, it passes the tests at the end too; fewer are
+/// refused. The vertices made are as many as the fans of the table and the S of the word together. This
+/// is the contract of a call that does nothing.
 pub fn readable_is_rebuilt()
     ensures steps { EachStepReads }
     ensures run { ReadsWord }
     ensures rebuilt { RebuildsWord }
+    ensures refused { RefusesFewer }
     ensures counted { CountsWord }
 {}
 
@@ -22,12 +23,14 @@ pub fn readable_is_rebuilt()
 /// most; the surface in that order is readable from the walk's word, and tells the walk's events and
 /// start bits; the vertices that reverse decoding makes are as many as the fans of the surface and the S
 /// of the word together; and reverse decoding of all these, with no fewer vertices declared than that,
-/// meets no fault and gives the surface in that order. This is the contract of a call that does nothing.
+/// meets no fault and gives the surface in that order. Fewer are refused, with a fault that says how many
+/// it takes. This is the contract of a call that does nothing.
 pub fn walk_keeps_surface()
     ensures order { WalkOrders }
     ensures told { WalkIsReadable }
     ensures counted { WalkIsCounted }
     ensures kept { WalkIsKept }
+    ensures needed { WalkNeedsAll }
 {}
 
 /// The number of fans, which is the number of vertices of a surface: none without faces, three more for a
