@@ -44,7 +44,7 @@ fan_more m g (rightwards {c = c} {d = d} s p) =
     rightwards (crosses-right (below (suc m) g) c d (below_in (suc m) g (prev c) (next d) (omega arith) t.1 (omega arith))) (fan_more m g p)
 
 -- a fan is of corners among the faces, or of one corner
-within_or_one : {m : ℕ} {h : Gluing} → IsGluing m h → {c d : Side} → InFan h c d → ((c.face < m) × (d.face < m)) ⊎ (c ≡ d)
+pub within_or_one : {m : ℕ} {h : Gluing} → IsGluing m h → {c d : Side} → InFan h c d → ((c.face < m) × (d.face < m)) ⊎ (c ≡ d)
 within_or_one H here = inr refl
 within_or_one {m} {h} H (leftwards {c = c} {d = x} {e = d} s p) =
     let a : c.face < m = H.within (next c) (prev x) (left_crosses h c x s) in

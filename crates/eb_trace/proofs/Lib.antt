@@ -24,3 +24,4 @@ pub mod Vertices
 pub mod Merging
 pub mod Counting
 pub mod Counted
+pub mod Joining

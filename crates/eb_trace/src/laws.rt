@@ -2,7 +2,7 @@
 
 ghost use Rattle.eb_trace.specs.Rebuilt.{CountsWord, EachStepReads, ReadsWord, RebuildsWord, RefusesFewer};
 ghost use Rattle.eb_trace.specs.Kept.{WalkIsCounted, WalkIsKept, WalkIsReadable, WalkNeedsAll, WalkOrders};
-ghost use Rattle.eb_trace.specs.Vertices.{FaceAddsThree, LabelsAreFans, NothingHasNone, RenumberedAlike};
+ghost use Rattle.eb_trace.specs.Vertices.{FaceAddsThree, GluingJoins, LabelsAreFans, NothingHasNone, RenumberedAlike};
 
 /// Reverse decoding reads every readable table from its word: each symbol takes the state before its
 /// face, read from the table, to the state after it. The whole run over the word, with its events and
@@ -34,11 +34,13 @@ pub fn walk_keeps_surface()
 {}
 
 /// The number of fans, which is the number of vertices of a surface: none without faces, three more for a
-/// face with no side glued, as many as there are labels where the vertices are labelled, and the same
-/// under new numbers of the faces. This is the contract of a call that does nothing.
+/// face with no side glued, at most two fewer for a gluing of two sides (one for each of the two meetings
+/// of their ends that makes one fan of two), as many as there are labels where the vertices are labelled,
+/// and the same under new numbers of the faces. This is the contract of a call that does nothing.
 pub fn fans_are_counted()
     ensures none { NothingHasNone }
     ensures face { FaceAddsThree }
+    ensures gluing { GluingJoins }
     ensures labels { LabelsAreFans }
     ensures renumbered { RenumberedAlike }
 {}
