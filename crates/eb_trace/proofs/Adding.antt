@@ -1,14 +1,12 @@
 -- How the fans change as one face more is built: what a name is given to each of its corners, and how many names there are.
-use Rattle.std.proofs.Common.{◌≡◌, ◌≢◌, ℕ, suc, ◌+◌, ◌<◌, ◌≤◌, cond, ◌==◌, None, Some, ◌⊎◌, inl, inr, sym, refl, ap, ◌∙◌, subst, arith, eq-eqb, ne_eqb}
-use Rattle.std.proofs.lemmas.Bool.{cases_lt, cases_eq, cond-true, cond-false}
-use Rattle.corner_table.specs.Sides.{Side, Place, first, second, third, side, next, prev, Gluing, glue, IsGluing}
-use Rattle.corner_table.specs.Fans.{swing_left, swing_right, InFan, here, leftwards, rightwards}
+use Rattle.std.proofs.Common.{◌≡◌, ℕ, suc, ◌+◌, ◌<◌, cond, ◌==◌, Some, ◌⊎◌, inl, inr, sym, refl, ap, ◌∙◌, subst, arith, eq-eqb, ne_eqb}
+use Rattle.std.proofs.lemmas.Bool.{cases_lt, cond-true, cond-false}
+use Rattle.corner_table.specs.Sides.{Side, Place, first, second, third, side, next, prev, Gluing, IsGluing}
+use Rattle.corner_table.specs.Fans.{InFan, here, leftwards, rightwards}
 use Rattle.corner_table.proofs.Places.{next-prev, prev-next}
 use Rattle.corner_table.proofs.Walks.{left_crosses, right_crosses, crosses-left, crosses-right, left-within, right-within, fan_trans, fan_sym}
-use Rattle.corner_table.proofs.Gluings.{alike_after}
-use Rattle.eb_trace.specs.Readable.{IsPast}
 use Rattle.eb_trace.specs.Front.{below}
-use Rattle.eb_trace.proofs.Below.{below_in, below_tells, below_is, by_place, adds_none, adds_one, adds_two, adds_three}
+use Rattle.eb_trace.proofs.Below.{below_in, below_tells, below_is, by_place}
 use Rattle.eb_trace.proofs.Naming.{IsNaming, IsSorting, With, named_also, add_known, add_new, of_equal}
 
 pub fans_sort : {faces : ℕ} {g : Gluing} → IsGluing faces g → IsSorting (InFan g)

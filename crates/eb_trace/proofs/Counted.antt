@@ -1,5 +1,5 @@
 -- The vertices made are the fans of the surface and the S of its word, so that no fewer need be declared.
-use Rattle.std.proofs.Common.{◌≡◌, ℕ, zero, suc, ◌+◌, ◌*◌, ◌<◌, ◌≤◌, Bool, true, false, cond, nat_lt, List, [], length, get_or, take, reverse, Option, Some, None, Err, ◌⊎◌, inl, inr, sym, refl, ap, ◌∙◌, subst, arith, add-one, lt-ltb, le-ltb}
+use Rattle.std.proofs.Common.{◌≡◌, ℕ, zero, suc, ◌+◌, ◌<◌, ◌≤◌, Bool, false, cond, nat_lt, List, length, get_or, take, reverse, Option, Some, None, Err, ◌⊎◌, inl, inr, sym, refl, ap, ◌∙◌, subst, arith, add-one, lt-ltb, le-ltb}
 use Rattle.std.proofs.lemmas.Bool.{cases_lt, cases_Bool, cond-true, cond-false}
 use Rattle.std.proofs.lemmas.List.{take_all}
 use Rattle.std.proofs.lemmas.List.Sums.{count_by_more_yes, count_by_more_no}
@@ -9,10 +9,10 @@ use Rattle.corner_table.specs.declared.symbols.Symbol.{Symbol}
 use Rattle.corner_table.specs.declared.symbols.Symbol.TheVariants.{E}
 use Rattle.corner_table.specs.declared.symbols.Event.{Event}
 use Rattle.corner_table.specs.Sides.{Side, Gluing, IsGluing}
-use Rattle.corner_table.specs.Fans.{InFan, HasThreeFans}
+use Rattle.corner_table.specs.Fans.{HasThreeFans}
 use Rattle.corner_table.specs.Carried.{carry, IsRenumbering, IsCarried}
 use Rattle.corner_table.proofs.Places.{option_tells, Some_injective}
-use Rattle.corner_table.proofs.Carrying.{carry-within, carry_injective, carry_onto, fans_carried, three_fans_carried}
+use Rattle.corner_table.proofs.Carrying.{carry-within, carry_injective, carry_onto, three_fans_carried}
 use Rattle.eb_rebuild.specs.Machine.{Plan, rebuild, fault}
 use Rattle.eb_rebuild.proofs.Steps.{Next}
 use Rattle.eb_trace.specs.Readable.{IsReadable}
@@ -20,8 +20,6 @@ use Rattle.eb_trace.specs.Front.{is_split, made_by, events_left, start_bits}
 use Rattle.eb_trace.specs.Rebuilt.{symbol_at, CountsWord}
 use Rattle.eb_trace.specs.Trace.{fan_count, trace, order_of, word_of}
 use Rattle.eb_trace.specs.Kept.{WalkIsCounted, WalkIsKept, WalkNeedsAll}
-use Rattle.eb_trace.proofs.Naming.{IsNaming, namings_agree}
-use Rattle.eb_trace.proofs.Adding.{Among, HasFans}
 use Rattle.eb_trace.proofs.Vertices.{fans_are, renumbered_alike}
 use Rattle.eb_trace.proofs.Counting.{splits_before, splits_none, splits_more, made_in_all}
 use Rattle.eb_trace.proofs.Order.{renumbers}

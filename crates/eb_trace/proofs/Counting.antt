@@ -1,6 +1,5 @@
 -- Each symbol makes as many vertices as it brings fans, and S takes one away; interior start faces bring none.
 use Rattle.std.proofs.Common.{◌≡◌, ◌≢◌, ℕ, zero, suc, ◌+◌, ◌-◌, ◌<◌, ◌≤◌, cond, Some, ◌⊎◌, inl, inr, sym, refl, ap, ◌∙◌, subst, arith}
-use Rattle.std.proofs.lemmas.Bool.{cases_lt}
 use Rattle.corner_table.specs.declared.symbols.Symbol.{Symbol}
 use Rattle.corner_table.specs.declared.symbols.Symbol.TheVariants.{C, S, L, R, E}
 use Rattle.corner_table.specs.Sides.{Side, Place, first, second, third, side, next, prev, Gluing, glue}
@@ -11,9 +10,8 @@ use Rattle.corner_table.proofs.Gluings.{alike_after}
 use Rattle.eb_trace.specs.Readable.{IsReadable, Says, IsPast, GoesOn, IsNewTip, IsSplit, IsRinged}
 use Rattle.eb_trace.specs.Front.{below, is_split, vertices_made, made_by}
 use Rattle.eb_trace.proofs.Below.{below_in, below_is, below_whole, by_place, Gap, gap, meets_ring, ring_more, adds_none, adds_one, adds_two, adds_three}
-use Rattle.eb_trace.proofs.Naming.{IsNaming}
 use Rattle.eb_trace.proofs.Merging.{IsMerging, merging_any}
-use Rattle.eb_trace.proofs.Adding.{Among, HasFans, IsBase, base_of, at_place, spread, spread_old, spread_new, spread_alike, fan_more, ends_meet, starts_meet, none_new, one_new, three_new}
+use Rattle.eb_trace.proofs.Adding.{HasFans, IsBase, base_of, at_place, spread, spread_old, spread_new, spread_alike, fan_more, ends_meet, starts_meet, none_new, one_new, three_new}
 
 module _ (faces : ℕ) (g : Gluing) (n : ℕ) (word : ℕ → Symbol) (T : IsReadable faces g n word) where
   -- what a symbol brings to k fans: as many as the vertices that it makes, but an S one fewer

@@ -1,6 +1,6 @@
 -- The number of fans: the corners with no lesser corner in their fan name all fans.
-use Rattle.std.proofs.Common.{◌≡◌, ℕ, zero, suc, ◌+◌, ◌*◌, ◌<◌, ◌≤◌, Bool, true, false, not, ◌&&◌, nat_lt, cond, List, [], ◌∷◌, ◌++◌, inl, inr, sym, refl, ap, ◌∙◌, subst, arith, lt-ltb}
-use Rattle.std.proofs.lemmas.Bool.{cases_lt, cases_eq, cases_Bool, cond-true, cond-false, and_parts, and_from, ltb-true}
+use Rattle.std.proofs.Common.{◌≡◌, ℕ, zero, suc, ◌+◌, ◌*◌, ◌<◌, ◌≤◌, Bool, true, false, not, ◌&&◌, nat_lt, cond, [], ◌∷◌, ◌++◌, inl, inr, sym, refl, ap, ◌∙◌, subst, arith, lt-ltb}
+use Rattle.std.proofs.lemmas.Bool.{cases_eq, cases_Bool, cond-true, cond-false, and_parts, and_from, ltb-true}
 use Rattle.std.proofs.lemmas.List.Sums.{sum_by-append}
 use Rattle.std.specs.List.{list_any, count_by}
 use Rattle.corner_table.specs.Sides.{Side, first, second, third, side, number, Gluing, IsGluing}
@@ -9,7 +9,7 @@ use Rattle.corner_table.proofs.Numbers.{number_injective, number-lt}
 use Rattle.corner_table.proofs.Meeting.{fan_meets, meets-fan}
 use Rattle.eb_trace.specs.Trace.{fan_count}
 use Rattle.eb_trace.proofs.Visited.{any_corner, any_tells}
-use Rattle.eb_trace.proofs.Naming.{IsNaming, With, named_also, add_known, add_new, of_equal}
+use Rattle.eb_trace.proofs.Naming.{IsNaming, With, add_known, add_new, of_equal}
 use Rattle.eb_trace.proofs.Adding.{fans_sort, HasFans}
 
 -- a lesser corner of the same fan

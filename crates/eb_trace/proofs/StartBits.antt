@@ -1,5 +1,5 @@
 -- The start bits of the walk are those that the decoded table tells, and the whole: reverse decoding of what the walk notes keeps the surface.
-use Rattle.std.proofs.Common.{◌≡◌, ℕ, zero, suc, ◌+◌, ◌-◌, ◌<◌, ◌≤◌, Bool, true, false, cond, is_some, List, [], ◌∷◌, ◌++◌, map, reverse, length, get_or, Option, Some, None, inl, inr, sym, refl, ap, ◌∙◌, subst, arith, append_assoc, append-nil}
+use Rattle.std.proofs.Common.{◌≡◌, ℕ, zero, suc, ◌+◌, ◌-◌, ◌<◌, ◌≤◌, Bool, true, false, cond, is_some, List, [], ◌∷◌, ◌++◌, map, reverse, length, Option, Some, None, inl, inr, sym, refl, ap, ◌∙◌, subst, arith, append_assoc, append-nil}
 use Rattle.std.proofs.lemmas.List.{reverse-append, length-map}
 use Rattle.corner_table.specs.Sides.{Side, first, side, Gluing, IsGluing}
 use Rattle.corner_table.specs.Fans.{HasThreeFans}

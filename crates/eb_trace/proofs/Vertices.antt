@@ -1,9 +1,9 @@
 -- The number of fans of no faces, of one face more, of a labelled surface, and of one under new numbers.
-use Rattle.std.proofs.Common.{◌≡◌, ℕ, suc, ◌+◌, ◌<◌, ◌≤◌, Bool, List, sym, ap, ◌∙◌, subst, arith}
+use Rattle.std.proofs.Common.{◌≡◌, ℕ, suc, ◌+◌, sym, ap, ◌∙◌, subst, arith}
 use Rattle.corner_table.specs.Sides.{Side, Gluing, IsGluing}
 use Rattle.corner_table.specs.Fans.{InFan}
-use Rattle.corner_table.specs.Labels.{label_at, IsLabelled}
-use Rattle.corner_table.specs.Carried.{carry, IsRenumbering, IsCarried}
+use Rattle.corner_table.specs.Labels.{label_at}
+use Rattle.corner_table.specs.Carried.{carry}
 use Rattle.corner_table.proofs.Gluings.{more_faces}
 use Rattle.corner_table.proofs.Carrying.{carried_gluing, carry-within, carry_onto, fans_carried}
 use Rattle.eb_trace.specs.Front.{below}
