@@ -3,3 +3,4 @@ pub mod Front
 pub mod Rebuilt
 pub mod Trace
 pub mod Kept
+pub mod Vertices

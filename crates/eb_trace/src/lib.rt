@@ -6,4 +6,4 @@
 
 mod laws;
 
-pub use laws::{readable_is_rebuilt, walk_keeps_surface};
+pub use laws::{fans_are_counted, readable_is_rebuilt, walk_keeps_surface};
