@@ -1,6 +1,6 @@
 //! Comparing and assembling a mesh in good safe Rust, beside the proved program of `geometry.txt`: a grid of
-//! 525,625 points and 1,048,352 faces with a label for each cell, and the same grid with its faces in reverse
-//! and turned. Writes `grid.ply` and `turned.ply` for both.
+//! 525,625 points and 1,048,352 faces, the same grid with its faces in reverse and turned, and a table of one
+//! attribute over its corners. Writes `grid.ply` and `turned.ply` for both.
 use std::time::Instant;
 
 const SIDE: usize = 725;
@@ -73,6 +73,36 @@ fn matches(a: &Mesh, b: &Mesh, rows: &[(u32, u8)]) -> bool {
     true
 }
 
+/// The distinct rows of the corners, in order of first occurrence, and each corner's number. Rows are found by a
+/// hash, in lists of those with one hash.
+fn assemble(values: &[i32], of_corner: &[u32]) -> Mesh {
+    let bits = 64 - (of_corner.len() as u64).leading_zeros();
+    let mut heads = vec![NONE; 1 << bits];
+    let mut nexts: Vec<u32> = Vec::new();
+    let mut points: Vec<i32> = Vec::new();
+    let mut faces = Vec::with_capacity(of_corner.len() / 3);
+    for corners in of_corner.chunks_exact(3) {
+        let mut face = [0; 3];
+        for (point, entry) in face.iter_mut().zip(corners) {
+            let value = values[*entry as usize];
+            let hash = (value as u64).wrapping_mul(0x9e37_79b9_7f4a_7c15) >> (64 - bits);
+            let mut at = heads[hash as usize];
+            while at != NONE && points[at as usize] != value {
+                at = nexts[at as usize];
+            }
+            if at == NONE {
+                at = points.len() as u32;
+                points.push(value);
+                nexts.push(heads[hash as usize]);
+                heads[hash as usize] = at;
+            }
+            *point = at;
+        }
+        faces.push(face);
+    }
+    Mesh { points, faces }
+}
+
 fn main() {
     let mesh = grid();
     let other = turned(&mesh);
@@ -85,5 +115,11 @@ fn main() {
         let same = matches(&mesh, &other, &rows);
         let picos = start.elapsed().as_nanos() * 1000 / count as u128;
         println!("matched {picos} ps an item, sum {}", u32::from(same));
+        let of_corner: Vec<u32> = mesh.faces.iter().flatten().copied().collect();
+        let labels: Vec<i32> = (0..mesh.points.len() as i32 / 3).collect();
+        let start = Instant::now();
+        let assembled = assemble(&labels, &of_corner);
+        let picos = start.elapsed().as_nanos() * 1000 / count as u128;
+        println!("assembled {picos} ps an item, sum {}", assembled.points.len());
     }
 }

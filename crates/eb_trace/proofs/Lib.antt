@@ -17,6 +17,14 @@ pub mod Order
 pub mod Decoded
 pub mod Noted
 pub mod StartBits
+pub mod Naming
+pub mod Adding
+pub mod FanCount
+pub mod Vertices
+pub mod Merging
+pub mod Counting
+pub mod Counted
+pub mod Joining
 pub mod Tables
 pub mod Marking
 pub mod Going

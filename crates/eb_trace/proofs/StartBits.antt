@@ -1,18 +1,15 @@
 -- The start bits of the walk are those that the decoded table tells, and the whole: reverse decoding of what the walk notes keeps the surface.
-use Rattle.std.proofs.Common.{◌≡◌, ℕ, zero, suc, ◌+◌, ◌-◌, ◌<◌, ◌≤◌, Bool, true, false, cond, is_some, List, [], ◌∷◌, ◌++◌, map, reverse, length, get_or, Option, Some, None, inl, inr, sym, refl, ap, ◌∙◌, subst, arith, append_assoc, append-nil}
+use Rattle.std.proofs.Common.{◌≡◌, ℕ, zero, suc, ◌+◌, ◌-◌, ◌<◌, ◌≤◌, Bool, true, false, cond, is_some, List, [], ◌∷◌, ◌++◌, map, reverse, length, Option, Some, None, inl, inr, sym, refl, ap, ◌∙◌, subst, arith, append_assoc, append-nil}
 use Rattle.std.proofs.lemmas.List.{reverse-append, length-map}
-use Rattle.corner_table.specs.declared.symbols.Event.{Event}
 use Rattle.corner_table.specs.Sides.{Side, first, side, Gluing, IsGluing}
 use Rattle.corner_table.specs.Fans.{HasThreeFans}
 use Rattle.corner_table.specs.Carried.{carry, IsCarried}
 use Rattle.corner_table.proofs.Places.{option_tells}
-use Rattle.corner_table.proofs.Carrying.{three_fans_carried}
-use Rattle.eb_rebuild.specs.Machine.{rebuild}
 use Rattle.eb_trace.specs.Readable.{IsReadable}
 use Rattle.eb_trace.specs.Front.{below, free_firsts, events_left, start_bits}
 use Rattle.eb_trace.specs.Rebuilt.{symbol_at}
 use Rattle.eb_trace.specs.Trace.{Entry, trace, order_of, word_of}
-use Rattle.eb_trace.specs.Kept.{WalkOrders, WalkIsReadable, WalkIsKept}
+use Rattle.eb_trace.specs.Kept.{WalkOrders, WalkIsReadable}
 use Rattle.eb_trace.proofs.Below.{below_in, below_free, below_past}
 use Rattle.eb_trace.proofs.Waiting.{firsts_none, firsts_free, firsts_glued}
 use Rattle.eb_trace.proofs.Visited.{is_inside}
@@ -21,7 +18,6 @@ use Rattle.eb_trace.proofs.Walked.{entries_of, insides_of, trace_ok}
 use Rattle.eb_trace.proofs.Order.{Numbered, of_symbol, of_inside, inside_is, first_is, renumbers}
 use Rattle.eb_trace.proofs.Decoded.{cor, outside_of, down, up, number_of, readable}
 use Rattle.eb_trace.proofs.Noted.{events_told}
-use Rattle.eb_trace.proofs.Whole.{rebuilds_word}
 
 one_back : (b : Bool) → reverse (cond b (true ∷ []) []) ≡ cond b (true ∷ []) []
 one_back true = refl
@@ -133,10 +129,3 @@ walk_orders faces g G F = renumbers faces g G F
 
 pub walk_is_readable : WalkIsReadable
 walk_is_readable faces g h G F K = record { readable = word_readable faces g G F h K; events = word_events faces g G F h K; bits = word_bits faces g G F h K }
-
-pub walk_is_kept : WalkIsKept
-walk_is_kept p g h G F K symbols made =
-    let w = word_of (trace p.faces g) in
-    ap (λ (events : List Event). rebuild p w events (λ k. get_or (reverse (trace p.faces g).bits) k false)) (word_events p.faces g G F h K)
-    ∙ ap (λ (bits : List Bool). rebuild p w (events_left (length w) h (symbol_at w) (length w)) (λ k. get_or bits k false)) (word_bits p.faces g G F h K)
-    ∙ rebuilds_word p h w (word_readable p.faces g G F h K) symbols (three_fans_carried (renumbers p.faces g G F) K F) made

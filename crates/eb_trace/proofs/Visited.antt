@@ -158,7 +158,7 @@ symbol_tells false true false = (refl, refl, refl)
 symbol_tells false true true = (refl, refl, refl)
 
 -- all corners of the faces are listed
-any_corner : (test : Side → Bool) (faces : ℕ) (d : Side) → d.face < faces → test d ≡ true → list_any test (corners_of faces) ≡ true
+pub any_corner : (test : Side → Bool) (faces : ℕ) (d : Side) → d.face < faces → test d ≡ true → list_any test (corners_of faces) ≡ true
 unfolding corners_of
 any_corner test zero d h e = absurd (omega arith)
 any_corner test (suc f) d h e =
@@ -173,7 +173,7 @@ any_corner test (suc f) d h e =
     go second t = or_right (test (side f first)) _ (or_left (test (side f second)) _ t)
     go third t = or_right (test (side f first)) _ (or_right (test (side f second)) _ (or_left (test (side f third)) _ t))
 
-any_tells : {A : Type 0} (test : A → Bool) (xs : List A) → list_any test xs ≡ true → (x : A) × (test x ≡ true)
+pub any_tells : {A : Type 0} (test : A → Bool) (xs : List A) → list_any test xs ≡ true → (x : A) × (test x ≡ true)
 any_tells test [] h = absurd (let no : false ≡ true = h in cc)
 any_tells test (x ∷ xs) h = elim (or_cases (test x) (list_any test xs) h) [ inl a ↦ (x, a) | inr b ↦ any_tells test xs b ]
 

@@ -10,10 +10,10 @@ use Rattle.corner_table.specs.Fans.{HasThreeFans, meets}
 use Rattle.corner_table.proofs.Meeting.{meets-fan}
 use Rattle.eb_rebuild.specs.Machine.{State, Plan, start, step, take_symbols, close_all, finish, rebuild, is_degenerate, first_degenerate, ◌>>=◌}
 use Rattle.eb_rebuild.proofs.Steps.{Next, the_state, same_state, then_ok}
-use Rattle.eb_rebuild.proofs.Ends.{finish_done}
+use Rattle.eb_rebuild.proofs.Ends.{finish_done, finish_vertices}
 use Rattle.eb_trace.specs.Readable.{IsReadable}
 use Rattle.eb_trace.specs.Front.{below, free_firsts, kept_for, events_left, made_by, front, start_bits}
-use Rattle.eb_trace.specs.Rebuilt.{symbol_at, EachStepReads, finished, ReadsWord, RebuildsWord}
+use Rattle.eb_trace.specs.Rebuilt.{symbol_at, EachStepReads, finished, ReadsWord, RebuildsWord, RefusesFewer}
 use Rattle.eb_trace.proofs.Below.{below_nothing, below_whole}
 use Rattle.eb_trace.proofs.Waiting.{firsts_none}
 use Rattle.eb_trace.proofs.Kept.{kept_early, kept_late, kept_none_yet}
@@ -105,13 +105,20 @@ none_degenerate : (faces : ℕ) (g : Gluing) → HasThreeFans faces g → (n : �
 none_degenerate faces g F zero h = degenerate_zero faces g
 none_degenerate faces g F (suc n) h = degenerate_not faces g n (none_degenerate faces g F n (omega arith)) (three_fans faces g F n (omega arith))
 
-pub rebuilds_word : RebuildsWord
+-- the run comes to the tests at the end with the table built
+pub comes_to_end : (p : Plan) (g : Gluing) (word : List Symbol) → IsReadable p.faces g (length word) (symbol_at word) → p.symbols ≡ length word →
+    rebuild p word (events_left (length word) g (symbol_at word) (length word)) (bits_of (length word) g) ≡ finish p (finished p.faces g word)
 unfolding rebuild
-rebuilds_word p g word T count F made =
+comes_to_end p g word T count =
     let n = length word in
     let events = events_left n g (symbol_at word) n in
     let bits = bits_of n g in
     ap (λ (k : ℕ). take_symbols k word (start events) >>= λ s. close_all p bits (length s.stack) s >>= finish p) count
     ∙ then_ok (take_symbols n word (start events)) (front n g (symbol_at word) n) (λ s. close_all p bits (length s.stack) s >>= finish p) (symbols_taken p g word T)
     ∙ then_ok (close_all p bits (length (free_firsts (below n g) n)) (front n g (symbol_at word) n)) (finished p.faces g word) (finish p) (all_closed p g word T)
-    ∙ finish_done p (finished p.faces g word) refl made (none_degenerate p.faces g F p.faces (omega arith))
+
+pub rebuilds_word : RebuildsWord
+rebuilds_word p g word T count F made = comes_to_end p g word T count ∙ finish_done p (finished p.faces g word) refl made (none_degenerate p.faces g F p.faces (omega arith))
+
+pub refuses_fewer : RefusesFewer
+refuses_fewer p g word T count few = comes_to_end p g word T count ∙ finish_vertices p (finished p.faces g word) (made_by (symbol_at word) (length word)) refl few refl

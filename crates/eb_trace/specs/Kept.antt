@@ -1,13 +1,14 @@
 -- The walk keeps the surface: reverse decoding of what it notes rebuilds the surface, with its faces in the order of decoding.
-use Rattle.std.specs.Prelude.{◌≡◌, ℕ, ◌≤◌, false, reverse, length, get_or, Ok}
+use Rattle.std.specs.Prelude.{◌≡◌, ℕ, ◌+◌, ◌<◌, ◌≤◌, false, reverse, length, get_or, Ok, Err, count_by}
+use Rattle.drc_base.specs.declared.kinds.Kind.TheVariants as kind
 use Rattle.corner_table.specs.Sides.{Gluing, IsGluing}
 use Rattle.corner_table.specs.Fans.{HasThreeFans}
 use Rattle.corner_table.specs.Carried.{IsRenumbering, IsCarried}
-use Rattle.eb_rebuild.specs.Machine.{Plan, rebuild}
+use Rattle.eb_rebuild.specs.Machine.{Plan, rebuild, fault}
 use Rattle.eb_trace.specs.Readable.{IsReadable}
-use Rattle.eb_trace.specs.Front.{events_left, start_bits, made_by}
+use Rattle.eb_trace.specs.Front.{is_split, events_left, start_bits, made_by}
 use Rattle.eb_trace.specs.Rebuilt.{symbol_at, finished}
-use Rattle.eb_trace.specs.Trace.{trace, word_of, order_of}
+use Rattle.eb_trace.specs.Trace.{trace, word_of, order_of, fan_count}
 
 -- the order of decoding lists each face once
 abbrev pub WalkOrders : Type 0
@@ -22,9 +23,21 @@ pub record IsToldBy (faces : ℕ) (g h : Gluing) : Type 0 where
 abbrev pub WalkIsReadable : Type 0
 WalkIsReadable = (faces : ℕ) (g h : Gluing) → IsGluing faces g → HasThreeFans faces g → IsCarried faces g (order_of (trace faces g)) h → IsToldBy faces g h
 
--- for any number of components, holes, handles and cut vertices: the machine that is fed the word, the events and the start bits of the walk
--- meets no fault, and its pairs are those of the surface in the order of decoding
+-- the vertices that reverse decoding makes are the fans of the surface and, once more, each vertex that an S takes away
+abbrev pub WalkIsCounted : Type 0
+WalkIsCounted = (faces : ℕ) (g : Gluing) → IsGluing faces g → HasThreeFans faces g →
+    made_by (symbol_at (word_of (trace faces g))) (length (word_of (trace faces g))) ≡ fan_count faces g + count_by is_split (word_of (trace faces g))
+
+-- for any number of components, holes, handles and cut vertices: the machine that is made for all faces and for no fewer vertices than the
+-- fans and the S, and is fed the word, the events and the start bits of the walk, meets no fault, and its pairs are those of the surface in
+-- the order of decoding
 abbrev pub WalkIsKept : Type 0
 WalkIsKept = (p : Plan) (g h : Gluing) → IsGluing p.faces g → HasThreeFans p.faces g → IsCarried p.faces g (order_of (trace p.faces g)) h → p.symbols ≡ length (word_of (trace p.faces g)) →
-    made_by (symbol_at (word_of (trace p.faces g))) (length (word_of (trace p.faces g))) ≤ p.created →
+    fan_count p.faces g + count_by is_split (word_of (trace p.faces g)) ≤ p.created →
     rebuild p (word_of (trace p.faces g)) (trace p.faces g).events (λ k. get_or (reverse (trace p.faces g).bits) k false) ≡ Ok (finished p.faces h (word_of (trace p.faces g)))
+
+-- no fewer vertices will do: they are refused, and the fault says how many it takes
+abbrev pub WalkNeedsAll : Type 0
+WalkNeedsAll = (p : Plan) (g h : Gluing) → IsGluing p.faces g → HasThreeFans p.faces g → IsCarried p.faces g (order_of (trace p.faces g)) h → p.symbols ≡ length (word_of (trace p.faces g)) →
+    p.created < fan_count p.faces g + count_by is_split (word_of (trace p.faces g)) →
+    rebuild p (word_of (trace p.faces g)) (trace p.faces g).events (λ k. get_or (reverse (trace p.faces g).bits) k false) ≡ Err (fault kind.VertexCount (fan_count p.faces g + count_by is_split (word_of (trace p.faces g))))

@@ -4,3 +4,4 @@ pub mod Rebuilt
 pub mod Trace
 pub mod Stored
 pub mod Kept
+pub mod Vertices

@@ -1,12 +1,14 @@
 -- Reverse decoding reads every readable table: the steps, and the whole.
-use Rattle.std.specs.Prelude.{◌≡◌, ℕ, suc, ◌<◌, ◌≤◌, false, List, length, get_or, None, [], Ok}
+use Rattle.std.specs.Prelude.{◌≡◌, ℕ, suc, ◌+◌, ◌<◌, ◌≤◌, false, List, length, get_or, None, [], Ok, Err, count_by}
+use Rattle.drc_base.specs.declared.kinds.Kind.TheVariants as kind
 use Rattle.corner_table.specs.declared.symbols.Symbol.{Symbol}
 use Rattle.corner_table.specs.declared.symbols.Symbol.TheVariants.{E}
 use Rattle.corner_table.specs.Sides.{Gluing}
 use Rattle.corner_table.specs.Fans.{HasThreeFans}
-use Rattle.eb_rebuild.specs.Machine.{State, Plan, start, step, take_symbols, close_all, rebuild, ◌>>=◌}
+use Rattle.eb_rebuild.specs.Machine.{State, Plan, start, step, take_symbols, close_all, rebuild, fault, ◌>>=◌}
 use Rattle.eb_trace.specs.Readable.{IsReadable}
-use Rattle.eb_trace.specs.Front.{front, events_left, start_bits, made_by}
+use Rattle.eb_trace.specs.Front.{is_split, front, events_left, start_bits, made_by}
+use Rattle.eb_trace.specs.Trace.{fan_count}
 
 -- the symbols of a word by their numbers
 abbrev pub symbol_at : List Symbol → ℕ → Symbol
@@ -40,3 +42,13 @@ abbrev pub RebuildsWord : Type 0
 RebuildsWord = (p : Plan) (g : Gluing) (word : List Symbol) → IsReadable p.faces g (length word) (symbol_at word) → p.symbols ≡ length word →
     HasThreeFans p.faces g → made_by (symbol_at word) (length word) ≤ p.created →
     rebuild p word (events_left (length word) g (symbol_at word) (length word)) (λ k. get_or (start_bits (length word) g) k false) ≡ Ok (finished p.faces g word)
+
+-- where fewer are declared, it refuses them and says how many are made
+abbrev pub RefusesFewer : Type 0
+RefusesFewer = (p : Plan) (g : Gluing) (word : List Symbol) → IsReadable p.faces g (length word) (symbol_at word) → p.symbols ≡ length word →
+    p.created < made_by (symbol_at word) (length word) →
+    rebuild p word (events_left (length word) g (symbol_at word) (length word)) (λ k. get_or (start_bits (length word) g) k false) ≡ Err (fault kind.VertexCount (made_by (symbol_at word) (length word)))
+
+-- the vertices made are the fans of the table and, once more, each vertex that an S takes away
+abbrev pub CountsWord : Type 0
+CountsWord = (faces : ℕ) (g : Gluing) (word : List Symbol) → IsReadable faces g (length word) (symbol_at word) → made_by (symbol_at word) (length word) ≡ fan_count faces g + count_by is_split word

@@ -1,26 +1,46 @@
 //! What holds of the definitions themselves.
 
-ghost use Rattle.eb_trace.specs.Rebuilt.{EachStepReads, ReadsWord, RebuildsWord};
-ghost use Rattle.eb_trace.specs.Kept.{WalkOrders, WalkIsReadable, WalkIsKept};
+ghost use Rattle.eb_trace.specs.Rebuilt.{CountsWord, EachStepReads, ReadsWord, RebuildsWord, RefusesFewer};
+ghost use Rattle.eb_trace.specs.Kept.{WalkIsCounted, WalkIsKept, WalkIsReadable, WalkNeedsAll, WalkOrders};
+ghost use Rattle.eb_trace.specs.Vertices.{FaceAddsThree, GluingJoins, LabelsAreFans, NothingHasNone, RenumberedAlike};
 
 /// Reverse decoding reads every readable table from its word: each symbol takes the state before its
 /// face, read from the table, to the state after it. The whole run over the word, with its events and
 /// start bits, meets no fault and ends with the table built; and where the faces have three fans each
-/// and no fewer vertices are declared than are made, it passes the tests at the end too. This is the
-/// contract of a call that does nothing.
+/// and no fewer vertices are declared than are made, it passes the tests at the end too; fewer are
+/// refused. The vertices made are as many as the fans of the table and the S of the word together. This
+/// is the contract of a call that does nothing.
 pub fn readable_is_rebuilt()
     ensures steps { EachStepReads }
     ensures run { ReadsWord }
     ensures rebuilt { RebuildsWord }
+    ensures refused { RefusesFewer }
+    ensures counted { CountsWord }
 {}
 
 /// The walk keeps the surface. Of any surface whose faces have three fans each, with any number of
 /// components, holes, handles and cut vertices: the order of decoding lists each face once, turned at
 /// most; the surface in that order is readable from the walk's word, and tells the walk's events and
-/// start bits; and reverse decoding of all these meets no fault, if no fewer vertices are declared than
-/// are made, and gives the surface in that order. This is the contract of a call that does nothing.
+/// start bits; the vertices that reverse decoding makes are as many as the fans of the surface and the S
+/// of the word together; and reverse decoding of all these, with no fewer vertices declared than that,
+/// meets no fault and gives the surface in that order. Fewer are refused, with a fault that says how many
+/// it takes. This is the contract of a call that does nothing.
 pub fn walk_keeps_surface()
     ensures order { WalkOrders }
     ensures told { WalkIsReadable }
+    ensures counted { WalkIsCounted }
     ensures kept { WalkIsKept }
+    ensures needed { WalkNeedsAll }
+{}
+
+/// The number of fans, which is the number of vertices of a surface: none without faces, three more for a
+/// face with no side glued, at most two fewer for a gluing of two sides (one for each of the two meetings
+/// of their ends that makes one fan of two), as many as there are labels where the vertices are labelled,
+/// and the same under new numbers of the faces. This is the contract of a call that does nothing.
+pub fn fans_are_counted()
+    ensures none { NothingHasNone }
+    ensures face { FaceAddsThree }
+    ensures gluing { GluingJoins }
+    ensures labels { LabelsAreFans }
+    ensures renumbered { RenumberedAlike }
 {}

@@ -12,5 +12,5 @@ mod surface;
 mod tracing;
 mod walk;
 
-pub use laws::{readable_is_rebuilt, walk_keeps_surface};
+pub use laws::{fans_are_counted, readable_is_rebuilt, walk_keeps_surface};
 pub use tracing::{Traced, trace};
