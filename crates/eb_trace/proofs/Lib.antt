@@ -28,3 +28,4 @@ pub mod Joining
 pub mod Tables
 pub mod Marking
 pub mod Going
+pub mod Given

@@ -5,3 +5,4 @@ pub mod Trace
 pub mod Stored
 pub mod Kept
 pub mod Vertices
+pub mod FromTrace

@@ -80,7 +80,3 @@ pub record IsStored (s : Surface) (m : Marks) (n : Notes) : Type 0 where
 -- an entry's face and turn
 abbrev pub row_of : Entered → ℕ × ℕ
 row_of e = (e.corner / 3, e.corner % 3)
-
--- a surface has that many vertices: its fans are labelled with as many labels
-abbrev pub HasVertices : ℕ → Gluing → ℕ → Type 0
-HasVertices faces g count = (labels : List ℕ) × (ends : List Bool) × IsLabelled faces g labels count ends

@@ -3,9 +3,11 @@
 ghost use Rattle.std.specs.Prelude.{◌≡◌, ◌≤◌, IfOk, length, map, reverse};
 ghost use Rattle.corner_table.specs.Fans.{IsProper};
 ghost use Rattle.corner_table.specs.Table.{gluing_of};
+ghost use Rattle.corner_table.specs.Carried.{IsRenumbering};
+ghost use Rattle.eb_trace.specs.FromTrace.{IsRebuiltFrom};
 ghost use Rattle.eb_trace.specs.declared.notes.Entered.{Entered as entered_value};
-ghost use Rattle.eb_trace.specs.Stored.{gluing_in, walk_of, row_of, IsSurface, HasVertices};
-ghost use Rattle.eb_trace.specs.Trace.{trace, word_of, order_of};
+ghost use Rattle.eb_trace.specs.Stored.{gluing_in, walk_of, row_of, IsSurface};
+ghost use Rattle.eb_trace.specs.Trace.{trace, word_of, order_of, fan_count};
 
 use crate::marks::no_marks;
 use crate::notes::{Entered, Notes, no_notes};
@@ -73,14 +75,20 @@ fn rows_in_order(alloc: Global, notes: &Notes) -> Result<Vec<(u32, u8)>, Memory>
     Ok(rows)
 }
 
-/// The walk over a proper surface.
+/// The walk over a proper surface: its symbols, split events and start bits, each in the order of the
+/// walk; its faces in the order of decoding, each with its turn; and how many vertices there are. The
+/// order lists each face once. The machine of reverse decoding that is made for all faces and for no
+/// fewer vertices than there are vertices and S together, and is fed what is answered, meets no fault
+/// and builds the surface in the order of decoding. Refused for want of memory alone.
 pub fn trace(alloc: Global, t: &SideTable) -> Result<Traced, Memory>
     requires proper { IsProper t.now.faces (gluing_of t.now) }
     ensures symbols { IfOk result (λ r. r.symbols ≡ reverse (word_of (trace t.now.faces (gluing_of t.now)))) }
     ensures events { IfOk result (λ r. r.events ≡ reverse (trace t.now.faces (gluing_of t.now)).events) }
     ensures starts { IfOk result (λ r. r.starts ≡ reverse (trace t.now.faces (gluing_of t.now)).bits) }
     ensures order { IfOk result (λ r. r.order ≡ order_of (trace t.now.faces (gluing_of t.now))) }
-    ensures vertices { IfOk result (λ r. HasVertices t.now.faces (gluing_of t.now) r.vertices) }
+    ensures vertices { IfOk result (λ r. r.vertices ≡ fan_count t.now.faces (gluing_of t.now)) }
+    ensures once { IfOk result (λ r. IsRenumbering t.now.faces r.order) }
+    ensures kept { IfOk result (λ r. IsRebuiltFrom t.now.faces (gluing_of t.now) r.symbols r.events r.starts r.order r.vertices) }
 {
     let surface = surface_of(alloc, t)?;
     let notes = walk_all(alloc, &surface)?;

@@ -1,7 +1,12 @@
 -- What is given out is the walk's.
-use Rattle.std.proofs.Common.{List, map, reverse, ap, ◌∙◌}
-use Rattle.eb_trace.specs.Trace.{Walk, word_of}
+use Rattle.std.proofs.Common.{ℕ, sym, subst, List, map, reverse, ap, ◌∙◌}
+use Rattle.std.proofs.lemmas.List.{reverse-reverse}
+use Rattle.corner_table.specs.Carried.{IsRenumbering}
+use Rattle.eb_trace.specs.Trace.{Walk, word_of, order_of}
 use Rattle.eb_trace.specs.declared.notes.Entered.{Entered}
+use Rattle.corner_table.specs.Table.{gluing_of}
+use Rattle.eb_trace.proofs.Given.{vertices_are, rebuilt_from}
+use Rattle.eb_trace.proofs.StartBits.{walk_orders}
 use Rattle.eb_trace.proofs.Going.{few_of, trace_same, symbols_are}
 use Rattle.eb_trace.proofs.tracing.trace.Goals as goal
 
@@ -12,3 +17,22 @@ pub returns-clause-symbols : goal.returns-clause-symbols
 returns-clause-symbols c =
     c.from_vec.ensures ∙ c.in_ok-symbols.ensures ∙ ap (λ (l : List Entered). map (λ (e : Entered). e.symbol) l) c.as_slice.ensures.value ∙ symbols_are c.in_ok-notes.notes.entries.items
     ∙ ap (λ (w : Walk). reverse (word_of w)) (trace_same _ _ _ _ _ c.in_ok-surface.ensures.faces c.in_ok-surface.ensures.gluing c.in_ok-notes.ensures)
+
+pub returns-clause-vertices : goal.returns-clause-vertices
+returns-clause-vertices c = vertices_are c.in_ok-surface.surface c.args.t.now.faces (gluing_of c.args.t.now) c.in_ok-surface.ensures.surface c.in_ok-surface.ensures.faces c.in_ok-surface.ensures.gluing
+
+pub returns-clause-order : goal.returns-clause-order
+returns-clause-order c = c.from_vec-4.ensures ∙ c.in_ok-order.ensures ∙ ap order_of (trace_same _ _ _ _ _ c.in_ok-surface.ensures.faces c.in_ok-surface.ensures.gluing c.in_ok-notes.ensures)
+
+pub returns-clause-once : goal.returns-clause-once
+returns-clause-once c = subst (λ (x : List (ℕ × ℕ)). IsRenumbering c.args.t.now.faces x) (sym (returns-clause-order c)) (walk_orders c.args.t.now.faces (gluing_of c.args.t.now) c.requires.proper.gluing c.requires.proper.three_fans)
+
+pub returns-clause-kept : goal.returns-clause-kept
+returns-clause-kept c =
+    let same = trace_same _ _ _ _ _ c.in_ok-surface.ensures.faces c.in_ok-surface.ensures.gluing c.in_ok-notes.ensures in
+    rebuilt_from c.args.t.now.faces (gluing_of c.args.t.now) c.requires.proper.gluing c.requires.proper.three_fans _ _ _ _ _
+    (returns-clause-symbols c)
+    (c.from_vec-2.ensures ∙ sym (reverse-reverse c.in_ok-notes.notes.events.items) ∙ ap (λ (w : Walk). reverse w.events) same)
+    (c.from_vec-3.ensures ∙ sym (reverse-reverse c.in_ok-notes.notes.bits.items) ∙ ap (λ (w : Walk). reverse w.bits) same)
+    (returns-clause-order c)
+    (returns-clause-vertices c)

@@ -1,0 +1,16 @@
+-- What a traced surface is good for.
+use Rattle.std.specs.Prelude.{◌≡◌, ℕ, ◌+◌, ◌≤◌, Bool, false, List, length, reverse, get_or, count_by, Ok}
+use Rattle.corner_table.specs.declared.symbols.Symbol.{Symbol}
+use Rattle.corner_table.specs.declared.symbols.Event.{Event}
+use Rattle.corner_table.specs.Sides.{Gluing}
+use Rattle.corner_table.specs.Carried.{IsCarried}
+use Rattle.eb_rebuild.specs.Machine.{rebuild}
+use Rattle.eb_trace.specs.Front.{is_split}
+use Rattle.eb_trace.specs.Rebuilt.{finished}
+
+-- the machine of reverse decoding that is made for all faces, the symbols and no fewer vertices than the surface has and the S take, and is
+-- fed the symbols with the last first, the events and the start bits, meets no fault, and has built the surface in the order of decoding
+abbrev pub IsRebuiltFrom : ℕ → Gluing → List Symbol → List Event → List Bool → List (ℕ × ℕ) → ℕ → Type 0
+IsRebuiltFrom faces g symbols events starts order vertices =
+    (created : ℕ) (h : Gluing) → IsCarried faces g order h → vertices + count_by is_split (reverse symbols) ≤ created →
+    rebuild (record { faces = faces; created = created; symbols = length symbols }) (reverse symbols) (reverse events) (λ k. get_or starts k false) ≡ Ok (finished faces h (reverse symbols))
