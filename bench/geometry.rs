@@ -1,6 +1,8 @@
 //! Comparing and assembling a mesh in good safe Rust, beside the proved program of `geometry.txt`: a grid of
 //! 525,625 points and 1,048,352 faces, the same grid with its faces in reverse and turned, and a table of one
 //! attribute over its corners. Writes `grid.ply` and `turned.ply` for both.
+mod grids;
+
 use std::time::Instant;
 
 const SIDE: usize = 725;
@@ -16,15 +18,7 @@ fn grid() -> Mesh {
     for i in 0..SIDE * SIDE {
         points.extend([(i % SIDE) as i32, (i / SIDE) as i32, (i * i % 1021) as i32]);
     }
-    let mut faces = Vec::new();
-    for y in 0..SIDE - 1 {
-        for x in 0..SIDE - 1 {
-            let a = (y * SIDE + x) as u32;
-            let b = a + SIDE as u32;
-            faces.push([a, a + 1, b]);
-            faces.push([b, a + 1, b + 1]);
-        }
-    }
+    let faces = grids::faces(SIDE);
     Mesh { points, faces }
 }
 

@@ -1,5 +1,7 @@
 //! Reading and writing PLY text in good safe Rust, beside the proved program of `ply.txt`: a grid of
 //! 263,169 points and 524,288 faces. Writes `grid.ply` for both.
+mod grids;
+
 use std::time::Instant;
 
 const SIDE: usize = 513;
@@ -18,15 +20,7 @@ fn grid() -> Mesh {
         let height = (x >> 52) as i32 - 2048;
         points.extend([(i % SIDE) as i32 * 4, (i / SIDE) as i32 * 4, height]);
     }
-    let mut faces = Vec::new();
-    for y in 0..SIDE - 1 {
-        for x in 0..SIDE - 1 {
-            let a = (y * SIDE + x) as u32;
-            let b = a + SIDE as u32;
-            faces.push([a, a + 1, b]);
-            faces.push([b, a + 1, b + 1]);
-        }
-    }
+    let faces = grids::faces(SIDE);
     Mesh { points, faces }
 }
 

@@ -2,6 +2,7 @@
 //! points and 524,288 faces, and a cloud of 1,048,576 points, each a position of three integers. Writes `grid.ply`
 //! and `cloud.ply` for both.
 mod blocks;
+mod grids;
 
 use blocks::{get, get_varint, read_symbols, varint, write_symbols};
 use std::time::Instant;
@@ -205,15 +206,7 @@ fn grid() -> Geometry {
         x = x.wrapping_mul(6364136223846793005).wrapping_add(1442695040888963407);
         points.extend([(i % SIDE) as i32 * 4, (i / SIDE) as i32 * 4, (x >> 57) as i32 - 64]);
     }
-    let mut faces = Vec::new();
-    for y in 0..SIDE - 1 {
-        for x in 0..SIDE - 1 {
-            let a = (y * SIDE + x) as u32;
-            let b = a + SIDE as u32;
-            faces.push([a, a + 1, b]);
-            faces.push([b, a + 1, b + 1]);
-        }
-    }
+    let faces = grids::faces(SIDE);
     Geometry { points, faces: Some(faces) }
 }
 
