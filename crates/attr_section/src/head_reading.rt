@@ -1,6 +1,6 @@
 //! Reading the heads of attribute decoders.
 
-ghost use Rattle.std.specs.Prelude.{◌≡◌, ◌≤◌, ◌<◌, ◌+◌, IfOk, All, length};
+ghost use Rattle.std.specs.Prelude.{◌≡◌, ◌≤◌, ◌<◌, ◌+◌, IfOk, OnErr, All, length};
 ghost use Rattle.drc_bits.specs.Reading.{Reads, Gives};
 ghost use Rattle.attr_section.specs.Heads.{decoder_count_at, attribute_count_at, decoder_at, attributes_of, decoders_at, heads_at};
 
@@ -106,7 +106,8 @@ fn read_linked_decoders(
 /// yet. The first fault of the bytes: `Short` and `Long`; `NoAttribute` where there is no decoder,
 /// or a decoder has no attribute; `AttrLimit` past 16 decoders or attributes; `DataId`, `Element`
 /// and `Walk` at the links of Edgebreaker decoders; `AttrType`, `DataType` and `Components`; then
-/// `Generic`, `Octahedral` and `Coding` at the codings of a decoder.
+/// `Generic`, `Octahedral` and `Coding` at the codings of a decoder. After a refusal the cursor is
+/// where it was.
 #[tactic(auto, unfolding(crate::specs::Heads::heads_at))]
 pub fn read_heads(
     alloc: Global,
@@ -116,8 +117,12 @@ pub fn read_heads(
     ensures item { Gives (λ v. v.items) (heads_at attr_data c.old) c.new result }
     ensures few { IfOk result (λ v. attributes_of v.items ≤ MAX_ATTRIBUTES) }
     ensures some { IfOk result (λ v. All (λ d. All (λ h. 0 < h.comps) d.heads) v.items) }
+    ensures unchanged { OnErr result (c.new ≡ c.old) }
 {
-    let n = read_decoder_count(c)?;
-    let links = read_links(alloc, c, attr_data, n)?;
-    read_linked_decoders(alloc, c, &links)
+    let mut ahead = c.copy();
+    let n = read_decoder_count(&mut ahead)?;
+    let links = read_links(alloc, &mut ahead, attr_data, n)?;
+    let decoders = read_linked_decoders(alloc, &mut ahead, &links)?;
+    *c = ahead;
+    Ok(decoders)
 }

@@ -36,6 +36,16 @@ impl<'a> Cursor<'a> {
         Cursor { bytes, place: 0 }
     }
 
+    /// A cursor at the same place of the same bytes.
+    pub fn copy(&self) -> Cursor<'a>
+        ensures { result ≡ self.now }
+    {
+        Cursor {
+            bytes: self.bytes,
+            place: self.place,
+        }
+    }
+
     /// How many bytes lie before the cursor.
     pub fn place(&self) -> u64
         ensures { result ≡ self.now.place }

@@ -12,6 +12,12 @@ use mesh_model::{Cloud, CornerMesh, Geometry, Head, Quant};
 use ply_text::{Header, Lines, PlyHead, PlyQuant, read_header};
 use std::alloc::Global;
 
+/// The least bytes of a text that a number takes, with what parts it from the next.
+const NUMBER_BYTES: usize = 2;
+
+/// The least bytes of a text that a face takes: its line, with the LF.
+const FACE_BYTES: usize = 8;
+
 fn quant_of(alloc: Global, quant: &PlyQuant) -> Result<Quant, Memory>
     ensures { IfOk result (λ q. q ≡ quant_of quant.now) }
 {
@@ -64,7 +70,7 @@ fn read_cloud(
 {
     let at = header.body_line;
     let types = header.types.as_slice();
-    let room = room_of(header.vertices, types.len(), size);
+    let room = room_of(header.vertices, types.len(), size / NUMBER_BYTES);
     let cells = read_rows(alloc, lines, types, header.vertices, at, room)?;
     read_end(lines, at + header.vertices as u64)?;
     let heads = heads_of(alloc, header.heads.as_slice())?;
@@ -87,11 +93,11 @@ fn read_mesh(
 {
     let at = header.body_line;
     let types = header.types.as_slice();
-    let room = room_of(header.vertices, types.len(), size);
+    let room = room_of(header.vertices, types.len(), size / NUMBER_BYTES);
     let cells = read_rows(alloc, lines, types, header.vertices, at, room)?;
     let list = header.list.unwrap_or((0, 0));
     let at = at + header.vertices as u64;
-    let room = room_of(count, 1, size);
+    let room = room_of(count, 1, size / FACE_BYTES);
     let faces = read_faces(alloc, lines, list, header.vertices, count, at, room)?;
     read_end(lines, at + count as u64)?;
     let heads = heads_of(alloc, header.heads.as_slice())?;
@@ -99,12 +105,10 @@ fn read_mesh(
     Ok(Geometry::Mesh(mesh))
 }
 
-/// Room for `width` numbers of each of `count` lines, but for no more than a text of `size` bytes can
-/// hold.
-fn room_of(count: u32, width: usize, size: usize) -> usize
-    ensures { result ≤ size }
+/// Room for `width` items of each of `count` lines, but for no more than `most`.
+fn room_of(count: u32, width: usize, most: usize) -> usize
+    ensures { result ≤ most }
 {
-    let most = size / 2;
     if width == 0 || count as usize > most / width {
         most
     } else {

@@ -172,6 +172,8 @@ fn refuses_the_first_fault(rt: HostRuntime) -> Result<(), Fail> {
         (START, "element vertex\n", Kind::PlyHeader, 3),
         (START, "element vertex -1\n", Kind::PlyHeader, 3),
         (START, "element edge 1\n", Kind::PlyElement, 3),
+        (START, "element edge x\n", Kind::PlyHeader, 3),
+        (START, "element vertex 1048577 0\n", Kind::PlyHeader, 3),
         (START, "element face 1\n", Kind::PlyElement, 3),
         (START, "element edge 1048577\n", Kind::PlyElement, 3),
         (START, "element vertex 1048577\n", Kind::PointLimit, 3),
@@ -303,35 +305,75 @@ fn refuses_wrong_lines_of_attributes(rt: HostRuntime) -> Result<(), Fail> {
     Ok(())
 }
 
-/// A header with so many lines of attributes, or none, and so many properties.
-fn many(alloc: Global, lines: u32, properties: u32) -> Result<Option<Refusal>, Refusal> {
+/// The lines of a header of 2^20 points: so many lines of attributes of so many components, more
+/// lines, so many properties, and its end.
+#[derive(Drop)]
+struct Many<'a> {
+    lines: u32,
+    comps: u8,
+    more: &'a str,
+    properties: u32,
+    end: &'a str,
+}
+
+/// What such a header is refused for.
+fn refusal_of(alloc: Global, many: Many<'_>) -> Result<Option<Refusal>, Refusal> {
     let mut text = START.as_bytes().to_vec(alloc)?;
-    for k in 0..lines {
+    for k in 0..many.lines {
         text.extend_from_slice(b"comment drc attr ")?;
         put_int(&mut text, k as i64)?;
-        text.extend_from_slice(b" 4 5 1 0 0\n")?;
+        text.extend_from_slice(b" 4 5 ")?;
+        put_int(&mut text, many.comps as i64)?;
+        text.extend_from_slice(b" 0 0\n")?;
     }
-    text.extend_from_slice(b"element vertex 1\n")?;
-    for _ in 0..properties {
+    text.extend_from_slice(many.more.as_bytes())?;
+    text.extend_from_slice(b"element vertex 1048576\n")?;
+    for _ in 0..many.properties {
         text.extend_from_slice(b"property int q\n")?;
     }
-    text.extend_from_slice(b"end_header\n")?;
+    text.extend_from_slice(many.end.as_bytes())?;
     Ok(read_header(alloc, text.as_slice()).err())
 }
 
 #[test]
-fn takes_sixteen_attributes(rt: HostRuntime) -> Result<(), Fail> {
+fn limits_attributes_and_values(rt: HostRuntime) -> Result<(), Fail> {
     let alloc = rt.alloc();
-    let kind = Kind::AttrLimit;
-    assert_eq!(rt; many(alloc, 16, 16)?, None);
-    assert_eq!(rt;
-        many(alloc, 17, 17)?,
-        Some(Refusal::Fault(Fault { kind, at: 19 }))
-    );
-    assert_eq!(rt; many(alloc, 0, 16)?, None);
-    assert_eq!(rt;
-        many(alloc, 0, 17)?,
-        Some(Refusal::Fault(Fault { kind, at: 21 }))
-    );
+    let end = "end_header\n";
+    for (lines, comps, more, properties, end, fault) in [
+        (16, 1, "", 16, end, None),
+        (0, 1, "", 16, end, None),
+        (17, 1, "", 17, end, Some((Kind::AttrLimit, 19))),
+        (
+            16,
+            1,
+            "comment drc attr x\n",
+            1,
+            end,
+            Some((Kind::AttrLimit, 19)),
+        ),
+        (0, 1, "", 17, end, Some((Kind::AttrLimit, 21))),
+        (
+            0,
+            1,
+            "",
+            17,
+            "element face 1\nend_header\n",
+            Some((Kind::PlyElement, 22)),
+        ),
+        (2, 8, "", 16, end, None),
+        (3, 6, "", 18, end, Some((Kind::ValueLimit, 25))),
+        (3, 6, "", 17, end, Some((Kind::PlyAttr, 24))),
+        (3, 6, "", 19, end, Some((Kind::PlyAttr, 26))),
+    ] {
+        let many = Many {
+            lines,
+            comps,
+            more,
+            properties,
+            end,
+        };
+        let wanted = fault.map(|(kind, at)| Refusal::Fault(Fault { kind, at }));
+        assert_eq!(rt; refusal_of(alloc, many)?, wanted);
+    }
     Ok(())
 }

@@ -1,7 +1,7 @@
 //! Reading a block, bit by bit.
 
 ghost use Rattle.std.specs.Prelude.{◌≡◌, ℕ, ◌+◌, ◌-◌, ◌*◌, ◌/◌, ◌%◌, ◌^◌, ◌<◌, ◌≤◌, ◌↔◌, IsTrue, length};
-ghost use Rattle.drc_bits.specs.Reading.{Reads};
+ghost use Rattle.drc_bits.specs.Reading.{Takes};
 ghost use Rattle.rans_core.specs.Coder.{State, refilled, unread};
 ghost use Rattle.rans_binary.specs.Blocks.{Block, after_bit, block_at, next_bit};
 
@@ -77,28 +77,30 @@ fn pull_bit(number: u32, ones: u32) -> (bool, u32)
 impl<'a> BitBlock<'a> {
     /// Reads a block at the cursor, its bits not yet. `BadProb` where a zero has no slot, `Short` and
     /// `Long` of the size, `Short` of the coded bytes, and `BadStart` at the first of them where they
-    /// hold no first state. It takes no memory.
+    /// hold no first state; the cursor then stays. It takes no memory.
     #[tactic(auto, unfolding(crate::specs::Blocks::block_at))]
     pub fn read(c: &mut Cursor<'a>) -> Result<BitBlock<'a>, Fault>
-        ensures { Reads (λ b. b) (block_at c.old) c.new result }
+        ensures { Takes (λ b. b) (block_at c.old) c.old c.new result }
     {
-        let bad_prob = c.fault(Kind::BadProb);
-        let zeros = c.get_u8()?;
+        let mut ahead = c.copy();
+        let bad_prob = ahead.fault(Kind::BadProb);
+        let zeros = ahead.get_u8()?;
         if zeros == 0 {
             return Err(bad_prob);
         }
-        let size = c.var32()?;
-        let bad_start = c.fault(Kind::BadStart);
-        let coded = c.slice(u64::from(size))?;
-        match first_state(coded, 3, 4096) {
-            Some((number, left)) => Ok(BitBlock {
-                coded,
-                left,
-                number,
-                ones: 256 - u32::from(zeros),
-            }),
-            None => Err(bad_start),
-        }
+        let size = ahead.var32()?;
+        let bad_start = ahead.fault(Kind::BadStart);
+        let coded = ahead.slice(u64::from(size))?;
+        let Some((number, left)) = first_state(coded, 3, 4096) else {
+            return Err(bad_start);
+        };
+        *c = ahead;
+        Ok(BitBlock {
+            coded,
+            left,
+            number,
+            ones: 256 - u32::from(zeros),
+        })
     }
 
     /// The next bit. It can't fail, however often it is called, and takes no memory.

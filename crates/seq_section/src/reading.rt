@@ -1,6 +1,6 @@
 //! Reading the connectivity of a sequential mesh.
 
-ghost use Rattle.std.specs.Prelude.{◌≡◌, ◌≤◌, Err, IfOk, nat_le};
+ghost use Rattle.std.specs.Prelude.{◌≡◌, ◌≤◌, Err, IfOk, OnErr, nat_le};
 ghost use Rattle.drc_base.specs.declared.faults.Fault.{Fault as AnyFault};
 ghost use Rattle.drc_base.specs.declared.faults.Refusal.TheVariants as refusal;
 ghost use Rattle.drc_bits.specs.Reading.{Reads, Gives, must};
@@ -38,14 +38,17 @@ pub struct Opening {
 /// `PointLimit`, `IndexMethod`, `IndexRange`, `Short` or `Long` of a number that isn't whole, and those
 /// of a symbol block where the indices are packed. Such a block is read whole first, and an index in it
 /// that isn't below the number of points is `IndexRange` where the block begins. The faults of the two
-/// numbers and of the method come before memory is taken.
+/// numbers and of the method come before memory is taken. After a refusal the cursor is where it was.
 #[tactic(auto, unfolding(crate::specs::Indices::indices_at))]
 pub fn read_indices(alloc: Global, c: &mut Cursor<'_>) -> Result<SeqRead, Refusal>
     ensures indices { Gives (λ r. r) (indices_at c.old) c.new result }
     ensures early { (f : AnyFault) → opening_at c.old ≡ Err f → result ≡ Err (refusal.Fault f) }
+    ensures unchanged { OnErr result (c.new ≡ c.old) }
 {
-    let opening = read_opening(c)?;
-    let faces = read_behind(alloc, c, opening)?;
+    let mut ahead = c.copy();
+    let opening = read_opening(&mut ahead)?;
+    let faces = read_behind(alloc, &mut ahead, opening)?;
+    *c = ahead;
     Ok(SeqRead {
         faces: Sequence::from_vec(faces),
         points: opening.points,

@@ -1,6 +1,6 @@
 //! Reading a symbol block.
 
-ghost use Rattle.std.specs.Prelude.{◌≡◌, ℕ, ◌+◌, ◌*◌, ◌/◌, ◌%◌, ◌^◌, ◌<◌, ◌≤◌, List, ◌++◌, length, replicate, sum, Err, IfOk, MatchBool, vec_len, vec_capacity};
+ghost use Rattle.std.specs.Prelude.{◌≡◌, ℕ, ◌+◌, ◌*◌, ◌/◌, ◌%◌, ◌^◌, ◌<◌, ◌≤◌, List, ◌++◌, length, replicate, sum, Err, IfOk, OnErr, MatchBool, vec_len, vec_capacity};
 ghost use Rattle.drc_base.specs.Refusals.{Answers};
 ghost use Rattle.drc_base.specs.declared.faults.Fault.{Fault as TheFault};
 ghost use Rattle.drc_base.specs.declared.kinds.Kind.TheVariants as kind;
@@ -128,11 +128,34 @@ fn read_tagged(
     Ok(values)
 }
 
+/// Reads a block that has values, in groups of `comps` components.
+#[tactic(auto, unfolding(crate::specs::Block::block_at, crate::specs::Block::opening_at))]
+fn read_block(alloc: Global, c: &mut Cursor<'_>, n: u32, comps: u32) -> Result<Vec<u32>, Refusal>
+    requires some { 0 < n }
+    requires comps { 0 < comps }
+    requires divides { n % comps ≡ 0 }
+    requires few { n ≤ 2 ^ 24 }
+    ensures block { Gives (λ v. v.items) (block_at n comps c.old) c.new result }
+    ensures len { IfOk result (λ v. length v.items ≡ n) }
+    ensures early { (f : TheFault) → opening_at n c.old ≡ Err f → result ≡ Err (Refusal.Fault f) }
+{
+    let no_scheme = c.fault(Kind::Scheme);
+    let scheme = c.get_u8()?;
+    if scheme == 0 {
+        return read_tagged(alloc, c, n / comps, comps);
+    }
+    if scheme == 1 {
+        return read_raw(alloc, c, n);
+    }
+    Err(Refusal::Fault(no_scheme))
+}
+
 /// Reads a block of `n` values in groups of `comps` components; `n` is a multiple of `comps`. `Scheme`
 /// where the scheme is none; for symbols `Length` where their bit length isn't 1 to 18; the faults of
 /// the table and of the coded bytes; for groups `Length` at the first coded byte where a group's bit
 /// length is above 32, and `Short` where the bits of the values begin if they run out. The faults up to
-/// the table's number of symbols come before any memory is taken.
+/// the table's number of symbols come before any memory is taken. After a refusal the cursor is where
+/// it was.
 #[tactic(auto, unfolding(crate::specs::Block::block_at, crate::specs::Block::opening_at))]
 pub fn read_symbols(
     alloc: Global,
@@ -146,17 +169,13 @@ pub fn read_symbols(
     ensures block { Gives (λ v. v.items) (block_at n comps c.old) c.new result }
     ensures len { IfOk result (λ v. length v.items ≡ n) }
     ensures early { (f : TheFault) → opening_at n c.old ≡ Err f → result ≡ Err (Refusal.Fault f) }
+    ensures unchanged { OnErr result (c.new ≡ c.old) }
 {
     if n == 0 {
         return Ok(Vec::new(alloc));
     }
-    let no_scheme = c.fault(Kind::Scheme);
-    let scheme = c.get_u8()?;
-    if scheme == 0 {
-        return read_tagged(alloc, c, n / comps, comps);
-    }
-    if scheme == 1 {
-        return read_raw(alloc, c, n);
-    }
-    Err(Refusal::Fault(no_scheme))
+    let mut ahead = c.copy();
+    let values = read_block(alloc, &mut ahead, n, comps)?;
+    *c = ahead;
+    Ok(values)
 }

@@ -100,7 +100,7 @@ impl Table {
     /// Reads a table with 2 to the power `bits` slots: `Short` and `Long` of its items, `TableLimit` and
     /// `EmptyTable` of its number of symbols, which are never answered by want of memory, `Run` at a byte
     /// whose run passes the end, and `Sum` at the number of symbols where the probabilities don't fill
-    /// the slots.
+    /// the slots. After a refusal the cursor is where it was.
     #[tactic(auto, unfolding(crate::specs::Tables::table_at))]
     pub fn read(alloc: Global, c: &mut Cursor<'_>, bits: u32) -> Result<Table, Refusal>
         requires low { 12 ≤ bits }
@@ -108,15 +108,19 @@ impl Table {
         ensures table { Gives (λ t. t) (table_at bits c.old) c.new result }
         ensures whole { IfOk result (λ t. sum t ≡ 2 ^ bits) }
         ensures len { IfOk result (λ t. (0 < length t) × (length t ≤ 2 ^ 20)) }
+        ensures unchanged { OnErr result (c.new ≡ c.old) }
         // Faults of the number of symbols come before any memory is taken.
         ensures early { (f : TheFault) → count_at c.old ≡ Err f → result ≡ Err (Refusal.Fault f) }
     {
         let not_whole = c.fault(Kind::Sum);
-        let count = read_count(c)?;
-        let probs = read_probs(alloc, c, count)?;
+        let mut ahead = c.copy();
+        let count = read_count(&mut ahead)?;
+        let probs = read_probs(alloc, &mut ahead, count)?;
         if total_of(probs.as_slice()) != u64::from(slots_for(bits)) {
             return Err(Refusal::Fault(not_whole));
         }
-        Ok(Table::build(alloc, probs)?)
+        let table = Table::build(alloc, probs)?;
+        *c = ahead;
+        Ok(table)
     }
 }
