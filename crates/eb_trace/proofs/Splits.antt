@@ -9,13 +9,13 @@ use Rattle.corner_table.specs.declared.symbols.Event.{Event}
 use Rattle.corner_table.specs.Sides.{Side, Place, first, second, third, side, Gluing}
 use Rattle.corner_table.specs.Carried.{IsCarried}
 use Rattle.corner_table.proofs.Places.{Some_injective}
+use Rattle.corner_table.proofs.Prefixing.{gap}
 use Rattle.eb_rebuild.specs.Machine.{event_place}
 use Rattle.eb_trace.specs.Front.{split_met, event_told, events_at, events_left}
 use Rattle.eb_trace.specs.Readable.{IsReadable, Says}
 use Rattle.eb_trace.specs.Rebuilt.{symbol_at}
 use Rattle.eb_trace.specs.Trace.{trace, word_of, order_of}
 use Rattle.eb_trace.specs.Events.{may_meet, IsSplitEvent, ComesBefore, AreSplitEvents, WalkNotesSplits}
-use Rattle.eb_trace.proofs.Below.{gap}
 use Rattle.eb_trace.proofs.Kept.{split_is, met_third}
 use Rattle.eb_trace.proofs.Events.{left_zero, left_suc}
 use Rattle.eb_trace.proofs.Order.{renumbers}
@@ -70,8 +70,8 @@ module _ {faces : ℕ} {g : Gluing} {n : ℕ} {word : ℕ → Symbol} (T : IsRea
       omega arith
 
   meets_at : (i j : ℕ) (right : Bool) → i < j → j < n → g (side j third) ≡ Some (side i (event_place right)) → (s : Symbol) → Says g i s → may_meet s right ≡ true
-  meets_at i j true m l o C t = let u = gap T.gluing i (side i first) t.ring in absurd (not_below i j second u.0 u.2.right u.2.right_below o m)
-  meets_at i j false m l o C t = let u = gap T.gluing i (side i first) t.ring in absurd (not_below i j third u.1 u.2.left u.2.left_below o m)
+  meets_at i j true m l o C t = let u = gap i (side i first) T.gluing (omega arith) t.ring in absurd (not_below i j second u.0 u.2.right_is u.2.right_below o m)
+  meets_at i j false m l o C t = let u = gap i (side i first) T.gluing (omega arith) t.ring in absurd (not_below i j third u.1 u.2.left_is u.2.left_below o m)
   meets_at i j true m l o S t = let r = t.right.is_before in absurd (not_below i j second (side t.right.before first) t.right.onto (omega arith) o m)
   meets_at i j false m l o S t = absurd (not_below i j third t.across t.left t.below o m)
   meets_at i j true m l o L t = let r = t.0.is_before in absurd (not_below i j second (side t.0.before first) t.0.onto (omega arith) o m)
