@@ -1,6 +1,7 @@
 -- What is given out: the vertices are the fans, the events fit the symbols, and reverse decoding of it keeps the surface.
-use Rattle.std.proofs.Common.{◌≡◌, ℕ, ◌≤◌, Bool, List, length, reverse, Some, None, All, inl, inr, refl, sym, ap, ◌∙◌, subst, arith, vec_len}
+use Rattle.std.proofs.Common.{◌≡◌, ℕ, ◌<◌, ◌≤◌, Bool, false, List, length, reverse, get_or, Some, None, All, inl, inr, refl, sym, ap, ◌∙◌, subst, arith, vec_len}
 use mathlib.Core.Path.{fun_ext}
+use Rattle.std.proofs.lemmas.Bool.{cases_lt}
 use Rattle.std.proofs.lemmas.List.{reverse-reverse, length-map, length-reverse}
 use Rattle.std.proofs.lemmas.List.Elements.{All-weaker}
 use Rattle.corner_table.specs.declared.symbols.Symbol.{Symbol}
@@ -9,6 +10,7 @@ use Rattle.corner_table.specs.Sides.{Side, Gluing, IsGluing}
 use Rattle.corner_table.specs.Fans.{HasThreeFans}
 use Rattle.corner_table.specs.Carried.{IsRenumbering, IsCarried}
 use Rattle.corner_table.proofs.Places.{option_tells}
+use Rattle.corner_table.proofs.Numbers.{no_room}
 use Rattle.eb_rebuild.specs.Rebuilding.{IsEventOf}
 use Rattle.eb_trace.specs.declared.surface.Surface.{Surface}
 use Rattle.eb_trace.specs.Trace.{Entry, Walk, trace, word_of, order_of, fan_count}
@@ -58,6 +60,31 @@ events_given faces g G F symbols events a b =
 -- a rebuilding takes them
 pub events_taken : (symbols : List Symbol) (events : List Event) → AreSplitEvents symbols events → All (IsEventOf (length symbols)) events
 events_taken symbols events s = All-weaker (IsSplitEvent symbols) (IsEventOf (length symbols)) (λ e t. (t.within, (let l = t.earlier in omega arith))) events s.fit
+
+-- each has a split of its own
+abbrev no_event : Event
+no_event = record { source = 0; split = 0; right = false }
+
+abbrev split_number : List Event → ℕ → ℕ
+split_number events i = (get_or events i no_event).split
+
+few_splits : (symbols : List Symbol) (events : List Event) → AreSplitEvents symbols events → length symbols < length events → ⊥
+few_splits symbols events s more = no_room (length symbols) (split_number events) small apart
+  where
+    small : (i : ℕ) → i ≤ length symbols → split_number events i < length symbols
+    small i h = let t = s.fit i no_event (omega arith) in let w = t.within in let l = t.earlier in omega arith
+
+    apart : (i j : ℕ) → i ≤ length symbols → j ≤ length symbols → split_number events i ≡ split_number events j → i ≡ j
+    apart i j h k e = elim (cases_lt i j) [
+      | inl l ↦ absurd (s.once i j no_event l (omega arith) e)
+      | inr l ↦ elim (cases_lt j i) [
+        | inl m ↦ absurd (s.once j i no_event m (omega arith) (sym e))
+        | inr m ↦ omega arith
+      ]
+    ]
+
+pub few_events : (symbols : List Symbol) (events : List Event) → AreSplitEvents symbols events → length events ≤ length symbols
+few_events symbols events s = elim (cases_lt (length symbols) (length events)) [ inl h ↦ absurd (few_splits symbols events s h) | inr h ↦ h ]
 
 -- each symbol has a face of its own
 pub few_symbols : (faces : ℕ) (g : Gluing) → IsGluing faces g → HasThreeFans faces g → (symbols : List Symbol) → symbols ≡ reverse (word_of (trace faces g)) → length symbols ≤ faces

@@ -79,12 +79,12 @@ fn rows_in_order(alloc: Global, notes: &Notes) -> Result<Vec<(u32, u8)>, Memory>
 
 /// The walk over a proper surface: its symbols, split events and start bits, each in the order of the
 /// walk; its faces in the order of decoding, each with its turn; and how many vertices there are. There
-/// are no more symbols than faces, and the order lists each face once. Each event is of an R or E that
-/// met an earlier S on its right, or of an L or E that met one on its left; events come by rising
-/// sources, the right one of a symbol first, and no S has two. There is one surface in the order of
-/// decoding, and it has as many vertices. The machine of reverse decoding that is made for all faces and
-/// for no fewer vertices than there are vertices and S together, and is fed what is answered, meets no
-/// fault and builds that surface. Refused for want of memory alone.
+/// are no more symbols than faces, nor events than symbols, and the order lists each face once. Each
+/// event is of an R or E that met an earlier S on its right, or of an L or E that met one on its left;
+/// events come by rising sources, the right one of a symbol first, and no S has two. There is one
+/// surface in the order of decoding, and it has as many vertices. The machine of reverse decoding that
+/// is made for all faces and for no fewer vertices than there are vertices and S together, and is fed
+/// what is answered, meets no fault and builds that surface. Refused for want of memory alone.
 pub fn trace(alloc: Global, t: &SideTable) -> Result<Traced, Memory>
     requires proper { IsProper t.now.faces (gluing_of t.now) }
     ensures symbols { IfOk result (λ r. r.symbols ≡ reverse (word_of (trace t.now.faces (gluing_of t.now)))) }
@@ -97,6 +97,7 @@ pub fn trace(alloc: Global, t: &SideTable) -> Result<Traced, Memory>
     ensures events_in_order { IfOk result (λ r. AreInOrder r.events) }
     ensures split_once { IfOk result (λ r. SplitOnce r.events) }
     ensures few { IfOk result (λ r. length r.symbols ≤ t.now.faces) }
+    ensures few_events { IfOk result (λ r. length r.events ≤ length r.symbols) }
     ensures once { IfOk result (λ r. IsRenumbering t.now.faces r.order) }
     ensures carried { IfOk result (λ r. CarriesOne t.now.faces (gluing_of t.now) r.order) }
     ensures counted { IfOk result (λ r. HasFans t.now.faces (gluing_of t.now) r.order r.vertices) }

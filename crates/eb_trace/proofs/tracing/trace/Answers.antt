@@ -5,7 +5,7 @@ use Rattle.corner_table.specs.Carried.{IsRenumbering}
 use Rattle.eb_trace.specs.Trace.{Walk, word_of, order_of}
 use Rattle.eb_trace.specs.declared.notes.Entered.{Entered}
 use Rattle.corner_table.specs.Table.{gluing_of}
-use Rattle.eb_trace.proofs.Given.{vertices_are, rebuilt_from, events_given, events_taken, few_symbols, carried_given}
+use Rattle.eb_trace.proofs.Given.{vertices_are, rebuilt_from, events_given, events_taken, few_events, few_symbols, carried_given}
 use Rattle.eb_trace.proofs.StartBits.{walk_orders}
 use Rattle.eb_trace.proofs.Going.{few_of, trace_same, symbols_are}
 use Rattle.eb_trace.proofs.tracing.trace.Goals as goal
@@ -34,6 +34,9 @@ returns-clause-events_in_order c = (events_given c.args.t.now.faces (gluing_of c
 
 pub returns-clause-split_once : goal.returns-clause-split_once
 returns-clause-split_once c = (events_given c.args.t.now.faces (gluing_of c.args.t.now) c.requires.proper.gluing c.requires.proper.three_fans _ _ (returns-clause-symbols c) (returns-clause-events c)).once
+
+pub returns-clause-few_events : goal.returns-clause-few_events
+returns-clause-few_events c = few_events _ _ (events_given c.args.t.now.faces (gluing_of c.args.t.now) c.requires.proper.gluing c.requires.proper.three_fans _ _ (returns-clause-symbols c) (returns-clause-events c))
 
 pub returns-clause-few : goal.returns-clause-few
 returns-clause-few c = few_symbols c.args.t.now.faces (gluing_of c.args.t.now) c.requires.proper.gluing c.requires.proper.three_fans _ (returns-clause-symbols c)
