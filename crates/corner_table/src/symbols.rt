@@ -4,9 +4,10 @@
 /// Edgebreaker, Rossignac 1999).
 #[derive(Clone, Copy, Debug, PartialEq, Eq)]
 pub enum Symbol {
-    /// The tip is new: a vertex inside, all round it unvisited.
+    /// The tip is new: a vertex inside, and no face at it is visited.
     C,
-    /// The tip was met before, and both other faces are unvisited: the walk splits.
+    /// The tip isn't new: it is on a boundary, or a visited face has it. Both other faces are
+    /// unvisited: the walk splits.
     S,
     /// The left face alone is visited.
     L,

@@ -4,12 +4,14 @@ use Rattle.std.proofs.lemmas.Bool.{cases_lt, cases_eq}
 use Rattle.corner_table.specs.Sides.{Side, Place, first, second, third, side, same, Gluing, glue}
 use Rattle.corner_table.specs.Fans.{side_before}
 use Rattle.corner_table.proofs.Places.{option_tells, Some_injective, same_refl, not_same}
+use Rattle.corner_table.proofs.Prefixing.{tells-prefix, prefix-free, prefix-tells, gap}
 use Rattle.eb_rebuild.specs.Machine.{State, Plan, close, close_all, ◌>>=◌}
 use Rattle.eb_rebuild.proofs.Steps.{Next, the_state, same_state, then_ok, close_boundary, close_interior, fill_steps, loop_test}
 use Rattle.corner_table.specs.declared.symbols.Symbol.{Symbol}
-use Rattle.eb_trace.specs.Readable.{IsReadable, IsInterior, IsRinged}
-use Rattle.eb_trace.specs.Front.{below, free_firsts}
-use Rattle.eb_trace.proofs.Below.{below_in, below_past, below_tells, Gap, gap, gap_before, ring_more, adds_three}
+use Rattle.corner_table.specs.Prefixes.{prefix, IsSurrounded, IsGap}
+use Rattle.eb_trace.specs.Readable.{IsReadable, IsInterior}
+use Rattle.eb_trace.specs.Front.{free_firsts}
+use Rattle.eb_trace.proofs.Below.{gap_before, surrounded_more, adds_three}
 use Rattle.eb_trace.proofs.Waiting.{firsts_none, firsts_free, firsts_glued}
 use Rattle.eb_trace.proofs.Kept.{three_all}
 
@@ -35,7 +37,7 @@ loop_holds s a b c p q r n m =
 module _ (p : Plan) (g : Gluing) (n : ℕ) (word : ℕ → Symbol) (T : IsReadable p.faces g n word) (bits : ℕ → Bool) (made : ℕ) where
   -- f faces are built, these sides wait, and c are closed
   abbrev pub stage : ℕ → List Side → ℕ → State
-  stage f waits c = the_state f (below f g) waits (λ k. None) [] made c
+  stage f waits c = the_state f (prefix f g) waits (λ k. None) [] made c
 
   -- the interior start faces below f have had their runs closed; those from f on have theirs below the bound
   record IsHalfway (f bound : ℕ) : Type 0 where
@@ -62,22 +64,22 @@ module _ (p : Plan) (g : Gluing) (n : ℕ) (word : ℕ → Symbol) (T : IsReadab
 
   -- a face fills the loop of the side across its side 0
   fills : (f j c : ℕ) (waits : List Side) → n ≤ f → f < p.faces → j < n → g (side f first) ≡ Some (side j first) → close p true (stage f (side j first ∷ waits) c) ≡ Ok (stage (suc f) waits (suc c))
-  fills f j c waits h l k e = go (gap T.gluing f (side f first) (ring first)) (gap T.gluing f (side f second) (ring second)) (gap T.gluing f (side f third) (ring third))
+  fills f j c waits h l k e = go (gap f (side f first) T.gluing (omega arith) (ring first)) (gap f (side f second) T.gluing (omega arith) (ring second)) (gap f (side f third) T.gluing (omega arith) (ring third))
     where
       inner : IsInterior g n f
       inner = T.interior f h l
 
-      ring : (q : Place) → IsRinged g f (side f q)
-      ring q = ring_more f (side f q) h (inner.rings q)
+      ring : (q : Place) → IsSurrounded g f (side f q)
+      ring q = surrounded_more f (side f q) h (inner.rings q)
 
-      go : (x y : Side) × Gap g f (side f first) x y → (x y : Side) × Gap g f (side f second) x y → (x y : Side) × Gap g f (side f third) x y → close p true (stage f (side j first ∷ waits) c) ≡ Ok (stage (suc f) waits (suc c))
+      go : (x y : Side) × IsGap g f (side f first) x y → (x y : Side) × IsGap g f (side f second) x y → (x y : Side) × IsGap g f (side f third) x y → close p true (stage f (side j first ∷ waits) c) ≡ Ok (stage (suc f) waits (suc c))
       go (b, d, u) (d2, a1, v) (a2, b2, w) =
           close_interior p (stage f (side j first ∷ waits) c) (side j first) waits refl
           ∙ fill_steps (p.symbols + c) p (stage f (side j first ∷ waits) c) (side j first) waits
-          (below_past f g (side j first) (side f first) (T.gluing.paired (side f first) (side j first) e) (omega arith))
+          (prefix-free f g (side j first) (side f first) (T.gluing.paired (side f first) (side j first) e) (omega arith))
           (loop_holds (stage f (side j first ∷ waits) c) (side j first) b d before_a before_b before_d
-          (λ q. apart first second (λ i. (cc)) (side j first) e (u.right ∙ ap {A = Side} Some q))
-          (λ q. apart first third (λ i. (cc)) (side j first) e (u.left ∙ ap {A = Side} Some q)))
+          (λ q. apart first second (λ i. (cc)) (side j first) e (u.right_is ∙ ap {A = Side} Some q))
+          (λ q. apart first third (λ i. (cc)) (side j first) e (u.left_is ∙ ap {A = Side} Some q)))
           (λ q. (omega arith))
           ∙ ap {A = State} (λ s. let x : Next = Ok s in x) (same_state refl glued refl refl refl refl refl)
         where
@@ -85,29 +87,29 @@ module _ (p : Plan) (g : Gluing) (n : ℕ) (word : ℕ → Symbol) (T : IsReadab
           apart : (q r : Place) → (q ≡ r → ⊥) → (x : Side) → g (side f q) ≡ Some x → g (side f r) ≡ Some x → ⊥
           apart q r ne x i o = ne (ap (λ (s : Side). s.place) (Some_injective _ _ (sym (T.gluing.paired (side f q) x i) ∙ T.gluing.paired (side f r) x o)))
 
-          before_a : side_before f (below f g) (side j first) ≡ b
+          before_a : side_before f (prefix f g) (side j first) ≡ b
           before_a =
-              ap (side_before f (below f g)) (Some_injective _ _ (sym e ∙ w.right))
-              ∙ sym (gap_before T.gluing f (side f third) a2 b2 (omega arith) w)
-              ∙ Some_injective _ _ (sym w.left ∙ u.right)
+              ap (side_before f (prefix f g)) (Some_injective _ _ (sym e ∙ w.right_is))
+              ∙ sym (gap_before T.gluing f (side f third) a2 b2 w)
+              ∙ Some_injective _ _ (sym w.left_is ∙ u.right_is)
 
-          before_b : side_before f (below f g) b ≡ d
-          before_b = sym (gap_before T.gluing f (side f first) b d (omega arith) u)
+          before_b : side_before f (prefix f g) b ≡ d
+          before_b = sym (gap_before T.gluing f (side f first) b d u)
 
-          before_d : side_before f (below f g) d ≡ side j first
+          before_d : side_before f (prefix f g) d ≡ side j first
           before_d =
-              ap (side_before f (below f g)) (Some_injective _ _ (sym u.left ∙ v.right))
-              ∙ sym (gap_before T.gluing f (side f second) d2 a1 (omega arith) v)
-              ∙ Some_injective _ _ (sym v.left ∙ e)
+              ap (side_before f (prefix f g)) (Some_injective _ _ (sym u.left_is ∙ v.right_is))
+              ∙ sym (gap_before T.gluing f (side f second) d2 a1 v)
+              ∙ Some_injective _ _ (sym v.left_is ∙ e)
 
-          glued : glue (side f third) (side_before f (below f g) (side_before f (below f g) (side j first))) (glue (side f second) (side_before f (below f g) (side j first)) (glue (side f first) (side j first) (below f g))) ≡ below (suc f) g
+          glued : glue (side f third) (side_before f (prefix f g) (side_before f (prefix f g) (side j first))) (glue (side f second) (side_before f (prefix f g) (side j first)) (glue (side f first) (side j first) (prefix f g))) ≡ prefix (suc f) g
           glued =
-              ap (λ (z : Side). glue (side f third) (side_before f (below f g) z) (glue (side f second) z (glue (side f first) (side j first) (below f g)))) before_a
-              ∙ ap (λ (z : Side). glue (side f third) z (glue (side f second) b (glue (side f first) (side j first) (below f g)))) before_b
-              ∙ sym (adds_three T.gluing f (side j first) b d (omega arith) u.right_below u.left_below e u.right u.left)
+              ap (λ (z : Side). glue (side f third) (side_before f (prefix f g) z) (glue (side f second) z (glue (side f first) (side j first) (prefix f g)))) before_a
+              ∙ ap (λ (z : Side). glue (side f third) z (glue (side f second) b (glue (side f first) (side j first) (prefix f g)))) before_b
+              ∙ sym (adds_three T.gluing f (side j first) b d (omega arith) u.right_below u.left_below e u.right_is u.left_is)
 
-  closes : (bound f c : ℕ) → bound ≤ n → IsHalfway f bound → Closes f c (free_firsts (below n g) bound)
-  closes zero f c l H = subst (Closes f c) (sym (firsts_none (below n g))) (λ b. closed_none p bits (stage f [] c) ∙ ap {A = State} (λ s. let x : Next = Ok s in x) (ap (λ (k : ℕ). stage k [] c) all ∙ ap (stage p.faces []) (let e : c ≡ c + 0 = omega arith in e)))
+  closes : (bound f c : ℕ) → bound ≤ n → IsHalfway f bound → Closes f c (free_firsts (prefix n g) bound)
+  closes zero f c l H = subst (Closes f c) (sym (firsts_none (prefix n g))) (λ b. closed_none p bits (stage f [] c) ∙ ap {A = State} (λ s. let x : Next = Ok s in x) (ap (λ (k : ℕ). stage k [] c) all ∙ ap (stage p.faces []) (let e : c ≡ c + 0 = omega arith in e)))
     where
       -- no interior face is left
       all : f ≡ p.faces
@@ -115,9 +117,9 @@ module _ (p : Plan) (g : Gluing) (n : ℕ) (word : ℕ → Symbol) (T : IsReadab
         | inl h ↦ (let i = T.interior f H.from h in let w = H.due f i.run (omega arith) h i.entered in absurd (omega arith))
         | inr h ↦ (let t = H.to in omega arith)
       ]
-  closes (suc j) f c l H = elim (option_tells (below n g (side j first))) [
-    | inr z ↦ subst (Closes f c) (sym (firsts_glued (below n g) j z.0 z.1)) (closes j f c (omega arith) (passed z.0 z.1))
-    | inl free ↦ subst (Closes f c) (sym (firsts_free (below n g) j free)) (λ b. elim (option_tells (g (side j first))) [
+  closes (suc j) f c l H = elim (option_tells (prefix n g (side j first))) [
+    | inr z ↦ subst (Closes f c) (sym (firsts_glued (prefix n g) j z.0 z.1)) (closes j f c (omega arith) (passed z.0 z.1))
+    | inl free ↦ subst (Closes f c) (sym (firsts_free (prefix n g) j free)) (λ b. elim (option_tells (g (side j first))) [
       | inl o ↦ (
           closed_more p bits (length rest) (stage f (side j first ∷ rest) c) (stage f rest (suc c)) false (first_bit (side j first) rest c b ∙ ap {A = Option Side} is_some o) (close_boundary p (stage f (side j first ∷ rest) c) (side j first) rest refl)
           ∙ closes j f (suc c) (omega arith) (boundary o) (rest_bits (side j first) rest c b)
@@ -131,9 +133,9 @@ module _ (p : Plan) (g : Gluing) (n : ℕ) (word : ℕ → Symbol) (T : IsReadab
   ]
     where
       rest : List Side
-      rest = free_firsts (below n g) j
+      rest = free_firsts (prefix n g) j
 
-      passed : (z : Side) → below n g (side j first) ≡ Some z → IsHalfway f j
+      passed : (z : Side) → prefix n g (side j first) ≡ Some z → IsHalfway f j
       passed z e = record {
         from = H.from;
         to = H.to;
@@ -143,10 +145,10 @@ module _ (p : Plan) (g : Gluing) (n : ℕ) (word : ℕ → Symbol) (T : IsReadab
             elim (cases_eq k j) [
               | inr ne ↦ (omega arith)
               | inl s ↦ (
-                  let t = below_tells n g (side j first) z e in
+                  let t = prefix-tells n g (side j first) z e in
                   let back : g (side j first) ≡ Some (side i first) = T.gluing.paired (side i first) (side j first) (q ∙ ap (λ (x : ℕ). Some (side x first)) s) in
-                  let u : z.face ≡ i = ap (λ (x : Side). x.face) (Some_injective _ _ (sym t.1 ∙ back)) in
-                  let v = t.2 in
+                  let u : z.face ≡ i = ap (λ (x : Side). x.face) (Some_injective _ _ (sym t.2 ∙ back)) in
+                  let v = t.1 in
                   let r = H.from in
                   absurd (omega arith))
             ]);
@@ -169,11 +171,11 @@ module _ (p : Plan) (g : Gluing) (n : ℕ) (word : ℕ → Symbol) (T : IsReadab
       }
 
       -- what lies across is the next interior start face
-      starts_at : below n g (side j first) ≡ None → (y : Side) → g (side j first) ≡ Some y → (f < p.faces) × (g (side f first) ≡ Some (side j first))
+      starts_at : prefix n g (side j first) ≡ None → (y : Side) → g (side j first) ≡ Some y → (f < p.faces) × (g (side f first) ≡ Some (side j first))
       starts_at free y e =
           let above : n ≤ y.face = elim (cases_lt y.face n) [
             | inr h ↦ h
-            | inl h ↦ absurd (let no : None ≡ Some y = sym free ∙ below_in n g (side j first) y (omega arith) e h in cc)
+            | inl h ↦ absurd (let no : None ≡ Some y = sym free ∙ tells-prefix n g (side j first) y (omega arith) h e in cc)
           ] in
           let at_first : y ≡ side y.face first = ap (side y.face) (T.starts j y (omega arith) e above) in
           let back : g (side y.face first) ≡ Some (side j first) = ap g (sym at_first) ∙ T.gluing.paired (side j first) y e in
@@ -202,7 +204,7 @@ module _ (p : Plan) (g : Gluing) (n : ℕ) (word : ℕ → Symbol) (T : IsReadab
       }
 
   -- all that wait after the symbols
-  pub closes_all : AreBits (free_firsts (below n g) n) 0 → close_all p bits (length (free_firsts (below n g) n)) (stage n (free_firsts (below n g) n) 0) ≡ Ok (stage p.faces [] (0 + length (free_firsts (below n g) n)))
+  pub closes_all : AreBits (free_firsts (prefix n g) n) 0 → close_all p bits (length (free_firsts (prefix n g) n)) (stage n (free_firsts (prefix n g) n) 0) ≡ Ok (stage p.faces [] (0 + length (free_firsts (prefix n g) n)))
   closes_all b = closes n n 0 (omega arith) (record {
     from = omega arith;
     to = T.fewer;

@@ -7,10 +7,11 @@ use Rattle.corner_table.specs.declared.symbols.Symbol.TheVariants.{C, S, L, R, E
 use Rattle.corner_table.specs.Sides.{Side, Place, first, second, third, side, next, prev, place_after, place_before, Gluing, IsGluing}
 use Rattle.corner_table.specs.Fans.{swing_left, InFan, HasThreeFans}
 use Rattle.corner_table.specs.Carried.{carry, IsCarried}
+use Rattle.corner_table.specs.Prefixes.{LeadsBelow, to_end, over, IsSurrounded}
 use Rattle.corner_table.proofs.Places.{Some_injective, next-prev}
 use Rattle.corner_table.proofs.Walks.{left_crosses, right_crosses}
 use Rattle.corner_table.proofs.Carrying.{carry-next, carry-prev, carry_injective, carry_onto, carried_gluing, fans_carried}
-use Rattle.eb_trace.specs.Readable.{WalksBelow, there, onwards, IsRinged, IsPast, GoesOn, Says, IsInterior, IsReadable}
+use Rattle.eb_trace.specs.Readable.{IsPast, GoesOn, Says, IsInterior, IsReadable}
 use Rattle.eb_trace.specs.Rebuilt.{symbol_at}
 use Rattle.eb_trace.specs.Trace.{Entry, trace, order_of, word_of}
 use Rattle.eb_trace.proofs.Rings.{Through, at as stays, by as swings, Ring, ring_has, through_last}
@@ -185,30 +186,36 @@ module _ (faces : ℕ) (g : Gluing) (G : IsGluing faces g) (F : HasThreeFans fac
       let t = up (next c) (prev d) l q in
       (next t.0, t.1, carry-next (order_of (trace faces g)) t.0 ∙ ap next t.2 ∙ next-prev d, ap (option_map next) t.3)
 
-  walk_up : (P : Side → Type 0) (bound : ℕ) → ((x : Side) → x.face < faces → P (φ x) → x.face < bound) → {c d : Side} → Through g P c d → (x : Side) → x.face < faces → φ x ≡ c → (y : Side) × (y.face < faces) × (φ y ≡ d) × WalksBelow h bound x y
-  walk_up P bound small (stays {c = c} p) x l e = (x, l, e, there (small x l (subst P (sym e) p)))
+  walk_up : (P : Side → Type 0) (bound : ℕ) → ((x : Side) → x.face < faces → P (φ x) → x.face < bound) → {c d : Side} → Through g P c d → (x : Side) → x.face < faces → φ x ≡ c →
+      (x.face < bound) × (y : Side) × (y.face < faces) × (φ y ≡ d) × ((z : Side) → swing_left h y ≡ Some z → LeadsBelow h bound x z)
+  walk_up P bound small (stays {c = c} p) x l e = (small x l (subst P (sym e) p), x, l, e, λ z s. to_end s)
   walk_up P bound small (swings {c = c} {d = z} p s w) x l e =
       let t = swing_up x z l (ap (swing_left g) e ∙ s) in
       let u = walk_up P bound small w t.0 t.1 t.2 in
-      (u.0, u.1, u.2, onwards (small x l (subst P (sym e) p)) t.3 u.3)
+      (small x l (subst P (sym e) p), u.1, u.2, u.3, λ z q. over t.3 u.0 (u.4 z q))
 
-  ring_up : (P : Side → Type 0) (bound : ℕ) → ((x : Side) → x.face < faces → P (φ x) → x.face < bound) → (c : Side) → c.face < faces → (d : Side) → φ c ≡ d → Ring g P d → IsRinged h bound c
+  ring_up : (P : Side → Type 0) (bound : ℕ) → ((x : Side) → x.face < faces → P (φ x) → x.face < bound) → (c : Side) → c.face < faces → (d : Side) → φ c ≡ d → Ring g P d → IsSurrounded h bound c
   ring_up P bound small c l d e r =
       let t = swing_up c r.from l (ap (swing_left g) e ∙ r.leaves) in
       let u = walk_up P bound small r.round t.0 t.1 t.2 in
-      let v = swing_up u.0 d u.1 (ap (swing_left g) u.2 ∙ r.returns) in
+      let v = swing_up u.1 d u.2 (ap (swing_left g) u.3 ∙ r.returns) in
       let back : v.0 ≡ c = carry_injective (renumbers faces g G F) v.0 c v.1 l (v.2 ∙ sym e) in
-      record { from = t.0; to = u.0; leaves = t.3; round = u.3; returns = v.3 ∙ ap {A = Side} Some back }
+      over t.3 u.0 (u.4 c (v.3 ∙ ap {A = Side} Some back))
 
-  through_of : (bound : ℕ) {c d : Side} → WalksBelow h bound c d → Through h (λ x. x.face < bound) c d
-  through_of bound (there l) = stays l
-  through_of bound (onwards l s w) = swings l s (through_of bound w)
+  -- and back: the last corner before the end of a walk
+  through_of : (bound : ℕ) {c d : Side} → LeadsBelow h bound c d → c.face < bound → (e : Side) × Through h (λ x. x.face < bound) c e × (swing_left h e ≡ Some d)
+  through_of bound (to_end {c = c} s) l = (c, stays l, s)
+  through_of bound (over s k w) l = let t = through_of bound w k in (t.0, swings l s t.1, t.2)
 
-  ring_from : (bound : ℕ) (c : Side) → IsRinged h bound c → Ring h (λ x. x.face < bound) c
-  ring_from bound c r = record { from = r.from; to = r.to; leaves = r.leaves; round = through_of bound r.round; returns = r.returns }
+  ring_from : (bound : ℕ) (c : Side) → IsSurrounded h bound c → Ring h (λ x. x.face < bound) c
+  ring_from bound c r = go r
+    where
+      go : LeadsBelow h bound c c → Ring h (λ x. x.face < bound) c
+      go (to_end s) = absurd (H.apart (next c) (prev c) (left_crosses h c c s) refl)
+      go (over {d = d} s k w) = let t = through_of bound w k in record { from = d; to = t.0; leaves = s; round = t.1; returns = t.2 }
 
   -- a vertex that was met before is no ring of later faces
-  no_ring : (i k : ℕ) → suc (i + k) ≡ n → MetBefore g cor (insides_of faces g) k → IsRinged h i (side i first) → ⊥
+  no_ring : (i k : ℕ) → suc (i + k) ≡ n → MetBefore g cor (insides_of faces g) k → IsSurrounded h i (side i first) → ⊥
   no_ring i k e (d, p, why) r =
       let w = within_n i k e in
       let t = carry_onto (renumbers faces g G F) d (Rattle.eb_trace.proofs.Visited.fan_within G p ((trace_ok faces g G F).0.logged.bounded k (omega arith))) in

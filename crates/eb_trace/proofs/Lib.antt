@@ -24,6 +24,7 @@ pub mod Vertices
 pub mod Merging
 pub mod Counting
 pub mod Counted
+pub mod Splits
 pub mod Joining
 pub mod Tables
 pub mod Marking

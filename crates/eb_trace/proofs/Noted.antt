@@ -8,12 +8,12 @@ use Rattle.corner_table.specs.Sides.{Side, first, second, third, side, next, pre
 use Rattle.corner_table.specs.Fans.{HasThreeFans}
 use Rattle.corner_table.specs.Carried.{carry, IsCarried}
 use Rattle.corner_table.proofs.Places.{option_tells}
+use Rattle.corner_table.proofs.Prefixing.{gap}
 use Rattle.eb_trace.specs.Front.{is_split}
 use Rattle.eb_trace.specs.Readable.{IsNewTip, IsSplit, Says}
 use Rattle.eb_trace.specs.Front.{split_met, event_told, events_at, events_left}
 use Rattle.eb_trace.specs.Rebuilt.{symbol_at}
 use Rattle.eb_trace.specs.Trace.{Entry, Walk, trace, order_of, word_of, split_of, split_across, event_noted, events_noted, after_symbol, go_back, take_kept, entered, visit, run, symbol_at_corner, is_visited, start_corner, begun, begun_inside, walked}
-use Rattle.eb_trace.proofs.Below.{gap}
 use Rattle.eb_trace.proofs.Kept.{three_first, three_second}
 use Rattle.eb_trace.proofs.Events.{left_zero, left_suc, tells_none}
 use Rattle.eb_trace.proofs.Visited.{is_inside, entry_at, at_top, at_rest, Extends, extends_rest, extends_top, extends_at, extends_length, run_none, run_ends, run_goes_on}
@@ -219,8 +219,8 @@ module _ (faces : ℕ) (g : Gluing) (G : IsGluing faces g) (F : HasThreeFans fac
       go : (s : Symbol) → e.symbol ≡ s → (i : ℕ) → suc (i + length entries) ≡ count → i < count → all_events g entries ≡ events_left count h word (length entries) → entry_events g e.symbol entries e.corner ++ all_events g entries ≡ events_left count h word (suc (length entries))
       go C q i number l rest =
           let t : IsNewTip h i = subst (Says h i) (word_here i number ∙ q) ((readable faces g G F h K).symbols i l) in
-          let u = gap (H faces g G F h K) i (side i first) t.ring in
-          ap (λ (s : Symbol). entry_events g s entries e.corner ++ all_events g entries) q ∙ quiet i number u.0 u.1 u.2.right u.2.right_below u.2.left u.2.left_below rest
+          let u = gap i (side i first) (H faces g G F h K) (omega arith) t.ring in
+          ap (λ (s : Symbol). entry_events g s entries e.corner ++ all_events g entries) q ∙ quiet i number u.0 u.1 u.2.right_is u.2.right_below u.2.left_is u.2.left_below rest
       go S q i number l rest =
           let t : IsSplit h i = subst (Says h i) (word_here i number ∙ q) ((readable faces g G F h K).symbols i l) in
           let r = t.right.is_before in

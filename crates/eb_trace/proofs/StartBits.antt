@@ -4,13 +4,15 @@ use Rattle.std.proofs.lemmas.List.{reverse-append, length-map}
 use Rattle.corner_table.specs.Sides.{Side, first, side, Gluing, IsGluing}
 use Rattle.corner_table.specs.Fans.{HasThreeFans}
 use Rattle.corner_table.specs.Carried.{carry, IsCarried}
+use Rattle.corner_table.specs.Prefixes.{prefix}
 use Rattle.corner_table.proofs.Places.{option_tells}
+use Rattle.corner_table.proofs.Prefixing.{tells-prefix, prefix-free}
 use Rattle.eb_trace.specs.Readable.{IsReadable}
-use Rattle.eb_trace.specs.Front.{below, free_firsts, events_left, start_bits}
+use Rattle.eb_trace.specs.Front.{free_firsts, events_left, start_bits}
 use Rattle.eb_trace.specs.Rebuilt.{symbol_at}
 use Rattle.eb_trace.specs.Trace.{Entry, trace, order_of, word_of}
 use Rattle.eb_trace.specs.Kept.{WalkOrders, WalkIsReadable}
-use Rattle.eb_trace.proofs.Below.{below_in, below_free, below_past}
+use Rattle.eb_trace.proofs.Below.{prefix_none}
 use Rattle.eb_trace.proofs.Waiting.{firsts_none, firsts_free, firsts_glued}
 use Rattle.eb_trace.proofs.Visited.{is_inside}
 use Rattle.eb_trace.proofs.Walking.{bits_to, bits_across, bits_none, bits_more}
@@ -66,8 +68,8 @@ module _ (faces : ℕ) (g : Gluing) (G : IsGluing faces g) (F : HasThreeFans fac
   abbrev shown : List Side → List Bool
   shown l = map (λ (a : Side). is_some (h a)) l
 
-  waits : (j : ℕ) → j ≤ n → shown (free_firsts (below n h) j) ≡ bits_up j
-  waits zero l = ap shown (firsts_none (below n h)) ∙ sym up_none
+  waits : (j : ℕ) → j ≤ n → shown (free_firsts (prefix n h) j) ≡ bits_up j
+  waits zero l = ap shown (firsts_none (prefix n h)) ∙ sym up_none
   waits (suc j) l =
       let k = n - suc j in
       let e : suc (j + k) ≡ n = omega arith in
@@ -80,8 +82,8 @@ module _ (faces : ℕ) (g : Gluing) (G : IsGluing faces g) (F : HasThreeFans fac
               | inl q ↦ q
               | inr z ↦ absurd (let u = up faces g G F h K (side j first) z.0 (omega arith) (ap g corner_is ∙ z.1) in let no : None ≡ Some u.0 = sym o ∙ u.3 in cc)
             ] in
-            ap shown (firsts_free (below n h) j (below_free n h (side j first) o))
-            ∙ ap (λ (s : Option Side). is_some s ∷ shown (free_firsts (below n h) j)) o
+            ap shown (firsts_free (prefix n h) j (prefix_none n h (side j first) o))
+            ∙ ap (λ (s : Option Side). is_some s ∷ shown (free_firsts (prefix n h) j)) o
             ∙ ap (λ (t : List Bool). false ∷ t) rest
             ∙ sym (up_more j ∙ ap (λ (s : Option Side). bit s ++ bits_up j) open_side))
         | inr y ↦ (
@@ -90,16 +92,16 @@ module _ (faces : ℕ) (g : Gluing) (G : IsGluing faces g) (F : HasThreeFans fac
             by_number j y.0 (omega arith) y.1 rest (up_more j ∙ ap (λ (s : Option Side). bit s ++ bits_up j) across) (number_of faces g G F h K y.0.face w.1))
       ]
     where
-      by_number : (j : ℕ) (y : Side) → j < n → h (side j first) ≡ Some y → shown (free_firsts (below n h) j) ≡ bits_up j → bits_up (suc j) ≡ bit (Some (carry (order_of (trace faces g)) y)) ++ bits_up j → Numbered faces g G F y.face → shown (free_firsts (below n h) (suc j)) ≡ bits_up (suc j)
+      by_number : (j : ℕ) (y : Side) → j < n → h (side j first) ≡ Some y → shown (free_firsts (prefix n h) j) ≡ bits_up j → bits_up (suc j) ≡ bit (Some (carry (order_of (trace faces g)) y)) ++ bits_up j → Numbered faces g G F y.face → shown (free_firsts (prefix n h) (suc j)) ≡ bits_up (suc j)
       by_number j y l e rest more (of_symbol k a b) =
           let inside : is_inside (insides_of faces g) (carry (order_of (trace faces g)) y).face ≡ false = ap (is_inside (insides_of faces g)) b ∙ outside_of faces g G F h K k (omega arith) in
-          ap shown (firsts_glued (below n h) j y (below_in n h (side j first) y l e (omega arith)))
+          ap shown (firsts_glued (prefix n h) j y (tells-prefix n h (side j first) y l (omega arith) e))
           ∙ rest
           ∙ sym (more ∙ ap (λ (t : Bool). cond t (true ∷ []) [] ++ bits_up j) inside)
       by_number j y l e rest more (of_inside q r s c d) =
           let inside : is_inside (insides_of faces g) (carry (order_of (trace faces g)) y).face ≡ true = ap (is_inside (insides_of faces g)) d ∙ inside_is (insides_of faces g) r (omega arith) in
-          ap shown (firsts_free (below n h) j (below_past n h (side j first) y e (omega arith)))
-          ∙ ap (λ (o : Option Side). is_some o ∷ shown (free_firsts (below n h) j)) e
+          ap shown (firsts_free (prefix n h) j (prefix-free n h (side j first) y e (omega arith)))
+          ∙ ap (λ (o : Option Side). is_some o ∷ shown (free_firsts (prefix n h) j)) e
           ∙ ap (λ (t : List Bool). true ∷ t) rest
           ∙ sym (more ∙ ap (λ (t : Bool). cond t (true ∷ []) [] ++ bits_up j) inside)
 

@@ -4,12 +4,12 @@ use Rattle.corner_table.specs.Sides.{Side, Gluing, IsGluing}
 use Rattle.corner_table.specs.Fans.{InFan}
 use Rattle.corner_table.specs.Labels.{label_at}
 use Rattle.corner_table.specs.Carried.{carry}
+use Rattle.corner_table.specs.Prefixes.{prefix}
 use Rattle.corner_table.proofs.Gluings.{more_faces}
 use Rattle.corner_table.proofs.Carrying.{carried_gluing, carry-within, carry_onto, fans_carried}
-use Rattle.eb_trace.specs.Front.{below}
 use Rattle.eb_trace.specs.Trace.{fan_count}
 use Rattle.eb_trace.specs.Vertices.{NothingHasNone, FaceAddsThree, LabelsAreFans, RenumberedAlike}
-use Rattle.eb_trace.proofs.Below.{below_whole}
+use Rattle.eb_trace.proofs.Below.{prefix_whole}
 use Rattle.eb_trace.proofs.Naming.{IsNaming, namings_agree}
 use Rattle.eb_trace.proofs.Adding.{Among, HasFans, base_of, three_new}
 use Rattle.eb_trace.proofs.FanCount.{count_none, fan_count_is}
@@ -26,15 +26,15 @@ nothing_has_none g = count_none _
 pub face_adds_three : FaceAddsThree
 face_adds_three faces g G = go (fan_count_is faces g G)
   where
-    whole : below faces g ≡ g
-    whole = below_whole G
+    whole : prefix faces g ≡ g
+    whole = prefix_whole G
 
-    more : below (suc faces) g ≡ g
-    more = below_whole (more_faces (suc faces) (omega arith) G)
+    more : prefix (suc faces) g ≡ g
+    more = prefix_whole (more_faces (suc faces) (omega arith) G)
 
     go : HasFans faces g (fan_count faces g) → fan_count (suc faces) g ≡ fan_count faces g + 3
     go (f, N) =
-        let M : IsNaming (InFan (below faces g)) (Among faces) (fan_count faces g) f = subst (λ (h : Gluing). IsNaming (InFan h) (Among faces) (fan_count faces g) f) (sym whole) N in
+        let M : IsNaming (InFan (prefix faces g)) (Among faces) (fan_count faces g) f = subst (λ (h : Gluing). IsNaming (InFan h) (Among faces) (fan_count faces g) f) (sym whole) N in
         let three = three_new faces g G faces (fan_count faces g) f (base_of faces g (fan_count faces g) f M) (more ∙ sym whole) in
         fans_are (suc faces) g (more_faces (suc faces) (omega arith) G) (fan_count faces g + 3) (subst (λ (h : Gluing). HasFans (suc faces) h (fan_count faces g + 3)) more three)
 

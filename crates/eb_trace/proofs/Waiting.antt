@@ -2,10 +2,12 @@
 use Rattle.std.proofs.Common.{◌≡◌, ℕ, zero, suc, ◌<◌, ◌≤◌, is_none, List, [], ◌∷◌, Option, Some, None, inl, inr, sym, refl, ap, ◌∙◌, arith}
 use Rattle.std.proofs.lemmas.Bool.{cases_eq, cond-true, cond-false}
 use Rattle.corner_table.specs.Sides.{Side, first, side, Gluing}
+use Rattle.corner_table.specs.Prefixes.{prefix}
 use Rattle.corner_table.proofs.Places.{option_tells}
+use Rattle.corner_table.proofs.Prefixing.{prefix-free}
 use Rattle.eb_trace.specs.Readable.{IsPast}
-use Rattle.eb_trace.specs.Front.{below, free_firsts}
-use Rattle.eb_trace.proofs.Below.{below_free, below_past}
+use Rattle.eb_trace.specs.Front.{free_firsts}
+use Rattle.eb_trace.proofs.Below.{prefix_none}
 
 pub firsts_none : (h : Gluing) → free_firsts h zero ≡ []
 unfolding free_firsts
@@ -47,8 +49,8 @@ pub firsts_unlast : (h : Gluing) (m p : ℕ) (z : Side) → m ≡ suc p → h (s
 firsts_unlast h m p z e n = ap (free_firsts h) e ∙ firsts_glued h p z n
 
 -- a past side is free
-pub past_free : (m : ℕ) (g : Gluing) (x : Side) → x.face < m → m ≤ suc x.face → IsPast g x → below m g x ≡ None
+pub past_free : (m : ℕ) (g : Gluing) (x : Side) → x.face < m → m ≤ suc x.face → IsPast g x → prefix m g x ≡ None
 past_free m g x h k p = elim (option_tells (g x)) [
-  | inl n ↦ below_free m g x n
-  | inr y ↦ below_past m g x y.0 y.1 (let l = p y.0 y.1 in omega arith)
+  | inl n ↦ prefix_none m g x n
+  | inr y ↦ prefix-free m g x y.0 y.1 (let l = p y.0 y.1 in omega arith)
 ]

@@ -7,14 +7,15 @@ use Rattle.corner_table.specs.declared.symbols.Symbol.{Symbol}
 use Rattle.corner_table.specs.declared.symbols.Symbol.TheVariants.{E}
 use Rattle.corner_table.specs.Sides.{Side, first, second, third, side, next, Gluing}
 use Rattle.corner_table.specs.Fans.{HasThreeFans, meets}
+use Rattle.corner_table.specs.Prefixes.{prefix}
 use Rattle.corner_table.proofs.Meeting.{meets-fan}
 use Rattle.eb_rebuild.specs.Machine.{State, Plan, start, step, take_symbols, close_all, finish, rebuild, is_degenerate, first_degenerate, ◌>>=◌}
 use Rattle.eb_rebuild.proofs.Steps.{Next, the_state, same_state, then_ok}
 use Rattle.eb_rebuild.proofs.Ends.{finish_done, finish_vertices}
 use Rattle.eb_trace.specs.Readable.{IsReadable}
-use Rattle.eb_trace.specs.Front.{below, free_firsts, kept_for, events_left, made_by, front, start_bits}
+use Rattle.eb_trace.specs.Front.{free_firsts, kept_for, events_left, made_by, front, start_bits}
 use Rattle.eb_trace.specs.Rebuilt.{symbol_at, EachStepReads, finished, ReadsWord, RebuildsWord, RefusesFewer}
-use Rattle.eb_trace.proofs.Below.{below_nothing, below_whole}
+use Rattle.eb_trace.proofs.Below.{prefix_nothing, prefix_whole}
 use Rattle.eb_trace.proofs.Waiting.{firsts_none}
 use Rattle.eb_trace.proofs.Kept.{kept_early, kept_late, kept_none_yet}
 use Rattle.eb_trace.proofs.Events.{left_zero}
@@ -51,10 +52,10 @@ made_none word = refl
 
 -- nothing is built at first
 front_first : (g : Gluing) (n : ℕ) (word : ℕ → Symbol) → start (events_left n g word n) ≡ front n g word 0
-front_first g n word = same_state refl (sym (below_nothing g)) (sym (firsts_none (below 0 g))) (sym (fun_ext (kept_none_yet n g word))) (ap (events_left n g word) (let e : n ≡ n - 0 = omega arith in e)) (sym (made_none word)) refl
+front_first g n word = same_state refl (sym (prefix_nothing g)) (sym (firsts_none (prefix 0 g))) (sym (fun_ext (kept_none_yet n g word))) (ap (events_left n g word) (let e : n ≡ n - 0 = omega arith in e)) (sym (made_none word)) refl
 
 -- nothing is kept after the last symbol
-front_last : (g : Gluing) (n : ℕ) (word : ℕ → Symbol) → front n g word n ≡ the_state n (below n g) (free_firsts (below n g) n) (λ k. None) [] (made_by word n) 0
+front_last : (g : Gluing) (n : ℕ) (word : ℕ → Symbol) → front n g word n ≡ the_state n (prefix n g) (free_firsts (prefix n g) n) (λ k. None) [] (made_by word n) 0
 front_last g n word = same_state refl refl refl (fun_ext kept) (ap (events_left n g word) (let e : n - n ≡ 0 = omega arith in e) ∙ left_zero n g word) refl refl
   where
     kept : (k : ℕ) → kept_for n g word n k ≡ None
@@ -69,14 +70,14 @@ module _ (p : Plan) (g : Gluing) (word : List Symbol) (T : IsReadable p.faces g 
       ap (take_symbols (length word) word) (front_first g (length word) (symbol_at word))
       ∙ symbols_from p.faces g (length word) (symbol_at word) T word 0 (omega arith) (λ k h. ap (symbol_at word) (let e : k ≡ 0 + k = omega arith in e))
 
-  all_closed : close_all p (bits_of (length word) g) (length (free_firsts (below (length word) g) (length word))) (front (length word) g (symbol_at word) (length word)) ≡ Ok (finished p.faces g word)
+  all_closed : close_all p (bits_of (length word) g) (length (free_firsts (prefix (length word) g) (length word))) (front (length word) g (symbol_at word) (length word)) ≡ Ok (finished p.faces g word)
   all_closed =
-      ap (close_all p (bits_of (length word) g) (length (free_firsts (below (length word) g) (length word)))) (front_last g (length word) (symbol_at word))
+      ap (close_all p (bits_of (length word) g) (length (free_firsts (prefix (length word) g) (length word)))) (front_last g (length word) (symbol_at word))
       ∙ closes_all p g (length word) (symbol_at word) T (bits_of (length word) g) (made_by (symbol_at word) (length word)) (λ k. ap (bits_of (length word) g) (let e : k ≡ 0 + k = omega arith in e))
-      ∙ ap {A = State} (λ s. let x : Next = Ok s in x) (same_state refl (below_whole T.gluing) refl refl refl refl count)
+      ∙ ap {A = State} (λ s. let x : Next = Ok s in x) (same_state refl (prefix_whole T.gluing) refl refl refl refl count)
     where
-      count : 0 + length (free_firsts (below (length word) g) (length word)) ≡ length (start_bits (length word) g)
-      count = (let e : 0 + length (free_firsts (below (length word) g) (length word)) ≡ length (free_firsts (below (length word) g) (length word)) = omega arith in e) ∙ sym (length-map (free_firsts (below (length word) g) (length word)) (λ (a : Side). is_some (g a)))
+      count : 0 + length (free_firsts (prefix (length word) g) (length word)) ≡ length (start_bits (length word) g)
+      count = (let e : 0 + length (free_firsts (prefix (length word) g) (length word)) ≡ length (free_firsts (prefix (length word) g) (length word)) = omega arith in e) ∙ sym (length-map (free_firsts (prefix (length word) g) (length word)) (λ (a : Side). is_some (g a)))
 
   read : (take_symbols (length word) word (start (events_left (length word) g (symbol_at word) (length word))) >>= λ s. close_all p (bits_of (length word) g) (length s.stack) s) ≡ Ok (finished p.faces g word)
   read =
@@ -115,7 +116,7 @@ comes_to_end p g word T count =
     let bits = bits_of n g in
     ap (λ (k : ℕ). take_symbols k word (start events) >>= λ s. close_all p bits (length s.stack) s >>= finish p) count
     ∙ then_ok (take_symbols n word (start events)) (front n g (symbol_at word) n) (λ s. close_all p bits (length s.stack) s >>= finish p) (symbols_taken p g word T)
-    ∙ then_ok (close_all p bits (length (free_firsts (below n g) n)) (front n g (symbol_at word) n)) (finished p.faces g word) (finish p) (all_closed p g word T)
+    ∙ then_ok (close_all p bits (length (free_firsts (prefix n g) n)) (front n g (symbol_at word) n)) (finished p.faces g word) (finish p) (all_closed p g word T)
 
 pub rebuilds_word : RebuildsWord
 rebuilds_word p g word T count F made = comes_to_end p g word T count ∙ finish_done p (finished p.faces g word) refl made (none_degenerate p.faces g F p.faces (omega arith))

@@ -1,4 +1,5 @@
--- What a traced surface is good for.
+-- What a traced surface is good for: the surface in the order of decoding, and that reverse decoding builds it (Rossignac 1999; Isenburg and
+-- Snoeyink 2001; the order: this project's choice).
 use Rattle.std.specs.Prelude.{◌≡◌, ℕ, ◌+◌, ◌≤◌, Bool, false, List, length, reverse, get_or, count_by, Ok}
 use Rattle.corner_table.specs.declared.symbols.Symbol.{Symbol}
 use Rattle.corner_table.specs.declared.symbols.Event.{Event}
@@ -7,6 +8,17 @@ use Rattle.corner_table.specs.Carried.{IsCarried}
 use Rattle.eb_rebuild.specs.Machine.{rebuild}
 use Rattle.eb_trace.specs.Front.{is_split}
 use Rattle.eb_trace.specs.Rebuilt.{finished}
+use Rattle.eb_trace.specs.Trace.{fan_count}
+
+-- there is a surface with the pairs of g under new numbers of the faces, and only one
+pub record CarriesOne (faces : ℕ) (g : Gluing) (rows : List (ℕ × ℕ)) : Type 0 where
+  pub carried : Gluing
+  pub is_carried : IsCarried faces g rows carried
+  pub only : (h : Gluing) → IsCarried faces g rows h → h ≡ carried
+
+-- it has so many fans
+abbrev pub HasFans : ℕ → Gluing → List (ℕ × ℕ) → ℕ → Type 0
+HasFans faces g rows count = (h : Gluing) → IsCarried faces g rows h → fan_count faces h ≡ count
 
 -- the machine of reverse decoding that is made for all faces, the symbols and no fewer vertices than the surface has and the S take, and is
 -- fed the symbols with the last first, the events and the start bits, meets no fault, and has built the surface in the order of decoding

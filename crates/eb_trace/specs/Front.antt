@@ -1,9 +1,11 @@
--- The state of reverse decoding after the first m symbols, read from the table that it is to rebuild: what lies among the faces below m.
+-- The state of reverse decoding after the first m symbols, read from the table that it is to rebuild: what lies among the faces below m
+-- (reverse decoding: Isenburg and Snoeyink 2001; that its state is read from the table: this project's choice).
 use Rattle.std.specs.Prelude.{ℕ, zero, suc, ◌+◌, ◌-◌, Bool, true, false, ◌&&◌, nat_lt, nat_le, cond, is_none, is_some, List, [], ◌∷◌, ◌++◌, map, Option, Some, None}
 use Rattle.corner_table.specs.declared.symbols.Symbol.{Symbol}
 use Rattle.corner_table.specs.declared.symbols.Symbol.TheVariants.{C, S, L, R, E}
 use Rattle.corner_table.specs.declared.symbols.Event.{Event}
 use Rattle.corner_table.specs.Sides.{Side, Place, first, second, third, side, Gluing}
+use Rattle.corner_table.specs.Prefixes.{prefix}
 use Rattle.eb_rebuild.specs.Machine.{State, event_place}
 
 abbrev pub is_split : Symbol → Bool
@@ -12,15 +14,6 @@ is_split C = false
 is_split L = false
 is_split R = false
 is_split E = false
-
--- a side, if its face is below m
-abbrev pub if_below : ℕ → Option Side → Option Side
-if_below m None = None
-if_below m (Some y) = cond (nat_lt y.face m) (Some y) None
-
--- what is glued among the faces below m
-abbrev pub below : ℕ → Gluing → Gluing
-below m g x = cond (nat_lt x.face m) (if_below m (g x)) None
 
 -- the sides 0 of faces below a number that are free, the last first
 unfoldable pub free_firsts : Gluing → ℕ → List Side
@@ -76,8 +69,8 @@ made_by word (suc m) = made_by word m + vertices_made (word m)
 abbrev pub front : ℕ → Gluing → (ℕ → Symbol) → ℕ → State
 front n g word m = record {
   built = m;
-  glued = below m g;
-  stack = free_firsts (below m g) m;
+  glued = prefix m g;
+  stack = free_firsts (prefix m g) m;
   reserved = kept_for n g word m;
   events = events_left n g word (n - m);
   made = made_by word m;
@@ -86,4 +79,4 @@ front n g word m = record {
 
 -- the start bits: for each side that waits after the symbols, whether an interior start face lies across it
 abbrev pub start_bits : ℕ → Gluing → List Bool
-start_bits n g = map (λ (a : Side). is_some (g a)) (free_firsts (below n g) n)
+start_bits n g = map (λ (a : Side). is_some (g a)) (free_firsts (prefix n g) n)

@@ -1,4 +1,5 @@
--- The walk keeps the surface: reverse decoding of what it notes rebuilds the surface, with its faces in the order of decoding.
+-- The walk keeps the surface: reverse decoding of what it notes rebuilds the surface, with its faces in the order of decoding (Rossignac 1999;
+-- Isenburg and Snoeyink 2001; the order: this project's choice).
 use Rattle.std.specs.Prelude.{◌≡◌, ℕ, ◌+◌, ◌<◌, ◌≤◌, false, reverse, length, get_or, Ok, Err, count_by}
 use Rattle.drc_base.specs.declared.kinds.Kind.TheVariants as kind
 use Rattle.corner_table.specs.Sides.{Gluing, IsGluing}
@@ -9,10 +10,15 @@ use Rattle.eb_trace.specs.Readable.{IsReadable}
 use Rattle.eb_trace.specs.Front.{is_split, events_left, start_bits, made_by}
 use Rattle.eb_trace.specs.Rebuilt.{symbol_at, finished}
 use Rattle.eb_trace.specs.Trace.{trace, word_of, order_of, fan_count}
+use Rattle.eb_trace.specs.FromTrace.{CarriesOne, HasFans}
 
 -- the order of decoding lists each face once
 abbrev pub WalkOrders : Type 0
 WalkOrders = (faces : ℕ) (g : Gluing) → IsGluing faces g → HasThreeFans faces g → IsRenumbering faces (order_of (trace faces g))
+
+-- the surface in that order: there is one, with as many fans
+abbrev pub WalkCarries : Type 0
+WalkCarries = (faces : ℕ) (g : Gluing) → IsGluing faces g → HasThreeFans faces g → CarriesOne faces g (order_of (trace faces g)) × HasFans faces g (order_of (trace faces g)) (fan_count faces g)
 
 -- what a walk noted, against the surface h in the order of decoding
 pub record IsToldBy (faces : ℕ) (g h : Gluing) : Type 0 where

@@ -3,6 +3,7 @@ pub mod Front
 pub mod Rebuilt
 pub mod Trace
 pub mod Stored
+pub mod Events
 pub mod Kept
 pub mod Vertices
 pub mod FromTrace

@@ -4,20 +4,7 @@ use Rattle.std.specs.Prelude.{◌≡◌, ◌≢◌, ℕ, suc, ◌<◌, ◌≤◌
 use Rattle.corner_table.specs.declared.symbols.Symbol.{Symbol}
 use Rattle.corner_table.specs.declared.symbols.Symbol.TheVariants.{C, S, L, R, E}
 use Rattle.corner_table.specs.Sides.{Side, Place, first, second, third, side, Gluing, IsGluing}
-use Rattle.corner_table.specs.Fans.{swing_left}
-
--- swings to the left lead from c to d, over corners of faces below m alone
-pub data WalksBelow (g : Gluing) (m : ℕ) : Side → Side → Type 0 where
-  there : {c : Side} → c.face < m → WalksBelow g m c c
-  onwards : {c d e : Side} → c.face < m → swing_left g c ≡ Some d → WalksBelow g m d e → WalksBelow g m c e
-
--- the fan of c is a ring, and all its other corners are of faces below m
-pub record IsRinged (g : Gluing) (m : ℕ) (c : Side) : Type 0 where
-  pub from : Side
-  pub to : Side
-  pub leaves : swing_left g c ≡ Some from
-  pub round : WalksBelow g m from to
-  pub returns : swing_left g to ≡ Some c
+use Rattle.corner_table.specs.Prefixes.{IsSurrounded}
 
 -- what lies across a side is missing, or of a later face: in the order of the walk, it was visited before
 abbrev pub IsPast : Gluing → Side → Type 0
@@ -36,13 +23,13 @@ IsKeptLast g m kept = (j : ℕ) → kept < j → suc j < m → (z : Side) × (g 
 -- the tip is a new vertex: its ring was unvisited, and the face across side 2 isn't entered there
 pub record IsNewTip (g : Gluing) (i : ℕ) : Type 0 where
   pub right : GoesOn g (side i second)
-  pub ring : IsRinged g i (side i first)
+  pub ring : IsSurrounded g i (side i first)
   pub left : (y : Side) → g (side i third) ≡ Some y → y.place ≢ first
 
--- the walk splits: both other faces are unvisited, and the tip was met before
+-- the walk splits: both other faces are unvisited, and the tip isn't new: it is on a boundary, or a visited face has it
 pub record IsSplit (g : Gluing) (i : ℕ) : Type 0 where
   pub right : GoesOn g (side i second)
-  pub met : IsRinged g i (side i first) → ⊥
+  pub met : IsSurrounded g i (side i first) → ⊥
   pub across : Side
   pub left : g (side i third) ≡ Some across
   pub below : across.face < i
@@ -61,7 +48,7 @@ pub record IsInterior (g : Gluing) (n f : ℕ) : Type 0 where
   pub run : ℕ
   pub is_run : run < n
   pub entered : g (side f first) ≡ Some (side run first)
-  pub rings : (k : Place) → IsRinged g n (side f k)
+  pub rings : (k : Place) → IsSurrounded g n (side f k)
 
 -- a table that reverse decoding reads from a word of n symbols
 pub record IsReadable (faces : ℕ) (g : Gluing) (n : ℕ) (word : ℕ → Symbol) : Type 0 where

@@ -1,4 +1,5 @@
--- Reverse decoding reads every readable table: the steps, and the whole.
+-- Reverse decoding reads every readable table: the steps, and the whole (Isenburg and Snoeyink 2001; as a law of tables: this project's
+-- choice).
 use Rattle.std.specs.Prelude.{◌≡◌, ℕ, suc, ◌+◌, ◌<◌, ◌≤◌, false, List, length, get_or, None, [], Ok, Err, count_by}
 use Rattle.drc_base.specs.declared.kinds.Kind.TheVariants as kind
 use Rattle.corner_table.specs.declared.symbols.Symbol.{Symbol}

@@ -1,7 +1,8 @@
 //! What holds of the definitions themselves.
 
 ghost use Rattle.eb_trace.specs.Rebuilt.{CountsWord, EachStepReads, ReadsWord, RebuildsWord, RefusesFewer};
-ghost use Rattle.eb_trace.specs.Kept.{WalkIsCounted, WalkIsKept, WalkIsReadable, WalkNeedsAll, WalkOrders};
+ghost use Rattle.eb_trace.specs.Kept.{WalkCarries, WalkIsCounted, WalkIsKept, WalkIsReadable, WalkNeedsAll, WalkOrders};
+ghost use Rattle.eb_trace.specs.Events.{WalkNotesSplits};
 ghost use Rattle.eb_trace.specs.Vertices.{FaceAddsThree, GluingJoins, LabelsAreFans, NothingHasNone, RenumberedAlike};
 
 /// Reverse decoding reads every readable table from its word: each symbol takes the state before its
@@ -20,14 +21,18 @@ pub fn readable_is_rebuilt()
 
 /// The walk keeps the surface. Of any surface whose faces have three fans each, with any number of
 /// components, holes, handles and cut vertices: the order of decoding lists each face once, turned at
-/// most; the surface in that order is readable from the walk's word, and tells the walk's events and
-/// start bits; the vertices that reverse decoding makes are as many as the fans of the surface and the S
-/// of the word together; and reverse decoding of all these, with no fewer vertices declared than that,
-/// meets no fault and gives the surface in that order. Fewer are refused, with a fault that says how many
-/// it takes. This is the contract of a call that does nothing.
+/// most; there is one surface in that order, with as many fans; it is readable from the walk's word, and
+/// tells the walk's events and start bits; each event is of a symbol that met an earlier S, they come by
+/// rising sources, the right one of a symbol first, and no S has two; the vertices that reverse decoding
+/// makes are as many as the fans of the surface and the S of the word together; and reverse decoding of
+/// all these, with no fewer vertices declared than that, meets no fault and gives the surface in that
+/// order. Fewer are refused, with a fault that says how many it takes. This is the contract of a call
+/// that does nothing.
 pub fn walk_keeps_surface()
     ensures order { WalkOrders }
+    ensures carried { WalkCarries }
     ensures told { WalkIsReadable }
+    ensures splits { WalkNotesSplits }
     ensures counted { WalkIsCounted }
     ensures kept { WalkIsKept }
     ensures needed { WalkNeedsAll }

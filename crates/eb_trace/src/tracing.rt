@@ -1,10 +1,12 @@
 //! The trace of a surface.
 
-ghost use Rattle.std.specs.Prelude.{◌≡◌, ◌≤◌, IfOk, length, map, reverse};
+ghost use Rattle.std.specs.Prelude.{◌≡◌, ◌≤◌, IfOk, All, length, map, reverse};
 ghost use Rattle.corner_table.specs.Fans.{IsProper};
 ghost use Rattle.corner_table.specs.Table.{gluing_of};
 ghost use Rattle.corner_table.specs.Carried.{IsRenumbering};
-ghost use Rattle.eb_trace.specs.FromTrace.{IsRebuiltFrom};
+ghost use Rattle.eb_rebuild.specs.Rebuilding.{IsEventOf};
+ghost use Rattle.eb_trace.specs.Events.{IsSplitEvent, AreInOrder, SplitOnce};
+ghost use Rattle.eb_trace.specs.FromTrace.{CarriesOne, HasFans, IsRebuiltFrom};
 ghost use Rattle.eb_trace.specs.declared.notes.Entered.{Entered as entered_value};
 ghost use Rattle.eb_trace.specs.Stored.{gluing_in, walk_of, row_of, IsSurface};
 ghost use Rattle.eb_trace.specs.Trace.{trace, word_of, order_of, fan_count};
@@ -76,10 +78,13 @@ fn rows_in_order(alloc: Global, notes: &Notes) -> Result<Vec<(u32, u8)>, Memory>
 }
 
 /// The walk over a proper surface: its symbols, split events and start bits, each in the order of the
-/// walk; its faces in the order of decoding, each with its turn; and how many vertices there are. The
-/// order lists each face once. The machine of reverse decoding that is made for all faces and for no
-/// fewer vertices than there are vertices and S together, and is fed what is answered, meets no fault
-/// and builds the surface in the order of decoding. Refused for want of memory alone.
+/// walk; its faces in the order of decoding, each with its turn; and how many vertices there are. There
+/// are no more symbols than faces, nor events than symbols, and the order lists each face once. Each
+/// event is of an R or E that met an earlier S on its right, or of an L or E that met one on its left;
+/// events come by rising sources, the right one of a symbol first, and no S has two. There is one
+/// surface in the order of decoding, and it has as many vertices. The machine of reverse decoding that
+/// is made for all faces and for no fewer vertices than there are vertices and S together, and is fed
+/// what is answered, meets no fault and builds that surface. Refused for want of memory alone.
 pub fn trace(alloc: Global, t: &SideTable) -> Result<Traced, Memory>
     requires proper { IsProper t.now.faces (gluing_of t.now) }
     ensures symbols { IfOk result (λ r. r.symbols ≡ reverse (word_of (trace t.now.faces (gluing_of t.now)))) }
@@ -87,7 +92,15 @@ pub fn trace(alloc: Global, t: &SideTable) -> Result<Traced, Memory>
     ensures starts { IfOk result (λ r. r.starts ≡ reverse (trace t.now.faces (gluing_of t.now)).bits) }
     ensures order { IfOk result (λ r. r.order ≡ order_of (trace t.now.faces (gluing_of t.now))) }
     ensures vertices { IfOk result (λ r. r.vertices ≡ fan_count t.now.faces (gluing_of t.now)) }
+    ensures events_fit { IfOk result (λ r. All (IsEventOf (length r.symbols)) r.events) }
+    ensures events_split { IfOk result (λ r. All (IsSplitEvent r.symbols) r.events) }
+    ensures events_in_order { IfOk result (λ r. AreInOrder r.events) }
+    ensures split_once { IfOk result (λ r. SplitOnce r.events) }
+    ensures few { IfOk result (λ r. length r.symbols ≤ t.now.faces) }
+    ensures few_events { IfOk result (λ r. length r.events ≤ length r.symbols) }
     ensures once { IfOk result (λ r. IsRenumbering t.now.faces r.order) }
+    ensures carried { IfOk result (λ r. CarriesOne t.now.faces (gluing_of t.now) r.order) }
+    ensures counted { IfOk result (λ r. HasFans t.now.faces (gluing_of t.now) r.order r.vertices) }
     ensures kept { IfOk result (λ r. IsRebuiltFrom t.now.faces (gluing_of t.now) r.symbols r.events r.starts r.order r.vertices) }
 {
     let surface = surface_of(alloc, t)?;
