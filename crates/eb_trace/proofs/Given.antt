@@ -16,7 +16,7 @@ use Rattle.eb_trace.specs.declared.surface.Surface.{Surface}
 use Rattle.eb_trace.specs.Trace.{Entry, Walk, trace, word_of, order_of, fan_count}
 use Rattle.eb_trace.specs.Stored.{IsSurface, gluing_in}
 use Rattle.eb_trace.specs.Events.{IsSplitEvent, AreSplitEvents}
-use Rattle.eb_trace.specs.FromTrace.{CarriesOne, HasFans, IsRebuiltFrom}
+use Rattle.eb_trace.specs.FromTrace.{CarriesOne, CarriesFans, IsRebuiltFrom}
 use Rattle.eb_trace.specs.Kept.{WalkCarries}
 use Rattle.eb_trace.proofs.Vertices.{labels_are_fans, renumbered_alike}
 use Rattle.eb_trace.proofs.Walked.{entries_of}
@@ -120,7 +120,7 @@ walk_carries faces g G F =
     (one_carried faces g (order_of (trace faces g)) G R, λ h K. renumbered_alike faces g h (order_of (trace faces g)) G R K)
 
 pub carried_given : (faces : ℕ) (g : Gluing) → IsGluing faces g → HasThreeFans faces g → (order : List (ℕ × ℕ)) (vertices : ℕ) → order ≡ order_of (trace faces g) → vertices ≡ fan_count faces g →
-    CarriesOne faces g order × HasFans faces g order vertices
+    CarriesOne faces g order × CarriesFans faces g order vertices
 carried_given faces g G F order vertices d e =
-    subst (λ (k : ℕ). CarriesOne faces g order × HasFans faces g order k) (sym e)
-    (subst (λ (x : List (ℕ × ℕ)). CarriesOne faces g x × HasFans faces g x (fan_count faces g)) (sym d) (walk_carries faces g G F))
+    subst (λ (k : ℕ). CarriesOne faces g order × CarriesFans faces g order k) (sym e)
+    (subst (λ (x : List (ℕ × ℕ)). CarriesOne faces g x × CarriesFans faces g x (fan_count faces g)) (sym d) (walk_carries faces g G F))

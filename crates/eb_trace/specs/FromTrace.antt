@@ -16,9 +16,9 @@ pub record CarriesOne (faces : ℕ) (g : Gluing) (rows : List (ℕ × ℕ)) : Ty
   pub is_carried : IsCarried faces g rows carried
   pub only : (h : Gluing) → IsCarried faces g rows h → h ≡ carried
 
--- it has so many fans
-abbrev pub HasFans : ℕ → Gluing → List (ℕ × ℕ) → ℕ → Type 0
-HasFans faces g rows count = (h : Gluing) → IsCarried faces g rows h → fan_count faces h ≡ count
+-- such a surface has so many fans
+abbrev pub CarriesFans : ℕ → Gluing → List (ℕ × ℕ) → ℕ → Type 0
+CarriesFans faces g rows count = (h : Gluing) → IsCarried faces g rows h → fan_count faces h ≡ count
 
 -- the machine of reverse decoding that is made for all faces, the symbols and no fewer vertices than the surface has and the S take, and is
 -- fed the symbols with the last first, the events and the start bits, meets no fault, and has built the surface in the order of decoding

@@ -10,7 +10,7 @@ use Rattle.eb_trace.specs.Readable.{IsReadable}
 use Rattle.eb_trace.specs.Front.{is_split, events_left, start_bits, made_by}
 use Rattle.eb_trace.specs.Rebuilt.{symbol_at, finished}
 use Rattle.eb_trace.specs.Trace.{trace, word_of, order_of, fan_count}
-use Rattle.eb_trace.specs.FromTrace.{CarriesOne, HasFans}
+use Rattle.eb_trace.specs.FromTrace.{CarriesOne, CarriesFans}
 
 -- the order of decoding lists each face once
 abbrev pub WalkOrders : Type 0
@@ -18,7 +18,7 @@ WalkOrders = (faces : ℕ) (g : Gluing) → IsGluing faces g → HasThreeFans fa
 
 -- the surface in that order: there is one, with as many fans
 abbrev pub WalkCarries : Type 0
-WalkCarries = (faces : ℕ) (g : Gluing) → IsGluing faces g → HasThreeFans faces g → CarriesOne faces g (order_of (trace faces g)) × HasFans faces g (order_of (trace faces g)) (fan_count faces g)
+WalkCarries = (faces : ℕ) (g : Gluing) → IsGluing faces g → HasThreeFans faces g → CarriesOne faces g (order_of (trace faces g)) × CarriesFans faces g (order_of (trace faces g)) (fan_count faces g)
 
 -- what a walk noted, against the surface h in the order of decoding
 pub record IsToldBy (faces : ℕ) (g h : Gluing) : Type 0 where

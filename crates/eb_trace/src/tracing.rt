@@ -6,7 +6,7 @@ ghost use Rattle.corner_table.specs.Table.{gluing_of};
 ghost use Rattle.corner_table.specs.Carried.{IsRenumbering};
 ghost use Rattle.eb_rebuild.specs.Rebuilding.{IsEventOf};
 ghost use Rattle.eb_trace.specs.Events.{IsSplitEvent, AreInOrder, SplitOnce};
-ghost use Rattle.eb_trace.specs.FromTrace.{CarriesOne, HasFans, IsRebuiltFrom};
+ghost use Rattle.eb_trace.specs.FromTrace.{CarriesOne, CarriesFans, IsRebuiltFrom};
 ghost use Rattle.eb_trace.specs.declared.notes.Entered.{Entered as entered_value};
 ghost use Rattle.eb_trace.specs.Stored.{gluing_in, walk_of, row_of, IsSurface};
 ghost use Rattle.eb_trace.specs.Trace.{trace, word_of, order_of, fan_count};
@@ -100,7 +100,7 @@ pub fn trace(alloc: Global, t: &SideTable) -> Result<Traced, Memory>
     ensures few_events { IfOk result (λ r. length r.events ≤ length r.symbols) }
     ensures once { IfOk result (λ r. IsRenumbering t.now.faces r.order) }
     ensures carried { IfOk result (λ r. CarriesOne t.now.faces (gluing_of t.now) r.order) }
-    ensures counted { IfOk result (λ r. HasFans t.now.faces (gluing_of t.now) r.order r.vertices) }
+    ensures counted { IfOk result (λ r. CarriesFans t.now.faces (gluing_of t.now) r.order r.vertices) }
     ensures kept { IfOk result (λ r. IsRebuiltFrom t.now.faces (gluing_of t.now) r.symbols r.events r.starts r.order r.vertices) }
 {
     let surface = surface_of(alloc, t)?;
