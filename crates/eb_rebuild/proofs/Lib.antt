@@ -17,3 +17,5 @@ pub mod RowTables
 pub mod EqualNames
 pub mod RowSteps
 pub mod Degrees
+mod NameCounts
+mod NamesMade

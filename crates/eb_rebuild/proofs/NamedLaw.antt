@@ -160,7 +160,7 @@ end_agrees n x W =
     })
     refl (omega arith)
 
-abbrev named_right : ℕ → NamedState → Row × List Side → Result NamedState Fault
+abbrev pub named_right : ℕ → NamedState → Row × List Side → Result NamedState Fault
 named_right n x a =
     let i = length x.triangles in
     let t : Triangle = (a.0.to, a.0.from, x.made) in
@@ -207,7 +207,7 @@ right_agrees n x W =
     (top_agrees W.names (length x.triangles) x.stack W.waiting)
     (λ y z T. subst (λ (a : Row × List Side). Agree Shows (named_right n x a) (plain_right n (without_names x) z)) (sym T.0) (right_goes n x W z T.1 T.2))
 
-abbrev named_left : ℕ → NamedState → Row × List Side → Result NamedState Fault
+abbrev pub named_left : ℕ → NamedState → Row × List Side → Result NamedState Fault
 named_left n x a =
     let i = length x.triangles in
     let t : Triangle = (a.0.from, x.made, a.0.to) in
@@ -262,7 +262,7 @@ apart_sides : (a b : Side) → not (same a b) ≡ true → a ≢ b
 apart_sides a b e = same-false a b (not_true (same a b) e)
 
 -- C
-abbrev tip_made : NamedState → Row → List Side → Row → Result NamedState Fault
+abbrev pub tip_made : NamedState → Row → List Side → Row → Result NamedState Fault
 tip_made x a rest b =
     let i = length x.triangles in
     let t : Triangle = (a.from, b.from, a.to) in
@@ -273,10 +273,10 @@ tip_made x a rest b =
       stack = side i first ∷ rest;
     })
 
-abbrev tip_found : NamedState → Row → List Side → Row → Result NamedState Fault
+abbrev pub tip_found : NamedState → Row → List Side → Row → Result NamedState Fault
 tip_found x a rest b = must (not (same b.side a.side)) kind.Alone (length x.triangles) >>= λ u. tip_made x a rest b
 
-abbrev named_tip : NamedState → Row × List Side → Result NamedState Fault
+abbrev pub named_tip : NamedState → Row × List Side → Result NamedState Fault
 named_tip x a = tip_found x a.0 a.1 (row_before a.0 x.rows)
 
 tip_shows : (x : NamedState) → Stands x → (a b : Side) (rest : List Side) → IsFree (length x.triangles) x.glued a → IsFree (length x.triangles) x.glued b → AreBelow (length x.triangles) rest → b ≢ a →
@@ -312,7 +312,7 @@ tip_agrees n x W =
     (λ y z T. subst (λ (a : Row × List Side). Agree Shows (named_tip x a) (tip_rest (without_names x) z)) (sym T.0) (tip_goes x W z T.1 T.2))
 
 -- S
-abbrev split_made : NamedState → Row → Row → List Side → Result NamedState Fault
+abbrev pub split_made : NamedState → Row → Row → List Side → Result NamedState Fault
 split_made x b a rest =
     let i = length x.triangles in
     let rename = renamed b.from a.to in
@@ -325,13 +325,13 @@ split_made x b a rest =
       reserved = release i x.reserved;
     })
 
-abbrev named_split_last : NamedState → Row → Row × List Side → Result NamedState Fault
+abbrev pub named_split_last : NamedState → Row → Row × List Side → Result NamedState Fault
 named_split_last x b a =
     must (not (same a.0.side b.side)) kind.Gone (length x.triangles) >>= λ u.
     must (not (b.from == a.0.to)) kind.SamePoint (length x.triangles) >>= λ v.
     split_made x b a.0 a.1
 
-abbrev named_split : NamedState → Row × List Side → Result NamedState Fault
+abbrev pub named_split : NamedState → Row × List Side → Result NamedState Fault
 named_split x b = top_row (length x.triangles) x.rows (pushed (x.reserved (length x.triangles)) b.1) >>= named_split_last x b.0
 
 abbrev split_state : State → Side → Side → List Side → Result State Fault
@@ -394,7 +394,7 @@ pub symbols_agree : (n : ℕ) (symbol : Symbol) (x : NamedState) (s : State) →
 symbols_agree n symbol x s W = subst (λ (t : State). Agree Shows (named_step n symbol x) (step n symbol t)) W.state (step_agrees n symbol x (stands W))
 
 -- a close
-abbrev fill_made : Plan → NamedState → Row → Row → Row → List Side → Result NamedState Fault
+abbrev pub fill_made : Plan → NamedState → Row → Row → Row → List Side → Result NamedState Fault
 fill_made p x a b c rest =
     let i = length x.triangles in
     let t : Triangle = (b.from, a.to, a.from) in
@@ -406,7 +406,7 @@ fill_made p x a b c rest =
       closes = suc x.closes;
     })
 
-abbrev fill_from : ℕ → Plan → NamedState → Row → List Side → Row → Row → Result NamedState Fault
+abbrev pub fill_from : ℕ → Plan → NamedState → Row → List Side → Row → Row → Result NamedState Fault
 fill_from n p x a rest b c =
     must (not (same b.side a.side) && not (same c.side a.side) && (c.from == a.to)) kind.Loop n >>= λ u.
     must (not (length x.triangles == p.faces)) kind.FaceCount (length x.triangles) >>= λ v.

@@ -266,10 +266,10 @@ renamed_to n p = elim (cases_eq p n) [
   | inr e ↦ elim (cases_Bool (p == n)) [ inl t ↦ cond-true _ _ _ t | inr t ↦ cond-false _ _ _ t ]
 ]
 
-renamed_case : (n p v : ℕ) → ((v ≡ n) × (renamed n p v ≡ p)) ⊎ (renamed n p v ≡ v)
+pub renamed_case : (n p v : ℕ) → ((v ≡ n) × (renamed n p v ≡ p)) ⊎ (renamed n p v ≡ v)
 renamed_case n p v = elim (cases_Bool (v == n)) [ inl t ↦ inl (eqb-true v n t, cond-true _ _ _ t) | inr t ↦ inr (cond-false _ _ _ t) ]
 
-renamed_below : (n p m made : ℕ) → p < made → m < made → renamed n p m < made
+pub renamed_below : (n p m made : ℕ) → p < made → m < made → renamed n p m < made
 renamed_below n p m made h k = elim (renamed_case n p m) [ inl c ↦ subst (λ (v : ℕ). v < made) (sym c.1) h | inr c ↦ subst (λ (v : ℕ). v < made) (sym c) k ]
 
 -- S: the vertex at which b starts becomes the one at which a ends

@@ -1,12 +1,14 @@
 -- Names are fans: what a state with named vertices shows when the names are left out, and that both machines give the same answers.
-use Rattle.std.specs.Prelude.{◌≡◌, ℕ, ◌<◌, ◌⊎◌, Bool, List, [], ◌∷◌, length, get_or, Option, Some, None, Result, Ok, Err}
+use Rattle.std.specs.Prelude.{◌≡◌, ℕ, ◌+◌, ◌<◌, ◌⊎◌, Bool, true, false, nat_eq, List, [], ◌∷◌, length, get_or, Option, Some, None, Result, Ok, Err, count_by}
+use Rattle.std.specs.Set.{distinct_count}
 use Rattle.drc_base.specs.declared.faults.Fault.{Fault}
 use Rattle.corner_table.specs.declared.symbols.Symbol.{Symbol}
+use Rattle.corner_table.specs.declared.symbols.Symbol.TheVariants.{C, S, L, R, E}
 use Rattle.corner_table.specs.declared.symbols.Event.{Event}
 use Rattle.corner_table.specs.Sides.{Side, first, side, next, prev, Gluing, IsGluing, IsFree}
 use Rattle.corner_table.specs.Fans.{InFan}
-use Rattle.eb_rebuild.specs.Machine.{State, Plan, step, close, finish, rebuild}
-use Rattle.eb_rebuild.specs.Named.{Triangle, corner, no_triangle, Row, NamedState, named_step, named_close, named_finish, named_rebuild}
+use Rattle.eb_rebuild.specs.Machine.{State, Plan, ◌>>=◌, step, close, finish, rebuild}
+use Rattle.eb_rebuild.specs.Named.{Triangle, corner, no_triangle, Row, NamedState, named_start, named_step, named_close, named_finish, named_symbols, named_closes, named_rebuild}
 
 -- the name of a corner's vertex
 abbrev pub name_of : List Triangle → Side → ℕ
@@ -85,3 +87,22 @@ OneRowEach = (x : NamedState) (s : State) → Shows x s → (r q : Row) → Amon
 -- after each symbol the top side is side 0 of its face, and is free
 abbrev pub TopIsFree : Type 0
 TopIsFree = (n : ℕ) (symbol : Symbol) (x : NamedState) (s t : State) → Shows x s → step n symbol s ≡ Ok t → (rest : List Side) × (t.stack ≡ side s.built first ∷ rest) × (t.glued (side s.built first) ≡ None)
+
+-- the names that stand in triangles
+abbrev pub names_in : List Triangle → List ℕ
+names_in [] = []
+names_in (t ∷ triangles) = t.0 ∷ t.1 ∷ t.2 ∷ names_in triangles
+
+-- a symbol that takes a name away
+abbrev pub is_split : Symbol → Bool
+is_split S = true
+is_split C = false
+is_split L = false
+is_split R = false
+is_split E = false
+
+-- however far a run has come, the vertices made are as many as the distinct names in its triangles, and one more for each S taken
+abbrev pub MadeAreNamesAndSplits : Type 0
+MadeAreNamesAndSplits = (p : Plan) (symbols : List Symbol) (events : List Event) (bits : ℕ → Bool) (closed : ℕ) (x : NamedState) →
+    named_symbols p.symbols symbols (named_start events) >>= named_closes p bits closed ≡ Ok x →
+    x.made ≡ distinct_count nat_eq (names_in x.triangles) + count_by is_split symbols

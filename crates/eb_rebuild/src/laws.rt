@@ -1,6 +1,6 @@
 //! What holds of the definitions themselves.
 
-ghost use Rattle.eb_rebuild.specs.Shown.{SymbolsAgree, ClosesAgree, EndsAgree, RunsAgree, OneRowEach, TopIsFree};
+ghost use Rattle.eb_rebuild.specs.Shown.{SymbolsAgree, ClosesAgree, EndsAgree, RunsAgree, OneRowEach, TopIsFree, MadeAreNamesAndSplits};
 
 /// Names are fans: the machine that names its vertices, as the format tells it, and the machine whose
 /// vertices are fans give the same answers. Each call of both, from a named state and the state that it
@@ -18,4 +18,11 @@ pub fn names_are_fans()
 pub fn rows_are_one_each()
     ensures rows { OneRowEach }
     ensures top { TopIsFree }
+{}
+
+/// How many vertices are made: in each state that a run reaches, after any symbols and any closes, as
+/// many as the distinct names in the triangles, and one more for each S taken, which took a name away.
+/// This is the contract of a call that does nothing.
+pub fn made_are_names_and_splits()
+    ensures { MadeAreNamesAndSplits }
 {}
