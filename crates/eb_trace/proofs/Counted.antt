@@ -16,7 +16,8 @@ use Rattle.corner_table.proofs.Carrying.{carry-within, carry_injective, carry_on
 use Rattle.eb_rebuild.specs.Machine.{Plan, rebuild, fault}
 use Rattle.eb_rebuild.proofs.Steps.{Next}
 use Rattle.eb_trace.specs.Readable.{IsReadable}
-use Rattle.eb_trace.specs.Front.{is_split, made_by, events_left, start_bits}
+use Rattle.eb_rebuild.specs.Shown.{is_split}
+use Rattle.eb_trace.specs.Front.{made_by, events_left, start_bits}
 use Rattle.eb_trace.specs.Rebuilt.{symbol_at, CountsWord}
 use Rattle.eb_trace.specs.Trace.{fan_count, trace, order_of, word_of}
 use Rattle.eb_trace.specs.Kept.{WalkIsCounted, WalkIsKept, WalkNeedsAll}

@@ -7,7 +7,7 @@ use Rattle.corner_table.specs.declared.symbols.Event.{Event}
 use Rattle.corner_table.specs.Sides.{Side, Place, first, second, third, side, Gluing}
 use Rattle.corner_table.proofs.Places.{option_tells, Some_injective}
 use Rattle.eb_rebuild.specs.Machine.{note_events, reserve, event_place}
-use Rattle.eb_trace.specs.Front.{is_split}
+use Rattle.eb_rebuild.specs.Shown.{is_split}
 use Rattle.eb_rebuild.proofs.Noting.{note_none, note_later, note_more}
 use Rattle.eb_trace.specs.Readable.{IsReadable}
 use Rattle.eb_trace.specs.Front.{kept_for, waiting, split_met, event_told, events_at, events_left}

@@ -11,7 +11,7 @@ use Rattle.corner_table.specs.Labels.{IsLabelled, label_at}
 use Rattle.eb_trace.specs.declared.surface.Surface.{Surface}
 use Rattle.eb_trace.specs.declared.marks.Marks.{Marks}
 use Rattle.eb_trace.specs.declared.notes.Notes.{Notes}
-use Rattle.eb_trace.specs.Front.{is_split}
+use Rattle.eb_rebuild.specs.Shown.{is_split}
 use Rattle.eb_trace.specs.Trace.{Entry, is_visited, split_of, entered, nothing_walked}
 use Rattle.eb_trace.specs.Stored.{IsSurface, walk_of, entry_of, AreSized, split_told, split_entry, AreMarked, AreMarksOf, met_after, IsStored}
 use Rattle.eb_trace.proofs.Covered.{IsVisiting, not_yet}

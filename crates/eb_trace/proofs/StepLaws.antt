@@ -12,7 +12,7 @@ use Rattle.corner_table.proofs.Walks.{fan_sym}
 use Rattle.corner_table.proofs.Boundary.{side_before-follows}
 use Rattle.corner_table.proofs.Prefixing.{tells-prefix, prefix-free, gap, no_gap}
 use Rattle.eb_rebuild.specs.Machine.{State, step, top, pushed, release}
-use Rattle.eb_trace.specs.Front.{is_split}
+use Rattle.eb_rebuild.specs.Shown.{is_split}
 use Rattle.eb_rebuild.proofs.Steps.{Next, same_state, top_free, end_steps, right_steps, left_steps, tip_steps, split_steps}
 use Rattle.eb_trace.specs.Readable.{IsReadable, Says, IsPast, GoesOn, IsNewTip, IsSplit}
 use Rattle.eb_trace.specs.Front.{free_firsts, waiting, kept_for, events_left, made_by, vertices_made, front}

@@ -6,7 +6,7 @@ use Rattle.corner_table.specs.declared.symbols.Event.{Event}
 use Rattle.corner_table.specs.Sides.{Gluing}
 use Rattle.corner_table.specs.Carried.{IsCarried}
 use Rattle.eb_rebuild.specs.Machine.{rebuild}
-use Rattle.eb_trace.specs.Front.{is_split}
+use Rattle.eb_rebuild.specs.Shown.{is_split}
 use Rattle.eb_trace.specs.Rebuilt.{finished}
 use Rattle.eb_trace.specs.Trace.{fan_count}
 

@@ -7,13 +7,7 @@ use Rattle.corner_table.specs.declared.symbols.Event.{Event}
 use Rattle.corner_table.specs.Sides.{Side, Place, first, second, third, side, Gluing}
 use Rattle.corner_table.specs.Prefixes.{prefix}
 use Rattle.eb_rebuild.specs.Machine.{State, event_place}
-
-abbrev pub is_split : Symbol → Bool
-is_split S = true
-is_split C = false
-is_split L = false
-is_split R = false
-is_split E = false
+use Rattle.eb_rebuild.specs.Shown.{is_split}
 
 -- the sides 0 of faces below a number that are free, the last first
 unfoldable pub free_firsts : Gluing → ℕ → List Side

@@ -7,7 +7,8 @@ use Rattle.corner_table.specs.Fans.{HasThreeFans}
 use Rattle.corner_table.specs.Carried.{IsRenumbering, IsCarried}
 use Rattle.eb_rebuild.specs.Machine.{Plan, rebuild, fault}
 use Rattle.eb_trace.specs.Readable.{IsReadable}
-use Rattle.eb_trace.specs.Front.{is_split, events_left, start_bits, made_by}
+use Rattle.eb_rebuild.specs.Shown.{is_split}
+use Rattle.eb_trace.specs.Front.{events_left, start_bits, made_by}
 use Rattle.eb_trace.specs.Rebuilt.{symbol_at, finished}
 use Rattle.eb_trace.specs.Trace.{trace, word_of, order_of, fan_count}
 use Rattle.eb_trace.specs.FromTrace.{CarriesOne, CarriesFans}

@@ -8,7 +8,8 @@ use Rattle.corner_table.specs.Sides.{Gluing}
 use Rattle.corner_table.specs.Fans.{HasThreeFans}
 use Rattle.eb_rebuild.specs.Machine.{State, Plan, start, step, take_symbols, close_all, rebuild, fault, ◌>>=◌}
 use Rattle.eb_trace.specs.Readable.{IsReadable}
-use Rattle.eb_trace.specs.Front.{is_split, front, events_left, start_bits, made_by}
+use Rattle.eb_rebuild.specs.Shown.{is_split}
+use Rattle.eb_trace.specs.Front.{front, events_left, start_bits, made_by}
 use Rattle.eb_trace.specs.Trace.{fan_count}
 
 -- the symbols of a word by their numbers

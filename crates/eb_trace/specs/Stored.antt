@@ -10,7 +10,7 @@ use Rattle.eb_trace.specs.declared.marks.Marks.{Marks}
 use Rattle.eb_trace.specs.declared.notes.Notes.{Notes}
 use Rattle.eb_trace.specs.declared.notes.Entered.{Entered}
 use Rattle.eb_trace.specs.Trace.{Entry, Walk, is_visited, split_of}
-use Rattle.eb_trace.specs.Front.{is_split}
+use Rattle.eb_rebuild.specs.Shown.{is_split}
 
 -- the gluing of a surface
 abbrev pub gluing_in : Surface → Gluing

@@ -8,7 +8,7 @@ use Rattle.corner_table.specs.declared.symbols.Event.{Event}
 use Rattle.corner_table.specs.Sides.{Side, first, second, third, side, next, prev, number, place_number, Gluing}
 use Rattle.corner_table.specs.Fans.{rightmost, meets, corners_of}
 use Rattle.eb_rebuild.specs.Machine.{pushed}
-use Rattle.eb_trace.specs.Front.{is_split}
+use Rattle.eb_rebuild.specs.Shown.{is_split}
 
 -- one symbol: the corner at which its face was entered
 pub record Entry : Type 0 where
