@@ -151,7 +151,6 @@ impl CornerMesh {
         ensures row { result.now ≡ corner self.now f k }
         ensures len { length result.now ≡ width_of self.now.heads }
     {
-        let face = self.face(f);
-        self.point(face[k as usize])
+        self.point(self.faces[f as usize][k as usize])
     }
 }
