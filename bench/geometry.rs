@@ -1,16 +1,41 @@
 //! Comparing and assembling a mesh in good safe Rust, beside the proved program of `geometry.txt`: a grid of
-//! 525,625 points and 1,048,352 faces, the same grid with its faces in reverse and turned, and a table of one
-//! attribute over its corners. Writes `grid.ply` and `turned.ply` for both.
+//! 525,625 points and 1,048,352 faces, the same grid with its faces in reverse and turned, and tables of two
+//! attributes over its corners. The attributes and the width of a row are known only as the program runs. Writes
+//! `grid.ply` and `turned.ply` for both.
 mod grids;
 
+use std::hint::black_box;
 use std::time::Instant;
 
 const SIDE: usize = 725;
 const NONE: u32 = u32::MAX;
 
+/// Points as rows of `width` integers, and faces of three numbers of points.
 struct Mesh {
+    width: usize,
     points: Vec<i32>,
     faces: Vec<[u32; 3]>,
+}
+
+impl Mesh {
+    fn corner(&self, face: usize, k: usize) -> &[i32] {
+        let start = self.faces[face][k] as usize * self.width;
+        &self.points[start..start + self.width]
+    }
+}
+
+/// The values of one attribute, `comps` to an entry, and the number of each corner's entry.
+struct Table {
+    comps: usize,
+    values: Vec<i32>,
+    of_corner: Vec<u32>,
+}
+
+impl Table {
+    fn entry(&self, corner: usize) -> &[i32] {
+        let start = self.of_corner[corner] as usize * self.comps;
+        &self.values[start..start + self.comps]
+    }
 }
 
 fn grid() -> Mesh {
@@ -18,13 +43,12 @@ fn grid() -> Mesh {
     for i in 0..SIDE * SIDE {
         points.extend([(i % SIDE) as i32, (i / SIDE) as i32, (i * i % 1021) as i32]);
     }
-    let faces = grids::faces(SIDE);
-    Mesh { points, faces }
+    Mesh { width: black_box(3), points, faces: grids::faces(SIDE) }
 }
 
 fn turned(mesh: &Mesh) -> Mesh {
     let faces = mesh.faces.iter().rev().map(|f| [f[1], f[2], f[0]]).collect();
-    Mesh { points: mesh.points.clone(), faces }
+    Mesh { width: mesh.width, points: mesh.points.clone(), faces }
 }
 
 fn text(mesh: &Mesh) -> String {
@@ -41,14 +65,10 @@ fn text(mesh: &Mesh) -> String {
     text
 }
 
-fn row(mesh: &Mesh, face: usize, k: usize) -> &[i32] {
-    let p = mesh.faces[face][k] as usize;
-    &mesh.points[3 * p..3 * p + 3]
-}
-
 /// Whether each face of `a` stands in one row, and the corners have the same integers.
+#[inline(never)]
 fn matches(a: &Mesh, b: &Mesh, rows: &[(u32, u8)]) -> bool {
-    if a.faces.len() != b.faces.len() || rows.len() != b.faces.len() {
+    if a.width != b.width || a.faces.len() != b.faces.len() || rows.len() != b.faces.len() {
         return false;
     }
     let mut seen = vec![false; a.faces.len()];
@@ -59,7 +79,7 @@ fn matches(a: &Mesh, b: &Mesh, rows: &[(u32, u8)]) -> bool {
         }
         seen[face] = true;
         for k in 0..3 {
-            if row(b, i, k) != row(a, face, (k + *turn as usize) % 3) {
+            if b.corner(i, k) != a.corner(face, (k + *turn as usize) % 3) {
                 return false;
             }
         }
@@ -67,34 +87,56 @@ fn matches(a: &Mesh, b: &Mesh, rows: &[(u32, u8)]) -> bool {
     true
 }
 
-/// The distinct rows of the corners, in order of first occurrence, and each corner's number. Rows are found by a
-/// hash, in lists of those with one hash.
-fn assemble(values: &[i32], of_corner: &[u32]) -> Mesh {
-    let bits = 64 - (of_corner.len() as u64).leading_zeros();
-    let mut heads = vec![NONE; 1 << bits];
+/// A hash of a row.
+fn hash(row: &[i32]) -> u32 {
+    let hash = row.iter().fold(0, |hash: u32, value| (hash ^ *value as u32).wrapping_mul(0x9e37_79b1));
+    hash ^ (hash >> 15)
+}
+
+/// The distinct rows of the corners, in order of first occurrence, and each corner's number. The row of a corner
+/// has the entries of all tables. Rows are found by a hash, in lists of those with one hash.
+#[inline(never)]
+fn assemble(tables: &[Table], face_count: usize) -> Mesh {
+    let width = tables.iter().map(|table| table.comps).sum();
+    let mut heads = vec![NONE; (3 * face_count / 4 + 1).next_power_of_two()];
+    let mask = heads.len() as u32 - 1;
     let mut nexts: Vec<u32> = Vec::new();
     let mut points: Vec<i32> = Vec::new();
-    let mut faces = Vec::with_capacity(of_corner.len() / 3);
-    for corners in of_corner.chunks_exact(3) {
+    let mut faces = Vec::with_capacity(face_count);
+    let mut row = Vec::with_capacity(width);
+    for f in 0..face_count {
         let mut face = [0; 3];
-        for (point, entry) in face.iter_mut().zip(corners) {
-            let value = values[*entry as usize];
-            let hash = (value as u64).wrapping_mul(0x9e37_79b9_7f4a_7c15) >> (64 - bits);
-            let mut at = heads[hash as usize];
-            while at != NONE && points[at as usize] != value {
+        for (k, point) in face.iter_mut().enumerate() {
+            row.clear();
+            for table in tables {
+                row.extend_from_slice(table.entry(3 * f + k));
+            }
+            let bucket = (hash(&row) & mask) as usize;
+            let mut at = heads[bucket];
+            while at != NONE && points[at as usize * width..][..width] != row {
                 at = nexts[at as usize];
             }
             if at == NONE {
-                at = points.len() as u32;
-                points.push(value);
-                nexts.push(heads[hash as usize]);
-                heads[hash as usize] = at;
+                at = nexts.len() as u32;
+                points.extend_from_slice(&row);
+                nexts.push(heads[bucket]);
+                heads[bucket] = at;
             }
             *point = at;
         }
         faces.push(face);
     }
-    Mesh { points, faces }
+    Mesh { width, points, faces }
+}
+
+/// A table of one attribute, with as many entries as the mesh has points.
+fn table(mesh: &Mesh, comps: usize) -> Table {
+    let count = mesh.points.len() / mesh.width;
+    Table {
+        comps: black_box(comps),
+        values: (0..(count * comps) as i32).map(|i| i % 0x10_0000).collect(),
+        of_corner: mesh.faces.iter().flatten().copied().collect(),
+    }
 }
 
 fn main() {
@@ -109,11 +151,10 @@ fn main() {
         let same = matches(&mesh, &other, &rows);
         let picos = start.elapsed().as_nanos() * 1000 / count as u128;
         println!("matched {picos} ps an item, sum {}", u32::from(same));
-        let of_corner: Vec<u32> = mesh.faces.iter().flatten().copied().collect();
-        let labels: Vec<i32> = (0..mesh.points.len() as i32 / 3).collect();
+        let tables = [table(&mesh, 3), table(&mesh, 1)];
         let start = Instant::now();
-        let assembled = assemble(&labels, &of_corner);
+        let assembled = assemble(&tables, count);
         let picos = start.elapsed().as_nanos() * 1000 / count as u128;
-        println!("assembled {picos} ps an item, sum {}", assembled.points.len());
+        println!("assembled {picos} ps an item, sum {}", assembled.points.len() / assembled.width);
     }
 }

@@ -1,14 +1,12 @@
 //! What a geometry has: a mesh or a cloud, told alike.
 
-ghost use Rattle.std.specs.Prelude.{◌≡◌, ◌<◌, ◌≤◌, [], length, slice_index_or, IfOk};
+ghost use Rattle.std.specs.Prelude.{◌≡◌, ◌<◌, [], length, slice_index_or};
 ghost use Rattle.mesh_model.specs.Head.{width_of};
-ghost use Rattle.mesh_model.specs.Parts.{ArePoints, IsMesh};
+ghost use Rattle.mesh_model.specs.Parts.{ArePoints};
 ghost use Rattle.mesh_model.specs.IsGeometry.{IsGeometry};
 ghost use Rattle.drc_container.specs.Contents.{is_mesh, heads_in, points_in, faces_in};
 
-use drc_base::Memory;
-use mesh_model::{CornerMesh, Geometry, Head};
-use std::alloc::Global;
+use mesh_model::{Geometry, Head};
 
 /// Whether it is a mesh.
 pub fn is_mesh(g: &Geometry) -> bool
@@ -63,16 +61,4 @@ pub fn point(g: &Geometry, i: u32) -> &[i32]
         Geometry::Mesh(mesh) => mesh.point(i),
         Geometry::Cloud(cloud) => cloud.point(i),
     }
-}
-
-/// The faces of a mesh.
-pub fn faces_of(alloc: Global, mesh: &CornerMesh) -> Result<Vec<[u32; 3]>, Memory>
-    ensures faces { IfOk result (λ v. v.items ≡ mesh.now.faces) }
-    ensures sound { IsMesh mesh.now }
-{
-    let mut faces = Vec::with_capacity(alloc, mesh.face_count() as usize)?;
-    for f in 0..mesh.face_count() {
-        faces.push(mesh.face(f))?;
-    }
-    Ok(faces)
 }

@@ -18,7 +18,7 @@ ghost use Rattle.drc_container.specs.Layout.{layout_of, layout_chosen};
 
 use crate::choices::Choice;
 use crate::choosing::packs;
-use crate::contents::{faces_of, heads_in, is_mesh, point_count};
+use crate::contents::{heads_in, is_mesh, point_count};
 use crate::headers::{CLOUD, MAGIC, MAJOR, MESH, minor_of};
 use attr_section::{DecoderHead, Values, write_decoder, write_heads};
 use drc_base::{MAX_POINTS, Memory, Sequence};
@@ -45,9 +45,7 @@ fn mesh_connectivity(alloc: Global, mesh: &CornerMesh, packed: bool) -> Result<V
     ensures bytes { IfOk result (λ v. v.items ≡ connectivity_bytes packed (geometry.Mesh mesh.now)) }
     ensures again { OnOk result (ConnectivitySpelled packed (geometry.Mesh mesh.now)) }
 {
-    let faces = faces_of(alloc, mesh)?;
-    let bytes = write_indices(alloc, faces.as_slice(), mesh.point_count(), packed)?;
-    Ok(bytes)
+    write_indices(alloc, mesh.faces(), mesh.point_count(), packed)
 }
 
 /// The number of points of a cloud.

@@ -3,26 +3,25 @@ use Rattle.std.proofs.Common.{◌≡◌, ◌≢◌, ℕ, zero, suc, ◌+◌, ◌
 use Rattle.std.specs.List.{All, AllPairs, list_any, range_with_len, zip}
 use Rattle.std.proofs.lemmas.Bool.{cases_Bool, false≢true}
 use Rattle.std.proofs.lemmas.List.{length-map, get_or-map, same_lists, get_or_default}
-use Rattle.std.proofs.lemmas.List.Elements.{All-map, All-weaker, All-from_get_or, All-nil, All-cons}
+use Rattle.std.proofs.lemmas.List.Elements.{All-from_get_or, All-nil, All-cons, All-head, All-tail, All-filter}
 use Rattle.std.proofs.lemmas.List.Folds.{list_any_at}
 use Rattle.std.proofs.lemmas.List.FromFn.{map-range_with_len_more, length-map-range_with_len, get_or-map-range_with_len}
 use Rattle.std.proofs.lemmas.List.Quantifiers.{all_pairs_push}
 use Rattle.std.proofs.lemmas.List.Sums.{position_or_len_is}
 use Rattle.drc_base.specs.declared.faults.Fault.{Fault}
-use Rattle.drc_base.specs.declared.limits.TheConstants.{MAX_VALUES}
 use Rattle.mesh_model.specs.declared.heads.Head.{Head}
 use Rattle.mesh_model.specs.declared.tables.AttrTable.{AttrTable}
 use Rattle.mesh_model.specs.FirstFault.{value_unless}
 use Rattle.mesh_model.specs.Head.{width_of}
-use Rattle.mesh_model.specs.Parts.{MeshParts, count_fault, rows_of, cells_of, RowFits, IsFaceOf, IsMesh}
+use Rattle.mesh_model.specs.Parts.{MeshParts, count_fault, rows_of, RowFits, IsFaceOf, IsMesh}
 use Rattle.mesh_model.specs.Stored.{AreStored}
 use Rattle.mesh_model.specs.Assembled.{Columns, corner_row, corner_rows, same_row, distinct, number_of, triple, assembled, AreTables, AreColumns}
-use Rattle.mesh_model.specs.RowIndex.{points_of, with_row, IsPointOf, IsNumbering}
+use Rattle.mesh_model.specs.RowIndex.{with_row, IsPointOf, IsNumbering}
 use Rattle.mesh_model.proofs.Columns.{width_of-bounds}
 use Rattle.mesh_model.proofs.CornerRows.{RowFits-corner_row}
-use Rattle.mesh_model.proofs.DistinctRows.{same_row-refl, same_row-apart, distinct-push}
+use Rattle.mesh_model.proofs.DistinctRows.{other_than, same_row-refl, same_row-apart, distinct-push}
 use Rattle.mesh_model.proofs.Made.{count_fault-points, count_fault-values}
-use Rattle.mesh_model.proofs.Rows.{length-cells_of, rows_of-cells_of}
+use Rattle.mesh_model.proofs.Rows.{length-rows}
 
 -- rows are pairwise different
 abbrev pub AreApart : List (List ℤ) → Type 0
@@ -54,44 +53,41 @@ number_of-at points row p apart below at =
     (λ _. same_row-refl row (get_or points p []) (sym at))
 
 -- the numbers of corners are those of their rows
-pub numbers-are : (columns : Columns) (corners : ℕ) (numbers firsts : List ℕ) → IsNumbering columns corners corners numbers firsts → numbers ≡ map (number_of (distinct (corner_rows columns corners))) (corner_rows columns corners)
-numbers-are columns corners numbers firsts is =
+pub numbers-are : (columns : Columns) (corners : ℕ) (numbers : List ℕ) (points : List (List ℤ)) → IsNumbering columns corners numbers points → numbers ≡ map (number_of points) (corner_rows columns corners)
+numbers-are columns corners numbers points is =
     let rows = corner_rows columns corners in
-    let points = distinct rows in
     let many : length rows ≡ corners = length-map-range_with_len (corner_row columns) 0 corners in
     let each : length numbers ≡ length (map (number_of points) rows) = is.each ∙ sym (length-map rows (number_of points) ∙ many) in
     same_lists numbers (map (number_of points) rows) each (λ c d below.
     let inside : c < corners = omega (arith, is.each) in
-    let at : IsPointOf columns firsts c (get_or numbers c 0) = is.numbered c inside in
-    let under : get_or numbers c 0 < length (points_of columns firsts) = omega (arith, at.0, length-map firsts (corner_row columns)) in
-    let row : get_or points (get_or numbers c 0) [] ≡ corner_row columns c =
-    ap (λ ps. get_or ps (get_or numbers c 0) []) (sym is.points) ∙ get_or-map (corner_row columns) firsts (get_or numbers c 0) 0 [] at.0 ∙ at.1 in
+    let at : IsPointOf points (corner_row columns c) (get_or numbers c 0) = is.numbered c inside in
     let here : get_or rows c [] ≡ corner_row columns c = get_or-map-range_with_len (corner_row columns) 0 corners c c [] inside (omega arith) in
     get_or_default numbers c d 0 below
     ∙ sym (get_or-map (number_of points) rows c [] d (omega (arith, many))
     ∙ ap (number_of points) here
-    ∙ number_of-at points (corner_row columns c) (get_or numbers c 0) (apart-distinct columns corners)
-    (subst (λ ps. get_or numbers c 0 < length ps) is.points under) row))
+    ∙ number_of-at points (corner_row columns c) (get_or numbers c 0) (subst AreApart (sym is.distinct_rows) (apart-distinct columns corners)) at.0 at.1))
+
+-- what holds of each row holds of the distinct ones
+All-distinct : (P : List ℤ → Type 0) (rows : List (List ℤ)) → All P rows → All P (distinct rows)
+All-distinct P [] each = All-nil P
+All-distinct P (row ∷ rows) each =
+    All-cons P row _ (All-head P row rows each) (All-filter (other_than row) P (distinct rows) (All-distinct P rows (All-tail P row rows each)))
 
 -- the points fit the heads
-pub points-fit : (heads : List Head) (tables : List AttrTable) (corners : ℕ) (numbers firsts : List ℕ) → AreColumns corners heads tables → IsNumbering (zip heads tables) corners corners numbers firsts → All (RowFits heads) (points_of (zip heads tables) firsts)
-points-fit heads tables corners numbers firsts are is =
-    All-map (RowFits heads) (corner_row (zip heads tables)) firsts
-    (All-weaker (λ c. c < corners) (λ c. RowFits heads (corner_row (zip heads tables) c))
-    (λ c below. RowFits-corner_row corners c heads tables are.each_head are.each_column below) firsts is.firsts_in)
-
--- the rows of points as they are stored
-pub stored-points : (heads : List Head) (points : List (List ℤ)) (cells : List ℤ) (width : ℕ) → 0 < width → width ≤ 128 → width ≡ width_of heads → All (RowFits heads) points → cells ≡ cells_of points → AreStored heads cells width (length points) × (rows_of width cells ≡ points)
-stored-points heads points cells width wide narrow is fit at =
-    let long : All (λ row. length row ≡ width) points = λ k d below. (fit k d below).0 ∙ sym is in (
-      record { width_is = is; wide = wide; narrow = narrow; whole = ap length at ∙ length-cells_of width points long },
-      ap (rows_of width) at ∙ rows_of-cells_of width points wide long,
-    )
+pub points-fit : (heads : List Head) (tables : List AttrTable) (corners : ℕ) (numbers : List ℕ) (points : List (List ℤ)) → AreColumns corners heads tables → IsNumbering (zip heads tables) corners numbers points → All (RowFits heads) points
+points-fit heads tables corners numbers points are is =
+    let columns = zip heads tables in
+    let many = length-map-range_with_len (corner_row columns) 0 corners in
+    subst (All (RowFits heads)) (sym is.distinct_rows)
+    (All-distinct (RowFits heads) (corner_rows columns corners) (All-from_get_or (RowFits heads) (corner_rows columns corners) [] (λ c below.
+    let inside : c < corners = omega (arith, below, many) in
+    subst (RowFits heads) (sym (get_or-map-range_with_len (corner_row columns) 0 corners c c [] inside (omega arith)))
+    (RowFits-corner_row corners c heads tables are.each_head are.each_column inside))))
 
 -- each face has three numbers of points
-pub triples-fit : (columns : Columns) (faces : ℕ) (numbers firsts : List ℕ) → IsNumbering columns (3 * faces) (3 * faces) numbers firsts → All (IsFaceOf (length firsts)) (map (triple numbers) (range_with_len 0 faces))
-triples-fit columns faces numbers firsts is =
-    let n = length firsts in
+pub triples-fit : (columns : Columns) (faces : ℕ) (numbers : List ℕ) (points : List (List ℤ)) → IsNumbering columns (3 * faces) numbers points → All (IsFaceOf (length points)) (map (triple numbers) (range_with_len 0 faces))
+triples-fit columns faces numbers points is =
+    let n = length points in
     All-from_get_or (IsFaceOf n) (map (triple numbers) (range_with_len 0 faces)) [] (λ f below.
     let inside : f < faces = omega (arith, length-map-range_with_len (triple numbers) 0 faces) in
     let a = get_or numbers (3 * f) 0 in
@@ -105,51 +101,49 @@ triples-fit columns faces numbers firsts is =
     subst (IsFaceOf n) (sym (get_or-map-range_with_len (triple numbers) 0 faces f f [] inside (omega arith))) inner)
 
 -- heads, points and faces of a numbering within the limits are a mesh
-pub IsMesh-numbered : (heads : List Head) (tables : List AttrTable) (faces : ℕ) (numbers firsts : List ℕ) → AreTables heads tables faces → IsNumbering (zip heads tables) (3 * faces) (3 * faces) numbers firsts → count_fault (length firsts) (width_of heads) ≡ None → IsMesh (record { heads = heads; points = points_of (zip heads tables) firsts; faces = map (triple numbers) (range_with_len 0 faces) })
-IsMesh-numbered heads tables faces numbers firsts are is counts =
-    let columns = zip heads tables in
-    let many : length (points_of columns firsts) ≡ length firsts = length-map firsts (corner_row columns) in
-    record {
-      points = record {
-        heads_pass = are.heads_pass;
-        few_points = omega (arith, many, count_fault-points (length firsts) (width_of heads) counts);
-        few_values = subst (λ n. n * width_of heads ≤ MAX_VALUES) (sym many) (count_fault-values (length firsts) (width_of heads) counts);
-        rows_fit = points-fit heads tables (3 * faces) numbers firsts are.columns is;
-      };
-      few_faces = omega (arith, length-map-range_with_len (triple numbers) 0 faces, are.few_faces);
-      faces = subst (λ n. All (IsFaceOf n) (map (triple numbers) (range_with_len 0 faces))) (sym many) (triples-fit columns faces numbers firsts is);
-    }
+pub IsMesh-numbered : (heads : List Head) (tables : List AttrTable) (faces : ℕ) (numbers : List ℕ) (points : List (List ℤ)) → AreTables heads tables faces → IsNumbering (zip heads tables) (3 * faces) numbers points → count_fault (length points) (width_of heads) ≡ None → IsMesh (record { heads = heads; points = points; faces = map (triple numbers) (range_with_len 0 faces) })
+IsMesh-numbered heads tables faces numbers points are is counts = record {
+  points = record {
+    heads_pass = are.heads_pass;
+    few_points = count_fault-points (length points) (width_of heads) counts;
+    few_values = count_fault-values (length points) (width_of heads) counts;
+    rows_fit = points-fit heads tables (3 * faces) numbers points are.columns is;
+  };
+  few_faces = omega (arith, length-map-range_with_len (triple numbers) 0 faces, are.few_faces);
+  faces = triples-fit (zip heads tables) faces numbers points is;
+}
 
 -- that mesh is the assembled one
-pub assembled-numbered : (heads : List Head) (tables : List AttrTable) (faces : ℕ) (numbers firsts : List ℕ) → IsNumbering (zip heads tables) (3 * faces) (3 * faces) numbers firsts → assembled heads tables faces ≡ value_unless (count_fault (length firsts) (width_of heads)) (record { heads = heads; points = points_of (zip heads tables) firsts; faces = map (triple numbers) (range_with_len 0 faces) })
+pub assembled-numbered : (heads : List Head) (tables : List AttrTable) (faces : ℕ) (numbers : List ℕ) (points : List (List ℤ)) → IsNumbering (zip heads tables) (3 * faces) numbers points → assembled heads tables faces ≡ value_unless (count_fault (length points) (width_of heads)) (record { heads = heads; points = points; faces = map (triple numbers) (range_with_len 0 faces) })
 unfolding assembled
-assembled-numbered heads tables faces numbers firsts is =
-    let columns = zip heads tables in
-    let points = distinct (corner_rows columns (3 * faces)) in
-    let made : List ℕ → List (List ℤ) → MeshParts = λ ns ps. record { heads = heads; points = ps; faces = map (triple ns) (range_with_len 0 faces) } in
-    let answer : ℕ → MeshParts → Result MeshParts Fault = λ n m. value_unless (count_fault n (width_of heads)) m in
-    ap (λ ns. answer (length points) (made ns points)) (sym (numbers-are columns (3 * faces) numbers firsts is))
-    ∙ ap (λ ps. answer (length ps) (made numbers ps)) (sym is.points)
-    ∙ ap (λ n. answer n (made numbers (points_of columns firsts))) (length-map firsts (corner_row columns))
+assembled-numbered heads tables faces numbers points is =
+    let rows = corner_rows (zip heads tables) (3 * faces) in
+    let answer : List ℕ → List (List ℤ) → Result MeshParts Fault = λ ns ps.
+    value_unless (count_fault (length ps) (width_of heads)) (record { heads = heads; points = ps; faces = map (triple ns) (range_with_len 0 faces) }) in
+    ap (λ ps. answer (map (number_of ps) rows) ps) (sym is.distinct_rows)
+    ∙ ap (λ ns. answer ns points) (sym (numbers-are (zip heads tables) (3 * faces) numbers points is))
 
 -- what was stored of a numbering: rows, faces, and that they are a mesh
-pub stored-numbered : (heads : List Head) (tables : List AttrTable) (faces : ℕ) (numbers firsts : List ℕ) (cells : List ℤ) (width : ℕ) → AreTables heads tables faces → IsNumbering (zip heads tables) (3 * faces) (3 * faces) numbers firsts → count_fault (length firsts) width ≡ None → width ≡ width_of heads → cells ≡ cells_of (points_of (zip heads tables) firsts) → AreStored heads cells width (length firsts) × IsMesh (record { heads = heads; points = rows_of width cells; faces = map (triple numbers) (range_with_len 0 faces) }) × (assembled heads tables faces ≡ Ok (record { heads = heads; points = rows_of width cells; faces = map (triple numbers) (range_with_len 0 faces) }))
-stored-numbered heads tables faces numbers firsts cells width are is counts width_is at =
-    let columns = zip heads tables in
-    let points = points_of columns firsts in
+pub stored-numbered : (heads : List Head) (tables : List AttrTable) (faces : ℕ) (numbers : List ℕ) (cells : List ℤ) (width count : ℕ) → AreTables heads tables faces → IsNumbering (zip heads tables) (3 * faces) numbers (rows_of width cells) → length cells ≡ count * width → count_fault count width ≡ None → width ≡ width_of heads → AreStored heads cells width count × IsMesh (record { heads = heads; points = rows_of width cells; faces = map (triple numbers) (range_with_len 0 faces) }) × (assembled heads tables faces ≡ Ok (record { heads = heads; points = rows_of width cells; faces = map (triple numbers) (range_with_len 0 faces) }))
+stored-numbered heads tables faces numbers cells width count are is whole counts width_is =
+    let points = rows_of width cells in
     let bounds = width_of-bounds heads are.heads_pass in
-    let none : count_fault (length firsts) (width_of heads) ≡ None = subst (λ w. count_fault (length firsts) w ≡ None) width_is counts in
-    let stored = stored-points heads points cells width (subst (λ w. 0 < w) (sym width_is) bounds.0) (subst (λ w. w ≤ 128) (sym width_is) bounds.1) width_is
-    (points-fit heads tables (3 * faces) numbers firsts are.columns is) at in
-    let made : List (List ℤ) → MeshParts = λ ps. record { heads = heads; points = ps; faces = map (triple numbers) (range_with_len 0 faces) } in (
-      subst (AreStored heads cells width) (length-map firsts (corner_row columns)) stored.0,
-      subst (λ ps. IsMesh (made ps)) (sym stored.1) (IsMesh-numbered heads tables faces numbers firsts are is none),
-      assembled-numbered heads tables faces numbers firsts is ∙ ap (λ fault. value_unless fault (made points)) none ∙ sym (ap (λ ps. Ok (made ps)) stored.1),
+    let wide : 0 < width = subst (λ w. 0 < w) (sym width_is) bounds.0 in
+    let many : length points ≡ count = length-rows width count cells wide whole in
+    let none : count_fault (length points) (width_of heads) ≡ None =
+    subst (λ w. count_fault (length points) w ≡ None) width_is (subst (λ n. count_fault n width ≡ None) (sym many) counts) in
+    let made : MeshParts = record { heads = heads; points = points; faces = map (triple numbers) (range_with_len 0 faces) } in (
+      record { width_is = width_is; wide = wide; narrow = subst (λ w. w ≤ 128) (sym width_is) bounds.1; whole = whole },
+      IsMesh-numbered heads tables faces numbers points are is none,
+      assembled-numbered heads tables faces numbers points is ∙ ap (λ fault. value_unless fault made) none,
     )
 
 -- the fault of too many points or values
-pub assembled-fault : (heads : List Head) (tables : List AttrTable) (faces : ℕ) (numbers firsts : List ℕ) (width : ℕ) (fault : Fault) → IsNumbering (zip heads tables) (3 * faces) (3 * faces) numbers firsts → width ≡ width_of heads → count_fault (length firsts) width ≡ Some fault → assembled heads tables faces ≡ Err fault
-assembled-fault heads tables faces numbers firsts width fault is width_is at =
-    let made : MeshParts = record { heads = heads; points = points_of (zip heads tables) firsts; faces = map (triple numbers) (range_with_len 0 faces) } in
-    assembled-numbered heads tables faces numbers firsts is
-    ∙ ap (λ w. value_unless (count_fault (length firsts) w) made) (sym width_is) ∙ ap (λ f. value_unless f made) at
+pub assembled-fault : (heads : List Head) (tables : List AttrTable) (faces : ℕ) (numbers : List ℕ) (cells : List ℤ) (width count : ℕ) (fault : Fault) → IsNumbering (zip heads tables) (3 * faces) numbers (rows_of width cells) → 0 < width → length cells ≡ count * width → width ≡ width_of heads → count_fault count width ≡ Some fault → assembled heads tables faces ≡ Err fault
+assembled-fault heads tables faces numbers cells width count fault is wide whole width_is at =
+    let points = rows_of width cells in
+    let made : MeshParts = record { heads = heads; points = points; faces = map (triple numbers) (range_with_len 0 faces) } in
+    let many : length points ≡ count = length-rows width count cells wide whole in
+    assembled-numbered heads tables faces numbers points is
+    ∙ ap (λ w. value_unless (count_fault (length points) w) made) (sym width_is)
+    ∙ ap (λ n. value_unless (count_fault n width) made) many ∙ ap (λ f. value_unless f made) at

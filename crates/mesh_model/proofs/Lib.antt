@@ -10,7 +10,6 @@ pub mod Indexes
 pub mod Made
 pub mod Names
 pub mod Pairs
-pub mod Parted
 pub mod Places
 pub mod Ranges
 pub mod Rows

@@ -1,7 +1,7 @@
 -- Heads beside their tables.
-use Rattle.std.proofs.Common.{◌≡◌, ℕ, ◌+◌, ◌*◌, ◌<◌, ◌≤◌, List, [], ◌∷◌, ◌++◌, length, get_or, take, drop, sym, ap, ◌∙◌, subst, arith}
+use Rattle.std.proofs.Common.{◌≡◌, ℕ, ◌+◌, ◌*◌, ◌<◌, ◌≤◌, List, [], ◌∷◌, ◌++◌, length, get_or, take, sym, ap, ◌∙◌, subst, arith}
 use Rattle.std.specs.List.{flat_map, zip}
-use Rattle.std.proofs.lemmas.List.{take_more, take_all, drop_more, take-append-drop, append-nil}
+use Rattle.std.proofs.lemmas.List.{take_more, take_all, append-nil}
 use Rattle.std.proofs.lemmas.List.Concat.{flat_map-append}
 use Rattle.std.proofs.lemmas.Slice.Zip.{length-zip, get_or-zip}
 use Rattle.mesh_model.specs.declared.heads.Head.{Head}
@@ -39,13 +39,3 @@ columns_more {A} f heads tables j h t each below at_head at_table =
 -- all columns
 pub columns_all : (heads : List Head) (tables : List AttrTable) (j : ℕ) → length tables ≡ length heads → length heads ≤ j → take j (zip heads tables) ≡ zip heads tables
 columns_all heads tables j each past = take_all j (zip heads tables) (omega (arith, length_columns heads tables each))
-
--- the columns before one, it, and those after it
-pub columns_split : {A : Type 0} (f : Head × AttrTable → List A) (heads : List Head) (tables : List AttrTable) (j : ℕ) (h : Head) (t : AttrTable) → length tables ≡ length heads → j < length heads → h ≡ get_or heads j h → t ≡ get_or tables j t → flat_map f (zip heads tables) ≡ flat_map f (take j (zip heads tables)) ++ (f (h, t) ++ flat_map f (drop (j + 1) (zip heads tables)))
-columns_split {A} f heads tables j h t each below at_head at_table =
-    let pairs = zip heads tables in
-    let inside : j < length pairs = omega (arith, length_columns heads tables each) in
-    ap (flat_map f) (sym (take-append-drop j pairs))
-    ∙ flat_map-append f (take j pairs) (drop j pairs)
-    ∙ ap (λ ps. flat_map f (take j pairs) ++ flat_map f ps) (drop_more pairs j (h, t) inside)
-    ∙ ap (λ (p : Head × AttrTable). flat_map f (take j pairs) ++ (f p ++ flat_map f (drop (j + 1) pairs))) (column_zip heads tables j h t each below at_head at_table)

@@ -1,7 +1,8 @@
 -- Rows and the flat list that stores them.
-use Rattle.std.proofs.Common.{◌≡◌, ℕ, zero, suc, ◌+◌, ◌*◌, ◌/◌, ◌<◌, ◌≤◌, List, [], ◌∷◌, ◌++◌, length, get_or, take, drop, ℤ, refl, sym, ap, ◌∙◌, arith}
+use Rattle.std.proofs.Common.{◌≡◌, ℕ, zero, suc, ◌+◌, ◌-◌, ◌*◌, ◌/◌, ◌<◌, ◌≤◌, List, [], ◌∷◌, ◌++◌, length, get_or, take, drop, ℤ, refl, sym, ap, ◌∙◌, inl, inr, arith}
 use Rattle.std.specs.List.{All}
-use Rattle.std.proofs.lemmas.List.{length-append, length-take, length-drop, take_at, drop_at, drop-drop, get_or-take, get_or-drop, get_or_append_left, same_lists, drop_more}
+use Rattle.std.proofs.lemmas.Bool.{cases_lt}
+use Rattle.std.proofs.lemmas.List.{length-append, length_push, length-take, length-drop, take_at, take_all, take-append-le, drop_at, drop-append-le, drop-drop, get_or-take, get_or-drop, get_or_append_left, get_or_push, same_lists, drop_more}
 use Rattle.std.proofs.lemmas.List.FromFn.{length-map-range_with_len, get_or-map-range_with_len}
 use Rattle.std.proofs.lemmas.List.Elements.{All-head, All-tail}
 use Rattle.std.proofs.lemmas.Nat.{mul-le}
@@ -11,6 +12,10 @@ use Rattle.mesh_model.specs.Parts.{rows_of, cells_of}
 -- how many rows there are
 pub length-rows_of : (width : ℕ) (cells : List ℤ) → length (rows_of width cells) ≡ length cells / width
 length-rows_of width cells = length-map-range_with_len (λ (i : ℕ). take width (drop (i * width) cells)) 0 (length cells / width)
+
+-- as many whole rows as there are
+pub length-rows : (width count : ℕ) (cells : List ℤ) → 0 < width → length cells ≡ count * width → length (rows_of width cells) ≡ count
+length-rows width count cells wide whole = length-rows_of width cells ∙ ap (λ n. n / width) whole ∙ mul-div_cancel count wide
 
 -- row i
 pub get_or-rows_of : (width : ℕ) (cells : List ℤ) (i : ℕ) (d : List ℤ) → i < length cells / width → get_or (rows_of width cells) i d ≡ take width (drop (i * width) cells)
@@ -75,3 +80,28 @@ rows_of-cells_of width points wide long =
     get_or-rows_of width (cells_of points) k d fewer
     ∙ ap (take width) (drop-cells_of width points k long ∙ ap cells_of (drop_more points k d inside))
     ∙ take_at (get_or points k d) (cells_of (drop (k + 1) points)) width here)
+
+-- the rows of whole rows and one more
+pub rows_of-push : (width count : ℕ) (cells row : List ℤ) → 0 < width → length cells ≡ count * width → length row ≡ width → rows_of width (cells ++ row) ≡ rows_of width cells ++ row ∷ []
+rows_of-push width count cells row wide whole long =
+    let more : length (cells ++ row) ≡ (count + 1) * width = length-append cells row ∙ omega (arith, whole, long) in
+    let before : length (rows_of width cells) ≡ count = length-rows width count cells wide whole in
+    let after : length (rows_of width (cells ++ row)) ≡ count + 1 = length-rows width (count + 1) (cells ++ row) wide more in
+    same_lists (rows_of width (cells ++ row)) (rows_of width cells ++ row ∷ []) (after ∙ sym (length_push (rows_of width cells) row ∙ ap (λ n. n + 1) before))
+    (λ k d below.
+    get_or-rows_of width (cells ++ row) k d (omega (arith, below, length-rows_of width (cells ++ row)))
+    ∙ elim (cases_lt k count) [
+      | inl early ↦
+          let fits : (k + 1) * width ≤ count * width = mul-le (k + 1) width count width (omega arith) (omega arith) in
+          let left : length (drop (k * width) cells) ≡ length cells - k * width = length-drop (k * width) cells in
+          ap (take width) (drop-append-le (k * width) cells row (omega (arith, fits, whole)))
+          ∙ take-append-le width (drop (k * width) cells) row (omega (arith, fits, whole, left))
+          ∙ sym (get_or_append_left (rows_of width cells) (row ∷ []) d k (omega (arith, early, before))
+          ∙ get_or-rows_of width cells k d (omega (arith, early, before, length-rows_of width cells)))
+      | inr past ↦
+          let at : count ≡ k = omega (arith, past, below, after) in
+          ap (λ n. take width (drop (n * width) (cells ++ row))) (sym at)
+          ∙ ap (take width) (drop_at cells row (count * width) whole)
+          ∙ take_all width row (omega (arith, long))
+          ∙ sym (get_or_push (rows_of width cells) row d k (before ∙ at))
+    ])

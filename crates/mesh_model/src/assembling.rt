@@ -1,14 +1,12 @@
 //! A mesh from a table of values for each attribute.
 
-ghost use Rattle.std.specs.Prelude.{◌≡◌, ◌≢◌, ◌+◌, ◌*◌, ◌<◌, ◌≤◌, ℕ, All, AllPairs, map, length, zip, IfOk};
+ghost use Rattle.std.specs.Prelude.{◌≡◌, ◌≢◌, ◌+◌, ◌*◌, ◌<◌, ℕ, AllPairs, map, length, zip, IfOk};
 ghost use Rattle.std.specs.List.{range_with_len};
 ghost use Rattle.drc_base.specs.Refusals.{Answers};
-ghost use Rattle.mesh_model.specs.Assembled.{AreColumns, AreTables, assembled, corner_row, triple};
-ghost use Rattle.mesh_model.specs.Parts.{IsMesh, cells_of, corner, rows_of};
+ghost use Rattle.mesh_model.specs.Assembled.{AreTables, assembled, corner_row, triple};
+ghost use Rattle.mesh_model.specs.Parts.{IsMesh, corner, rows_of};
 ghost use Rattle.mesh_model.specs.Stored.{AreStored};
-ghost use Rattle.mesh_model.specs.RowIndex.{points_of};
 
-use crate::corners::put_corner;
 use crate::heads::{Head, row_width};
 use crate::meshes::CornerMesh;
 use crate::numbering::number_corners;
@@ -16,25 +14,6 @@ use crate::row_rules::test_counts;
 use crate::tables::AttrTable;
 use drc_base::{Memory, Refusal};
 use std::alloc::Global;
-
-/// The rows of points, one after another, each read at the point's first corner.
-fn cells(
-    alloc: Global,
-    heads: &[Head],
-    tables: &[AttrTable],
-    corners: u32,
-    firsts: &[u32],
-) -> Result<Vec<i32>, Memory>
-    requires columns { AreColumns corners heads.now tables.now }
-    requires firsts { All (λ c. c < corners) firsts.now }
-    ensures { IfOk result (λ cells. cells.items ≡ cells_of (points_of (zip heads.now tables.now) firsts.now)) }
-{
-    let mut cells: Vec<i32> = Vec::new(alloc);
-    for corner in firsts {
-        put_corner(&mut cells, heads, tables, corners, *corner)?;
-    }
-    Ok(cells)
-}
 
 /// The faces of which each has three numbers of points in a row.
 fn triples(alloc: Global, numbers: &[u32], faces: u32) -> Result<Vec<[u32; 3]>, Memory>
@@ -72,16 +51,14 @@ fn assemble_stored(
 {
     let corners = 3 * faces;
     let width = row_width(heads);
-    let numbering = number_corners(alloc, heads, tables, corners)?;
-    let count = numbering.firsts.len() as u32;
-    test_counts(count as u64, width)?;
-    let cells = cells(alloc, heads, tables, corners, numbering.firsts.as_slice())?;
+    let numbering = number_corners(alloc, heads, tables, corners, width)?;
+    test_counts(numbering.count as u64, width)?;
     let faces = triples(alloc, numbering.numbers.as_slice(), faces)?;
     Ok(Stored {
-        cells,
+        cells: numbering.cells,
         faces,
         width,
-        count,
+        count: numbering.count,
     })
 }
 

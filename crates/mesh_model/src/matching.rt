@@ -58,11 +58,19 @@ fn same_heads(a: &[Head], b: &[Head]) -> bool
     true
 }
 
-/// Whether two rows are equal.
+/// Whether two rows are equal. Rows are short, and compared in place.
 pub(crate) fn same_row(a: &[i32], b: &[i32]) -> bool
     ensures { IsTrue result ↔ (a.now ≡ b.now) }
 {
-    a == b
+    if a.len() != b.len() {
+        return false;
+    }
+    for j in 0..a.len() {
+        if a[j] != b[j] {
+            return false;
+        }
+    }
+    true
 }
 
 /// Whether each mark is set.

@@ -127,6 +127,14 @@ impl CornerMesh {
         self.faces.len() as u32
     }
 
+    /// The faces: the numbers of the three points of each, below the number of points.
+    pub fn faces(&self) -> &[[u32; 3]]
+        ensures value { result.now ≡ self.now.faces }
+        ensures sound { IsMesh self.now }
+    {
+        self.faces.as_slice()
+    }
+
     /// The numbers of the three points of face `f`, each below the number of points.
     pub fn face(&self, f: u32) -> [u32; 3]
         requires { f < length self.now.faces }
@@ -143,7 +151,6 @@ impl CornerMesh {
         ensures row { result.now ≡ corner self.now f k }
         ensures len { length result.now ≡ width_of self.now.heads }
     {
-        let face = self.face(f);
-        self.point(face[k as usize])
+        self.point(self.faces[f as usize][k as usize])
     }
 }

@@ -3,72 +3,81 @@
 
 ghost use Rattle.std.specs.Prelude.{◌≡◌, ◌+◌, ◌*◌, ◌<◌, ◌≤◌, ◌^◌, length, zip, IfOk, OnOk};
 ghost use Rattle.mesh_model.specs.Assembled.{AreColumns};
+ghost use Rattle.mesh_model.specs.Head.{width_of};
+ghost use Rattle.mesh_model.specs.Parts.{rows_of};
 ghost use Rattle.mesh_model.specs.RowIndex.{Grows, IsIndex, IsNumbering, IsPointOf};
 
-use crate::corners::corner_bucket;
+use crate::corners::put_corner;
 use crate::heads::Head;
-use crate::row_index::RowIndex;
+use crate::row_index::{RowIndex, row_bucket};
 use crate::tables::AttrTable;
 use drc_base::Memory;
 use std::alloc::Global;
 
-/// For each corner the number of its point, and for each point its first corner.
+/// For each corner the number of its point, and the rows of the points.
 #[derive(Drop)]
 pub(crate) struct Numbering {
     /// The number of each corner's point.
     pub numbers: Vec<u32>,
-    /// The first corner of each point.
-    pub firsts: Vec<u32>,
+    /// The rows of the points, one after another.
+    pub cells: Vec<i32>,
+    /// How many points there are.
+    pub count: u32,
 }
 
-/// The point of a corner: a new one where no point has its row.
-fn point_of(
-    heads: &[Head],
-    tables: &[AttrTable],
-    corners: u32,
-    index: &mut RowIndex,
-    corner: u32,
-) -> Result<u32, Memory>
-    requires columns { AreColumns corners heads.now tables.now }
-    requires index { IsIndex (zip heads.now tables.now) corners index.old.tops.items index.old.nexts.items index.old.firsts.items }
-    requires corner { corner < corners }
-    requires room { length index.old.firsts.items + 1 < 2 ^ 32 }
-    ensures index { OnOk result (IsIndex (zip heads.now tables.now) corners index.new.tops.items index.new.nexts.items index.new.firsts.items) }
-    ensures grows { OnOk result (Grows (zip heads.now tables.now) index.old.firsts.items index.new.firsts.items corner) }
-    ensures point { IfOk result (IsPointOf (zip heads.now tables.now) index.new.firsts.items corner) }
+/// The point of a row of `width` integers: a new one where no point has it.
+fn point_of(index: &mut RowIndex, width: u32, row: &[i32]) -> Result<u32, Memory>
+    requires index { IsIndex (rows_of width index.old.cells.items) index.old.tops.items index.old.nexts.items }
+    requires stored { length index.old.cells.items ≡ length index.old.nexts.items * width }
+    requires wide { 0 < width }
+    requires long { length row.now ≡ width }
+    requires room { length index.old.nexts.items + 1 < 2 ^ 32 }
+    ensures index { OnOk result (IsIndex (rows_of width index.new.cells.items) index.new.tops.items index.new.nexts.items) }
+    ensures stored { OnOk result (length index.new.cells.items ≡ length index.new.nexts.items * width) }
+    ensures grows { OnOk result (Grows (rows_of width index.old.cells.items) (rows_of width index.new.cells.items) row.now) }
+    ensures point { IfOk result (IsPointOf (rows_of width index.new.cells.items) row.now) }
 {
     let mask = (index.tops.len() - 1) as u32;
-    let bucket = corner_bucket(heads, tables, corners, mask, corner);
-    match index.find(heads, tables, corners, bucket, corner) {
+    let bucket = row_bucket(mask, row);
+    match index.find(width, bucket, row) {
         Some(point) => Ok(point),
         None => {
-            let point = index.firsts.len() as u32;
-            index.insert(bucket, corner)?;
+            let point = index.nexts.len() as u32;
+            index.insert(bucket, row)?;
             Ok(point)
         }
     }
 }
 
-/// The points of all corners.
+/// The points of all corners, whose rows have `width` integers.
 pub(crate) fn number_corners(
     alloc: Global,
     heads: &[Head],
     tables: &[AttrTable],
     corners: u32,
+    width: u32,
 ) -> Result<Numbering, Memory>
     requires columns { AreColumns corners heads.now tables.now }
     requires few { corners ≤ 3 * 2 ^ 20 }
-    ensures { IfOk result (λ n. IsNumbering (zip heads.now tables.now) corners corners n.numbers.items n.firsts.items) }
+    requires width { width ≡ width_of heads.now }
+    requires wide { 0 < width }
+    ensures numbering { IfOk result (λ n. IsNumbering (zip heads.now tables.now) corners n.numbers.items (rows_of width n.cells.items)) }
+    ensures stored { IfOk result (λ n. length n.cells.items ≡ n.count * width) }
 {
     let buckets = (corners / 4 + 1).next_power_of_two();
     let mut index = RowIndex::empty(alloc, buckets)?;
     let mut numbers: Vec<u32> = Vec::with_capacity(alloc, corners as usize)?;
+    let mut row: Vec<i32> = Vec::with_capacity(alloc, width as usize)?;
     for corner in 0..corners {
-        let point = point_of(heads, tables, corners, &mut index, corner)?;
+        row.clear();
+        put_corner(&mut row, heads, tables, corners, corner)?;
+        let point = point_of(&mut index, width, row.as_slice())?;
         numbers.push(point)?;
     }
+    let count = index.nexts.len() as u32;
     Ok(Numbering {
         numbers,
-        firsts: index.firsts,
+        cells: index.cells,
+        count,
     })
 }

@@ -1,7 +1,7 @@
-use Rattle.std.proofs.Common.{◌+◌, ◌++◌, take, drop, sym, ap, ◌∙◌, arith}
+use Rattle.std.proofs.Common.{◌++◌, take, sym, ap, ◌∙◌, arith}
 use Rattle.std.specs.List.{zip}
 use Rattle.mesh_model.specs.Assembled.{entry_at, corner_row}
-use Rattle.mesh_model.proofs.Pairs.{column_at, entry_fits, columns_more, columns_split}
+use Rattle.mesh_model.proofs.Pairs.{column_at, entry_fits, columns_more}
 use Rattle.mesh_model.proofs.corners.piece.Goals as goal
 
 pub entry_of-requires-clause-corner : goal.entry_of-requires-clause-corner
@@ -14,16 +14,9 @@ entry_of-requires-clause-entry c =
     let column = column_at c.args.corners c.args.heads.now c.args.tables.now c.args.j c.index-heads-j.result c.index-tables-j.result c.requires.columns c.requires.places.0 c.index-heads-j.is c.index-tables-j.is in
     entry_fits c.args.corners c.args.corner c.index-heads-j.result c.index-tables-j.result column c.requires.places.1
 
-pub returns-clause-more : goal.returns-clause-more
-returns-clause-more c =
+pub returns : goal.returns
+returns c =
     let heads = c.args.heads.now in
     let tables = c.args.tables.now in
     columns_more (entry_at c.args.corner) heads tables c.args.j c.index-heads-j.result c.index-tables-j.result c.requires.columns.each_head c.requires.places.0 c.index-heads-j.is c.index-tables-j.is
     ∙ ap (λ xs. corner_row (take c.args.j (zip heads tables)) c.args.corner ++ xs) (sym c.entry_of.ensures.entry)
-
-pub returns-clause-whole : goal.returns-clause-whole
-returns-clause-whole c =
-    let heads = c.args.heads.now in
-    let tables = c.args.tables.now in
-    columns_split (entry_at c.args.corner) heads tables c.args.j c.index-heads-j.result c.index-tables-j.result c.requires.columns.each_head c.requires.places.0 c.index-heads-j.is c.index-tables-j.is
-    ∙ ap (λ xs. corner_row (take c.args.j (zip heads tables)) c.args.corner ++ (xs ++ corner_row (drop (c.args.j + 1) (zip heads tables)) c.args.corner)) (sym c.entry_of.ensures.entry)
