@@ -2,8 +2,9 @@
 
 ghost use Rattle.std.specs.Prelude.{◌≡◌, ◌≤◌, ◌<◌};
 ghost use Rattle.drc_base.specs.declared.limits.TheConstants.{MAX_FACES as most_faces};
-ghost use Rattle.corner_table.specs.Table.{room_of};
+ghost use Rattle.corner_table.specs.Table.{room_of, side_of, IsFreeIn};
 
+use crate::corner_lists::Classes;
 use crate::side_table::SideTable;
 use crate::steps::Steps;
 use drc_base::Side;
@@ -56,7 +57,16 @@ fn glue_pair<L: Ledger>(
     }
 }
 
-/// The number of vertices, and what follows each side that is asked for, or -1 where it isn't free.
+/// The free side that follows a free one, before which that one comes.
+fn next_of<L: Ledger>(rt: &impl Abort, table: &SideTable, s: Side, steps: &mut Steps<L>) -> Side
+    requires { IsFreeIn table.now (side_of s) }
+{
+    let next = table.next_open(s, steps);
+    assert!(rt; table.prev_open(next, steps) == s);
+    next
+}
+
+/// The vertices, and what follows each side that is asked for, or -1 where it isn't free.
 fn told<L: Ledger>(
     rt: &impl Abort,
     alloc: Global,
@@ -64,7 +74,7 @@ fn told<L: Ledger>(
     pairs: &[(u32, u32)],
     asked: &[u32],
     blank: Blank,
-) -> (u32, Vec<i64>)
+) -> (Classes, Vec<i64>)
     requires few { faces ≤ most_faces }
     requires name { blank.name ≡ L.name }
     requires parts { blank.parts ≡ L.parts }
@@ -82,12 +92,12 @@ fn told<L: Ledger>(
         assert!(rt; s.face < table.face_count());
         let next = match table.other(s, &mut steps) {
             Some(_) => -1,
-            None => number_of(Some(table.next_open(s, &mut steps))),
+            None => number_of(Some(next_of(rt, &table, s, &mut steps))),
         };
         follows.push(next).expect(rt, "an answer");
     }
     let classes = table.label_vertices(alloc).expect(rt, "labels");
-    (classes.count, follows)
+    (classes, follows)
 }
 
 #[test]
@@ -118,9 +128,11 @@ fn labels_and_follows(rt: HostRuntime) {
     ];
     let ring = [(0, 5), (1, 17), (3, 7), (6, 11), (9, 13), (12, 16)];
     let closed = told::<Brand>(&rt, rt.alloc(), 4, &tetrahedron, &[0], Blank::new(1));
-    assert_eq!(&rt; closed.0, 4);
+    assert_eq!(&rt; closed.0.count, 4);
+    assert!(&rt; closed.0.of_corner.as_slice() == [0, 1, 2, 2, 1, 3, 1, 0, 3, 2, 3, 0].as_slice());
+    assert!(&rt; closed.0.ends.as_slice() == [false; 4].as_slice());
     let round = told::<Brand>(&rt, rt.alloc(), 14, &torus, &[0], Blank::new(1));
-    assert_eq!(&rt; round.0, 7);
+    assert_eq!(&rt; round.0.count, 7);
     let holed = told::<Brand>(
         &rt,
         rt.alloc(),
@@ -129,11 +141,14 @@ fn labels_and_follows(rt: HostRuntime) {
         &[2, 4, 8, 10, 14, 15],
         Blank::new(1),
     );
-    assert_eq!(&rt; holed.0, 6);
+    assert_eq!(&rt; holed.0.count, 6);
+    let vertices = [0, 1, 2, 2, 1, 3, 1, 4, 3, 3, 4, 5, 4, 0, 5, 0, 2, 5];
+    assert!(&rt; holed.0.of_corner.as_slice() == vertices.as_slice());
+    assert!(&rt; holed.0.ends.as_slice() == [true; 6].as_slice());
     assert!(&rt; holed.1.as_slice() == [8, 15, 14, 4, 2, 10].as_slice());
     // Two mirrored faces are never joined: each is its own loop of three.
     let apart = told::<Brand>(&rt, rt.alloc(), 2, &[], &[0, 1, 2, 5], Blank::new(1));
-    assert_eq!(&rt; apart.0, 6);
+    assert_eq!(&rt; apart.0.count, 6);
     assert!(&rt; apart.1.as_slice() == [1, 2, 0, 3].as_slice());
     // Three faces glued until one side is left, which is alone in its loop.
     let lone = told::<Brand>(
@@ -155,7 +170,36 @@ fn labels_and_follows(rt: HostRuntime) {
         Blank::new(1),
     );
     assert!(&rt; taken.1.as_slice() == [11, 9].as_slice());
-    assert_eq!(&rt; taken.0, 4);
+    assert_eq!(&rt; taken.0.count, 4);
+}
+
+#[test]
+fn follows_holes_and_parts(rt: HostRuntime) {
+    // Twelve faces round a hole of six sides: two faces for each of them, the second one at the hole.
+    let ring = [
+        (1, 5),
+        (3, 8),
+        (7, 11),
+        (9, 14),
+        (13, 17),
+        (15, 20),
+        (19, 23),
+        (21, 26),
+        (25, 29),
+        (27, 32),
+        (31, 35),
+        (33, 2),
+    ];
+    let sides = [4, 10, 16, 22, 28, 34, 0, 6, 30];
+    let holed = told::<Brand>(&rt, rt.alloc(), 12, &ring, &sides, Blank::new(1));
+    assert!(&rt; holed.1.as_slice() == [34, 4, 10, 16, 22, 28, 6, 12, 0].as_slice());
+    assert_eq!(&rt; holed.0.count, 12);
+    // Three parts of two faces, whatever points they share: three fans, each with its own free sides.
+    let parts = [(0, 5), (6, 11), (12, 17)];
+    let sides = [1, 2, 3, 4, 7, 10, 13, 16];
+    let cut = told::<Brand>(&rt, rt.alloc(), 6, &parts, &sides, Blank::new(1));
+    assert!(&rt; cut.1.as_slice() == [2, 3, 4, 1, 8, 7, 14, 13].as_slice());
+    assert_eq!(&rt; cut.0.count, 12);
 }
 
 /// Two faces glued at sides 0 and 5, under new numbers: for each new side the side across, or for a

@@ -129,6 +129,24 @@ fn rebuilds_and_refuses<R: Rebuild>(rt: &impl Abort, alloc: Global) {
     let none = Vec::new(alloc);
     let done = rebuilt::<R, Brand>(alloc, (6, 7), &ring, none, &[false], Blank::new(1));
     assert!(rt; told(rt, done) == Some((Kind::NoActive, 5)));
+    // An S without an event, over a stack of one side.
+    let none = Vec::new(alloc);
+    let done = rebuilt::<R, Brand>(alloc, (2, 5), &[E, S], none, &[], Blank::new(1));
+    assert!(rt; told(rt, done) == Some((Kind::NoActive, 1)));
+    // Two events that keep a side for one S.
+    let mut events = one_event(rt, alloc, 5, 0, true);
+    let again = Event {
+        source: 5,
+        split: 0,
+        right: true,
+    };
+    events.push(again).expect(rt, "room");
+    let done = rebuilt::<R, Brand>(alloc, (6, 7), &ring, events, &[], Blank::new(1));
+    assert!(rt; told(rt, done) == Some((Kind::Taken, 0)));
+    // An interior face over a loop of four sides.
+    let none = Vec::new(alloc);
+    let done = rebuilt::<R, Brand>(alloc, (3, 4), &[E, Right], none, &[true], Blank::new(1));
+    assert!(rt; told(rt, done) == Some((Kind::Loop, 2)));
     // A side that is kept is one with the top.
     let events = one_event(rt, alloc, 1, 0, false);
     let done = rebuilt::<R, Brand>(alloc, (2, 4), &[E, S], events, &[], Blank::new(1));
@@ -167,6 +185,10 @@ fn rebuilds_and_refuses<R: Rebuild>(rt: &impl Abort, alloc: Global) {
         Blank::new(1),
     );
     assert!(rt; told(rt, done) == Some((Kind::Loop, 4)));
+    // The same face by fewer symbols.
+    let none = Vec::new(alloc);
+    let done = rebuilt::<R, Brand>(alloc, (3, 3), &[E, C, C], none, &[false], Blank::new(1));
+    assert!(rt; told(rt, done) == Some((Kind::Degenerate, 2)));
     // Fewer faces than are declared, and more vertices.
     let none = Vec::new(alloc);
     let done = rebuilt::<R, Brand>(alloc, (2, 3), &[E], none, &[false], Blank::new(1));
