@@ -23,7 +23,7 @@ use Rattle.predict.specs.Wrap.{Range, restored_value}
 use Rattle.predict.specs.Restored.{restored_behind, entry_before}
 use Rattle.attr_section.specs.declared.values.Values.{Values}
 use Rattle.attr_section.specs.Values.{no_prediction, prediction_at, plain_value_at, byte_width_at, plain_values_at, signed_of, transform_at, range_at, compressed_values_at, integers_at, differences_at, predicted_at, typed_values_at, values_at}
-use Rattle.drc_container.proofs.Parted.{parts, passed, not_refused, either, must-passed, many-passed}
+use Rattle.drc_container.proofs.Parted.{given, parts, passed, not_refused, either, must-passed, many-passed}
 
 values_in-counted : (long short : ℕ) (ws bits vs : List ℕ) → values_in_bits long short ws bits ≡ Ok vs → length vs ≡ length ws
 unfolding values_in_bits
@@ -96,7 +96,8 @@ length-restored predicted r before (c ∷ corrections) =
     let v = restored_value r (predicted before) c in
     length-restored predicted r (before ++ v ∷ []) corrections ∙ omega (arith, length-append before (v ∷ []))
 
-differences-counted : (comps n : ℕ) → n % comps ≡ 0 → (c : Reading) (y : List ℤ × Reading) → differences_at comps n c ≡ Ok y → length y.0 ≡ n
+differences-counted : (comps n : ℕ) → n % comps ≡ 0 → (c : Reading) (y : List ℤ × Reading) → differences_at comps n c ≡ Ok y
+    → length y.0 ≡ n
 unfolding differences_at
 differences-counted comps n whole c y is =
     let p = parts (transform_at c) _ y is in
@@ -111,7 +112,8 @@ pub record IsColumn (n dtype : ℕ) (v : Values) : Type 0 where
   pub long : length v.values ≡ n
   pub typed : list_all (in_type dtype) v.values ≡ true
 
-typed-column : (h : Head) (n : ℕ) → n % h.comps ≡ 0 → (c : Reading) (y : Values × Reading) → typed_values_at h n c ≡ Ok y → IsColumn n h.dtype y.0
+typed-column : (h : Head) (n : ℕ) → n % h.comps ≡ 0 → (c : Reading) (y : Values × Reading) → typed_values_at h n c ≡ Ok y
+    → IsColumn n h.dtype y.0
 unfolding typed_values_at
 typed-column h n whole c y is =
     let p = parts (prediction_at c) _ y is in
@@ -120,7 +122,7 @@ typed-column h n whole c y is =
     let v : Values = record { values = q.0.0; predict = p.0.0; at = c.place } in
     let long : length q.0.0 ≡ n = either (length q.0.0 ≡ n) (int_eq p.0.0 no_prediction) (integers_at h.comps n p.0.1) (differences_at h.comps n p.0.1) q.0 q.1
     (λ off read. integers-counted h.comps n whole p.0.1 q.0 read) (λ on read. differences-counted h.comps n whole p.0.1 q.0 read) in
-    subst (λ (z : Values × Reading). IsColumn n h.dtype z.0) (Ok-injective t.1) (record { long = long; typed = t.0 })
+    given (λ (z : Values × Reading). IsColumn n h.dtype z.0) (v, q.0.1) y t.1 (record { long = long; typed = t.0 })
 
 -- the values of an attribute are a column within the limit
 pub values-column : (h : Head) (entries spent : ℕ) (c : Reading) (y : Values × Reading) → values_at h entries spent c ≡ Ok y

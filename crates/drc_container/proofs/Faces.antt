@@ -18,7 +18,7 @@ use Rattle.seq_section.specs.declared.reading.SeqRead.{SeqRead}
 use Rattle.seq_section.specs.declared.reading.Opening.{Opening}
 use Rattle.seq_section.specs.Packed.{difference_of, sums_from, point_of, points_of, threes, faces_of}
 use Rattle.seq_section.specs.Indices.{method_at, opening_at, index_width, number_of_width, index_at, face_at, packed_at, faces_at, indices_at}
-use Rattle.drc_container.proofs.Parted.{parts, passed, either, must-passed, many-passed}
+use Rattle.drc_container.proofs.Parted.{given, parts, passed, either, must-passed, many-passed}
 use Rattle.drc_container.proofs.Counted.{block-counted}
 
 -- an opening is within the limits
@@ -30,7 +30,8 @@ opening-passed c y is =
     let r = parts (method_at q.0.1) _ y q.2 in
     let faces = must-passed kind.FaceLimit (λ n. nat_le n MAX_FACES) var32_at c p.0 p.1 in
     let points = must-passed kind.PointLimit (λ n. nat_le n MAX_POINTS) var32_at p.0.1 q.0 q.1 in
-    subst (λ (z : Opening × Reading). (z.0.faces ≤ MAX_FACES) × (z.0.points ≤ MAX_POINTS)) (Ok-injective r.2)
+    let o : Opening = record { faces = p.0.0; points = q.0.0; method = r.0.0 } in
+    given (λ (z : Opening × Reading). (z.0.faces ≤ MAX_FACES) × (z.0.points ≤ MAX_POINTS)) (o, r.0.1) y r.2
     (leb-true p.0.0 MAX_FACES faces.0, leb-true q.0.0 MAX_POINTS points.0)
 
 index-passed : (points : ℕ) (c : Reading) (y : ℕ × Reading) → index_at points c ≡ Ok y → y.0 < points
@@ -48,7 +49,7 @@ face-passed points c y is =
     let p = parts (index_at points c) _ y is in
     let q = parts (index_at points p.0.1) _ y p.2 in
     let r = parts (index_at points q.0.1) _ y q.2 in
-    subst (λ (z : List ℕ × Reading). IsFaceOf points z.0) (Ok-injective r.2)
+    given (λ (z : List ℕ × Reading). IsFaceOf points z.0) (p.0.0 ∷ q.0.0 ∷ r.0.0 ∷ [], r.0.1) y r.2
     (three points p.0.0 q.0.0 r.0.0 (index-passed points c p.0 p.1) (index-passed points p.0.1 q.0 q.1) (index-passed points q.0.1 r.0 r.1))
 
 point_of-passed : (f : Fault) (points : ℕ) (i : ℤ) (p : ℕ) → point_of f points i ≡ Ok p → p < points
@@ -71,7 +72,8 @@ length-sums_from start [] = refl
 length-sums_from start (d ∷ ds) = ap suc (length-sums_from (start +ℤ d) ds)
 
 -- corners by threes are faces
-threes-passed : (points n : ℕ) (ps : List ℕ) → length ps ≡ 3 * n → All (λ p. p < points) ps → (length (threes ps) ≡ n) × All (IsFaceOf points) (threes ps)
+threes-passed : (points n : ℕ) (ps : List ℕ) → length ps ≡ 3 * n → All (λ p. p < points) ps
+    → (length (threes ps) ≡ n) × All (IsFaceOf points) (threes ps)
 threes-passed points zero [] long all = (refl, All-nil (IsFaceOf points))
 threes-passed points zero (a ∷ ps) long all = absurd (omega (arith, long))
 threes-passed points (suc n) [] long all = absurd (omega (arith, long))
@@ -99,8 +101,8 @@ packed-passed points faces c y is =
     let whole = ap (λ n. n % 1) (sym one) ∙ mul-mod_left (3 * faces) 1 in
     let long = s.0 ∙ length-sums_from (pos 0) (map difference_of p.0.0) ∙ length-map p.0.0 difference_of ∙ block-counted (3 * faces) 1 whole c p.0 p.1 in
     let t = threes-passed points faces r.0 long s.1 in
-    subst (λ (z : List (List ℕ) × Reading). (length z.0 ≡ faces) × All (IsFaceOf points) z.0) (Ok-injective q.2)
-    (subst (λ l. (length l ≡ faces) × All (IsFaceOf points) l) (Ok-injective r.2) t)
+    given (λ (z : List (List ℕ) × Reading). (length z.0 ≡ faces) × All (IsFaceOf points) z.0) (q.0, p.0.1) y q.2
+    (given (λ l. (length l ≡ faces) × All (IsFaceOf points) l) (threes r.0) q.0 r.2 t)
 
 -- indices that were read are within the limits, and are those of points
 pub record IndicesPass (r : SeqRead) : Type 0 where
@@ -119,5 +121,6 @@ indices-passed c y is =
     either ((length q.0.0 ≡ p.0.0.faces) × All (IsFaceOf n) q.0.0) (p.0.0.method == 0) (packed_at n p.0.0.faces p.0.1) (many_at (face_at n) p.0.0.faces p.0.1) q.0 q.1
     (λ _ read. packed-passed n p.0.0.faces p.0.1 q.0 read)
     (λ _ read. many-passed (IsFaceOf n) (face_at n) (face-passed n) p.0.0.faces p.0.1 q.0 read) in
-    subst (λ (z : SeqRead × Reading). IndicesPass z.0) (Ok-injective q.2)
+    let r : SeqRead = record { faces = q.0.0; points = n } in
+    given (λ (z : SeqRead × Reading). IndicesPass z.0) (r, q.0.1) y q.2
     (record { few_points = opening.1; few_faces = omega (arith, opening.0, have.0); faces = have.1 })

@@ -24,7 +24,7 @@ use Rattle.attr_section.specs.declared.links.Link.{Link}
 use Rattle.attr_section.specs.Each.{each_at}
 use Rattle.attr_section.specs.Heads.{is_type, HeadPasses, head_at, codings_at, attributes_of, attribute_count_at, decoder_at, decoders_at, decoder_count_at, links_at, no_link, heads_at}
 use Rattle.attr_section.specs.Values.{quant_bits_at, quant_at, quant_of_at, quantised_at, quants_at}
-use Rattle.drc_container.proofs.Parted.{parts, passed, either, must-passed, many-passed}
+use Rattle.drc_container.proofs.Parted.{given, parts, passed, either, must-passed, many-passed}
 
 -- a head that was read is accepted
 head-passed : (c : Reading) (y : Head × Reading) → head_at c ≡ Ok y → HeadPasses y.0
@@ -40,7 +40,8 @@ head-passed c y is =
     let dtype = must-passed kind.DataType is_type (number_at 1) p.0.1 q.0 q.1 in
     let comps = must-passed kind.Components has_comps (number_at 1) q.0.1 r.0 r.1 in
     let bounds = and_parts (nat_le 1 r.0.0) (nat_le r.0.0 MAX_COMPONENTS) comps.0 in
-    subst (λ (z : Head × Reading). HeadPasses z.0) (Ok-injective t.2)
+    let h : Head = record { usage = p.0.0; dtype = q.0.0; comps = r.0.0; normalized = s.0.0; id = t.0.0; quant = None } in
+    given (λ (z : Head × Reading). HeadPasses z.0) (h, t.0.1) y t.2
     (record { usage = leb-true p.0.0 4 usage.0; dtype = dtype.0; some = leb-true 1 r.0.0 bounds.0; few = leb-true r.0.0 MAX_COMPONENTS bounds.1 })
 
 -- a quantisation that fits a head
@@ -66,10 +67,11 @@ quant_fits h is_type c y is =
     let has_bits : ℕ → Bool = λ b. nat_le 1 b && nat_le b 30 in
     let minima = (many-passed (λ _. Unit {0}) (number_at 4) (λ _ _ _. tt) h.comps c q.0 q.1).0 in
     let bits = must-passed kind.QuantBits has_bits (number_at 1) r.0.1 s.0 s.1 in
-    let found : QuantFits h (Some (record { bits = s.0.0; range = r.0.0; min = q.0.0 })) =
+    let quant : Quant = record { bits = s.0.0; range = r.0.0; min = q.0.0 } in
+    let found : QuantFits h (Some quant) =
     record { type_fits = float; minima = eq-eqb (length q.0.0) h.comps minima; bits = bits.0 } in
-    subst (λ (z : Option Quant × Reading). QuantFits h z.0) (Ok-injective p.2)
-    (subst (λ (z : Quant × Reading). QuantFits h (Some z.0)) (Ok-injective s.2) found))
+    given (λ (z : Option Quant × Reading). QuantFits h z.0) (Some p.0.0, p.0.1) y p.2
+    (given (λ (z : Quant × Reading). QuantFits h (Some z.0)) (quant, s.0.1) p.0 s.2 found))
     (λ integer read.
     subst (λ (z : Option Quant × Reading). QuantFits h z.0) (Ok-injective read)
     (record { type_fits = integer_type h.dtype is_type integer; minima = refl; bits = refl }))
@@ -96,21 +98,24 @@ pub record AreHeads (shape : List (ℕ × ℕ)) (heads : List Head) : Type 0 whe
   pub each : All IsHead heads
   pub same : shapes heads ≡ shape
 
-quantised-passed : (h : Head) → HeadPasses h → (c : Reading) (y : Head × Reading) → quantised_at h c ≡ Ok y → AreHeads ((h.comps, h.dtype) ∷ []) (y.0 ∷ [])
+quantised-passed : (h : Head) → HeadPasses h → (c : Reading) (y : Head × Reading) → quantised_at h c ≡ Ok y
+    → AreHeads ((h.comps, h.dtype) ∷ []) (y.0 ∷ [])
 unfolding quantised_at
 quantised-passed h passes c y is =
     let p = parts (quant_of_at h c) (λ q. Ok (record h { quant = q.0 }, q.1)) y is in
     let o : Head = record h { quant = p.0.0 } in
-    subst (λ (z : Head × Reading). AreHeads ((h.comps, h.dtype) ∷ []) (z.0 ∷ [])) (Ok-injective p.2)
+    given (λ (z : Head × Reading). AreHeads ((h.comps, h.dtype) ∷ []) (z.0 ∷ [])) (o, p.0.1) y p.2
     (record { each = All-cons IsHead o [] (is_head h p.0.0 passes (quant_fits h passes.dtype c p.0 p.1)) (All-nil IsHead); same = refl })
 
-pub AreHeads-append : (s t : List (ℕ × ℕ)) (heads others : List Head) → AreHeads s heads → AreHeads t others → AreHeads (s ++ t) (heads ++ others)
+pub AreHeads-append : (s t : List (ℕ × ℕ)) (heads others : List Head) → AreHeads s heads → AreHeads t others
+    → AreHeads (s ++ t) (heads ++ others)
 AreHeads-append s t heads others are also = record {
   each = All-append IsHead heads others are.each also.each;
   same = map-append (λ (h : Head). (h.comps, h.dtype)) heads others ∙ ap (λ l. l ++ shapes others) are.same ∙ ap (λ l. s ++ l) also.same;
 }
 
-quants-from : (heads : List Head) → All HeadPasses heads → (s : List (ℕ × ℕ)) (front : List Head) → AreHeads s front → (c : Reading) (y : List Head × Reading)
+quants-from : (heads : List Head) → All HeadPasses heads → (s : List (ℕ × ℕ)) (front : List Head) → AreHeads s front
+    → (c : Reading) (y : List Head × Reading)
     → each_at (λ _ h. quantised_at h) front heads c ≡ Ok y → AreHeads (s ++ shapes heads) y.0
 unfolding each_at
 quants-from [] pass s front are c y is =
@@ -123,7 +128,8 @@ quants-from (h ∷ heads) pass s front are c y is =
     (quants-from heads (All-tail HeadPasses h heads pass) (s ++ shape) (front ++ p.0.0 ∷ []) (AreHeads-append s shape front (p.0.0 ∷ []) are here) p.0.1 y p.2)
 
 -- heads with their quantisations
-pub quants-passed : (heads : List Head) → All HeadPasses heads → (c : Reading) (y : List Head × Reading) → quants_at heads c ≡ Ok y → AreHeads (shapes heads) y.0
+pub quants-passed : (heads : List Head) → All HeadPasses heads → (c : Reading) (y : List Head × Reading) → quants_at heads c ≡ Ok y
+    → AreHeads (shapes heads) y.0
 unfolding quants_at
 quants-passed heads pass c y is = quants-from heads pass [] [] (record { each = All-nil IsHead; same = refl }) c y is
 
@@ -144,7 +150,8 @@ decoder-passed before link c y is =
     let most = must-passed kind.AttrLimit few (λ c. must kind.NoAttribute some var32_at c) c p.0 p.1 in
     let least = must-passed kind.NoAttribute some var32_at c p.0 most.1 in
     let heads = many-passed HeadPasses head_at head-passed p.0.0 p.0.1 q.0 q.1 in
-    subst (λ (z : DecoderHead × Reading). DecoderRead z.0 × (before + length z.0.heads ≤ MAX_ATTRIBUTES)) (Ok-injective r.2)
+    let d : DecoderHead = record { data_id = link.data_id; corner = link.corner; degree = false; heads = q.0.0 } in
+    given (λ (z : DecoderHead × Reading). DecoderRead z.0 × (before + length z.0.heads ≤ MAX_ATTRIBUTES)) (d, r.0.1) y r.2
     (record { some = omega (arith, ltb-true 0 p.0.0 least.0, heads.0); heads = heads.1 }, omega (arith, leb-true (before + p.0.0) MAX_ATTRIBUTES most.0, heads.0))
 
 -- decoders that were read: at least so many, and not too many attributes
@@ -153,7 +160,8 @@ pub record DecodersRead (n : ℕ) (ds : List DecoderHead) : Type 0 where
   pub few : attributes_of ds ≤ MAX_ATTRIBUTES
   pub each : All DecoderRead ds
 
-decoders-from : (links : List Link) (n : ℕ) (front : List DecoderHead) → DecodersRead n front → (c : Reading) (y : List DecoderHead × Reading)
+decoders-from : (links : List Link) (n : ℕ) (front : List DecoderHead) → DecodersRead n front
+    → (c : Reading) (y : List DecoderHead × Reading)
     → each_at (λ before link. decoder_at (attributes_of before) link) front links c ≡ Ok y → DecodersRead (n + length links) y.0
 unfolding each_at
 decoders-from [] n front are c y is =

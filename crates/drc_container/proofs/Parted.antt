@@ -8,8 +8,13 @@ use Rattle.drc_base.specs.declared.kinds.Kind.{Kind}
 use Rattle.drc_bits.specs.Reading.{◌>>=◌, Reading, Item, must, many_at, fault_at}
 use Rattle.drc_bits.proofs.Results.{Ok-injective, err≢ok}
 
+-- what a value has, what was read has
+pub given : {A : Type 0} (P : A → Type 0) (x y : A) → ◌≡◌ {A = Result A Fault} (Ok x) (Ok y) → P x → P y
+given P x y is holds = subst P (Ok-injective is) holds
+
 -- the first of two parts, and the other behind it
-pub parts : {A B : Type 0} (first : Result A Fault) (next : A → Result B Fault) (y : B) → (first >>= next) ≡ Ok y → (x : A) × (first ≡ Ok x) × (next x ≡ Ok y)
+pub parts : {A B : Type 0} (first : Result A Fault) (next : A → Result B Fault) (y : B) → (first >>= next) ≡ Ok y
+    → (x : A) × (first ≡ Ok x) × (next x ≡ Ok y)
 parts (Ok x) next y is = (x, refl, is)
 parts (Err f) next y is = absurd (err≢ok is)
 
@@ -29,7 +34,8 @@ either P true r s y is one other = one refl is
 either P false r s y is one other = other refl is
 
 -- an item that passed its test
-pub must-passed : {A : Type 0} (kind : Kind) (test : A → Bool) (item : Reading → Item A) (c : Reading) (y : A × Reading) → must kind test item c ≡ Ok y
+pub must-passed : {A : Type 0} (kind : Kind) (test : A → Bool) (item : Reading → Item A) (c : Reading) (y : A × Reading)
+    → must kind test item c ≡ Ok y
     → (test y.0 ≡ true) × (item c ≡ Ok y)
 must-passed {A} kind test item c y is =
     let next : A × Reading → Item A = λ x. if test x.0 then Ok x else fault_at kind c in

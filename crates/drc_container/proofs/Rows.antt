@@ -67,7 +67,8 @@ rows_more row n =
     ∙ ap (λ l. flat_map row (range_with_len 0 n) ++ l) (append-nil (row (0 + n)) ∙ ap row e)
 
 -- the cells of an only attribute are its column
-pub only_column : (n : ℕ) (heads : List Head) (values : List Values) (v : Values) → AreColumns n heads values → length values ≡ 1 → v ≡ get_or values 0 v
+pub only_column : (n : ℕ) (heads : List Head) (values : List Values) (v : Values) → AreColumns n heads values → length values ≡ 1
+    → v ≡ get_or values 0 v
     → v.values ≡ cells_at heads (columns values) n
 only_column n [] [] v are one is = absurd (omega (arith, one))
 only_column n [] (w ∷ values) v are one is = absurd are

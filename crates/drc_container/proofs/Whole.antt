@@ -33,6 +33,7 @@ use Rattle.drc_container.specs.Stream.{decoders_at, attributes_at, points_of}
 use Rattle.drc_container.specs.Laws.{MeshesPass, CloudsPass}
 use Rattle.drc_container.proofs.Rows.{columns, piece_within}
 use Rattle.drc_container.proofs.Decoders.{values_in-append}
+use Rattle.drc_container.proofs.FirstRefusals.{value-given}
 use Rattle.drc_container.proofs.Parted.{parts, must-passed}
 use Rattle.drc_container.proofs.Counted.{IsColumn, values-column}
 use Rattle.drc_container.proofs.Faces.{IndicesPass, indices-passed}
@@ -45,7 +46,8 @@ AreTyped n [] (v ∷ values) = ⊥
 AreTyped n (s ∷ shape) [] = ⊥
 AreTyped n (s ∷ shape) (v ∷ values) = IsColumn (n * s.0) s.1 v × AreTyped n shape values
 
-AreTyped-append : (n : ℕ) (s t : List (ℕ × ℕ)) (values more : List Values) → AreTyped n s values → AreTyped n t more → AreTyped n (s ++ t) (values ++ more)
+AreTyped-append : (n : ℕ) (s t : List (ℕ × ℕ)) (values more : List Values) → AreTyped n s values → AreTyped n t more
+    → AreTyped n (s ++ t) (values ++ more)
 AreTyped-append n [] t [] more are also = also
 AreTyped-append n [] t (v ∷ values) more are also = absurd are
 AreTyped-append n (s ∷ shape) t [] more are also = absurd are
@@ -56,7 +58,8 @@ record AreColumns (n spent : ℕ) (shape : List (ℕ × ℕ)) (values : List Val
   typed : AreTyped n shape values
   few : spent + values_in values ≤ MAX_VALUES
 
-columns-from : (n spent : ℕ) (heads : List Head) (s : List (ℕ × ℕ)) (front : List Values) → AreColumns n spent s front → (c : Reading) (y : List Values × Reading)
+columns-from : (n spent : ℕ) (heads : List Head) (s : List (ℕ × ℕ)) (front : List Values) → AreColumns n spent s front
+    → (c : Reading) (y : List Values × Reading)
     → each_at (λ before h. values_at h n (spent + values_in before)) front heads c ≡ Ok y → AreColumns n spent (s ++ shapes heads) y.0
 unfolding each_at
 columns-from n spent [] s front are c y is =
@@ -80,7 +83,8 @@ record ArePart (n : ℕ) (a : Attributes) : Type 0 where
   typed : AreTyped n (shapes a.heads) a.values
   few : values_in a.values ≤ MAX_VALUES
 
-decoders-typed : (n : ℕ) (ds : List DecoderHead) → All DecoderRead ds → (before : Attributes) → ArePart n before → (c : Reading) (y : Attributes × Reading)
+decoders-typed : (n : ℕ) (ds : List DecoderHead) → All DecoderRead ds → (before : Attributes) → ArePart n before
+    → (c : Reading) (y : Attributes × Reading)
     → decoders_at n before ds c ≡ Ok y → ArePart n y.0 × (length y.0.heads ≡ length before.heads + attributes_of ds)
 unfolding decoders_at decoder_values_at columns_at
 decoders-typed n [] read before are c y is =
@@ -144,7 +148,8 @@ total n (h ∷ heads) (v ∷ values) are =
     sum_by-cons (λ (x : Values). length x.values) v values ∙ omega (arith, are.0.long, rest, all)
 
 -- a piece in the type of a head, in front of a row that fits others
-row-cons : (h : Head) (heads : List Head) (piece row : List ℤ) → length piece ≡ h.comps → ((j : ℕ) → j < h.comps → in_type h.dtype (get_or piece j (pos 0)) ≡ true)
+row-cons : (h : Head) (heads : List Head) (piece row : List ℤ) → length piece ≡ h.comps
+    → ((j : ℕ) → j < h.comps → in_type h.dtype (get_or piece j (pos 0)) ≡ true)
     → RowFits heads row → RowFits (h ∷ heads) (piece ++ row)
 row-cons h heads piece row long typed fits =
     let whole = sum_by-cons (λ (x : Head). x.comps) h heads in
@@ -169,7 +174,8 @@ row-cons h heads piece row long typed fits =
     )
 
 -- row i of typed columns fits the heads
-row-fits : (n i : ℕ) → i < n → (heads : List Head) (values : List Values) → AreTyped n (shapes heads) values → RowFits heads (row_at heads (columns values) i)
+row-fits : (n i : ℕ) → i < n → (heads : List Head) (values : List Values) → AreTyped n (shapes heads) values
+    → RowFits heads (row_at heads (columns values) i)
 row-fits n i below [] [] are = (refl, λ j none. absurd (omega (arith, none)))
 row-fits n i below [] (v ∷ values) are = absurd are
 row-fits n i below (h ∷ heads) [] are = absurd are
@@ -209,16 +215,12 @@ rows-points n a few are =
 rows-cells : (n : ℕ) (a : Attributes) → points_of n a ≡ cells_of (rows n a)
 rows-cells n a = sym (flat_map-map (λ (row : List ℤ). row) (row_at a.heads (columns a.values)) (range_with_len 0 n))
 
-no_fault : {A : Type 0} (f : Option Fault) (x y : A) → value_unless f x ≡ Ok y → f ≡ None
-no_fault None x y is = refl
-no_fault (Some f) x y is = absurd (err≢ok is)
-
 pub clouds_pass : CloudsPass
 clouds_pass c d e n a points attributes =
     let few = leb-true n MAX_POINTS (must-passed kind.PointLimit (λ n. nat_le n MAX_POINTS) (number_at 4) c (n, d) points).0 in
     let are = attributes-passed n d (a, e) attributes in
     let none : cloud_fault a.heads (cells_of (rows n a)) ≡ None =
-    no_fault (cloud_fault a.heads (cells_of (rows n a))) _ _ (cloud_of-IsCloud (record { heads = a.heads; points = rows n a }) (rows-points n a few are)) in
+    value-given (cloud_fault a.heads (cells_of (rows n a))) _ _ (cloud_of-IsCloud (record { heads = a.heads; points = rows n a }) (rows-points n a few are)) in
     ap (cloud_fault a.heads) (rows-cells n a) ∙ none
 
 pub meshes_pass : MeshesPass
@@ -228,7 +230,7 @@ meshes_pass c d e r a indices attributes =
     let are = attributes-passed n d (a, e) attributes in
     let count = rows-count n a in
     let none : mesh_fault a.heads (cells_of (rows n a)) r.faces ≡ None =
-    no_fault (mesh_fault a.heads (cells_of (rows n a)) r.faces) _ _
+    value-given (mesh_fault a.heads (cells_of (rows n a)) r.faces) _ _
     (mesh_of-IsMesh (record { heads = a.heads; points = rows n a; faces = r.faces }) (record {
       points = rows-points n a read.few_points are;
       few_faces = read.few_faces;
