@@ -1,5 +1,5 @@
 -- Values that were read: how many they are, and that each is in its type.
-use Rattle.std.proofs.Common.{◌≡◌, ℕ, zero, suc, ◌+◌, ◌*◌, ◌/◌, ◌%◌, ◌<◌, ◌≤◌, true, ℤ, List, [], ◌∷◌, ◌++◌, length, take, drop, map, Ok, refl, sym, ◌∙◌, ap, subst, arith, length-append, replicate}
+use Rattle.std.proofs.Common.{◌≡◌, ℕ, zero, suc, ◌+◌, ◌*◌, ◌/◌, ◌%◌, ◌≤◌, true, ℤ, List, [], ◌∷◌, ◌++◌, length, take, drop, map, Ok, refl, sym, ◌∙◌, ap, arith, length-append, replicate}
 use Rattle.std.specs.Prelude.{◌==◌, ◌&&◌, nat_lt, nat_le}
 use Rattle.std.specs.Ordering.{int_eq}
 use Rattle.std.specs.List.{list_all}
@@ -15,7 +15,7 @@ use Rattle.drc_bits.specs.Bits.{bits_of, number_of}
 use Rattle.drc_bits.proofs.Results.{Ok-injective}
 use Rattle.rans_core.specs.Coder.{State}
 use Rattle.symbol_tables.specs.Tables.{table_at}
-use Rattle.symbol_coding.specs.Symbols.{next_symbols, next_symbol, after_symbol, coded_at}
+use Rattle.symbol_coding.specs.Symbols.{next_symbols, after_symbol, coded_at}
 use Rattle.symbol_coding.specs.Block.{precision, widths, values_in as values_in_bits, tagged_at, raw_at, scheme_at, block_at}
 use Rattle.mesh_model.specs.declared.heads.Head.{Head}
 use Rattle.mesh_model.specs.Head.{in_type}
@@ -23,7 +23,7 @@ use Rattle.predict.specs.Wrap.{Range, restored_value}
 use Rattle.predict.specs.Restored.{restored_behind, entry_before}
 use Rattle.attr_section.specs.declared.values.Values.{Values}
 use Rattle.attr_section.specs.Values.{no_prediction, prediction_at, plain_value_at, byte_width_at, plain_values_at, signed_of, transform_at, range_at, compressed_values_at, integers_at, differences_at, predicted_at, typed_values_at, values_at}
-use Rattle.drc_container.proofs.Parted.{given, parts, passed, not_refused, either, must-passed, many-passed}
+use Rattle.drc_container.proofs.Parted.{given, parts, passed, not_refused, either, many-passed}
 
 values_in-counted : (long short : ℕ) (ws bits vs : List ℕ) → values_in_bits long short ws bits ≡ Ok vs → length vs ≡ length ws
 unfolding values_in_bits

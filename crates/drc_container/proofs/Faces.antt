@@ -9,7 +9,7 @@ use Rattle.std.proofs.Math.Nat.{mul-mod_left}
 use Rattle.drc_base.specs.declared.faults.Fault.{Fault}
 use Rattle.drc_base.specs.declared.kinds.Kind.TheVariants as kind
 use Rattle.drc_base.specs.declared.limits.TheConstants.{MAX_FACES, MAX_POINTS}
-use Rattle.drc_bits.specs.Reading.{◌>>=◌, Reading, Item, must, many_at}
+use Rattle.drc_bits.specs.Reading.{Reading, must, many_at}
 use Rattle.drc_bits.specs.Varint.{var32_at}
 use Rattle.drc_bits.proofs.Results.{Ok-injective, err≢ok}
 use Rattle.mesh_model.specs.Parts.{IsFaceOf}

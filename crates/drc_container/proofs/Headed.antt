@@ -1,22 +1,20 @@
 -- Heads of attributes that were read have no fault, with the quantisations that were read behind them.
-use Rattle.std.proofs.Common.{◌≡◌, ℕ, zero, suc, ◌+◌, ◌<◌, ◌≤◌, Bool, true, false, List, [], ◌∷◌, ◌++◌, length, map, Option, None, Some, Ok, refl, sym, ◌∙◌, ap, subst, arith, append-nil, append_assoc, length-append, replicate}
+use Rattle.std.proofs.Common.{◌≡◌, ℕ, suc, ◌+◌, ◌≤◌, Bool, true, false, List, [], ◌∷◌, ◌++◌, length, map, Option, None, Some, Ok, refl, sym, ◌∙◌, ap, subst, arith, append-nil, append_assoc, replicate}
 use Rattle.std.specs.Prelude.{◌==◌, ◌&&◌, ◌||◌, nat_lt, nat_le}
-use Rattle.std.specs.List.{All, enumerate_from}
+use Rattle.std.specs.List.{All}
 use Rattle.std.proofs.lemmas.Bool.{leb-true, ltb-true, le-leb, eq-eqb, and_parts, and_from}
 use Rattle.std.proofs.Math.Bool.{or-false}
 use Rattle.std.proofs.lemmas.List.{length-replicate, map-append}
 use Rattle.std.proofs.lemmas.List.Sums.{sum_by-cons, sum_by-append}
-use Rattle.std.proofs.lemmas.List.Elements.{All-nil, All-cons, All-head, All-tail, All-append, All-weaker}
-use Rattle.drc_base.specs.declared.faults.Fault.{Fault}
+use Rattle.std.proofs.lemmas.List.Elements.{All-nil, All-cons, All-head, All-tail, All-append}
 use Rattle.drc_base.specs.declared.kinds.Kind.TheVariants as kind
 use Rattle.drc_base.specs.declared.limits.TheConstants.{MAX_ATTRIBUTES, MAX_COMPONENTS}
-use Rattle.drc_bits.specs.Reading.{◌>>=◌, Reading, Item, must, many_at}
+use Rattle.drc_bits.specs.Reading.{◌>>=◌, Reading, must, many_at}
 use Rattle.drc_bits.specs.Numbers.{number_at}
 use Rattle.drc_bits.specs.Varint.{var32_at}
 use Rattle.drc_bits.proofs.Results.{Ok-injective}
 use Rattle.mesh_model.specs.declared.heads.Head.{Head}
 use Rattle.mesh_model.specs.declared.heads.Quant.{Quant}
-use Rattle.mesh_model.specs.FirstFault.{unless, first_fault}
 use Rattle.mesh_model.specs.Head.{has_type, has_minima, has_bits, head_fault, each_fault, heads_fault}
 use Rattle.mesh_model.proofs.FirstFaults.{unless-true, first_fault-cons}
 use Rattle.attr_section.specs.declared.decoder_heads.DecoderHead.{DecoderHead}
@@ -24,7 +22,7 @@ use Rattle.attr_section.specs.declared.links.Link.{Link}
 use Rattle.attr_section.specs.Each.{each_at}
 use Rattle.attr_section.specs.Heads.{is_type, HeadPasses, head_at, codings_at, attributes_of, attribute_count_at, decoder_at, decoders_at, decoder_count_at, links_at, no_link, heads_at}
 use Rattle.attr_section.specs.Values.{quant_bits_at, quant_at, quant_of_at, quantised_at, quants_at}
-use Rattle.drc_container.proofs.Parted.{given, parts, passed, either, must-passed, many-passed}
+use Rattle.drc_container.proofs.Parted.{given, parts, either, must-passed, many-passed}
 
 -- a head that was read is accepted
 head-passed : (c : Reading) (y : Head × Reading) → head_at c ≡ Ok y → HeadPasses y.0

@@ -1,34 +1,29 @@
 -- What is read as a mesh or a cloud passes each test of one.
-use Rattle.std.proofs.Common.{◌≡◌, ℕ, zero, suc, ◌+◌, ◌*◌, ◌-◌, ◌<◌, ◌≤◌, true, ℤ, pos, List, [], ◌∷◌, ◌++◌, length, map, take, drop, get_or, Option, None, Some, Result, Ok, Err, refl, sym, ◌∙◌, ap, subst, arith, inl, inr, length-append, length-take-le, append-nil, append_assoc, replicate}
+use Rattle.std.proofs.Common.{◌≡◌, ℕ, ◌+◌, ◌*◌, ◌-◌, ◌<◌, ◌≤◌, true, ℤ, pos, List, [], ◌∷◌, ◌++◌, length, map, take, drop, get_or, None, Ok, refl, sym, ◌∙◌, ap, subst, arith, inl, inr, length-append, length-take-le, append-nil, append_assoc, replicate}
 use Rattle.std.specs.Prelude.{nat_le}
-use Rattle.std.specs.List.{All, flat_map, list_all, range_with_len}
+use Rattle.std.specs.List.{All, range_with_len}
 use Rattle.std.proofs.lemmas.Bool.{leb-true, cases_lt}
 use Rattle.std.proofs.lemmas.List.{length-drop, length-map, length-replicate, get_or_append_left, get_or-append-add, get_or-replicate, get_or-take, get_or-drop, map-append}
 use Rattle.std.proofs.lemmas.List.FromFn.{length-map-range_with_len, get_or-map-range_with_len}
 use Rattle.std.proofs.lemmas.List.Folds.{flat_map-map}
 use Rattle.std.proofs.lemmas.List.Sums.{sum_by-cons, AllPass-from_list_all}
 use Rattle.std.proofs.lemmas.List.Elements.{All-nil, All-head, All-tail, All-append, All-from_get_or}
-use Rattle.drc_base.specs.declared.faults.Fault.{Fault}
 use Rattle.drc_base.specs.declared.kinds.Kind.TheVariants as kind
-use Rattle.drc_base.specs.declared.limits.TheConstants.{MAX_ATTRIBUTES, MAX_POINTS, MAX_VALUES}
-use Rattle.drc_bits.specs.Reading.{◌>>=◌, Reading, Item}
+use Rattle.drc_base.specs.declared.limits.TheConstants.{MAX_POINTS, MAX_VALUES}
+use Rattle.drc_bits.specs.Reading.{Reading, Item}
 use Rattle.drc_bits.specs.Numbers.{number_at}
-use Rattle.drc_bits.proofs.Results.{Ok-injective, err≢ok}
+use Rattle.drc_bits.proofs.Results.{Ok-injective}
 use Rattle.mesh_model.specs.declared.heads.Head.{Head}
-use Rattle.mesh_model.specs.FirstFault.{value_unless}
 use Rattle.mesh_model.specs.Head.{width_of, types_of, in_type, heads_fault}
 use Rattle.mesh_model.specs.Parts.{RowFits, ArePoints, cells_of, mesh_fault, cloud_fault}
 use Rattle.mesh_model.proofs.Made.{mesh_of-IsMesh, cloud_of-IsCloud}
-use Rattle.seq_section.specs.declared.reading.SeqRead.{SeqRead}
-use Rattle.seq_section.specs.Indices.{indices_at}
 use Rattle.attr_section.specs.declared.decoder_heads.DecoderHead.{DecoderHead}
 use Rattle.attr_section.specs.declared.values.Values.{Values}
 use Rattle.attr_section.specs.Each.{each_at}
-use Rattle.attr_section.specs.Heads.{HeadPasses, attributes_of, heads_at}
+use Rattle.attr_section.specs.Heads.{attributes_of, heads_at}
 use Rattle.attr_section.specs.Values.{values_in, values_at, quants_at, decoder_values_at, attributes_at as columns_at}
 use Rattle.drc_container.specs.declared.attributes.Attributes.{Attributes}
-use Rattle.drc_container.specs.Header.{cloud_points_at}
-use Rattle.drc_container.specs.Columns.{row_at, cells_at}
+use Rattle.drc_container.specs.Columns.{row_at}
 use Rattle.drc_container.specs.Stream.{decoders_at, attributes_at, points_of}
 use Rattle.drc_container.specs.Laws.{MeshesPass, CloudsPass}
 use Rattle.drc_container.proofs.Rows.{columns, piece_within}
@@ -36,8 +31,8 @@ use Rattle.drc_container.proofs.Decoders.{values_in-append}
 use Rattle.drc_container.proofs.FirstRefusals.{value-given}
 use Rattle.drc_container.proofs.Parted.{parts, must-passed}
 use Rattle.drc_container.proofs.Counted.{IsColumn, values-column}
-use Rattle.drc_container.proofs.Faces.{IndicesPass, indices-passed}
-use Rattle.drc_container.proofs.Headed.{IsHead, shapes, AreHeads, AreHeads-append, quants-passed, DecoderRead, DecodersRead, heads-passed, heads-none}
+use Rattle.drc_container.proofs.Faces.{indices-passed}
+use Rattle.drc_container.proofs.Headed.{IsHead, shapes, quants-passed, DecoderRead, heads-passed, heads-none}
 
 -- columns of n entries, each of these components and this type
 abbrev pub AreTyped : ℕ → List (ℕ × ℕ) → List Values → Type 0
@@ -157,19 +152,19 @@ row-cons h heads piece row long typed fits =
       length-append piece row ∙ omega (arith, long, fits.0, whole),
       λ j below. elim (cases_lt j h.comps) [
         | inl first ↦
-          let dtype : get_or (types_of (h ∷ heads)) j 0 ≡ h.dtype =
-          get_or_append_left (replicate h.comps h.dtype) (types_of heads) 0 j (omega (arith, first, copies)) ∙ get_or-replicate h.comps j h.dtype 0 first in
-          let value : get_or (piece ++ row) j (pos 0) ≡ get_or piece j (pos 0) = get_or_append_left piece row (pos 0) j (omega (arith, first, long)) in
-          ap (λ t. in_type t (get_or (piece ++ row) j (pos 0))) dtype ∙ ap (in_type h.dtype) value ∙ typed j first
+            let dtype : get_or (types_of (h ∷ heads)) j 0 ≡ h.dtype =
+            get_or_append_left (replicate h.comps h.dtype) (types_of heads) 0 j (omega (arith, first, copies)) ∙ get_or-replicate h.comps j h.dtype 0 first in
+            let value : get_or (piece ++ row) j (pos 0) ≡ get_or piece j (pos 0) = get_or_append_left piece row (pos 0) j (omega (arith, first, long)) in
+            ap (λ t. in_type t (get_or (piece ++ row) j (pos 0))) dtype ∙ ap (in_type h.dtype) value ∙ typed j first
         | inr later ↦
-          let k = j - h.comps in
-          let at_type : j ≡ length (replicate h.comps h.dtype) + k = omega (arith, later, copies) in
-          let at_value : j ≡ length piece + k = omega (arith, later, long) in
-          let dtype : get_or (types_of (h ∷ heads)) j 0 ≡ get_or (types_of heads) k 0 =
-          ap (λ n. get_or (types_of (h ∷ heads)) n 0) at_type ∙ get_or-append-add (replicate h.comps h.dtype) (types_of heads) k 0 in
-          let value : get_or (piece ++ row) j (pos 0) ≡ get_or row k (pos 0) =
-          ap (λ n. get_or (piece ++ row) n (pos 0)) at_value ∙ get_or-append-add piece row k (pos 0) in
-          ap (λ t. in_type t (get_or (piece ++ row) j (pos 0))) dtype ∙ ap (in_type (get_or (types_of heads) k 0)) value ∙ fits.1 k (omega (arith, below, later, whole))
+            let k = j - h.comps in
+            let at_type : j ≡ length (replicate h.comps h.dtype) + k = omega (arith, later, copies) in
+            let at_value : j ≡ length piece + k = omega (arith, later, long) in
+            let dtype : get_or (types_of (h ∷ heads)) j 0 ≡ get_or (types_of heads) k 0 =
+            ap (λ n. get_or (types_of (h ∷ heads)) n 0) at_type ∙ get_or-append-add (replicate h.comps h.dtype) (types_of heads) k 0 in
+            let value : get_or (piece ++ row) j (pos 0) ≡ get_or row k (pos 0) =
+            ap (λ n. get_or (piece ++ row) n (pos 0)) at_value ∙ get_or-append-add piece row k (pos 0) in
+            ap (λ t. in_type t (get_or (piece ++ row) j (pos 0))) dtype ∙ ap (in_type (get_or (types_of heads) k 0)) value ∙ fits.1 k (omega (arith, below, later, whole))
       ],
     )
 
