@@ -2,6 +2,8 @@
 
 ghost use Rattle.std.specs.Prelude.{◌≡◌, ◌≤◌, map, string_bytes, length, IfOk};
 ghost use Rattle.drc_base.specs.Refusals.{Answers};
+ghost use Rattle.ply_mesh.specs.Read.{ply_read};
+ghost use Rattle.drc_container.specs.Stream.{meaning_of};
 ghost use Rattle.drc_app.specs.Line.{line_of};
 ghost use Rattle.drc_app.specs.Ends.{takes};
 ghost use Rattle.drc_app.specs.Due.{input_limit, worked, stream_due, text_due, report_due};
@@ -12,7 +14,7 @@ use crate::commands::{Command, command_of};
 use drc_base::{Fault, Kind, MAX_INPUT_BYTES, ReadEnd, Refusal, Source, read_all};
 use drc_container::{Choice, decode, encode};
 use drc_info::report;
-use mesh_model::map_text;
+use mesh_model::{Geometry, map_text};
 use ply_mesh::{read_ply, write_ply};
 use std::alloc::Global;
 
@@ -50,7 +52,7 @@ pub fn outcome_of<I: Source>(alloc: Global, words: &[String], input: &mut I) -> 
         Err(index) => return Outcome::BadWord(index),
     };
     match read_all(alloc, input, MAX_INPUT_BYTES) {
-        Ok(bytes) => outcome_at(alloc, command, &bytes),
+        Ok(bytes) => outcome_at(alloc, command, bytes),
         Err(ReadEnd::Failed) => Outcome::ReadFailed,
         Err(ReadEnd::TooLong) => Outcome::Refused(input_limit()),
         Err(ReadEnd::Memory) => Outcome::NoMemory,
@@ -68,9 +70,9 @@ fn input_limit() -> Fault
 }
 
 /// What the command comes to on all bytes of its input.
-fn outcome_at(alloc: Global, command: Command, bytes: &[u8]) -> Outcome
-    requires { length bytes.now ≤ MAX_INPUT_BYTES }
-    ensures { IsOutcomeAt command bytes.now result }
+fn outcome_at(alloc: Global, command: Command, bytes: Vec<u8>) -> Outcome
+    requires { length bytes.items ≤ MAX_INPUT_BYTES }
+    ensures { IsOutcomeAt command bytes.items result }
 {
     match work(alloc, command, bytes) {
         Ok(due) => Outcome::Done(due),
@@ -79,41 +81,55 @@ fn outcome_at(alloc: Global, command: Command, bytes: &[u8]) -> Outcome
     }
 }
 
-/// What the command gives from these bytes.
-fn work(alloc: Global, command: Command, bytes: &[u8]) -> Result<Due, Refusal>
-    ensures answer { Answers (λ d. (d.output.items, d.note.items)) (worked command bytes.now) result }
-    ensures kept { IfOk result (λ d. Keeps command bytes.now (d.output.items, d.note.items)) }
+/// What the command gives from these bytes, which are freed as soon as they are read.
+fn work(alloc: Global, command: Command, bytes: Vec<u8>) -> Result<Due, Refusal>
+    ensures answer { Answers (λ d. (d.output.items, d.note.items)) (worked command bytes.items) result }
+    ensures kept { IfOk result (λ d. Keeps command bytes.items (d.output.items, d.note.items)) }
 {
     match command {
         Command::Enc(choice) => stream_due(alloc, &choice, bytes),
         Command::Dec => text_due(alloc, bytes),
-        Command::Info => report_due(alloc, bytes),
+        Command::Info => report_due(alloc, &bytes),
     }
 }
 
 /// The stream of the geometry that a text means, coded as chosen, and the map of its faces or points.
 #[tactic(auto, unfolding(crate::specs::Due::stream_due))]
-fn stream_due(alloc: Global, choice: &Choice, text: &[u8]) -> Result<Due, Refusal>
-    ensures answer { Answers (λ d. (d.output.items, d.note.items)) (stream_due choice.now text.now) result }
-    ensures kept { IfOk result (λ d. KeepsGeometry choice.now text.now d.output.items d.note.items) }
+fn stream_due(alloc: Global, choice: &Choice, text: Vec<u8>) -> Result<Due, Refusal>
+    ensures answer { Answers (λ d. (d.output.items, d.note.items)) (stream_due choice.now text.items) result }
+    ensures kept { IfOk result (λ d. KeepsGeometry choice.now text.items d.output.items d.note.items) }
 {
-    let geometry = read_ply(alloc, text)?;
+    let geometry = text_read(alloc, text)?;
     let (output, rows) = encode(alloc, &geometry, choice)?;
     let note = map_text(alloc, &geometry, &rows)?;
     Ok(Due { output, note })
 }
 
+/// The geometry that a text means. The text is freed.
+fn text_read(alloc: Global, text: Vec<u8>) -> Result<Geometry, Refusal>
+    ensures { Answers (λ g. g) (ply_read text.items) result }
+{
+    read_ply(alloc, &text)
+}
+
 /// The text of the geometry that a stream means, and no note.
 #[tactic(auto, unfolding(crate::specs::Due::text_due))]
-fn text_due(alloc: Global, stream: &[u8]) -> Result<Due, Refusal>
-    ensures { Answers (λ d. (d.output.items, d.note.items)) (text_due stream.now) result }
+fn text_due(alloc: Global, stream: Vec<u8>) -> Result<Due, Refusal>
+    ensures { Answers (λ d. (d.output.items, d.note.items)) (text_due stream.items) result }
 {
-    let geometry = decode(alloc, stream)?;
+    let geometry = stream_read(alloc, stream)?;
     let output = write_ply(alloc, &geometry)?;
     Ok(Due {
         output,
         note: Vec::new(alloc),
     })
+}
+
+/// The geometry that a stream means. The stream is freed.
+fn stream_read(alloc: Global, stream: Vec<u8>) -> Result<Geometry, Refusal>
+    ensures { Answers (λ g. g) (meaning_of stream.items) result }
+{
+    decode(alloc, &stream)
 }
 
 /// The report on a stream, and no note.

@@ -1,5 +1,5 @@
 -- The rows of columns are the rows that the columns were taken from.
-use Rattle.std.proofs.Common.{◌≡◌, ℕ, zero, suc, ◌+◌, ◌*◌, ◌<◌, ℤ, List, [], ◌∷◌, map, length, take, drop, get_or, refl, ◌∙◌, arith, add-one, drop-cons}
+use Rattle.std.proofs.Common.{◌≡◌, ℕ, zero, suc, ◌+◌, ◌*◌, ◌<◌, ◌≤◌, ℤ, List, [], ◌∷◌, map, length, take, drop, get_or, refl, sym, ◌∙◌, arith, add-one, drop-cons, drop-drop, append-nil}
 use Rattle.std.specs.List.{flat_map, range_with_len}
 use Rattle.std.proofs.lemmas.List.{take_at, take-append-drop, length-take-le, length-drop, length-map, get_or-map, drop_all}
 use Rattle.std.proofs.Math.Seq.{drop-append-add}
@@ -64,3 +64,19 @@ rows_from heads rows a (suc n) whole wide =
 pub cells_at-columns_of : (heads : List Head) (rows : List (List ℤ)) → AreWide (width_of heads) rows
     → cells_at heads (columns_of heads rows) (length rows) ≡ flat_map (λ row. row) rows
 cells_at-columns_of heads rows wide = rows_from heads rows 0 (length rows) (omega arith) wide
+
+-- the cells of an only column, from row a on, are those of the column
+only_from : (h : Head) (column : List ℤ) (a n : ℕ) → length column ≡ (a + n) * h.comps
+    → flat_map (row_at (h ∷ []) (column ∷ [])) (range_with_len a n) ≡ drop (a * h.comps) column
+only_from h column a zero long = let all : length column ≤ a * h.comps = omega (arith, long) in sym (drop_all (a * h.comps) column all)
+only_from h column a (suc n) long =
+    let more : length column ≡ (a + 1 + n) * h.comps = omega (arith, long) in
+    let next : (a + 1) * h.comps ≡ a * h.comps + h.comps = omega arith in
+    rw (append-nil (take h.comps (drop (a * h.comps) column)), only_from h column (a + 1) n more, next, ← drop-drop h.comps (a * h.comps) column)
+    (take-append-drop h.comps (drop (a * h.comps) column))
+
+-- the cells of an only column are the column
+pub cells_at-only : (h : Head) (column : List ℤ) (n : ℕ) → length column ≡ n * h.comps → cells_at (h ∷ []) (column ∷ []) n ≡ column
+cells_at-only h column n long =
+    let none : 0 * h.comps ≡ 0 = omega arith in
+    rw (only_from h column 0 n (omega (arith, long)), none) refl

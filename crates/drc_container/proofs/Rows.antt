@@ -1,13 +1,14 @@
 -- Rows of columns, a column at a time.
-use Rattle.std.proofs.Common.{◌≡◌, ℕ, zero, suc, ◌+◌, ◌*◌, ◌<◌, ◌≤◌, ℤ, List, [], ◌∷◌, ◌++◌, map, length, take, drop, get_or, refl, ◌∙◌, ap, arith, append-nil, drop-cons, add-one}
+use Rattle.std.proofs.Common.{◌≡◌, ℕ, zero, suc, ◌+◌, ◌*◌, ◌<◌, ◌≤◌, ℤ, List, [], ◌∷◌, ◌++◌, map, length, take, drop, get_or, refl, sym, ◌∙◌, ap, arith, append-nil, drop-cons, add-one}
 use Rattle.std.proofs.lemmas.Grind.{flat_map-append}
 use Rattle.std.specs.List.{flat_map, range_with_len}
 use Rattle.std.proofs.lemmas.List.{drop_all}
 use Rattle.std.proofs.Math.Nat.{mul-le-mul_right}
 use Rattle.mesh_model.specs.declared.heads.Head.{Head}
 use Rattle.attr_section.specs.declared.values.Values.{Values}
-use Rattle.drc_container.specs.Columns.{row_at}
+use Rattle.drc_container.specs.Columns.{row_at, cells_at}
 use Rattle.attr_section.specs.Values.{AreColumns}
+use Rattle.drc_container.proofs.Columns.{cells_at-only}
 
 -- the columns of values
 abbrev pub columns : List Values → List (List ℤ)
@@ -64,3 +65,14 @@ rows_more row n =
     ∙ ap (λ l. flat_map row l) (range_more 0 n)
     ∙ flat_map-append row (range_with_len 0 n) ((0 + n) ∷ [])
     ∙ ap (λ l. flat_map row (range_with_len 0 n) ++ l) (append-nil (row (0 + n)) ∙ ap row e)
+
+-- the cells of an only attribute are its column
+pub only_column : (n : ℕ) (heads : List Head) (values : List Values) (v : Values) → AreColumns n heads values → length values ≡ 1
+    → v ≡ get_or values 0 v
+    → v.values ≡ cells_at heads (columns values) n
+only_column n [] [] v are one is = absurd (omega (arith, one))
+only_column n [] (w ∷ values) v are one is = absurd are
+only_column n (h ∷ heads) [] v are one is = absurd are
+only_column n (h ∷ []) (w ∷ []) v are one is = ap (λ (x : Values). x.values) is ∙ sym (cells_at-only h w.values n are.0)
+only_column n (h ∷ g ∷ heads) (w ∷ []) v are one is = absurd are.1
+only_column n (h ∷ heads) (w ∷ x ∷ values) v are one is = absurd (omega (arith, one))

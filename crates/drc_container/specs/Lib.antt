@@ -7,3 +7,4 @@ pub mod Written
 pub mod Refused
 pub mod Encoded
 pub mod Layout
+pub mod Laws

@@ -72,27 +72,26 @@ fn read_mesh_values(
     let to = c.place();
     let points = indices.points;
     let attributes = read_attributes(alloc, c, points)?;
-    let cells = points_of(alloc, points, &attributes)?;
     let seen = seen_of(alloc, c, from, to, points, &attributes)?;
-    let mesh = mesh_of(points, attributes, cells, indices.faces.into_vec())?;
+    let mesh = mesh_of(alloc, points, attributes, indices.faces.into_vec())?;
     Ok(Decoded {
         geometry: Geometry::Mesh(mesh),
         seen,
     })
 }
 
-/// The mesh of these attributes, with the cells of their points, and faces.
+/// The mesh of so many points with these attributes, and of these faces.
 fn mesh_of(
+    alloc: Global,
     points: u32,
     attributes: Attributes,
-    cells: Vec<i32>,
     faces: Vec<[u32; 3]>,
 ) -> Result<CornerMesh, Refusal>
-    requires columns { AreColumns points attributes.heads attributes.values }
-    requires cells { cells.items ≡ points_of points attributes }
-    ensures { Answers (λ m. m) (mesh_of attributes.heads cells.items faces.items) result }
+    requires { AreColumns points attributes.heads attributes.values }
+    ensures { Answers (λ m. m) (mesh_of attributes.heads (points_of points attributes) faces.items) result }
 {
-    let Attributes { heads, values: _ } = attributes;
+    let Attributes { heads, values } = attributes;
+    let cells = points_of(alloc, points, heads.as_slice(), values.into_vec())?;
     CornerMesh::new(heads.into_vec(), cells, faces)
 }
 
@@ -119,21 +118,20 @@ fn read_cloud_values(
 {
     let to = c.place();
     let attributes = read_attributes(alloc, c, points)?;
-    let cells = points_of(alloc, points, &attributes)?;
     let seen = seen_of(alloc, c, from, to, points, &attributes)?;
-    let cloud = cloud_of(points, attributes, cells)?;
+    let cloud = cloud_of(alloc, points, attributes)?;
     Ok(Decoded {
         geometry: Geometry::Cloud(cloud),
         seen,
     })
 }
 
-/// The cloud of these attributes, with the cells of their points.
-fn cloud_of(points: u32, attributes: Attributes, cells: Vec<i32>) -> Result<Cloud, Refusal>
-    requires columns { AreColumns points attributes.heads attributes.values }
-    requires cells { cells.items ≡ points_of points attributes }
-    ensures { Answers (λ m. m) (cloud_of attributes.heads cells.items) result }
+/// The cloud of so many points with these attributes.
+fn cloud_of(alloc: Global, points: u32, attributes: Attributes) -> Result<Cloud, Refusal>
+    requires { AreColumns points attributes.heads attributes.values }
+    ensures { Answers (λ m. m) (cloud_of attributes.heads (points_of points attributes)) result }
 {
-    let Attributes { heads, values: _ } = attributes;
+    let Attributes { heads, values } = attributes;
+    let cells = points_of(alloc, points, heads.as_slice(), values.into_vec())?;
     Cloud::new(heads.into_vec(), cells)
 }

@@ -43,7 +43,7 @@ pub fn encode(alloc: Global, g: &Geometry, choice: &Choice) -> Result<(Vec<u8>, 
 {
     test_early(g, choice)?;
     let values = coded_values(alloc, g, choice)?;
-    let bytes = write_stream(alloc, g, choice, values.as_slice())?;
+    let bytes = write_stream(alloc, g, choice, values)?;
     let rows = plain_rows(alloc, row_count(g))?;
     Ok((
         bytes,

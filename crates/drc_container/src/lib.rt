@@ -13,6 +13,7 @@ mod contents;
 mod decoding;
 mod encoding;
 mod headers;
+mod laws;
 mod methods;
 mod points;
 mod refusals;
@@ -22,6 +23,7 @@ mod writing;
 pub use choices::{Choice, Index, Predict, Walk};
 pub use decoding::{decode, decode_whole};
 pub use encoding::encode;
+pub use laws::what_is_read_is_a_geometry;
 pub use methods::Method;
 pub use seen::{AttrSeen, Decoded, Seen};
 

@@ -1,33 +1,62 @@
 //! The points of a sequential stream from the columns of its attributes.
 
-ghost use Rattle.std.specs.Prelude.{◌≡◌, ◌<◌, ◌≤◌, ◌+◌, ◌++◌, length, take, drop, IfOk, OnOk};
+ghost use Rattle.std.specs.Prelude.{◌≡◌, ◌<◌, ◌≤◌, ◌+◌, ◌++◌, map, length, take, drop, IfOk, OnOk};
 ghost use Rattle.attr_section.specs.Values.{AreColumns};
-ghost use Rattle.drc_container.specs.Stream.{points_of, row_of};
+ghost use Rattle.drc_container.specs.Columns.{row_at, cells_at};
 
-use crate::attributes::Attributes;
+use attr_section::Values;
 use drc_base::Memory;
+use mesh_model::Head;
 use std::alloc::Global;
 
-/// The integers of so many points, point after point, each with those of all attributes in order.
-pub fn points_of(alloc: Global, points: u32, attributes: &Attributes) -> Result<Vec<i32>, Memory>
-    requires { AreColumns points attributes.now.heads attributes.now.values }
-    ensures { IfOk result (λ v. v.items ≡ points_of points attributes.now) }
+/// The integers of so many points, point after point, each with those of all attributes in order. The
+/// columns are freed; where there is one column alone, it is what is answered.
+pub fn points_of(
+    alloc: Global,
+    points: u32,
+    heads: &[Head],
+    values: Vec<Values>,
+) -> Result<Vec<i32>, Memory>
+    requires { AreColumns points heads.now values.items }
+    ensures { IfOk result (λ v. v.items ≡ cells_at heads.now (map (λ v. v.values) values.items) points) }
+{
+    let mut values = values;
+    if values.len() == 1 {
+        let only = values.swap_remove(0);
+        return Ok(only.values.into_vec());
+    }
+    rows_of(alloc, points, heads, values.as_slice())
+}
+
+/// The integers of so many points, from columns that stay.
+fn rows_of(
+    alloc: Global,
+    points: u32,
+    heads: &[Head],
+    values: &[Values],
+) -> Result<Vec<i32>, Memory>
+    requires { AreColumns points heads.now values.now }
+    ensures { IfOk result (λ v. v.items ≡ cells_at heads.now (map (λ v. v.values) values.now) points) }
 {
     let mut cells = Vec::new(alloc);
     for i in 0..points {
-        put_row(&mut cells, points, attributes, i)?;
+        put_row(&mut cells, points, heads, values, i)?;
     }
     Ok(cells)
 }
 
 /// Appends the integers of point `i`.
-fn put_row(cells: &mut Vec<i32>, points: u32, attributes: &Attributes, i: u32) -> Result<(), Memory>
-    requires columns { AreColumns points attributes.now.heads attributes.now.values }
+fn put_row(
+    cells: &mut Vec<i32>,
+    points: u32,
+    heads: &[Head],
+    values: &[Values],
+    i: u32,
+) -> Result<(), Memory>
+    requires columns { AreColumns points heads.now values.now }
     requires point { i < points }
-    ensures { OnOk result (cells.new.items ≡ cells.old.items ++ row_of attributes.now i) }
+    ensures { OnOk result (cells.new.items ≡ cells.old.items ++ row_at heads.now (map (λ v. v.values) values.now) i) }
 {
-    let heads = attributes.heads.as_slice();
-    let values = attributes.values.as_slice();
     for k in 0..heads.len() {
         let comps = heads[k].comps as usize;
         put_piece(

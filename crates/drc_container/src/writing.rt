@@ -92,24 +92,24 @@ fn decoder_of(alloc: Global, g: &Geometry) -> Result<DecoderHead, Memory>
     })
 }
 
-/// The attributes: their heads, and then their values.
+/// The attributes: their heads, and then their values, which are freed.
 #[tactic(auto, unfolding(crate::specs::Written::attributes_bytes))]
 fn attributes(
     alloc: Global,
     g: &Geometry,
     choice: &Choice,
-    values: &[Values],
+    values: Vec<Values>,
 ) -> Result<Vec<u8>, Memory>
     requires can { CanCode g.now choice.now }
     requires sound { ArePoints (heads_in g.now) (points_in g.now) }
-    requires values { values.now ≡ values_of g.now (prediction_of g.now choice.now) }
+    requires values { values.items ≡ values_of g.now (prediction_of g.now choice.now) }
     ensures bytes { IfOk result (λ v. v.items ≡ attributes_bytes choice.now.plain_values g.now (prediction_of g.now choice.now)) }
     ensures again { OnOk result (AttributesSpelled choice.now.plain_values g.now (prediction_of g.now choice.now)) }
 {
     let mut decoders = Vec::new(alloc);
     decoders.push(decoder_of(alloc, g)?)?;
     let mut out = write_heads(alloc, decoders.as_slice(), false)?;
-    let body = write_decoder(alloc, &decoders[0], values, choice.plain_values)?;
+    let body = write_decoder(alloc, &decoders[0], values.as_slice(), choice.plain_values)?;
     out.extend_from_slice(body.as_slice())?;
     Ok(out)
 }
@@ -120,11 +120,11 @@ fn written_stream(
     alloc: Global,
     g: &Geometry,
     choice: &Choice,
-    values: &[Values],
+    values: Vec<Values>,
 ) -> Result<Vec<u8>, Memory>
     requires can { CanCode g.now choice.now }
     requires sound { ArePoints (heads_in g.now) (points_in g.now) }
-    requires values { values.now ≡ values_of g.now (prediction_of g.now choice.now) }
+    requires values { values.items ≡ values_of g.now (prediction_of g.now choice.now) }
     ensures bytes { IfOk result (λ v. v.items ≡ stream_bytes g.now choice.now) }
     ensures connectivity { OnOk result (ConnectivitySpelled (is_packed (index_of choice.now)) g.now) }
     ensures attributes { OnOk result (AttributesSpelled choice.now.plain_values g.now (prediction_of g.now choice.now)) }
@@ -138,15 +138,16 @@ fn written_stream(
     Ok(out)
 }
 
-/// The stream of a geometry with these values. It means the geometry, and is coded as chosen.
+/// The stream of a geometry with these values, which are freed. It means the geometry, and is coded as
+/// chosen.
 pub fn write_stream(
     alloc: Global,
     g: &Geometry,
     choice: &Choice,
-    values: &[Values],
+    values: Vec<Values>,
 ) -> Result<Vec<u8>, Memory>
     requires can { CanCode g.now choice.now }
-    requires values { values.now ≡ values_of g.now (prediction_of g.now choice.now) }
+    requires values { values.items ≡ values_of g.now (prediction_of g.now choice.now) }
     ensures bytes { IfOk result (λ v. v.items ≡ stream_bytes g.now choice.now) }
     ensures means { IfOk result (λ v. Means g.now v.items (plain (count_of g.now))) }
     ensures layout { IfOk result (λ v. layout_of v.items ≡ Ok (layout_chosen g.now choice.now)) }

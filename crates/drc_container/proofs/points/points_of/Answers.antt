@@ -1,7 +1,9 @@
-use Rattle.std.proofs.Common.{sym}
-use Rattle.drc_container.specs.Stream.{row_of}
-use Rattle.drc_container.proofs.Rows.{rows_more}
+use Rattle.std.proofs.Common.{◌≡◌, length, sym, ◌∙◌}
+use Rattle.drc_container.proofs.Rows.{only_column}
 use Rattle.drc_container.proofs.points.points_of.Goals as goal
 
-pub loop-i-preserved : goal.loop-i-preserved
-loop-i-preserved c = rw (c.in_ok-put_row.ensures, c.loop-i.invariant) (sym (rows_more (row_of c.args.attributes.now) c.loop-i.i))
+pub returns-then-len-eq1 : goal.returns-then-len-eq1
+returns-then-len-eq1 c =
+    let one : length c.args.values.items ≡ 1 = sym c.args.values.ok.0 ∙ sym c.len.ensures ∙ c.if-len-eq1.true in
+    c.into_vec.ensures
+    ∙ only_column c.args.points c.args.heads.now c.args.values.items c.swap_remove-only.result c.requires one c.swap_remove-only.ensures.value

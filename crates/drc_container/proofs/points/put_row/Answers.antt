@@ -5,7 +5,7 @@ use Rattle.drc_container.proofs.points.put_row.Goals as goal
 
 pub put_piece-requires : goal.put_piece-requires
 put_piece-requires c =
-    let at : ColumnAt c.args.points c.as_slice-heads.result.now c.as_slice-values.result.now c.loop-k.k c.index-heads-k.result c.index-values-k.result c.args.i =
+    let at : ColumnAt c.args.points c.args.heads.now c.args.values.now c.loop-k.k c.index-heads-k.result c.index-values-k.result c.args.i =
     ColumnAt-of _ _ _ _ _ _ _ c.loop-k.invariant.0 c.loop-k-test.true c.index-heads-k.is c.index-values-k.is in
     let long : length c.as_slice.result.now ≡ c.args.points * c.index-heads-k.result.comps =
     rw (c.as_slice.ensures.items, ← c.index-values-k.is) at.long in
@@ -13,11 +13,11 @@ put_piece-requires c =
 
 pub loop-k-preserved : goal.loop-k-preserved
 loop-k-preserved c =
-    let at : ColumnAt c.args.points c.as_slice-heads.result.now c.as_slice-values.result.now c.loop-k.k c.index-heads-k.result c.index-values-k.result c.args.i =
+    let at : ColumnAt c.args.points c.args.heads.now c.args.values.now c.loop-k.k c.index-heads-k.result c.index-values-k.result c.args.i =
     ColumnAt-of _ _ _ _ _ _ _ c.loop-k.invariant.0 c.loop-k-test.true c.index-heads-k.is c.index-values-k.is in (
       at.next,
       rw c.in_ok-put_piece.ensures (rw (← c.index-heads-k.is, c.as_slice.ensures.items, ← c.index-values-k.is)
-          (append_assoc c.loop-k.cells.items (take c.index-heads-k.result.comps (drop (c.args.i * c.index-heads-k.result.comps) c.index-values-k.result.values)) (row_at (drop (c.loop-k.k + 1) c.as_slice-heads.result.now) (columns (drop (c.loop-k.k + 1) c.as_slice-values.result.now)) c.args.i)
+          (append_assoc c.loop-k.cells.items (take c.index-heads-k.result.comps (drop (c.args.i * c.index-heads-k.result.comps) c.index-values-k.result.values)) (row_at (drop (c.loop-k.k + 1) c.args.heads.now) (columns (drop (c.loop-k.k + 1) c.args.values.now)) c.args.i)
           ∙ ap (λ r. c.loop-k.cells.items ++ r) (sym at.row)
           ∙ c.loop-k.invariant.1)),
     )
@@ -25,5 +25,5 @@ loop-k-preserved c =
 pub returns : goal.returns
 returns c =
     sym (append-nil c.loop-k.cells.items)
-    ∙ ap (λ r. c.loop-k.cells.items ++ r) (sym (row_at-end c.args.points c.as_slice-heads.result.now c.as_slice-values.result.now c.loop-k.k c.args.i c.loop-k-test.false))
+    ∙ ap (λ r. c.loop-k.cells.items ++ r) (sym (row_at-end c.args.points c.args.heads.now c.args.values.now c.loop-k.k c.args.i c.loop-k-test.false))
     ∙ c.loop-k.invariant.1
