@@ -1,3 +1,5 @@
+ghost use Rattle.std.specs.Prelude.{◌<◌};
+
 use super::*;
 use drc_base::{MemSink, MemSource, Sink};
 use std::alloc::Global;
@@ -75,6 +77,13 @@ fn only(alloc: Global, call: u64) -> Result<Vec<u64>, Fail> {
 /// No call that comes.
 const NEVER: u64 = 1_000_000;
 
+/// How many calls move these bytes in whole pieces, with one more to end.
+fn calls(text: &[u8], piece: usize) -> u64
+    requires { 0 < piece }
+{
+    (text.len().div_ceil(piece) as u64).min(1000) + 1
+}
+
 /// The front of a text that so many whole pieces have.
 fn front(text: &[u8], pieces: u64, piece: usize) -> Result<&[u8], Fail> {
     let len = (pieces.min(1000) as usize * piece.min(1000)).min(text.len());
@@ -113,7 +122,7 @@ fn each_command_gives_what_is_due(rt: HostRuntime) -> Result<(), Fail> {
 #[test]
 fn a_failed_take_is_never_the_end(rt: HostRuntime) -> Result<(), Fail> {
     for (line, input, _, _) in cases() {
-        for call in 0..(input.len() as u64 / 16).min(1000) + 1 {
+        for call in 0..calls(input, 16) {
             let done = run_line(rt.alloc(), line, input, [call, NEVER, NEVER])?;
             assert_eq!(rt; done.status, 3);
             assert!(rt; done.output.held().is_empty());
@@ -126,7 +135,7 @@ fn a_failed_take_is_never_the_end(rt: HostRuntime) -> Result<(), Fail> {
 #[test]
 fn an_output_that_fails_keeps_a_front(rt: HostRuntime) -> Result<(), Fail> {
     for (line, input, output, _) in cases() {
-        for call in 0..(output.len() as u64 / 16).min(1000) + 1 {
+        for call in 0..calls(output, 16) {
             let done = run_line(rt.alloc(), line, input, [NEVER, call, NEVER])?;
             assert_eq!(rt; done.status, 4);
             assert_eq!(rt; done.output.held(), front(output, call, 16)?);
@@ -139,7 +148,7 @@ fn an_output_that_fails_keeps_a_front(rt: HostRuntime) -> Result<(), Fail> {
 #[test]
 fn notes_that_fail_keep_a_front(rt: HostRuntime) -> Result<(), Fail> {
     for (line, input, output, note) in cases() {
-        for call in 0..(note.len() as u64 / 4).min(1000) + 1 {
+        for call in 0..calls(note.as_bytes(), 4) {
             let done = run_line(rt.alloc(), line, input, [NEVER, NEVER, call])?;
             assert_eq!(rt; done.status, 4);
             assert_eq!(rt; done.output.held(), output);
