@@ -1,7 +1,7 @@
 use Rattle.std.proofs.Common.{FitsSigned, w32, ◌-ℤ◌, negsuc}
 use Rattle.std.proofs.lemmas.Int.{to_z-of_z}
 use Rattle.attr_section.proofs.SpelledIntegers.{symbol_of-negative, symbol_of-other, complement_fits}
-use Rattle.attr_section.proofs.integer_writing.symbol_of.Goals as goal
+use Rattle.attr_section.proofs.symbols.symbol_of.Goals as goal
 
 pub returns-then-x-lt0 : goal.returns-then-x-lt0
 returns-then-x-lt0 c =

@@ -1,7 +1,7 @@
 use Rattle.std.proofs.Common.{◌≡◌, ◌++◌, ◌<◌, ◌^◌, take, flat_map}
 use Rattle.std.specs.List.{All}
 use Rattle.drc_bits.specs.Bits.{low_bytes}
-use Rattle.attr_section.proofs.integer_writing.put_symbols.Given as goal
+use Rattle.attr_section.proofs.integer_writing.put_all.Given as goal
 
 abbrev pub invariant-loop-symbol : goal.invariant-loop-symbol
 invariant-loop-symbol l =
