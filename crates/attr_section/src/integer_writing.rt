@@ -1,6 +1,6 @@
 //! Writing the integers that stand for values.
 
-ghost use Rattle.std.specs.Prelude.{◌≡◌, ◌≤◌, ◌<◌, ◌%◌, ◌++◌, ◌^◌, IfOk, OnOk, All, length, map, flat_map, true, false, Bool};
+ghost use Rattle.std.specs.Prelude.{◌≡◌, ◌≤◌, ◌<◌, ◌+◌, ◌%◌, ◌++◌, ◌^◌, IfOk, OnOk, All, length, map, flat_map, vec_len, vec_capacity, true, false, Bool};
 ghost use Rattle.drc_bits.specs.Bits.{low_bytes};
 ghost use Rattle.drc_bits.specs.Spells.{Spells};
 ghost use Rattle.symbol_coding.specs.Block.{block_at, block_bytes};
@@ -9,6 +9,7 @@ ghost use Rattle.attr_section.specs.Written.{greatest_symbol, byte_width, plain_
 
 use drc_base::{MAX_VALUES, Memory};
 use std::alloc::Global;
+use std::mem;
 use symbol_coding::write_symbols;
 
 /// The greatest symbol.
@@ -39,54 +40,68 @@ fn byte_width(symbol: u32) -> u8
     }
 }
 
-/// Appends the low bytes of a symbol.
-fn put_symbol(out: &mut Vec<u8>, symbol: u32, width: u8) -> Result<(), Memory>
+/// Appends the low bytes of a symbol, where there is room.
+#[inline(always)]
+fn put_symbol(out: &mut Vec<u8>, symbol: u32, width: u8)
     requires some { 1 ≤ width }
     requires few { width ≤ 4 }
-    ensures { OnOk result (out.new.items ≡ out.old.items ++ low_bytes width symbol) }
+    requires room { vec_len out.old + width ≤ vec_capacity out.old }
+    ensures bytes { out.new.items ≡ out.old.items ++ low_bytes width symbol }
+    ensures len { vec_len out.new ≡ vec_len out.old + width }
+    ensures capacity { vec_capacity out.new ≡ vec_capacity out.old }
 {
-    let bytes = symbol.to_le_bytes();
-    match width {
-        1 => out.push(bytes[0])?,
-        2 => out.extend_from_slice(&bytes[..2])?,
-        3 => out.extend_from_slice(&bytes[..3])?,
-        _ => out.extend_from_slice(&bytes)?,
+    out.push_reserved((symbol % 256) as u8);
+    if width > 1 {
+        out.push_reserved((symbol / 256 % 256) as u8);
     }
-    Ok(())
+    if width > 2 {
+        out.push_reserved((symbol / 256 / 256 % 256) as u8);
+    }
+    if width > 3 {
+        out.push_reserved((symbol / 256 / 256 / 256 % 256) as u8);
+    }
 }
 
-/// Appends the low bytes of symbols.
-fn put_all(out: &mut Vec<u8>, symbols: &[u32], width: u8) -> Result<(), Memory>
+/// The low bytes of symbols, behind these bytes.
+fn put_all(front: Vec<u8>, symbols: &[u32], width: u8) -> Result<Vec<u8>, Memory>
     requires some { 1 ≤ width }
     requires few { width ≤ 4 }
-    ensures bytes { OnOk result (out.new.items ≡ out.old.items ++ flat_map (low_bytes width) symbols.now) }
+    ensures bytes { IfOk result (λ v. v.items ≡ front.items ++ flat_map (low_bytes width) symbols.now) }
     ensures fit { OnOk result (All (λ s. s < 2 ^ 32) symbols.now) }
 {
-    for symbol in symbols {
-        put_symbol(out, *symbol, width)?;
+    let mut out = front;
+    out.reserve(width as usize * symbols.len())?;
+    for k in 0..symbols.len() {
+        put_symbol(&mut out, symbols[k], width);
     }
-    Ok(())
+    Ok(out)
 }
 
 /// Appends symbols as they are.
 #[tactic(auto, unfolding(crate::specs::Written::plain_bytes))]
-fn put_plain(out: &mut Vec<u8>, symbols: &[u32]) -> Result<(), Memory>
+fn put_plain(alloc: Global, out: &mut Vec<u8>, symbols: &[u32]) -> Result<(), Memory>
     ensures bytes { OnOk result (out.new.items ≡ out.old.items ++ plain_bytes symbols.now) }
     ensures fit { OnOk result (All (λ s. s < 2 ^ 32) symbols.now) }
 {
     let width = byte_width(greatest_symbol(symbols));
     out.push(width)?;
-    put_all(out, symbols, width)?;
+    let front = mem::replace(out, Vec::new(alloc));
+    *out = put_all(front, symbols, width)?;
     Ok(())
 }
 
 /// Appends symbols as they are, behind the byte that says so.
-fn put_plain_symbols(out: &mut Vec<u8>, symbols: Vec<u32>, comps: u32) -> Result<(), Memory>
+fn put_plain_symbols(
+    alloc: Global,
+    out: &mut Vec<u8>,
+    symbols: Vec<u32>,
+    comps: u32,
+) -> Result<(), Memory>
     ensures bytes { OnOk result (out.new.items ≡ out.old.items ++ symbols_bytes true comps symbols.items) }
     ensures again { OnOk result (Spells (integers_at comps (length symbols.items)) (symbols_bytes true comps symbols.items) (map signed_of symbols.items)) }
 {
     out.push(0)?;
-    put_plain(out, &symbols)?;
+    put_plain(alloc, out, &symbols)?;
     Ok(())
 }
 
@@ -136,7 +151,7 @@ pub fn put_symbols(
     ensures again { OnOk result (Spells (integers_at comps (length symbols.items)) (symbols_bytes plain comps symbols.items) (map signed_of symbols.items)) }
 {
     if plain {
-        put_plain_symbols(out, symbols, comps)
+        put_plain_symbols(alloc, out, symbols, comps)
     } else {
         put_compressed_symbols(alloc, out, symbols, comps)
     }

@@ -5,11 +5,11 @@ use Rattle.std.proofs.lemmas.Result.{err_from_is_err_and}
 use Rattle.drc_bits.specs.Reading.{many_at}
 use Rattle.drc_bits.proofs.Many.{many_at-next, many_at-fault, many_at-end}
 use Rattle.attr_section.specs.Values.{plain_value_at}
-use Rattle.attr_section.proofs.integers.read_plain_of.Goals as goal
+use Rattle.attr_section.proofs.integers.read_each.Goals as goal
 
 pub returns-in_err-value-clause-item : goal.returns-in_err-value-clause-item
 returns-in_err-value-clause-item c =
-    let p = err_from_is_err_and c.from_residual-in_err-value.result c.from_residual-in_err-value.ensures.1 in
+    let p = err_from_is_err_and c.from_residual.result c.from_residual.ensures.1 in
     rw (p.1, p.2) (many_at-fault (plain_value_at c.args.width) c.args.n c.loop-number._number c.loop-number.c c.loop-number.values.items c.in_err-value.field-0.0 (many_at (plain_value_at c.args.width) c.args.n c.args.c.now) c.loop-number.invariant.0 (omega arith) c.in_err-value.ensures)
 
 pub loop-number-preserved : goal.loop-number-preserved
