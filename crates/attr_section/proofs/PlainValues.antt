@@ -26,8 +26,8 @@ number-there width at n bytes piece there piece_is is c here =
     let test : nat_lt (length (drop at c.rest)) width ≡ false = le-ltb (length (drop at c.rest)) width enough in
     let same : take width (drop at c.rest) ≡ piece = ap (λ l. take width (drop at l)) here ∙ sym piece_is in
     rw test (
-      ap (λ (r : Reading). Ok (little_endian (take width (drop at c.rest)), r)) (advanced-advanced at width c)
-      ∙ ap (λ (m : ℕ). Ok (m, advanced (at + width) c)) (ap little_endian same ∙ sym is)
+    ap (λ (r : Reading). Ok (little_endian (take width (drop at c.rest)), r)) (advanced-advanced at width c)
+    ∙ ap (λ (m : ℕ). Ok (m, advanced (at + width) c)) (ap little_endian same ∙ sym is)
     )
 
 -- the values at the front of so many bytes were read, and others are still to come

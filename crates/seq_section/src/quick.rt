@@ -57,7 +57,11 @@ fn quick_index(bytes: &[u8], points: u32) -> Option<(u32, usize)>
     ensures size { IfSome result (λ r. r.1 ≤ length bytes.now) }
 {
     let (index, size) = quick_number(bytes, points)?;
-    if index < points { Some((index, size)) } else { None }
+    if index < points {
+        Some((index, size))
+    } else {
+        None
+    }
 }
 
 /// The bytes behind the first `n`.
