@@ -1,6 +1,8 @@
+pub mod Corrections
 pub mod Columned
 pub mod Each
 pub mod Loops
+pub mod PlainValues
 pub mod SpelledIntegers
 pub mod SpelledValues
 pub mod Spelling

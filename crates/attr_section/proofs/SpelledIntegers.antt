@@ -13,10 +13,11 @@ use Rattle.drc_bits.specs.Bits.{low_bytes}
 use Rattle.drc_bits.specs.Spells.{Spells}
 use Rattle.drc_bits.proofs.Spelled.{Spells-none, Spells-then, Spells-must, Spells-number, Spells-byte}
 use Rattle.predict.specs.Wrap.{Range, CanWrap}
-use Rattle.predict.specs.Restored.{restored, corrections, corrections_behind, entry_before}
+use Rattle.predict.specs.Restored.{restored, corrections, entry_before}
+use Rattle.predict.proofs.Restoring.{length-corrections}
 use Rattle.symbol_coding.specs.Block.{block_at, block_bytes}
 use Rattle.attr_section.specs.Values.{signed_of, plain_value_at, byte_width_at, plain_values_at, compressed_values_at, integers_at, can_wrap, range_at, transform_at, differences_at}
-use Rattle.attr_section.specs.Written.{symbol_of, greatest_symbol, byte_width, plain_bytes, integers_bytes, range_of, signed_bytes, range_bytes, differences_bytes}
+use Rattle.attr_section.specs.Written.{symbol_of, greatest_symbol, byte_width, plain_bytes, symbols_bytes, integers_bytes, range_of, signed_bytes, range_bytes, differences_bytes}
 use Rattle.attr_section.proofs.Spelling.{Spells-map}
 
 -- a symbol gives its integer back
@@ -121,27 +122,31 @@ Spells-plain symbols fit =
       ]
     ]
 
--- integers as they are
-pub Spells-plain_integers : (comps : ℕ) (values : List ℤ) → All (λ s. s < 2 ^ 32) (map symbol_of values)
-    → Spells (integers_at comps (length values)) (integers_bytes true comps values) values
-unfolding integers_at integers_bytes
-Spells-plain_integers comps values fit =
-    Spells-then (number_at 1) (λ k c. if k == 0 then plain_values_at (length values) c else compressed_values_at comps (length values) c)
-    (0 ∷ []) (plain_bytes (map symbol_of values)) 0 values (Spells-byte 0)
-    (subst (λ n. Spells (plain_values_at n) (plain_bytes (map symbol_of values)) values) (length-map values symbol_of)
-    (subst (λ vs. Spells (plain_values_at (length (map symbol_of values))) (plain_bytes (map symbol_of values)) vs) (signed_of-symbols values) (Spells-plain (map symbol_of values) fit)))
+-- symbols as they are, behind the byte that says so
+pub Spells-plain_symbols : (comps : ℕ) (symbols : List ℕ) → All (λ s. s < 2 ^ 32) symbols
+    → Spells (integers_at comps (length symbols)) (symbols_bytes true comps symbols) (map signed_of symbols)
+unfolding integers_at
+Spells-plain_symbols comps symbols fit =
+    Spells-then (number_at 1) (λ k c. if k == 0 then plain_values_at (length symbols) c else compressed_values_at comps (length symbols) c)
+    (0 ∷ []) (plain_bytes symbols) 0 (map signed_of symbols) (Spells-byte 0) (Spells-plain symbols fit)
 
--- integers in a symbol block
-pub Spells-compressed_integers : (comps : ℕ) (values : List ℤ) → Spells (block_at (length (map symbol_of values)) comps) (block_bytes (map symbol_of values) comps) (map symbol_of values)
-    → Spells (integers_at comps (length values)) (integers_bytes false comps values) values
-unfolding integers_at integers_bytes compressed_values_at
-Spells-compressed_integers comps values block =
-    let there : Spells (block_at (length values) comps) (block_bytes (map symbol_of values) comps) (map symbol_of values) =
-    subst (λ n. Spells (block_at n comps) (block_bytes (map symbol_of values) comps) (map symbol_of values)) (length-map values symbol_of) block in
-    Spells-then (number_at 1) (λ k c. if k == 0 then plain_values_at (length values) c else compressed_values_at comps (length values) c)
-    (1 ∷ []) (block_bytes (map symbol_of values) comps) 1 values (Spells-byte 1)
-    (subst (λ vs. Spells (compressed_values_at comps (length values)) (block_bytes (map symbol_of values) comps) vs) (signed_of-symbols values)
-    (Spells-map (λ s. map signed_of s) (block_at (length values) comps) (block_bytes (map symbol_of values) comps) (map symbol_of values) there))
+-- symbols in a block, behind the byte that says so
+pub Spells-compressed_symbols : (comps : ℕ) (symbols : List ℕ) → Spells (block_at (length symbols) comps) (block_bytes symbols comps) symbols
+    → Spells (integers_at comps (length symbols)) (symbols_bytes false comps symbols) (map signed_of symbols)
+unfolding integers_at compressed_values_at
+Spells-compressed_symbols comps symbols block =
+    Spells-then (number_at 1) (λ k c. if k == 0 then plain_values_at (length symbols) c else compressed_values_at comps (length symbols) c)
+    (1 ∷ []) (block_bytes symbols comps) 1 (map signed_of symbols) (Spells-byte 1)
+    (Spells-map (λ s. map signed_of s) (block_at (length symbols) comps) (block_bytes symbols comps) symbols block)
+
+-- the symbols of integers are read back as the integers
+pub Spells-integers : (plain : Bool) (comps : ℕ) (values : List ℤ)
+    → Spells (integers_at comps (length (map symbol_of values))) (symbols_bytes plain comps (map symbol_of values)) (map signed_of (map symbol_of values))
+    → Spells (integers_at comps (length values)) (integers_bytes plain comps values) values
+unfolding integers_bytes
+Spells-integers plain comps values spells =
+    subst (λ n. Spells (integers_at comps n) (symbols_bytes plain comps (map symbol_of values)) values) (length-map values symbol_of)
+    (subst (λ vs. Spells (integers_at comps (length (map symbol_of values))) (symbols_bytes plain comps (map symbol_of values)) vs) (signed_of-symbols values) spells)
 
 -- a signed number of 32 bits
 pub Spells-signed : (x : ℤ) → FitsSigned w32 x → Spells signed_at (signed_bytes x) x
@@ -153,11 +158,6 @@ Spells-signed x fits =
     unsigned_small : (x : ℤ) → FitsSigned w32 x → cast_unsigned w32 x < 256 ^ 4
     unsigned_small (pos n) fits = omega (arith, fits.sfits)
     unsigned_small (negsuc n) fits = omega arith
-
-pub length-corrections : (f : List ℤ → ℤ) (r : Range) (before values : List ℤ) → length (corrections_behind f r before values) ≡ length values
-unfolding corrections_behind
-length-corrections f r before [] = refl
-length-corrections f r before (v ∷ values) = ap (λ n. suc n) (length-corrections f r (before ++ v ∷ []) values)
 
 -- a range in which corrections can wrap
 pub Spells-range : (r : Range) → CanWrap r → FitsSigned w32 r.low → FitsSigned w32 r.high → Spells range_at (range_bytes r) r
@@ -189,7 +189,7 @@ unfolding differences_at differences_bytes
 Spells-differences plain comps values integers range back =
     let r = range_of values in
     let cs = corrections (entry_before comps) r values in
-    let same : length cs ≡ length values = length-corrections (entry_before comps) r [] values in
+    let same : length cs ≡ length values = length-corrections (entry_before comps) r values in
     Spells-then transform_at (λ _ c. integers_at comps (length values) c >>= λ x. range_at x.1 >>= λ y. Ok (restored (entry_before comps) y.0 x.0, y.1))
     (1 ∷ []) (integers_bytes plain comps cs ++ range_bytes r) 1 values
     (Spells-must kind.Transform (λ t. t == 1) (number_at 1) (1 ∷ []) 1 refl (Spells-byte 1))
@@ -206,3 +206,12 @@ range_of-bounds (v ∷ values) =
     let low = fold-int_min_bounds v values (fold int_min v values) refl in
     let high = fold-int_max_bounds v values (fold int_max v values) refl in
     All-cons (λ x. (fold int_min v values ≤ℤ x) × (x ≤ℤ fold int_max v values)) v values (low.0, high.0) (λ k d h. (low.1 k d h, high.1 k d h))
+
+fits_between : (low high x : ℤ) → FitsSigned w32 low → FitsSigned w32 high → low ≤ℤ x → x ≤ℤ high → FitsSigned w32 x
+fits_between low high x low_fits high_fits above below = search (arith, ints)
+
+-- values between two numbers of 32 bits have 32 bits
+pub fits_within : (low high : ℤ) (values : List ℤ) → FitsSigned w32 low → FitsSigned w32 high → All (λ x. (low ≤ℤ x) × (x ≤ℤ high)) values
+    → All (FitsSigned w32) values
+fits_within low high values low_fits high_fits within =
+    All-weaker (λ x. (low ≤ℤ x) × (x ≤ℤ high)) (FitsSigned w32) (λ x h. fits_between low high x low_fits high_fits h.0 h.1) values within

@@ -33,9 +33,13 @@ byte_width symbol = if nat_lt symbol 256 then 1 else (if nat_lt symbol 65536 the
 unfoldable pub plain_bytes : List ℕ → List ℕ
 plain_bytes symbols = byte_width (greatest_symbol symbols) ∷ flat_map (low_bytes (byte_width (greatest_symbol symbols))) symbols
 
--- integers of entries of so many components: as they are, or compressed
+-- symbols of entries of so many components: as they are, or compressed
+abbrev pub symbols_bytes : Bool → ℕ → List ℕ → List ℕ
+symbols_bytes plain comps symbols = if plain then 0 ∷ plain_bytes symbols else 1 ∷ block_bytes symbols comps
+
+-- integers of entries of so many components, each by its symbol
 unfoldable pub integers_bytes : Bool → ℕ → List ℤ → List ℕ
-integers_bytes plain comps values = if plain then 0 ∷ plain_bytes (map symbol_of values) else 1 ∷ block_bytes (map symbol_of values) comps
+integers_bytes plain comps values = symbols_bytes plain comps (map symbol_of values)
 
 -- the range of values
 abbrev pub range_of : List ℤ → Range

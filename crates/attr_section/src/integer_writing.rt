@@ -1,33 +1,16 @@
 //! Writing the integers that stand for values.
 
-ghost use Rattle.std.specs.Prelude.{◌≡◌, ◌≤◌, ◌<◌, ◌%◌, ◌++◌, ◌^◌, IfOk, OnOk, All, length, map, flat_map, true, false, Bool};
+ghost use Rattle.std.specs.Prelude.{◌≡◌, ◌≤◌, ◌<◌, ◌+◌, ◌%◌, ◌++◌, ◌^◌, IfOk, OnOk, All, length, map, flat_map, vec_len, vec_capacity, true, false, Bool};
 ghost use Rattle.drc_bits.specs.Bits.{low_bytes};
 ghost use Rattle.drc_bits.specs.Spells.{Spells};
 ghost use Rattle.symbol_coding.specs.Block.{block_at, block_bytes};
-ghost use Rattle.attr_section.specs.Values.{integers_at};
-ghost use Rattle.attr_section.specs.Written.{symbol_of, greatest_symbol, byte_width, plain_bytes, integers_bytes};
+ghost use Rattle.attr_section.specs.Values.{signed_of, integers_at};
+ghost use Rattle.attr_section.specs.Written.{greatest_symbol, byte_width, plain_bytes, symbols_bytes};
 
 use drc_base::{MAX_VALUES, Memory};
-use std::alloc::{AllocError, Global};
+use std::alloc::Global;
+use std::mem;
 use symbol_coding::write_symbols;
-
-/// The zigzag symbol of an integer.
-fn symbol_of(x: i32) -> u32
-    ensures { result ≡ symbol_of x }
-{
-    if x < 0 {
-        (-1 - x) as u32 * 2 + 1
-    } else {
-        x as u32 * 2
-    }
-}
-
-/// The zigzag symbols of integers.
-fn symbols_of(alloc: Global, values: &[i32]) -> Result<Vec<u32>, AllocError>
-    ensures { IfOk result (λ v. v.items ≡ map symbol_of values.now) }
-{
-    values.iter().map(|x| symbol_of(*x)).collect(alloc)
-}
 
 /// The greatest symbol.
 fn greatest_symbol(symbols: &[u32]) -> u32
@@ -57,102 +40,119 @@ fn byte_width(symbol: u32) -> u8
     }
 }
 
-/// Appends the low bytes of a symbol.
-fn put_symbol(out: &mut Vec<u8>, symbol: u32, width: u8) -> Result<(), Memory>
+/// Appends the low bytes of a symbol, where there is room.
+#[inline(always)]
+fn put_symbol(out: &mut Vec<u8>, symbol: u32, width: u8)
     requires some { 1 ≤ width }
     requires few { width ≤ 4 }
-    ensures { OnOk result (out.new.items ≡ out.old.items ++ low_bytes width symbol) }
+    requires room { vec_len out.old + width ≤ vec_capacity out.old }
+    ensures bytes { out.new.items ≡ out.old.items ++ low_bytes width symbol }
+    ensures len { vec_len out.new ≡ vec_len out.old + width }
+    ensures capacity { vec_capacity out.new ≡ vec_capacity out.old }
 {
-    let bytes = symbol.to_le_bytes();
-    match width {
-        1 => out.push(bytes[0])?,
-        2 => out.extend_from_slice(&bytes[..2])?,
-        3 => out.extend_from_slice(&bytes[..3])?,
-        _ => out.extend_from_slice(&bytes)?,
+    out.push_reserved((symbol % 256) as u8);
+    if width > 1 {
+        out.push_reserved((symbol / 256 % 256) as u8);
     }
-    Ok(())
+    if width > 2 {
+        out.push_reserved((symbol / 256 / 256 % 256) as u8);
+    }
+    if width > 3 {
+        out.push_reserved((symbol / 256 / 256 / 256 % 256) as u8);
+    }
 }
 
-/// Appends the low bytes of symbols.
-fn put_symbols(out: &mut Vec<u8>, symbols: &[u32], width: u8) -> Result<(), Memory>
+/// The low bytes of symbols, behind these bytes.
+fn put_all(front: Vec<u8>, symbols: &[u32], width: u8) -> Result<Vec<u8>, Memory>
     requires some { 1 ≤ width }
     requires few { width ≤ 4 }
-    ensures bytes { OnOk result (out.new.items ≡ out.old.items ++ flat_map (low_bytes width) symbols.now) }
+    ensures bytes { IfOk result (λ v. v.items ≡ front.items ++ flat_map (low_bytes width) symbols.now) }
     ensures fit { OnOk result (All (λ s. s < 2 ^ 32) symbols.now) }
 {
-    for symbol in symbols {
-        put_symbol(out, *symbol, width)?;
+    let mut out = front;
+    out.reserve(width as usize * symbols.len())?;
+    for k in 0..symbols.len() {
+        put_symbol(&mut out, symbols[k], width);
     }
-    Ok(())
+    Ok(out)
 }
 
 /// Appends symbols as they are.
 #[tactic(auto, unfolding(crate::specs::Written::plain_bytes))]
-fn put_plain(out: &mut Vec<u8>, symbols: &[u32]) -> Result<(), Memory>
+fn put_plain(alloc: Global, out: &mut Vec<u8>, symbols: &[u32]) -> Result<(), Memory>
     ensures bytes { OnOk result (out.new.items ≡ out.old.items ++ plain_bytes symbols.now) }
     ensures fit { OnOk result (All (λ s. s < 2 ^ 32) symbols.now) }
 {
     let width = byte_width(greatest_symbol(symbols));
     out.push(width)?;
-    put_symbols(out, symbols, width)?;
+    let front = mem::replace(out, Vec::new(alloc));
+    *out = put_all(front, symbols, width)?;
     Ok(())
 }
 
-/// Appends integers as they are.
-#[tactic(auto, unfolding(crate::specs::Written::integers_bytes))]
-fn put_plain_integers(
+/// Appends symbols as they are, behind the byte that says so.
+fn put_plain_symbols(
     alloc: Global,
     out: &mut Vec<u8>,
-    values: &[i32],
+    symbols: Vec<u32>,
     comps: u32,
 ) -> Result<(), Memory>
-    ensures bytes { OnOk result (out.new.items ≡ out.old.items ++ integers_bytes true comps values.now) }
-    ensures again { OnOk result (Spells (integers_at comps (length values.now)) (integers_bytes true comps values.now) values.now) }
+    ensures bytes { OnOk result (out.new.items ≡ out.old.items ++ symbols_bytes true comps symbols.items) }
+    ensures again { OnOk result (Spells (integers_at comps (length symbols.items)) (symbols_bytes true comps symbols.items) (map signed_of symbols.items)) }
 {
-    let symbols = symbols_of(alloc, values)?;
     out.push(0)?;
-    put_plain(out, &symbols)?;
+    put_plain(alloc, out, &symbols)?;
     Ok(())
 }
 
-/// Appends integers in a symbol block.
-#[tactic(auto, unfolding(crate::specs::Written::integers_bytes))]
-fn put_compressed_integers(
+/// The block of symbols, which are let go.
+fn block_of(alloc: Global, symbols: Vec<u32>, comps: u32) -> Result<Vec<u8>, Memory>
+    requires some { 0 < comps }
+    requires whole { length symbols.items % comps ≡ 0 }
+    requires few { length symbols.items ≤ MAX_VALUES }
+    ensures block { IfOk result (λ v. v.items ≡ block_bytes symbols.items comps) }
+    ensures again { OnOk result (Spells (block_at (length symbols.items) comps) (block_bytes symbols.items comps) symbols.items) }
+{
+    let block = write_symbols(alloc, &symbols, comps)?;
+    Ok(block)
+}
+
+/// Appends symbols in a block, behind the byte that says so.
+fn put_compressed_symbols(
     alloc: Global,
     out: &mut Vec<u8>,
-    values: &[i32],
+    symbols: Vec<u32>,
     comps: u32,
 ) -> Result<(), Memory>
     requires some { 0 < comps }
-    requires whole { length values.now % comps ≡ 0 }
-    requires few { length values.now ≤ MAX_VALUES }
-    ensures bytes { OnOk result (out.new.items ≡ out.old.items ++ integers_bytes false comps values.now) }
-    ensures again { OnOk result (Spells (integers_at comps (length values.now)) (integers_bytes false comps values.now) values.now) }
+    requires whole { length symbols.items % comps ≡ 0 }
+    requires few { length symbols.items ≤ MAX_VALUES }
+    ensures bytes { OnOk result (out.new.items ≡ out.old.items ++ symbols_bytes false comps symbols.items) }
+    ensures again { OnOk result (Spells (integers_at comps (length symbols.items)) (symbols_bytes false comps symbols.items) (map signed_of symbols.items)) }
 {
-    let symbols = symbols_of(alloc, values)?;
-    let block = write_symbols(alloc, &symbols, comps)?;
+    let block = block_of(alloc, symbols, comps)?;
     out.push(1)?;
     out.extend_from_slice(&block)?;
     Ok(())
 }
 
-/// Appends integers, as they are or compressed.
-pub fn put_integers(
+/// Appends symbols, as they are or compressed. They are let go as soon as their bytes are there.
+pub fn put_symbols(
     alloc: Global,
     out: &mut Vec<u8>,
-    values: &[i32],
+    symbols: Vec<u32>,
     comps: u32,
     plain: bool,
 ) -> Result<(), Memory>
     requires some { 0 < comps }
-    requires whole { length values.now % comps ≡ 0 }
-    requires few { length values.now ≤ MAX_VALUES }
-    ensures bytes { OnOk result (out.new.items ≡ out.old.items ++ integers_bytes plain comps values.now) }
-    ensures again { OnOk result (Spells (integers_at comps (length values.now)) (integers_bytes plain comps values.now) values.now) }
+    requires whole { length symbols.items % comps ≡ 0 }
+    requires few { length symbols.items ≤ MAX_VALUES }
+    ensures bytes { OnOk result (out.new.items ≡ out.old.items ++ symbols_bytes plain comps symbols.items) }
+    ensures again { OnOk result (Spells (integers_at comps (length symbols.items)) (symbols_bytes plain comps symbols.items) (map signed_of symbols.items)) }
 {
     if plain {
-        put_plain_integers(alloc, out, values, comps)
+        put_plain_symbols(alloc, out, symbols, comps)
     } else {
-        put_compressed_integers(alloc, out, values, comps)
+        put_compressed_symbols(alloc, out, symbols, comps)
     }
 }

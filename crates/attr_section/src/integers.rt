@@ -1,11 +1,11 @@
 //! The integers that stand for values in a stream.
 
-ghost use Rattle.std.specs.Prelude.{◌≡◌, ◌≤◌, ◌<◌, ◌%◌, IfOk, length, map};
-ghost use Rattle.drc_bits.specs.Reading.{Reads, Gives, many_at};
-ghost use Rattle.drc_bits.specs.Numbers.{number_at};
+ghost use Rattle.std.specs.Prelude.{◌≡◌, ◌+◌, ◌*◌, ◌≤◌, ◌<◌, ◌%◌, Ok, IfOk, drop, length, map, take};
+ghost use Rattle.drc_bits.specs.Reading.{Reading, Reads, Gives, advanced, many_at};
+ghost use Rattle.drc_bits.specs.Numbers.{number_at, little_endian};
 ghost use Rattle.attr_section.specs.Values.{signed_of, plain_value_at, byte_width_at, plain_values_at, compressed_values_at, integers_at};
 
-use drc_base::{Fault, Kind, MAX_VALUES, Refusal};
+use drc_base::{Fault, Kind, MAX_VALUES, Memory, Refusal};
 use drc_bits::Cursor;
 use std::alloc::{AllocError, Global};
 use symbol_coding::read_symbols;
@@ -69,14 +69,85 @@ fn read_byte_width(c: &mut Cursor<'_>) -> Result<u8, Fault>
     Ok(width)
 }
 
-/// `n` integers of so many bytes.
+/// The number whose bytes these are, one to four, little-endian.
+#[inline(always)]
+fn number_of(bytes: &[u8]) -> u32
+    requires some { 1 ≤ length bytes.now }
+    requires few { length bytes.now ≤ 4 }
+    ensures { result ≡ little_endian bytes.now }
+{
+    match bytes {
+        [a] => *a as u32,
+        [a, b] => u32::from_le_bytes([*a, *b, 0, 0]),
+        [a, b, d] => u32::from_le_bytes([*a, *b, *d, 0]),
+        [a, b, d, e, ..] => u32::from_le_bytes([*a, *b, *d, *e]),
+        [] => 0,
+    }
+}
+
+/// The `n` bytes at a place.
+#[inline(always)]
+fn piece(bytes: &[u8], at: usize, n: u8) -> &[u8]
+    requires { at + n ≤ length bytes.now }
+    ensures piece { result.now ≡ take n (drop at bytes.now) }
+    ensures len { length result.now ≡ n }
+{
+    &bytes[at..at + n as usize]
+}
+
+/// The number of so many bytes at a place.
+#[inline(always)]
+fn number_in(bytes: &[u8], at: usize, width: u8) -> u32
+    requires some { 1 ≤ width }
+    requires few { width ≤ 4 }
+    requires there { at + width ≤ length bytes.now }
+    ensures { (c : Reading) → c.rest ≡ bytes.now → number_at width (advanced at c) ≡ Ok (result, advanced (at + width) c) }
+{
+    number_of(piece(bytes, at, width))
+}
+
+/// `n` integers of so many bytes, all of which are there.
+fn values_in(alloc: Global, bytes: &[u8], width: u8, n: u32) -> Result<Vec<i32>, Memory>
+    requires some { 1 ≤ width }
+    requires few { width ≤ 4 }
+    requires there { n * width ≤ length bytes.now }
+    ensures values { IfOk result (λ v. (c : Reading) → c.rest ≡ bytes.now → many_at (plain_value_at width) n c ≡ Ok (v.items, advanced (n * width) c)) }
+    ensures len { IfOk result (λ v. length v.items ≡ n) }
+{
+    let mut values = Vec::with_capacity(alloc, n as usize)?;
+    for k in 0..n {
+        let at = k as usize * width as usize;
+        let symbol = number_in(bytes, at, width);
+        values.push_reserved(signed_of(symbol));
+    }
+    Ok(values)
+}
+
+/// `n` integers of so many bytes: from a slice where all of their bytes are there.
 fn read_plain_of(alloc: Global, c: &mut Cursor<'_>, width: u8, n: u32) -> Result<Vec<i32>, Refusal>
     requires some { 1 ≤ width }
     requires few { width ≤ 4 }
     ensures item { Gives (λ v. v.items) (many_at (plain_value_at width) n c.old) c.new result }
     ensures len { IfOk result (λ v. length v.items ≡ n) }
 {
-    let mut values = Vec::with_capacity(alloc, n as usize)?;
+    let bytes = c.rest();
+    let size = n as usize * width as usize;
+    if size <= bytes.len() {
+        let values = values_in(alloc, bytes, width, n)?;
+        c.skip(size);
+        return Ok(values);
+    }
+    read_each(alloc, c, width, n)
+}
+
+/// `n` integers of so many bytes, one after another.
+fn read_each(alloc: Global, c: &mut Cursor<'_>, width: u8, n: u32) -> Result<Vec<i32>, Refusal>
+    requires some { 1 ≤ width }
+    requires few { width ≤ 4 }
+    ensures item { Gives (λ v. v.items) (many_at (plain_value_at width) n c.old) c.new result }
+    ensures len { IfOk result (λ v. length v.items ≡ n) }
+{
+    let mut values = Vec::new(alloc);
     for _number in 0..n {
         let value = read_plain_value(c, width)?;
         values.push(value)?;

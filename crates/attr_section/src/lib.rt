@@ -14,6 +14,8 @@ mod integers;
 mod links;
 mod quant_writing;
 mod quants;
+mod ranges;
+mod symbols;
 mod types;
 mod value_reading;
 mod value_writing;
@@ -23,6 +25,7 @@ pub use decoder_heads::DecoderHead;
 pub use decoder_writing::write_decoder;
 pub use head_reading::read_heads;
 pub use head_writing::write_heads;
+pub use ranges::range_of;
 pub use value_reading::read_decoder;
 pub use values::Values;
 

@@ -1,20 +1,20 @@
 //! Writing the values of attributes.
 
-ghost use Rattle.std.specs.Prelude.{◌≡◌, ◌≤◌, ◌<◌, ◌%◌, ◌++◌, ◌≤ℤ◌, IfOk, OnOk, All, length, true};
-ghost use Rattle.std.specs.Int.{int_min, int_max};
-ghost use Rattle.std.specs.List.{fold};
+ghost use Rattle.std.specs.Prelude.{◌≡◌, ◌≤◌, ◌<◌, ◌%◌, ◌++◌, IfOk, OnOk, length, map};
 ghost use Rattle.drc_bits.specs.Numbers.{signed_at};
 ghost use Rattle.drc_bits.specs.Spells.{Spells};
 ghost use Rattle.predict.specs.Wrap.{CanWrap};
 ghost use Rattle.predict.specs.Restored.{restored, corrections, entry_before};
-ghost use Rattle.attr_section.specs.Values.{range_at, differences_at};
-ghost use Rattle.attr_section.specs.Written.{range_of, signed_bytes, range_bytes, differences_bytes, values_bytes, ValuesPass, ValuesSpelled};
+ghost use Rattle.attr_section.specs.Values.{integers_at, range_at, differences_at};
+ghost use Rattle.attr_section.specs.Written.{symbol_of, range_of, signed_bytes, range_bytes, integers_bytes, differences_bytes, values_bytes, ValuesPass, ValuesSpelled};
 
-use crate::integer_writing::put_integers;
+use crate::integer_writing::put_symbols;
+use crate::ranges::range_of;
+use crate::symbols::{symbols_of, symbols_of_corrections};
 use crate::values::Values;
 use drc_base::{MAX_VALUES, Memory};
 use mesh_model::Head;
-use predict::{Wrap, correct_difference};
+use predict::Wrap;
 use std::alloc::Global;
 
 /// No prediction, and the byte that says so.
@@ -41,67 +41,36 @@ fn put_range(out: &mut Vec<u8>, low: i32, high: i32) -> Result<(), Memory>
     Ok(())
 }
 
-/// The least and the greatest of a value and others.
-fn range_from(first: i32, rest: &[i32]) -> (i32, i32)
-    ensures low { result.0 ≡ fold int_min first rest.now }
-    ensures high { result.1 ≡ fold int_max first rest.now }
+/// The wrap of this range.
+fn wrap_of(low: i32, high: i32) -> Wrap
+    requires { CanWrap (record { low = low; high = high }) }
+    ensures { result ≡ record { low = low; high = high } }
 {
-    let mut low = first;
-    let mut high = first;
-    for value in rest {
-        low = low.min(*value);
-        high = high.max(*value);
-    }
-    (low, high)
-}
-
-/// The least and the greatest of values.
-fn range_of(values: &[i32]) -> (i32, i32)
-    requires { 0 < length values.now }
-    ensures { range_of values.now ≡ record { low = result.0; high = result.1 } }
-{
-    range_from(values[0], &values[1..])
-}
-
-/// The wrap of values.
-fn wrap_of(values: &[i32]) -> Wrap
-    requires some { 0 < length values.now }
-    requires can_wrap { CanWrap (range_of values.now) }
-    ensures { result ≡ range_of values.now }
-{
-    let (low, high) = range_of(values);
     Wrap::new(low, high).unwrap()
 }
 
-/// The corrections of values by difference.
-fn corrections_of(alloc: Global, values: &[i32], comps: u32) -> Result<Vec<i32>, Memory>
+/// The symbols of the corrections of values by difference, in their range.
+fn symbols_by_difference(
+    alloc: Global,
+    values: &[i32],
+    comps: u32,
+    low: i32,
+    high: i32,
+) -> Result<Vec<u32>, Memory>
     requires comps { 0 < comps }
-    requires some { 0 < length values.now }
-    requires whole { length values.now % comps ≡ 0 }
-    requires can_wrap { CanWrap (range_of values.now) }
-    ensures are { IfOk result (λ v. v.items ≡ corrections (entry_before comps) (range_of values.now) values.now) }
-    ensures restore { IfOk result (λ v. restored (entry_before comps) (range_of values.now) v.items ≡ values.now) }
+    requires range { range_of values.now ≡ record { low = low; high = high } }
+    requires can_wrap { CanWrap (record { low = low; high = high }) }
+    ensures symbols { IfOk result (λ v. v.items ≡ map symbol_of (corrections (entry_before comps) (range_of values.now) values.now)) }
     ensures len { IfOk result (λ v. length v.items ≡ length values.now) }
+    ensures restore { OnOk result (restored (entry_before comps) (range_of values.now) (corrections (entry_before comps) (range_of values.now) values.now) ≡ values.now) }
 {
-    let wrap = wrap_of(values);
-    let corrections = correct_difference(alloc, &wrap, comps, values)?;
-    Ok(corrections)
-}
-
-/// Appends the range of values.
-fn put_range_of(out: &mut Vec<u8>, values: &[i32]) -> Result<(), Memory>
-    requires some { 0 < length values.now }
-    requires can_wrap { CanWrap (range_of values.now) }
-    ensures bytes { OnOk result (out.new.items ≡ out.old.items ++ range_bytes (range_of values.now)) }
-    ensures again { OnOk result (Spells range_at (range_bytes (range_of values.now)) (range_of values.now)) }
-{
-    let (low, high) = range_of(values);
-    put_range(out, low, high)?;
-    Ok(())
+    let wrap = wrap_of(low, high);
+    let symbols = symbols_of_corrections(alloc, &wrap, comps, values)?;
+    Ok(symbols)
 }
 
 /// Appends values by difference.
-#[tactic(auto, unfolding(crate::specs::Written::differences_bytes))]
+#[tactic(auto, unfolding(crate::specs::Written::differences_bytes, crate::specs::Written::integers_bytes))]
 fn put_differences(
     alloc: Global,
     out: &mut Vec<u8>,
@@ -117,10 +86,31 @@ fn put_differences(
     ensures bytes { OnOk result (out.new.items ≡ out.old.items ++ differences_bytes plain comps values.now) }
     ensures again { OnOk result (Spells (differences_at comps (length values.now)) (differences_bytes plain comps values.now) values.now) }
 {
-    let corrections = corrections_of(alloc, values, comps)?;
+    let (low, high) = range_of(values);
+    let symbols = symbols_by_difference(alloc, values, comps, low, high)?;
     out.push(1)?;
-    put_integers(alloc, out, &corrections, comps, plain)?;
-    put_range_of(out, values)?;
+    put_symbols(alloc, out, symbols, comps, plain)?;
+    put_range(out, low, high)?;
+    Ok(())
+}
+
+/// Appends values without a prediction.
+#[tactic(auto, unfolding(crate::specs::Written::integers_bytes))]
+fn put_integers(
+    alloc: Global,
+    out: &mut Vec<u8>,
+    values: &[i32],
+    comps: u32,
+    plain: bool,
+) -> Result<(), Memory>
+    requires some { 0 < comps }
+    requires whole { length values.now % comps ≡ 0 }
+    requires few { length values.now ≤ MAX_VALUES }
+    ensures bytes { OnOk result (out.new.items ≡ out.old.items ++ integers_bytes plain comps values.now) }
+    ensures again { OnOk result (Spells (integers_at comps (length values.now)) (integers_bytes plain comps values.now) values.now) }
+{
+    let symbols = symbols_of(alloc, values)?;
+    put_symbols(alloc, out, symbols, comps, plain)?;
     Ok(())
 }
 

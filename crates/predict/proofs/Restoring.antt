@@ -1,10 +1,12 @@
 -- Restoring and correcting one entry after another.
-use Rattle.std.proofs.Common.{◌≡◌, ℕ, ◌+◌, ◌-◌, ◌<◌, ◌≤◌, ◌≤ℤ◌, ℤ, pos, List, [], ◌∷◌, ◌++◌, length, take, drop, get_or, set, refl, sym, ◌∙◌, ap, append_assoc, arith}
-use Rattle.std.proofs.lemmas.List.{drop_more, take_more, take_more_set, drop-set-lt, length-take-le, get_or-take, take_all, drop_all, append-nil}
-use Rattle.std.proofs.lemmas.List.Elements.{All-push}
+use Rattle.std.proofs.Common.{◌≡◌, ℕ, zero, suc, ◌+◌, ◌-◌, ◌<◌, ◌≤◌, ◌≤ℤ◌, ℤ, pos, List, [], ◌∷◌, ◌++◌, length, take, drop, get_or, set, FitsSigned, refl, sym, ◌∙◌, ap, add-one, append-nil, append_assoc, arith}
+use Rattle.std.proofs.lemmas.List.{drop_more, take_more_set, drop-set-lt, length-take-le, get_or-take, take_all, drop_all}
+use Rattle.std.proofs.lemmas.List.Elements.{All-nil, All-cons, All-head, All-tail}
+use Rattle.std.specs.Int.{w32}
 use Rattle.std.specs.List.{All}
-use Rattle.predict.specs.Wrap.{Range, restored_value, correction_of, least_correction, greatest_correction}
+use Rattle.predict.specs.Wrap.{Range, CanWrap, restored_value, correction_of, least_correction, greatest_correction}
 use Rattle.predict.specs.Restored.{restored, restored_behind, corrections, corrections_behind, entry_before}
+use Rattle.predict.proofs.Wrapping.{correction_restores, correction_small}
 
 -- the next correction restores its value
 pub restored_behind-more : (f : List ℤ → ℤ) (r : Range) (v whole : List ℤ) (i : ℕ) (x : ℤ) → i < length v
@@ -41,71 +43,77 @@ entry_before-later comps v i some has high =
     let there : get_or (take i v) (i - comps) (pos 0) ≡ get_or v (i - comps) (pos 0) = get_or-take i v (i - comps) (pos 0) (omega arith) in
     rw (len, there) (grind arith)
 
--- a value restored behind others is restored from those
-pub restored_behind-push : (f : List ℤ → ℤ) (r : Range) (before cs : List ℤ) (c : ℤ)
-    → restored_behind f r before (cs ++ c ∷ []) ≡ restored_behind f r before cs ++ restored_value r (f (restored_behind f r before cs)) c ∷ []
-unfolding restored_behind
-restored_behind-push f r before [] c = refl
-restored_behind-push f r before (x ∷ cs) c = restored_behind-push f r (before ++ restored_value r (f before) x ∷ []) cs c
-
 -- one correction more
-pub corrections-more : (f : List ℤ → ℤ) (r : Range) (v whole cs : List ℤ) (i : ℕ) (c : ℤ) → i < length v
-    → c ≡ correction_of r (f (take i v)) (get_or v i (pos 0))
-    → cs ++ corrections_behind f r (take i v) (drop i v) ≡ whole
-    → (cs ++ c ∷ []) ++ corrections_behind f r (take (i + 1) v) (drop (i + 1) v) ≡ whole
+pub take-corrections : (f : List ℤ → ℤ) (r : Range) (v : List ℤ) (i : ℕ) → i < length v
+    → take (i + 1) (corrections f r v) ≡ take i (corrections f r v) ++ correction_of r (f (take i v)) (get_or v i (pos 0)) ∷ []
 unfolding corrections_behind
-corrections-more f r v whole cs i c has is so =
-    append_assoc cs (c ∷ []) (corrections_behind f r (take (i + 1) v) (drop (i + 1) v))
-    ∙ ap (λ before. cs ++ c ∷ corrections_behind f r before (drop (i + 1) v)) (take_more v i (pos 0) has)
-    ∙ ap (λ y. cs ++ y ∷ corrections_behind f r (take i v ++ get_or v i (pos 0) ∷ []) (drop (i + 1) v)) is
-    ∙ ap (λ after. cs ++ corrections_behind f r (take i v) after) (sym (drop_more v i (pos 0) has))
-    ∙ so
+take-corrections f r v i has = rw (add-one i) (behind f r [] v i has)
+  where
+    behind : (f : List ℤ → ℤ) (r : Range) (before v : List ℤ) (i : ℕ) → i < length v
+        → take (suc i) (corrections_behind f r before v)
+        ≡ take i (corrections_behind f r before v) ++ correction_of r (f (before ++ take i v)) (get_or v i (pos 0)) ∷ []
+    behind f r before [] i has = absurd (omega (arith, has))
+    behind f r before (x ∷ v) zero has = rw (append-nil before) refl
+    behind f r before (x ∷ v) (suc i) has =
+        ap (λ cs. correction_of r (f before) x ∷ cs) (behind f r (before ++ x ∷ []) v i (omega (arith, has)))
+        ∙ ap (λ front. correction_of r (f before) x ∷ take i (corrections_behind f r (before ++ x ∷ []) v) ++ correction_of r (f front) (get_or v i (pos 0)) ∷ [])
+        (append_assoc before (x ∷ []) (take i v))
+
+-- there is a correction for each value
+pub length-corrections : (f : List ℤ → ℤ) (r : Range) (v : List ℤ) → length (corrections f r v) ≡ length v
+unfolding corrections_behind
+length-corrections f r v = behind f r [] v
+  where
+    behind : (f : List ℤ → ℤ) (r : Range) (before v : List ℤ) → length (corrections_behind f r before v) ≡ length v
+    behind f r before [] = refl
+    behind f r before (x ∷ v) = ap suc (behind f r (before ++ x ∷ []) v)
+
+-- the next correction is pushed
+pub corrections-more : (f : List ℤ → ℤ) (r : Range) (v cs ds : List ℤ) (i : ℕ) (p c : ℤ) → i < length v
+    → p ≡ f (take i v) → c ≡ correction_of r p (get_or v i (pos 0)) → ds ≡ cs ++ c ∷ []
+    → cs ≡ take i (corrections f r v) → ds ≡ take (i + 1) (corrections f r v)
+corrections-more f r v cs ds i p c has p_is is push so =
+    push
+    ∙ ap (λ front. front ++ c ∷ []) so
+    ∙ ap (λ x. take i (corrections f r v) ++ x ∷ []) (is ∙ ap (λ q. correction_of r q (get_or v i (pos 0))) p_is)
+    ∙ sym (take-corrections f r v i has)
 
 -- all corrections are there
-pub corrections-end : (f : List ℤ → ℤ) (r : Range) (v whole cs : List ℤ) (i : ℕ) → length v ≤ i
-    → cs ++ corrections_behind f r (take i v) (drop i v) ≡ whole → cs ≡ whole
+pub corrections-end : (f : List ℤ → ℤ) (r : Range) (v cs : List ℤ) (i : ℕ) → length v ≤ i
+    → cs ≡ take i (corrections f r v) → cs ≡ corrections f r v
+corrections-end f r v cs i done is = is ∙ take_all i (corrections f r v) (omega (arith, done, length-corrections f r v))
+
+-- a value of the range
+abbrev pub InRange : Range → ℤ → Type 0
+InRange r x = (r.low ≤ℤ x) × (x ≤ℤ r.high)
+
+-- corrections of values of the range restore them
+pub restored-corrections : (f : List ℤ → ℤ) (r : Range) (v : List ℤ) → CanWrap r → All (InRange r) v → All (FitsSigned w32) v
+    → restored f r (corrections f r v) ≡ v
+unfolding corrections_behind restored_behind
+restored-corrections f r v can within fits = behind f r [] v can within fits
+  where
+    behind : (f : List ℤ → ℤ) (r : Range) (before v : List ℤ) → CanWrap r → All (InRange r) v → All (FitsSigned w32) v
+        → restored_behind f r before (corrections_behind f r before v) ≡ before ++ v
+    behind f r before [] can within fits = sym (append-nil before)
+    behind f r before (x ∷ v) can within fits =
+        let in_range : InRange r x = All-head (InRange r) x v within in
+        let x_fits : FitsSigned w32 x = All-head (FitsSigned w32) x v fits in
+        let there : restored_value r (f before) (correction_of r (f before) x) ≡ x = correction_restores r (f before) x can in_range.0 in_range.1 x_fits in
+        rw (restored_behind, there) (behind f r (before ++ x ∷ []) v can (All-tail (InRange r) x v within) (All-tail (FitsSigned w32) x v fits) ∙ append_assoc before (x ∷ []) v)
+
+-- a correction of at most half a span
+abbrev pub IsSmall : Range → ℤ → Type 0
+IsSmall r c = (least_correction r ≤ℤ c) × (c ≤ℤ greatest_correction r)
+
+-- corrections of values of the range are small
+pub small-corrections : (f : List ℤ → ℤ) (r : Range) (v : List ℤ) → CanWrap r → All (InRange r) v → All (IsSmall r) (corrections f r v)
 unfolding corrections_behind
-corrections-end f r v whole cs i done so =
-    sym (append-nil cs)
-    ∙ sym (ap (λ after. cs ++ corrections_behind f r (take i v) after) (drop_all i v done))
-    ∙ so
-
--- one value more is restored
-pub restores-more : (f : List ℤ → ℤ) (r : Range) (v cs : List ℤ) (i : ℕ) (c : ℤ) → i < length v
-    → restored_value r (f (take i v)) c ≡ get_or v i (pos 0)
-    → restored_behind f r [] cs ≡ take i v
-    → restored_behind f r [] (cs ++ c ∷ []) ≡ take (i + 1) v
-restores-more f r v cs i c has is so =
-    restored_behind-push f r [] cs c
-    ∙ ap (λ before. before ++ restored_value r (f before) c ∷ []) so
-    ∙ ap (λ y. take i v ++ y ∷ []) is
-    ∙ sym (take_more v i (pos 0) has)
-
--- the corrections of the first i values: what they are, what they restore, and that they are small
-pub record Corrected (f : List ℤ → ℤ) (r : Range) (v : List ℤ) (i : ℕ) (cs : List ℤ) : Type 0 where
-  pub are : cs ++ corrections_behind f r (take i v) (drop i v) ≡ corrections f r v
-  pub restore : restored f r cs ≡ take i v
-  pub small : All (λ x. (least_correction r ≤ℤ x) × (x ≤ℤ greatest_correction r)) cs
-
-pub corrected-start : (f : List ℤ → ℤ) (r : Range) (v cs : List ℤ) → cs ≡ [] → Corrected f r v 0 cs
-unfolding restored_behind
-corrected-start f r v cs none = rw none (record { are = refl; restore = refl; small = λ k d below. absurd (omega arith) })
-
-small-more : (r : Range) (cs : List ℤ) (c : ℤ) → least_correction r ≤ℤ c → c ≤ℤ greatest_correction r
-    → All (λ x. (least_correction r ≤ℤ x) × (x ≤ℤ greatest_correction r)) cs
-    → All (λ x. (least_correction r ≤ℤ x) × (x ≤ℤ greatest_correction r)) (cs ++ c ∷ [])
-small-more r cs c least greatest small = All-push (λ x. (least_correction r ≤ℤ x) × (x ≤ℤ greatest_correction r)) cs c small (least, greatest)
-
-pub corrected-more : (f : List ℤ → ℤ) (r : Range) (v cs ds : List ℤ) (i : ℕ) (p c : ℤ) → i < length v
-    → p ≡ f (take i v) → ds ≡ cs ++ c ∷ [] → c ≡ correction_of r p (get_or v i (pos 0)) → restored_value r p c ≡ get_or v i (pos 0)
-    → least_correction r ≤ℤ c → c ≤ℤ greatest_correction r → Corrected f r v i cs → Corrected f r v (i + 1) ds
-corrected-more f r v cs ds i p c has p_is push is restores least greatest so = rw push (record {
-  are = corrections-more f r v (corrections f r v) cs i c has (is ∙ ap (λ q. correction_of r q (get_or v i (pos 0))) p_is) so.are;
-  restore = restores-more f r v cs i c has (ap (λ q. restored_value r q c) (sym p_is) ∙ restores) so.restore;
-  small = small-more r cs c least greatest so.small;
-})
-
-pub corrected-end : (f : List ℤ → ℤ) (r : Range) (v cs : List ℤ) (i : ℕ) → length v ≤ i → Corrected f r v i cs
-    → (cs ≡ corrections f r v) × (restored f r cs ≡ v)
-corrected-end f r v cs i done so =
-    (corrections-end f r v (corrections f r v) cs i done so.are, so.restore ∙ take_all i v done)
+small-corrections f r v can within = behind f r [] v can within
+  where
+    behind : (f : List ℤ → ℤ) (r : Range) (before v : List ℤ) → CanWrap r → All (InRange r) v → All (IsSmall r) (corrections_behind f r before v)
+    behind f r before [] can within = All-nil (IsSmall r)
+    behind f r before (x ∷ v) can within =
+        let in_range : InRange r x = All-head (InRange r) x v within in
+        All-cons (IsSmall r) (correction_of r (f before) x) (corrections_behind f r (before ++ x ∷ []) v)
+        (correction_small r (f before) x can in_range.0 in_range.1) (behind f r (before ++ x ∷ []) v can (All-tail (InRange r) x v within))

@@ -1,6 +1,6 @@
 -- Wrapped sums: to 32 bits on the way or at the end, and corrections that restore their values.
 use Rattle.std.proofs.Common.{◌≡◌, ℕ, ◌-◌, ◌/◌, ◌^◌, ◌<◌, ℤ, pos, ◌+ℤ◌, ◌-ℤ◌, ◌<ℤ◌, ◌≤ℤ◌, neg_ℤ, FitsSigned, sym, ◌∙◌, ap, arith}
-use Rattle.std.specs.Int.{w32, w64, int_wrap}
+use Rattle.std.specs.Int.{w32, int_wrap}
 use Rattle.std.proofs.lemmas.Int.{ints, by_lt_z, int_wrap-add_left, int_wrap_fits}
 use Rattle.predict.specs.Wrap.{Range, CanWrap, span_of, clipped, wrapped, halved, least_correction, greatest_correction, restored_value, correction_of}
 
@@ -105,17 +105,19 @@ correction_corrects r base v can base_low base_high low high =
     (λ far is. corrects_down r base v (halved r (v -ℤ base)) n far is)
     (λ least greatest is. corrects_there r base v (halved r (v -ℤ base)) n least greatest is)
 
+clipped-low : (r : Range) (p : ℤ) → r.low ≤ℤ r.high → r.low ≤ℤ clipped r p
+clipped-low r p order = grind (arith, ints)
+
+clipped-high : (r : Range) (p : ℤ) → r.low ≤ℤ r.high → clipped r p ≤ℤ r.high
+clipped-high r p order = grind (arith, ints)
+
 -- what a correction is, and what it does
 pub record Corrected (r : Range) (p v c : ℤ) : Type 0 where
   pub is : c ≡ correction_of r p v
   pub least : least_correction r ≤ℤ c
   pub greatest : c ≤ℤ greatest_correction r
   pub fits : FitsSigned w32 c
-  pub wide : FitsSigned w64 c
   pub restores : restored_value r p c ≡ v
-
-wider : (c : ℤ) → FitsSigned w32 c → FitsSigned w64 c
-wider c fits = search (arith, ints)
 
 pub corrected : (r : Range) (p base v apart way : ℤ) → base ≡ clipped r p → apart ≡ v -ℤ base → apart +ℤ way ≡ halved r apart
     → CanWrap r → r.low ≤ℤ base → base ≤ℤ r.high → r.low ≤ℤ v → v ≤ℤ r.high → FitsSigned w32 v
@@ -128,9 +130,21 @@ corrected r p base v apart way base_is apart_is way_is can base_low base_high lo
       least = good.least;
       greatest = good.greatest;
       fits = good.fits;
-      wide = wider (halved r (v -ℤ base)) good.fits;
       restores =
           ap (λ b. int_wrap w32 (wrapped r (b +ℤ halved r (v -ℤ base)))) (sym base_is)
           ∙ ap (λ x. int_wrap w32 x) good.back
           ∙ int_wrap_fits w32 v fits;
     })
+
+-- the correction of a value of the range corrects
+corrects : (r : Range) (p v : ℤ) → CanWrap r → r.low ≤ℤ v → v ≤ℤ r.high → Corrects r (clipped r p) v (correction_of r p v)
+corrects r p v can low high =
+    correction_corrects r (clipped r p) v can (clipped-low r p can.ordered) (clipped-high r p can.ordered) low high
+
+pub correction_restores : (r : Range) (p v : ℤ) → CanWrap r → r.low ≤ℤ v → v ≤ℤ r.high → FitsSigned w32 v
+    → restored_value r p (correction_of r p v) ≡ v
+correction_restores r p v can low high fits = ap (int_wrap w32) (corrects r p v can low high).back ∙ int_wrap_fits w32 v fits
+
+pub correction_small : (r : Range) (p v : ℤ) → CanWrap r → r.low ≤ℤ v → v ≤ℤ r.high
+    → (least_correction r ≤ℤ correction_of r p v) × (correction_of r p v ≤ℤ greatest_correction r)
+correction_small r p v can low high = let good = corrects r p v can low high in (good.least, good.greatest)

@@ -1,6 +1,6 @@
 //! Prediction by the difference to the entry before.
 
-ghost use Rattle.std.specs.Prelude.{◌≡◌, ◌<◌, ◌%◌, ◌≤ℤ◌, length, take, pos, slice_index_or, IfOk};
+ghost use Rattle.std.specs.Prelude.{◌≡◌, ◌<◌, ◌≤◌, ◌%◌, ◌≤ℤ◌, length, take, pos, slice_index_or, IfOk};
 ghost use Rattle.std.specs.List.{All};
 ghost use Rattle.predict.specs.Wrap.{least_correction, greatest_correction, restored_value};
 ghost use Rattle.predict.specs.Restored.{restored, corrections, entry_before};
@@ -9,22 +9,24 @@ use crate::wraps::Wrap;
 use drc_base::Memory;
 use std::alloc::Global;
 
-/// The prediction of value `i`: the same component of the entry before, and 0 for the first entry.
-fn prediction_at(comps: usize, v: &[i32], i: usize) -> i32
-    requires some { 0 < comps }
-    requires within { i < length v.now }
-    ensures { result ≡ entry_before comps (take i v.now) }
-{
-    if i < comps { 0 } else { v[i - comps] }
-}
-
-/// Value `i` from its correction and the values before it.
-fn restored_at(w: &Wrap, comps: usize, v: &[i32], i: usize) -> i32
-    requires some { 0 < comps }
+/// Value `i` of the first entry, whose prediction is 0, from its correction.
+fn first_restored(w: &Wrap, comps: usize, v: &[i32], i: usize) -> i32
+    requires first { i < comps }
     requires within { i < length v.now }
     ensures { result ≡ restored_value w.now (entry_before comps (take i v.now)) (slice_index_or v.now i (pos 0)) }
 {
-    w.restored(prediction_at(comps, v, i), v[i])
+    w.restored(0, v[i])
+}
+
+/// Value `i` of a later entry, whose prediction is the same component of the entry before, from its
+/// correction and the values before it.
+fn later_restored(w: &Wrap, comps: usize, v: &[i32], i: usize) -> i32
+    requires some { 0 < comps }
+    requires later { comps ≤ i }
+    requires within { i < length v.now }
+    ensures { result ≡ restored_value w.now (entry_before comps (take i v.now)) (slice_index_or v.now i (pos 0)) }
+{
+    w.restored(v[i - comps], v[i])
 }
 
 /// Turns the corrections `v` of entries of `comps` components into their values, in place.
@@ -33,10 +35,16 @@ pub fn restore_difference(w: &Wrap, comps: u32, v: &mut [i32])
     requires whole { length v.old % comps ≡ 0 }
     ensures { v.new ≡ restored (entry_before comps) w.now v.old }
 {
+    let wrap = w.copy();
     let comps = comps as usize;
-    for i in 0..v.len() {
-        let value = restored_at(w, comps, v, i);
+    let firsts = comps.min(v.len());
+    for i in 0..firsts {
+        let value = first_restored(&wrap, comps, v, i);
         v[i] = value;
+    }
+    for k in firsts..v.len() {
+        let value = later_restored(&wrap, comps, v, k);
+        v[k] = value;
     }
 }
 
@@ -55,10 +63,15 @@ pub fn correct_difference(
     ensures restores { IfOk result (λ c. restored (entry_before comps) w.now c.items ≡ v.now) }
     ensures small { IfOk result (λ c. All (λ x. (least_correction w.now ≤ℤ x) × (x ≤ℤ greatest_correction w.now)) c.items) }
 {
+    let wrap = w.copy();
     let comps = comps as usize;
+    let firsts = comps.min(v.len());
     let mut corrections = Vec::with_capacity(alloc, v.len())?;
-    for i in 0..v.len() {
-        corrections.push(w.correction(prediction_at(comps, v, i), v[i]))?;
+    for i in 0..firsts {
+        corrections.push_reserved(wrap.correction(0, v[i]));
+    }
+    for k in firsts..v.len() {
+        corrections.push_reserved(wrap.correction(v[k - comps], v[k]));
     }
     Ok(corrections)
 }

@@ -10,19 +10,20 @@ pub fn sum(a: i32, b: i32) -> i64
     a as i64 + b as i64
 }
 
-/// The whole difference.
-pub fn difference(a: i32, b: i32) -> i64
+/// The difference, which has 32 bits.
+pub fn difference(a: i32, b: i32) -> i32
+    requires { FitsSigned w32 (a -ℤ b) }
     ensures { result ≡ a -ℤ b }
 {
-    a as i64 - b as i64
+    a - b
 }
 
-/// The same number in 32 bits.
-pub fn narrow(x: i64) -> i32
-    requires { FitsSigned w32 x }
-    ensures { result ≡ x }
+/// The sum, which has 32 bits.
+pub fn sum_within(a: i32, b: i32) -> i32
+    requires { FitsSigned w32 (a +ℤ b) }
+    ensures { result ≡ a +ℤ b }
 {
-    x as i32
+    a + b
 }
 
 /// The sum, brought back to 32 bits in two's complement.

@@ -3,7 +3,7 @@
 ghost use Rattle.std.specs.Prelude.{◌≡◌, ◌↔◌, ◌≤ℤ◌, ◌+ℤ◌, IfSome, IsSome};
 ghost use Rattle.predict.specs.Wrap.{CanWrap, least_correction, greatest_correction, clipped, wrapped, halved, restored_value, correction_of};
 
-use crate::wholes::{difference, narrow, sum, wrapping_sum};
+use crate::wholes::{difference, sum, sum_within, wrapping_sum};
 use std::marker::Model;
 
 /// The range in which the values of an attribute lie. A value is restored from its prediction,
@@ -43,6 +43,18 @@ impl Wrap {
             high: max,
             span: reach as u32 + 1,
         })
+    }
+
+    /// The same range. Loops that write a slice keep one of their own, in registers.
+    pub fn copy(&self) -> Wrap
+        ensures same { result ≡ self.now }
+        ensures can_wrap { CanWrap self.now }
+    {
+        Wrap {
+            low: self.low,
+            high: self.high,
+            span: self.span,
+        }
     }
 
     /// The prediction, moved into the range.
@@ -87,11 +99,11 @@ impl Wrap {
     }
 
     /// What brings a difference to at most half a span: nothing, or a span up or down.
-    fn way_to_half(&self, apart: i64) -> i32
+    fn way_to_half(&self, apart: i32) -> i32
         ensures { apart +ℤ result ≡ halved self.now apart }
     {
-        let least = -((self.span / 2) as i64);
-        let greatest = ((self.span - 1) / 2) as i64;
+        let least = -((self.span / 2) as i32);
+        let greatest = ((self.span - 1) / 2) as i32;
         if apart < least {
             self.span as i32
         } else if apart > greatest {
@@ -111,6 +123,6 @@ impl Wrap {
         ensures restores { restored_value self.now prediction result ≡ value }
     {
         let apart = difference(value, self.clipped(prediction));
-        narrow(apart + self.way_to_half(apart) as i64)
+        sum_within(apart, self.way_to_half(apart))
     }
 }

@@ -1,3 +1,4 @@
+pub mod Faces
 pub mod Varints
 pub mod Symbols
 pub mod Written

@@ -7,6 +7,8 @@
 mod methods;
 mod packed;
 mod plain;
+mod plain_writing;
+mod quick;
 mod reading;
 #[cfg(test)]
 mod tests;

@@ -7,7 +7,7 @@ ghost use Rattle.seq_section.specs.Indices.{faces_at, indices_at, opening_bytes,
 
 use crate::methods::{PACKED, PLAIN};
 use crate::packed::put_packed;
-use crate::plain::put_plain;
+use crate::plain_writing::put_plain;
 use drc_base::{MAX_FACES, MAX_POINTS, Memory};
 use drc_bits::put_var32;
 use std::alloc::Global;
@@ -50,7 +50,7 @@ fn written_indices(
         put_packed(alloc, &mut out, faces, points)?;
     } else {
         put_opening(&mut out, faces.len() as u32, points, PLAIN)?;
-        put_plain(&mut out, faces, points)?;
+        out = put_plain(out, faces, points)?;
     }
     Ok(out)
 }

@@ -1,9 +1,17 @@
-use Rattle.attr_section.proofs.SpelledIntegers.{Spells-differences}
+use Rattle.std.proofs.Common.{rules, FitsSigned, w32}
+use Rattle.std.proofs.lemmas.Int.{to_z-of_z}
+use Rattle.predict.specs.Restored.{corrections, entry_before}
+use Rattle.attr_section.specs.Written.{range_of}
+use Rattle.attr_section.proofs.SpelledIntegers.{Spells-differences, Spells-integers}
 use Rattle.attr_section.proofs.value_writing.put_differences.Goals as goal
 
 pub returns-clause-again : goal.returns-clause-again
 returns-clause-again c =
+    let low : FitsSigned w32 c.range_of-low.result.0 = search rules in
+    let high : FitsSigned w32 c.range_of-low.result.1 = search rules in
+    let range = simp to_z-of_z at c.in_ok-put_range.ensures.again in
     Spells-differences c.args.plain c.args.comps c.args.values.now
-    (rw (c.deref.ensures.value, c.in_ok-corrections.ensures.are) at c.in_ok-put_integers.ensures.again)
-    c.in_ok-put_range_of.ensures.again
-    (rw c.in_ok-corrections.ensures.are at c.in_ok-corrections.ensures.restore)
+    (Spells-integers c.args.plain c.args.comps (corrections (entry_before c.args.comps) (range_of c.args.values.now) c.args.values.now)
+    (rw c.in_ok-symbols.ensures.symbols at c.in_ok-put_symbols.ensures.again))
+    (rw c.range_of-low.ensures range)
+    c.in_ok-symbols.ensures.restore
