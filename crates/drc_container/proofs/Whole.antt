@@ -15,8 +15,8 @@ use Rattle.drc_bits.specs.Numbers.{number_at}
 use Rattle.drc_bits.proofs.Results.{Ok-injective}
 use Rattle.mesh_model.specs.declared.heads.Head.{Head}
 use Rattle.mesh_model.specs.Head.{width_of, types_of, in_type, heads_fault}
-use Rattle.mesh_model.specs.Parts.{RowFits, ArePoints, cells_of, mesh_fault, cloud_fault}
-use Rattle.mesh_model.proofs.Made.{mesh_of-IsMesh, cloud_of-IsCloud}
+use Rattle.mesh_model.specs.Parts.{RowFits, ArePoints, cells_of, range_fault, mesh_fault, cloud_fault}
+use Rattle.mesh_model.proofs.Made.{range_fault-cells_of, mesh_of-IsMesh, cloud_of-IsCloud}
 use Rattle.attr_section.specs.declared.decoder_heads.DecoderHead.{DecoderHead}
 use Rattle.attr_section.specs.declared.values.Values.{Values}
 use Rattle.attr_section.specs.Each.{each_at}
@@ -192,6 +192,15 @@ rows n a = map (row_at a.heads (columns a.values)) (range_with_len 0 n)
 rows-count : (n : ℕ) (a : Attributes) → length (rows n a) ≡ n
 rows-count n a = length-map-range_with_len (row_at a.heads (columns a.values)) 0 n
 
+rows-fit : (n : ℕ) (a : Attributes) → AreAttributes n a → All (RowFits a.heads) (rows n a)
+rows-fit n a are =
+    let count = rows-count n a in
+    All-from_get_or (RowFits a.heads) (rows n a) [] (λ i below.
+    let within : i < n = omega (arith, below, count) in
+    let here : 0 + i ≡ i = omega arith in
+    subst (RowFits a.heads) (sym (get_or-map-range_with_len (row_at a.heads (columns a.values)) 0 n i i [] within here))
+    (row-fits n i within a.heads a.values are.typed))
+
 rows-points : (n : ℕ) (a : Attributes) → n ≤ MAX_POINTS → AreAttributes n a → ArePoints a.heads (rows n a)
 rows-points n a few are =
     let count = rows-count n a in
@@ -200,15 +209,18 @@ rows-points n a few are =
       heads_pass = are.heads;
       few_points = omega (arith, count, few);
       few_values = subst (λ m. m * width_of a.heads ≤ MAX_VALUES) (sym count) (omega (arith, all, are.few));
-      rows_fit = All-from_get_or (RowFits a.heads) (rows n a) [] (λ i below.
-          let within : i < n = omega (arith, below, count) in
-          let here : 0 + i ≡ i = omega arith in
-          subst (RowFits a.heads) (sym (get_or-map-range_with_len (row_at a.heads (columns a.values)) 0 n i i [] within here))
-          (row-fits n i within a.heads a.values are.typed));
+      rows_fit = rows-fit n a are;
     }
 
 rows-cells : (n : ℕ) (a : Attributes) → points_of n a ≡ cells_of (rows n a)
 rows-cells n a = sym (flat_map-map (λ (row : List ℤ). row) (row_at a.heads (columns a.values)) (range_with_len 0 n))
+
+-- no cell is outside its type
+pub typed_pass : (n : ℕ) (c : Reading) (y : Attributes × Reading) → attributes_at n c ≡ Ok y → range_fault y.0.heads (points_of n y.0) ≡ None
+typed_pass n c y is =
+    let a = y.0 in
+    let are = attributes-passed n c y is in
+    ap (range_fault a.heads) (rows-cells n a) ∙ range_fault-cells_of a.heads (rows n a) are.heads (rows-fit n a are)
 
 pub clouds_pass : CloudsPass
 clouds_pass c d e n a points attributes =

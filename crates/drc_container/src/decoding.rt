@@ -1,12 +1,12 @@
 //! Decoding a whole stream.
 
-ghost use Rattle.std.specs.Prelude.{◌≡◌, Err};
+ghost use Rattle.std.specs.Prelude.{◌≡◌, None, Err};
 ghost use Rattle.drc_base.specs.declared.faults.Fault.{Fault as AnyFault};
 ghost use Rattle.drc_base.specs.declared.faults.Refusal.TheVariants as refusal;
 ghost use Rattle.drc_base.specs.Refusals.{Answers};
 ghost use Rattle.drc_container.specs.Stream.{stream, meaning_of, mesh_at, mesh_behind, cloud_at, cloud_behind, front_of, points_of};
 ghost use Rattle.attr_section.specs.Values.{AreColumns};
-ghost use Rattle.mesh_model.specs.Parts.{mesh_of, cloud_of};
+ghost use Rattle.mesh_model.specs.Parts.{mesh_of, cloud_of, range_fault};
 ghost use Rattle.drc_container.specs.Header.{cloud_points_at};
 ghost use Rattle.seq_section.specs.Indices.{opening_at};
 
@@ -87,12 +87,13 @@ fn mesh_of(
     attributes: Attributes,
     faces: Vec<[u32; 3]>,
 ) -> Result<CornerMesh, Refusal>
-    requires { AreColumns points attributes.heads attributes.values }
+    requires columns { AreColumns points attributes.heads attributes.values }
+    requires typed { range_fault attributes.heads (points_of points attributes) ≡ None }
     ensures { Answers (λ m. m) (mesh_of attributes.heads (points_of points attributes) faces.items) result }
 {
     let Attributes { heads, values } = attributes;
     let cells = points_of(alloc, points, heads.as_slice(), values.into_vec())?;
-    CornerMesh::new(heads.into_vec(), cells, faces)
+    CornerMesh::of_typed(heads.into_vec(), cells, faces)
 }
 
 /// Reads a cloud behind its header.
@@ -128,10 +129,11 @@ fn read_cloud_values(
 
 /// The cloud of so many points with these attributes.
 fn cloud_of(alloc: Global, points: u32, attributes: Attributes) -> Result<Cloud, Refusal>
-    requires { AreColumns points attributes.heads attributes.values }
+    requires columns { AreColumns points attributes.heads attributes.values }
+    requires typed { range_fault attributes.heads (points_of points attributes) ≡ None }
     ensures { Answers (λ m. m) (cloud_of attributes.heads (points_of points attributes)) result }
 {
     let Attributes { heads, values } = attributes;
     let cells = points_of(alloc, points, heads.as_slice(), values.into_vec())?;
-    Cloud::new(heads.into_vec(), cells)
+    Cloud::of_typed(heads.into_vec(), cells)
 }

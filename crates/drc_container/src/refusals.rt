@@ -1,8 +1,6 @@
 //! Which geometries and choices are refused.
 
-ghost use Rattle.std.specs.Prelude.{◌≡◌, ◌<◌, length, position, not};
-ghost use Rattle.std.specs.Int.{int_min, int_max};
-ghost use Rattle.std.specs.List.{fold};
+ghost use Rattle.std.specs.Prelude.{◌≡◌, position, not};
 ghost use Rattle.mesh_model.specs.FirstFault.{Tests, unless};
 ghost use Rattle.attr_section.specs.Values.{can_wrap};
 ghost use Rattle.attr_section.specs.Written.{range_of};
@@ -12,7 +10,7 @@ ghost use Rattle.drc_container.specs.Refused.{choice_fault, empty_fault, positio
 use crate::choices::{Choice, Predict};
 use crate::choosing::is_sequential;
 use crate::contents::{face_count, heads_in, is_mesh, point_count};
-use attr_section::Values;
+use attr_section::{Values, range_of};
 use drc_base::{Fault, Kind};
 use mesh_model::{Geometry, Head};
 
@@ -89,28 +87,6 @@ pub fn test_early(g: &Geometry, choice: &Choice) -> Result<(), Fault>
     test_empty(g, choice)?;
     test_position(g, choice)?;
     unless(is_sequential(g, choice), Kind::NotYet, 0)
-}
-
-/// The least and the greatest of a value and others.
-fn range_from(first: i32, rest: &[i32]) -> (i32, i32)
-    ensures low { result.0 ≡ fold int_min first rest.now }
-    ensures high { result.1 ≡ fold int_max first rest.now }
-{
-    let mut low = first;
-    let mut high = first;
-    for value in rest {
-        low = low.min(*value);
-        high = high.max(*value);
-    }
-    (low, high)
-}
-
-/// The least and the greatest of values.
-fn range_of(values: &[i32]) -> (i32, i32)
-    requires { 0 < length values.now }
-    ensures { range_of values.now ≡ record { low = result.0; high = result.1 } }
-{
-    range_from(values[0], &values[1..])
 }
 
 /// Whether corrections can wrap between these: the greatest is less than 2^31 - 1 above the least.

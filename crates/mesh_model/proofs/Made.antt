@@ -118,6 +118,14 @@ fits_at-cells_of heads points wide fit k below =
     ap (λ n. get_or (cells_of points) n (pos 0)) (sym place) ∙ get_or-cells_of w points i j (pos 0) long inside narrow in
     ap (in_type (get_or (types_of heads) j 0)) value ∙ (fit i [] inside).1 j narrow
 
+-- where rows fit heads, no cell of their flat list is outside its type
+pub range_fault-cells_of : (heads : List Head) (points : List (List ℤ)) → heads_fault heads ≡ None → All (RowFits heads) points → range_fault heads (cells_of points) ≡ None
+range_fault-cells_of heads points pass fit =
+    let w = width_of heads in
+    let wide : 0 < w = (width_of-bounds heads pass).0 in
+    let whole = length-cells_of w points (λ r d b. (fit r d b).0) in
+    range_fault-none heads (cells_of points) (λ k below. fits_at-cells_of heads points wide fit k (subst (λ n. k < n) whole below))
+
 -- the flat list of points that fit passes each test of points
 pub ArePoints-tests : (heads : List Head) (points : List (List ℤ)) → ArePoints heads points → (length (cells_of points) / width_of heads ≡ length points) × (count_fault (length (cells_of points) / width_of heads) (width_of heads) ≡ None) × (range_fault heads (cells_of points) ≡ None) × (rows_of (width_of heads) (cells_of points) ≡ points) × (length (cells_of points) % width_of heads ≡ 0)
 ArePoints-tests heads points are =
@@ -128,7 +136,7 @@ ArePoints-tests heads points are =
     let whole = length-cells_of w points long in (
       many,
       subst (λ n. count_fault n w ≡ None) (sym many) (count_fault-none (length points) w are.few_points are.few_values),
-      range_fault-none heads (cells_of points) (λ k below. fits_at-cells_of heads points wide are.rows_fit k (subst (λ n. k < n) whole below)),
+      range_fault-cells_of heads points are.heads_pass are.rows_fit,
       rows_of-cells_of w points wide long,
       ap (λ n. n % w) (whole ∙ sym (add-zero (length points * w))) ∙ mod-mul-add (length points) w 0 wide,
     )

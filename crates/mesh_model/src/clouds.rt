@@ -1,7 +1,7 @@
 //! Point clouds.
 
 use crate::heads::{Head, test_heads};
-use crate::row_rules::{stored_row, test_counts, test_values};
+use crate::row_rules::{stored_row, test_counts, test_typed};
 use drc_base::Refusal;
 use std::marker::Model;
 
@@ -29,10 +29,10 @@ impl Model for Cloud {
 }
 
 impl Cloud {
-    ghost use Rattle.std.specs.Prelude.{◌≡◌, ◌<◌, ◌≤◌, [], length, slice_index_or};
+    ghost use Rattle.std.specs.Prelude.{◌≡◌, ◌<◌, ◌≤◌, [], IsTrue, None, length, slice_index_or};
     ghost use Rattle.mesh_model.specs.FirstFault.{answer_of};
     ghost use Rattle.mesh_model.specs.Head.{width_of};
-    ghost use Rattle.mesh_model.specs.Parts.{AreRows, IsCloud, cloud_of};
+    ghost use Rattle.mesh_model.specs.Parts.{AreRows, IsCloud, cloud_of, range_fault};
 
     /// The cloud of these heads and points (row after row). It takes no memory. Refusals, the first
     /// that applies: NoAttribute and AttrLimit at the number of heads; AttrType, DataType,
@@ -43,10 +43,29 @@ impl Cloud {
         requires { AreRows heads.items points.items }
         ensures { result ≡ answer_of (cloud_of heads.items points.items) }
     {
+        Cloud::tested(heads, points, false)
+    }
+
+    /// The cloud that `new` gives, or its refusal, where each integer is known to be in its data type: none
+    /// of them is looked at. It takes no memory.
+    pub fn of_typed(heads: Vec<Head>, points: Vec<i32>) -> Result<Cloud, Refusal>
+        requires rows { AreRows heads.items points.items }
+        requires typed { range_fault heads.items points.items ≡ None }
+        ensures { result ≡ answer_of (cloud_of heads.items points.items) }
+    {
+        Cloud::tested(heads, points, true)
+    }
+
+    /// The cloud or its first refusal; where its integers are known to be typed, they aren't tested.
+    fn tested(heads: Vec<Head>, points: Vec<i32>, typed: bool) -> Result<Cloud, Refusal>
+        requires rows { AreRows heads.items points.items }
+        requires typed { IsTrue typed → range_fault heads.items points.items ≡ None }
+        ensures { result ≡ answer_of (cloud_of heads.items points.items) }
+    {
         let width = test_heads(heads.as_slice())?;
         let count = points.len() as u64 / width as u64;
         test_counts(count, width)?;
-        test_values(heads.as_slice(), width, points.as_slice())?;
+        test_typed(heads.as_slice(), width, points.as_slice(), typed)?;
         Ok(Cloud {
             heads,
             cells: points,

@@ -1,7 +1,7 @@
 //! Triangle meshes.
 
 use crate::heads::{Head, test_heads};
-use crate::row_rules::{stored_row, test_counts, test_face_count, test_indices, test_values};
+use crate::row_rules::{stored_row, test_counts, test_face_count, test_indices, test_typed};
 use drc_base::Refusal;
 use std::marker::Model;
 
@@ -30,10 +30,10 @@ impl Model for CornerMesh {
 }
 
 impl CornerMesh {
-    ghost use Rattle.std.specs.Prelude.{◌≡◌, ◌<◌, ◌≤◌, [], All, length, slice_index_or};
+    ghost use Rattle.std.specs.Prelude.{◌≡◌, ◌<◌, ◌≤◌, [], All, IsTrue, None, length, slice_index_or};
     ghost use Rattle.mesh_model.specs.FirstFault.{answer_of};
     ghost use Rattle.mesh_model.specs.Head.{width_of};
-    ghost use Rattle.mesh_model.specs.Parts.{AreRows, IsMesh, corner, mesh_of, rows_of};
+    ghost use Rattle.mesh_model.specs.Parts.{AreRows, IsMesh, corner, mesh_of, range_fault, rows_of};
     ghost use Rattle.mesh_model.specs.Stored.{AreStored};
 
     /// The mesh of these heads, points (row after row) and faces. It takes no memory. Refusals, the
@@ -50,12 +50,40 @@ impl CornerMesh {
         requires { AreRows heads.items points.items }
         ensures { result ≡ answer_of (mesh_of heads.items points.items faces.items) }
     {
+        CornerMesh::tested(heads, points, faces, false)
+    }
+
+    /// The mesh that `new` gives, or its refusal, where each integer is known to be in its data type: none
+    /// of them is looked at. It takes no memory.
+    pub fn of_typed(
+        heads: Vec<Head>,
+        points: Vec<i32>,
+        faces: Vec<[u32; 3]>,
+    ) -> Result<CornerMesh, Refusal>
+        requires rows { AreRows heads.items points.items }
+        requires typed { range_fault heads.items points.items ≡ None }
+        ensures { result ≡ answer_of (mesh_of heads.items points.items faces.items) }
+    {
+        CornerMesh::tested(heads, points, faces, true)
+    }
+
+    /// The mesh or its first refusal; where its integers are known to be typed, they aren't tested.
+    fn tested(
+        heads: Vec<Head>,
+        points: Vec<i32>,
+        faces: Vec<[u32; 3]>,
+        typed: bool,
+    ) -> Result<CornerMesh, Refusal>
+        requires rows { AreRows heads.items points.items }
+        requires typed { IsTrue typed → range_fault heads.items points.items ≡ None }
+        ensures { result ≡ answer_of (mesh_of heads.items points.items faces.items) }
+    {
         let width = test_heads(heads.as_slice())?;
         let count = points.len() as u64 / width as u64;
         test_counts(count, width)?;
         test_face_count(faces.as_slice())?;
         test_indices(count as u32, faces.as_slice())?;
-        test_values(heads.as_slice(), width, points.as_slice())?;
+        test_typed(heads.as_slice(), width, points.as_slice(), typed)?;
         Ok(CornerMesh {
             heads,
             cells: points,

@@ -1,6 +1,6 @@
 //! The tests that the points and faces of a geometry pass, in their order.
 
-ghost use Rattle.std.specs.Prelude.{◌≡◌, ◌+◌, ◌*◌, ◌/◌, ◌<◌, ◌≤◌, ◌^◌, ℕ, [], length, slice_index_or, nat_lt, not, All, position, take, IsTrue};
+ghost use Rattle.std.specs.Prelude.{◌≡◌, ◌+◌, ◌*◌, ◌/◌, ◌<◌, ◌≤◌, ◌^◌, ℕ, [], length, slice_index_or, nat_lt, not, All, position, take, IsTrue, None};
 ghost use Rattle.std.specs.List.{list_all};
 ghost use Rattle.mesh_model.specs.FirstFault.{Tests};
 ghost use Rattle.mesh_model.specs.Head.{in_type, types_of, width_of};
@@ -120,7 +120,7 @@ fn column_types(heads: &[Head]) -> [u8; MAX_WIDTH]
 
 /// ValueRange at the first cell outside its data type, which its column in the row tells.
 #[tactic(auto, unfolding(crate::specs::Parts::range_fault))]
-pub(crate) fn test_values(heads: &[Head], width: u32, cells: &[i32]) -> Result<(), Fault>
+fn test_values(heads: &[Head], width: u32, cells: &[i32]) -> Result<(), Fault>
     requires width { width ≡ width_of heads.now }
     requires bounds { (0 < width) × (width ≤ 128) }
     ensures { Tests (range_fault heads.now cells.now) result }
@@ -140,4 +140,23 @@ pub(crate) fn test_values(heads: &[Head], width: u32, cells: &[i32]) -> Result<(
         }
     }
     Ok(())
+}
+
+/// ValueRange at the first cell outside its data type; where it is known that there is none, no cell is
+/// looked at.
+pub(crate) fn test_typed(
+    heads: &[Head],
+    width: u32,
+    cells: &[i32],
+    typed: bool,
+) -> Result<(), Fault>
+    requires width { width ≡ width_of heads.now }
+    requires bounds { (0 < width) × (width ≤ 128) }
+    requires typed { IsTrue typed → range_fault heads.now cells.now ≡ None }
+    ensures { Tests (range_fault heads.now cells.now) result }
+{
+    if typed {
+        return Ok(());
+    }
+    test_values(heads, width, cells)
 }
