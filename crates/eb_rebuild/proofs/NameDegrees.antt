@@ -1,9 +1,9 @@
 -- How often a name stands in triangles, after one triangle more and after a renaming; and what a raised number reads as.
-use Rattle.std.proofs.Common.{◌≡◌, ◌≢◌, ℕ, zero, suc, ◌+◌, ◌*◌, ◌<◌, ◌≤◌, Bool, true, false, ◌==◌, cond, List, [], ◌∷◌, ◌++◌, length, get_or, map, set, take, inl, inr, sym, refl, ap, ◌∙◌, subst, arith, eqb-true, eq-eqb, sum_by, get_or-set_other, get_or-set_same}
+use Rattle.std.proofs.Common.{◌≡◌, ◌≢◌, ℕ, zero, suc, ◌+◌, ◌*◌, ◌<◌, ◌≤◌, Bool, true, false, ◌==◌, cond, List, [], ◌∷◌, ◌++◌, length, get_or, map, take, inl, inr, sym, refl, ap, ◌∙◌, arith, eqb-true, eq-eqb, sum_by, get_or-set_other, get_or-set_same}
 use Rattle.std.proofs.lemmas.Bool.{cases_Bool, cases_eq, cond-true, cond-false}
 use Rattle.std.proofs.lemmas.List.{take_all}
 use Rattle.std.proofs.lemmas.List.Sums.{sum_by-cons, sum_by_push, sum_by_more}
-use Rattle.corner_table.specs.Sides.{Side, Place, first, second, third, side, number, next, prev, Gluing, IsFree}
+use Rattle.corner_table.specs.Sides.{Side, first, second, third, side, number, next, prev, Gluing, IsFree}
 use Rattle.corner_table.proofs.Places.{next_injective, prev_injective, same_tells}
 use Rattle.corner_table.proofs.Numbers.{number_injective}
 use Rattle.corner_table.proofs.Walks.{starts_once, ends_once}

@@ -1,5 +1,5 @@
 -- The degrees after each symbol, counted over names: what the numbers at the free sides become.
-use Rattle.std.proofs.Common.{◌≡◌, ◌≢◌, ℕ, zero, suc, ◌+◌, ◌*◌, ◌<◌, ◌≤◌, Bool, true, false, ◌==◌, cond, List, [], ◌∷◌, ◌++◌, length, get_or, map, set, ◌⊎◌, inl, inr, sym, refl, ap, ◌∙◌, subst, arith, length-append, length-set, get_or-set_other, get_or-set_same, eq-eqb}
+use Rattle.std.proofs.Common.{◌≡◌, ◌≢◌, ℕ, suc, ◌+◌, ◌*◌, ◌<◌, ◌≤◌, Bool, true, false, ◌==◌, cond, List, [], ◌∷◌, ◌++◌, length, get_or, map, set, inl, inr, sym, refl, ap, ◌∙◌, subst, arith, length-append, length-set, get_or-set_other, get_or-set_same}
 use Rattle.std.proofs.lemmas.Bool.{cases_Bool, cases_lt, cases_eq, cond-true, cond-false}
 use Rattle.std.proofs.lemmas.List.{length-map}
 use Rattle.corner_table.specs.Sides.{Side, Place, first, second, third, side, number, next, prev, place_after, Gluing, glue, IsFree}
@@ -11,7 +11,7 @@ use Rattle.eb_rebuild.specs.Shown.{name_of, AreNames}
 use Rattle.eb_rebuild.proofs.NamedRules.{renamed_from, renamed_case}
 use Rattle.eb_rebuild.proofs.ManyGlued.{Pairs, glue_all, IsOther, IsOtherPlace, AreApart, free_tells}
 use Rattle.eb_rebuild.proofs.Naming.{get_or-before_last, get_or-last, name_old}
-use Rattle.eb_rebuild.proofs.NameDegrees.{bit, bit_same, bit_other, apart_false, count, count_more, count_none, count_renamed, one_start, one_end, raised_is}
+use Rattle.eb_rebuild.proofs.NameDegrees.{bit, bit_same, bit_other, count, count_more, count_none, count_renamed, one_start, raised_is}
 
 -- the number at each free side is the degree by names
 abbrev pub AreCounts : List Triangle → Gluing → List ℕ → Type 0

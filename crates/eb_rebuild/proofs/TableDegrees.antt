@@ -1,5 +1,5 @@
 -- The degrees kept beside a table, after each symbol.
-use Rattle.std.proofs.Common.{◌≡◌, ◌≢◌, ℕ, suc, ◌+◌, ◌*◌, ◌^◌, ◌<◌, ◌≤◌, Bool, true, ◌==◌, cond, is_none, IsTrue, OnOk, Option, Some, false, replicate, List, [], ◌∷◌, ◌++◌, length, get_or, map, None, Result, Ok, Err, inl, inr, sym, refl, ap, ◌∙◌, subst, arith, length-append, eq-eqb}
+use Rattle.std.proofs.Common.{◌≡◌, ◌≢◌, ℕ, suc, ◌+◌, ◌*◌, ◌^◌, ◌<◌, ◌≤◌, Bool, true, ◌==◌, cond, is_none, IsTrue, OnOk, Some, false, replicate, List, [], ◌∷◌, ◌++◌, length, get_or, map, None, Result, Ok, Err, inl, inr, sym, refl, ap, ◌∙◌, subst, arith, length-append, eq-eqb}
 use Rattle.std.specs.List.{list_any}
 use Rattle.std.proofs.lemmas.Bool.{cases_Bool, cond-true, cond-false}
 use Rattle.std.proofs.lemmas.List.{length-map, length-replicate}
@@ -7,20 +7,18 @@ use Rattle.drc_base.specs.declared.faults.Fault.{Fault}
 use Rattle.drc_base.specs.declared.faults.Refusal.{Refusal}
 use Rattle.drc_base.specs.declared.limits.TheConstants.{MAX_FACES}
 use Rattle.corner_table.specs.Sides.{Side, first, second, third, side, side_at, number, next, prev, Gluing, unglued, glue, IsFree}
-use Rattle.corner_table.specs.Fans.{Follows, side_before}
+use Rattle.corner_table.specs.Fans.{Follows}
 use Rattle.corner_table.specs.declared.symbols.Event.{Event}
 use Rattle.corner_table.specs.Table.{Table, gluing_of, room_of, IsFreeIn, free_entry, other_at}
 use Rattle.corner_table.proofs.Numbers.{number-side_at, face-lt}
 use Rattle.corner_table.proofs.Places.{option_tells}
 use Rattle.corner_table.proofs.TableSteps.{get_or-replicate}
-use Rattle.corner_table.proofs.Boundary.{side_before-follows}
-use Rattle.eb_rebuild.specs.Counted.{times_in}
 use Rattle.eb_rebuild.specs.Degree.{degree, top_degree}
 use Rattle.eb_rebuild.specs.Kept.{StackValue, SplitsValue, kept_in, AreSidesBelow, first_side}
 use Rattle.eb_rebuild.specs.KeptDegrees.{KeepsDegrees, after_end, after_right, after_left, after_tip, after_split}
 use Rattle.eb_rebuild.specs.Linked.{LinkValue, IsLinkState, state_of, is_top_free, is_live, Does, refused_by}
 use Rattle.eb_rebuild.specs.Machine.{State, Plan, start}
-use Rattle.eb_rebuild.specs.Named.{Triangle, Row, NamedState, renamed, renamed_triangle}
+use Rattle.eb_rebuild.specs.Named.{Triangle, Row, renamed, renamed_triangle}
 use Rattle.eb_rebuild.specs.Rebuilding.{Moves}
 use Rattle.eb_rebuild.specs.Rowed.{NamedTable, IsNamedTable}
 use Rattle.eb_rebuild.specs.Shown.{name_of, row_named, AreNames}

@@ -1,6 +1,6 @@
 -- A face more, glued to the top side, its side 0 on top, and its events noted.
 use Rattle.std.proofs.Common.{◌≡◌, ℕ, suc, ◌+◌, ◌*◌, ◌/◌, ◌<◌, ◌∷◌, List, length, sym, refl, ap, ◌∙◌, subst, arith, add-one}
-use Rattle.corner_table.specs.Sides.{Side, side, side_at, first, second, number, glue, IsFree}
+use Rattle.corner_table.specs.Sides.{Side, side, side_at, first, second, glue}
 use Rattle.corner_table.specs.Table.{side_of, glued_in, gluing_of}
 use Rattle.corner_table.specs.Fans.{Follows}
 use Rattle.corner_table.proofs.Places.{face_apart}

@@ -1,5 +1,5 @@
 -- A face more, glued to the top side and to the side before it.
-use Rattle.std.proofs.Common.{◌≡◌, ℕ, ◌+◌, Ok, ◌*◌, ◌/◌, ◌<◌, ◌∷◌, List, length, sym, refl, ap, ◌∙◌, subst, arith, add-one}
+use Rattle.std.proofs.Common.{◌≡◌, ℕ, Ok, ◌*◌, ◌/◌, ◌<◌, ◌∷◌, List, length, sym, refl, ap, ◌∙◌, subst, arith, add-one}
 use Rattle.corner_table.specs.Sides.{Side, side, side_at, number, first, second, third, glue}
 use Rattle.corner_table.specs.Fans.{side_before, Follows}
 use Rattle.corner_table.specs.Table.{side_of, glued_in, gluing_of}
