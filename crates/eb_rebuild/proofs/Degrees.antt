@@ -75,7 +75,7 @@ or_second : (t u : Bool) → u ≡ true → (t || u) ≡ true
 or_second true u e = refl
 or_second false u e = e
 
-among_any : (q : Row → Bool) (r : Row) (rows : List Row) → Among r rows → q r ≡ true → list_any q rows ≡ true
+pub among_any : (q : Row → Bool) (r : Row) (rows : List Row) → Among r rows → q r ≡ true → list_any q rows ≡ true
 among_any q r [] m e = absurd m
 among_any q r (x ∷ rows) m e = elim m [
   | inl i ↦ or_first (q x) (list_any q rows) (ap q i ∙ e)

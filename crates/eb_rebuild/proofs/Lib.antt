@@ -19,3 +19,6 @@ pub mod RowSteps
 pub mod Degrees
 mod NameCounts
 mod NamesMade
+mod NameDegrees
+mod SymbolDegrees
+pub mod TableDegrees

@@ -3,10 +3,10 @@ use Rattle.std.proofs.Common.{◌≡◌, ◌≢◌, ℕ, zero, suc, ◌+◌, ◌
 use Rattle.std.specs.Prelude.{nat_eq}
 use Rattle.std.specs.List.{list_any}
 use Rattle.std.specs.Set.{unique_keys, distinct_count}
-use Rattle.std.proofs.lemmas.Bool.{cases_Bool, cases_lt, cases_eq, cond-true, cond-false, or_cases}
+use Rattle.std.proofs.lemmas.Bool.{cases_Bool, cases_eq, cond-true, cond-false, or_cases}
 use Rattle.std.proofs.lemmas.List.Folds.{list_any-append}
 use Rattle.eb_rebuild.specs.Named.{renamed}
-use Rattle.eb_rebuild.proofs.NamedRules.{renamed_from, renamed_to, renamed_case, renamed_below}
+use Rattle.eb_rebuild.proofs.NamedRules.{renamed_from, renamed_case, renamed_below}
 
 -- a number stands in a list
 abbrev pub has : List ℕ → ℕ → Bool

@@ -1,7 +1,7 @@
 -- The vertices made are the names in the triangles and the S taken: rule by rule, and over whole runs.
-use Rattle.std.proofs.Common.{◌≡◌, ◌≢◌, ℕ, zero, suc, ◌+◌, ◌<◌, ◌≤◌, Bool, true, false, not, ◌&&◌, ◌||◌, ◌==◌, cond, List, [], ◌∷◌, ◌++◌, length, get_or, map, find, Option, Some, None, Result, Ok, Err, inl, inr, sym, refl, ap, ◌∙◌, subst, arith, eq-eqb}
+use Rattle.std.proofs.Common.{◌≡◌, ◌≢◌, ℕ, zero, suc, ◌+◌, ◌<◌, ◌≤◌, Bool, true, false, not, ◌&&◌, ◌||◌, ◌==◌, cond, List, [], ◌∷◌, ◌++◌, length, get_or, map, Option, Some, None, Result, Ok, Err, inl, inr, sym, refl, ap, ◌∙◌, subst, arith, eq-eqb}
 use Rattle.std.specs.Prelude.{nat_eq}
-use Rattle.std.specs.List.{list_any, count_by}
+use Rattle.std.specs.List.{count_by}
 use Rattle.std.specs.Set.{distinct_count}
 use Rattle.std.proofs.lemmas.Bool.{cases_Bool, cases_eq, cond-true, cond-false}
 use Rattle.std.proofs.lemmas.List.Sums.{sum_by-cons}
@@ -13,11 +13,10 @@ use Rattle.corner_table.specs.declared.symbols.Symbol.TheVariants.{C, S, L, R, E
 use Rattle.corner_table.specs.declared.symbols.Event.{Event}
 use Rattle.corner_table.specs.Sides.{Side, Place, first, second, third, side, same, next, prev, glue}
 use Rattle.eb_rebuild.specs.Machine.{State, Plan, ◌>>=◌, must, pushed, note_events, step, close}
-use Rattle.eb_rebuild.specs.Named.{Triangle, corner, no_triangle, Row, new_row, row_of, row_to, row_before, without, renamed, renamed_triangle, NamedState, named_start, row_or_gone, top_row, named_events, named_rule, named_step, named_fill, named_close_top, named_close, named_symbols, named_closes}
-use Rattle.eb_rebuild.specs.Shown.{name_of, Among, Shows, Agree, without_names, names_in, is_split}
+use Rattle.eb_rebuild.specs.Named.{Triangle, corner, no_triangle, Row, new_row, row_of, row_before, without, renamed, renamed_triangle, NamedState, named_start, row_or_gone, top_row, named_events, named_rule, named_step, named_fill, named_close_top, named_close, named_symbols, named_closes}
+use Rattle.eb_rebuild.specs.Shown.{Among, Shows, Agree, without_names, names_in, is_split}
 use Rattle.eb_rebuild.proofs.RowLists.{found}
-use Rattle.eb_rebuild.proofs.NamedRules.{renamed_to}
-use Rattle.eb_rebuild.proofs.NamedLaw.{Stands, stands, symbols_agree, closes_agree, shows_start, named_right, named_left, tip_made, tip_found, named_tip, split_made, named_split_last, named_split, fill_made, fill_from}
+use Rattle.eb_rebuild.proofs.NamedLaw.{Stands, stands, symbols_agree, closes_agree, shows_start, named_right, named_left, tip_made, named_tip, split_made, named_split_last, named_split, fill_made}
 use Rattle.eb_rebuild.proofs.NameCounts.{has, AreUnder, Counted, AreKnown, has_under, more_names, less_name, has_renamed, none_counted, made_of}
 
 -- a value of which something is known, if there is one

@@ -12,12 +12,12 @@ use Rattle.eb_rebuild.proofs.RowLists.{among_filter, from_filter, among_map, fro
 use Rattle.eb_rebuild.proofs.ManyGlued.{Pairs, glue_all, IsOther, IsOtherPlace, AreApart, all_gluing, Meet, all_alike, Touches, Meeting, all_meet, free_tells, new_is_free, old_is_free}
 
 -- a list with one item more, read before the item and at it
-get_or-before_last : {A : Type 0} (xs : List A) (y d : A) (i : ℕ) → i < length xs → get_or (xs ++ (y ∷ [])) i d ≡ get_or xs i d
+pub get_or-before_last : {A : Type 0} (xs : List A) (y d : A) (i : ℕ) → i < length xs → get_or (xs ++ (y ∷ [])) i d ≡ get_or xs i d
 get_or-before_last [] y d i h = absurd (omega arith)
 get_or-before_last (x ∷ xs) y d zero h = refl
 get_or-before_last (x ∷ xs) y d (suc i) h = get_or-before_last xs y d i (omega arith)
 
-get_or-last : {A : Type 0} (xs : List A) (y d : A) → get_or (xs ++ (y ∷ [])) (length xs) d ≡ y
+pub get_or-last : {A : Type 0} (xs : List A) (y d : A) → get_or (xs ++ (y ∷ [])) (length xs) d ≡ y
 get_or-last [] y d = refl
 get_or-last (x ∷ xs) y d = get_or-last xs y d
 
@@ -41,13 +41,13 @@ length-more rename ts t =
     let b = length-map ts (renamed_triangle rename) in
     omega arith
 
-name_old : (rename : ℕ → ℕ) (ts : List Triangle) (t : Triangle) (c : Side) → c.face < length ts → name_of (more_triangles rename ts t) c ≡ rename (name_of ts c)
+pub name_old : (rename : ℕ → ℕ) (ts : List Triangle) (t : Triangle) (c : Side) → c.face < length ts → name_of (more_triangles rename ts t) c ≡ rename (name_of ts c)
 name_old rename ts t c h =
     let l : c.face < length (map (renamed_triangle rename) ts) = (let b = length-map ts (renamed_triangle rename) in omega arith) in
     ap (λ (u : Triangle). corner u c.place) (get_or-before_last (map (renamed_triangle rename) ts) t no_triangle c.face l ∙ get_or-renamed rename ts c.face h)
     ∙ corner-renamed rename (get_or ts c.face no_triangle) c.place
 
-name_new : (rename : ℕ → ℕ) (ts : List Triangle) (t : Triangle) (k : Place) → name_of (more_triangles rename ts t) (side (length ts) k) ≡ corner t k
+pub name_new : (rename : ℕ → ℕ) (ts : List Triangle) (t : Triangle) (k : Place) → name_of (more_triangles rename ts t) (side (length ts) k) ≡ corner t k
 name_new rename ts t k =
     ap (λ (u : Triangle). corner u k)
     (ap (λ (n : ℕ). get_or (more_triangles rename ts t) n no_triangle) (sym (length-map ts (renamed_triangle rename))) ∙ get_or-last (map (renamed_triangle rename) ts) t no_triangle)

@@ -8,3 +8,4 @@ pub mod Named
 pub mod Shown
 pub mod Rowed
 pub mod Counted
+pub mod KeptDegrees

@@ -1,10 +1,10 @@
 -- What a rebuilding that keeps the boundary by links holds, and the machine's state that it stands for.
-use Rattle.std.specs.Prelude.{◌≡◌, ℕ, ◌+◌, ◌*◌, ◌≤◌, length, map, Result, Ok, Err}
+use Rattle.std.specs.Prelude.{◌≡◌, ℕ, ◌+◌, ◌*◌, ◌≤◌, Bool, true, ◌==◌, cond, is_none, List, [], ◌∷◌, length, map, Result, Ok, Err}
 use Rattle.drc_base.specs.declared.faults.Fault.{Fault}
 use Rattle.drc_base.specs.declared.faults.Refusal.{Refusal}
 use Rattle.drc_base.specs.declared.faults.Refusal.TheVariants as refusal
 use Rattle.drc_base.specs.declared.limits.TheConstants.{MAX_FACES}
-use Rattle.corner_table.specs.Sides.{side_at}
+use Rattle.corner_table.specs.Sides.{side_at, Gluing}
 use Rattle.corner_table.specs.Table.{Table, gluing_of, room_of}
 use Rattle.eb_rebuild.specs.Machine.{State, Plan}
 use Rattle.eb_rebuild.specs.Kept.{StackValue, SplitsValue, kept_in, AreSidesBelow, AreKeptBelow}
@@ -51,3 +51,12 @@ Does next new (Err f) = next ≡ Err f
 abbrev pub refused_by : Result (Unit {0}) Fault → Result (Unit {0}) Refusal
 refused_by (Ok done) = Ok done
 refused_by (Err f) = Err (refusal.Fault f)
+
+-- the top side is free, if one waits
+abbrev pub is_top_free : Gluing → List ℕ → Bool
+is_top_free g [] = true
+is_top_free g (a ∷ sides) = is_none (g (side_at a))
+
+-- until a close the top side is free: it is so after each symbol that is no refusal
+abbrev pub is_live : LinkValue → Bool
+is_live v = cond (v.closes == 0) (is_top_free (gluing_of v.table) v.stack.sides) true

@@ -6,6 +6,7 @@
 mod active_rows;
 mod built;
 mod degenerate;
+mod kept_degrees;
 mod laws;
 mod link_rebuild;
 mod named_table;

@@ -2,7 +2,7 @@
 //!
 //! The rules ask only which side comes before a free side round the boundary, and whether a side is
 //! free; the table's links tell both at once. So a symbol takes a few table calls, whatever was built
-//! before.
+//! before. The degrees of vertices are kept at the free sides that start there.
 
 ghost use Rattle.std.specs.Prelude.{◌≡◌, ◌/◌, ◌%◌};
 ghost use Rattle.corner_table.specs.Sides.{side_at, same, number};
@@ -13,6 +13,9 @@ ghost use Rattle.std.specs.Prelude.{◌<◌, ◌*◌, ◌+◌, not, ◌&&◌};
 
 use crate::built::Built;
 use crate::degenerate::first_equal;
+use crate::kept_degrees::{
+    degree_at, end_degrees, left_degrees, no_degrees, right_degrees, split_degrees, tip_degrees,
+};
 use crate::rebuild::Rebuild;
 use crate::side_stack::SideStack;
 use crate::splits::Splits;
@@ -36,7 +39,8 @@ pub(crate) fn side_with(number: u32) -> Side
 /// The number of a side.
 fn number_of(s: Side) -> u32
     requires { s.face < most_faces }
-    ensures { result ≡ number (side_of s) }
+    ensures number { result ≡ number (side_of s) }
+    ensures within { result < 3 * s.face + 3 }
 {
     3 * s.face + u32::from(s.k)
 }
@@ -72,6 +76,7 @@ pub struct LinkRebuild {
     table: SideTable,
     stack: SideStack,
     splits: Splits,
+    degrees: Vec<u32>,
     faces: u32,
     created: u32,
     symbols: u32,
@@ -80,6 +85,8 @@ pub struct LinkRebuild {
 }
 
 impl Model for LinkRebuild {
+    ghost use Rattle.std.specs.Prelude.{◌≡◌, ◌*◌, vec_len};
+    ghost use Rattle.eb_rebuild.specs.KeptDegrees.{KeepsDegrees};
     ghost use Rattle.eb_rebuild.specs.Linked.{LinkValue, IsLinkState};
 
     ghost Value = { LinkValue };
@@ -100,17 +107,17 @@ impl Model for LinkRebuild {
       splits = r.splits;
       made = r.made;
       closes = r.closes;
-    }) };
+    }) × (vec_len r.degrees ≡ 3 * r.faces) × (r.closes ≡ 0 → KeepsDegrees r.table r.made r.degrees.items) };
 }
 
 impl LinkRebuild {
-    ghost use Rattle.std.specs.Prelude.{◌≡◌, ℕ, suc, ◌+◌, ◌*◌, ◌<◌, ◌≤◌, true, false, None, ◌∷◌, Ok, Err, map, length, IfOk, IfErr, OnOk, OnErr};
+    ghost use Rattle.std.specs.Prelude.{◌≡◌, ℕ, suc, ◌+◌, ◌*◌, ◌<◌, ◌≤◌, true, false, None, ◌∷◌, Ok, Err, map, length, IsTrue, IfOk, IfErr, OnOk, OnErr};
     ghost use Rattle.corner_table.specs.declared.symbols.Symbol.TheVariants as kinds;
     ghost use Rattle.corner_table.specs.Sides.{side_at};
     ghost use Rattle.corner_table.specs.Table.{gluing_of};
     ghost use Rattle.eb_rebuild.specs.Machine.{top, step, close, pushed, release};
     ghost use Rattle.eb_rebuild.specs.Kept.{kept_in};
-    ghost use Rattle.eb_rebuild.specs.Linked.{state_of, Does};
+    ghost use Rattle.eb_rebuild.specs.Linked.{state_of, is_live, Does};
 
     /// Takes the top side off, which has to be free.
     fn take_side<L: Ledger>(&mut self, steps: &mut Steps<L>) -> Result<u32, Fault>
@@ -136,12 +143,15 @@ impl LinkRebuild {
 
     /// E: a new face, no side of which is glued.
     fn take_end<L: Ledger>(&mut self, steps: &mut Steps<L>) -> Result<(), Fault>
-        requires { self.old.table.faces < self.old.plan.symbols }
+        requires more { self.old.table.faces < self.old.plan.symbols }
+        requires unclosed { self.old.closes ≡ 0 }
         ensures does { Does (step self.old.plan.symbols kinds.E (state_of self.old)) (state_of self.new) result }
         ensures plan { self.new.plan ≡ self.old.plan }
+        ensures live { OnOk result (IsTrue (is_live self.new)) }
         ensures cost { steps.new ≤ steps.old + 4 }
     {
         let face = self.table.add_face(steps);
+        end_degrees(&mut self.degrees, face);
         self.stack.push(3 * face);
         self.made += 3;
         self.splits.note(face)
@@ -149,17 +159,22 @@ impl LinkRebuild {
 
     /// R: side 2 of the new face is glued to the top side.
     fn take_right<L: Ledger>(&mut self, steps: &mut Steps<L>) -> Result<(), Fault>
-        requires { self.old.table.faces < self.old.plan.symbols }
+        requires more { self.old.table.faces < self.old.plan.symbols }
+        requires unclosed { self.old.closes ≡ 0 }
         ensures does { Does (step self.old.plan.symbols kinds.R (state_of self.old)) (state_of self.new) result }
         ensures plan { self.new.plan ≡ self.old.plan }
+        ensures live { OnOk result (IsTrue (is_live self.new)) }
         ensures cost { steps.new ≤ steps.old + 4 }
     {
         let a = match self.take_side(steps) {
             Ok(a) => a,
             Err(fault) => return Err(fault),
         };
+        let top = side_with(a);
+        let next = self.table.next_open(top, steps);
         let face = self.table.add_face(steps);
-        self.table.glue(Side { face, k: 2 }, side_with(a), steps);
+        self.table.glue(Side { face, k: 2 }, top, steps);
+        right_degrees(&mut self.degrees, face, a, number_of(next));
         self.stack.push(3 * face);
         self.made += 1;
         self.splits.note(face)
@@ -167,17 +182,22 @@ impl LinkRebuild {
 
     /// L: side 1 of the new face is glued to the top side.
     fn take_left<L: Ledger>(&mut self, steps: &mut Steps<L>) -> Result<(), Fault>
-        requires { self.old.table.faces < self.old.plan.symbols }
+        requires more { self.old.table.faces < self.old.plan.symbols }
+        requires unclosed { self.old.closes ≡ 0 }
         ensures does { Does (step self.old.plan.symbols kinds.L (state_of self.old)) (state_of self.new) result }
         ensures plan { self.new.plan ≡ self.old.plan }
+        ensures live { OnOk result (IsTrue (is_live self.new)) }
         ensures cost { steps.new ≤ steps.old + 4 }
     {
         let a = match self.take_side(steps) {
             Ok(a) => a,
             Err(fault) => return Err(fault),
         };
+        let top = side_with(a);
+        let next = self.table.next_open(top, steps);
         let face = self.table.add_face(steps);
-        self.table.glue(Side { face, k: 1 }, side_with(a), steps);
+        self.table.glue(Side { face, k: 1 }, top, steps);
+        left_degrees(&mut self.degrees, face, a, number_of(next));
         self.stack.push(3 * face);
         self.made += 1;
         self.splits.note(face)
@@ -186,10 +206,12 @@ impl LinkRebuild {
     /// C: the new face closes the vertex at which the top side starts. Its side 1 is glued to the top
     /// side, its side 2 to the free side before that.
     fn take_tip<L: Ledger>(&mut self, steps: &mut Steps<L>) -> Result<(), Fault>
-        requires { self.old.table.faces < self.old.plan.symbols }
+        requires more { self.old.table.faces < self.old.plan.symbols }
+        requires unclosed { self.old.closes ≡ 0 }
         ensures does { Does (step self.old.plan.symbols kinds.C (state_of self.old)) (state_of self.new) result }
         ensures plan { self.new.plan ≡ self.old.plan }
-        ensures cost { steps.new ≤ steps.old + 5 }
+        ensures live { OnOk result (IsTrue (is_live self.new)) }
+        ensures cost { steps.new ≤ steps.old + 6 }
         ensures refused { OnErr result (steps.new ≤ steps.old + 4) }
     {
         let a = match self.take_side(steps) {
@@ -204,9 +226,11 @@ impl LinkRebuild {
                 at: u64::from(self.table.face_count()),
             });
         }
+        let next = self.table.next_open(top, steps);
         let face = self.table.add_face(steps);
         self.table.glue(Side { face, k: 1 }, top, steps);
         self.table.glue(Side { face, k: 2 }, before, steps);
+        tip_degrees(&mut self.degrees, face, number_of(before), number_of(next));
         self.stack.push(3 * face);
         Ok(())
     }
@@ -239,10 +263,12 @@ impl LinkRebuild {
     /// S: the new face joins the top side and the second side. Its side 1 is glued to the top side, its
     /// side 2 to the second.
     fn take_split<L: Ledger>(&mut self, steps: &mut Steps<L>) -> Result<(), Fault>
-        requires { self.old.table.faces < self.old.plan.symbols }
+        requires more { self.old.table.faces < self.old.plan.symbols }
+        requires unclosed { self.old.closes ≡ 0 }
         ensures does { Does (step self.old.plan.symbols kinds.S (state_of self.old)) (state_of self.new) result }
         ensures plan { self.new.plan ≡ self.old.plan }
-        ensures cost { steps.new ≤ steps.old + 6 }
+        ensures live { OnOk result (IsTrue (is_live self.new)) }
+        ensures cost { steps.new ≤ steps.old + 8 }
         ensures refused { OnErr result (steps.new ≤ steps.old + 4) }
     {
         let b = match self.take_side(steps) {
@@ -268,9 +294,14 @@ impl LinkRebuild {
                 at: u64::from(self.table.face_count()),
             });
         }
+        let next_top = self.table.next_open(top, steps);
+        let next_second = self.table.next_open(second, steps);
         let face = self.table.add_face(steps);
         self.table.glue(Side { face, k: 2 }, second, steps);
         self.table.glue(Side { face, k: 1 }, top, steps);
+        let after_top = number_of(next_top);
+        let after_second = number_of(next_second);
+        split_degrees(&mut self.degrees, face, b, a, after_top, after_second);
         self.stack.push(3 * face);
         Ok(())
     }
@@ -280,6 +311,7 @@ impl LinkRebuild {
         requires { 0 < length self.old.stack.sides }
         ensures does { close self.old.plan false (state_of self.old) ≡ Ok (state_of self.new) }
         ensures plan { self.new.plan ≡ self.old.plan }
+        ensures live { IsTrue (is_live self.new) }
     {
         match self.stack.pop() {
             None => (),
@@ -292,6 +324,7 @@ impl LinkRebuild {
         requires { 0 < length self.old.stack.sides }
         ensures does { Does (close self.old.plan true (state_of self.old)) (state_of self.new) result }
         ensures plan { self.new.plan ≡ self.old.plan }
+        ensures live { OnOk result (IsTrue (is_live self.new)) }
         ensures cost { steps.new ≤ steps.old + 8 }
         ensures refused { OnErr result (steps.new ≤ steps.old + 4) }
     {
@@ -337,13 +370,13 @@ impl LinkRebuild {
 
 impl Rebuild for LinkRebuild {
     ghost use Rattle.std.specs.Prelude.{true};
-    ghost use Rattle.eb_rebuild.specs.Linked.{state_of};
+    ghost use Rattle.eb_rebuild.specs.Linked.{state_of, is_live};
 
     ghost plan = { λ r. r.plan };
 
     ghost state = { λ r. state_of r };
 
-    ghost live = { λ _. true };
+    ghost live = { λ r. is_live r };
 
     ghost linked = { λ _. true };
 
@@ -357,10 +390,12 @@ impl Rebuild for LinkRebuild {
         let table = SideTable::with_room(alloc, faces)?;
         let stack = SideStack::with_room(alloc, symbols)?;
         let splits = Splits::new(alloc, symbols, events)?;
+        let degrees = no_degrees(alloc, faces)?;
         Ok(LinkRebuild {
             table,
             stack,
             splits,
+            degrees,
             faces,
             created,
             symbols,
@@ -369,6 +404,7 @@ impl Rebuild for LinkRebuild {
         })
     }
 
+    #[tactic(auto, using(crate::proofs::TableDegrees::moves_of))]
     fn symbol<L: Ledger>(&mut self, symbol: Symbol, steps: &mut Steps<L>) -> Result<(), Refusal> {
         match symbol {
             Symbol::C => refused(self.take_tip(steps)),
@@ -379,10 +415,19 @@ impl Rebuild for LinkRebuild {
         }
     }
 
+    fn degree(&self) -> u32 {
+        let _room = self.table.face_count();
+        match self.stack.top() {
+            None => 0,
+            Some(a) => degree_at(&self.degrees, a),
+        }
+    }
+
     fn pending(&self) -> u32 {
         self.stack.len()
     }
 
+    #[tactic(auto, using(crate::proofs::TableDegrees::moves_of))]
     fn close<L: Ledger>(&mut self, interior: bool, steps: &mut Steps<L>) -> Result<(), Refusal> {
         if interior {
             refused(self.close_interior(steps))

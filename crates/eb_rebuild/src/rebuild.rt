@@ -4,6 +4,7 @@ ghost use Rattle.std.specs.Prelude.{◌≡◌, ◌≢◌, ℕ, ◌+◌, ◌<◌,
 ghost use Rattle.drc_base.specs.declared.limits.TheConstants.{MAX_FACES as most_faces};
 ghost use Rattle.drc_base.specs.declared.faults.Refusal.TheVariants as refusal;
 ghost use Rattle.eb_rebuild.specs.Machine.{Plan as MachinePlan, State as MachineState, start, step, close};
+ghost use Rattle.eb_rebuild.specs.Degree.{top_degree};
 ghost use Rattle.eb_rebuild.specs.Rebuilding.{Moves, Ends, IsEventOf};
 
 use crate::built::Built;
@@ -56,6 +57,13 @@ pub trait Rebuild: Sized + Drop {
         ensures memory { IsTrue (linked self.old) → result ≢ Err refusal.Memory }
         ensures cost { IsTrue (linked self.old) → OnOk result (steps.new ≤ steps.old + 12) }
         ensures refused { IsTrue (linked self.old) → OnErr result (steps.new ≤ steps.old + 4) };
+
+    /// The degree of the vertex at which the top side starts: the number of corners there, and one more
+    /// where a free side starts there; 0 where no side waits.
+    fn degree(&self) -> u32
+        requires live { IsTrue (live self.now) }
+        requires unclosed { (state self.now).closes ≡ 0 }
+        ensures { result ≡ top_degree (state self.now) };
 
     /// How many sides wait to be closed.
     fn pending(&self) -> u32

@@ -74,21 +74,9 @@ impl RowRebuild {
     ghost use Rattle.corner_table.specs.declared.symbols.Symbol.TheVariants as kinds;
     ghost use Rattle.corner_table.specs.Table.{gluing_of};
     ghost use Rattle.eb_rebuild.specs.Machine.{top, step, close, pushed, release};
-    ghost use Rattle.eb_rebuild.specs.Degree.{top_degree};
     ghost use Rattle.eb_rebuild.specs.Kept.{kept_in};
     ghost use Rattle.eb_rebuild.specs.Linked.{state_of};
     ghost use Rattle.eb_rebuild.specs.Rowed.{plain_of, Tries, IsRowIn};
-
-    /// The degree of the vertex at which the top side starts: the number of corners there, and one more
-    /// where a row starts there; 0 where no side waits.
-    pub fn degree(&self) -> u32
-        ensures { result ≡ top_degree (state_of (plain_of self.now)) }
-    {
-        match self.stack.top() {
-            None => 0,
-            Some(a) => self.named.degree_at(a),
-        }
-    }
 
     /// Takes the top side off, which has to be a row.
     fn take_row(&mut self) -> Result<Row, Fault>
@@ -329,6 +317,13 @@ impl Rebuild for RowRebuild {
             Symbol::L => self.take_left(steps),
             Symbol::R => self.take_right(steps),
             Symbol::E => self.take_end(steps),
+        }
+    }
+
+    fn degree(&self) -> u32 {
+        match self.stack.top() {
+            None => 0,
+            Some(a) => self.named.degree_at(a),
         }
     }
 

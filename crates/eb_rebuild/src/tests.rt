@@ -26,6 +26,7 @@ fn take_all<R: Rebuild, L: Ledger>(
     requires unclosed { (R.state machine.old).closes ≡ 0 }
     requires all { (R.plan machine.old).symbols ≡ length symbols.now }
     ensures live { OnOk result (IsTrue (R.live machine.new)) }
+    ensures unclosed { OnOk result ((R.state machine.new).closes ≡ 0) }
     ensures all { OnOk result ((R.plan machine.new).symbols ≤ (R.state machine.new).built) }
 {
     for symbol in symbols {
@@ -199,7 +200,11 @@ fn rebuilds_and_refuses<R: Rebuild>(rt: &impl Abort, alloc: Global) {
 }
 
 /// The degree of the vertex at which the top side starts, after some symbols.
-fn degree_after<L: Ledger>(alloc: Global, symbols: &[Symbol], blank: Blank) -> Result<u32, Refusal>
+fn degree_after<R: Rebuild, L: Ledger>(
+    alloc: Global,
+    symbols: &[Symbol],
+    blank: Blank,
+) -> Result<u32, Refusal>
     requires symbols { length symbols.now ≤ most_faces }
     requires name { blank.name ≡ L.name }
     requires parts { blank.parts ≡ L.parts }
@@ -208,26 +213,35 @@ fn degree_after<L: Ledger>(alloc: Global, symbols: &[Symbol], blank: Blank) -> R
     let count = symbols.len() as u32;
     let none = Vec::new(alloc);
     let mut steps = Steps::<L>::new(blank);
-    let mut machine = RowRebuild::new(alloc, count, 9, count, none)?;
+    let mut machine = R::new(alloc, count, 9, count, none)?;
     take_all(&mut machine, symbols, &mut steps)?;
     Ok(machine.degree())
 }
 
-#[test]
-fn degrees_are_counted(rt: HostRuntime) {
-    use Symbol::{C, E, L, R, S};
-    let alloc = rt.alloc();
-    let one = degree_after::<Brand>(alloc, &[E], Blank::new(1));
-    assert!(&rt; one == Ok(2));
-    let right = degree_after::<Brand>(alloc, &[E, R], Blank::new(1));
-    assert!(&rt; right == Ok(3));
-    let left = degree_after::<Brand>(alloc, &[E, R, L], Blank::new(1));
-    assert!(&rt; left == Ok(2));
-    let tip = degree_after::<Brand>(alloc, &[E, R, C], Blank::new(1));
-    assert!(&rt; tip == Ok(3));
+/// Degrees after a few symbols.
+fn counts_degrees<R: Rebuild>(rt: &impl Abort, alloc: Global) {
+    use Symbol::{C, E, L, R as Right, S};
+    let one = degree_after::<R, Brand>(alloc, &[E], Blank::new(1));
+    assert!(rt; one == Ok(2));
+    let right = degree_after::<R, Brand>(alloc, &[E, Right], Blank::new(1));
+    assert!(rt; right == Ok(3));
+    let left = degree_after::<R, Brand>(alloc, &[E, Right, L], Blank::new(1));
+    assert!(rt; left == Ok(2));
+    let tip = degree_after::<R, Brand>(alloc, &[E, Right, C], Blank::new(1));
+    assert!(rt; tip == Ok(3));
     // The second side is alone in its loop, and its vertex takes in the first side's.
-    let merged = degree_after::<Brand>(alloc, &[E, C, C, E, S], Blank::new(1));
-    assert!(&rt; merged == Ok(8));
+    let merged = degree_after::<R, Brand>(alloc, &[E, C, C, E, S], Blank::new(1));
+    assert!(rt; merged == Ok(8));
+}
+
+#[test]
+fn links_count_degrees(rt: HostRuntime) {
+    counts_degrees::<LinkRebuild>(&rt, rt.alloc());
+}
+
+#[test]
+fn rows_count_degrees(rt: HostRuntime) {
+    counts_degrees::<RowRebuild>(&rt, rt.alloc());
 }
 
 #[test]

@@ -56,7 +56,7 @@ glue-requires-clause-first g c = c.add_face-face.ensures.free first
 pub glue-requires-2-clause-first : goal.glue-requires-2-clause-first
 glue-requires-2-clause-first g c =
     let f = c.add_face-face.ensures.face in
-    let below = sides_rest c.self.inside.table.faces c.self.inside.stack.sides c.in-Some.a c.pop.new.self.sides c.in-Some.ensures.top c.self.invariant.sides in
+    let below = sides_rest c.self.inside.table.faces c.self.inside.stack.sides c.in-Some.a c.pop.new.self.sides c.in-Some.ensures.top c.self.invariant.0.sides in
     let at = c.side_with-top.ensures.face in
     still_free c.add_face-face.new.self.faces (gluing_of c.add_face-face.new.self) c.glue.new.self (side c.add_face-face.result first) (side_of c.side_with-top.result) (side c.add_face-face.result second)
     c.glue.ensures.faces c.glue.ensures.glued (c.add_face-face.ensures.free second)
@@ -76,7 +76,7 @@ glue-requires-2-clause-second g c =
 pub glue-requires-3-clause-first : goal.glue-requires-3-clause-first
 glue-requires-3-clause-first g c =
     let f = c.add_face-face.ensures.face in
-    let below = sides_rest c.self.inside.table.faces c.self.inside.stack.sides c.in-Some.a c.pop.new.self.sides c.in-Some.ensures.top c.self.invariant.sides in
+    let below = sides_rest c.self.inside.table.faces c.self.inside.stack.sides c.in-Some.a c.pop.new.self.sides c.in-Some.ensures.top c.self.invariant.0.sides in
     let at = c.side_with-top.ensures.face in
     let w = c.prev_open-second.ensures.free.within in
     still_free c.glue.new.self.faces (gluing_of c.glue.new.self) c.glue-2.new.self (side c.add_face-face.result second) (side_of c.prev_open-second.result) (side c.add_face-face.result third)
@@ -114,13 +114,16 @@ glue-requires-3-clause-second g c =
 
 pub invariant_of-self-2 : goal.invariant_of-self-2
 invariant_of-self-2 g c =
-    let below = sides_rest c.self.inside.table.faces c.self.inside.stack.sides c.in-Some.a c.pop.new.self.sides c.in-Some.ensures.top c.self.invariant.sides in
-    let more : c.glue-3.new.self.faces ≡ c.self.inside.table.faces + 1 = c.glue-3.ensures.faces ∙ c.glue-2.ensures.faces ∙ c.glue.ensures.faces ∙ c.add_face-face.ensures.faces in
-    link_closed {v = (record { plan = record { faces = c.self.inside.faces; created = c.self.inside.created; symbols = c.self.inside.symbols }; table = c.self.inside.table; stack = c.self.inside.stack; splits = c.self.inside.splits; made = c.self.inside.made; closes = c.self.inside.closes })} c.self.invariant c.in-Some.a c.pop.new.self.sides 1 c.in-Some.ensures.top refl
-    (c.glue-3.ensures.room ∙ c.glue-2.ensures.room ∙ c.glue.ensures.room ∙ ap (λ (l : List ℕ). length l / 3) c.add_face-face.ensures.entries)
-    more refl c.pop.ensures.room refl refl (add-one _)
-    (subst (λ (n : ℕ). AreSidesBelow n c.pop.new.self.sides) (sym (more ∙ add-one _)) (sides_below_more _ _ below.1))
-    (subst (λ (n : ℕ). AreKeptBelow n c.self.inside.splits.kept) (sym (more ∙ add-one _)) (kept_below_more _ _ c.self.invariant.kept))
+    let below = sides_rest c.self.inside.table.faces c.self.inside.stack.sides c.in-Some.a c.pop.new.self.sides c.in-Some.ensures.top c.self.invariant.0.sides in
+    let more : c.glue-3.new.self.faces ≡ c.self.inside.table.faces + 1 = c.glue-3.ensures.faces ∙ c.glue-2.ensures.faces ∙ c.glue.ensures.faces ∙ c.add_face-face.ensures.faces in (
+      link_closed {v = (record { plan = record { faces = c.self.inside.faces; created = c.self.inside.created; symbols = c.self.inside.symbols }; table = c.self.inside.table; stack = c.self.inside.stack; splits = c.self.inside.splits; made = c.self.inside.made; closes = c.self.inside.closes })} c.self.invariant.0 c.in-Some.a c.pop.new.self.sides 1 c.in-Some.ensures.top refl
+          (c.glue-3.ensures.room ∙ c.glue-2.ensures.room ∙ c.glue.ensures.room ∙ ap (λ (l : List ℕ). length l / 3) c.add_face-face.ensures.entries)
+          more refl c.pop.ensures.room refl refl (add-one _)
+          (subst (λ (n : ℕ). AreSidesBelow n c.pop.new.self.sides) (sym (more ∙ add-one _)) (sides_below_more _ _ below.1))
+          (subst (λ (n : ℕ). AreKeptBelow n c.self.inside.splits.kept) (sym (more ∙ add-one _)) (kept_below_more _ _ c.self.invariant.0.kept)),
+      c.self.invariant.1,
+      λ e. absurd (omega arith),
+    )
 
 pub returns-clause-does : goal.returns-clause-does
 returns-clause-does g c =

@@ -1,39 +1,55 @@
 -- A face more, its side 0 on top, and its events noted.
-use Rattle.std.proofs.Common.{ℕ, suc, ◌*◌, ◌<◌, ◌∷◌, List, length, map, sym, refl, ap, ◌∙◌, subst, arith, add-one, Ok, ◌/◌}
-use Rattle.corner_table.specs.Sides.{side_at}
+use Rattle.std.proofs.Common.{ℕ, suc, ◌+◌, ◌*◌, ◌<◌, ◌∷◌, List, length, map, sym, refl, ap, ◌∙◌, subst, arith, add-one, Ok, ◌/◌}
+use Rattle.corner_table.specs.Sides.{side_at, first}
 use Rattle.corner_table.specs.Table.{glued_in}
 use Rattle.eb_rebuild.specs.Linked.{LinkValue}
 use Rattle.eb_rebuild.specs.Kept.{AreKeptBelow}
+use Rattle.eb_rebuild.specs.KeptDegrees.{KeepsDegrees, after_end}
 use Rattle.eb_rebuild.proofs.Steps.{same_state, end_steps, end_refused}
 use Rattle.eb_rebuild.proofs.Linking.{link_grown, noted_does, side_at_first}
+use Rattle.eb_rebuild.proofs.TableDegrees.{keeps_end, live_top}
 use Rattle.eb_rebuild.proofs.link_rebuild.LinkRebuild.take_end.Goals as goal
 
 pub invariant_of-self : goal.invariant_of-self
 invariant_of-self g c =
-    let more = subst (λ (v : LinkValue). v.table.faces < v.plan.symbols) (sym c.self.view_is) c.requires in
-    link_grown c.self.invariant (record {
-      plan = refl;
-      more = more;
-      faces = c.add_face-face.ensures.faces ∙ add-one _;
-      room = ap (λ (l : List ℕ). length l / 3) c.add_face-face.ensures.entries;
-      stack_room = c.push.ensures.room;
-      rest = c.self.inside.stack.sides;
-      below = c.self.invariant.sides;
-      shorter = omega arith;
-      sides = c.push.ensures.sides ∙ ap (λ (n : ℕ). (3 * n) ∷ c.self.inside.stack.sides) c.add_face-face.ensures.face;
-      slots = c.note.ensures.long;
-      kept = subst (λ (n : ℕ). AreKeptBelow (suc n) c.note.new.self.kept) c.add_face-face.ensures.face (c.note.ensures.below (subst (λ (n : ℕ). AreKeptBelow n c.self.inside.splits.kept) (sym c.add_face-face.ensures.face) c.self.invariant.kept));
-      made = omega arith;
-      closes = refl;
-    })
+    let more = subst (λ (v : LinkValue). v.table.faces < v.plan.symbols) (sym c.self.view_is) c.requires.more in
+    let W = c.self.invariant.2 (ap (λ (v : LinkValue). v.closes) c.self.view_is ∙ c.requires.unclosed) in
+    let F = c.add_face-face.ensures.face in
+    let long = c.self.inside.degrees.ok.0 in
+    let room = c.self.invariant.1 in
+    let fewer = c.self.invariant.0.fewer in
+    let items = c.end_degrees.ensures.items ∙ ap (λ (n : ℕ). after_end n c.self.inside.degrees.items) F in (
+      link_grown c.self.invariant.0 (record {
+        plan = refl;
+        more = more;
+        faces = c.add_face-face.ensures.faces ∙ add-one _;
+        room = ap (λ (l : List ℕ). length l / 3) c.add_face-face.ensures.entries;
+        stack_room = c.push.ensures.room;
+        rest = c.self.inside.stack.sides;
+        below = c.self.invariant.0.sides;
+        shorter = omega arith;
+        sides = c.push.ensures.sides ∙ ap (λ (n : ℕ). (3 * n) ∷ c.self.inside.stack.sides) c.add_face-face.ensures.face;
+        slots = c.note.ensures.long;
+        kept = subst (λ (n : ℕ). AreKeptBelow (suc n) c.note.new.self.kept) c.add_face-face.ensures.face (c.note.ensures.below (subst (λ (n : ℕ). AreKeptBelow n c.self.inside.splits.kept) (sym c.add_face-face.ensures.face) c.self.invariant.0.kept));
+        made = omega arith;
+        closes = refl;
+      }),
+      c.end_degrees.ensures.len ∙ c.self.invariant.1,
+      λ e. subst (KeepsDegrees c.add_face-face.new.self (c.self.inside.made + 3)) (sym items)
+          (keeps_end c.self.inside.table c.add_face-face.new.self c.self.inside.made c.self.inside.degrees.items W c.self.invariant.0.made (c.add_face-face.ensures.faces ∙ add-one _) (ap glued_in c.add_face-face.ensures.entries) (omega arith)),
+    )
 
 pub returns-clause-does : goal.returns-clause-does
 returns-clause-does g c =
     rw (← c.self.view_is)
-    (noted_does _ _ c.self.inside.symbols c.self.inside.table.faces (length c.self.inside.splits.kept) c.add_face-face.result _ _ _ _ c.note.result c.self.invariant.slots c.add_face-face.ensures.face c.note.ensures.noted
+    (noted_does _ _ c.self.inside.symbols c.self.inside.table.faces (length c.self.inside.splits.kept) c.add_face-face.result _ _ _ _ c.note.result c.self.invariant.0.slots c.add_face-face.ensures.face c.note.ensures.noted
     (λ h. end_steps _ _ _ _ h ∙ ap Ok (same_state
     (sym (c.add_face-face.ensures.faces ∙ add-one _))
     (ap glued_in (sym c.add_face-face.ensures.entries))
     (sym (ap (map side_at) c.push.ensures.sides ∙ ap (λ (n : ℕ). side_at (3 * n) ∷ map side_at c.self.inside.stack.sides) c.add_face-face.ensures.face ∙ ap (λ x. x ∷ map side_at c.self.inside.stack.sides) (side_at_first _)))
     refl refl refl refl))
     (λ x h. end_refused _ _ x h))
+
+pub returns-clause-live : goal.returns-clause-live
+returns-clause-live g c =
+    live_top c.add_face-face.new.self c.push.new.self.sides c.self.inside.closes c.add_face-face.result c.self.inside.stack.sides c.note.result c.push.ensures.sides (c.add_face-face.ensures.free first).free

@@ -1,10 +1,15 @@
 -- A face more, glued to the top side, its side 0 on top, and its events noted.
-use Rattle.std.proofs.Common.{ℕ, suc, ◌+◌, ◌*◌, ◌/◌, ◌<◌, ◌∷◌, List, length, sym, refl, ap, ◌∙◌, subst, arith, add-one}
-use Rattle.corner_table.specs.Sides.{Side, side, third, glue}
+use Rattle.std.proofs.Common.{◌≡◌, ℕ, suc, ◌+◌, ◌*◌, ◌/◌, ◌<◌, ◌∷◌, List, length, sym, refl, ap, ◌∙◌, subst, arith, add-one}
+use Rattle.corner_table.specs.Sides.{Side, side, side_at, first, third, glue}
 use Rattle.corner_table.specs.Table.{side_of, glued_in, gluing_of}
+use Rattle.corner_table.specs.Fans.{Follows}
+use Rattle.corner_table.proofs.Places.{face_apart}
+use Rattle.corner_table.proofs.Numbers.{number-side_at}
 use Rattle.eb_rebuild.specs.Linked.{LinkValue, state_of}
 use Rattle.eb_rebuild.specs.Kept.{AreKeptBelow}
-use Rattle.eb_rebuild.proofs.Linking.{link_grown, right_does}
+use Rattle.eb_rebuild.specs.KeptDegrees.{KeepsDegrees, after_right}
+use Rattle.eb_rebuild.proofs.Linking.{link_grown, right_does, still_free, Taken, taken_free}
+use Rattle.eb_rebuild.proofs.TableDegrees.{keeps_right, small_at, live_top}
 use Rattle.eb_rebuild.proofs.Steps.{right_no_top}
 use Rattle.eb_rebuild.proofs.link_rebuild.LinkRebuild.take_right.Goals as goal
 
@@ -16,23 +21,42 @@ glue-requires-clause-first g c = c.add_face-face.ensures.free third
 
 pub invariant_of-self : goal.invariant_of-self
 invariant_of-self g c =
+    let taken = c.in-Ok.ensures.ok in
+    let value : LinkValue = (record { plan = record { faces = c.self.inside.faces; created = c.self.inside.created; symbols = c.self.inside.symbols }; table = c.self.inside.table; stack = c.self.inside.stack; splits = c.self.inside.splits; made = c.self.inside.made; closes = c.self.inside.closes }) in
+    let T : Taken c.args.self.now c.take_side.new.self value c.in-Ok.a = record { rest = c.take_side.ensures.rest; view = c.self.view_is; sides = taken.0; free = taken.1; below = taken.2 } in
     let whole = c.self.view_is ∙ c.take_side.ensures.rest in
-    let more = subst (λ (v : LinkValue). v.table.faces < v.plan.symbols) (sym whole) c.requires in
-    link_grown c.self.invariant (record {
-      plan = refl;
-      more = more;
-      faces = c.glue.ensures.faces ∙ c.add_face-face.ensures.faces ∙ add-one _;
-      room = c.glue.ensures.room ∙ ap (λ (l : List ℕ). length l / 3) c.add_face-face.ensures.entries;
-      stack_room = c.push.ensures.room;
-      rest = c.self.inside.stack.sides;
-      below = c.self.invariant.sides;
-      shorter = omega arith;
-      sides = c.push.ensures.sides ∙ ap (λ (n : ℕ). (3 * n) ∷ c.self.inside.stack.sides) c.add_face-face.ensures.face;
-      slots = c.note.ensures.long;
-      kept = subst (λ (n : ℕ). AreKeptBelow (suc n) c.note.new.self.kept) c.add_face-face.ensures.face (c.note.ensures.below (subst (λ (n : ℕ). AreKeptBelow n c.self.inside.splits.kept) (sym c.add_face-face.ensures.face) c.self.invariant.kept));
-      made = omega arith;
-      closes = refl;
-    })
+    let more : value.table.faces < value.plan.symbols = subst (λ (v : LinkValue). v.table.faces < v.plan.symbols) (sym whole) c.requires.more in
+    let W = c.self.invariant.2 (ap (λ (v : LinkValue). v.closes) whole ∙ c.requires.unclosed) in
+    let F = c.add_face-face.ensures.face in
+    let long = c.self.inside.degrees.ok.0 in
+    let room = c.self.invariant.1 in
+    let fewer = c.self.invariant.0.fewer in
+    let faces = c.glue.ensures.faces ∙ c.add_face-face.ensures.faces ∙ add-one _ in
+    let glued = c.glue.ensures.glued ∙ ap (λ (l : List ℕ). glue (side c.add_face-face.result third) (side_of c.side_with-top.result) (glued_in l)) c.add_face-face.ensures.entries
+    ∙ ap (λ (n : ℕ). glue (side n third) (side_of c.side_with-top.result) (gluing_of c.self.inside.table)) F
+    ∙ ap (λ (x : Side). glue (side c.self.inside.table.faces third) x (gluing_of c.self.inside.table)) c.side_with-top.ensures.side in
+    let follows = subst (λ (x : Side). Follows c.self.inside.table.faces (gluing_of c.self.inside.table) x (side_of c.next_open-next.result)) c.side_with-top.ensures.side c.next_open-next.ensures.follows in
+    let items = c.right_degrees.ensures.items ∙ ap (λ (n : ℕ). after_right n c.in-Ok.a c.number_of.result c.self.inside.degrees.items) F
+    ∙ ap (λ (n : ℕ). after_right c.self.inside.table.faces c.in-Ok.a n c.self.inside.degrees.items) c.number_of.ensures.number in (
+      link_grown c.self.invariant.0 (record {
+        plan = refl;
+        more = more;
+        faces = c.glue.ensures.faces ∙ c.add_face-face.ensures.faces ∙ add-one _;
+        room = c.glue.ensures.room ∙ ap (λ (l : List ℕ). length l / 3) c.add_face-face.ensures.entries;
+        stack_room = c.push.ensures.room;
+        rest = c.self.inside.stack.sides;
+        below = c.self.invariant.0.sides;
+        shorter = omega arith;
+        sides = c.push.ensures.sides ∙ ap (λ (n : ℕ). (3 * n) ∷ c.self.inside.stack.sides) c.add_face-face.ensures.face;
+        slots = c.note.ensures.long;
+        kept = subst (λ (n : ℕ). AreKeptBelow (suc n) c.note.new.self.kept) c.add_face-face.ensures.face (c.note.ensures.below (subst (λ (n : ℕ). AreKeptBelow n c.self.inside.splits.kept) (sym c.add_face-face.ensures.face) c.self.invariant.0.kept));
+        made = omega arith;
+        closes = refl;
+      }),
+      c.right_degrees.ensures.len ∙ c.self.invariant.1,
+      λ e. subst (KeepsDegrees c.glue.new.self (c.self.inside.made + 1)) (sym items)
+          (keeps_right c.self.inside.table c.glue.new.self c.self.inside.made c.self.inside.degrees.items c.in-Ok.a (side_of c.next_open-next.result) W c.self.invariant.0.made faces glued (taken_free T) follows (omega arith)),
+    )
 
 pub returns-clause-does : goal.returns-clause-does
 returns-clause-does g c =
@@ -47,11 +71,43 @@ returns-clause-does g c =
       sides = taken.0;
       free = taken.1;
       faces = c.glue.ensures.faces ∙ c.add_face-face.ensures.faces ∙ add-one _;
-      glued = c.glue.ensures.glued ∙ ap (λ (l : List ℕ). glue (side c.add_face-face.result third) (side_of c.side_with.result) (glued_in l)) c.add_face-face.ensures.entries
-          ∙ ap (λ (n : ℕ). glue (side n third) (side_of c.side_with.result) (gluing_of c.self.inside.table)) c.add_face-face.ensures.face
-          ∙ ap (λ (x : Side). glue (side c.self.inside.table.faces third) x (gluing_of c.self.inside.table)) c.side_with.ensures.side;
+      glued = c.glue.ensures.glued ∙ ap (λ (l : List ℕ). glue (side c.add_face-face.result third) (side_of c.side_with-top.result) (glued_in l)) c.add_face-face.ensures.entries
+          ∙ ap (λ (n : ℕ). glue (side n third) (side_of c.side_with-top.result) (gluing_of c.self.inside.table)) c.add_face-face.ensures.face
+          ∙ ap (λ (x : Side). glue (side c.self.inside.table.faces third) x (gluing_of c.self.inside.table)) c.side_with-top.ensures.side;
       stack = c.push.ensures.sides ∙ ap (λ (n : ℕ). (3 * n) ∷ c.self.inside.stack.sides) c.add_face-face.ensures.face;
       made = refl;
       closes = refl;
     })
-    (length c.self.inside.splits.kept) c.add_face-face.result c.note.result c.self.invariant.slots c.add_face-face.ensures.face c.note.ensures.noted
+    (length c.self.inside.splits.kept) c.add_face-face.result c.note.result c.self.invariant.0.slots c.add_face-face.ensures.face c.note.ensures.noted
+
+pub right_degrees-requires-clause-small : goal.right_degrees-requires-clause-small
+right_degrees-requires-clause-small g c =
+    let taken = c.in-Ok.ensures.ok in
+    let value : LinkValue = (record { plan = record { faces = c.self.inside.faces; created = c.self.inside.created; symbols = c.self.inside.symbols }; table = c.self.inside.table; stack = c.self.inside.stack; splits = c.self.inside.splits; made = c.self.inside.made; closes = c.self.inside.closes }) in
+    let T : Taken c.args.self.now c.take_side.new.self value c.in-Ok.a = record { rest = c.take_side.ensures.rest; view = c.self.view_is; sides = taken.0; free = taken.1; below = taken.2 } in
+    let whole = c.self.view_is ∙ c.take_side.ensures.rest in
+    let more : value.table.faces < value.plan.symbols = subst (λ (v : LinkValue). v.table.faces < v.plan.symbols) (sym whole) c.requires.more in
+    let W = c.self.invariant.2 (ap (λ (v : LinkValue). v.closes) whole ∙ c.requires.unclosed) in
+    small_at {v = value} c.self.invariant.0 more W (side_at c.in-Ok.a) c.in-Ok.a (sym (number-side_at c.in-Ok.a)) (taken_free T)
+
+pub right_degrees-requires-clause-small_next : goal.right_degrees-requires-clause-small_next
+right_degrees-requires-clause-small_next g c =
+    let taken = c.in-Ok.ensures.ok in
+    let value : LinkValue = (record { plan = record { faces = c.self.inside.faces; created = c.self.inside.created; symbols = c.self.inside.symbols }; table = c.self.inside.table; stack = c.self.inside.stack; splits = c.self.inside.splits; made = c.self.inside.made; closes = c.self.inside.closes }) in
+    let T : Taken c.args.self.now c.take_side.new.self value c.in-Ok.a = record { rest = c.take_side.ensures.rest; view = c.self.view_is; sides = taken.0; free = taken.1; below = taken.2 } in
+    let whole = c.self.view_is ∙ c.take_side.ensures.rest in
+    let more : value.table.faces < value.plan.symbols = subst (λ (v : LinkValue). v.table.faces < v.plan.symbols) (sym whole) c.requires.more in
+    let W = c.self.invariant.2 (ap (λ (v : LinkValue). v.closes) whole ∙ c.requires.unclosed) in
+    small_at {v = value} c.self.invariant.0 more W (side_of c.next_open-next.result) c.number_of.result c.number_of.ensures.number c.next_open-next.ensures.follows.free
+
+pub returns-clause-live : goal.returns-clause-live
+returns-clause-live g c =
+    let f = c.add_face-face.ensures.face in
+    let below = c.in-Ok.ensures.ok.2 in
+    let is = ap (λ (v : LinkValue). v.table.faces) (c.self.view_is ∙ c.take_side.ensures.rest) in
+    let at = c.side_with-top.ensures.face in
+    live_top c.glue.new.self c.push.new.self.sides c.self.inside.closes c.add_face-face.result c.self.inside.stack.sides c.note.result c.push.ensures.sides
+    (still_free c.add_face-face.new.self.faces (gluing_of c.add_face-face.new.self) c.glue.new.self (side c.add_face-face.result third) (side_of c.side_with-top.result) (side c.add_face-face.result first)
+    c.glue.ensures.faces c.glue.ensures.glued (c.add_face-face.ensures.free first)
+    (λ e. (let no = ap (λ (x : Side). x.place) e in cc))
+    (face_apart _ _ (λ e. (let no : c.add_face-face.result ≡ c.side_with-top.result.face = e in absurd (omega arith))))).free

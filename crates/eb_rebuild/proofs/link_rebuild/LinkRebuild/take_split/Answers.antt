@@ -1,13 +1,16 @@
 -- A face more, glued to the top side and to the second side.
-use Rattle.std.proofs.Common.{◌≡◌, ℕ, ◌*◌, ◌/◌, ◌<◌, ◌∷◌, List, length, sym, refl, ap, ◌∙◌, subst, arith, add-one}
-use Rattle.corner_table.specs.Sides.{Side, side_at, side, second, third, glue, IsFree}
-use Rattle.corner_table.specs.Fans.{side_before}
+use Rattle.std.proofs.Common.{◌≡◌, ℕ, Ok, ◌*◌, ◌/◌, ◌<◌, ◌∷◌, List, length, sym, refl, ap, ◌∙◌, subst, arith, add-one}
+use Rattle.corner_table.specs.Sides.{Side, side_at, number, side, first, second, third, glue, IsFree}
+use Rattle.corner_table.specs.Fans.{side_before, Follows}
 use Rattle.corner_table.specs.Table.{side_of, glued_in, gluing_of}
 use Rattle.corner_table.proofs.Places.{same-true, same-false, face_apart}
+use Rattle.corner_table.proofs.Numbers.{number-side_at}
+use Rattle.eb_rebuild.specs.KeptDegrees.{KeepsDegrees, after_split}
 use Rattle.eb_rebuild.specs.Linked.{LinkValue, state_of}
 use Rattle.eb_rebuild.proofs.Steps.{split_no_top}
 use Rattle.eb_rebuild.proofs.Noting.{kept_below_more}
-use Rattle.eb_rebuild.proofs.Linking.{link_grown, split_does, split_no_second_does, split_one_side_does, split_one_point_does, still_free, free_grown, first_is_free}
+use Rattle.eb_rebuild.proofs.Linking.{link_grown, split_does, split_no_second_does, split_one_side_does, split_one_point_does, still_free, free_grown, first_is_free, second_is_free, TakenTwo}
+use Rattle.eb_rebuild.proofs.TableDegrees.{keeps_split, small_at, live_top}
 use Rattle.eb_rebuild.proofs.link_rebuild.LinkRebuild.take_split.Goals as goal
 
 pub returns-in-Err-clause-does : goal.returns-in-Err-clause-does
@@ -92,25 +95,61 @@ glue-requires-2-clause-second g c =
 
 pub invariant_of-self : goal.invariant_of-self
 invariant_of-self g c =
+    let value : LinkValue = (record { plan = record { faces = c.self.inside.faces; created = c.self.inside.created; symbols = c.self.inside.symbols }; table = c.self.inside.table; stack = c.self.inside.stack; splits = c.self.inside.splits; made = c.self.inside.made; closes = c.self.inside.closes }) in
+    let T : TakenTwo c.args.self.now c.take_side.new.self c.take_second.new.self value c.in-Ok.b c.in-Ok-take_second.a = record {
+      first_taken = record { rest = c.take_side.ensures.rest; view = refl; sides = c.in-Ok.ensures.ok.0; free = c.in-Ok.ensures.ok.1; below = c.in-Ok.ensures.ok.2 };
+      second_top = c.in-Ok-take_second.ensures.ok.0;
+      second_free = c.in-Ok-take_second.ensures.ok.1;
+      second_below = c.in-Ok-take_second.ensures.ok.2;
+      kept = c.take_second.ensures.kept;
+      events = c.take_second.ensures.events;
+      rest = c.take_second.ensures.rest;
+      view = c.self.view_is;
+    } in
     let whole = c.self.view_is ∙ c.take_second.ensures.rest in
-    let before = c.take_side.ensures.rest in
-    let more : c.self.inside.table.faces < c.self.inside.symbols =
-    subst (λ (v : LinkValue). v.table.faces < v.plan.symbols) (sym whole) (subst (λ (v : LinkValue). v.table.faces < v.plan.symbols) (sym before) c.requires) in
-    link_grown c.self.invariant (record {
-      plan = refl;
-      more = more;
-      faces = c.glue-2.ensures.faces ∙ c.glue.ensures.faces ∙ c.add_face-face.ensures.faces ∙ add-one _;
-      room = c.glue-2.ensures.room ∙ c.glue.ensures.room ∙ ap (λ (l : List ℕ). length l / 3) c.add_face-face.ensures.entries;
-      stack_room = c.push.ensures.room;
-      rest = c.self.inside.stack.sides;
-      below = c.self.invariant.sides;
-      shorter = omega arith;
-      sides = c.push.ensures.sides ∙ ap (λ (n : ℕ). (3 * n) ∷ c.self.inside.stack.sides) c.add_face-face.ensures.face;
-      slots = refl;
-      kept = kept_below_more _ _ c.self.invariant.kept;
-      made = omega arith;
-      closes = refl;
-    })
+    let more : value.table.faces < value.plan.symbols =
+    subst (λ (v : LinkValue). v.table.faces < v.plan.symbols) (sym whole) (subst (λ (v : LinkValue). v.table.faces < v.plan.symbols) (sym c.take_side.ensures.rest) c.requires.more) in
+    let W = c.self.invariant.2 (ap (λ (v : LinkValue). v.closes) whole ∙ ap (λ (v : LinkValue). v.closes) c.take_side.ensures.rest ∙ c.requires.unclosed) in
+    let F = c.add_face-face.ensures.face in
+    let long = c.self.inside.degrees.ok.0 in
+    let room = c.self.invariant.1 in
+    let fewer = c.self.invariant.0.fewer in
+    let b = c.in-Ok.b in
+    let a = c.in-Ok-take_second.a in
+    let nb = side_of c.next_open-next_top.result in
+    let na = side_of c.next_open-next_second.result in
+    let f = c.self.inside.table.faces in
+    let ds = c.self.inside.degrees.items in
+    let faces = c.glue-2.ensures.faces ∙ c.glue.ensures.faces ∙ c.add_face-face.ensures.faces ∙ add-one _ in
+    let glued = c.glue-2.ensures.glued ∙ ap (glue (side c.add_face-face.result second) (side_of c.side_with-top.result)) (c.glue.ensures.glued ∙ ap (λ (l : List ℕ). glue (side c.add_face-face.result third) (side_of c.side_with-second.result) (glued_in l)) c.add_face-face.ensures.entries)
+    ∙ ap (λ (n : ℕ). glue (side n second) (side_of c.side_with-top.result) (glue (side n third) (side_of c.side_with-second.result) (gluing_of c.self.inside.table))) F
+    ∙ ap (λ (x : Side). glue (side f second) x (glue (side f third) (side_of c.side_with-second.result) (gluing_of c.self.inside.table))) c.side_with-top.ensures.side
+    ∙ ap (λ (x : Side). glue (side f second) (side_at b) (glue (side f third) x (gluing_of c.self.inside.table))) c.side_with-second.ensures.side in
+    let after_b = subst (λ (x : Side). Follows f (gluing_of c.self.inside.table) x nb) c.side_with-top.ensures.side c.next_open-next_top.ensures.follows in
+    let after_a = subst (λ (x : Side). Follows f (gluing_of c.self.inside.table) x na) c.side_with-second.ensures.side c.next_open-next_second.ensures.follows in
+    let items = c.split_degrees.ensures.items ∙ ap (λ (n : ℕ). after_split n b a c.number_of-after_top.result c.number_of-after_second.result ds) F
+    ∙ ap (λ (n : ℕ). after_split f b a n c.number_of-after_second.result ds) c.number_of-after_top.ensures.number
+    ∙ ap (λ (n : ℕ). after_split f b a (number nb) n ds) c.number_of-after_second.ensures.number in (
+      link_grown c.self.invariant.0 (record {
+        plan = refl;
+        more = more;
+        faces = c.glue-2.ensures.faces ∙ c.glue.ensures.faces ∙ c.add_face-face.ensures.faces ∙ add-one _;
+        room = c.glue-2.ensures.room ∙ c.glue.ensures.room ∙ ap (λ (l : List ℕ). length l / 3) c.add_face-face.ensures.entries;
+        stack_room = c.push.ensures.room;
+        rest = c.self.inside.stack.sides;
+        below = c.self.invariant.0.sides;
+        shorter = omega arith;
+        sides = c.push.ensures.sides ∙ ap (λ (n : ℕ). (3 * n) ∷ c.self.inside.stack.sides) c.add_face-face.ensures.face;
+        slots = refl;
+        kept = kept_below_more _ _ c.self.invariant.0.kept;
+        made = omega arith;
+        closes = refl;
+      }),
+      c.split_degrees.ensures.len ∙ c.self.invariant.1,
+      λ e. subst (KeepsDegrees c.glue-2.new.self c.self.inside.made) (sym items)
+          (keeps_split c.self.inside.table c.glue-2.new.self c.self.inside.made ds b a nb na W c.self.invariant.0.made faces glued (first_is_free T) (second_is_free T)
+          (λ q. same-false _ _ (sym c.is_same.ensures ∙ c.if-is_same.false) (c.side_with-second.ensures.side ∙ sym q ∙ sym c.side_with-top.ensures.side)) after_b after_a (omega arith)),
+    )
 
 pub returns-clause-does : goal.returns-clause-does
 returns-clause-does g c =
@@ -142,3 +181,113 @@ returns-clause-does g c =
     (λ e. same-false _ _ (sym c.is_same.ensures ∙ c.if-is_same.false) (c.side_with-second.ensures.side ∙ e ∙ sym c.side_with-top.ensures.side))
     (c.prev_open-before.ensures.previous ∙ ap (side_before c.self.inside.table.faces (gluing_of c.self.inside.table)) c.side_with-top.ensures.side)
     (λ e. same-false _ _ (sym c.is_same-2.ensures ∙ c.if-is_same-2.false) (e ∙ sym c.side_with-second.ensures.side))
+
+pub split_degrees-requires-clause-first : goal.split_degrees-requires-clause-first
+split_degrees-requires-clause-first g c =
+    let one = ap (λ (v : LinkValue). v.table.faces) (c.self.view_is ∙ c.take_second.ensures.rest) in
+    let zero = ap (λ (v : LinkValue). v.table.faces) c.take_side.ensures.rest in
+    let f = c.add_face-face.ensures.face in
+    let below = c.in-Ok.ensures.ok.2 in
+    omega arith
+
+pub split_degrees-requires-clause-second : goal.split_degrees-requires-clause-second
+split_degrees-requires-clause-second g c =
+    let one = ap (λ (v : LinkValue). v.table.faces) (c.self.view_is ∙ c.take_second.ensures.rest) in
+    let f = c.add_face-face.ensures.face in
+    let below = c.in-Ok-take_second.ensures.ok.2 in
+    omega arith
+
+pub split_degrees-requires-clause-small : goal.split_degrees-requires-clause-small
+split_degrees-requires-clause-small g c =
+    let value : LinkValue = (record { plan = record { faces = c.self.inside.faces; created = c.self.inside.created; symbols = c.self.inside.symbols }; table = c.self.inside.table; stack = c.self.inside.stack; splits = c.self.inside.splits; made = c.self.inside.made; closes = c.self.inside.closes }) in
+    let T : TakenTwo c.args.self.now c.take_side.new.self c.take_second.new.self value c.in-Ok.b c.in-Ok-take_second.a = record {
+      first_taken = record { rest = c.take_side.ensures.rest; view = refl; sides = c.in-Ok.ensures.ok.0; free = c.in-Ok.ensures.ok.1; below = c.in-Ok.ensures.ok.2 };
+      second_top = c.in-Ok-take_second.ensures.ok.0;
+      second_free = c.in-Ok-take_second.ensures.ok.1;
+      second_below = c.in-Ok-take_second.ensures.ok.2;
+      kept = c.take_second.ensures.kept;
+      events = c.take_second.ensures.events;
+      rest = c.take_second.ensures.rest;
+      view = c.self.view_is;
+    } in
+    let whole = c.self.view_is ∙ c.take_second.ensures.rest in
+    let more : value.table.faces < value.plan.symbols =
+    subst (λ (v : LinkValue). v.table.faces < v.plan.symbols) (sym whole) (subst (λ (v : LinkValue). v.table.faces < v.plan.symbols) (sym c.take_side.ensures.rest) c.requires.more) in
+    let W = c.self.invariant.2 (ap (λ (v : LinkValue). v.closes) whole ∙ ap (λ (v : LinkValue). v.closes) c.take_side.ensures.rest ∙ c.requires.unclosed) in
+    small_at {v = value} c.self.invariant.0 more W (side_at c.in-Ok.b) c.in-Ok.b (sym (number-side_at c.in-Ok.b)) (first_is_free T)
+
+pub split_degrees-requires-clause-small_second : goal.split_degrees-requires-clause-small_second
+split_degrees-requires-clause-small_second g c =
+    let value : LinkValue = (record { plan = record { faces = c.self.inside.faces; created = c.self.inside.created; symbols = c.self.inside.symbols }; table = c.self.inside.table; stack = c.self.inside.stack; splits = c.self.inside.splits; made = c.self.inside.made; closes = c.self.inside.closes }) in
+    let T : TakenTwo c.args.self.now c.take_side.new.self c.take_second.new.self value c.in-Ok.b c.in-Ok-take_second.a = record {
+      first_taken = record { rest = c.take_side.ensures.rest; view = refl; sides = c.in-Ok.ensures.ok.0; free = c.in-Ok.ensures.ok.1; below = c.in-Ok.ensures.ok.2 };
+      second_top = c.in-Ok-take_second.ensures.ok.0;
+      second_free = c.in-Ok-take_second.ensures.ok.1;
+      second_below = c.in-Ok-take_second.ensures.ok.2;
+      kept = c.take_second.ensures.kept;
+      events = c.take_second.ensures.events;
+      rest = c.take_second.ensures.rest;
+      view = c.self.view_is;
+    } in
+    let whole = c.self.view_is ∙ c.take_second.ensures.rest in
+    let more : value.table.faces < value.plan.symbols =
+    subst (λ (v : LinkValue). v.table.faces < v.plan.symbols) (sym whole) (subst (λ (v : LinkValue). v.table.faces < v.plan.symbols) (sym c.take_side.ensures.rest) c.requires.more) in
+    let W = c.self.invariant.2 (ap (λ (v : LinkValue). v.closes) whole ∙ ap (λ (v : LinkValue). v.closes) c.take_side.ensures.rest ∙ c.requires.unclosed) in
+    small_at {v = value} c.self.invariant.0 more W (side_at c.in-Ok-take_second.a) c.in-Ok-take_second.a (sym (number-side_at c.in-Ok-take_second.a)) (second_is_free T)
+
+pub split_degrees-requires-clause-small_third : goal.split_degrees-requires-clause-small_third
+split_degrees-requires-clause-small_third g c =
+    let value : LinkValue = (record { plan = record { faces = c.self.inside.faces; created = c.self.inside.created; symbols = c.self.inside.symbols }; table = c.self.inside.table; stack = c.self.inside.stack; splits = c.self.inside.splits; made = c.self.inside.made; closes = c.self.inside.closes }) in
+    let T : TakenTwo c.args.self.now c.take_side.new.self c.take_second.new.self value c.in-Ok.b c.in-Ok-take_second.a = record {
+      first_taken = record { rest = c.take_side.ensures.rest; view = refl; sides = c.in-Ok.ensures.ok.0; free = c.in-Ok.ensures.ok.1; below = c.in-Ok.ensures.ok.2 };
+      second_top = c.in-Ok-take_second.ensures.ok.0;
+      second_free = c.in-Ok-take_second.ensures.ok.1;
+      second_below = c.in-Ok-take_second.ensures.ok.2;
+      kept = c.take_second.ensures.kept;
+      events = c.take_second.ensures.events;
+      rest = c.take_second.ensures.rest;
+      view = c.self.view_is;
+    } in
+    let whole = c.self.view_is ∙ c.take_second.ensures.rest in
+    let more : value.table.faces < value.plan.symbols =
+    subst (λ (v : LinkValue). v.table.faces < v.plan.symbols) (sym whole) (subst (λ (v : LinkValue). v.table.faces < v.plan.symbols) (sym c.take_side.ensures.rest) c.requires.more) in
+    let W = c.self.invariant.2 (ap (λ (v : LinkValue). v.closes) whole ∙ ap (λ (v : LinkValue). v.closes) c.take_side.ensures.rest ∙ c.requires.unclosed) in
+    small_at {v = value} c.self.invariant.0 more W (side_of c.next_open-next_top.result) c.number_of-after_top.result c.number_of-after_top.ensures.number c.next_open-next_top.ensures.follows.free
+
+pub split_degrees-requires-clause-small_fourth : goal.split_degrees-requires-clause-small_fourth
+split_degrees-requires-clause-small_fourth g c =
+    let value : LinkValue = (record { plan = record { faces = c.self.inside.faces; created = c.self.inside.created; symbols = c.self.inside.symbols }; table = c.self.inside.table; stack = c.self.inside.stack; splits = c.self.inside.splits; made = c.self.inside.made; closes = c.self.inside.closes }) in
+    let T : TakenTwo c.args.self.now c.take_side.new.self c.take_second.new.self value c.in-Ok.b c.in-Ok-take_second.a = record {
+      first_taken = record { rest = c.take_side.ensures.rest; view = refl; sides = c.in-Ok.ensures.ok.0; free = c.in-Ok.ensures.ok.1; below = c.in-Ok.ensures.ok.2 };
+      second_top = c.in-Ok-take_second.ensures.ok.0;
+      second_free = c.in-Ok-take_second.ensures.ok.1;
+      second_below = c.in-Ok-take_second.ensures.ok.2;
+      kept = c.take_second.ensures.kept;
+      events = c.take_second.ensures.events;
+      rest = c.take_second.ensures.rest;
+      view = c.self.view_is;
+    } in
+    let whole = c.self.view_is ∙ c.take_second.ensures.rest in
+    let more : value.table.faces < value.plan.symbols =
+    subst (λ (v : LinkValue). v.table.faces < v.plan.symbols) (sym whole) (subst (λ (v : LinkValue). v.table.faces < v.plan.symbols) (sym c.take_side.ensures.rest) c.requires.more) in
+    let W = c.self.invariant.2 (ap (λ (v : LinkValue). v.closes) whole ∙ ap (λ (v : LinkValue). v.closes) c.take_side.ensures.rest ∙ c.requires.unclosed) in
+    small_at {v = value} c.self.invariant.0 more W (side_of c.next_open-next_second.result) c.number_of-after_second.result c.number_of-after_second.ensures.number c.next_open-next_second.ensures.follows.free
+
+pub returns-clause-live : goal.returns-clause-live
+returns-clause-live g c =
+    let f = c.add_face-face.ensures.face in
+    let one = ap (λ (v : LinkValue). v.table.faces) (c.self.view_is ∙ c.take_second.ensures.rest) in
+    let zero = ap (λ (v : LinkValue). v.table.faces) c.take_side.ensures.rest in
+    let first_below = c.in-Ok.ensures.ok.2 in
+    let second_below = c.in-Ok-take_second.ensures.ok.2 in
+    let at = c.side_with-top.ensures.face in
+    let at_second = c.side_with-second.ensures.face in
+    live_top c.glue-2.new.self c.push.new.self.sides c.self.inside.closes c.add_face-face.result c.self.inside.stack.sides (Ok tt) c.push.ensures.sides
+    (still_free c.glue.new.self.faces (gluing_of c.glue.new.self) c.glue-2.new.self (side c.add_face-face.result second) (side_of c.side_with-top.result) (side c.add_face-face.result first)
+    c.glue-2.ensures.faces c.glue-2.ensures.glued
+    (still_free c.add_face-face.new.self.faces (gluing_of c.add_face-face.new.self) c.glue.new.self (side c.add_face-face.result third) (side_of c.side_with-second.result) (side c.add_face-face.result first)
+    c.glue.ensures.faces c.glue.ensures.glued (c.add_face-face.ensures.free first)
+    (λ e. (let no = ap (λ (x : Side). x.place) e in cc))
+    (face_apart _ _ (λ e. (let no : c.add_face-face.result ≡ c.side_with-second.result.face = e in absurd (omega arith)))))
+    (λ e. (let no = ap (λ (x : Side). x.place) e in cc))
+    (face_apart _ _ (λ e. (let no : c.add_face-face.result ≡ c.side_with-top.result.face = e in absurd (omega arith))))).free

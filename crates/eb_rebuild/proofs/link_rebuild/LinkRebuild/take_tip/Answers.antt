@@ -1,13 +1,15 @@
 -- A face more, glued to the top side and to the side before it.
-use Rattle.std.proofs.Common.{◌≡◌, ℕ, ◌*◌, ◌/◌, ◌<◌, ◌∷◌, List, length, sym, refl, ap, ◌∙◌, subst, arith, add-one}
-use Rattle.corner_table.specs.Sides.{Side, side, second, third, glue}
-use Rattle.corner_table.specs.Fans.{side_before}
+use Rattle.std.proofs.Common.{◌≡◌, ℕ, Ok, ◌*◌, ◌/◌, ◌<◌, ◌∷◌, List, length, sym, refl, ap, ◌∙◌, subst, arith, add-one}
+use Rattle.corner_table.specs.Sides.{Side, side, side_at, number, first, second, third, glue}
+use Rattle.corner_table.specs.Fans.{side_before, Follows}
 use Rattle.corner_table.specs.Table.{side_of, glued_in, gluing_of}
 use Rattle.corner_table.proofs.Places.{same-true, same-false, face_apart}
+use Rattle.eb_rebuild.specs.KeptDegrees.{KeepsDegrees, after_tip}
 use Rattle.eb_rebuild.specs.Linked.{LinkValue, state_of}
 use Rattle.eb_rebuild.proofs.Steps.{tip_no_top}
 use Rattle.eb_rebuild.proofs.Noting.{kept_below_more}
-use Rattle.eb_rebuild.proofs.Linking.{link_grown, tip_does, tip_alone_does, still_free, free_grown}
+use Rattle.eb_rebuild.proofs.Linking.{link_grown, tip_does, tip_alone_does, still_free, free_grown, Taken, taken_free}
+use Rattle.eb_rebuild.proofs.TableDegrees.{keeps_tip, small_at, live_top}
 use Rattle.eb_rebuild.proofs.link_rebuild.LinkRebuild.take_tip.Goals as goal
 
 pub returns-in-Err-clause-does : goal.returns-in-Err-clause-does
@@ -49,23 +51,46 @@ glue-requires-2-clause-second g c =
 
 pub invariant_of-self : goal.invariant_of-self
 invariant_of-self g c =
+    let taken = c.in-Ok.ensures.ok in
+    let value : LinkValue = (record { plan = record { faces = c.self.inside.faces; created = c.self.inside.created; symbols = c.self.inside.symbols }; table = c.self.inside.table; stack = c.self.inside.stack; splits = c.self.inside.splits; made = c.self.inside.made; closes = c.self.inside.closes }) in
+    let T : Taken c.args.self.now c.take_side.new.self value c.in-Ok.a = record { rest = c.take_side.ensures.rest; view = c.self.view_is; sides = taken.0; free = taken.1; below = taken.2 } in
     let whole = c.self.view_is ∙ c.take_side.ensures.rest in
-    let more = subst (λ (v : LinkValue). v.table.faces < v.plan.symbols) (sym whole) c.requires in
-    link_grown c.self.invariant (record {
-      plan = refl;
-      more = more;
-      faces = c.glue-2.ensures.faces ∙ c.glue.ensures.faces ∙ c.add_face-face.ensures.faces ∙ add-one _;
-      room = c.glue-2.ensures.room ∙ c.glue.ensures.room ∙ ap (λ (l : List ℕ). length l / 3) c.add_face-face.ensures.entries;
-      stack_room = c.push.ensures.room;
-      rest = c.self.inside.stack.sides;
-      below = c.self.invariant.sides;
-      shorter = omega arith;
-      sides = c.push.ensures.sides ∙ ap (λ (n : ℕ). (3 * n) ∷ c.self.inside.stack.sides) c.add_face-face.ensures.face;
-      slots = refl;
-      kept = kept_below_more _ _ c.self.invariant.kept;
-      made = omega arith;
-      closes = refl;
-    })
+    let more : value.table.faces < value.plan.symbols = subst (λ (v : LinkValue). v.table.faces < v.plan.symbols) (sym whole) c.requires.more in
+    let W = c.self.invariant.2 (ap (λ (v : LinkValue). v.closes) whole ∙ c.requires.unclosed) in
+    let F = c.add_face-face.ensures.face in
+    let long = c.self.inside.degrees.ok.0 in
+    let room = c.self.invariant.1 in
+    let fewer = c.self.invariant.0.fewer in
+    let before = side_of c.prev_open-before.result in
+    let faces = c.glue-2.ensures.faces ∙ c.glue.ensures.faces ∙ c.add_face-face.ensures.faces ∙ add-one _ in
+    let glued = c.glue-2.ensures.glued ∙ ap (glue (side c.add_face-face.result third) before) (c.glue.ensures.glued ∙ ap (λ (l : List ℕ). glue (side c.add_face-face.result second) (side_of c.side_with-top.result) (glued_in l)) c.add_face-face.ensures.entries)
+    ∙ ap (λ (n : ℕ). glue (side n third) before (glue (side n second) (side_of c.side_with-top.result) (gluing_of c.self.inside.table))) F
+    ∙ ap (λ (x : Side). glue (side c.self.inside.table.faces third) before (glue (side c.self.inside.table.faces second) x (gluing_of c.self.inside.table))) c.side_with-top.ensures.side in
+    let follows = subst (λ (x : Side). Follows c.self.inside.table.faces (gluing_of c.self.inside.table) x (side_of c.next_open-next.result)) c.side_with-top.ensures.side c.next_open-next.ensures.follows in
+    let comes = subst (Follows c.self.inside.table.faces (gluing_of c.self.inside.table) before) c.side_with-top.ensures.side c.prev_open-before.ensures.follows in
+    let items = c.tip_degrees.ensures.items ∙ ap (λ (n : ℕ). after_tip n c.number_of.result c.number_of-2.result c.self.inside.degrees.items) F
+    ∙ ap (λ (n : ℕ). after_tip c.self.inside.table.faces n c.number_of-2.result c.self.inside.degrees.items) c.number_of.ensures.number
+    ∙ ap (λ (n : ℕ). after_tip c.self.inside.table.faces (number before) n c.self.inside.degrees.items) c.number_of-2.ensures.number in (
+      link_grown c.self.invariant.0 (record {
+        plan = refl;
+        more = more;
+        faces = c.glue-2.ensures.faces ∙ c.glue.ensures.faces ∙ c.add_face-face.ensures.faces ∙ add-one _;
+        room = c.glue-2.ensures.room ∙ c.glue.ensures.room ∙ ap (λ (l : List ℕ). length l / 3) c.add_face-face.ensures.entries;
+        stack_room = c.push.ensures.room;
+        rest = c.self.inside.stack.sides;
+        below = c.self.invariant.0.sides;
+        shorter = omega arith;
+        sides = c.push.ensures.sides ∙ ap (λ (n : ℕ). (3 * n) ∷ c.self.inside.stack.sides) c.add_face-face.ensures.face;
+        slots = refl;
+        kept = kept_below_more _ _ c.self.invariant.0.kept;
+        made = omega arith;
+        closes = refl;
+      }),
+      c.tip_degrees.ensures.len ∙ c.self.invariant.1,
+      λ e. subst (KeepsDegrees c.glue-2.new.self c.self.inside.made) (sym items)
+          (keeps_tip c.self.inside.table c.glue-2.new.self c.self.inside.made c.self.inside.degrees.items (side_at c.in-Ok.a) before (side_of c.next_open-next.result) W c.self.invariant.0.made faces glued (taken_free T) c.prev_open-before.ensures.free
+          (λ q. same-false _ _ (sym c.is_same.ensures ∙ c.if-is_same.false) (q ∙ sym c.side_with-top.ensures.side)) comes follows (omega arith)),
+    )
 
 pub returns-clause-does : goal.returns-clause-does
 returns-clause-does g c =
@@ -87,3 +112,40 @@ returns-clause-does g c =
     })
     (c.prev_open-before.ensures.previous ∙ ap (side_before c.self.inside.table.faces (gluing_of c.self.inside.table)) c.side_with-top.ensures.side)
     (λ e. same-false _ _ (sym c.is_same.ensures ∙ c.if-is_same.false) (e ∙ sym c.side_with-top.ensures.side))
+
+pub tip_degrees-requires-clause-small : goal.tip_degrees-requires-clause-small
+tip_degrees-requires-clause-small g c =
+    let taken = c.in-Ok.ensures.ok in
+    let value : LinkValue = (record { plan = record { faces = c.self.inside.faces; created = c.self.inside.created; symbols = c.self.inside.symbols }; table = c.self.inside.table; stack = c.self.inside.stack; splits = c.self.inside.splits; made = c.self.inside.made; closes = c.self.inside.closes }) in
+    let T : Taken c.args.self.now c.take_side.new.self value c.in-Ok.a = record { rest = c.take_side.ensures.rest; view = c.self.view_is; sides = taken.0; free = taken.1; below = taken.2 } in
+    let whole = c.self.view_is ∙ c.take_side.ensures.rest in
+    let more : value.table.faces < value.plan.symbols = subst (λ (v : LinkValue). v.table.faces < v.plan.symbols) (sym whole) c.requires.more in
+    let W = c.self.invariant.2 (ap (λ (v : LinkValue). v.closes) whole ∙ c.requires.unclosed) in
+    small_at {v = value} c.self.invariant.0 more W (side_of c.prev_open-before.result) c.number_of.result c.number_of.ensures.number c.prev_open-before.ensures.free
+
+pub tip_degrees-requires-clause-small_next : goal.tip_degrees-requires-clause-small_next
+tip_degrees-requires-clause-small_next g c =
+    let taken = c.in-Ok.ensures.ok in
+    let value : LinkValue = (record { plan = record { faces = c.self.inside.faces; created = c.self.inside.created; symbols = c.self.inside.symbols }; table = c.self.inside.table; stack = c.self.inside.stack; splits = c.self.inside.splits; made = c.self.inside.made; closes = c.self.inside.closes }) in
+    let T : Taken c.args.self.now c.take_side.new.self value c.in-Ok.a = record { rest = c.take_side.ensures.rest; view = c.self.view_is; sides = taken.0; free = taken.1; below = taken.2 } in
+    let whole = c.self.view_is ∙ c.take_side.ensures.rest in
+    let more : value.table.faces < value.plan.symbols = subst (λ (v : LinkValue). v.table.faces < v.plan.symbols) (sym whole) c.requires.more in
+    let W = c.self.invariant.2 (ap (λ (v : LinkValue). v.closes) whole ∙ c.requires.unclosed) in
+    small_at {v = value} c.self.invariant.0 more W (side_of c.next_open-next.result) c.number_of-2.result c.number_of-2.ensures.number c.next_open-next.ensures.follows.free
+
+pub returns-clause-live : goal.returns-clause-live
+returns-clause-live g c =
+    let f = c.add_face-face.ensures.face in
+    let below = c.in-Ok.ensures.ok.2 in
+    let is = ap (λ (v : LinkValue). v.table.faces) (c.self.view_is ∙ c.take_side.ensures.rest) in
+    let at = c.side_with-top.ensures.face in
+    let w = c.prev_open-before.ensures.free.within in
+    live_top c.glue-2.new.self c.push.new.self.sides c.self.inside.closes c.add_face-face.result c.self.inside.stack.sides (Ok tt) c.push.ensures.sides
+    (still_free c.glue.new.self.faces (gluing_of c.glue.new.self) c.glue-2.new.self (side c.add_face-face.result third) (side_of c.prev_open-before.result) (side c.add_face-face.result first)
+    c.glue-2.ensures.faces c.glue-2.ensures.glued
+    (still_free c.add_face-face.new.self.faces (gluing_of c.add_face-face.new.self) c.glue.new.self (side c.add_face-face.result second) (side_of c.side_with-top.result) (side c.add_face-face.result first)
+    c.glue.ensures.faces c.glue.ensures.glued (c.add_face-face.ensures.free first)
+    (λ e. (let no = ap (λ (x : Side). x.place) e in cc))
+    (face_apart _ _ (λ e. (let no : c.add_face-face.result ≡ c.side_with-top.result.face = e in absurd (omega arith)))))
+    (λ e. (let no = ap (λ (x : Side). x.place) e in cc))
+    (face_apart _ _ (λ e. (let no : c.add_face-face.result ≡ c.prev_open-before.result.face = e in absurd (omega arith))))).free

@@ -5,7 +5,7 @@ use Rattle.eb_rebuild.specs.Degree.{top_degree}
 use Rattle.eb_rebuild.specs.Linked.{state_of}
 use Rattle.eb_rebuild.specs.Rowed.{RowValue, plain_of}
 use Rattle.eb_rebuild.proofs.Lists.{first_some}
-use Rattle.eb_rebuild.proofs.row_rebuild.RowRebuild.degree.Goals as goal
+use Rattle.eb_rebuild.proofs.row_rebuild.RowRebuildRebuild.degree.Goals as goal
 
 pub returns-in-Some : goal.returns-in-Some
 returns-in-Some c =

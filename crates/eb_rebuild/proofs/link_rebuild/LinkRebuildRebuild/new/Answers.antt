@@ -1,0 +1,17 @@
+-- Nothing is built.
+use Rattle.std.proofs.Common.{reverse}
+use Rattle.eb_rebuild.proofs.TableDegrees.{keeps_start, start_state, start_link}
+use Rattle.eb_rebuild.proofs.link_rebuild.LinkRebuildRebuild.new.Goals as goal
+
+pub invariant_of-result : goal.invariant_of-result
+invariant_of-result c = (
+  start_link (record { faces = c.args.faces; created = c.args.created; symbols = c.args.symbols }) c.in_ok-table.table c.in_ok-stack.stack c.in_ok-splits.splits c.requires.faces c.requires.symbols c.in_ok-table.ensures.room
+      c.in_ok-stack.ensures.sides c.in_ok-stack.ensures.room c.in_ok-splits.ensures.kept,
+  c.in_ok-degrees.ensures,
+  λ e. keeps_start c.in_ok-table.table c.in_ok-degrees.degrees.items c.in_ok-table.ensures.none c.in_ok-table.ensures.unglued,
+)
+
+pub returns-clause-state : goal.returns-clause-state
+returns-clause-state c =
+    start_state c.in_ok-table.table c.in_ok-stack.stack.sides c.in_ok-splits.splits.kept c.in_ok-splits.splits.events (reverse c.args.events.items) c.args.symbols c.in_ok-table.ensures.none c.in_ok-table.ensures.unglued
+    c.in_ok-stack.ensures.sides c.in_ok-splits.ensures.kept c.in_ok-splits.ensures.events

@@ -1,0 +1,50 @@
+-- The degrees that a rebuilding by links keeps: a number for each free side, the degree of the vertex at which it starts, and what each
+-- symbol changes. Sides are told by their numbers.
+use Rattle.std.specs.Prelude.{◌≡◌, ℕ, ◌+◌, ◌*◌, List, length, get_or, set}
+use Rattle.corner_table.specs.Sides.{Side, next, number}
+use Rattle.corner_table.specs.Table.{Table, gluing_of, IsFreeIn}
+use Rattle.eb_rebuild.specs.Degree.{degree}
+use Rattle.eb_rebuild.specs.Named.{Triangle, Row}
+use Rattle.eb_rebuild.specs.Shown.{AreNames}
+
+-- the degree at a side rises
+abbrev pub raised : ℕ → ℕ → List ℕ → List ℕ
+raised side more degrees = set degrees side (get_or degrees side 0 + more)
+
+-- E: face f has three vertices of its own
+abbrev pub after_end : ℕ → List ℕ → List ℕ
+after_end f degrees = set (set (set degrees (3 * f) 2) (3 * f + 1) 2) (3 * f + 2) 2
+
+-- R: face f is glued to side a, which side na follows round the boundary; side 1 starts at the new vertex
+abbrev pub after_right : ℕ → ℕ → ℕ → List ℕ → List ℕ
+after_right f a na degrees =
+    let more = raised na 1 degrees in
+    set (set more (3 * f) (get_or more a 0 + 1)) (3 * f + 1) 2
+
+-- L: the same, but that side 0 starts at the new vertex
+abbrev pub after_left : ℕ → ℕ → ℕ → List ℕ → List ℕ
+after_left f a na degrees =
+    let more = raised na 1 degrees in
+    set (set more (3 * f + 2) (get_or more a 0 + 1)) (3 * f) 2
+
+-- C: face f is glued to a side that side na follows and to side t, which comes before that one
+abbrev pub after_tip : ℕ → ℕ → ℕ → List ℕ → List ℕ
+after_tip f t na degrees =
+    let more = raised na 1 degrees in
+    set more (3 * f) (get_or more t 0 + 1)
+
+-- S: face f is glued to sides b and a, which sides nb and na follow. The vertex at which b starts becomes the one at which na starts, and
+-- brings its corners
+abbrev pub after_split : ℕ → ℕ → ℕ → ℕ → ℕ → List ℕ → List ℕ
+after_split f b a nb na degrees =
+    let one = raised nb 1 degrees in
+    let merged = raised na (get_or one b 0) one in
+    set merged (3 * f) (get_or merged a 0 + 1)
+
+-- the numbers kept for the free sides of a table are the degrees; and there are names for its vertices, of which so many were made
+pub record KeepsDegrees (table : Table) (made : ℕ) (degrees : List ℕ) : Type 0 where
+  pub triangles : List Triangle
+  pub rows : List Row
+  pub long : length triangles ≡ table.faces
+  pub names : AreNames triangles rows (gluing_of table) made
+  pub kept : (s : Side) → IsFreeIn table s → get_or degrees (number s) 0 ≡ degree table.faces (gluing_of table) (next s)
