@@ -8,5 +8,5 @@ use Rattle.pairing.proofs.classes.classes_of.Given as goal
 abbrev pub invariant-loop-x : goal.invariant-loop-x
 invariant-loop-x l = record {
   each : length l.of.items ≡ l.x;
-  class_is : (k : ℕ) → k < l.x → get_or l.of.items k 0 ≡ class_at (get_or l.edges.of.items k 0) (position_in l.numbers (next (side_at k))) (get_or l.lows.items k 0);
+  class_is : (k : ℕ) → k < l.x → get_or l.of.items k 0 ≡ class_at (get_or l.edges.items k 0) (position_in l.numbers (next (side_at k))) (get_or l.lows.items k 0);
 }
