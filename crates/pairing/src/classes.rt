@@ -84,11 +84,10 @@ pub(crate) fn classes_of(
 {
     let (lows, highs) = bounds_of(alloc, numbers, faces)?;
     let bounds = (bound, bound);
-    let edges = number_pairs(alloc, lows.as_slice(), highs.as_slice(), bounds)?;
-    let mut of = Vec::with_capacity(alloc, numbers.len())?;
+    let mut of = number_pairs(alloc, lows.as_slice(), highs.as_slice(), bounds)?;
     for x in 0..3 * faces {
         let start = start_of(numbers, faces, x);
-        of.push(class_at(edges[x as usize], start, lows[x as usize]))?;
+        of[x as usize] = class_at(of[x as usize], start, lows[x as usize]);
     }
     Ok(Classes {
         of,
