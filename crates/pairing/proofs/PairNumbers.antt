@@ -1,7 +1,7 @@
 -- Numbers for pairs of numbers, one list of items after another.
-use Rattle.std.proofs.Common.{◌≡◌, ◌≢◌, ℕ, ◌+◌, ◌/◌, ◌%◌, ◌^◌, ◌<◌, ◌≤◌, List, length, get_or, set, map, inl, inr, sym, ap, ◌∙◌, subst, arith, get_or-set_same, get_or-set_other}
+use Rattle.std.proofs.Common.{◌≡◌, ◌≢◌, ℕ, ◌+◌, ◌/◌, ◌%◌, ◌^◌, ◌<◌, List, length, get_or, set, map, inl, inr, sym, ap, ◌∙◌, subst, arith, get_or-set_same, get_or-set_other}
 use Rattle.std.proofs.lemmas.Bool.{cases_eq, cases_lt}
-use Rattle.std.proofs.lemmas.List.{get_or-map}
+use Rattle.std.proofs.lemmas.List.{get_or-map, length-map}
 use Rattle.pairing.specs.Classes.{AreLinked}
 use Rattle.pairing.specs.Positions.{AreNumbered}
 use Rattle.pairing.specs.FirstItems.{IsFirstWith, AreFirstItems, AreNumberedBelow, AreKeptTo}
@@ -124,4 +124,30 @@ halves_first {firsts} {seconds} {halfway} {numbers} l H F = record { each = F.ea
               let zs : z < length firsts = omega arith in
               I.none_before z k (one_first (H.first_is z zs) J f (high z zs ∙ ap (λ (b : ℕ). b / 65536) s ∙ sym (high x h)))
               (low z zs ∙ ap (λ (b : ℕ). b % 65536) s ∙ sym (low x h)));
+        }
+
+-- by the lower halves alone, where the upper ones are one
+pub lower_enough : {firsts seconds numbers : List ℕ} → length seconds ≡ length firsts →
+    ((x : ℕ) → x < length (map (λ (b : ℕ). b / 65536) seconds) → get_or (map (λ (b : ℕ). b / 65536) seconds) x 0 ≡ get_or (map (λ (b : ℕ). b / 65536) seconds) 0 0) →
+    AreFirstItems firsts (map (λ (b : ℕ). b % 65536) seconds) numbers → AreFirstItems firsts seconds numbers
+lower_enough {firsts} {seconds} {numbers} l one F = record { each = F.each; first_is = first_is }
+  where
+    high : (x : ℕ) → x < length firsts → get_or seconds x 0 / 65536 ≡ get_or (map (λ (b : ℕ). b / 65536) seconds) 0 0
+    high x h = sym (get_or-map (λ (b : ℕ). b / 65536) seconds x 0 0 (omega arith)) ∙ one x (let m = length-map seconds (λ (b : ℕ). b / 65536) in omega arith)
+
+    low : (x : ℕ) → x < length firsts → get_or (map (λ (b : ℕ). b % 65536) seconds) x 0 ≡ get_or seconds x 0 % 65536
+    low x h = get_or-map (λ (b : ℕ). b % 65536) seconds x 0 0 (omega arith)
+
+    first_is : (x : ℕ) → x < length firsts → IsFirstWith firsts seconds x (get_or numbers x 0)
+    first_is x h =
+        let I = F.first_is x h in
+        let n = I.no_later in
+        let small : get_or numbers x 0 < length firsts = omega arith in
+        let upper : get_or seconds (get_or numbers x 0) 0 / 65536 ≡ get_or seconds x 0 / 65536 = high (get_or numbers x 0) small ∙ sym (high x h) in
+        let lower : get_or seconds (get_or numbers x 0) 0 % 65536 ≡ get_or seconds x 0 % 65536 = sym (low (get_or numbers x 0) small) ∙ I.second ∙ low x h in
+        record {
+          no_later = n;
+          first = I.first;
+          second = omega arith;
+          none_before = λ z k f s. I.none_before z k f (low z (omega arith) ∙ ap (λ (b : ℕ). b % 65536) s ∙ sym (low x h));
         }

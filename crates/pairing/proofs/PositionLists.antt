@@ -61,6 +61,20 @@ point_numbers_more points j old bits new M = record {
         take_more_same (get_or points p []) (get_or points q []) j (pos 0) (M.wide p h) (M.wide q k) (M.before.apart p q h k a.0)
         (sym (M.column.values_are p h) ∙ ap (cast_signed w32) a.1 ∙ M.column.values_are q k)
 
+-- points that are told apart need no integer more
+pub apart_numbers : (points : List (List ℤ)) (j width : ℕ) (numbers : List ℕ) → j ≤ width → ArePointNumbers points j numbers → ((x : ℕ) → x < length numbers → get_or numbers x 0 ≡ x) → ArePointNumbers points width numbers
+apart_numbers points j width numbers m P own = record {
+  each = P.each;
+  below = P.below;
+  alike = λ p q h k e. P.alike p q h k (sym (take-take j width (get_or points p []) m) ∙ ap (take j) e ∙ take-take j width (get_or points q []) m);
+  apart = λ p q h k e. (
+      let l = P.each in
+      let a = own p (omega arith) in
+      let b = own q (omega arith) in
+      let s : p ≡ q = omega arith in
+      ap (λ (i : ℕ). take width (get_or points i [])) s);
+}
+
 -- the number of a corner's point
 abbrev pub point_number : List (List ℕ) → List ℕ → Side → ℕ
 point_number faces of_point c = get_or of_point (get_or (get_or faces c.face []) (place_number c.place) 0) 0

@@ -1,5 +1,5 @@
 -- Numbers for positions: equal numbers for equal positions, and only for them (this project's choice).
-use Rattle.std.specs.Prelude.{◌≡◌, ◌≢◌, ℕ, ◌+◌, ◌*◌, ◌^◌, ◌<◌, ◌≤◌, ◌⊎◌, Bool, eqb, ℤ, pos, List, [], length, take, get_or, Option, Some, None}
+use Rattle.std.specs.Prelude.{◌≡◌, ◌≢◌, ℕ, ◌*◌, ◌<◌, Bool, eqb, ℤ, pos, List, [], length, take, get_or}
 use Rattle.std.specs.Int.{w32, cast_signed, cast_unsigned}
 use Rattle.mesh_model.specs.Parts.{MeshParts}
 use Rattle.corner_table.specs.Sides.{Side, next, number}

@@ -1,5 +1,4 @@
 -- The items of the lists so far are numbered.
-use Rattle.std.proofs.Common.{length}
 use Rattle.pairing.specs.FirstItems.{AreNumberedBelow, AreKept}
 use Rattle.pairing.proofs.numbering.number_pairs.Given as goal
 
