@@ -50,7 +50,11 @@ fn number_across<L: Ledger>(t: &SideTable, side: u32, steps: &mut Steps<L>) -> u
 }
 
 /// For each side the number of the side across.
-fn across_all<L: Ledger>(alloc: Global, t: &SideTable, blank: Blank) -> Result<Vec<u32>, Memory>
+pub(crate) fn across_all<L: Ledger>(
+    alloc: Global,
+    t: &SideTable,
+    blank: Blank,
+) -> Result<Vec<u32>, Memory>
     requires name { blank.name ≡ L.name }
     requires parts { blank.parts ≡ L.parts }
     requires some { 0 < L.parts }

@@ -1,40 +1,13 @@
 //! Worked surfaces: what their walks note.
 
 use crate::tracing::trace;
+use crate::worked::{BOOK, RING, TETRAHEDRON, TORUS, mesh};
 use corner_table::{Event, Symbol};
-use drc_base::Refusal;
-use mesh_model::{CornerMesh, Head};
+use drc_base::{Memory, Refusal};
 use pairing::pair;
 use std::alloc::Global;
 use std::process::Abort;
 use std::test::Fail;
-
-/// A mesh of these faces, whose point i has the position (i, i * i, 0).
-fn mesh(
-    rt: &impl Abort,
-    alloc: Global,
-    count: u8,
-    faces: &[[u32; 3]],
-) -> Result<CornerMesh, Refusal> {
-    let head = Head {
-        usage: 0,
-        dtype: 5,
-        comps: 3,
-        normalized: 0,
-        id: 0,
-        quant: None,
-    };
-    let mut points = Vec::new(alloc);
-    for p in 0..count {
-        let x = i32::from(p);
-        points.push(x)?;
-        points.push(x * x)?;
-        points.push(0)?;
-    }
-    let heads = vec![in alloc; head]?;
-    assert!(rt; points.len() % 3 == 0);
-    CornerMesh::new(heads, points, faces.to_vec(alloc)?)
-}
 
 /// What a walk is to note.
 #[derive(Drop)]
@@ -43,66 +16,215 @@ struct Told<'a> {
     events: &'a [Event],
     starts: &'a [bool],
     order: &'a [(u32, u8)],
+    vertices: u32,
 }
 
-/// Walks over the surface of these faces, and compares what is noted.
-fn walks(
-    rt: &impl Abort,
-    alloc: Global,
+/// A surface by its faces and the number of their points, and what its walk is to note.
+#[derive(Drop)]
+struct Worked<'a> {
     points: u8,
-    faces: &[[u32; 3]],
-    told: Told<'_>,
-    vertices: u32,
-) -> Result<(), Refusal> {
-    let table = pair(alloc, &mesh(rt, alloc, points, faces)?)?;
+    faces: &'a [[u32; 3]],
+    told: Told<'a>,
+}
+
+/// Walks over a surface, and compares what is noted.
+fn walks(rt: &impl Abort, alloc: Global, worked: Worked<'_>) -> Result<(), Refusal> {
+    let table = pair(alloc, &mesh(rt, alloc, worked.points, worked.faces)?)?;
     let traced = trace(alloc, &table)?;
-    assert!(rt; traced.symbols.as_slice() == told.symbols);
-    assert!(rt; traced.events.as_slice() == told.events);
-    assert!(rt; traced.starts.as_slice() == told.starts);
-    assert!(rt; traced.order.as_slice() == told.order);
-    assert!(rt; traced.vertices == vertices);
+    assert!(rt; traced.symbols.as_slice() == worked.told.symbols);
+    assert!(rt; traced.events.as_slice() == worked.told.events);
+    assert!(rt; traced.starts.as_slice() == worked.told.starts);
+    assert!(rt; traced.order.as_slice() == worked.told.order);
+    assert!(rt; traced.vertices == worked.told.vertices);
     Ok(())
+}
+
+/// The torus, and another one of seven points more.
+fn two_tori(alloc: Global) -> Result<Vec<[u32; 3]>, Memory> {
+    let mut faces = Vec::new(alloc);
+    for shift in [0u32, 7] {
+        for [a, b, c] in TORUS {
+            faces.push([
+                a.wrapping_add(shift),
+                b.wrapping_add(shift),
+                c.wrapping_add(shift),
+            ])?;
+        }
+    }
+    Ok(faces)
 }
 
 #[test]
 fn walks_worked_surfaces(rt: HostRuntime) -> Result<(), Fail> {
     use Symbol::{C, E, L, R, S};
     let alloc = rt.alloc();
-    let tetrahedron = [[0, 2, 1], [0, 1, 3], [1, 2, 3], [0, 3, 2]];
-    let told = Told {
-        symbols: &[C, R, E],
-        events: &[],
-        starts: &[true],
-        order: &[(3, 0), (2, 1), (1, 2), (0, 1)],
-    };
-    walks(&rt, alloc, 4, &tetrahedron, told, 4)?;
-    // Two mirrored faces, which aren't joined.
-    let told = Told {
-        symbols: &[E, E],
-        events: &[],
-        starts: &[false, false],
-        order: &[(1, 0), (0, 0)],
-    };
-    walks(&rt, alloc, 3, &[[0, 1, 2], [0, 2, 1]], told, 6)?;
-    // A ring with a hole.
-    let ring = [
-        [0, 1, 3],
-        [1, 4, 3],
-        [1, 2, 4],
-        [2, 5, 4],
-        [2, 0, 5],
-        [0, 3, 5],
-    ];
-    let told = Told {
-        symbols: &[S, L, R, L, R, E],
-        events: &[Event {
-            source: 5,
-            split: 0,
-            right: true,
-        }],
-        starts: &[false],
-        order: &[(5, 1), (4, 1), (3, 1), (2, 1), (1, 1), (0, 2)],
-    };
-    walks(&rt, alloc, 6, &ring, told, 6)?;
+    let tori = two_tori(alloc)?;
+    for worked in [
+        Worked {
+            points: 4,
+            faces: &TETRAHEDRON,
+            told: Told {
+                symbols: &[C, R, E],
+                events: &[],
+                starts: &[true],
+                order: &[(3, 0), (2, 1), (1, 2), (0, 1)],
+                vertices: 4,
+            },
+        },
+        Worked {
+            points: 7,
+            faces: &TORUS,
+            told: Told {
+                symbols: &[C, C, C, C, R, S, S, L, R, S, L, E, E],
+                events: &[
+                    Event {
+                        source: 11,
+                        split: 6,
+                        right: false,
+                    },
+                    Event {
+                        source: 12,
+                        split: 5,
+                        right: true,
+                    },
+                ],
+                starts: &[true],
+                order: &[
+                    (9, 0),
+                    (6, 2),
+                    (11, 2),
+                    (4, 0),
+                    (12, 2),
+                    (5, 0),
+                    (13, 0),
+                    (1, 1),
+                    (8, 0),
+                    (3, 1),
+                    (10, 1),
+                    (2, 2),
+                    (7, 2),
+                    (0, 1),
+                ],
+                vertices: 7,
+            },
+        },
+        // A torus, and another one beside it.
+        Worked {
+            points: 14,
+            faces: tori.as_slice(),
+            told: Told {
+                symbols: &[
+                    C, C, C, C, R, S, S, L, R, S, L, E, E, C, C, C, C, R, S, S, L, R, S, L, E, E,
+                ],
+                events: &[
+                    Event {
+                        source: 11,
+                        split: 6,
+                        right: false,
+                    },
+                    Event {
+                        source: 12,
+                        split: 5,
+                        right: true,
+                    },
+                    Event {
+                        source: 24,
+                        split: 19,
+                        right: false,
+                    },
+                    Event {
+                        source: 25,
+                        split: 18,
+                        right: true,
+                    },
+                ],
+                starts: &[true, true],
+                order: &[
+                    (23, 0),
+                    (20, 2),
+                    (25, 2),
+                    (18, 0),
+                    (26, 2),
+                    (19, 0),
+                    (27, 0),
+                    (15, 1),
+                    (22, 0),
+                    (17, 1),
+                    (24, 1),
+                    (16, 2),
+                    (21, 2),
+                    (9, 0),
+                    (6, 2),
+                    (11, 2),
+                    (4, 0),
+                    (12, 2),
+                    (5, 0),
+                    (13, 0),
+                    (1, 1),
+                    (8, 0),
+                    (3, 1),
+                    (10, 1),
+                    (2, 2),
+                    (7, 2),
+                    (0, 1),
+                    (14, 1),
+                ],
+                vertices: 14,
+            },
+        },
+        Worked {
+            points: 6,
+            faces: &RING,
+            told: Told {
+                symbols: &[S, L, R, L, R, E],
+                events: &[Event {
+                    source: 5,
+                    split: 0,
+                    right: true,
+                }],
+                starts: &[false],
+                order: &[(5, 1), (4, 1), (3, 1), (2, 1), (1, 1), (0, 2)],
+                vertices: 6,
+            },
+        },
+        // Two mirrored faces, which aren't joined.
+        Worked {
+            points: 3,
+            faces: &[[0, 1, 2], [0, 2, 1]],
+            told: Told {
+                symbols: &[E, E],
+                events: &[],
+                starts: &[false, false],
+                order: &[(1, 0), (0, 0)],
+                vertices: 6,
+            },
+        },
+        // A face twice.
+        Worked {
+            points: 3,
+            faces: &[[0, 1, 2], [0, 1, 2]],
+            told: Told {
+                symbols: &[E, E],
+                events: &[],
+                starts: &[false, false],
+                order: &[(1, 0), (0, 0)],
+                vertices: 6,
+            },
+        },
+        // The third face finds no free side.
+        Worked {
+            points: 5,
+            faces: &BOOK,
+            told: Told {
+                symbols: &[R, E, E],
+                events: &[],
+                starts: &[false, false],
+                order: &[(2, 0), (1, 2), (0, 0)],
+                vertices: 7,
+            },
+        },
+    ] {
+        walks(&rt, alloc, worked)?;
+    }
     Ok(())
 }

@@ -1,104 +1,153 @@
--- Numbers for pairs of numbers, one item after another.
-use Rattle.std.proofs.Common.{◌≡◌, ◌≢◌, ℕ, ◌+◌, ◌^◌, ◌<◌, ◌≤◌, List, [], ◌∷◌, ◌++◌, length, get_or, max, Option, Some, None, inl, inr, sym, refl, ap, ◌∙◌, arith, length-append}
-use Rattle.std.proofs.lemmas.Bool.{cases_eq}
-use Rattle.std.proofs.lemmas.List.{get_or_append_left, get_or_push}
-use Rattle.corner_table.proofs.Places.{Some_injective}
-use Rattle.pairing.specs.Positions.{key_of, IsNumberOf, IsNumbering, AreNumbered}
+-- Numbers for pairs of numbers, one list of items after another.
+use Rattle.std.proofs.Common.{◌≡◌, ◌≢◌, ℕ, ◌+◌, ◌/◌, ◌%◌, ◌^◌, ◌<◌, List, length, get_or, set, map, inl, inr, sym, ap, ◌∙◌, subst, arith, get_or-set_same, get_or-set_other}
+use Rattle.std.proofs.lemmas.Bool.{cases_eq, cases_lt}
+use Rattle.std.proofs.lemmas.List.{get_or-map, length-map}
+use Rattle.pairing.specs.Classes.{AreLinked}
+use Rattle.pairing.specs.Positions.{AreNumbered}
+use Rattle.pairing.specs.FirstItems.{IsFirstWith, AreFirstItems, AreNumberedBelow, AreKeptTo}
 
--- one item more
-pub record IsNext (known new : ℕ → Option ℕ) (firsts seconds numbers : List ℕ) (i count n : ℕ) : Type 0 where
-  pub before : IsNumbering known firsts seconds numbers i count
-  pub number : IsNumberOf known new (key_of (get_or firsts i 0) (get_or seconds i 0)) count n
+-- from one item of a list to the next one
+pub record IsPassing (firsts seconds nexts kept numbers : List ℕ) (list at number : ℕ) : Type 0 where
+  pub here : get_or firsts at 0 ≡ list
+  pub inside : at < length firsts
+  pub each : length numbers ≡ length firsts
+  pub linked : AreLinked firsts nexts 0
+  pub kept_to : AreKeptTo firsts seconds kept list (at + 1)
+  pub number_is : IsFirstWith firsts seconds at number
+  pub earlier : AreNumberedBelow firsts seconds numbers list
+  pub so_far : (x : ℕ) → x < length firsts → get_or firsts x 0 ≡ list → x < at → IsFirstWith firsts seconds x (get_or numbers x 0)
 
-module _ {known new : ℕ → Option ℕ} {firsts seconds numbers : List ℕ} {i count n : ℕ} (N : IsNext known new firsts seconds numbers i count n) where
-  key : ℕ
-  key = key_of (get_or firsts i 0) (get_or seconds i 0)
-
-  pub next_few : n ≤ i
-  next_few = elim N.number.0 [
-    | inl e ↦ (let b = N.before.below (key_of (get_or firsts i 0) (get_or seconds i 0)) n e in let f = N.before.few in omega arith)
-    | inr e ↦ (let q = e.1 in let f = N.before.few in omega arith)
+module _ {firsts seconds nexts kept numbers : List ℕ} {list at number : ℕ} (P : IsPassing firsts seconds nexts kept numbers list at number) where
+  -- items of the list below the next one come no later than this one
+  none_between : (x : ℕ) → x < length firsts → get_or firsts x 0 ≡ list → x < get_or nexts at 0 → x < at + 1
+  none_between x h e k = elim (cases_lt x (at + 1)) [
+    | inl l ↦ l
+    | inr m ↦ absurd (let n = P.linked.none_between at x (omega arith) (omega arith) h (e ∙ sym P.here) in omega arith)
   ]
 
-  -- a number that was known is the number of the key alone, if it is
-  only_key : (q : ℕ) → q ≢ key_of (get_or firsts i 0) (get_or seconds i 0) → known q ≡ Some n → ⊥
-  only_key q m e = elim N.number.0 [
-    | inl f ↦ m (N.before.apart q (key_of (get_or firsts i 0) (get_or seconds i 0)) n e f)
-    | inr f ↦ (let b = N.before.below q n e in let g = f.1 in omega arith)
-  ]
+  pub passes : at < get_or nexts at 0
+  passes = P.linked.later at (omega arith) P.inside
 
-  kept : (q v : ℕ) → known q ≡ Some v → new q ≡ Some v
-  kept q v e = elim (cases_eq q (key_of (get_or firsts i 0) (get_or seconds i 0))) [
-    | inl p ↦ elim N.number.0 [
-      | inl f ↦ ap new p ∙ N.number.1 ∙ sym f ∙ ap known (sym p) ∙ e
-      | inr f ↦ absurd (let no : None ≡ Some v = sym f.0 ∙ ap known (sym p) ∙ e in cc)
-    ]
-    | inr m ↦ N.number.2 q m ∙ e
-  ]
+  pub next_here : get_or nexts at 0 < length firsts → get_or firsts (get_or nexts at 0) 0 ≡ list
+  next_here h = P.linked.same at (omega arith) P.inside h ∙ P.here
 
-  pub next_numbering : IsNumbering new firsts seconds (numbers ++ n ∷ []) (i + 1) (max count (n + 1))
-  next_numbering = record {
-    each = length-append numbers (n ∷ []) ∙ (let l = N.before.each in omega arith);
-    few = (let f = N.before.few in let m = next_few in omega arith);
-    numbered = numbered;
-    below = below;
-    apart = apart;
+  pub next_kept : AreKeptTo firsts seconds kept list (get_or nexts at 0)
+  next_kept = record {
+    below = P.kept_to.below;
+    before = λ b h k e. (let l = P.kept_to.before b h k e in let p = passes in omega arith);
+    least = P.kept_to.least;
+    known = λ x h k e. P.kept_to.known x h (none_between x h e k) e;
   }
-    where
-      numbered : (k : ℕ) → k < i + 1 → new (key_of (get_or firsts k 0) (get_or seconds k 0)) ≡ Some (get_or (numbers ++ n ∷ []) k 0)
-      numbered k h = elim (cases_eq k i) [
-        | inl e ↦
-            ap (λ (j : ℕ). new (key_of (get_or firsts j 0) (get_or seconds j 0))) e ∙ N.number.1
-            ∙ ap {A = ℕ} Some (sym (get_or_push numbers n 0 k (N.before.each ∙ sym e)))
-        | inr m ↦ (
-            let l = N.before.each in
-            let less : k < i = omega arith in
-            kept (key_of (get_or firsts k 0) (get_or seconds k 0)) (get_or numbers k 0) (N.before.numbered k less)
-            ∙ ap {A = ℕ} Some (sym (get_or_append_left numbers (n ∷ []) 0 k (omega arith))))
-      ]
 
-      below : (q v : ℕ) → new q ≡ Some v → v < max count (n + 1)
-      below q v e = elim (cases_eq q (key_of (get_or firsts i 0) (get_or seconds i 0))) [
-        | inl p ↦ (let s : n ≡ v = Some_injective n v (sym N.number.1 ∙ ap new (sym p) ∙ e) in omega arith)
-        | inr m ↦ (let b = N.before.below q v (sym (N.number.2 q m) ∙ e) in omega arith)
-      ]
+  pub next_earlier : AreNumberedBelow firsts seconds (set numbers at number) list
+  next_earlier x h k =
+      let ne : x ≢ at = λ e. (let v = ap (λ (i : ℕ). get_or firsts i 0) e in let t = P.here in omega arith) in
+      subst (IsFirstWith firsts seconds x) (sym (get_or-set_other numbers at x number 0 ne)) (P.earlier x h k)
 
-      apart : (p q v : ℕ) → new p ≡ Some v → new q ≡ Some v → p ≡ q
-      apart p q v e f = elim (cases_eq p (key_of (get_or firsts i 0) (get_or seconds i 0))) [
-        | inl s ↦ elim (cases_eq q (key_of (get_or firsts i 0) (get_or seconds i 0))) [
-          | inl t ↦ s ∙ sym t
-          | inr t ↦ (
-              let u : n ≡ v = Some_injective n v (sym N.number.1 ∙ ap new (sym s) ∙ e) in
-              absurd (only_key q t (sym (N.number.2 q t) ∙ f ∙ ap {A = ℕ} Some (sym u))))
-        ]
-        | inr s ↦ elim (cases_eq q (key_of (get_or firsts i 0) (get_or seconds i 0))) [
-          | inl t ↦ (
-              let u : n ≡ v = Some_injective n v (sym N.number.1 ∙ ap new (sym t) ∙ f) in
-              absurd (only_key p s (sym (N.number.2 p s) ∙ e ∙ ap {A = ℕ} Some (sym u))))
-          | inr t ↦ N.before.apart p q v (sym (N.number.2 p s) ∙ e) (sym (N.number.2 q t) ∙ f)
-        ]
-      ]
+  pub next_so_far : (x : ℕ) → x < length firsts → get_or firsts x 0 ≡ list → x < get_or nexts at 0 → IsFirstWith firsts seconds x (get_or (set numbers at number) x 0)
+  next_so_far x h e k = elim (cases_eq x at) [
+    | inl p ↦ (
+        let l = P.each in
+        let i = P.inside in
+        let v = get_or-set_same numbers at number 0 (omega arith) in
+        subst (λ (y : ℕ). IsFirstWith firsts seconds y (get_or (set numbers at number) y 0)) (sym p) (subst (IsFirstWith firsts seconds at) (sym v) P.number_is))
+    | inr m ↦ (
+        let b = none_between x h e k in
+        subst (IsFirstWith firsts seconds x) (sym (get_or-set_other numbers at x number 0 m)) (P.so_far x h e (omega arith)))
+  ]
 
--- no items yet
-pub numbering_begins : (known : ℕ → Option ℕ) (firsts seconds : List ℕ) → ((q : ℕ) → known q ≡ None) → IsNumbering known firsts seconds [] 0 0
-numbering_begins known firsts seconds h = record {
-  each = refl;
-  few = omega arith;
-  numbered = λ k l. absurd (omega arith);
-  below = λ q v e. absurd (let no : None ≡ Some v = sym (h q) ∙ e in cc);
-  apart = λ p q v e f. absurd (let no : None ≡ Some v = sym (h p) ∙ e in cc);
+-- a whole list is numbered
+pub list_ends : (firsts seconds numbers : List ℕ) (list : ℕ) → AreNumberedBelow firsts seconds numbers list →
+    ((x : ℕ) → x < length firsts → get_or firsts x 0 ≡ list → IsFirstWith firsts seconds x (get_or numbers x 0)) → AreNumberedBelow firsts seconds numbers (list + 1)
+list_ends firsts seconds numbers list earlier all x h k = elim (cases_eq (get_or firsts x 0) list) [
+  | inl e ↦ all x h e
+  | inr m ↦ earlier x h (omega arith)
+]
+
+-- items that are alike have one first item
+one_first : {firsts seconds : List ℕ} {x y v w : ℕ} → IsFirstWith firsts seconds x v → IsFirstWith firsts seconds y w → get_or firsts x 0 ≡ get_or firsts y 0 → get_or seconds x 0 ≡ get_or seconds y 0 → v ≡ w
+one_first {firsts} {seconds} {x} {y} {v} {w} I J e f = elim (cases_lt v w) [
+  | inl l ↦ absurd (J.none_before v l (I.first ∙ e) (I.second ∙ f))
+  | inr m ↦ elim (cases_lt w v) [
+    | inl l ↦ absurd (I.none_before w l (J.first ∙ sym e) (J.second ∙ sym f))
+    | inr n ↦ omega arith
+  ]
+]
+
+pub firsts_number : {firsts seconds numbers : List ℕ} → AreFirstItems firsts seconds numbers → AreNumbered firsts seconds numbers (length firsts)
+firsts_number {firsts} {seconds} {numbers} F = record {
+  each = F.each;
+  below = λ i h. (let l = (F.first_is i h).no_later in omega arith);
+  alike = λ i j h k e f. one_first (F.first_is i h) (F.first_is j k) e f;
+  apart = λ i j h k e. (
+      let I = F.first_is i h in
+      let J = F.first_is j k in
+      (sym I.first ∙ ap (λ (v : ℕ). get_or firsts v 0) e ∙ J.first, sym I.second ∙ ap (λ (v : ℕ). get_or seconds v 0) e ∙ J.second));
 }
 
--- a key has one pair of numbers
-key_apart : (a b c d : ℕ) → b < 2 ^ 32 → d < 2 ^ 32 → key_of a b ≡ key_of c d → (a ≡ c) × (b ≡ d)
-key_apart a b c d h k e = (omega arith, omega arith)
+-- halves are below 2^16
+pub upper_small : (seconds : List ℕ) → ((x : ℕ) → x < length seconds → get_or seconds x 0 < 2 ^ 32) → (x : ℕ) → x < length seconds → get_or (map (λ (b : ℕ). b / 65536) seconds) x 0 < 65536
+upper_small seconds h x k = let e = get_or-map (λ (b : ℕ). b / 65536) seconds x 0 0 k in let f = h x k in omega arith
 
--- all items
-pub numbering_done : (known : ℕ → Option ℕ) (firsts seconds numbers : List ℕ) (items count : ℕ) → items ≡ length firsts → ((k : ℕ) → k < length firsts → get_or seconds k 0 < 2 ^ 32) → IsNumbering known firsts seconds numbers items count → AreNumbered firsts seconds numbers count
-numbering_done known firsts seconds numbers items count l fits N = record {
-  each = N.each ∙ l;
-  below = λ i h. N.below (key_of (get_or firsts i 0) (get_or seconds i 0)) (get_or numbers i 0) (N.numbered i (omega arith));
-  alike = λ i j h k e f. Some_injective (get_or numbers i 0) (get_or numbers j 0) (sym (N.numbered i (omega arith)) ∙ ap (λ (a : ℕ). known (key_of a (get_or seconds i 0))) e ∙ ap (λ (b : ℕ). known (key_of (get_or firsts j 0) b)) f ∙ N.numbered j (omega arith));
-  apart = λ i j h k e. key_apart (get_or firsts i 0) (get_or seconds i 0) (get_or firsts j 0) (get_or seconds j 0) (fits i h) (fits j k)
-      (N.apart (key_of (get_or firsts i 0) (get_or seconds i 0)) (key_of (get_or firsts j 0) (get_or seconds j 0)) (get_or numbers j 0) (N.numbered i (omega arith) ∙ ap {A = ℕ} Some e) (N.numbered j (omega arith)));
-}
+pub lower_small : (seconds : List ℕ) (x : ℕ) → x < length seconds → get_or (map (λ (b : ℕ). b % 65536) seconds) x 0 < 65536
+lower_small seconds x k = let e = get_or-map (λ (b : ℕ). b % 65536) seconds x 0 0 k in omega arith
+
+-- by the upper halves, and then by the lower ones
+pub halves_first : {firsts seconds halfway numbers : List ℕ} → length seconds ≡ length firsts → AreFirstItems firsts (map (λ (b : ℕ). b / 65536) seconds) halfway →
+    AreFirstItems halfway (map (λ (b : ℕ). b % 65536) seconds) numbers → AreFirstItems firsts seconds numbers
+halves_first {firsts} {seconds} {halfway} {numbers} l H F = record { each = F.each ∙ H.each; first_is = first_is }
+  where
+    high : (x : ℕ) → x < length firsts → get_or (map (λ (b : ℕ). b / 65536) seconds) x 0 ≡ get_or seconds x 0 / 65536
+    high x h = get_or-map (λ (b : ℕ). b / 65536) seconds x 0 0 (omega arith)
+
+    low : (x : ℕ) → x < length firsts → get_or (map (λ (b : ℕ). b % 65536) seconds) x 0 ≡ get_or seconds x 0 % 65536
+    low x h = get_or-map (λ (b : ℕ). b % 65536) seconds x 0 0 (omega arith)
+
+    first_is : (x : ℕ) → x < length firsts → IsFirstWith firsts seconds x (get_or numbers x 0)
+    first_is x h =
+        let e = H.each in
+        let I = F.first_is x (omega arith) in
+        let n = I.no_later in
+        let small : get_or numbers x 0 < length firsts = omega arith in
+        let J = H.first_is x h in
+        let K = H.first_is (get_or numbers x 0) small in
+        let q = I.first in
+        let first : get_or firsts (get_or numbers x 0) 0 ≡ get_or firsts x 0 = sym K.first ∙ ap (λ (v : ℕ). get_or firsts v 0) q ∙ J.first in
+        let upper : get_or seconds (get_or numbers x 0) 0 / 65536 ≡ get_or seconds x 0 / 65536 =
+        sym (high (get_or numbers x 0) small) ∙ sym K.second ∙ ap (λ (v : ℕ). get_or (map (λ (b : ℕ). b / 65536) seconds) v 0) q ∙ J.second ∙ high x h in
+        let lower : get_or seconds (get_or numbers x 0) 0 % 65536 ≡ get_or seconds x 0 % 65536 = sym (low (get_or numbers x 0) small) ∙ I.second ∙ low x h in
+        record {
+          no_later = n;
+          first = first;
+          second = omega arith;
+          none_before = λ z k f s. (
+              let zs : z < length firsts = omega arith in
+              I.none_before z k (one_first (H.first_is z zs) J f (high z zs ∙ ap (λ (b : ℕ). b / 65536) s ∙ sym (high x h)))
+              (low z zs ∙ ap (λ (b : ℕ). b % 65536) s ∙ sym (low x h)));
+        }
+
+-- by the lower halves alone, where the upper ones are one
+pub lower_enough : {firsts seconds numbers : List ℕ} → length seconds ≡ length firsts →
+    ((x : ℕ) → x < length (map (λ (b : ℕ). b / 65536) seconds) → get_or (map (λ (b : ℕ). b / 65536) seconds) x 0 ≡ get_or (map (λ (b : ℕ). b / 65536) seconds) 0 0) →
+    AreFirstItems firsts (map (λ (b : ℕ). b % 65536) seconds) numbers → AreFirstItems firsts seconds numbers
+lower_enough {firsts} {seconds} {numbers} l one F = record { each = F.each; first_is = first_is }
+  where
+    high : (x : ℕ) → x < length firsts → get_or seconds x 0 / 65536 ≡ get_or (map (λ (b : ℕ). b / 65536) seconds) 0 0
+    high x h = sym (get_or-map (λ (b : ℕ). b / 65536) seconds x 0 0 (omega arith)) ∙ one x (let m = length-map seconds (λ (b : ℕ). b / 65536) in omega arith)
+
+    low : (x : ℕ) → x < length firsts → get_or (map (λ (b : ℕ). b % 65536) seconds) x 0 ≡ get_or seconds x 0 % 65536
+    low x h = get_or-map (λ (b : ℕ). b % 65536) seconds x 0 0 (omega arith)
+
+    first_is : (x : ℕ) → x < length firsts → IsFirstWith firsts seconds x (get_or numbers x 0)
+    first_is x h =
+        let I = F.first_is x h in
+        let n = I.no_later in
+        let small : get_or numbers x 0 < length firsts = omega arith in
+        let upper : get_or seconds (get_or numbers x 0) 0 / 65536 ≡ get_or seconds x 0 / 65536 = high (get_or numbers x 0) small ∙ sym (high x h) in
+        let lower : get_or seconds (get_or numbers x 0) 0 % 65536 ≡ get_or seconds x 0 % 65536 = sym (low (get_or numbers x 0) small) ∙ I.second ∙ low x h in
+        record {
+          no_later = n;
+          first = I.first;
+          second = omega arith;
+          none_before = λ z k f s. I.none_before z k f (low z (omega arith) ∙ ap (λ (b : ℕ). b % 65536) s ∙ sym (low x h));
+        }

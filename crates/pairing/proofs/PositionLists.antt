@@ -7,6 +7,8 @@ use Rattle.mesh_model.specs.Parts.{MeshParts, IsMesh, IsFaceOf}
 use Rattle.corner_table.specs.Sides.{Side, Place, first, second, third, side, number, place_number}
 use Rattle.corner_table.proofs.Numbers.{number-lt}
 use Rattle.pairing.specs.Pairing.{first_width, corner_position}
+use Rattle.pairing.specs.FirstItems.{AreFirstItems}
+use Rattle.pairing.proofs.PairNumbers.{firsts_number}
 use Rattle.pairing.specs.Positions.{AreNumbered, IsColumn, ArePointNumbers, AreCornerNumbers, position_in}
 
 -- no integer tells two points apart
@@ -19,21 +21,23 @@ point_numbers_begin points n e = record {
 }
 
 -- one integer more
-pub record IsMore (points : List (List ℤ)) (j : ℕ) (old bits new : List ℕ) (count : ℕ) : Type 0 where
+pub record IsMore (points : List (List ℤ)) (j : ℕ) (old bits new : List ℕ) : Type 0 where
   pub wide : (p : ℕ) → p < length points → j < length (get_or points p [])
   pub before : ArePointNumbers points j old
   pub column : IsColumn points j bits (length points)
-  pub numbered : AreNumbered old bits new count
-  pub few : count ≤ length points
+  pub numbered : AreFirstItems old bits new
 
-pub point_numbers_more : (points : List (List ℤ)) (j : ℕ) (old bits new : List ℕ) (count : ℕ) → IsMore points j old bits new count → ArePointNumbers points (j + 1) new
-point_numbers_more points j old bits new count M = record {
+pub point_numbers_more : (points : List (List ℤ)) (j : ℕ) (old bits new : List ℕ) → IsMore points j old bits new → ArePointNumbers points (j + 1) new
+point_numbers_more points j old bits new M = record {
   each = M.numbered.each ∙ M.before.each;
-  below = λ p h. (let l = M.before.each in let b = M.numbered.below p (omega arith) in let f = M.few in omega arith);
+  below = λ p h. (let l = M.before.each in let b = numbered.below p (omega arith) in omega arith);
   alike = alike;
   apart = apart;
 }
   where
+    numbered : AreNumbered old bits new (length old)
+    numbered = firsts_number M.numbered
+
     head : (p q : ℕ) → take (j + 1) (get_or points p []) ≡ take (j + 1) (get_or points q []) → take j (get_or points p []) ≡ take j (get_or points q [])
     head p q e =
         sym (take-take j (j + 1) (get_or points p []) (omega arith)) ∙ ap (take j) e ∙ take-take j (j + 1) (get_or points q []) (omega arith)
@@ -47,15 +51,29 @@ point_numbers_more points j old bits new count M = record {
     alike : (p q : ℕ) → p < length points → q < length points → take (j + 1) (get_or points p []) ≡ take (j + 1) (get_or points q []) → get_or new p 0 ≡ get_or new q 0
     alike p q h k e =
         let l = M.before.each in
-        M.numbered.alike p q (omega arith) (omega arith) (M.before.alike p q h k (head p q e))
+        numbered.alike p q (omega arith) (omega arith) (M.before.alike p q h k (head p q e))
         (M.column.bits_are p h ∙ ap (cast_unsigned w32) (last p q e) ∙ sym (M.column.bits_are q k))
 
     apart : (p q : ℕ) → p < length points → q < length points → get_or new p 0 ≡ get_or new q 0 → take (j + 1) (get_or points p []) ≡ take (j + 1) (get_or points q [])
     apart p q h k e =
         let l = M.before.each in
-        let a = M.numbered.apart p q (omega arith) (omega arith) e in
+        let a = numbered.apart p q (omega arith) (omega arith) e in
         take_more_same (get_or points p []) (get_or points q []) j (pos 0) (M.wide p h) (M.wide q k) (M.before.apart p q h k a.0)
         (sym (M.column.values_are p h) ∙ ap (cast_signed w32) a.1 ∙ M.column.values_are q k)
+
+-- points that are told apart need no integer more
+pub apart_numbers : (points : List (List ℤ)) (j width : ℕ) (numbers : List ℕ) → j ≤ width → ArePointNumbers points j numbers → ((x : ℕ) → x < length numbers → get_or numbers x 0 ≡ x) → ArePointNumbers points width numbers
+apart_numbers points j width numbers m P own = record {
+  each = P.each;
+  below = P.below;
+  alike = λ p q h k e. P.alike p q h k (sym (take-take j width (get_or points p []) m) ∙ ap (take j) e ∙ take-take j width (get_or points q []) m);
+  apart = λ p q h k e. (
+      let l = P.each in
+      let a = own p (omega arith) in
+      let b = own q (omega arith) in
+      let s : p ≡ q = omega arith in
+      ap (λ (i : ℕ). take width (get_or points i [])) s);
+}
 
 -- the number of a corner's point
 abbrev pub point_number : List (List ℕ) → List ℕ → Side → ℕ

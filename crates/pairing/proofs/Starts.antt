@@ -47,6 +47,14 @@ triangles_are m numbers e N = record { each = N.each; apart = λ c h. at c.face 
         let t = or_false (same_position m (side f first) (side f second) || same_position m (side f second) (side f third)) (same_position m (side f third) (side f first)) (none_degenerate m e f h) in
         differ (side f third) (side f first) h h t.1
 
+-- numbers of corners are below that of the points
+pub numbers_below : (m : MeshParts) (numbers : List ℕ) → AreCornerNumbers m numbers → (x : ℕ) → x < length numbers → get_or numbers x 0 < length m.points
+numbers_below m numbers N x h =
+    let k = N.each in
+    let b = N.below (side_at x) (face-lt x (length m.faces) (omega arith)) in
+    let q : position_in numbers (side_at x) ≡ get_or numbers x 0 = ap (λ (i : ℕ). get_or numbers i 0) (number-side_at x) in
+    omega arith
+
 -- what is known of the sides
 pub sides_are : (m : MeshParts) (numbers classes nexts : List ℕ) (count : ℕ) → IsMesh m → degenerate_fault m ≡ None → AreCornerNumbers m numbers → AreClasses numbers classes count → count ≤ 6 * length m.faces → AreLinked classes nexts 0 → AreSides (length m.faces) numbers classes nexts count
 sides_are m numbers classes nexts count M e N C n L = record {
@@ -67,8 +75,7 @@ sides_are m numbers classes nexts count M e N C n L = record {
     third_below x h =
         let l = C.each in
         let k = N.each in
-        let b = N.below (side_at x) (face-lt x (length m.faces) (omega arith)) in
-        let q : position_in numbers (side_at x) ≡ get_or numbers x 0 = ap (λ (i : ℕ). get_or numbers i 0) (number-side_at x) in
+        let b = numbers_below m numbers N x (omega arith) in
         let p = M.points.few_points in
         omega arith
 

@@ -1,6 +1,7 @@
 pub mod Pairing
 pub mod Degenerate
 pub mod Positions
+pub mod FirstItems
 pub mod Classes
 pub mod Choosing
 pub mod Turns

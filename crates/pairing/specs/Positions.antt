@@ -1,26 +1,9 @@
 -- Numbers for positions: equal numbers for equal positions, and only for them (this project's choice).
-use Rattle.std.specs.Prelude.{◌≡◌, ◌≢◌, ℕ, ◌+◌, ◌*◌, ◌^◌, ◌<◌, ◌≤◌, ◌⊎◌, Bool, eqb, ℤ, pos, List, [], length, take, get_or, Option, Some, None}
+use Rattle.std.specs.Prelude.{◌≡◌, ◌≢◌, ℕ, ◌*◌, ◌<◌, Bool, eqb, ℤ, pos, List, [], length, take, get_or}
 use Rattle.std.specs.Int.{w32, cast_signed, cast_unsigned}
 use Rattle.mesh_model.specs.Parts.{MeshParts}
 use Rattle.corner_table.specs.Sides.{Side, next, number}
 use Rattle.pairing.specs.Pairing.{corner_position}
-
--- two numbers below 2^32 as one
-abbrev pub key_of : ℕ → ℕ → ℕ
-key_of a b = a * 2 ^ 32 + b
-
--- the number of a key: the one that it had, or else the fresh one
-abbrev pub IsNumberOf : (ℕ → Option ℕ) → (ℕ → Option ℕ) → ℕ → ℕ → ℕ → Type 0
-IsNumberOf old new key fresh n =
-    ((old key ≡ Some n) ⊎ ((old key ≡ None) × (n ≡ fresh))) × (new key ≡ Some n) × ((q : ℕ) → q ≢ key → new q ≡ old q)
-
--- the first items are numbered, and what is known are their keys' numbers
-pub record IsNumbering (known : ℕ → Option ℕ) (firsts seconds numbers : List ℕ) (items count : ℕ) : Type 0 where
-  pub each : length numbers ≡ items
-  pub few : count ≤ items
-  pub numbered : (k : ℕ) → k < items → known (key_of (get_or firsts k 0) (get_or seconds k 0)) ≡ Some (get_or numbers k 0)
-  pub below : (q v : ℕ) → known q ≡ Some v → v < count
-  pub apart : (p q v : ℕ) → known p ≡ Some v → known q ≡ Some v → p ≡ q
 
 -- items have one number exactly where both lists have one entry each for them
 pub record AreNumbered (firsts seconds numbers : List ℕ) (count : ℕ) : Type 0 where

@@ -1,7 +1,7 @@
 //! The classes of sides: those that run the same way between the same positions.
 //!
-//! Edges are numbered by their lower and their higher position. Edge e has the classes 2e, for sides
-//! that run upwards, and 2e + 1.
+//! Edges are numbered by their lower and their higher position, each by its first side. Edge e has the
+//! classes 2e, for sides that run upwards, and 2e + 1.
 
 ghost use Rattle.std.specs.Prelude.{◌≡◌, ℕ, ◌+◌, ◌-◌, ◌*◌, ◌/◌, ◌%◌, ◌^◌, ◌<◌, ◌≤◌, IfOk, length, slice_index, vec_len, min, max, if◌then◌else◌, nat_lt};
 ghost use Rattle.drc_base.specs.declared.limits.TheConstants.{MAX_FACES as most_faces};
@@ -69,23 +69,29 @@ fn class_at(edge: u32, start: u32, low: u32) -> u32
     if start == low { 2 * edge } else { 2 * edge + 1 }
 }
 
-/// Puts each side in its class.
-pub(crate) fn classes_of(alloc: Global, numbers: &[u32], faces: u32) -> Result<Classes, Memory>
+/// Puts each side in its class; the numbers are below `bound`.
+pub(crate) fn classes_of(
+    alloc: Global,
+    numbers: &[u32],
+    bound: u32,
+    faces: u32,
+) -> Result<Classes, Memory>
     requires few { faces ≤ most_faces }
     requires triangles { AreTriangles faces numbers.now }
+    requires below { (x : ℕ) → x < length numbers.now → slice_index numbers.now x < bound }
     ensures classes { IfOk result (λ classes. AreClasses numbers.now classes.of.items classes.count) }
     ensures count { IfOk result (λ classes. classes.count ≤ 6 * faces) }
 {
     let (lows, highs) = bounds_of(alloc, numbers, faces)?;
-    let edges = number_pairs(alloc, lows.as_slice(), highs.as_slice())?;
-    let mut of = Vec::with_capacity(alloc, numbers.len())?;
+    let bounds = (bound, bound);
+    let mut of = number_pairs(alloc, lows.as_slice(), highs.as_slice(), bounds)?;
     for x in 0..3 * faces {
         let start = start_of(numbers, faces, x);
-        of.push(class_at(edges.of[x as usize], start, lows[x as usize]))?;
+        of[x as usize] = class_at(of[x as usize], start, lows[x as usize]);
     }
     Ok(Classes {
         of,
-        count: 2 * edges.count,
+        count: 6 * faces,
     })
 }
 

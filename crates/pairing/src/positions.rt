@@ -1,20 +1,22 @@
 //! The positions of corners as numbers.
 //!
 //! Points are numbered by their first integer, then by that number and the next integer, and so on
-//! over the integers of the first attribute. A corner has the number of its point.
+//! over the integers of the first attribute, until all points are told apart. Integers are taken by
+//! their upper and their lower bits, for which there are lists. A corner has the number of its point.
 
-ghost use Rattle.std.specs.Prelude.{◌≡◌, ℕ, pos, ◌+◌, ◌*◌, ◌<◌, ◌≤◌, [], IfOk, OnOk, length, slice_index, slice_index_or, vec_len};
+ghost use Rattle.std.specs.Prelude.{◌≡◌, ℕ, pos, ◌+◌, ◌-◌, ◌*◌, ◌/◌, ◌%◌, ◌^◌, ◌<◌, ◌≤◌, ◌↔◌, [], map, IfOk, IsTrue, OnOk, length, slice_index, slice_index_or, vec_len};
 ghost use Rattle.std.specs.Int.{w32, cast_signed, cast_unsigned};
 ghost use Rattle.mesh_model.specs.Head.{width_of};
 ghost use Rattle.corner_table.specs.Sides.{number};
 ghost use Rattle.corner_table.specs.Table.{side_of};
 ghost use Rattle.pairing.specs.Pairing.{first_width};
+ghost use Rattle.pairing.specs.FirstItems.{AreFirstItems};
 ghost use Rattle.pairing.specs.Positions.{IsColumn, ArePointNumbers, AreCornerNumbers};
 
 use crate::numbering::number_pairs;
 use drc_base::Memory;
 use mesh_model::{CornerMesh, Head};
-use std::alloc::Global;
+use std::alloc::{AllocError, Global};
 
 /// How many integers the first attribute has.
 #[tactic(auto, using(crate::proofs::Widths::first_width_le))]
@@ -49,14 +51,85 @@ fn column(alloc: Global, m: &CornerMesh, j: u32) -> Result<Vec<u32>, Memory>
     Ok(bits)
 }
 
+/// The upper 16 bits of each number.
+fn upper_halves(alloc: Global, bits: &[u32]) -> Result<Vec<u32>, AllocError>
+    ensures { IfOk result (λ v. v.items ≡ map (λ (b : ℕ). b / 65536) bits.now) }
+{
+    bits.iter().map(|b| *b / 0x1_0000).collect(alloc)
+}
+
+/// The lower 16 bits of each number.
+fn lower_halves(alloc: Global, bits: &[u32]) -> Result<Vec<u32>, AllocError>
+    ensures { IfOk result (λ v. v.items ≡ map (λ (b : ℕ). b % 65536) bits.now) }
+{
+    bits.iter().map(|b| *b % 0x1_0000).collect(alloc)
+}
+
+/// Whether all numbers are one.
+fn are_alike(numbers: &[u32]) -> bool
+    ensures { IsTrue result ↔ ((x : ℕ) → x < length numbers.now → slice_index numbers.now x ≡ slice_index numbers.now 0) }
+{
+    for x in 0..numbers.len() {
+        if numbers[x] != numbers[0] {
+            return false;
+        }
+    }
+    true
+}
+
+/// Whether each item is its own number, so that all are told apart.
+fn are_apart(numbers: &[u32]) -> bool
+    ensures { IsTrue result ↔ ((x : ℕ) → x < length numbers.now → slice_index numbers.now x ≡ x) }
+{
+    for x in 0..numbers.len() {
+        if numbers[x] as usize != x {
+            return false;
+        }
+    }
+    true
+}
+
+/// Numbers items by their entries in two lists, the first of which are below `bound`.
+fn number_items(
+    alloc: Global,
+    firsts: &[u32],
+    seconds: &[u32],
+    bound: u32,
+) -> Result<Vec<u32>, Memory>
+    requires same { length seconds.now ≡ length firsts.now }
+    requires few { length firsts.now < 2 ^ 32 - 1 }
+    requires firsts { (x : ℕ) → x < length firsts.now → slice_index firsts.now x < bound }
+    ensures { IfOk result (λ numbers. AreFirstItems firsts.now seconds.now numbers.items) }
+{
+    let upper = upper_halves(alloc, seconds)?;
+    let lower = lower_halves(alloc, seconds)?;
+    if are_alike(upper.as_slice()) {
+        let numbers = number_pairs(alloc, firsts, lower.as_slice(), (bound, 0x1_0000))?;
+        return Ok(numbers);
+    }
+    let halfway = number_pairs(alloc, firsts, upper.as_slice(), (bound, 0x1_0000))?;
+    let count = firsts.len() as u32;
+    let numbers = number_pairs(
+        alloc,
+        halfway.as_slice(),
+        lower.as_slice(),
+        (count, 0x1_0000),
+    )?;
+    Ok(numbers)
+}
+
 /// The numbers of points by their positions.
 fn point_numbers(alloc: Global, m: &CornerMesh) -> Result<Vec<u32>, Memory>
     ensures { IfOk result (λ numbers. ArePointNumbers m.now.points (first_width m.now.heads) numbers.items) }
 {
-    let mut numbers: Vec<u32> = vec![in alloc; 0; m.point_count() as usize]?;
+    let count = m.point_count();
+    let mut numbers: Vec<u32> = vec![in alloc; 0; count as usize]?;
     for j in 0..first_width(m.heads()) {
+        if are_apart(numbers.as_slice()) {
+            return Ok(numbers);
+        }
         let bits = column(alloc, m, j)?;
-        numbers = number_pairs(alloc, numbers.as_slice(), bits.as_slice())?.of;
+        numbers = number_items(alloc, numbers.as_slice(), bits.as_slice(), count)?;
     }
     Ok(numbers)
 }

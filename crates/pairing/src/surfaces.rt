@@ -132,7 +132,8 @@ fn start_of(alloc: Global, m: &CornerMesh) -> Result<Start, Memory>
     ensures up_to { IfOk result (λ s. IsUpTo s.sides.thirds.items s.sides.classes.items s.count unglued s.places.taken.items s.places.firsts.items s.places.others.items) }
 {
     let thirds = corner_numbers(alloc, m)?;
-    let classes = classes_of(alloc, thirds.as_slice(), m.face_count())?;
+    let bound = m.point_count();
+    let classes = classes_of(alloc, thirds.as_slice(), bound, m.face_count())?;
     let chains = chains_of(alloc, classes.of.as_slice(), classes.count)?;
     let taken = none_taken(alloc, thirds.len())?;
     let others = Vec::from_slice(alloc, chains.firsts.as_slice())?;

@@ -1,8 +1,6 @@
--- The items so far are numbered.
-use Rattle.std.proofs.Common.{nat_eq}
-use Rattle.std.specs.HashMap.{get}
-use Rattle.pairing.specs.Positions.{IsNumbering}
+-- The items of the lists so far are numbered.
+use Rattle.pairing.specs.FirstItems.{AreNumberedBelow, AreKept}
 use Rattle.pairing.proofs.numbering.number_pairs.Given as goal
 
-abbrev pub invariant-loop-i : goal.invariant-loop-i
-invariant-loop-i l = IsNumbering (get nat_eq l.known) l.firsts l.seconds l.of.items l.i l.count
+abbrev pub invariant-loop-list : goal.invariant-loop-list
+invariant-loop-list l = AreKept l.firsts l.seconds l.kept.items l.list × AreNumberedBelow l.firsts l.seconds l.numbers.items l.list

@@ -1,10 +1,15 @@
 -- The lists are those of the mesh's sides.
 use Rattle.std.proofs.Common.{ℕ, List, length, ap, ◌≡◌, arith}
-use Rattle.pairing.proofs.Starts.{triangles_are, sides_are, up_to_begins}
+use Rattle.pairing.proofs.Starts.{triangles_are, numbers_below, sides_are, up_to_begins}
 use Rattle.pairing.proofs.surfaces.start_of.Goals as goal
 
 pub classes_of-requires-clause-triangles : goal.classes_of-requires-clause-triangles
 classes_of-requires-clause-triangles c = rw (c.face_count.ensures.value, c.as_slice.ensures.value) (triangles_are _ _ c.requires c.in_ok-thirds.ensures)
+
+pub classes_of-requires-clause-below : goal.classes_of-requires-clause-below
+classes_of-requires-clause-below c =
+    let n = c.point_count-bound.ensures.value in
+    rw c.as_slice.ensures.value (λ x h. (let b = numbers_below _ _ c.in_ok-thirds.ensures x h in omega arith))
 
 pub returns-clause-sides : goal.returns-clause-sides
 returns-clause-sides c =

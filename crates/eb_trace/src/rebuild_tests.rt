@@ -1,0 +1,170 @@
+//! Surfaces are rebuilt from what their walks note: fed to the machine of reverse decoding, it gives the
+//! table under the numbers of the order of decoding.
+
+ghost use Rattle.std.specs.Prelude.{◌≡◌, ◌<◌, ◌≤◌, ℕ, All, OnOk, IsTrue, length};
+ghost use Rattle.drc_base.specs.declared.limits.TheConstants.{MAX_FACES as most_faces};
+ghost use Rattle.eb_rebuild.specs.Rebuilding.{IsEventOf};
+
+use crate::surface::across_all;
+use crate::tracing::{Traced, trace};
+use crate::worked::{BOOK, RING, TETRAHEDRON, TORUS, fan, grid, mesh};
+use corner_table::{Event, Steps, Symbol};
+use drc_base::Refusal;
+use eb_rebuild::{Built, Rebuild, RowRebuild};
+use pairing::pair;
+use std::alloc::Global;
+use std::marker::Brand;
+use std::process::Abort;
+use std::sync::ledger::{Blank, Ledger};
+use std::test::Fail;
+
+/// The events, each of which is of these symbols.
+fn checked_events(rt: &impl Abort, alloc: Global, events: &[Event], symbols: u32) -> Vec<Event>
+    ensures { All (IsEventOf symbols) result.items }
+{
+    let mut checked = Vec::new(alloc);
+    for event in events {
+        assert!(rt; event.source < symbols && event.split <= event.source);
+        checked.push(*event).expect(rt, "room");
+    }
+    checked
+}
+
+/// How many of the symbols are S.
+fn split_count(symbols: &[Symbol]) -> u32 {
+    let mut count = 0u32;
+    for symbol in symbols {
+        if *symbol == Symbol::S {
+            count = count.saturating_add(1);
+        }
+    }
+    count
+}
+
+/// Takes all symbols, the last first.
+fn take_all<R: Rebuild, L: Ledger>(
+    machine: &mut R,
+    symbols: &[Symbol],
+    steps: &mut Steps<L>,
+) -> Result<(), Refusal>
+    requires live { IsTrue (R.live machine.old) }
+    requires none { (R.state machine.old).built ≡ 0 }
+    requires unclosed { (R.state machine.old).closes ≡ 0 }
+    requires all { (R.plan machine.old).symbols ≡ length symbols.now }
+    ensures live { OnOk result (IsTrue (R.live machine.new)) }
+    ensures all { OnOk result ((R.plan machine.new).symbols ≤ (R.state machine.new).built) }
+{
+    for number in 0..symbols.len() {
+        match machine.symbol(symbols[symbols.len() - 1 - number], steps) {
+            Ok(()) => (),
+            Err(refusal) => return Err(refusal),
+        }
+    }
+    Ok(())
+}
+
+/// Closes all sides that wait, each by its bit.
+fn close_all<R: Rebuild, L: Ledger>(
+    machine: &mut R,
+    bits: &[bool],
+    steps: &mut Steps<L>,
+) -> Result<(), Refusal>
+    requires live { IsTrue (R.live machine.old) }
+    requires all { (R.plan machine.old).symbols ≤ (R.state machine.old).built }
+    ensures live { OnOk result (IsTrue (R.live machine.new)) }
+    ensures all { OnOk result ((R.plan machine.new).symbols ≤ (R.state machine.new).built) }
+    ensures none { OnOk result (length (R.state machine.new).stack ≡ 0) }
+{
+    let mut number = 0usize;
+    'closing: while machine.pending() > 0 {
+        let bit = number < bits.len() && bits[number];
+        match machine.close(bit, steps) {
+            Ok(()) => (),
+            Err(refusal) => return Err(refusal),
+        }
+        number = number.saturating_add(1);
+    }
+    Ok(())
+}
+
+/// A surface of this many faces, rebuilt from what its walk noted.
+fn rebuilt<R: Rebuild, L: Ledger>(
+    rt: &impl Abort,
+    alloc: Global,
+    faces: u32,
+    traced: &Traced,
+    blank: Blank,
+) -> Result<Built, Refusal>
+    requires faces { faces ≤ most_faces }
+    requires name { blank.name ≡ L.name }
+    requires parts { blank.parts ≡ L.parts }
+    requires some { 0 < L.parts }
+{
+    let symbols = traced.symbols.as_slice();
+    assert!(rt; symbols.len() <= faces as usize);
+    let count = symbols.len() as u32;
+    let events = checked_events(rt, alloc, traced.events.as_slice(), count);
+    let created = traced.vertices.saturating_add(split_count(symbols));
+    let mut steps = Steps::<L>::new(blank);
+    let mut machine = R::new(alloc, faces, created, count, events)?;
+    take_all(&mut machine, symbols, &mut steps)?;
+    close_all(&mut machine, traced.starts.as_slice(), &mut steps)?;
+    machine.finish(alloc)
+}
+
+/// Walks over a surface, rebuilds it, and compares both tables.
+fn comes_back(
+    rt: &impl Abort,
+    alloc: Global,
+    points: u8,
+    faces: &[[u32; 3]],
+) -> Result<(), Refusal> {
+    let table = pair(alloc, &mesh(rt, alloc, points, faces)?)?;
+    let traced = trace(alloc, &table)?;
+    let turned = table.renumbered(alloc, traced.order.as_slice())?;
+    let count = table.face_count();
+    let built = rebuilt::<RowRebuild, Brand>(rt, alloc, count, &traced, Blank::new(1))?;
+    let expected = across_all::<Brand>(alloc, &turned, Blank::new(1))?;
+    let found = across_all::<Brand>(alloc, built.table(), Blank::new(1))?;
+    assert!(rt; found.as_slice() == expected.as_slice());
+    Ok(())
+}
+
+#[test]
+fn surfaces_come_back(rt: HostRuntime) -> Result<(), Fail> {
+    let alloc = rt.alloc();
+    let octahedron = [
+        [0, 2, 4],
+        [2, 1, 4],
+        [1, 3, 4],
+        [3, 0, 4],
+        [2, 0, 5],
+        [1, 2, 5],
+        [3, 1, 5],
+        [0, 3, 5],
+    ];
+    let around = fan(alloc, 40)?;
+    let plain = grid(alloc, (5, 4), (4, 3), &[])?;
+    let closed = grid(alloc, (3, 4), (3, 4), &[])?;
+    let two_holes = grid(alloc, (6, 6), (5, 5), &[(1, 1), (3, 3)])?;
+    let three_holes = grid(alloc, (8, 4), (7, 3), &[(1, 1), (3, 1), (5, 1)])?;
+    for (points, faces) in [
+        (3u8, [[0, 1, 2]].as_slice()),
+        (4, &[[0, 1, 2], [2, 1, 3]]),
+        // Two parts share a point.
+        (5, &[[0, 1, 2], [2, 3, 4]]),
+        (4, &TETRAHEDRON),
+        (6, &octahedron),
+        (7, &TORUS),
+        (6, &RING),
+        (5, &BOOK),
+        (41, around.as_slice()),
+        (20, plain.as_slice()),
+        (12, closed.as_slice()),
+        (36, two_holes.as_slice()),
+        (32, three_holes.as_slice()),
+    ] {
+        comes_back(&rt, alloc, points, faces)?;
+    }
+    Ok(())
+}
