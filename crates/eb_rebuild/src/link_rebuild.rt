@@ -118,6 +118,14 @@ impl LinkRebuild {
     ghost use Rattle.eb_rebuild.specs.Machine.{top, step, close, pushed, release};
     ghost use Rattle.eb_rebuild.specs.Kept.{kept_in};
     ghost use Rattle.eb_rebuild.specs.Linked.{state_of, is_live, Does};
+    ghost use Rattle.eb_rebuild.specs.Rebuilding.{Holds};
+
+    /// The table of the faces built and the pairs glued so far.
+    pub fn sides(&self) -> &SideTable
+        ensures { Holds (state_of self.now) result.now }
+    {
+        &self.table
+    }
 
     /// Takes the top side off, which has to be free.
     fn take_side<L: Ledger>(&mut self, steps: &mut Steps<L>) -> Result<u32, Fault>
