@@ -1,20 +1,32 @@
 -- Lists of sides under new numbers of the faces.
-use Rattle.std.specs.Prelude.{◌≡◌, ℕ, ◌*◌, ◌<◌, List, length, get_or, map}
-use Rattle.corner_table.specs.Sides.{Side, number}
+use Rattle.std.specs.Prelude.{◌≡◌, ℕ, ◌+◌, ◌*◌, ◌<◌, List, length, get_or, set}
+use Rattle.corner_table.specs.Sides.{Side, Place, first, second, third, side, number}
 use Rattle.corner_table.specs.Table.{free_entry}
-use Rattle.corner_table.specs.Carried.{carry}
-
--- for each new side the number of the side that it was
-pub record AreSources (faces : ℕ) (rows : List (ℕ × ℕ)) (sources : List ℕ) : Type 0 where
-  pub long : length sources ≡ 3 * faces
-  pub was : (x : Side) → x.face < faces → get_or sources (number x) 0 ≡ number (carry rows x)
+use Rattle.corner_table.specs.Carried.{turned, carry}
 
 -- for each old side the number of the side that it becomes
-pub record ArePlaces (count : ℕ) (sources places : List ℕ) : Type 0 where
-  pub long : length places ≡ count
-  pub becomes : (i : ℕ) → i < count → get_or places (get_or sources i 0) free_entry ≡ i
+pub record ArePlaces (faces : ℕ) (rows : List (ℕ × ℕ)) (places : List ℕ) : Type 0 where
+  pub long : length places ≡ 3 * faces
+  pub becomes : (x : Side) → x.face < faces → get_or places (number (carry rows x)) free_entry ≡ number x
 
--- the entries of the new sides: where each old entry becomes what it is now, and what is no side is free
-abbrev pub carried_entries : List ℕ → List ℕ → List ℕ → List ℕ
-carried_entries sources places entries =
-    map (λ was. get_or places (get_or entries was free_entry) free_entry) sources
+-- the side at a place p of face f, turned by t, becomes the side number n
+abbrev pub placed : ℕ → ℕ → Place → ℕ → List ℕ → List ℕ
+placed f t p n places = set places (number (side f (turned t p))) n
+
+-- the three sides of face f, turned by t, become those from number n on
+abbrev pub placed_face : ℕ → ℕ → ℕ → List ℕ → List ℕ
+placed_face f t n places = placed f t third (n + 2) (placed f t second (n + 1) (placed f t first (n + 0) places))
+
+-- what an old entry becomes: the number of a side what that side is now, and what is no side is free
+abbrev pub becomes : List ℕ → List ℕ → Side → ℕ
+becomes places entries s = get_or places (get_or entries (number s) free_entry) free_entry
+
+-- the entries of the new sides
+pub record AreCarried (faces : ℕ) (rows : List (ℕ × ℕ)) (places entries now : List ℕ) : Type 0 where
+  pub long : length now ≡ 3 * faces
+  pub entry : (x : Side) → x.face < faces → get_or now (number x) free_entry ≡ becomes places entries (carry rows x)
+
+-- the links of those new sides that are free
+pub record AreLinks (faces : ℕ) (rows : List (ℕ × ℕ)) (places across links now : List ℕ) : Type 0 where
+  pub long : length now ≡ 3 * faces
+  pub link : (x : Side) → x.face < faces → get_or across (number x) free_entry ≡ free_entry → get_or now (number x) 0 ≡ becomes places links (carry rows x)

@@ -1,13 +1,14 @@
 //! A table under new numbers of its faces, each face turned.
 //!
-//! For each new side stands the side that it was, and for each old side the side that it becomes; by
-//! these two lists all lists of the table are carried.
+//! For each old side stands the side that it becomes; by this list the entries are carried, and the
+//! links of those sides that are free.
 
-ghost use Rattle.std.specs.Prelude.{◌≡◌, ℕ, ◌+◌, ◌*◌, ◌%◌, ◌^◌, ◌<◌, ◌≤◌, IfOk, length, get_or, vec_len};
+ghost use Rattle.std.specs.Prelude.{◌≡◌, ℕ, ◌+◌, ◌*◌, ◌^◌, ◌<◌, ◌≤◌, IfOk, length, get_or, vec_len};
 ghost use Rattle.drc_base.specs.declared.limits.TheConstants.{MAX_FACES as most_faces};
+ghost use Rattle.corner_table.specs.Sides.{side, place_of, number, side_at};
 ghost use Rattle.corner_table.specs.Table.{free_entry};
-ghost use Rattle.corner_table.specs.Carried.{IsRenumbering};
-ghost use Rattle.corner_table.specs.Renumbering.{AreSources, ArePlaces, carried_entries};
+ghost use Rattle.corner_table.specs.Carried.{turned, carry, IsRenumbering};
+ghost use Rattle.corner_table.specs.Renumbering.{ArePlaces, placed_face, becomes, AreCarried, AreLinks};
 
 use crate::entries::filled;
 use drc_base::Memory;
@@ -20,43 +21,44 @@ const NONE: u32 = u32::MAX;
 fn source_of(face: u32, k: u8, turn: u8) -> u32
     requires face { face < most_faces }
     requires places { (k < 3) × (turn < 3) }
-    ensures { result ≡ 3 * face + (k + turn) % 3 }
+    ensures number { result ≡ number (side face (turned turn (place_of k))) }
+    ensures within { result < 3 * face + 3 }
 {
     3 * face + u32::from((k + turn) % 3)
 }
 
-/// For each side of the faces that the rows list, in their order, the number of the side that it was.
-pub(crate) fn sources_of(alloc: Global, faces: u32, rows: &[(u32, u8)]) -> Result<Vec<u32>, Memory>
-    requires rows { IsRenumbering faces rows.now }
-    requires few { faces ≤ most_faces }
-    ensures { IfOk result (λ sources. AreSources faces rows.now sources.items) }
+/// Notes that the sides of a face become those from number `start` on.
+fn place_face(places: &mut Vec<u32>, face: u32, turn: u8, start: u32)
+    requires face { face < most_faces }
+    requires turn { turn < 3 }
+    requires within { 3 * face + 3 ≤ vec_len places.old }
+    requires start { start + 3 < 2 ^ 32 }
+    ensures len { vec_len places.new ≡ vec_len places.old }
+    ensures items { places.new.items ≡ placed_face face turn start places.old.items }
 {
-    let mut sources = Vec::with_capacity(alloc, 3 * rows.len())?;
-    for (face, turn) in rows {
-        sources.push(source_of(*face, 0, *turn))?;
-        sources.push(source_of(*face, 1, *turn))?;
-        sources.push(source_of(*face, 2, *turn))?;
-    }
-    Ok(sources)
+    places[source_of(face, 0, turn) as usize] = start;
+    places[source_of(face, 1, turn) as usize] = start + 1;
+    places[source_of(face, 2, turn) as usize] = start + 2;
 }
 
 /// For each side that was, the number of the side that it becomes.
-pub(crate) fn places_of(alloc: Global, sources: &Vec<u32>) -> Result<Vec<u32>, Memory>
-    requires few { vec_len sources.now < 2 ^ 32 }
-    requires within { (i : ℕ) → i < vec_len sources.now → get_or sources.now.items i 0 < vec_len sources.now }
-    requires apart { (i j : ℕ) → i < vec_len sources.now → j < vec_len sources.now → get_or sources.now.items i 0 ≡ get_or sources.now.items j 0 → i ≡ j }
-    ensures { IfOk result (λ places. ArePlaces (length sources.now.items) sources.now.items places.items) }
+pub(crate) fn places_of(alloc: Global, faces: u32, rows: &[(u32, u8)]) -> Result<Vec<u32>, Memory>
+    requires rows { IsRenumbering faces rows.now }
+    requires few { faces ≤ most_faces }
+    ensures { IfOk result (λ places. ArePlaces faces rows.now places.items) }
 {
-    let mut places = filled(alloc, 0, sources.len())?;
-    for (becomes, was) in sources.iter().enumerate() {
-        places[*was as usize] = becomes as u32;
+    let mut places = filled(alloc, 0, 3 * rows.len())?;
+    let mut start = 0u32;
+    for (face, turn) in rows {
+        place_face(&mut places, *face, *turn, start);
+        start += 3;
     }
     Ok(places)
 }
 
 /// What an old entry becomes: the place of a side, and none where it is no side.
-fn entry_now(places: &[u32], entry: u32) -> u32
-    ensures { result ≡ get_or places.now entry free_entry }
+fn entry_now(places: &Vec<u32>, entry: u32) -> u32
+    ensures { result ≡ get_or places.now.items entry free_entry }
 {
     if (entry as usize) < places.len() {
         places[entry as usize]
@@ -65,19 +67,70 @@ fn entry_now(places: &[u32], entry: u32) -> u32
     }
 }
 
+/// The entry of the corner `k` of a new face.
+fn entry_of(places: &Vec<u32>, entries: &Vec<u32>, face: u32, k: u8, turn: u8) -> u32
+    requires face { face < most_faces }
+    requires places { (k < 3) × (turn < 3) }
+    requires within { 3 * face + 3 ≤ vec_len entries.now }
+    ensures { result ≡ becomes places.now.items entries.now.items (side face (turned turn (place_of k))) }
+{
+    entry_now(places, entries[source_of(face, k, turn) as usize])
+}
+
 /// The entries of the new sides.
 pub(crate) fn carried(
     alloc: Global,
-    sources: &Vec<u32>,
+    faces: u32,
+    rows: &[(u32, u8)],
     places: &Vec<u32>,
     entries: &Vec<u32>,
 ) -> Result<Vec<u32>, Memory>
-    requires { (i : ℕ) → i < vec_len sources.now → get_or sources.now.items i 0 < vec_len entries.now }
-    ensures { IfOk result (λ v. v.items ≡ carried_entries sources.now.items places.now.items entries.now.items) }
+    requires rows { IsRenumbering faces rows.now }
+    requires few { faces ≤ most_faces }
+    requires fits { 3 * faces ≤ vec_len entries.now }
+    ensures { IfOk result (λ v. AreCarried faces rows.now places.now.items entries.now.items v.items) }
 {
-    let mut now = Vec::with_capacity(alloc, sources.len())?;
-    for was in sources {
-        now.push(entry_now(places.as_slice(), entries[*was as usize]))?;
+    let mut now = Vec::with_capacity(alloc, 3 * rows.len())?;
+    for (face, turn) in rows {
+        now.push(entry_of(places, entries, *face, 0, *turn))?;
+        now.push(entry_of(places, entries, *face, 1, *turn))?;
+        now.push(entry_of(places, entries, *face, 2, *turn))?;
+    }
+    Ok(now)
+}
+
+/// The link of a new side.
+fn link_of(faces: u32, rows: &[(u32, u8)], places: &Vec<u32>, links: &Vec<u32>, side: usize) -> u32
+    requires rows { IsRenumbering faces rows.now }
+    requires few { faces ≤ most_faces }
+    requires fits { 3 * faces ≤ vec_len links.now }
+    requires side { side < 3 * faces }
+    ensures { result ≡ becomes places.now.items links.now.items (carry rows.now (side_at side)) }
+{
+    let (face, turn) = rows[side / 3];
+    entry_of(places, links, face, (side % 3) as u8, turn)
+}
+
+/// The links of those new sides that are free.
+pub(crate) fn carried_links(
+    alloc: Global,
+    faces: u32,
+    rows: &[(u32, u8)],
+    places: &Vec<u32>,
+    across: &Vec<u32>,
+    links: &Vec<u32>,
+) -> Result<Vec<u32>, Memory>
+    requires rows { IsRenumbering faces rows.now }
+    requires few { faces ≤ most_faces }
+    requires fits { 3 * faces ≤ vec_len links.now }
+    requires all { vec_len across.now ≡ 3 * faces }
+    ensures { IfOk result (λ v. AreLinks faces rows.now places.now.items across.now.items links.now.items v.items) }
+{
+    let mut now = filled(alloc, 0, across.len())?;
+    for (side, entry) in across.iter().enumerate() {
+        if *entry == NONE {
+            now[side] = link_of(faces, rows, places, links, side);
+        }
     }
     Ok(now)
 }

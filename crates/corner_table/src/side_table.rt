@@ -8,7 +8,7 @@ use crate::entries::{
     entry_at, entry_or_free, filled, link_face, next_number, next_of, number_of, previous_number,
     previous_of, relink, side_with,
 };
-use crate::renumbering::{carried, places_of, sources_of};
+use crate::renumbering::{carried, carried_links, places_of};
 use crate::steps::Steps;
 use drc_base::{MAX_FACES, Memory, Side};
 use std::alloc::Global;
@@ -187,11 +187,10 @@ impl SideTable {
         ensures carried { IfOk result (λ t. IsCarried self.now.faces (gluing_of self.now) rows.now (gluing_of t)) }
     {
         let faces = self.face_count();
-        let sources = sources_of(alloc, faces, rows)?;
-        let places = places_of(alloc, &sources)?;
-        let across = carried(alloc, &sources, &places, &self.across)?;
-        let after = carried(alloc, &sources, &places, &self.after)?;
-        let before = carried(alloc, &sources, &places, &self.before)?;
+        let places = places_of(alloc, faces, rows)?;
+        let across = carried(alloc, faces, rows, &places, &self.across)?;
+        let after = carried_links(alloc, faces, rows, &places, &across, &self.after)?;
+        let before = carried_links(alloc, faces, rows, &places, &across, &self.before)?;
         Ok(SideTable {
             faces,
             across,

@@ -1,7 +1,13 @@
--- The entries of the sides so far.
-use Rattle.std.proofs.Common.{◌≡◌, take}
-use Rattle.corner_table.specs.Renumbering.{carried_entries}
+-- The entries of the sides of the rows so far.
+use Rattle.std.proofs.Common.{◌≡◌, ◌*◌, ◌<◌, length, get_or}
+use Rattle.corner_table.specs.Sides.{Side, number}
+use Rattle.corner_table.specs.Table.{free_entry}
+use Rattle.corner_table.specs.Carried.{carry}
+use Rattle.corner_table.specs.Renumbering.{becomes}
 use Rattle.corner_table.proofs.renumbering.carried.Given as goal
 
-abbrev pub invariant-loop-was : goal.invariant-loop-was
-invariant-loop-was l = l.now.items ≡ carried_entries (take l.was-index l.sources.items) l.places.items l.entries.items
+abbrev pub invariant-loop-face : goal.invariant-loop-face
+invariant-loop-face l = record {
+  long : length l.now.items ≡ 3 * l.face-index;
+  entry : (x : Side) → x.face < l.face-index → get_or l.now.items (number x) free_entry ≡ becomes l.places.items l.entries.items (carry l.rows x);
+}

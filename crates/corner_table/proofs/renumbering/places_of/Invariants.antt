@@ -1,10 +1,13 @@
--- The places of the sides so far.
-use Rattle.std.proofs.Common.{◌≡◌, ℕ, ◌<◌, length, get_or}
+-- The places of the sides of the rows so far.
+use Rattle.std.proofs.Common.{◌≡◌, ◌*◌, ◌<◌, length, get_or}
+use Rattle.corner_table.specs.Sides.{Side, number}
 use Rattle.corner_table.specs.Table.{free_entry}
+use Rattle.corner_table.specs.Carried.{carry}
 use Rattle.corner_table.proofs.renumbering.places_of.Given as goal
 
-abbrev pub invariant-loop-becomes : goal.invariant-loop-becomes
-invariant-loop-becomes l = record {
-  long : length l.places.items ≡ length l.sources.items;
-  becomes : (i : ℕ) → i < l.becomes → get_or l.places.items (get_or l.sources.items i 0) free_entry ≡ i;
+abbrev pub invariant-loop-face : goal.invariant-loop-face
+invariant-loop-face l = record {
+  start : l.start ≡ 3 * l.face-index;
+  long : length l.places.items ≡ 3 * length l.rows;
+  becomes : (x : Side) → x.face < l.face-index → get_or l.places.items (number (carry l.rows x)) free_entry ≡ number x;
 }
