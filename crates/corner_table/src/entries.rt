@@ -1,4 +1,4 @@
-//! Sides by their numbers, and the writes of a table.
+//! The entries of a table, and its writes.
 
 ghost use Rattle.std.specs.Prelude.{◌≡◌, ◌≢◌, ℕ, suc, ◌+◌, ◌*◌, ◌/◌, ◌<◌, ◌≤◌, get_or, set, vec_len, IfOk, replicate};
 ghost use Rattle.drc_base.specs.declared.limits.TheConstants.{MAX_FACES as most_faces};
@@ -8,25 +8,6 @@ ghost use Rattle.corner_table.specs.Links.{relinked, new_loop};
 
 use drc_base::{Memory, Side};
 use std::alloc::Global;
-
-/// The number 3f + k of a side or corner.
-pub(crate) fn number_of(s: Side) -> u32
-    requires { s.face < most_faces }
-    ensures number { result ≡ number (side_of s) }
-    ensures within { result < 3 * s.face + 3 }
-{
-    3 * s.face + u32::from(s.k)
-}
-
-/// The side or corner with a number.
-pub(crate) fn side_with(number: u32) -> Side
-    ensures { side_of result ≡ side_at number }
-{
-    Side {
-        face: number / 3,
-        k: (number % 3) as u8,
-    }
-}
 
 /// The entry with a number.
 pub(crate) fn entry_at(entries: &Vec<u32>, number: u32) -> u32
@@ -42,32 +23,6 @@ pub(crate) fn entry_or_free(entries: &Vec<u32>, number: u32) -> u32
     ensures { result ≡ get_or entries.now.items number free_entry }
 {
     entries[number as usize]
-}
-
-/// The number of the corner after one in its face.
-pub(crate) fn next_number(corner: u32) -> u32
-    requires { corner < free_entry }
-    ensures number { result ≡ number (next (side_at corner)) }
-    ensures face { result / 3 ≡ corner / 3 }
-{
-    if corner % 3 == 2 {
-        corner - 2
-    } else {
-        corner + 1
-    }
-}
-
-/// The number of the corner before one in its face.
-pub(crate) fn previous_number(corner: u32) -> u32
-    requires { corner < free_entry }
-    ensures number { result ≡ number (prev (side_at corner)) }
-    ensures face { result / 3 ≡ corner / 3 }
-{
-    if corner % 3 == 0 {
-        corner + 2
-    } else {
-        corner - 1
-    }
 }
 
 /// The corner after `c` in its face.

@@ -7,6 +7,7 @@ mod corner_lists;
 mod entries;
 mod labels;
 mod renumbering;
+mod side_numbers;
 mod side_table;
 mod steps;
 mod symbols;
@@ -14,6 +15,7 @@ mod symbols;
 mod tests;
 
 pub use corner_lists::{Classes, Order};
+pub use side_numbers::{next_number, number_of, previous_number, side_with};
 pub use side_table::SideTable;
 pub use steps::Steps;
 pub use symbols::{Event, Symbol};

@@ -4,11 +4,9 @@
 //! free side that follows it round the boundary and the one before it, so that the ends of an open
 //! fan are found without a walk.
 
-use crate::entries::{
-    entry_at, entry_or_free, filled, link_face, next_number, next_of, number_of, previous_number,
-    previous_of, relink, side_with,
-};
+use crate::entries::{entry_at, entry_or_free, filled, link_face, next_of, previous_of, relink};
 use crate::renumbering::{carried, carried_links, places_of};
+use crate::side_numbers::{next_number, number_of, previous_number, side_with};
 use crate::steps::Steps;
 use drc_base::{MAX_FACES, Memory, Side};
 use std::alloc::Global;

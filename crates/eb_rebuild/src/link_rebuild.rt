@@ -19,31 +19,11 @@ use crate::kept_degrees::{
 use crate::rebuild::Rebuild;
 use crate::side_stack::SideStack;
 use crate::splits::Splits;
-use corner_table::{Event, SideTable, Steps, Symbol};
+use corner_table::{Event, SideTable, Steps, Symbol, number_of, side_with};
 use drc_base::{Fault, Kind, Memory, Refusal, Side};
 use std::alloc::Global;
 use std::marker::Model;
 use std::sync::ledger::Ledger;
-
-/// The side with a number.
-pub(crate) fn side_with(number: u32) -> Side
-    ensures side { side_of result ≡ side_at number }
-    ensures face { result.face ≡ number / 3 }
-{
-    Side {
-        face: number / 3,
-        k: (number % 3) as u8,
-    }
-}
-
-/// The number of a side.
-fn number_of(s: Side) -> u32
-    requires { s.face < most_faces }
-    ensures number { result ≡ number (side_of s) }
-    ensures within { result < 3 * s.face + 3 }
-{
-    3 * s.face + u32::from(s.k)
-}
 
 /// Whether two sides are one.
 fn is_same(a: Side, b: Side) -> bool

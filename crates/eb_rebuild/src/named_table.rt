@@ -15,8 +15,7 @@ use crate::active_rows::{
     renamed_triangles, row_of, row_to, second_row, start_name, starts_row, third_row,
     triangle_renamed, with_row, with_triangle, without,
 };
-use crate::link_rebuild::side_with;
-use corner_table::{SideTable, Steps};
+use corner_table::{SideTable, Steps, side_with};
 use drc_base::{Memory, Side};
 use std::alloc::Global;
 use std::marker::Model;

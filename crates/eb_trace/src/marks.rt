@@ -8,9 +8,9 @@ ghost use Rattle.corner_table.specs.Labels.{label_at};
 ghost use Rattle.eb_trace.specs.Stored.{gluing_in, IsSurface, AreSized, AreMarksOf, split_told, met_after};
 ghost use Rattle.eb_trace.specs.Trace.{Walk, is_closed, is_new_vertex, symbol_for, symbol_at_corner, split_across};
 
-use crate::numbers::{NONE, next_number, previous_number};
+use crate::numbers::NONE;
 use crate::surface::Surface;
-use corner_table::Symbol;
+use corner_table::{Symbol, next_number, previous_number};
 use drc_base::Memory;
 use std::alloc::Global;
 

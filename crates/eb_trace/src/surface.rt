@@ -11,8 +11,8 @@ ghost use Rattle.corner_table.specs.Table.{side_of, gluing_of, glued_in, other_a
 ghost use Rattle.eb_trace.specs.Stored.{gluing_in, IsSurface};
 ghost use Rattle.eb_trace.specs.Trace.{start_by, start_corner};
 
-use crate::numbers::{NONE, entry_at, next_number, previous_number, side_with};
-use corner_table::{SideTable, Steps};
+use crate::numbers::{NONE, entry_at};
+use corner_table::{SideTable, Steps, next_number, previous_number, side_with};
 use drc_base::{Memory, Side};
 use std::alloc::Global;
 use std::marker::Brand;

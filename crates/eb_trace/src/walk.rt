@@ -13,9 +13,9 @@ ghost use Rattle.eb_trace.specs.Trace.{entered, events_noted, take_kept, go_back
 
 use crate::marks::Marks;
 use crate::notes::{Entered, Notes, note_event};
-use crate::numbers::{NONE, next_number, previous_number};
+use crate::numbers::NONE;
 use crate::surface::Surface;
-use corner_table::Symbol;
+use corner_table::{Symbol, next_number, previous_number};
 use drc_base::Memory;
 
 /// What is kept for a face whose symbol has this number: the number, if the symbol is S.

@@ -20,22 +20,12 @@ use crate::choosing::{Places, Sides, choose};
 use crate::classes::{classes_of, reversed};
 use crate::degenerate::test_faces;
 use crate::positions::corner_numbers;
-use corner_table::{SideTable, Steps};
+use corner_table::{SideTable, Steps, side_with};
 use drc_base::{Memory, Refusal, Side};
 use mesh_model::CornerMesh;
 use std::alloc::Global;
 use std::marker::Brand;
 use std::sync::ledger::{Blank, Ledger};
-
-/// The side with a number.
-fn side_with(number: u32) -> Side
-    ensures { side_of result ≡ side_at number }
-{
-    Side {
-        face: number / 3,
-        k: (number % 3) as u8,
-    }
-}
 
 /// The turn of side `y`: it is glued to the least earlier side that it may take, if there is one.
 fn take_turn<L: Ledger>(

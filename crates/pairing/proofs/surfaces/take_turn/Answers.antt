@@ -24,7 +24,7 @@ reversed-class-requires g c =
 pub glue-requires-clause-second : goal.glue-requires-clause-second
 glue-requires-clause-second g c =
     let t = c.requires.turn in
-    rw c.side_with-in-Some.ensures (free_still (pairs_now c.requires.sides.triangles (omega arith) c.requires.pairs) c.args.y (omega arith) t)
+    rw c.side_with-in-Some.ensures.side (free_still (pairs_now c.requires.sides.triangles (omega arith) c.requires.pairs) c.args.y (omega arith) t)
 
 pub glue-requires-clause-apart : goal.glue-requires-clause-apart
 glue-requires-clause-apart g c =
@@ -34,7 +34,7 @@ glue-requires-clause-apart g c =
     let k = S.classes_are.each in
     let C = chosen_here _ _ _ c.args.y _ _ _ (Some c.in-Some.x) (omega arith) (omega arith) c.index.ensures c.reversed-class.ensures c.index-third.ensures c.in-Some.ensures.chosen in
     let M = other-may_take (record { sides = S; within = t; up_to = c.requires.up_to }) c.in-Some.x C.0 C.1 in
-    λ e. faces_apart S.triangles M (sym (ap (λ (s : Side). s.face) c.side_with.ensures) ∙ e ∙ ap (λ (s : Side). s.face) c.side_with-in-Some.ensures)
+    λ e. faces_apart S.triangles M (sym (ap (λ (s : Side). s.face) c.side_with.ensures.side) ∙ e ∙ ap (λ (s : Side). s.face) c.side_with-in-Some.ensures.side)
 
 pub returns-in-Some-clause-pairs : goal.returns-in-Some-clause-pairs
 returns-in-Some-clause-pairs g c =
@@ -45,8 +45,8 @@ returns-in-Some-clause-pairs g c =
     let C = chosen_here _ _ _ c.args.y _ _ _ (Some c.in-Some.x) (omega arith) (omega arith) c.index.ensures c.reversed-class.ensures c.index-third.ensures c.in-Some.ensures.chosen in
     let more : suc c.args.y ≡ c.args.y + 1 = omega arith in
     c.glue.ensures.glued
-    ∙ ap (λ (s : Side). glue s (side_of c.side_with-in-Some.result) (gluing_of c.args.table.now)) c.side_with.ensures
-    ∙ ap (λ (s : Side). glue (side_at c.in-Some.x) s (gluing_of c.args.table.now)) c.side_with-in-Some.ensures
+    ∙ ap (λ (s : Side). glue s (side_of c.side_with-in-Some.result) (gluing_of c.args.table.now)) c.side_with.ensures.side
+    ∙ ap (λ (s : Side). glue (side_at c.in-Some.x) s (gluing_of c.args.table.now)) c.side_with-in-Some.ensures.side
     ∙ sym (the_turn (record { sides = S; within = t; up_to = c.requires.up_to }) c.in-Some.x C)
     ∙ ap (turn_of (same_in c.args.sides.now.thirds.items) c.args.y) c.requires.pairs
     ∙ sym (paired-suc (same_in c.args.sides.now.thirds.items) c.args.y)
@@ -59,7 +59,7 @@ returns-in-Some-clause-up_to g c =
     let l = S.triangles.each in
     let k = S.classes_are.each in
     let C = chosen_here _ _ _ c.args.y _ _ _ (Some c.in-Some.x) (omega arith) (omega arith) c.index.ensures c.reversed-class.ensures c.index-third.ensures c.in-Some.ensures.chosen in
-    rw (c.glue.ensures.glued, c.side_with.ensures, c.side_with-in-Some.ensures, c.in-Some.ensures.taken)
+    rw (c.glue.ensures.glued, c.side_with.ensures.side, c.side_with-in-Some.ensures.side, c.in-Some.ensures.taken)
     (up_to_now (record { sides = S; within = t; up_to = c.requires.up_to }) c.in-Some.x C.0 (rw c.in-Some.ensures.taken at c.in-Some.ensures.placed))
 
 pub returns-in-None-clause-pairs : goal.returns-in-None-clause-pairs
