@@ -65,7 +65,7 @@ list_ends firsts seconds numbers list earlier all x h k = elim (cases_eq (get_or
 ]
 
 -- items that are alike have one first item
-one_first : {firsts seconds : List ℕ} {x y v w : ℕ} → IsFirstWith firsts seconds x v → IsFirstWith firsts seconds y w → get_or firsts x 0 ≡ get_or firsts y 0 → get_or seconds x 0 ≡ get_or seconds y 0 → v ≡ w
+pub one_first : {firsts seconds : List ℕ} {x y v w : ℕ} → IsFirstWith firsts seconds x v → IsFirstWith firsts seconds y w → get_or firsts x 0 ≡ get_or firsts y 0 → get_or seconds x 0 ≡ get_or seconds y 0 → v ≡ w
 one_first {firsts} {seconds} {x} {y} {v} {w} I J e f = elim (cases_lt v w) [
   | inl l ↦ absurd (J.none_before v l (I.first ∙ e) (I.second ∙ f))
   | inr m ↦ elim (cases_lt w v) [

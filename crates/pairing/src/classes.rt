@@ -1,9 +1,9 @@
 //! The classes of sides: those that run the same way between the same positions.
 //!
-//! Edges are numbered by their lower and their higher position, each by its first side. Edge e has the
-//! classes 2e, for sides that run upwards, and 2e + 1.
+//! Edges are told apart by their lower and their higher position, and counted in the order of their
+//! first sides. Edge e has the classes 2e, for sides that run upwards, and 2e + 1.
 
-ghost use Rattle.std.specs.Prelude.{◌≡◌, ℕ, ◌+◌, ◌-◌, ◌*◌, ◌/◌, ◌%◌, ◌^◌, ◌<◌, ◌≤◌, IfOk, length, slice_index, vec_len, min, max, if◌then◌else◌, nat_lt};
+ghost use Rattle.std.specs.Prelude.{◌≡◌, ◌≢◌, ℕ, ◌+◌, ◌-◌, ◌*◌, ◌/◌, ◌%◌, ◌^◌, ◌<◌, ◌≤◌, IfOk, length, slice_index, vec_len, min, max, if◌then◌else◌, nat_lt};
 ghost use Rattle.drc_base.specs.declared.limits.TheConstants.{MAX_FACES as most_faces};
 ghost use Rattle.corner_table.specs.Sides.{next, prev, number, side_at};
 ghost use Rattle.pairing.specs.Positions.{position_in, AreTriangles};
@@ -69,6 +69,22 @@ fn class_at(edge: u32, start: u32, low: u32) -> u32
     if start == low { 2 * edge } else { 2 * edge + 1 }
 }
 
+/// The edge of side `x`: a new one where it is the first side of its edge, or else that of the first
+/// side. Sides before `x` have their classes in the list, the others their first sides.
+fn edge_of(of: &[u32], x: u32, edges: u32) -> u32
+    requires side { x < length of.now }
+    requires first { slice_index of.now x ≤ x }
+    ensures new { slice_index of.now x ≡ x → result ≡ edges }
+    ensures old { slice_index of.now x ≢ x → result ≡ slice_index of.now (slice_index of.now x) / 2 }
+{
+    let first = of[x as usize];
+    if first == x {
+        edges
+    } else {
+        of[first as usize] / 2
+    }
+}
+
 /// Puts each side in its class; the numbers are below `bound`.
 pub(crate) fn classes_of(
     alloc: Global,
@@ -85,13 +101,16 @@ pub(crate) fn classes_of(
     let (lows, highs) = bounds_of(alloc, numbers, faces)?;
     let bounds = (bound, bound);
     let mut of = number_pairs(alloc, lows.as_slice(), highs.as_slice(), bounds)?;
+    let mut edges = 0;
     for x in 0..3 * faces {
+        let edge = edge_of(of.as_slice(), x, edges);
         let start = start_of(numbers, faces, x);
-        of[x as usize] = class_at(of[x as usize], start, lows[x as usize]);
+        of[x as usize] = class_at(edge, start, lows[x as usize]);
+        edges = edges.max(edge + 1);
     }
     Ok(Classes {
         of,
-        count: 6 * faces,
+        count: 2 * edges,
     })
 }
 
