@@ -46,8 +46,8 @@ fn bounds_of(alloc: Global, numbers: &[u32], faces: u32) -> Result<(Vec<u32>, Ve
     for x in 0..3 * faces {
         let start = start_of(numbers, faces, x);
         let end = end_of(numbers, faces, x);
-        lows.push(start.min(end))?;
-        highs.push(start.max(end))?;
+        lows.push_reserved(start.min(end));
+        highs.push_reserved(start.max(end));
     }
     Ok((lows, highs))
 }

@@ -142,9 +142,9 @@ pub(crate) fn corner_numbers(alloc: Global, m: &CornerMesh) -> Result<Vec<u32>, 
     let mut numbers = Vec::with_capacity(alloc, 3 * m.face_count() as usize)?;
     for f in 0..m.face_count() {
         let face = m.face(f);
-        numbers.push(of_point[face[0] as usize])?;
-        numbers.push(of_point[face[1] as usize])?;
-        numbers.push(of_point[face[2] as usize])?;
+        numbers.push_reserved(of_point[face[0] as usize]);
+        numbers.push_reserved(of_point[face[1] as usize]);
+        numbers.push_reserved(of_point[face[2] as usize]);
     }
     Ok(numbers)
 }
