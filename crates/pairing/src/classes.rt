@@ -100,7 +100,7 @@ pub(crate) fn classes_of(
 {
     let (lows, highs) = bounds_of(alloc, numbers, faces)?;
     let bounds = (bound, bound);
-    let mut of = number_pairs(alloc, lows.as_slice(), highs.as_slice(), bounds)?;
+    let mut of = number_pairs(alloc, lows.as_slice(), highs, bounds)?;
     let mut edges = 0;
     for x in 0..3 * faces {
         let edge = edge_of(of.as_slice(), x, edges);

@@ -65,12 +65,12 @@ fn lower_halves(alloc: Global, bits: &[u32]) -> Result<Vec<u32>, AllocError>
     bits.iter().map(|b| *b % 0x1_0000).collect(alloc)
 }
 
-/// Whether all numbers are one.
-fn are_alike(numbers: &[u32]) -> bool
-    ensures { IsTrue result ↔ ((x : ℕ) → x < length numbers.now → slice_index numbers.now x ≡ slice_index numbers.now 0) }
+/// Whether the upper 16 bits of all numbers are one.
+fn are_alike(bits: &[u32]) -> bool
+    ensures { IsTrue result ↔ ((x : ℕ) → x < length bits.now → slice_index bits.now x / 65536 ≡ slice_index bits.now 0 / 65536) }
 {
-    for x in 0..numbers.len() {
-        if numbers[x] != numbers[0] {
+    for x in 0..bits.len() {
+        if bits[x] / 0x1_0000 != bits[0] / 0x1_0000 {
             return false;
         }
     }
@@ -101,20 +101,16 @@ fn number_items(
     requires firsts { (x : ℕ) → x < length firsts.now → slice_index firsts.now x < bound }
     ensures { IfOk result (λ numbers. AreFirstItems firsts.now seconds.now numbers.items) }
 {
-    let upper = upper_halves(alloc, seconds)?;
-    let lower = lower_halves(alloc, seconds)?;
-    if are_alike(upper.as_slice()) {
-        let numbers = number_pairs(alloc, firsts, lower.as_slice(), (bound, 0x1_0000))?;
+    if are_alike(seconds) {
+        let lower = lower_halves(alloc, seconds)?;
+        let numbers = number_pairs(alloc, firsts, lower, (bound, 0x1_0000))?;
         return Ok(numbers);
     }
-    let halfway = number_pairs(alloc, firsts, upper.as_slice(), (bound, 0x1_0000))?;
+    let upper = upper_halves(alloc, seconds)?;
+    let halfway = number_pairs(alloc, firsts, upper, (bound, 0x1_0000))?;
+    let lower = lower_halves(alloc, seconds)?;
     let count = firsts.len() as u32;
-    let numbers = number_pairs(
-        alloc,
-        halfway.as_slice(),
-        lower.as_slice(),
-        (count, 0x1_0000),
-    )?;
+    let numbers = number_pairs(alloc, halfway.as_slice(), lower, (count, 0x1_0000))?;
     Ok(numbers)
 }
 
