@@ -5,7 +5,7 @@
 
 ghost use Rattle.std.specs.Prelude.{◌≡◌, ◌≢◌, ℕ, ◌+◌, ◌-◌, ◌*◌, ◌/◌, ◌%◌, ◌^◌, ◌<◌, ◌≤◌, IfOk, length, slice_index, vec_len, min, max, if◌then◌else◌, nat_lt};
 ghost use Rattle.drc_base.specs.declared.limits.TheConstants.{MAX_FACES as most_faces};
-ghost use Rattle.corner_table.specs.Sides.{next, prev, number, side_at};
+ghost use Rattle.corner_table.specs.Sides.{first, second, third, side, next, prev, number, side_at};
 ghost use Rattle.pairing.specs.Positions.{position_in, AreTriangles};
 ghost use Rattle.pairing.specs.Classes.{class_at, reversed, AreBounds, AreClasses};
 
@@ -24,15 +24,17 @@ fn start_of(numbers: &[u32], faces: u32, x: u32) -> u32
     numbers[corner as usize]
 }
 
-/// The position at which side `x` ends: that of the corner before.
-fn end_of(numbers: &[u32], faces: u32, x: u32) -> u32
+/// The positions of the corners of face `f`.
+fn positions_of(numbers: &[u32], faces: u32, f: u32) -> (u32, u32, u32)
     requires few { faces ≤ most_faces }
     requires triangles { AreTriangles faces numbers.now }
-    requires side { x < 3 * faces }
-    ensures { result ≡ position_in numbers.now (prev (side_at x)) }
+    requires face { f < faces }
+    ensures first { result.0 ≡ position_in numbers.now (side f first) }
+    ensures second { result.1 ≡ position_in numbers.now (side f second) }
+    ensures third { result.2 ≡ position_in numbers.now (side f third) }
 {
-    let corner = if x % 3 == 0 { x + 2 } else { x - 1 };
-    numbers[corner as usize]
+    let x = 3 * f as usize;
+    (numbers[x], numbers[x + 1], numbers[x + 2])
 }
 
 /// The lower and the higher position of each side.
@@ -43,11 +45,14 @@ fn bounds_of(alloc: Global, numbers: &[u32], faces: u32) -> Result<(Vec<u32>, Ve
 {
     let mut lows = Vec::with_capacity(alloc, numbers.len())?;
     let mut highs = Vec::with_capacity(alloc, numbers.len())?;
-    for x in 0..3 * faces {
-        let start = start_of(numbers, faces, x);
-        let end = end_of(numbers, faces, x);
-        lows.push_reserved(start.min(end));
-        highs.push_reserved(start.max(end));
+    for f in 0..faces {
+        let (p, q, r) = positions_of(numbers, faces, f);
+        lows.push_reserved(q.min(r));
+        lows.push_reserved(r.min(p));
+        lows.push_reserved(p.min(q));
+        highs.push_reserved(q.max(r));
+        highs.push_reserved(r.max(p));
+        highs.push_reserved(p.max(q));
     }
     Ok((lows, highs))
 }
