@@ -4,7 +4,7 @@
 //! over the integers of the first attribute, until all points are told apart. Integers are taken by
 //! their upper and their lower bits, for which there are lists. A corner has the number of its point.
 
-ghost use Rattle.std.specs.Prelude.{◌≡◌, ℕ, pos, ◌+◌, ◌-◌, ◌*◌, ◌/◌, ◌%◌, ◌^◌, ◌<◌, ◌≤◌, ◌↔◌, [], map, IfOk, IsTrue, OnOk, length, slice_index, slice_index_or, vec_len};
+ghost use Rattle.std.specs.Prelude.{◌≡◌, ℕ, pos, ◌+◌, ◌-◌, ◌*◌, ◌/◌, ◌%◌, ◌^◌, ◌<◌, ◌≤◌, ◌↔◌, [], map, IfOk, IsTrue, OnOk, length, get_or, slice_index, slice_index_or, vec_len};
 ghost use Rattle.std.specs.Int.{w32, cast_signed, cast_unsigned};
 ghost use Rattle.mesh_model.specs.Head.{width_of};
 ghost use Rattle.corner_table.specs.Sides.{number};
@@ -38,6 +38,16 @@ fn bits_of(value: i32) -> u32
     value.cast_unsigned()
 }
 
+/// Integer `j` of a point, by its bits.
+fn bits_at(m: &CornerMesh, p: u32, j: u32) -> u32
+    requires point { p < length m.now.points }
+    requires integer { j < width_of m.now.heads }
+    ensures bits { result ≡ cast_unsigned w32 (get_or (get_or m.now.points p []) j (pos 0)) }
+    ensures value { cast_signed w32 result ≡ get_or (get_or m.now.points p []) j (pos 0) }
+{
+    bits_of(m.point(p)[j as usize])
+}
+
 /// Integer `j` of each point, by its bits.
 fn column(alloc: Global, m: &CornerMesh, j: u32) -> Result<Vec<u32>, Memory>
     requires { j < width_of m.now.heads }
@@ -46,7 +56,7 @@ fn column(alloc: Global, m: &CornerMesh, j: u32) -> Result<Vec<u32>, Memory>
     let points = m.point_count();
     let mut bits = Vec::with_capacity(alloc, points as usize)?;
     for p in 0..points {
-        bits.push(bits_of(m.point(p)[j as usize]))?;
+        bits.push_reserved(bits_at(m, p, j));
     }
     Ok(bits)
 }
