@@ -5,6 +5,7 @@ pub mod Turns
 pub mod Proper
 pub mod PairNumbers
 pub mod PositionLists
+pub mod EdgeNumbers
 pub mod ClassLists
 pub mod ChainLists
 pub mod Choices

@@ -1,5 +1,5 @@
 -- Numbers for pairs of numbers, one list of items after another.
-use Rattle.std.proofs.Common.{◌≡◌, ◌≢◌, ℕ, ◌+◌, ◌/◌, ◌%◌, ◌^◌, ◌<◌, List, length, get_or, set, map, inl, inr, sym, ap, ◌∙◌, subst, arith, get_or-set_same, get_or-set_other}
+use Rattle.std.proofs.Common.{◌≡◌, ◌≢◌, ℕ, ◌+◌, ◌/◌, ◌%◌, ◌^◌, ◌<◌, ◌≤◌, List, length, get_or, set, map, inl, inr, sym, ap, ◌∙◌, subst, arith, get_or-set_same, get_or-set_other}
 use Rattle.std.proofs.lemmas.Bool.{cases_eq, cases_lt}
 use Rattle.std.proofs.lemmas.List.{get_or-map, length-map}
 use Rattle.pairing.specs.Classes.{AreLinked}
@@ -56,6 +56,13 @@ module _ {firsts seconds nexts kept numbers : List ℕ} {list at number : ℕ} (
         subst (IsFirstWith firsts seconds x) (sym (get_or-set_other numbers at x number 0 m)) (P.so_far x h e (omega arith)))
   ]
 
+  pub next_rest : ((x : ℕ) → x < length firsts → list ≤ get_or firsts x 0 → (get_or firsts x 0 ≡ list → at ≤ x) → get_or numbers x 0 ≡ get_or seconds x 0) →
+      (x : ℕ) → x < length firsts → list ≤ get_or firsts x 0 → (get_or firsts x 0 ≡ list → get_or nexts at 0 ≤ x) → get_or (set numbers at number) x 0 ≡ get_or seconds x 0
+  next_rest rest x h k later =
+      let p = passes in
+      let ne : x ≢ at = λ e. (let l = later (ap (λ (i : ℕ). get_or firsts i 0) e ∙ P.here) in omega arith) in
+      get_or-set_other numbers at x number 0 ne ∙ rest x h k (λ e. (let l = later e in omega arith))
+
 -- a whole list is numbered
 pub list_ends : (firsts seconds numbers : List ℕ) (list : ℕ) → AreNumberedBelow firsts seconds numbers list →
     ((x : ℕ) → x < length firsts → get_or firsts x 0 ≡ list → IsFirstWith firsts seconds x (get_or numbers x 0)) → AreNumberedBelow firsts seconds numbers (list + 1)
@@ -65,7 +72,7 @@ list_ends firsts seconds numbers list earlier all x h k = elim (cases_eq (get_or
 ]
 
 -- items that are alike have one first item
-one_first : {firsts seconds : List ℕ} {x y v w : ℕ} → IsFirstWith firsts seconds x v → IsFirstWith firsts seconds y w → get_or firsts x 0 ≡ get_or firsts y 0 → get_or seconds x 0 ≡ get_or seconds y 0 → v ≡ w
+pub one_first : {firsts seconds : List ℕ} {x y v w : ℕ} → IsFirstWith firsts seconds x v → IsFirstWith firsts seconds y w → get_or firsts x 0 ≡ get_or firsts y 0 → get_or seconds x 0 ≡ get_or seconds y 0 → v ≡ w
 one_first {firsts} {seconds} {x} {y} {v} {w} I J e f = elim (cases_lt v w) [
   | inl l ↦ absurd (J.none_before v l (I.first ∙ e) (I.second ∙ f))
   | inr m ↦ elim (cases_lt w v) [
@@ -128,12 +135,12 @@ halves_first {firsts} {seconds} {halfway} {numbers} l H F = record { each = F.ea
 
 -- by the lower halves alone, where the upper ones are one
 pub lower_enough : {firsts seconds numbers : List ℕ} → length seconds ≡ length firsts →
-    ((x : ℕ) → x < length (map (λ (b : ℕ). b / 65536) seconds) → get_or (map (λ (b : ℕ). b / 65536) seconds) x 0 ≡ get_or (map (λ (b : ℕ). b / 65536) seconds) 0 0) →
+    ((x : ℕ) → x < length seconds → get_or seconds x 0 / 65536 ≡ get_or seconds 0 0 / 65536) →
     AreFirstItems firsts (map (λ (b : ℕ). b % 65536) seconds) numbers → AreFirstItems firsts seconds numbers
 lower_enough {firsts} {seconds} {numbers} l one F = record { each = F.each; first_is = first_is }
   where
-    high : (x : ℕ) → x < length firsts → get_or seconds x 0 / 65536 ≡ get_or (map (λ (b : ℕ). b / 65536) seconds) 0 0
-    high x h = sym (get_or-map (λ (b : ℕ). b / 65536) seconds x 0 0 (omega arith)) ∙ one x (let m = length-map seconds (λ (b : ℕ). b / 65536) in omega arith)
+    high : (x : ℕ) → x < length firsts → get_or seconds x 0 / 65536 ≡ get_or seconds 0 0 / 65536
+    high x h = one x (omega arith)
 
     low : (x : ℕ) → x < length firsts → get_or (map (λ (b : ℕ). b % 65536) seconds) x 0 ≡ get_or seconds x 0 % 65536
     low x h = get_or-map (λ (b : ℕ). b % 65536) seconds x 0 0 (omega arith)

@@ -9,6 +9,7 @@ use Rattle.corner_table.proofs.Numbers.{number-lt}
 use Rattle.pairing.specs.Pairing.{first_width, corner_position}
 use Rattle.pairing.specs.FirstItems.{AreFirstItems}
 use Rattle.pairing.proofs.PairNumbers.{firsts_number}
+use Rattle.pairing.proofs.Pushes.{each_more}
 use Rattle.pairing.specs.Positions.{AreNumbered, IsColumn, ArePointNumbers, AreCornerNumbers, position_in}
 
 -- no integer tells two points apart
@@ -74,6 +75,25 @@ apart_numbers points j width numbers m P own = record {
       let s : p ≡ q = omega arith in
       ap (λ (i : ℕ). take width (get_or points i [])) s);
 }
+
+-- the integer of one point more
+pub column_more : (points : List (List ℤ)) (j : ℕ) (bits : List ℕ) (p b : ℕ) → IsColumn points j bits p → b ≡ cast_unsigned w32 (get_or (get_or points p []) j (pos 0)) → cast_signed w32 b ≡ get_or (get_or points p []) j (pos 0) →
+    IsColumn points j (bits ++ b ∷ []) (p + 1)
+column_more points j bits p b C e v = record {
+  each = length-append bits (b ∷ []) ∙ (let l = C.each in omega arith);
+  bits_are = each_more (λ (k : ℕ). cast_unsigned w32 (get_or (get_or points k []) j (pos 0))) bits p b C.each e C.bits_are;
+  values_are = values_are;
+}
+  where
+    values_are : (k : ℕ) → k < p + 1 → cast_signed w32 (get_or (bits ++ b ∷ []) k 0) ≡ get_or (get_or points k []) j (pos 0)
+    values_are k h = elim (cases_eq k p) [
+      | inl q ↦
+          ap (λ (i : ℕ). cast_signed w32 (get_or (bits ++ b ∷ []) i 0)) q
+          ∙ ap (cast_signed w32) (get_or_push bits b 0 p C.each) ∙ v ∙ ap (λ (i : ℕ). get_or (get_or points i []) j (pos 0)) (sym q)
+      | inr n ↦ (
+          let l = C.each in
+          ap (cast_signed w32) (get_or_append_left bits (b ∷ []) 0 k (omega arith)) ∙ C.values_are k (omega arith))
+    ]
 
 -- the number of a corner's point
 abbrev pub point_number : List (List ℕ) → List ℕ → Side → ℕ

@@ -1,6 +1,6 @@
 -- Sides in classes: those that run the same way between the same positions, each class linked in
 -- the order of its sides (this project's choice).
-use Rattle.std.specs.Prelude.{◌≡◌, ℕ, ◌+◌, ◌-◌, ◌*◌, ◌%◌, ◌<◌, ◌≤◌, cond, eqb, min, max, List, length, get_or}
+use Rattle.std.specs.Prelude.{◌≡◌, ℕ, ◌+◌, ◌-◌, ◌*◌, ◌/◌, ◌%◌, ◌<◌, ◌≤◌, cond, eqb, min, max, List, length, get_or}
 use Rattle.corner_table.specs.Sides.{next, prev, side_at}
 use Rattle.pairing.specs.Positions.{position_in}
 
@@ -14,6 +14,12 @@ pub record AreBounds (numbers lows highs : List ℕ) : Type 0 where
 -- the class of a side of edge e that starts at a position, where the edge's lower one is known
 abbrev pub class_at : ℕ → ℕ → ℕ → ℕ
 class_at edge start low = cond (eqb start low) (2 * edge) (2 * edge + 1)
+
+-- the halves of the first `side` classes are edges: one for the sides that have one first side
+pub record AreEdges (firsts classes : List ℕ) (edges side : ℕ) : Type 0 where
+  pub below : (x : ℕ) → x < side → get_or classes x 0 / 2 < edges
+  pub alike : (x y : ℕ) → x < side → y < side → get_or firsts x 0 ≡ get_or firsts y 0 → get_or classes x 0 / 2 ≡ get_or classes y 0 / 2
+  pub apart : (x y : ℕ) → x < side → y < side → get_or classes x 0 / 2 ≡ get_or classes y 0 / 2 → get_or firsts x 0 ≡ get_or firsts y 0
 
 -- the class of the sides that run the other way: classes 2e and 2e + 1 are those of one edge
 abbrev pub reversed : ℕ → ℕ

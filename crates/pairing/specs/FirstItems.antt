@@ -17,6 +17,10 @@ pub record AreFirstItems (firsts seconds numbers : List ℕ) : Type 0 where
 abbrev pub AreNumberedBelow : List ℕ → List ℕ → List ℕ → ℕ → Type 0
 AreNumberedBelow firsts seconds numbers list = (x : ℕ) → x < length firsts → get_or firsts x 0 < list → IsFirstWith firsts seconds x (get_or numbers x 0)
 
+-- items whose first entry isn't below `list` still have their second entries
+abbrev pub AreSecondsFrom : List ℕ → List ℕ → List ℕ → ℕ → Type 0
+AreSecondsFrom firsts seconds numbers list = (x : ℕ) → x < length firsts → list ≤ get_or firsts x 0 → get_or numbers x 0 ≡ get_or seconds x 0
+
 -- what is kept for each second entry is an item that has it, and whose first entry is below `list`, or no item
 pub record AreKept (firsts seconds kept : List ℕ) (list : ℕ) : Type 0 where
   pub second : (b : ℕ) → b < length kept → get_or kept b 0 < length firsts → get_or seconds (get_or kept b 0) 0 ≡ b

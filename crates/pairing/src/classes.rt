@@ -1,11 +1,11 @@
 //! The classes of sides: those that run the same way between the same positions.
 //!
-//! Edges are numbered by their lower and their higher position, each by its first side. Edge e has the
-//! classes 2e, for sides that run upwards, and 2e + 1.
+//! Edges are told apart by their lower and their higher position, and counted in the order of their
+//! first sides. Edge e has the classes 2e, for sides that run upwards, and 2e + 1.
 
-ghost use Rattle.std.specs.Prelude.{◌≡◌, ℕ, ◌+◌, ◌-◌, ◌*◌, ◌/◌, ◌%◌, ◌^◌, ◌<◌, ◌≤◌, IfOk, length, slice_index, vec_len, min, max, if◌then◌else◌, nat_lt};
+ghost use Rattle.std.specs.Prelude.{◌≡◌, ◌≢◌, ℕ, ◌+◌, ◌-◌, ◌*◌, ◌/◌, ◌%◌, ◌^◌, ◌<◌, ◌≤◌, IfOk, length, slice_index, vec_len, min, max, if◌then◌else◌, nat_lt};
 ghost use Rattle.drc_base.specs.declared.limits.TheConstants.{MAX_FACES as most_faces};
-ghost use Rattle.corner_table.specs.Sides.{next, prev, number, side_at};
+ghost use Rattle.corner_table.specs.Sides.{first, second, third, side, next, prev, number, side_at};
 ghost use Rattle.pairing.specs.Positions.{position_in, AreTriangles};
 ghost use Rattle.pairing.specs.Classes.{class_at, reversed, AreBounds, AreClasses};
 
@@ -24,15 +24,17 @@ fn start_of(numbers: &[u32], faces: u32, x: u32) -> u32
     numbers[corner as usize]
 }
 
-/// The position at which side `x` ends: that of the corner before.
-fn end_of(numbers: &[u32], faces: u32, x: u32) -> u32
+/// The positions of the corners of face `f`.
+fn positions_of(numbers: &[u32], faces: u32, f: u32) -> (u32, u32, u32)
     requires few { faces ≤ most_faces }
     requires triangles { AreTriangles faces numbers.now }
-    requires side { x < 3 * faces }
-    ensures { result ≡ position_in numbers.now (prev (side_at x)) }
+    requires face { f < faces }
+    ensures first { result.0 ≡ position_in numbers.now (side f first) }
+    ensures second { result.1 ≡ position_in numbers.now (side f second) }
+    ensures third { result.2 ≡ position_in numbers.now (side f third) }
 {
-    let corner = if x % 3 == 0 { x + 2 } else { x - 1 };
-    numbers[corner as usize]
+    let x = 3 * f as usize;
+    (numbers[x], numbers[x + 1], numbers[x + 2])
 }
 
 /// The lower and the higher position of each side.
@@ -43,11 +45,14 @@ fn bounds_of(alloc: Global, numbers: &[u32], faces: u32) -> Result<(Vec<u32>, Ve
 {
     let mut lows = Vec::with_capacity(alloc, numbers.len())?;
     let mut highs = Vec::with_capacity(alloc, numbers.len())?;
-    for x in 0..3 * faces {
-        let start = start_of(numbers, faces, x);
-        let end = end_of(numbers, faces, x);
-        lows.push(start.min(end))?;
-        highs.push(start.max(end))?;
+    for f in 0..faces {
+        let (p, q, r) = positions_of(numbers, faces, f);
+        lows.push_reserved(q.min(r));
+        lows.push_reserved(r.min(p));
+        lows.push_reserved(p.min(q));
+        highs.push_reserved(q.max(r));
+        highs.push_reserved(r.max(p));
+        highs.push_reserved(p.max(q));
     }
     Ok((lows, highs))
 }
@@ -69,6 +74,22 @@ fn class_at(edge: u32, start: u32, low: u32) -> u32
     if start == low { 2 * edge } else { 2 * edge + 1 }
 }
 
+/// The edge of side `x`: a new one where it is the first side of its edge, or else that of the first
+/// side. Sides before `x` have their classes in the list, the others their first sides.
+fn edge_of(of: &[u32], x: u32, edges: u32) -> u32
+    requires side { x < length of.now }
+    requires first { slice_index of.now x ≤ x }
+    ensures new { slice_index of.now x ≡ x → result ≡ edges }
+    ensures old { slice_index of.now x ≢ x → result ≡ slice_index of.now (slice_index of.now x) / 2 }
+{
+    let first = of[x as usize];
+    if first == x {
+        edges
+    } else {
+        of[first as usize] / 2
+    }
+}
+
 /// Puts each side in its class; the numbers are below `bound`.
 pub(crate) fn classes_of(
     alloc: Global,
@@ -84,14 +105,17 @@ pub(crate) fn classes_of(
 {
     let (lows, highs) = bounds_of(alloc, numbers, faces)?;
     let bounds = (bound, bound);
-    let mut of = number_pairs(alloc, lows.as_slice(), highs.as_slice(), bounds)?;
+    let mut of = number_pairs(alloc, lows.as_slice(), highs, bounds)?;
+    let mut edges = 0;
     for x in 0..3 * faces {
+        let edge = edge_of(of.as_slice(), x, edges);
         let start = start_of(numbers, faces, x);
-        of[x as usize] = class_at(of[x as usize], start, lows[x as usize]);
+        of[x as usize] = class_at(edge, start, lows[x as usize]);
+        edges = edges.max(edge + 1);
     }
     Ok(Classes {
         of,
-        count: 6 * faces,
+        count: 2 * edges,
     })
 }
 

@@ -2,13 +2,14 @@
 //!
 //! Items stand in lists by their first entry. Along one list each second entry keeps the item at which
 //! it is met first, and this item is the number of all that follow with the same entry. What an
-//! earlier list kept is told apart by its first entry, so nothing is cleared between lists.
+//! earlier list kept is told apart by its first entry, so nothing is cleared between lists. Numbers
+//! take the places of the second entries, which are read once.
 
-ghost use Rattle.std.specs.Prelude.{◌≡◌, ℕ, ◌-◌, ◌+◌, ◌^◌, ◌<◌, ◌≤◌, ◌↔◌, IfOk, IsTrue, length, slice_index};
-ghost use Rattle.pairing.specs.Classes.{AreLinked};
-ghost use Rattle.pairing.specs.FirstItems.{IsFirstWith, AreFirstItems, AreNumberedBelow, AreKept, AreKeptTo};
+ghost use Rattle.std.specs.Prelude.{◌≡◌, ℕ, ◌-◌, ◌+◌, ◌^◌, ◌<◌, ◌≤◌, ◌↔◌, IfOk, IsTrue, List, get_or, length, slice_index, vec_len};
+ghost use Rattle.pairing.specs.Classes.{AreLinked, AreFirsts};
+ghost use Rattle.pairing.specs.FirstItems.{IsFirstWith, AreFirstItems, AreNumberedBelow, AreSecondsFrom, AreKept, AreKeptTo};
 
-use crate::chains::{NONE, chains_of};
+use crate::chains::{Chains, NONE, chains_of};
 use drc_base::Memory;
 use std::alloc::Global;
 
@@ -21,16 +22,17 @@ fn is_in(firsts: &[u32], item: u32, list: u32) -> bool
 
 /// The first item of a list with the second entry of item `at`: the one that is kept, or else `at`,
 /// which is kept from now on.
-fn first_like(firsts: &[u32], seconds: &[u32], kept: &mut [u32], list: u32, at: u32) -> u32
+fn first_like(firsts: &[u32], kept: &mut [u32], list: u32, at: u32, second: u32) -> u32
+    ghost seconds: { List ℕ }
     requires item { at < length firsts.now }
-    requires second { at < length seconds.now }
-    requires room { slice_index seconds.now at < length kept.old }
+    requires second { get_or seconds at 0 ≡ second }
+    requires room { second < length kept.old }
     requires here { slice_index firsts.now at ≡ list }
-    requires kept { AreKeptTo firsts.now seconds.now kept.old list at }
-    ensures first { IsFirstWith firsts.now seconds.now at result }
-    ensures kept { AreKeptTo firsts.now seconds.now kept.new list (at + 1) }
+    requires kept { AreKeptTo firsts.now seconds kept.old list at }
+    ensures first { IsFirstWith firsts.now seconds at result }
+    ensures kept { AreKeptTo firsts.now seconds kept.new list (at + 1) }
 {
-    let place = seconds[at as usize] as usize;
+    let place = second as usize;
     let found = kept[place];
     if is_in(firsts, found, list) {
         found
@@ -40,31 +42,52 @@ fn first_like(firsts: &[u32], seconds: &[u32], kept: &mut [u32], list: u32, at: 
     }
 }
 
-/// Numbers the items of a list, from its head on.
+/// Numbers the items of a list, from its head on, in the places of their second entries.
 fn number_list(
     firsts: &[u32],
-    seconds: &[u32],
     nexts: &[u32],
     kept: &mut [u32],
     numbers: &mut [u32],
     list: u32,
     head: u32,
 )
-    requires same { length seconds.now ≡ length firsts.now }
-    requires room { (x : ℕ) → x < length firsts.now → slice_index seconds.now x < length kept.old }
+    ghost seconds: { List ℕ }
+    requires room { (x : ℕ) → x < length firsts.now → get_or seconds x 0 < length kept.old }
     requires each { length numbers.old ≡ length firsts.now }
     requires linked { AreLinked firsts.now nexts.now 0 }
     requires head { head < length firsts.now → slice_index firsts.now head ≡ list }
     requires least { (z : ℕ) → z < length firsts.now → slice_index firsts.now z ≡ list → head ≤ z }
-    requires kept { AreKept firsts.now seconds.now kept.old list }
-    requires numbered { AreNumberedBelow firsts.now seconds.now numbers.old list }
-    ensures kept { AreKept firsts.now seconds.now kept.new (list + 1) }
-    ensures numbered { AreNumberedBelow firsts.now seconds.now numbers.new (list + 1) }
+    requires kept { AreKept firsts.now seconds kept.old list }
+    requires numbered { AreNumberedBelow firsts.now seconds numbers.old list }
+    requires rest { AreSecondsFrom firsts.now seconds numbers.old list }
+    ensures kept { AreKept firsts.now seconds kept.new (list + 1) }
+    ensures numbered { AreNumberedBelow firsts.now seconds numbers.new (list + 1) }
+    ensures rest { AreSecondsFrom firsts.now seconds numbers.new (list + 1) }
 {
     let mut at = head;
     while (at as usize) < firsts.len() {
-        numbers[at as usize] = first_like(firsts, seconds, kept, list, at);
+        let second = numbers[at as usize];
+        numbers[at as usize] = first_like(firsts, kept, list, at, second);
         at = nexts[at as usize];
+    }
+}
+
+/// Numbers the items of all lists in the places of their second entries.
+fn number_lists(firsts: &[u32], chains: &Chains, kept: &mut [u32], numbers: &mut [u32], bound: u32)
+    ghost seconds: { List ℕ }
+    requires same { length seconds ≡ length firsts.now }
+    requires firsts { (x : ℕ) → x < length firsts.now → slice_index firsts.now x < bound }
+    requires room { (x : ℕ) → x < length firsts.now → get_or seconds x 0 < length kept.old }
+    requires linked { AreLinked firsts.now chains.now.nexts.items 0 }
+    requires heads { AreFirsts firsts.now chains.now.firsts.items bound 0 }
+    requires none { (b : ℕ) → b < length kept.old → length firsts.now ≤ slice_index kept.old b }
+    requires seconds { numbers.old ≡ seconds }
+    ensures { AreFirstItems firsts.now seconds numbers.new }
+{
+    let nexts = chains.nexts.as_slice();
+    for list in 0..bound {
+        let head = chains.firsts[list as usize];
+        number_list(firsts, nexts, kept, numbers, list, head);
     }
 }
 
@@ -73,30 +96,24 @@ fn number_list(
 pub(crate) fn number_pairs(
     alloc: Global,
     firsts: &[u32],
-    seconds: &[u32],
+    seconds: Vec<u32>,
     bounds: (u32, u32),
 ) -> Result<Vec<u32>, Memory>
-    requires same { length seconds.now ≡ length firsts.now }
+    requires same { vec_len seconds ≡ length firsts.now }
     requires few { length firsts.now < 2 ^ 32 - 1 }
     requires firsts { (x : ℕ) → x < length firsts.now → slice_index firsts.now x < bounds.0 }
-    requires seconds { (x : ℕ) → x < length firsts.now → slice_index seconds.now x < bounds.1 }
-    ensures { IfOk result (λ numbers. AreFirstItems firsts.now seconds.now numbers.items) }
+    requires seconds { (x : ℕ) → x < length firsts.now → slice_index seconds.items x < bounds.1 }
+    ensures { IfOk result (λ numbers. AreFirstItems firsts.now seconds.items numbers.items) }
 {
     let chains = chains_of(alloc, firsts, bounds.0)?;
     let mut kept = vec![in alloc; NONE; bounds.1 as usize]?;
-    let mut numbers = vec![in alloc; 0u32; firsts.len()]?;
-    let nexts = chains.nexts.as_slice();
-    for list in 0..bounds.0 {
-        let head = chains.firsts[list as usize];
-        number_list(
-            firsts,
-            seconds,
-            nexts,
-            kept.as_mut_slice(),
-            numbers.as_mut_slice(),
-            list,
-            head,
-        );
-    }
+    let mut numbers = seconds;
+    number_lists(
+        firsts,
+        &chains,
+        kept.as_mut_slice(),
+        numbers.as_mut_slice(),
+        bounds.0,
+    );
     Ok(numbers)
 }

@@ -4,7 +4,7 @@
 //! over the integers of the first attribute, until all points are told apart. Integers are taken by
 //! their upper and their lower bits, for which there are lists. A corner has the number of its point.
 
-ghost use Rattle.std.specs.Prelude.{◌≡◌, ℕ, pos, ◌+◌, ◌-◌, ◌*◌, ◌/◌, ◌%◌, ◌^◌, ◌<◌, ◌≤◌, ◌↔◌, [], map, IfOk, IsTrue, OnOk, length, slice_index, slice_index_or, vec_len};
+ghost use Rattle.std.specs.Prelude.{◌≡◌, ℕ, pos, ◌+◌, ◌-◌, ◌*◌, ◌/◌, ◌%◌, ◌^◌, ◌<◌, ◌≤◌, ◌↔◌, [], map, IfOk, IsTrue, OnOk, length, get_or, slice_index, slice_index_or, vec_len};
 ghost use Rattle.std.specs.Int.{w32, cast_signed, cast_unsigned};
 ghost use Rattle.mesh_model.specs.Head.{width_of};
 ghost use Rattle.corner_table.specs.Sides.{number};
@@ -38,6 +38,16 @@ fn bits_of(value: i32) -> u32
     value.cast_unsigned()
 }
 
+/// Integer `j` of a point, by its bits.
+fn bits_at(m: &CornerMesh, p: u32, j: u32) -> u32
+    requires point { p < length m.now.points }
+    requires integer { j < width_of m.now.heads }
+    ensures bits { result ≡ cast_unsigned w32 (get_or (get_or m.now.points p []) j (pos 0)) }
+    ensures value { cast_signed w32 result ≡ get_or (get_or m.now.points p []) j (pos 0) }
+{
+    bits_of(m.point(p)[j as usize])
+}
+
 /// Integer `j` of each point, by its bits.
 fn column(alloc: Global, m: &CornerMesh, j: u32) -> Result<Vec<u32>, Memory>
     requires { j < width_of m.now.heads }
@@ -46,7 +56,7 @@ fn column(alloc: Global, m: &CornerMesh, j: u32) -> Result<Vec<u32>, Memory>
     let points = m.point_count();
     let mut bits = Vec::with_capacity(alloc, points as usize)?;
     for p in 0..points {
-        bits.push(bits_of(m.point(p)[j as usize]))?;
+        bits.push_reserved(bits_at(m, p, j));
     }
     Ok(bits)
 }
@@ -65,12 +75,12 @@ fn lower_halves(alloc: Global, bits: &[u32]) -> Result<Vec<u32>, AllocError>
     bits.iter().map(|b| *b % 0x1_0000).collect(alloc)
 }
 
-/// Whether all numbers are one.
-fn are_alike(numbers: &[u32]) -> bool
-    ensures { IsTrue result ↔ ((x : ℕ) → x < length numbers.now → slice_index numbers.now x ≡ slice_index numbers.now 0) }
+/// Whether the upper 16 bits of all numbers are one.
+fn are_alike(bits: &[u32]) -> bool
+    ensures { IsTrue result ↔ ((x : ℕ) → x < length bits.now → slice_index bits.now x / 65536 ≡ slice_index bits.now 0 / 65536) }
 {
-    for x in 0..numbers.len() {
-        if numbers[x] != numbers[0] {
+    for x in 0..bits.len() {
+        if bits[x] / 0x1_0000 != bits[0] / 0x1_0000 {
             return false;
         }
     }
@@ -101,20 +111,16 @@ fn number_items(
     requires firsts { (x : ℕ) → x < length firsts.now → slice_index firsts.now x < bound }
     ensures { IfOk result (λ numbers. AreFirstItems firsts.now seconds.now numbers.items) }
 {
-    let upper = upper_halves(alloc, seconds)?;
-    let lower = lower_halves(alloc, seconds)?;
-    if are_alike(upper.as_slice()) {
-        let numbers = number_pairs(alloc, firsts, lower.as_slice(), (bound, 0x1_0000))?;
+    if are_alike(seconds) {
+        let lower = lower_halves(alloc, seconds)?;
+        let numbers = number_pairs(alloc, firsts, lower, (bound, 0x1_0000))?;
         return Ok(numbers);
     }
-    let halfway = number_pairs(alloc, firsts, upper.as_slice(), (bound, 0x1_0000))?;
+    let upper = upper_halves(alloc, seconds)?;
+    let halfway = number_pairs(alloc, firsts, upper, (bound, 0x1_0000))?;
+    let lower = lower_halves(alloc, seconds)?;
     let count = firsts.len() as u32;
-    let numbers = number_pairs(
-        alloc,
-        halfway.as_slice(),
-        lower.as_slice(),
-        (count, 0x1_0000),
-    )?;
+    let numbers = number_pairs(alloc, halfway.as_slice(), lower, (count, 0x1_0000))?;
     Ok(numbers)
 }
 
@@ -142,9 +148,9 @@ pub(crate) fn corner_numbers(alloc: Global, m: &CornerMesh) -> Result<Vec<u32>, 
     let mut numbers = Vec::with_capacity(alloc, 3 * m.face_count() as usize)?;
     for f in 0..m.face_count() {
         let face = m.face(f);
-        numbers.push(of_point[face[0] as usize])?;
-        numbers.push(of_point[face[1] as usize])?;
-        numbers.push(of_point[face[2] as usize])?;
+        numbers.push_reserved(of_point[face[0] as usize]);
+        numbers.push_reserved(of_point[face[1] as usize]);
+        numbers.push_reserved(of_point[face[2] as usize]);
     }
     Ok(numbers)
 }

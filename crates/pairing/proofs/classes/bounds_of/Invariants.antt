@@ -1,13 +1,15 @@
--- The sides so far.
-use Rattle.std.proofs.Common.{◌≡◌, ℕ, ◌<◌, length, get_or, min, max}
-use Rattle.corner_table.specs.Sides.{next, prev, side_at}
+-- The sides of the faces so far.
+use Rattle.std.proofs.Common.{◌≡◌, ◌*◌, ◌<◌, length, vec_capacity, min, max}
+use Rattle.corner_table.specs.Sides.{Side, next, prev}
 use Rattle.pairing.specs.Positions.{position_in}
 use Rattle.pairing.proofs.classes.bounds_of.Given as goal
 
-abbrev pub invariant-loop-x : goal.invariant-loop-x
-invariant-loop-x l = record {
-  each_low : length l.lows.items ≡ l.x;
-  each_high : length l.highs.items ≡ l.x;
-  low : (k : ℕ) → k < l.x → get_or l.lows.items k 0 ≡ min (position_in l.numbers (next (side_at k))) (position_in l.numbers (prev (side_at k)));
-  high : (k : ℕ) → k < l.x → get_or l.highs.items k 0 ≡ max (position_in l.numbers (next (side_at k))) (position_in l.numbers (prev (side_at k)));
+abbrev pub invariant-loop-f : goal.invariant-loop-f
+invariant-loop-f l = record {
+  each_low : length l.lows.items ≡ 3 * l.f;
+  each_high : length l.highs.items ≡ 3 * l.f;
+  low_room : vec_capacity l.lows ≡ length l.numbers;
+  high_room : vec_capacity l.highs ≡ length l.numbers;
+  low : (x : Side) → x.face < l.f → position_in l.lows.items x ≡ min (position_in l.numbers (next x)) (position_in l.numbers (prev x));
+  high : (x : Side) → x.face < l.f → position_in l.highs.items x ≡ max (position_in l.numbers (next x)) (position_in l.numbers (prev x));
 }

@@ -1,6 +1,5 @@
--- The items of the lists so far are numbered.
-use Rattle.pairing.specs.FirstItems.{AreNumberedBelow, AreKept}
+-- The numbers take the places of the second entries.
 use Rattle.pairing.proofs.numbering.number_pairs.Given as goal
 
-abbrev pub invariant-loop-list : goal.invariant-loop-list
-invariant-loop-list l = AreKept l.firsts l.seconds l.kept.items l.list × AreNumberedBelow l.firsts l.seconds l.numbers.items l.list
+abbrev pub ghost-number_lists : goal.ghost-number_lists
+ghost-number_lists a = a.numbers.now

@@ -12,8 +12,9 @@ loop-f-preserved c =
     let F : IsFaceOf (length c.args.m.now.points) (get_or c.args.m.now.faces c.loop-f.f []) = c.face_count-f-end.ensures.sound.faces c.loop-f.f [] (omega arith) in
     let P = c.in_ok-of_point.ensures.each in
     record {
-      long = (let a = c.in_ok-push.ensures.len in let b = c.in_ok-push-2.ensures.len in let d = c.in_ok-push-3.ensures.len in omega arith);
-      was = rw (c.in_ok-push-3.ensures.items, c.in_ok-push-2.ensures.items, c.in_ok-push.ensures.items) (face_more (point_number c.args.m.now.faces c.in_ok-of_point.of_point.items) _ _ _ _ _ (record {
+      long = (let a = c.push_reserved.ensures.len in let b = c.push_reserved-in-loop-f.ensures.len in let d = c.push_reserved-in-loop-f-2.ensures.len in omega arith);
+      room = (let e = c.loop-f.invariant.room in let a = c.push_reserved.ensures.capacity in let b = c.push_reserved-in-loop-f.ensures.capacity in let d = c.push_reserved-in-loop-f-2.ensures.capacity in omega arith);
+      was = rw (c.push_reserved-in-loop-f-2.ensures.items, c.push_reserved-in-loop-f.ensures.items, c.push_reserved.ensures.items) (face_more (point_number c.args.m.now.faces c.in_ok-of_point.of_point.items) _ _ _ _ _ (record {
         long = l;
         was = c.loop-f.invariant.was;
         first_is = number_read _ _ _ _ F P 0 (omega arith) c.face-face.ensures.face c.index.ensures;
