@@ -1,8 +1,8 @@
 //! The entries of a table, and its writes.
 
-ghost use Rattle.std.specs.Prelude.{◌≡◌, ◌≢◌, ℕ, suc, ◌+◌, ◌*◌, ◌/◌, ◌<◌, ◌≤◌, get_or, set, vec_len, IfOk, replicate};
+ghost use Rattle.std.specs.Prelude.{◌≡◌, ◌+◌, ◌*◌, ◌<◌, ◌≤◌, get_or, set, vec_len, IfOk, replicate};
 ghost use Rattle.drc_base.specs.declared.limits.TheConstants.{MAX_FACES as most_faces};
-ghost use Rattle.corner_table.specs.Sides.{next, prev, number, side_at};
+ghost use Rattle.corner_table.specs.Sides.{next, prev};
 ghost use Rattle.corner_table.specs.Table.{side_of, free_entry};
 ghost use Rattle.corner_table.specs.Links.{relinked, new_loop};
 

@@ -4,12 +4,10 @@
 //! free; the table's links tell both at once. So a symbol takes a few table calls, whatever was built
 //! before. The degrees of vertices are kept at the free sides that start there.
 
-ghost use Rattle.std.specs.Prelude.{◌≡◌, ◌/◌, ◌%◌};
-ghost use Rattle.corner_table.specs.Sides.{side_at, same, number};
+ghost use Rattle.std.specs.Prelude.{◌≡◌, not, ◌&&◌};
+ghost use Rattle.corner_table.specs.Sides.{same};
 ghost use Rattle.corner_table.specs.Table.{side_of};
 ghost use Rattle.eb_rebuild.specs.Linked.{refused_by};
-ghost use Rattle.drc_base.specs.declared.limits.TheConstants.{MAX_FACES as most_faces};
-ghost use Rattle.std.specs.Prelude.{◌<◌, ◌*◌, ◌+◌, not, ◌&&◌};
 
 use crate::built::Built;
 use crate::degenerate::first_equal;
