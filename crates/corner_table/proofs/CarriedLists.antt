@@ -22,7 +22,9 @@ pub record IsRenumbered (faces : ℕ) (across after before : List ℕ) (rows : L
   pub across_are : AreCarried faces rows places across now
 
 -- the same, from numbers of faces that are equal
-pub renumbered_from : {faces m k : ℕ} {across after before : List ℕ} {rows : List (ℕ × ℕ)} {places now : List ℕ} → IsSideTable faces across after before → faces ≡ m → k ≡ m → IsRenumbering m rows → ArePlaces k rows places → AreCarried k rows places across now → IsRenumbered faces across after before rows places now
+pub renumbered_from : {faces m k : ℕ} {across after before : List ℕ} {rows : List (ℕ × ℕ)} {places now : List ℕ} →
+    IsSideTable faces across after before → faces ≡ m → k ≡ m → IsRenumbering m rows → ArePlaces k rows places →
+    AreCarried k rows places across now → IsRenumbered faces across after before rows places now
 renumbered_from {across = across} {rows = rows} {places = places} {now = now} T f g R P C = record {
   table = T;
   rows_are = subst (λ (n : ℕ). IsRenumbering n rows) (sym f) R;
@@ -91,7 +93,8 @@ module _ {faces : ℕ} {across after before : List ℕ} {rows : List (ℕ × ℕ
       ]
 
   -- and the links are those of its boundary
-  link_from : (links linked : List ℕ) (x y : Side) → AreLinks faces rows places now links linked → IsFree faces (glued_in now) x → y.face < faces → length links ≡ length across → get_or links (number (carry rows x)) 0 ≡ number (carry rows y) → get_or linked (number x) 0 ≡ number y
+  link_from : (links linked : List ℕ) (x y : Side) → AreLinks faces rows places now links linked → IsFree faces (glued_in now) x → y.face < faces →
+      length links ≡ length across → get_or links (number (carry rows x)) 0 ≡ number (carry rows y) → get_or linked (number x) 0 ≡ number y
   link_from links linked x y L X k l e =
       let f = T.table.fits in
       let n = number-lt (carry rows x) faces (carry-within T.rows_are x X.within) in
@@ -106,7 +109,8 @@ module _ {faces : ℕ} {across after before : List ℕ} {rows : List (ℕ × ℕ
         | inr t ↦ absurd (let no : Some (side_at v) ≡ None = sym (cond-false _ _ _ t) ∙ e in cc)
       ]
 
-  links_carried : (next_now last_now : List ℕ) → AreLinks faces rows places now after next_now → AreLinks faces rows places now before last_now → IsLinked faces (glued_in now) next_now last_now
+  links_carried : (next_now last_now : List ℕ) → AreLinks faces rows places now after next_now → AreLinks faces rows places now before last_now →
+      IsLinked faces (glued_in now) next_now last_now
   links_carried next_now last_now A B = record { after_is = after_is; before_is = before_is }
     where
       H : IsGluing faces (glued_in now)
@@ -123,7 +127,8 @@ module _ {faces : ℕ} {across after before : List ℕ} {rows : List (ℕ × ℕ
           (T.table.linked.before_is (carry rows x) (free_carried T.table.gluing T.rows_are gluing_carried x X) ∙ ap number (sym (before_carried T.table.gluing T.rows_are gluing_carried x X)))
 
   -- so the new lists are those of a table
-  pub table_carried : (k : ℕ) (next_now last_now : List ℕ) → k ≡ faces → AreLinks k rows places now after next_now → AreLinks k rows places now before last_now → IsSideTable faces now next_now last_now
+  pub table_carried : (k : ℕ) (next_now last_now : List ℕ) → k ≡ faces → AreLinks k rows places now after next_now → AreLinks k rows places now before last_now →
+      IsSideTable faces now next_now last_now
   table_carried k next_now last_now e P Q = record {
     limit = (let l = T.across_are.long in let f = T.table.fits in let m = T.table.limit in omega arith);
     fits = (let l = T.across_are.long in omega arith);
@@ -205,7 +210,9 @@ abbrev IsPlaced : List (ℕ × ℕ) → List ℕ → Side → Type 0
 IsPlaced rows places x = get_or places (number (carry rows x)) free_entry ≡ number x
 
 -- side y is placed, and each that was
-side_placed : {faces : ℕ} {rows : List (ℕ × ℕ)} (places : List ℕ) → IsRenumbering faces rows → length places ≡ 3 * faces → (y x : Side) → y.face < faces → x.face < faces → (x ≢ y → IsPlaced rows places x) → IsPlaced rows (set places (number (carry rows y)) (number y)) x
+side_placed : {faces : ℕ} {rows : List (ℕ × ℕ)} (places : List ℕ) → IsRenumbering faces rows → length places ≡ 3 * faces →
+    (y x : Side) → y.face < faces → x.face < faces → (x ≢ y → IsPlaced rows places x) →
+    IsPlaced rows (set places (number (carry rows y)) (number y)) x
 side_placed {faces} {rows} places R l y x h k old = elim (cases_eq (number (carry rows x)) (number (carry rows y))) [
   | inl e ↦ (
       let q : x ≡ y = carry_injective R x y k h (number_injective (carry rows x) (carry rows y) e) in
@@ -218,8 +225,8 @@ side_placed {faces} {rows} places R l y x h k old = elim (cases_eq (number (carr
 ]
 
 -- the sides of face i are placed, and those of the faces below it are
-pub face_placed : {faces : ℕ} {rows : List (ℕ × ℕ)} (places : List ℕ) (i : ℕ) → IsRenumbering faces rows → length places ≡ 3 * faces → i < faces →
-    ((x : Side) → x.face < i → IsPlaced rows places x) →
+pub face_placed : {faces : ℕ} {rows : List (ℕ × ℕ)} (places : List ℕ) (i : ℕ) →
+    IsRenumbering faces rows → length places ≡ 3 * faces → i < faces → ((x : Side) → x.face < i → IsPlaced rows places x) →
     (x : Side) → x.face < i + 1 → IsPlaced rows (placed_face (get_or rows i (0, 0)).0 (get_or rows i (0, 0)).1 (3 * i) places) x
 face_placed {faces} {rows} places i R l h old x k =
     side_placed two R (long_set one (side i second) ∙ long_one) (side i third) x h inside (λ third_not.

@@ -29,4 +29,5 @@ pub record AreCarried (faces : ℕ) (rows : List (ℕ × ℕ)) (places entries n
 -- the links of those new sides that are free
 pub record AreLinks (faces : ℕ) (rows : List (ℕ × ℕ)) (places across links now : List ℕ) : Type 0 where
   pub long : length now ≡ 3 * faces
-  pub link : (x : Side) → x.face < faces → get_or across (number x) free_entry ≡ free_entry → get_or now (number x) 0 ≡ becomes places links (carry rows x)
+  pub link : (x : Side) → x.face < faces → get_or across (number x) free_entry ≡ free_entry →
+      get_or now (number x) 0 ≡ becomes places links (carry rows x)

@@ -18,6 +18,7 @@ use std::alloc::Global;
 const NONE: u32 = u32::MAX;
 
 /// The number of the corner that the corner `k` of a new face was.
+#[tactic(auto, using(crate::proofs::CarriedLists::turned_corner))]
 fn source_of(face: u32, k: u8, turn: u8) -> u32
     requires face { face < most_faces }
     requires places { (k < 3) × (turn < 3) }
