@@ -4,7 +4,7 @@ use Rattle.std.proofs.lemmas.Bool.{cases_eq, cond-true, cond-false, eq-eqb, ne_e
 use Rattle.corner_table.specs.Sides.{next, prev, side_at}
 use Rattle.corner_table.proofs.Places.{next-next}
 use Rattle.corner_table.proofs.Numbers.{face-lt}
-use Rattle.pairing.specs.Positions.{position_in, AreNumbered, AreTriangles}
+use Rattle.pairing.specs.Positions.{position_in, AreTriangles}
 use Rattle.pairing.specs.FirstItems.{AreFirstItems}
 use Rattle.pairing.specs.Classes.{AreBounds, class_at, AreEdges, reversed, AreClasses}
 use Rattle.pairing.proofs.PairNumbers.{firsts_number}

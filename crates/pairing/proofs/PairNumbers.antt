@@ -1,7 +1,7 @@
 -- Numbers for pairs of numbers, one list of items after another.
 use Rattle.std.proofs.Common.{◌≡◌, ◌≢◌, ℕ, ◌+◌, ◌/◌, ◌%◌, ◌^◌, ◌<◌, ◌≤◌, List, length, get_or, set, map, inl, inr, sym, ap, ◌∙◌, subst, arith, get_or-set_same, get_or-set_other}
 use Rattle.std.proofs.lemmas.Bool.{cases_eq, cases_lt}
-use Rattle.std.proofs.lemmas.List.{get_or-map, length-map}
+use Rattle.std.proofs.lemmas.List.{get_or-map}
 use Rattle.pairing.specs.Classes.{AreLinked}
 use Rattle.pairing.specs.Positions.{AreNumbered}
 use Rattle.pairing.specs.FirstItems.{IsFirstWith, AreFirstItems, AreNumberedBelow, AreKeptTo}

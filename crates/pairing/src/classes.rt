@@ -83,11 +83,8 @@ fn edge_of(of: &[u32], x: u32, edges: u32) -> u32
     ensures old { slice_index of.now x ≢ x → result ≡ slice_index of.now (slice_index of.now x) / 2 }
 {
     let first = of[x as usize];
-    if first == x {
-        edges
-    } else {
-        of[first as usize] / 2
-    }
+    let known = of[first as usize] / 2;
+    if first == x { edges } else { known }
 }
 
 /// Puts each side in its class; the numbers are below `bound`.

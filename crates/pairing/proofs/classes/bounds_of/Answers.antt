@@ -1,5 +1,5 @@
 -- One face more, and all sides.
-use Rattle.std.proofs.Common.{◌≡◌, ℕ, ◌+◌, ◌*◌, ◌<◌, ap, sym, ◌∙◌, get_or, length, min, max, arith}
+use Rattle.std.proofs.Common.{ℕ, ap, sym, ◌∙◌, get_or, min, max, arith}
 use Rattle.corner_table.specs.Sides.{Side, first, second, third, side, next, prev, side_at}
 use Rattle.corner_table.proofs.Numbers.{number-side_at, face-lt}
 use Rattle.pairing.specs.Positions.{position_in}

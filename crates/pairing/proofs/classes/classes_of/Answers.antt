@@ -1,5 +1,5 @@
 -- One side more, and all sides.
-use Rattle.std.proofs.Common.{◌≡◌, ◌≢◌, ℕ, ◌+◌, ◌*◌, ◌/◌, ◌<◌, ◌≤◌, subst, ap, sym, ◌∙◌, get_or, length, List, arith, length-set}
+use Rattle.std.proofs.Common.{◌≡◌, ℕ, ◌/◌, ◌<◌, ◌≤◌, subst, ap, sym, ◌∙◌, get_or, length, List, arith, length-set}
 use Rattle.std.proofs.lemmas.List.{get_or_read}
 use Rattle.corner_table.specs.Sides.{next, side_at}
 use Rattle.pairing.specs.Positions.{position_in}

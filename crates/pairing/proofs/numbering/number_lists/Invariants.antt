@@ -1,5 +1,4 @@
 -- The items of the lists so far are numbered, the others have their second entries.
-use Rattle.std.proofs.Common.{◌≡◌, length}
 use Rattle.pairing.specs.FirstItems.{AreNumberedBelow, AreSecondsFrom, AreKept}
 use Rattle.pairing.proofs.numbering.number_lists.Given as goal
 
