@@ -4,7 +4,8 @@ use Rattle.std.proofs.lemmas.Bool.{cases_eq, cases_lt}
 use Rattle.corner_table.specs.Sides.{Side, number, side_at, Gluing, IsGluing}
 use Rattle.corner_table.specs.Fans.{InFan, MeetsBoundary}
 use Rattle.corner_table.specs.Table.{free_entry}
-use Rattle.corner_table.specs.Labels.{label_at, IsReady, IsFanLabelled, IsLabelling, IsLabelled}
+use Rattle.corner_table.specs.Labels.{label_at, IsLabelled}
+use Rattle.corner_table.specs.Labelling.{IsReady, IsFanLabelled, IsLabelling}
 use Rattle.corner_table.proofs.Numbers.{number_injective, number-side_at, side_at-number, number-lt}
 use Rattle.corner_table.proofs.Walks.{fan_trans, fan_sym}
 use Rattle.corner_table.proofs.TableSteps.{length-replicate, get_or-replicate}

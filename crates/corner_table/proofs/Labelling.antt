@@ -1,12 +1,13 @@
 -- Labelling one fan: a walk to the left and one to the right reach just the corners of the fan.
-use Rattle.std.proofs.Common.{◌≡◌, ◌≢◌, ℕ, ◌<◌, Bool, true, false, IsTrue, ◌||◌, cond, List, length, get_or, set, Some, None, ◌⊎◌, inl, inr, sym, refl, ap, ◌∙◌, subst, arith, length-set, get_or-set_other, get_or-set_same, option_map, eqb, eqb-true, sum_by}
+use Rattle.std.proofs.Common.{◌≡◌, ◌≢◌, ℕ, ◌<◌, Bool, true, false, IsTrue, cond, List, length, get_or, set, Some, None, ◌⊎◌, inl, inr, sym, refl, ap, ◌∙◌, subst, arith, length-set, get_or-set_other, get_or-set_same, option_map, eqb, eqb-true, sum_by}
 use Rattle.std.proofs.lemmas.Bool.{cases_Bool, cond-false}
 use Rattle.std.proofs.lemmas.List.Sums.{sum_by-set}
 use Rattle.corner_table.specs.Sides.{Side, next, prev, number, side_at, Gluing, IsGluing}
 use Rattle.corner_table.specs.Fans.{swing_left, swing_right, InFan, here, leftwards, rightwards, MeetsBoundary}
 use Rattle.corner_table.specs.Table.{free_entry}
-use Rattle.corner_table.specs.Labels.{label_at, GoesLeft, GoesRight, Marks, IsMarking, IsReady, IsLeftwards, IsLeftDone, IsRightwards, IsRightDone, IsFanLabelled}
-use Rattle.corner_table.proofs.Places.{same_tells}
+use Rattle.corner_table.specs.Labels.{label_at}
+use Rattle.corner_table.specs.Labelling.{GoesLeft, GoesRight, Marks, IsMarking, IsReady, IsLeftwards, IsLeftDone, IsRightwards, IsWhole, IsFanLabelled}
+use Rattle.corner_table.proofs.Places.{same_tells, Some_injective}
 use Rattle.corner_table.proofs.Numbers.{number_injective, number-side_at}
 use Rattle.corner_table.proofs.Walks.{left_then_right, right_then_left, fan_trans, fan_sym}
 use Rattle.corner_table.proofs.Boundary.{left-free, right-free}
@@ -37,6 +38,7 @@ left_begins g label old start R h = record {
   here = label_here old start label h;
   lefts = λ c e n. absurd (R.fresh c (sym (label_else old start c label n) ∙ e));
   rights = λ c e n. absurd (R.fresh c (sym (label_else old start c label n) ∙ e));
+  ahead = λ c e n s. R.fresh c (sym (label_else old start c label n) ∙ e);
 }
   where
     marks : (c : Side) → Marks g label old (set old (number start) label) start c
@@ -83,6 +85,7 @@ left_steps {faces} {g} G label old l start at found R L s h f = record {
   here = label_here l found label h;
   lefts = lefts;
   rights = rights;
+  ahead = ahead;
 }
   where
     lefts : (c : Side) → label_at (set l (number found) label) c ≡ label → c ≢ found → GoesLeft g label (set l (number found) label) c
@@ -97,6 +100,21 @@ left_steps {faces} {g} G label old l start at found R L s h f = record {
       | inr m ↦ goes_right_stays g label l found c h (L.rights c (sym (label_else l found c label m) ∙ e) n)
     ]
 
+    -- the corner that was found had no label before
+    had_label : label_at l found ≡ label → ⊥
+    had_label e = R.real (sym e ∙ f)
+
+    ahead : (c : Side) → label_at (set l (number found) label) c ≡ label → c ≢ start → swing_left g found ≢ Some c
+    ahead c e n t = elim (same_tells c found) [
+      | inl q ↦ (
+          let right : Some at ≡ Some c = sym (left_then_right G at found s) ∙ ap (swing_right g) (sym q) ∙ left_then_right G c c (ap (swing_left g) q ∙ t) in
+          had_label (ap (label_at l) (sym (Some_injective _ _ right ∙ q)) ∙ L.here))
+      | inr m ↦ (
+          let before = L.rights c (sym (label_else l found c label m) ∙ e) n in
+          let right : Some before.0 ≡ Some found = sym before.1 ∙ left_then_right G found c t in
+          had_label (ap (label_at l) (sym (Some_injective _ _ right)) ∙ before.2))
+    ]
+
 -- a labelled corner met again carries the new label
 met_again : (g : Gluing) (label : ℕ) (old l : List ℕ) (start at found : Side) → IsReady g label old start → IsMarking g label old l start → label_at l at ≡ label →
     InFan g at found → label_at l found ≢ free_entry → label_at l found ≡ label
@@ -105,20 +123,33 @@ met_again g label old l start at found R M e p f = elim (M.marks found) [
   | inr m ↦ m.0
 ]
 
-pub left_comes_round : (g : Gluing) (label : ℕ) (old l : List ℕ) (start at found : Side) → IsReady g label old start → IsLeftwards g label old l start at →
+-- where the walk meets a labelled corner, that is its start
+pub left_comes_round : {faces : ℕ} {g : Gluing} → IsGluing faces g → (label : ℕ) (old l : List ℕ) (start at found : Side) → IsReady g label old start → IsLeftwards g label old l start at →
     swing_left g at ≡ Some found → label_at l found ≢ free_entry → IsLeftDone g label old l start false
-left_comes_round g label old l start at found R L s f = record {
+left_comes_round {faces} {g} G label old l start at found R L s f = record {
   marking = L.marking;
-  lefts = λ c e. inr (goes c e);
+  lefts = λ c e. inr (left c e);
   rights = L.rights;
-  round = λ q c e. goes c e;
+  round = λ q c e. (left c e, right c e);
   ended = λ q. absurd (cc);
 }
   where
-    goes : (c : Side) → label_at l c ≡ label → GoesLeft g label l c
-    goes c e = elim (same_tells c at) [
-      | inl q ↦ (found, ap (swing_left g) q ∙ s, met_again g label old l start at found R L.marking L.here (leftwards s here) f)
+    again : label_at l found ≡ label
+    again = met_again g label old l start at found R L.marking L.here (leftwards s here) f
+
+    left : (c : Side) → label_at l c ≡ label → GoesLeft g label l c
+    left c e = elim (same_tells c at) [
+      | inl q ↦ (found, ap (swing_left g) q ∙ s, again)
       | inr m ↦ L.lefts c e m
+    ]
+
+    is_start : found ≡ start
+    is_start = elim (same_tells found start) [ inl q ↦ q | inr m ↦ absurd (L.ahead found again m s) ]
+
+    right : (c : Side) → label_at l c ≡ label → GoesRight g label l c
+    right c e = elim (same_tells c start) [
+      | inl q ↦ (at, ap (swing_right g) (q ∙ sym is_start) ∙ left_then_right G at found s, L.here)
+      | inr m ↦ L.rights c e m
     ]
 
 pub left_ends : (g : Gluing) (label : ℕ) (old l : List ℕ) (start at : Side) → IsLeftwards g label old l start at → swing_left g at ≡ None → IsLeftDone g label old l start true
@@ -134,25 +165,21 @@ left_ends g label old l start at L s = record {
     lefts c e = elim (same_tells c at) [ inl q ↦ inl (ap (swing_left g) q ∙ s) | inr m ↦ inr (L.lefts c e m) ]
 
 -- the walk to the right
-pub right_begins : (g : Gluing) (label : ℕ) (old mid : List ℕ) (start : Side) (open_fan : Bool) → IsLeftDone g label old mid start open_fan → IsRightwards g label old mid mid start start
-right_begins g label old mid start open_fan D = record { marking = D.marking; here = D.marking.begun; lefts = D.lefts; rights = D.rights; round = λ h. h }
+pub right_begins : (g : Gluing) (label : ℕ) (old mid : List ℕ) (start : Side) → IsLeftDone g label old mid start true → IsRightwards g label old mid start start
+right_begins g label old mid start D = record { marking = D.marking; here = D.marking.begun; lefts = D.lefts; rights = D.rights }
 
-pub right_steps : {faces : ℕ} {g : Gluing} → IsGluing faces g → (label : ℕ) (old mid l : List ℕ) (start at found : Side) → IsReady g label old start → IsRightwards g label old mid l start at →
-    swing_right g at ≡ Some found → number found < length l → label_at l found ≡ free_entry → IsRightwards g label old mid (set l (number found) label) start found
-right_steps {faces} {g} G label old mid l start at found R L s h f = record {
+pub right_steps : {faces : ℕ} {g : Gluing} → IsGluing faces g → (label : ℕ) (old l : List ℕ) (start at found : Side) → IsReady g label old start → IsRightwards g label old l start at →
+    swing_right g at ≡ Some found → number found < length l → label_at l found ≡ free_entry → IsRightwards g label old (set l (number found) label) start found
+right_steps {faces} {g} G label old l start at found R L s h f = record {
   marking = more_marking g label old l start at found R L.marking L.here (rightwards s here) h f;
   here = label_here l found label h;
   lefts = lefts;
   rights = rights;
-  round = round;
 }
   where
-    back : GoesLeft g label (set l (number found) label) found
-    back = (at, right_then_left G at found s, label_stays l found at label h L.here)
-
     lefts : (c : Side) → label_at (set l (number found) label) c ≡ label → (swing_left g c ≡ None) ⊎ GoesLeft g label (set l (number found) label) c
     lefts c e = elim (same_tells c found) [
-      | inl q ↦ inr (subst (GoesLeft g label (set l (number found) label)) (sym q) back)
+      | inl q ↦ inr (at, ap (swing_left g) q ∙ right_then_left G at found s, label_stays l found at label h L.here)
       | inr m ↦ elim (L.lefts c (sym (label_else l found c label m) ∙ e)) [ inl n ↦ inl n | inr t ↦ inr (goes_left_stays g label l found c h t) ]
     ]
 
@@ -162,84 +189,68 @@ right_steps {faces} {g} G label old mid l start at found R L s h f = record {
       | inr m ↦ goes_right_stays g label l found c h (L.rights c (sym (label_else l found c label n) ∙ e) m)
     ]
 
-    round : ((c : Side) → label_at mid c ≡ label → GoesLeft g label mid c) → (c : Side) → label_at (set l (number found) label) c ≡ label → GoesLeft g label (set l (number found) label) c
-    round k c e = elim (same_tells c found) [
-      | inl q ↦ subst (GoesLeft g label (set l (number found) label)) (sym q) back
-      | inr m ↦ goes_left_stays g label l found c h (L.round k c (sym (label_else l found c label m) ∙ e))
-    ]
-
-pub right_comes_round : (g : Gluing) (label : ℕ) (old mid l : List ℕ) (start at found : Side) → IsReady g label old start → IsRightwards g label old mid l start at →
-    swing_right g at ≡ Some found → label_at l found ≢ free_entry → IsRightDone g label old mid l start false
-right_comes_round g label old mid l start at found R L s f = record {
-  marking = L.marking;
-  lefts = L.lefts;
-  rights = λ c e. inr (goes c e);
-  round_left = L.round;
-  round = λ q c e. goes c e;
-  ended = λ q. absurd (cc);
-}
-  where
-    goes : (c : Side) → label_at l c ≡ label → GoesRight g label l c
-    goes c e = elim (same_tells c at) [
-      | inl q ↦ (found, ap (swing_right g) q ∙ s, met_again g label old l start at found R L.marking L.here (rightwards s here) f)
-      | inr m ↦ L.rights c e m
-    ]
-
-pub right_ends : (g : Gluing) (label : ℕ) (old mid l : List ℕ) (start at : Side) → IsRightwards g label old mid l start at → swing_right g at ≡ None → IsRightDone g label old mid l start true
-right_ends g label old mid l start at L s = record {
-  marking = L.marking;
-  lefts = L.lefts;
-  rights = rights;
-  round_left = L.round;
-  round = λ q. absurd (cc);
-  ended = λ q. record { corner = at; in_fan = (marked L.marking at L.here).1; free = inr (right-free g at s) };
-}
+-- the walk to the right is over where each swing to the right from its last corner leads to a labelled one
+right_over : (g : Gluing) (label : ℕ) (old l : List ℕ) (start at : Side) → IsRightwards g label old l start at → (swing_right g at ≡ None) ⊎ GoesRight g label l at → IsWhole g label old l start
+right_over g label old l start at L last = record { marking = L.marking; lefts = L.lefts; rights = rights }
   where
     rights : (c : Side) → label_at l c ≡ label → (swing_right g c ≡ None) ⊎ GoesRight g label l c
-    rights c e = elim (same_tells c at) [ inl q ↦ inl (ap (swing_right g) q ∙ s) | inr m ↦ inr (L.rights c e m) ]
+    rights c e = elim (same_tells c at) [
+      | inl q ↦ subst (λ x. (swing_right g x ≡ None) ⊎ GoesRight g label l x) (sym q) last
+      | inr m ↦ inr (L.rights c e m)
+    ]
 
--- both walks label the whole fan
-pub fan_labelled : {faces : ℕ} {g : Gluing} → IsGluing faces g → (label : ℕ) (old mid new : List ℕ) (start : Side) (left right : Bool) → IsReady g label old start →
-    IsLeftDone g label old mid start left → IsRightDone g label old mid new start right → IsFanLabelled g label old new start (left || right)
-fan_labelled {faces} {g} G label old mid new start left right R D E = record { marking = E.marking; alike = alike; boundary = (to left right D E, λ b. from left right D E b) }
+pub right_meets : (g : Gluing) (label : ℕ) (old l : List ℕ) (start at found : Side) → IsReady g label old start → IsRightwards g label old l start at →
+    swing_right g at ≡ Some found → label_at l found ≢ free_entry → IsWhole g label old l start
+right_meets g label old l start at found R L s f =
+    right_over g label old l start at L (inr (found, s, met_again g label old l start at found R L.marking L.here (rightwards s here) f))
+
+pub right_ends : (g : Gluing) (label : ℕ) (old l : List ℕ) (start at : Side) → IsRightwards g label old l start at → swing_right g at ≡ None → IsWhole g label old l start
+right_ends g label old l start at L s = right_over g label old l start at L (inl s)
+
+-- where each swing from a labelled corner leads to a labelled one, the whole fan is labelled
+spreads : {g : Gluing} {label : ℕ} {old new : List ℕ} {start : Side} → IsWhole g label old new start → (c d : Side) → InFan g c d → label_at new c ≡ label → label_at new d ≡ label
+spreads E c d here e = e
+spreads {new = new} E c d (leftwards {d = x} s p) e = elim (E.lefts c e) [
+  | inl n ↦ absurd (let no : None ≡ Some x = sym n ∙ s in cc)
+  | inr t ↦ (let q : Some t.0 ≡ Some x = sym t.1 ∙ s in spreads E x d p (ap (label_at new) (sym (Some_injective _ _ q)) ∙ t.2))
+]
+spreads {new = new} E c d (rightwards {d = x} s p) e = elim (E.rights c e) [
+  | inl n ↦ absurd (let no : None ≡ Some x = sym n ∙ s in cc)
+  | inr t ↦ (let q : Some t.0 ≡ Some x = sym t.1 ∙ s in spreads E x d p (ap (label_at new) (sym (Some_injective _ _ q)) ∙ t.2))
+]
+
+alike_again : {faces : ℕ} {g : Gluing} → IsGluing faces g → (label : ℕ) (old new : List ℕ) (start : Side) → IsReady g label old start → IsWhole g label old new start →
+    (c d : Side) → InFan g c d → label_at new c ≡ label_at new d
+alike_again {faces} {g} G label old new start R E c d p = elim (E.marking.marks c) [
+  | inr m ↦ m.0 ∙ sym (spreads E c d p m.0)
+  | inl u ↦ elim (E.marking.marks d) [
+    | inl v ↦ u.0 ∙ R.alike c d p ∙ sym v.0
+    | inr m ↦ absurd (u.1 (spreads E d c (fan_sym G p) m.0))
+  ]
+]
+
+-- a fan that the walk to the left came to the end of, when the walk to the right is over
+pub open_labelled : {faces : ℕ} {g : Gluing} → IsGluing faces g → (label : ℕ) (old mid new : List ℕ) (start : Side) → IsReady g label old start →
+    IsLeftDone g label old mid start true → IsWhole g label old new start → IsFanLabelled g label old new start true
+open_labelled {faces} {g} G label old mid new start R D E =
+    record { marking = E.marking; alike = alike_again G label old new start R E; boundary = (λ t. D.ended refl, λ b. refl) }
+
+-- a fan that the walk to the left came round
+pub closed_labelled : {faces : ℕ} {g : Gluing} → IsGluing faces g → (label : ℕ) (old new : List ℕ) (start : Side) → IsReady g label old start →
+    IsLeftDone g label old new start false → IsFanLabelled g label old new start false
+closed_labelled {faces} {g} G label old new start R D =
+    record { marking = D.marking; alike = alike_again G label old new start R whole; boundary = (λ t. absurd (let no : false ≡ true = t in cc), λ b. absurd (none_free b)) }
   where
-    spreads : (c d : Side) → InFan g c d → label_at new c ≡ label → label_at new d ≡ label
-    spreads c d here e = e
-    spreads c d (leftwards {d = x} s p) e = elim (E.lefts c e) [
-      | inl n ↦ absurd (let no : None ≡ Some x = sym n ∙ s in cc)
-      | inr t ↦ (let q : t.0 ≡ x = (let r : Some t.0 ≡ Some x = sym t.1 ∙ s in cc) in spreads x d p (ap (label_at new) (sym q) ∙ t.2))
-    ]
-    spreads c d (rightwards {d = x} s p) e = elim (E.rights c e) [
-      | inl n ↦ absurd (let no : None ≡ Some x = sym n ∙ s in cc)
-      | inr t ↦ (let q : t.0 ≡ x = (let r : Some t.0 ≡ Some x = sym t.1 ∙ s in cc) in spreads x d p (ap (label_at new) (sym q) ∙ t.2))
-    ]
+    whole : IsWhole g label old new start
+    whole = record { marking = D.marking; lefts = D.lefts; rights = λ c e. inr (D.round refl c e).1 }
 
-    alike : (c d : Side) → InFan g c d → label_at new c ≡ label_at new d
-    alike c d p = elim (E.marking.marks c) [
-      | inr m ↦ m.0 ∙ sym (spreads c d p m.0)
-      | inl u ↦ elim (E.marking.marks d) [
-        | inl v ↦ u.0 ∙ R.alike c d p ∙ sym v.0
-        | inr m ↦ absurd (u.1 (spreads d c (fan_sym G p) m.0))
-      ]
-    ]
-
-    to : (l r : Bool) → IsLeftDone g label old mid start l → IsRightDone g label old mid new start r → IsTrue (l || r) → MeetsBoundary g start
-    to true r D E t = D.ended refl
-    to false true D E t = E.ended refl
-    to false false D E t = absurd (let no : false ≡ true = t in cc)
-
-    none_free : IsLeftDone g label old mid start false → IsRightDone g label old mid new start false → MeetsBoundary g start → ⊥
-    none_free D E b =
-        let e : label_at new b.corner ≡ label = spreads start b.corner b.in_fan E.marking.begun in
+    none_free : MeetsBoundary g start → ⊥
+    none_free b =
+        let t = D.round refl b.corner (spreads whole start b.corner b.in_fan D.marking.begun) in
         elim b.free [
-          | inl f ↦ (let t = E.round_left (D.round refl) b.corner e in let no : None ≡ Some t.0 = sym (ap (option_map next) f) ∙ t.1 in cc)
-          | inr f ↦ (let t = E.round refl b.corner e in let no : None ≡ Some t.0 = sym (ap (option_map prev) f) ∙ t.1 in cc)
+          | inl f ↦ (let q = t.0 in let no : None ≡ Some q.0 = sym (ap (option_map next) f) ∙ q.1 in cc)
+          | inr f ↦ (let q = t.1 in let no : None ≡ Some q.0 = sym (ap (option_map prev) f) ∙ q.1 in cc)
         ]
-
-    from : (l r : Bool) → IsLeftDone g label old mid start l → IsRightDone g label old mid new start r → MeetsBoundary g start → IsTrue (l || r)
-    from true r D E b = refl
-    from false true D E b = refl
-    from false false D E b = absurd (none_free D E b)
 
 -- what a walk still may label: one for each corner without a label
 abbrev pub unlabelled : ℕ → ℕ
@@ -267,31 +278,19 @@ left_steps_at {faces} {g} G label old l start at found R L s h f =
     subst (λ (n : ℕ). IsLeftwards g label old (set l n label) start (side_at found)) e
     (left_steps G label old l start (side_at at) (side_at found) R L (sym s) (omega arith) (ap (λ (n : ℕ). get_or l n free_entry) e ∙ sym f))
 
-pub left_comes_round_at : (g : Gluing) (label : ℕ) (old l : List ℕ) (start : Side) (at found v : ℕ) → IsReady g label old start → IsLeftwards g label old l start (side_at at) →
+pub left_comes_round_at : {faces : ℕ} {g : Gluing} → IsGluing faces g → (label : ℕ) (old l : List ℕ) (start : Side) (at found v : ℕ) → IsReady g label old start → IsLeftwards g label old l start (side_at at) →
     Some (side_at found) ≡ swing_left g (side_at at) → v ≡ get_or l found free_entry → v ≢ free_entry → IsLeftDone g label old l start false
-left_comes_round_at g label old l start at found v R L s e h =
-    left_comes_round g label old l start (side_at at) (side_at found) R L (sym s) (λ q. h (e ∙ ap (λ (n : ℕ). get_or l n free_entry) (sym (number-side_at found)) ∙ q))
+left_comes_round_at G label old l start at found v R L s e h =
+    left_comes_round G label old l start (side_at at) (side_at found) R L (sym s) (λ q. h (e ∙ ap (λ (n : ℕ). get_or l n free_entry) (sym (number-side_at found)) ∙ q))
 
-pub right_steps_at : {faces : ℕ} {g : Gluing} → IsGluing faces g → (label : ℕ) (old mid l : List ℕ) (start : Side) (at found : ℕ) → IsReady g label old start → IsRightwards g label old mid l start (side_at at) →
-    Some (side_at found) ≡ swing_right g (side_at at) → found < length l → free_entry ≡ get_or l found free_entry → IsRightwards g label old mid (set l found label) start (side_at found)
-right_steps_at {faces} {g} G label old mid l start at found R L s h f =
+pub right_steps_at : {faces : ℕ} {g : Gluing} → IsGluing faces g → (label : ℕ) (old l : List ℕ) (start : Side) (at found : ℕ) → IsReady g label old start → IsRightwards g label old l start (side_at at) →
+    Some (side_at found) ≡ swing_right g (side_at at) → found < length l → free_entry ≡ get_or l found free_entry → IsRightwards g label old (set l found label) start (side_at found)
+right_steps_at {faces} {g} G label old l start at found R L s h f =
     let e = number-side_at found in
-    subst (λ (n : ℕ). IsRightwards g label old mid (set l n label) start (side_at found)) e
-    (right_steps G label old mid l start (side_at at) (side_at found) R L (sym s) (omega arith) (ap (λ (n : ℕ). get_or l n free_entry) e ∙ sym f))
+    subst (λ (n : ℕ). IsRightwards g label old (set l n label) start (side_at found)) e
+    (right_steps G label old l start (side_at at) (side_at found) R L (sym s) (omega arith) (ap (λ (n : ℕ). get_or l n free_entry) e ∙ sym f))
 
-pub right_comes_round_at : (g : Gluing) (label : ℕ) (old mid l : List ℕ) (start : Side) (at found v : ℕ) → IsReady g label old start → IsRightwards g label old mid l start (side_at at) →
-    Some (side_at found) ≡ swing_right g (side_at at) → v ≡ get_or l found free_entry → v ≢ free_entry → IsRightDone g label old mid l start false
-right_comes_round_at g label old mid l start at found v R L s e h =
-    right_comes_round g label old mid l start (side_at at) (side_at found) R L (sym s) (λ q. h (e ∙ ap (λ (n : ℕ). get_or l n free_entry) (sym (number-side_at found)) ∙ q))
-
-pub or_true : (l r : Bool) → l ≡ true → (l || r) ≡ l
-or_true true r e = refl
-or_true false r e = absurd (cc)
-
-pub or_false : (l r : Bool) → l ≡ false → (l || r) ≡ r
-or_false true r e = absurd (cc)
-or_false false r e = refl
-
-pub fan_labelled_by : {faces : ℕ} {g : Gluing} → IsGluing faces g → (label : ℕ) (old mid new : List ℕ) (start : Side) (left right both : Bool) → IsReady g label old start →
-    IsLeftDone g label old mid start left → IsRightDone g label old mid new start right → (left || right) ≡ both → IsFanLabelled g label old new start both
-fan_labelled_by {faces} {g} G label old mid new start left right both R D E e = subst (IsFanLabelled g label old new start) e (fan_labelled G label old mid new start left right R D E)
+pub right_meets_at : (g : Gluing) (label : ℕ) (old l : List ℕ) (start : Side) (at found v : ℕ) → IsReady g label old start → IsRightwards g label old l start (side_at at) →
+    Some (side_at found) ≡ swing_right g (side_at at) → v ≡ get_or l found free_entry → v ≢ free_entry → IsWhole g label old l start
+right_meets_at g label old l start at found v R L s e h =
+    right_meets g label old l start (side_at at) (side_at found) R L (sym s) (λ q. h (e ∙ ap (λ (n : ℕ). get_or l n free_entry) (sym (number-side_at found)) ∙ q))

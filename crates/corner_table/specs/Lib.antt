@@ -6,3 +6,4 @@ pub mod Renumbering
 pub mod Links
 pub mod Table
 pub mod Labels
+pub mod Labelling

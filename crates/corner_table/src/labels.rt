@@ -1,14 +1,15 @@
 //! Labels of vertices.
 //!
 //! Corners are taken in order. One without a label begins a new fan: from it the fan is walked to the
-//! left until it ends or comes round, and then to the right. Each corner is labelled once.
+//! left until it comes round or ends, and where it ends, to the right too. Each corner is labelled once.
 
-ghost use Rattle.std.specs.Prelude.{◌≡◌, ℕ, ◌*◌, ◌<◌, Bool, List, IfOk, vec_len};
+ghost use Rattle.std.specs.Prelude.{◌≡◌, ℕ, ◌*◌, ◌<◌, true, List, IfOk, vec_len};
 ghost use Rattle.std.specs.Option.{option_map};
 ghost use Rattle.corner_table.specs.Sides.{side_at, IsGluing};
 ghost use Rattle.corner_table.specs.Fans.{swing_left, swing_right};
 ghost use Rattle.corner_table.specs.Table.{gluing_of, free_entry};
-ghost use Rattle.corner_table.specs.Labels.{label_at, IsLabelled, IsReady, IsLeftDone, IsRightDone, IsFanLabelled};
+ghost use Rattle.corner_table.specs.Labels.{label_at, IsLabelled};
+ghost use Rattle.corner_table.specs.Labelling.{IsReady, IsLeftDone, IsWhole, IsFanLabelled};
 
 use crate::corner_lists::Classes;
 use crate::entries::{entry_or_free, filled};
@@ -44,22 +45,22 @@ fn label_left(table: &SideTable, labels: &mut Vec<u32>, start: u32, label: u32) 
     }
 }
 
-/// Labels the rest of the fan, from corner `start` to the right; whether it came to an end.
-fn label_right(table: &SideTable, labels: &mut Vec<u32>, start: u32, label: u32) -> bool
+/// Labels the rest of an open fan, from corner `start` to the right.
+fn label_right(table: &SideTable, labels: &mut Vec<u32>, start: u32, label: u32)
     requires gluing { IsGluing table.now.faces (gluing_of table.now) }
     requires start { start < 3 * table.now.faces }
     requires room { vec_len labels.old ≡ 3 * table.now.faces }
     requires real { label < free_entry }
     ensures len { vec_len labels.new ≡ vec_len labels.old }
-    ensures right { (before : List ℕ) (open_left : Bool) → IsReady (gluing_of table.now) label before (side_at start) → IsLeftDone (gluing_of table.now) label before labels.old.items (side_at start) open_left → IsRightDone (gluing_of table.now) label before labels.old.items labels.new.items (side_at start) result }
+    ensures right { (before : List ℕ) → IsReady (gluing_of table.now) label before (side_at start) → IsLeftDone (gluing_of table.now) label before labels.old.items (side_at start) true → IsWhole (gluing_of table.now) label before labels.new.items (side_at start) }
 {
     let mut at = start;
     'rightwards: loop {
         match table.right_of(at) {
-            None => return true,
+            None => return,
             Some(found) => {
                 if entry_or_free(labels, found) != NONE {
-                    return false;
+                    return;
                 }
                 labels[found as usize] = label;
                 at = found;
@@ -77,9 +78,11 @@ fn label_fan(table: &SideTable, labels: &mut Vec<u32>, start: u32, label: u32) -
     ensures len { vec_len labels.new ≡ vec_len labels.old }
     ensures fan { IsReady (gluing_of table.now) label labels.old.items (side_at start) → IsFanLabelled (gluing_of table.now) label labels.old.items labels.new.items (side_at start) result }
 {
-    let left = label_left(table, labels, start, label);
-    let right = label_right(table, labels, start, label);
-    left || right
+    let open = label_left(table, labels, start, label);
+    if open {
+        label_right(table, labels, start, label);
+    }
+    open
 }
 
 impl SideTable {

@@ -15,7 +15,7 @@ returns-in-None-clause-left c = λ R. left_ends _ _ _ _ _ _ (c.leftwards.invaria
 
 pub returns-then-entry_or_free-clause-left : goal.returns-then-entry_or_free-clause-left
 returns-then-entry_or_free-clause-left c = λ R.
-    left_comes_round_at _ _ _ _ _ c.leftwards.at c.in-Some.found _ R (c.leftwards.invariant.walk R) c.in-Some.ensures.corner c.entry_or_free.ensures c.if-entry_or_free.true
+    left_comes_round_at c.requires.gluing _ _ _ _ c.leftwards.at c.in-Some.found _ R (c.leftwards.invariant.walk R) c.in-Some.ensures.corner c.entry_or_free.ensures c.if-entry_or_free.true
 
 pub leftwards-preserved : goal.leftwards-preserved
 leftwards-preserved c = record {

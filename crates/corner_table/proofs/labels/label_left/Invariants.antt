@@ -2,7 +2,7 @@
 use Rattle.std.proofs.Common.{◌≡◌, ◌*◌, ◌<◌, vec_len, sum_by}
 use Rattle.corner_table.specs.Sides.{side_at}
 use Rattle.corner_table.specs.Table.{gluing_of}
-use Rattle.corner_table.specs.Labels.{IsReady, IsLeftwards}
+use Rattle.corner_table.specs.Labelling.{IsReady, IsLeftwards}
 use Rattle.corner_table.proofs.Labelling.{unlabelled}
 use Rattle.corner_table.proofs.labels.label_left.Given as goal
 

@@ -1,7 +1,7 @@
 -- The fans of the corners so far are labelled.
 use Rattle.std.proofs.Common.{◌≡◌, ◌*◌, ◌≤◌, vec_len}
 use Rattle.corner_table.specs.Table.{gluing_of}
-use Rattle.corner_table.specs.Labels.{IsLabelling}
+use Rattle.corner_table.specs.Labelling.{IsLabelling}
 use Rattle.corner_table.proofs.side_table.SideTable.label_vertices.Given as goal
 
 abbrev pub invariant-loop-corner : goal.invariant-loop-corner
