@@ -109,6 +109,14 @@ impl SideTable {
         self.across[second as usize] = first;
     }
 
+    /// For each side, by its number 3f + k, the number of the side that it is glued to, and `u32::MAX`
+    /// where it is free. Sides of faces for which there is room alone are free.
+    pub fn across(&self) -> &[u32]
+        ensures entries { result.now ≡ self.now.entries }
+    {
+        self.across.as_slice()
+    }
+
     /// The side that `s` is glued to; None where `s` is free.
     pub fn other<L: Ledger>(&self, s: Side, steps: &mut Steps<L>) -> Option<Side>
         requires { s.face < self.now.faces }

@@ -8,7 +8,7 @@ use Rattle.corner_table.specs.declared.symbols.Event.{Event}
 use Rattle.corner_table.specs.Sides.{Side, side_at, place_number, place_of, Gluing, IsGluing}
 use Rattle.corner_table.specs.Fans.{HasThreeFans}
 use Rattle.corner_table.proofs.Places.{option_tells}
-use Rattle.eb_trace.specs.Trace.{Entry, Walk, is_visited, take_kept, go_back, entered, events_noted, after_symbol, visit, run, symbol_at_corner, walked, walked_from, trace}
+use Rattle.eb_trace.specs.Trace.{Entry, Walk, is_visited, take_kept, go_back, entered, events_noted, after_symbol, visit, run, symbol_at_corner, walked, walked_from, order_of, trace}
 use Rattle.eb_trace.specs.declared.notes.Notes.{Notes}
 use Rattle.eb_trace.specs.declared.notes.Entered.{Entered}
 use Rattle.eb_trace.specs.Stored.{walk_of, entry_of, row_of}
@@ -147,11 +147,17 @@ place_is (suc zero) h = refl
 place_is (suc (suc zero)) h = refl
 place_is (suc (suc (suc k))) h = absurd (omega arith)
 
-pub rows_are : (xs : List Entered) → map row_of xs ≡ map (λ (e : Entry). (e.corner.face, place_number e.corner.place)) (map entry_of xs)
+rows_are : (xs : List Entered) → map row_of xs ≡ map (λ (e : Entry). (e.corner.face, place_number e.corner.place)) (map entry_of xs)
 rows_are [] = refl
 rows_are (x ∷ xs) =
     ap (λ (k : ℕ). (x.corner / 3, k) ∷ map row_of xs) (sym (place_is (x.corner % 3) (omega arith)))
     ∙ ap (λ (l : List (ℕ × ℕ)). (x.corner / 3, place_number (place_of (x.corner % 3))) ∷ l) (rows_are xs)
+
+-- the rows of what was noted are the order of the walk
+pub rows_noted : (n : Notes) → map row_of (reverse n.entries.items) ++ map (λ (f : ℕ). (f, 1)) n.interior.items ≡ order_of (walk_of n)
+rows_noted n =
+    ap (λ (l : List (ℕ × ℕ)). l ++ map (λ (f : ℕ). (f, 1)) n.interior.items) (rows_are (reverse n.entries.items))
+    ∙ ap (λ (l : List ℕ). map (λ (e : Entry). (e.corner.face, place_number e.corner.place)) (map entry_of (reverse n.entries.items)) ++ map (λ (f : ℕ). (f, 1)) l) (sym (reverse-reverse n.interior.items))
 
 map_reverse : {A B : Type 0} (f : A → B) (xs : List A) → map f (reverse xs) ≡ reverse (map f xs)
 map_reverse f [] = refl

@@ -171,7 +171,7 @@ across_small None x e w = tt
 across_small (Some s) x e w = w (side_of s) (sym e)
 
 -- the lists of a table are a surface
-pub surface_is : (s : Surface) (faces : ℕ) (g : Gluing) (labels : List ℕ) (count : ℕ) (ends : List Bool) → s.faces ≡ faces → s.faces ≤ 1048576 → vec_len s.across ≡ 3 * faces → glued_in s.across.items ≡ g → IsGluing faces g →
+pub surface_is : (s : Surface) (faces : ℕ) (g : Gluing) (labels : List ℕ) (count : ℕ) (ends : List Bool) → s.faces ≡ faces → s.faces ≤ 1048576 → 3 * faces ≤ length s.across.now → glued_in s.across.now ≡ g → IsGluing faces g →
     IsLabelled faces g labels count ends → s.labels.items ≡ labels → s.ends.items ≡ ends → s.vertices ≡ count → IsSurface s
 surface_is s faces g labels count ends f most long e G L l d v = record {
   limit = most;

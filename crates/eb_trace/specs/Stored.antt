@@ -1,5 +1,5 @@
 -- How the walk of the code lies in its tables.
-use Rattle.std.specs.Prelude.{◌≡◌, ℕ, ◌+◌, ◌*◌, ◌/◌, ◌%◌, ◌<◌, ◌≤◌, Bool, true, false, cond, eqb, List, get_or, set, map, reverse, Option, Some, None, All, vec_len}
+use Rattle.std.specs.Prelude.{◌≡◌, ℕ, ◌+◌, ◌*◌, ◌/◌, ◌%◌, ◌<◌, ◌≤◌, Bool, true, false, cond, eqb, List, length, get_or, set, map, reverse, Option, Some, None, All, vec_len}
 use Rattle.drc_base.specs.declared.limits.TheConstants.{MAX_FACES}
 use Rattle.corner_table.specs.declared.symbols.Symbol.{Symbol}
 use Rattle.corner_table.specs.Sides.{Side, side_at, Gluing, IsGluing}
@@ -14,15 +14,15 @@ use Rattle.eb_rebuild.specs.Shown.{is_split}
 
 -- the gluing of a surface
 abbrev pub gluing_in : Surface → Gluing
-gluing_in s = glued_in s.across.items
+gluing_in s = glued_in s.across.now
 
 -- the tables of a surface: its gluing, and the labels of its vertices
 pub record IsSurface (s : Surface) : Type 0 where
   pub limit : s.faces ≤ MAX_FACES
-  pub long : vec_len s.across ≡ 3 * s.faces
+  pub long : 3 * s.faces ≤ length s.across.now
   pub vertices : s.vertices ≡ vec_len s.ends
-  pub gluing : IsGluing s.faces (glued_in s.across.items)
-  pub labelled : IsLabelled s.faces (glued_in s.across.items) s.labels.items (vec_len s.ends) s.ends.items
+  pub gluing : IsGluing s.faces (glued_in s.across.now)
+  pub labelled : IsLabelled s.faces (glued_in s.across.now) s.labels.items (vec_len s.ends) s.ends.items
 
 -- an entry, as the walk has it
 abbrev pub entry_of : Entered → Entry

@@ -39,7 +39,7 @@ fn symbol_for(new: bool, right: bool, left: bool) -> Symbol
 }
 
 /// Nothing is visited.
-pub(crate) fn no_marks(alloc: Global, s: &Surface) -> Result<Marks, Memory>
+pub(crate) fn no_marks(alloc: Global, s: &Surface<'_>) -> Result<Marks, Memory>
     ensures visited { IfOk result (λ m. m.visited.items ≡ replicate s.now.faces false) }
     ensures met { IfOk result (λ m. m.met.items ≡ replicate (vec_len s.now.ends) false) }
     ensures splits { IfOk result (λ m. m.splits.items ≡ replicate s.now.faces free_entry) }
@@ -61,7 +61,7 @@ impl Marks {
     }
 
     /// Whether the face of a side is visited; a missing one counts as visited.
-    fn is_closed(&self, s: &Surface, side: Option<u32>) -> bool
+    fn is_closed(&self, s: &Surface<'_>, side: Option<u32>) -> bool
         requires sized { AreSized s.now self.now }
         requires side { IfSome side (λ n. n < 3 * s.now.faces) }
         ensures { (w : Walk) → AreMarksOf s.now self.now w → result ≡ is_closed w (option_map side_at side) }
@@ -74,7 +74,7 @@ impl Marks {
     }
 
     /// Whether a visited face meets the vertex of a corner.
-    fn is_met(&self, s: &Surface, corner: u32) -> bool
+    fn is_met(&self, s: &Surface<'_>, corner: u32) -> bool
         requires surface { IsSurface s.now }
         requires sized { AreSized s.now self.now }
         requires corner { corner < 3 * s.now.faces }
@@ -84,7 +84,7 @@ impl Marks {
     }
 
     /// Whether the vertex of a corner is new: it meets no boundary and no visited face.
-    fn is_new(&self, s: &Surface, corner: u32) -> bool
+    fn is_new(&self, s: &Surface<'_>, corner: u32) -> bool
         requires surface { IsSurface s.now }
         requires sized { AreSized s.now self.now }
         requires corner { corner < 3 * s.now.faces }
@@ -94,7 +94,7 @@ impl Marks {
     }
 
     /// The symbol at a corner.
-    pub(crate) fn symbol_at(&self, s: &Surface, corner: u32) -> Symbol
+    pub(crate) fn symbol_at(&self, s: &Surface<'_>, corner: u32) -> Symbol
         requires surface { IsSurface s.now }
         requires sized { AreSized s.now self.now }
         requires corner { corner < 3 * s.now.faces }
@@ -107,7 +107,7 @@ impl Marks {
     }
 
     /// The number of the S of the face of a side, if it has one.
-    pub(crate) fn split_of(&self, s: &Surface, side: Option<u32>) -> u32
+    pub(crate) fn split_of(&self, s: &Surface<'_>, side: Option<u32>) -> u32
         requires sized { AreSized s.now self.now }
         requires side { IfSome side (λ n. n < 3 * s.now.faces) }
         ensures { (w : Walk) → AreMarksOf s.now self.now w → split_told result ≡ split_across w.entries (option_map side_at side) }
@@ -120,7 +120,7 @@ impl Marks {
     }
 
     /// Marks the vertex of a corner.
-    fn meet(&mut self, s: &Surface, corner: u32)
+    fn meet(&mut self, s: &Surface<'_>, corner: u32)
         requires surface { IsSurface s.now }
         requires sized { AreSized s.now self.old }
         requires corner { corner < 3 * s.now.faces }
@@ -133,7 +133,7 @@ impl Marks {
     }
 
     /// Marks a face and its vertices.
-    pub(crate) fn mark(&mut self, s: &Surface, face: u32)
+    pub(crate) fn mark(&mut self, s: &Surface<'_>, face: u32)
         requires surface { IsSurface s.now }
         requires sized { AreSized s.now self.old }
         requires face { face < s.now.faces }

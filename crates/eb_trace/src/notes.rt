@@ -27,18 +27,18 @@ pub(crate) struct Notes {
     pub(crate) bits: Vec<bool>,
 }
 
-/// Nothing is noted.
-pub(crate) fn no_notes(alloc: Global) -> Notes
-    ensures walk { walk_of result ≡ nothing_walked }
-    ensures kept { result.kept.items ≡ [] }
+/// Nothing is noted; there is room for the entries of all faces.
+pub(crate) fn no_notes(alloc: Global, faces: u32) -> Result<Notes, Memory>
+    ensures walk { IfOk result (λ n. walk_of n ≡ nothing_walked) }
+    ensures kept { IfOk result (λ n. n.kept.items ≡ []) }
 {
-    Notes {
-        entries: Vec::new(alloc),
+    Ok(Notes {
+        entries: Vec::with_capacity(alloc, faces as usize)?,
         interior: Vec::new(alloc),
         kept: Vec::new(alloc),
         events: Vec::new(alloc),
         bits: Vec::new(alloc),
-    }
+    })
 }
 
 /// Notes the event that a symbol tells of an S, if there is one.

@@ -1,15 +1,15 @@
 //! Entries by the numbers of corners.
 
-ghost use Rattle.std.specs.Prelude.{◌≡◌, ◌<◌, vec_len, get_or};
+ghost use Rattle.std.specs.Prelude.{◌≡◌, ◌<◌, length, get_or};
 ghost use Rattle.corner_table.specs.Table.{free_entry};
 
 /// No side, or no number.
 pub(crate) const NONE: u32 = u32::MAX;
 
 /// The entry of a side or corner.
-pub(crate) fn entry_at(entries: &Vec<u32>, number: u32) -> u32
-    requires { number < vec_len entries.now }
-    ensures { result ≡ get_or entries.now.items number free_entry }
+pub(crate) fn entry_at(entries: &[u32], number: u32) -> u32
+    requires { number < length entries.now }
+    ensures { result ≡ get_or entries.now number free_entry }
 {
     entries[number as usize]
 }

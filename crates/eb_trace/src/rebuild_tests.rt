@@ -5,7 +5,6 @@ ghost use Rattle.std.specs.Prelude.{◌≡◌, ◌<◌, ◌≤◌, ℕ, All, OnO
 ghost use Rattle.drc_base.specs.declared.limits.TheConstants.{MAX_FACES as most_faces};
 ghost use Rattle.eb_rebuild.specs.Rebuilding.{IsEventOf};
 
-use crate::surface::across_all;
 use crate::tracing::{Traced, trace};
 use crate::worked::{BOOK, RING, TETRAHEDRON, TORUS, fan, grid, mesh};
 use corner_table::{Event, Steps, Symbol};
@@ -124,9 +123,7 @@ fn comes_back(
     let turned = table.renumbered(alloc, traced.order.as_slice())?;
     let count = table.face_count();
     let built = rebuilt::<RowRebuild, Brand>(rt, alloc, count, &traced, Blank::new(1))?;
-    let expected = across_all::<Brand>(alloc, &turned, Blank::new(1))?;
-    let found = across_all::<Brand>(alloc, built.table(), Blank::new(1))?;
-    assert!(rt; found.as_slice() == expected.as_slice());
+    assert!(rt; built.table().across() == turned.across());
     Ok(())
 }
 

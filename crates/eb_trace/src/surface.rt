@@ -1,93 +1,48 @@
 //! A surface as the walk reads it: the side across each side, the label of each corner's vertex, and
 //! which vertices meet a boundary.
 
-ghost use Rattle.std.specs.Prelude.{◌≡◌, ◌*◌, ◌<◌, ◌≤◌, IfOk, IfSome, MatchOption, vec_len, get_or, false};
+ghost use Rattle.std.specs.Prelude.{◌≡◌, ◌*◌, ◌<◌, IfOk, IfSome, vec_len, get_or, false};
 ghost use Rattle.std.specs.Option.{option_map};
-ghost use Rattle.drc_base.specs.declared.limits.TheConstants.{MAX_FACES as most_faces};
-ghost use Rattle.corner_table.specs.Sides.{side_at, number};
+ghost use Rattle.corner_table.specs.Sides.{side_at};
 ghost use Rattle.corner_table.specs.Fans.{rightmost, swing_right};
 ghost use Rattle.corner_table.specs.Labels.{label_at};
-ghost use Rattle.corner_table.specs.Table.{side_of, gluing_of, glued_in, other_at, free_entry};
+ghost use Rattle.corner_table.specs.Table.{gluing_of};
 ghost use Rattle.eb_trace.specs.Stored.{gluing_in, IsSurface};
 ghost use Rattle.eb_trace.specs.Trace.{start_by, start_corner};
 
 use crate::numbers::{NONE, entry_at};
-use corner_table::{SideTable, Steps, next_number, previous_number, side_with};
-use drc_base::{Memory, Side};
+use corner_table::{SideTable, previous_number};
+use drc_base::Memory;
 use std::alloc::Global;
-use std::marker::Brand;
-use std::sync::ledger::{Blank, Ledger};
 
-/// A surface by lists that go by the numbers of its sides, its corners and its vertices.
+/// A surface by lists that go by the numbers of its sides, its corners and its vertices; what is across
+/// each side is read from its table.
 #[derive(Drop)]
-pub(crate) struct Surface {
+pub(crate) struct Surface<'t> {
     pub(crate) faces: u32,
     pub(crate) vertices: u32,
-    pub(crate) across: Vec<u32>,
+    pub(crate) across: &'t [u32],
     pub(crate) labels: Vec<u32>,
     pub(crate) ends: Vec<bool>,
 }
 
-/// The number of a side, as a list has it.
-fn number_or_none(side: Option<Side>) -> u32
-    requires { IfSome side (λ x. x.face < most_faces) }
-    ensures { MatchOption side (result ≡ free_entry) (λ x. result ≡ number (side_of x)) }
-{
-    match side {
-        None => NONE,
-        Some(s) => 3 * s.face + u32::from(s.k),
-    }
-}
-
-/// The number of the side across.
-fn number_across<L: Ledger>(t: &SideTable, side: u32, steps: &mut Steps<L>) -> u32
-    requires { side < 3 * t.now.faces }
-    ensures { other_at result ≡ gluing_of t.now (side_at side) }
-{
-    let _ = t.face_count();
-    let found = t.other(side_with(side), steps);
-    number_or_none(found)
-}
-
-/// For each side the number of the side across.
-pub(crate) fn across_all<L: Ledger>(
-    alloc: Global,
-    t: &SideTable,
-    blank: Blank,
-) -> Result<Vec<u32>, Memory>
-    requires name { blank.name ≡ L.name }
-    requires parts { blank.parts ≡ L.parts }
-    requires some { 0 < L.parts }
-    ensures long { IfOk result (λ v. vec_len v ≡ 3 * t.now.faces) }
-    ensures gluing { IfOk result (λ v. glued_in v.items ≡ gluing_of t.now) }
-{
-    let mut steps = Steps::<L>::new(blank);
-    let mut across = Vec::new(alloc);
-    for side in 0..3 * t.face_count() {
-        let found = number_across(t, side, &mut steps);
-        across.push(found)?;
-    }
-    Ok(across)
-}
-
-/// The lists of a table.
-pub(crate) fn surface_of(alloc: Global, t: &SideTable) -> Result<Surface, Memory>
+/// A surface, from its table.
+pub(crate) fn surface_of<'t>(alloc: Global, t: &'t SideTable) -> Result<Surface<'t>, Memory>
     ensures surface { IfOk result (λ s. IsSurface s) }
     ensures faces { IfOk result (λ s. s.faces ≡ t.now.faces) }
     ensures gluing { IfOk result (λ s. gluing_in s ≡ gluing_of t.now) }
 {
-    let across = across_all::<Brand>(alloc, t, Blank::new(1))?;
     let classes = t.label_vertices(alloc)?;
     Ok(Surface {
         faces: t.face_count(),
         vertices: classes.count,
-        across,
+        across: t.across(),
         labels: classes.of_corner.into_vec(),
         ends: classes.ends.into_vec(),
     })
 }
 
-impl Surface {
+impl Surface<'_> {
     /// The side across.
     pub(crate) fn across_of(&self, side: u32) -> Option<u32>
         requires surface { IsSurface self.now }
@@ -95,7 +50,7 @@ impl Surface {
         ensures other { option_map side_at result ≡ gluing_in self.now (side_at side) }
         ensures within { IfSome result (λ n. n < 3 * self.now.faces) }
     {
-        let found = entry_at(&self.across, side);
+        let found = entry_at(self.across, side);
         if found == NONE { None } else { Some(found) }
     }
 
@@ -106,7 +61,7 @@ impl Surface {
         ensures label { result ≡ label_at self.now.labels.items (side_at corner) }
         ensures within { result < vec_len self.now.ends }
     {
-        entry_at(&self.labels, corner)
+        entry_at(self.labels.as_slice(), corner)
     }
 
     /// Whether the vertex of a corner meets a boundary.

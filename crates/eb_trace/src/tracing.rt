@@ -1,6 +1,6 @@
 //! The trace of a surface.
 
-ghost use Rattle.std.specs.Prelude.{◌≡◌, ◌≤◌, IfOk, All, length, map, reverse};
+ghost use Rattle.std.specs.Prelude.{◌≡◌, ℕ, ◌≤◌, ◌++◌, IfOk, All, length, map, reverse};
 ghost use Rattle.corner_table.specs.Fans.{IsProper};
 ghost use Rattle.corner_table.specs.Table.{gluing_of};
 ghost use Rattle.corner_table.specs.Carried.{IsRenumbering};
@@ -35,13 +35,13 @@ pub struct Traced {
 }
 
 /// The notes of the whole walk.
-fn walk_all(alloc: Global, s: &Surface) -> Result<Notes, Memory>
+fn walk_all(alloc: Global, s: &Surface<'_>) -> Result<Notes, Memory>
     requires surface { IsSurface s.now }
     requires few { length (trace s.now.faces (gluing_in s.now)).entries ≤ s.now.faces }
     ensures { IfOk result (λ n. walk_of n ≡ trace s.now.faces (gluing_in s.now)) }
 {
     let mut marks = no_marks(alloc, s)?;
-    let mut notes = no_notes(alloc);
+    let mut notes = no_notes(alloc, s.faces)?;
     for face in 0..s.faces {
         walk_from(s, &mut marks, &mut notes, face)?;
     }
@@ -55,25 +55,27 @@ fn symbols_of(alloc: Global, entries: &[Entered]) -> Result<Vec<Symbol>, AllocEr
     entries.iter().map(|e| e.symbol).collect(alloc)
 }
 
-/// The rows of the entries, the last first.
-fn rows_of(alloc: Global, entries: &[Entered]) -> Result<Vec<(u32, u8)>, AllocError>
-    ensures { IfOk result (λ v. v.items ≡ map row_of (reverse entries.now)) }
+/// The rows of the entries, the last first, and then those of the interior faces.
+fn rows_of(
+    alloc: Global,
+    entries: &[Entered],
+    interior: &[u32],
+) -> Result<Vec<(u32, u8)>, AllocError>
+    ensures { IfOk result (λ v. v.items ≡ map row_of (reverse entries.now) ++ map (λ (f : ℕ). (f, 1)) interior.now) }
 {
     entries
         .iter()
         .rev()
         .map(|e| (e.corner / 3, (e.corner % 3) as u8))
+        .chain(interior.iter().map(|face| (*face, 1)))
         .collect(alloc)
 }
 
 /// The faces in the order of decoding.
-fn rows_in_order(alloc: Global, notes: &Notes) -> Result<Vec<(u32, u8)>, Memory>
+fn rows_in_order(alloc: Global, notes: &Notes) -> Result<Vec<(u32, u8)>, AllocError>
     ensures { IfOk result (λ v. v.items ≡ order_of (walk_of notes.now)) }
 {
-    let mut rows = rows_of(alloc, notes.entries.as_slice())?;
-    for face in &notes.interior {
-        rows.push((*face, 1))?;
-    }
+    let rows = rows_of(alloc, notes.entries.as_slice(), notes.interior.as_slice())?;
     Ok(rows)
 }
 

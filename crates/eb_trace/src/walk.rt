@@ -30,7 +30,7 @@ fn split_entry(number: u32, symbol: Symbol) -> u32
 
 /// Enters a face.
 fn enter(
-    s: &Surface,
+    s: &Surface<'_>,
     marks: &mut Marks,
     notes: &mut Notes,
     corner: u32,
@@ -51,7 +51,7 @@ fn enter(
 }
 
 /// Notes the events of a face about to be entered.
-fn note_events(s: &Surface, marks: &Marks, notes: &mut Notes, corner: u32) -> Result<(), Memory>
+fn note_events(s: &Surface<'_>, marks: &Marks, notes: &mut Notes, corner: u32) -> Result<(), Memory>
     requires surface { IsSurface s.now }
     requires corner { corner < 3 * s.now.faces }
     requires stored { IsStored s.now marks.now notes.old }
@@ -80,7 +80,7 @@ fn keep(notes: &mut Notes, side: Option<u32>) -> Result<(), Memory>
 }
 
 /// Takes kept corners off, up to and with the first of an unvisited face.
-fn take_kept(s: &Surface, marks: &Marks, notes: &mut Notes) -> Option<u32>
+fn take_kept(s: &Surface<'_>, marks: &Marks, notes: &mut Notes) -> Option<u32>
     requires stored { IsStored s.now marks.now notes.old }
     ensures stored { IsStored s.now marks.now notes.new }
     ensures walk { go_back (walk_of notes.old) (take_kept (walk_of notes.old) (walk_of notes.old).kept) ≡ (walk_of notes.new, option_map side_at result) }
@@ -100,7 +100,7 @@ fn take_kept(s: &Surface, marks: &Marks, notes: &mut Notes) -> Option<u32>
 
 /// What a symbol does at a corner, and where the run goes on.
 fn after_symbol(
-    s: &Surface,
+    s: &Surface<'_>,
     marks: &mut Marks,
     notes: &mut Notes,
     corner: u32,
@@ -146,7 +146,7 @@ fn after_symbol(
 
 /// Visits the face of a corner, and tells where the run goes on.
 fn visit(
-    s: &Surface,
+    s: &Surface<'_>,
     marks: &mut Marks,
     notes: &mut Notes,
     corner: u32,
@@ -164,7 +164,7 @@ fn visit(
 }
 
 /// A run from a corner.
-fn run(s: &Surface, marks: &mut Marks, notes: &mut Notes, corner: u32) -> Result<(), Memory>
+fn run(s: &Surface<'_>, marks: &mut Marks, notes: &mut Notes, corner: u32) -> Result<(), Memory>
     requires surface { IsSurface s.now }
     requires corner { corner < 3 * s.now.faces }
     requires stored { IsStored s.now marks.old notes.old }
@@ -183,7 +183,7 @@ fn run(s: &Surface, marks: &mut Marks, notes: &mut Notes, corner: u32) -> Result
 }
 
 /// A run round a face, which has no symbol.
-fn begin_inside(s: &Surface, marks: &mut Marks, notes: &mut Notes, face: u32) -> Result<(), Memory>
+fn begin_inside(s: &Surface<'_>, marks: &mut Marks, notes: &mut Notes, face: u32) -> Result<(), Memory>
     requires surface { IsSurface s.now }
     requires face { face < s.now.faces }
     requires stored { IsStored s.now marks.old notes.old }
@@ -203,7 +203,7 @@ fn begin_inside(s: &Surface, marks: &mut Marks, notes: &mut Notes, face: u32) ->
 }
 
 /// The run of a face.
-fn begin(s: &Surface, marks: &mut Marks, notes: &mut Notes, face: u32) -> Result<(), Memory>
+fn begin(s: &Surface<'_>, marks: &mut Marks, notes: &mut Notes, face: u32) -> Result<(), Memory>
     requires surface { IsSurface s.now }
     requires face { face < s.now.faces }
     requires stored { IsStored s.now marks.old notes.old }
@@ -222,7 +222,7 @@ fn begin(s: &Surface, marks: &mut Marks, notes: &mut Notes, face: u32) -> Result
 
 /// The run of a face, if it is unvisited.
 pub(crate) fn walk_from(
-    s: &Surface,
+    s: &Surface<'_>,
     marks: &mut Marks,
     notes: &mut Notes,
     face: u32,

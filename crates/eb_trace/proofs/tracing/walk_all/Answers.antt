@@ -8,8 +8,8 @@ use Rattle.eb_trace.proofs.tracing.walk_all.Goals as goal
 
 pub loop-face-init : goal.loop-face-init
 loop-face-init c = record {
-  stored = stored_nothing _ _ _ c.in_ok-marks.ensures.visited c.in_ok-marks.ensures.met c.in_ok-marks.ensures.splits c.no_notes-notes.ensures.walk c.no_notes-notes.ensures.kept;
-  walk = c.no_notes-notes.ensures.walk ∙ sym (walked_none _ _);
+  stored = stored_nothing _ _ _ c.in_ok-marks.ensures.visited c.in_ok-marks.ensures.met c.in_ok-marks.ensures.splits c.in_ok-notes.ensures.walk c.in_ok-notes.ensures.kept;
+  walk = c.in_ok-notes.ensures.walk ∙ sym (walked_none _ _);
 }
 
 pub walk_from-requires-clause-few : goal.walk_from-requires-clause-few

@@ -8,5 +8,5 @@ use Rattle.eb_trace.proofs.surface.Surface.across_of.Goals as goal
 
 pub returns-else-found-clause-within : goal.returns-else-found-clause-within
 returns-else-found-clause-within c =
-    found_within c.args.self.now.across.items c.requires.surface.gluing (side_at c.args.side) c.entry_at-found.result
-    (ap other_at (ap (λ (k : ℕ). get_or c.args.self.now.across.items k free_entry) (number-side_at c.args.side) ∙ sym c.entry_at-found.ensures) ∙ other_some c.entry_at-found.result c.if-found.false)
+    found_within c.args.self.now.across.now c.requires.surface.gluing (side_at c.args.side) c.entry_at-found.result
+    (ap other_at (ap (λ (k : ℕ). get_or c.args.self.now.across.now k free_entry) (number-side_at c.args.side) ∙ sym c.entry_at-found.ensures) ∙ other_some c.entry_at-found.result c.if-found.false)

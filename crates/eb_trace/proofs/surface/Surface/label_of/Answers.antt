@@ -1,5 +1,5 @@
 -- Labels are bounded.
-use Rattle.std.proofs.Common.{ℕ, get_or, ap, arith}
+use Rattle.std.proofs.Common.{ℕ, List, get_or, ap, arith}
 use Rattle.corner_table.specs.Sides.{side_at}
 use Rattle.corner_table.specs.Table.{free_entry}
 use Rattle.corner_table.proofs.Numbers.{number-side_at, face-lt}
@@ -10,4 +10,5 @@ returns-clause-within c =
     let b = c.requires.surface.labelled.bounded (side_at c.args.corner) (face-lt c.args.corner c.args.self.now.faces c.requires.corner) in
     let e = ap (λ (k : ℕ). get_or c.args.self.now.labels.items k free_entry) (number-side_at c.args.corner) in
     let r = c.entry_at.ensures in
+    let l = ap (λ (xs : List ℕ). get_or xs c.args.corner free_entry) c.as_slice.ensures.value in
     omega arith
