@@ -1,5 +1,5 @@
 -- Labelling one fan: a walk to the left and one to the right reach just the corners of the fan.
-use Rattle.std.proofs.Common.{◌≡◌, ◌≢◌, ℕ, ◌<◌, Bool, true, false, IsTrue, cond, List, length, get_or, set, Some, None, ◌⊎◌, inl, inr, sym, refl, ap, ◌∙◌, subst, arith, length-set, get_or-set_other, get_or-set_same, option_map, eqb, eqb-true, sum_by}
+use Rattle.std.proofs.Common.{◌≡◌, ◌≢◌, ℕ, ◌<◌, true, false, cond, List, length, get_or, set, Some, None, ◌⊎◌, inl, inr, sym, refl, ap, ◌∙◌, subst, arith, length-set, get_or-set_other, get_or-set_same, option_map, eqb, eqb-true, sum_by}
 use Rattle.std.proofs.lemmas.Bool.{cases_Bool, cond-false}
 use Rattle.std.proofs.lemmas.List.Sums.{sum_by-set}
 use Rattle.corner_table.specs.Sides.{Side, next, prev, number, side_at, Gluing, IsGluing}
@@ -10,7 +10,7 @@ use Rattle.corner_table.specs.Labelling.{GoesLeft, GoesRight, Marks, IsMarking, 
 use Rattle.corner_table.proofs.Places.{same_tells, Some_injective}
 use Rattle.corner_table.proofs.Numbers.{number_injective, number-side_at}
 use Rattle.corner_table.proofs.Walks.{left_then_right, right_then_left, fan_trans, fan_sym}
-use Rattle.corner_table.proofs.Boundary.{left-free, right-free}
+use Rattle.corner_table.proofs.Boundary.{left-free}
 
 -- one more label, read at its corner and elsewhere
 label_here : (l : List ℕ) (x : Side) (v : ℕ) → number x < length l → label_at (set l (number x) v) x ≡ v
