@@ -183,7 +183,12 @@ fn run(s: &Surface<'_>, marks: &mut Marks, notes: &mut Notes, corner: u32) -> Re
 }
 
 /// A run round a face, which has no symbol.
-fn begin_inside(s: &Surface<'_>, marks: &mut Marks, notes: &mut Notes, face: u32) -> Result<(), Memory>
+fn begin_inside(
+    s: &Surface<'_>,
+    marks: &mut Marks,
+    notes: &mut Notes,
+    face: u32,
+) -> Result<(), Memory>
     requires surface { IsSurface s.now }
     requires face { face < s.now.faces }
     requires stored { IsStored s.now marks.old notes.old }

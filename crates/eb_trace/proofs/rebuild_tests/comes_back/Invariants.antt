@@ -1,8 +1,5 @@
--- Each call counts in the ledger of its own blank.
+-- The call counts in the ledger of its blank.
 use Rattle.eb_trace.proofs.rebuild_tests.comes_back.Given as goal
 
 abbrev pub ghosts-rebuilt : goal.ghosts-rebuilt
 ghosts-rebuilt g a = record { name = a.blank.name; parts = a.blank.parts }
-
-abbrev pub ghosts-across_all : goal.ghosts-across_all
-ghosts-across_all g a = record { name = a.blank.name; parts = a.blank.parts }

@@ -1,5 +1,5 @@
 -- The rows of what was noted are the order of the walk.
-use Rattle.std.proofs.Common.{◌≡◌, ℕ, List, ◌++◌, map, reverse, ap, ◌∙◌}
+use Rattle.std.proofs.Common.{ℕ, List, ◌++◌, map, reverse, ap, ◌∙◌}
 use Rattle.eb_trace.specs.declared.notes.Entered.{Entered}
 use Rattle.eb_trace.specs.Stored.{row_of}
 use Rattle.eb_trace.proofs.Going.{rows_noted}
