@@ -10,6 +10,7 @@ use Rattle.drc_bits.proofs.Spelled.{Spells-then, Spells-must, Spells-byte, Spell
 use Rattle.std.specs.Str.{bytes_eq}
 use Rattle.mesh_model.specs.declared.geometries.Geometry.{Geometry}
 use Rattle.mesh_model.specs.declared.geometries.Geometry.TheVariants.{Mesh, Cloud}
+use Rattle.mesh_model.specs.Contents.{heads_in, points_in}
 use Rattle.attr_section.specs.declared.decoder_heads.DecoderHead.{DecoderHead}
 use Rattle.attr_section.specs.declared.values.Values.{Values}
 use Rattle.attr_section.specs.Heads.{heads_at, heads_bytes, bare_decoder, AreLinked}
@@ -19,7 +20,6 @@ use Rattle.drc_container.specs.declared.headers.Form.{Form}
 use Rattle.drc_container.specs.declared.headers.Form.TheVariants as form
 use Rattle.drc_container.specs.declared.attributes.Attributes.{Attributes}
 use Rattle.drc_container.specs.Header.{magic, magic_at, minor_of, form_said, header_at}
-use Rattle.drc_container.specs.Contents.{heads_in, points_in}
 use Rattle.drc_container.specs.Stream.{attributes_at, decoders_at}
 use Rattle.drc_container.specs.Written.{geometry_type, header_bytes, attribute_heads_bytes, attributes_bytes, decoder_of, values_of}
 use Rattle.drc_container.specs.Encoded.{AttributesSpelled, attributes_again}

@@ -11,11 +11,11 @@ use Rattle.mesh_model.specs.declared.geometries.Geometry.{Geometry}
 use Rattle.mesh_model.specs.Head.{has_type, has_minima, has_bits}
 use Rattle.mesh_model.specs.Parts.{ArePoints}
 use Rattle.mesh_model.specs.Renumbering.{plain}
+use Rattle.mesh_model.specs.Contents.{heads_in, points_in}
 use Rattle.mesh_model.proofs.Passing.{HeadSays, heads_say}
 use Rattle.attr_section.specs.Heads.{is_type, attributes_of, HeadPasses, DecoderPasses, DecodersPass}
 use Rattle.attr_section.specs.Written.{HasQuant, DecoderValuesPass}
 use Rattle.drc_container.specs.declared.choices.Choice.{Choice}
-use Rattle.drc_container.specs.Contents.{heads_in, points_in}
 use Rattle.drc_container.specs.Choice.{prediction_of}
 use Rattle.drc_container.specs.Written.{decoder_of, values_of}
 use Rattle.drc_container.specs.Encoded.{CanCode}

@@ -16,6 +16,7 @@ use Rattle.mesh_model.specs.declared.geometries.Geometry.TheVariants.{Mesh, Clou
 use Rattle.mesh_model.specs.Head.{width_of, types_of as column_dtypes, has_type}
 use Rattle.mesh_model.specs.Parts.{RowFits, ArePoints, IsFaceOf}
 use Rattle.mesh_model.proofs.Columns.{width_of-bounds}
+use Rattle.mesh_model.specs.Contents.{heads_in}
 use Rattle.mesh_model.specs.IsGeometry.{IsGeometry}
 use Rattle.mesh_model.proofs.Passing.{HeadSays, HeadsSay, heads_say}
 use Rattle.ply_text.specs.declared.headers.Header.{Header}
@@ -25,7 +26,7 @@ use Rattle.ply_text.specs.Words.{keyword_of}
 use Rattle.ply_text.specs.Declarations.{is_magic, is_format}
 use Rattle.ply_text.specs.Draft.{Draft, PropertyParts, statement, body}
 use Rattle.ply_text.specs.Header.{column_type, column_types, is_typed, types_of, is_whole, heads_of, agrees, header_by, header_at, is_end, header_from, no_draft, header_of_lines, header_of}
-use Rattle.ply_mesh.specs.Fields.{HasFields, heads_in}
+use Rattle.ply_mesh.specs.Fields.{HasFields}
 use Rattle.ply_mesh.specs.Body.{row_of, face_of, items_from}
 use Rattle.ply_mesh.specs.Read.{quant_of, head_of, body_of, ply_read}
 use Rattle.ply_mesh.specs.Text.{head_lines, is_named, property_lines, element_line, faces_header, point_lines, face_line, face_lines, ply_text, text_of}
