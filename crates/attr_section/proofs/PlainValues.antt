@@ -3,8 +3,9 @@ use Rattle.std.proofs.Common.{◌≡◌, ℕ, suc, ◌+◌, ◌-◌, ◌*◌, �
 use Rattle.std.proofs.Math.Nat.{mul-suc, suc-mul}
 use Rattle.std.proofs.lemmas.Grind.{flat_map-append}
 use Rattle.std.proofs.lemmas.List.{length-drop, take_more}
+use Rattle.drc_base.specs.Steps.{◌>>=◌}
 use Rattle.drc_bits.specs.Bits.{low_bytes}
-use Rattle.drc_bits.specs.Reading.{◌>>=◌, Reading, Item, advanced, many_at}
+use Rattle.drc_bits.specs.Reading.{Reading, Item, advanced, many_at}
 use Rattle.drc_bits.specs.Numbers.{number_at, little_endian}
 use Rattle.drc_bits.proofs.Advancing.{advanced-advanced}
 use Rattle.drc_bits.proofs.Many.{with_front, many_at-next, many_at-end}

@@ -2,7 +2,8 @@
 use Rattle.std.proofs.Common.{◌≡◌, ℕ, ◌+◌, List, [], ◌∷◌, ◌++◌, map, length, Ok, refl, sym, ◌∙◌, ap, arith, append-nil, length-append}
 use Rattle.std.specs.Prelude.{ℤ, Bool}
 use Rattle.std.specs.List.{All}
-use Rattle.drc_bits.specs.Reading.{◌>>=◌, Reading}
+use Rattle.drc_base.specs.Steps.{◌>>=◌}
+use Rattle.drc_bits.specs.Reading.{Reading}
 use Rattle.mesh_model.specs.declared.heads.Head.{Head}
 use Rattle.mesh_model.specs.declared.geometries.Geometry.{Geometry}
 use Rattle.mesh_model.specs.declared.geometries.Geometry.TheVariants.{Mesh, Cloud}

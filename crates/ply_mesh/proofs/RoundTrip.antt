@@ -9,6 +9,7 @@ use Rattle.std.proofs.lemmas.List.{length-append, length-map, drop_at, map-appen
 use Rattle.std.proofs.lemmas.List.Elements.{recursion_from_All}
 use Rattle.drc_base.specs.declared.faults.Fault.{Fault}
 use Rattle.drc_base.specs.declared.limits.TheConstants.{MAX_POINTS, MAX_FACES, MAX_VALUES, MAX_ATTRIBUTES}
+use Rattle.drc_base.specs.Steps.{◌>>=◌}
 use Rattle.mesh_model.specs.declared.heads.Head.{Head}
 use Rattle.mesh_model.specs.declared.heads.Quant.{Quant}
 use Rattle.mesh_model.specs.declared.geometries.Geometry.{Geometry}
@@ -20,7 +21,6 @@ use Rattle.mesh_model.specs.Contents.{heads_in}
 use Rattle.mesh_model.specs.IsGeometry.{IsGeometry}
 use Rattle.mesh_model.proofs.Passing.{HeadSays, HeadsSay, heads_say}
 use Rattle.ply_text.specs.declared.headers.Header.{Header}
-use Rattle.ply_text.specs.Faults.{◌>>=◌}
 use Rattle.ply_text.specs.Tokens.{token_lines}
 use Rattle.ply_text.specs.Words.{keyword_of}
 use Rattle.ply_text.specs.Declarations.{is_magic, is_format}

@@ -1,6 +1,7 @@
 -- Faces of indices that were read one after another.
 use Rattle.std.proofs.Common.{◌≡◌, ℕ, ◌+◌, List, [], ◌∷◌, drop, Ok, ◌∙◌, ap}
-use Rattle.drc_bits.specs.Reading.{◌>>=◌, Reading, Item, advanced}
+use Rattle.drc_base.specs.Steps.{◌>>=◌}
+use Rattle.drc_bits.specs.Reading.{Reading, Item, advanced}
 use Rattle.drc_bits.proofs.Advancing.{advanced-advanced}
 use Rattle.seq_section.specs.Indices.{index_at, face_at}
 
