@@ -2,10 +2,10 @@
 use Rattle.std.proofs.Common.{◌≡◌, ◌≢◌, ℕ, zero, suc, ◌<◌, ◌≤◌, ◌↔◌, nat_lt, Some, None, ◌⊎◌, inl, inr, sym, refl, ap, ◌∙◌, subst, arith}
 use Rattle.std.proofs.lemmas.Bool.{cases_lt, cases_eq, cond-true, cond-false, lt-ltb, le-ltb}
 use Rattle.corner_table.specs.Sides.{Side, Place, first, second, third, next, prev, Gluing, IsGluing}
-use Rattle.corner_table.specs.Fans.{swing_left, InFan, here, leftwards}
+use Rattle.corner_table.specs.Fans.{swing_left, InFan, here, leftwards, left_by}
 use Rattle.corner_table.specs.Prefixes.{kept_below, prefix, LeadsBelow, to_end, over, IsSurrounded, IsGap}
 use Rattle.corner_table.proofs.Places.{option_tells, Some_injective, next-prev, prev-next}
-use Rattle.corner_table.proofs.Walks.{left_by, left_by-zero, left_split, left_crosses, crosses-left, to_leftmost}
+use Rattle.corner_table.proofs.Walks.{left_by-zero, left_split, left_crosses, crosses-left, to_leftmost}
 use Rattle.corner_table.proofs.Boundary.{free-left}
 
 -- a pair of the prefix is a pair of faces below m
