@@ -4,10 +4,10 @@ use Rattle.corner_table.specs.Sides.{IsFree}
 use Rattle.corner_table.specs.Carried.{carry}
 use Rattle.corner_table.proofs.Places.{option_tells}
 use Rattle.corner_table.specs.Fans.{left_by, InFan}
-use Rattle.corner_table.specs.Laws.{SwingsAreInverse, FansAreClasses, FanIsOneWalk, WalksEnd, GluingStays, FansStay, EndsMeet, SurroundedFillsGap, GapIsSurrounded, OneFaceMore, GluingIsCarried, FansAreCarried, FreeIsCarried, BoundaryIsCarried, ThreeFansAreCarried, ProperIsCarried, TestFindsFan, TestFindsNoOther}
+use Rattle.corner_table.specs.Laws.{SwingsAreInverse, FansAreClasses, FanIsOneWalk, WalksEnd, GluingStays, FansStay, EndsMeet, PrefixIsGluing, SurroundedFillsGap, GapIsSurrounded, GapIsOneStep, OneFaceMore, GluingIsCarried, FansAreCarried, FreeIsCarried, BoundaryIsCarried, ThreeFansAreCarried, ProperIsCarried, TestFindsFan, TestFindsNoOther}
 use Rattle.corner_table.proofs.Walks.{left_then_right, right_then_left, fan_sym, fan_trans, trail, to_leftmost, to_rightmost, left_by-fan}
 use Rattle.corner_table.proofs.Gluings.{glued_is, fan_stays, ends_join, starts_join}
-use Rattle.corner_table.proofs.Prefixing.{gap, no_gap, prefix_more}
+use Rattle.corner_table.proofs.Prefixing.{prefix_within, gap, gap_before, no_gap, prefix_more}
 use Rattle.corner_table.proofs.Carrying.{carried_gluing, fans_carried, free_carried, after_carried, before_carried, three_fans_carried, proper_carried}
 use Rattle.corner_table.proofs.Meeting.{fan_meets, meets-fan}
 
@@ -40,6 +40,12 @@ surrounded_fills_gap faces g m c G h s = gap m c G h s
 
 pub gap_is_surrounded : GapIsSurrounded
 gap_is_surrounded faces g m c right left G h r l k p = no_gap m c right left G h r l k p
+
+pub gap_is_one_step : GapIsOneStep
+gap_is_one_step faces g m c right left G I = gap_before G m c right left I
+
+pub prefix_is_gluing : PrefixIsGluing
+prefix_is_gluing faces g m G = prefix_within m G
 
 pub one_face_more : OneFaceMore
 one_face_more faces g m G x y = prefix_more m G x y

@@ -82,6 +82,14 @@ abbrev pub GapIsSurrounded : Type 0
 GapIsSurrounded = (faces : ℕ) (g : Gluing) (m : ℕ) (c right left : Side) → IsGluing faces g → m ≤ c.face →
     g (next c) ≡ Some right → g (prev c) ≡ Some left → right.face < m → InFan (prefix m g) (next right) (prev left) → IsSurrounded g m c
 
+-- round the boundary of the faces below m, the second side of a gap comes before the first
+abbrev pub GapIsOneStep : Type 0
+GapIsOneStep = (faces : ℕ) (g : Gluing) (m : ℕ) (c right left : Side) → IsGluing faces g → IsGap g m c right left → left ≡ side_before m (prefix m g) right
+
+-- the pairs among the faces below m are a gluing of these faces
+abbrev pub PrefixIsGluing : Type 0
+PrefixIsGluing = (faces : ℕ) (g : Gluing) (m : ℕ) → IsGluing faces g → IsGluing m (prefix m g)
+
 -- a pair of face m and a face below it
 abbrev pub IsPairOf : ℕ → Gluing → Side → Side → Type 0
 IsPairOf m g x y = (g x ≡ Some y) × (((x.face ≡ m) × (y.face < m)) ⊎ ((y.face ≡ m) × (x.face < m)))

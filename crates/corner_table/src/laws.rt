@@ -2,7 +2,7 @@
 
 ghost use Rattle.corner_table.specs.Laws.{SwingsAreInverse, FansAreClasses, FanIsOneWalk, WalksEnd, FanIsClosedOrOpen, StartsOnce, EndsOnce};
 ghost use Rattle.corner_table.specs.Laws.{GluingStays, FansStay, EndsMeet, FansJoin, NoOthersJoin};
-ghost use Rattle.corner_table.specs.Laws.{SurroundedFillsGap, GapIsSurrounded, OneFaceMore};
+ghost use Rattle.corner_table.specs.Laws.{PrefixIsGluing, SurroundedFillsGap, GapIsSurrounded, GapIsOneStep, OneFaceMore};
 ghost use Rattle.corner_table.specs.Laws.{GluingIsCarried, FansAreCarried, FreeIsCarried, BoundaryIsCarried, ThreeFansAreCarried, ProperIsCarried};
 ghost use Rattle.corner_table.specs.Laws.{OneFollows, OneComesBefore, LinksAreInverse, NewFaceIsLoop, OthersStay, GluingTakesOut, NewLoopIsLinked, TakenOutIsLinked};
 ghost use Rattle.corner_table.specs.Laws.{TestFindsFan, TestFindsNoOther};
@@ -43,12 +43,15 @@ pub fn gluing_joins_fans()
     ensures only { NoOthersJoin }
 {}
 
-/// Among the faces below a number: a corner of a later face that they surround fills a gap between two of
-/// their free sides, one of which starts where the other ends; a corner between two such sides is
-/// surrounded; and one face more adds just its own pairs with the faces below it. This is the contract of
-/// a call that does nothing.
+/// The faces below a number, with the pairs among them, are a surface of their own. A corner of a later
+/// face that they surround fills a gap between two of their free sides, one of which starts where the
+/// other ends, and so comes after it round their boundary; a corner between two such sides is surrounded;
+/// and one face more adds just its own pairs with the faces below it. This is the contract of a call that
+/// does nothing.
 pub fn prefixes_have_gaps()
+    ensures gluing { PrefixIsGluing }
     ensures gap { SurroundedFillsGap }
+    ensures boundary { GapIsOneStep }
     ensures surrounded { GapIsSurrounded }
     ensures more { OneFaceMore }
 {}
