@@ -45,7 +45,8 @@ impl SideTable {
     ghost use Rattle.corner_table.specs.Table.{side_of, gluing_of, room_of, IsFreeIn};
     ghost use Rattle.corner_table.specs.Carried.{IsRenumbering, IsCarried};
 
-    /// A table without faces, and room for `faces` of them: three numbers for each of their sides.
+    /// A table without faces, and room for `faces` of them, which is three lists of a number for each
+    /// of their sides.
     /// Refused for want of memory alone.
     pub fn with_room(alloc: Global, faces: u32) -> Result<SideTable, Memory>
         requires { faces ≤ most_faces }
