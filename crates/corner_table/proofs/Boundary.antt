@@ -1,10 +1,10 @@
 -- The boundary: from each free side one free side follows, and one comes before it.
 use Rattle.std.proofs.Common.{◌≡◌, ℕ, zero, suc, ◌*◌, ◌<◌, ◌≤◌, Option, Some, None, ◌⊎◌, inl, inr, sym, refl, ap, ◌∙◌, subst, arith, option_map}
 use Rattle.corner_table.specs.Sides.{Side, next, prev, number, Gluing, IsGluing, IsFree}
-use Rattle.corner_table.specs.Fans.{swing_left, swing_right, InFan, leftmost, rightmost, side_before, side_after, Follows}
+use Rattle.corner_table.specs.Fans.{swing_left, swing_right, InFan, leftmost, rightmost, side_before, side_after, Follows, left_by, right_by}
 use Rattle.corner_table.proofs.Places.{option_tells, next-prev, prev-next, next_injective, prev_injective}
 use Rattle.corner_table.proofs.Numbers.{number-lt, number_injective, no_room}
-use Rattle.corner_table.proofs.Walks.{left_by, right_by, left_by-zero, right_by-zero, left_none, right_none, left_more, right_more, left_split, right_split, left_back, right_back, left_by-fan, right_by-fan, right_count, left_count, left-within, right-within, ends_once, starts_once, fan_sym, fan_trans}
+use Rattle.corner_table.proofs.Walks.{left_by-zero, right_by-zero, left_none, right_none, left_more, right_more, left_split, right_split, left_back, right_back, left_by-fan, right_by-fan, right_count, left_count, left-within, right-within, ends_once, starts_once, fan_sym, fan_trans}
 
 leftmost-none : (g : Gluing) (n : ℕ) (c : Side) → swing_left g c ≡ None → leftmost g (suc n) c ≡ c
 unfolding leftmost

@@ -12,3 +12,7 @@ pub mod Meeting
 pub mod Carrying
 pub mod CarriedLists
 pub mod Prefixing
+pub mod Ends
+pub mod Joining
+pub mod BoundaryLaws
+pub mod FanLaws

@@ -2,10 +2,10 @@
 use Rattle.std.proofs.Common.{◌≡◌, ℕ, zero, suc, ◌+◌, ◌*◌, ◌<◌, ◌≤◌, Bool, true, false, cond, ◌||◌, Option, Some, None, ◌⊎◌, inl, inr, sym, refl, ap, ◌∙◌, subst, arith}
 use Rattle.std.proofs.lemmas.Bool.{cases_Bool, cases_eq, cases_lt, cases_order, or_cases}
 use Rattle.corner_table.specs.Sides.{Side, number, same, Gluing, IsGluing}
-use Rattle.corner_table.specs.Fans.{swing_left, swing_right, InFan, here, leftwards, rightwards, walks_left, walks_right, meets}
+use Rattle.corner_table.specs.Fans.{swing_left, swing_right, InFan, here, leftwards, rightwards, walks_left, walks_right, meets, left_by, right_by}
 use Rattle.corner_table.proofs.Places.{option_tells, Some_injective, same-true, same_refl}
 use Rattle.corner_table.proofs.Numbers.{number-lt, number_injective, no_room}
-use Rattle.corner_table.proofs.Walks.{left_by, right_by, left_by-zero, left_none, left_more, left_split, left_last, left_back, right_split, right_by-zero, left_then_right, Trail, trail}
+use Rattle.corner_table.proofs.Walks.{left_by-zero, left_none, left_more, left_split, left_last, left_back, right_split, right_by-zero, left_then_right, Trail, trail}
 use Rattle.corner_table.proofs.Boundary.{left_by-within, left_passed}
 
 walks_left-none : (g : Gluing) (n : ℕ) (c d : Side) → swing_left g c ≡ None → walks_left g (suc n) c d ≡ cond (same c d) true false

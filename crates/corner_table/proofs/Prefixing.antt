@@ -3,10 +3,10 @@ use Rattle.std.proofs.Common.{◌≡◌, ◌≢◌, ℕ, zero, suc, ◌<◌, ◌
 use mathlib.Core.Path.{fun_ext}
 use Rattle.std.proofs.lemmas.Bool.{cases_lt, cases_eq, cond-true, cond-false, lt-ltb, le-ltb}
 use Rattle.corner_table.specs.Sides.{Side, Place, first, second, third, next, prev, Gluing, unglued, IsGluing, IsFree}
-use Rattle.corner_table.specs.Fans.{side_before, swing_left, InFan, here, leftwards}
+use Rattle.corner_table.specs.Fans.{side_before, swing_left, InFan, here, leftwards, left_by}
 use Rattle.corner_table.specs.Prefixes.{kept_below, prefix, LeadsBelow, to_end, over, IsSurrounded, IsGap}
 use Rattle.corner_table.proofs.Places.{option_tells, Some_injective, next-prev, prev-next}
-use Rattle.corner_table.proofs.Walks.{left_by, left_by-zero, left_split, left_crosses, crosses-left, to_leftmost, fan_sym}
+use Rattle.corner_table.proofs.Walks.{left_by-zero, left_split, left_crosses, crosses-left, to_leftmost, fan_sym}
 use Rattle.corner_table.proofs.Boundary.{free-left, side_before_only}
 
 -- a pair of the prefix is a pair of faces below m

@@ -41,10 +41,10 @@ new_side {faces} G k = record { within = omega arith; free = new_free G (side fa
 new_follows : {faces : ℕ} {g : Gluing} → IsGluing faces g → (j k : Place) → prev (side faces j) ≡ next (side faces k) → Follows (suc faces) g (side faces j) (side faces k)
 new_follows {faces} {g} G j k e = record { free = new_side G k; meets = subst (InFan g (prev (side faces j))) e here }
 
-new_after : {faces : ℕ} {g : Gluing} → IsGluing faces g → (j k : Place) → prev (side faces j) ≡ next (side faces k) → side_after (suc faces) g (side faces j) ≡ side faces k
+pub new_after : {faces : ℕ} {g : Gluing} → IsGluing faces g → (j k : Place) → prev (side faces j) ≡ next (side faces k) → side_after (suc faces) g (side faces j) ≡ side faces k
 new_after {faces} {g} G j k e = sym (side_after_only (more_faces (suc faces) (omega arith) G) (side faces j) (side faces k) (new_side G j) (new_follows G j k e))
 
-new_before : {faces : ℕ} {g : Gluing} → IsGluing faces g → (j k : Place) → prev (side faces j) ≡ next (side faces k) → side_before (suc faces) g (side faces k) ≡ side faces j
+pub new_before : {faces : ℕ} {g : Gluing} → IsGluing faces g → (j k : Place) → prev (side faces j) ≡ next (side faces k) → side_before (suc faces) g (side faces k) ≡ side faces j
 new_before {faces} {g} G j k e = sym (side_before_only (more_faces (suc faces) (omega arith) G) (side faces j) (side faces k) (new_side G j) (new_follows G j k e))
 
 of_face : (x : Side) (f : ℕ) (k : Place) → x.face ≡ f → x.place ≡ k → x ≡ side f k

@@ -1,7 +1,7 @@
 -- Walks round a vertex: swings are inverse, and a fan is one walk.
-use Rattle.std.proofs.Common.{◌≡◌, ℕ, zero, suc, ◌<◌, Option, Some, None, ◌⊎◌, inl, inr, sym, refl, ap, ◌∙◌, subst, option_map}
+use Rattle.std.proofs.Common.{◌≡◌, ℕ, zero, suc, ◌<◌, Some, None, ◌⊎◌, inl, inr, sym, refl, ap, ◌∙◌, subst, option_map}
 use Rattle.corner_table.specs.Sides.{Side, next, prev, Gluing, IsGluing}
-use Rattle.corner_table.specs.Fans.{swing_left, swing_right, InFan, here, leftwards, rightwards}
+use Rattle.corner_table.specs.Fans.{swing_left, swing_right, InFan, here, leftwards, rightwards, left_by, right_by}
 use Rattle.corner_table.proofs.Places.{option_tells, Some_injective, next-prev, prev-next}
 
 -- a swing to the left crosses the pair of the side after c and the side before d
@@ -53,16 +53,6 @@ pub fan_sym : {g : Gluing} {c d : Side} → {faces : ℕ} → IsGluing faces g �
 fan_sym G here = here
 fan_sym G (leftwards {c = c} {d = d} s p) = fan_trans (fan_sym G p) (rightwards (left_then_right G c d s) here)
 fan_sym G (rightwards {c = c} {d = d} s p) = fan_trans (fan_sym G p) (leftwards (right_then_left G c d s) here)
-
--- the corner n swings to the left of c
-unfoldable pub left_by : Gluing → ℕ → Side → Option Side
-left_by g zero c = Some c
-left_by g (suc n) c = elim (swing_left g c) [ None ↦ None | Some d ↦ left_by g n d ]
-
--- the corner n swings to the right of c
-unfoldable pub right_by : Gluing → ℕ → Side → Option Side
-right_by g zero c = Some c
-right_by g (suc n) c = elim (swing_right g c) [ None ↦ None | Some d ↦ right_by g n d ]
 
 pub left_by-zero : (g : Gluing) (c d : Side) → left_by g zero c ≡ Some d → c ≡ d
 unfolding left_by

@@ -1,4 +1,4 @@
--- A surface under new numbers of its faces, each face turned.
+-- A surface under new numbers of its faces, each face turned (this project's own definition).
 use Rattle.std.specs.Prelude.{◌≡◌, ℕ, zero, suc, ◌<◌, ◌↔◌, List, length, get_or, Some}
 use Rattle.corner_table.specs.Sides.{Side, Place, side, place_after, Gluing}
 

@@ -1,4 +1,5 @@
--- The corners that meet at one vertex: fans, their ends, and the boundary from one free side to the next.
+-- The corners that meet at one vertex: fans, their ends, and the boundary from one free side to the next (swings on a corner table,
+-- after Rossignac 1999).
 use Rattle.std.specs.Prelude.{◌≡◌, ℕ, zero, suc, ◌*◌, ◌<◌, ◌⊎◌, Bool, true, false, ◌||◌, cond, List, [], ◌∷◌, ◌++◌, Option, Some, None, option_map}
 use Rattle.corner_table.specs.Sides.{Side, first, second, third, side, next, prev, same, Gluing, IsGluing, IsFree}
 
@@ -9,6 +10,16 @@ swing_left g c = option_map next (g (next c))
 -- the next corner to the right: across the side before c, the corner before the one found there
 abbrev pub swing_right : Gluing → Side → Option Side
 swing_right g c = option_map prev (g (prev c))
+
+-- the corner n swings to the left of c
+unfoldable pub left_by : Gluing → ℕ → Side → Option Side
+left_by g zero c = Some c
+left_by g (suc n) c = elim (swing_left g c) [ None ↦ None | Some d ↦ left_by g n d ]
+
+-- the corner n swings to the right of c
+unfoldable pub right_by : Gluing → ℕ → Side → Option Side
+right_by g zero c = Some c
+right_by g (suc n) c = elim (swing_right g c) [ None ↦ None | Some d ↦ right_by g n d ]
 
 -- two corners lie in one fan: a chain of swings leads from one to the other
 pub data InFan (g : Gluing) : Side → Side → Type 0 where

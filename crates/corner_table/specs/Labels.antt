@@ -1,4 +1,4 @@
--- Vertices of a finished surface: a number for each fan.
+-- Vertices of a finished surface: a number for each fan (that they go by least corners is this project's own choice).
 use Rattle.std.specs.Prelude.{◌≡◌, ℕ, ◌*◌, ◌<◌, ◌↔◌, Bool, false, IsTrue, List, length, get_or}
 use Rattle.corner_table.specs.Sides.{Side, number, Gluing}
 use Rattle.corner_table.specs.Fans.{InFan, MeetsBoundary}

@@ -7,3 +7,4 @@ pub mod Links
 pub mod Table
 pub mod Labels
 pub mod Labelling
+pub mod Laws

@@ -1,4 +1,5 @@
--- The boundary kept as links: for each free side the one that follows it and the one before it.
+-- The boundary kept as links: for each free side the one that follows it and the one before it (loops of sides that are linked forth
+-- and back, after Rossignac 1999).
 use Rattle.std.specs.Prelude.{◌≡◌, ℕ, cond, eqb, List, get_or, set}
 use Rattle.corner_table.specs.Sides.{Side, side, first, second, third, number, Gluing, IsFree}
 use Rattle.corner_table.specs.Fans.{side_before, side_after}
@@ -7,6 +8,9 @@ use Rattle.corner_table.specs.Fans.{side_before, side_after}
 pub record IsLinked (faces : ℕ) (g : Gluing) (after before : List ℕ) : Type 0 where
   pub after_is : (x : Side) → IsFree faces g x → get_or after (number x) 0 ≡ number (side_after faces g x)
   pub before_is : (x : Side) → IsFree faces g x → get_or before (number x) 0 ≡ number (side_before faces g x)
+
+-- From here on the code's own words: what a new face and a gluing write into the two lists. That the links stay
+-- those of the boundary (`IsLinked`) is a part of the law `links_are_a_permutation`.
 
 -- side number y follows side number x from now on
 abbrev pub joined : ℕ → ℕ → List ℕ × List ℕ → List ℕ × List ℕ

@@ -1,4 +1,5 @@
--- The faces below a number, with the pairs among them: what is built so far where faces come in order.
+-- The faces below a number, with the pairs among them: what is built so far where faces come in order, as in reverse decoding (Isenburg
+-- and Snoeyink 2001). The words for it are this project's own.
 use Rattle.std.specs.Prelude.{◌≡◌, ◌≢◌, ℕ, ◌<◌, cond, nat_lt, Option, Some, None}
 use Rattle.corner_table.specs.Sides.{Side, next, prev, Gluing}
 use Rattle.corner_table.specs.Fans.{swing_left, InFan}

@@ -1,4 +1,5 @@
--- What a table of sides holds: for each side the number of the side that it is glued to.
+-- What a table of sides holds: for each side the number of the side that it is glued to (a corner table, after Rossignac 1999; the
+-- entry of a free side is this project's own choice).
 use Rattle.std.specs.Prelude.{◌≡◌, ℕ, ◌*◌, ◌/◌, ◌≤◌, cond, eqb, List, length, get_or, Option, Some, None}
 use Rattle.drc_base.specs.declared.sides.Side.{Side as NumberedSide}
 use Rattle.drc_base.specs.declared.limits.TheConstants.{MAX_FACES}

@@ -86,8 +86,10 @@ fn label_fan(table: &SideTable, labels: &mut Vec<u32>, start: u32, label: u32) -
 }
 
 impl SideTable {
-    /// Labels the vertices: a class for each fan, numbered by the fans' least corners, and of each
-    /// class whether a free side meets it.
+    /// Labels the vertices: a class for each fan, and of each class whether a free side meets it. Classes
+    /// are numbered from 0 in the order of their fans' least corners, which is this project's own choice.
+    /// Takes memory for a number for each corner and a mark for each class, and is refused for want of it
+    /// alone.
     pub fn label_vertices(&self, alloc: Global) -> Result<Classes, Memory>
         ensures { IfOk result (λ c. IsLabelled self.now.faces (gluing_of self.now) c.of_corner c.count c.ends) }
     {

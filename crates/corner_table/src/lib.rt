@@ -6,6 +6,7 @@
 mod corner_lists;
 mod entries;
 mod labels;
+mod laws;
 mod renumbering;
 mod side_numbers;
 mod side_table;
@@ -15,6 +16,10 @@ mod symbols;
 mod tests;
 
 pub use corner_lists::{Classes, Order};
+pub use laws::{
+    a_fan_is_one_walk, fans_end_once, gluing_joins_fans, links_are_a_permutation,
+    meeting_is_one_fan, prefixes_have_gaps, renumbering_keeps_fans, swings_are_inverse,
+};
 pub use side_numbers::{next_number, number_of, previous_number, side_with};
 pub use side_table::SideTable;
 pub use steps::Steps;

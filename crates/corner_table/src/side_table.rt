@@ -45,7 +45,9 @@ impl SideTable {
     ghost use Rattle.corner_table.specs.Table.{side_of, gluing_of, room_of, IsFreeIn};
     ghost use Rattle.corner_table.specs.Carried.{IsRenumbering, IsCarried};
 
-    /// A table without faces, and room for `faces` of them.
+    /// A table without faces, and room for `faces` of them, which is three lists of a number for each
+    /// of their sides.
+    /// Refused for want of memory alone.
     pub fn with_room(alloc: Global, faces: u32) -> Result<SideTable, Memory>
         requires { faces ≤ most_faces }
         ensures none { IfOk result (λ t. t.faces ≡ 0) }
@@ -155,8 +157,8 @@ impl SideTable {
         }
     }
 
-    /// The free side that starts at the vertex where the free side `s` ends, and at no other fan of
-    /// it: the one that follows round the boundary.
+    /// The one free side that starts at the fan where the free side `s` ends: the one that follows it
+    /// round the boundary.
     pub fn next_open<L: Ledger>(&self, s: Side, steps: &mut Steps<L>) -> Side
         requires { IsFreeIn self.now (side_of s) }
         ensures next { side_of result ≡ side_after self.now.faces (gluing_of self.now) (side_of s) }
@@ -169,7 +171,7 @@ impl SideTable {
         side_with(entry_at(&self.after, number_of(s)))
     }
 
-    /// The free side that ends at the vertex where the free side `s` starts: the one before it round
+    /// The one free side that ends at the fan where the free side `s` starts: the one before it round
     /// the boundary.
     pub fn prev_open<L: Ledger>(&self, s: Side, steps: &mut Steps<L>) -> Side
         requires { IsFreeIn self.now (side_of s) }
@@ -186,10 +188,12 @@ impl SideTable {
 
     /// The same surface under new numbers: row i says which face the new face i is, and by how much it
     /// is turned, so that its corner k is corner k + turn, modulo 3, of that face. Its pairs are those
-    /// of this table, renumbered, and no others. Refused for want of memory alone.
+    /// of this table, renumbered, and no others. It has room for just these faces. Three lists of a number
+    /// for each side are made for it, and one more while it is made. Refused for want of memory alone.
     pub fn renumbered(&self, alloc: Global, rows: &[(u32, u8)]) -> Result<SideTable, Memory>
         requires { IsRenumbering self.now.faces rows.now }
         ensures faces { IfOk result (λ t. t.faces ≡ self.now.faces) }
+        ensures room { IfOk result (λ t. room_of t ≡ self.now.faces) }
         ensures carried { IfOk result (λ t. IsCarried self.now.faces (gluing_of self.now) rows.now (gluing_of t)) }
     {
         let faces = self.face_count();

@@ -133,6 +133,12 @@ fn labels_and_follows(rt: HostRuntime) {
     assert!(&rt; closed.0.ends.as_slice() == [false; 4].as_slice());
     let round = told::<Brand>(&rt, rt.alloc(), 14, &torus, &[0], Blank::new(1));
     assert_eq!(&rt; round.0.count, 7);
+    let vertices = [
+        0, 1, 2, 0, 3, 4, 3, 2, 4, 2, 1, 4, 4, 1, 5, 1, 3, 5, 3, 0, 5, 0, 2, 5, 5, 2, 6, 2, 3, 6,
+        3, 1, 6, 1, 0, 6, 0, 4, 6, 5, 6, 4,
+    ];
+    assert!(&rt; round.0.of_corner.as_slice() == vertices.as_slice());
+    assert!(&rt; round.0.ends.as_slice() == [false; 7].as_slice());
     let holed = told::<Brand>(
         &rt,
         rt.alloc(),
@@ -149,6 +155,8 @@ fn labels_and_follows(rt: HostRuntime) {
     // Two mirrored faces are never joined: each is its own loop of three.
     let apart = told::<Brand>(&rt, rt.alloc(), 2, &[], &[0, 1, 2, 5], Blank::new(1));
     assert_eq!(&rt; apart.0.count, 6);
+    assert!(&rt; apart.0.of_corner.as_slice() == [0, 1, 2, 3, 4, 5].as_slice());
+    assert!(&rt; apart.0.ends.as_slice() == [true; 6].as_slice());
     assert!(&rt; apart.1.as_slice() == [1, 2, 0, 3].as_slice());
     // Three faces glued until one side is left, which is alone in its loop.
     let lone = told::<Brand>(
@@ -174,7 +182,7 @@ fn labels_and_follows(rt: HostRuntime) {
 }
 
 #[test]
-fn follows_holes_and_parts(rt: HostRuntime) {
+fn follows_holes_and_cut_vertices(rt: HostRuntime) {
     // Twelve faces round a hole of six sides: two faces for each of them, the second one at the hole.
     let ring = [
         (1, 5),
@@ -194,12 +202,32 @@ fn follows_holes_and_parts(rt: HostRuntime) {
     let holed = told::<Brand>(&rt, rt.alloc(), 12, &ring, &sides, Blank::new(1));
     assert!(&rt; holed.1.as_slice() == [34, 4, 10, 16, 22, 28, 6, 12, 0].as_slice());
     assert_eq!(&rt; holed.0.count, 12);
-    // Three parts of two faces, whatever points they share: three fans, each with its own free sides.
-    let parts = [(0, 5), (6, 11), (12, 17)];
-    let sides = [1, 2, 3, 4, 7, 10, 13, 16];
-    let cut = told::<Brand>(&rt, rt.alloc(), 6, &parts, &sides, Blank::new(1));
-    assert!(&rt; cut.1.as_slice() == [2, 3, 4, 1, 8, 7, 14, 13].as_slice());
-    assert_eq!(&rt; cut.0.count, 12);
+    // Three faces on one edge: two of them are glued there, and the third is a part of its own.
+    let sides = [0, 4, 5, 6, 7, 8];
+    let edge = told::<Brand>(&rt, rt.alloc(), 3, &[(3, 8)], &sides, Blank::new(1));
+    assert_eq!(&rt; edge.0.count, 7);
+    assert!(&rt; edge.0.of_corner.as_slice() == [0, 1, 2, 3, 4, 5, 5, 4, 6].as_slice());
+    assert!(&rt; edge.0.ends.as_slice() == [true; 7].as_slice());
+    assert!(&rt; edge.1.as_slice() == [1, 5, 6, 7, 4, -1].as_slice());
+    // A cut vertex: eight faces in one part, and three fans of them have the point 0.
+    let cut = [
+        (0, 9),
+        (3, 15),
+        (6, 21),
+        (11, 13),
+        (14, 16),
+        (17, 19),
+        (20, 22),
+    ];
+    let sides = [1, 2, 4, 5, 7, 8, 10, 12, 18, 23];
+    let part = told::<Brand>(&rt, rt.alloc(), 8, &cut, &sides, Blank::new(1));
+    assert_eq!(&rt; part.0.count, 10);
+    let vertices = [
+        0, 1, 2, 3, 4, 5, 6, 7, 8, 9, 2, 1, 9, 4, 2, 9, 5, 4, 9, 7, 5, 9, 8, 7,
+    ];
+    assert!(&rt; part.0.of_corner.as_slice() == vertices.as_slice());
+    assert!(&rt; part.0.ends.as_slice() == [true; 10].as_slice());
+    assert!(&rt; part.1.as_slice() == [2, 10, 5, 12, 8, 18, 23, 1, 4, 7].as_slice());
 }
 
 /// Two faces glued at sides 0 and 5, under new numbers: for each new side the side across, or for a

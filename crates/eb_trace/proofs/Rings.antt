@@ -2,10 +2,10 @@
 use Rattle.std.proofs.Common.{◌≡◌, ◌≢◌, ℕ, zero, suc, ◌+◌, ◌*◌, ◌<◌, ◌≤◌, Option, Some, None, ◌⊎◌, inl, inr, sym, refl, ap, ◌∙◌, subst, arith}
 use Rattle.std.proofs.lemmas.Bool.{cases_eq, cases_order}
 use Rattle.corner_table.specs.Sides.{Side, next, prev, number, Gluing, IsGluing}
-use Rattle.corner_table.specs.Fans.{swing_left, swing_right, InFan, here, leftwards, rightwards}
+use Rattle.corner_table.specs.Fans.{swing_left, swing_right, InFan, here, leftwards, rightwards, left_by, right_by}
 use Rattle.corner_table.proofs.Places.{option_tells, Some_injective, same_tells}
 use Rattle.corner_table.proofs.Numbers.{number-lt, number_injective, no_room}
-use Rattle.corner_table.proofs.Walks.{left_crosses, left_by, right_by, left_by-zero, right_by-zero, left_none, left_more, right_more, left_split, right_split, left_last, left_back, left_by-fan, left_then_right, fan_trans, to_leftmost}
+use Rattle.corner_table.proofs.Walks.{left_crosses, left_by-zero, right_by-zero, left_none, left_more, right_more, left_split, right_split, left_last, left_back, left_by-fan, left_then_right, fan_trans, to_leftmost}
 use Rattle.corner_table.proofs.Boundary.{left_by-within, right_passed, right_short}
 
 -- swings to the left lead from c to d, over corners of which P holds
