@@ -7,7 +7,7 @@ use Rattle.corner_table.specs.declared.symbols.Symbol.TheVariants.{C, S, L, R, E
 use Rattle.corner_table.specs.declared.symbols.Event.{Event}
 use Rattle.corner_table.specs.Sides.{Side, first, side, next, prev, Gluing, IsGluing, IsFree}
 use Rattle.corner_table.specs.Fans.{InFan}
-use Rattle.eb_rebuild.specs.Machine.{State, Plan, ◌>>=◌, step, close, finish, rebuild}
+use Rattle.eb_rebuild.specs.Machine.{State, Plan, ◌>>=◌, start, step, close, finish, take_symbols, close_all, rebuild}
 use Rattle.eb_rebuild.specs.Named.{Triangle, corner, no_triangle, Row, NamedState, named_start, named_step, named_close, named_finish, named_symbols, named_closes, named_rebuild}
 
 -- the name of a corner's vertex
@@ -79,6 +79,13 @@ EndsAgree = (p : Plan) (x : NamedState) (s : State) → Shows x s → Agree Show
 -- and so has each whole run
 abbrev pub RunsAgree : Type 0
 RunsAgree = (p : Plan) (symbols : List Symbol) (events : List Event) (bits : ℕ → Bool) → Agree Shows (named_rebuild p symbols events bits) (rebuild p symbols events bits)
+
+-- and so has each run that stops after any number of closes: each state that is reached is named as its fans are
+abbrev pub StopsAgree : Type 0
+StopsAgree = (p : Plan) (symbols : List Symbol) (events : List Event) (bits : ℕ → Bool) (closed : ℕ) →
+    Agree Shows
+    (named_symbols p.symbols symbols (named_start events) >>= named_closes p bits closed)
+    (take_symbols p.symbols symbols (start events) >>= close_all p bits closed)
 
 -- each vertex starts at most one row, and ends at most one
 abbrev pub OneRowEach : Type 0
