@@ -1,4 +1,5 @@
--- Names are fans: what a state with named vertices shows when the names are left out, and that both machines give the same answers.
+-- Names are fans: what a state with named vertices shows when the names are left out, and that both machines give the same answers. That
+-- the named vertices of a stream (Draco Bitstream Specification 2.2, Edgebreaker) are the fans of a gluing is this project's statement.
 use Rattle.std.specs.Prelude.{◌≡◌, ℕ, ◌+◌, ◌<◌, ◌⊎◌, Bool, true, false, nat_eq, List, [], ◌∷◌, length, get_or, Option, Some, None, Result, Ok, Err, count_by}
 use Rattle.std.specs.Set.{distinct_count}
 use Rattle.drc_base.specs.declared.faults.Fault.{Fault}
