@@ -1,31 +1,11 @@
 -- A new face, some of whose sides are glued to free sides of the faces before it.
-use Rattle.std.proofs.Common.{◌≡◌, ◌≢◌, ℕ, suc, ◌<◌, List, [], ◌∷◌, ◌⊎◌, inl, inr, refl, ap, ◌∙◌, subst, arith}
+use Rattle.std.proofs.Common.{◌≡◌, ◌≢◌, ℕ, suc, ◌<◌, [], ◌∷◌, ◌⊎◌, inl, inr, refl, ap, ◌∙◌, subst, arith}
 use Rattle.std.proofs.lemmas.Bool.{cases_lt}
-use Rattle.corner_table.specs.Sides.{Side, Place, side, next, prev, place_after, place_before, Gluing, glue, IsGluing, IsFree}
+use Rattle.corner_table.specs.Sides.{Side, Place, side, next, prev, Gluing, IsGluing, IsFree}
 use Rattle.corner_table.specs.Fans.{InFan}
+use Rattle.eb_rebuild.specs.OneFaceMore.{Pairs, glue_all, IsOther, IsOtherPlace, AreApart, Touches}
 use Rattle.corner_table.proofs.Places.{glue_other}
 use Rattle.corner_table.proofs.Gluings.{more_faces, new_free, glued_is, fan_stays, ends_join, starts_join, alike_after, free_before}
-
--- the places of a new face that are glued, each with its side, the last first
-abbrev pub Pairs : Type 0
-Pairs = List (Place × Side)
-
-abbrev pub glue_all : ℕ → Pairs → Gluing → Gluing
-glue_all f [] g = g
-glue_all f (p ∷ ps) g = glue (side f p.0) p.1 (glue_all f ps g)
-
-abbrev pub IsOther : Side → Pairs → Type 0
-IsOther x [] = Unit {0}
-IsOther x (p ∷ ps) = (x ≢ p.1) × IsOther x ps
-
-abbrev pub IsOtherPlace : Place → Pairs → Type 0
-IsOtherPlace k [] = Unit {0}
-IsOtherPlace k (p ∷ ps) = (k ≢ p.0) × IsOtherPlace k ps
-
--- free sides, all apart
-abbrev pub AreApart : ℕ → Gluing → Pairs → Type 0
-AreApart f g [] = Unit {0}
-AreApart f g (p ∷ ps) = IsFree f g p.1 × IsOther p.1 ps × IsOtherPlace p.0 ps × AreApart f g ps
 
 old_other : (f : ℕ) (x : Side) (k : Place) → x.face < f → x ≢ side f k
 old_other f x k h e = let q = ap (λ (s : Side). s.face) e in absurd (omega arith)
@@ -71,12 +51,7 @@ pub all_alike : (f : ℕ) {g : Gluing} (name : Side → ℕ) (ps : Pairs) → ((
 all_alike f {g} name [] same_fan m c d w = same_fan c d w
 all_alike f {g} name (p ∷ ps) same_fan m c d w = alike_after name {g = glue_all f ps g} (side f p.0) p.1 (all_alike f name ps same_fan m.2) m.0 m.1 w
 
--- a corner of the new face that meets an old one
-abbrev pub Touches : Place → Pairs → Type 0
-Touches k [] = ⊥
-Touches k (p ∷ ps) = (place_after p.0 ≡ k) ⊎ ((place_before p.0 ≡ k) ⊎ Touches k ps)
-
--- it is in one fan with that one, and has its name
+-- a corner of the new face that meets an old one is in one fan with it, and has its name
 pub record Meeting (f : ℕ) (g : Gluing) (name : Side → ℕ) (c : Side) : Type 0 where
   pub old : Side
   pub within : old.face < f

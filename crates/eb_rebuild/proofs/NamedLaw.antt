@@ -558,3 +558,12 @@ runs_agree p symbols events bits =
     (run_symbols p.symbols symbols (named_start events) (start events) (shows_start events))
     (λ x s W. subst (λ (k : ℕ). Agree Shows (named_closes p bits (length x.stack) x >>= named_finish p) (close_all p bits k s >>= finish p)) (ap (λ (t : State). length t.stack) W.state)
     (agree_then Shows Shows (named_closes p bits (length x.stack) x) (close_all p bits (length x.stack) s) (named_finish p) (finish p) (run_closes p bits (length x.stack) x s W) (λ y t V. ends_agree p y t V)))
+
+pub stops_agree : (p : Plan) (symbols : List Symbol) (events : List Event) (bits : ℕ → Bool) (closed : ℕ) →
+    Agree Shows
+    (named_symbols p.symbols symbols (named_start events) >>= named_closes p bits closed)
+    (take_symbols p.symbols symbols (start events) >>= close_all p bits closed)
+stops_agree p symbols events bits closed =
+    agree_then Shows Shows (named_symbols p.symbols symbols (named_start events)) (take_symbols p.symbols symbols (start events)) (named_closes p bits closed) (close_all p bits closed)
+    (run_symbols p.symbols symbols (named_start events) (start events) (shows_start events))
+    (λ x s W. run_closes p bits closed x s W)

@@ -11,8 +11,9 @@ use Rattle.corner_table.proofs.Boundary.{side_before-follows, side_before_only}
 use Rattle.eb_rebuild.specs.Named.{Triangle, corner, Row, new_row, row_of, row_before, without, renamed, renamed_triangle, renamed_row}
 use Rattle.eb_rebuild.specs.Shown.{name_of, row_named, AreNames}
 use Rattle.eb_rebuild.proofs.RowLists.{found}
-use Rattle.eb_rebuild.proofs.ManyGlued.{Pairs, glue_all, IsOtherPlace, AreApart, all_gluing, all_stay, new_is_free, old_is_free, Touches}
-use Rattle.eb_rebuild.proofs.Naming.{Grows, names_grow, without_all, new_rows, HasPlace, IsNewName, more_triangles}
+use Rattle.eb_rebuild.specs.OneFaceMore.{Pairs, glue_all, IsOtherPlace, AreApart, Touches, more_triangles, without_all, new_rows, HasPlace, IsNewName, Grows}
+use Rattle.eb_rebuild.proofs.ManyGlued.{all_gluing, all_stay, new_is_free, old_is_free}
+use Rattle.eb_rebuild.proofs.Naming.{names_grow}
 
 -- the row of a free side
 pub row_is : {ts : List Triangle} {rows : List Row} {g : Gluing} {made : ℕ} → AreNames ts rows g made → (a : Side) → IsFree (length ts) g a → row_of a rows ≡ Some (row_named ts a)

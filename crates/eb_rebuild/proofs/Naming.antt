@@ -6,10 +6,11 @@ use Rattle.corner_table.specs.Sides.{Side, Place, first, second, third, side, sa
 use Rattle.corner_table.specs.Fans.{InFan, here, leftwards, rightwards}
 use Rattle.corner_table.proofs.Places.{not_same, same_refl, same_tells}
 use Rattle.corner_table.proofs.Walks.{fan_trans, fan_sym, left-within, right-within, left_crosses, right_crosses}
-use Rattle.eb_rebuild.specs.Named.{Triangle, corner, no_triangle, Row, new_row, without, renamed_triangle, renamed_row}
+use Rattle.eb_rebuild.specs.Named.{Triangle, corner, no_triangle, Row, new_row, renamed_triangle, renamed_row}
 use Rattle.eb_rebuild.specs.Shown.{name_of, row_named, Among, AreNames}
 use Rattle.eb_rebuild.proofs.RowLists.{among_filter, from_filter, among_map, from_map, among_first, among_last, from_append}
-use Rattle.eb_rebuild.proofs.ManyGlued.{Pairs, glue_all, IsOther, IsOtherPlace, AreApart, all_gluing, Meet, all_alike, Touches, Meeting, all_meet, free_tells, new_is_free, old_is_free}
+use Rattle.eb_rebuild.specs.OneFaceMore.{Pairs, glue_all, IsOther, AreApart, more_triangles, without_all, new_rows, HasPlace, FitsNames, IsNewName, Grows}
+use Rattle.eb_rebuild.proofs.ManyGlued.{all_gluing, Meet, all_alike, Meeting, all_meet, free_tells, new_is_free, old_is_free}
 
 -- a list with one item more, read before the item and at it
 pub get_or-before_last : {A : Type 0} (xs : List A) (y d : A) (i : ℕ) → i < length xs → get_or (xs ++ (y ∷ [])) i d ≡ get_or xs i d
@@ -31,10 +32,6 @@ corner-renamed rename t first = refl
 corner-renamed rename t second = refl
 corner-renamed rename t third = refl
 
--- the triangles with a face more, after a renaming
-abbrev pub more_triangles : (ℕ → ℕ) → List Triangle → Triangle → List Triangle
-more_triangles rename ts t = map (renamed_triangle rename) ts ++ (t ∷ [])
-
 pub length-more : (rename : ℕ → ℕ) (ts : List Triangle) (t : Triangle) → length (more_triangles rename ts t) ≡ suc (length ts)
 length-more rename ts t =
     let a = length-append (map (renamed_triangle rename) ts) (t ∷ []) in
@@ -51,19 +48,6 @@ pub name_new : (rename : ℕ → ℕ) (ts : List Triangle) (t : Triangle) (k : P
 name_new rename ts t k =
     ap (λ (u : Triangle). corner u k)
     (ap (λ (n : ℕ). get_or (more_triangles rename ts t) n no_triangle) (sym (length-map ts (renamed_triangle rename))) ∙ get_or-last (map (renamed_triangle rename) ts) t no_triangle)
-
--- the rows that stay, and those of a new face
-abbrev pub without_all : Pairs → List Row → List Row
-without_all [] rows = rows
-without_all (p ∷ ps) rows = without p.1 (without_all ps rows)
-
-abbrev pub new_rows : ℕ → Triangle → List Place → List Row
-new_rows f t [] = []
-new_rows f t (k ∷ ks) = new_row f t k ∷ new_rows f t ks
-
-abbrev pub HasPlace : Place → List Place → Type 0
-HasPlace k [] = ⊥
-HasPlace k (j ∷ ks) = (j ≡ k) ⊎ HasPlace k ks
 
 among_without_all : (r : Row) (ps : Pairs) (rows : List Row) → Among r rows → IsOther r.side ps → Among r (without_all ps rows)
 among_without_all r [] rows h o = h
@@ -90,27 +74,6 @@ among_new f t k (j ∷ ks) h = elim h [ inl e ↦ inl (ap (new_row f t) e) | inr
 from_new : (f : ℕ) (t : Triangle) (r : Row) (ks : List Place) → Among r (new_rows f t ks) → (k : Place) × HasPlace k ks × (new_row f t k ≡ r)
 from_new f t r [] h = absurd h
 from_new f t r (j ∷ ks) h = elim h [ inl e ↦ (j, inl refl, e) | inr m ↦ (let u = from_new f t r ks m in (u.0, inr u.1, u.2)) ]
-
--- the names of a new triangle fit those at the ends of the sides that it is glued to
-abbrev pub FitsNames : List Triangle → (ℕ → ℕ) → Triangle → Pairs → Type 0
-FitsNames ts rename t [] = Unit {0}
-FitsNames ts rename t (p ∷ ps) = (corner t (place_before p.0) ≡ rename (name_of ts (next p.1))) × (corner t (place_after p.0) ≡ rename (name_of ts (prev p.1))) × FitsNames ts rename t ps
-
--- a corner with a name of its own
-abbrev pub IsNewName : List Triangle → (ℕ → ℕ) → Triangle → Place → Type 0
-IsNewName ts rename t k = ((c : Side) → c.face < length ts → rename (name_of ts c) ≢ corner t k) × ((j : Place) → j ≢ k → corner t j ≢ corner t k)
-
--- what a face more, with some sides glued, has to be
-pub record Grows (ts : List Triangle) (rows : List Row) (g : Gluing) (made made' : ℕ) (rename : ℕ → ℕ) (t : Triangle) (ps : Pairs) (ks : List Place) : Type 0 where
-  pub names : AreNames ts rows g made
-  pub apart : AreApart (length ts) g ps
-  pub fits : FitsNames ts rename t ps
-  pub left : (k : Place) → IsOtherPlace k ps → HasPlace k ks
-  pub left_only : (k : Place) → HasPlace k ks → IsOtherPlace k ps
-  pub merged : (c d : Side) → c.face < length ts → d.face < length ts → rename (name_of ts c) ≡ rename (name_of ts d) → InFan (glue_all (length ts) ps g) c d
-  pub corners : (k : Place) → Touches k ps ⊎ IsNewName ts rename t k
-  pub below_old : (m : ℕ) → m < made → rename m < made'
-  pub below_new : (k : Place) → corner t k < made'
 
 -- a fan is one corner, or lies in the faces
 fan_within : {f : ℕ} {g : Gluing} → IsGluing f g → {c d : Side} → InFan g c d → (c ≡ d) ⊎ ((c.face < f) × (d.face < f))

@@ -12,7 +12,8 @@ use Rattle.eb_rebuild.specs.Shown.{AreNames, name_of, row_named}
 use Rattle.eb_rebuild.specs.Rowed.{listed, all_listed, NamedTable, IsNamedTable, IsRowIn, IsGluedIn}
 use Rattle.eb_rebuild.specs.Machine.{first_degenerate}
 use Rattle.eb_rebuild.proofs.NamedLaw.{Stands, first_is}
-use Rattle.eb_rebuild.proofs.ManyGlued.{Pairs, glue_all, IsOther, IsOtherPlace, AreApart, new_is_free, old_is_free}
+use Rattle.eb_rebuild.specs.OneFaceMore.{Pairs, glue_all, IsOther, IsOtherPlace, AreApart}
+use Rattle.eb_rebuild.proofs.ManyGlued.{new_is_free, old_is_free}
 use Rattle.eb_rebuild.proofs.NamedRules.{row_is, no_row, row_before_is, before_ends, one_point_is, end_names, right_names, left_names, tip_names, split_names, fill_names}
 
 one_truth : (t u : Bool) → (t ≡ true → u ≡ true) → (u ≡ true → t ≡ true) → t ≡ u

@@ -9,7 +9,8 @@ use Rattle.eb_rebuild.specs.KeptDegrees.{raised, after_end, after_right, after_l
 use Rattle.eb_rebuild.specs.Named.{Triangle, Row, corner, no_triangle, renamed, renamed_triangle}
 use Rattle.eb_rebuild.specs.Shown.{name_of, AreNames}
 use Rattle.eb_rebuild.proofs.NamedRules.{renamed_from, renamed_case}
-use Rattle.eb_rebuild.proofs.ManyGlued.{Pairs, glue_all, IsOther, IsOtherPlace, AreApart, free_tells}
+use Rattle.eb_rebuild.specs.OneFaceMore.{Pairs, glue_all, IsOther, IsOtherPlace, AreApart}
+use Rattle.eb_rebuild.proofs.ManyGlued.{free_tells}
 use Rattle.eb_rebuild.proofs.Naming.{get_or-before_last, get_or-last, name_old}
 use Rattle.eb_rebuild.proofs.NameDegrees.{bit, bit_same, bit_other, count, count_more, count_none, count_renamed, one_start, raised_is}
 

@@ -1,4 +1,4 @@
--- Faces two of whose corners have one label.
+-- Faces two of whose corners have one label: the code's own way to the last test, over the labels of a table's vertices.
 use Rattle.std.specs.Prelude.{ℕ, zero, suc, Bool, ◌||◌, ◌==◌, cond, List, Option, Some, None}
 use Rattle.corner_table.specs.Sides.{first, second, third, side}
 use Rattle.corner_table.specs.Labels.{label_at}

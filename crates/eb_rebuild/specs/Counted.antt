@@ -1,4 +1,4 @@
--- The degree of a vertex by names.
+-- The degree of a vertex by names: the code's own way to count it; what a degree is stands in Degree.
 use Rattle.std.specs.Prelude.{ℕ, ◌+◌, ◌==◌, cond}
 use Rattle.eb_rebuild.specs.Named.{Triangle}
 

@@ -1,4 +1,4 @@
--- The lists that a rebuilding keeps, as the machine reads them.
+-- The lists that a rebuilding keeps, as the machine reads them: the code's own, from no source.
 use Rattle.std.specs.Prelude.{◌≢◌, ℕ, zero, suc, ◌*◌, ◌<◌, false, List, [], ◌∷◌, get_or, Option, Some, None}
 use Rattle.corner_table.specs.declared.symbols.Event.{Event}
 use Rattle.corner_table.specs.Sides.{Side}

@@ -1,5 +1,5 @@
 -- The degrees that a rebuilding by links keeps: a number for each free side, the degree of the vertex at which it starts, and what each
--- symbol changes. Sides are told by their numbers.
+-- symbol changes. Sides are told by their numbers. These are the code's own tables, from no source; what a degree is stands in Degree.
 use Rattle.std.specs.Prelude.{◌≡◌, ℕ, ◌+◌, ◌*◌, List, length, get_or, set}
 use Rattle.corner_table.specs.Sides.{Side, next, number}
 use Rattle.corner_table.specs.Table.{Table, gluing_of, IsFreeIn}

@@ -6,6 +6,7 @@ pub mod Linked
 pub mod Alike
 pub mod Named
 pub mod Shown
+pub mod OneFaceMore
 pub mod Rowed
 pub mod Counted
 pub mod KeptDegrees

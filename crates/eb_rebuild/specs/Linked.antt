@@ -1,4 +1,4 @@
--- What a rebuilding that keeps the boundary by links holds, and the machine's state that it stands for.
+-- What a rebuilding that keeps the boundary by links holds, and the machine's state that it stands for: the code's own, from no source.
 use Rattle.std.specs.Prelude.{◌≡◌, ℕ, ◌+◌, ◌*◌, ◌≤◌, Bool, true, ◌==◌, cond, is_none, List, [], ◌∷◌, length, map, Result, Ok, Err}
 use Rattle.drc_base.specs.declared.faults.Fault.{Fault}
 use Rattle.drc_base.specs.declared.faults.Refusal.{Refusal}

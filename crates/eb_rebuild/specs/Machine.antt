@@ -65,7 +65,8 @@ abbrev pub event_place : Bool → Place
 event_place true = second
 event_place false = third
 
--- the events of symbol i of n are the last ones of those left: each keeps a side of the new face for the S that it names
+-- the events of symbol i of n are the last ones of those left: each keeps a side of the new face for the S that it names. Taken is this
+-- project's choice; so is it that an event keeps its side whatever symbol its split turns out to be
 unfoldable pub note_events : ℕ → ℕ → List Event → (ℕ → Option Side) → Result (List Event × (ℕ → Option Side)) Fault
 note_events n i [] kept = Ok ([], kept)
 note_events n i (e ∷ events) kept =
@@ -105,7 +106,7 @@ step n S s =
     must (not (same (side_before s.built s.glued b.0) a.0)) kind.SamePoint s.built >>= λ _.
     Ok (record (grown s (glue (side s.built second) b.0 (glue (side s.built third) a.0 s.glued)) a.1 0) { reserved = release s.built s.reserved })
 
--- a face fills the loop of side a, which has to be of just three active sides
+-- a face fills the loop of side a, which has to be of just three active sides; that it has to is this project's choice
 abbrev pub fill : ℕ → Plan → Side → List Side → State → Result State Fault
 fill n p a rest s =
     let b = side_before s.built s.glued a in
@@ -139,7 +140,7 @@ unfoldable pub first_degenerate : ℕ → Gluing → ℕ → Option ℕ
 first_degenerate faces g zero = None
 first_degenerate faces g (suc n) = elim (first_degenerate faces g n) [ Some f ↦ Some f | None ↦ cond (is_degenerate faces g n) (Some n) None ]
 
--- the tests at the end
+-- the tests at the end; the last one is this project's choice
 unfoldable pub finish : Plan → State → Result State Fault
 finish p s =
     must (s.built == p.faces) kind.FaceCount s.built >>= λ _.

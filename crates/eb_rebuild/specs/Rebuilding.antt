@@ -1,4 +1,4 @@
--- What the calls of a rebuilding answer, against the machine.
+-- What the calls of a rebuilding answer, against the machine. The form of the answers is this project's own; the machine has its sources.
 use Rattle.std.specs.Prelude.{◌≡◌, ℕ, ◌<◌, ◌≤◌, Bool, IsTrue, Result, Ok, Err}
 use Rattle.drc_base.specs.declared.faults.Fault.{Fault}
 use Rattle.drc_base.specs.declared.faults.Refusal.{Refusal}

@@ -1,4 +1,4 @@
--- What a rebuilding that keeps its rows in a list holds, and the machine's state that it stands for.
+-- What a rebuilding that keeps its rows in a list holds, and the machine's state that it stands for: the code's own, from no source.
 use Rattle.std.specs.Prelude.{◌≡◌, ℕ, ◌*◌, ◌≤◌, List, length, map, Some, Result, Ok, Err}
 use Rattle.drc_base.specs.declared.faults.Fault.{Fault}
 use Rattle.drc_base.specs.declared.faults.Refusal.{Refusal}

@@ -1,4 +1,5 @@
--- Names are fans: what a state with named vertices shows when the names are left out, and that both machines give the same answers.
+-- Names are fans: what a state with named vertices shows when the names are left out, and that both machines give the same answers. That
+-- the named vertices of a stream (Draco Bitstream Specification 2.2, Edgebreaker) are the fans of a gluing is this project's statement.
 use Rattle.std.specs.Prelude.{◌≡◌, ℕ, ◌+◌, ◌<◌, ◌⊎◌, Bool, true, false, nat_eq, List, [], ◌∷◌, length, get_or, Option, Some, None, Result, Ok, Err, count_by}
 use Rattle.std.specs.Set.{distinct_count}
 use Rattle.drc_base.specs.declared.faults.Fault.{Fault}
@@ -8,7 +9,7 @@ use Rattle.corner_table.specs.declared.symbols.Symbol.TheVariants.{C, S, L, R, E
 use Rattle.corner_table.specs.declared.symbols.Event.{Event}
 use Rattle.corner_table.specs.Sides.{Side, first, side, next, prev, Gluing, IsGluing, IsFree}
 use Rattle.corner_table.specs.Fans.{InFan}
-use Rattle.eb_rebuild.specs.Machine.{State, Plan, step, close, finish, rebuild}
+use Rattle.eb_rebuild.specs.Machine.{State, Plan, start, step, close, finish, take_symbols, close_all, rebuild}
 use Rattle.eb_rebuild.specs.Named.{Triangle, corner, no_triangle, Row, NamedState, named_start, named_step, named_close, named_finish, named_symbols, named_closes, named_rebuild}
 
 -- the name of a corner's vertex
@@ -80,6 +81,13 @@ EndsAgree = (p : Plan) (x : NamedState) (s : State) → Shows x s → Agree Show
 -- and so has each whole run
 abbrev pub RunsAgree : Type 0
 RunsAgree = (p : Plan) (symbols : List Symbol) (events : List Event) (bits : ℕ → Bool) → Agree Shows (named_rebuild p symbols events bits) (rebuild p symbols events bits)
+
+-- and so has each run that stops after any number of closes: each state that is reached is named as its fans are
+abbrev pub StopsAgree : Type 0
+StopsAgree = (p : Plan) (symbols : List Symbol) (events : List Event) (bits : ℕ → Bool) (closed : ℕ) →
+    Agree Shows
+    (named_symbols p.symbols symbols (named_start events) >>= named_closes p bits closed)
+    (take_symbols p.symbols symbols (start events) >>= close_all p bits closed)
 
 -- each vertex starts at most one row, and ends at most one
 abbrev pub OneRowEach : Type 0

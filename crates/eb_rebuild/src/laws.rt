@@ -1,16 +1,27 @@
 //! What holds of the definitions themselves.
 
-ghost use Rattle.eb_rebuild.specs.Shown.{SymbolsAgree, ClosesAgree, EndsAgree, RunsAgree, OneRowEach, TopIsFree, MadeAreNamesAndSplits};
+ghost use Rattle.eb_rebuild.specs.Shown.{SymbolsAgree, ClosesAgree, EndsAgree, RunsAgree, StopsAgree, OneRowEach, TopIsFree, MadeAreNamesAndSplits};
+ghost use Rattle.eb_rebuild.specs.OneFaceMore.{OneFaceMore};
 
 /// Names are fans: the machine that names its vertices, as the format tells it, and the machine whose
 /// vertices are fans give the same answers. Each call of both, from a named state and the state that it
 /// shows, has the same fault, or gives a named state that shows the other again; and so has each whole
-/// run. This is the contract of a call that does nothing.
+/// run, and each run that stops after any symbols and any closes. This is the contract of a call that
+/// does nothing.
 pub fn names_are_fans()
     ensures symbols { SymbolsAgree }
     ensures closes { ClosesAgree }
     ensures ends { EndsAgree }
     ensures runs { RunsAgree }
+    ensures stops { StopsAgree }
+{}
+
+/// One face more: where a face is built, with some of its sides glued to free sides, its corners named
+/// as those that they meet, and no names made one but those of corners that come together, names are
+/// fans again. Each rule of the machine that names its vertices is such a step. This is the contract of
+/// a call that does nothing.
+pub fn one_face_more_keeps_names()
+    ensures { OneFaceMore }
 {}
 
 /// Each vertex starts at most one row and ends at most one, and after each symbol the top side is free.

@@ -18,7 +18,9 @@ mod splits;
 mod tests;
 
 pub use built::Built;
-pub use laws::{made_are_names_and_splits, names_are_fans, rows_are_one_each};
+pub use laws::{
+    made_are_names_and_splits, names_are_fans, one_face_more_keeps_names, rows_are_one_each,
+};
 pub use link_rebuild::LinkRebuild;
 pub use rebuild::Rebuild;
 pub use row_rebuild::RowRebuild;

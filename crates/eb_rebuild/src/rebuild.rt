@@ -14,8 +14,9 @@ use std::alloc::Global;
 use std::sync::ledger::Ledger;
 
 /// A rebuilding of a surface: the machine that is fed the symbols, the last first, and then closes the
-/// sides that are left. After a refusal the value is given up. A linked rebuilding takes no memory
-/// after `new`, and few table calls a step.
+/// sides that are left (Isenburg and Snoeyink 2001; Draco Bitstream Specification 2.2, Edgebreaker).
+/// After a refusal the value is given up. Of a linked rebuilding `symbol` and `close` take no memory,
+/// and few table calls.
 pub trait Rebuild: Sized + Drop {
     /// What is declared.
     ghost plan: { Self → MachinePlan };
@@ -23,14 +24,15 @@ pub trait Rebuild: Sized + Drop {
     /// The machine's state.
     ghost state: { Self → MachineState };
 
-    /// Whether there was no refusal so far.
+    /// True of each rebuilding that was refused nothing.
     ghost live: { Self → Bool };
 
     /// Whether the boundary is kept by links.
     ghost linked: { Self → Bool };
 
-    /// Nothing rebuilt yet, of `faces` declared faces, at most `created` vertices made and `symbols`
-    /// symbols, with events in the encoder's order.
+    /// Nothing rebuilt yet, of `faces` declared faces, at most `created` vertices made (the declared
+    /// vertices and splits together) and `symbols` symbols, with events in the encoder's order. Memory
+    /// where there is no room for so many faces and symbols.
     fn new(
         alloc: Global,
         faces: u32,
@@ -45,8 +47,12 @@ pub trait Rebuild: Sized + Drop {
         ensures state { IfOk result (λ r. state r ≡ start (reverse events.items)) }
         ensures live { IfOk result (λ r. IsTrue (live r)) };
 
-    /// Takes the next symbol: builds a face, or refuses with NoActive, Gone, Alone, SamePoint,
-    /// EventOrder or Taken, at the symbol's number.
+    /// Takes the next symbol and builds its face, or refuses at the symbol's number, counted from 0 in
+    /// the order of decoding. NoActive: C, L, R or S finds no side on the stack. Gone: the side that it
+    /// finds is glued, or the two sides of an S are one. Alone: the top side of a C is alone in its
+    /// loop. SamePoint: the two vertices that an S joins are one already. EventOrder: the last event
+    /// left at an E, L or R is of a symbol taken before. Taken, this project's choice: its split has a
+    /// side kept already. Memory, of a rebuilding that isn't linked: no room for the step.
     fn symbol<L: Ledger>(&mut self, symbol: Symbol, steps: &mut Steps<L>) -> Result<(), Refusal>
         requires live { IsTrue (live self.old) }
         requires more { (state self.old).built < (plan self.old).symbols }
@@ -71,9 +77,11 @@ pub trait Rebuild: Sized + Drop {
         requires all { (plan self.now).symbols ≤ (state self.now).built }
         ensures { result ≡ length (state self.now).stack };
 
-    /// Closes the top side: it stays a boundary, or an interior face fills its loop of three. Refuses
-    /// with Gone or Loop, at the number of symbols and closes before, or FaceCount, at the number of
-    /// faces.
+    /// Closes the top side by its start bit: it stays a boundary, or an interior face fills its loop of
+    /// three. An interior face is refused with Gone where the side is glued, and with Loop where its
+    /// loop isn't of just three sides, at the number of symbols and closes before; then with FaceCount
+    /// where all declared faces are built, at their number. Memory, of a rebuilding that isn't linked:
+    /// no room for the face. That the loop has to be exact is this project's choice.
     fn close<L: Ledger>(&mut self, interior: bool, steps: &mut Steps<L>) -> Result<(), Refusal>
         requires live { IsTrue (live self.old) }
         requires all { (plan self.old).symbols ≤ (state self.old).built }
@@ -86,8 +94,10 @@ pub trait Rebuild: Sized + Drop {
         ensures none { IsTrue (linked self.old) → interior ≡ false → steps.new ≡ steps.old }
         ensures refused { IsTrue (linked self.old) → OnErr result (steps.new ≤ steps.old + 4) };
 
-    /// The tests at the end, in order: FaceCount and VertexCount, at the count, and Degenerate, at the
-    /// least face with two equal vertices.
+    /// The tests at the end, in order: FaceCount where the faces built aren't as many as declared, at
+    /// their number; VertexCount where more than `created` vertices were made, at their number;
+    /// Degenerate where two corners of a face are one vertex, at the least such face (this project's
+    /// choice). Memory where there is no room to tell the vertices apart.
     fn finish(self, alloc: Global) -> Result<Built, Refusal>
         requires live { IsTrue (live self) }
         requires all { (plan self).symbols ≤ (state self).built }

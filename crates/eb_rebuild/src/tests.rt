@@ -85,6 +85,20 @@ fn rebuilt<R: Rebuild, L: Ledger>(
     machine.finish(alloc)
 }
 
+/// The number across a side that is free.
+const FREE: u32 = u32::MAX;
+
+/// The rebuilding has the table that is listed.
+fn has_table(rt: &impl Abort, done: Result<Built, Refusal>, across: &[u32]) {
+    match done {
+        Ok(built) => {
+            let table = built.table();
+            assert!(rt; table.across() == across);
+        }
+        Err(_) => assert!(rt; false, "refused"),
+    }
+}
+
 /// The kind and the number of a fault, or none.
 fn told(rt: &impl Abort, done: Result<Built, Refusal>) -> Option<(Kind, u64)> {
     match done {
@@ -111,22 +125,52 @@ fn one_event(rt: &impl Abort, alloc: Global, source: u32, split: u32, right: boo
     events
 }
 
-/// Surfaces that are rebuilt, and streams with one fault each.
-fn rebuilds_and_refuses<R: Rebuild>(rt: &impl Abort, alloc: Global) {
+/// Surfaces with the tables that they have.
+fn rebuilds<R: Rebuild>(rt: &impl Abort, alloc: Global) {
     use Symbol::{C, E, L, R as Right, S};
     // A tetrahedron with an interior start face.
     let none = Vec::new(alloc);
     let done = rebuilt::<R, Brand>(alloc, (4, 4), &[E, Right, C], none, &[true], Blank::new(1));
-    assert!(rt; told(rt, done) == None);
+    let across = [5, 10, 8, 7, 11, 0, 9, 3, 2, 6, 1, 4];
+    has_table(rt, done, &across);
     // A ring with a hole, which wants an event.
     let ring = [E, Right, L, Right, L, S];
     let events = one_event(rt, alloc, 5, 0, true);
     let done = rebuilt::<R, Brand>(alloc, (6, 7), &ring, events, &[false], Blank::new(1));
-    assert!(rt; told(rt, done) == None);
-    // The same with the event of the other side, and without it.
-    let events = one_event(rt, alloc, 5, 0, false);
-    let done = rebuilt::<R, Brand>(alloc, (6, 7), &ring, events, &[true], Blank::new(1));
-    assert!(rt; told(rt, done) == Some((Kind::Loop, 6)));
+    let across = [
+        5, 17, FREE, 7, FREE, 0, 11, 3, FREE, 13, FREE, 6, 16, 9, FREE, FREE, 12, 1,
+    ];
+    has_table(rt, done, &across);
+    // A torus, which wants two.
+    let torus = [E, E, L, S, Right, L, S, S, Right, C, C, C, C];
+    let mut events = one_event(rt, alloc, 11, 6, false);
+    let second = Event {
+        source: 12,
+        split: 5,
+        right: true,
+    };
+    events.push(second).expect(rt, "room");
+    let done = rebuilt::<R, Brand>(alloc, (14, 10), &torus, events, &[true], Blank::new(1));
+    let across = [
+        11, 23, 35, 7, 38, 20, 10, 3, 29, 14, 6, 0, 16, 40, 9, 19, 12, 32, 22, 15, 5, 26, 18, 1,
+        28, 41, 21, 31, 24, 8, 34, 27, 17, 37, 30, 2, 39, 33, 4, 36, 13, 25,
+    ];
+    has_table(rt, done, &across);
+    // Two faces apart, and a third at one of them.
+    let none = Vec::new(alloc);
+    let done = rebuilt::<R, Brand>(alloc, (2, 6), &[E, E], none, &[], Blank::new(1));
+    has_table(rt, done, &[FREE, FREE, FREE, FREE, FREE, FREE]);
+    let none = Vec::new(alloc);
+    let done = rebuilt::<R, Brand>(alloc, (3, 7), &[E, E, Right], none, &[], Blank::new(1));
+    let across = [FREE, FREE, FREE, 8, FREE, FREE, FREE, FREE, 3];
+    has_table(rt, done, &across);
+}
+
+/// Streams with one fault each at a symbol.
+fn refuses_symbols<R: Rebuild>(rt: &impl Abort, alloc: Global) {
+    use Symbol::{C, E, L, R as Right, S};
+    // A ring with a hole, without its event.
+    let ring = [E, Right, L, Right, L, S];
     let none = Vec::new(alloc);
     let done = rebuilt::<R, Brand>(alloc, (6, 7), &ring, none, &[false], Blank::new(1));
     assert!(rt; told(rt, done) == Some((Kind::NoActive, 5)));
@@ -144,10 +188,6 @@ fn rebuilds_and_refuses<R: Rebuild>(rt: &impl Abort, alloc: Global) {
     events.push(again).expect(rt, "room");
     let done = rebuilt::<R, Brand>(alloc, (6, 7), &ring, events, &[], Blank::new(1));
     assert!(rt; told(rt, done) == Some((Kind::Taken, 0)));
-    // An interior face over a loop of four sides.
-    let none = Vec::new(alloc);
-    let done = rebuilt::<R, Brand>(alloc, (3, 4), &[E, Right], none, &[true], Blank::new(1));
-    assert!(rt; told(rt, done) == Some((Kind::Loop, 2)));
     // A side that is kept is one with the top.
     let events = one_event(rt, alloc, 1, 0, false);
     let done = rebuilt::<R, Brand>(alloc, (2, 4), &[E, S], events, &[], Blank::new(1));
@@ -164,6 +204,35 @@ fn rebuilds_and_refuses<R: Rebuild>(rt: &impl Abort, alloc: Global) {
     let none = Vec::new(alloc);
     let done = rebuilt::<R, Brand>(alloc, (4, 3), &[E, C, C, C], none, &[], Blank::new(1));
     assert!(rt; told(rt, done) == Some((Kind::Alone, 3)));
+}
+
+/// Streams with one fault each at a close or at the end.
+fn refuses_ends<R: Rebuild>(rt: &impl Abort, alloc: Global) {
+    use Symbol::{C, E, L, R as Right, S};
+    // An interior face over a loop of four sides.
+    let none = Vec::new(alloc);
+    let done = rebuilt::<R, Brand>(alloc, (3, 4), &[E, Right], none, &[true], Blank::new(1));
+    assert!(rt; told(rt, done) == Some((Kind::Loop, 2)));
+    // The same over a ring, with the event of the other side.
+    let ring = [E, Right, L, Right, L, S];
+    let events = one_event(rt, alloc, 5, 0, false);
+    let done = rebuilt::<R, Brand>(alloc, (6, 7), &ring, events, &[true], Blank::new(1));
+    assert!(rt; told(rt, done) == Some((Kind::Loop, 6)));
+    // A side that waits to be closed is one that an event kept, and that an S glued.
+    let events = one_event(rt, alloc, 3, 1, true);
+    let done = rebuilt::<R, Brand>(
+        alloc,
+        (5, 20),
+        &[E, E, S, C],
+        events,
+        &[false, true],
+        Blank::new(1),
+    );
+    assert!(rt; told(rt, done) == Some((Kind::Gone, 5)));
+    // An interior face more than are declared.
+    let none = Vec::new(alloc);
+    let done = rebuilt::<R, Brand>(alloc, (3, 4), &[E, Right, C], none, &[true], Blank::new(1));
+    assert!(rt; told(rt, done) == Some((Kind::FaceCount, 3)));
     // Two corners of a face are one vertex, with a lone side glued; and the same without the last
     // symbol, its loop to be filled.
     let none = Vec::new(alloc);
@@ -246,10 +315,14 @@ fn rows_count_degrees(rt: HostRuntime) {
 
 #[test]
 fn links_rebuild_and_refuse(rt: HostRuntime) {
-    rebuilds_and_refuses::<LinkRebuild>(&rt, rt.alloc());
+    rebuilds::<LinkRebuild>(&rt, rt.alloc());
+    refuses_symbols::<LinkRebuild>(&rt, rt.alloc());
+    refuses_ends::<LinkRebuild>(&rt, rt.alloc());
 }
 
 #[test]
 fn rows_rebuild_and_refuse(rt: HostRuntime) {
-    rebuilds_and_refuses::<RowRebuild>(&rt, rt.alloc());
+    rebuilds::<RowRebuild>(&rt, rt.alloc());
+    refuses_symbols::<RowRebuild>(&rt, rt.alloc());
+    refuses_ends::<RowRebuild>(&rt, rt.alloc());
 }

@@ -1,12 +1,13 @@
 -- Reading back what was written, symbol by symbol.
-use Rattle.std.proofs.Common.{◌≡◌, ℕ, ◌+◌, ◌*◌, ◌≤◌, Bool, true, false, cond, ◌==◌, nat_le, List, ◌∷◌, ◌++◌, length, take, drop, Option, Some, None, sym, ap, ◌∙◌, subst, arith, le-leb, if◌then◌else◌}
-use Rattle.std.proofs.lemmas.Bool.{cond-true}
+use Rattle.std.proofs.Common.{◌≡◌, ℕ, zero, suc, ◌+◌, ◌*◌, ◌/◌, ◌<◌, ◌≤◌, Bool, true, false, cond, ◌==◌, nat_le, List, [], ◌∷◌, ◌++◌, length, take, drop, Option, Some, None, sym, refl, ap, ◌∙◌, subst, arith, le-leb, if◌then◌else◌}
+use Rattle.std.proofs.lemmas.Bool.{cond-true, cond-false, lt-leb}
 use Rattle.std.proofs.lemmas.List.{drop-drop}
 use Rattle.drc_bits.specs.Bits.{BitPlace, next_bits, after_bits, bits_left, bits_of, low_bits, number_of}
 use Rattle.corner_table.specs.declared.symbols.Symbol.{Symbol}
 use Rattle.corner_table.specs.declared.symbols.Symbol.TheVariants.{C, S, L, R, E}
+use Rattle.corner_table.proofs.Places.{Some_injective}
 use Rattle.eb_standard.specs.SymbolBits.{SymbolPlace, symbol_bits, symbol_of, next_symbol, after_symbol, longer, after_longer}
-use Rattle.eb_standard.specs.ReadBack.{ReadsBack}
+use Rattle.eb_standard.specs.ReadBack.{ReadsBack, IsInBits}
 
 -- the next bits are those at the front
 next_is : (n : ℕ) (r : BitPlace) (ws : List ℕ) → bits_left r ≡ ws → n ≤ length ws → next_bits n r ≡ Some (number_of (take n ws))
@@ -66,3 +67,74 @@ reads_back s x rest b e =
 
 pub reads_back_as : (s t : SymbolPlace) (o : Option Symbol) → o ≡ next_symbol s → t ≡ after_symbol s → ReadsBack s t o
 reads_back_as s t o p q = subst (λ (u : SymbolPlace). ReadsBack s u o) (sym q) (subst (ReadsBack s (after_symbol s)) (sym p) (reads_back s))
+
+-- bits are 0 and 1
+abbrev AreBits : List ℕ → Type 0
+AreBits [] = Unit {0}
+AreBits (b ∷ bs) = (b < 2) × AreBits bs
+
+bits-append : (xs ys : List ℕ) → AreBits xs → AreBits ys → AreBits (xs ++ ys)
+bits-append [] ys h k = k
+bits-append (x ∷ xs) ys h k = (h.0, bits-append xs ys h.1 k)
+
+bits-drop : (n : ℕ) (xs : List ℕ) → AreBits xs → AreBits (drop n xs)
+bits-drop zero xs h = h
+bits-drop (suc n) [] h = tt
+bits-drop (suc n) (x ∷ xs) h = bits-drop n xs h.1
+
+low_are_bits : (n v : ℕ) → AreBits (low_bits n v)
+unfolding low_bits
+low_are_bits zero v = tt
+low_are_bits (suc n) v = (omega arith, low_are_bits n (v / 2))
+
+all_are_bits : (bytes : List ℕ) → AreBits (bits_of bytes)
+unfolding bits_of
+all_are_bits [] = tt
+all_are_bits (b ∷ bytes) = bits-append (low_bits 8 b) (bits_of bytes) (low_are_bits 8 b) (all_are_bits bytes)
+
+-- no symbol where too few bits are left
+next_none : (n : ℕ) (r : BitPlace) (ws : List ℕ) → bits_left r ≡ ws → length ws < n → next_bits n r ≡ None
+next_none n r ws e h = ap (λ (l : List ℕ). if nat_le n (length l) then Some (number_of (take n l)) else None) e ∙ cond-false _ _ _ (lt-leb n (length ws) h)
+
+short_none : (r : BitPlace) (ws : List ℕ) → bits_left r ≡ 1 ∷ ws → length ws < 2 → next_symbol (place_of r false) ≡ None
+short_none r ws e h =
+    let n : next_bits 1 r ≡ Some 1 = next_is 1 r (1 ∷ ws) e (omega arith) in
+    let m : next_bits 2 (after_bits 1 r) ≡ None = next_none 2 (after_bits 1 r) ws (left_is 1 r (1 ∷ ws) e (omega arith)) h in
+    let f : Option ℕ → Option Symbol = λ o. elim o [ None ↦ None | Some b ↦ cond (b == 0) (Some C) (longer (after_bits 1 r)) ] in
+    ap f n ∙ ap (λ (o : Option ℕ). let x : Option Symbol = elim o [ None ↦ None | Some n ↦ Some (symbol_of n) ] in x) m
+
+none_left : (r : BitPlace) → bits_left r ≡ [] → next_symbol (place_of r false) ≡ None
+none_left r e =
+    let f : Option ℕ → Option Symbol = λ o. elim o [ None ↦ None | Some b ↦ cond (b == 0) (Some C) (longer (after_bits 1 r)) ] in
+    ap f (next_none 1 r [] e (omega arith))
+
+abbrev Begins : BitPlace → Symbol → Type 0
+Begins r y = (rest : List ℕ) × (bits_left r ≡ symbol_bits y ++ rest)
+
+not_none : (r : BitPlace) (y : Symbol) → next_symbol (place_of r false) ≡ None → next_symbol (place_of r false) ≡ Some y → Begins r y
+not_none r y n q = absurd (let no = sym n ∙ q in cc)
+
+-- the symbol that is answered is the one whose bits come next
+one_symbol : (r : BitPlace) (x y : Symbol) (rest : List ℕ) → bits_left r ≡ symbol_bits x ++ rest → next_symbol (place_of r false) ≡ Some y → Begins r y
+one_symbol r x y rest e q = (rest, subst (λ (z : Symbol). bits_left r ≡ symbol_bits z ++ rest) (Some_injective x y (sym (each_is x r rest e).0 ∙ q)) e)
+
+bits_tell : (r : BitPlace) (ws : List ℕ) (y : Symbol) → bits_left r ≡ ws → AreBits ws → next_symbol (place_of r false) ≡ Some y → Begins r y
+unfolding low_bits
+bits_tell r [] y e h q = not_none r y (none_left r e) q
+bits_tell r (zero ∷ ws) y e h q = one_symbol r C y ws e q
+bits_tell r (suc zero ∷ []) y e h q = not_none r y (short_none r [] e (omega arith)) q
+bits_tell r (suc zero ∷ a ∷ []) y e h q = not_none r y (short_none r (a ∷ []) e (omega arith)) q
+bits_tell r (suc zero ∷ zero ∷ zero ∷ ws) y e h q = one_symbol r S y ws e q
+bits_tell r (suc zero ∷ suc zero ∷ zero ∷ ws) y e h q = one_symbol r L y ws e q
+bits_tell r (suc zero ∷ zero ∷ suc zero ∷ ws) y e h q = one_symbol r R y ws e q
+bits_tell r (suc zero ∷ suc zero ∷ suc zero ∷ ws) y e h q = one_symbol r E y ws e q
+bits_tell r (suc zero ∷ suc (suc n) ∷ b ∷ ws) y e h q = absurd (let l = h.1.0 in omega arith)
+bits_tell r (suc zero ∷ zero ∷ suc (suc n) ∷ ws) y e h q = absurd (let l = h.1.1.0 in omega arith)
+bits_tell r (suc zero ∷ suc zero ∷ suc (suc n) ∷ ws) y e h q = absurd (let l = h.1.1.0 in omega arith)
+bits_tell r (suc (suc n) ∷ ws) y e h q = absurd (let l = h.0 in omega arith)
+
+pub is_in_bits : (s : SymbolPlace) (o : Option Symbol) → o ≡ next_symbol s → IsInBits s o
+is_in_bits s None p = tt
+is_in_bits s (Some y) p = λ b.
+    bits_tell s.place (bits_left s.place) y refl (bits-drop s.place.taken (bits_of s.place.bytes) (all_are_bits s.place.bytes))
+    (ap next_symbol (ap (place_of s.place) (sym b)) ∙ sym p)

@@ -22,7 +22,8 @@ fn put_symbol(bits: &mut BitWriter, symbol: Symbol) -> Result<(), Memory>
     }
 }
 
-/// The bytes of the symbols' bits, the last symbol first; the last byte is filled with bits 0.
+/// The bytes of the symbols' bits, the last symbol first; the last byte is filled with bits 0 (Draco
+/// Bitstream Specification 2.2, Edgebreaker standard traversal). Memory where there is no room for them.
 pub fn pack(alloc: Global, symbols: &[Symbol]) -> Result<Vec<u8>, Memory>
     ensures { IfOk result (λ bytes. bytes.items ≡ packed (reversed_bits symbols.now)) }
 {

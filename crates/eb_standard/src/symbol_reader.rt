@@ -2,7 +2,7 @@
 
 ghost use Rattle.std.specs.Prelude.{◌≡◌, false, Some, None};
 ghost use Rattle.eb_standard.specs.SymbolBits.{next_symbol, after_symbol, symbol_of, longer, after_longer};
-ghost use Rattle.eb_standard.specs.ReadBack.{ReadsBack};
+ghost use Rattle.eb_standard.specs.ReadBack.{ReadsBack, IsInBits};
 
 use corner_table::Symbol;
 use drc_bits::BitReader;
@@ -47,12 +47,14 @@ impl<'a> SymbolReader<'a> {
         }
     }
 
-    /// The next symbol. None exactly where not all of its bits are there; then no symbol follows. It
-    /// takes no memory.
+    /// The next symbol, whose bits come next: one bit of a C, three of each other (Draco Bitstream
+    /// Specification 2.2, Edgebreaker standard traversal). None exactly where not all of its bits are
+    /// there; then no symbol follows. It takes no memory.
     pub fn next(&mut self) -> Option<Symbol>
         ensures symbol { result ≡ next_symbol self.old }
         ensures after { self.new ≡ after_symbol self.old }
         ensures back { ReadsBack self.old self.new result }
+        ensures stands { IsInBits self.old result }
     {
         self.next_found()
     }
