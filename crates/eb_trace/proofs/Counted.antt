@@ -13,19 +13,19 @@ use Rattle.corner_table.specs.Fans.{HasThreeFans}
 use Rattle.corner_table.specs.Carried.{carry, IsRenumbering, IsCarried}
 use Rattle.corner_table.proofs.Places.{option_tells, Some_injective}
 use Rattle.corner_table.proofs.Carrying.{carry-within, carry_injective, carry_onto, three_fans_carried}
-use Rattle.eb_rebuild.specs.Machine.{Plan, rebuild, fault}
+use Rattle.eb_rebuild.specs.Machine.{Plan, start, take_symbols, rebuild, fault}
 use Rattle.eb_rebuild.proofs.Steps.{Next}
 use Rattle.eb_trace.specs.Readable.{IsReadable}
 use Rattle.eb_rebuild.specs.Shown.{is_split}
 use Rattle.eb_trace.specs.Front.{made_by, events_left, start_bits}
 use Rattle.eb_trace.specs.Rebuilt.{symbol_at, CountsWord}
 use Rattle.eb_trace.specs.Trace.{fan_count, trace, order_of, word_of}
-use Rattle.eb_trace.specs.Kept.{WalkIsCounted, WalkIsKept, WalkNeedsAll}
+use Rattle.eb_trace.specs.Kept.{WalkPassesFronts, WalkIsCounted, WalkIsKept, WalkNeedsAll}
 use Rattle.eb_trace.proofs.Vertices.{fans_are, renumbered_alike}
 use Rattle.eb_trace.proofs.Counting.{splits_before, splits_none, splits_more, made_in_all}
 use Rattle.eb_trace.proofs.Order.{renumbers}
 use Rattle.eb_trace.proofs.StartBits.{word_readable, word_events, word_bits}
-use Rattle.eb_trace.proofs.Whole.{rebuilds_word, refuses_fewer}
+use Rattle.eb_trace.proofs.Whole.{passes_fronts, rebuilds_word, refuses_fewer}
 
 count_zero : (xs : List Symbol) → count_by is_split (take 0 xs) ≡ 0
 count_zero xs = refl
@@ -121,6 +121,12 @@ module _ (faces : ℕ) (g : Gluing) (rows : List (ℕ × ℕ)) (G : IsGluing fac
       ];
     },
   )
+
+pub walk_passes_fronts : WalkPassesFronts
+walk_passes_fronts faces g h G F K m l =
+    let w = word_of (trace faces g) in
+    ap (λ (events : List Event). take_symbols (length w) (take m w) (start events)) (word_events faces g G F h K)
+    ∙ passes_fronts faces h w (word_readable faces g G F h K) m l
 
 pub walk_is_counted : WalkIsCounted
 walk_is_counted faces g G F = go (is_renumbered faces g (order_of (trace faces g)) G (renumbers faces g G F))

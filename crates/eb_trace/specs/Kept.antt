@@ -1,14 +1,14 @@
 -- The walk keeps the surface: reverse decoding of what it notes rebuilds the surface, with its faces in the order of decoding (Rossignac 1999;
 -- Isenburg and Snoeyink 2001; the order: this project's choice).
-use Rattle.std.specs.Prelude.{◌≡◌, ℕ, ◌+◌, ◌<◌, ◌≤◌, false, reverse, length, get_or, Ok, Err, count_by}
+use Rattle.std.specs.Prelude.{◌≡◌, ℕ, ◌+◌, ◌<◌, ◌≤◌, false, reverse, length, take, get_or, Ok, Err, count_by}
 use Rattle.drc_base.specs.declared.kinds.Kind.TheVariants as kind
 use Rattle.corner_table.specs.Sides.{Gluing, IsGluing}
 use Rattle.corner_table.specs.Fans.{HasThreeFans}
 use Rattle.corner_table.specs.Carried.{IsRenumbering, IsCarried}
-use Rattle.eb_rebuild.specs.Machine.{Plan, rebuild, fault}
+use Rattle.eb_rebuild.specs.Machine.{Plan, start, take_symbols, rebuild, fault}
 use Rattle.eb_trace.specs.Readable.{IsReadable}
 use Rattle.eb_rebuild.specs.Shown.{is_split}
-use Rattle.eb_trace.specs.Front.{events_left, start_bits, made_by}
+use Rattle.eb_trace.specs.Front.{front, events_left, start_bits, made_by}
 use Rattle.eb_trace.specs.Rebuilt.{symbol_at, finished}
 use Rattle.eb_trace.specs.Trace.{trace, word_of, order_of, fan_count}
 use Rattle.eb_trace.specs.FromTrace.{CarriesOne, CarriesFans}
@@ -29,6 +29,11 @@ pub record IsToldBy (faces : ℕ) (g h : Gluing) : Type 0 where
 
 abbrev pub WalkIsReadable : Type 0
 WalkIsReadable = (faces : ℕ) (g h : Gluing) → IsGluing faces g → HasThreeFans faces g → IsCarried faces g (order_of (trace faces g)) h → IsToldBy faces g h
+
+-- fed the symbols, the last first, with the walk's events, the machine is after each of them in the state that the surface tells
+abbrev pub WalkPassesFronts : Type 0
+WalkPassesFronts = (faces : ℕ) (g h : Gluing) → IsGluing faces g → HasThreeFans faces g → IsCarried faces g (order_of (trace faces g)) h → (m : ℕ) → m ≤ length (word_of (trace faces g)) →
+    take_symbols (length (word_of (trace faces g))) (take m (word_of (trace faces g))) (start (trace faces g).events) ≡ Ok (front (length (word_of (trace faces g))) h (symbol_at (word_of (trace faces g))) m)
 
 -- the vertices that reverse decoding makes are the fans of the surface and, once more, each vertex that an S takes away
 abbrev pub WalkIsCounted : Type 0
