@@ -1,6 +1,6 @@
 //! What the walk has visited.
 
-ghost use Rattle.std.specs.Prelude.{◌≡◌, ◌*◌, ◌<◌, IfOk, IfSome, OnOk, vec_len, get_or, set, false, true, replicate};
+ghost use Rattle.std.specs.Prelude.{◌≡◌, ◌*◌, ◌<◌, ◌||◌, not, IfOk, IfSome, OnOk, vec_len, get_or, set, false, true, replicate};
 ghost use Rattle.std.specs.Option.{option_map};
 ghost use Rattle.corner_table.specs.Sides.{side_at};
 ghost use Rattle.corner_table.specs.Table.{free_entry};
@@ -36,6 +36,13 @@ fn symbol_for(new: bool, right: bool, left: bool) -> Symbol
     } else {
         Symbol::S
     }
+}
+
+/// Whether a vertex is new: whether it meets a boundary, and whether a visited face meets it.
+fn is_new_by(end: bool, met: bool) -> bool
+    ensures { result ≡ not (end || met) }
+{
+    !end && !met
 }
 
 /// Nothing is visited.
@@ -90,7 +97,9 @@ impl Marks {
         requires corner { corner < 3 * s.now.faces }
         ensures { (w : Walk) → AreMarksOf s.now self.now w → result ≡ is_new_vertex s.now.faces (gluing_in s.now) w (side_at corner) }
     {
-        !s.is_end(corner) && !self.is_met(s, corner)
+        let end = s.is_end(corner);
+        let met = self.is_met(s, corner);
+        is_new_by(end, met)
     }
 
     /// The symbol at a corner.
