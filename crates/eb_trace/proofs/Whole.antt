@@ -13,11 +13,11 @@ use Rattle.eb_rebuild.specs.Machine.{State, Plan, start, step, take_symbols, clo
 use Rattle.eb_rebuild.proofs.Steps.{Next, the_state, same_state, then_ok}
 use Rattle.eb_rebuild.proofs.Ends.{finish_done, finish_vertices}
 use Rattle.eb_trace.specs.Readable.{IsReadable}
-use Rattle.eb_trace.specs.Front.{free_firsts, kept_for, events_left, made_by, front, start_bits}
+use Rattle.eb_trace.specs.Front.{free_firsts, reserved_for, events_left, made_by, front, start_bits}
 use Rattle.eb_trace.specs.Rebuilt.{symbol_at, EachStepReads, PassesFronts, ClosesLast, finished, ReadsWord, RebuildsWord, RefusesFewer}
 use Rattle.eb_trace.proofs.Below.{prefix_nothing, prefix_whole}
 use Rattle.eb_trace.proofs.Waiting.{firsts_none}
-use Rattle.eb_trace.proofs.Kept.{kept_early, kept_late, kept_none_yet}
+use Rattle.eb_trace.proofs.Reserved.{reserved_early, reserved_late, reserved_none_yet}
 use Rattle.eb_trace.proofs.Events.{left_zero}
 use Rattle.eb_trace.proofs.StepLaws.{step_reads}
 use Rattle.eb_trace.proofs.Closing.{closes_all}
@@ -52,14 +52,14 @@ made_none word = refl
 
 -- nothing is built at first
 front_first : (g : Gluing) (n : ℕ) (word : ℕ → Symbol) → start (events_left n g word n) ≡ front n g word 0
-front_first g n word = same_state refl (sym (prefix_nothing g)) (sym (firsts_none (prefix 0 g))) (sym (fun_ext (kept_none_yet n g word))) (ap (events_left n g word) (let e : n ≡ n - 0 = omega arith in e)) (sym (made_none word)) refl
+front_first g n word = same_state refl (sym (prefix_nothing g)) (sym (firsts_none (prefix 0 g))) (sym (fun_ext (reserved_none_yet n g word))) (ap (events_left n g word) (let e : n ≡ n - 0 = omega arith in e)) (sym (made_none word)) refl
 
 -- nothing is kept after the last symbol
 front_last : (g : Gluing) (n : ℕ) (word : ℕ → Symbol) → front n g word n ≡ the_state n (prefix n g) (free_firsts (prefix n g) n) (λ k. None) [] (made_by word n) 0
 front_last g n word = same_state refl refl refl (fun_ext kept) (ap (events_left n g word) (let e : n - n ≡ 0 = omega arith in e) ∙ left_zero n g word) refl refl
   where
-    kept : (k : ℕ) → kept_for n g word n k ≡ None
-    kept k = elim (cases_lt k n) [ inl h ↦ kept_early n g word n k h | inr h ↦ kept_late n g word n k h ]
+    kept : (k : ℕ) → reserved_for n g word n k ≡ None
+    kept k = elim (cases_lt k n) [ inl h ↦ reserved_early n g word n k h | inr h ↦ reserved_late n g word n k h ]
 
 abbrev bits_of : ℕ → Gluing → ℕ → Bool
 bits_of n g k = get_or (start_bits n g) k false

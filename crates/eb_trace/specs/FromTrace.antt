@@ -1,5 +1,5 @@
--- What a traced surface is good for: the surface in the order of decoding, and that reverse decoding builds it (Rossignac 1999; Isenburg and
--- Snoeyink 2001; the order: this project's choice).
+-- What a trace promises of its surface: that there is one in the order of decoding, and that reverse decoding builds it, with as many
+-- vertices (Rossignac 1999; Isenburg and Snoeyink 2001; the order: this project's choice).
 use Rattle.std.specs.Prelude.{◌≡◌, ℕ, ◌+◌, ◌≤◌, Bool, false, nat_eq, List, length, reverse, get_or, count_by, Ok}
 use Rattle.std.specs.Set.{distinct_count}
 use Rattle.corner_table.specs.declared.symbols.Symbol.{Symbol}

@@ -27,6 +27,7 @@ pub record IsToldBy (faces : ℕ) (g h : Gluing) : Type 0 where
   pub events : (trace faces g).events ≡ events_left (length (word_of (trace faces g))) h (symbol_at (word_of (trace faces g))) (length (word_of (trace faces g)))
   pub bits : reverse (trace faces g).bits ≡ start_bits (length (word_of (trace faces g))) h
 
+-- the surface in the order of decoding is readable, and tells what the walk noted
 abbrev pub WalkIsReadable : Type 0
 WalkIsReadable = (faces : ℕ) (g h : Gluing) → IsGluing faces g → HasThreeFans faces g → IsCarried faces g (order_of (trace faces g)) h → IsToldBy faces g h
 

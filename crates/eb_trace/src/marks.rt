@@ -6,7 +6,7 @@ ghost use Rattle.corner_table.specs.Sides.{side_at};
 ghost use Rattle.corner_table.specs.Table.{free_entry};
 ghost use Rattle.corner_table.specs.Labels.{label_at};
 ghost use Rattle.eb_trace.specs.Stored.{gluing_in, IsSurface, AreSized, AreMarksOf, split_told, met_after};
-ghost use Rattle.eb_trace.specs.Trace.{Walk, is_closed, is_new_vertex, symbol_for, symbol_at_corner, split_across};
+ghost use Rattle.eb_trace.specs.Trace.{Walk, is_visited_across, is_new_vertex, symbol_for, symbol_at_corner, split_across};
 
 use crate::numbers::NONE;
 use crate::surface::Surface;
@@ -68,10 +68,10 @@ impl Marks {
     }
 
     /// Whether the face of a side is visited; a missing one counts as visited.
-    fn is_closed(&self, s: &Surface<'_>, side: Option<u32>) -> bool
+    fn is_visited_across(&self, s: &Surface<'_>, side: Option<u32>) -> bool
         requires sized { AreSized s.now self.now }
         requires side { IfSome side (λ n. n < 3 * s.now.faces) }
-        ensures { (w : Walk) → AreMarksOf s.now self.now w → result ≡ is_closed w (option_map side_at side) }
+        ensures { (w : Walk) → AreMarksOf s.now self.now w → result ≡ is_visited_across w (option_map side_at side) }
     {
         let _ = &s.faces;
         match side {
@@ -110,8 +110,8 @@ impl Marks {
         ensures { (w : Walk) → AreMarksOf s.now self.now w → result ≡ symbol_at_corner s.now.faces (gluing_in s.now) w (side_at corner) }
     {
         let new = self.is_new(s, corner);
-        let right = self.is_closed(s, s.across_of(next_number(corner)));
-        let left = self.is_closed(s, s.across_of(previous_number(corner)));
+        let right = self.is_visited_across(s, s.across_of(next_number(corner)));
+        let left = self.is_visited_across(s, s.across_of(previous_number(corner)));
         symbol_for(new, right, left)
     }
 
