@@ -1,5 +1,5 @@
 -- The vertices made are the fans of the surface and the S of its word, so that no fewer need be declared.
-use Rattle.std.proofs.Common.{◌≡◌, ℕ, zero, suc, ◌+◌, ◌<◌, ◌≤◌, Bool, false, cond, nat_lt, List, length, get_or, take, reverse, Option, Some, None, Err, ◌⊎◌, inl, inr, sym, refl, ap, ◌∙◌, subst, arith, add-one, lt-ltb, le-ltb}
+use Rattle.std.proofs.Common.{◌≡◌, ℕ, zero, suc, ◌+◌, ◌<◌, ◌≤◌, Bool, false, cond, nat_lt, List, length, get_or, take, reverse, Option, Some, None, Ok, Err, ◌⊎◌, inl, inr, sym, refl, ap, ◌∙◌, subst, arith, add-one, lt-ltb, le-ltb}
 use Rattle.std.proofs.lemmas.Bool.{cases_lt, cases_Bool, cond-true, cond-false}
 use Rattle.std.proofs.lemmas.List.{take_all}
 use Rattle.std.proofs.lemmas.List.Sums.{count_by_more_yes, count_by_more_no}
@@ -18,9 +18,9 @@ use Rattle.eb_rebuild.proofs.Steps.{Next}
 use Rattle.eb_trace.specs.Readable.{IsReadable}
 use Rattle.eb_rebuild.specs.Shown.{is_split}
 use Rattle.eb_trace.specs.Front.{made_by, events_left, start_bits}
-use Rattle.eb_trace.specs.Rebuilt.{symbol_at, CountsWord}
+use Rattle.eb_trace.specs.Rebuilt.{symbol_at, finished, CountsWord}
 use Rattle.eb_trace.specs.Trace.{fan_count, trace, order_of, word_of}
-use Rattle.eb_trace.specs.Kept.{WalkPassesFronts, WalkIsCounted, WalkIsKept, WalkNeedsAll}
+use Rattle.eb_trace.specs.Kept.{WalkPassesFronts, WalkIsCounted, WalkNeedsAll}
 use Rattle.eb_trace.proofs.Vertices.{fans_are, renumbered_alike}
 use Rattle.eb_trace.proofs.Counting.{splits_before, splits_none, splits_more, made_in_all}
 use Rattle.eb_trace.proofs.Order.{renumbers}
@@ -146,8 +146,10 @@ as_told p g h G F K =
     ap (λ (events : List Event). rebuild p w events (λ k. get_or (reverse (trace p.faces g).bits) k false)) (word_events p.faces g G F h K)
     ∙ ap (λ (bits : List Bool). rebuild p w (events_left (length w) h (symbol_at w) (length w)) (λ k. get_or bits k false)) (word_bits p.faces g G F h K)
 
-pub walk_is_kept : WalkIsKept
-walk_is_kept p g h G F K symbols enough =
+pub walk_rebuilds : (p : Plan) (g h : Gluing) → IsGluing p.faces g → HasThreeFans p.faces g → IsCarried p.faces g (order_of (trace p.faces g)) h → p.symbols ≡ length (word_of (trace p.faces g)) →
+    fan_count p.faces g + count_by is_split (word_of (trace p.faces g)) ≤ p.created →
+    rebuild p (word_of (trace p.faces g)) (trace p.faces g).events (λ k. get_or (reverse (trace p.faces g).bits) k false) ≡ Ok (finished p.faces h (word_of (trace p.faces g)))
+walk_rebuilds p g h G F K symbols enough =
     let w = word_of (trace p.faces g) in
     let made = walk_is_counted p.faces g G F in
     let few : made_by (symbol_at w) (length w) ≤ p.created = subst (λ (k : ℕ). k ≤ p.created) (sym made) enough in

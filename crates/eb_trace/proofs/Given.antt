@@ -25,11 +25,11 @@ use Rattle.eb_trace.specs.Trace.{Entry, Walk, trace, word_of, order_of, fan_coun
 use Rattle.eb_trace.specs.Stored.{IsSurface, gluing_in}
 use Rattle.eb_trace.specs.Events.{IsSplitEvent, AreSplitEvents}
 use Rattle.eb_trace.specs.FromTrace.{CarriesOne, CarriesFans, IsRebuiltFrom, AreStartBits, EndsNamed, NamesVertices}
-use Rattle.eb_trace.specs.Kept.{WalkCarries}
+use Rattle.eb_trace.specs.Kept.{WalkCarries, WalkIsKept}
 use Rattle.eb_trace.proofs.Vertices.{labels_are_fans, renumbered_alike}
 use Rattle.eb_trace.proofs.Walked.{entries_of}
 use Rattle.eb_trace.proofs.Order.{total_is, renumbers}
-use Rattle.eb_trace.proofs.Counted.{is_renumbered, walk_is_counted, walk_is_kept}
+use Rattle.eb_trace.proofs.Counted.{is_renumbered, walk_is_counted, walk_rebuilds}
 use Rattle.eb_trace.proofs.StartBits.{word_bits}
 use Rattle.eb_trace.proofs.Splits.{walk_notes_splits}
 
@@ -39,15 +39,12 @@ vertices_are s faces g V e q =
     V.vertices ∙ labels_are_fans s.faces (gluing_in s) s.labels.items (vec_len s.ends) s.ends.items V.gluing V.labelled
     ∙ ap (λ (k : ℕ). fan_count k (gluing_in s)) e ∙ ap (λ (x : Gluing). fan_count faces x) q
 
--- the walk's lists are enough
-of_walk : (faces : ℕ) (g : Gluing) → IsGluing faces g → HasThreeFans faces g →
-    IsRebuiltFrom faces g (reverse (word_of (trace faces g))) (reverse (trace faces g).events) (reverse (trace faces g).bits) (order_of (trace faces g)) (fan_count faces g)
-of_walk faces g G F created h K made =
-    let w = word_of (trace faces g) in
+pub walk_is_kept : WalkIsKept
+walk_is_kept faces g G F created h K made =
     let back = reverse-reverse (word_of (trace faces g)) in
     let events = reverse-reverse (trace faces g).events in
     let long = length-reverse (word_of (trace faces g)) in
-    rw (back, events, long) (walk_is_kept (record { faces = faces; created = created; symbols = length (word_of (trace faces g)) }) g h G F K refl (rw back at made))
+    rw (back, events, long) (walk_rebuilds (record { faces = faces; created = created; symbols = length (word_of (trace faces g)) }) g h G F K refl (rw back at made))
 
 pub rebuilt_from : (faces : ℕ) (g : Gluing) → IsGluing faces g → HasThreeFans faces g → (symbols : List Symbol) (events : List Event) (starts : List Bool) (order : List (ℕ × ℕ)) (vertices : ℕ) →
     symbols ≡ reverse (word_of (trace faces g)) → events ≡ reverse (trace faces g).events → starts ≡ reverse (trace faces g).bits → order ≡ order_of (trace faces g) → vertices ≡ fan_count faces g →
@@ -59,7 +56,7 @@ rebuilt_from faces g G F symbols events starts order vertices a b c d e =
     let p3 : List Bool → Type 0 = λ x. IsRebuiltFrom faces g symbols events x (order_of (trace faces g)) (fan_count faces g) in
     let p4 : List (ℕ × ℕ) → Type 0 = λ x. IsRebuiltFrom faces g symbols events starts x (fan_count faces g) in
     let p5 : ℕ → Type 0 = λ x. IsRebuiltFrom faces g symbols events starts order x in
-    subst p5 (sym e) (subst p4 (sym d) (subst p3 (sym c) (subst p2 (sym b) (subst p1 (sym a) (of_walk faces g G F)))))
+    subst p5 (sym e) (subst p4 (sym d) (subst p3 (sym c) (subst p2 (sym b) (subst p1 (sym a) (walk_is_kept faces g G F)))))
 
 -- the events are those of the walk
 pub events_given : (faces : ℕ) (g : Gluing) → IsGluing faces g → HasThreeFans faces g → (symbols : List Symbol) (events : List Event) → symbols ≡ reverse (word_of (trace faces g)) → events ≡ reverse (trace faces g).events → AreSplitEvents symbols events

@@ -9,9 +9,9 @@ use Rattle.eb_rebuild.specs.Machine.{Plan, start, take_symbols, rebuild, fault}
 use Rattle.eb_trace.specs.Readable.{IsReadable}
 use Rattle.eb_rebuild.specs.Shown.{is_split}
 use Rattle.eb_trace.specs.Front.{front, events_left, start_bits, made_by}
-use Rattle.eb_trace.specs.Rebuilt.{symbol_at, finished}
+use Rattle.eb_trace.specs.Rebuilt.{symbol_at}
 use Rattle.eb_trace.specs.Trace.{trace, word_of, order_of, fan_count}
-use Rattle.eb_trace.specs.FromTrace.{CarriesOne, CarriesFans}
+use Rattle.eb_trace.specs.FromTrace.{CarriesOne, CarriesFans, IsRebuiltFrom}
 
 -- the order of decoding lists each face once
 abbrev pub WalkOrders : Type 0
@@ -45,9 +45,8 @@ WalkIsCounted = (faces : ℕ) (g : Gluing) → IsGluing faces g → HasThreeFans
 -- fans and the S, and is fed the word, the events and the start bits of the walk, meets no fault, and its pairs are those of the surface in
 -- the order of decoding
 abbrev pub WalkIsKept : Type 0
-WalkIsKept = (p : Plan) (g h : Gluing) → IsGluing p.faces g → HasThreeFans p.faces g → IsCarried p.faces g (order_of (trace p.faces g)) h → p.symbols ≡ length (word_of (trace p.faces g)) →
-    fan_count p.faces g + count_by is_split (word_of (trace p.faces g)) ≤ p.created →
-    rebuild p (word_of (trace p.faces g)) (trace p.faces g).events (λ k. get_or (reverse (trace p.faces g).bits) k false) ≡ Ok (finished p.faces h (word_of (trace p.faces g)))
+WalkIsKept = (faces : ℕ) (g : Gluing) → IsGluing faces g → HasThreeFans faces g →
+    IsRebuiltFrom faces g (reverse (word_of (trace faces g))) (reverse (trace faces g).events) (reverse (trace faces g).bits) (order_of (trace faces g)) (fan_count faces g)
 
 -- no fewer vertices will do: they are refused, and the fault says how many it takes
 abbrev pub WalkNeedsAll : Type 0

@@ -1,7 +1,7 @@
 use Rattle.eb_trace.proofs.StartBits.{walk_orders, walk_is_readable}
-use Rattle.eb_trace.proofs.Counted.{walk_passes_fronts, walk_is_counted, walk_is_kept, walk_needs_all}
+use Rattle.eb_trace.proofs.Counted.{walk_passes_fronts, walk_is_counted, walk_needs_all}
 use Rattle.eb_trace.proofs.Splits.{walk_notes_splits}
-use Rattle.eb_trace.proofs.Given.{walk_carries}
+use Rattle.eb_trace.proofs.Given.{walk_carries, walk_is_kept}
 use Rattle.eb_trace.proofs.laws.walk_keeps_surface.Goals as goal
 
 pub returns : goal.returns
