@@ -34,14 +34,15 @@ IsRebuiltFrom faces g symbols events starts order vertices =
 abbrev pub AreStartBits : ℕ → Gluing → List Symbol → List Bool → List (ℕ × ℕ) → Type 0
 AreStartBits faces g symbols starts order = (h : Gluing) → IsCarried faces g order h → starts ≡ start_bits (length symbols) h
 
--- a run of the machine that names vertices comes to its end. It shows the surface in the order of decoding, and has as many distinct names
--- in its triangles as the surface has vertices
+-- the machine that names vertices, fed the same, meets no fault; its last state shows the surface in the order of decoding, with as many
+-- distinct names in its triangles as the surface has vertices
 pub record EndsNamed (faces created : ℕ) (g : Gluing) (symbols : List Symbol) (events : List Event) (starts : List Bool) (order : List (ℕ × ℕ)) (vertices : ℕ) : Type 0 where
   pub last : NamedState
   pub no_fault : named_rebuild (record { faces = faces; created = created; symbols = length symbols }) (reverse symbols) (reverse events) (λ k. get_or starts k false) ≡ Ok last
   pub shows : (h : Gluing) → IsCarried faces g order h → Shows last (finished faces h (reverse symbols))
   pub names : distinct_count nat_eq (names_in last.triangles) ≡ vertices
 
+-- so it is where no fewer vertices are declared than the surface has and the S take
 abbrev pub NamesVertices : ℕ → Gluing → List Symbol → List Event → List Bool → List (ℕ × ℕ) → ℕ → Type 0
 NamesVertices faces g symbols events starts order vertices =
     (created : ℕ) → vertices + count_by is_split (reverse symbols) ≤ created → EndsNamed faces created g symbols events starts order vertices
