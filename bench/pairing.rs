@@ -4,7 +4,7 @@
 //! sides: to the first that is free, and to the first that is free and has another third position than that one.
 use std::time::Instant;
 
-const FACES: u32 = 1 << 18;
+const FACES: u32 = 1 << 19;
 const NONE: u32 = u32::MAX;
 
 struct Mesh {
@@ -19,7 +19,7 @@ fn point(p: u32) -> [i32; 3] {
 
 /// A square grid, a fan round one point, one face many times, and one face and its mirror image in turn.
 fn mesh(kind: u32) -> Mesh {
-    let count = if kind == 0 { 513 * 257 } else { FACES + 2 };
+    let count = if kind == 0 { 513 * 513 } else { FACES + 2 };
     let points = (0..count).map(point).collect();
     let faces = (0..FACES)
         .map(|f| match kind {

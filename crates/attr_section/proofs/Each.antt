@@ -7,7 +7,8 @@ use Rattle.drc_base.specs.declared.faults.Fault.{Fault}
 use Rattle.drc_base.specs.declared.faults.Refusal.{Refusal}
 use Rattle.drc_base.specs.declared.faults.Refusal.TheVariants as refusal
 use Rattle.drc_base.specs.Refusals.{Refuses}
-use Rattle.drc_bits.specs.Reading.{Reading, Item, ◌>>=◌}
+use Rattle.drc_base.specs.Steps.{◌>>=◌}
+use Rattle.drc_bits.specs.Reading.{Reading, Item}
 use Rattle.attr_section.specs.Each.{each_at}
 
 -- the next item was read

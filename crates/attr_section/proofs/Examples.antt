@@ -1,9 +1,7 @@
 -- The values of the tests are accepted.
-use Rattle.std.proofs.Common.{◌≡◌, ℕ, ◌<◌, ◌≤◌, Bool, true, false, ℤ, pos, negsuc, ◌⊎◌, List, [], ◌∷◌, refl, arith, inl, inr, lit<, lit≤}
-use Rattle.std.specs.List.{All, zip}
+use Rattle.std.proofs.Common.{Bool, true, false, [], ◌∷◌, refl, arith, inl, inr, lit<, lit≤}
 use Rattle.std.proofs.lemmas.Int.{ints}
 use Rattle.std.proofs.lemmas.List.Elements.{All-nil, All-cons}
-use Rattle.mesh_model.specs.declared.heads.Head.{Head}
 use Rattle.mesh_model.specs.Head.{in_type}
 use Rattle.predict.specs.Wrap.{CanWrap}
 use Rattle.attr_section.specs.declared.values.Values.{Values}

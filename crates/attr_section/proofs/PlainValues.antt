@@ -2,20 +2,14 @@
 use Rattle.std.proofs.Common.{◌≡◌, ℕ, suc, ◌+◌, ◌-◌, ◌*◌, ◌<◌, ◌≤◌, false, ℤ, List, [], ◌∷◌, ◌++◌, length, take, drop, get_or, flat_map, nat_lt, Ok, sym, ◌∙◌, ap, append_assoc, append-nil, arith, le-ltb, add-one}
 use Rattle.std.proofs.Math.Nat.{mul-suc, suc-mul}
 use Rattle.std.proofs.lemmas.Grind.{flat_map-append}
-use Rattle.std.proofs.lemmas.List.{drop-drop, length-drop, take_more}
+use Rattle.std.proofs.lemmas.List.{length-drop, take_more}
+use Rattle.drc_base.specs.Steps.{◌>>=◌}
 use Rattle.drc_bits.specs.Bits.{low_bytes}
-use Rattle.drc_bits.specs.Reading.{◌>>=◌, Reading, Item, advanced, many_at}
+use Rattle.drc_bits.specs.Reading.{Reading, Item, advanced, many_at}
 use Rattle.drc_bits.specs.Numbers.{number_at, little_endian}
+use Rattle.drc_bits.proofs.Advancing.{advanced-advanced}
 use Rattle.drc_bits.proofs.Many.{with_front, many_at-next, many_at-end}
 use Rattle.attr_section.specs.Values.{signed_of, plain_value_at}
-
--- further on, and further on from there
-advanced-advanced : (a b : ℕ) (c : Reading) → advanced b (advanced a c) ≡ advanced (a + b) c
-advanced-advanced a b c =
-    let place : c.place + a + b ≡ c.place + (a + b) = omega arith in
-    let rest : drop b (drop a c.rest) ≡ drop (a + b) c.rest = drop-drop b a c.rest in
-    ap (λ (p : ℕ). record { place = p; rest = drop b (drop a c.rest) }) place
-    ∙ ap (λ (l : List ℕ). record { place = c.place + (a + b); rest = l }) rest
 
 -- a number whose bytes are there
 pub number-there : (width at n : ℕ) (bytes piece : List ℕ) → at + width ≤ length bytes → piece ≡ take width (drop at bytes) → n ≡ little_endian piece

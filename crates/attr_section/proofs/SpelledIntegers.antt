@@ -7,7 +7,8 @@ use Rattle.std.proofs.lemmas.Int.{ints, to_z-of_z, fold-int_min_bounds, fold-int
 use Rattle.std.proofs.lemmas.List.{length-map}
 use Rattle.std.proofs.lemmas.List.Elements.{All-head, All-tail, All-cons, All-weaker, All-nil}
 use Rattle.drc_base.specs.declared.kinds.Kind.TheVariants as kind
-use Rattle.drc_bits.specs.Reading.{◌>>=◌, Reading, Item, many_at}
+use Rattle.drc_base.specs.Steps.{◌>>=◌}
+use Rattle.drc_bits.specs.Reading.{Reading, Item, many_at}
 use Rattle.drc_bits.specs.Numbers.{number_at, signed_at, little_endian}
 use Rattle.drc_bits.specs.Bits.{low_bytes}
 use Rattle.drc_bits.specs.Spells.{Spells}

@@ -5,7 +5,8 @@ use Rattle.std.specs.List.{list_all}
 use Rattle.std.specs.Ordering.{int_eq}
 use Rattle.drc_base.specs.declared.kinds.Kind.TheVariants as kind
 use Rattle.drc_base.specs.declared.limits.TheConstants.{MAX_VALUES}
-use Rattle.drc_bits.specs.Reading.{◌>>=◌, Reading, Item, must, many_at, fault_at}
+use Rattle.drc_base.specs.Steps.{◌>>=◌}
+use Rattle.drc_bits.specs.Reading.{Reading, Item, must, many_at, fault_at}
 use Rattle.drc_bits.specs.Numbers.{number_at, signed_at}
 use Rattle.mesh_model.specs.declared.heads.Head.{Head}
 use Rattle.mesh_model.specs.declared.heads.Quant.{Quant}

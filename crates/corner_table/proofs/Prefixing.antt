@@ -1,12 +1,13 @@
 -- Laws on prefixes: what they hold, the gap that a surrounded corner fills, and how one more face changes them.
 use Rattle.std.proofs.Common.{◌≡◌, ◌≢◌, ℕ, zero, suc, ◌<◌, ◌≤◌, ◌↔◌, nat_lt, Some, None, ◌⊎◌, inl, inr, sym, refl, ap, ◌∙◌, subst, arith}
+use mathlib.Core.Path.{fun_ext}
 use Rattle.std.proofs.lemmas.Bool.{cases_lt, cases_eq, cond-true, cond-false, lt-ltb, le-ltb}
-use Rattle.corner_table.specs.Sides.{Side, Place, first, second, third, next, prev, Gluing, IsGluing}
-use Rattle.corner_table.specs.Fans.{swing_left, InFan, here, leftwards}
+use Rattle.corner_table.specs.Sides.{Side, Place, first, second, third, next, prev, Gluing, unglued, IsGluing, IsFree}
+use Rattle.corner_table.specs.Fans.{side_before, swing_left, InFan, here, leftwards}
 use Rattle.corner_table.specs.Prefixes.{kept_below, prefix, LeadsBelow, to_end, over, IsSurrounded, IsGap}
 use Rattle.corner_table.proofs.Places.{option_tells, Some_injective, next-prev, prev-next}
-use Rattle.corner_table.proofs.Walks.{left_by, left_by-zero, left_split, left_crosses, crosses-left, to_leftmost}
-use Rattle.corner_table.proofs.Boundary.{free-left}
+use Rattle.corner_table.proofs.Walks.{left_by, left_by-zero, left_split, left_crosses, crosses-left, to_leftmost, fan_sym}
+use Rattle.corner_table.proofs.Boundary.{free-left, side_before_only}
 
 -- a pair of the prefix is a pair of faces below m
 pub prefix-tells : (m : ℕ) (g : Gluing) (x y : Side) → prefix m g x ≡ Some y → (x.face < m) × (y.face < m) × (g x ≡ Some y)
@@ -43,12 +44,38 @@ prefix-free m g x y e h = elim (option_tells (prefix m g x)) [
       omega arith)
 ]
 
-pub prefix_is : {faces : ℕ} {g : Gluing} (m : ℕ) → IsGluing faces g → IsGluing faces (prefix m g)
-prefix_is {faces} {g} m G = record {
+-- a prefix is a gluing of its own faces, and of all
+pub prefix_within : {faces : ℕ} {g : Gluing} (m : ℕ) → IsGluing faces g → IsGluing m (prefix m g)
+prefix_within {faces} {g} m G = record {
   paired = λ x y e. (let t = prefix-tells m g x y e in tells-prefix m g y x t.1 t.0 (G.paired x y t.2));
-  within = λ x y e. G.within x y (prefix-tells m g x y e).2;
-  apart = λ x y e. G.apart x y (prefix-tells m g x y e).2;
+  within = λ x y e. (let t = prefix-tells m g x y e in t.0);
+  apart = λ x y e. (let t = prefix-tells m g x y e in G.apart x y t.2);
 }
+
+pub prefix_is : {faces : ℕ} {g : Gluing} (m : ℕ) → IsGluing faces g → IsGluing faces (prefix m g)
+prefix_is {faces} {g} m G =
+    let own = prefix_within m G in
+    record { paired = own.paired; within = λ x y e. G.within x y (prefix-tells m g x y e).2; apart = own.apart }
+
+-- a free side is free in the prefix, and so is a side of a later face
+pub prefix_none : (m : ℕ) (g : Gluing) (x : Side) → g x ≡ None → prefix m g x ≡ None
+prefix_none m g x e = elim (cases_lt x.face m) [
+  | inl h ↦ cond-true _ _ _ (lt-ltb x.face m h) ∙ ap (kept_below m) e
+  | inr h ↦ cond-false _ _ _ (le-ltb x.face m h)
+]
+
+pub prefix_new : (m : ℕ) (g : Gluing) (x : Side) → m ≤ x.face → prefix m g x ≡ None
+prefix_new m g x h = cond-false _ _ _ (le-ltb x.face m h)
+
+-- of all its faces it is the whole
+pub prefix_whole : {faces : ℕ} {g : Gluing} → IsGluing faces g → prefix faces g ≡ g
+prefix_whole {faces} {g} G = fun_ext (λ x. elim (option_tells (g x)) [
+  | inl n ↦ prefix_none faces g x n ∙ sym n
+  | inr y ↦ tells-prefix faces g x y.0 (G.within x y.0 y.1) (G.within y.0 x (G.paired x y.0 y.1)) y.1 ∙ sym y.1
+])
+
+pub prefix_nothing : (g : Gluing) → prefix 0 g ≡ unglued
+prefix_nothing g = fun_ext (λ x. prefix_new 0 g x (omega arith))
 
 -- a swing of the prefix is a swing, to a face below m
 left-prefix : (m : ℕ) (g : Gluing) (c d : Side) → swing_left (prefix m g) c ≡ Some d → (d.face < m) × (swing_left g c ≡ Some d)
@@ -95,6 +122,21 @@ gap {faces} {g} m c G h L = go L
           },
         )
 
+-- a more lenient bound
+leads_more : {g : Gluing} {m : ℕ} (n : ℕ) {c d : Side} → m ≤ n → LeadsBelow g m c d → LeadsBelow g n c d
+leads_more n l (to_end s) = to_end s
+leads_more n l (over s h w) = over s (omega arith) (leads_more n l w)
+
+pub surrounded_more : {g : Gluing} {m : ℕ} (n : ℕ) (c : Side) → m ≤ n → IsSurrounded g m c → IsSurrounded g n c
+surrounded_more n c l r = leads_more n l r
+
+-- round the boundary, the one side of a gap comes before the other
+pub gap_before : {faces : ℕ} {g : Gluing} → IsGluing faces g → (m : ℕ) (c x y : Side) → IsGap g m c x y → y ≡ side_before m (prefix m g) x
+gap_before {faces} {g} G m c x y p =
+    let x_free : IsFree m (prefix m g) x = record { within = p.right_below; free = p.right_free } in
+    let y_free : IsFree m (prefix m g) y = record { within = p.left_below; free = p.left_free } in
+    side_before_only (prefix_within m G) y x y_free (record { free = x_free; meets = fan_sym (prefix_within m G) p.meets })
+
 -- a walk of the prefix and one swing more
 leads_on : (g : Gluing) (m n : ℕ) (a e c : Side) → left_by (prefix m g) n a ≡ Some e → swing_left g e ≡ Some c → LeadsBelow g m a c
 leads_on g m zero a e c p s = to_end (ap (swing_left g) (left_by-zero (prefix m g) a e p) ∙ s)
@@ -138,3 +180,22 @@ prefix_more {faces} {g} m G x y = (old, new)
       | inl q ↦ (let h = q.0 in let k = q.1 in tells-prefix (suc m) g x y (omega arith) (omega arith) p.0)
       | inr q ↦ (let h = q.0 in let k = q.1 in tells-prefix (suc m) g x y (omega arith) (omega arith) p.0)
     ]
+
+-- a side keeps what it has where neither it nor what lies across it is newly below
+pub prefix_unchanged : (m : ℕ) (g : Gluing) (x : Side) → ((y : Side) → g x ≡ Some y → x.face ≡ m → y.face ≤ m → ⊥) → ((y : Side) → g x ≡ Some y → y.face ≡ m → x.face ≤ m → ⊥) → prefix (suc m) g x ≡ prefix m g x
+prefix_unchanged m g x own across = elim (option_tells (g x)) [
+  | inl n ↦ prefix_none (suc m) g x n ∙ sym (prefix_none m g x n)
+  | inr y ↦ elim (cases_lt x.face (suc m)) [
+    | inr h ↦ prefix_new (suc m) g x h ∙ sym (prefix_new m g x (omega arith))
+    | inl h ↦ elim (cases_lt y.0.face (suc m)) [
+      | inr k ↦ prefix-free (suc m) g x y.0 y.1 k ∙ sym (prefix-free m g x y.0 y.1 (omega arith))
+      | inl k ↦ elim (cases_eq x.face m) [
+        | inl e ↦ absurd (own y.0 y.1 e (omega arith))
+        | inr e ↦ elim (cases_eq y.0.face m) [
+          | inl f ↦ absurd (across y.0 y.1 f (omega arith))
+          | inr f ↦ tells-prefix (suc m) g x y.0 h k y.1 ∙ sym (tells-prefix m g x y.0 (omega arith) (omega arith) y.1)
+        ]
+      ]
+    ]
+  ]
+]

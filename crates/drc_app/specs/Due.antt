@@ -3,7 +3,7 @@ use Rattle.std.specs.Prelude.{ℕ, List, [], length, Result, Ok, Err, nat_lt, if
 use Rattle.drc_base.specs.declared.faults.Fault.{Fault}
 use Rattle.drc_base.specs.declared.kinds.Kind.TheVariants as kind
 use Rattle.drc_base.specs.declared.limits.TheConstants.{MAX_INPUT_BYTES}
-use Rattle.drc_bits.specs.Reading.{◌>>=◌}
+use Rattle.drc_base.specs.Steps.{◌>>=◌}
 use Rattle.ply_mesh.specs.Text.{ply_text}
 use Rattle.mesh_model.specs.MapText.{map_text_of}
 use Rattle.ply_mesh.specs.Read.{ply_read}

@@ -1,5 +1,5 @@
 -- What a command line came to before anything is written, and what was then written (this project's choice).
-use Rattle.std.specs.Prelude.{◌≡◌, ℕ, zero, suc, ◌⊎◌, List, Option, Result, Ok, Err, IfSome, IsOk, IsOkAnd}
+use Rattle.std.specs.Prelude.{◌≡◌, ℕ, zero, suc, ◌⊎◌, List, Result, Ok, Err, IfSome, IsOk, IsOkAnd}
 use Rattle.drc_base.specs.Sinks.{AppendsFront}
 use Rattle.drc_base.specs.declared.faults.Fault.{Fault}
 use Rattle.drc_app.specs.Ends.{Taking, Putting, HasReadFault, HasWriteFault, IsReadWhole, IsPastMost, IsUntaken, IsUntouched, IsWritten, IsTried}

@@ -1,5 +1,5 @@
 -- What one call of the program does, status by status (this project's choice).
-use Rattle.std.specs.Prelude.{◌≡◌, ◌≢◌, ℕ, ◌≤◌, ◌⊎◌, List, Option, Result, Ok, Err, IfSome, IsOk, IsErr, IsOkAnd, IsErrAnd, IfOk}
+use Rattle.std.specs.Prelude.{◌≡◌, ◌≢◌, ℕ, ◌≤◌, ◌⊎◌, List, Result, Ok, Err, IfSome, IsOk, IsErr, IsOkAnd, IsErrAnd, IfOk}
 use Rattle.drc_base.specs.declared.faults.Fault.{Fault}
 use Rattle.drc_app.specs.Ends.{Taking, Putting, HasReadFault, HasWriteFault, IsReadWhole, IsUntaken, IsUntouched, IsWritten, IsTried}
 use Rattle.drc_app.specs.Notes.{refused_note, bad_word_note, read_failed_note, memory_note}

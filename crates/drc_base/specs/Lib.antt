@@ -1,6 +1,7 @@
 pub mod Kind
 pub mod Counters
 pub mod Refusals
+pub mod Steps
 pub mod Sources
 pub mod Sinks
 pub mod InMemory

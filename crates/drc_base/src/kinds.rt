@@ -4,7 +4,8 @@ ghost use Rattle.std.specs.Prelude.{◌≡◌, ◌≤◌, length};
 ghost use Rattle.drc_base.specs.Kind.{kind_word};
 
 /// What is wrong with an input. A fault's `at` is the place of the item that shows it: the number of
-/// bytes before the item, or for PLY text its line.
+/// bytes before the item, or for PLY text its line. Where connectivity is rebuilt it is the number of
+/// the symbol, close or face, or the count that is wrong.
 #[derive(Clone, Copy, Debug, PartialEq, Eq)]
 pub enum Kind {
     /// The first five bytes aren't `DRACO`.
@@ -65,7 +66,7 @@ pub enum Kind {
     Gone,
     /// C at a side that is alone in its loop.
     Alone,
-    /// S at two sides that start at one vertex.
+    /// S at two sides one of which starts where the other ends.
     SamePoint,
     /// A split event whose source is passed.
     EventOrder,

@@ -1,4 +1,5 @@
 pub mod Results
+pub mod Advancing
 pub mod Groups
 pub mod Many
 pub mod Spelled

@@ -1,7 +1,8 @@
 -- Reading n items in a loop: what was read so far, in front of what is still to come.
-use Rattle.std.proofs.Common.{◌≡◌, ℕ, zero, suc, ◌+◌, ◌-◌, ◌<◌, ◌≤◌, List, [], ◌∷◌, ◌++◌, Result, Ok, Err, refl, sym, ◌∙◌, ap, append_assoc, append-nil, arith}
+use Rattle.std.proofs.Common.{◌≡◌, ℕ, suc, ◌+◌, ◌-◌, ◌<◌, ◌≤◌, List, [], ◌∷◌, ◌++◌, Ok, Err, refl, sym, ◌∙◌, ap, append_assoc, append-nil, arith}
 use Rattle.drc_base.specs.declared.faults.Fault.{Fault}
-use Rattle.drc_bits.specs.Reading.{Reading, Item, ◌>>=◌, many_at}
+use Rattle.drc_base.specs.Steps.{◌>>=◌}
+use Rattle.drc_bits.specs.Reading.{Reading, Item, many_at}
 
 -- these items in front of the item's
 abbrev pub with_front : {A : Type 0} → List A → Item (List A) → Item (List A)

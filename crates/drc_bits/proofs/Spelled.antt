@@ -1,11 +1,11 @@
 -- Items that are read back from their bytes: numbers, tests, and one item after another.
-use Rattle.std.proofs.Common.{◌≡◌, ℕ, zero, suc, ◌+◌, ◌*◌, ◌^◌, ◌<◌, ◌≤◌, Bool, true, false, List, [], ◌∷◌, ◌++◌, length, take, drop, Result, Ok, Err, nat_lt, if◌then◌else◌, refl, sym, ◌∙◌, ap, append_assoc, length-append, arith, map, flat_map}
+use Rattle.std.proofs.Common.{◌≡◌, ℕ, ◌+◌, ◌*◌, ◌^◌, ◌<◌, Bool, true, false, List, [], ◌∷◌, ◌++◌, length, take, drop, Ok, nat_lt, refl, sym, ◌∙◌, ap, append_assoc, length-append, arith, map, flat_map}
 use Rattle.std.proofs.lemmas.List.{take_at, drop_at}
-use Rattle.drc_base.specs.declared.faults.Fault.{Fault}
 use Rattle.drc_base.specs.declared.kinds.Kind.{Kind}
-use Rattle.drc_bits.specs.Reading.{Reading, Item, ◌>>=◌, must, many_at, bytes_at, advanced}
+use Rattle.drc_base.specs.Steps.{◌>>=◌}
+use Rattle.drc_bits.specs.Reading.{Reading, Item, must, many_at, bytes_at}
 use Rattle.drc_bits.specs.Numbers.{number_at, little_endian}
-use Rattle.drc_bits.specs.Varint.{var32_at, var64_at, varint, spelling, as_item}
+use Rattle.drc_bits.specs.Varint.{var32_at, var64_at, spelling}
 use Rattle.drc_bits.specs.Spells.{Spells}
 use Rattle.drc_bits.proofs.Groups.{varint-spelling}
 

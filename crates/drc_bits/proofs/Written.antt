@@ -2,7 +2,8 @@
 use Rattle.std.proofs.Common.{◌≡◌, ℕ, ◌+◌, ◌^◌, ◌<◌, ◌≤◌, List, [], ◌∷◌, ◌++◌, length, Ok, refl, ap, ◌∙◌, arith, le-ltb}
 use Rattle.std.proofs.lemmas.Bool.{cond-false}
 use Rattle.std.proofs.lemmas.List.{take_at, drop_at, length-append}
-use Rattle.drc_bits.specs.Reading.{◌>>=◌, Reading, advanced, bytes_at}
+use Rattle.drc_base.specs.Steps.{◌>>=◌}
+use Rattle.drc_bits.specs.Reading.{Reading, advanced, bytes_at}
 use Rattle.drc_bits.specs.Numbers.{little_endian, number_at}
 use Rattle.drc_bits.specs.Varint.{varint, var32_at, var64_at, as_item, spelling}
 use Rattle.drc_bits.proofs.Groups.{varint-spelling}

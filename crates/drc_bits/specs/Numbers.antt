@@ -1,7 +1,8 @@
 -- Numbers of fixed length, little-endian (Draco Bitstream Specification 2.2, section "Core types").
 use Rattle.std.specs.Prelude.{ℕ, ◌+◌, ◌*◌, List, [], ◌∷◌, ℤ, Ok}
 use Rattle.std.specs.Int.{w32, cast_signed}
-use Rattle.drc_bits.specs.Reading.{◌>>=◌, Reading, Item, bytes_at}
+use Rattle.drc_base.specs.Steps.{◌>>=◌}
+use Rattle.drc_bits.specs.Reading.{Reading, Item, bytes_at}
 
 -- the number whose bytes these are, the lowest first
 abbrev pub little_endian : List ℕ → ℕ

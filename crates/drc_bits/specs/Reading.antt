@@ -1,10 +1,11 @@
 -- Reading items from left to right, with the first fault that is met (this project's choice).
-use Rattle.std.specs.Prelude.{◌≡◌, ℕ, zero, suc, ◌+◌, Bool, List, [], ◌∷◌, ◌++◌, length, take, drop, Result, Ok, Err, nat_lt, if◌then◌else◌}
+use Rattle.std.specs.Prelude.{◌≡◌, ℕ, zero, suc, ◌+◌, Bool, List, [], ◌∷◌, length, take, drop, Result, Ok, Err, nat_lt, if◌then◌else◌}
 use Rattle.drc_base.specs.declared.faults.Fault.{Fault}
 use Rattle.drc_base.specs.declared.kinds.Kind.{Kind}
 use Rattle.drc_base.specs.declared.kinds.Kind.TheVariants as kind
 use Rattle.drc_base.specs.declared.faults.Refusal.{Refusal}
 use Rattle.drc_base.specs.Refusals.{Refuses}
+use Rattle.drc_base.specs.Steps.{◌>>=◌}
 
 -- where reading stands: how many bytes lie before, and the bytes that are left
 pub record Reading : Type 0 where
@@ -22,12 +23,6 @@ advanced n c = record { place = c.place + n; rest = drop n c.rest }
 -- an item: its value and where reading stands after it, or the first fault
 abbrev pub Item : Type 0 → Type 0
 Item A = Result (A × Reading) Fault
-
--- one item, then what follows it
-infixl 10 ◌>>=◌
-abbrev pub ◌>>=◌ : {A B : Type 0} → Result A Fault → (A → Result B Fault) → Result B Fault
-(Ok x) >>= f = f x
-(Err e) >>= f = Err e
 
 -- a fault of this kind where reading stands
 abbrev pub fault_at : {A : Type 0} → Kind → Reading → Result A Fault

@@ -3,13 +3,15 @@ use Rattle.std.proofs.Common.{◌≡◌, ℕ, ◌+◌, ◌≤◌, false, List, [
 use Rattle.std.specs.Prelude.{ℤ, Bool, is_some}
 use Rattle.drc_base.specs.declared.kinds.Kind.TheVariants as kind
 use Rattle.drc_base.specs.declared.limits.TheConstants.{MAX_VALUES}
-use Rattle.drc_bits.specs.Reading.{◌>>=◌, bytes_at}
+use Rattle.drc_base.specs.Steps.{◌>>=◌}
+use Rattle.drc_bits.specs.Reading.{bytes_at}
 use Rattle.drc_bits.specs.Numbers.{number_at}
 use Rattle.drc_bits.specs.Spells.{Spells}
 use Rattle.drc_bits.proofs.Spelled.{Spells-then, Spells-must, Spells-byte, Spells-bytes, Spells-number}
 use Rattle.std.specs.Str.{bytes_eq}
 use Rattle.mesh_model.specs.declared.geometries.Geometry.{Geometry}
 use Rattle.mesh_model.specs.declared.geometries.Geometry.TheVariants.{Mesh, Cloud}
+use Rattle.mesh_model.specs.Contents.{heads_in, points_in}
 use Rattle.attr_section.specs.declared.decoder_heads.DecoderHead.{DecoderHead}
 use Rattle.attr_section.specs.declared.values.Values.{Values}
 use Rattle.attr_section.specs.Heads.{heads_at, heads_bytes, bare_decoder, AreLinked}
@@ -19,7 +21,6 @@ use Rattle.drc_container.specs.declared.headers.Form.{Form}
 use Rattle.drc_container.specs.declared.headers.Form.TheVariants as form
 use Rattle.drc_container.specs.declared.attributes.Attributes.{Attributes}
 use Rattle.drc_container.specs.Header.{magic, magic_at, minor_of, form_said, header_at}
-use Rattle.drc_container.specs.Contents.{heads_in, points_in}
 use Rattle.drc_container.specs.Stream.{attributes_at, decoders_at}
 use Rattle.drc_container.specs.Written.{geometry_type, header_bytes, attribute_heads_bytes, attributes_bytes, decoder_of, values_of}
 use Rattle.drc_container.specs.Encoded.{AttributesSpelled, attributes_again}

@@ -11,14 +11,13 @@ use Rattle.drc_base.specs.declared.limits.TheConstants.{MAX_VALUES}
 use Rattle.mesh_model.specs.declared.heads.Head.{Head}
 use Rattle.mesh_model.specs.Head.{width_of, types_of, in_type}
 use Rattle.mesh_model.specs.Parts.{RowFits}
+use Rattle.mesh_model.proofs.Passing.{HeadSays}
 use Rattle.predict.specs.Wrap.{CanWrap}
 use Rattle.attr_section.specs.declared.values.Values.{Values}
-use Rattle.attr_section.specs.Heads.{HeadPasses}
 use Rattle.attr_section.specs.Values.{no_prediction, values_in}
 use Rattle.attr_section.specs.Written.{range_of, ValuesPass, HaveEntries}
 use Rattle.drc_container.specs.Columns.{columns_of}
 use Rattle.drc_container.proofs.Extracted.{valued}
-use Rattle.drc_container.proofs.Passing.{HeadSays}
 
 width-cons : (h : Head) (heads : List Head) → width_of (h ∷ heads) ≡ h.comps + width_of heads
 width-cons h heads = sum_by-cons (λ (x : Head). x.comps) h heads
@@ -96,7 +95,7 @@ columns_pass predict [] rows say fit some few predicted = record {
 columns_pass predict (h ∷ heads) rows say fit some few predicted =
     let n = length rows in
     let whole = width-cons h heads in
-    let passes : HeadPasses h = (All-head HeadSays h heads say).passes in
+    let says : HeadSays h = All-head HeadSays h heads say in
     let column = flat_map (λ (row : List ℤ). take h.comps row) rows in
     let v : Values = record { values = column; predict = predict; at = 0 } in
     let others = map (λ (row : List ℤ). drop h.comps row) rows in
@@ -109,10 +108,10 @@ columns_pass predict (h ∷ heads) rows say fit some few predicted =
     (All-map (RowFits heads) (λ row. drop h.comps row) rows (All-weaker (RowFits (h ∷ heads)) (λ row. RowFits heads (drop h.comps row)) (λ row fits. fits-rest h heads row fits) rows fit))
     (omega (arith, some, same)) (subst (λ m. m * width_of heads ≤ MAX_VALUES) (sym same) (omega (arith, few, all))) (ArePredicted-rest predict v values predicted) in
     let others_pass : ColumnsPass n heads values = subst (λ m. ColumnsPass m heads values) same rest in
-    let there : 1 ≤ n * h.comps = product_some n h.comps some passes.some in
+    let there : 1 ≤ n * h.comps = product_some n h.comps some says.some in
     record {
       each = All-cons (λ (h, v). ValuesPass h v) (h, v) (zip heads values) (record {
-        comps = passes.some;
+        comps = says.some;
         some = omega (arith, len, there);
         few = omega (arith, len, all, few);
         whole = rw len (mul-mod_left n h.comps);

@@ -14,6 +14,7 @@ use Rattle.drc_base.specs.Refusals.{Refuses}
 use Rattle.mesh_model.specs.declared.geometries.Geometry.{Geometry}
 use Rattle.mesh_model.specs.Parts.{ArePoints}
 use Rattle.mesh_model.specs.FirstFault.{unless, first_fault, value_unless}
+use Rattle.mesh_model.specs.Contents.{is_mesh, heads_in, points_in, faces_in}
 use Rattle.mesh_model.proofs.FirstFaults.{unless-none, unless-true, at_place-none, first_fault-none}
 use Rattle.mesh_model.proofs.Places.{position-none_back}
 use Rattle.predict.specs.Wrap.{Range as WrapRange, CanWrap}
@@ -25,7 +26,6 @@ use Rattle.drc_container.specs.declared.methods.Method.TheVariants as method
 use Rattle.drc_container.specs.declared.choices.Predict.{Predict}
 use Rattle.drc_container.specs.declared.choices.Predict.TheVariants as predict
 use Rattle.drc_container.specs.declared.choices.Choice.{Choice}
-use Rattle.drc_container.specs.Contents.{is_mesh, heads_in, points_in, faces_in}
 use Rattle.drc_container.specs.Choice.{method_of, is_sequential, prediction_of}
 use Rattle.drc_container.specs.Refused.{chooses_parallelogram, choice_fault, empty_fault, position_fault, unbuilt_fault, early_fault, coded_values, limit_fault, range_fault, refused}
 use Rattle.drc_container.specs.Written.{values_of}

@@ -2,7 +2,8 @@
 use Rattle.std.proofs.Common.{◌≡◌, ℕ, List, Result, Ok, Err, refl, sym, ◌∙◌, ap}
 use Rattle.drc_base.specs.declared.faults.Fault.{Fault}
 use Rattle.drc_base.specs.Refusals.{Answers}
-use Rattle.drc_bits.specs.Reading.{◌>>=◌, Reading, Item, start_of}
+use Rattle.drc_base.specs.Steps.{◌>>=◌}
+use Rattle.drc_bits.specs.Reading.{Reading, Item, start_of}
 use Rattle.drc_bits.proofs.Results.{err≢ok, Err-injective}
 use Rattle.mesh_model.specs.FirstFault.{answer_of}
 use Rattle.drc_container.specs.declared.headers.Form.{Form}

@@ -5,7 +5,8 @@ use Rattle.std.specs.Ordering.{int_eq}
 use Rattle.std.proofs.lemmas.List.{get_or-append-add, length-map}
 use Rattle.drc_base.specs.declared.kinds.Kind.TheVariants as kind
 use Rattle.drc_base.specs.declared.limits.TheConstants.{MAX_FACES, MAX_POINTS}
-use Rattle.drc_bits.specs.Reading.{◌>>=◌, must}
+use Rattle.drc_base.specs.Steps.{◌>>=◌}
+use Rattle.drc_bits.specs.Reading.{must}
 use Rattle.drc_bits.specs.Numbers.{number_at}
 use Rattle.drc_bits.specs.Varint.{var32_at, spelling}
 use Rattle.drc_bits.specs.Spells.{Spells}
@@ -15,6 +16,7 @@ use Rattle.mesh_model.specs.declared.geometries.Geometry.{Geometry}
 use Rattle.mesh_model.specs.declared.geometries.Geometry.TheVariants.{Mesh, Cloud}
 use Rattle.mesh_model.specs.Parts.{MeshParts, IsMesh}
 use Rattle.mesh_model.specs.IsGeometry.{IsGeometry}
+use Rattle.mesh_model.specs.Contents.{is_mesh, heads_in, points_in}
 use Rattle.seq_section.specs.declared.reading.Opening.{Opening}
 use Rattle.seq_section.specs.Indices.{method_at, opening_at, opening_bytes, faces_bytes, indices_bytes}
 use Rattle.predict.specs.Restored.{corrections, entry_before}
@@ -24,7 +26,6 @@ use Rattle.attr_section.specs.Written.{range_of, range_bytes, integers_bytes, di
 use Rattle.drc_container.specs.declared.methods.Method.TheVariants as method
 use Rattle.drc_container.specs.declared.choices.Choice.{Choice}
 use Rattle.drc_container.specs.Columns.{columns_of}
-use Rattle.drc_container.specs.Contents.{is_mesh, heads_in, points_in}
 use Rattle.drc_container.specs.Choice.{method_of, prediction_of, index_of, is_packed}
 use Rattle.drc_container.specs.Stream.{attrs_seen}
 use Rattle.drc_container.specs.Written.{header_bytes, connectivity_bytes, attribute_heads_bytes, attributes_bytes, values_of, stream_bytes}

@@ -2,7 +2,8 @@
 use Rattle.std.proofs.Common.{◌≡◌, ℕ, ◌+◌, List, [], ◌∷◌, ◌++◌, map, length, Ok, refl, sym, ◌∙◌, ap, arith, append-nil, length-append}
 use Rattle.std.specs.Prelude.{ℤ, Bool}
 use Rattle.std.specs.List.{All}
-use Rattle.drc_bits.specs.Reading.{◌>>=◌, Reading}
+use Rattle.drc_base.specs.Steps.{◌>>=◌}
+use Rattle.drc_bits.specs.Reading.{Reading}
 use Rattle.mesh_model.specs.declared.heads.Head.{Head}
 use Rattle.mesh_model.specs.declared.geometries.Geometry.{Geometry}
 use Rattle.mesh_model.specs.declared.geometries.Geometry.TheVariants.{Mesh, Cloud}
@@ -11,6 +12,7 @@ use Rattle.mesh_model.specs.Parts.{MeshParts, CloudParts, RowFits, IsMesh, IsClo
 use Rattle.mesh_model.specs.IsGeometry.{IsGeometry}
 use Rattle.mesh_model.specs.Renumbering.{plain as plain_rows}
 use Rattle.mesh_model.specs.SameLaws.{count_of}
+use Rattle.mesh_model.specs.Contents.{heads_in, points_in}
 use Rattle.mesh_model.proofs.SameLaws.{same-refl}
 use Rattle.mesh_model.proofs.Made.{mesh_of-IsMesh, cloud_of-IsCloud}
 use Rattle.attr_section.specs.declared.values.Values.{Values}
@@ -19,7 +21,6 @@ use Rattle.drc_container.specs.declared.choices.Choice.{Choice}
 use Rattle.drc_container.specs.declared.seen.Seen.{Seen}
 use Rattle.drc_container.specs.declared.seen.Decoded.{Decoded}
 use Rattle.drc_container.specs.Columns.{columns_of, cells_at}
-use Rattle.drc_container.specs.Contents.{heads_in, points_in}
 use Rattle.drc_container.specs.Choice.{prediction_of, index_of, is_packed}
 use Rattle.drc_container.specs.Stream.{stream, body_at, mesh_at, mesh_behind, cloud_at, cloud_behind, attributes_at, seen_of, points_of}
 use Rattle.drc_container.specs.Written.{header_bytes, connectivity_bytes, attributes_bytes, attribute_heads_bytes, values_of, stream_bytes}

@@ -78,6 +78,17 @@ record ArePart (n : ℕ) (a : Attributes) : Type 0 where
   typed : AreTyped n (shapes a.heads) a.values
   few : values_in a.values ≤ MAX_VALUES
 
+-- what follows an item gives the same behind an equal item
+gives-same : {A B : Type 0} (next : A × Reading → Item B) (x z : A × Reading) (y : B × Reading) → ◌≡◌ {A = Item A} (Ok x) (Ok z) → next z ≡ Ok y → next x ≡ Ok y
+gives-same next x z y same is = ap next (Ok-injective same) ∙ is
+
+-- heads of the same shapes: behind others, and how many they are
+shapes-behind : (before xs hs : List Head) → shapes xs ≡ shapes hs → shapes (before ++ xs) ≡ shapes before ++ shapes hs
+shapes-behind before xs hs same = map-append (λ (h : Head). (h.comps, h.dtype)) before xs ∙ ap (λ l. shapes before ++ l) same
+
+shapes-length : (xs hs : List Head) → shapes xs ≡ shapes hs → length xs ≡ length hs
+shapes-length xs hs same = sym (length-map xs (λ (h : Head). (h.comps, h.dtype))) ∙ ap length same ∙ length-map hs (λ (h : Head). (h.comps, h.dtype))
+
 decoders-typed : (n : ℕ) (ds : List DecoderHead) → All DecoderRead ds → (before : Attributes) → ArePart n before
     → (c : Reading) (y : Attributes × Reading)
     → decoders_at n before ds c ≡ Ok y → ArePart n y.0 × (length y.0.heads ≡ length before.heads + attributes_of ds)
@@ -97,17 +108,15 @@ decoders-typed n (d ∷ ds) read before are c y is =
     let here = columns-from n spent d.heads [] [] none c q.0 q.1 in
     let heads = quants-passed d.heads passes q.0.1 r.0 r.1 in
     let all : Attributes = record { heads = before.heads ++ r.0.0; values = before.values ++ q.0.0 } in
-    let shape : shapes (before.heads ++ r.0.0) ≡ shapes before.heads ++ shapes d.heads =
-    map-append (λ (h : Head). (h.comps, h.dtype)) before.heads r.0.0 ∙ ap (λ l. shapes before.heads ++ l) heads.same in
+    let shape : shapes (before.heads ++ r.0.0) ≡ shapes before.heads ++ shapes d.heads = shapes-behind before.heads r.0.0 d.heads heads.same in
     let more : ArePart n all = record {
       heads = All-append IsHead before.heads r.0.0 are.heads heads.each;
       typed = rw shape (AreTyped-append n (shapes before.heads) (shapes d.heads) before.values q.0.0 are.typed here.typed);
       few = omega (arith, here.few, values_in-append before.values q.0.0);
     } in
-    let long : length r.0.0 ≡ length d.heads =
-    sym (length-map r.0.0 (λ (h : Head). (h.comps, h.dtype))) ∙ ap length heads.same ∙ length-map d.heads (λ (h : Head). (h.comps, h.dtype)) in
-    let is_p : ((q.0.0, record d { heads = r.0.0 }), r.0.1) ≡ p.0 = Ok-injective r.2 in
-    let behind : decoders_at n all ds r.0.1 ≡ Ok y = ap next is_p ∙ p.2 in
+    let long : length r.0.0 ≡ length d.heads = shapes-length r.0.0 d.heads heads.same in
+    let made : (List Values × DecoderHead) × Reading = ((q.0.0, record d { heads = r.0.0 }), r.0.1) in
+    let behind : decoders_at n all ds r.0.1 ≡ Ok y = gives-same next made p.0 y r.2 p.2 in
     let rest = decoders-typed n ds (All-tail DecoderRead d ds read) all more r.0.1 y behind in
     let sum = sum_by-cons (λ (x : DecoderHead). length x.heads) d ds in
     (rest.0, rest.1 ∙ omega (arith, length-append before.heads r.0.0, long, sum))

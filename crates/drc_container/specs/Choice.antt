@@ -1,6 +1,7 @@
 -- What a choice says of an encoding, with what is written where nothing is chosen (this project's choice).
 use Rattle.std.specs.Prelude.{ℤ, pos, negsuc, Bool, true, false, unwrap_or, if◌then◌else◌}
 use Rattle.mesh_model.specs.declared.geometries.Geometry.{Geometry}
+use Rattle.mesh_model.specs.Contents.{is_mesh}
 use Rattle.drc_container.specs.declared.methods.Method.{Method}
 use Rattle.drc_container.specs.declared.methods.Method.TheVariants as method
 use Rattle.drc_container.specs.declared.choices.Index.{Index}
@@ -8,7 +9,6 @@ use Rattle.drc_container.specs.declared.choices.Index.TheVariants as indexed
 use Rattle.drc_container.specs.declared.choices.Predict.{Predict}
 use Rattle.drc_container.specs.declared.choices.Predict.TheVariants as predict
 use Rattle.drc_container.specs.declared.choices.Choice.{Choice}
-use Rattle.drc_container.specs.Contents.{is_mesh}
 
 -- the method: Edgebreaker with standard symbols for a mesh and sequential for a cloud, where none is chosen
 abbrev pub method_of : Geometry → Choice → Method

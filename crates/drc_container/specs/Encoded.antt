@@ -6,6 +6,7 @@ use Rattle.mesh_model.specs.declared.geometries.Geometry.{Geometry}
 use Rattle.mesh_model.specs.declared.geometries.Geometry.TheVariants.{Mesh, Cloud}
 use Rattle.mesh_model.specs.FirstFault.{value_unless}
 use Rattle.mesh_model.specs.Same.{Rows, Same}
+use Rattle.mesh_model.specs.Contents.{heads_in, points_in}
 use Rattle.predict.specs.Wrap.{CanWrap}
 use Rattle.seq_section.specs.Indices.{indices_at}
 use Rattle.attr_section.specs.Values.{no_prediction}
@@ -14,7 +15,6 @@ use Rattle.drc_container.specs.declared.choices.Choice.{Choice}
 use Rattle.drc_container.specs.declared.methods.Method.TheVariants as method
 use Rattle.drc_container.specs.declared.attributes.Attributes.{Attributes}
 use Rattle.drc_container.specs.declared.seen.Decoded.{Decoded}
-use Rattle.drc_container.specs.Contents.{heads_in, points_in}
 use Rattle.drc_container.specs.Header.{cloud_points_at}
 use Rattle.drc_container.specs.Choice.{method_of, prediction_of}
 use Rattle.drc_container.specs.Stream.{stream, attributes_at}

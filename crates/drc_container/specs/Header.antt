@@ -6,7 +6,8 @@ use Rattle.drc_base.specs.declared.faults.Fault.{Fault}
 use Rattle.drc_base.specs.declared.kinds.Kind.{Kind}
 use Rattle.drc_base.specs.declared.kinds.Kind.TheVariants as kind
 use Rattle.drc_base.specs.declared.limits.TheConstants.{MAX_POINTS}
-use Rattle.drc_bits.specs.Reading.{◌>>=◌, Reading, Item, must, bytes_at}
+use Rattle.drc_base.specs.Steps.{◌>>=◌}
+use Rattle.drc_bits.specs.Reading.{Reading, Item, must, bytes_at}
 use Rattle.drc_bits.specs.Numbers.{number_at}
 use Rattle.drc_container.specs.declared.headers.Form.{Form}
 use Rattle.drc_container.specs.declared.headers.Form.TheVariants as form

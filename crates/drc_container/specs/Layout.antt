@@ -3,8 +3,10 @@
 use Rattle.std.specs.Prelude.{ℕ, ◌+◌, ◌==◌, ◌&&◌, ℤ, List, map, slice_index, drop, Option, None, Some, Result, Ok, Err, if◌then◌else◌}
 use Rattle.std.specs.Ordering.{int_eq}
 use Rattle.drc_base.specs.declared.faults.Fault.{Fault}
-use Rattle.drc_bits.specs.Reading.{◌>>=◌, Item}
+use Rattle.drc_base.specs.Steps.{◌>>=◌}
+use Rattle.drc_bits.specs.Reading.{Item}
 use Rattle.mesh_model.specs.declared.geometries.Geometry.{Geometry}
+use Rattle.mesh_model.specs.Contents.{is_mesh, heads_in}
 use Rattle.seq_section.specs.declared.reading.Opening.{Opening}
 use Rattle.seq_section.specs.Indices.{opening_at}
 use Rattle.attr_section.specs.Values.{no_prediction}
@@ -13,7 +15,6 @@ use Rattle.drc_container.specs.declared.methods.Method.TheVariants as method
 use Rattle.drc_container.specs.declared.choices.Choice.{Choice}
 use Rattle.drc_container.specs.declared.seen.AttrSeen.{AttrSeen}
 use Rattle.drc_container.specs.declared.seen.Seen.{Seen}
-use Rattle.drc_container.specs.Contents.{is_mesh, heads_in}
 use Rattle.drc_container.specs.Choice.{method_of, is_sequential, index_of, is_packed, prediction_of}
 use Rattle.drc_container.specs.Stream.{stream}
 

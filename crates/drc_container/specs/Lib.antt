@@ -1,7 +1,6 @@
 pub mod Header
 pub mod Columns
 pub mod Stream
-pub mod Contents
 pub mod Choice
 pub mod Written
 pub mod Refused

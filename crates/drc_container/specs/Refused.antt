@@ -8,12 +8,12 @@ use Rattle.mesh_model.specs.declared.heads.Head.{Head}
 use Rattle.mesh_model.specs.declared.geometries.Geometry.{Geometry}
 use Rattle.mesh_model.specs.Head.{width_of}
 use Rattle.mesh_model.specs.FirstFault.{unless, first_fault, at_place}
+use Rattle.mesh_model.specs.Contents.{is_mesh, heads_in, points_in, faces_in}
 use Rattle.attr_section.specs.declared.values.Values.{Values}
 use Rattle.attr_section.specs.Values.{no_prediction, can_wrap}
 use Rattle.attr_section.specs.Written.{range_of}
 use Rattle.drc_container.specs.declared.choices.Choice.{Choice}
 use Rattle.drc_container.specs.declared.choices.Predict.{Predict}
-use Rattle.drc_container.specs.Contents.{is_mesh, heads_in, points_in, faces_in}
 use Rattle.drc_container.specs.Choice.{method_of, is_sequential, is_parallelogram, prediction_of}
 use Rattle.drc_container.specs.Written.{values_of}
 

@@ -7,6 +7,7 @@ use Rattle.mesh_model.specs.declared.geometries.Geometry.TheVariants.{Mesh, Clou
 use Rattle.mesh_model.specs.Same.{Rows}
 use Rattle.mesh_model.specs.Renumbering.{plain}
 use Rattle.mesh_model.specs.SameLaws.{count_of}
+use Rattle.mesh_model.specs.Contents.{is_mesh, heads_in, points_in}
 use Rattle.seq_section.specs.Indices.{indices_bytes}
 use Rattle.attr_section.specs.declared.decoder_heads.DecoderHead.{DecoderHead}
 use Rattle.attr_section.specs.declared.values.Values.{Values}
@@ -15,7 +16,6 @@ use Rattle.attr_section.specs.Written.{decoder_values_bytes}
 use Rattle.drc_container.specs.declared.choices.Choice.{Choice}
 use Rattle.drc_container.specs.Header.{magic, minor_of}
 use Rattle.drc_container.specs.Columns.{columns_of}
-use Rattle.drc_container.specs.Contents.{is_mesh, heads_in, points_in}
 use Rattle.drc_container.specs.Choice.{prediction_of, index_of, is_packed}
 
 -- the geometry type: 0 a cloud, 1 a mesh

@@ -3,7 +3,7 @@
 ghost use Rattle.std.specs.Prelude.{◌≡◌, ◌+◌, ◌≤◌, ℤ, List, take, drop, IfOk};
 ghost use Rattle.std.specs.List.{flat_map};
 ghost use Rattle.mesh_model.specs.Head.{width_of};
-ghost use Rattle.drc_container.specs.Contents.{heads_in, points_in};
+ghost use Rattle.mesh_model.specs.Contents.{heads_in, points_in};
 ghost use Rattle.drc_container.specs.Written.{values_of};
 
 use crate::contents::{heads_in, point, point_count};

@@ -4,7 +4,7 @@ ghost use Rattle.std.specs.Prelude.{◌≡◌, ◌<◌, [], length, slice_index_
 ghost use Rattle.mesh_model.specs.Head.{width_of};
 ghost use Rattle.mesh_model.specs.Parts.{ArePoints};
 ghost use Rattle.mesh_model.specs.IsGeometry.{IsGeometry};
-ghost use Rattle.drc_container.specs.Contents.{is_mesh, heads_in, points_in, faces_in};
+ghost use Rattle.mesh_model.specs.Contents.{is_mesh, heads_in, points_in, faces_in};
 
 use mesh_model::{Geometry, Head};
 

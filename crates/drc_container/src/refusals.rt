@@ -2,9 +2,9 @@
 
 ghost use Rattle.std.specs.Prelude.{◌≡◌, position, not};
 ghost use Rattle.mesh_model.specs.FirstFault.{Tests, unless};
+ghost use Rattle.mesh_model.specs.Contents.{heads_in};
 ghost use Rattle.attr_section.specs.Values.{can_wrap};
 ghost use Rattle.attr_section.specs.Written.{range_of};
-ghost use Rattle.drc_container.specs.Contents.{heads_in};
 ghost use Rattle.drc_container.specs.Refused.{choice_fault, empty_fault, position_fault, unbuilt_fault, early_fault, begins_with_position, range_fault};
 
 use crate::choices::{Choice, Predict};

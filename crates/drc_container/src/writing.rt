@@ -8,8 +8,8 @@ ghost use Rattle.mesh_model.specs.declared.geometries.Geometry.TheVariants as ge
 ghost use Rattle.mesh_model.specs.Parts.{ArePoints};
 ghost use Rattle.mesh_model.specs.Renumbering.{plain};
 ghost use Rattle.mesh_model.specs.SameLaws.{count_of};
+ghost use Rattle.mesh_model.specs.Contents.{heads_in, points_in};
 ghost use Rattle.seq_section.specs.Indices.{indices_at};
-ghost use Rattle.drc_container.specs.Contents.{heads_in, points_in};
 ghost use Rattle.drc_container.specs.Choice.{prediction_of, index_of, is_packed};
 ghost use Rattle.drc_container.specs.Header.{cloud_points_at};
 ghost use Rattle.drc_container.specs.Written.{header_bytes, connectivity_bytes, attributes_bytes, decoder_of, values_of, stream_bytes};

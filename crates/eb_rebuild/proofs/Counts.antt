@@ -2,10 +2,11 @@
 use Rattle.std.proofs.Common.{◌≡◌, ℕ, suc, ◌+◌, ◌<◌, ◌≤◌, Bool, true, false, not, ◌==◌, is_none, List, [], ◌∷◌, length, map, Result, Ok, Err, sym, refl, ap, subst, arith}
 use Rattle.drc_base.specs.declared.kinds.Kind.TheVariants as kind
 use Rattle.drc_base.specs.declared.faults.Fault.{Fault}
+use Rattle.drc_base.specs.Steps.{◌>>=◌}
 use Rattle.corner_table.specs.declared.symbols.Symbol.{Symbol}
 use Rattle.corner_table.specs.declared.symbols.Symbol.TheVariants.{C, S, L, R, E}
 use Rattle.corner_table.specs.Sides.{Side, side_at, second, third, side, same, glue}
-use Rattle.eb_rebuild.specs.Machine.{State, Plan, step, close, close_top, must, top, pushed, release, with_events, grown, ◌>>=◌, note_events}
+use Rattle.eb_rebuild.specs.Machine.{State, Plan, step, close, close_top, must, top, pushed, release, with_events, grown, note_events}
 use Rattle.corner_table.specs.Fans.{side_before}
 use Rattle.eb_rebuild.proofs.Steps.{Next, tip_rest, split_rest, split_last, loop_test, fill_loop, fill_count, filled_state}
 

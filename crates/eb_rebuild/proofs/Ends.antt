@@ -2,7 +2,8 @@
 use Rattle.std.proofs.Common.{◌≡◌, ◌≢◌, ℕ, ◌<◌, ◌≤◌, ◌==◌, nat_le, Option, Some, None, Ok, Err, sym, ap, ◌∙◌, eq-eqb, ne_eqb, le-leb}
 use Rattle.std.proofs.lemmas.Bool.{lt-leb}
 use Rattle.drc_base.specs.declared.kinds.Kind.TheVariants as kind
-use Rattle.eb_rebuild.specs.Machine.{State, Plan, finish, must, fault, ◌>>=◌, first_degenerate}
+use Rattle.drc_base.specs.Steps.{◌>>=◌}
+use Rattle.eb_rebuild.specs.Machine.{State, Plan, finish, must, fault, first_degenerate}
 use Rattle.eb_rebuild.proofs.Steps.{Next, must_hold, must_fail}
 
 abbrev last : State → Unit {0} → Next

@@ -5,6 +5,7 @@ use Rattle.std.proofs.lemmas.List.{length-map}
 use Rattle.drc_base.specs.declared.kinds.Kind.{Kind}
 use Rattle.drc_base.specs.declared.kinds.Kind.TheVariants as kind
 use Rattle.drc_base.specs.declared.faults.Fault.{Fault}
+use Rattle.drc_base.specs.Steps.{◌>>=◌}
 use Rattle.corner_table.specs.declared.symbols.Symbol.{Symbol}
 use Rattle.corner_table.specs.declared.symbols.Symbol.TheVariants.{C, S, L, R, E}
 use Rattle.corner_table.specs.declared.symbols.Event.{Event}
@@ -12,7 +13,7 @@ use Rattle.corner_table.specs.Sides.{Side, Place, first, second, third, side, sa
 use Rattle.corner_table.specs.Fans.{side_before, meets}
 use Rattle.corner_table.proofs.Places.{option_tells, Some_injective, same-true, same-false}
 use Rattle.corner_table.proofs.Meeting.{fan_meets, meets-fan}
-use Rattle.eb_rebuild.specs.Machine.{State, Plan, start, step, close, close_top, finish, rebuild, take_symbols, close_all, first_degenerate, is_degenerate, ◌>>=◌, fault, must, top, pushed, reserve, release, event_place, note_events, with_events, grown}
+use Rattle.eb_rebuild.specs.Machine.{State, Plan, start, step, close, close_top, finish, rebuild, take_symbols, close_all, first_degenerate, is_degenerate, fault, must, top, pushed, reserve, release, event_place, note_events, with_events, grown}
 use Rattle.eb_rebuild.specs.Named.{Triangle, no_triangle, Row, new_row, row_of, row_before, without, renamed, renamed_triangle, renamed_row, NamedState, named_start, row_or_gone, top_row, named_events, named_rule, named_step, named_fill, named_close_top, named_close, has_equal, first_with_equal, named_finish, named_symbols, named_closes, named_rebuild}
 use Rattle.eb_rebuild.specs.Shown.{name_of, row_named, AreNames, without_names, AreBelow, KeptBelow, Shows, Agree}
 use Rattle.eb_rebuild.proofs.Steps.{same_state, tip_rest, split_rest, split_last, loop_test, fill_loop, fill_count, filled_state}

@@ -8,11 +8,12 @@ use Rattle.std.proofs.lemmas.List.Sums.{sum_by-cons}
 use Rattle.drc_base.specs.declared.kinds.Kind.{Kind}
 use Rattle.drc_base.specs.declared.kinds.Kind.TheVariants as kind
 use Rattle.drc_base.specs.declared.faults.Fault.{Fault}
+use Rattle.drc_base.specs.Steps.{◌>>=◌}
 use Rattle.corner_table.specs.declared.symbols.Symbol.{Symbol}
 use Rattle.corner_table.specs.declared.symbols.Symbol.TheVariants.{C, S, L, R, E}
 use Rattle.corner_table.specs.declared.symbols.Event.{Event}
 use Rattle.corner_table.specs.Sides.{Side, Place, first, second, third, side, same, next, prev, glue}
-use Rattle.eb_rebuild.specs.Machine.{State, Plan, ◌>>=◌, fault, must, pushed, note_events, step, close}
+use Rattle.eb_rebuild.specs.Machine.{State, Plan, fault, must, pushed, note_events, step, close}
 use Rattle.eb_rebuild.specs.Named.{Triangle, corner, no_triangle, Row, new_row, row_of, row_before, without, renamed, renamed_triangle, NamedState, named_start, row_or_gone, top_row, named_events, named_rule, named_step, named_fill, named_close_top, named_close, first_with_equal, named_finish, named_symbols, named_closes, named_rebuild}
 use Rattle.eb_rebuild.specs.Shown.{Among, Shows, Agree, without_names, names_in, is_split}
 use Rattle.eb_rebuild.proofs.RowLists.{found}

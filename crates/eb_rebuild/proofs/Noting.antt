@@ -5,11 +5,12 @@ use mathlib.Core.Path.{fun_ext}
 use Rattle.drc_base.specs.declared.kinds.Kind.TheVariants as kind
 use Rattle.drc_base.specs.declared.faults.Fault.{Fault}
 use Rattle.drc_base.specs.declared.limits.TheConstants.{MAX_FACES}
+use Rattle.drc_base.specs.Steps.{◌>>=◌}
 use Rattle.corner_table.specs.declared.symbols.Event.{Event}
 use Rattle.corner_table.specs.Sides.{Side, side, number, side_at}
 use Rattle.corner_table.specs.Table.{other_at, free_entry}
 use Rattle.corner_table.proofs.TableSteps.{entry_taken}
-use Rattle.eb_rebuild.specs.Machine.{note_events, must, fault, ◌>>=◌, reserve, event_place}
+use Rattle.eb_rebuild.specs.Machine.{note_events, must, fault, reserve, event_place}
 use Rattle.eb_rebuild.specs.Kept.{counted_down, no_event, kept_in, AreKeptBelow}
 
 abbrev pub Noted : Type 0

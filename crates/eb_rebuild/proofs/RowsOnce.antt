@@ -2,6 +2,7 @@
 use Rattle.std.proofs.Common.{◌≡◌, ◌≢◌, ℕ, ◌<◌, not, is_none, List, [], ◌∷◌, Option, Some, None, Result, Ok, Err, sym, refl, ap, ◌∙◌, subst, arith}
 use Rattle.drc_base.specs.declared.kinds.Kind.TheVariants as kind
 use Rattle.drc_base.specs.declared.faults.Fault.{Fault}
+use Rattle.drc_base.specs.Steps.{◌>>=◌}
 use Rattle.corner_table.specs.declared.symbols.Symbol.{Symbol}
 use Rattle.corner_table.specs.declared.symbols.Symbol.TheVariants.{C, S, L, R, E}
 use Rattle.corner_table.specs.Sides.{Side, Place, first, second, third, side, same, next, prev, Gluing, glue, IsGluing, IsFree}
@@ -10,7 +11,7 @@ use Rattle.corner_table.proofs.Places.{glue_other, next_injective, prev_injectiv
 use Rattle.corner_table.proofs.Gluings.{new_free}
 use Rattle.corner_table.proofs.Walks.{starts_once, ends_once}
 use Rattle.corner_table.proofs.Boundary.{free-left, free-right, side_before-follows}
-use Rattle.eb_rebuild.specs.Machine.{State, step, top, pushed, release, must, ◌>>=◌, with_events, grown, note_events}
+use Rattle.eb_rebuild.specs.Machine.{State, step, top, pushed, release, must, with_events, grown, note_events}
 use Rattle.eb_rebuild.specs.Named.{Row, NamedState}
 use Rattle.eb_rebuild.specs.Shown.{name_of, row_named, Among, AreBelow, KeptBelow, Shows}
 use Rattle.eb_rebuild.proofs.Steps.{Next, tip_rest, split_rest, split_last}

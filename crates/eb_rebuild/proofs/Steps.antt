@@ -3,12 +3,13 @@ use Rattle.std.proofs.Common.{◌≡◌, ◌≢◌, ℕ, suc, ◌+◌, Bool, tru
 use Rattle.drc_base.specs.declared.kinds.Kind.{Kind}
 use Rattle.drc_base.specs.declared.kinds.Kind.TheVariants as kind
 use Rattle.drc_base.specs.declared.faults.Fault.{Fault}
+use Rattle.drc_base.specs.Steps.{◌>>=◌}
 use Rattle.corner_table.specs.declared.symbols.Symbol.TheVariants.{C, S, L, R, E}
 use Rattle.corner_table.specs.declared.symbols.Event.{Event}
 use Rattle.corner_table.specs.Sides.{Side, first, second, third, side, same, Gluing, glue}
 use Rattle.corner_table.specs.Fans.{side_before}
 use Rattle.corner_table.proofs.Places.{not_same, same_refl}
-use Rattle.eb_rebuild.specs.Machine.{State, Plan, step, close, close_top, fill, top, pushed, release, must, fault, ◌>>=◌, with_events, grown, note_events}
+use Rattle.eb_rebuild.specs.Machine.{State, Plan, step, close, close_top, fill, top, pushed, release, must, fault, with_events, grown, note_events}
 
 -- a state from its parts
 abbrev pub the_state : ℕ → Gluing → List Side → (ℕ → Option Side) → List Event → ℕ → ℕ → State

@@ -4,11 +4,12 @@
 use Rattle.std.specs.Prelude.{ℕ, zero, suc, ◌+◌, Bool, true, false, not, ◌&&◌, ◌||◌, nat_le, ◌==◌, cond, List, [], ◌∷◌, ◌++◌, length, get_or, map, filter, find, Option, Some, None, Result, Ok, Err}
 use Rattle.drc_base.specs.declared.kinds.Kind.TheVariants as kind
 use Rattle.drc_base.specs.declared.faults.Fault.{Fault}
+use Rattle.drc_base.specs.Steps.{◌>>=◌}
 use Rattle.corner_table.specs.declared.symbols.Symbol.{Symbol}
 use Rattle.corner_table.specs.declared.symbols.Symbol.TheVariants.{C, S, L, R, E}
 use Rattle.corner_table.specs.declared.symbols.Event.{Event}
 use Rattle.corner_table.specs.Sides.{Side, Place, first, second, third, side, same, place_after, place_before, Gluing, unglued, glue}
-use Rattle.eb_rebuild.specs.Machine.{Plan, ◌>>=◌, fault, must, pushed, release, note_events}
+use Rattle.eb_rebuild.specs.Machine.{Plan, fault, must, pushed, release, note_events}
 
 -- the names of corners 0, 1 and 2 of a face
 abbrev pub Triangle : Type 0

@@ -6,8 +6,8 @@ use Rattle.corner_table.specs.Fans.{InFan, here, leftwards, rightwards}
 use Rattle.corner_table.specs.Prefixes.{prefix}
 use Rattle.corner_table.proofs.Places.{next-prev, prev-next}
 use Rattle.corner_table.proofs.Walks.{left_crosses, right_crosses, crosses-left, crosses-right, left-within, right-within, fan_trans, fan_sym}
-use Rattle.corner_table.proofs.Prefixing.{tells-prefix, prefix-tells}
-use Rattle.eb_trace.proofs.Below.{prefix_within, by_place}
+use Rattle.corner_table.proofs.Prefixing.{tells-prefix, prefix-tells, prefix_within}
+use Rattle.eb_trace.proofs.Below.{by_place}
 use Rattle.eb_trace.proofs.Naming.{IsNaming, IsSorting, With, named_also, add_known, add_new, of_equal}
 
 pub fans_sort : {faces : ℕ} {g : Gluing} → IsGluing faces g → IsSorting (InFan g)

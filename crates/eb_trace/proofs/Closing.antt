@@ -1,17 +1,18 @@
 -- The start bits: each side that waits is closed, a boundary or an interior start face, until the whole table is built.
 use Rattle.std.proofs.Common.{◌≡◌, ◌≢◌, ℕ, zero, suc, ◌+◌, ◌<◌, ◌≤◌, Bool, true, false, not, is_some, List, [], ◌∷◌, length, get_or, map, Option, Some, None, Ok, inl, inr, sym, refl, ap, ◌∙◌, subst, arith}
 use Rattle.std.proofs.lemmas.Bool.{cases_lt, cases_eq}
+use Rattle.drc_base.specs.Steps.{◌>>=◌}
 use Rattle.corner_table.specs.Sides.{Side, Place, first, second, third, side, same, Gluing, glue}
 use Rattle.corner_table.specs.Fans.{side_before}
 use Rattle.corner_table.proofs.Places.{option_tells, Some_injective, same_refl, not_same}
-use Rattle.corner_table.proofs.Prefixing.{tells-prefix, prefix-free, prefix-tells, gap}
-use Rattle.eb_rebuild.specs.Machine.{State, Plan, close, close_all, ◌>>=◌}
+use Rattle.corner_table.proofs.Prefixing.{tells-prefix, prefix-free, prefix-tells, gap, gap_before, surrounded_more}
+use Rattle.eb_rebuild.specs.Machine.{State, Plan, close, close_all}
 use Rattle.eb_rebuild.proofs.Steps.{Next, the_state, same_state, then_ok, close_boundary, close_interior, fill_steps, loop_test}
 use Rattle.corner_table.specs.declared.symbols.Symbol.{Symbol}
 use Rattle.corner_table.specs.Prefixes.{prefix, IsSurrounded, IsGap}
 use Rattle.eb_trace.specs.Readable.{IsReadable, IsInterior}
 use Rattle.eb_trace.specs.Front.{free_firsts}
-use Rattle.eb_trace.proofs.Below.{gap_before, surrounded_more, adds_three}
+use Rattle.eb_trace.proofs.Below.{adds_three}
 use Rattle.eb_trace.proofs.Waiting.{firsts_none, firsts_free, firsts_glued}
 use Rattle.eb_trace.proofs.Reserved.{three_all}
 

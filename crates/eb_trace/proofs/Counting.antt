@@ -8,11 +8,11 @@ use Rattle.corner_table.specs.Prefixes.{prefix, IsSurrounded, IsGap}
 use Rattle.corner_table.proofs.Places.{Some_injective}
 use Rattle.corner_table.proofs.Walks.{fan_sym, fan_trans}
 use Rattle.corner_table.proofs.Gluings.{alike_after}
-use Rattle.corner_table.proofs.Prefixing.{tells-prefix, gap, no_gap}
+use Rattle.corner_table.proofs.Prefixing.{tells-prefix, gap, no_gap, prefix_within, prefix_whole, surrounded_more}
 use Rattle.eb_trace.specs.Readable.{IsReadable, Says, IsPast, GoesOn, IsNewTip, IsSplit}
 use Rattle.eb_rebuild.specs.Shown.{is_split}
 use Rattle.eb_trace.specs.Front.{vertices_made, made_by}
-use Rattle.eb_trace.proofs.Below.{prefix_within, prefix_whole, by_place, surrounded_more, adds_none, adds_one, adds_two, adds_three}
+use Rattle.eb_trace.proofs.Below.{by_place, adds_none, adds_one, adds_two, adds_three}
 use Rattle.eb_trace.proofs.Merging.{IsMerging, merging_any}
 use Rattle.eb_trace.proofs.Adding.{HasFans, IsBase, base_of, at_place, spread, spread_old, spread_new, spread_alike, fan_more, ends_meet, starts_meet, none_new, one_new, three_new}
 

@@ -6,13 +6,12 @@ use Rattle.corner_table.specs.Fans.{HasThreeFans}
 use Rattle.corner_table.specs.Carried.{carry, IsCarried}
 use Rattle.corner_table.specs.Prefixes.{prefix}
 use Rattle.corner_table.proofs.Places.{option_tells}
-use Rattle.corner_table.proofs.Prefixing.{tells-prefix, prefix-free}
+use Rattle.corner_table.proofs.Prefixing.{tells-prefix, prefix-free, prefix_none}
 use Rattle.eb_trace.specs.Readable.{IsReadable}
 use Rattle.eb_trace.specs.Front.{free_firsts, events_left, start_bits}
 use Rattle.eb_trace.specs.Rebuilt.{symbol_at}
 use Rattle.eb_trace.specs.Trace.{Entry, trace, order_of, word_of}
 use Rattle.eb_trace.specs.Kept.{WalkOrders, WalkIsReadable}
-use Rattle.eb_trace.proofs.Below.{prefix_none}
 use Rattle.eb_trace.proofs.Waiting.{firsts_none, firsts_free, firsts_glued}
 use Rattle.eb_trace.proofs.Visited.{is_inside}
 use Rattle.eb_trace.proofs.Walking.{bits_to, bits_across, bits_none, bits_more}

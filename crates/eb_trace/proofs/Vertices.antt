@@ -7,9 +7,9 @@ use Rattle.corner_table.specs.Carried.{carry}
 use Rattle.corner_table.specs.Prefixes.{prefix}
 use Rattle.corner_table.proofs.Gluings.{more_faces}
 use Rattle.corner_table.proofs.Carrying.{carried_gluing, carry-within, carry_onto, fans_carried}
+use Rattle.corner_table.proofs.Prefixing.{prefix_whole}
 use Rattle.eb_trace.specs.Trace.{fan_count}
 use Rattle.eb_trace.specs.Vertices.{NothingHasNone, FaceAddsThree, LabelsAreFans, RenumberedAlike}
-use Rattle.eb_trace.proofs.Below.{prefix_whole}
 use Rattle.eb_trace.proofs.Naming.{IsNaming, namings_agree}
 use Rattle.eb_trace.proofs.Adding.{Among, HasFans, base_of, three_new}
 use Rattle.eb_trace.proofs.FanCount.{count_none, fan_count_is}

@@ -4,10 +4,9 @@ use Rattle.std.proofs.lemmas.Bool.{cases_eq, cond-true, cond-false}
 use Rattle.corner_table.specs.Sides.{Side, first, side, Gluing}
 use Rattle.corner_table.specs.Prefixes.{prefix}
 use Rattle.corner_table.proofs.Places.{option_tells}
-use Rattle.corner_table.proofs.Prefixing.{prefix-free}
+use Rattle.corner_table.proofs.Prefixing.{prefix-free, prefix_none}
 use Rattle.eb_trace.specs.Readable.{IsPast}
 use Rattle.eb_trace.specs.Front.{free_firsts}
-use Rattle.eb_trace.proofs.Below.{prefix_none}
 
 pub firsts_none : (h : Gluing) → free_firsts h zero ≡ []
 unfolding free_firsts

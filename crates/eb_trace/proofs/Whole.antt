@@ -2,6 +2,7 @@
 use Rattle.std.proofs.Common.{◌≡◌, ℕ, zero, suc, ◌+◌, ◌-◌, ◌<◌, ◌≤◌, Bool, false, List, [], ◌∷◌, length, take, get_or, is_some, None, Ok, inl, inr, sym, refl, ap, ◌∙◌, arith}
 use Rattle.std.proofs.lemmas.Bool.{cases_lt, cond-false, false_from_ne_true, or_from}
 use Rattle.std.proofs.lemmas.List.{length-map, length-take-le, take_all, get_or-take}
+use Rattle.drc_base.specs.Steps.{◌>>=◌}
 use mathlib.Core.Path.{fun_ext}
 use Rattle.corner_table.specs.declared.symbols.Symbol.{Symbol}
 use Rattle.corner_table.specs.declared.symbols.Symbol.TheVariants.{E}
@@ -9,13 +10,13 @@ use Rattle.corner_table.specs.Sides.{Side, first, second, third, side, next, Glu
 use Rattle.corner_table.specs.Fans.{HasThreeFans, meets}
 use Rattle.corner_table.specs.Prefixes.{prefix}
 use Rattle.corner_table.proofs.Meeting.{meets-fan}
-use Rattle.eb_rebuild.specs.Machine.{State, Plan, start, step, take_symbols, close_all, finish, rebuild, is_degenerate, first_degenerate, ◌>>=◌}
+use Rattle.corner_table.proofs.Prefixing.{prefix_nothing, prefix_whole}
+use Rattle.eb_rebuild.specs.Machine.{State, Plan, start, step, take_symbols, close_all, finish, rebuild, is_degenerate, first_degenerate}
 use Rattle.eb_rebuild.proofs.Steps.{Next, the_state, same_state, then_ok}
 use Rattle.eb_rebuild.proofs.Ends.{finish_done, finish_vertices}
 use Rattle.eb_trace.specs.Readable.{IsReadable}
 use Rattle.eb_trace.specs.Front.{free_firsts, reserved_for, events_left, made_by, front, start_bits}
 use Rattle.eb_trace.specs.Rebuilt.{symbol_at, EachStepReads, PassesFronts, ClosesLast, finished, ReadsWord, RebuildsWord, RefusesFewer}
-use Rattle.eb_trace.proofs.Below.{prefix_nothing, prefix_whole}
 use Rattle.eb_trace.proofs.Waiting.{firsts_none}
 use Rattle.eb_trace.proofs.Reserved.{reserved_early, reserved_late, reserved_none_yet}
 use Rattle.eb_trace.proofs.Events.{left_zero}

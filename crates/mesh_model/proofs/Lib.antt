@@ -10,6 +10,7 @@ pub mod Indexes
 pub mod Made
 pub mod Names
 pub mod Pairs
+pub mod Passing
 pub mod Places
 pub mod Ranges
 pub mod Rows

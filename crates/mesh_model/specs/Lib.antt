@@ -2,6 +2,7 @@ pub mod FirstFault
 pub mod Head
 pub mod Parts
 pub mod Stored
+pub mod Contents
 pub mod IsGeometry
 pub mod Same
 pub mod Renumbering

@@ -9,6 +9,7 @@
 mod assembling;
 mod clouds;
 mod corners;
+mod data_types;
 mod geometries;
 mod heads;
 mod laws;
@@ -25,6 +26,7 @@ mod tests;
 
 pub use assembling::assemble;
 pub use clouds::Cloud;
+pub use data_types::{greatest_of, least_of};
 pub use geometries::Geometry;
 pub use heads::{Head, Quant};
 pub use laws::same_is_an_equivalence;

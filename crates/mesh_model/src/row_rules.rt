@@ -3,9 +3,10 @@
 ghost use Rattle.std.specs.Prelude.{◌≡◌, ◌+◌, ◌*◌, ◌/◌, ◌<◌, ◌≤◌, ◌^◌, ℕ, [], length, slice_index_or, nat_lt, not, All, position, take, IsTrue, None};
 ghost use Rattle.std.specs.List.{list_all};
 ghost use Rattle.mesh_model.specs.FirstFault.{Tests};
-ghost use Rattle.mesh_model.specs.Head.{in_type, types_of, width_of};
+ghost use Rattle.mesh_model.specs.Head.{types_of, width_of};
 ghost use Rattle.mesh_model.specs.Parts.{count_fault, faces_fault, index_fault, range_fault, rows_of};
 
+use crate::data_types::in_type;
 use crate::heads::Head;
 use drc_base::{Fault, Kind, MAX_FACES, MAX_POINTS, MAX_VALUES};
 
@@ -85,21 +86,6 @@ pub(crate) fn test_indices(points: u32, faces: &[[u32; 3]]) -> Result<(), Fault>
             kind: Kind::IndexRange,
             at: at as u64,
         }),
-    }
-}
-
-/// Whether a value is in the range of a data type.
-#[tactic(auto, unfolding(crate::specs::Head::in_type))]
-fn in_type(dtype: u8, value: i32) -> bool
-    ensures { result ≡ in_type dtype value }
-{
-    match dtype {
-        1 => -128 <= value && value <= 127,
-        2 => 0 <= value && value <= 255,
-        3 => -32768 <= value && value <= 32767,
-        4 => 0 <= value && value <= 65535,
-        5 | 9 => true,
-        _ => 0 <= value,
     }
 }
 

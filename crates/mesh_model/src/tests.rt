@@ -31,6 +31,14 @@ fn mesh(alloc: Global, dtype: u8, points: &[i32], faces: &[[u32; 3]]) -> Result<
     CornerMesh::new(heads, points.to_vec(alloc)?, faces.to_vec(alloc)?)
 }
 
+/// A cloud of positions.
+fn cloud(alloc: Global, dtype: u8, points: &[i32]) -> Result<Cloud, Refusal>
+    requires { length points.now % 3 ≡ 0 }
+{
+    let heads = vec![in alloc; positions(dtype)]?;
+    Cloud::new(heads, points.to_vec(alloc)?)
+}
+
 /// A renumbering.
 fn rows(alloc: Global, rows: &[(u32, u8)]) -> Result<Renumber, AllocError> {
     Ok(Renumber {
@@ -65,9 +73,63 @@ fn tells_meshes_that_are_the_same(rt: HostRuntime) -> Result<(), Fail> {
     assert!(rt; !matches(alloc, &a, &over, &plain)?);
     let short = Geometry::Mesh(mesh(alloc, 3, &SQUARE, &[[0, 1, 2], [0, 2, 3]])?);
     assert!(rt; !matches(alloc, &a, &short, &plain)?);
-    let heads = vec![in alloc; positions(5)]?;
-    let cloud = Geometry::Cloud(Cloud::new(heads, SQUARE.to_vec(alloc)?)?);
-    assert!(rt; !matches(alloc, &a, &cloud, &plain)?);
+    let points = Geometry::Cloud(cloud(alloc, 5, &SQUARE)?);
+    assert!(rt; !matches(alloc, &a, &points, &plain)?);
+    Ok(())
+}
+
+const IN_ORDER: [(u32, u8); 4] = [(0, 0), (1, 0), (2, 0), (3, 0)];
+
+#[test]
+fn tells_clouds_that_are_the_same(rt: HostRuntime) -> Result<(), Fail> {
+    let alloc = rt.alloc();
+    let a = Geometry::Cloud(cloud(alloc, 5, &SQUARE)?);
+    // The first point put last.
+    let b = Geometry::Cloud(cloud(alloc, 5, &[1, 0, 0, 1, 1, 0, 0, 1, 0, 0, 0, 0])?);
+    for (given, same) in [
+        ([(1, 0), (2, 0), (3, 0), (0, 0)].as_slice(), true),
+        ([(3, 0), (0, 0), (1, 0), (2, 0)].as_slice(), false),
+        (IN_ORDER.as_slice(), false),
+        ([(1, 0), (2, 0), (3, 0), (0, 1)].as_slice(), false),
+        ([(1, 0), (2, 0), (3, 0)].as_slice(), false),
+        ([(1, 0), (2, 0), (3, 0), (3, 0)].as_slice(), false),
+        ([(1, 0), (2, 0), (3, 0), (4, 0)].as_slice(), false),
+        ([(1, 0), (2, 0), (3, 0), (0, 0), (0, 0)].as_slice(), false),
+    ] {
+        assert_eq!(rt; matches(alloc, &a, &b, &rows(alloc, given)?)?, same);
+    }
+    // Another integer, another type, and no cloud.
+    let plain = rows(alloc, &IN_ORDER)?;
+    assert!(rt; matches(alloc, &a, &a, &plain)?);
+    let other = Geometry::Cloud(cloud(alloc, 5, &[0, 0, 0, 1, 0, 0, 1, 1, 0, 0, 1, 2])?);
+    assert!(rt; !matches(alloc, &a, &other, &plain)?);
+    let short = Geometry::Cloud(cloud(alloc, 3, &SQUARE)?);
+    assert!(rt; !matches(alloc, &a, &short, &plain)?);
+    let square = Geometry::Mesh(mesh(alloc, 5, &SQUARE, &[[0, 1, 2], [0, 2, 3]])?);
+    assert!(rt; !matches(alloc, &a, &square, &plain)?);
+    Ok(())
+}
+
+#[test]
+fn counts_equal_points_of_clouds(rt: HostRuntime) -> Result<(), Fail> {
+    let alloc = rt.alloc();
+    let four = Geometry::Cloud(cloud(alloc, 5, &SQUARE)?);
+    // The third point twice, and the fourth not.
+    let twice = Geometry::Cloud(cloud(alloc, 5, &[0, 0, 0, 1, 0, 0, 1, 1, 0, 1, 1, 0])?);
+    let in_order = rows(alloc, &IN_ORDER)?;
+    let third_named_twice = rows(alloc, &[(0, 0), (1, 0), (2, 0), (2, 0)])?;
+    let exchanged = rows(alloc, &[(0, 0), (1, 0), (3, 0), (2, 0)])?;
+    for (a, b, given, same) in [
+        (&four, &twice, &in_order, false),
+        (&four, &twice, &third_named_twice, false),
+        (&twice, &four, &in_order, false),
+        (&twice, &four, &third_named_twice, false),
+        (&twice, &twice, &in_order, true),
+        (&twice, &twice, &exchanged, true),
+        (&twice, &twice, &third_named_twice, false),
+    ] {
+        assert_eq!(rt; matches(alloc, a, b, given)?, same);
+    }
     Ok(())
 }
 

@@ -3,6 +3,7 @@ pub mod Least
 pub mod Pushes
 pub mod Turns
 pub mod Proper
+pub mod Left
 pub mod PairNumbers
 pub mod PositionLists
 pub mod EdgeNumbers

@@ -1,22 +1,23 @@
 -- The sides of a mesh at the beginning, and the surface at the end.
-use Rattle.std.proofs.Common.{◌≡◌, ◌≢◌, ℕ, ◌-◌, ◌*◌, ◌^◌, ◌<◌, ◌≤◌, Bool, true, false, ◌||◌, List, length, get_or, replicate, Some, None, inl, inr, sym, refl, ap, ◌∙◌, arith}
+use Rattle.std.proofs.Common.{◌≡◌, ◌≢◌, ℕ, ◌-◌, ◌*◌, ◌^◌, ◌<◌, ◌≤◌, Bool, true, false, not, ◌&&◌, ◌||◌, List, length, get_or, replicate, Some, None, inl, inr, sym, refl, ap, ◌∙◌, subst, arith}
 use Rattle.std.proofs.lemmas.Bool.{cases_eq, eq-eqb, ne_eqb, cases_lt}
 use Rattle.std.proofs.lemmas.List.{get_or-replicate, get_or_past, length-replicate}
 use Rattle.drc_base.specs.declared.kinds.Kind.TheVariants.{Degenerate}
 use Rattle.mesh_model.specs.FirstFault.{at_place}
 use Rattle.mesh_model.specs.Parts.{MeshParts, IsMesh}
 use Rattle.mesh_model.proofs.DistinctRows.{same_row-refl, same_row-apart}
-use Rattle.corner_table.specs.Sides.{Side, Place, first, second, third, side, next, side_at, unglued}
+use Rattle.corner_table.specs.Sides.{Side, Place, first, second, third, side, next, prev, side_at, Gluing, unglued}
 use Rattle.corner_table.specs.Fans.{IsProper}
 use Rattle.corner_table.proofs.Numbers.{face-lt, number-side_at}
-use Rattle.pairing.specs.Pairing.{corner_position, same_position, paired, pairing}
+use Rattle.pairing.specs.Pairing.{corner_position, same_position, may_pair, paired, pairing, PairsFit, NoneIsLeft}
 use Rattle.pairing.specs.Degenerate.{is_degenerate, degenerate_fault}
 use Rattle.pairing.specs.Positions.{position_in, same_in, AreCornerNumbers, AreTriangles}
 use Rattle.pairing.specs.Classes.{AreClasses, AreLinked, AreFirsts}
 use Rattle.pairing.specs.Turns.{AreSides, IsUpTo}
 use Rattle.pairing.proofs.Least.{found, missing, least_tells}
-use Rattle.pairing.proofs.Turns.{paired-congr, pairs_are}
+use Rattle.pairing.proofs.Turns.{ArePairs, paired-congr, pairs_are, tells-may_pair}
 use Rattle.pairing.proofs.Proper.{pairs_proper}
+use Rattle.pairing.proofs.Left.{none_left}
 
 or_false : (a b : Bool) → (a || b) ≡ false → (a ≡ false) × (b ≡ false)
 or_false true b e = absurd (cc)
@@ -100,15 +101,39 @@ up_to_begins thirds classes firsts count n e F = record {
   };
 }
 
+-- positions are told apart by their numbers
+same_by_numbers : (m : MeshParts) (numbers : List ℕ) → AreCornerNumbers m numbers → (c d : Side) → c.face < length m.faces → d.face < length m.faces → same_in numbers c d ≡ same_position m c d
+same_by_numbers m numbers N c d h k = elim (cases_eq (position_in numbers c) (position_in numbers d)) [
+  | inl e ↦ eq-eqb (position_in numbers c) (position_in numbers d) e ∙ sym (same_row-refl (corner_position m c) (corner_position m d) (N.apart c d h k e))
+  | inr n ↦ ne_eqb (position_in numbers c) (position_in numbers d) n ∙ sym (same_row-apart (corner_position m c) (corner_position m d) (λ e. n (N.alike c d h k e)))
+]
+
+-- and so are the sides that may be paired
+may_pair_by_numbers : (m : MeshParts) (numbers : List ℕ) → AreCornerNumbers m numbers → (x y : Side) → x.face < length m.faces → y.face < length m.faces → may_pair (same_in numbers) x y ≡ may_pair (same_position m) x y
+may_pair_by_numbers m numbers N x y h k =
+    ap (λ (b : Bool). b && same_in numbers (prev x) (next y) && not (same_in numbers x y)) (same_by_numbers m numbers N (next x) (prev y) h k)
+    ∙ ap (λ (b : Bool). same_position m (next x) (prev y) && b && not (same_in numbers x y)) (same_by_numbers m numbers N (prev x) (next y) h k)
+    ∙ ap (λ (b : Bool). same_position m (next x) (prev y) && same_position m (prev x) (next y) && not b) (same_by_numbers m numbers N x y h k)
+
 -- the pairs by numbers are the mesh's
 pub pairing_is : (m : MeshParts) (numbers : List ℕ) → AreCornerNumbers m numbers → paired (same_in numbers) (3 * length m.faces) ≡ pairing m
-pairing_is m numbers N = paired-congr agree (3 * length m.faces) (omega arith)
+pairing_is m numbers N = paired-congr (same_by_numbers m numbers N) (3 * length m.faces) (omega arith)
+
+-- each pair may be one, and no two sides that may be paired are left free
+pub pairs_fit : (m : MeshParts) (numbers : List ℕ) (faces : ℕ) (g : Gluing) → AreTriangles (length m.faces) numbers → AreCornerNumbers m numbers → faces ≡ length m.faces → g ≡ paired (same_in numbers) (3 * faces) → PairsFit (same_position m) g
+pairs_fit m numbers faces g T N f p = subst (PairsFit (same_position m)) (sym (p ∙ ap (λ (n : ℕ). paired (same_in numbers) (3 * n)) f)) fits
   where
-    agree : (c d : Side) → c.face < length m.faces → d.face < length m.faces → same_in numbers c d ≡ same_position m c d
-    agree c d h k = elim (cases_eq (position_in numbers c) (position_in numbers d)) [
-      | inl e ↦ eq-eqb (position_in numbers c) (position_in numbers d) e ∙ sym (same_row-refl (corner_position m c) (corner_position m d) (N.apart c d h k e))
-      | inr n ↦ ne_eqb (position_in numbers c) (position_in numbers d) n ∙ sym (same_row-apart (corner_position m c) (corner_position m d) (λ e. n (N.alike c d h k e)))
-    ]
+    P : ArePairs (length m.faces) numbers (3 * length m.faces) (paired (same_in numbers) (3 * length m.faces))
+    P = pairs_are T (3 * length m.faces) (omega arith)
+
+    fits : PairsFit (same_position m) (paired (same_in numbers) (3 * length m.faces))
+    fits x y e =
+        sym (may_pair_by_numbers m numbers N x y (P.gluing.within x y e) (P.gluing.within y x (P.gluing.paired x y e)))
+        ∙ tells-may_pair numbers x y (P.reversed x y e)
+
+pub none_is_left : (m : MeshParts) (numbers : List ℕ) (faces : ℕ) (g : Gluing) → AreTriangles (length m.faces) numbers → AreCornerNumbers m numbers → faces ≡ length m.faces → g ≡ paired (same_in numbers) (3 * faces) → NoneIsLeft faces (same_position m) g
+none_is_left m numbers faces g T N f p =
+    rw (p, f) (λ x y F G. sym (may_pair_by_numbers m numbers N x y F.within G.within) ∙ none_left T x y F G)
 
 pub surface_proper : (faces : ℕ) (numbers : List ℕ) → AreTriangles faces numbers → IsProper faces (paired (same_in numbers) (3 * faces))
 surface_proper faces numbers T = pairs_proper T (pairs_are T (3 * faces) (omega arith))

@@ -1,11 +1,11 @@
 -- Which sides of a mesh are glued: sides in order, each to the least earlier free side that runs the
 -- other way between the same positions, in another triangle (this project's choice).
-use Rattle.std.specs.Prelude.{ℕ, zero, suc, ◌*◌, ◌&&◌, Bool, not, cond, ℤ, List, [], ◌∷◌, take, length, Option, Some, None}
+use Rattle.std.specs.Prelude.{◌≡◌, ℕ, zero, suc, ◌*◌, ◌&&◌, Bool, true, false, not, cond, ℤ, List, [], ◌∷◌, take, length, Option, Some, None}
 use Rattle.std.specs.Option.{is_some}
 use Rattle.mesh_model.specs.declared.heads.Head.{Head}
 use Rattle.mesh_model.specs.Parts.{MeshParts, corner}
 use Rattle.mesh_model.specs.Assembled.{same_row}
-use Rattle.corner_table.specs.Sides.{Side, next, prev, side_at, place_number, Gluing, unglued, glue}
+use Rattle.corner_table.specs.Sides.{Side, next, prev, side_at, place_number, Gluing, unglued, glue, IsFree}
 
 -- how many integers the first attribute has
 abbrev pub first_width : List Head → ℕ
@@ -46,3 +46,11 @@ paired one_position (suc n) = turn_of one_position n (paired one_position n)
 -- the pairs of a mesh
 abbrev pub pairing : MeshParts → Gluing
 pairing m = paired (same_position m) (3 * length m.faces)
+
+-- each pair may be one
+abbrev pub PairsFit : (Side → Side → Bool) → Gluing → Type 0
+PairsFit one_position g = (x y : Side) → g x ≡ Some y → may_pair one_position x y ≡ true
+
+-- of the sides left free no two may be paired
+abbrev pub NoneIsLeft : ℕ → (Side → Side → Bool) → Gluing → Type 0
+NoneIsLeft faces one_position g = (x y : Side) → IsFree faces g x → IsFree faces g y → may_pair one_position x y ≡ false

@@ -10,7 +10,7 @@ ghost use Rattle.drc_base.specs.declared.limits.TheConstants.{MAX_FACES as most_
 ghost use Rattle.corner_table.specs.Sides.{side_at, unglued};
 ghost use Rattle.corner_table.specs.Fans.{IsProper};
 ghost use Rattle.corner_table.specs.Table.{gluing_of, room_of, side_of};
-ghost use Rattle.pairing.specs.Pairing.{paired, pairing};
+ghost use Rattle.pairing.specs.Pairing.{paired, pairing, same_position, PairsFit, NoneIsLeft};
 ghost use Rattle.pairing.specs.Degenerate.{degenerate_fault};
 ghost use Rattle.pairing.specs.Positions.{AreCornerNumbers, same_in};
 ghost use Rattle.pairing.specs.Turns.{AreSides, IsUpTo};
@@ -148,6 +148,8 @@ fn surface_of(alloc: Global, m: &CornerMesh) -> Result<SideTable, Memory>
     ensures faces { IfOk result (λ t. t.faces ≡ length m.now.faces) }
     ensures pairs { IfOk result (λ t. gluing_of t ≡ pairing m.now) }
     ensures proper { IfOk result (λ t. IsProper t.faces (gluing_of t)) }
+    ensures fits { IfOk result (λ t. PairsFit (same_position m.now) (gluing_of t)) }
+    ensures none_left { IfOk result (λ t. NoneIsLeft t.faces (same_position m.now) (gluing_of t)) }
 {
     let Start {
         sides,
@@ -162,12 +164,15 @@ fn surface_of(alloc: Global, m: &CornerMesh) -> Result<SideTable, Memory>
 /// The surface of a mesh: its faces, and its sides glued in pairs. Sides 3f + k take their turns in
 /// order; each is glued to the least earlier free side that runs between the same two positions the
 /// other way and whose third position is another. A position is what the first attribute has at a
-/// point. The surface is proper. Refusals: Degenerate at the first face with two equal positions,
+/// point. So each pair may be one, no two sides that are left free may be, and the surface is proper (this
+/// project's choice). Refusals: Degenerate at the first face with two equal positions,
 /// and want of memory, which is told of meshes without such a face alone.
 pub fn pair(alloc: Global, m: &CornerMesh) -> Result<SideTable, Refusal>
     ensures faces { IfOk result (λ t. t.faces ≡ length m.now.faces) }
     ensures pairs { IfOk result (λ t. gluing_of t ≡ pairing m.now) }
     ensures proper { IfOk result (λ t. IsProper t.faces (gluing_of t)) }
+    ensures fits { IfOk result (λ t. PairsFit (same_position m.now) (gluing_of t)) }
+    ensures none_left { IfOk result (λ t. NoneIsLeft t.faces (same_position m.now) (gluing_of t)) }
     ensures degenerate { (f : fault_value) → (result ≡ Err (refusal.Fault f)) ↔ (degenerate_fault m.now ≡ Some f) }
     ensures memory { result ≡ Err refusal.Memory → degenerate_fault m.now ≡ None }
 {

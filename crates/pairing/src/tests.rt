@@ -1,16 +1,14 @@
 //! Worked surfaces: which sides are glued, and how many vertices there are.
 
-ghost use Rattle.std.specs.Prelude.{◌≡◌, ◌<◌};
-
 use crate::pair;
-use corner_table::{SideTable, Steps};
-use drc_base::{Fault, Kind, Memory, Refusal, Side};
+use drc_base::{Fault, Kind, Refusal};
 use mesh_model::{CornerMesh, Head};
 use std::alloc::Global;
-use std::marker::Brand;
 use std::process::Abort;
-use std::sync::ledger::{Blank, Ledger};
 use std::test::Fail;
+
+/// What the table has across a free side.
+const FREE: u32 = u32::MAX;
 
 /// A mesh of these faces, whose point i has the position (p, p * p, 0) for the number p at i. The
 /// numbers are small.
@@ -38,26 +36,6 @@ fn mesh(
     let heads = vec![in alloc; head]?;
     assert!(rt; points.len() % 3 == 0);
     CornerMesh::new(heads, points, faces.to_vec(alloc)?)
-}
-
-/// For each side the number of the side across, and -1 where it is free.
-fn across<L: Ledger>(alloc: Global, table: &SideTable, blank: Blank) -> Result<Vec<i64>, Memory>
-    requires name { blank.name ≡ L.name }
-    requires parts { blank.parts ≡ L.parts }
-    requires some { 0 < L.parts }
-{
-    let mut steps = Steps::<L>::new(blank);
-    let mut sides = Vec::new(alloc);
-    for face in 0..table.face_count() {
-        for k in 0..3u8 {
-            let number = match table.other(Side { face, k }, &mut steps) {
-                Some(s) => 3 * i64::from(s.face) + i64::from(s.k),
-                None => -1,
-            };
-            sides.push(number)?;
-        }
-    }
-    Ok(sides)
 }
 
 #[test]
@@ -112,7 +90,7 @@ fn glues_worked_surfaces(rt: HostRuntime) -> Result<(), Fail> {
             &distinct[..6],
             ring.as_slice(),
             [
-                4, 17, -1, -1, 0, 7, 10, 5, -1, -1, 6, 13, 16, 11, -1, -1, 12, 1,
+                4, 17, FREE, FREE, 0, 7, 10, 5, FREE, FREE, 6, 13, 16, 11, FREE, FREE, 12, 1,
             ]
             .as_slice(),
             6,
@@ -121,39 +99,48 @@ fn glues_worked_surfaces(rt: HostRuntime) -> Result<(), Fail> {
         (
             &distinct[..3],
             [[0, 1, 2], [0, 2, 1]].as_slice(),
-            [-1; 6].as_slice(),
+            [FREE; 6].as_slice(),
             6,
         ),
         (
             &distinct[..3],
             [[0, 1, 2], [0, 1, 2]].as_slice(),
-            [-1; 6].as_slice(),
+            [FREE; 6].as_slice(),
             6,
         ),
         // Three faces on one edge: the third finds no free side.
         (
             &distinct[..5],
             [[0, 1, 2], [1, 0, 3], [1, 0, 4]].as_slice(),
-            [-1, -1, 5, -1, -1, 2, -1, -1, -1].as_slice(),
+            [FREE, FREE, 5, FREE, FREE, 2, FREE, FREE, FREE].as_slice(),
+            7,
+        ),
+        // Three faces on one edge: the third takes the first, the least of the two that fit.
+        (
+            &distinct[..5],
+            [[0, 1, 2], [0, 1, 3], [1, 0, 4]].as_slice(),
+            [FREE, FREE, 8, FREE, FREE, FREE, FREE, FREE, 2].as_slice(),
             7,
         ),
         // Five faces on one edge: the third can't take the first, which has its third position.
         (
             &distinct[..5],
             [[0, 1, 2], [0, 1, 3], [1, 0, 2], [1, 0, 3], [1, 0, 4]].as_slice(),
-            [-1, -1, 11, -1, -1, 8, -1, -1, 5, -1, -1, 2, -1, -1, -1].as_slice(),
+            [
+                FREE, FREE, 11, FREE, FREE, 8, FREE, FREE, 5, FREE, FREE, 2, FREE, FREE, FREE,
+            ]
+            .as_slice(),
             11,
         ),
         (
             shared.as_slice(),
             [[0, 1, 2], [3, 4, 5]].as_slice(),
-            [5, -1, -1, -1, -1, 0].as_slice(),
+            [5, FREE, FREE, FREE, FREE, 0].as_slice(),
             4,
         ),
     ] {
         let table = pair(alloc, &mesh(&rt, alloc, positions, faces)?)?;
-        let glued = across::<Brand>(alloc, &table, Blank::new(1))?;
-        assert!(&rt; glued.as_slice() == sides);
+        assert!(&rt; table.across() == sides);
         assert_eq!(&rt; table.label_vertices(alloc)?.count, vertices);
     }
     // The second face has one position at two points.

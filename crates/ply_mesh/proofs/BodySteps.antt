@@ -5,9 +5,9 @@ use Rattle.drc_base.specs.declared.faults.Fault.{Fault}
 use Rattle.drc_base.specs.declared.faults.Refusal.{Refusal}
 use Rattle.drc_base.specs.declared.faults.Refusal.TheVariants as refusal
 use Rattle.drc_base.specs.Refusals.{Refuses}
+use Rattle.drc_base.specs.Steps.{◌>>=◌}
 use Rattle.mesh_model.specs.declared.geometries.Geometry.TheVariants.{Mesh, Cloud}
 use Rattle.ply_text.specs.declared.headers.Header.{Header}
-use Rattle.ply_text.specs.Faults.{◌>>=◌}
 use Rattle.ply_mesh.specs.Body.{row_of, face_of, items_from, ends}
 use Rattle.ply_mesh.specs.Read.{head_of, geometry_of, body_of, ply_read}
 use Rattle.std.specs.Str.Lines.{lines}

@@ -6,7 +6,8 @@ use Rattle.std.specs.Ordering.{int_eq}
 use Rattle.std.proofs.lemmas.Bool.{ne_eqb}
 use Rattle.std.proofs.lemmas.List.{length-map}
 use Rattle.drc_base.specs.declared.kinds.Kind.TheVariants.{PlyRow, PlyNumber, PlyFace}
-use Rattle.ply_text.specs.Faults.{or_refuse, ◌>>=◌}
+use Rattle.drc_base.specs.Steps.{◌>>=◌}
+use Rattle.ply_text.specs.Faults.{or_refuse}
 use Rattle.ply_text.specs.Tokens.{tokens_of}
 use Rattle.ply_text.specs.Numbers.{first_integer, is_between}
 use Rattle.ply_mesh.specs.Body.{IsRange, numbers_of, points_of, indices_of, count_of, counted_face, face_of, texts}

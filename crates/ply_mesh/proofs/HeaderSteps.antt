@@ -10,6 +10,7 @@ use Rattle.drc_base.specs.declared.limits.TheConstants.{MAX_POINTS, MAX_FACES}
 use Rattle.mesh_model.specs.declared.heads.Head.{Head}
 use Rattle.mesh_model.specs.declared.heads.Quant.{Quant}
 use Rattle.mesh_model.specs.Head.{has_type, has_minima, has_bits}
+use Rattle.mesh_model.proofs.Passing.{HeadSays}
 use Rattle.ply_text.specs.declared.headers.PlyHead.{PlyHead}
 use Rattle.ply_text.specs.declared.headers.PlyQuant.{PlyQuant}
 use Rattle.ply_text.specs.Words.{keyword_of, type_of, is_indices}
@@ -19,7 +20,6 @@ use Rattle.ply_text.specs.Draft.{Draft, PropertyParts, property, element, scalar
 use Rattle.ply_text.specs.Header.{column_type, is_end, header_from}
 use Rattle.ply_mesh.specs.Fields.{QuantFields, HasFields}
 use Rattle.ply_mesh.specs.Text.{pattern_text, attr_line, quant_line, quant_lines, head_lines, type_word, name_at, property_line, component_lines, property_lines, is_named, element_line, list_line}
-use Rattle.ply_mesh.proofs.Passed.{HeadPasses}
 use Rattle.ply_mesh.proofs.NumberTexts.{within_again, is_digits_again, pattern_again}
 
 abbrev pub Lines : Type 0
@@ -59,10 +59,10 @@ dtype_right d None h =
     (rw (p.0, p.1) refl, omega (arith, leb-true d 6 p.1))
 dtype_right d (Some q) h = let e : d ≡ 9 = eqb-true d 9 h in (rw e refl, omega arith)
 
-head_again : (number : ℕ) (h : Head) → number ≤ 15 → HeadPasses h → HasFields h → head_of number (decimal number) (decimal h.usage) (decimal h.dtype) (decimal h.comps) (decimal h.normalized) (decimal h.id) ≡ Some (bare h)
+head_again : (number : ℕ) (h : Head) → number ≤ 15 → HeadSays h → HasFields h → head_of number (decimal number) (decimal h.usage) (decimal h.dtype) (decimal h.comps) (decimal h.normalized) (decimal h.id) ≡ Some (bare h)
 unfolding head_of
 head_again number h few p f =
-    let t = dtype_right h.dtype h.quant p.type-is in
+    let t = dtype_right h.dtype h.quant p.typed in
     rw (
       within_again 15 number few (omega arith),
       eq-eqb number number refl,
@@ -79,7 +79,7 @@ head_again number h few p f =
 abbrev pub with_heads : List PlyHead → Draft
 with_heads heads = record { formatted = true; heads = heads; vertices = None; properties = []; faces = None; list = None }
 
-attr_step : (done : List PlyHead) (h : Head) (at : ℕ) → length done ≤ 15 → HeadPasses h → HasFields h → statement at (with_heads done) (attr_line (length done) h) ≡ Ok (with_heads (done ++ bare h ∷ []))
+attr_step : (done : List PlyHead) (h : Head) (at : ℕ) → length done ≤ 15 → HeadSays h → HasFields h → statement at (with_heads done) (attr_line (length done) h) ≡ Ok (with_heads (done ++ bare h ∷ []))
 unfolding statement comment attribute attr_line keyword_of is_form attr_of
 attr_step done h at few p f = rw (lt-leb 16 (length done) (omega arith), head_again (length done) h few p f) refl
 
@@ -114,7 +114,7 @@ quant_end : (d : List PlyHead) (k : ℕ) (q : Quant) → is_end (with_heads d) (
 unfolding quant_line keyword_of
 quant_end d k q = refl
 
-one_head : (done : List PlyHead) (h : Head) → length done ≤ 15 → HeadPasses h → HasFields h → Passes (with_heads done) (attr_line (length done) h ∷ quant_lines (length done) h.quant) (with_heads (done ++ ply_head h ∷ []))
+one_head : (done : List PlyHead) (h : Head) → length done ≤ 15 → HeadSays h → HasFields h → Passes (with_heads done) (attr_line (length done) h ∷ quant_lines (length done) h.quant) (with_heads (done ++ ply_head h ∷ []))
 one_head done h few p f = go h.quant refl where
   first : Passes (with_heads done) (attr_line (length done) h ∷ []) (with_heads (done ++ bare h ∷ []))
   first = Passes-one (with_heads done) (attr_line (length done) h) (with_heads (done ++ bare h ∷ [])) (attr_end done (length done) h) (λ at. attr_step done h at few p f)
@@ -128,7 +128,7 @@ one_head done h few p f = go h.quant refl where
       Passes-append (with_heads done) (with_heads (done ++ bare h ∷ [])) (with_heads (done ++ record (bare h) { quant = Some (ply_quant q) } ∷ [])) (attr_line (length done) h ∷ []) (quant_line (length done) q ∷ []) first
       (Passes-one (with_heads (done ++ bare h ∷ [])) (quant_line (length done) q) (with_heads (done ++ record (bare h) { quant = Some (ply_quant q) } ∷ [])) (quant_end (done ++ bare h ∷ []) (length done) q) (λ at. quant_step done h q at few m b fq))
 
-pub heads_step : (k : ℕ) (done : List PlyHead) (hs : List Head) → k ≡ length done → length done + length hs ≤ 16 → AllByRecursion HeadPasses hs → AllByRecursion HasFields hs → Passes (with_heads done) (head_lines k hs) (with_heads (done ++ map ply_head hs))
+pub heads_step : (k : ℕ) (done : List PlyHead) (hs : List Head) → k ≡ length done → length done + length hs ≤ 16 → AllByRecursion HeadSays hs → AllByRecursion HasFields hs → Passes (with_heads done) (head_lines k hs) (with_heads (done ++ map ply_head hs))
 heads_step k done [] e few p f = subst (λ (xs : List PlyHead). Passes (with_heads done) [] (with_heads xs)) (sym (append-nil done)) (Passes-nil (with_heads done))
 heads_step k done (h ∷ hs) e few p f =
     let n : length (done ++ ply_head h ∷ []) ≡ length done + 1 = length-append done (ply_head h ∷ []) in
@@ -197,11 +197,11 @@ abbrev pub all_properties : List Head → ℕ → List Head → List PropertyPar
 all_properties all k [] = []
 all_properties all k (h ∷ hs) = components_of (is_named all k h) k h 0 h.comps ++ all_properties all (k + 1) hs
 
-pub properties_step : (heads : List PlyHead) (n : ℕ) (ps : List PropertyParts) (all : List Head) (k : ℕ) (hs : List Head) → AllByRecursion HeadPasses hs → Passes (with_points heads n ps) (property_lines all k hs) (with_points heads n (ps ++ all_properties all k hs))
+pub properties_step : (heads : List PlyHead) (n : ℕ) (ps : List PropertyParts) (all : List Head) (k : ℕ) (hs : List Head) → AllByRecursion HeadSays hs → Passes (with_points heads n ps) (property_lines all k hs) (with_points heads n (ps ++ all_properties all k hs))
 properties_step heads n ps all k [] p = subst (λ (xs : List PropertyParts). Passes (with_points heads n ps) [] (with_points heads n xs)) (sym (append-nil ps)) (Passes-nil (with_points heads n ps))
 properties_step heads n ps all k (h ∷ hs) p =
     let cs = components_of (is_named all k h) k h 0 h.comps in
-    let one = components_step heads n ps (is_named all k h) k h 0 h.comps (dtype_right h.dtype h.quant p.0.type-is) in
+    let one = components_step heads n ps (is_named all k h) k h 0 h.comps (dtype_right h.dtype h.quant p.0.typed) in
     let rest = properties_step heads n (ps ++ cs) all (k + 1) hs p.1 in
     subst (λ (xs : List PropertyParts). Passes (with_points heads n ps) (property_lines all k (h ∷ hs)) (with_points heads n xs)) (append_assoc ps cs (all_properties all (k + 1) hs))
     (Passes-append (with_points heads n ps) (with_points heads n (ps ++ cs)) (with_points heads n ((ps ++ cs) ++ all_properties all (k + 1) hs)) (component_lines (is_named all k h) k h 0 h.comps) (property_lines all (k + 1) hs) one rest)

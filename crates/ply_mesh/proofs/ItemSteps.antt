@@ -8,8 +8,8 @@ use Rattle.drc_base.specs.declared.faults.Refusal.{Refusal}
 use Rattle.drc_base.specs.declared.faults.Refusal.TheVariants as refusal
 use Rattle.drc_base.specs.declared.kinds.Kind.TheVariants.{PlyShort}
 use Rattle.drc_base.specs.Refusals.{Refuses}
+use Rattle.drc_base.specs.Steps.{◌>>=◌}
 use Rattle.mesh_model.specs.Parts.{cells_of}
-use Rattle.ply_text.specs.Faults.{◌>>=◌}
 use Rattle.ply_mesh.specs.Body.{items_from, Appends, AreRowsRead}
 
 -- items in front of those that are still read

@@ -9,7 +9,6 @@ pub mod Finish
 pub mod LineTexts
 pub mod PropertyTexts
 pub mod RowTexts
-pub mod Passed
 pub mod Lexing
 pub mod NumberTexts
 pub mod HeaderSteps

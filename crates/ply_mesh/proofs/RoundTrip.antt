@@ -9,6 +9,7 @@ use Rattle.std.proofs.lemmas.List.{length-append, length-map, drop_at, map-appen
 use Rattle.std.proofs.lemmas.List.Elements.{recursion_from_All}
 use Rattle.drc_base.specs.declared.faults.Fault.{Fault}
 use Rattle.drc_base.specs.declared.limits.TheConstants.{MAX_POINTS, MAX_FACES, MAX_VALUES, MAX_ATTRIBUTES}
+use Rattle.drc_base.specs.Steps.{◌>>=◌}
 use Rattle.mesh_model.specs.declared.heads.Head.{Head}
 use Rattle.mesh_model.specs.declared.heads.Quant.{Quant}
 use Rattle.mesh_model.specs.declared.geometries.Geometry.{Geometry}
@@ -16,19 +17,19 @@ use Rattle.mesh_model.specs.declared.geometries.Geometry.TheVariants.{Mesh, Clou
 use Rattle.mesh_model.specs.Head.{width_of, types_of as column_dtypes, has_type}
 use Rattle.mesh_model.specs.Parts.{RowFits, ArePoints, IsFaceOf}
 use Rattle.mesh_model.proofs.Columns.{width_of-bounds}
+use Rattle.mesh_model.specs.Contents.{heads_in}
 use Rattle.mesh_model.specs.IsGeometry.{IsGeometry}
+use Rattle.mesh_model.proofs.Passing.{HeadSays, HeadsSay, heads_say}
 use Rattle.ply_text.specs.declared.headers.Header.{Header}
-use Rattle.ply_text.specs.Faults.{◌>>=◌}
 use Rattle.ply_text.specs.Tokens.{token_lines}
 use Rattle.ply_text.specs.Words.{keyword_of}
 use Rattle.ply_text.specs.Declarations.{is_magic, is_format}
 use Rattle.ply_text.specs.Draft.{Draft, PropertyParts, statement, body}
 use Rattle.ply_text.specs.Header.{column_type, column_types, is_typed, types_of, is_whole, heads_of, agrees, header_by, header_at, is_end, header_from, no_draft, header_of_lines, header_of}
-use Rattle.ply_mesh.specs.Fields.{HasFields, heads_in}
+use Rattle.ply_mesh.specs.Fields.{HasFields}
 use Rattle.ply_mesh.specs.Body.{row_of, face_of, items_from}
 use Rattle.ply_mesh.specs.Read.{quant_of, head_of, body_of, ply_read}
 use Rattle.ply_mesh.specs.Text.{head_lines, is_named, property_lines, element_line, faces_header, point_lines, face_line, face_lines, ply_text, text_of}
-use Rattle.ply_mesh.proofs.Passed.{HeadPasses, HeadsPass, heads_of_pass}
 use Rattle.ply_mesh.proofs.Lexing.{are_tokens, are_lines, list_all-append, lines_again}
 use Rattle.ply_mesh.proofs.NumberTexts.{IsSmall}
 use Rattle.ply_mesh.proofs.TokenTexts.{head_tokens, property_tokens, element_tokens, point_tokens, face_tokens}
@@ -72,9 +73,9 @@ typed_again h t = go h.quant refl where
       cond-false (eqb h.dtype 9) false true (not_nine h.dtype (leb-true h.dtype 6 p.1))
   go (Some q) e = cond-true (eqb h.dtype 9) true false (ap (has_type h.dtype) (sym e) ∙ t)
 
-all_typed : (hs : List Head) → AllByRecursion HeadPasses hs → list_all is_typed (map ply_head hs) ≡ true
+all_typed : (hs : List Head) → AllByRecursion HeadSays hs → list_all is_typed (map ply_head hs) ≡ true
 all_typed [] p = refl
-all_typed (h ∷ hs) p = and_from (is_typed (ply_head h)) (list_all is_typed (map ply_head hs)) (typed_again h p.0.type-is) (all_typed hs p.1)
+all_typed (h ∷ hs) p = and_from (is_typed (ply_head h)) (list_all is_typed (map ply_head hs)) (typed_again h p.0.typed) (all_typed hs p.1)
 
 -- ---- the header
 
@@ -84,7 +85,7 @@ end_line = codes "end_header" ∷ []
 abbrev made : List Head → ℕ → Option ℕ → Option (ℕ × ℕ) → ℕ → Header
 made hs n faces list body = record { heads = map ply_head hs; vertices = n; faces = faces; types = column_types (map ply_head hs); list = list; body_line = body }
 
-module _ (hs : List Head) (n : ℕ) (p : HeadsPass hs) (f : AllByRecursion HasFields hs) (wide : 0 < width_of hs) (values : n * width_of hs ≤ MAX_VALUES) where
+module _ (hs : List Head) (n : ℕ) (p : HeadsSay hs) (f : AllByRecursion HasFields hs) (wide : 0 < width_of hs) (values : n * width_of hs ≤ MAX_VALUES) where
   abbrev ps : List PropertyParts
   ps = all_properties hs 0 hs
 
@@ -97,7 +98,7 @@ module _ (hs : List Head) (n : ℕ) (p : HeadsPass hs) (f : AllByRecursion HasFi
 
   agreed : agrees (map ply_head hs) ps ≡ true
   unfolding agrees
-  agreed = and_from _ _ ((bytes_eq-Decides (column_types (map ply_head hs)) (types_of ps)).1 (sym (all_types hs 0 hs))) (all_typed hs p.each)
+  agreed = and_from _ _ ((bytes_eq-Decides (column_types (map ply_head hs)) (types_of ps)).1 (sym (all_types hs 0 hs))) (all_typed hs (recursion_from_All HeadSays hs p.each))
 
   cloud_end : (at : ℕ) → header_at at (with_points (map ply_head hs) n ps) end_line ≡ Ok (made hs n None None (at + 1))
   unfolding header_at is_whole heads_of header_by
@@ -138,12 +139,13 @@ format_step = Passes-one no_draft format_line (with_heads []) refl format_is
 abbrev points_rest : List Head → ℕ → Lines
 points_rest hs n = format_line ∷ ((head_lines 0 hs ++ element_line (codes "vertex") n ∷ []) ++ property_lines hs 0 hs)
 
-points_pass : (hs : List Head) (n : ℕ) → HeadsPass hs → AllByRecursion HasFields hs → n ≤ MAX_POINTS → Passes no_draft (points_rest hs n) (with_points (map ply_head hs) n (all_properties hs 0 hs))
+points_pass : (hs : List Head) (n : ℕ) → HeadsSay hs → AllByRecursion HasFields hs → n ≤ MAX_POINTS → Passes no_draft (points_rest hs n) (with_points (map ply_head hs) n (all_properties hs 0 hs))
 points_pass hs n p f few =
     let heads = map ply_head hs in
-    let a = heads_step 0 [] hs refl (omega (arith, p.few)) p.each f in
+    let each = recursion_from_All HeadSays hs p.each in
+    let a = heads_step 0 [] hs refl (omega (arith, p.few)) each f in
     let b = Passes-append (with_heads []) (with_heads heads) (with_points heads n []) (head_lines 0 hs) (element_line (codes "vertex") n ∷ []) a (vertex_step heads n few) in
-    let c = Passes-append (with_heads []) (with_points heads n []) (with_points heads n (all_properties hs 0 hs)) (head_lines 0 hs ++ element_line (codes "vertex") n ∷ []) (property_lines hs 0 hs) b (properties_step heads n [] hs 0 hs p.each) in
+    let c = Passes-append (with_heads []) (with_points heads n []) (with_points heads n (all_properties hs 0 hs)) (head_lines 0 hs ++ element_line (codes "vertex") n ∷ []) (property_lines hs 0 hs) b (properties_step heads n [] hs 0 hs each) in
     Passes-append no_draft (with_heads []) (with_points heads n (all_properties hs 0 hs)) (format_line ∷ []) ((head_lines 0 hs ++ element_line (codes "vertex") n ∷ []) ++ property_lines hs 0 hs) format_step c
 
 end_is : (d : Draft) → d.formatted ≡ true → is_end d end_line ≡ true
@@ -168,15 +170,15 @@ read_again text xs d h rest g cut pass formatted last place meaning =
 
 -- ---- tokens and lines
 
-dtype_few : (h : Head) → HeadPasses h → h.dtype < 2 ^ 32
+dtype_few : (h : Head) → HeadSays h → h.dtype < 2 ^ 32
 dtype_few h p = go h.quant refl where
   go : (o : Option Quant) → h.quant ≡ o → h.dtype < 2 ^ 32
   go None e =
-      let q = and_parts (leb 1 h.dtype) (leb h.dtype 6) (ap (has_type h.dtype) (sym e) ∙ p.type-is) in
+      let q = and_parts (leb 1 h.dtype) (leb h.dtype 6) (ap (has_type h.dtype) (sym e) ∙ p.typed) in
       omega (arith, leb-true h.dtype 6 q.1)
-  go (Some q) e = omega (arith, eqb-true h.dtype 9 (ap (has_type h.dtype) (sym e) ∙ p.type-is))
+  go (Some q) e = omega (arith, eqb-true h.dtype 9 (ap (has_type h.dtype) (sym e) ∙ p.typed))
 
-dtypes_few : (hs : List Head) → AllByRecursion HeadPasses hs → AllByRecursion (λ h. h.dtype < 2 ^ 32) hs
+dtypes_few : (hs : List Head) → AllByRecursion HeadSays hs → AllByRecursion (λ h. h.dtype < 2 ^ 32) hs
 dtypes_few [] p = tt
 dtypes_few (h ∷ hs) p = (dtype_few h p.0, dtypes_few hs p.1)
 
@@ -198,8 +200,8 @@ faces_few points (face ∷ faces) few h =
 -- ---- the points
 
 module _ (hs : List Head) (points : List (List ℤ)) (is : ArePoints hs points) (f : AllByRecursion HasFields hs) where
-  passing : HeadsPass hs
-  passing = heads_of_pass hs is.heads_pass
+  passing : HeadsSay hs
+  passing = heads_say hs is.heads_pass
 
   wide_enough : 0 < width_of hs
   wide_enough = (width_of-bounds hs is.heads_pass).0
@@ -222,9 +224,10 @@ module _ (hs : List Head) (points : List (List ℤ)) (is : ArePoints hs points) 
   rest_lines : are_lines (points_rest hs (length points)) ≡ true
   rest_lines =
       let few : 0 + length hs < 2 ^ 32 = omega (arith, passing.few) in
-      let a = head_tokens 0 hs few passing.each f (dtypes_few hs passing.each) in
+      let each = recursion_from_All HeadSays hs passing.each in
+      let a = head_tokens 0 hs few each f (dtypes_few hs each) in
       let b : are_lines (element_line (codes "vertex") (length points) ∷ []) ≡ true = and_from _ _ (element_tokens (codes "vertex") (length points) refl points_few) refl in
-      let c = property_tokens hs 0 hs few passing.each in
+      let c = property_tokens hs 0 hs few each in
       list_all-append are_tokens (head_lines 0 hs ++ element_line (codes "vertex") (length points) ∷ []) (property_lines hs 0 hs) (list_all-append are_tokens (head_lines 0 hs) (element_line (codes "vertex") (length points) ∷ []) a b) c
 
   rows_lines : are_lines (point_lines points) ≡ true

@@ -7,11 +7,11 @@ use Rattle.std.proofs.lemmas.Bool.{cond_both, and_from, lt-ltb}
 use Rattle.mesh_model.specs.declared.heads.Head.{Head}
 use Rattle.mesh_model.specs.declared.heads.Quant.{Quant}
 use Rattle.mesh_model.specs.Head.{has_bits}
+use Rattle.mesh_model.proofs.Passing.{HeadSays}
 use Rattle.ply_mesh.specs.Fields.{HasFields}
 use Rattle.ply_mesh.specs.Text.{pattern_text, attr_line, quant_line, quant_lines, head_lines, type_word, usage_name, plain_name, name_at, is_named, property_line, component_lines, property_lines, element_line, face_line}
 use Rattle.ply_mesh.proofs.Lexing.{is_token, are_tokens, are_lines, list_all-append}
 use Rattle.ply_mesh.proofs.NumberTexts.{decimal_token, decimal_above, signed_token, pattern_token, IsSmall}
-use Rattle.ply_mesh.proofs.Passed.{HeadPasses}
 use Rattle.std.proofs.lemmas.Bool.{leb-true, and_parts}
 use Rattle.std.proofs.Common.{leb}
 
@@ -61,18 +61,18 @@ component_tokens named k h j (suc n) hk hj =
     and_from _ _ (more (codes "property") (type_word h.dtype ∷ name ∷ []) refl (more (type_word h.dtype) (name ∷ []) (word_token h.dtype) (more name [] (name_token named k h.usage j (omega arith) (omega arith)) refl)))
     (component_tokens named k h (j + 1) n hk (omega arith))
 
-pub property_tokens : (all : List Head) (k : ℕ) (hs : List Head) → k + length hs < 2 ^ 32 → AllByRecursion HeadPasses hs → are_lines (property_lines all k hs) ≡ true
+pub property_tokens : (all : List Head) (k : ℕ) (hs : List Head) → k + length hs < 2 ^ 32 → AllByRecursion HeadSays hs → are_lines (property_lines all k hs) ≡ true
 property_tokens all k [] hk p = refl
 property_tokens all k (h ∷ hs) hk p = list_all-append are_tokens (component_lines (is_named all k h) k h 0 h.comps) (property_lines all (k + 1) hs) (component_tokens (is_named all k h) k h 0 h.comps (omega arith) (omega (arith, p.0.few))) (property_tokens all (k + 1) hs (omega arith) p.1)
 
-attr_all : (k : ℕ) (h : Head) → k < 2 ^ 32 → HeadPasses h → HasFields h → h.dtype < 2 ^ 32 → Tokens (attr_line k h)
+attr_all : (k : ℕ) (h : Head) → k < 2 ^ 32 → HeadSays h → HasFields h → h.dtype < 2 ^ 32 → Tokens (attr_line k h)
 unfolding attr_line
 attr_all k h hk p f d =
     next {t = codes "comment"} refl (next {t = codes "drc"} refl (next {t = codes "attr"} refl (next {t = decimal k} (decimal_token k (omega arith))
     (next {t = decimal h.usage} (decimal_token h.usage (omega (arith, p.usage))) (next {t = decimal h.dtype} (decimal_token h.dtype (omega arith)) (next {t = decimal h.comps} (decimal_token h.comps (omega (arith, p.few)))
     (next {t = decimal h.normalized} (decimal_token h.normalized (omega (arith, f.normalized))) (next {t = decimal h.id} (decimal_token h.id (omega (arith, f.id))) none))))))))
 
-pub attr_tokens : (k : ℕ) (h : Head) → k < 2 ^ 32 → HeadPasses h → HasFields h → h.dtype < 2 ^ 32 → are_tokens (attr_line k h) ≡ true
+pub attr_tokens : (k : ℕ) (h : Head) → k < 2 ^ 32 → HeadSays h → HasFields h → h.dtype < 2 ^ 32 → are_tokens (attr_line k h) ≡ true
 attr_tokens k h hk p f d = (attr_all k h hk p f d).all
 
 min_tokens : (min : List ℕ) → are_tokens (map pattern_text min) ≡ true
@@ -94,7 +94,7 @@ quants_tokens k (Some q) hk b =
     let p = and_parts (leb 1 q.bits) (leb q.bits 30) b in
     and_from _ _ (quant_tokens k q hk (omega (arith, leb-true q.bits 30 p.1))) refl
 
-pub head_tokens : (k : ℕ) (hs : List Head) → k + length hs < 2 ^ 32 → AllByRecursion HeadPasses hs → AllByRecursion HasFields hs → AllByRecursion (λ h. h.dtype < 2 ^ 32) hs → are_lines (head_lines k hs) ≡ true
+pub head_tokens : (k : ℕ) (hs : List Head) → k + length hs < 2 ^ 32 → AllByRecursion HeadSays hs → AllByRecursion HasFields hs → AllByRecursion (λ h. h.dtype < 2 ^ 32) hs → are_lines (head_lines k hs) ≡ true
 head_tokens k [] hk p f d = refl
 head_tokens k (h ∷ hs) hk p f d =
     list_all-append are_tokens (attr_line k h ∷ quant_lines k h.quant) (head_lines (k + 1) hs)

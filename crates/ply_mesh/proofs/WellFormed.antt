@@ -14,10 +14,11 @@ use Rattle.mesh_model.specs.Head.{width_of, types_of, in_type, has_type, has_min
 use Rattle.mesh_model.proofs.FirstFaults.{unless-true, first_fault-cons}
 use Rattle.drc_base.specs.declared.kinds.Kind.TheVariants.{NoAttribute, AttrLimit, AttrType, DataType, Components, QuantBits}
 use Rattle.drc_base.specs.declared.limits.TheConstants.{MAX_ATTRIBUTES, MAX_COMPONENTS, MAX_VALUES, MAX_FACES}
+use Rattle.drc_base.specs.Steps.{◌>>=◌}
 use Rattle.mesh_model.specs.Parts.{RowFits, IsFaceOf, ArePoints, AreRows, IsMesh, cells_of, cloud_of, mesh_of}
 use Rattle.mesh_model.proofs.Made.{AreRows-cells_of, cloud_of-IsCloud, mesh_of-IsMesh}
 use Rattle.ply_text.specs.declared.headers.PlyHead.{PlyHead}
-use Rattle.ply_text.specs.Faults.{or_refuse, ◌>>=◌}
+use Rattle.ply_text.specs.Faults.{or_refuse}
 use Rattle.ply_text.specs.Numbers.{integer_of}
 use Rattle.ply_text.specs.declared.headers.PlyQuant.{PlyQuant}
 use Rattle.ply_text.specs.declared.headers.Header.{Header}

@@ -1,10 +1,8 @@
 -- What the widths of its fields say of a head.
-use Rattle.std.specs.Prelude.{◌<◌, ◌^◌, List, IfSome}
+use Rattle.std.specs.Prelude.{◌<◌, ◌^◌, IfSome}
 use Rattle.std.specs.List.{AllByRecursion}
 use Rattle.mesh_model.specs.declared.heads.Quant.{Quant}
 use Rattle.mesh_model.specs.declared.heads.Head.{Head}
-use Rattle.mesh_model.specs.declared.geometries.Geometry.{Geometry}
-use Rattle.mesh_model.specs.declared.geometries.Geometry.TheVariants.{Mesh, Cloud}
 
 -- its bit patterns have 32 bits
 pub record QuantFields (q : Quant) : Type 0 where
@@ -16,8 +14,3 @@ pub record HasFields (h : Head) : Type 0 where
   pub normalized : h.normalized < 256
   pub id : h.id < 2 ^ 32
   pub quant : IfSome h.quant QuantFields
-
--- the heads of a geometry
-abbrev pub heads_in : Geometry → List Head
-heads_in (Mesh m) = m.heads
-heads_in (Cloud c) = c.heads

@@ -2,6 +2,7 @@
 -- profile).
 use Rattle.std.specs.Prelude.{ℕ, ◌+◌, ◌-◌, List, map, drop, Option, None, Some, option_map, unwrap_or, Result, Ok, ℤ}
 use Rattle.drc_base.specs.declared.faults.Fault.{Fault}
+use Rattle.drc_base.specs.Steps.{◌>>=◌}
 use Rattle.mesh_model.specs.declared.heads.Quant.{Quant}
 use Rattle.mesh_model.specs.declared.heads.Head.{Head}
 use Rattle.mesh_model.specs.declared.geometries.Geometry.{Geometry}
@@ -9,7 +10,6 @@ use Rattle.mesh_model.specs.declared.geometries.Geometry.TheVariants.{Mesh, Clou
 use Rattle.ply_text.specs.declared.headers.PlyQuant.{PlyQuant}
 use Rattle.ply_text.specs.declared.headers.PlyHead.{PlyHead}
 use Rattle.ply_text.specs.declared.headers.Header.{Header}
-use Rattle.ply_text.specs.Faults.{◌>>=◌}
 use Rattle.ply_text.specs.Tokens.{token_lines}
 use Rattle.ply_text.specs.Header.{header_of}
 use Rattle.ply_mesh.specs.Body.{row_of, face_of, items_from, ends}

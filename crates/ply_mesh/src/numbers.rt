@@ -5,30 +5,20 @@ ghost use Rattle.std.specs.Int.{w32};
 ghost use Rattle.ply_text.specs.Numbers.{is_between};
 ghost use Rattle.ply_mesh.specs.Body.{IsRange, number_of};
 
+use mesh_model::{greatest_of, least_of};
 use ply_text::read_int;
 
 /// How far the numbers of a data type go below 0, and the greatest of them.
+#[tactic(auto, using(crate::proofs::Types::range_is))]
 pub(crate) fn range_of(dtype: u8) -> (u32, u32)
     ensures range { IsRange dtype result.0 result.1 }
     ensures below { result.0 ≤ 2 ^ 31 }
     ensures most { result.1 < 2 ^ 31 }
 {
-    if dtype == 1 {
-        return (128, 127);
-    }
-    if dtype == 2 {
-        return (0, 255);
-    }
-    if dtype == 3 {
-        return (32768, 32767);
-    }
-    if dtype == 4 {
-        return (0, 65535);
-    }
-    if dtype == 5 || dtype == 9 {
-        return (0x8000_0000, 0x7fff_ffff);
-    }
-    (0, 0x7fff_ffff)
+    (
+        least_of(dtype).unsigned_abs(),
+        greatest_of(dtype).unsigned_abs(),
+    )
 }
 
 /// Whether a number is from `-below` up to `most`.

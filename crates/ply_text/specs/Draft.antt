@@ -5,12 +5,13 @@ use Rattle.std.specs.Str.{bytes_eq}
 use Rattle.drc_base.specs.declared.faults.Fault.{Fault}
 use Rattle.drc_base.specs.declared.kinds.Kind.TheVariants.{PlyFormat, PlyHeader, PlyType, PlyElement, PlyAttr, PointLimit, FaceLimit, AttrLimit}
 use Rattle.drc_base.specs.declared.limits.TheConstants.{MAX_POINTS, MAX_FACES, MAX_ATTRIBUTES}
+use Rattle.drc_base.specs.Steps.{◌>>=◌}
 use Rattle.ply_text.specs.declared.headers.PlyHead.{PlyHead}
 use Rattle.ply_text.specs.declared.headers.Property.{Property}
 use Rattle.ply_text.specs.declared.drafts.HeaderDraft.{HeaderDraft}
 use Rattle.ply_text.specs.declared.words.Keyword.{Keyword}
 use Rattle.ply_text.specs.declared.words.Keyword.TheVariants as keyword
-use Rattle.ply_text.specs.Faults.{refuse, or_refuse, ◌>>=◌}
+use Rattle.ply_text.specs.Faults.{refuse, or_refuse}
 use Rattle.ply_text.specs.Numbers.{natural_within}
 use Rattle.ply_text.specs.Words.{type_of, name_of, is_indices}
 use Rattle.ply_text.specs.Comments.{is_form, attr_of, quant_of, with_quant}

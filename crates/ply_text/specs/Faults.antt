@@ -11,9 +11,3 @@ refuse kind at = Err (record { kind = kind; at = at })
 abbrev pub or_refuse : {A : Type 0} → Kind → ℕ → Option A → Result A Fault
 or_refuse kind at None = refuse kind at
 or_refuse kind at (Some x) = Ok x
-
--- what follows a value; a fault stays
-infixl 10 ◌>>=◌
-abbrev pub ◌>>=◌ : {A B : Type 0} → Result A Fault → (A → Result B Fault) → Result B Fault
-(Ok x) >>= f = f x
-(Err fault) >>= f = Err fault

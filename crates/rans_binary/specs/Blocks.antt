@@ -3,7 +3,8 @@
 -- are this project's choice.
 use Rattle.std.specs.Prelude.{ℕ, zero, suc, ◌+◌, ◌-◌, ◌*◌, ◌/◌, ◌%◌, ◌≡◌, Bool, true, false, not, min, max, nat_lt, List, [], ◌∷◌, ◌++◌, map, length, count_by, Option, Some, None, Ok}
 use Rattle.drc_base.specs.declared.kinds.Kind.TheVariants as kind
-use Rattle.drc_bits.specs.Reading.{◌>>=◌, Reading, Item, must, fault_at, bytes_at, advanced}
+use Rattle.drc_base.specs.Steps.{◌>>=◌}
+use Rattle.drc_bits.specs.Reading.{Reading, Item, must, fault_at, bytes_at, advanced}
 use Rattle.drc_bits.specs.Numbers.{number_at}
 use Rattle.drc_bits.specs.Varint.{var32_at, spelling}
 use Rattle.rans_core.specs.Coder.{Interval, State, Pulled, pulled, refilled, started, all_spelled}

@@ -1,16 +1,9 @@
 -- Faces of indices that were read one after another.
-use Rattle.std.proofs.Common.{◌≡◌, ℕ, ◌+◌, List, [], ◌∷◌, drop, Ok, ◌∙◌, ap, arith}
-use Rattle.std.proofs.lemmas.List.{drop-drop}
-use Rattle.drc_bits.specs.Reading.{◌>>=◌, Reading, Item, advanced}
+use Rattle.std.proofs.Common.{◌≡◌, ℕ, ◌+◌, List, [], ◌∷◌, drop, Ok, ◌∙◌, ap}
+use Rattle.drc_base.specs.Steps.{◌>>=◌}
+use Rattle.drc_bits.specs.Reading.{Reading, Item, advanced}
+use Rattle.drc_bits.proofs.Advancing.{advanced-advanced}
 use Rattle.seq_section.specs.Indices.{index_at, face_at}
-
--- further on, and further on from there
-advanced-advanced : (a b : ℕ) (c : Reading) → advanced b (advanced a c) ≡ advanced (a + b) c
-advanced-advanced a b c =
-    let place : c.place + a + b ≡ c.place + (a + b) = omega arith in
-    let rest : drop b (drop a c.rest) ≡ drop (a + b) c.rest = drop-drop b a c.rest in
-    ap (λ (p : ℕ). record { place = p; rest = drop b (drop a c.rest) }) place
-    ∙ ap (λ (l : List ℕ). record { place = c.place + (a + b); rest = l }) rest
 
 -- three indices are a face
 pub face-quick : (points x y z a b d : ℕ) (bytes : List ℕ)

@@ -4,7 +4,8 @@
 use Rattle.std.specs.Prelude.{ℕ, zero, suc, ◌+◌, ◌*◌, ◌/◌, ◌%◌, ◌^◌, ◌==◌, List, [], ◌∷◌, ◌++◌, map, length, slice_index, count_by, Option, Some, None, Ok, if◌then◌else◌}
 use Rattle.std.specs.List.{range_with_len}
 use Rattle.drc_base.specs.declared.kinds.Kind.TheVariants as kind
-use Rattle.drc_bits.specs.Reading.{◌>>=◌, Reading, Item, fault_at, bytes_at}
+use Rattle.drc_base.specs.Steps.{◌>>=◌}
+use Rattle.drc_bits.specs.Reading.{Reading, Item, fault_at, bytes_at}
 use Rattle.drc_bits.specs.Varint.{var64_at, spelling}
 use Rattle.rans_core.specs.Coder.{Interval, State, all_spelled, pulled, refilled, started}
 use Rattle.symbol_tables.specs.Tables.{cum_of, symbol_of}

@@ -1,7 +1,8 @@
 -- Reading probabilities one after another.
 use Rattle.std.proofs.Common.{◌≡◌, ℕ, suc, ◌+◌, ◌-◌, ◌<◌, ◌≤◌, List, [], ◌∷◌, ◌++◌, Ok, Err, refl, sym, ◌∙◌, ap, append_assoc, append-nil, arith}
 use Rattle.drc_base.specs.declared.faults.Fault.{Fault}
-use Rattle.drc_bits.specs.Reading.{Reading, Item, ◌>>=◌}
+use Rattle.drc_base.specs.Steps.{◌>>=◌}
+use Rattle.drc_bits.specs.Reading.{Reading, Item}
 use Rattle.drc_bits.proofs.Many.{with_front}
 use Rattle.symbol_tables.specs.Tables.{prob_at, probs_at}
 

@@ -1,5 +1,4 @@
-use Rattle.std.proofs.Common.{◌<◌, ◌^◌, ◌≡◌, length, take, vec_len, vec_capacity, get_or, arith, refl, rules}
-use Rattle.std.specs.List.{All}
+use Rattle.std.proofs.Common.{◌<◌, ◌^◌, length, vec_len, vec_capacity, arith}
 use Rattle.std.proofs.lemmas.List.Elements.{All-from_get_or}
 use Rattle.attr_section.proofs.PlainValues.{room-more, bytes-more}
 use Rattle.attr_section.proofs.integer_writing.put_all.Goals as goal

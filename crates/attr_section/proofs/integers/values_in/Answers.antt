@@ -1,4 +1,4 @@
-use Rattle.std.proofs.Common.{rules, ◌≡◌, ◌*◌, ◌<◌, refl, FitsSigned, w32, arith}
+use Rattle.std.proofs.Common.{rules, ◌*◌, refl, FitsSigned, w32, arith}
 use Rattle.std.proofs.lemmas.Int.{to_z-of_z}
 use Rattle.attr_section.proofs.PlainValues.{values-more, values-end}
 use Rattle.attr_section.proofs.integers.values_in.Goals as goal

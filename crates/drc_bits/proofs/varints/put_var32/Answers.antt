@@ -1,6 +1,5 @@
-use Rattle.std.proofs.Common.{◌≡◌, ◌<◌, ◌^◌, ◌/◌, ◌-◌, ◌+◌, ◌++◌, ◌∷◌, [], ℕ, List, arith, refl, sym, ◌∙◌, length, Ok, Result}
+use Rattle.std.proofs.Common.{◌<◌, ◌^◌, ◌/◌, ◌-◌, ◌+◌, arith}
 use Rattle.arrayvec.specs.ArrayVec.{array_vec_len}
-use Rattle.drc_bits.specs.Varint.{varint, spelling}
 use Rattle.drc_bits.proofs.Groups.{weight_of, weight-less, spelling-more, spelling-last, spelling-shortest, varint-spelling}
 use Rattle.drc_bits.proofs.varints.put_var32.Goals as goal
 

@@ -1,7 +1,6 @@
-use Rattle.std.proofs.Common.{◌≡◌, ◌<◌, ◌≤◌, ◌^◌, ◌+◌, ◌*◌, ℕ, List, arith, refl, ◌∙◌, slice_index_or, Result, Ok, Err}
-use Rattle.drc_base.specs.declared.kinds.Kind.{Kind}
+use Rattle.std.proofs.Common.{◌≡◌, ◌<◌, ◌≤◌, ◌^◌, ◌+◌, ◌*◌, ℕ, List, arith, refl, ◌∙◌, slice_index_or, Ok, Err}
 use Rattle.drc_base.specs.declared.kinds.Kind.TheVariants as kind
-use Rattle.drc_bits.proofs.Groups.{limited, weight_below_5, group_fits, ReadSoFar, ReadSoFar-start, ReadSoFar-high, ReadSoFar-low, ReadSoFar-short, ReadSoFar-long}
+use Rattle.drc_bits.proofs.Groups.{limited, weight_below_5, group_fits, ReadSoFar, ReadSoFar-high, ReadSoFar-low, ReadSoFar-short, ReadSoFar-long}
 use Rattle.drc_bits.proofs.varints.var32_front.Goals as goal
 
 light : (bytes : List ℕ) (i value weight : ℕ) → ReadSoFar 5 bytes i value weight → i < 5 → weight ≤ 2 ^ 28

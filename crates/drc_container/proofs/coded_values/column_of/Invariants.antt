@@ -1,6 +1,6 @@
 use Rattle.std.proofs.Common.{◌≡◌, ℤ, List, take, drop}
 use Rattle.std.specs.List.{flat_map}
-use Rattle.drc_container.specs.Contents.{points_in}
+use Rattle.mesh_model.specs.Contents.{points_in}
 use Rattle.drc_container.proofs.coded_values.column_of.Given as goal
 
 abbrev pub invariant-loop-i : goal.invariant-loop-i

@@ -1,6 +1,6 @@
 use Rattle.std.proofs.Common.{◌≡◌, ◌+◌, ◌++◌, drop}
 use Rattle.mesh_model.specs.Head.{width_of}
-use Rattle.drc_container.specs.Contents.{heads_in, points_in}
+use Rattle.mesh_model.specs.Contents.{heads_in, points_in}
 use Rattle.drc_container.specs.Written.{values_of}
 use Rattle.drc_container.proofs.Extracted.{valued, columns_from}
 use Rattle.drc_container.proofs.coded_values.values_of.Given as goal

@@ -2,16 +2,16 @@ use Rattle.std.proofs.Common.{◌∙◌, length, ap}
 use Rattle.ply_mesh.specs.Text.{text_of, points_header, faces_header, last_line, point_lines, face_lines, ply_text}
 use Rattle.ply_mesh.proofs.LineTexts.{onto}
 use Rattle.ply_mesh.proofs.RowTexts.{five_parts}
-use Rattle.ply_mesh.proofs.Passed.{heads_of_pass}
 use Rattle.std.proofs.lemmas.List.Elements.{recursion_from_All}
 use Rattle.mesh_model.specs.declared.geometries.Geometry.TheVariants.{Mesh}
+use Rattle.mesh_model.proofs.Passing.{heads_say}
 use Rattle.ply_mesh.specs.Fields.{HasFields}
 use Rattle.ply_mesh.specs.Read.{ply_read}
 use Rattle.ply_mesh.proofs.RoundTrip.{geometry_again}
 use Rattle.ply_mesh.proofs.writing.write_mesh.Goals as goal
 
 pub put_points_header-requires : goal.put_points_header-requires
-put_points_header-requires c = rw c.heads.ensures.value ((heads_of_pass c.args.mesh.now.heads c.heads.ensures.sound.points.heads_pass).few)
+put_points_header-requires c = rw c.heads.ensures.value ((heads_say c.args.mesh.now.heads c.heads.ensures.sound.points.heads_pass).few)
 
 pub returns-clause-text : goal.returns-clause-text
 unfolding ply_text

@@ -1,8 +1,9 @@
--- What heads that pass say.
+-- What heads that pass their tests say.
 use Rattle.std.proofs.Common.{◌≡◌, ℕ, ◌+◌, ◌≤◌, true, ◌&&◌, leb, List, [], ◌∷◌, length, Option, None}
 use Rattle.std.specs.Prelude.{map}
-use Rattle.std.specs.List.{AllByRecursion, enumerate_from}
+use Rattle.std.specs.List.{All, enumerate_from}
 use Rattle.std.proofs.lemmas.Bool.{leb-true, and_parts}
+use Rattle.std.proofs.lemmas.List.Elements.{All-nil, All-cons}
 use Rattle.drc_base.specs.declared.faults.Fault.{Fault}
 use Rattle.drc_base.specs.declared.kinds.Kind.TheVariants.{NoAttribute, AttrLimit, AttrType, DataType, Components, QuantBits}
 use Rattle.drc_base.specs.declared.limits.TheConstants.{MAX_ATTRIBUTES, MAX_COMPONENTS}
@@ -11,16 +12,17 @@ use Rattle.mesh_model.specs.FirstFault.{unless}
 use Rattle.mesh_model.specs.Head.{has_type, has_minima, has_bits, head_fault, each_fault, heads_fault}
 use Rattle.mesh_model.proofs.FirstFaults.{unless-none, first_fault-none}
 
-pub record HeadPasses (h : Head) : Type 0 where
+-- what a head that passes says
+pub record HeadSays (h : Head) : Type 0 where
   pub usage : h.usage ≤ 4
-  pub type-is : has_type h.dtype h.quant ≡ true
+  pub typed : has_type h.dtype h.quant ≡ true
   pub some : 1 ≤ h.comps
-  pub few : h.comps ≤ 8
+  pub few : h.comps ≤ MAX_COMPONENTS
   pub minima : has_minima h.comps h.quant ≡ true
   pub bits : has_bits h.quant ≡ true
 
-head_passes : (k : ℕ) (h : Head) → head_fault k h ≡ None → HeadPasses h
-head_passes k h e =
+head_says : (k : ℕ) (h : Head) → head_fault k h ≡ None → HeadSays h
+head_says k h e =
     let t1 = unless (leb h.usage 4) AttrType k in
     let t2 = unless (has_type h.dtype h.quant) DataType k in
     let c = leb 1 h.comps && leb h.comps MAX_COMPONENTS && has_minima h.comps h.quant in
@@ -34,9 +36,9 @@ head_passes k h e =
     let q = and_parts (leb 1 h.comps) (leb h.comps MAX_COMPONENTS) p.0 in
     record {
       usage = leb-true h.usage 4 (unless-none (leb h.usage 4) AttrType k a.0);
-      type-is = unless-none (has_type h.dtype h.quant) DataType k b.0;
+      typed = unless-none (has_type h.dtype h.quant) DataType k b.0;
       some = leb-true 1 h.comps q.0;
-      few = leb-true h.comps 8 q.1;
+      few = leb-true h.comps MAX_COMPONENTS q.1;
       minima = p.1;
       bits = unless-none (has_bits h.quant) QuantBits k f.0;
     }
@@ -44,20 +46,21 @@ head_passes k h e =
 abbrev faults : ℕ → List Head → List (Option Fault)
 faults k heads = map (λ (j, h). head_fault j h) (enumerate_from k heads)
 
-each_passes : (k : ℕ) (heads : List Head) → each_fault k heads ≡ None → AllByRecursion HeadPasses heads
-each_passes k [] e = tt
-each_passes k (h ∷ hs) e =
+each_says : (k : ℕ) (heads : List Head) → each_fault k heads ≡ None → All HeadSays heads
+each_says k [] e = All-nil HeadSays
+each_says k (h ∷ hs) e =
     let a = first_fault-none (head_fault k h) (faults (k + 1) hs) e in
-    (head_passes k h a.0, each_passes (k + 1) hs a.1)
+    All-cons HeadSays h hs (head_says k h a.0) (each_says (k + 1) hs a.1)
 
-pub record HeadsPass (heads : List Head) : Type 0 where
+-- what heads that pass say
+pub record HeadsSay (heads : List Head) : Type 0 where
   pub some : 1 ≤ length heads
-  pub few : length heads ≤ 16
-  pub each : AllByRecursion HeadPasses heads
+  pub few : length heads ≤ MAX_ATTRIBUTES
+  pub each : All HeadSays heads
 
-pub heads_of_pass : (heads : List Head) → heads_fault heads ≡ None → HeadsPass heads
+pub heads_say : (heads : List Head) → heads_fault heads ≡ None → HeadsSay heads
 unfolding heads_fault
-heads_of_pass heads e =
+heads_say heads e =
     let t1 = unless (leb 1 (length heads)) NoAttribute (length heads) in
     let t2 = unless (leb (length heads) MAX_ATTRIBUTES) AttrLimit (length heads) in
     let a = first_fault-none t1 (t2 ∷ each_fault 0 heads ∷ []) e in
@@ -65,6 +68,6 @@ heads_of_pass heads e =
     let c = first_fault-none (each_fault 0 heads) [] b.1 in
     record {
       some = leb-true 1 (length heads) (unless-none (leb 1 (length heads)) NoAttribute (length heads) a.0);
-      few = leb-true (length heads) 16 (unless-none (leb (length heads) MAX_ATTRIBUTES) AttrLimit (length heads) b.0);
-      each = each_passes 0 heads c.0;
+      few = leb-true (length heads) MAX_ATTRIBUTES (unless-none (leb (length heads) MAX_ATTRIBUTES) AttrLimit (length heads) b.0);
+      each = each_says 0 heads c.0;
     }
