@@ -18,7 +18,7 @@ pub mod EqualNames
 pub mod RowSteps
 pub mod Degrees
 mod NameCounts
-mod NamesMade
+pub mod NamesMade
 mod NameDegrees
 mod SymbolDegrees
 pub mod TableDegrees

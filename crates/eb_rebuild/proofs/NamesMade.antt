@@ -1,5 +1,5 @@
 -- The vertices made are the names in the triangles and the S taken: rule by rule, and over whole runs.
-use Rattle.std.proofs.Common.{◌≡◌, ◌≢◌, ℕ, zero, suc, ◌+◌, ◌<◌, ◌≤◌, Bool, true, false, not, ◌&&◌, ◌||◌, ◌==◌, cond, List, [], ◌∷◌, ◌++◌, length, get_or, map, Option, Some, None, Result, Ok, Err, inl, inr, sym, refl, ap, ◌∙◌, subst, arith, eq-eqb}
+use Rattle.std.proofs.Common.{◌≡◌, ◌≢◌, ℕ, zero, suc, ◌+◌, ◌<◌, ◌≤◌, Bool, true, false, not, ◌&&◌, ◌||◌, ◌==◌, nat_le, cond, List, [], ◌∷◌, ◌++◌, length, get_or, map, Option, Some, None, Result, Ok, Err, inl, inr, sym, refl, ap, ◌∙◌, subst, arith, eq-eqb}
 use Rattle.std.specs.Prelude.{nat_eq}
 use Rattle.std.specs.List.{count_by}
 use Rattle.std.specs.Set.{distinct_count}
@@ -13,8 +13,8 @@ use Rattle.corner_table.specs.declared.symbols.Symbol.{Symbol}
 use Rattle.corner_table.specs.declared.symbols.Symbol.TheVariants.{C, S, L, R, E}
 use Rattle.corner_table.specs.declared.symbols.Event.{Event}
 use Rattle.corner_table.specs.Sides.{Side, Place, first, second, third, side, same, next, prev, glue}
-use Rattle.eb_rebuild.specs.Machine.{State, Plan, must, pushed, note_events, step, close}
-use Rattle.eb_rebuild.specs.Named.{Triangle, corner, no_triangle, Row, new_row, row_of, row_before, without, renamed, renamed_triangle, NamedState, named_start, row_or_gone, top_row, named_events, named_rule, named_step, named_fill, named_close_top, named_close, named_symbols, named_closes}
+use Rattle.eb_rebuild.specs.Machine.{State, Plan, fault, must, pushed, note_events, step, close}
+use Rattle.eb_rebuild.specs.Named.{Triangle, corner, no_triangle, Row, new_row, row_of, row_before, without, renamed, renamed_triangle, NamedState, named_start, row_or_gone, top_row, named_events, named_rule, named_step, named_fill, named_close_top, named_close, first_with_equal, named_finish, named_symbols, named_closes, named_rebuild}
 use Rattle.eb_rebuild.specs.Shown.{Among, Shows, Agree, without_names, names_in, is_split}
 use Rattle.eb_rebuild.proofs.RowLists.{found}
 use Rattle.eb_rebuild.proofs.NamedLaw.{Stands, stands, symbols_agree, closes_agree, shows_start, named_right, named_left, tip_made, named_tip, split_made, named_split_last, named_split, fill_made}
@@ -332,5 +332,30 @@ made_are p symbols events bits closed x e =
     (run_counted p.symbols symbols 0 (named_start events) (stands (shows_start events), none_counted))
     (λ y V. closes_counted p bits closed (0 + d) y V) in
     let W = after_ok (IsReached (0 + d)) (named_symbols p.symbols symbols (named_start events) >>= named_closes p bits closed) x e reached in
+    let m = made_of (names_in x.triangles) x.made (0 + d) W.1 in
+    omega arith
+
+-- the tests at the end change nothing
+passed : (d : ℕ) (x : NamedState) (o : Option ℕ) → IsReached d x → After (IsReached d) (let r : Result NamedState Fault = elim o [ None ↦ Ok x | Some f ↦ Err (fault kind.Degenerate f) ] in r)
+passed d x None W = W
+passed d x (Some f) W = tt
+
+finish_counted : (p : Plan) (d : ℕ) (x : NamedState) → IsReached d x → After (IsReached d) (named_finish p x)
+unfolding named_finish
+finish_counted p d x W =
+    let last : Result NamedState Fault = elim (first_with_equal x.triangles (length x.triangles)) [ None ↦ Ok x | Some f ↦ Err (fault kind.Degenerate f) ] in
+    after_must (IsReached d) (length x.triangles == p.faces) kind.FaceCount (length x.triangles) (λ u. must (nat_le x.made p.created) kind.VertexCount x.made >>= λ v. last)
+    (λ e. after_must (IsReached d) (nat_le x.made p.created) kind.VertexCount x.made (λ v. last) (λ q. passed d x (first_with_equal x.triangles (length x.triangles)) W))
+
+pub made_at_end : (p : Plan) (symbols : List Symbol) (events : List Event) (bits : ℕ → Bool) (x : NamedState) → named_rebuild p symbols events bits ≡ Ok x →
+    x.made ≡ distinct_count nat_eq (names_in x.triangles) + count_by is_split symbols
+unfolding named_rebuild
+made_at_end p symbols events bits x e =
+    let d = count_by is_split symbols in
+    let reached : After (IsReached (0 + d)) (named_rebuild p symbols events bits) =
+    after_then (IsReached (0 + d)) (IsReached (0 + d)) (named_symbols p.symbols symbols (named_start events)) (λ y. named_closes p bits (length y.stack) y >>= named_finish p)
+    (run_counted p.symbols symbols 0 (named_start events) (stands (shows_start events), none_counted))
+    (λ y V. after_then (IsReached (0 + d)) (IsReached (0 + d)) (named_closes p bits (length y.stack) y) (named_finish p) (closes_counted p bits (length y.stack) (0 + d) y V) (λ z U. finish_counted p (0 + d) z U)) in
+    let W = after_ok (IsReached (0 + d)) (named_rebuild p symbols events bits) x e reached in
     let m = made_of (names_in x.triangles) x.made (0 + d) W.1 in
     omega arith

@@ -14,7 +14,7 @@ use Rattle.eb_trace.specs.Readable.{IsReadable, IsInterior}
 use Rattle.eb_trace.specs.Front.{free_firsts}
 use Rattle.eb_trace.proofs.Below.{adds_three}
 use Rattle.eb_trace.proofs.Waiting.{firsts_none, firsts_free, firsts_glued}
-use Rattle.eb_trace.proofs.Kept.{three_all}
+use Rattle.eb_trace.proofs.Reserved.{three_all}
 
 closed_none : (p : Plan) (bits : ℕ → Bool) (s : State) → close_all p bits zero s ≡ Ok s
 unfolding close_all
@@ -115,7 +115,7 @@ module _ (p : Plan) (g : Gluing) (n : ℕ) (word : ℕ → Symbol) (T : IsReadab
       -- no interior face is left
       all : f ≡ p.faces
       all = elim (cases_lt f p.faces) [
-        | inl h ↦ (let i = T.interior f H.from h in let w = H.due f i.run (omega arith) h i.entered in absurd (omega arith))
+        | inl h ↦ (let i = T.interior f H.from h in let w = H.due f i.run (omega arith) h i.begins in absurd (omega arith))
         | inr h ↦ (let t = H.to in omega arith)
       ]
   closes (suc j) f c l H = elim (option_tells (prefix n g (side j first))) [
@@ -187,8 +187,8 @@ module _ (p : Plan) (g : Gluing) (n : ℕ) (word : ℕ → Symbol) (T : IsReadab
               | inl h ↦ (let w = H.done y.face j above h back in omega arith)
               | inr h ↦ (
                   let i = T.interior f H.from (omega arith) in
-                  let w = H.due f i.run (omega arith) (omega arith) i.entered in
-                  let v = T.order f y.face i.run j H.from (omega arith) i.entered back in
+                  let w = H.due f i.run (omega arith) (omega arith) i.begins in
+                  let v = T.order f y.face i.run j H.from (omega arith) i.begins back in
                   omega arith)
             ])
           ]
@@ -213,6 +213,6 @@ module _ (p : Plan) (g : Gluing) (n : ℕ) (word : ℕ → Symbol) (T : IsReadab
     due = λ e j a h q. (
         let i = T.interior e a h in
         let r = i.is_run in
-        let s : i.run ≡ j = ap (λ (x : Side). x.face) (Some_injective _ _ (sym i.entered ∙ q)) in
+        let s : i.run ≡ j = ap (λ (x : Side). x.face) (Some_injective _ _ (sym i.begins ∙ q)) in
         omega arith);
   }) b

@@ -1,5 +1,5 @@
 -- The vertices made are the fans of the surface and the S of its word, so that no fewer need be declared.
-use Rattle.std.proofs.Common.{◌≡◌, ℕ, zero, suc, ◌+◌, ◌<◌, ◌≤◌, Bool, false, cond, nat_lt, List, length, get_or, take, reverse, Option, Some, None, Err, ◌⊎◌, inl, inr, sym, refl, ap, ◌∙◌, subst, arith, add-one, lt-ltb, le-ltb}
+use Rattle.std.proofs.Common.{◌≡◌, ℕ, zero, suc, ◌+◌, ◌<◌, ◌≤◌, Bool, false, cond, nat_lt, List, length, get_or, take, reverse, Option, Some, None, Ok, Err, ◌⊎◌, inl, inr, sym, refl, ap, ◌∙◌, subst, arith, add-one, lt-ltb, le-ltb}
 use Rattle.std.proofs.lemmas.Bool.{cases_lt, cases_Bool, cond-true, cond-false}
 use Rattle.std.proofs.lemmas.List.{take_all}
 use Rattle.std.proofs.lemmas.List.Sums.{count_by_more_yes, count_by_more_no}
@@ -13,19 +13,19 @@ use Rattle.corner_table.specs.Fans.{HasThreeFans}
 use Rattle.corner_table.specs.Carried.{carry, IsRenumbering, IsCarried}
 use Rattle.corner_table.proofs.Places.{option_tells, Some_injective}
 use Rattle.corner_table.proofs.Carrying.{carry-within, carry_injective, carry_onto, three_fans_carried}
-use Rattle.eb_rebuild.specs.Machine.{Plan, rebuild, fault}
+use Rattle.eb_rebuild.specs.Machine.{Plan, start, take_symbols, rebuild, fault}
 use Rattle.eb_rebuild.proofs.Steps.{Next}
 use Rattle.eb_trace.specs.Readable.{IsReadable}
 use Rattle.eb_rebuild.specs.Shown.{is_split}
 use Rattle.eb_trace.specs.Front.{made_by, events_left, start_bits}
-use Rattle.eb_trace.specs.Rebuilt.{symbol_at, CountsWord}
+use Rattle.eb_trace.specs.Rebuilt.{symbol_at, finished, CountsWord}
 use Rattle.eb_trace.specs.Trace.{fan_count, trace, order_of, word_of}
-use Rattle.eb_trace.specs.Kept.{WalkIsCounted, WalkIsKept, WalkNeedsAll}
+use Rattle.eb_trace.specs.Kept.{WalkPassesFronts, WalkIsCounted, WalkNeedsAll}
 use Rattle.eb_trace.proofs.Vertices.{fans_are, renumbered_alike}
 use Rattle.eb_trace.proofs.Counting.{splits_before, splits_none, splits_more, made_in_all}
 use Rattle.eb_trace.proofs.Order.{renumbers}
 use Rattle.eb_trace.proofs.StartBits.{word_readable, word_events, word_bits}
-use Rattle.eb_trace.proofs.Whole.{rebuilds_word, refuses_fewer}
+use Rattle.eb_trace.proofs.Whole.{passes_fronts, rebuilds_word, refuses_fewer}
 
 count_zero : (xs : List Symbol) → count_by is_split (take 0 xs) ≡ 0
 count_zero xs = refl
@@ -122,6 +122,12 @@ module _ (faces : ℕ) (g : Gluing) (rows : List (ℕ × ℕ)) (G : IsGluing fac
     },
   )
 
+pub walk_passes_fronts : WalkPassesFronts
+walk_passes_fronts faces g h G F K m l =
+    let w = word_of (trace faces g) in
+    ap (λ (events : List Event). take_symbols (length w) (take m w) (start events)) (word_events faces g G F h K)
+    ∙ passes_fronts faces h w (word_readable faces g G F h K) m l
+
 pub walk_is_counted : WalkIsCounted
 walk_is_counted faces g G F = go (is_renumbered faces g (order_of (trace faces g)) G (renumbers faces g G F))
   where
@@ -140,8 +146,10 @@ as_told p g h G F K =
     ap (λ (events : List Event). rebuild p w events (λ k. get_or (reverse (trace p.faces g).bits) k false)) (word_events p.faces g G F h K)
     ∙ ap (λ (bits : List Bool). rebuild p w (events_left (length w) h (symbol_at w) (length w)) (λ k. get_or bits k false)) (word_bits p.faces g G F h K)
 
-pub walk_is_kept : WalkIsKept
-walk_is_kept p g h G F K symbols enough =
+pub walk_rebuilds : (p : Plan) (g h : Gluing) → IsGluing p.faces g → HasThreeFans p.faces g → IsCarried p.faces g (order_of (trace p.faces g)) h → p.symbols ≡ length (word_of (trace p.faces g)) →
+    fan_count p.faces g + count_by is_split (word_of (trace p.faces g)) ≤ p.created →
+    rebuild p (word_of (trace p.faces g)) (trace p.faces g).events (λ k. get_or (reverse (trace p.faces g).bits) k false) ≡ Ok (finished p.faces h (word_of (trace p.faces g)))
+walk_rebuilds p g h G F K symbols enough =
     let w = word_of (trace p.faces g) in
     let made = walk_is_counted p.faces g G F in
     let few : made_by (symbol_at w) (length w) ≤ p.created = subst (λ (k : ℕ). k ≤ p.created) (sym made) enough in

@@ -22,7 +22,7 @@ module _ (faces : ℕ) (g : Gluing) (n : ℕ) (word : ℕ → Symbol) (T : IsRea
   Brings m k s = (l : ℕ) × HasFans (suc m) (prefix (suc m) g) l × (l + cond (is_split s) 1 0 ≡ k + vertices_made s)
 
   end_brings : (m k : ℕ) → m < n → HasFans m (prefix m g) k → IsPast g (side m second) → IsPast g (side m third) → Brings m k E
-  end_brings m k h (f, N) b c = (k + 3, three_new faces g T.gluing m k f (base_of m g k f N) (adds_none T.gluing m (T.gates m h) b c), omega arith)
+  end_brings m k h (f, N) b c = (k + 3, three_new faces g T.gluing m k f (base_of m g k f N) (adds_none T.gluing m (T.entered m h) b c), omega arith)
 
   -- two sides are glued, of one fan
   both_glued : (m k : ℕ) → m < n → (f : Side → ℕ) → IsBase m g k f → (r l : Side) → g (side m second) ≡ Some r → g (side m third) ≡ Some l → r.face < m → l.face < m → f (next r) ≡ f (prev l) → HasFans (suc m) (prefix (suc m) g) k
@@ -37,7 +37,7 @@ module _ (faces : ℕ) (g : Gluing) (n : ℕ) (word : ℕ → Symbol) (T : IsRea
 
       glued : prefix (suc m) g ≡ glue (side m third) l (glue (side m second) r (prefix m g))
       glued = adds_two T.gluing m (side m third) l (side m second) r refl b j refl a i
-          (by_place (λ z. ((z ≡ side m third) ⊎ (z ≡ side m second)) ⊎ IsPast g z) m (inr (T.gates m h)) (inl (inr refl)) (inl (inl refl)))
+          (by_place (λ z. ((z ≡ side m third) ⊎ (z ≡ side m second)) ⊎ IsPast g z) m (inr (T.entered m h)) (inl (inr refl)) (inl (inl refl)))
 
       new : (p : Place) → spread m f (f (next r)) (f (next l)) (f (prev r)) (side m p) ≡ at_place p (f (next r)) (f (next l)) (f (prev r))
       new p = spread_new m f (f (next r)) (f (next l)) (f (prev r)) p
@@ -78,7 +78,7 @@ module _ (faces : ℕ) (g : Gluing) (n : ℕ) (word : ℕ → Symbol) (T : IsRea
 
       glued : prefix (suc m) g ≡ glue (side m third) (side o.before first) (prefix m g)
       glued = adds_one T.gluing m (side m third) (side o.before first) refl less o.onto
-          (by_place (λ z. (z ≡ side m third) ⊎ IsPast g z) m (inr (T.gates m h)) (inr b) (inl refl))
+          (by_place (λ z. (z ≡ side m third) ⊎ IsPast g z) m (inr (T.entered m h)) (inr b) (inl refl))
 
       new : (p : Place) → spread m f (f (prev r)) (f (next r)) k (side m p) ≡ at_place p (f (prev r)) (f (next r)) k
       new p = spread_new m f (f (prev r)) (f (next r)) k p
@@ -114,7 +114,7 @@ module _ (faces : ℕ) (g : Gluing) (n : ℕ) (word : ℕ → Symbol) (T : IsRea
 
       glued : prefix (suc m) g ≡ glue (side m second) (side o.before first) (prefix m g)
       glued = adds_one T.gluing m (side m second) (side o.before first) refl less o.onto
-          (by_place (λ z. (z ≡ side m second) ⊎ IsPast g z) m (inr (T.gates m h)) (inl refl) (inr b))
+          (by_place (λ z. (z ≡ side m second) ⊎ IsPast g z) m (inr (T.entered m h)) (inl refl) (inr b))
 
       new : (p : Place) → spread m f (f (next r)) k (f (prev r)) (side m p) ≡ at_place p (f (next r)) k (f (prev r))
       new p = spread_new m f (f (next r)) k (f (prev r)) p

@@ -354,7 +354,7 @@ module _ (faces : ℕ) (g : Gluing) (G : IsGluing faces g) (F : HasThreeFans fac
       record {
         run = n - suc I.run;
         is_run = omega arith;
-        entered = run_number f I.run (side (get_or (insides_of faces g) t.0 0) second) I.is_run b (t.3 first) I.across;
+        begins = run_number f I.run (side (get_or (insides_of faces g) t.0 0) second) I.is_run b (t.3 first) I.across;
         rings = λ p. ring_up (λ d. (j : ℕ) × (j < n) × ((cor j).face ≡ d.face)) n (λ x c s. (let d = symbol_face x.face s.0 c s.1 s.2 in omega arith)) (side f p) b (side (get_or (insides_of faces g) t.0 0) (place_after p)) (t.3 p) (I.rings (place_after p));
       }
 
@@ -404,7 +404,7 @@ module _ (faces : ℕ) (g : Gluing) (G : IsGluing faces g) (F : HasThreeFans fac
   readable = record {
     gluing = H;
     fewer = (let t = total_is faces g G F in omega arith);
-    gates = λ i l. (
+    entered = λ i l. (
         let k = n - suc i in
         let e : suc (i + k) ≡ n = omega arith in
         past i k e (side i first) refl (subst (SeenAcross g cor (insides_of faces g) k) (sym (first_is faces g G F i k e)) (gate_seen k (omega arith))));

@@ -10,8 +10,8 @@ use Rattle.eb_rebuild.specs.Machine.{note_events, reserve, event_place}
 use Rattle.eb_rebuild.specs.Shown.{is_split}
 use Rattle.eb_rebuild.proofs.Noting.{note_none, note_later, note_more}
 use Rattle.eb_trace.specs.Readable.{IsReadable}
-use Rattle.eb_trace.specs.Front.{kept_for, waiting, split_met, event_told, events_at, events_left}
-use Rattle.eb_trace.proofs.Kept.{kept_early, kept_late, kept_unsplit, kept_is, waiting_later, waiting_here, waiting_entry, waiting_more, met_third, third_met}
+use Rattle.eb_trace.specs.Front.{reserved_for, waiting, split_met, event_told, events_at, events_left}
+use Rattle.eb_trace.proofs.Reserved.{reserved_early, reserved_late, reserved_unsplit, reserved_is, waiting_later, waiting_here, waiting_entry, waiting_more, met_third, third_met}
 
 -- a list of events begins with one of a source below d, if with any
 abbrev pub Leads : ℕ → List Event → Type 0
@@ -91,33 +91,33 @@ module _ (faces : ℕ) (g : Gluing) (n : ℕ) (word : ℕ → Symbol) (T : IsRea
 
   -- what is kept after both
   abbrev kept_both : ℕ → ℕ → Option Side
-  kept_both m = kept_by (on_right m) (side m second) (kept_by (on_left m) (side m third) (kept_for n g word m))
+  kept_both m = kept_by (on_right m) (side m second) (kept_by (on_left m) (side m third) (reserved_for n g word m))
 
-  neither : (m k : ℕ) → (on_left m ≡ Some k → ⊥) → (on_right m ≡ Some k → ⊥) → kept_both m k ≡ kept_for n g word m k
+  neither : (m k : ℕ) → (on_left m ≡ Some k → ⊥) → (on_right m ≡ Some k → ⊥) → kept_both m k ≡ reserved_for n g word m k
   neither m k a b = by_miss (on_right m) (side m second) _ k b ∙ by_miss (on_left m) (side m third) _ k a
 
-  kept_after : (m : ℕ) → is_split (word m) ≡ false → (k : ℕ) → kept_both m k ≡ kept_for n g word (suc m) k
+  kept_after : (m : ℕ) → is_split (word m) ≡ false → (k : ℕ) → kept_both m k ≡ reserved_for n g word (suc m) k
   kept_after m s k = elim (cases_lt m k) [
     | inr h ↦ neither m k (λ a. (let t = met_third T m third k (λ q. (cc)) a in let l = t.0 in absurd (omega arith))) (λ a. (let t = met_third T m second k (λ q. (cc)) a in let l = t.0 in absurd (omega arith)))
-        ∙ early h ∙ sym (kept_early n g word (suc m) k (omega arith))
+        ∙ early h ∙ sym (reserved_early n g word (suc m) k (omega arith))
     | inl h ↦ elim (cases_lt k n) [
       | inr l ↦ neither m k (λ a. (let t = met_third T m third k (λ q. (cc)) a in let w = t.1 in absurd (omega arith))) (λ a. (let t = met_third T m second k (λ q. (cc)) a in let w = t.1 in absurd (omega arith)))
-          ∙ kept_late n g word m k l ∙ sym (kept_late n g word (suc m) k l)
+          ∙ reserved_late n g word m k l ∙ sym (reserved_late n g word (suc m) k l)
       | inl l ↦ elim (cases_Bool (is_split (word k))) [
         | inr f ↦ neither m k (λ a. (let t = met_third T m third k (λ q. (cc)) a in let no : false ≡ true = sym f ∙ t.2 in cc)) (λ a. (let t = met_third T m second k (λ q. (cc)) a in let no : false ≡ true = sym f ∙ t.2 in cc))
-            ∙ kept_unsplit n g word m k f ∙ sym (kept_unsplit n g word (suc m) k f)
+            ∙ reserved_unsplit n g word m k f ∙ sym (reserved_unsplit n g word (suc m) k f)
         | inl t ↦ live h l t
       ]
     ]
   ]
     where
-      early : k ≤ m → kept_for n g word m k ≡ None
+      early : k ≤ m → reserved_for n g word m k ≡ None
       early h = elim (cases_eq k m) [
-        | inl e ↦ kept_unsplit n g word m k (ap (λ (i : ℕ). is_split (word i)) e ∙ s)
-        | inr e ↦ kept_early n g word m k (omega arith)
+        | inl e ↦ reserved_unsplit n g word m k (ap (λ (i : ℕ). is_split (word i)) e ∙ s)
+        | inr e ↦ reserved_early n g word m k (omega arith)
       ]
 
-      live : m < k → k < n → is_split (word k) ≡ true → kept_both m k ≡ kept_for n g word (suc m) k
+      live : m < k → k < n → is_split (word k) ≡ true → kept_both m k ≡ reserved_for n g word (suc m) k
       live h l t = elim (option_tells (g (side k third))) [
         | inl o ↦ neither m k (λ a. (let u = met_third T m third k (λ q. (cc)) a in let no : None ≡ Some (side m third) = sym o ∙ u.3 in cc)) (λ a. (let u = met_third T m second k (λ q. (cc)) a in let no : None ≡ Some (side m second) = sym o ∙ u.3 in cc))
             ∙ before ∙ ap (waiting m) o ∙ sym (ap (waiting (suc m)) o) ∙ sym after
@@ -128,13 +128,13 @@ module _ (faces : ℕ) (g : Gluing) (n : ℕ) (word : ℕ → Symbol) (T : IsRea
         ]
       ]
         where
-          before : kept_for n g word m k ≡ waiting m (g (side k third))
-          before = kept_is n g word m k (omega arith) l t
+          before : reserved_for n g word m k ≡ waiting m (g (side k third))
+          before = reserved_is n g word m k (omega arith) l t
 
-          after : kept_for n g word (suc m) k ≡ waiting (suc m) (g (side k third))
-          after = kept_is n g word (suc m) k (omega arith) l t
+          after : reserved_for n g word (suc m) k ≡ waiting (suc m) (g (side k third))
+          after = reserved_is n g word (suc m) k (omega arith) l t
 
-          here : (p : Place) → g (side k third) ≡ Some (side m p) → kept_both m k ≡ kept_for n g word (suc m) k
+          here : (p : Place) → g (side k third) ≡ Some (side m p) → kept_both m k ≡ reserved_for n g word (suc m) k
           here first i =
               neither m k
               (λ a. (let u = met_third T m third k (λ q. (cc)) a in let w : side m first ≡ side m third = Some_injective _ _ (sym i ∙ u.3) in let v : first ≡ third = ap (λ (z : Side). z.place) w in cc))
@@ -149,11 +149,11 @@ module _ (faces : ℕ) (g : Gluing) (n : ℕ) (word : ℕ → Symbol) (T : IsRea
               ∙ sym (waiting_here (suc m) (g (side k third)) (side m third) i (omega arith) (λ q. (cc))) ∙ sym after
 
   -- nothing was kept for the S that is met
-  unkept : (m j : ℕ) (k : Place) → k ≢ first → split_met n word m (g (side m k)) ≡ Some j → (j < n) × (kept_for n g word m j ≡ None)
+  unkept : (m j : ℕ) (k : Place) → k ≢ first → split_met n word m (g (side m k)) ≡ Some j → (j < n) × (reserved_for n g word m j ≡ None)
   unkept m j k ne e =
       let t = met_third T m k j ne e in
       let l = t.0 in
-      (t.1, kept_is n g word m j (omega arith) t.1 t.2 ∙ waiting_later m (g (side j third)) (side m k) t.3 (omega arith))
+      (t.1, reserved_is n g word m j (omega arith) t.1 t.2 ∙ waiting_later m (g (side j third)) (side m k) t.3 (omega arith))
 
   -- the events that are left before face m are its own, and then those left after it
   told : (m : ℕ) → m < n → events_left n g word (n - m) ≡ events_at n g word m false ++ (events_at n g word m true ++ events_left n g word (n - suc m))
@@ -164,13 +164,13 @@ module _ (faces : ℕ) (g : Gluing) (n : ℕ) (word : ℕ → Symbol) (T : IsRea
       ap (events_left n g word) count ∙ left_suc n g word d ∙ ap (λ (i : ℕ). events_at n g word i false ++ (events_at n g word i true ++ events_left n g word d)) face
 
   -- face m notes its events, and keeps what waits after it
-  pub notes_face : (m : ℕ) → m < n → is_split (word m) ≡ false → note_events n m (events_left n g word (n - m)) (kept_for n g word m) ≡ Ok (events_left n g word (n - suc m), kept_for n g word (suc m))
+  pub notes_face : (m : ℕ) → m < n → is_split (word m) ≡ false → note_events n m (events_left n g word (n - m)) (reserved_for n g word m) ≡ Ok (events_left n g word (n - suc m), reserved_for n g word (suc m))
   notes_face m h s =
       let d = n - suc m in
       let rest = events_left n g word d in
-      ap (λ (es : List Event). note_events n m es (kept_for n g word m)) (told m h)
-      ∙ note_told n m false (on_left m) (events_at n g word m true ++ rest) (kept_for n g word m) (λ j e. unkept m j third (λ q. (cc)) e)
-      ∙ note_told n m true (on_right m) rest (kept_by (on_left m) (side m third) (kept_for n g word m))
+      ap (λ (es : List Event). note_events n m es (reserved_for n g word m)) (told m h)
+      ∙ note_told n m false (on_left m) (events_at n g word m true ++ rest) (reserved_for n g word m) (λ j e. unkept m j third (λ q. (cc)) e)
+      ∙ note_told n m true (on_right m) rest (kept_by (on_left m) (side m third) (reserved_for n g word m))
       (λ j e. (let t = unkept m j second (λ q. (cc)) e in (t.0, by_miss (on_left m) (side m third) _ j (λ a. not_both m j a e) ∙ t.1)))
       ∙ note_leads n m d rest (kept_both m) (omega arith) (leads n g word d (omega arith))
       ∙ ap (λ (kept : ℕ → Option Side). Ok (rest, kept)) (fun_ext (kept_after m s))

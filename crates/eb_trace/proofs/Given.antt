@@ -1,5 +1,5 @@
 -- What is given out: the vertices are the fans, the events fit the symbols, and reverse decoding of it keeps the surface.
-use Rattle.std.proofs.Common.{◌≡◌, ℕ, ◌<◌, ◌≤◌, Bool, false, List, length, reverse, get_or, Some, None, All, inl, inr, refl, sym, ap, ◌∙◌, subst, arith, vec_len}
+use Rattle.std.proofs.Common.{◌≡◌, ℕ, ◌<◌, ◌≤◌, Bool, false, List, length, reverse, get_or, Some, None, All, inl, inr, refl, sym, ap, ◌∙◌, subst, arith, vec_len, Result, Ok, Err, count_by, ◌+◌}
 use mathlib.Core.Path.{fun_ext}
 use Rattle.std.proofs.lemmas.Bool.{cases_lt}
 use Rattle.std.proofs.lemmas.List.{reverse-reverse, length-map, length-reverse}
@@ -11,17 +11,26 @@ use Rattle.corner_table.specs.Fans.{HasThreeFans}
 use Rattle.corner_table.specs.Carried.{IsRenumbering, IsCarried}
 use Rattle.corner_table.proofs.Places.{option_tells}
 use Rattle.corner_table.proofs.Numbers.{no_room}
+use Rattle.drc_base.specs.declared.faults.Fault.{Fault}
+use Rattle.eb_rebuild.specs.Machine.{State, Plan, rebuild}
+use Rattle.eb_rebuild.specs.Named.{NamedState, named_rebuild}
+use Rattle.eb_rebuild.specs.Shown.{Shows, Agree, is_split}
 use Rattle.eb_rebuild.specs.Rebuilding.{IsEventOf}
+use Rattle.eb_rebuild.proofs.NamedLaw.{runs_agree}
+use Rattle.eb_rebuild.proofs.NamesMade.{made_at_end}
+use Rattle.eb_trace.specs.Front.{made_by, start_bits}
+use Rattle.eb_trace.specs.Rebuilt.{symbol_at, finished}
 use Rattle.eb_trace.specs.declared.surface.Surface.{Surface}
 use Rattle.eb_trace.specs.Trace.{Entry, Walk, trace, word_of, order_of, fan_count}
 use Rattle.eb_trace.specs.Stored.{IsSurface, gluing_in}
 use Rattle.eb_trace.specs.Events.{IsSplitEvent, AreSplitEvents}
-use Rattle.eb_trace.specs.FromTrace.{CarriesOne, CarriesFans, IsRebuiltFrom}
-use Rattle.eb_trace.specs.Kept.{WalkCarries}
+use Rattle.eb_trace.specs.FromTrace.{CarriesOne, CarriesFans, IsRebuiltFrom, AreStartBits, EndsNamed, NamesVertices}
+use Rattle.eb_trace.specs.Kept.{WalkCarries, WalkIsKept}
 use Rattle.eb_trace.proofs.Vertices.{labels_are_fans, renumbered_alike}
 use Rattle.eb_trace.proofs.Walked.{entries_of}
 use Rattle.eb_trace.proofs.Order.{total_is, renumbers}
-use Rattle.eb_trace.proofs.Counted.{is_renumbered, walk_is_kept}
+use Rattle.eb_trace.proofs.Counted.{is_renumbered, walk_is_counted, walk_rebuilds}
+use Rattle.eb_trace.proofs.StartBits.{word_bits}
 use Rattle.eb_trace.proofs.Splits.{walk_notes_splits}
 
 -- the vertices of a surface
@@ -30,15 +39,12 @@ vertices_are s faces g V e q =
     V.vertices ∙ labels_are_fans s.faces (gluing_in s) s.labels.items (vec_len s.ends) s.ends.items V.gluing V.labelled
     ∙ ap (λ (k : ℕ). fan_count k (gluing_in s)) e ∙ ap (λ (x : Gluing). fan_count faces x) q
 
--- the walk's lists are enough
-of_walk : (faces : ℕ) (g : Gluing) → IsGluing faces g → HasThreeFans faces g →
-    IsRebuiltFrom faces g (reverse (word_of (trace faces g))) (reverse (trace faces g).events) (reverse (trace faces g).bits) (order_of (trace faces g)) (fan_count faces g)
-of_walk faces g G F created h K made =
-    let w = word_of (trace faces g) in
+pub walk_is_kept : WalkIsKept
+walk_is_kept faces g G F created h K made =
     let back = reverse-reverse (word_of (trace faces g)) in
     let events = reverse-reverse (trace faces g).events in
     let long = length-reverse (word_of (trace faces g)) in
-    rw (back, events, long) (walk_is_kept (record { faces = faces; created = created; symbols = length (word_of (trace faces g)) }) g h G F K refl (rw back at made))
+    rw (back, events, long) (walk_rebuilds (record { faces = faces; created = created; symbols = length (word_of (trace faces g)) }) g h G F K refl (rw back at made))
 
 pub rebuilt_from : (faces : ℕ) (g : Gluing) → IsGluing faces g → HasThreeFans faces g → (symbols : List Symbol) (events : List Event) (starts : List Bool) (order : List (ℕ × ℕ)) (vertices : ℕ) →
     symbols ≡ reverse (word_of (trace faces g)) → events ≡ reverse (trace faces g).events → starts ≡ reverse (trace faces g).bits → order ≡ order_of (trace faces g) → vertices ≡ fan_count faces g →
@@ -50,7 +56,7 @@ rebuilt_from faces g G F symbols events starts order vertices a b c d e =
     let p3 : List Bool → Type 0 = λ x. IsRebuiltFrom faces g symbols events x (order_of (trace faces g)) (fan_count faces g) in
     let p4 : List (ℕ × ℕ) → Type 0 = λ x. IsRebuiltFrom faces g symbols events starts x (fan_count faces g) in
     let p5 : ℕ → Type 0 = λ x. IsRebuiltFrom faces g symbols events starts order x in
-    subst p5 (sym e) (subst p4 (sym d) (subst p3 (sym c) (subst p2 (sym b) (subst p1 (sym a) (of_walk faces g G F)))))
+    subst p5 (sym e) (subst p4 (sym d) (subst p3 (sym c) (subst p2 (sym b) (subst p1 (sym a) (walk_is_kept faces g G F)))))
 
 -- the events are those of the walk
 pub events_given : (faces : ℕ) (g : Gluing) → IsGluing faces g → HasThreeFans faces g → (symbols : List Symbol) (events : List Event) → symbols ≡ reverse (word_of (trace faces g)) → events ≡ reverse (trace faces g).events → AreSplitEvents symbols events
@@ -124,3 +130,61 @@ pub carried_given : (faces : ℕ) (g : Gluing) → IsGluing faces g → HasThree
 carried_given faces g G F order vertices d e =
     subst (λ (k : ℕ). CarriesOne faces g order × CarriesFans faces g order k) (sym e)
     (subst (λ (x : List (ℕ × ℕ)). CarriesOne faces g x × CarriesFans faces g x (fan_count faces g)) (sym d) (walk_carries faces g G F))
+
+-- the start bits are those that the surface tells
+pub bits_given : (faces : ℕ) (g : Gluing) → IsGluing faces g → HasThreeFans faces g → (symbols : List Symbol) (starts : List Bool) (order : List (ℕ × ℕ)) →
+    symbols ≡ reverse (word_of (trace faces g)) → starts ≡ reverse (trace faces g).bits → order ≡ order_of (trace faces g) → AreStartBits faces g symbols starts order
+bits_given faces g G F symbols starts order a c d h K =
+    let long : length symbols ≡ length (word_of (trace faces g)) = ap (λ (x : List Symbol). length x) a ∙ length-reverse (word_of (trace faces g)) in
+    c ∙ word_bits faces g G F h (subst (λ (x : List (ℕ × ℕ)). IsCarried faces g x h) d K) ∙ ap (λ (n : ℕ). start_bits n h) (sym long)
+
+-- the answer of the machine with names, where the one without has an answer
+named_answer : (r : Result NamedState Fault) (s : Result State Fault) (t : State) → Agree Shows r s → s ≡ Ok t → (x : NamedState) × (r ≡ Ok x) × Shows x t
+named_answer (Ok x) s t h e = (x, refl, subst (λ (k : Result State Fault). Agree Shows (Ok x) k) e h)
+named_answer (Err f) s t h e = absurd (subst (λ (k : Result State Fault). Agree Shows (Err f) k) e h)
+
+made_given : (faces : ℕ) (g : Gluing) → IsGluing faces g → HasThreeFans faces g → (symbols : List Symbol) (vertices : ℕ) → symbols ≡ reverse (word_of (trace faces g)) → vertices ≡ fan_count faces g →
+    made_by (symbol_at (reverse symbols)) (length (reverse symbols)) ≡ vertices + count_by is_split (reverse symbols)
+made_given faces g G F symbols vertices a e =
+    let w : List Symbol = word_of (trace faces g) in
+    let back : reverse symbols ≡ w = ap (λ (x : List Symbol). reverse x) a ∙ reverse-reverse (word_of (trace faces g)) in
+    subst (λ (x : List Symbol). made_by (symbol_at x) (length x) ≡ vertices + count_by is_split x) (sym back)
+    (subst (λ (k : ℕ). made_by (symbol_at w) (length w) ≡ k + count_by is_split w) (sym e) (walk_is_counted faces g G F))
+
+-- names of its vertices
+pub names_given : (faces : ℕ) (g : Gluing) (symbols : List Symbol) (events : List Event) (starts : List Bool) (order : List (ℕ × ℕ)) (vertices : ℕ) →
+    CarriesOne faces g order → IsRebuiltFrom faces g symbols events starts order vertices → made_by (symbol_at (reverse symbols)) (length (reverse symbols)) ≡ vertices + count_by is_split (reverse symbols) →
+    NamesVertices faces g symbols events starts order vertices
+names_given faces g symbols events starts order vertices one kept count created enough = go (named_answer (named_rebuild plan word told bits) (rebuild plan word told bits) last (runs_agree plan word told bits) (kept created one.carried one.is_carried enough))
+  where
+    plan : Plan
+    plan = record { faces = faces; created = created; symbols = length symbols }
+
+    word : List Symbol
+    word = reverse symbols
+
+    told : List Event
+    told = reverse events
+
+    bits : ℕ → Bool
+    bits k = get_or starts k false
+
+    last : State
+    last = finished faces one.carried word
+
+    go : (x : NamedState) × (named_rebuild plan word told bits ≡ Ok x) × Shows x last → EndsNamed faces created g symbols events starts order vertices
+    go (x, e, V) = record {
+      last = x;
+      no_fault = e;
+      shows = λ h K. subst (λ (k : Gluing). Shows x (finished faces k word)) (sym (one.only h K)) V;
+      names = (
+          let made : x.made ≡ made_by (symbol_at word) (length word) = ap (λ (t : State). t.made) V.state in
+          let names = made_at_end plan word told bits x e in
+          omega (arith, count));
+    }
+
+pub named_given : (faces : ℕ) (g : Gluing) → IsGluing faces g → HasThreeFans faces g → (symbols : List Symbol) (events : List Event) (starts : List Bool) (order : List (ℕ × ℕ)) (vertices : ℕ) →
+    symbols ≡ reverse (word_of (trace faces g)) → events ≡ reverse (trace faces g).events → starts ≡ reverse (trace faces g).bits → order ≡ order_of (trace faces g) → vertices ≡ fan_count faces g →
+    NamesVertices faces g symbols events starts order vertices
+named_given faces g G F symbols events starts order vertices a b c d e =
+    names_given faces g symbols events starts order vertices (carried_given faces g G F order vertices d e).0 (rebuilt_from faces g G F symbols events starts order vertices a b c d e) (made_given faces g G F symbols vertices a e)

@@ -1,6 +1,6 @@
 pub mod Below
 pub mod Waiting
-pub mod Kept
+pub mod Reserved
 pub mod Events
 pub mod StepLaws
 pub mod Closing

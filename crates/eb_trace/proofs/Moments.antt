@@ -9,7 +9,7 @@ use Rattle.corner_table.specs.Fans.{swing_left, InFan, here, leftwards, HasThree
 use Rattle.corner_table.proofs.Places.{option_tells, Some_injective, next-prev}
 use Rattle.corner_table.proofs.Walks.{left_crosses, fan_sym}
 use Rattle.eb_rebuild.specs.Machine.{pushed}
-use Rattle.eb_trace.specs.Trace.{Entry, Walk, is_visited, is_closed, is_new_vertex, symbol_at_corner, after_symbol, go_back, take_kept, entered, visit, run, events_noted}
+use Rattle.eb_trace.specs.Trace.{Entry, Walk, is_visited, is_visited_across, is_new_vertex, symbol_at_corner, after_symbol, go_back, take_kept, entered, visit, run, events_noted}
 use Rattle.eb_trace.proofs.Rings.{Ring, GoesRound, OtherInFan, ring_of}
 use Rattle.eb_trace.proofs.Covered.{IsClosed, IsFaceOf, IsCovered, IsVisiting, IsBlocked, blocked_visited, blocked_ahead, covered_step, covered_closed, not_yet, part_back, three_sides, unvisited_count, count_less, count_some}
 use Rattle.eb_trace.proofs.Visited.{is_inside, entered_visits, entry_at, Extends, extends_rest, extends_top, extends_trans, same_visited, visited_tells, number_visited, not_inside, closed_tells, open_tells, SymbolTells, symbol_tells, new_tells, old_tells, take_none, take_some, after_entries, after_interior, run_ends, run_goes_on, run_extends}
@@ -177,7 +177,7 @@ module _ (faces : ℕ) (g : Gluing) (G : IsGluing faces g) (F : HasThreeFans fac
     gate_blocked : (s : Symbol) (ahead : List Side) → IsBlocked g (is_visited (entered w c s)) ahead c
     gate_blocked s ahead = blocked_visited g (is_visited (entered w c s)) ahead c (λ x e. (visiting s).old x.face (M.gated x e))
 
-    closed_blocked : (s : Symbol) (ahead : List Side) (x : Side) → is_closed w (g x) ≡ true → IsBlocked g (is_visited (entered w c s)) ahead x
+    closed_blocked : (s : Symbol) (ahead : List Side) (x : Side) → is_visited_across w (g x) ≡ true → IsBlocked g (is_visited (entered w c s)) ahead x
     closed_blocked s ahead x h = blocked_visited g (is_visited (entered w c s)) ahead x (λ y e. (visiting s).old y.face (closed_tells w (g x) h y e))
 
     ahead_blocked : (s : Symbol) (d : Side) (kept : List Side) (x : Side) → g x ≡ Some d → IsBlocked g (is_visited (entered w c s)) (d ∷ kept) x
@@ -218,7 +218,7 @@ module _ (faces : ℕ) (g : Gluing) (G : IsGluing faces g) (F : HasThreeFans fac
     right_gate : (s : Symbol) → Logging s → GoesRight s → (d : Side) → g (next c) ≡ Some d → Gate g corner symbol insides (suc (length w.entries)) d
     right_gate s lo r d e = after_right (length w.entries) refl (subst GoesRight (sym (symbol_is s lo)) r) (G.paired (next c) d e ∙ ap (λ (z : Side). Some (next z)) (sym (corner_is s lo)))
 
-    visit_left : Logging L → SymbolTells L (is_new_vertex faces g w c) (is_closed w (g (next c))) (is_closed w (g (prev c))) → Outcome a (after_symbol g w c L).0 (g (next c))
+    visit_left : Logging L → SymbolTells L (is_new_vertex faces g w c) (is_visited_across w (g (next c))) (is_visited_across w (g (prev c))) → Outcome a (after_symbol g w c L).0 (g (next c))
     visit_left lo t = go (open_tells w (g (next c)) t.1)
       where
         go : (y : Side) × (g (next c) ≡ Some y) × (is_visited w y.face ≡ false) → Outcome a (after_symbol g w c L).0 (g (next c))
@@ -227,7 +227,7 @@ module _ (faces : ℕ) (g : Gluing) (G : IsGluing faces g) (F : HasThreeFans fac
             (covered_step G (is_visited w) (is_visited (entered w c L)) c w.kept (d ∷ w.kept) (visiting L) M.covered (λ f q. inl (inr q)) (gate_blocked L (d ∷ w.kept)) (ahead_blocked L d w.kept (next c) e) (closed_blocked L (d ∷ w.kept) (prev c) t.2))
             (same_kept L lo (next c) d refl e))
 
-    visit_right : Logging R → SymbolTells R (is_new_vertex faces g w c) (is_closed w (g (next c))) (is_closed w (g (prev c))) → Outcome a (after_symbol g w c R).0 (g (prev c))
+    visit_right : Logging R → SymbolTells R (is_new_vertex faces g w c) (is_visited_across w (g (next c))) (is_visited_across w (g (prev c))) → Outcome a (after_symbol g w c R).0 (g (prev c))
     visit_right lo t = go (open_tells w (g (prev c)) t.2)
       where
         go : (y : Side) × (g (prev c) ≡ Some y) × (is_visited w y.face ≡ false) → Outcome a (after_symbol g w c R).0 (g (prev c))
@@ -242,7 +242,7 @@ module _ (faces : ℕ) (g : Gluing) (G : IsGluing faces g) (F : HasThreeFans fac
         let t = old_tells faces g w c h in
         (t.0, subst (λ (x : Side). InFan g x t.0) (sym (corner_is s lo)) t.1, elim t.2 [ inl e ↦ inl e | inr u ↦ elim u [ inl e ↦ inr (inl e) | inr v ↦ inr (inr (seen s lo t.0.face v)) ] ])
 
-    visit_split : Logging S → SymbolTells S (is_new_vertex faces g w c) (is_closed w (g (next c))) (is_closed w (g (prev c))) → Outcome a (after_symbol g w c S).0 (g (next c))
+    visit_split : Logging S → SymbolTells S (is_new_vertex faces g w c) (is_visited_across w (g (next c))) (is_visited_across w (g (prev c))) → Outcome a (after_symbol g w c S).0 (g (next c))
     visit_split lo t = go (open_tells w (g (next c)) t.1) (open_tells w (g (prev c)) t.2)
       where
         go : (y : Side) × (g (next c) ≡ Some y) × (is_visited w y.face ≡ false) → (y : Side) × (g (prev c) ≡ Some y) × (is_visited w y.face ≡ false) → Outcome a (after_symbol g w c S).0 (g (next c))
@@ -256,7 +256,7 @@ module _ (faces : ℕ) (g : Gluing) (G : IsGluing faces g) (F : HasThreeFans fac
             subst (Outcome a (after_symbol g w c S).0) (sym e) (subst (λ (kept : List Side). Moment a (record (entered w c S) { kept = kept }) d) (sym (ap (λ (o : Option Side). pushed o w.kept) i)) moment)
 
     -- at a new vertex the ring round it is unvisited: the face to the left is come to over it
-    visit_tip : Logging C → SymbolTells C (is_new_vertex faces g w c) (is_closed w (g (next c))) (is_closed w (g (prev c))) → Outcome a (after_symbol g w c C).0 (g (next c))
+    visit_tip : Logging C → SymbolTells C (is_new_vertex faces g w c) (is_visited_across w (g (next c))) (is_visited_across w (g (prev c))) → Outcome a (after_symbol g w c C).0 (g (next c))
     visit_tip lo t = go (ring_of G c M.within round)
       where
         round : GoesRound g c
@@ -284,7 +284,7 @@ module _ (faces : ℕ) (g : Gluing) (G : IsGluing faces g) (F : HasThreeFans fac
             (same_kept C lo (next c) (prev r.from) refl e))
 
     -- at an end the last kept corner of an unvisited face is taken
-    visit_end : Logging E → SymbolTells E (is_new_vertex faces g w c) (is_closed w (g (next c))) (is_closed w (g (prev c))) → Outcome a (after_symbol g w c E).0 (after_symbol g w c E).1
+    visit_end : Logging E → SymbolTells E (is_new_vertex faces g w c) (is_visited_across w (g (next c))) (is_visited_across w (g (prev c))) → Outcome a (after_symbol g w c E).0 (after_symbol g w c E).1
     visit_end lo t = elim (option_tells (take_kept (entered w c E) w.kept)) [
       | inl n ↦ subst (λ (o : Option (Side × List Side)). Outcome a (go_back noted o).0 (go_back noted o).1) (sym n) (ended n)
       | inr y ↦ subst (λ (o : Option (Side × List Side)). Outcome a (go_back noted o).0 (go_back noted o).1) (sym y.1) (taken y.0.0 y.0.1 y.1)
@@ -333,7 +333,7 @@ module _ (faces : ℕ) (g : Gluing) (G : IsGluing faces g) (F : HasThreeFans fac
                   joined = λ l. (i, omega arith, prev (corner i), back, refl);
                 }
 
-    visit_ok : (s : Symbol) → symbol_at_corner faces g w c ≡ s → Logging s → SymbolTells s (is_new_vertex faces g w c) (is_closed w (g (next c))) (is_closed w (g (prev c))) → Outcome a (after_symbol g w c s).0 (after_symbol g w c s).1
+    visit_ok : (s : Symbol) → symbol_at_corner faces g w c ≡ s → Logging s → SymbolTells s (is_new_vertex faces g w c) (is_visited_across w (g (next c))) (is_visited_across w (g (prev c))) → Outcome a (after_symbol g w c s).0 (after_symbol g w c s).1
     visit_ok C e lo t = visit_tip lo t
     visit_ok S e lo t = visit_split lo t
     visit_ok L e lo t = visit_left lo t
@@ -358,7 +358,7 @@ module _ (faces : ℕ) (g : Gluing) (G : IsGluing faces g) (F : HasThreeFans fac
   ]
     where
       outcome : Extends all (record { corner = c; symbol = symbol_at_corner faces g w c } ∷ w.entries) → Outcome a (visit faces g w c).0 (visit faces g w c).1
-      outcome lo = visit_ok a w c M l (symbol_at_corner faces g w c) refl lo (symbol_tells (is_new_vertex faces g w c) (is_closed w (g (next c))) (is_closed w (g (prev c))))
+      outcome lo = visit_ok a w c M l (symbol_at_corner faces g w c) refl lo (symbol_tells (is_new_vertex faces g w c) (is_visited_across w (g (next c))) (is_visited_across w (g (prev c))))
 
       same : (f : ℕ) → is_visited (visit faces g w c).0 f ≡ is_visited (entered w c (symbol_at_corner faces g w c)) f
       same f = same_visited (visit faces g w c).0 (entered w c (symbol_at_corner faces g w c)) (after_entries g w c (symbol_at_corner faces g w c)) (after_interior g w c (symbol_at_corner faces g w c)) f

@@ -14,7 +14,7 @@ use Rattle.eb_trace.specs.Readable.{IsNewTip, IsSplit, Says}
 use Rattle.eb_trace.specs.Front.{split_met, event_told, events_at, events_left}
 use Rattle.eb_trace.specs.Rebuilt.{symbol_at}
 use Rattle.eb_trace.specs.Trace.{Entry, Walk, trace, order_of, word_of, split_of, split_across, event_noted, events_noted, after_symbol, go_back, take_kept, entered, visit, run, symbol_at_corner, is_visited, start_corner, begun, begun_inside, walked}
-use Rattle.eb_trace.proofs.Kept.{three_first, three_second}
+use Rattle.eb_trace.proofs.Reserved.{three_first, three_second}
 use Rattle.eb_trace.proofs.Events.{left_zero, left_suc, tells_none}
 use Rattle.eb_trace.proofs.Visited.{is_inside, entry_at, at_top, at_rest, Extends, extends_rest, extends_top, extends_at, extends_length, run_none, run_ends, run_goes_on}
 use Rattle.eb_trace.proofs.Moments.{true_not_false}

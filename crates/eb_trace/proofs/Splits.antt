@@ -16,7 +16,7 @@ use Rattle.eb_trace.specs.Readable.{IsReadable, Says}
 use Rattle.eb_trace.specs.Rebuilt.{symbol_at}
 use Rattle.eb_trace.specs.Trace.{trace, word_of, order_of}
 use Rattle.eb_trace.specs.Events.{may_meet, IsSplitEvent, ComesBefore, AreSplitEvents, WalkNotesSplits}
-use Rattle.eb_trace.proofs.Kept.{split_is, met_third}
+use Rattle.eb_trace.proofs.Reserved.{split_is, met_third}
 use Rattle.eb_trace.proofs.Events.{left_zero, left_suc}
 use Rattle.eb_trace.proofs.Order.{renumbers}
 use Rattle.eb_trace.proofs.StartBits.{word_readable, word_events}

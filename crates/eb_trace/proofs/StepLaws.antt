@@ -15,10 +15,10 @@ use Rattle.eb_rebuild.specs.Machine.{State, step, top, pushed, release}
 use Rattle.eb_rebuild.specs.Shown.{is_split}
 use Rattle.eb_rebuild.proofs.Steps.{Next, same_state, top_free, end_steps, right_steps, left_steps, tip_steps, split_steps}
 use Rattle.eb_trace.specs.Readable.{IsReadable, Says, IsPast, GoesOn, IsNewTip, IsSplit}
-use Rattle.eb_trace.specs.Front.{free_firsts, waiting, kept_for, events_left, made_by, vertices_made, front}
+use Rattle.eb_trace.specs.Front.{free_firsts, waiting, reserved_for, events_left, made_by, vertices_made, front}
 use Rattle.eb_trace.proofs.Below.{by_place, unchanged_but, adds_none, adds_one, adds_two}
 use Rattle.eb_trace.proofs.Waiting.{firsts_free, firsts_glued, firsts_alike, firsts_skip, firsts_last, firsts_unlast, past_free}
-use Rattle.eb_trace.proofs.Kept.{kept_early, kept_unsplit, kept_is, kept_stays, waiting_here, waiting_entry}
+use Rattle.eb_trace.proofs.Reserved.{reserved_early, reserved_unsplit, reserved_is, reserved_stays, waiting_here, waiting_entry}
 use Rattle.eb_trace.proofs.Events.{notes_face, tells_none}
 
 made_more : (word : ℕ → Symbol) (m : ℕ) (s : Symbol) → word m ≡ s → made_by word m + vertices_made s ≡ made_by word (suc m)
@@ -28,14 +28,14 @@ made_more word m s e = ap (λ (x : Symbol). made_by word m + vertices_made x) (s
 module _ (faces : ℕ) (g : Gluing) (n : ℕ) (word : ℕ → Symbol) (T : IsReadable faces g n word) where
   -- the new side 0 waits on top
   stack_new : (m : ℕ) → m < n → free_firsts (prefix (suc m) g) (suc m) ≡ side m first ∷ free_firsts (prefix (suc m) g) m
-  stack_new m h = firsts_free (prefix (suc m) g) m (past_free (suc m) g (side m first) (omega arith) (omega arith) (T.gates m h))
+  stack_new m h = firsts_free (prefix (suc m) g) m (past_free (suc m) g (side m first) (omega arith) (omega arith) (T.entered m h))
 
   -- E: nothing is glued
   end_law : (m : ℕ) → m < n → word m ≡ E → IsPast g (side m second) → IsPast g (side m third) → step n E (front n g word m) ≡ Ok (front n g word (suc m))
   end_law m h e b c =
-      let glued : prefix m g ≡ prefix (suc m) g = sym (adds_none T.gluing m (T.gates m h) b c) in
+      let glued : prefix m g ≡ prefix (suc m) g = sym (adds_none T.gluing m (T.entered m h) b c) in
       let stack : side m first ∷ free_firsts (prefix m g) m ≡ free_firsts (prefix (suc m) g) (suc m) = ap (λ (k : Gluing). side m first ∷ free_firsts k m) glued ∙ sym (stack_new m h) in
-      end_steps n (front n g word m) (events_left n g word (n - suc m)) (kept_for n g word (suc m)) (notes_face faces g n word T m h (ap is_split e))
+      end_steps n (front n g word m) (events_left n g word (n - suc m)) (reserved_for n g word (suc m)) (notes_face faces g n word T m h (ap is_split e))
       ∙ ap {A = State} (λ s. let x : Next = Ok s in x) (same_state refl glued stack refl refl (made_more word m E e) refl)
 
   -- the top side, across which the walk went on
@@ -79,14 +79,14 @@ module _ (faces : ℕ) (g : Gluing) (n : ℕ) (word : ℕ → Symbol) (T : IsRea
 
   right_law : (m : ℕ) → m < n → word m ≡ R → IsPast g (side m second) → GoesOn g (side m third) → step n R (front n g word m) ≡ Ok (front n g word (suc m))
   right_law m h e b r =
-      let new : (z : Side) → z.face ≡ m → (z ≡ side m third) ⊎ IsPast g z = by_place (λ z. (z ≡ side m third) ⊎ IsPast g z) m (inr (T.gates m h)) (inr b) (inl refl) in
-      right_steps n (front n g word m) (side r.before first) (free_firsts (prefix m g) r.before) (events_left n g word (n - suc m)) (kept_for n g word (suc m)) (top_is m third r) (notes_face faces g n word T m h (ap is_split e))
+      let new : (z : Side) → z.face ≡ m → (z ≡ side m third) ⊎ IsPast g z = by_place (λ z. (z ≡ side m third) ⊎ IsPast g z) m (inr (T.entered m h)) (inr b) (inl refl) in
+      right_steps n (front n g word m) (side r.before first) (free_firsts (prefix m g) r.before) (events_left n g word (n - suc m)) (reserved_for n g word (suc m)) (top_is m third r) (notes_face faces g n word T m h (ap is_split e))
       ∙ ap {A = State} (λ s. let x : Next = Ok s in x) (same_state refl (one_new m third new r) (one_stack m h third new r) refl refl (made_more word m R e) refl)
 
   left_law : (m : ℕ) → m < n → word m ≡ L → GoesOn g (side m second) → IsPast g (side m third) → step n L (front n g word m) ≡ Ok (front n g word (suc m))
   left_law m h e r c =
-      let new : (z : Side) → z.face ≡ m → (z ≡ side m second) ⊎ IsPast g z = by_place (λ z. (z ≡ side m second) ⊎ IsPast g z) m (inr (T.gates m h)) (inl refl) (inr c) in
-      left_steps n (front n g word m) (side r.before first) (free_firsts (prefix m g) r.before) (events_left n g word (n - suc m)) (kept_for n g word (suc m)) (top_is m second r) (notes_face faces g n word T m h (ap is_split e))
+      let new : (z : Side) → z.face ≡ m → (z ≡ side m second) ⊎ IsPast g z = by_place (λ z. (z ≡ side m second) ⊎ IsPast g z) m (inr (T.entered m h)) (inl refl) (inr c) in
+      left_steps n (front n g word m) (side r.before first) (free_firsts (prefix m g) r.before) (events_left n g word (n - suc m)) (reserved_for n g word (suc m)) (top_is m second r) (notes_face faces g n word T m h (ap is_split e))
       ∙ ap {A = State} (λ s. let x : Next = Ok s in x) (same_state refl (one_new m second new r) (one_stack m h second new r) refl refl (made_more word m L e) refl)
 
   -- C and S: both other sides are glued
@@ -94,7 +94,7 @@ module _ (faces : ℕ) (g : Gluing) (n : ℕ) (word : ℕ → Symbol) (T : IsRea
   Both m w = (w ≡ side m second) ⊎ (w ≡ side m third)
 
   both_new : (m : ℕ) → m < n → (z : Side) → z.face ≡ m → Both m z ⊎ IsPast g z
-  both_new m h = by_place (λ z. Both m z ⊎ IsPast g z) m (inr (T.gates m h)) (inl (inl refl)) (inl (inr refl))
+  both_new m h = by_place (λ z. Both m z ⊎ IsPast g z) m (inr (T.entered m h)) (inl (inl refl)) (inl (inr refl))
 
   both_own : (m : ℕ) (x : Side) → Both m x → x.face ≡ m
   both_own m x q = elim q [ inl e ↦ ap (λ (s : Side). s.face) e | inr e ↦ ap (λ (s : Side). s.face) e ]
@@ -116,8 +116,8 @@ module _ (faces : ℕ) (g : Gluing) (n : ℕ) (word : ℕ → Symbol) (T : IsRea
       cc
 
   -- neither of them waits for a later split
-  both_kept : (m : ℕ) (r : GoesOn g (side m second)) (l : Side) → g (side m third) ≡ Some l → l.face < m → (k : ℕ) → k ≢ m → kept_for n g word (suc m) k ≡ kept_for n g word m k
-  both_kept m r l e b k ne = kept_stays n g word m k ne (λ x i f o. by_place (λ z. g z ≡ Some (side k third) → z.place ≡ first) m (λ q. refl) (at_second o) (at_third o) x f (T.gluing.paired (side k third) x i))
+  both_kept : (m : ℕ) (r : GoesOn g (side m second)) (l : Side) → g (side m third) ≡ Some l → l.face < m → (k : ℕ) → k ≢ m → reserved_for n g word (suc m) k ≡ reserved_for n g word m k
+  both_kept m r l e b k ne = reserved_stays n g word m k ne (λ x i f o. by_place (λ z. g z ≡ Some (side k third) → z.place ≡ first) m (λ q. refl) (at_second o) (at_third o) x f (T.gluing.paired (side k third) x i))
     where
       at_second : m < k → g (side m second) ≡ Some (side k third) → second ≡ first
       at_second o q = (let p : first ≡ third = ap (λ (s : Side). s.place) (Some_injective _ _ (sym r.onto ∙ q)) in absurd (cc))
@@ -158,9 +158,9 @@ module _ (faces : ℕ) (g : Gluing) (n : ℕ) (word : ℕ → Symbol) (T : IsRea
           stack = sym (stack_after m h second t.right ∙ ap (λ (s : List Side). side m first ∷ s)
               (firsts_alike (prefix (suc m) g) (prefix m g) t.right.before (λ j b. both_alike m h t.right l p.left_is j b (λ q. t.left l p.left_is (ap (λ (s : Side). s.place) q)))))
 
-          kept : kept_for n g word m ≡ kept_for n g word (suc m)
+          kept : reserved_for n g word m ≡ reserved_for n g word (suc m)
           kept = fun_ext (λ k. elim (cases_eq k m) [
-            | inl i ↦ kept_unsplit n g word m k (ap (λ (j : ℕ). is_split (word j)) i ∙ ap is_split e) ∙ sym (kept_early n g word (suc m) k (omega arith))
+            | inl i ↦ reserved_unsplit n g word m k (ap (λ (j : ℕ). is_split (word j)) i ∙ ap is_split e) ∙ sym (reserved_early n g word (suc m) k (omega arith))
             | inr i ↦ sym (both_kept m t.right l p.left_is p.left_below k i)
           ])
 
@@ -186,16 +186,16 @@ module _ (faces : ℕ) (g : Gluing) (n : ℕ) (word : ℕ → Symbol) (T : IsRea
       glued : glue (side m second) (side t.right.before first) (glue (side m third) t.across (prefix m g)) ≡ prefix (suc m) g
       glued = sym (adds_two T.gluing m (side m second) (side t.right.before first) (side m third) t.across refl less t.right.onto refl t.below t.left (both_new m h))
 
-      kept : release m (kept_for n g word m) ≡ kept_for n g word (suc m)
+      kept : release m (reserved_for n g word m) ≡ reserved_for n g word (suc m)
       kept = fun_ext (λ k. elim (cases_eq k m) [
-        | inl i ↦ cond-true (k == m) _ _ (eq-eqb k m i) ∙ sym (kept_early n g word (suc m) k (omega arith))
+        | inl i ↦ cond-true (k == m) _ _ (eq-eqb k m i) ∙ sym (reserved_early n g word (suc m) k (omega arith))
         | inr i ↦ cond-false (k == m) _ _ (ne_eqb k m i) ∙ sym (both_kept m t.right t.across t.left t.below k i)
       ])
 
-      waits : kept_for n g word m m ≡ waiting m (g (side m third))
-      waits = kept_is n g word m m (omega arith) h (ap is_split e)
+      waits : reserved_for n g word m m ≡ waiting m (g (side m third))
+      waits = reserved_is n g word m m (omega arith) h (ap is_split e)
 
-      from : (left : List Side) → top m (prefix m g) (pushed (kept_for n g word m m) (free_firsts (prefix m g) t.right.before)) ≡ Ok (t.across, left) →
+      from : (left : List Side) → top m (prefix m g) (pushed (reserved_for n g word m m) (free_firsts (prefix m g) t.right.before)) ≡ Ok (t.across, left) →
           side m first ∷ left ≡ free_firsts (prefix (suc m) g) (suc m) → step n S (front n g word m) ≡ Ok (front n g word (suc m))
       from left second_top stack =
           split_steps n (front n g word m) (side t.right.before first) t.across (free_firsts (prefix m g) t.right.before) left (top_is m second t.right) second_top (both_apart m t.right t.across t.left) no_point

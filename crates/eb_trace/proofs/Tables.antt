@@ -1,5 +1,5 @@
 -- Surfaces by lists: what is found across, which vertices are new, and which corners tell a start.
-use Rattle.std.proofs.Common.{◌≡◌, ◌≢◌, ℕ, zero, suc, ◌+◌, ◌*◌, ◌<◌, ◌≤◌, Bool, true, false, not, ◌&&◌, eqb, is_none, List, [], ◌∷◌, ◌++◌, length, get_or, Option, Some, None, option_map, inl, inr, sym, refl, ap, ◌∙◌, arith, eqb-true, vec_len}
+use Rattle.std.proofs.Common.{◌≡◌, ◌||◌, ◌≢◌, ℕ, zero, suc, ◌+◌, ◌*◌, ◌<◌, ◌≤◌, Bool, true, false, not, eqb, is_none, List, [], ◌∷◌, ◌++◌, length, get_or, Option, Some, None, option_map, inl, inr, sym, refl, ap, ◌∙◌, arith, eqb-true, vec_len}
 use Rattle.std.proofs.lemmas.Bool.{cases_Bool, cases_eq, cases_lt, cond-true, cond-false, false_from_ne_true}
 use Rattle.std.proofs.lemmas.List.{get_or_past, get_or_append_left}
 use Rattle.std.proofs.Math.Seq.{get_or-append_seam}
@@ -46,7 +46,7 @@ all_told {faces} {g} G entries long told x = elim (cases_lt x.face faces) [
 
 -- whether a vertex is new is told by its label
 pub new_is : {faces : ℕ} {g : Gluing} {labels : List ℕ} {count : ℕ} {ends : List Bool} → IsGluing faces g → IsLabelled faces g labels count ends → (visited met : List Bool) (w : Walk) → AreMarked faces labels visited met (is_visited w) →
-    (c : Side) → c.face < faces → (at_end old : Bool) → at_end ≡ get_or ends (label_at labels c) false → old ≡ get_or met (label_at labels c) false → (not at_end && not old) ≡ is_new_vertex faces g w c
+    (c : Side) → c.face < faces → (at_end old : Bool) → at_end ≡ get_or ends (label_at labels c) false → old ≡ get_or met (label_at labels c) false → not (at_end || old) ≡ is_new_vertex faces g w c
 new_is {faces} {g} {labels} {count} {ends} G L visited met w M c h at_end old e o = elim (cases_Bool (is_new_vertex faces g w c)) [
   | inl new ↦ neither at_end old (λ t. end_not new (sym e ∙ t)) (λ t. met_not new (sym o ∙ t)) ∙ sym new
   | inr known ↦ (let t = old_tells faces g w c known in elim t.2 [
@@ -58,16 +58,16 @@ new_is {faces} {g} {labels} {count} {ends} G L visited met w M c h at_end old e 
   ]) ∙ sym known
 ]
   where
-    neither : (a b : Bool) → (a ≡ true → ⊥) → (b ≡ true → ⊥) → (not a && not b) ≡ true
+    neither : (a b : Bool) → (a ≡ true → ⊥) → (b ≡ true → ⊥) → not (a || b) ≡ true
     neither true b p q = absurd (p refl)
     neither false true p q = absurd (q refl)
     neither false false p q = refl
 
-    ended : (a b : Bool) → a ≡ true → (not a && not b) ≡ false
+    ended : (a b : Bool) → a ≡ true → not (a || b) ≡ false
     ended true b p = refl
     ended false b p = absurd (let no : false ≡ true = p in cc)
 
-    seen : (a b : Bool) → b ≡ true → (not a && not b) ≡ false
+    seen : (a b : Bool) → b ≡ true → not (a || b) ≡ false
     seen true b p = refl
     seen false true p = refl
     seen false false p = absurd (let no : false ≡ true = p in cc)

@@ -10,7 +10,7 @@ use Rattle.corner_table.specs.Fans.{InFan, here, leftwards, rightwards, meets, c
 use Rattle.corner_table.proofs.Places.{option_tells, Some_injective}
 use Rattle.corner_table.proofs.Walks.{left-within, right-within}
 use Rattle.corner_table.proofs.Meeting.{fan_meets, meets-fan}
-use Rattle.eb_trace.specs.Trace.{Entry, Walk, is_visited, is_closed, is_new_vertex, symbol_for, symbol_at_corner, after_symbol, go_back, take_kept, entered, visit, run, events_noted}
+use Rattle.eb_trace.specs.Trace.{Entry, Walk, is_visited, is_visited_across, is_new_vertex, symbol_for, symbol_at_corner, after_symbol, go_back, take_kept, entered, visit, run, events_noted}
 use Rattle.eb_trace.proofs.Covered.{IsVisiting, IsFaceOf}
 
 -- whether a face is one of the interior start faces
@@ -135,10 +135,10 @@ pub not_inside : (w : Walk) (f : ℕ) → is_visited w f ≡ false → is_inside
 not_inside w f h = (or_parts (has_entry w.entries f) (is_inside w.interior f) h).1
 
 -- what is closed across a side
-pub closed_tells : (w : Walk) (o : Option Side) → is_closed w o ≡ true → (y : Side) → o ≡ Some y → is_visited w y.face ≡ true
-closed_tells w o h y e = sym (ap (is_closed w) e) ∙ h
+pub closed_tells : (w : Walk) (o : Option Side) → is_visited_across w o ≡ true → (y : Side) → o ≡ Some y → is_visited w y.face ≡ true
+closed_tells w o h y e = sym (ap (is_visited_across w) e) ∙ h
 
-pub open_tells : (w : Walk) (o : Option Side) → is_closed w o ≡ false → (y : Side) × (o ≡ Some y) × (is_visited w y.face ≡ false)
+pub open_tells : (w : Walk) (o : Option Side) → is_visited_across w o ≡ false → (y : Side) × (o ≡ Some y) × (is_visited w y.face ≡ false)
 open_tells w None h = absurd (let no : true ≡ false = h in cc)
 open_tells w (Some y) h = (y, refl, h)
 

@@ -1,7 +1,7 @@
 -- The whole run over a readable table and word, and the tests at the end.
-use Rattle.std.proofs.Common.{◌≡◌, ℕ, zero, suc, ◌+◌, ◌-◌, ◌<◌, ◌≤◌, Bool, false, List, [], ◌∷◌, length, get_or, is_some, None, Ok, inl, inr, sym, refl, ap, ◌∙◌, arith}
+use Rattle.std.proofs.Common.{◌≡◌, ℕ, zero, suc, ◌+◌, ◌-◌, ◌<◌, ◌≤◌, Bool, false, List, [], ◌∷◌, length, take, get_or, is_some, None, Ok, inl, inr, sym, refl, ap, ◌∙◌, arith}
 use Rattle.std.proofs.lemmas.Bool.{cases_lt, cond-false, false_from_ne_true, or_from}
-use Rattle.std.proofs.lemmas.List.{length-map}
+use Rattle.std.proofs.lemmas.List.{length-map, length-take-le, take_all, get_or-take}
 use Rattle.drc_base.specs.Steps.{◌>>=◌}
 use mathlib.Core.Path.{fun_ext}
 use Rattle.corner_table.specs.declared.symbols.Symbol.{Symbol}
@@ -15,10 +15,10 @@ use Rattle.eb_rebuild.specs.Machine.{State, Plan, start, step, take_symbols, clo
 use Rattle.eb_rebuild.proofs.Steps.{Next, the_state, same_state, then_ok}
 use Rattle.eb_rebuild.proofs.Ends.{finish_done, finish_vertices}
 use Rattle.eb_trace.specs.Readable.{IsReadable}
-use Rattle.eb_trace.specs.Front.{free_firsts, kept_for, events_left, made_by, front, start_bits}
-use Rattle.eb_trace.specs.Rebuilt.{symbol_at, EachStepReads, finished, ReadsWord, RebuildsWord, RefusesFewer}
+use Rattle.eb_trace.specs.Front.{free_firsts, reserved_for, events_left, made_by, front, start_bits}
+use Rattle.eb_trace.specs.Rebuilt.{symbol_at, EachStepReads, PassesFronts, ClosesLast, finished, ReadsWord, RebuildsWord, RefusesFewer}
 use Rattle.eb_trace.proofs.Waiting.{firsts_none}
-use Rattle.eb_trace.proofs.Kept.{kept_early, kept_late, kept_none_yet}
+use Rattle.eb_trace.proofs.Reserved.{reserved_early, reserved_late, reserved_none_yet}
 use Rattle.eb_trace.proofs.Events.{left_zero}
 use Rattle.eb_trace.proofs.StepLaws.{step_reads}
 use Rattle.eb_trace.proofs.Closing.{closes_all}
@@ -34,18 +34,18 @@ taken_more : (n : ℕ) (x : Symbol) (xs : List Symbol) (s t : State) → step n 
 unfolding take_symbols
 taken_more n x xs s t e = then_ok (step n x s) t (take_symbols n xs) e
 
--- the symbols from number i on
-symbols_from : (faces : ℕ) (g : Gluing) (n : ℕ) (word : ℕ → Symbol) → IsReadable faces g n word → (xs : List Symbol) (i : ℕ) → i + length xs ≡ n → ((k : ℕ) → k < length xs → get_or xs k E ≡ word (i + k)) →
-    take_symbols n xs (front n g word i) ≡ Ok (front n g word n)
+-- some symbols from number i on
+symbols_from : (faces : ℕ) (g : Gluing) (n : ℕ) (word : ℕ → Symbol) → IsReadable faces g n word → (xs : List Symbol) (i : ℕ) → i + length xs ≤ n → ((k : ℕ) → k < length xs → get_or xs k E ≡ word (i + k)) →
+    take_symbols n xs (front n g word i) ≡ Ok (front n g word (i + length xs))
 symbols_from faces g n word T [] i e same =
-    let q : i ≡ n = omega (arith, e) in
-    taken_none n (front n g word i) ∙ ap (λ (m : ℕ). let x : Next = Ok (front n g word m) in x) q
+    taken_none n (front n g word i) ∙ ap (λ (m : ℕ). let x : Next = Ok (front n g word m) in x) (let z : i ≡ i + 0 = omega arith in z)
 symbols_from faces g n word T (x ∷ xs) i e same =
-    let sum : i + suc (length xs) ≡ n = e in
+    let sum : i + suc (length xs) ≤ n = e in
     let at : x ≡ word i = same 0 (omega arith) ∙ ap word (let z : i + 0 ≡ i = omega arith in z) in
     let reads : step n x (front n g word i) ≡ Ok (front n g word (suc i)) = ap (λ (s : Symbol). step n s (front n g word i)) at ∙ step_reads faces g n word T i (omega arith) in
     taken_more n x xs (front n g word i) (front n g word (suc i)) reads
     ∙ symbols_from faces g n word T xs (suc i) (omega arith) (λ k h. same (suc k) (omega arith) ∙ ap word (let z : i + suc k ≡ suc i + k = omega arith in z))
+    ∙ ap (λ (m : ℕ). let y : Next = Ok (front n g word m) in y) (let z : suc i + length xs ≡ i + suc (length xs) = omega arith in z)
 
 made_none : (word : ℕ → Symbol) → made_by word 0 ≡ 0
 unfolding made_by
@@ -53,23 +53,29 @@ made_none word = refl
 
 -- nothing is built at first
 front_first : (g : Gluing) (n : ℕ) (word : ℕ → Symbol) → start (events_left n g word n) ≡ front n g word 0
-front_first g n word = same_state refl (sym (prefix_nothing g)) (sym (firsts_none (prefix 0 g))) (sym (fun_ext (kept_none_yet n g word))) (ap (events_left n g word) (let e : n ≡ n - 0 = omega arith in e)) (sym (made_none word)) refl
+front_first g n word = same_state refl (sym (prefix_nothing g)) (sym (firsts_none (prefix 0 g))) (sym (fun_ext (reserved_none_yet n g word))) (ap (events_left n g word) (let e : n ≡ n - 0 = omega arith in e)) (sym (made_none word)) refl
 
 -- nothing is kept after the last symbol
 front_last : (g : Gluing) (n : ℕ) (word : ℕ → Symbol) → front n g word n ≡ the_state n (prefix n g) (free_firsts (prefix n g) n) (λ k. None) [] (made_by word n) 0
 front_last g n word = same_state refl refl refl (fun_ext kept) (ap (events_left n g word) (let e : n - n ≡ 0 = omega arith in e) ∙ left_zero n g word) refl refl
   where
-    kept : (k : ℕ) → kept_for n g word n k ≡ None
-    kept k = elim (cases_lt k n) [ inl h ↦ kept_early n g word n k h | inr h ↦ kept_late n g word n k h ]
+    kept : (k : ℕ) → reserved_for n g word n k ≡ None
+    kept k = elim (cases_lt k n) [ inl h ↦ reserved_early n g word n k h | inr h ↦ reserved_late n g word n k h ]
 
 abbrev bits_of : ℕ → Gluing → ℕ → Bool
 bits_of n g k = get_or (start_bits n g) k false
 
 module _ (p : Plan) (g : Gluing) (word : List Symbol) (T : IsReadable p.faces g (length word) (symbol_at word)) where
+  passed : (m : ℕ) → m ≤ length word → take_symbols (length word) (take m word) (start (events_left (length word) g (symbol_at word) (length word))) ≡ Ok (front (length word) g (symbol_at word) m)
+  passed m h =
+      let n = length word in
+      let long = length-take-le m word h in
+      ap (take_symbols n (take m word)) (front_first g n (symbol_at word))
+      ∙ symbols_from p.faces g n (symbol_at word) T (take m word) 0 (omega arith) (λ k l. get_or-take m word k E (omega arith) ∙ ap (symbol_at word) (let e : k ≡ 0 + k = omega arith in e))
+      ∙ ap (λ (k : ℕ). let x : Next = Ok (front n g (symbol_at word) k) in x) (let e : 0 + length (take m word) ≡ m = omega arith in e)
+
   symbols_taken : take_symbols (length word) word (start (events_left (length word) g (symbol_at word) (length word))) ≡ Ok (front (length word) g (symbol_at word) (length word))
-  symbols_taken =
-      ap (take_symbols (length word) word) (front_first g (length word) (symbol_at word))
-      ∙ symbols_from p.faces g (length word) (symbol_at word) T word 0 (omega arith) (λ k h. ap (symbol_at word) (let e : k ≡ 0 + k = omega arith in e))
+  symbols_taken = ap (λ (xs : List Symbol). take_symbols (length word) xs (start (events_left (length word) g (symbol_at word) (length word)))) (sym (take_all (length word) word (omega arith))) ∙ passed (length word) (omega arith)
 
   all_closed : close_all p (bits_of (length word) g) (length (free_firsts (prefix (length word) g) (length word))) (front (length word) g (symbol_at word) (length word)) ≡ Ok (finished p.faces g word)
   all_closed =
@@ -84,6 +90,12 @@ module _ (p : Plan) (g : Gluing) (word : List Symbol) (T : IsReadable p.faces g 
   read =
       then_ok (take_symbols (length word) word (start (events_left (length word) g (symbol_at word) (length word)))) (front (length word) g (symbol_at word) (length word)) (λ s. close_all p (bits_of (length word) g) (length s.stack) s) symbols_taken
       ∙ all_closed
+
+pub passes_fronts : PassesFronts
+passes_fronts faces g word T m h = passed (record { faces = faces; created = 0; symbols = 0 }) g word T m h
+
+pub closes_last : ClosesLast
+closes_last p g word T = all_closed p g word T
 
 pub reads_word : ReadsWord
 reads_word p g word T count = read p g word T

@@ -36,6 +36,7 @@ AreInOrder events = AllPairs ComesBefore events
 abbrev pub SplitOnce : List Event → Type 0
 SplitOnce events = AllPairs (λ (d e : Event). d.split ≢ e.split) events
 
+-- the events of a word: each is one of it, they are in order, and no S has two
 pub record AreSplitEvents (word : List Symbol) (events : List Event) : Type 0 where
   pub fit : All (IsSplitEvent word) events
   pub in_order : AreInOrder events

@@ -14,19 +14,20 @@ unfoldable pub free_firsts : Gluing → ℕ → List Side
 free_firsts h zero = []
 free_firsts h (suc j) = cond (is_none (h (side j first))) (side j first ∷ free_firsts h j) (free_firsts h j)
 
--- a side of a face below m that no walk entered by
+-- side 0 of a face is the one by which it was entered
 abbrev pub is_entry : Place → Bool
 is_entry first = true
 is_entry second = false
 is_entry third = false
 
+-- a side, if it is of a face below m that wasn't entered by it
 abbrev pub waiting : ℕ → Option Side → Option Side
 waiting m None = None
 waiting m (Some x) = cond (nat_lt x.face m) (cond (is_entry x.place) None (Some x)) None
 
--- an event keeps a side for the S of number k, if that is still to come: what lies across its side 2, met from another branch
-abbrev pub kept_for : ℕ → Gluing → (ℕ → Symbol) → ℕ → ℕ → Option Side
-kept_for n g word m k = cond (nat_le m k && nat_lt k n && is_split (word k)) (waiting m (g (side k third))) None
+-- the side that an event reserves for the S of number k, if that is still to come: what lies across its side 2, met from another branch
+abbrev pub reserved_for : ℕ → Gluing → (ℕ → Symbol) → ℕ → ℕ → Option Side
+reserved_for n g word m k = cond (nat_le m k && nat_lt k n && is_split (word k)) (waiting m (g (side k third))) None
 
 -- the number of the S, later than face i, whose face lies across a side
 abbrev pub split_met : ℕ → (ℕ → Symbol) → ℕ → Option Side → Option ℕ
@@ -55,6 +56,7 @@ vertices_made L = 1
 vertices_made R = 1
 vertices_made E = 3
 
+-- the vertices that the first m symbols make
 unfoldable pub made_by : (ℕ → Symbol) → ℕ → ℕ
 made_by word zero = 0
 made_by word (suc m) = made_by word m + vertices_made (word m)
@@ -65,7 +67,7 @@ front n g word m = record {
   built = m;
   glued = prefix m g;
   stack = free_firsts (prefix m g) m;
-  reserved = kept_for n g word m;
+  reserved = reserved_for n g word m;
   events = events_left n g word (n - m);
   made = made_by word m;
   closes = 0;

@@ -1,17 +1,17 @@
 -- The walk keeps the surface: reverse decoding of what it notes rebuilds the surface, with its faces in the order of decoding (Rossignac 1999;
 -- Isenburg and Snoeyink 2001; the order: this project's choice).
-use Rattle.std.specs.Prelude.{◌≡◌, ℕ, ◌+◌, ◌<◌, ◌≤◌, false, reverse, length, get_or, Ok, Err, count_by}
+use Rattle.std.specs.Prelude.{◌≡◌, ℕ, ◌+◌, ◌<◌, ◌≤◌, false, reverse, length, take, get_or, Ok, Err, count_by}
 use Rattle.drc_base.specs.declared.kinds.Kind.TheVariants as kind
 use Rattle.corner_table.specs.Sides.{Gluing, IsGluing}
 use Rattle.corner_table.specs.Fans.{HasThreeFans}
 use Rattle.corner_table.specs.Carried.{IsRenumbering, IsCarried}
-use Rattle.eb_rebuild.specs.Machine.{Plan, rebuild, fault}
+use Rattle.eb_rebuild.specs.Machine.{Plan, start, take_symbols, rebuild, fault}
 use Rattle.eb_trace.specs.Readable.{IsReadable}
 use Rattle.eb_rebuild.specs.Shown.{is_split}
-use Rattle.eb_trace.specs.Front.{events_left, start_bits, made_by}
-use Rattle.eb_trace.specs.Rebuilt.{symbol_at, finished}
+use Rattle.eb_trace.specs.Front.{front, events_left, start_bits, made_by}
+use Rattle.eb_trace.specs.Rebuilt.{symbol_at}
 use Rattle.eb_trace.specs.Trace.{trace, word_of, order_of, fan_count}
-use Rattle.eb_trace.specs.FromTrace.{CarriesOne, CarriesFans}
+use Rattle.eb_trace.specs.FromTrace.{CarriesOne, CarriesFans, IsRebuiltFrom}
 
 -- the order of decoding lists each face once
 abbrev pub WalkOrders : Type 0
@@ -27,8 +27,14 @@ pub record IsToldBy (faces : ℕ) (g h : Gluing) : Type 0 where
   pub events : (trace faces g).events ≡ events_left (length (word_of (trace faces g))) h (symbol_at (word_of (trace faces g))) (length (word_of (trace faces g)))
   pub bits : reverse (trace faces g).bits ≡ start_bits (length (word_of (trace faces g))) h
 
+-- the surface in the order of decoding is readable, and tells what the walk noted
 abbrev pub WalkIsReadable : Type 0
 WalkIsReadable = (faces : ℕ) (g h : Gluing) → IsGluing faces g → HasThreeFans faces g → IsCarried faces g (order_of (trace faces g)) h → IsToldBy faces g h
+
+-- fed the symbols, the last first, with the walk's events, the machine is after each of them in the state that the surface tells
+abbrev pub WalkPassesFronts : Type 0
+WalkPassesFronts = (faces : ℕ) (g h : Gluing) → IsGluing faces g → HasThreeFans faces g → IsCarried faces g (order_of (trace faces g)) h → (m : ℕ) → m ≤ length (word_of (trace faces g)) →
+    take_symbols (length (word_of (trace faces g))) (take m (word_of (trace faces g))) (start (trace faces g).events) ≡ Ok (front (length (word_of (trace faces g))) h (symbol_at (word_of (trace faces g))) m)
 
 -- the vertices that reverse decoding makes are the fans of the surface and, once more, each vertex that an S takes away
 abbrev pub WalkIsCounted : Type 0
@@ -39,9 +45,8 @@ WalkIsCounted = (faces : ℕ) (g : Gluing) → IsGluing faces g → HasThreeFans
 -- fans and the S, and is fed the word, the events and the start bits of the walk, meets no fault, and its pairs are those of the surface in
 -- the order of decoding
 abbrev pub WalkIsKept : Type 0
-WalkIsKept = (p : Plan) (g h : Gluing) → IsGluing p.faces g → HasThreeFans p.faces g → IsCarried p.faces g (order_of (trace p.faces g)) h → p.symbols ≡ length (word_of (trace p.faces g)) →
-    fan_count p.faces g + count_by is_split (word_of (trace p.faces g)) ≤ p.created →
-    rebuild p (word_of (trace p.faces g)) (trace p.faces g).events (λ k. get_or (reverse (trace p.faces g).bits) k false) ≡ Ok (finished p.faces h (word_of (trace p.faces g)))
+WalkIsKept = (faces : ℕ) (g : Gluing) → IsGluing faces g → HasThreeFans faces g →
+    IsRebuiltFrom faces g (reverse (word_of (trace faces g))) (reverse (trace faces g).events) (reverse (trace faces g).bits) (order_of (trace faces g)) (fan_count faces g)
 
 -- no fewer vertices will do: they are refused, and the fault says how many it takes
 abbrev pub WalkNeedsAll : Type 0

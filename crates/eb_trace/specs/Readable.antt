@@ -1,5 +1,6 @@
 -- What a table and a word of symbols have to be for reverse decoding to read the table from the word: facts of one face each, where face i
--- is that of symbol i in the order of decoding, turned so that the walk's corner is corner 0 (Rossignac 1999; Isenburg and Snoeyink 2001).
+-- is that of symbol i in the order of decoding, turned so that the walk's corner is corner 0 (the symbols: Rossignac 1999; the record of
+-- facts: this project's choice).
 use Rattle.std.specs.Prelude.{◌≡◌, ◌≢◌, ℕ, suc, ◌<◌, ◌≤◌, Some}
 use Rattle.corner_table.specs.declared.symbols.Symbol.{Symbol}
 use Rattle.corner_table.specs.declared.symbols.Symbol.TheVariants.{C, S, L, R, E}
@@ -16,7 +17,7 @@ pub record GoesOn (g : Gluing) (x : Side) : Type 0 where
   pub is_before : x.face ≡ suc before
   pub onto : g x ≡ Some (side before first)
 
--- the corner kept last is taken first: the walks of the faces between the two entered these from faces below m
+-- the corner kept last is taken first: each face between the two was entered from a face below m
 abbrev pub IsKeptLast : Gluing → ℕ → ℕ → Type 0
 IsKeptLast g m kept = (j : ℕ) → kept < j → suc j < m → (z : Side) × (g (side j first) ≡ Some z) × (z.face < m)
 
@@ -43,19 +44,19 @@ Says g i L = GoesOn g (side i second) × IsPast g (side i third)
 Says g i R = IsPast g (side i second) × GoesOn g (side i third)
 Says g i E = IsPast g (side i second) × IsPast g (side i third)
 
--- the faces from number n on are interior start faces: each is entered from its side 0, and its three fans are rings of faces below n
+-- the faces from number n on are interior start faces: the run of each starts across its side 0, and its three fans are rings of faces below n
 pub record IsInterior (g : Gluing) (n f : ℕ) : Type 0 where
   pub run : ℕ
   pub is_run : run < n
-  pub entered : g (side f first) ≡ Some (side run first)
+  pub begins : g (side f first) ≡ Some (side run first)
   pub rings : (k : Place) → IsSurrounded g n (side f k)
 
 -- a table that reverse decoding reads from a word of n symbols
 pub record IsReadable (faces : ℕ) (g : Gluing) (n : ℕ) (word : ℕ → Symbol) : Type 0 where
   pub gluing : IsGluing faces g
   pub fewer : n ≤ faces
-  -- the side that each walk entered by
-  pub gates : (i : ℕ) → i < n → IsPast g (side i first)
+  -- each face was entered by its side 0: what lies across that is missing, or was visited before
+  pub entered : (i : ℕ) → i < n → IsPast g (side i first)
   pub symbols : (i : ℕ) → i < n → Says g i (word i)
   -- interior start faces, and that a run begins across side 0 of one of them
   pub interior : (f : ℕ) → n ≤ f → f < faces → IsInterior g n f

@@ -1,6 +1,6 @@
 -- Reverse decoding reads every readable table: the steps, and the whole (Isenburg and Snoeyink 2001; as a law of tables: this project's
 -- choice).
-use Rattle.std.specs.Prelude.{◌≡◌, ℕ, suc, ◌+◌, ◌<◌, ◌≤◌, false, List, length, get_or, None, [], Ok, Err, count_by}
+use Rattle.std.specs.Prelude.{◌≡◌, ℕ, suc, ◌+◌, ◌<◌, ◌≤◌, false, List, length, take, get_or, None, [], Ok, Err, count_by}
 use Rattle.drc_base.specs.declared.kinds.Kind.TheVariants as kind
 use Rattle.drc_base.specs.Steps.{◌>>=◌}
 use Rattle.corner_table.specs.declared.symbols.Symbol.{Symbol}
@@ -21,6 +21,11 @@ symbol_at word i = get_or word i E
 abbrev pub EachStepReads : Type 0
 EachStepReads = (faces : ℕ) (g : Gluing) (n : ℕ) (word : ℕ → Symbol) → IsReadable faces g n word → (m : ℕ) → m < n → step n (word m) (front n g word m) ≡ Ok (front n g word (suc m))
 
+-- from the start, any number of symbols of a word take it to the state after so many
+abbrev pub PassesFronts : Type 0
+PassesFronts = (faces : ℕ) (g : Gluing) (word : List Symbol) → IsReadable faces g (length word) (symbol_at word) → (m : ℕ) → m ≤ length word →
+    take_symbols (length word) (take m word) (start (events_left (length word) g (symbol_at word) (length word))) ≡ Ok (front (length word) g (symbol_at word) m)
+
 -- the state in which the whole table is built
 abbrev pub finished : ℕ → Gluing → List Symbol → State
 finished faces g word = record {
@@ -32,6 +37,12 @@ finished faces g word = record {
   made = made_by (symbol_at word) (length word);
   closes = length (start_bits (length word) g);
 }
+
+-- the start bits take the state after all symbols to it
+abbrev pub ClosesLast : Type 0
+ClosesLast = (p : Plan) (g : Gluing) (word : List Symbol) → IsReadable p.faces g (length word) (symbol_at word) →
+    let s = front (length word) g (symbol_at word) (length word) in
+    close_all p (λ k. get_or (start_bits (length word) g) k false) (length s.stack) s ≡ Ok (finished p.faces g word)
 
 -- the machine that is fed the word, all events and the start bits meets no fault, and has built the table
 abbrev pub ReadsWord : Type 0

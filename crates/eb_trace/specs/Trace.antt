@@ -26,6 +26,7 @@ pub record Walk : Type 0 where
   -- start bits
   pub bits : List Bool
 
+-- before the first run
 abbrev pub nothing_walked : Walk
 nothing_walked = record { entries = []; interior = []; kept = []; events = []; bits = [] }
 
@@ -34,9 +35,9 @@ abbrev pub is_visited : Walk → ℕ → Bool
 is_visited w f = list_any (λ (e : Entry). e.corner.face == f) w.entries || list_any (λ (k : ℕ). k == f) w.interior
 
 -- the face across a side is visited; a missing one counts as visited
-abbrev pub is_closed : Walk → Option Side → Bool
-is_closed w None = true
-is_closed w (Some y) = is_visited w y.face
+abbrev pub is_visited_across : Walk → Option Side → Bool
+is_visited_across w None = true
+is_visited_across w (Some y) = is_visited w y.face
 
 -- the vertex of a corner is new: no side at it is free, and no visited face has a corner of it
 abbrev pub is_new_vertex : ℕ → Gluing → Walk → Side → Bool
@@ -51,8 +52,9 @@ symbol_for false false true = L
 symbol_for false true false = R
 symbol_for false true true = E
 
+-- the symbol at a corner, after what has been walked
 abbrev pub symbol_at_corner : ℕ → Gluing → Walk → Side → Symbol
-symbol_at_corner faces g w c = symbol_for (is_new_vertex faces g w c) (is_closed w (g (next c))) (is_closed w (g (prev c)))
+symbol_at_corner faces g w c = symbol_for (is_new_vertex faces g w c) (is_visited_across w (g (next c))) (is_visited_across w (g (prev c)))
 
 -- the number of the S of a face, if its symbol is one; symbols count from 0 in the order of the walk
 unfoldable pub split_of : List Entry → ℕ → Option ℕ
@@ -64,6 +66,7 @@ abbrev pub event_noted : ℕ → Bool → Option ℕ → List Event
 event_noted k right None = []
 event_noted k right (Some j) = record { source = k; split = j; right = right } ∷ []
 
+-- the number of the S of the face across a side, if it has one
 abbrev pub split_across : List Entry → Option Side → Option ℕ
 split_across entries None = None
 split_across entries (Some y) = split_of entries y.face
@@ -94,6 +97,7 @@ after_symbol g w c L = (record (entered w c L) { events = events_noted g w.entri
 after_symbol g w c R = (record (entered w c R) { events = events_noted g w.entries c ++ w.events }, g (prev c))
 after_symbol g w c E = go_back (record (entered w c E) { events = events_noted g w.entries c ++ w.events }) (take_kept (entered w c E) w.kept)
 
+-- the face of a corner is visited: the walk after it, and where the run goes on
 abbrev pub visit : ℕ → Gluing → Walk → Side → Walk × Option Side
 visit faces g w c = after_symbol g w c (symbol_at_corner faces g w c)
 
@@ -102,6 +106,7 @@ unfoldable pub run : ℕ → Gluing → ℕ → Walk → Side → Walk
 run faces g zero w c = w
 run faces g (suc turns) w c = let t = visit faces g w c in elim t.1 [ None ↦ t.0 | Some d ↦ run faces g turns t.0 d ]
 
+-- the first of two corners that is there
 abbrev pub or_else : Option Side → Option Side → Option Side
 or_else None o = o
 or_else (Some c) o = Some c
@@ -112,18 +117,21 @@ start_by faces g c =
     let last = prev (rightmost g (3 * faces) c) in
     cond (is_none (g c)) (Some c) (cond (is_none (g last)) (Some last) None)
 
+-- the start corner that the first of a face's corners tells that tells one
 abbrev pub start_corner : ℕ → Gluing → ℕ → Option Side
 start_corner faces g f = or_else (start_by faces g (side f first)) (or_else (start_by faces g (side f second)) (start_by faces g (side f third)))
 
--- the run of an unvisited face: from its start corner, or round it, from the corner across its side 1
+-- the run round an interior start face, from the corner across its side 1
 abbrev pub begun_inside : ℕ → Gluing → ℕ → Walk → Option Side → Walk
 begun_inside faces g f w None = w
 begun_inside faces g f w (Some c) = run faces g faces (record w { interior = f ∷ w.interior; bits = true ∷ w.bits }) c
 
+-- the run of an unvisited face: from its start corner, or round it where it has none
 abbrev pub begun : ℕ → Gluing → ℕ → Walk → Option Side → Walk
 begun faces g f w (Some c) = run faces g faces (record w { bits = false ∷ w.bits }) c
 begun faces g f w None = begun_inside faces g f w (g (side f second))
 
+-- the run of a face, unless it is visited
 abbrev pub walked_from : ℕ → Gluing → ℕ → Walk → Walk
 walked_from faces g f w = cond (is_visited w f) w (begun faces g f w (start_corner faces g f))
 

@@ -6,6 +6,7 @@ use Rattle.corner_table.specs.Labels.{IsLabelled}
 use Rattle.corner_table.specs.Carried.{IsRenumbering, IsCarried}
 use Rattle.eb_trace.specs.Trace.{fan_count}
 
+-- without faces there are no fans
 abbrev pub NothingHasNone : Type 0
 NothingHasNone = (g : Gluing) → fan_count 0 g ≡ 0
 
@@ -25,6 +26,7 @@ fans_joined faces g a b =
     + goes_unless (meets faces g (next a) (prev b)
     || ((meets faces g (next a) (prev a) && meets faces g (prev b) (next b)) || (meets faces g (next a) (next b) && meets faces g (prev b) (prev a))))
 
+-- as free sides of two faces are glued, so many fans go
 abbrev pub GluingJoins : Type 0
 GluingJoins = (faces : ℕ) (g : Gluing) (a b : Side) → IsGluing faces g → IsFree faces g a → IsFree faces g b → a.face ≢ b.face → fan_count faces (glue a b g) + fans_joined faces g a b ≡ fan_count faces g
 

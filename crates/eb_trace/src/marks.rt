@@ -1,12 +1,12 @@
 //! What the walk has visited.
 
-ghost use Rattle.std.specs.Prelude.{◌≡◌, ◌*◌, ◌<◌, IfOk, IfSome, OnOk, vec_len, get_or, set, false, true, replicate};
+ghost use Rattle.std.specs.Prelude.{◌≡◌, ◌*◌, ◌<◌, ◌||◌, not, IfOk, IfSome, OnOk, vec_len, get_or, set, false, true, replicate};
 ghost use Rattle.std.specs.Option.{option_map};
 ghost use Rattle.corner_table.specs.Sides.{side_at};
 ghost use Rattle.corner_table.specs.Table.{free_entry};
 ghost use Rattle.corner_table.specs.Labels.{label_at};
 ghost use Rattle.eb_trace.specs.Stored.{gluing_in, IsSurface, AreSized, AreMarksOf, split_told, met_after};
-ghost use Rattle.eb_trace.specs.Trace.{Walk, is_closed, is_new_vertex, symbol_for, symbol_at_corner, split_across};
+ghost use Rattle.eb_trace.specs.Trace.{Walk, is_visited_across, is_new_vertex, symbol_for, symbol_at_corner, split_across};
 
 use crate::numbers::NONE;
 use crate::surface::Surface;
@@ -38,6 +38,13 @@ fn symbol_for(new: bool, right: bool, left: bool) -> Symbol
     }
 }
 
+/// Whether a vertex is new: whether it meets a boundary, and whether a visited face meets it.
+fn is_new_by(end: bool, met: bool) -> bool
+    ensures { result ≡ not (end || met) }
+{
+    !end && !met
+}
+
 /// Nothing is visited.
 pub(crate) fn no_marks(alloc: Global, s: &Surface<'_>) -> Result<Marks, Memory>
     ensures visited { IfOk result (λ m. m.visited.items ≡ replicate s.now.faces false) }
@@ -61,10 +68,10 @@ impl Marks {
     }
 
     /// Whether the face of a side is visited; a missing one counts as visited.
-    fn is_closed(&self, s: &Surface<'_>, side: Option<u32>) -> bool
+    fn is_visited_across(&self, s: &Surface<'_>, side: Option<u32>) -> bool
         requires sized { AreSized s.now self.now }
         requires side { IfSome side (λ n. n < 3 * s.now.faces) }
-        ensures { (w : Walk) → AreMarksOf s.now self.now w → result ≡ is_closed w (option_map side_at side) }
+        ensures { (w : Walk) → AreMarksOf s.now self.now w → result ≡ is_visited_across w (option_map side_at side) }
     {
         let _ = &s.faces;
         match side {
@@ -90,7 +97,9 @@ impl Marks {
         requires corner { corner < 3 * s.now.faces }
         ensures { (w : Walk) → AreMarksOf s.now self.now w → result ≡ is_new_vertex s.now.faces (gluing_in s.now) w (side_at corner) }
     {
-        !s.is_end(corner) && !self.is_met(s, corner)
+        let end = s.is_end(corner);
+        let met = self.is_met(s, corner);
+        is_new_by(end, met)
     }
 
     /// The symbol at a corner.
@@ -101,8 +110,8 @@ impl Marks {
         ensures { (w : Walk) → AreMarksOf s.now self.now w → result ≡ symbol_at_corner s.now.faces (gluing_in s.now) w (side_at corner) }
     {
         let new = self.is_new(s, corner);
-        let right = self.is_closed(s, s.across_of(next_number(corner)));
-        let left = self.is_closed(s, s.across_of(previous_number(corner)));
+        let right = self.is_visited_across(s, s.across_of(next_number(corner)));
+        let left = self.is_visited_across(s, s.across_of(previous_number(corner)));
         symbol_for(new, right, left)
     }
 

@@ -7,7 +7,7 @@ ghost use Rattle.eb_rebuild.specs.Rebuilding.{IsEventOf};
 
 use crate::tracing::{Traced, trace};
 use crate::worked::{BOOK, RING, TETRAHEDRON, TORUS, fan, grid, mesh};
-use corner_table::{Event, Steps, Symbol};
+use corner_table::{Steps, Symbol};
 use drc_base::Refusal;
 use eb_rebuild::{Built, Rebuild, RowRebuild};
 use pairing::pair;
@@ -16,18 +16,6 @@ use std::marker::Brand;
 use std::process::Abort;
 use std::sync::ledger::{Blank, Ledger};
 use std::test::Fail;
-
-/// The events, each of which is of these symbols.
-fn checked_events(rt: &impl Abort, alloc: Global, events: &[Event], symbols: u32) -> Vec<Event>
-    ensures { All (IsEventOf symbols) result.items }
-{
-    let mut checked = Vec::new(alloc);
-    for event in events {
-        assert!(rt; event.source < symbols && event.split <= event.source);
-        checked.push(*event).expect(rt, "room");
-    }
-    checked
-}
 
 /// How many of the symbols are S.
 fn split_count(symbols: &[Symbol]) -> u32 {
@@ -62,12 +50,12 @@ fn take_all<R: Rebuild, L: Ledger>(
     Ok(())
 }
 
-/// Closes all sides that wait, each by its bit.
+/// Closes all sides that wait, each by its bit, and tells how many.
 fn close_all<R: Rebuild, L: Ledger>(
     machine: &mut R,
     bits: &[bool],
     steps: &mut Steps<L>,
-) -> Result<(), Refusal>
+) -> Result<usize, Refusal>
     requires live { IsTrue (R.live machine.old) }
     requires all { (R.plan machine.old).symbols ≤ (R.state machine.old).built }
     ensures live { OnOk result (IsTrue (R.live machine.new)) }
@@ -83,7 +71,7 @@ fn close_all<R: Rebuild, L: Ledger>(
         }
         number = number.saturating_add(1);
     }
-    Ok(())
+    Ok(number)
 }
 
 /// A surface of this many faces, rebuilt from what its walk noted.
@@ -98,20 +86,23 @@ fn rebuilt<R: Rebuild, L: Ledger>(
     requires name { blank.name ≡ L.name }
     requires parts { blank.parts ≡ L.parts }
     requires some { 0 < L.parts }
+    requires few { length traced.now.symbols ≤ faces }
+    requires events { All (IsEventOf (length traced.now.symbols)) traced.now.events }
 {
     let symbols = traced.symbols.as_slice();
-    assert!(rt; symbols.len() <= faces as usize);
     let count = symbols.len() as u32;
-    let events = checked_events(rt, alloc, traced.events.as_slice(), count);
+    let events = traced.events.as_slice().to_vec(alloc)?;
     let created = traced.vertices.saturating_add(split_count(symbols));
     let mut steps = Steps::<L>::new(blank);
     let mut machine = R::new(alloc, faces, created, count, events)?;
     take_all(&mut machine, symbols, &mut steps)?;
-    close_all(&mut machine, traced.starts.as_slice(), &mut steps)?;
+    let starts = traced.starts.as_slice();
+    let closed = close_all(&mut machine, starts, &mut steps)?;
+    assert!(rt; closed == starts.len());
     machine.finish(alloc)
 }
 
-/// Walks over a surface, rebuilds it, and compares both tables.
+/// Walks over a surface, rebuilds it, and compares both tables and the numbers of vertices.
 fn comes_back(
     rt: &impl Abort,
     alloc: Global,
@@ -124,6 +115,7 @@ fn comes_back(
     let count = table.face_count();
     let built = rebuilt::<RowRebuild, Brand>(rt, alloc, count, &traced, Blank::new(1))?;
     assert!(rt; built.table().across() == turned.across());
+    assert!(rt; built.table().label_vertices(alloc)?.count == traced.vertices);
     Ok(())
 }
 
@@ -143,7 +135,7 @@ fn surfaces_come_back(rt: HostRuntime) -> Result<(), Fail> {
     let around = fan(alloc, 40)?;
     let plain = grid(alloc, (5, 4), (4, 3), &[])?;
     let closed = grid(alloc, (3, 4), (3, 4), &[])?;
-    let two_holes = grid(alloc, (6, 6), (5, 5), &[(1, 1), (3, 3)])?;
+    let four_holes = grid(alloc, (6, 6), (5, 5), &[(1, 1), (3, 1), (1, 3), (3, 3)])?;
     let three_holes = grid(alloc, (8, 4), (7, 3), &[(1, 1), (3, 1), (5, 1)])?;
     for (points, faces) in [
         (3u8, [[0, 1, 2]].as_slice()),
@@ -158,7 +150,7 @@ fn surfaces_come_back(rt: HostRuntime) -> Result<(), Fail> {
         (41, around.as_slice()),
         (20, plain.as_slice()),
         (12, closed.as_slice()),
-        (36, two_holes.as_slice()),
+        (36, four_holes.as_slice()),
         (32, three_holes.as_slice()),
     ] {
         comes_back(&rt, alloc, points, faces)?;

@@ -1,7 +1,7 @@
 //! Worked surfaces: what their walks note.
 
 use crate::tracing::trace;
-use crate::worked::{BOOK, RING, TETRAHEDRON, TORUS, mesh};
+use crate::worked::{BOOK, RING, TETRAHEDRON, TORUS, grid, mesh};
 use corner_table::{Event, Symbol};
 use drc_base::{Memory, Refusal};
 use pairing::pair;
@@ -59,6 +59,7 @@ fn walks_worked_surfaces(rt: HostRuntime) -> Result<(), Fail> {
     use Symbol::{C, E, L, R, S};
     let alloc = rt.alloc();
     let tori = two_tori(alloc)?;
+    let holes = grid(alloc, (6, 6), (5, 5), &[(1, 1), (3, 1), (1, 3), (3, 3)])?;
     for worked in [
         Worked {
             points: 4,
@@ -185,6 +186,85 @@ fn walks_worked_surfaces(rt: HostRuntime) -> Result<(), Fail> {
                 starts: &[false],
                 order: &[(5, 1), (4, 1), (3, 1), (2, 1), (1, 1), (0, 2)],
                 vertices: 6,
+            },
+        },
+        // A grid of five rows of five cells with four holes.
+        Worked {
+            points: 36,
+            faces: holes.as_slice(),
+            told: Told {
+                symbols: &[
+                    S, L, R, S, R, L, R, S, E, R, L, R, S, R, L, R, R, L, R, S, R, L, R, S, E, R,
+                    L, R, S, R, L, E, L, R, S, S, R, E, L, E, R, E,
+                ],
+                events: &[
+                    Event {
+                        source: 31,
+                        split: 0,
+                        right: false,
+                    },
+                    Event {
+                        source: 37,
+                        split: 3,
+                        right: true,
+                    },
+                    Event {
+                        source: 39,
+                        split: 12,
+                        right: false,
+                    },
+                    Event {
+                        source: 41,
+                        split: 19,
+                        right: true,
+                    },
+                ],
+                starts: &[false],
+                order: &[
+                    (29, 2),
+                    (28, 2),
+                    (22, 1),
+                    (23, 1),
+                    (12, 1),
+                    (13, 0),
+                    (20, 1),
+                    (21, 1),
+                    (18, 1),
+                    (19, 1),
+                    (1, 0),
+                    (10, 1),
+                    (11, 0),
+                    (16, 1),
+                    (17, 0),
+                    (26, 1),
+                    (27, 0),
+                    (33, 2),
+                    (32, 0),
+                    (35, 2),
+                    (34, 0),
+                    (37, 2),
+                    (36, 0),
+                    (39, 2),
+                    (38, 0),
+                    (41, 2),
+                    (40, 2),
+                    (31, 2),
+                    (30, 2),
+                    (25, 2),
+                    (24, 2),
+                    (15, 2),
+                    (14, 2),
+                    (8, 1),
+                    (9, 1),
+                    (6, 1),
+                    (7, 1),
+                    (4, 1),
+                    (5, 1),
+                    (2, 1),
+                    (3, 1),
+                    (0, 2),
+                ],
+                vertices: 36,
             },
         },
         // Two mirrored faces, which aren't joined.

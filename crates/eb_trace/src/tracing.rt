@@ -6,7 +6,7 @@ ghost use Rattle.corner_table.specs.Table.{gluing_of};
 ghost use Rattle.corner_table.specs.Carried.{IsRenumbering};
 ghost use Rattle.eb_rebuild.specs.Rebuilding.{IsEventOf};
 ghost use Rattle.eb_trace.specs.Events.{IsSplitEvent, AreInOrder, SplitOnce};
-ghost use Rattle.eb_trace.specs.FromTrace.{CarriesOne, CarriesFans, IsRebuiltFrom};
+ghost use Rattle.eb_trace.specs.FromTrace.{AreStartBits, CarriesOne, CarriesFans, IsRebuiltFrom, NamesVertices};
 ghost use Rattle.eb_trace.specs.declared.notes.Entered.{Entered as entered_value};
 ghost use Rattle.eb_trace.specs.Stored.{gluing_in, walk_of, row_of, IsSurface};
 ghost use Rattle.eb_trace.specs.Trace.{trace, word_of, order_of, fan_count};
@@ -19,18 +19,20 @@ use corner_table::{Event, SideTable, Symbol};
 use drc_base::{Memory, Sequence};
 use std::alloc::{AllocError, Global};
 
-/// What the walk over a surface notes.
+/// What the walk over a surface notes (Edgebreaker: Rossignac 1999; split events: Isenburg and Snoeyink
+/// 2001; the order and where runs start: this project's choice).
 #[derive(Debug, Drop)]
 pub struct Traced {
     /// The symbols, in the order of the walk.
     pub symbols: Sequence<Symbol>,
-    /// The split events, in the order of the walk.
+    /// The split events, in the order of the walk; their numbers count symbols of the walk from 0.
     pub events: Sequence<Event>,
-    /// For each run, in order, whether it starts round an interior face.
+    /// The start bits: for each run, in order, whether it starts round an interior face.
     pub starts: Sequence<bool>,
-    /// For each face in the order of decoding, which it is, and by how much it is turned.
+    /// For each face in the order of decoding, which it is, and its turn of 0, 1 or 2: corner k of face i
+    /// in this order is corner k + turn, counted round, of the face that row i names.
     pub order: Sequence<(u32, u8)>,
-    /// How many vertices the surface has.
+    /// How many vertices the surface has: as many as fans, so a point that two parts share counts twice.
     pub vertices: u32,
 }
 
@@ -79,14 +81,17 @@ fn rows_in_order(alloc: Global, notes: &Notes) -> Result<Vec<(u32, u8)>, AllocEr
     Ok(rows)
 }
 
-/// The walk over a proper surface: its symbols, split events and start bits, each in the order of the
-/// walk; its faces in the order of decoding, each with its turn; and how many vertices there are. There
-/// are no more symbols than faces, nor events than symbols, and the order lists each face once. Each
-/// event is of an R or E that met an earlier S on its right, or of an L or E that met one on its left;
-/// events come by rising sources, the right one of a symbol first, and no S has two. There is one
-/// surface in the order of decoding, and it has as many vertices. The machine of reverse decoding that
-/// is made for all faces and for no fewer vertices than there are vertices and S together, and is fed
-/// what is answered, meets no fault and builds that surface. Refused for want of memory alone.
+/// The walk over a proper surface (Edgebreaker: Rossignac 1999; split events: Isenburg and Snoeyink
+/// 2001; the order and where runs start: this project's choice): its symbols, split events and start
+/// bits, each in the order of the walk; its faces in the order of decoding, each with its turn; and
+/// how many vertices there are. There are no more symbols than faces, nor events than symbols, and
+/// the order lists each face once. Each event is of an R or E that met an earlier S on its right, or
+/// of an L or E that met one on its left; events come by rising sources, the right one of a symbol
+/// first, and no S has two. There is one surface in the order of decoding; it has as many vertices,
+/// and tells the start bits. The machine of reverse decoding that is made for all faces and for no
+/// fewer vertices than there are vertices and S together, and is fed what is answered, meets no fault
+/// and builds that surface. So does the machine that names vertices, and in the end as many distinct
+/// names stand in its triangles. Refused for want of memory alone.
 pub fn trace(alloc: Global, t: &SideTable) -> Result<Traced, Memory>
     requires proper { IsProper t.now.faces (gluing_of t.now) }
     ensures symbols { IfOk result (λ r. r.symbols ≡ reverse (word_of (trace t.now.faces (gluing_of t.now)))) }
@@ -104,6 +109,8 @@ pub fn trace(alloc: Global, t: &SideTable) -> Result<Traced, Memory>
     ensures carried { IfOk result (λ r. CarriesOne t.now.faces (gluing_of t.now) r.order) }
     ensures counted { IfOk result (λ r. CarriesFans t.now.faces (gluing_of t.now) r.order r.vertices) }
     ensures kept { IfOk result (λ r. IsRebuiltFrom t.now.faces (gluing_of t.now) r.symbols r.events r.starts r.order r.vertices) }
+    ensures bits { IfOk result (λ r. AreStartBits t.now.faces (gluing_of t.now) r.symbols r.starts r.order) }
+    ensures named { IfOk result (λ r. NamesVertices t.now.faces (gluing_of t.now) r.symbols r.events r.starts r.order r.vertices) }
 {
     let surface = surface_of(alloc, t)?;
     let notes = walk_all(alloc, &surface)?;

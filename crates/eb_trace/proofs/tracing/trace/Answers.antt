@@ -5,7 +5,7 @@ use Rattle.corner_table.specs.Carried.{IsRenumbering}
 use Rattle.eb_trace.specs.Trace.{Walk, word_of, order_of}
 use Rattle.eb_trace.specs.declared.notes.Entered.{Entered}
 use Rattle.corner_table.specs.Table.{gluing_of}
-use Rattle.eb_trace.proofs.Given.{vertices_are, rebuilt_from, events_given, events_taken, few_events, few_symbols, carried_given}
+use Rattle.eb_trace.proofs.Given.{vertices_are, rebuilt_from, bits_given, named_given, events_given, events_taken, few_events, few_symbols, carried_given}
 use Rattle.eb_trace.proofs.StartBits.{walk_orders}
 use Rattle.eb_trace.proofs.Going.{few_of, trace_same, symbols_are}
 use Rattle.eb_trace.proofs.tracing.trace.Goals as goal
@@ -56,12 +56,16 @@ returns-clause-carried c = (carried_given c.args.t.now.faces (gluing_of c.args.t
 pub returns-clause-counted : goal.returns-clause-counted
 returns-clause-counted c = (carried_given c.args.t.now.faces (gluing_of c.args.t.now) c.requires.proper.gluing c.requires.proper.three_fans _ _ (returns-clause-order c) (returns-clause-vertices c)).1
 
+pub returns-clause-starts : goal.returns-clause-starts
+returns-clause-starts c =
+    c.from_vec-3.ensures ∙ sym (reverse-reverse c.in_ok-notes.notes.bits.items)
+    ∙ ap (λ (w : Walk). reverse w.bits) (trace_same _ _ _ _ _ c.in_ok-surface.ensures.faces c.in_ok-surface.ensures.gluing c.in_ok-notes.ensures)
+
 pub returns-clause-kept : goal.returns-clause-kept
-returns-clause-kept c =
-    let same = trace_same _ _ _ _ _ c.in_ok-surface.ensures.faces c.in_ok-surface.ensures.gluing c.in_ok-notes.ensures in
-    rebuilt_from c.args.t.now.faces (gluing_of c.args.t.now) c.requires.proper.gluing c.requires.proper.three_fans _ _ _ _ _
-    (returns-clause-symbols c)
-    (returns-clause-events c)
-    (c.from_vec-3.ensures ∙ sym (reverse-reverse c.in_ok-notes.notes.bits.items) ∙ ap (λ (w : Walk). reverse w.bits) same)
-    (returns-clause-order c)
-    (returns-clause-vertices c)
+returns-clause-kept c = rebuilt_from c.args.t.now.faces (gluing_of c.args.t.now) c.requires.proper.gluing c.requires.proper.three_fans _ _ _ _ _ (returns-clause-symbols c) (returns-clause-events c) (returns-clause-starts c) (returns-clause-order c) (returns-clause-vertices c)
+
+pub returns-clause-bits : goal.returns-clause-bits
+returns-clause-bits c = bits_given c.args.t.now.faces (gluing_of c.args.t.now) c.requires.proper.gluing c.requires.proper.three_fans _ _ _ (returns-clause-symbols c) (returns-clause-starts c) (returns-clause-order c)
+
+pub returns-clause-named : goal.returns-clause-named
+returns-clause-named c = named_given c.args.t.now.faces (gluing_of c.args.t.now) c.requires.proper.gluing c.requires.proper.three_fans _ _ _ _ _ (returns-clause-symbols c) (returns-clause-events c) (returns-clause-starts c) (returns-clause-order c) (returns-clause-vertices c)

@@ -1,4 +1,4 @@
--- What is kept for splits to come, before and after one more face.
+-- What is reserved for splits to come, before and after one more face.
 use Rattle.std.proofs.Common.{◌≡◌, ◌≢◌, ℕ, suc, ◌<◌, ◌≤◌, Bool, true, false, ◌&&◌, cond, nat_lt, nat_le, Option, Some, None, inl, inr, sym, refl, ap, ◌∙◌, subst, arith, lt-ltb, le-ltb, le-leb}
 use Rattle.std.proofs.lemmas.Bool.{cases_lt, cases_eq, cond-true, cond-false, lt-leb, cases_Bool, ltb-true}
 use Rattle.corner_table.specs.declared.symbols.Symbol.{Symbol}
@@ -7,7 +7,7 @@ use Rattle.corner_table.specs.Sides.{Side, Place, first, second, third, side, Gl
 use Rattle.corner_table.proofs.Places.{option_tells, Some_injective}
 use Rattle.eb_rebuild.specs.Shown.{is_split}
 use Rattle.eb_trace.specs.Readable.{IsReadable, IsSplit, Says}
-use Rattle.eb_trace.specs.Front.{is_entry, waiting, kept_for, split_met}
+use Rattle.eb_trace.specs.Front.{is_entry, waiting, reserved_for, split_met}
 
 pub three_first : (a b c : Bool) → a ≡ false → (a && b && c) ≡ false
 three_first true b c e = absurd (cc)
@@ -84,27 +84,27 @@ waiting_more m o only = elim (option_tells o) [
   ]
 ]
 
-pub kept_early : (n : ℕ) (g : Gluing) (word : ℕ → Symbol) (m k : ℕ) → k < m → kept_for n g word m k ≡ None
-kept_early n g word m k h = cond-false _ _ _ (three_first (nat_le m k) (nat_lt k n) (is_split (word k)) (lt-leb m k h))
+pub reserved_early : (n : ℕ) (g : Gluing) (word : ℕ → Symbol) (m k : ℕ) → k < m → reserved_for n g word m k ≡ None
+reserved_early n g word m k h = cond-false _ _ _ (three_first (nat_le m k) (nat_lt k n) (is_split (word k)) (lt-leb m k h))
 
-pub kept_late : (n : ℕ) (g : Gluing) (word : ℕ → Symbol) (m k : ℕ) → n ≤ k → kept_for n g word m k ≡ None
-kept_late n g word m k h = cond-false _ _ _ (three_second (nat_le m k) (nat_lt k n) (is_split (word k)) (le-ltb k n h))
+pub reserved_late : (n : ℕ) (g : Gluing) (word : ℕ → Symbol) (m k : ℕ) → n ≤ k → reserved_for n g word m k ≡ None
+reserved_late n g word m k h = cond-false _ _ _ (three_second (nat_le m k) (nat_lt k n) (is_split (word k)) (le-ltb k n h))
 
-pub kept_unsplit : (n : ℕ) (g : Gluing) (word : ℕ → Symbol) (m k : ℕ) → is_split (word k) ≡ false → kept_for n g word m k ≡ None
-kept_unsplit n g word m k h = cond-false _ _ _ (three_third (nat_le m k) (nat_lt k n) (is_split (word k)) h)
+pub reserved_unsplit : (n : ℕ) (g : Gluing) (word : ℕ → Symbol) (m k : ℕ) → is_split (word k) ≡ false → reserved_for n g word m k ≡ None
+reserved_unsplit n g word m k h = cond-false _ _ _ (three_third (nat_le m k) (nat_lt k n) (is_split (word k)) h)
 
-pub kept_is : (n : ℕ) (g : Gluing) (word : ℕ → Symbol) (m k : ℕ) → m ≤ k → k < n → is_split (word k) ≡ true → kept_for n g word m k ≡ waiting m (g (side k third))
-kept_is n g word m k h l s = cond-true _ _ _ (three_all (nat_le m k) (nat_lt k n) (is_split (word k)) (le-leb m k h) (lt-ltb k n l) s)
+pub reserved_is : (n : ℕ) (g : Gluing) (word : ℕ → Symbol) (m k : ℕ) → m ≤ k → k < n → is_split (word k) ≡ true → reserved_for n g word m k ≡ waiting m (g (side k third))
+reserved_is n g word m k h l s = cond-true _ _ _ (three_all (nat_le m k) (nat_lt k n) (is_split (word k)) (le-leb m k h) (lt-ltb k n l) s)
 
 -- for all numbers but m's own, what is kept stays where face m brings nothing that waits
-pub kept_stays : (n : ℕ) (g : Gluing) (word : ℕ → Symbol) (m k : ℕ) → k ≢ m → ((x : Side) → g (side k third) ≡ Some x → x.face ≡ m → m < k → x.place ≡ first) → kept_for n g word (suc m) k ≡ kept_for n g word m k
-kept_stays n g word m k ne only = elim (cases_lt k m) [
-  | inl h ↦ kept_early n g word (suc m) k (omega arith) ∙ sym (kept_early n g word m k h)
+pub reserved_stays : (n : ℕ) (g : Gluing) (word : ℕ → Symbol) (m k : ℕ) → k ≢ m → ((x : Side) → g (side k third) ≡ Some x → x.face ≡ m → m < k → x.place ≡ first) → reserved_for n g word (suc m) k ≡ reserved_for n g word m k
+reserved_stays n g word m k ne only = elim (cases_lt k m) [
+  | inl h ↦ reserved_early n g word (suc m) k (omega arith) ∙ sym (reserved_early n g word m k h)
   | inr h ↦ elim (cases_lt k n) [
-    | inr l ↦ kept_late n g word (suc m) k l ∙ sym (kept_late n g word m k l)
+    | inr l ↦ reserved_late n g word (suc m) k l ∙ sym (reserved_late n g word m k l)
     | inl l ↦ elim (cases_Bool (is_split (word k))) [
-      | inr s ↦ kept_unsplit n g word (suc m) k s ∙ sym (kept_unsplit n g word m k s)
-      | inl s ↦ kept_is n g word (suc m) k (omega arith) l s ∙ waiting_more m (g (side k third)) (λ x e f. only x e f (omega arith)) ∙ sym (kept_is n g word m k h l s)
+      | inr s ↦ reserved_unsplit n g word (suc m) k s ∙ sym (reserved_unsplit n g word m k s)
+      | inl s ↦ reserved_is n g word (suc m) k (omega arith) l s ∙ waiting_more m (g (side k third)) (λ x e f. only x e f (omega arith)) ∙ sym (reserved_is n g word m k h l s)
     ]
   ]
 ]
@@ -144,7 +144,7 @@ third_of_split {faces} {g} {n} {word} T i k y ne e h l s = go y.place refl
     splits = subst (Says g y.face) (split_is (word y.face) s) (T.symbols y.face l)
 
     go : (p : Place) → y.place ≡ p → y ≡ side y.face third
-    go first q = absurd (let c = T.gates y.face l (side i k) (at first q) in omega arith)
+    go first q = absurd (let c = T.entered y.face l (side i k) (at first q) in omega arith)
     go second q = absurd (
         let r = splits.right in
         let f : side r.before first ≡ side i k = Some_injective _ _ (sym r.onto ∙ at second q) in
@@ -166,12 +166,12 @@ pub third_met : {faces : ℕ} {g : Gluing} {n : ℕ} {word : ℕ → Symbol} →
 third_met {faces} {g} {n} {word} T i k j h l s e = met_is n word i (g (side i k)) (side j third) (T.gluing.paired (side j third) (side i k) e) h l s
 
 -- nothing waits while nothing is built
-pub kept_none_yet : (n : ℕ) (g : Gluing) (word : ℕ → Symbol) (k : ℕ) → kept_for n g word 0 k ≡ None
-kept_none_yet n g word k = elim (cases_lt k n) [
-  | inr l ↦ kept_late n g word 0 k l
+pub reserved_none_yet : (n : ℕ) (g : Gluing) (word : ℕ → Symbol) (k : ℕ) → reserved_for n g word 0 k ≡ None
+reserved_none_yet n g word k = elim (cases_lt k n) [
+  | inr l ↦ reserved_late n g word 0 k l
   | inl l ↦ elim (cases_Bool (is_split (word k))) [
-    | inr s ↦ kept_unsplit n g word 0 k s
-    | inl s ↦ kept_is n g word 0 k (omega arith) l s ∙ elim (option_tells (g (side k third))) [
+    | inr s ↦ reserved_unsplit n g word 0 k s
+    | inl s ↦ reserved_is n g word 0 k (omega arith) l s ∙ elim (option_tells (g (side k third))) [
       | inl o ↦ ap (waiting 0) o
       | inr x ↦ waiting_later 0 (g (side k third)) x.0 x.1 (omega arith)
     ]
