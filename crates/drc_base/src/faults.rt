@@ -28,6 +28,15 @@ pub struct Fault {
     pub at: u64,
 }
 
+impl Fault {
+    /// The fault of this kind at this place.
+    pub fn new(kind: Kind, at: u64) -> Fault
+        ensures { result ≡ record { kind = kind; at = at } }
+    {
+        Fault { kind, at }
+    }
+}
+
 /// Why a call that reads or builds something answers no value.
 #[derive(Clone, Copy, Debug, PartialEq, Eq)]
 pub enum Refusal {
