@@ -9,3 +9,5 @@ pub mod Loading
 pub mod Packing
 mod BitExamples
 pub mod Written
+pub mod PackedBits
+pub mod Chains

@@ -4,7 +4,7 @@ use Rattle.std.proofs.Common.{true, false, nat_le, Some, None, le-leb}
 use Rattle.std.proofs.lemmas.Bool.{lt-leb, cond-true, cond-false}
 use Rattle.std.proofs.lemmas.Nat.{shr_below}
 use Rattle.std.proofs.lemmas.List.{drop_more, drop-drop, length-append, length-drop}
-use Rattle.drc_bits.specs.Bits.{BitPlace, HasBuffer, low_bits, bits_of, number_of, next_bits, after_bits, bytes_for}
+use Rattle.drc_bits.specs.Bits.{BitPlace, HasBuffer, bits_left, low_bits, bits_of, number_of, next_bits, after_bits, bytes_for}
 use Rattle.drc_bits.proofs.BitLists.{low_bits-byte, low_bits-word, low_bits-add, length-low_bits, length-bits_of, take-low_bits, drop-low_bits}
 
 -- nothing is loaded at the start
@@ -112,3 +112,11 @@ bits_short bytes next buffer count n h k e =
 -- how many bytes were begun
 pub bytes_begun : (next count : ℕ) → count ≤ 8 * next → bytes_for (8 * next - count) ≡ next - count / 8
 bytes_begun next count h = omega arith
+
+-- the bits that are left are those of the buffer and those of the bytes behind it
+pub length-placed : (bytes : List ℕ) (next buffer count : ℕ) → HasBuffer bytes next buffer count
+    → length (bits_left (placed bytes (8 * next - count))) ≡ 8 * (length bytes - next) + count
+length-placed bytes next buffer count holds =
+    let l : length (bits_left (placed bytes (8 * next - count))) ≡ length (bits_of bytes) - (8 * next - count) = length-drop (8 * next - count) (bits_of bytes) in
+    let b = length-bits_of bytes in
+    omega (arith, l, b, holds.within, holds.begun)

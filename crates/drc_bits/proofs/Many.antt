@@ -12,12 +12,12 @@ pub with_front-nil : {A : Type 0} (item : Item (List A)) → with_front [] item 
 with_front-nil (Ok x) = refl
 with_front-nil (Err f) = refl
 
-with_front-cons : {A : Type 0} (front : List A) (x : A) (item : Item (List A))
+pub with_front-cons : {A : Type 0} (front : List A) (x : A) (item : Item (List A))
     → with_front front (item >>= λ xs. Ok (x ∷ xs.0, xs.1)) ≡ with_front (front ++ x ∷ []) item
 with_front-cons {A} front x (Ok xs) = ap (λ (l : List A). Ok (l, xs.1)) (sym (append_assoc front (x ∷ []) xs.0))
 with_front-cons front x (Err f) = refl
 
-one_fewer : (n k : ℕ) → k < n → n - k ≡ suc (n - (k + 1))
+pub one_fewer : (n k : ℕ) → k < n → n - k ≡ suc (n - (k + 1))
 one_fewer n k fits = omega arith
 
 -- the next item was read

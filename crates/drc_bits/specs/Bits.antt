@@ -1,6 +1,7 @@
 -- Sequences of bits in bytes (Draco Bitstream Specification 2.2, section "Core types"): each bit is 0 or 1, and
 -- bit i of a list of bytes is bit i mod 8 of byte i div 8, counted from the lowest.
-use Rattle.std.specs.Prelude.{◌≡◌, ◌<◌, ◌≤◌, ◌^◌, ℕ, zero, suc, ◌+◌, ◌-◌, ◌*◌, ◌/◌, ◌%◌, List, [], ◌∷◌, ◌++◌, length, take, drop, Option, Some, None, Ok, nat_le, nat_lt, if◌then◌else◌}
+use Rattle.std.specs.Prelude.{◌≡◌, ◌<◌, ◌≤◌, ◌^◌, ℕ, zero, suc, ◌+◌, ◌-◌, ◌*◌, ◌/◌, ◌%◌, List, [], ◌∷◌, ◌++◌, length, take, drop, Option}
+use Rattle.std.specs.Prelude.{Some, None, Ok, nat_le, nat_lt, if◌then◌else◌}
 use Rattle.drc_bits.specs.Reading.{Reading, Item, advanced, fault_at}
 use Rattle.drc_base.specs.declared.kinds.Kind.TheVariants as kind
 
@@ -8,6 +9,11 @@ use Rattle.drc_base.specs.declared.kinds.Kind.TheVariants as kind
 unfoldable pub low_bits : ℕ → ℕ → List ℕ
 low_bits zero v = []
 low_bits (suc n) v = v % 2 ∷ low_bits n (v / 2)
+
+-- each of these is a bit
+abbrev pub AreBits : List ℕ → Type 0
+AreBits [] = Unit {0}
+AreBits (b ∷ bs) = (b < 2) × AreBits bs
 
 -- the number whose bits these are, the lowest first
 abbrev pub number_of : List ℕ → ℕ

@@ -37,6 +37,11 @@ unfoldable pub many_at : {A : Type 0} → (Reading → Item A) → ℕ → Readi
 many_at item zero c = Ok ([], c)
 many_at item (suc n) c = item c >>= λ x. many_at item n x.1 >>= λ xs. Ok (x.0 ∷ xs.0, xs.1)
 
+-- n items, each read with the value of the one before it, the first with this value; so are running sums
+unfoldable pub chain_at : {A : Type 0} → (A → Reading → Item A) → ℕ → A → Reading → Item (List A)
+chain_at item zero before c = Ok ([], c)
+chain_at item (suc n) before c = item before c >>= λ x. chain_at item n x.0 x.1 >>= λ xs. Ok (x.0 ∷ xs.0, xs.1)
+
 -- n bytes; Short where they aren't all there
 abbrev pub bytes_at : ℕ → Reading → Item (List ℕ)
 bytes_at n c = if nat_lt (length c.rest) n then fault_at kind.Short c else Ok (take n c.rest, advanced n c)

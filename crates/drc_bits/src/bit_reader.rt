@@ -1,7 +1,7 @@
 //! Reading bits from bytes.
 
-ghost use Rattle.std.specs.Prelude.{◌≡◌, ℕ, ◌+◌, ◌-◌, ◌*◌, ◌/◌, ◌%◌, ◌^◌, ◌<◌, ◌≤◌, ◌⊎◌, ◌++◌, length, drop, take, slice_index, Some, None};
-ghost use Rattle.drc_bits.specs.Bits.{BitPlace, HasBuffer, after_bits, bits_of, bytes_for, low_bits, next_bits};
+ghost use Rattle.std.specs.Prelude.{◌≡◌, ℕ, ◌+◌, ◌-◌, ◌*◌, ◌/◌, ◌%◌, ◌^◌, ◌<◌, ◌≤◌, ◌⊎◌, ◌↔◌, ◌++◌, length, drop, take, slice_index, IsTrue, Some, None};
+ghost use Rattle.drc_bits.specs.Bits.{BitPlace, HasBuffer, after_bits, bits_left, bits_of, bytes_for, low_bits, next_bits};
 
 use std::marker::Model;
 
@@ -135,6 +135,14 @@ impl<'a> BitReader<'a> {
         self.buffer = buffer >> n;
         self.count = count - n;
         Some(low_part(buffer, n))
+    }
+
+    /// Whether `n` more bits are left. It takes no bit and no memory.
+    pub fn has(&self, n: u64) -> bool
+        ensures { IsTrue result ↔ (n ≤ length (bits_left self.now)) }
+    {
+        let count = u64::from(self.count);
+        n <= count || (n - count - 1) / 8 < (self.bytes.len() - self.next) as u64
     }
 
     /// How many bytes were begun: those with a bit that was taken.

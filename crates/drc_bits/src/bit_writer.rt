@@ -1,7 +1,8 @@
 //! Writing bits into bytes.
 
 ghost use Rattle.std.specs.Prelude.{◌≡◌, ℕ, ◌+◌, ◌-◌, ◌*◌, ◌/◌, ◌%◌, ◌^◌, ◌<◌, ◌≤◌, [], ◌++◌, length, replicate, slice_index, OnOk, OnErr, vec_len, vec_capacity};
-ghost use Rattle.drc_bits.specs.Bits.{bits_of, bytes_for, low_bits, low_bytes, packed};
+ghost use Rattle.drc_bits.specs.Bits.{bits_at, bits_of, bytes_for, low_bits, low_bytes, packed};
+ghost use Rattle.drc_bits.specs.Spells.{Spells};
 
 use drc_base::Memory;
 use std::alloc::Global;
@@ -132,10 +133,12 @@ impl BitWriter {
         Ok(())
     }
 
-    /// The bytes of the bits that were put; the last one is filled with bits 0. It takes no memory.
+    /// The bytes of the bits that were put; the last one is filled with bits 0. Wherever they stand and
+    /// whatever follows, they are read as just these bits. It takes no memory.
     pub fn finish(self) -> Vec<u8>
         ensures bytes { result.items ≡ packed self }
         ensures bits { bits_of result.items ≡ self ++ replicate (8 * bytes_for (length self) - length self) 0 }
+        ensures again { Spells (bits_at (length self)) result.items self }
     {
         let mut bytes = self.bytes;
         put_bytes(&mut bytes, self.count.div_ceil(8), self.buffer);

@@ -1,6 +1,7 @@
 //! A cursor over the bytes of a stream.
 
-ghost use Rattle.std.specs.Prelude.{◌≡◌, ◌≤◌, length};
+ghost use Rattle.std.specs.Prelude.{◌≡◌, ◌+◌, ◌/◌, ◌≤◌, length, take, IfOk};
+ghost use Rattle.drc_bits.specs.Bits.{bits_at, bits_of, bytes_for};
 ghost use Rattle.drc_bits.specs.Reading.{start_of, advanced, bytes_at, Takes};
 ghost use Rattle.drc_bits.specs.Numbers.{number_at, signed_at};
 ghost use Rattle.drc_bits.specs.Varint.{var32_at, var64_at};
@@ -82,6 +83,15 @@ impl<'a> Cursor<'a> {
         Ok(&rest[..n])
     }
 
+    /// The bytes that hold the next `n` bits, or `Short`. The bits are the first ones of these bytes, the
+    /// lowest bit of each byte first; the cursor moves to the next byte boundary behind them.
+    pub fn bits(&mut self, n: u32) -> Result<&'a [u8], Fault>
+        ensures bits { Takes (λ s. take n (bits_of s.now)) (bits_at n self.old) self.old self.new result }
+        ensures len { IfOk result (λ s. length s.now ≡ bytes_for n) }
+    {
+        self.slice((u64::from(n) + 7) / 8)
+    }
+
     /// The next byte, or `Short`.
     pub fn get_u8(&mut self) -> Result<u8, Fault>
         ensures { Takes (λ n. n) (number_at 1 self.old) self.old self.new result }
@@ -146,9 +156,6 @@ impl<'a> Cursor<'a> {
     pub fn fault(&self, kind: Kind) -> Fault
         ensures { result ≡ record { kind = kind; at = self.now.place } }
     {
-        Fault {
-            kind,
-            at: self.place(),
-        }
+        Fault::new(kind, self.place())
     }
 }
