@@ -1,15 +1,17 @@
 -- A written block is read again, whatever follows it.
 use Rattle.std.proofs.Common.{◌≡◌, ℕ, ◌+◌, ◌-◌, ◌^◌, ◌<◌, ◌≤◌, Bool, nat_lt, List, ◌∷◌, ◌++◌, map, length, Ok, Some, sym, refl, ap, ◌∙◌, inl, arith, append_assoc, lt-ltb, length-append}
+use Rattle.std.specs.Prelude.{slice_get}
 use Rattle.std.proofs.lemmas.Bool.{cond-true}
 use Rattle.drc_base.specs.declared.kinds.Kind.TheVariants as kind
 use Rattle.drc_bits.specs.Reading.{must}
 use Rattle.drc_bits.specs.Numbers.{number_at}
 use Rattle.drc_bits.specs.Varint.{spelling}
-use Rattle.drc_bits.proofs.Written.{reading, advanced-front, bytes_at-front, number_at-byte, var32_at-spelling}
+use Rattle.drc_bits.proofs.Written.{reading, bytes_at-front, number_at-byte, var32_at-spelling}
 use Rattle.rans_core.specs.Coder.{Interval, State, all_pushed, started}
 use Rattle.rans_core.proofs.Pulling.{all_pushed-Pulled}
 use Rattle.rans_core.proofs.Closing.{started-spelled}
-use Rattle.rans_binary.specs.Blocks.{IsBlockOf, block, block_at, coded_bits, interval_of, zeros_for}
+use Rattle.rans_binary.specs.Blocks.{Block, IsBlockOf, block, block_at, coded_bits, first_bits, interval_of, zeros_for}
+use Rattle.rans_binary.proofs.BitNumbers.{get-first_bits}
 use Rattle.rans_binary.proofs.Bits.{first_bits-Pulled, intervals-Fit}
 
 pub zeros_for-bounds : (bits : List Bool) → (1 ≤ zeros_for bits) × (zeros_for bits ≤ 255)
@@ -32,10 +34,9 @@ block_at-spelled place zeros coded rest s some small e =
       e,
     ) refl
 
-pub block-again : (bits : List Bool) (place : ℕ) (rest : List ℕ) → length (coded_bits (zeros_for bits) bits) < 2 ^ 32 →
-    IsBlockOf bits (length (block bits)) (reading place (block bits ++ rest))
+pub block-again : (bits : List Bool) → length (coded_bits (zeros_for bits) bits) < 2 ^ 32 → IsBlockOf bits (block bits)
 unfolding block
-block-again bits place rest small =
+block-again bits small =
     let zeros : ℕ = zeros_for bits in
     let bounds = zeros_for-bounds bits in
     let coded : List ℕ = coded_bits zeros bits in
@@ -43,14 +44,19 @@ block-again bits place rest small =
     let is : List Interval = map (interval_of (256 - zeros)) bits in
     let both = all_pushed-Pulled 16 256 is (omega arith) (omega arith) (omega arith) (intervals-Fit (256 - zeros) bits (omega (arith, bounds)) (omega (arith, bounds))) in
     let s : State = all_pushed 16 256 is in
+    let b : Block = record { ones = 256 - zeros; state = s } in
     let start : started 3 4096 coded ≡ Some s = started-spelled 3 4096 s (omega arith) (inl (omega arith)) both.0 in
-    let whole : (zeros ∷ text ++ coded) ++ rest ≡ zeros ∷ (text ++ (coded ++ rest)) = ap (λ xs. zeros ∷ xs) (append_assoc text coded rest) in
-    let place' : place + 1 + length text + length coded ≡ place + length (zeros ∷ text ++ coded) = omega (arith, length-append text coded) in (
-      record { ones = 256 - zeros; state = s },
-      ap (λ xs. block_at (reading place xs)) whole
-          ∙ block_at-spelled place zeros coded rest s (omega (arith, bounds)) small start
-          ∙ ap (λ n. Ok (record { ones = 256 - zeros; state = s }, reading n rest)) place'
-          ∙ ap (λ r. Ok (record { ones = 256 - zeros; state = s }, r)) (sym (advanced-front place (zeros ∷ text ++ coded) rest)),
-      both.1,
-      first_bits-Pulled (256 - zeros) s bits both.1,
-    )
+    let first : first_bits (length bits) b ≡ bits = first_bits-Pulled (256 - zeros) s bits both.1 in record {
+      start = b;
+      spells = record {
+        reads = λ place rest.
+            let whole : (zeros ∷ text ++ coded) ++ rest ≡ zeros ∷ (text ++ (coded ++ rest)) = ap (λ xs. zeros ∷ xs) (append_assoc text coded rest) in
+            let end : place + 1 + length text + length coded ≡ place + length (zeros ∷ text ++ coded) = omega (arith, length-append text coded) in
+            ap (λ xs. block_at (reading place xs)) whole
+            ∙ block_at-spelled place zeros coded rest s (omega (arith, bounds)) small start
+            ∙ ap (λ n. Ok (b, reading n rest)) end;
+      };
+      pulls = both.1;
+      first = first;
+      numbered = λ k h. ap (λ xs. slice_get xs k) (sym first) ∙ get-first_bits (length bits) k b h;
+    }

@@ -3,3 +3,4 @@ pub mod Quotients
 pub mod Pushes
 pub mod Again
 mod Examples
+pub mod BitNumbers

@@ -1,11 +1,13 @@
 -- Binary range coding: a bit is a symbol with two intervals of 256 slots, the ones below the zeros (Draco
 -- Bitstream Specification 2.2, section Rans Decoding). The probability that is written, and the refusal of 0,
 -- are this project's choice.
-use Rattle.std.specs.Prelude.{ℕ, zero, suc, ◌+◌, ◌-◌, ◌*◌, ◌/◌, ◌%◌, ◌≡◌, Bool, true, false, not, min, max, nat_lt, List, [], ◌∷◌, ◌++◌, map, length, count_by, Option, Some, None, Ok}
+use Rattle.std.specs.Prelude.{ℕ, zero, suc, ◌+◌, ◌-◌, ◌*◌, ◌/◌, ◌%◌, ◌<◌, ◌≡◌, Bool, true, false, not, min, max, nat_lt, List, [], ◌∷◌}
+use Rattle.std.specs.Prelude.{◌++◌, map, length, slice_get, count_by, Option, Some, None, Ok}
 use Rattle.drc_base.specs.declared.kinds.Kind.TheVariants as kind
 use Rattle.drc_base.specs.Steps.{◌>>=◌}
-use Rattle.drc_bits.specs.Reading.{Reading, Item, must, fault_at, bytes_at, advanced}
+use Rattle.drc_bits.specs.Reading.{Reading, Item, must, fault_at, bytes_at}
 use Rattle.drc_bits.specs.Numbers.{number_at}
+use Rattle.drc_bits.specs.Spells.{Spells}
 use Rattle.drc_bits.specs.Varint.{var32_at, spelling}
 use Rattle.rans_core.specs.Coder.{Interval, State, Pulled, pulled, refilled, started, all_spelled}
 
@@ -36,6 +38,15 @@ abbrev pub first_bits : ℕ → Block → List Bool
 first_bits zero b = []
 first_bits (suc n) b = next_bit b ∷ first_bits n (after_bit b)
 
+-- the block behind its next n bits
+abbrev pub behind : ℕ → Block → Block
+behind zero b = b
+behind (suc n) b = after_bit (behind n b)
+
+-- the bit of a block with this number, counted from 0
+abbrev pub bit_of : Block → ℕ → Bool
+bit_of b k = next_bit (behind k b)
+
 -- the bits are pulled one after another
 abbrev pub BitsPulled : Block → List Bool → Type 0
 BitsPulled b bits = Pulled 16 256 b.state (map (interval_of b.ones) bits)
@@ -65,6 +76,11 @@ coded_bits zeros bits = all_spelled 16 256 (map (interval_of (256 - zeros)) bits
 unfoldable pub block : List Bool → List ℕ
 block bits = let coded = coded_bits (zeros_for bits) bits in zeros_for bits ∷ spelling 5 (length coded) ++ coded
 
--- the block at the front has these bits first, and is so many bytes long
-abbrev pub IsBlockOf : List Bool → ℕ → Reading → Type 0
-IsBlockOf bits size c = (b : Block) × (block_at c ≡ Ok (b, advanced size c)) × BitsPulled b bits × (first_bits (length bits) b ≡ bits)
+-- these bytes, wherever they stand and whatever follows them, are read with just their length as one block, whose
+-- first bits are these
+pub record IsBlockOf (bits : List Bool) (bytes : List ℕ) : Type 0 where
+  pub start : Block
+  pub spells : Spells block_at bytes start
+  pub pulls : BitsPulled start bits
+  pub first : first_bits (length bits) start ≡ bits
+  pub numbered : (k : ℕ) → k < length bits → slice_get bits k ≡ Some (bit_of start k)

@@ -1,7 +1,6 @@
 //! Writing a block.
 
 ghost use Rattle.std.specs.Prelude.{◌≡◌, ℕ, ◌+◌, ◌-◌, ◌*◌, ◌/◌, ◌%◌, ◌^◌, ◌<◌, ◌≤◌, List, Bool, [], ◌∷◌, ◌++◌, length, drop, map, not, count_by, reverse, if◌then◌else◌, IfOk, OnOk, OnErr, vec_len};
-ghost use Rattle.drc_bits.specs.Reading.{Reading};
 ghost use Rattle.rans_core.specs.Coder.{State, all_pushed, drained, pushed};
 ghost use Rattle.rans_binary.specs.Blocks.{IsBlockOf, block, coded_bits, interval_of, zeros_for};
 
@@ -135,13 +134,14 @@ fn code_bits(alloc: Global, bits: &[bool], zeros: u32) -> Result<Vec<u8>, Memory
     Ok(out)
 }
 
-/// The block of the bits: its probability of a zero, the size of the coded bytes, and these. Read at
-/// its front, whatever bytes follow, it gives the bits.
+/// The block of the bits: its probability of a zero, the size of the coded bytes, and these. Wherever it
+/// stands and whatever bytes follow, it is read with just its length as one block, whose first bits are
+/// these.
 #[tactic(auto, unfolding(crate::specs::Blocks::block))]
 pub fn write_block(alloc: Global, bits: &[bool]) -> Result<Vec<u8>, Memory>
     requires { length bits.now < 2 ^ 31 }
     ensures block { IfOk result (λ v. v.items ≡ block bits.now) }
-    ensures again { IfOk result (λ v. (place : ℕ) (rest : List ℕ) → IsBlockOf bits.now (length v.items) (record { place = place; rest = v.items ++ rest })) }
+    ensures again { IfOk result (λ v. IsBlockOf bits.now v.items) }
 {
     let zeros = zeros_of(bits);
     let coded = code_bits(alloc, bits, zeros)?;

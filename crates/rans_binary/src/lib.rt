@@ -5,9 +5,11 @@
 
 mod block_reader;
 mod block_writer;
+mod laws;
 
 pub use block_reader::BitBlock;
 pub use block_writer::write_block;
+pub use laws::bits_have_numbers;
 
 #[cfg(test)]
 mod tests;

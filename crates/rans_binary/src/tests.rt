@@ -64,6 +64,6 @@ fn bad_blocks_are_refused(rt: HostRuntime) {
         (&[0xff, 0x04, 0x00, 0x00, 0x00, 0xc0], Kind::BadStart, 2),
     ];
     for (bytes, kind, at) in rows {
-        assert_eq!(rt; fault_of(bytes), Some(Fault { kind, at }), "at {bytes:?}");
+        assert_eq!(rt; fault_of(bytes), Some(Fault::new(kind, at)), "at {bytes:?}");
     }
 }

@@ -1,7 +1,8 @@
 -- Range asymmetric numeral systems on one number and one list of bytes (Draco Bitstream Specification 2.2,
 -- section Rans Decoding). A coder has `total` slots. Its number, where refilled, is at least
 -- `scale * total` and below 256 times that. The pushing half is this project's choice of an encoder.
-use Rattle.std.specs.Prelude.{ℕ, zero, suc, ◌+◌, ◌-◌, ◌*◌, ◌/◌, ◌%◌, ◌^◌, ◌<◌, ◌≤◌, ◌≡◌, nat_lt, List, [], ◌∷◌, ◌++◌, reverse, take, Option, Some, None, option_and_then, if◌then◌else◌}
+use Rattle.std.specs.Prelude.{ℕ, zero, suc, ◌+◌, ◌-◌, ◌*◌, ◌/◌, ◌%◌, ◌^◌, ◌<◌, ◌≤◌, ◌≡◌, nat_lt, List, [], ◌∷◌, ◌++◌, reverse, take, Option}
+use Rattle.std.specs.Prelude.{Some, None, option_and_then, if◌then◌else◌}
 
 -- the slots of a symbol: how many slots lie below them, and how many they are
 pub record Interval : Type 0 where
@@ -31,7 +32,8 @@ Fits total i = (0 < i.prob) × (i.cum + i.prob ≤ total)
 -- while the number is below the base and bytes are left, the next byte is its new low byte
 abbrev pub refilled : ℕ → ℕ → List ℕ → State
 refilled base number [] = record { number = number; bytes = [] }
-refilled base number (b ∷ bytes) = if nat_lt number base then refilled base (256 * number + b) bytes else record { number = number; bytes = b ∷ bytes }
+refilled base number (b ∷ bytes) = if nat_lt number base then refilled base (256 * number + b) bytes
+    else record { number = number; bytes = b ∷ bytes }
 
 -- the state after the pull of a symbol with this interval, from a refilled state
 abbrev pub pulled : ℕ → Interval → State → State
@@ -48,7 +50,8 @@ Pulled scale total s (i ∷ is) = let t = refilled (scale * total) s.number s.by
 -- while the number is at least the limit, its low byte is emitted; at most so many times
 unfoldable pub drained : ℕ → ℕ → ℕ → List ℕ → State
 drained zero limit number bytes = record { number = number; bytes = bytes }
-drained (suc times) limit number bytes = if nat_lt number limit then record { number = number; bytes = bytes } else drained times limit (number / 256) (number % 256 ∷ bytes)
+drained (suc times) limit number bytes = if nat_lt number limit then record { number = number; bytes = bytes }
+    else drained times limit (number / 256) (number % 256 ∷ bytes)
 
 -- the state after the push of a symbol with this interval; four bytes are enough for a number below 2 ^ 32
 unfoldable pub pushed : ℕ → ℕ → Interval → State → State
@@ -95,7 +98,8 @@ raised base s = if nat_lt (base + s.number) (256 * base) then Some (record { num
 -- the first state from the bytes, the last one first; None where it is bad or the tag isn't below `tags`
 abbrev pub started_back : ℕ → ℕ → List ℕ → Option State
 started_back tags base [] = None
-started_back tags base (last ∷ before) = if nat_lt (last / 64) tags then option_and_then (raised base) (joined (last / 64) (last % 64) before) else None
+started_back tags base (last ∷ before) =
+    if nat_lt (last / 64) tags then option_and_then (raised base) (joined (last / 64) (last % 64) before) else None
 
 -- the first state of a coder's bytes in their order
 abbrev pub started : ℕ → ℕ → List ℕ → Option State
