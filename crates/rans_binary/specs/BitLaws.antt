@@ -1,6 +1,6 @@
 -- What holds of the bits of blocks by their numbers.
 use Rattle.std.specs.Prelude.{◌≡◌, ℕ, ◌+◌, ◌<◌, ◌++◌, Some, slice_get}
-use Rattle.rans_binary.specs.Blocks.{Block, after_bit, behind, bit_of, first_bits}
+use Rattle.rans_binary.specs.Blocks.{Block, behind, bit_of, first_bits}
 
 -- the bit with a number is that item of the bits
 abbrev pub BitsAreNumbered : Type 0
