@@ -1,10 +1,10 @@
 -- A packed sequence of bits is read again, whatever follows it.
-use Rattle.std.proofs.Common.{◌≡◌, ℕ, zero, suc, ◌+◌, ◌-◌, ◌*◌, ◌/◌, ◌%◌, ◌<◌, ◌≤◌, nat_lt, true, false, List, [], ◌∷◌, ◌++◌, length, take, drop, Result, Ok, Err, Bor, sym, refl, ap, ◌∙◌, inl, inr, arith, append_assoc, append-nil, le-ltb, lt-ltb, length-append, length-take-le, take_all}
+use Rattle.std.proofs.Common.{◌≡◌, ℕ, zero, suc, ◌+◌, ◌-◌, ◌*◌, ◌/◌, ◌%◌, ◌≤◌, nat_lt, true, false, List, [], ◌∷◌, ◌++◌, length, take, drop, Result, Ok, Err, Bor, sym, refl, ap, ◌∙◌, inl, inr, arith, append_assoc, append-nil, le-ltb, lt-ltb, length-append, length-take-le, take_all}
 use Rattle.std.proofs.lemmas.Bool.{cases_lt, cond-true, cond-false}
 use Rattle.std.proofs.lemmas.List.{length-drop, take-append-drop, take-append-le, take_at}
 use Rattle.drc_base.specs.declared.faults.Fault.{Fault}
 use Rattle.drc_base.specs.declared.kinds.Kind.TheVariants as kind
-use Rattle.drc_bits.specs.Reading.{Reading, Item, Takes, advanced, bytes_at}
+use Rattle.drc_bits.specs.Reading.{Reading, Takes, advanced, bytes_at}
 use Rattle.drc_bits.specs.Spells.{Spells}
 use Rattle.drc_bits.specs.Bits.{AreBits, bits_at, bits_of, bytes_for, low_bits, number_of, packed, packed_in}
 use Rattle.drc_bits.proofs.BitLists.{bits_of-append, length-bits_of, length-low_bits}

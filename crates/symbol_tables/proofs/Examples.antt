@@ -4,6 +4,7 @@ use Rattle.drc_base.specs.declared.kinds.Kind.TheVariants as kind
 use Rattle.drc_bits.specs.Reading.{start_of, many_at}
 use Rattle.drc_bits.specs.Varint.{spelling, varint}
 use Rattle.symbol_tables.specs.Tables.{symbol_of, prob_bytes, probs_at, probs_bytes, table_at, table_bytes}
+use Rattle.symbol_tables.specs.Spellings.{bytes_of, probs_of, slots, zeros}
 use Rattle.symbol_tables.specs.Normal.{normal}
 
 -- three zeros and a one in 4096 slots
@@ -44,3 +45,15 @@ not_whole = refl
 no_symbol : table_at 12 (start_of (0 ∷ [])) ≡ Err (record { kind = kind.EmptyTable; at = 0 })
 unfolding table_at probs_at many_at varint
 no_symbol = refl
+
+-- entries: a run of three zeros, a probability with one byte above its low six bits, and one with none
+three_entries : bytes_of (zeros 2 ∷ slots 5 (2 ∷ []) ∷ slots 7 [] ∷ []) ≡ 11 ∷ 21 ∷ 2 ∷ 28 ∷ []
+three_entries = refl
+
+three_told : probs_of (zeros 2 ∷ slots 5 (2 ∷ []) ∷ slots 7 [] ∷ []) ≡ 0 ∷ 0 ∷ 0 ∷ 133 ∷ 7 ∷ []
+three_told = refl
+
+-- a spelling that isn't the shortest: a run of one zero, and one more
+two_runs : probs_at 3 0 (start_of (3 ∷ 3 ∷ 28 ∷ [])) ≡ Ok (0 ∷ 0 ∷ 7 ∷ [], record { place = 3; rest = [] })
+unfolding probs_at many_at
+two_runs = refl

@@ -3,3 +3,4 @@ pub mod Sharing
 pub mod Probs
 pub mod Spelling
 mod Examples
+pub mod Entries

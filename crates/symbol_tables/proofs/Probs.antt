@@ -1,14 +1,9 @@
 -- Reading probabilities one after another.
-use Rattle.std.proofs.Common.{◌≡◌, ℕ, suc, ◌+◌, ◌-◌, ◌<◌, ◌≤◌, List, [], ◌∷◌, ◌++◌, Ok, Err, refl, sym, ◌∙◌, ap, append_assoc, append-nil, arith}
+use Rattle.std.proofs.Common.{◌≡◌, ℕ, suc, ◌+◌, ◌-◌, ◌<◌, ◌≤◌, List, [], ◌∷◌, ◌++◌, Ok, Err, refl, sym, ◌∙◌, ap, append-nil, arith}
 use Rattle.drc_base.specs.declared.faults.Fault.{Fault}
-use Rattle.drc_base.specs.Steps.{◌>>=◌}
 use Rattle.drc_bits.specs.Reading.{Reading, Item}
-use Rattle.drc_bits.proofs.Many.{with_front}
+use Rattle.drc_bits.proofs.Many.{with_front, with_front-cons}
 use Rattle.symbol_tables.specs.Tables.{prob_at, probs_at}
-
-with_front-cons : (front : List ℕ) (x : ℕ) (item : Item (List ℕ)) → with_front front (item >>= λ xs. Ok (x ∷ xs.0, xs.1)) ≡ with_front (front ++ x ∷ []) item
-with_front-cons front x (Ok xs) = ap (λ (l : List ℕ). Ok (l, xs.1)) (sym (append_assoc front (x ∷ []) xs.0))
-with_front-cons front x (Err f) = refl
 
 -- the next probability was read
 pub probs_at-next : (n k behind run p more : ℕ) (c d : Reading) (front : List ℕ) (whole : Item (List ℕ)) →

@@ -1,2 +1,4 @@
 pub mod Tables
 pub mod Normal
+pub mod Spellings
+pub mod SpellingLaws

@@ -1,6 +1,7 @@
 -- The probabilities that are written for counts (this project's choice): each symbol that is used has a slot, the
 -- other slots are shared by the counts, rounded down, and what is left goes to the most frequent symbol.
-use Rattle.std.specs.Prelude.{ℕ, ◌+◌, ◌-◌, ◌*◌, ◌/◌, ◌^◌, ◌<◌, ◌≤◌, ◌==◌, nat_lt, max, List, fold, map, length, sum, count_by, position, unwrap_or, slice_index, slice_set, if◌then◌else◌}
+use Rattle.std.specs.Prelude.{ℕ, ◌+◌, ◌-◌, ◌*◌, ◌/◌, ◌^◌, ◌<◌, ◌≤◌, ◌==◌, nat_lt, max, List, fold, map, length, sum, count_by, position}
+use Rattle.std.specs.Prelude.{unwrap_or, slice_index, slice_set, if◌then◌else◌}
 
 -- how many symbols are used
 abbrev pub used_of : List ℕ → ℕ

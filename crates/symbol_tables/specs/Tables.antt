@@ -1,7 +1,8 @@
 -- Probability tables: a list of probabilities that are numbers of slots, one for each symbol, and how it is
 -- spelled (Draco Bitstream Specification 2.2, section Symbol Decoding). The limit of symbols, the refusal of an
 -- empty table, and which spelling is written are this project's choice.
-use Rattle.std.specs.Prelude.{◌≡◌, ℕ, zero, suc, ◌+◌, ◌-◌, ◌*◌, ◌/◌, ◌%◌, ◌^◌, ◌<◌, ◌≤◌, ◌==◌, nat_lt, nat_le, min, List, [], ◌∷◌, ◌++◌, length, take, sum, slice_index, Ok, if◌then◌else◌}
+use Rattle.std.specs.Prelude.{◌≡◌, ℕ, zero, suc, ◌+◌, ◌-◌, ◌*◌, ◌/◌, ◌%◌, ◌^◌, ◌<◌, ◌≤◌, ◌==◌, nat_lt, nat_le, min, List, [], ◌∷◌, ◌++◌}
+use Rattle.std.specs.Prelude.{length, take, sum, slice_index, Ok, if◌then◌else◌}
 use Rattle.drc_base.specs.declared.kinds.Kind.TheVariants as kind
 use Rattle.drc_base.specs.declared.limits.TheConstants.{MAX_TABLE_SYMBOLS}
 use Rattle.drc_base.specs.Steps.{◌>>=◌}

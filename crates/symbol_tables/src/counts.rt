@@ -7,8 +7,8 @@ use crate::table::Table;
 use drc_base::Memory;
 use std::alloc::Global;
 
-/// How many of the counts are positive.
-fn used_in(counts: &[u32]) -> usize
+/// How many of the counts are positive. It takes no memory.
+pub fn used_in(counts: &[u32]) -> usize
     ensures used { result ≡ used_of counts.now }
     ensures most { result ≤ length counts.now }
 {
@@ -23,11 +23,11 @@ fn total_of(counts: &[u32]) -> u32
     counts.iter().sum()
 }
 
-/// The greatest count.
-fn greatest_in(counts: &[u32]) -> u32
-    ensures { result ≡ greatest_of counts.now }
+/// The greatest of the numbers, or 0. It takes no memory.
+pub fn greatest_in(numbers: &[u32]) -> u32
+    ensures { result ≡ greatest_of numbers.now }
 {
-    counts
+    numbers
         .iter()
         .fold(0, |most, n| if *n > most { *n } else { most })
 }
@@ -71,7 +71,7 @@ fn shares_of(alloc: Global, counts: &[u32], slots: u32) -> Result<Vec<u32>, Memo
     ensures sum { IfOk result (λ v. sum v.items ≤ slots) }
 {
     let all = total_of(counts);
-    let others = slots.saturating_sub(used_in(counts) as u32);
+    let others = slots - used_in(counts) as u32;
     let mut given = Vec::new(alloc);
     for n in counts {
         given.push(share(others, all, *n))?;

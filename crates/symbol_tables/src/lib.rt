@@ -5,10 +5,13 @@
 #![tactic(auto)]
 
 mod counts;
+mod laws;
 mod reading;
 mod table;
 mod writing;
 
+pub use counts::{greatest_in, used_in};
+pub use laws::every_spelling_is_read;
 pub use table::Table;
 
 #[cfg(test)]

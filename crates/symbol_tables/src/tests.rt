@@ -48,7 +48,7 @@ fn bad_tables_are_refused(rt: HostRuntime) {
     for (bytes, kind, at) in rows {
         assert_eq!(rt;
             fault_of(rt.alloc(), bytes),
-            Some(Fault { kind, at }),
+            Some(Fault::new(kind, at)),
             "at {bytes:?}"
         );
     }

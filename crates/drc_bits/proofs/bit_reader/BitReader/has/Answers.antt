@@ -1,4 +1,4 @@
-use Rattle.std.proofs.Common.{◌≡◌, ℕ, ◌+◌, ◌-◌, ◌*◌, ◌/◌, ◌<◌, ◌≤◌, length, arith, sym, ap, ◌∙◌, le-leb, lt-ltb, ltb-true}
+use Rattle.std.proofs.Common.{◌≡◌, ℕ, ◌+◌, ◌-◌, ◌*◌, ◌/◌, ◌<◌, length, arith, sym, ap, ◌∙◌, le-leb, lt-ltb, ltb-true}
 use Rattle.drc_bits.specs.Bits.{bits_left}
 use Rattle.drc_bits.proofs.Loading.{length-placed}
 use Rattle.drc_bits.proofs.bit_reader.BitReader.has.Goals as goal
