@@ -1,15 +1,17 @@
 -- A written block is read again, whatever follows it.
-use Rattle.std.proofs.Common.{◌≡◌, ℕ, zero, suc, ◌+◌, ◌-◌, ◌*◌, ◌/◌, ◌%◌, ◌^◌, ◌<◌, ◌≤◌, nat_lt, nat_le, Bool, true, ◌&&◌, All, List, [], ◌∷◌, ◌++◌, length, take, drop, map, sum, get_or, Ok, Some, sym, refl, ap, ◌∙◌, subst, inl, inr, arith, append_assoc, append-nil, le-leb, ne_eqb, length-append, length-take-le, take_all, pow_mono}
-use Rattle.std.proofs.lemmas.Bool.{cases_lt, cond-false}
-use Rattle.std.proofs.lemmas.List.{get_or-map, length-drop, length-map, take-append-drop}
+use Rattle.std.proofs.Common.{◌≡◌, ℕ, suc, ◌+◌, ◌*◌, ◌/◌, ◌%◌, ◌^◌, ◌<◌, ◌≤◌, nat_lt, nat_le, Bool, true, ◌&&◌, All, List, [], ◌∷◌, ◌++◌, length, map, sum, get_or, Ok, Some, sym, refl, ap, ◌∙◌, subst, arith, append_assoc, le-leb, ne_eqb, length-append, pow_mono}
+use Rattle.std.proofs.lemmas.Bool.{cond-false}
+use Rattle.std.proofs.lemmas.List.{get_or-map, length-map}
 use Rattle.drc_base.specs.declared.kinds.Kind.TheVariants as kind
+use Rattle.drc_base.specs.declared.limits.TheConstants.{MAX_VALUES}
 use Rattle.drc_bits.specs.Reading.{must}
 use Rattle.drc_bits.specs.Numbers.{number_at}
 use Rattle.drc_bits.specs.Varint.{spelling}
 use Rattle.drc_bits.specs.Spells.{Spells}
-use Rattle.drc_bits.specs.Bits.{bits_of, bytes_for, low_bits, number_of, packed, packed_in}
+use Rattle.drc_bits.specs.Bits.{AreBits, bits_of, bytes_for, low_bits, packed}
 use Rattle.drc_bits.proofs.Written.{reading, advanced-front, bytes_at-front, number_at-byte, var64_at-spelling}
-use Rattle.drc_bits.proofs.BitLists.{bits_of-append, length-low_bits}
+use Rattle.drc_bits.proofs.BitLists.{bits_of-append}
+use Rattle.drc_bits.proofs.PackedBits.{AreBits-append, AreBits-low_bits, length-packed, packed-again}
 use Rattle.rans_core.specs.Coder.{State, Fits, Pulled, all_spelled, started}
 use Rattle.rans_core.proofs.Closing.{all_spelled-Unpacks}
 use Rattle.symbol_tables.specs.Tables.{table_at, table_bytes}
@@ -67,90 +69,12 @@ unfolding coded_at
 coded-reads bits place coded rest s small starts =
     rw (var64_at-spelling place (length coded) (coded ++ rest) small, bytes_at-front (place + length (spelling 10 (length coded))) coded rest, starts) refl
 
--- ---- packed bits
-
-abbrev pub AreBits : List ℕ → Type 0
-AreBits [] = Unit {0}
-AreBits (b ∷ bs) = (b < 2) × AreBits bs
-
-AreBits-append : (xs ys : List ℕ) → AreBits xs → AreBits ys → AreBits (xs ++ ys)
-AreBits-append [] ys a b = b
-AreBits-append (x ∷ xs) ys a b = (a.0, AreBits-append xs ys a.1 b)
-
-AreBits-low_bits : (n v : ℕ) → AreBits (low_bits n v)
-unfolding low_bits
-AreBits-low_bits zero v = tt
-AreBits-low_bits (suc n) v = (omega arith, AreBits-low_bits n (v / 2))
+-- ---- the bits of values
 
 AreBits-value_bits : (ws vs : List ℕ) → AreBits (value_bits ws vs)
 AreBits-value_bits [] vs = tt
 AreBits-value_bits (w ∷ ws) [] = tt
 AreBits-value_bits (w ∷ ws) (v ∷ vs) = AreBits-append (low_bits w v) (value_bits ws vs) (AreBits-low_bits w v) (AreBits-value_bits ws vs)
-
-AreBits-drop : (n : ℕ) (xs : List ℕ) → AreBits xs → AreBits (drop n xs)
-AreBits-drop zero xs a = a
-AreBits-drop (suc n) [] a = tt
-AreBits-drop (suc n) (x ∷ xs) a = AreBits-drop n xs a.1
-
-length-zero : (xs : List ℕ) → length xs ≡ 0 → xs ≡ []
-length-zero [] h = refl
-length-zero (x ∷ xs) h = absurd (omega (arith, h))
-
--- the bits of a number of bits are these, and then some
-low-number : (m : ℕ) (bits : List ℕ) → AreBits bits → (more : List ℕ) × (low_bits m (number_of (take m bits)) ≡ take m bits ++ more)
-unfolding low_bits
-low-number zero bits are = ([], refl)
-low-number (suc m) [] are = (low_bits (suc m) 0, refl)
-low-number (suc m) (b ∷ bs) are =
-    let x : ℕ = number_of (take m bs) in
-    let low : (b + 2 * x) % 2 ≡ b = omega (arith, are.0) in
-    let high : (b + 2 * x) / 2 ≡ x = omega (arith, are.0) in
-    let rest = low-number m bs are.1 in
-    (rest.0, rw (low, high) (ap (λ xs. b ∷ xs) rest.1))
-
--- eight whole bits
-low-byte : (bits : List ℕ) → AreBits bits → 8 ≤ length bits → low_bits 8 (number_of (take 8 bits)) ≡ take 8 bits
-low-byte bits are enough =
-    let rest = low-number 8 bits are in
-    let l : length (take 8 bits) ≡ 8 = length-take-le 8 bits enough in
-    let a = length-append (take 8 bits) rest.0 in
-    let lb = length-low_bits 8 (number_of (take 8 bits)) in
-    let same = ap (λ xs. length xs) rest.1 in
-    let none : rest.0 ≡ [] = length-zero rest.0 (omega (arith, l, a, lb, same)) in
-    rest.1 ∙ ap (λ xs. take 8 bits ++ xs) none ∙ append-nil (take 8 bits)
-
-packed_in-again : (n : ℕ) (bits : List ℕ) → AreBits bits → bytes_for (length bits) ≡ n → (more : List ℕ) × (bits_of (packed_in n bits) ≡ bits ++ more)
-unfolding bits_of
-packed_in-again zero bits are size =
-    let none : bits ≡ [] = length-zero bits (omega (arith, size)) in
-    ([], sym (ap (λ xs. xs ++ []) none))
-packed_in-again (suc n) bits are size = elim (cases_lt (length bits) 8) [
-  | inl few ↦
-      let first = low-number 8 bits are in
-      let whole : take 8 bits ≡ bits = take_all 8 bits (omega (arith, few)) in (
-        first.0 ++ bits_of (packed_in n (drop 8 bits)),
-        ap (λ xs. xs ++ bits_of (packed_in n (drop 8 bits))) (first.1 ∙ ap (λ xs. xs ++ first.0) whole) ∙ append_assoc bits first.0 (bits_of (packed_in n (drop 8 bits))),
-      )
-  | inr many ↦
-      let d : length (drop 8 bits) ≡ length bits - 8 = length-drop 8 bits in
-      let rest = packed_in-again n (drop 8 bits) (AreBits-drop 8 bits are) (omega (arith, d, size, many)) in (
-        rest.0,
-        ap (λ xs. xs ++ bits_of (packed_in n (drop 8 bits))) (low-byte bits are many) ∙ ap (λ xs. take 8 bits ++ xs) rest.1
-            ∙ sym (append_assoc (take 8 bits) (drop 8 bits) rest.0) ∙ ap (λ xs. xs ++ rest.0) (take-append-drop 8 bits),
-      )
-]
-
-pub packed-again : (bits : List ℕ) → AreBits bits → (more : List ℕ) × (bits_of (packed bits) ≡ bits ++ more)
-unfolding packed
-packed-again bits are = packed_in-again (bytes_for (length bits)) bits are refl
-
-length-packed_in : (n : ℕ) (bits : List ℕ) → length (packed_in n bits) ≡ n
-length-packed_in zero bits = refl
-length-packed_in (suc n) bits = let r = length-packed_in n (drop 8 bits) in omega (arith, r)
-
-pub length-packed : (bits : List ℕ) → length (packed bits) ≡ bytes_for (length bits)
-unfolding packed
-length-packed bits = length-packed_in (bytes_for (length bits)) bits
 
 -- ---- the two schemes
 
@@ -208,7 +132,7 @@ none-again [] bytes comps none empty = record {
 }
 none-again (v ∷ vs) bytes comps none empty = absurd (omega (arith, none))
 
-pub raw-again : (values bytes : List ℕ) (comps : ℕ) → 0 < length values → length values ≤ 2 ^ 24 → greatest_of values < 2 ^ 18 → bytes ≡ raw_bytes values → length bytes < 2 ^ 64
+pub raw-again : (values bytes : List ℕ) (comps : ℕ) → 0 < length values → length values ≤ MAX_VALUES → greatest_of values < 2 ^ 18 → bytes ≡ raw_bytes values → length bytes < 2 ^ 64
     → Spells (block_at (length values) comps) bytes values
 unfolding raw_bytes coded_bytes
 raw-again values bytes comps some few small is short =
@@ -237,7 +161,7 @@ raw-again values bytes comps some few small is short =
           let f : place + 1 + 1 + length text + length number + length coded ≡ place + length (1 ∷ l ∷ text ++ (number ++ coded)) = omega (arith, size, e) in f);
     })
 
-pub tagged-again : (values bytes : List ℕ) (comps : ℕ) → length values % comps ≡ 0 → 0 < length values → length values ≤ 2 ^ 24 → ((k : ℕ) → get_or values k 0 < 2 ^ 32)
+pub tagged-again : (values bytes : List ℕ) (comps : ℕ) → length values % comps ≡ 0 → 0 < length values → length values ≤ MAX_VALUES → ((k : ℕ) → get_or values k 0 < 2 ^ 32)
     → bytes ≡ tagged_bytes values comps → length bytes < 2 ^ 64 → Spells (block_at (length values) comps) bytes values
 unfolding tagged_bytes coded_bytes
 tagged-again values bytes comps divides some few each is short =

@@ -1,5 +1,6 @@
 -- The symbols of slots.
 use Rattle.std.proofs.Common.{◌≡◌, ℕ, zero, suc, ◌+◌, ◌%◌, ◌^◌, ◌<◌, ◌≤◌, List, [], ◌∷◌, length, take, sum, get_or, arith, sym, ap, subst, ◌∙◌, mod-lt, pow_pos, ◌-◌, ◌++◌, append_assoc, append-nil}
+use Rattle.drc_bits.proofs.Many.{one_fewer}
 use Rattle.rans_core.specs.Coder.{Coder, pulled, refilled_coder}
 use Rattle.symbol_tables.specs.Tables.{HasSymbol, cum_of, symbol_of}
 use Rattle.symbol_tables.proofs.Symbols.{sum-cons, symbol_of-is}
@@ -29,9 +30,6 @@ pub after_symbol-is : (probs : List ℕ) (d e f : Coder) (s cum prob : ℕ) → 
     → f ≡ record { bits = d.bits; state = after_symbol d.bits probs d.state }
 after_symbol-is probs d e f s cum prob is symbol c p after =
     after ∙ rw (c, p, symbol) (ap (λ (x : Coder). record { bits = x.bits; state = pulled (2 ^ x.bits) (interval_of probs (next_symbol d.bits probs d.state)) x.state }) is)
-
-one_fewer : (n k : ℕ) → k < n → n - k ≡ suc (n - (k + 1))
-one_fewer n k inside = omega arith
 
 -- the first of the symbols that are left, and the others
 pub symbols-step : (n k : ℕ) (probs : List ℕ) (d e : Coder) → k < n → e ≡ record { bits = d.bits; state = after_symbol d.bits probs d.state }

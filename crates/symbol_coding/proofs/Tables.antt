@@ -3,6 +3,7 @@ use Rattle.std.proofs.Common.{◌≡◌, ℕ, ◌+◌, ◌*◌, ◌/◌, ◌%◌
 use Rattle.std.proofs.lemmas.Bool.{cases_lt, lt-leb}
 use Rattle.std.proofs.Math.Nat.{div-le_self}
 use Rattle.std.proofs.lemmas.List.{get_or_past}
+use Rattle.drc_base.specs.declared.limits.TheConstants.{MAX_VALUES}
 use Rattle.symbol_tables.specs.Normal.{HasTable, greatest_of, used_of}
 use Rattle.symbol_coding.specs.Symbols.{counts_of}
 use Rattle.symbol_coding.specs.Block.{is_raw, lengths_of, precision, raw_cost, raw_length, tagged_cost}
@@ -18,7 +19,7 @@ positive-below xs s h = elim (cases_lt s (length xs)) [ inl below ↦ below | in
 pub counts-few : (values counts : List ℕ) → counts ≡ counts_of values → greatest_of values < 2 ^ 18 → length counts ≤ 2 ^ 18
 counts-few values counts is small = let l : length counts ≡ greatest_of values + 1 = ap length is ∙ counts_of-length values in omega (arith, l, small)
 
-pub raw-table : (values counts : List ℕ) (length' bits : ℕ) → counts ≡ counts_of values → 0 < length values → length values ≤ 2 ^ 24 → greatest_of values < 2 ^ 18
+pub raw-table : (values counts : List ℕ) (length' bits : ℕ) → counts ≡ counts_of values → 0 < length values → length values ≤ MAX_VALUES → greatest_of values < 2 ^ 18
     → length' ≡ raw_length counts → bits ≡ precision length' → HasTable counts bits
 raw-table values counts length' bits is some few small long wide =
     let used : used_of counts ≤ greatest_of values + 1 = subst (λ xs. used_of xs ≤ greatest_of values + 1) (sym is) (used-few values) in
@@ -31,7 +32,7 @@ used-positive symbols counts probs is used k h = used (get_or symbols k 0) (subs
 
 -- ---- groups
 
-pub lengths-few : (values lengths : List ℕ) (comps : ℕ) → lengths ≡ lengths_of comps values → length values ≤ 2 ^ 24 → length lengths ≤ 2 ^ 24
+pub lengths-few : (values lengths : List ℕ) (comps : ℕ) → lengths ≡ lengths_of comps values → length values ≤ MAX_VALUES → length lengths ≤ MAX_VALUES
 lengths-few values lengths comps is few =
     let l : length lengths ≡ length values / comps = ap length is ∙ length-lengths_of values comps in
     let d = div-le_self (length values) comps in omega (arith, l, d, few)
@@ -52,7 +53,7 @@ pub lengths-most : (values lengths : List ℕ) (comps : ℕ) → lengths ≡ len
 lengths-most values lengths comps is each k = subst (λ xs. get_or xs k 0 ≤ 32) (sym is) (lengths_of-most values comps each k)
 
 pub tagged-table : (values lengths counts : List ℕ) (comps bits : ℕ) → lengths ≡ lengths_of comps values → counts ≡ counts_of lengths → bits ≡ precision 5 → length values % comps ≡ 0
-    → 0 < length values → length values ≤ 2 ^ 24 → ((k : ℕ) → get_or values k 0 < 2 ^ 32) → HasTable counts bits
+    → 0 < length values → length values ≤ MAX_VALUES → ((k : ℕ) → get_or values k 0 < 2 ^ 32) → HasTable counts bits
 tagged-table values lengths counts comps bits is counted wide divides some few each =
     let small : greatest_of lengths < 33 = greatest-below lengths 33 (omega arith) (λ k. let h = lengths-most values lengths comps is each k in omega (arith, h)) in
     let used = used-few lengths in

@@ -1,6 +1,6 @@
 -- Values of given widths from bits.
-use Rattle.std.proofs.Common.{◌≡◌, ℕ, suc, ◌+◌, ◌-◌, ◌*◌, ◌<◌, ◌≤◌, nat_le, Bool, true, false, List, [], ◌∷◌, ◌++◌, length, take, drop, replicate, sum, Result, Ok, Err, Option, Some, if◌then◌else◌, None, sym, refl, ap, ◌∙◌, arith, append_assoc, append-nil, lt-ltb, le-ltb, leb-true, leb-false, length-drop, drop-drop, add-mul}
-use Rattle.std.proofs.lemmas.Bool.{cond-true, cond-false, true≢false, false≢true}
+use Rattle.std.proofs.Common.{◌≡◌, ℕ, zero, suc, ◌+◌, ◌-◌, ◌*◌, ◌<◌, ◌≤◌, nat_le, Bool, true, false, List, [], ◌∷◌, ◌++◌, length, take, drop, replicate, sum, Result, Ok, Err, Option, Some, IsSome, if◌then◌else◌, None, sym, refl, ap, subst, ◌∙◌, arith, append_assoc, append-nil, inl, inr, lt-ltb, le-ltb, le-leb, leb-true, leb-false, length-drop, drop-drop, add-mul}
+use Rattle.std.proofs.lemmas.Bool.{cond-true, cond-false, cases_lt, true≢false, false≢true}
 use Rattle.std.proofs.lemmas.List.Sums.{sum_by-append}
 use Rattle.std.proofs.lemmas.List.Folds.{sum_by-replicate}
 use Rattle.drc_base.specs.declared.faults.Fault.{Fault}
@@ -8,6 +8,7 @@ use Rattle.drc_base.specs.declared.kinds.Kind.TheVariants as kind
 use Rattle.drc_base.specs.Steps.{◌>>=◌}
 use Rattle.drc_bits.specs.Bits.{BitPlace, after_bits, bits_left, bits_of, next_bits, number_of}
 use Rattle.drc_bits.proofs.BitLists.{length-bits_of}
+use Rattle.drc_bits.proofs.Many.{one_fewer}
 use Rattle.rans_core.specs.Coder.{Coder}
 use Rattle.symbol_coding.specs.Symbols.{after_symbol, next_symbol, next_symbols}
 use Rattle.symbol_coding.proofs.Slots.{symbols-step}
@@ -48,12 +49,21 @@ bits-taken w v r t is after =
       after = after ∙ cond-true _ _ _ both.0;
     }
 
+-- where so many bits are left there is a value
+pub bits-there : (w : ℕ) (r : BitPlace) (x : Option ℕ) → x ≡ next_bits w r → w ≤ length (bits_left r) → IsSome x
+bits-there w r x is there =
+    subst (λ o. IsSome o) (sym (is ∙ cond-true _ _ _ (le-leb w (length (bits_left r)) there))) refl
+
 pub bits-missing : (w : ℕ) (r : BitPlace) → ◌≡◌ {A = Option ℕ} None (next_bits w r) → length (bits_left r) < w
 bits-missing w r is = leb-false w (length (bits_left r)) (none_of (nat_le w (length (bits_left r))) (number_of (take w (bits_left r))) is)
 
 -- the bits that are left after that
 pub left-taken : (w v : ℕ) (r t : BitPlace) → IsTaken w v r t → bits_left t ≡ drop w (bits_left r)
 left-taken w v r t h = ap bits_left h.after ∙ sym (drop-drop w r.taken (bits_of r.bytes))
+
+-- as many fewer as were taken
+pub fewer-left : (w v : ℕ) (r t : BitPlace) → IsTaken w v r t → length (bits_left t) ≡ length (bits_left r) - w
+fewer-left w v r t h = ap (λ xs. length xs) (left-taken w v r t h) ∙ length-drop w (bits_left r)
 
 -- no more bits are taken than there are
 pub taken-within : (w v : ℕ) (bytes : List ℕ) (r t : BitPlace) → IsTaken w v r t → r.bytes ≡ bytes → r.taken ≤ 8 * length bytes → t.taken ≤ 8 * length bytes
@@ -94,10 +104,45 @@ pub values_in-long : (long short w : ℕ) (ws bits front : List ℕ) → 32 < w
 unfolding values_in
 values_in-long long short w ws bits front large = rw (cond-true _ _ _ (lt-ltb 32 w large)) refl
 
+-- where the bits of so many values of one width aren't all there, they run out
+pub values_in-few : (long short w n : ℕ) (ws bits front : List ℕ) → w ≤ 32 → length bits < n * w
+    → with_values front (values_in long short (replicate n w ++ ws) bits) ≡ Err (record { kind = kind.Short; at = short })
+values_in-few long short w zero ws bits front small few = absurd (omega (arith, few))
+values_in-few long short w (suc n) ws bits front small few = elim (cases_lt (length bits) w) [
+  | inl missing ↦ values_in-short long short w (replicate n w ++ ws) bits front small missing
+  | inr fits ↦
+      let l : length (drop w bits) ≡ length bits - w = length-drop w bits in
+      let m : suc n * w ≡ n * w + 1 * w = ap (λ k. k * w) (let e : suc n ≡ n + 1 = omega arith in e) ∙ add-mul n 1 w in
+      values_in-next long short w (replicate n w ++ ws) bits front small fits
+      ∙ values_in-few long short w n ws (drop w bits) (front ++ number_of (take w bits) ∷ []) small (omega (arith, l, m, few, fits))
+]
+
+-- so many bits that are left can be taken
+pub taken-there : (n taken : ℕ) (bytes : List ℕ) (r : BitPlace) → r.bytes ≡ bytes → n ≤ length (bits_left r) → r.taken ≤ 8 * length bytes → taken ≡ r.taken + n
+    → taken ≤ 8 * length bytes
+taken-there n taken bytes r same there within is =
+    let l : length (bits_left r) ≡ 8 * length bytes - r.taken =
+    length-drop r.taken (bits_of r.bytes) ∙ ap (λ k. k - r.taken) (length-bits_of r.bytes) ∙ ap (λ xs. 8 * length xs - r.taken) same in
+    omega (arith, l, there, within, is)
+
+-- where a test of what is left says no, less is left
+pub less-left : (n left : ℕ) (b : Bool) → (n ≤ left → b ≡ true) → b ≡ false → left < n
+less-left n left b holds says = elim (cases_lt left n) [ inl less ↦ less | inr enough ↦ absurd (true≢false (sym (holds enough) ∙ says)) ]
+
 -- ---- one value of a group
 
-one_fewer : (n k : ℕ) → k < n → n - k ≡ suc (n - (k + 1))
-one_fewer n k fits = omega arith
+-- the bits of the values that follow are there
+pub there-more : (w v n k : ℕ) (r t : BitPlace) → IsTaken w v r t → k < n → (n - k) * w ≤ length (bits_left r) → (n - (k + 1)) * w ≤ length (bits_left t)
+there-more w v n k r t h inside there =
+    let l = fewer-left w v r t h in
+    let m : (n - k) * w ≡ (n - (k + 1)) * w + 1 * w = ap (λ j. j * w) (let e : n - k ≡ n - (k + 1) + 1 = omega arith in e) ∙ add-mul (n - (k + 1)) 1 w in
+    omega (arith, l, m, there)
+
+-- so are those of the next one
+pub there-next : (w n k : ℕ) (r : BitPlace) → k < n → (n - k) * w ≤ length (bits_left r) → w ≤ length (bits_left r)
+there-next w n k r inside there =
+    let m : (n - k) * w ≡ (n - (k + 1)) * w + 1 * w = ap (λ j. j * w) (let e : n - k ≡ n - (k + 1) + 1 = omega arith in e) ∙ add-mul (n - (k + 1)) 1 w in
+    omega (arith, m, there)
 
 pub group-next : (long short w n k v : ℕ) (ws front next : List ℕ) (r t : BitPlace) (whole : Result (List ℕ) Fault) → w ≤ 32 → k < n → IsTaken w v r t → next ≡ front ++ v ∷ []
     → whole ≡ with_values front (values_in long short (replicate (n - k) w ++ ws) (bits_left r))
@@ -108,13 +153,6 @@ group-next long short w n k v ws front next r t whole small inside taken is so =
     ∙ ap (λ x. with_values (front ++ x ∷ []) (values_in long short (replicate (n - (k + 1)) w ++ ws) (drop w (bits_left r)))) (sym taken.value)
     ∙ ap (λ bits. with_values (front ++ v ∷ []) (values_in long short (replicate (n - (k + 1)) w ++ ws) bits)) (sym (left-taken w v r t taken))
     ∙ ap (λ xs. with_values xs (values_in long short (replicate (n - (k + 1)) w ++ ws) (bits_left t))) (sym is)
-
-pub group-short : (long short w n k : ℕ) (ws front : List ℕ) (r : BitPlace) (whole : Result (List ℕ) Fault) → w ≤ 32 → k < n → length (bits_left r) < w
-    → whole ≡ with_values front (values_in long short (replicate (n - k) w ++ ws) (bits_left r))
-    → whole ≡ Err (record { kind = kind.Short; at = short })
-group-short long short w n k ws front r whole small inside missing so =
-    so ∙ ap (λ m. with_values front (values_in long short (replicate m w ++ ws) (bits_left r))) (one_fewer n k inside)
-    ∙ values_in-short long short w (replicate (n - (k + 1)) w ++ ws) (bits_left r) front small missing
 
 pub group-end : (long short w n : ℕ) (ws front : List ℕ) (r : BitPlace) (whole : Result (List ℕ) Fault)
     → whole ≡ with_values front (values_in long short (replicate (n - n) w ++ ws) (bits_left r))

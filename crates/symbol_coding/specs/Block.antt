@@ -1,10 +1,12 @@
 -- Symbol blocks: values in groups of components, either each a symbol of its own or each group behind its bit length
 -- (Draco Bitstream Specification 2.2, section Symbol Decoding). The refusal of lengths above 32, and which of the two
 -- schemes is written, are this project's choice.
-use Rattle.std.specs.Prelude.{ℕ, zero, suc, ◌+◌, ◌*◌, ◌/◌, ◌^◌, ◌<◌, ◌≤◌, Bool, ◌==◌, ◌&&◌, nat_lt, nat_le, min, max, List, [], ◌∷◌, ◌++◌, map, flat_map, length, take, drop, replicate, sum, Result, Ok, Err, if◌then◌else◌}
+use Rattle.std.specs.Prelude.{ℕ, zero, suc, ◌+◌, ◌*◌, ◌/◌, ◌^◌, ◌<◌, ◌≤◌, Bool, ◌==◌, ◌&&◌, nat_lt, nat_le, min, max, List, [], ◌∷◌, ◌++◌}
+use Rattle.std.specs.Prelude.{map, flat_map, length, take, drop, replicate, sum, Result, Ok, Err, if◌then◌else◌}
 use Rattle.drc_base.specs.declared.faults.Fault.{Fault}
 use Rattle.drc_base.specs.declared.kinds.Kind.TheVariants as kind
 use Rattle.drc_base.specs.Steps.{◌>>=◌}
+use Rattle.rans_core.specs.Coder.{State}
 use Rattle.drc_bits.specs.Reading.{Reading, Item, must, advanced}
 use Rattle.drc_bits.specs.Numbers.{number_at}
 use Rattle.drc_bits.specs.Bits.{bits_of, bytes_for, low_bits, number_of, packed}
@@ -42,13 +44,17 @@ values_in long short (w ∷ ws) bits = if nat_lt 32 w then Err (record { kind = 
 abbrev pub with_values : List ℕ → Result (List ℕ) Fault → Result (List ℕ) Fault
 with_values front rest = rest >>= λ vs. Ok (front ++ vs)
 
+-- the bit lengths of values in groups whose lengths are the next symbols
+abbrev pub next_widths : ℕ → ℕ → List ℕ → State → List ℕ
+next_widths groups comps probs s = widths comps (next_symbols groups (precision 5) probs s)
+
 -- a block of groups: a table of bit lengths, the coded lengths, one for each group, and then the bits of all values
 unfoldable pub tagged_at : ℕ → ℕ → Reading → Item (List ℕ)
 tagged_at groups comps c = do
   probs ← table_at (precision 5) c
   coded ← coded_at (precision 5) probs.1
-  values ← values_in coded.0.place coded.1.place (widths comps (next_symbols groups (precision 5) probs.0 coded.0.state)) (bits_of coded.1.rest)
-  Ok (values, advanced (bytes_for (sum (widths comps (next_symbols groups (precision 5) probs.0 coded.0.state)))) coded.1)
+  values ← values_in coded.0.place coded.1.place (next_widths groups comps probs.0 coded.0.state) (bits_of coded.1.rest)
+  Ok (values, advanced (bytes_for (sum (next_widths groups comps probs.0 coded.0.state))) coded.1)
 
 -- what follows a scheme: 0 for groups, 1 for symbols
 abbrev pub scheme_at : ℕ → ℕ → ℕ → Reading → Item (List ℕ)
@@ -66,7 +72,8 @@ raw_opening_at c = must kind.Length (λ l. nat_le 1 l && nat_le l 18) (number_at
 -- a block up to its table's number of symbols: what comes before any memory is taken
 unfoldable pub opening_at : ℕ → Reading → Item ℕ
 opening_at n c = if n == 0 then Ok (0, c)
-    else must kind.Scheme (λ s. nat_lt s 2) (number_at 1) c >>= λ scheme. if scheme.0 == 0 then count_at scheme.1 else raw_opening_at scheme.1
+    else must kind.Scheme (λ s. nat_lt s 2) (number_at 1) c
+    >>= λ scheme. if scheme.0 == 0 then count_at scheme.1 else raw_opening_at scheme.1
 
 -- ---- writing
 

@@ -1,7 +1,8 @@
 -- Symbols of a coder: each has the slots that a probability table gives it (Draco Bitstream Specification 2.2,
 -- sections Symbol Decoding and Rans Decoding). How often symbols occur, and what that costs, is this project's choice
 -- of an encoder.
-use Rattle.std.specs.Prelude.{ℕ, zero, suc, ◌+◌, ◌*◌, ◌/◌, ◌%◌, ◌^◌, ◌==◌, List, [], ◌∷◌, ◌++◌, map, length, slice_index, count_by, Option, Some, None, Ok, if◌then◌else◌}
+use Rattle.std.specs.Prelude.{ℕ, zero, suc, ◌+◌, ◌*◌, ◌/◌, ◌%◌, ◌^◌, ◌==◌, List, [], ◌∷◌, ◌++◌, map, length, slice_index, count_by, Option}
+use Rattle.std.specs.Prelude.{Some, None, Ok, if◌then◌else◌}
 use Rattle.std.specs.List.{range_with_len}
 use Rattle.drc_base.specs.declared.kinds.Kind.TheVariants as kind
 use Rattle.drc_base.specs.Steps.{◌>>=◌}
@@ -55,7 +56,8 @@ coded_at bits c = do
 
 -- the bytes of coded symbols, the last one pushed first, behind their number
 unfoldable pub coded_bytes : ℕ → List ℕ → List ℕ → List ℕ
-coded_bytes bits probs symbols = let coded = all_spelled 4 (2 ^ bits) (map (interval_of probs) symbols) in spelling 10 (length coded) ++ coded
+coded_bytes bits probs symbols = let coded = all_spelled 4 (2 ^ bits) (map (interval_of probs) symbols) in
+    spelling 10 (length coded) ++ coded
 
 -- how often each symbol occurs, up to the greatest one
 unfoldable pub counts_of : List ℕ → List ℕ

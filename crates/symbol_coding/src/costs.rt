@@ -5,17 +5,9 @@ ghost use Rattle.symbol_tables.specs.Normal.{greatest_of, used_of};
 ghost use Rattle.symbol_coding.specs.Block.{cost_of_count, length_of, lengths_of, raw_cost, raw_length, tagged_cost};
 ghost use Rattle.symbol_coding.specs.Symbols.{counts_of, digits};
 
-use drc_base::Memory;
+use drc_base::{MAX_VALUES, Memory};
 use std::alloc::Global;
-
-/// The greatest of the values, or 0.
-pub fn greatest_in(values: &[u32]) -> u32
-    ensures { result ≡ greatest_of values.now }
-{
-    values
-        .iter()
-        .fold(0, |most, n| if *n > most { *n } else { most })
-}
+use symbol_tables::{greatest_in, used_in};
 
 /// The number of binary digits of a number.
 pub fn digits_of(v: u32) -> u32
@@ -23,14 +15,6 @@ pub fn digits_of(v: u32) -> u32
     ensures most { result ≤ 32 }
 {
     if v == 0 { 0 } else { v.ilog2() + 1 }
-}
-
-/// How many of the counts are positive.
-fn used_in(counts: &[u32]) -> usize
-    ensures used { result ≡ used_of counts.now }
-    ensures most { result ≤ length counts.now }
-{
-    counts.iter().filter(|n| **n > 0).count()
 }
 
 /// The bit length of symbols with these counts: that of how many are used, from 1 to 18.
@@ -79,7 +63,7 @@ fn zeros(alloc: Global, n: usize) -> Result<Vec<u32>, Memory>
 fn count_into(counts: &mut [u32], symbols: &[u32])
     requires len { length counts.old ≡ greatest_of symbols.now + 1 }
     requires zeros { (s : ℕ) → slice_index counts.old s ≡ 0 }
-    requires few { length symbols.now ≤ 2 ^ 24 }
+    requires few { length symbols.now ≤ MAX_VALUES }
     ensures { counts.new ≡ counts_of symbols.now }
 {
     for k in 0..symbols.len() {
@@ -91,7 +75,7 @@ fn count_into(counts: &mut [u32], symbols: &[u32])
 /// How often each symbol occurs, up to the greatest one.
 pub fn counts_in(alloc: Global, symbols: &[u32], greatest: u32) -> Result<Vec<u32>, Memory>
     requires greatest { greatest ≡ greatest_of symbols.now }
-    requires few { length symbols.now ≤ 2 ^ 24 }
+    requires few { length symbols.now ≤ MAX_VALUES }
     ensures { IfOk result (λ v. v.items ≡ counts_of symbols.now) }
 {
     let mut counts = zeros(alloc, greatest as usize + 1)?;
@@ -114,7 +98,7 @@ fn cost_of(n: u32, count: u32) -> u64
 pub fn cost_of_symbols(values: &[u32], counts: &[u32]) -> u64
     requires counts { counts.now ≡ counts_of values.now }
     requires small { greatest_of values.now < 2 ^ 20 }
-    requires few { length values.now ≤ 2 ^ 24 }
+    requires few { length values.now ≤ MAX_VALUES }
     ensures { result ≡ raw_cost values.now }
 {
     let n = values.len() as u32;
@@ -129,7 +113,7 @@ pub fn cost_of_symbols(values: &[u32], counts: &[u32]) -> u64
 pub fn cost_of_groups(values: &[u32], comps: u32, lengths: &[u32]) -> u64
     requires lengths { lengths.now ≡ lengths_of comps values.now }
     requires most { (k : ℕ) → slice_index lengths.now k ≤ 32 }
-    requires few { length lengths.now ≤ 2 ^ 24 }
+    requires few { length lengths.now ≤ MAX_VALUES }
     ensures { result ≡ tagged_cost values.now comps }
 {
     let mut cost = 0u64;

@@ -1,17 +1,17 @@
 //! Reading a symbol block.
 
-ghost use Rattle.std.specs.Prelude.{◌≡◌, ℕ, ◌+◌, ◌*◌, ◌/◌, ◌%◌, ◌^◌, ◌<◌, ◌≤◌, List, ◌++◌, length, replicate, sum, Err, IfOk, OnErr, MatchBool, vec_len, vec_capacity};
+ghost use Rattle.std.specs.Prelude.{◌≡◌, ℕ, ◌+◌, ◌*◌, ◌/◌, ◌%◌, ◌^◌, ◌<◌, ◌≤◌, List, ◌++◌, length, replicate, sum, Err, IfOk, OnErr, vec_len, vec_capacity};
 ghost use Rattle.drc_base.specs.Refusals.{Answers};
 ghost use Rattle.drc_base.specs.declared.faults.Fault.{Fault as TheFault};
 ghost use Rattle.drc_base.specs.declared.kinds.Kind.TheVariants as kind;
-ghost use Rattle.drc_bits.specs.Bits.{bits_left, bytes_for};
+ghost use Rattle.drc_bits.specs.Bits.{bits_left, bits_of, bytes_for};
 ghost use Rattle.drc_bits.specs.Reading.{Gives};
 ghost use Rattle.symbol_tables.specs.Tables.{count_at};
 ghost use Rattle.symbol_coding.specs.Block.{block_at, opening_at, raw_at, raw_opening_at, tagged_at, values_in, widths, with_values};
 ghost use Rattle.symbol_coding.specs.Symbols.{next_symbols};
 
 use crate::coded::{precision, pull, pull_all, read_coded};
-use drc_base::{Fault, Kind, Refusal};
+use drc_base::{Fault, Kind, MAX_VALUES, Refusal};
 use drc_bits::{BitReader, Cursor};
 use rans_core::Decoder;
 use std::alloc::Global;
@@ -35,39 +35,42 @@ fn read_raw(alloc: Global, c: &mut Cursor<'_>, n: u32) -> Result<Vec<u32>, Refus
     Ok(pull_all(alloc, decoder, &table, n)?)
 }
 
-/// Reads the values of a group of this bit length into room that is there. Whether all of them were
-/// there.
-fn read_group(reader: &mut BitReader<'_>, values: &mut Vec<u32>, width: u32, comps: u32) -> bool
+/// Reads the values of a group of this bit length. Their bits and the room for them are there.
+fn read_group(reader: &mut BitReader<'_>, values: &mut Vec<u32>, width: u32, comps: u32)
     requires width { width ≤ 32 }
     requires room { vec_len values.old + comps ≤ vec_capacity values.old }
-    ensures values { MatchBool result
-        ((long short : ℕ) (ws : List ℕ) → with_values values.old.items (values_in long short (replicate comps width ++ ws) (bits_left reader.old))
-        ≡ with_values values.new.items (values_in long short ws (bits_left reader.new)))
-        ((long short : ℕ) (ws : List ℕ) → with_values values.old.items (values_in long short (replicate comps width ++ ws) (bits_left reader.old))
-        ≡ Err (record { kind = kind.Short; at = short })) }
+    requires there { comps * width ≤ length (bits_left reader.old) }
+    ensures values { (long short : ℕ) (ws : List ℕ)
+        → with_values values.old.items (values_in long short (replicate comps width ++ ws) (bits_left reader.old))
+        ≡ with_values values.new.items (values_in long short ws (bits_left reader.new)) }
     ensures bytes { reader.new.bytes ≡ reader.old.bytes }
-    ensures taken { MatchBool result (reader.new.taken ≡ reader.old.taken + comps * width) (Unit {0}) }
-    ensures within { reader.old.taken ≤ 8 * length reader.old.bytes → reader.new.taken ≤ 8 * length reader.old.bytes }
-    ensures len { MatchBool result (vec_len values.new ≡ vec_len values.old + comps) (Unit {0}) }
-    ensures capacity { vec_capacity values.new ≡ vec_capacity values.old }
+    ensures taken { reader.new.taken ≡ reader.old.taken + comps * width }
+    ensures len { vec_len values.new ≡ vec_len values.old + comps }
 {
     for _k in 0..comps {
-        match reader.bits(width) {
-            Some(value) => values.push_reserved(value),
-            None => return false,
-        }
+        let value = reader.bits(width).unwrap();
+        values.push_reserved(value);
     }
-    true
 }
 
-/// Reads the values of `groups` groups from bits: each group's bit length is the next symbol. Gives the
-/// values, and the number of bytes that were begun. `Length`, the first fault, where a length is above 32;
-/// `Short`, the second, where the bits run out.
+/// How many values room is made for before they are read: all that are declared, or as many as there are
+/// bits where these are fewer. Values of no bits make room as they are read.
+fn room_for(values: u32, bytes: usize) -> usize
+    ensures declared { result ≤ values }
+    ensures held { result ≤ 8 * bytes }
+{
+    bytes.saturating_mul(8).min(values as usize)
+}
+
+/// Reads the values of `groups` groups from the bits of `bytes`: each group's bit length is the next
+/// symbol. Gives the values, and the number of bytes that were begun. `Length`, the first fault, where a
+/// length is above 32; `Short`, the second, where the bits run out. Room is made for a group once its
+/// bits are there.
 fn read_groups(
     alloc: Global,
     decoder: Decoder<'_>,
     table: &Table,
-    reader: BitReader<'_>,
+    bytes: &[u8],
     groups: u32,
     comps: u32,
     long: Fault,
@@ -75,27 +78,29 @@ fn read_groups(
 ) -> Result<(Vec<u32>, usize), Refusal>
     requires whole { sum table.now ≡ 2 ^ decoder.bits }
     requires comps { 0 < comps }
-    requires few { groups * comps ≤ 2 ^ 24 }
-    requires start { reader.taken ≡ 0 }
+    requires few { groups * comps ≤ MAX_VALUES }
     requires long { long.kind ≡ kind.Length }
     requires short { short.kind ≡ kind.Short }
-    ensures values { Answers (λ r. r.0.items) (values_in long.at short.at (widths comps (next_symbols groups decoder.entry.bits table.now decoder.entry.state)) (bits_left reader.entry)) result }
+    ensures values { Answers (λ r. r.0.items)
+        (values_in long.at short.at (widths comps (next_symbols groups decoder.entry.bits table.now decoder.entry.state)) (bits_of bytes.now)) result }
     ensures used { IfOk result (λ r. r.1 ≡ bytes_for (sum (widths comps (next_symbols groups decoder.entry.bits table.now decoder.entry.state)))) }
-    ensures within { IfOk result (λ r. r.1 ≤ length reader.entry.bytes) }
+    ensures within { IfOk result (λ r. r.1 ≤ length bytes.now) }
     ensures len { IfOk result (λ r. length r.0.items ≡ groups * comps) }
 {
     let mut decoder = decoder;
-    let mut reader = reader;
+    let mut reader = BitReader::new(bytes);
     let slots = table.slots();
-    let mut values = Vec::with_capacity(alloc, (groups * comps) as usize)?;
+    let mut values = Vec::with_capacity(alloc, room_for(groups * comps, bytes.len()))?;
     for g in 0..groups {
         let width = pull(&mut decoder, table, slots);
         if width > 32 {
             return Err(Refusal::Fault(long));
         }
-        if !read_group(&mut reader, &mut values, width, comps) {
+        if !reader.has(u64::from(comps) * u64::from(width)) {
             return Err(Refusal::Fault(short));
         }
+        values.reserve(comps as usize)?;
+        read_group(&mut reader, &mut values, width, comps);
     }
     Ok((values, reader.used()))
 }
@@ -109,7 +114,7 @@ fn read_tagged(
     comps: u32,
 ) -> Result<Vec<u32>, Refusal>
     requires comps { 0 < comps }
-    requires few { groups * comps ≤ 2 ^ 24 }
+    requires few { groups * comps ≤ MAX_VALUES }
     ensures block { Gives (λ v. v.items) (tagged_at groups comps c.old) c.new result }
     ensures len { IfOk result (λ v. length v.items ≡ groups * comps) }
     ensures early { (f : TheFault) → count_at c.old ≡ Err f → result ≡ Err (Refusal.Fault f) }
@@ -117,13 +122,10 @@ fn read_tagged(
     let bits = precision(5);
     let table = Table::read(alloc, c, bits)?;
     let (decoder, place) = read_coded(c, bits)?;
-    let long = Fault {
-        kind: Kind::Length,
-        at: place,
-    };
+    let long = Fault::new(Kind::Length, place);
     let short = c.fault(Kind::Short);
-    let reader = BitReader::new(c.rest());
-    let (values, used) = read_groups(alloc, decoder, &table, reader, groups, comps, long, short)?;
+    let bits = c.rest();
+    let (values, used) = read_groups(alloc, decoder, &table, bits, groups, comps, long, short)?;
     c.skip(used);
     Ok(values)
 }
@@ -134,7 +136,7 @@ fn read_block(alloc: Global, c: &mut Cursor<'_>, n: u32, comps: u32) -> Result<V
     requires some { 0 < n }
     requires comps { 0 < comps }
     requires divides { n % comps ≡ 0 }
-    requires few { n ≤ 2 ^ 24 }
+    requires few { n ≤ MAX_VALUES }
     ensures block { Gives (λ v. v.items) (block_at n comps c.old) c.new result }
     ensures len { IfOk result (λ v. length v.items ≡ n) }
     ensures early { (f : TheFault) → opening_at n c.old ≡ Err f → result ≡ Err (Refusal.Fault f) }
@@ -165,7 +167,7 @@ pub fn read_symbols(
 ) -> Result<Vec<u32>, Refusal>
     requires comps { 0 < comps }
     requires divides { n % comps ≡ 0 }
-    requires few { n ≤ 2 ^ 24 }
+    requires few { n ≤ MAX_VALUES }
     ensures block { Gives (λ v. v.items) (block_at n comps c.old) c.new result }
     ensures len { IfOk result (λ v. length v.items ≡ n) }
     ensures early { (f : TheFault) → opening_at n c.old ≡ Err f → result ≡ Err (Refusal.Fault f) }

@@ -1,7 +1,7 @@
 //! The calls beside blocks that another program gave, with ample memory.
 
 use crate::{read_symbols, write_symbols};
-use drc_base::{Fault, Kind, Refusal};
+use drc_base::{Fault, Kind, MAX_VALUES, Refusal};
 use drc_bits::Cursor;
 use std::alloc::Global;
 use std::test::Fail;
@@ -9,7 +9,7 @@ use std::test::Fail;
 /// Whether the values are written as these bytes, and these bytes with one more behind them are read as
 /// the values.
 fn both_ways(alloc: Global, values: &[u32], comps: u32, bytes: &[u8]) -> Result<bool, Refusal> {
-    if comps == 0 || values.len() % comps as usize != 0 || values.len() > 0x100_0000 {
+    if comps == 0 || values.len() % comps as usize != 0 || values.len() > MAX_VALUES as usize {
         return Ok(false);
     }
     let block = write_symbols(alloc, values, comps)?;
@@ -23,7 +23,7 @@ fn both_ways(alloc: Global, values: &[u32], comps: u32, bytes: &[u8]) -> Result<
 
 /// The fault of a block of `n` values.
 fn fault_of(alloc: Global, n: u32, bytes: &[u8]) -> Option<Fault> {
-    if n > 0x100_0000 {
+    if n > MAX_VALUES {
         return None;
     }
     match read_symbols(alloc, &mut Cursor::new(bytes), n, 1) {
@@ -122,7 +122,7 @@ fn faults_of_blocks(rt: HostRuntime) {
     for (bytes, kind, at) in rows {
         assert_eq!(rt;
             fault_of(rt.alloc(), 2, bytes),
-            Some(Fault { kind, at }),
+            Some(Fault::new(kind, at)),
             "{bytes:?}"
         );
     }
@@ -130,10 +130,13 @@ fn faults_of_blocks(rt: HostRuntime) {
     let bytes = [0, 0x22, 0x23, 1, 0x20, 0x5b, 1, 0x20, 3, 0, 0xc8, 0x80];
     assert_eq!(rt;
         fault_of(rt.alloc(), 2, bytes.as_slice()),
-        Some(Fault {
-            kind: Kind::Length,
-            at: 9
-        })
+        Some(Fault::new(Kind::Length, 9))
+    );
+    // As many values of one bit as a block may have, and no bits.
+    let bytes = [0, 2, 3, 1, 0x40, 1, 0];
+    assert_eq!(rt;
+        fault_of(rt.alloc(), MAX_VALUES, bytes.as_slice()),
+        Some(Fault::new(Kind::Short, 7))
     );
 }
 

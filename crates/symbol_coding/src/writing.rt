@@ -10,14 +10,12 @@ ghost use Rattle.symbol_coding.specs.Block.{HasWidths, block_at, block_bytes, is
 ghost use Rattle.symbol_coding.specs.Symbols.{coded_bytes, counts_of, interval_of};
 
 use crate::coded::precision;
-use crate::costs::{
-    cost_of_groups, cost_of_symbols, counts_in, greatest_in, length_of_symbols, lengths_in,
-};
-use drc_base::Memory;
+use crate::costs::{cost_of_groups, cost_of_symbols, counts_in, length_of_symbols, lengths_in};
+use drc_base::{MAX_VALUES, Memory};
 use drc_bits::{BitWriter, put_var64};
 use rans_core::Encoder;
 use std::alloc::Global;
-use symbol_tables::Table;
+use symbol_tables::{Table, greatest_in};
 
 /// The coded bytes of symbols, the last one pushed first.
 fn code(alloc: Global, table: &Table, bits: u32, symbols: &[u32]) -> Result<Vec<u8>, Memory>
@@ -62,7 +60,7 @@ fn write_coded(
 #[tactic(auto, unfolding(crate::specs::Block::raw_bytes))]
 fn write_raw(alloc: Global, values: &[u32], counts: &[u32]) -> Result<Vec<u8>, Memory>
     requires some { 0 < length values.now }
-    requires few { length values.now ≤ 2 ^ 24 }
+    requires few { length values.now ≤ MAX_VALUES }
     requires small { greatest_of values.now < 2 ^ 18 }
     requires counts { counts.now ≡ counts_of values.now }
     ensures { IfOk result (λ v. v.items ≡ raw_bytes values.now) }
@@ -117,7 +115,7 @@ fn write_tagged(
     requires comps { 0 < comps }
     requires divides { length values.now % comps ≡ 0 }
     requires some { 0 < length values.now }
-    requires few { length values.now ≤ 2 ^ 24 }
+    requires few { length values.now ≤ MAX_VALUES }
     requires lengths { lengths.now ≡ lengths_of comps values.now }
     ensures { IfOk result (λ v. v.items ≡ tagged_bytes values.now comps) }
 {
@@ -140,7 +138,7 @@ fn raw_counts(
     comps: u32,
     lengths: &[u32],
 ) -> Result<Option<Vec<u32>>, Memory>
-    requires few { length values.now ≤ 2 ^ 24 }
+    requires few { length values.now ≤ MAX_VALUES }
     requires lengths { lengths.now ≡ lengths_of comps values.now }
     ensures { IfOk result (λ counts. MatchOption counts (is_raw values.now comps ≡ false)
         (λ v. (is_raw values.now comps ≡ true) × (greatest_of values.now < 2 ^ 18) × (v.items ≡ counts_of values.now))) }
@@ -163,7 +161,7 @@ fn raw_counts(
 pub fn write_symbols(alloc: Global, values: &[u32], comps: u32) -> Result<Vec<u8>, Memory>
     requires comps { 0 < comps }
     requires divides { length values.now % comps ≡ 0 }
-    requires few { length values.now ≤ 2 ^ 24 }
+    requires few { length values.now ≤ MAX_VALUES }
     ensures block { IfOk result (λ v. v.items ≡ block_bytes values.now comps) }
     ensures again { IfOk result (λ v. Spells (block_at (length values.now) comps) v.items values.now) }
 {
