@@ -112,10 +112,13 @@ impl SideTable {
     }
 
     /// For each side, by its number 3f + k, the number of the side that it is glued to, and `u32::MAX`
-    /// where it is free. Sides of faces for which there is room alone are free.
-    pub fn across(&self) -> &[u32]
+    /// where it is free. Sides of faces for which there is room alone are free. The call counts as one
+    /// for each entry, that is three for each face for which there is room.
+    pub fn across<L: Ledger>(&self, steps: &mut Steps<L>) -> &[u32]
         ensures entries { result.now ≡ self.now.entries }
+        ensures steps { steps.new ≡ steps.old + length self.now.entries }
     {
+        steps.count(self.across.len() as u64);
         self.across.as_slice()
     }
 
