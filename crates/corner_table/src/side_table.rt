@@ -70,6 +70,7 @@ impl SideTable {
     pub fn face_count(&self) -> u32
         ensures count { result ≡ self.now.faces }
         ensures room { result ≤ room_of self.now }
+        ensures entries { length self.now.entries ≡ 3 * room_of self.now }
         ensures limit { room_of self.now ≤ most_faces }
         ensures gluing { IsGluing self.now.faces (gluing_of self.now) }
     {
@@ -103,6 +104,7 @@ impl SideTable {
         ensures steps { steps.new ≡ steps.old + 1 }
     {
         steps.tick();
+        // Read for the prover alone, who knows of the lists from here on that they fit together.
         let _ = &self.faces;
         let first = number_of(a);
         let second = number_of(b);
@@ -170,6 +172,7 @@ impl SideTable {
         ensures steps { steps.new ≡ steps.old + 1 }
     {
         steps.tick();
+        // Read for the prover alone, who knows of the lists from here on that they fit together.
         let _ = &self.faces;
         side_with(entry_at(&self.after, number_of(s)))
     }
@@ -185,6 +188,7 @@ impl SideTable {
         ensures steps { steps.new ≡ steps.old + 1 }
     {
         steps.tick();
+        // Read for the prover alone, who knows of the lists from here on that they fit together.
         let _ = &self.faces;
         side_with(entry_at(&self.before, number_of(s)))
     }
@@ -217,6 +221,7 @@ impl SideTable {
         requires { s.face < self.now.faces }
         ensures { option_map side_of result ≡ gluing_of self.now (side_of s) }
     {
+        // Read for the prover alone, who knows of the lists from here on that they fit together.
         let _ = &self.faces;
         let entry = self.across[number_of(s) as usize];
         if entry == FREE {
@@ -232,6 +237,7 @@ impl SideTable {
         ensures corner { option_map side_at result ≡ swing_left (gluing_of self.now) (side_at corner) }
         ensures within { IfSome result (λ n. n < 3 * self.now.faces) }
     {
+        // Read for the prover alone, who knows of the lists from here on that they fit together.
         let _ = &self.faces;
         let side = entry_or_free(&self.across, next_number(corner));
         if side == FREE {
@@ -247,6 +253,7 @@ impl SideTable {
         ensures corner { option_map side_at result ≡ swing_right (gluing_of self.now) (side_at corner) }
         ensures within { IfSome result (λ n. n < 3 * self.now.faces) }
     {
+        // Read for the prover alone, who knows of the lists from here on that they fit together.
         let _ = &self.faces;
         let side = entry_or_free(&self.across, previous_number(corner));
         if side == FREE {
