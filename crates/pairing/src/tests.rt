@@ -43,7 +43,7 @@ fn mesh(
     CornerMesh::new(heads, points, faces.to_vec(alloc)?)
 }
 
-/// The table has these entries.
+/// The table has these entries, by a count of its own.
 fn has_entries<L: Ledger>(rt: &impl Abort, table: &SideTable, entries: &[u32], blank: Blank)
     requires name { blank.name ≡ L.name }
     requires parts { blank.parts ≡ L.parts }
@@ -51,6 +51,11 @@ fn has_entries<L: Ledger>(rt: &impl Abort, table: &SideTable, entries: &[u32], b
 {
     let mut steps = Steps::<L>::new(blank);
     assert!(rt; table.across(&mut steps) == entries);
+}
+
+/// The table has these entries.
+fn has_table(rt: &impl Abort, table: &SideTable, entries: &[u32]) {
+    has_entries::<Brand>(rt, table, entries, Blank::new(1));
 }
 
 #[test]
@@ -155,7 +160,7 @@ fn glues_worked_surfaces(rt: HostRuntime) -> Result<(), Fail> {
         ),
     ] {
         let table = pair(alloc, &mesh(&rt, alloc, positions, faces)?)?;
-        has_entries::<Brand>(&rt, &table, sides, Blank::new(1));
+        has_table(&rt, &table, sides);
         assert_eq!(&rt; table.label_vertices(alloc)?.count, vertices);
     }
     // The second face has one position at two points.
