@@ -6,6 +6,7 @@ pub mod Linking
 pub mod Equals
 pub mod Ends
 pub mod Counts
+pub mod Closes
 pub mod RowLists
 pub mod ManyGlued
 pub mod Naming

@@ -1,4 +1,5 @@
--- The degree of a vertex while a surface is rebuilt, by which the valence coder picks its contexts (Draco Bitstream Specification 2.2, Edgebreaker valence).
+-- The degree of a vertex while a surface is rebuilt, by which the valence coder picks its contexts (Draco Bitstream Specification 2.2,
+-- Edgebreaker valence).
 use Rattle.std.specs.Prelude.{ℕ, ◌+◌, ◌&&◌, cond, is_none, [], ◌∷◌, count_by}
 use Rattle.std.specs.List.{list_any}
 use Rattle.corner_table.specs.Sides.{Side, next, Gluing}

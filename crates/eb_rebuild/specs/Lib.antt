@@ -1,4 +1,5 @@
 pub mod Machine
+pub mod Closes
 pub mod Degree
 pub mod Rebuilding
 pub mod Kept

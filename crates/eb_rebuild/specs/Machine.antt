@@ -1,6 +1,7 @@
 -- The machine that rebuilds a surface from its symbols, the last first (reverse decoding: Isenburg and Snoeyink 2001; Draco Bitstream
 -- Specification 2.2, Edgebreaker). A vertex is a fan of what is glued so far; an active side is a free side of a built face.
-use Rattle.std.specs.Prelude.{ℕ, zero, suc, ◌+◌, ◌-◌, Bool, true, false, not, ◌&&◌, ◌||◌, nat_lt, nat_le, ◌==◌, cond, is_none, List, [], ◌∷◌, length, Option, Some, None, Result, Ok, Err}
+use Rattle.std.specs.Prelude.{ℕ, zero, suc, ◌+◌, ◌-◌, Bool, true, false, not, ◌&&◌, ◌||◌, nat_lt, nat_le, ◌==◌, cond, is_none, List, []}
+use Rattle.std.specs.Prelude.{◌∷◌, length, Option, Some, None, Result, Ok, Err}
 use Rattle.drc_base.specs.declared.kinds.Kind.{Kind}
 use Rattle.drc_base.specs.declared.kinds.Kind.TheVariants as kind
 use Rattle.drc_base.specs.declared.faults.Fault.{Fault}
@@ -104,7 +105,8 @@ step n S s =
     top s.built s.glued (pushed (s.reserved s.built) b.1) >>= λ a.
     must (not (same a.0 b.0)) kind.Gone s.built >>= λ _.
     must (not (same (side_before s.built s.glued b.0) a.0)) kind.SamePoint s.built >>= λ _.
-    Ok (record (grown s (glue (side s.built second) b.0 (glue (side s.built third) a.0 s.glued)) a.1 0) { reserved = release s.built s.reserved })
+    Ok (record (grown s (glue (side s.built second) b.0 (glue (side s.built third) a.0 s.glued)) a.1 0)
+    { reserved = release s.built s.reserved })
 
 -- a face fills the loop of side a, which has to be of just three active sides; that it has to is this project's choice
 abbrev pub fill : ℕ → Plan → Side → List Side → State → Result State Fault
@@ -133,12 +135,14 @@ close p interior s = close_top (p.symbols + s.closes) p interior s.stack s
 
 -- whether two corners of a face are one vertex
 abbrev pub is_degenerate : ℕ → Gluing → ℕ → Bool
-is_degenerate faces g f = meets faces g (side f first) (side f second) || meets faces g (side f second) (side f third) || meets faces g (side f third) (side f first)
+is_degenerate faces g f = meets faces g (side f first) (side f second) || meets faces g (side f second) (side f third)
+    || meets faces g (side f third) (side f first)
 
 -- the least of the first n faces with two equal vertices
 unfoldable pub first_degenerate : ℕ → Gluing → ℕ → Option ℕ
 first_degenerate faces g zero = None
-first_degenerate faces g (suc n) = elim (first_degenerate faces g n) [ Some f ↦ Some f | None ↦ cond (is_degenerate faces g n) (Some n) None ]
+first_degenerate faces g (suc n) =
+    elim (first_degenerate faces g n) [ Some f ↦ Some f | None ↦ cond (is_degenerate faces g n) (Some n) None ]
 
 -- the tests at the end; the last one is this project's choice
 unfoldable pub finish : Plan → State → Result State Fault

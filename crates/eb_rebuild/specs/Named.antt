@@ -1,7 +1,8 @@
 -- The machine told with named vertices: a triangle has the names of its three corners, a row is an active side with the names of its two
 -- ends, and S makes one name of two (reverse decoding: Isenburg and Snoeyink 2001; Draco Bitstream Specification 2.2, Edgebreaker).
 -- The names of the vertices made are 0, 1, 2 and so on.
-use Rattle.std.specs.Prelude.{ℕ, zero, suc, ◌+◌, Bool, true, false, not, ◌&&◌, ◌||◌, nat_le, ◌==◌, cond, List, [], ◌∷◌, ◌++◌, length, get_or, map, filter, find, Option, Some, None, Result, Ok, Err}
+use Rattle.std.specs.Prelude.{ℕ, zero, suc, ◌+◌, Bool, true, false, not, ◌&&◌, ◌||◌, nat_le, ◌==◌, cond, List, [], ◌∷◌, ◌++◌, length}
+use Rattle.std.specs.Prelude.{get_or, map, filter, find, Option, Some, None, Result, Ok, Err}
 use Rattle.drc_base.specs.declared.kinds.Kind.TheVariants as kind
 use Rattle.drc_base.specs.declared.faults.Fault.{Fault}
 use Rattle.drc_base.specs.Steps.{◌>>=◌}
@@ -80,7 +81,8 @@ pub record NamedState : Type 0 where
   pub closes : ℕ
 
 abbrev pub named_start : List Event → NamedState
-named_start events = record { triangles = []; rows = []; glued = unglued; stack = []; reserved = λ k. None; events = events; made = 0; closes = 0 }
+named_start events =
+    record { triangles = []; rows = []; glued = unglued; stack = []; reserved = λ k. None; events = events; made = 0; closes = 0 }
 
 -- a row, or Gone
 abbrev pub row_or_gone : ℕ → Option Row → Result Row Fault

@@ -56,21 +56,25 @@ HasPlace k (j ∷ ks) = (j ≡ k) ⊎ HasPlace k ks
 -- the names of the new triangle fit those at the ends of the sides to which it is glued
 abbrev pub FitsNames : List Triangle → (ℕ → ℕ) → Triangle → Pairs → Type 0
 FitsNames ts rename t [] = Unit {0}
-FitsNames ts rename t (p ∷ ps) = (corner t (place_before p.0) ≡ rename (name_of ts (next p.1))) × (corner t (place_after p.0) ≡ rename (name_of ts (prev p.1))) × FitsNames ts rename t ps
+FitsNames ts rename t (p ∷ ps) = (corner t (place_before p.0) ≡ rename (name_of ts (next p.1)))
+    × (corner t (place_after p.0) ≡ rename (name_of ts (prev p.1))) × FitsNames ts rename t ps
 
 -- a corner with a name of its own
 abbrev pub IsNewName : List Triangle → (ℕ → ℕ) → Triangle → Place → Type 0
-IsNewName ts rename t k = ((c : Side) → c.face < length ts → rename (name_of ts c) ≢ corner t k) × ((j : Place) → j ≢ k → corner t j ≢ corner t k)
+IsNewName ts rename t k = ((c : Side) → c.face < length ts → rename (name_of ts c) ≢ corner t k)
+    × ((j : Place) → j ≢ k → corner t j ≢ corner t k)
 
 -- the new triangle t, glued at some places and left at the places ks, with the names of the triangles before changed by a map
-pub record Grows (ts : List Triangle) (rows : List Row) (g : Gluing) (made made' : ℕ) (rename : ℕ → ℕ) (t : Triangle) (ps : Pairs) (ks : List Place) : Type 0 where
+pub record Grows (ts : List Triangle) (rows : List Row) (g : Gluing) (made made' : ℕ) (rename : ℕ → ℕ)
+    (t : Triangle) (ps : Pairs) (ks : List Place) : Type 0 where
   pub names : AreNames ts rows g made
   pub apart : AreApart (length ts) g ps
   -- corners that meet have one name, and every other corner of the new face has one of its own
   pub fits : FitsNames ts rename t ps
   pub corners : (k : Place) → Touches k ps ⊎ IsNewName ts rename t k
   -- names that become one are those of corners that come into one fan
-  pub merged : (c d : Side) → c.face < length ts → d.face < length ts → rename (name_of ts c) ≡ rename (name_of ts d) → InFan (glue_all (length ts) ps g) c d
+  pub merged : (c d : Side) → c.face < length ts → d.face < length ts → rename (name_of ts c) ≡ rename (name_of ts d) →
+      InFan (glue_all (length ts) ps g) c d
   -- the places that are left are just those that aren't glued
   pub left : (k : Place) → IsOtherPlace k ps → HasPlace k ks
   pub left_only : (k : Place) → HasPlace k ks → IsOtherPlace k ps
@@ -80,5 +84,7 @@ pub record Grows (ts : List Triangle) (rows : List Row) (g : Gluing) (made made'
 
 -- then names are fans after it too, and rows the free sides
 abbrev pub OneFaceMore : Type 0
-OneFaceMore = (ts : List Triangle) (rows : List Row) (g : Gluing) (made made' : ℕ) (rename : ℕ → ℕ) (t : Triangle) (ps : Pairs) (ks : List Place) → Grows ts rows g made made' rename t ps ks →
-    AreNames (more_triangles rename ts t) (map (renamed_row rename) (without_all ps rows) ++ new_rows (length ts) t ks) (glue_all (length ts) ps g) made'
+OneFaceMore = (ts : List Triangle) (rows : List Row) (g : Gluing) (made made' : ℕ) (rename : ℕ → ℕ)
+    (t : Triangle) (ps : Pairs) (ks : List Place) → Grows ts rows g made made' rename t ps ks →
+    AreNames (more_triangles rename ts t) (map (renamed_row rename) (without_all ps rows) ++ new_rows (length ts) t ks)
+    (glue_all (length ts) ps g) made'

@@ -1,6 +1,7 @@
 -- Names are fans: what a state with named vertices shows when the names are left out, and that both machines give the same answers. That
 -- the named vertices of a stream (Draco Bitstream Specification 2.2, Edgebreaker) are the fans of a gluing is this project's statement.
-use Rattle.std.specs.Prelude.{◌≡◌, ℕ, ◌+◌, ◌<◌, ◌⊎◌, Bool, true, false, nat_eq, List, [], ◌∷◌, length, get_or, Option, Some, None, Result, Ok, Err, count_by}
+use Rattle.std.specs.Prelude.{◌≡◌, ℕ, ◌+◌, ◌<◌, ◌⊎◌, Bool, true, false, nat_eq, List, [], ◌∷◌, length, get_or, Option, Some, None, Result}
+use Rattle.std.specs.Prelude.{Ok, Err, count_by}
 use Rattle.std.specs.Set.{distinct_count}
 use Rattle.drc_base.specs.declared.faults.Fault.{Fault}
 use Rattle.drc_base.specs.Steps.{◌>>=◌}
@@ -10,7 +11,8 @@ use Rattle.corner_table.specs.declared.symbols.Event.{Event}
 use Rattle.corner_table.specs.Sides.{Side, first, side, next, prev, Gluing, IsGluing, IsFree}
 use Rattle.corner_table.specs.Fans.{InFan}
 use Rattle.eb_rebuild.specs.Machine.{State, Plan, start, step, close, finish, take_symbols, close_all, rebuild}
-use Rattle.eb_rebuild.specs.Named.{Triangle, corner, no_triangle, Row, NamedState, named_start, named_step, named_close, named_finish, named_symbols, named_closes, named_rebuild}
+use Rattle.eb_rebuild.specs.Named.{Triangle, corner, no_triangle, Row, NamedState, named_start, named_step, named_close, named_finish}
+use Rattle.eb_rebuild.specs.Named.{named_symbols, named_closes, named_rebuild}
 
 -- the name of a corner's vertex
 abbrev pub name_of : List Triangle → Side → ℕ
@@ -31,7 +33,8 @@ pub record AreNames (triangles : List Triangle) (rows : List Row) (g : Gluing) (
   pub rows_are : (r : Row) → Among r rows → IsFree (length triangles) g r.side × (r ≡ row_named triangles r.side)
   pub sides_are : (a : Side) → IsFree (length triangles) g a → Among (row_named triangles a) rows
   pub one_name : (c d : Side) → InFan g c d → name_of triangles c ≡ name_of triangles d
-  pub one_fan : (c d : Side) → c.face < length triangles → d.face < length triangles → name_of triangles c ≡ name_of triangles d → InFan g c d
+  pub one_fan : (c d : Side) → c.face < length triangles → d.face < length triangles → name_of triangles c ≡ name_of triangles d →
+      InFan g c d
   pub below : (c : Side) → c.face < length triangles → name_of triangles c < made
 
 -- a state without its names
@@ -73,14 +76,16 @@ abbrev pub SymbolsAgree : Type 0
 SymbolsAgree = (n : ℕ) (symbol : Symbol) (x : NamedState) (s : State) → Shows x s → Agree Shows (named_step n symbol x) (step n symbol s)
 
 abbrev pub ClosesAgree : Type 0
-ClosesAgree = (p : Plan) (interior : Bool) (x : NamedState) (s : State) → Shows x s → Agree Shows (named_close p interior x) (close p interior s)
+ClosesAgree = (p : Plan) (interior : Bool) (x : NamedState) (s : State) → Shows x s →
+    Agree Shows (named_close p interior x) (close p interior s)
 
 abbrev pub EndsAgree : Type 0
 EndsAgree = (p : Plan) (x : NamedState) (s : State) → Shows x s → Agree Shows (named_finish p x) (finish p s)
 
 -- and so has each whole run
 abbrev pub RunsAgree : Type 0
-RunsAgree = (p : Plan) (symbols : List Symbol) (events : List Event) (bits : ℕ → Bool) → Agree Shows (named_rebuild p symbols events bits) (rebuild p symbols events bits)
+RunsAgree = (p : Plan) (symbols : List Symbol) (events : List Event) (bits : ℕ → Bool) →
+    Agree Shows (named_rebuild p symbols events bits) (rebuild p symbols events bits)
 
 -- and so has each run that stops after any number of closes: each state that is reached is named as its fans are
 abbrev pub StopsAgree : Type 0
@@ -91,11 +96,13 @@ StopsAgree = (p : Plan) (symbols : List Symbol) (events : List Event) (bits : �
 
 -- each vertex starts at most one row, and ends at most one
 abbrev pub OneRowEach : Type 0
-OneRowEach = (x : NamedState) (s : State) → Shows x s → (r q : Row) → Among r x.rows → Among q x.rows → (r.from ≡ q.from → r ≡ q) × (r.to ≡ q.to → r ≡ q)
+OneRowEach = (x : NamedState) (s : State) → Shows x s → (r q : Row) → Among r x.rows → Among q x.rows →
+    (r.from ≡ q.from → r ≡ q) × (r.to ≡ q.to → r ≡ q)
 
 -- after each symbol the top side is side 0 of its face, and is free
 abbrev pub TopIsFree : Type 0
-TopIsFree = (n : ℕ) (symbol : Symbol) (x : NamedState) (s t : State) → Shows x s → step n symbol s ≡ Ok t → (rest : List Side) × (t.stack ≡ side s.built first ∷ rest) × (t.glued (side s.built first) ≡ None)
+TopIsFree = (n : ℕ) (symbol : Symbol) (x : NamedState) (s t : State) → Shows x s → step n symbol s ≡ Ok t →
+    (rest : List Side) × (t.stack ≡ side s.built first ∷ rest) × (t.glued (side s.built first) ≡ None)
 
 -- the names that stand in triangles
 abbrev pub names_in : List Triangle → List ℕ

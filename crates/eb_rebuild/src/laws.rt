@@ -1,6 +1,7 @@
 //! What holds of the definitions themselves.
 
 ghost use Rattle.eb_rebuild.specs.Shown.{SymbolsAgree, ClosesAgree, EndsAgree, RunsAgree, StopsAgree, OneRowEach, TopIsFree, MadeAreNamesAndSplits};
+ghost use Rattle.eb_rebuild.specs.Closes.{SymbolsCloseNone, CloseTakesOne, AllAreClosed, FinishKeepsState, RunClosesAll};
 ghost use Rattle.eb_rebuild.specs.OneFaceMore.{OneFaceMore};
 
 /// Names are fans: the machine that names its vertices, as the format tells it, and the machine whose
@@ -36,4 +37,16 @@ pub fn rows_are_one_each()
 /// This is the contract of a call that does nothing.
 pub fn made_are_names_and_splits()
     ensures { MadeAreNamesAndSplits }
+{}
+
+/// How symbols and closes count: a symbol builds one face and closes no side; a close takes just the top
+/// side off and counts it; where as many sides are closed as wait, none waits after that; the tests at
+/// the end change nothing. So a whole run that meets no fault closes just the sides that wait after its
+/// symbols. This is the contract of a call that does nothing.
+pub fn closes_take_one_side_each()
+    ensures symbols { SymbolsCloseNone }
+    ensures close { CloseTakesOne }
+    ensures all { AllAreClosed }
+    ensures finish { FinishKeepsState }
+    ensures run { RunClosesAll }
 {}

@@ -19,7 +19,8 @@ mod tests;
 
 pub use built::Built;
 pub use laws::{
-    made_are_names_and_splits, names_are_fans, one_face_more_keeps_names, rows_are_one_each,
+    closes_take_one_side_each, made_are_names_and_splits, names_are_fans,
+    one_face_more_keeps_names, rows_are_one_each,
 };
 pub use link_rebuild::LinkRebuild;
 pub use rebuild::Rebuild;

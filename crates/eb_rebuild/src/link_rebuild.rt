@@ -98,10 +98,14 @@ impl LinkRebuild {
     ghost use Rattle.eb_rebuild.specs.Linked.{state_of, is_live, Does};
     ghost use Rattle.eb_rebuild.specs.Rebuilding.{Holds};
 
-    /// The table of the faces built and the pairs glued so far.
+    /// The table of the faces built and the pairs glued so far, with entries for just the faces that are
+    /// declared.
     pub fn sides(&self) -> &SideTable
-        ensures { Holds (state_of self.now) result.now }
+        ensures holds { Holds (state_of self.now) result.now }
+        ensures room { length result.now.entries ≡ 3 * self.now.plan.faces }
     {
+        // Called for the prover alone: the table has three entries for each face for which there is room.
+        let _room = self.table.face_count();
         &self.table
     }
 
@@ -113,16 +117,10 @@ impl LinkRebuild {
         ensures cost { steps.new ≤ steps.old + 1 }
     {
         match self.stack.pop() {
-            None => Err(Fault {
-                kind: Kind::NoActive,
-                at: u64::from(self.table.face_count()),
-            }),
+            None => Err(Fault::new(Kind::NoActive, u64::from(self.table.face_count()))),
             Some(a) => match self.table.other(side_with(a), steps) {
                 None => Ok(a),
-                Some(_) => Err(Fault {
-                    kind: Kind::Gone,
-                    at: u64::from(self.table.face_count()),
-                }),
+                Some(_) => Err(Fault::new(Kind::Gone, u64::from(self.table.face_count()))),
             },
         }
     }
@@ -207,10 +205,7 @@ impl LinkRebuild {
         let top = side_with(a);
         let before = self.table.prev_open(top, steps);
         if is_same(before, top) {
-            return Err(Fault {
-                kind: Kind::Alone,
-                at: u64::from(self.table.face_count()),
-            });
+            return Err(Fault::new(Kind::Alone, u64::from(self.table.face_count())));
         }
         let next = self.table.next_open(top, steps);
         let face = self.table.add_face(steps);
@@ -238,10 +233,7 @@ impl LinkRebuild {
             None => self.take_side(steps),
             Some(a) => match self.table.other(side_with(a), steps) {
                 None => Ok(a),
-                Some(_) => Err(Fault {
-                    kind: Kind::Gone,
-                    at: u64::from(number),
-                }),
+                Some(_) => Err(Fault::new(Kind::Gone, u64::from(number))),
             },
         }
     }
@@ -268,17 +260,11 @@ impl LinkRebuild {
         let top = side_with(b);
         let second = side_with(a);
         if is_same(second, top) {
-            return Err(Fault {
-                kind: Kind::Gone,
-                at: u64::from(self.table.face_count()),
-            });
+            return Err(Fault::new(Kind::Gone, u64::from(self.table.face_count())));
         }
         let before = self.table.prev_open(top, steps);
         if is_same(before, second) {
-            return Err(Fault {
-                kind: Kind::SamePoint,
-                at: u64::from(self.table.face_count()),
-            });
+            return Err(Fault::new(Kind::SamePoint, u64::from(self.table.face_count())));
         }
         let next_top = self.table.next_open(top, steps);
         let next_second = self.table.next_open(second, steps);
@@ -323,27 +309,18 @@ impl LinkRebuild {
         match self.table.other(top, steps) {
             None => (),
             Some(_) => {
-                return Err(Fault {
-                    kind: Kind::Gone,
-                    at: number,
-                });
+                return Err(Fault::new(Kind::Gone, number));
             }
         }
         let second = self.table.prev_open(top, steps);
         let third = self.table.prev_open(second, steps);
         let last = self.table.prev_open(third, steps);
         if !is_loop(top, second, third, last) {
-            return Err(Fault {
-                kind: Kind::Loop,
-                at: number,
-            });
+            return Err(Fault::new(Kind::Loop, number));
         }
         let built = self.table.face_count();
         if built == self.faces {
-            return Err(Fault {
-                kind: Kind::FaceCount,
-                at: u64::from(built),
-            });
+            return Err(Fault::new(Kind::FaceCount, u64::from(built)));
         }
         let face = self.table.add_face(steps);
         self.table.glue(Side { face, k: 0 }, top, steps);
@@ -402,6 +379,7 @@ impl Rebuild for LinkRebuild {
     }
 
     fn degree(&self) -> u32 {
+        // Called for the prover alone: there are few faces.
         let _room = self.table.face_count();
         match self.stack.top() {
             None => 0,
@@ -426,24 +404,15 @@ impl Rebuild for LinkRebuild {
     fn finish(self, alloc: Global) -> Result<Built, Refusal> {
         let built = self.table.face_count();
         if built != self.faces {
-            return Err(Refusal::Fault(Fault {
-                kind: Kind::FaceCount,
-                at: u64::from(built),
-            }));
+            return Err(Refusal::Fault(Fault::new(Kind::FaceCount, u64::from(built))));
         }
         if self.created < self.made {
-            return Err(Refusal::Fault(Fault {
-                kind: Kind::VertexCount,
-                at: u64::from(self.made),
-            }));
+            return Err(Refusal::Fault(Fault::new(Kind::VertexCount, u64::from(self.made))));
         }
         let classes = self.table.label_vertices(alloc)?;
         match first_equal(classes.of_corner.as_slice(), built) {
             None => Ok(Built::new(self.table, true)),
-            Some(face) => Err(Refusal::Fault(Fault {
-                kind: Kind::Degenerate,
-                at: u64::from(face),
-            })),
+            Some(face) => Err(Refusal::Fault(Fault::new(Kind::Degenerate, u64::from(face)))),
         }
     }
 }

@@ -42,7 +42,7 @@ impl Model for NamedTable {
 }
 
 impl NamedTable {
-    ghost use Rattle.std.specs.Prelude.{◌≢◌, suc, ◌≤◌, ◌==◌, [], IfOk, OnOk, OnErr, IfSome, IfNone};
+    ghost use Rattle.std.specs.Prelude.{◌≢◌, suc, ◌≤◌, ◌==◌, [], length, IfOk, OnOk, OnErr, IfSome, IfNone};
     ghost use Rattle.corner_table.specs.Sides.{next, side, first, second, third, unglued, glue, same, IsGluing};
     ghost use Rattle.corner_table.specs.Fans.{side_before};
     ghost use Rattle.corner_table.specs.Table.{gluing_of, room_of};
@@ -72,6 +72,7 @@ impl NamedTable {
     pub(crate) fn face_count(&self) -> u32
         ensures count { result ≡ self.now.table.faces }
         ensures room { result ≤ room_of self.now.table }
+        ensures entries { length self.now.table.entries ≡ 3 * room_of self.now.table }
         ensures limit { room_of self.now.table ≤ most_faces }
         ensures gluing { IsGluing self.now.table.faces (gluing_of self.now.table) }
     {
@@ -99,6 +100,7 @@ impl NamedTable {
         ensures row { IfSome result (λ r. IsRowIn self.now r) }
         ensures none { IfNone result (IsGluedIn self.now.table (side_at side)) }
     {
+        // Read for the prover alone, who knows from here on that names are fans.
         let _ = &self.made;
         match row_of(self.rows.as_slice(), side) {
             Some(row) => Some(row),
@@ -112,6 +114,7 @@ impl NamedTable {
         ensures row { IsRowIn self.now result }
         ensures before { side_at result.side ≡ side_before self.now.table.faces (gluing_of self.now.table) (side_at row.side) }
     {
+        // Read for the prover alone, who knows from here on that names are fans.
         let _ = &self.made;
         match row_to(self.rows.as_slice(), row.from) {
             Some(found) => found,
@@ -133,6 +136,7 @@ impl NamedTable {
         requires second { IsRowIn self.now a }
         ensures { result ≡ same (side_before self.now.table.faces (gluing_of self.now.table) (side_at b.side)) (side_at a.side) }
     {
+        // Read for the prover alone, who knows from here on that names are fans.
         let _ = &self.made;
         b.from == a.to
     }
@@ -143,6 +147,7 @@ impl NamedTable {
         requires { side < 3 * self.now.table.faces }
         ensures { result ≡ degree self.now.table.faces (gluing_of self.now.table) (next (side_at side)) }
     {
+        // Called for the prover alone: there are few faces.
         let _room = self.table.face_count();
         let vertex = start_name(self.triangles.as_slice(), side);
         let corners = corners_named(self.triangles.as_slice(), vertex);

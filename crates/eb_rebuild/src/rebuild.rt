@@ -1,6 +1,6 @@
 //! Rebuilding a surface from its symbols, the last first.
 
-ghost use Rattle.std.specs.Prelude.{◌≡◌, ◌≢◌, ℕ, ◌+◌, ◌<◌, ◌≤◌, Bool, true, false, List, reverse, length, All, IfOk, OnOk, OnErr, IsTrue, Err};
+ghost use Rattle.std.specs.Prelude.{◌≡◌, ◌≢◌, ℕ, ◌+◌, ◌*◌, ◌<◌, ◌≤◌, Bool, true, false, List, reverse, length, All, IfOk, OnOk, OnErr, IsTrue, Err};
 ghost use Rattle.drc_base.specs.declared.limits.TheConstants.{MAX_FACES as most_faces};
 ghost use Rattle.drc_base.specs.declared.faults.Refusal.TheVariants as refusal;
 ghost use Rattle.eb_rebuild.specs.Machine.{Plan as MachinePlan, State as MachineState, start, step, close};
@@ -97,11 +97,13 @@ pub trait Rebuild: Sized + Drop {
     /// The tests at the end, in order: FaceCount where the faces built aren't as many as declared, at
     /// their number; VertexCount where more than `created` vertices were made, at their number;
     /// Degenerate where two corners of a face are one vertex, at the least such face (this project's
-    /// choice). Memory where there is no room to tell the vertices apart.
+    /// choice). Memory where there is no room to tell the vertices apart. The table that is answered has
+    /// entries for no more than the declared faces.
     fn finish(self, alloc: Global) -> Result<Built, Refusal>
         requires live { IsTrue (live self) }
         requires all { (plan self).symbols ≤ (state self).built }
         requires none { length (state self).stack ≡ 0 }
         ensures ends { Ends (plan self) (state self) result }
+        ensures room { IfOk result (λ b. length b.table.entries ≤ 3 * (plan self).faces) }
         ensures linked { IfOk result (λ b. b.linked ≡ linked self) };
 }

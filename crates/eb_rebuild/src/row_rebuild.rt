@@ -85,16 +85,10 @@ impl RowRebuild {
         ensures rest { self.new ≡ record self.old { stack = self.new.stack } }
     {
         match self.stack.pop() {
-            None => Err(Fault {
-                kind: Kind::NoActive,
-                at: u64::from(self.named.face_count()),
-            }),
+            None => Err(Fault::new(Kind::NoActive, u64::from(self.named.face_count()))),
             Some(a) => match self.named.row_of(a) {
                 Some(row) => Ok(row),
-                None => Err(Fault {
-                    kind: Kind::Gone,
-                    at: u64::from(self.named.face_count()),
-                }),
+                None => Err(Fault::new(Kind::Gone, u64::from(self.named.face_count()))),
             },
         }
     }
@@ -115,10 +109,7 @@ impl RowRebuild {
             None => self.take_row(),
             Some(a) => match self.named.row_of(a) {
                 Some(row) => Ok(row),
-                None => Err(Fault {
-                    kind: Kind::Gone,
-                    at: u64::from(number),
-                }),
+                None => Err(Fault::new(Kind::Gone, u64::from(number))),
             },
         }
     }
@@ -180,10 +171,7 @@ impl RowRebuild {
         let before = self.named.row_before(a);
         let face = self.named.face_count();
         if is_one(before.side, a.side) {
-            return Err(Refusal::Fault(Fault {
-                kind: Kind::Alone,
-                at: u64::from(face),
-            }));
+            return Err(Refusal::Fault(Fault::new(Kind::Alone, u64::from(face))));
         }
         self.named.add_tip(a, before, steps)?;
         self.stack.push(3 * face);
@@ -206,16 +194,10 @@ impl RowRebuild {
         };
         let face = self.named.face_count();
         if is_one(a.side, b.side) {
-            return Err(Refusal::Fault(Fault {
-                kind: Kind::Gone,
-                at: u64::from(face),
-            }));
+            return Err(Refusal::Fault(Fault::new(Kind::Gone, u64::from(face))));
         }
         if self.named.is_joined(b, a) {
-            return Err(Refusal::Fault(Fault {
-                kind: Kind::SamePoint,
-                at: u64::from(face),
-            }));
+            return Err(Refusal::Fault(Fault::new(Kind::SamePoint, u64::from(face))));
         }
         self.named.add_split(b, a, steps)?;
         self.stack.push(3 * face);
@@ -248,27 +230,18 @@ impl RowRebuild {
         let top = match self.named.row_of(a) {
             Some(row) => row,
             None => {
-                return Err(Refusal::Fault(Fault {
-                    kind: Kind::Gone,
-                    at: number,
-                }));
+                return Err(Refusal::Fault(Fault::new(Kind::Gone, number)));
             }
         };
         let second = self.named.row_before(top);
         let third = self.named.row_before(second);
         let round = self.named.is_joined(third, top);
         if !is_three(top.side, second.side, third.side, round) {
-            return Err(Refusal::Fault(Fault {
-                kind: Kind::Loop,
-                at: number,
-            }));
+            return Err(Refusal::Fault(Fault::new(Kind::Loop, number)));
         }
         let built = self.named.face_count();
         if built == self.faces {
-            return Err(Refusal::Fault(Fault {
-                kind: Kind::FaceCount,
-                at: u64::from(built),
-            }));
+            return Err(Refusal::Fault(Fault::new(Kind::FaceCount, u64::from(built))));
         }
         self.named.fill(top, second, third, steps)?;
         self.closes += 1;
@@ -343,24 +316,15 @@ impl Rebuild for RowRebuild {
     fn finish(self, _alloc: Global) -> Result<Built, Refusal> {
         let built = self.named.face_count();
         if built != self.faces {
-            return Err(Refusal::Fault(Fault {
-                kind: Kind::FaceCount,
-                at: u64::from(built),
-            }));
+            return Err(Refusal::Fault(Fault::new(Kind::FaceCount, u64::from(built))));
         }
         let made = self.named.made();
         if self.created < made {
-            return Err(Refusal::Fault(Fault {
-                kind: Kind::VertexCount,
-                at: u64::from(made),
-            }));
+            return Err(Refusal::Fault(Fault::new(Kind::VertexCount, u64::from(made))));
         }
         match self.named.first_degenerate() {
             None => Ok(Built::new(self.named.into_table(), false)),
-            Some(face) => Err(Refusal::Fault(Fault {
-                kind: Kind::Degenerate,
-                at: u64::from(face),
-            })),
+            Some(face) => Err(Refusal::Fault(Fault::new(Kind::Degenerate, u64::from(face)))),
         }
     }
 }

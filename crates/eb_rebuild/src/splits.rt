@@ -103,17 +103,11 @@ impl Splits {
                 return Ok(());
             }
             if due < event.source {
-                return Err(Fault {
-                    kind: Kind::EventOrder,
-                    at: u64::from(face),
-                });
+                return Err(Fault::new(Kind::EventOrder, u64::from(face)));
             }
             let split = symbols - 1 - event.split;
             if kept_at(&self.kept, split) != NONE {
-                return Err(Fault {
-                    kind: Kind::Taken,
-                    at: u64::from(face),
-                });
+                return Err(Fault::new(Kind::Taken, u64::from(face)));
             }
             self.kept[split as usize] = event_side(face, event.right);
             self.left -= 1;

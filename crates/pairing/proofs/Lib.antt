@@ -12,3 +12,4 @@ pub mod ChainLists
 pub mod Choices
 pub mod Sides
 pub mod Starts
+pub mod CarriedPairs

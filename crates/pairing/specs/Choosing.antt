@@ -11,7 +11,8 @@ IsPassed thirds taken skip z = (get_or taken z false ≡ true) ⊎ (get_or third
 pub record IsFirstLeft (classes thirds : List ℕ) (taken : List Bool) (from skip found : ℕ) : Type 0 where
   pub later : from ≤ found
   pub same : from < length classes → found < length classes → get_or classes found 0 ≡ get_or classes from 0
-  pub passed : (z : ℕ) → from ≤ z → z < found → z < length classes → get_or classes z 0 ≡ get_or classes from 0 → IsPassed thirds taken skip z
+  pub passed : (z : ℕ) → from ≤ z → z < found → z < length classes → get_or classes z 0 ≡ get_or classes from 0 →
+      IsPassed thirds taken skip z
   pub left : found < length classes → (get_or taken found false ≡ false) × (get_or thirds found 0 ≢ skip)
 
 -- the two places of each class: before the first all sides are taken; before the other those that are free have the third position
@@ -22,7 +23,8 @@ pub record ArePlaced (classes thirds : List ℕ) (taken : List Bool) (firsts oth
   pub first_same : (c : ℕ) → c < count → get_or firsts c 0 < length classes → get_or classes (get_or firsts c 0) 0 ≡ c
   pub other_same : (c : ℕ) → c < count → get_or others c 0 < length classes → get_or classes (get_or others c 0) 0 ≡ c
   pub passed : (z : ℕ) → z < length classes → z < get_or firsts (get_or classes z 0) 0 → get_or taken z false ≡ true
-  pub alike : (z : ℕ) → z < length classes → z < get_or others (get_or classes z 0) 0 → get_or taken z false ≡ false → get_or thirds z 0 ≡ get_or thirds (get_or firsts (get_or classes z 0) 0) 0
+  pub alike : (z : ℕ) → z < length classes → z < get_or others (get_or classes z 0) 0 → get_or taken z false ≡ false →
+      get_or thirds z 0 ≡ get_or thirds (get_or firsts (get_or classes z 0) 0) 0
 
 -- the least free side of a class
 pub record IsFirstFree (classes : List ℕ) (taken : List Bool) (class found : ℕ) : Type 0 where
@@ -35,7 +37,8 @@ pub record IsFirstOther (classes thirds : List ℕ) (taken : List Bool) (class t
   pub same : found < length classes → get_or classes found 0 ≡ class
   pub free : found < length classes → get_or taken found false ≡ false
   pub other : found < length classes → get_or thirds found 0 ≢ third
-  pub alike_before : (z : ℕ) → z < found → z < length classes → get_or classes z 0 ≡ class → get_or taken z false ≡ false → get_or thirds z 0 ≡ third
+  pub alike_before : (z : ℕ) → z < found → z < length classes → get_or classes z 0 ≡ class → get_or taken z false ≡ false →
+      get_or thirds z 0 ≡ third
 
 -- a free side of a class with another third position
 pub record IsFreeOther (classes thirds : List ℕ) (taken : List Bool) (class third z : ℕ) : Type 0 where

@@ -8,8 +8,10 @@ use Rattle.pairing.specs.Positions.{position_in}
 pub record AreBounds (numbers lows highs : List ℕ) : Type 0 where
   pub each_low : length lows ≡ length numbers
   pub each_high : length highs ≡ length numbers
-  pub low : (x : ℕ) → x < length numbers → get_or lows x 0 ≡ min (position_in numbers (next (side_at x))) (position_in numbers (prev (side_at x)))
-  pub high : (x : ℕ) → x < length numbers → get_or highs x 0 ≡ max (position_in numbers (next (side_at x))) (position_in numbers (prev (side_at x)))
+  pub low : (x : ℕ) → x < length numbers → get_or lows x 0
+      ≡ min (position_in numbers (next (side_at x))) (position_in numbers (prev (side_at x)))
+  pub high : (x : ℕ) → x < length numbers → get_or highs x 0
+      ≡ max (position_in numbers (next (side_at x))) (position_in numbers (prev (side_at x)))
 
 -- the class of a side of edge e that starts at a position, where the edge's lower one is known
 abbrev pub class_at : ℕ → ℕ → ℕ → ℕ
@@ -30,15 +32,19 @@ pub record AreClasses (numbers classes : List ℕ) (count : ℕ) : Type 0 where
   pub each : length classes ≡ length numbers
   pub below : (x : ℕ) → x < length numbers → get_or classes x 0 < count
   pub reverse_below : (x : ℕ) → x < length numbers → reversed (get_or classes x 0) < count
-  pub alike : (x y : ℕ) → x < length numbers → y < length numbers → position_in numbers (next (side_at x)) ≡ position_in numbers (prev (side_at y)) → position_in numbers (prev (side_at x)) ≡ position_in numbers (next (side_at y)) → get_or classes x 0 ≡ reversed (get_or classes y 0)
+  pub alike : (x y : ℕ) → x < length numbers → y < length numbers →
+      position_in numbers (next (side_at x)) ≡ position_in numbers (prev (side_at y)) →
+      position_in numbers (prev (side_at x)) ≡ position_in numbers (next (side_at y)) → get_or classes x 0 ≡ reversed (get_or classes y 0)
   pub apart : (x y : ℕ) → x < length numbers → y < length numbers → get_or classes x 0 ≡ reversed (get_or classes y 0) →
-      (position_in numbers (next (side_at x)) ≡ position_in numbers (prev (side_at y))) × (position_in numbers (prev (side_at x)) ≡ position_in numbers (next (side_at y)))
+      (position_in numbers (next (side_at x)) ≡ position_in numbers (prev (side_at y)))
+      × (position_in numbers (prev (side_at x)) ≡ position_in numbers (next (side_at y)))
 
 -- each side is linked to the next one of its class; after the last one comes a number that is no side's
 pub record AreLinked (classes nexts : List ℕ) (from : ℕ) : Type 0 where
   pub each : length nexts ≡ length classes
   pub later : (x : ℕ) → from ≤ x → x < length classes → x < get_or nexts x 0
-  pub same : (x : ℕ) → from ≤ x → x < length classes → get_or nexts x 0 < length classes → get_or classes (get_or nexts x 0) 0 ≡ get_or classes x 0
+  pub same : (x : ℕ) → from ≤ x → x < length classes → get_or nexts x 0 < length classes →
+      get_or classes (get_or nexts x 0) 0 ≡ get_or classes x 0
   pub none_between : (x z : ℕ) → from ≤ x → x < z → z < length classes → get_or classes z 0 ≡ get_or classes x 0 → get_or nexts x 0 ≤ z
 
 -- for each class its least side that isn't below `from`

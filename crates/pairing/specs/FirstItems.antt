@@ -15,11 +15,13 @@ pub record AreFirstItems (firsts seconds numbers : List ℕ) : Type 0 where
 
 -- items whose first entry is below `list` have their numbers
 abbrev pub AreNumberedBelow : List ℕ → List ℕ → List ℕ → ℕ → Type 0
-AreNumberedBelow firsts seconds numbers list = (x : ℕ) → x < length firsts → get_or firsts x 0 < list → IsFirstWith firsts seconds x (get_or numbers x 0)
+AreNumberedBelow firsts seconds numbers list = (x : ℕ) → x < length firsts → get_or firsts x 0 < list →
+    IsFirstWith firsts seconds x (get_or numbers x 0)
 
 -- items whose first entry isn't below `list` still have their second entries
 abbrev pub AreSecondsFrom : List ℕ → List ℕ → List ℕ → ℕ → Type 0
-AreSecondsFrom firsts seconds numbers list = (x : ℕ) → x < length firsts → list ≤ get_or firsts x 0 → get_or numbers x 0 ≡ get_or seconds x 0
+AreSecondsFrom firsts seconds numbers list = (x : ℕ) → x < length firsts → list ≤ get_or firsts x 0 →
+    get_or numbers x 0 ≡ get_or seconds x 0
 
 -- what is kept for each second entry is an item that has it, and whose first entry is below `list`, or no item
 pub record AreKept (firsts seconds kept : List ℕ) (list : ℕ) : Type 0 where
@@ -31,5 +33,7 @@ pub record AreKept (firsts seconds kept : List ℕ) (list : ℕ) : Type 0 where
 pub record AreKeptTo (firsts seconds kept : List ℕ) (list at : ℕ) : Type 0 where
   pub below : AreKept firsts seconds kept (list + 1)
   pub before : (b : ℕ) → b < length kept → get_or kept b 0 < length firsts → get_or firsts (get_or kept b 0) 0 ≡ list → get_or kept b 0 < at
-  pub least : (b : ℕ) → b < length kept → get_or kept b 0 < length firsts → get_or firsts (get_or kept b 0) 0 ≡ list → IsFirstWith firsts seconds (get_or kept b 0) (get_or kept b 0)
-  pub known : (x : ℕ) → x < length firsts → x < at → get_or firsts x 0 ≡ list → (get_or kept (get_or seconds x 0) 0 < length firsts) × (get_or firsts (get_or kept (get_or seconds x 0) 0) 0 ≡ list)
+  pub least : (b : ℕ) → b < length kept → get_or kept b 0 < length firsts → get_or firsts (get_or kept b 0) 0 ≡ list →
+      IsFirstWith firsts seconds (get_or kept b 0) (get_or kept b 0)
+  pub known : (x : ℕ) → x < length firsts → x < at → get_or firsts x 0 ≡ list →
+      (get_or kept (get_or seconds x 0) 0 < length firsts) × (get_or firsts (get_or kept (get_or seconds x 0) 0) 0 ≡ list)

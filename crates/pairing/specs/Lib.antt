@@ -5,3 +5,4 @@ pub mod FirstItems
 pub mod Classes
 pub mod Choosing
 pub mod Turns
+pub mod CarriedPairs

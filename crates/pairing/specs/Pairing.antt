@@ -1,6 +1,7 @@
 -- Which sides of a mesh are glued: sides in order, each to the least earlier free side that runs the
 -- other way between the same positions, in another triangle (this project's choice).
-use Rattle.std.specs.Prelude.{◌≡◌, ℕ, zero, suc, ◌*◌, ◌&&◌, Bool, true, false, not, cond, ℤ, List, [], ◌∷◌, take, length, Option, Some, None}
+use Rattle.std.specs.Prelude.{◌≡◌, ℕ, zero, suc, ◌*◌, ◌&&◌, Bool, true, false, not, cond, ℤ, List, [], ◌∷◌, take, length, Option, Some}
+use Rattle.std.specs.Prelude.{None}
 use Rattle.std.specs.Option.{is_some}
 use Rattle.mesh_model.specs.declared.heads.Head.{Head}
 use Rattle.mesh_model.specs.Parts.{MeshParts, corner}

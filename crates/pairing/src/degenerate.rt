@@ -40,10 +40,7 @@ pub(crate) fn test_faces(m: &CornerMesh) -> Result<(), Fault>
 {
     for f in 0..m.face_count() {
         if is_degenerate(m, f) {
-            return Err(Fault {
-                kind: Kind::Degenerate,
-                at: u64::from(f),
-            });
+            return Err(Fault::new(Kind::Degenerate, u64::from(f)));
         }
     }
     Ok(())

@@ -7,10 +7,12 @@ mod chains;
 mod choosing;
 mod classes;
 mod degenerate;
+mod laws;
 mod numbering;
 mod positions;
 mod surfaces;
 #[cfg(test)]
 mod tests;
 
+pub use laws::carrying_keeps_pairs;
 pub use surfaces::pair;

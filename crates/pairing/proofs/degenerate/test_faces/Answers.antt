@@ -10,7 +10,7 @@ pub returns-then-is_degenerate : goal.returns-then-is_degenerate
 returns-then-is_degenerate c =
     let n = c.face_count-f-end.ensures.value in
     let t = c.loop-f-test.true in
-    rw c.from.ensures (ap (at_place Degenerate) (least_is (is_degenerate c.args.m.now) _ c.loop-f.f (record {
+    rw (c.new.ensures, c.from.ensures) (ap (at_place Degenerate) (least_is (is_degenerate c.args.m.now) _ c.loop-f.f (record {
       below = omega arith;
       passes_it = sym c.is_degenerate.ensures ∙ c.if-is_degenerate.true;
       first = c.loop-f.invariant;

@@ -11,7 +11,7 @@ use Rattle.eb_rebuild.proofs.link_rebuild.LinkRebuild.close_interior.Goals as go
 
 pub returns-in-Some-other-clause-does : goal.returns-in-Some-other-clause-does
 returns-in-Some-other-clause-does g c =
-    rw (← c.self.view_is) (fill_gone_does
+    rw (← c.self.view_is, c.new.ensures) (fill_gone_does
     (record { plan = record { faces = c.self.inside.faces; created = c.self.inside.created; symbols = c.self.inside.symbols }; table = c.self.inside.table; stack = c.self.inside.stack; splits = c.self.inside.splits; made = c.self.inside.made; closes = c.self.inside.closes })
     c.in-Some.a c.pop.new.self.sides _ _ c.in-Some.ensures.top
     (ap (gluing_of c.self.inside.table) (sym c.side_with-top.ensures.side) ∙ sym c.in-Some-other.ensures.other)
@@ -19,7 +19,7 @@ returns-in-Some-other-clause-does g c =
 
 pub returns-then-not-is_loop-clause-does : goal.returns-then-not-is_loop-clause-does
 returns-then-not-is_loop-clause-does g c =
-    rw (← c.self.view_is) (fill_no_loop_does
+    rw (← c.self.view_is, c.new-then-not-is_loop.ensures) (fill_no_loop_does
     (record { plan = record { faces = c.self.inside.faces; created = c.self.inside.created; symbols = c.self.inside.symbols }; table = c.self.inside.table; stack = c.self.inside.stack; splits = c.self.inside.splits; made = c.self.inside.made; closes = c.self.inside.closes })
     c.in-Some.a c.pop.new.self.sides (side_of c.prev_open-second.result) (side_of c.prev_open-third.result) (side_of c.prev_open-last.result) c.is_loop.result _
     (record {
@@ -35,7 +35,7 @@ returns-then-not-is_loop-clause-does g c =
 
 pub returns-then-built-self-clause-does : goal.returns-then-built-self-clause-does
 returns-then-built-self-clause-does g c =
-    rw (← c.self.view_is) (fill_full_does
+    rw (← c.self.view_is, c.new-then-built-self.ensures) (fill_full_does
     (record { plan = record { faces = c.self.inside.faces; created = c.self.inside.created; symbols = c.self.inside.symbols }; table = c.self.inside.table; stack = c.self.inside.stack; splits = c.self.inside.splits; made = c.self.inside.made; closes = c.self.inside.closes })
     c.in-Some.a c.pop.new.self.sides (side_of c.prev_open-second.result) (side_of c.prev_open-third.result) (side_of c.prev_open-last.result) c.is_loop.result _
     (record {

@@ -22,7 +22,7 @@ returns-in-Err-take_second-clause-does g c = split_no_second_does c.args.self.no
 
 pub returns-then-is_same-clause-does : goal.returns-then-is_same-clause-does
 returns-then-is_same-clause-does g c =
-    split_one_side_does c.args.self.now c.take_side.new.self c.take_second.new.self
+    rw c.new.ensures (split_one_side_does c.args.self.now c.take_side.new.self c.take_second.new.self
     (record { plan = record { faces = c.self.inside.faces; created = c.self.inside.created; symbols = c.self.inside.symbols }; table = c.self.inside.table; stack = c.self.inside.stack; splits = c.self.inside.splits; made = c.self.inside.made; closes = c.self.inside.closes })
     c.in-Ok.b c.in-Ok-take_second.a c.from.result
     (record {
@@ -36,11 +36,11 @@ returns-then-is_same-clause-does g c =
       view = c.self.view_is;
     })
     (sym c.side_with-second.ensures.side ∙ same-true _ _ (sym c.is_same.ensures ∙ c.if-is_same.true) ∙ c.side_with-top.ensures.side)
-    (c.from.ensures ∙ c.face_count.ensures.count)
+    (c.from.ensures ∙ c.face_count.ensures.count))
 
 pub returns-then-is_same-2-clause-does : goal.returns-then-is_same-2-clause-does
 returns-then-is_same-2-clause-does g c =
-    split_one_point_does c.args.self.now c.take_side.new.self c.take_second.new.self
+    rw c.new-then-is_same-2.ensures (split_one_point_does c.args.self.now c.take_side.new.self c.take_second.new.self
     (record { plan = record { faces = c.self.inside.faces; created = c.self.inside.created; symbols = c.self.inside.symbols }; table = c.self.inside.table; stack = c.self.inside.stack; splits = c.self.inside.splits; made = c.self.inside.made; closes = c.self.inside.closes })
     c.in-Ok.b c.in-Ok-take_second.a (side_of c.prev_open-before.result) c.from-then-is_same-2.result
     (record {
@@ -56,7 +56,7 @@ returns-then-is_same-2-clause-does g c =
     (λ e. same-false _ _ (sym c.is_same.ensures ∙ c.if-is_same.false) (c.side_with-second.ensures.side ∙ e ∙ sym c.side_with-top.ensures.side))
     (c.prev_open-before.ensures.previous ∙ ap (side_before c.self.inside.table.faces (gluing_of c.self.inside.table)) c.side_with-top.ensures.side)
     (same-true _ _ (sym c.is_same-2.ensures ∙ c.if-is_same-2.true) ∙ c.side_with-second.ensures.side)
-    (c.from-then-is_same-2.ensures ∙ c.face_count-then-is_same-2.ensures.count)
+    (c.from-then-is_same-2.ensures ∙ c.face_count-then-is_same-2.ensures.count))
 
 pub glue-requires-clause-first : goal.glue-requires-clause-first
 glue-requires-clause-first g c = c.add_face-face.ensures.free third

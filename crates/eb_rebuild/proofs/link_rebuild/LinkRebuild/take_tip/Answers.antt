@@ -18,13 +18,13 @@ returns-in-Err-clause-does g c = tip_no_top _ (state_of c.args.self.now) _ c.in-
 pub returns-then-is_same-clause-does : goal.returns-then-is_same-clause-does
 returns-then-is_same-clause-does g c =
     let taken = c.in-Ok.ensures.ok in
-    tip_alone_does c.args.self.now c.take_side.new.self
+    rw c.new.ensures (tip_alone_does c.args.self.now c.take_side.new.self
     (record { plan = record { faces = c.self.inside.faces; created = c.self.inside.created; symbols = c.self.inside.symbols }; table = c.self.inside.table; stack = c.self.inside.stack; splits = c.self.inside.splits; made = c.self.inside.made; closes = c.self.inside.closes })
     c.in-Ok.a (side_of c.prev_open-before.result) c.from.result
     (record { rest = c.take_side.ensures.rest; view = c.self.view_is; sides = taken.0; free = taken.1; below = taken.2 })
     (c.prev_open-before.ensures.previous ∙ ap (side_before c.self.inside.table.faces (gluing_of c.self.inside.table)) c.side_with-top.ensures.side)
     (same-true _ _ (sym c.is_same.ensures ∙ c.if-is_same.true) ∙ c.side_with-top.ensures.side)
-    (c.from.ensures ∙ c.face_count.ensures.count)
+    (c.from.ensures ∙ c.face_count.ensures.count))
 
 pub glue-requires-clause-first : goal.glue-requires-clause-first
 glue-requires-clause-first g c = c.add_face-face.ensures.free second

@@ -17,7 +17,7 @@ returns-in-None-row_of-clause-does g c =
     let f = c.self.inside.named.table.faces in
     let a = c.in-Some.a in
     let rest = c.pop.new.self.sides in
-    rw (← c.self.view_is) (fill_gone_does v a rest c.in-None-row_of.ensures.none.0 _ c.in-Some.ensures.top c.in-None-row_of.ensures.none.1 (ap (λ (n : ℕ). n + c.from-2.result) c.from.ensures ∙ ap (λ (n : ℕ). c.self.inside.symbols + n) c.from-2.ensures))
+    rw (← c.self.view_is, c.new.ensures) (fill_gone_does v a rest c.in-None-row_of.ensures.none.0 _ c.in-Some.ensures.top c.in-None-row_of.ensures.none.1 (ap (λ (n : ℕ). n + c.from-2.result) c.from.ensures ∙ ap (λ (n : ℕ). c.self.inside.symbols + n) c.from-2.ensures))
 
 pub returns-then-not-is_three-clause-does : goal.returns-then-not-is_three-clause-does
 returns-then-not-is_three-clause-does g c =
@@ -41,7 +41,7 @@ returns-then-not-is_three-clause-does g c =
     let test : c.is_three.result ≡ (not (same B (side_at a)) && not (same D (side_at a)) && same Z (side_at a)) =
     c.is_three.ensures ∙ ap (λ (t : Bool). not (same B (side_at c.in-Some-row_of.row.side)) && not (same D (side_at c.in-Some-row_of.row.side)) && t) c.is_joined-round.ensures
     ∙ ap (λ (k : ℕ). not (same B (side_at k)) && not (same D (side_at k)) && same Z (side_at k)) at in
-    rw (← c.self.view_is) (fill_no_loop_does v a rest B D Z c.is_three.result _ W test c.if-not-is_three.true (ap (λ (n : ℕ). n + c.from-2.result) c.from.ensures ∙ ap (λ (n : ℕ). c.self.inside.symbols + n) c.from-2.ensures))
+    rw (← c.self.view_is, c.new-then-not-is_three.ensures) (fill_no_loop_does v a rest B D Z c.is_three.result _ W test c.if-not-is_three.true (ap (λ (n : ℕ). n + c.from-2.result) c.from.ensures ∙ ap (λ (n : ℕ). c.self.inside.symbols + n) c.from-2.ensures))
 
 pub returns-then-built-self-clause-does : goal.returns-then-built-self-clause-does
 returns-then-built-self-clause-does g c =
@@ -65,7 +65,7 @@ returns-then-built-self-clause-does g c =
     let test : c.is_three.result ≡ (not (same B (side_at a)) && not (same D (side_at a)) && same Z (side_at a)) =
     c.is_three.ensures ∙ ap (λ (t : Bool). not (same B (side_at c.in-Some-row_of.row.side)) && not (same D (side_at c.in-Some-row_of.row.side)) && t) c.is_joined-round.ensures
     ∙ ap (λ (k : ℕ). not (same B (side_at k)) && not (same D (side_at k)) && same Z (side_at k)) at in
-    rw (← c.self.view_is) (fill_full_does v a rest B D Z c.is_three.result _ W test c.if-not-is_three.false (sym c.face_count-built.ensures.count ∙ c.if-built-self.true) (c.from-then-built-self.ensures ∙ c.face_count-built.ensures.count))
+    rw (← c.self.view_is, c.new-then-built-self.ensures) (fill_full_does v a rest B D Z c.is_three.result _ W test c.if-not-is_three.false (sym c.face_count-built.ensures.count ∙ c.if-built-self.true) (c.from-then-built-self.ensures ∙ c.face_count-built.ensures.count))
 
 pub invariant_of-self-2 : goal.invariant_of-self-2
 invariant_of-self-2 g c =

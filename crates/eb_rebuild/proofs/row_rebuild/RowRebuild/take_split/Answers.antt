@@ -38,7 +38,7 @@ returns-then-is_one-clause-does g c =
       view = ap plain_of c.self.view_is;
     } in
     let before = side_before c.self.inside.named.table.faces (gluing_of c.self.inside.named.table) (side_at b) in
-    split_one_side_does old one two (plain_of value) b a c.from.result W (same-true _ _ (sym c.is_one.ensures ∙ c.if-is_one.true)) (c.from.ensures ∙ c.face_count-face.ensures.count)
+    rw c.new.ensures (split_one_side_does old one two (plain_of value) b a c.from.result W (same-true _ _ (sym c.is_one.ensures ∙ c.if-is_one.true)) (c.from.ensures ∙ c.face_count-face.ensures.count))
 
 pub returns-then-is_joined-clause-does : goal.returns-then-is_joined-clause-does
 returns-then-is_joined-clause-does g c =
@@ -59,8 +59,8 @@ returns-then-is_joined-clause-does g c =
       view = ap plain_of c.self.view_is;
     } in
     let before = side_before c.self.inside.named.table.faces (gluing_of c.self.inside.named.table) (side_at b) in
-    split_one_point_does old one two (plain_of value) b a before c.from-then-is_joined.result W (same-false _ _ (sym c.is_one.ensures ∙ c.if-is_one.false)) refl
-    (same-true _ _ (sym c.is_joined.ensures ∙ c.if-is_joined.true)) (c.from-then-is_joined.ensures ∙ c.face_count-face.ensures.count)
+    rw c.new-then-is_joined.ensures (split_one_point_does old one two (plain_of value) b a before c.from-then-is_joined.result W (same-false _ _ (sym c.is_one.ensures ∙ c.if-is_one.false)) refl
+    (same-true _ _ (sym c.is_joined.ensures ∙ c.if-is_joined.true)) (c.from-then-is_joined.ensures ∙ c.face_count-face.ensures.count))
 
 pub invariant_of-self-2 : goal.invariant_of-self-2
 invariant_of-self-2 g c =

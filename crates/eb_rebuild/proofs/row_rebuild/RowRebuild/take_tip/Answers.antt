@@ -17,8 +17,8 @@ pub returns-then-is_one-clause-does : goal.returns-then-is_one-clause-does
 returns-then-is_one-clause-does g c =
     let value : RowValue = (record { plan = record { faces = c.self.inside.faces; created = c.self.inside.created; symbols = c.self.inside.symbols }; named = c.self.inside.named; stack = c.self.inside.stack; splits = c.self.inside.splits; closes = c.self.inside.closes }) in
     let T : Taken (plain_of c.args.self.now) (plain_of c.take_row.new.self) (plain_of value) c.in-Ok.a.side = taken_row c.args.self.now c.take_row.new.self value c.in-Ok.a c.take_row.ensures.rest c.self.view_is c.in-Ok.ensures.ok.0 c.in-Ok.ensures.ok.1 in
-    tip_alone_does (plain_of c.args.self.now) (plain_of c.take_row.new.self) (plain_of value) c.in-Ok.a.side (side_at c.row_before-before.result.side) c.from.result T
-    c.row_before-before.ensures.before (same-true _ _ (sym c.is_one.ensures ∙ c.if-is_one.true)) (c.from.ensures ∙ c.face_count-face.ensures.count)
+    rw c.new.ensures (tip_alone_does (plain_of c.args.self.now) (plain_of c.take_row.new.self) (plain_of value) c.in-Ok.a.side (side_at c.row_before-before.result.side) c.from.result T
+    c.row_before-before.ensures.before (same-true _ _ (sym c.is_one.ensures ∙ c.if-is_one.true)) (c.from.ensures ∙ c.face_count-face.ensures.count))
 
 pub invariant_of-self-2 : goal.invariant_of-self-2
 invariant_of-self-2 g c =

@@ -13,11 +13,11 @@ returns-then-event-due-clause-noted c =
 
 pub returns-then-due-event-clause-noted : goal.returns-then-due-event-clause-noted
 returns-then-due-event-clause-noted c =
-    rw (← c.noting.invariant.fewer, c.from.ensures) (c.noting.invariant.same ∙ left_passed _ _ _ _ _ c.event_at-event.result c.if-self-eq0.false c.event_at-event.ensures c.if-due-event.true)
+    rw (← c.noting.invariant.fewer, c.new.ensures, c.from.ensures) (c.noting.invariant.same ∙ left_passed _ _ _ _ _ c.event_at-event.result c.if-self-eq0.false c.event_at-event.ensures c.if-due-event.true)
 
 pub returns-then-kept_at-clause-noted : goal.returns-then-kept_at-clause-noted
 returns-then-kept_at-clause-noted c =
-    rw (← c.noting.invariant.fewer, c.from-then-kept_at.ensures)
+    rw (← c.noting.invariant.fewer, c.new-then-kept_at.ensures, c.from-then-kept_at.ensures)
     (c.noting.invariant.same ∙ left_taken _ _ _ _ _ c.event_at-event.result c.kept_at.result c.if-self-eq0.false c.event_at-event.ensures
     (λ h. (let f = c.if-event-due.false in absurd (omega arith))) (λ h. (let f = c.if-due-event.false in absurd (omega arith))) c.kept_at.ensures c.if-kept_at.true)
 
