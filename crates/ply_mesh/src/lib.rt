@@ -6,6 +6,7 @@
 mod bodies;
 mod face_lines;
 mod head_writer;
+mod laws;
 mod numbers;
 mod property_writer;
 mod reading;
@@ -14,5 +15,6 @@ mod rows;
 mod tests;
 mod writing;
 
+pub use laws::text_is_read_again;
 pub use reading::read_ply;
 pub use writing::write_ply;
