@@ -15,3 +15,4 @@ pub mod Places
 pub mod Ranges
 pub mod Rows
 pub mod SameLaws
+pub mod MapTexts
