@@ -16,3 +16,5 @@ pub mod Ranges
 pub mod Rows
 pub mod SameLaws
 pub mod MapTexts
+pub mod Pigeonholes
+pub mod RenumberedMeshes
