@@ -51,7 +51,7 @@ fn parts_lines_and_tokens(rt: HostRuntime) -> Result<(), Fail> {
         ("1 2 3 4 5 6 7 8", 8),
         ("1 2 3 4 5 6 7 8 9", 9),
     ] {
-        assert_eq!(rt; tokens(alloc, line.as_bytes())?.len(), count);
+        assert_eq!(rt; first_tokens(alloc, line.as_bytes(), 9)?.len(), count);
     }
     Ok(())
 }
