@@ -1,4 +1,5 @@
 pub mod Body
+pub mod Ahead
 pub mod Read
 pub mod Text
 pub mod Fields

@@ -5,12 +5,14 @@
 
 mod bodies;
 mod face_lines;
+mod faces_ahead;
 mod head_writer;
 mod laws;
 mod numbers;
 mod property_writer;
 mod reading;
 mod rows;
+mod rows_ahead;
 #[cfg(test)]
 mod tests;
 mod writing;
