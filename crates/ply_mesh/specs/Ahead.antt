@@ -7,7 +7,8 @@ use Rattle.ply_mesh.specs.Body.{IsRange, numbers_of, row_of, face_of, Appends, A
 -- the range of each data type
 pub record AreRanges (dtypes : List ℕ) (ranges : List (ℕ × ℕ)) : Type 0 where
   pub each : length ranges ≡ length dtypes
-  pub range : (j : ℕ) (d : ℕ × ℕ) → j < length dtypes → IsRange (slice_index dtypes j) (slice_index_or ranges j d).0 (slice_index_or ranges j d).1
+  pub range : (j : ℕ) (d : ℕ × ℕ) → j < length dtypes →
+      IsRange (slice_index dtypes j) (slice_index_or ranges j d).0 (slice_index_or ranges j d).1
 
 -- the first line of a text ends before an LF at `end`
 pub record IsFirstLine (text : List ℕ) (end : ℕ) : Type 0 where
