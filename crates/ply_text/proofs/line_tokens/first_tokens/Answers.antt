@@ -1,4 +1,4 @@
-use Rattle.std.proofs.Common.{◌≡◌, map, length, rules, arith}
+use Rattle.std.proofs.Common.{map, arith}
 use Rattle.std.proofs.lemmas.List.{length-map}
 use Rattle.ply_text.proofs.Splitting.{all_taken, enough_taken, few_taken}
 use Rattle.ply_text.proofs.line_tokens.first_tokens.Goals as goal
