@@ -68,7 +68,7 @@ numbers-are columns corners numbers points is =
     ∙ number_of-at points (corner_row columns c) (get_or numbers c 0) (subst AreApart (sym is.distinct_rows) (apart-distinct columns corners)) at.0 at.1))
 
 -- what holds of each row holds of the distinct ones
-All-distinct : (P : List ℤ → Type 0) (rows : List (List ℤ)) → All P rows → All P (distinct rows)
+pub All-distinct : (P : List ℤ → Type 0) (rows : List (List ℤ)) → All P rows → All P (distinct rows)
 All-distinct P [] each = All-nil P
 All-distinct P (row ∷ rows) each =
     All-cons P row _ (All-head P row rows each) (All-filter (other_than row) P (distinct rows) (All-distinct P rows (All-tail P row rows each)))

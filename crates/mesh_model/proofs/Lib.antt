@@ -15,3 +15,6 @@ pub mod Places
 pub mod Ranges
 pub mod Rows
 pub mod SameLaws
+pub mod MapTexts
+pub mod Pigeonholes
+pub mod RenumberedMeshes

@@ -1,6 +1,7 @@
 -- The mesh of a table of values for each attribute: equal corner rows are merged (this project's
 -- choice).
-use Rattle.std.specs.Prelude.{ℕ, ◌≡◌, ◌≤◌, ◌+◌, ◌*◌, ℤ, Bool, not, List, [], ◌∷◌, length, take, drop, map, filter, slice_index, None, Result, All, IsTrue, flat_map}
+use Rattle.std.specs.Prelude.{ℕ, ◌≡◌, ◌≤◌, ◌+◌, ◌*◌, ℤ, Bool, not, List, [], ◌∷◌, length, take, drop, map, filter, slice_index}
+use Rattle.std.specs.Prelude.{None, Result, All, IsTrue, flat_map}
 use Rattle.std.specs.List.{range_with_len, position_or_len, zip}
 use Rattle.std.specs.Cmp.Lexicographic.{pointwise}
 use Rattle.std.specs.Ordering.{int_eq}

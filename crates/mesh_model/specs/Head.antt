@@ -1,6 +1,7 @@
 -- What the heads of a geometry say of its rows, and when a head passes (Draco Bitstream
 -- Specification 2.2, attribute decoders; the accepted types are this project's choice).
-use Rattle.std.specs.Prelude.{ℕ, ◌==◌, ◌&&◌, Bool, true, ℤ, pos, negsuc, List, [], ◌∷◌, length, replicate, Option, None, Some, sum_by, flat_map, nat_le, int_le, if◌then◌else◌, map}
+use Rattle.std.specs.Prelude.{ℕ, ◌==◌, ◌&&◌, Bool, true, ℤ, pos, negsuc, List, [], ◌∷◌, length, replicate, Option, None, Some}
+use Rattle.std.specs.Prelude.{sum_by, flat_map, nat_le, int_le, if◌then◌else◌, map}
 use Rattle.std.specs.List.{enumerate_from}
 use Rattle.drc_base.specs.declared.faults.Fault.{Fault}
 use Rattle.drc_base.specs.declared.kinds.Kind.TheVariants.{NoAttribute, AttrLimit, AttrType, DataType, Components, QuantBits}
@@ -21,7 +22,8 @@ types_of heads = flat_map (λ h. replicate h.comps h.dtype) heads
 abbrev pub least_of : ℕ → ℤ
 least_of dtype =
     if dtype == 1 then negsuc 127
-    else (if dtype == 3 then negsuc 32767 else (if dtype == 5 then negsuc 2147483647 else (if dtype == 9 then negsuc 2147483647 else pos 0)))
+    else (if dtype == 3 then negsuc 32767
+    else (if dtype == 5 then negsuc 2147483647 else (if dtype == 9 then negsuc 2147483647 else pos 0)))
 
 -- the greatest value of a data type; that of uint32 is 2^31 - 1
 abbrev pub greatest_of : ℕ → ℤ

@@ -11,3 +11,4 @@ pub mod MapText
 pub mod Assembled
 pub mod Hash
 pub mod RowIndex
+pub mod RenumberingLaws

@@ -1,7 +1,8 @@
 -- What a geometry is to contracts: heads, rows of integers, and triples of point numbers; and the
 -- tests that a geometry passes (this project's choice; value ranges after the Draco Bitstream
 -- Specification 2.2, attribute data types).
-use Rattle.std.specs.Prelude.{ℕ, ◌≡◌, ◌≤◌, ◌<◌, ◌*◌, ◌/◌, ◌%◌, ℤ, pos, not, IsTrue, List, [], ◌∷◌, map, length, take, drop, slice_index_or, slice_index, Option, None, Result, All, flat_map, position, nat_le, nat_lt}
+use Rattle.std.specs.Prelude.{ℕ, ◌≡◌, ◌≤◌, ◌<◌, ◌*◌, ◌/◌, ◌%◌, ℤ, pos, not, IsTrue, List, [], ◌∷◌, map, length, take, drop}
+use Rattle.std.specs.Prelude.{slice_index_or, slice_index, Option, None, Result, All, flat_map, position, nat_le, nat_lt}
 use Rattle.std.specs.List.{range_with_len, enumerate_from, list_all}
 use Rattle.drc_base.specs.declared.faults.Fault.{Fault}
 use Rattle.drc_base.specs.declared.kinds.Kind.TheVariants.{PointLimit, ValueLimit, FaceLimit, IndexRange, ValueRange}

@@ -29,7 +29,7 @@ pub use clouds::Cloud;
 pub use data_types::{greatest_of, least_of};
 pub use geometries::Geometry;
 pub use heads::{Head, Quant};
-pub use laws::same_is_an_equivalence;
+pub use laws::{distinct_rows_are_few, renumbered_is_a_mesh, same_is_an_equivalence};
 pub use mapping::map_text;
 pub use matching::matches;
 pub use meshes::CornerMesh;

@@ -1,10 +1,11 @@
 //! The text of a renumbering.
 
-ghost use Rattle.std.specs.Prelude.{◌≡◌, ◌++◌, codes, decimal, length, flat_map, IfOk, OnOk};
+ghost use Rattle.std.specs.Prelude.{◌≡◌, ◌+◌, ◌≤◌, ◌++◌, codes, decimal, length, take, flat_map, IfOk, OnOk};
 ghost use Rattle.mesh_model.specs.MapText.{map_text_of, map_words, row_line};
 
 use crate::geometries::Geometry;
 use crate::renumberings::Renumber;
+use decimal_text::{CHUNK_BYTES, ROOM_BYTES, flushed, put_unsigned, with_room};
 use drc_base::Memory;
 use itoa::Buffer;
 use std::alloc::Global;
@@ -18,25 +19,29 @@ fn put_number(out: &mut Vec<u8>, n: u64) -> Result<(), Memory>
     Ok(())
 }
 
-/// Appends the line of one row.
-fn put_row(out: &mut Vec<u8>, row: (u32, u8)) -> Result<(), Memory>
-    ensures { OnOk result (out.new.items ≡ out.old.items ++ row_line row) }
+/// Writes the line of one row from `at` on, and answers the place behind it.
+#[inline(always)]
+#[tactic(auto, using(crate::proofs::MapTexts::row_text))]
+fn put_row(row: (u32, u8), buf: &mut [u8], at: usize) -> usize
+    requires { at + ROOM_BYTES ≤ length buf.old }
+    ensures text { take result buf.new ≡ take at buf.old ++ row_line row }
+    ensures few { result ≤ at + ROOM_BYTES }
 {
-    put_number(out, row.0 as u64)?;
-    out.extend_from_slice(b" ")?;
-    put_number(out, row.1 as u64)?;
-    out.extend_from_slice(b"\n")?;
-    Ok(())
+    let end = put_unsigned(row.0, b' ', buf, at);
+    put_unsigned(row.1 as u32, b'\n', buf, end)
 }
 
 /// Appends the lines of all rows.
 fn put_rows(out: &mut Vec<u8>, rows: &[(u32, u8)]) -> Result<(), Memory>
     ensures { OnOk result (out.new.items ≡ out.old.items ++ flat_map row_line rows.now) }
 {
+    let mut chunk = [0u8; CHUNK_BYTES];
+    let mut held = 0;
     for row in rows {
-        put_row(out, *row)?;
+        let from = with_room(out, &chunk, held)?;
+        held = put_row(*row, &mut chunk, from);
     }
-    Ok(())
+    flushed(out, &chunk, held)
 }
 
 /// The words that begin the text.

@@ -11,7 +11,7 @@ use crate::corners::put_corner;
 use crate::heads::Head;
 use crate::row_index::{RowIndex, row_bucket};
 use crate::tables::AttrTable;
-use drc_base::Memory;
+use drc_base::{MAX_FACES, Memory};
 use std::alloc::Global;
 
 /// For each corner the number of its point, and the rows of the points.
@@ -58,7 +58,7 @@ pub(crate) fn number_corners(
     width: u32,
 ) -> Result<Numbering, Memory>
     requires columns { AreColumns corners heads.now tables.now }
-    requires few { corners ≤ 3 * 2 ^ 20 }
+    requires few { corners ≤ 3 * MAX_FACES }
     requires width { width ≡ width_of heads.now }
     requires wide { 0 < width }
     ensures numbering { IfOk result (λ n. IsNumbering (zip heads.now tables.now) corners n.numbers.items (rows_of width n.cells.items)) }

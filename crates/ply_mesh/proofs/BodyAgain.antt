@@ -6,6 +6,7 @@ use Rattle.std.specs.Fmt.{signed_decimal}
 use Rattle.std.proofs.lemmas.Bool.{cond_both, leb-true, lt-ltb, le-leb, eq-eqb, and_parts, false≢true}
 use Rattle.std.proofs.lemmas.List.{length-map}
 use Rattle.drc_base.specs.declared.faults.Fault.{Fault}
+use Rattle.drc_base.specs.declared.limits.TheConstants.{MAX_POINTS}
 use Rattle.mesh_model.specs.declared.heads.Head.{Head}
 use Rattle.mesh_model.specs.Head.{types_of, in_type, least_of, greatest_of}
 use Rattle.mesh_model.specs.Parts.{RowFits, IsFaceOf}
@@ -88,12 +89,12 @@ index_in : (p : ℕ) → p < 2 ^ 31 → in_type 5 (pos p) ≡ true
 unfolding in_type
 index_in p h = le-leb p 2147483647 (omega arith)
 
-three_back : (points at a b c : ℕ) → points ≤ 2 ^ 20 → a < points → b < points → c < points → face_of (2, 5) points at (face_line (a ∷ b ∷ c ∷ [])) ≡ Ok (a ∷ b ∷ c ∷ [])
+three_back : (points at a b c : ℕ) → points ≤ MAX_POINTS → a < points → b < points → c < points → face_of (2, 5) points at (face_line (a ∷ b ∷ c ∷ [])) ≡ Ok (a ∷ b ∷ c ∷ [])
 unfolding face_of indices_of face_line
 three_back points at a b c few pa pb pc =
     rw (three_again at, number_back 5 (pos a) (index_in a (omega arith)), number_back 5 (pos b) (index_in b (omega arith)), number_back 5 (pos c) (index_in c (omega arith)), lt-ltb a points pa, lt-ltb b points pb, lt-ltb c points pc) refl
 
-pub face_back : (points at : ℕ) (face : List ℕ) → points ≤ 2 ^ 20 → IsFaceOf points face → face_of (2, 5) points at (face_line face) ≡ Ok face
+pub face_back : (points at : ℕ) (face : List ℕ) → points ≤ MAX_POINTS → IsFaceOf points face → face_of (2, 5) points at (face_line face) ≡ Ok face
 face_back points at [] few is = let n = is.0 in absurd (omega arith)
 face_back points at (a ∷ []) few is = let n = is.0 in absurd (omega arith)
 face_back points at (a ∷ b ∷ []) few is = let n = is.0 in absurd (omega arith)

@@ -1,10 +1,11 @@
 -- Faces that are read token by token.
-use Rattle.std.proofs.Common.{◌≡◌, ℕ, ◌<◌, true, cond, List, [], ◌∷◌, length, drop, get_or, Option, Some, Ok, Err, refl, sym, ap, ◌∙◌, arith}
+use Rattle.std.proofs.Common.{◌≡◌, ℕ, ◌<◌, true, cond, List, [], ◌∷◌, length, take, drop, get_or, Option, Some, Result, Ok, Err, refl, sym, ap, ◌∙◌, arith}
 use Rattle.std.specs.Prelude.{ℤ, pos}
 use Rattle.std.specs.Borrow.{Bor}
 use Rattle.std.specs.Ordering.{int_eq}
 use Rattle.std.proofs.lemmas.Bool.{ne_eqb}
 use Rattle.std.proofs.lemmas.List.{length-map}
+use Rattle.drc_base.specs.declared.faults.Fault.{Fault}
 use Rattle.drc_base.specs.declared.kinds.Kind.TheVariants.{PlyRow, PlyNumber, PlyFace}
 use Rattle.drc_base.specs.Steps.{◌>>=◌}
 use Rattle.ply_text.specs.Faults.{or_refuse}
@@ -33,6 +34,22 @@ pub no_face : (list : ℕ × ℕ) (points at : ℕ) (found : List (Bor (List ℕ
 unfolding face_of
 no_face list points at [] e = refl
 no_face list points at (x ∷ xs) e = absurd (omega arith)
+
+not_three_tokens : (itype points at : ℕ) (tokens : List (List ℕ)) → 3 < length tokens → indices_of itype points at tokens ≡ Err (record { kind = PlyRow; at = at })
+unfolding indices_of
+not_three_tokens itype points at tokens many = rw (ne_eqb (length tokens) 3 (λ h. omega arith)) refl
+
+-- five tokens tell as much of a face as all
+pub face_few : (list : ℕ × ℕ) (points at : ℕ) (tokens : List (List ℕ)) → face_of list points at (take 5 tokens) ≡ face_of list points at tokens
+unfolding face_of
+face_few list points at [] = refl
+face_few list points at (a ∷ []) = refl
+face_few list points at (a ∷ b ∷ []) = refl
+face_few list points at (a ∷ b ∷ c ∷ []) = refl
+face_few list points at (a ∷ b ∷ c ∷ d ∷ []) = refl
+face_few list points at (a ∷ b ∷ c ∷ d ∷ e ∷ more) =
+    ap (λ (r : Result (List ℕ) Fault). count_of list.0 at a >>= λ _. r)
+    (not_three_tokens list.1 points at (b ∷ c ∷ d ∷ e ∷ []) (omega arith) ∙ sym (not_three_tokens list.1 points at (b ∷ c ∷ d ∷ e ∷ more) (omega arith)))
 
 pub face_is : (list : ℕ × ℕ) (points at : ℕ) (found : List (Bor (List ℕ))) (a : Bor (List ℕ)) → 0 < length found → face_of list points at (texts found) ≡ counted_face list points at (get_or found 0 a).now (texts (drop 1 found))
 unfolding face_of

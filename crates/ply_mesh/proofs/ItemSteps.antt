@@ -1,5 +1,5 @@
 -- Items that are read line by line.
-use Rattle.std.proofs.Common.{◌≡◌, ℕ, suc, ◌+◌, ◌-◌, ◌<◌, ◌≤◌, List, [], ◌∷◌, ◌++◌, Result, Ok, Err, refl, sym, ap, ◌∙◌, append_assoc, arith}
+use Rattle.std.proofs.Common.{◌≡◌, ℕ, suc, ◌+◌, ◌-◌, ◌<◌, ◌≤◌, List, [], ◌∷◌, ◌++◌, length, Result, Ok, Err, refl, sym, ap, ◌∙◌, append_assoc, arith}
 use Rattle.std.specs.Prelude.{ℤ}
 use Rattle.std.proofs.lemmas.List.{append-nil}
 use Rattle.std.proofs.lemmas.List.Concat.{flat_map-append}
@@ -46,6 +46,21 @@ item_fault {A} item front count i at line lines (refusal.Fault f) due lt r h =
     let k : count - i ≡ suc (count - (i + 1)) = omega arith in
     sym h ∙ ap (λ m. with_front front (items_from item m (at + i) (line ∷ lines))) k
     ∙ ap (λ (r : Result A Fault). with_front front (r >>= λ first. items_from item (count - (i + 1)) (at + i + 1) lines >>= λ (y : List A × List (List (List ℕ))). Ok (first ∷ y.0, y.1))) r
+
+-- with a line taken off, fewer are left
+pub shorter : (line : List ℕ) (before after : List (List ℕ)) → before ≡ line ∷ after → length after ≤ length before
+shorter line before after e = omega (arith, ap length e)
+
+-- where the first line is refused, so are all
+pub first_refused : {A : Type 0} (item : ℕ → List (List ℕ) → Result A Fault) (front : List A) (count i at : ℕ) (lines : List (List (List ℕ))) (e : Refusal) (due : Result (List A × List (List (List ℕ))) Fault) → i < count → Refuses (items_from item 1 (at + i) lines) e
+    → with_front front (items_from item (count - i) (at + i) lines) ≡ due → Refuses due e
+first_refused item front count i at lines refusal.Memory due lt r h = tt
+first_refused item front count i at [] (refusal.Fault f) due lt r h = sym h ∙ item_short item front count i at lt ∙ r
+first_refused {A} item front count i at (line ∷ lines) (refusal.Fault f) due lt r h =
+    item_fault item front count i at line lines (refusal.Fault f) due lt (go (item (at + i) line) r) h where
+      go : (o : Result A Fault) → ◌>>=◌ {B = List A × List (List (List ℕ))} o (λ first. Ok (first ∷ [], lines)) ≡ Err f → o ≡ Err f
+      go (Ok x) r = absurd cc
+      go (Err g) r = cc
 
 pub item_last : {A : Type 0} (item : ℕ → List (List ℕ) → Result A Fault) (front : List A) (count i at : ℕ) (lines : List (List (List ℕ))) → count ≤ i → with_front front (items_from item (count - i) (at + i) lines) ≡ Ok (front, lines)
 item_last {A} item front count i at lines le =

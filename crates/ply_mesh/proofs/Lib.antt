@@ -15,3 +15,4 @@ pub mod HeaderSteps
 pub mod BodyAgain
 pub mod TokenTexts
 pub mod RoundTrip
+pub mod AheadSteps

@@ -1,7 +1,7 @@
 -- Rows that are read number by number.
 use Rattle.std.proofs.Common.{◌≡◌, ℕ, suc, ◌+◌, ◌<◌, ◌≤◌, true, List, [], ◌∷◌, ◌++◌, length, take, drop, get_or, Option, Some, None, Err, refl, sym, ap, subst, ◌∙◌, append_assoc, arith}
 use Rattle.std.specs.Prelude.{ℤ, option_map, option_and_then}
-use Rattle.std.proofs.lemmas.List.{append-nil, drop_more, drop_all, take_at, length-map, get_or-map}
+use Rattle.std.proofs.lemmas.List.{append-nil, drop_more, drop_all, take_at, take_all, length-take, length-map, get_or-map}
 use Rattle.std.proofs.lemmas.Option.{some_pair_parts}
 use Rattle.ply_text.specs.Tokens.{tokens_of}
 use Rattle.ply_text.specs.Numbers.{integer_of, first_integer, is_between}
@@ -95,11 +95,15 @@ pub row_is : (dtypes : List ℕ) (at : ℕ) (tokens : List (List ℕ)) → lengt
 unfolding row_of
 row_is dtypes at tokens e = rw (eq-eqb (length tokens) (length dtypes) e) refl
 
-pub row_counts : (dtypes : List ℕ) (at : ℕ) (line : List ℕ) (found : List (Bor (List ℕ))) → texts found ≡ tokens_of line → (length found ≡ length dtypes → ⊥) → row_of dtypes at (tokens_of line) ≡ Err (record { kind = PlyRow; at = at })
+-- the first tokens, one more than the types, tell how many there are
+first_are_all : (n : ℕ) (tokens : List (List ℕ)) → length (take (n + 1) tokens) ≡ n → take (n + 1) tokens ≡ tokens
+first_are_all n tokens e = take_all (n + 1) tokens (omega (arith, length-take (n + 1) tokens))
+
+pub row_counts : (dtypes : List ℕ) (at : ℕ) (line : List ℕ) (found : List (Bor (List ℕ))) → texts found ≡ take (length dtypes + 1) (tokens_of line) → (length found ≡ length dtypes → ⊥) → row_of dtypes at (tokens_of line) ≡ Err (record { kind = PlyRow; at = at })
 unfolding row_of
 row_counts dtypes at line found e ne =
-    let n : length found ≡ length (tokens_of line) = sym (length-map found (λ (t : Bor (List ℕ)). t.now)) ∙ ap length e in
-    rw (ne_eqb (length (tokens_of line)) (length dtypes) (λ h. ne (n ∙ h))) refl
+    let n : length found ≡ length (take (length dtypes + 1) (tokens_of line)) = sym (length-map found (λ (t : Bor (List ℕ)). t.now)) ∙ ap length e in
+    rw (ne_eqb (length (tokens_of line)) (length dtypes) (λ h. ne (omega (arith, n, length-take (length dtypes + 1) (tokens_of line))))) refl
 
 pub row_whole : (dtypes : List ℕ) (at : ℕ) (tokens : List (List ℕ)) (old out : List ℤ) → AppendsSome (numbers_of dtypes tokens) old out → Appends (row_of dtypes at tokens) old out
 row_whole dtypes at tokens old out h = (h.0, row_is dtypes at tokens (numbers-length dtypes tokens h.0 h.1) ∙ ap (or_refuse PlyNumber at) h.1, h.2)
@@ -120,7 +124,8 @@ token_none dtypes found old out j d same lt n h =
     sym h.whole ∙ ap (option_map (λ vs. h.front ++ vs)) now
 
 -- the row of a line whose tokens were found
-pub row_of_tokens : (dtypes : List ℕ) (at : ℕ) (line : List ℕ) (found : List (Bor (List ℕ))) → texts found ≡ tokens_of line → length found ≡ length dtypes → or_refuse PlyNumber at (numbers_of dtypes (texts found)) ≡ row_of dtypes at (tokens_of line)
+pub row_of_tokens : (dtypes : List ℕ) (at : ℕ) (line : List ℕ) (found : List (Bor (List ℕ))) → texts found ≡ take (length dtypes + 1) (tokens_of line) → length found ≡ length dtypes → or_refuse PlyNumber at (numbers_of dtypes (texts found)) ≡ row_of dtypes at (tokens_of line)
 row_of_tokens dtypes at line found e same =
     let count : length (texts found) ≡ length dtypes = length-map found (λ (t : Bor (List ℕ)). t.now) ∙ same in
-    sym (row_is dtypes at (texts found) count) ∙ ap (row_of dtypes at) e
+    let all = first_are_all (length dtypes) (tokens_of line) (sym (ap length e) ∙ count) in
+    sym (row_is dtypes at (texts found) count) ∙ ap (row_of dtypes at) (e ∙ all)

@@ -2,36 +2,40 @@
 use Rattle.std.proofs.Common.{◌≡◌, ℕ, ◌+◌, ◌<◌, ◌≤◌, List, [], ◌∷◌, ◌++◌, length, drop, get_or, map, refl, sym, ap, ◌∙◌, append_assoc, arith}
 use Rattle.std.specs.Prelude.{codes, ℤ}
 use Rattle.std.specs.Fmt.{decimal, signed_decimal}
-use Rattle.std.proofs.lemmas.List.{at_drop_more, at_drop_all, append-nil}
+use Rattle.std.proofs.lemmas.List.{at_drop_more, at_drop_all, append-nil, drop_more, drop_all, length-drop}
 use Rattle.std.proofs.lemmas.List.Concat.{flat_map-append}
 use Rattle.ply_mesh.specs.Text.{rest_text, line_text, text_of, element_line, point_lines, face_line, face_lines}
 
--- what is written of a row, and what is still to be written
-pub record IsRowWritten (start out : List ℕ) (row : List ℤ) (j : ℕ) : Type 0 where
-  pub whole : out ++ rest_text (map signed_decimal (drop j row)) ≡ start ++ line_text (map signed_decimal row)
-
-pub row_begun : (start : List ℕ) (row : List ℤ) (d : ℤ) → 0 < length row → IsRowWritten start (start ++ signed_decimal (get_or row 0 d)) row 1
+-- the line of numbers begins with the first and a space, where more follow
+line_cons : (v : ℤ) (vs : List ℤ) → 0 < length vs → line_text (map signed_decimal (v ∷ vs)) ≡ (signed_decimal v ++ 32 ∷ []) ++ line_text (map signed_decimal vs)
 unfolding line_text
-row_begun start [] d h = absurd (omega arith)
-row_begun start (v ∷ vs) d h = record { whole = append_assoc start (signed_decimal v) (rest_text (map signed_decimal vs)) }
+line_cons v [] some = absurd (omega arith)
+line_cons v (w ∷ ws) some = sym (append_assoc (signed_decimal v) (32 ∷ []) (line_text (map signed_decimal (w ∷ ws))))
 
-pub row_more : (start out : List ℕ) (row : List ℤ) (j : ℕ) (d : ℤ) → j < length row → IsRowWritten start out row j → IsRowWritten start ((out ++ 32 ∷ []) ++ signed_decimal (get_or row j d)) row (j + 1)
-row_more start out row j d lt h = record {
-  whole =
-      append_assoc (out ++ 32 ∷ []) (signed_decimal (get_or row j d)) (rest_text (map signed_decimal (drop (j + 1) row)))
-      ∙ append_assoc out (32 ∷ []) (signed_decimal (get_or row j d) ++ rest_text (map signed_decimal (drop (j + 1) row)))
-      ∙ ap (λ (t : List ℕ). out ++ t) (sym (at_drop_more (λ (vs : List ℤ). rest_text (map signed_decimal vs)) row j d lt)) ∙ h.whole;
-}
+-- one more number that isn't the last
+pub row_more : (whole front now : List ℕ) (row : List ℤ) (j : ℕ) (d : ℤ) → j + 1 < length row → now ≡ front ++ (signed_decimal (get_or row j d) ++ 32 ∷ [])
+    → front ++ line_text (map signed_decimal (drop j row)) ≡ whole → now ++ line_text (map signed_decimal (drop (j + 1) row)) ≡ whole
+row_more whole front now row j d lt is h =
+    let piece = signed_decimal (get_or row j d) ++ 32 ∷ [] in
+    let rest = line_text (map signed_decimal (drop (j + 1) row)) in
+    let cut : drop j row ≡ get_or row j d ∷ drop (j + 1) row = drop_more row j d (omega arith) in
+    let some : 0 < length (drop (j + 1) row) = omega (arith, length-drop (j + 1) row) in
+    ap (λ (t : List ℕ). t ++ rest) is
+    ∙ append_assoc front piece rest
+    ∙ ap (λ (t : List ℕ). front ++ t) (sym (line_cons (get_or row j d) (drop (j + 1) row) some) ∙ sym (ap (λ (vs : List ℤ). line_text (map signed_decimal vs)) cut))
+    ∙ h
 
-pub row_end : (start out : List ℕ) (row : List ℤ) (j : ℕ) → length row ≤ j → IsRowWritten start out row j → out ++ 10 ∷ [] ≡ start ++ line_text (map signed_decimal row)
-row_end start out row j le h = ap (λ (t : List ℕ). out ++ t) (sym (at_drop_all (λ (vs : List ℤ). rest_text (map signed_decimal vs)) row j le)) ∙ h.whole
+-- the last number
+pub row_end : (whole front now : List ℕ) (row : List ℤ) (j : ℕ) (d : ℤ) → j + 1 ≡ length row → now ≡ front ++ (signed_decimal (get_or row j d) ++ 10 ∷ [])
+    → front ++ line_text (map signed_decimal (drop j row)) ≡ whole → now ≡ whole
+unfolding line_text
+row_end whole front now row j d last is h =
+    let cut : drop j row ≡ get_or row j d ∷ [] = drop_more row j d (omega arith) ∙ ap (λ (vs : List ℤ). get_or row j d ∷ vs) (drop_all (j + 1) row (omega arith)) in
+    is ∙ ap (λ (t : List ℕ). front ++ t) (sym (ap (λ (vs : List ℤ). line_text (map signed_decimal vs)) cut)) ∙ h
 
-pub five : (o a b c d e : List ℕ) → ((((o ++ a) ++ b) ++ c) ++ d) ++ e ≡ o ++ (a ++ (b ++ (c ++ (d ++ e))))
-five o a b c d e = simp append_assoc
-
-pub face_text : (out : List ℕ) (a b c : ℕ) → ((((out ++ 51 ∷ []) ++ (32 ∷ decimal a)) ++ (32 ∷ decimal b)) ++ (32 ∷ decimal c)) ++ 10 ∷ [] ≡ out ++ line_text (face_line (a ∷ b ∷ c ∷ []))
+pub face_text : (start : List ℕ) (a b c : ℕ) → (((start ++ 51 ∷ 32 ∷ []) ++ (decimal a ++ 32 ∷ [])) ++ (decimal b ++ 32 ∷ [])) ++ (decimal c ++ 10 ∷ []) ≡ start ++ line_text (face_line (a ∷ b ∷ c ∷ []))
 unfolding line_text face_line
-face_text out a b c = five out (51 ∷ []) (32 ∷ decimal a) (32 ∷ decimal b) (32 ∷ decimal c) (10 ∷ [])
+face_text start a b c = simp append_assoc
 
 pub four : (o a b c d : List ℕ) → (((o ++ a) ++ b) ++ c) ++ d ≡ o ++ (a ++ (b ++ (c ++ d)))
 four o a b c d = simp append_assoc

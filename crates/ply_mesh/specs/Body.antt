@@ -1,5 +1,6 @@
 -- The rows and faces of a PLY text (PLY 1.0, in this project's profile).
-use Rattle.std.specs.Prelude.{ℕ, ◌≡◌, zero, suc, ◌+◌, ◌++◌, List, [], ◌∷◌, length, map, Option, None, Some, option_and_then, ℤ, pos, negsuc, neg_ℤ, ◌^◌, ◌<◌, ◌≤◌, Result, Ok, nat_lt, ◌==◌, if◌then◌else◌}
+use Rattle.std.specs.Prelude.{ℕ, ◌≡◌, zero, suc, ◌+◌, ◌++◌, List, [], ◌∷◌, length, map, Option, None, Some, option_and_then, ℤ}
+use Rattle.std.specs.Prelude.{pos, negsuc, neg_ℤ, ◌^◌, ◌<◌, ◌≤◌, Result, Ok, nat_lt, ◌==◌, if◌then◌else◌}
 use Rattle.std.specs.Borrow.{Bor}
 use Rattle.std.specs.Ordering.{int_eq}
 use Rattle.drc_base.specs.declared.faults.Fault.{Fault}
@@ -26,7 +27,8 @@ abbrev pub numbers_of : List ℕ → List (List ℕ) → Option (List ℤ)
 numbers_of [] [] = Some []
 numbers_of [] (token ∷ tokens) = None
 numbers_of (dtype ∷ dtypes) [] = None
-numbers_of (dtype ∷ dtypes) (token ∷ tokens) = option_and_then (λ first. option_and_then (λ others. Some (first ∷ others)) (numbers_of dtypes tokens)) (number_of dtype token)
+numbers_of (dtype ∷ dtypes) (token ∷ tokens) =
+    option_and_then (λ first. option_and_then (λ others. Some (first ∷ others)) (numbers_of dtypes tokens)) (number_of dtype token)
 
 -- a point: one number for each property
 unfoldable pub row_of : List ℕ → ℕ → List (List ℕ) → Result (List ℤ) Fault
@@ -41,13 +43,15 @@ point_of points (negsuc n) = None
 -- the numbers of points, each below their number
 abbrev pub points_of : ℕ → List ℤ → Option (List ℕ)
 points_of points [] = Some []
-points_of points (v ∷ vs) = option_and_then (λ first. option_and_then (λ others. Some (first ∷ others)) (points_of points vs)) (point_of points v)
+points_of points (v ∷ vs) =
+    option_and_then (λ first. option_and_then (λ others. Some (first ∷ others)) (points_of points vs)) (point_of points v)
 
 -- the three points of a face, behind its count
 unfoldable pub indices_of : ℕ → ℕ → ℕ → List (List ℕ) → Result (List ℕ) Fault
 indices_of itype points at tokens =
     if length tokens == 3
-    then (or_refuse PlyNumber at (numbers_of (itype ∷ itype ∷ itype ∷ []) tokens) >>= λ values. or_refuse PlyIndex at (points_of points values))
+    then (or_refuse PlyNumber at (numbers_of (itype ∷ itype ∷ itype ∷ []) tokens)
+    >>= λ values. or_refuse PlyIndex at (points_of points values))
     else refuse PlyRow at
 
 -- the count of a face, which is 3
@@ -66,7 +70,8 @@ face_of list points at [] = refuse PlyRow at
 face_of list points at (count ∷ tokens) = counted_face list points at count tokens
 
 -- a number of lines in a row, each an item, from line number `at` on; and the lines after them
-abbrev pub items_from : {A : Type 0} → (ℕ → List (List ℕ) → Result A Fault) → ℕ → ℕ → List (List (List ℕ)) → Result (List A × List (List (List ℕ))) Fault
+abbrev pub items_from : {A : Type 0} → (ℕ → List (List ℕ) → Result A Fault) → ℕ → ℕ → List (List (List ℕ)) →
+    Result (List A × List (List (List ℕ))) Fault
 items_from item zero at lines = Ok ([], lines)
 items_from item (suc n) at [] = refuse PlyShort at
 items_from item (suc n) at (line ∷ lines) = do

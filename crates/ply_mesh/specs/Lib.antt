@@ -1,4 +1,6 @@
 pub mod Body
+pub mod Ahead
 pub mod Read
 pub mod Text
 pub mod Fields
+pub mod RoundTripLaw

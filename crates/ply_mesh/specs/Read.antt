@@ -20,7 +20,8 @@ quant_of q = record { bits = q.bits; range = q.range; min = q.min }
 
 -- the same head of a geometry
 abbrev pub head_of : PlyHead → Head
-head_of h = record { usage = h.usage; dtype = h.dtype; comps = h.comps; normalized = h.normalized; id = h.id; quant = option_map quant_of h.quant }
+head_of h =
+    record { usage = h.usage; dtype = h.dtype; comps = h.comps; normalized = h.normalized; id = h.id; quant = option_map quant_of h.quant }
 
 -- the geometry of a header, points and faces: without an element of faces it is a cloud
 abbrev pub geometry_of : List Head → List (List ℤ) → Option (List (List ℕ)) → Geometry

@@ -1,6 +1,7 @@
 -- The PLY text of a geometry, line by line and token by token (PLY 1.0; the comment lines, the order of
 -- the lines and the names are this project's choice).
-use Rattle.std.specs.Prelude.{ℕ, zero, suc, ◌+◌, ◌/◌, ◌%◌, ◌&&◌, ◌||◌, Bool, not, List, [], ◌∷◌, ◌++◌, length, map, take, flat_map, Option, None, Some, ℤ, codes, nat_lt, ◌==◌, if◌then◌else◌}
+use Rattle.std.specs.Prelude.{ℕ, zero, suc, ◌+◌, ◌/◌, ◌%◌, ◌&&◌, ◌||◌, Bool, not, List, [], ◌∷◌, ◌++◌, length, map, take}
+use Rattle.std.specs.Prelude.{flat_map, Option, None, Some, ℤ, codes, nat_lt, ◌==◌, if◌then◌else◌}
 use Rattle.std.specs.List.{list_any}
 use Rattle.std.specs.Fmt.{decimal, signed_decimal}
 use Rattle.mesh_model.specs.declared.heads.Quant.{Quant}
@@ -44,7 +45,9 @@ pattern_text v = hex_digits 8 v
 
 -- `comment drc attr k usage dtype comps normalized id`
 unfoldable pub attr_line : ℕ → Head → List (List ℕ)
-attr_line k h = codes "comment" ∷ codes "drc" ∷ codes "attr" ∷ decimal k ∷ decimal h.usage ∷ decimal h.dtype ∷ decimal h.comps ∷ decimal h.normalized ∷ decimal h.id ∷ []
+attr_line k h =
+    codes "comment" ∷ codes "drc" ∷ codes "attr" ∷ decimal k ∷ decimal h.usage ∷ decimal h.dtype ∷ decimal h.comps
+    ∷ decimal h.normalized ∷ decimal h.id ∷ []
 
 -- `comment drc quant k bits range min ..`
 unfoldable pub quant_line : ℕ → Quant → List (List ℕ)
@@ -70,9 +73,12 @@ type_word dtype =
     else (if dtype == 4 then codes "ushort"
     else (if dtype == 6 then codes "uint" else codes "int"))))
 
--- a head that may have names of its usage: a position or a normal of three components, a colour of three or four, a texture coordinate of two
+-- a head that may have names of its usage: a position or a normal of three components, a colour of three or four,
+-- a texture coordinate of two
 abbrev pub may_be_named : Head → Bool
-may_be_named h = ((h.usage == 0 || h.usage == 1) && h.comps == 3) || (h.usage == 2 && (h.comps == 3 || h.comps == 4)) || (h.usage == 3 && h.comps == 2)
+may_be_named h =
+    ((h.usage == 0 || h.usage == 1) && h.comps == 3)
+    || (h.usage == 2 && (h.comps == 3 || h.comps == 4)) || (h.usage == 3 && h.comps == 2)
 
 -- such a head of this usage
 abbrev pub takes_names : ℕ → Head → Bool
@@ -87,7 +93,8 @@ unfoldable pub usage_name : ℕ → ℕ → List ℕ
 usage_name usage j =
     if usage == 0 then (if j == 0 then codes "x" else (if j == 1 then codes "y" else codes "z"))
     else (if usage == 1 then (if j == 0 then codes "nx" else (if j == 1 then codes "ny" else codes "nz"))
-    else (if usage == 2 then (if j == 0 then codes "red" else (if j == 1 then codes "green" else (if j == 2 then codes "blue" else codes "alpha")))
+    else (if usage == 2
+    then (if j == 0 then codes "red" else (if j == 1 then codes "green" else (if j == 2 then codes "blue" else codes "alpha")))
     else (if j == 0 then codes "s" else codes "t")))
 
 -- component j of head k without a name of its usage
@@ -123,7 +130,8 @@ first_lines = (codes "ply" ∷ []) ∷ (codes "format" ∷ codes "ascii" ∷ cod
 
 -- the header up to the properties of a point
 abbrev pub points_header : List Head → ℕ → List (List (List ℕ))
-points_header heads points = first_lines ++ head_lines 0 heads ++ (element_line (codes "vertex") points ∷ []) ++ property_lines heads 0 heads
+points_header heads points =
+    first_lines ++ head_lines 0 heads ++ (element_line (codes "vertex") points ∷ []) ++ property_lines heads 0 heads
 
 -- the property of a face
 abbrev pub list_line : List (List ℕ)
@@ -147,7 +155,8 @@ abbrev pub face_lines : List (List ℕ) → List (List (List ℕ))
 face_lines faces = map face_line faces
 
 abbrev pub ply_lines : Geometry → List (List (List ℕ))
-ply_lines (Mesh m) = points_header m.heads (length m.points) ++ faces_header (length m.faces) ++ last_line ++ point_lines m.points ++ face_lines m.faces
+ply_lines (Mesh m) =
+    points_header m.heads (length m.points) ++ faces_header (length m.faces) ++ last_line ++ point_lines m.points ++ face_lines m.faces
 ply_lines (Cloud c) = points_header c.heads (length c.points) ++ last_line ++ point_lines c.points
 
 -- the text of a geometry

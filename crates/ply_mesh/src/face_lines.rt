@@ -8,7 +8,7 @@ ghost use Rattle.ply_mesh.specs.Body.{point_of, points_of, indices_of, counted_f
 use crate::numbers::{number_of, range_of};
 use crate::rows::refusal;
 use drc_base::{Kind, Refusal};
-use ply_text::{int_at, is_at_end, tokens};
+use ply_text::{first_tokens, int_at, is_at_end};
 use std::alloc::Global;
 
 /// The number of a point.
@@ -132,6 +132,7 @@ fn face_by_tokens(
 /// where no token stands there, PlyNumber where the first is no number of its type, PlyFace where it
 /// isn't 3, PlyRow where another number of tokens than four stands there, PlyNumber where an index is
 /// no number of its type, PlyIndex where it is no number of a point.
+#[tactic(auto, using(crate::proofs::FaceSteps::face_few))]
 pub(crate) fn read_face(
     alloc: Global,
     list: (u8, u8),
@@ -144,6 +145,6 @@ pub(crate) fn read_face(
     if let Some(face) = face_in_place(list, points, line) {
         return Ok(face);
     }
-    let found = tokens(alloc, line)?;
+    let found = first_tokens(alloc, line, 5)?;
     face_by_tokens(list, points, at, found.as_slice())
 }

@@ -5,14 +5,18 @@
 
 mod bodies;
 mod face_lines;
+mod faces_ahead;
 mod head_writer;
+mod laws;
 mod numbers;
 mod property_writer;
 mod reading;
 mod rows;
+mod rows_ahead;
 #[cfg(test)]
 mod tests;
 mod writing;
 
+pub use laws::text_is_read_again;
 pub use reading::read_ply;
 pub use writing::write_ply;

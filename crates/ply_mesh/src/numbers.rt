@@ -22,7 +22,7 @@ pub(crate) fn range_of(dtype: u8) -> (u32, u32)
 }
 
 /// Whether a number is from `-below` up to `most`.
-fn is_within(v: i64, below: u32, most: u32) -> bool
+pub(crate) fn is_within(v: i64, below: u32, most: u32) -> bool
     ensures value { result ≡ is_between below most v }
     ensures fits { IsTrue result → below ≤ 2 ^ 31 → most < 2 ^ 31 → FitsSigned w32 v }
 {

@@ -10,7 +10,7 @@ ghost use Rattle.ply_mesh.specs.Body.{numbers_of, row_of, texts, Appends, Append
 
 use crate::numbers::{number_of, range_of};
 use drc_base::{Fault, Kind, Memory, Refusal};
-use ply_text::{int_at, is_at_end, tokens};
+use ply_text::{first_tokens, int_at, is_at_end};
 use std::alloc::Global;
 
 pub(crate) fn refusal(kind: Kind, at: u64) -> Refusal
@@ -74,7 +74,7 @@ fn row_by_tokens(
         (λ _. Appends (row_of dtypes.now at (tokens_of line.now)) out.old.items out.new.items)
         (λ e. Refuses (row_of dtypes.now at (tokens_of line.now)) e) }
 {
-    let found = tokens(alloc, line)?;
+    let found = first_tokens(alloc, line, dtypes.len() + 1)?;
     if found.as_slice().len() != dtypes.len() {
         return Err(refusal(Kind::PlyRow, at));
     }

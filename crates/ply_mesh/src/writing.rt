@@ -1,6 +1,6 @@
 //! PLY text from geometry.
 
-ghost use Rattle.std.specs.Prelude.{◌≡◌, ◌<◌, ◌≤◌, ◌++◌, ◌∷◌, [], All, Ok, length, map, codes, OnOk, IfOk};
+ghost use Rattle.std.specs.Prelude.{◌≡◌, ◌+◌, ◌<◌, ◌≤◌, ◌++◌, ◌∷◌, [], All, Ok, length, map, take, codes, OnOk, IfOk};
 ghost use Rattle.std.specs.Fmt.{signed_decimal, decimal};
 ghost use Rattle.mesh_model.specs.declared.geometries.Geometry.TheVariants as geometry;
 ghost use Rattle.ply_mesh.specs.Fields.{HasFields};
@@ -9,36 +9,50 @@ ghost use Rattle.ply_mesh.specs.Text.{line_text, text_of, element_line, first_li
 
 use crate::head_writer::{put_heads, put_number};
 use crate::property_writer::put_properties;
+use decimal_text::{CHUNK_BYTES, ROOM_BYTES, flushed, put_signed, put_unsigned, with_room};
 use drc_base::Memory;
 use mesh_model::{Cloud, CornerMesh, Geometry, Head};
-use ply_text::put_int;
 use std::alloc::Global;
 
-/// Appends the line of a point.
-#[tactic(auto, using(crate::proofs::RowTexts::row_begun, crate::proofs::RowTexts::row_more, crate::proofs::RowTexts::row_end))]
-fn put_row(out: &mut Vec<u8>, row: &[i32]) -> Result<(), Memory>
-    requires { 0 < length row.now }
-    ensures { OnOk result (out.new.items ≡ out.old.items ++ line_text (map signed_decimal row.now)) }
+/// Writes the line of a point from `at` on, and answers the place behind it.
+#[inline(always)]
+#[tactic(auto, using(crate::proofs::RowTexts::row_end))]
+fn put_row(row: &[i32], buf: &mut [u8], at: usize) -> usize
+    requires some { 0 < length row.now }
+    requires most { length row.now ≤ 128 }
+    requires room { at + ROOM_BYTES ≤ length buf.old }
+    ensures text { take result buf.new ≡ take at buf.old ++ line_text (map signed_decimal row.now) }
+    ensures few { result ≤ at + ROOM_BYTES }
 {
-    put_int(out, row[0] as i64)?;
-    for j in 1..row.len() {
-        out.push(b' ')?;
-        put_int(out, row[j] as i64)?;
+    let last = row.len() - 1;
+    let mut end = at;
+    for j in 0..last {
+        end = put_signed(row[j], b' ', buf, end);
     }
-    out.push(b'\n')?;
-    Ok(())
+    put_signed(row[last], b'\n', buf, end)
 }
 
-/// Appends the line of a face.
-fn put_face(out: &mut Vec<u8>, a: u32, b: u32, c: u32) -> Result<(), Memory>
-    ensures { OnOk result (out.new.items ≡ out.old.items ++ line_text (face_line (a ∷ b ∷ c ∷ []))) }
+/// Writes the count of a face and a space from `at` on.
+#[inline(always)]
+fn put_count(buf: &mut [u8], at: usize)
+    requires { at + 2 ≤ length buf.old }
+    ensures { take (at + 2) buf.new ≡ take at buf.old ++ 51 ∷ 32 ∷ [] }
 {
-    out.push(b'3')?;
-    put_number(out, a)?;
-    put_number(out, b)?;
-    put_number(out, c)?;
-    out.push(b'\n')?;
-    Ok(())
+    buf[at] = b'3';
+    buf[at + 1] = b' ';
+}
+
+/// Writes the line of a face from `at` on, and answers the place behind it.
+#[inline(always)]
+fn put_face(a: u32, b: u32, c: u32, buf: &mut [u8], at: usize) -> usize
+    requires { at + ROOM_BYTES ≤ length buf.old }
+    ensures text { take result buf.new ≡ take at buf.old ++ line_text (face_line (a ∷ b ∷ c ∷ [])) }
+    ensures few { result ≤ at + ROOM_BYTES }
+{
+    put_count(buf, at);
+    let end = put_unsigned(a, b' ', buf, at + 2);
+    let end = put_unsigned(b, b' ', buf, end);
+    put_unsigned(c, b'\n', buf, end)
 }
 
 /// Appends `element NAME N`.
@@ -100,39 +114,50 @@ fn put_last(out: &mut Vec<u8>) -> Result<(), Memory>
 }
 
 /// Appends the points of a mesh.
-#[tactic(auto, using(crate::proofs::RowTexts::point_more, crate::proofs::RowTexts::no_more_points))]
+#[tactic(auto, using(crate::proofs::RowTexts::no_more_points))]
 fn put_mesh_points(out: &mut Vec<u8>, mesh: &CornerMesh) -> Result<(), Memory>
     ensures { OnOk result (out.new.items ≡ out.old.items ++ text_of (point_lines mesh.now.points)) }
 {
+    // For the proof alone: a row has 1 to 128 integers.
     let _width = mesh.width();
+    let mut chunk = [0u8; CHUNK_BYTES];
+    let mut held = 0;
     for i in 0..mesh.point_count() {
-        put_row(out, mesh.point(i))?;
+        let from = with_room(out, &chunk, held)?;
+        held = put_row(mesh.point(i), &mut chunk, from);
     }
-    Ok(())
+    flushed(out, &chunk, held)
 }
 
 /// Appends the points of a cloud.
-#[tactic(auto, using(crate::proofs::RowTexts::point_more, crate::proofs::RowTexts::no_more_points))]
+#[tactic(auto, using(crate::proofs::RowTexts::no_more_points))]
 fn put_cloud_points(out: &mut Vec<u8>, cloud: &Cloud) -> Result<(), Memory>
     ensures { OnOk result (out.new.items ≡ out.old.items ++ text_of (point_lines cloud.now.points)) }
 {
+    // For the proof alone: a row has 1 to 128 integers.
     let _width = cloud.width();
+    let mut chunk = [0u8; CHUNK_BYTES];
+    let mut held = 0;
     for i in 0..cloud.point_count() {
-        put_row(out, cloud.point(i))?;
+        let from = with_room(out, &chunk, held)?;
+        held = put_row(cloud.point(i), &mut chunk, from);
     }
-    Ok(())
+    flushed(out, &chunk, held)
 }
 
 /// Appends the faces of a mesh.
-#[tactic(auto, using(crate::proofs::RowTexts::face_more, crate::proofs::RowTexts::no_more_faces))]
+#[tactic(auto, using(crate::proofs::RowTexts::no_more_faces))]
 fn put_faces(out: &mut Vec<u8>, mesh: &CornerMesh) -> Result<(), Memory>
     ensures { OnOk result (out.new.items ≡ out.old.items ++ text_of (face_lines mesh.now.faces)) }
 {
+    let mut chunk = [0u8; CHUNK_BYTES];
+    let mut held = 0;
     for f in 0..mesh.face_count() {
+        let from = with_room(out, &chunk, held)?;
         let face = mesh.face(f);
-        put_face(out, face[0], face[1], face[2])?;
+        held = put_face(face[0], face[1], face[2], &mut chunk, from);
     }
-    Ok(())
+    flushed(out, &chunk, held)
 }
 
 /// The text of a mesh.

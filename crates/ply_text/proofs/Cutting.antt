@@ -1,5 +1,5 @@
 -- How the lines of a text begin.
-use Rattle.std.proofs.Common.{◌≡◌, ℕ, suc, ◌+◌, ◌<◌, ◌≤◌, Bool, false, eqb, List, [], ◌∷◌, ◌++◌, length, take, drop, get_or, All, refl, sym, ap, ◌∙◌, inl, inr, arith}
+use Rattle.std.proofs.Common.{◌≡◌, ℕ, suc, ◌+◌, ◌-◌, ◌<◌, ◌≤◌, Bool, false, eqb, List, [], ◌∷◌, ◌++◌, length, take, drop, get_or, All, refl, sym, ap, ◌∙◌, inl, inr, arith}
 use Rattle.std.specs.List.{slice_split, onto_first}
 use Rattle.std.specs.Str.Lines.{lines, lines_of_parts, strip_carriage_return}
 use Rattle.std.proofs.lemmas.Bool.{cond-false, cond_both, ne_eqb, cases_lt, cases_Bool}
@@ -54,6 +54,16 @@ cuts_line text i lt p e =
     let rest : drop i text ≡ 10 ∷ drop (i + 1) text = drop_more text i 0 lt ∙ ap (λ c. c ∷ drop (i + 1) text) e in
     let whole : text ≡ take i text ++ 10 ∷ drop (i + 1) text = sym (take-append-drop i text) ∙ ap (λ (r : List ℕ). take i text ++ r) rest in
     ap lines whole ∙ lines-first (take i text) (drop (i + 1) text) (front_plain text i (omega arith) p)
+
+no_return : (t : List ℕ) → (get_or t (length t - 1) 0 ≡ 13 → ⊥) → strip_carriage_return t ≡ t
+no_return t ne = cond-false (eqb (get_or t (length t - 1) 0) 13) (take (length t - 1) t) t (ne_eqb (get_or t (length t - 1) 0) 13 ne)
+
+-- a line whose last byte is no CR
+pub cuts_plain : (text : List ℕ) (i : ℕ) → i < length text → 0 < i → IsPlain text i → get_or text i 0 ≡ 10 → 14 ≤ get_or text (i - 1) 0 → lines text ≡ take i text ∷ lines (drop (i + 1) text)
+cuts_plain text i lt some p e last =
+    let long : length (take i text) ≡ i = omega (arith, length-take i text) in
+    let end : get_or (take i text) (length (take i text) - 1) 0 ≡ get_or text (i - 1) 0 = ap (λ n. get_or (take i text) (n - 1) 0) long ∙ get_or-take i text (i - 1) 0 (omega arith) in
+    cuts_line text i lt p e ∙ ap (λ (t : List ℕ). t ∷ lines (drop (i + 1) text)) (no_return (take i text) (λ r. omega (arith, end)))
 
 pub ends_line : (text : List ℕ) (i : ℕ) → length text ≤ i → IsPlain text i → 0 < length text → lines text ≡ text ∷ []
 ends_line text i le p long = lines-last text long (λ k d h. ap is_lf (get_or_default text k d 0 h) ∙ ne_eqb (get_or text k 0) 10 (p.plain k (omega arith)))

@@ -8,3 +8,4 @@ pub mod Names
 pub mod Columns
 pub mod InPlace
 pub mod NoNumber
+pub mod NumbersAhead

@@ -2,7 +2,7 @@
 use Rattle.std.proofs.Common.{◌≡◌, ℕ, ◌+◌, ◌-◌, ◌<◌, ◌≤◌, Bool, true, false, ltb, List, [], ◌∷◌, ◌++◌, length, take, drop, get_or, All, refl, sym, ap, ◌∙◌, inl, inr, arith}
 use Rattle.std.specs.List.{filter, slice_split, onto_first}
 use Rattle.std.proofs.lemmas.Bool.{lt-ltb, cases_lt}
-use Rattle.std.proofs.lemmas.List.{append-nil, at_drop_more, drop_more, drop_all, take-append-drop, drop-drop, length-take, length-drop, get_or-take, get_or-drop, get_or_default}
+use Rattle.std.proofs.lemmas.List.{append-nil, take_at, take_all, at_drop_more, drop_more, drop_all, take-append-drop, drop-drop, length-take, length-drop, get_or-take, get_or-drop, get_or_default}
 use Rattle.std.proofs.lemmas.List.Splits.{slice_split-cons_yes, slice_split-cons_no, slice_split_none, slice_split_at}
 use Rattle.ply_text.specs.Tokens.{is_blank, tokens_of}
 
@@ -80,6 +80,13 @@ no_token line i h = ap tokens_of (drop_all i line h) ∙ tokens_of-nil
 -- with none left, those in front are all
 pub all_taken : (front whole : List (List ℕ)) (line : List ℕ) (i : ℕ) → length line ≤ i → front ++ tokens_of (drop i line) ≡ whole → front ≡ whole
 all_taken front whole line i h e = sym (append-nil front) ∙ ap (λ (ts : List (List ℕ)). front ++ ts) (sym (no_token line i h)) ∙ e
+
+-- with enough in front, these are the first
+pub enough_taken : (front rest whole : List (List ℕ)) (most : ℕ) → length front ≡ most → front ++ rest ≡ whole → front ≡ take most whole
+enough_taken front rest whole most many e = sym (take_at front rest most many) ∙ ap (take most) e
+
+pub few_taken : (front whole : List (List ℕ)) (most : ℕ) → length front ≤ most → front ≡ whole → front ≡ take most whole
+few_taken front whole most few e = sym (take_all most front few) ∙ ap (take most) e
 
 some_part : (c : ℕ) (parts : List (List ℕ)) → 0 < length (filter filled (onto_first c parts))
 some_part c [] = omega arith

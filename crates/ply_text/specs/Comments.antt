@@ -1,6 +1,7 @@
 -- The comment lines of a header that describe attributes (this project's choice; the numbers follow
 -- the Draco Bitstream Specification 2.2, attribute decoders).
-use Rattle.std.specs.Prelude.{ℕ, zero, suc, ◌-◌, ◌^◌, ◌&&◌, ◌||◌, Bool, false, List, [], ◌∷◌, length, Option, None, Some, option_and_then, codes, nat_le, is_none, ◌==◌, slice_get}
+use Rattle.std.specs.Prelude.{ℕ, zero, suc, ◌-◌, ◌^◌, ◌&&◌, ◌||◌, Bool, false, List, [], ◌∷◌, length, Option, None, Some}
+use Rattle.std.specs.Prelude.{option_and_then, codes, nat_le, is_none, ◌==◌, slice_get}
 use Rattle.std.specs.Str.{bytes_eq}
 use Rattle.drc_base.specs.declared.limits.TheConstants.{MAX_COMPONENTS}
 use Rattle.ply_text.specs.declared.headers.PlyHead.{PlyHead}

@@ -1,9 +1,11 @@
 -- What the lines of a header have declared so far, and what one more line adds or which fault it has
 -- (PLY 1.0, in this project's profile; the order of the tests is this project's choice).
-use Rattle.std.specs.Prelude.{ℕ, ◌++◌, ◌&&◌, Bool, true, List, [], ◌∷◌, length, Option, Some, Result, Ok, codes, nat_le, is_none, is_some, if◌then◌else◌}
+use Rattle.std.specs.Prelude.{ℕ, ◌++◌, ◌&&◌, Bool, true, List, [], ◌∷◌, length, Option, Some, Result, Ok, codes, nat_le}
+use Rattle.std.specs.Prelude.{is_none, is_some, if◌then◌else◌}
 use Rattle.std.specs.Str.{bytes_eq}
 use Rattle.drc_base.specs.declared.faults.Fault.{Fault}
-use Rattle.drc_base.specs.declared.kinds.Kind.TheVariants.{PlyFormat, PlyHeader, PlyType, PlyElement, PlyAttr, PointLimit, FaceLimit, AttrLimit}
+use Rattle.drc_base.specs.declared.kinds.Kind.TheVariants.{PlyFormat, PlyHeader, PlyType, PlyElement, PlyAttr, PointLimit}
+use Rattle.drc_base.specs.declared.kinds.Kind.TheVariants.{FaceLimit, AttrLimit}
 use Rattle.drc_base.specs.declared.limits.TheConstants.{MAX_POINTS, MAX_FACES, MAX_ATTRIBUTES}
 use Rattle.drc_base.specs.Steps.{◌>>=◌}
 use Rattle.ply_text.specs.declared.headers.PlyHead.{PlyHead}
@@ -35,7 +37,15 @@ pub record Draft : Type 0 where
 
 -- a draft without the room of its lists
 abbrev pub draft_of : HeaderDraft → Draft
-draft_of d = record { formatted = d.formatted; heads = d.heads.items; vertices = d.vertices; properties = d.properties.items; faces = d.faces; list = d.list }
+draft_of d =
+    record {
+      formatted = d.formatted;
+      heads = d.heads.items;
+      vertices = d.vertices;
+      properties = d.properties.items;
+      faces = d.faces;
+      list = d.list;
+    }
 
 -- between `element vertex` and `element face`
 abbrev pub in_vertex : Draft → Bool
@@ -66,7 +76,8 @@ list at d line = do
   itype ← or_refuse PlyType at (type_of p.1)
   if in_vertex d
       then refuse PlyType at
-      else (if is_some d.faces && is_none d.list && is_indices p.2 then Ok (record d { list = Some (ctype, itype) }) else refuse PlyElement at)
+      else (if is_some d.faces && is_none d.list && is_indices p.2
+      then Ok (record d { list = Some (ctype, itype) }) else refuse PlyElement at)
 
 -- an attribute's line: the seventeenth is one too many, whatever follows its first words
 unfoldable pub attribute : ℕ → Draft → List (List ℕ) → Result Draft Fault

@@ -1,5 +1,6 @@
 -- The header of a PLY text: a definition on its lines' tokens (PLY 1.0, in this project's profile).
-use Rattle.std.specs.Prelude.{ℕ, ◌+◌, ◌*◌, ◌&&◌, ◌||◌, Bool, true, false, not, List, [], ◌∷◌, length, map, replicate, flat_map, None, Result, Ok, nat_lt, ◌==◌, is_some, is_none, unwrap_or, if◌then◌else◌}
+use Rattle.std.specs.Prelude.{ℕ, ◌+◌, ◌*◌, ◌&&◌, ◌||◌, Bool, true, false, not, List, [], ◌∷◌, length, map, replicate, flat_map}
+use Rattle.std.specs.Prelude.{None, Result, Ok, nat_lt, ◌==◌, is_some, is_none, unwrap_or, if◌then◌else◌}
 use Rattle.std.specs.List.{list_all}
 use Rattle.std.specs.Str.{bytes_eq}
 use Rattle.drc_base.specs.declared.faults.Fault.{Fault}
@@ -51,7 +52,14 @@ header_by at d heads =
     if nat_lt MAX_ATTRIBUTES (length heads) then refuse AttrLimit at
     else (if not (agrees heads d.properties) then refuse PlyAttr at
     else (if nat_lt MAX_VALUES (unwrap_or d.vertices 0 * length d.properties) then refuse ValueLimit at
-    else Ok (record { heads = heads; vertices = unwrap_or d.vertices 0; faces = d.faces; types = types_of d.properties; list = d.list; body_line = at + 1 })))
+    else Ok (record {
+      heads = heads;
+      vertices = unwrap_or d.vertices 0;
+      faces = d.faces;
+      types = types_of d.properties;
+      list = d.list;
+      body_line = at + 1;
+    })))
 
 unfoldable pub header_at : ℕ → Draft → List (List ℕ) → Result Header Fault
 header_at at d line =

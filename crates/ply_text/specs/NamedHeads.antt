@@ -35,7 +35,8 @@ run_of dtype ps =
 
 -- attribute number k with this usage, type and components
 abbrev pub named_head : ℕ → ℕ → ℕ × ℕ → PlyHead
-named_head k dtype run = record { usage = run.0; dtype = dtype; comps = run.1; normalized = if run.0 == 2 then 1 else 0; id = k; quant = None }
+named_head k dtype run =
+    record { usage = run.0; dtype = dtype; comps = run.1; normalized = if run.0 == 2 then 1 else 0; id = k; quant = None }
 
 -- the attributes from number k on, from the left; the next `skip` properties belong to the one before
 abbrev pub named_heads : ℕ → ℕ → List Property → List PlyHead

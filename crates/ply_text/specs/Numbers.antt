@@ -1,5 +1,6 @@
 -- The numbers of ASCII PLY text (PLY 1.0; leading zeros and -0 are accepted by this project's choice).
-use Rattle.std.specs.Prelude.{ℕ, ◌+◌, ◌-◌, ◌*◌, ◌&&◌, Bool, List, [], ◌∷◌, length, fold, ℤ, pos, neg_ℤ, Option, None, Some, option_map, option_and_then, nat_lt, nat_le, int_le, ◌==◌, if◌then◌else◌}
+use Rattle.std.specs.Prelude.{ℕ, ◌+◌, ◌-◌, ◌*◌, ◌&&◌, Bool, List, [], ◌∷◌, length, fold, ℤ, pos, neg_ℤ, Option, None, Some}
+use Rattle.std.specs.Prelude.{option_map, option_and_then, nat_lt, nat_le, int_le, ◌==◌, if◌then◌else◌}
 use Rattle.std.specs.List.{list_all}
 
 -- a decimal digit

@@ -43,7 +43,7 @@ fn digits_at(line: &[u8], start: usize, most: u32) -> Option<(u32, usize)>
 }
 
 /// The number from -n.
-fn negated(n: u32) -> i32
+pub(crate) fn negated(n: u32) -> i32
     requires { n ≤ 2 ^ 31 }
     ensures { result ≡ neg_ℤ (pos n) }
 {

@@ -4,6 +4,7 @@
 //! the profile of docs/PLY.md.
 #![tactic(auto)]
 
+mod ahead;
 mod bit_patterns;
 mod blanks;
 mod comments;
@@ -22,9 +23,10 @@ mod tests;
 mod token_reader;
 mod words;
 
+pub use ahead::{integer_ahead, natural_ahead};
 pub use header_reader::read_header;
 pub use headers::{Header, PlyHead, PlyQuant};
 pub use in_place::{int_at, is_at_end};
 pub use integers::{put_int, read_int};
 pub use line_reader::Lines;
-pub use line_tokens::tokens;
+pub use line_tokens::first_tokens;

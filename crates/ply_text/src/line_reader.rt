@@ -32,6 +32,13 @@ impl<'a> Lines<'a> {
         Lines { rest: bytes }
     }
 
+    /// The text of the lines that are left.
+    pub fn rest(&self) -> &'a [u8]
+        ensures { self.now ≡ lines result.now }
+    {
+        self.rest
+    }
+
     /// The first line that is left, taken off. None exactly where none is left.
     pub fn next(&mut self) -> Option<&'a [u8]>
         ensures { MatchOption result ((self.old ≡ []) × (self.new ≡ [])) (λ line. self.old ≡ line.now ∷ self.new) }

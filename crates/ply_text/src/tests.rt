@@ -51,7 +51,7 @@ fn parts_lines_and_tokens(rt: HostRuntime) -> Result<(), Fail> {
         ("1 2 3 4 5 6 7 8", 8),
         ("1 2 3 4 5 6 7 8 9", 9),
     ] {
-        assert_eq!(rt; tokens(alloc, line.as_bytes())?.len(), count);
+        assert_eq!(rt; first_tokens(alloc, line.as_bytes(), 9)?.len(), count);
     }
     Ok(())
 }
@@ -305,7 +305,7 @@ fn refuses_wrong_lines_of_attributes(rt: HostRuntime) -> Result<(), Fail> {
     Ok(())
 }
 
-/// The lines of a header of 2^20 points: so many lines of attributes of so many components, more
+/// The lines of a header of 2^22 points: so many lines of attributes of so many components, more
 /// lines, so many properties, and its end.
 #[derive(Drop)]
 struct Many<'a> {
@@ -327,7 +327,7 @@ fn refusal_of(alloc: Global, many: Many<'_>) -> Result<Option<Refusal>, Refusal>
         text.extend_from_slice(b" 0 0\n")?;
     }
     text.extend_from_slice(many.more.as_bytes())?;
-    text.extend_from_slice(b"element vertex 1048576\n")?;
+    text.extend_from_slice(b"element vertex 4194304\n")?;
     for _ in 0..many.properties {
         text.extend_from_slice(b"property int q\n")?;
     }
