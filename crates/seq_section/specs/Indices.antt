@@ -1,6 +1,7 @@
 -- The connectivity of a sequential mesh (Draco Bitstream Specification 2.2, section "Sequential Connectivity"; the limits
 -- are this project's choice).
-use Rattle.std.specs.Prelude.{◌≡◌, ℕ, ◌*◌, ◌<◌, Bool, ◌==◌, List, [], ◌∷◌, ◌++◌, length, Option, None, Some, Ok, nat_le, nat_lt, if◌then◌else◌, All}
+use Rattle.std.specs.Prelude.{◌≡◌, ℕ, ◌*◌, ◌<◌, Bool, ◌==◌, List, [], ◌∷◌, ◌++◌, length, Option, None, Some, Ok, nat_le, nat_lt}
+use Rattle.std.specs.Prelude.{if◌then◌else◌, All}
 use Rattle.std.specs.List.{flat_map}
 use Rattle.drc_base.specs.declared.kinds.Kind.TheVariants as kind
 use Rattle.drc_base.specs.Profile.{Profile}
