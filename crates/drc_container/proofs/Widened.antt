@@ -1,10 +1,10 @@
 -- A stream that is a geometry in a profile is the same one in each wider profile.
-use Rattle.std.proofs.Common.{◌≡◌, ℕ, ◌+◌, ◌*◌, ◌≤◌, true, List, [], ◌∷◌, ◌++◌, Option, None, Ok, refl, arith, lit≤}
+use Rattle.std.proofs.Common.{◌≡◌, ℕ, ◌+◌, ◌*◌, ◌≤◌, true, List, [], ◌∷◌, ◌++◌, None, refl, arith, lit≤}
 use Rattle.std.specs.Prelude.{nat_le}
 use Rattle.std.proofs.lemmas.Bool.{leb-true, le-leb}
 use Rattle.drc_base.specs.declared.kinds.Kind.TheVariants as kind
 use Rattle.drc_base.specs.Profile.{Profile, profile_one, profile_two}
-use Rattle.drc_bits.specs.Reading.{Reading, Item, must, start_of}
+use Rattle.drc_bits.specs.Reading.{Reading, must, start_of}
 use Rattle.drc_bits.specs.Numbers.{number_at}
 use Rattle.drc_bits.specs.Varint.{var32_at}
 use Rattle.mesh_model.specs.declared.heads.Head.{Head}

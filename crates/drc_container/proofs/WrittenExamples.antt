@@ -27,7 +27,7 @@ use Rattle.drc_container.specs.declared.choices.Walk.{Walk}
 use Rattle.drc_container.specs.declared.choices.Walk.TheVariants as walk
 use Rattle.drc_container.specs.declared.choices.Choice.{Choice}
 use Rattle.drc_container.specs.Header.{form_said, header_at}
-use Rattle.drc_container.specs.Stream.{decoders_at, attributes_at, mesh_behind, mesh_at, stream, stream_in}
+use Rattle.drc_container.specs.Stream.{decoders_at, attributes_at, mesh_behind, mesh_at, stream_in}
 use Rattle.drc_container.specs.Refused.{early_fault, range_fault}
 use Rattle.drc_container.specs.Written.{header_bytes, attributes_bytes, stream_bytes}
 use Rattle.drc_container.specs.Layout.{layout_of}
