@@ -1,4 +1,5 @@
 -- Values of attributes that are read back from their bytes.
+use Rattle.drc_base.specs.Profile.{profile_two}
 use Rattle.std.proofs.Common.{◌≡◌, ℕ, ◌+◌, ◌*◌, ◌^◌, ◌<◌, ◌≤◌, ◌==◌, ◌&&◌, ◌||◌, Bool, true, ℤ, pos, List, [], ◌∷◌, ◌++◌, length, map, flat_map, nat_le, Option, None, Some, Ok, refl, sym, ◌∙◌, ap, subst, append_assoc, append-nil, length-append, arith}
 use Rattle.std.specs.List.{All, list_all, zip}
 use Rattle.std.proofs.lemmas.Grind.{common_steps}
@@ -28,7 +29,7 @@ use Rattle.attr_section.proofs.SpelledIntegers.{Spells-low_bytes, Spells-all}
 abbrev behind : ℕ → ℕ → List ℕ → Reading
 behind place n rest = record { place = place + n; rest = rest }
 
-Spells-prediction : (b : ℕ) → (b == 254 || b == 0) ≡ true → Spells prediction_at (b ∷ []) (prediction_of b)
+Spells-prediction : (b : ℕ) → (b == 254 || b == 0) ≡ true → Spells (prediction_at profile_two) (b ∷ []) (prediction_of b)
 unfolding prediction_at
 Spells-prediction b known =
     Spells-map prediction_of (must kind.Prediction (λ b. b == 254 || b == 0) (number_at 1)) (b ∷ []) b
@@ -37,7 +38,7 @@ Spells-prediction b known =
 -- values of a prediction byte
 typed_values : (h : Head) (n b : ℕ) (bytes : List ℕ) (values : List ℤ) → (b == 254 || b == 0) ≡ true
     → Spells (predicted_at (prediction_of b) h.comps n) bytes values → list_all (in_type h.dtype) values ≡ true
-    → (place : ℕ) (rest : List ℕ) → typed_values_at h n (record { place = place; rest = (b ∷ bytes) ++ rest })
+    → (place : ℕ) (rest : List ℕ) → typed_values_at profile_two h n (record { place = place; rest = (b ∷ bytes) ++ rest })
     ≡ Ok (record { values = values; predict = prediction_of b; at = place }, behind place (length (b ∷ bytes)) rest)
 unfolding typed_values_at
 typed_values h n b bytes values known spells typed place rest =
@@ -55,7 +56,7 @@ spelled_by plain h v b bytes known predict is spells typed = record {
   reads = λ entries spent place rest count few.
       let within : nat_le (spent + entries * h.comps) MAX_VALUES ≡ true = rw (← count) (grind (arith, few)) in
       rw (is, within, ← count) (
-      subst (λ p. typed_values_at (bare_head h) (length v.values) (record { place = place; rest = (b ∷ bytes) ++ rest }) ≡ Ok (record { values = v.values; predict = p; at = place }, behind place (length (b ∷ bytes)) rest)) predict
+      subst (λ p. typed_values_at profile_two (bare_head h) (length v.values) (record { place = place; rest = (b ∷ bytes) ++ rest }) ≡ Ok (record { values = v.values; predict = p; at = place }, behind place (length (b ∷ bytes)) rest)) predict
       (typed_values (bare_head h) (length v.values) b bytes v.values known spells typed place rest));
 }
 
@@ -76,7 +77,7 @@ differences_spelled plain h v difference spells typed =
 -- the values of attributes behind others
 attributes_spelled : (plain : Bool) (entries spent : ℕ) (front : List Values) (heads : List Head) (vs : List Values) → length vs ≡ length heads
     → All (λ (h, v). ValuesSpelled plain h v) (zip heads vs) → HaveEntries entries heads vs → spent + values_in front + values_in vs ≤ MAX_VALUES → (place : ℕ) (rest : List ℕ)
-    → each_at (λ before h. values_at h entries (spent + values_in before)) front (map bare_head heads) (record { place = place; rest = attributes_bytes plain heads vs ++ rest })
+    → each_at (λ before h. values_at profile_two h entries (spent + values_in before)) front (map bare_head heads) (record { place = place; rest = attributes_bytes plain heads vs ++ rest })
     ≡ Ok (front ++ placed plain place heads vs, behind place (length (attributes_bytes plain heads vs)) rest)
 unfolding each_at
 attributes_spelled plain entries spent front [] [] same each counts few place rest =
@@ -96,9 +97,9 @@ attributes_spelled plain entries spent front (h ∷ heads) (v ∷ vs) same each 
     (All-tail (λ (h, v). ValuesSpelled plain h v) (h, v) (zip heads vs) each) (All-tail (λ (h, v). length v.values ≡ entries * h.comps) (h, v) (zip heads vs) counts)
     (omega (arith, few, total, more)) (place + length bytes) rest in
     let after : place + length bytes + length others ≡ place + length (bytes ++ others) = omega (arith, length-append bytes others) in
-    ap (λ bs. values_at (bare_head h) entries (spent + values_in front) (record { place = place; rest = bs }) >>= λ x. each_at (λ before h. values_at h entries (spent + values_in before)) (front ++ x.0 ∷ []) (map bare_head heads) x.1)
+    ap (λ bs. values_at profile_two (bare_head h) entries (spent + values_in front) (record { place = place; rest = bs }) >>= λ x. each_at (λ before h. values_at profile_two h entries (spent + values_in before)) (front ++ x.0 ∷ []) (map bare_head heads) x.1)
     (append_assoc bytes others rest)
-    ∙ ap (λ r. r >>= λ x. each_at (λ before h. values_at h entries (spent + values_in before)) (front ++ x.0 ∷ []) (map bare_head heads) x.1) first
+    ∙ ap (λ r. r >>= λ x. each_at (λ before h. values_at profile_two h entries (spent + values_in before)) (front ++ x.0 ∷ []) (map bare_head heads) x.1) first
     ∙ next
     ∙ ap (λ l. Ok (l, record { place = place + length bytes + length others; rest = rest })) (append_assoc front (record v { at = place } ∷ []) (placed plain (place + length bytes) heads vs))
     ∙ ap (λ n. Ok (front ++ placed plain place (h ∷ heads) (v ∷ vs), record { place = n; rest = rest })) after
@@ -156,7 +157,7 @@ quants_spelled front (h ∷ heads) each =
 pub decoder_spelled : (plain : Bool) (entries spent : ℕ) (d : DecoderHead) (vs : List Values) → length vs ≡ length d.heads
     → All (λ (h, v). ValuesSpelled plain h v) (zip d.heads vs) → All (λ h. Spells (quantised_at (bare_head h)) (quant_bytes h.quant) h) d.heads
     → HaveEntries entries d.heads vs → spent + values_in vs ≤ MAX_VALUES → (place : ℕ) (rest : List ℕ)
-    → decoder_values_at (bare_decoder d) entries spent (record { place = place; rest = decoder_values_bytes plain d.heads vs ++ rest })
+    → decoder_values_at profile_two (bare_decoder d) entries spent (record { place = place; rest = decoder_values_bytes plain d.heads vs ++ rest })
     ≡ Ok ((placed plain place d.heads vs, d), record { place = place + length (decoder_values_bytes plain d.heads vs); rest = rest })
 unfolding decoder_values_at decoder_values_bytes attributes_at quants_at
 decoder_spelled plain entries spent d vs same each quants counts few place rest =
@@ -164,5 +165,5 @@ decoder_spelled plain entries spent d vs same each quants counts few place rest 
     let first = attributes_spelled plain entries spent [] d.heads vs same each counts (omega (arith, few)) place (quants_bytes d.heads ++ rest) in
     let second = (quants_spelled [] d.heads quants).reads (place + length values) rest in
     let after : place + length values + length (quants_bytes d.heads) ≡ place + length (values ++ quants_bytes d.heads) = omega (arith, length-append values (quants_bytes d.heads)) in
-    ap (λ bs. decoder_values_at (bare_decoder d) entries spent (record { place = place; rest = bs })) (append_assoc values (quants_bytes d.heads) rest)
+    ap (λ bs. decoder_values_at profile_two (bare_decoder d) entries spent (record { place = place; rest = bs })) (append_assoc values (quants_bytes d.heads) rest)
     ∙ rw (first, second, after) refl

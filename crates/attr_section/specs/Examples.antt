@@ -8,7 +8,14 @@ position_head = record { usage = 0; dtype = 5; comps = 3; normalized = 0; id = 0
 
 -- texture coordinates of eight bits
 abbrev pub texture_head : Head
-texture_head = record { usage = 3; dtype = 9; comps = 2; normalized = 1; id = 300; quant = Some (record { bits = 8; range = 0x4080_0000; min = 0 ∷ 0x3f80_0000 ∷ [] }) }
+texture_head = record {
+  usage = 3;
+  dtype = 9;
+  comps = 2;
+  normalized = 1;
+  id = 300;
+  quant = Some (record { bits = 8; range = 0x4080_0000; min = 0 ∷ 0x3f80_0000 ∷ [] });
+}
 
 -- positions of two entries
 abbrev pub position_values : List ℤ

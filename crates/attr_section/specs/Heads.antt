@@ -1,6 +1,7 @@
 -- The heads of attribute decoders (Draco Bitstream Specification 2.2, sections "Attributes Decoder" and "Sequential
 -- Attributes"; the limits and what is refused are this project's choice).
-use Rattle.std.specs.Prelude.{◌≡◌, ◌≤◌, ◌<◌, ℕ, ◌+◌, ◌==◌, ◌&&◌, ◌||◌, Bool, false, not, IsTrue, List, [], ◌∷◌, ◌++◌, length, map, replicate, Option, None, Some, Ok, sum_by, nat_le, nat_lt, if◌then◌else◌, All, flat_map}
+use Rattle.std.specs.Prelude.{◌≡◌, ◌≤◌, ◌<◌, ℕ, ◌+◌, ◌==◌, ◌&&◌, ◌||◌, Bool, false, not, IsTrue, List, [], ◌∷◌, ◌++◌, length, map}
+use Rattle.std.specs.Prelude.{replicate, Option, None, Some, Ok, sum_by, nat_le, nat_lt, if◌then◌else◌, All, flat_map}
 use Rattle.std.specs.List.{list_any, range_with_len}
 use Rattle.drc_base.specs.declared.kinds.Kind.TheVariants as kind
 use Rattle.drc_base.specs.declared.limits.TheConstants.{MAX_ATTRIBUTES, MAX_COMPONENTS}
@@ -81,7 +82,8 @@ coding_of dtype = if dtype == 9 then 2 else 1
 -- the coding of an attribute of this type; 0 is that of floats as they are, 3 that of octahedral normals
 unfoldable pub coding_at : ℕ → Reading → Item ℕ
 coding_at dtype c =
-    must kind.Coding (λ k. k == coding_of dtype) (must kind.Octahedral (λ k. not (k == 3)) (must kind.Generic (λ k. not (k == 0)) (number_at 1))) c
+    must kind.Coding (λ k. k == coding_of dtype)
+    (must kind.Octahedral (λ k. not (k == 3)) (must kind.Generic (λ k. not (k == 0)) (number_at 1))) c
 
 -- the codings of attributes
 abbrev pub codings_at : List Head → Reading → Item (List ℕ)
@@ -190,4 +192,5 @@ AreLinked (Some attr_data) decoders = LinksPass attr_data [] decoders
 
 -- a decoder is read back behind others
 pub record DecoderSpelled (d : DecoderHead) : Type 0 where
-  pub behind : (before : ℕ) → before + length d.heads ≤ MAX_ATTRIBUTES → Spells (decoder_at before (link_of d)) (decoder_bytes d) (bare_decoder d)
+  pub behind : (before : ℕ) → before + length d.heads ≤ MAX_ATTRIBUTES
+      → Spells (decoder_at before (link_of d)) (decoder_bytes d) (bare_decoder d)

@@ -1,10 +1,11 @@
 -- The values of attributes (Draco Bitstream Specification 2.2, sections "Sequential Attributes", "Prediction Decoder" and
 -- "Quantization"; the limits and what is refused are this project's choice).
-use Rattle.std.specs.Prelude.{◌≡◌, ℕ, ◌+◌, ◌-◌, ◌*◌, ◌/◌, ◌%◌, ◌^◌, ◌==◌, ◌&&◌, ◌||◌, Bool, ℤ, pos, negsuc, ◌-ℤ◌, List, [], ◌∷◌, length, map, Option, None, Some, Ok, sum_by, nat_le, int_le, int_lt, if◌then◌else◌}
+use Rattle.std.specs.Prelude.{◌≡◌, ℕ, ◌+◌, ◌-◌, ◌*◌, ◌/◌, ◌%◌, ◌^◌, ◌==◌, ◌&&◌, ◌||◌, Bool, ℤ, pos, negsuc, ◌-ℤ◌, List, [], ◌∷◌, length}
+use Rattle.std.specs.Prelude.{map, Option, None, Some, Ok, sum_by, nat_le, int_le, int_lt, if◌then◌else◌}
 use Rattle.std.specs.List.{list_all}
 use Rattle.std.specs.Ordering.{int_eq}
 use Rattle.drc_base.specs.declared.kinds.Kind.TheVariants as kind
-use Rattle.drc_base.specs.declared.limits.TheConstants.{MAX_VALUES}
+use Rattle.drc_base.specs.Profile.{Profile}
 use Rattle.drc_base.specs.Steps.{◌>>=◌}
 use Rattle.drc_bits.specs.Reading.{Reading, Item, must, many_at, fault_at}
 use Rattle.drc_bits.specs.Numbers.{number_at, signed_at}
@@ -16,19 +17,35 @@ use Rattle.symbol_coding.specs.Block.{block_at}
 use Rattle.predict.specs.Restored.{restored, entry_before}
 use Rattle.attr_section.specs.declared.decoder_heads.DecoderHead.{DecoderHead}
 use Rattle.attr_section.specs.declared.values.Values.{Values}
+use Rattle.attr_section.specs.declared.predictions.Prediction.{Prediction}
+use Rattle.attr_section.specs.declared.predictions.Prediction.TheVariants as prediction
 use Rattle.attr_section.specs.Each.{each_at}
 
 -- no prediction
 abbrev pub no_prediction : ℤ
 no_prediction = negsuc 1
 
+-- the number of a prediction
+abbrev pub code_of : Prediction → ℤ
+code_of prediction.Off = no_prediction
+code_of prediction.Difference = pos 0
+
+-- the byte of a prediction
+abbrev pub byte_of : Prediction → ℕ
+byte_of prediction.Off = 254
+byte_of prediction.Difference = 0
+
 -- the prediction of a byte: -2 none, 0 difference
 abbrev pub prediction_of : ℕ → ℤ
 prediction_of b = if b == 254 then no_prediction else pos b
 
--- the prediction of an attribute
-unfoldable pub prediction_at : Reading → Item ℤ
-prediction_at c = must kind.Prediction (λ b. b == 254 || b == 0) (number_at 1) c >>= λ x. Ok (prediction_of x.0, x.1)
+-- whether a byte is a prediction that a profile accepts in a sequential stream: none or difference, in every profile
+abbrev pub is_prediction : Profile → ℕ → Bool
+is_prediction p b = b == 254 || b == 0
+
+-- the prediction of an attribute in a profile
+unfoldable pub prediction_at : Profile → Reading → Item ℤ
+prediction_at p c = must kind.Prediction (is_prediction p) (number_at 1) c >>= λ x. Ok (prediction_of x.0, x.1)
 
 -- the integer of a zigzag symbol: 0, -1, 1, -2 and so on
 abbrev pub signed_of : ℕ → ℤ
@@ -90,16 +107,18 @@ abbrev pub predicted_at : ℤ → ℕ → ℕ → Reading → Item (List ℤ)
 predicted_at predict comps n c = if int_eq predict no_prediction then integers_at comps n c else differences_at comps n c
 
 -- n values of an attribute, each of which is in its data type
-unfoldable pub typed_values_at : Head → ℕ → Reading → Item Values
-typed_values_at h n c = do
-  predict ← prediction_at c
+unfoldable pub typed_values_at : Profile → Head → ℕ → Reading → Item Values
+typed_values_at p h n c = do
+  predict ← prediction_at p c
   values ← predicted_at predict.0 h.comps n predict.1
-  if list_all (in_type h.dtype) values.0 then Ok (record { values = values.0; predict = predict.0; at = c.place }, values.1) else fault_at kind.ValueRange c
+  if list_all (in_type h.dtype) values.0
+      then Ok (record { values = values.0; predict = predict.0; at = c.place }, values.1)
+      else fault_at kind.ValueRange c
 
 -- the values of an attribute for so many entries, behind so many values of other attributes
-unfoldable pub values_at : Head → ℕ → ℕ → Reading → Item Values
-values_at h entries spent c =
-    if nat_le (spent + entries * h.comps) MAX_VALUES then typed_values_at h (entries * h.comps) c else fault_at kind.ValueLimit c
+unfoldable pub values_at : Profile → Head → ℕ → ℕ → Reading → Item Values
+values_at p h entries spent c =
+    if nat_le (spent + entries * h.comps) p.values then typed_values_at p h (entries * h.comps) c else fault_at kind.ValueLimit c
 
 -- how many bits quantised values have
 abbrev pub quant_bits_at : Reading → Item ℕ
@@ -126,17 +145,17 @@ abbrev pub values_in : List Values → ℕ
 values_in attributes = sum_by (λ v. length v.values) attributes
 
 -- the values of these attributes for so many entries, behind so many other values
-unfoldable pub attributes_at : List Head → ℕ → ℕ → Reading → Item (List Values)
-attributes_at heads entries spent c = each_at (λ before h. values_at h entries (spent + values_in before)) [] heads c
+unfoldable pub attributes_at : Profile → List Head → ℕ → ℕ → Reading → Item (List Values)
+attributes_at p heads entries spent c = each_at (λ before h. values_at p h entries (spent + values_in before)) [] heads c
 
 -- these heads with their quantisations
 unfoldable pub quants_at : List Head → Reading → Item (List Head)
 quants_at heads c = each_at (λ _ h. quantised_at h) [] heads c
 
 -- a decoder's values for so many entries, behind so many other values, and the decoder with its quantisations
-unfoldable pub decoder_values_at : DecoderHead → ℕ → ℕ → Reading → Item (List Values × DecoderHead)
-decoder_values_at d entries spent c = do
-  values ← attributes_at d.heads entries spent c
+unfoldable pub decoder_values_at : Profile → DecoderHead → ℕ → ℕ → Reading → Item (List Values × DecoderHead)
+decoder_values_at p d entries spent c = do
+  values ← attributes_at p d.heads entries spent c
   heads ← quants_at d.heads values.1
   Ok ((values.0, record d { heads = heads.0 }), heads.1)
 

@@ -1,6 +1,8 @@
 -- The bytes of attributes' values (Draco Bitstream Specification 2.2, sections "Sequential Attributes", "Prediction
 -- Decoder" and "Quantization"; which of the allowed spellings is written is this project's choice).
-use Rattle.std.specs.Prelude.{◌≡◌, ◌≤◌, ◌<◌, ◌⊎◌, ℕ, ◌+◌, ◌*◌, ◌%◌, ◌^◌, ◌==◌, Bool, true, false, ℤ, pos, negsuc, List, [], ◌∷◌, ◌++◌, length, map, flat_map, fold, max, Option, None, Some, Ok, nat_lt, if◌then◌else◌, All}
+use Rattle.drc_base.specs.Profile.{profile_two}
+use Rattle.std.specs.Prelude.{◌≡◌, ◌≤◌, ◌<◌, ◌⊎◌, ℕ, ◌+◌, ◌*◌, ◌%◌, ◌^◌, ◌==◌, Bool, true, false, ℤ, pos, negsuc, List, [], ◌∷◌, ◌++◌}
+use Rattle.std.specs.Prelude.{length, map, flat_map, fold, max, Option, None, Some, Ok, nat_lt, if◌then◌else◌, All}
 use Rattle.std.specs.Int.{w32, cast_unsigned, int_min, int_max}
 use Rattle.std.specs.List.{list_all, zip}
 use Rattle.std.specs.Ordering.{int_eq}
@@ -61,7 +63,8 @@ differences_bytes plain comps values =
 
 -- the values of an attribute of so many components: the prediction, and what it says
 unfoldable pub values_bytes : Bool → ℕ → Values → List ℕ
-values_bytes plain comps v = if int_eq v.predict no_prediction then 254 ∷ integers_bytes plain comps v.values else 0 ∷ differences_bytes plain comps v.values
+values_bytes plain comps v =
+    if int_eq v.predict no_prediction then 254 ∷ integers_bytes plain comps v.values else 0 ∷ differences_bytes plain comps v.values
 
 -- a quantisation: the minima, the range, the bits
 abbrev pub quant_bytes : Option Quant → List ℕ
@@ -120,5 +123,5 @@ HaveEntries entries heads attributes = All (λ (h, v). length v.values ≡ entri
 -- the values of an attribute, where they are read from wherever they were written
 pub record ValuesSpelled (plain : Bool) (h : Head) (v : Values) : Type 0 where
   pub reads : (entries spent place : ℕ) (rest : List ℕ) → length v.values ≡ entries * h.comps → spent + length v.values ≤ MAX_VALUES
-      → values_at (bare_head h) entries spent (record { place = place; rest = values_bytes plain h.comps v ++ rest })
+      → values_at profile_two (bare_head h) entries spent (record { place = place; rest = values_bytes plain h.comps v ++ rest })
       ≡ Ok (record v { at = place }, record { place = place + length (values_bytes plain h.comps v); rest = rest })

@@ -28,26 +28,17 @@ fn read_head(c: &mut Cursor<'_>) -> Result<Head, Fault>
     let at = c.place();
     let usage = c.get_u8()?;
     if usage > 4 {
-        return Err(Fault {
-            kind: Kind::AttrType,
-            at,
-        });
+        return Err(Fault::new(Kind::AttrType, at));
     }
     let at = c.place();
     let dtype = c.get_u8()?;
     if !is_type(dtype) {
-        return Err(Fault {
-            kind: Kind::DataType,
-            at,
-        });
+        return Err(Fault::new(Kind::DataType, at));
     }
     let at = c.place();
     let comps = c.get_u8()?;
     if comps < 1 || comps as u32 > MAX_COMPONENTS {
-        return Err(Fault {
-            kind: Kind::Components,
-            at,
-        });
+        return Err(Fault::new(Kind::Components, at));
     }
     let normalized = c.get_u8()?;
     let id = c.var32()?;
@@ -90,22 +81,13 @@ fn read_coding(c: &mut Cursor<'_>, dtype: u8) -> Result<(), Fault>
     let at = c.place();
     let coding = c.get_u8()?;
     if coding == 0 {
-        return Err(Fault {
-            kind: Kind::Generic,
-            at,
-        });
+        return Err(Fault::new(Kind::Generic, at));
     }
     if coding == 3 {
-        return Err(Fault {
-            kind: Kind::Octahedral,
-            at,
-        });
+        return Err(Fault::new(Kind::Octahedral, at));
     }
     if coding != coding_of(dtype) {
-        return Err(Fault {
-            kind: Kind::Coding,
-            at,
-        });
+        return Err(Fault::new(Kind::Coding, at));
     }
     Ok(())
 }

@@ -20,16 +20,10 @@ fn read_decoder_count(c: &mut Cursor<'_>) -> Result<u8, Fault>
     let at = c.place();
     let n = c.get_u8()?;
     if n == 0 {
-        return Err(Fault {
-            kind: Kind::NoAttribute,
-            at,
-        });
+        return Err(Fault::new(Kind::NoAttribute, at));
     }
     if n as u32 > MAX_ATTRIBUTES {
-        return Err(Fault {
-            kind: Kind::AttrLimit,
-            at,
-        });
+        return Err(Fault::new(Kind::AttrLimit, at));
     }
     Ok(n)
 }
@@ -43,16 +37,10 @@ fn read_attribute_count(c: &mut Cursor<'_>, before: u32) -> Result<u32, Fault>
     let at = c.place();
     let n = c.var32()?;
     if n == 0 {
-        return Err(Fault {
-            kind: Kind::NoAttribute,
-            at,
-        });
+        return Err(Fault::new(Kind::NoAttribute, at));
     }
     if n > MAX_ATTRIBUTES - before {
-        return Err(Fault {
-            kind: Kind::AttrLimit,
-            at,
-        });
+        return Err(Fault::new(Kind::AttrLimit, at));
     }
     Ok(n)
 }

@@ -61,10 +61,7 @@ fn read_byte_width(c: &mut Cursor<'_>) -> Result<u8, Fault>
     let at = c.place();
     let width = c.get_u8()?;
     if width < 1 || width > 4 {
-        return Err(Fault {
-            kind: Kind::ByteWidth,
-            at,
-        });
+        return Err(Fault::new(Kind::ByteWidth, at));
     }
     Ok(width)
 }

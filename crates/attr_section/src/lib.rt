@@ -12,6 +12,7 @@ mod head_writing;
 mod integer_writing;
 mod integers;
 mod links;
+mod predictions;
 mod quant_writing;
 mod quants;
 mod ranges;

@@ -52,27 +52,18 @@ fn read_link(c: &mut Cursor<'_>, attr_data: u8, before: &[Link]) -> Result<Link,
     let at = c.place();
     let id = c.get_u8()?;
     if !is_known_id(attr_data, id) || is_used_id(before, id) {
-        return Err(Fault {
-            kind: Kind::DataId,
-            at,
-        });
+        return Err(Fault::new(Kind::DataId, at));
     }
     let at = c.place();
     let element = c.get_u8()?;
     let most = if id == POSITION_ID { 0 } else { 1 };
     if element > most {
-        return Err(Fault {
-            kind: Kind::Element,
-            at,
-        });
+        return Err(Fault::new(Kind::Element, at));
     }
     let at = c.place();
     let walk = c.get_u8()?;
     if walk != 0 {
-        return Err(Fault {
-            kind: Kind::Walk,
-            at,
-        });
+        return Err(Fault::new(Kind::Walk, at));
     }
     Ok(Link {
         data_id: Some(id),

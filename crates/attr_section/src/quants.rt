@@ -29,10 +29,7 @@ fn read_bits(c: &mut Cursor<'_>) -> Result<u8, Fault>
     let at = c.place();
     let bits = c.get_u8()?;
     if bits < 1 || bits > 30 {
-        return Err(Fault {
-            kind: Kind::QuantBits,
-            at,
-        });
+        return Err(Fault::new(Kind::QuantBits, at));
     }
     Ok(bits)
 }

@@ -297,7 +297,7 @@ fn faults_of_attributes(rt: HostRuntime) -> Result<(), Fail> {
     }
     let values: [(u8, u64, &[u8], Kind, u64); 15] = [
         (5, 0, &[], Kind::Short, 0),
-        (5, 1 << 24, &[], Kind::ValueLimit, 0),
+        (5, 1 << 26, &[], Kind::ValueLimit, 0),
         (5, 0, &[5], Kind::Prediction, 0),
         (5, 0, &[0, 0], Kind::Transform, 1),
         (5, 0, &[254, 0, 0], Kind::ByteWidth, 2),

@@ -1,14 +1,16 @@
 //! Reading the values of attributes.
 
+ghost use Rattle.drc_base.specs.Profile.{profile_two};
 ghost use Rattle.std.specs.Prelude.{◌≡◌, ◌≤◌, ◌<◌, ◌*◌, ◌+◌, ◌%◌, ℤ, Ok, IfOk, IfSome, MatchResult, IsTrue, All, length};
 ghost use Rattle.std.specs.List.{list_all};
 ghost use Rattle.drc_base.specs.Refusals.{Refuses};
 ghost use Rattle.drc_bits.specs.Reading.{Reads, Gives};
 ghost use Rattle.mesh_model.specs.Head.{in_type};
-ghost use Rattle.attr_section.specs.Values.{prediction_at, range_at, transform_at, differences_at, predicted_at, typed_values_at, values_at, values_in, attributes_at, decoder_values_at, AreColumns};
+ghost use Rattle.attr_section.specs.Values.{code_of, prediction_at, range_at, transform_at, differences_at, predicted_at, typed_values_at, values_at, values_in, attributes_at, decoder_values_at, AreColumns};
 
 use crate::decoder_heads::DecoderHead;
 use crate::integers::read_integers;
+use crate::predictions::Prediction;
 use crate::quants::read_quants;
 use crate::types::are_in_type;
 use crate::values::Values;
@@ -18,22 +20,16 @@ use mesh_model::Head;
 use predict::{Wrap, restore_difference};
 use std::alloc::Global;
 
-/// No prediction.
-const NO_PREDICTION: i8 = -2;
-
 /// The prediction of an attribute.
 #[tactic(auto, unfolding(crate::specs::Values::prediction_at))]
-fn read_prediction(c: &mut Cursor<'_>) -> Result<i8, Fault>
-    ensures { Reads (λ p. p) (prediction_at c.old) c.new result }
+fn read_prediction(c: &mut Cursor<'_>) -> Result<Prediction, Fault>
+    ensures { Reads code_of (prediction_at profile_two c.old) c.new result }
 {
     let at = c.place();
     match c.get_u8()? {
-        254 => Ok(NO_PREDICTION),
-        0 => Ok(0),
-        _ => Err(Fault {
-            kind: Kind::Prediction,
-            at,
-        }),
+        254 => Ok(Prediction::Off),
+        0 => Ok(Prediction::Difference),
+        _ => Err(Fault::new(Kind::Prediction, at)),
     }
 }
 
@@ -43,10 +39,7 @@ fn read_transform(c: &mut Cursor<'_>) -> Result<(), Fault>
 {
     let at = c.place();
     if c.get_u8()? != 1 {
-        return Err(Fault {
-            kind: Kind::Transform,
-            at,
-        });
+        return Err(Fault::new(Kind::Transform, at));
     }
     Ok(())
 }
@@ -87,20 +80,19 @@ fn read_differences(
 fn read_predicted(
     alloc: Global,
     c: &mut Cursor<'_>,
-    predict: i8,
+    prediction: Prediction,
     comps: u32,
     n: u32,
 ) -> Result<Vec<i32>, Refusal>
     requires some { 0 < comps }
     requires whole { n % comps ≡ 0 }
     requires few { n ≤ MAX_VALUES }
-    ensures item { Gives (λ v. v.items) (predicted_at predict comps n c.old) c.new result }
+    ensures item { Gives (λ v. v.items) (predicted_at (code_of prediction) comps n c.old) c.new result }
     ensures len { IfOk result (λ v. length v.items ≡ n) }
 {
-    if predict == NO_PREDICTION {
-        read_integers(alloc, c, comps, n)
-    } else {
-        read_differences(alloc, c, comps, n)
+    match prediction {
+        Prediction::Off => read_integers(alloc, c, comps, n),
+        Prediction::Difference => read_differences(alloc, c, comps, n),
     }
 }
 
@@ -115,21 +107,18 @@ fn read_typed_values(
     requires some { 0 < head.now.comps }
     requires whole { n % head.now.comps ≡ 0 }
     requires few { n ≤ MAX_VALUES }
-    ensures item { Gives (λ v. v) (typed_values_at head.now n c.old) c.new result }
+    ensures item { Gives (λ v. v) (typed_values_at profile_two head.now n c.old) c.new result }
     ensures len { IfOk result (λ v. length v.values ≡ n) }
 {
     let at = c.place();
-    let predict = read_prediction(c)?;
-    let values = read_predicted(alloc, c, predict, head.comps as u32, n)?;
+    let prediction = read_prediction(c)?;
+    let values = read_predicted(alloc, c, prediction, head.comps as u32, n)?;
     if !are_in_type(head.dtype, &values) {
-        return Err(Refusal::Fault(Fault {
-            kind: Kind::ValueRange,
-            at,
-        }));
+        return Err(Refusal::Fault(Fault::new(Kind::ValueRange, at)));
     }
     Ok(Values {
         values: Sequence::from_vec(values),
-        predict,
+        predict: prediction.code(),
         at,
     })
 }
@@ -145,7 +134,7 @@ fn read_values(
 ) -> Result<Values, Refusal>
     requires some { 0 < head.now.comps }
     requires spent { spent ≤ MAX_VALUES }
-    ensures item { Gives (λ v. v) (values_at head.now entries spent c.old) c.new result }
+    ensures item { Gives (λ v. v) (values_at profile_two head.now entries spent c.old) c.new result }
     ensures len { IfOk result (λ v. length v.values ≡ entries * head.now.comps) }
     ensures few { IfOk result (λ v. spent + length v.values ≤ MAX_VALUES) }
 {
@@ -166,7 +155,7 @@ fn read_attributes(
 ) -> Result<Vec<Values>, Refusal>
     requires some { All (λ h. 0 < h.comps) heads.now }
     requires spent { spent ≤ MAX_VALUES }
-    ensures item { Gives (λ v. v.items) (attributes_at heads.now entries spent c.old) c.new result }
+    ensures item { Gives (λ v. v.items) (attributes_at profile_two heads.now entries spent c.old) c.new result }
     ensures few { IfOk result (λ v. spent + values_in v.items ≤ MAX_VALUES) }
     ensures columns { IfOk result (λ v. AreColumns entries heads.now v.items) }
 {
@@ -195,7 +184,7 @@ fn values_in(attributes: &[Values]) -> u64
 /// The values of a decoder of a sequential stream, for so many entries, behind so many values of
 /// decoders before it; `spent` grows by the values read, and the decoder's heads get their
 /// quantisations. The first fault of the bytes: for each attribute `ValueLimit` where it passes
-/// 2^24 values in all, at its prediction byte; `Prediction`, `Transform`, `ByteWidth`, the faults of
+/// `MAX_VALUES` values in all, at its prediction byte; `Prediction`, `Transform`, `ByteWidth`, the faults of
 /// a symbol block, `WrapRange` at a range's start, `ValueRange` at the prediction byte; then
 /// `QuantBits` at the quantisations; and `Short`.
 #[tactic(auto, unfolding(crate::specs::Values::decoder_values_at))]
@@ -208,7 +197,7 @@ pub fn read_decoder(
 ) -> Result<Vec<Values>, Refusal>
     requires some { All (λ head. 0 < head.comps) h.old.heads }
     requires spent { spent.old ≤ MAX_VALUES }
-    ensures values { MatchResult result (λ v. decoder_values_at h.old entries spent.old c.old ≡ Ok ((v.items, h.new), c.new)) (λ e. Refuses (decoder_values_at h.old entries spent.old c.old) e) }
+    ensures values { MatchResult result (λ v. decoder_values_at profile_two h.old entries spent.old c.old ≡ Ok ((v.items, h.new), c.new)) (λ e. Refuses (decoder_values_at profile_two h.old entries spent.old c.old) e) }
     ensures spent { IfOk result (λ v. spent.new ≡ spent.old + values_in v.items) }
     ensures few { IfOk result (λ v. spent.new ≤ MAX_VALUES) }
     ensures columns { IfOk result (λ v. AreColumns entries h.new.heads v.items) }

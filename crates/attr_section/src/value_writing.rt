@@ -5,10 +5,11 @@ ghost use Rattle.drc_bits.specs.Numbers.{signed_at};
 ghost use Rattle.drc_bits.specs.Spells.{Spells};
 ghost use Rattle.predict.specs.Wrap.{CanWrap};
 ghost use Rattle.predict.specs.Restored.{restored, corrections, entry_before};
-ghost use Rattle.attr_section.specs.Values.{integers_at, range_at, differences_at};
+ghost use Rattle.attr_section.specs.Values.{code_of, integers_at, range_at, differences_at};
 ghost use Rattle.attr_section.specs.Written.{symbol_of, range_of, signed_bytes, range_bytes, integers_bytes, differences_bytes, values_bytes, ValuesPass, ValuesSpelled};
 
 use crate::integer_writing::put_symbols;
+use crate::predictions::Prediction;
 use crate::ranges::range_of;
 use crate::symbols::{symbols_of, symbols_of_corrections};
 use crate::values::Values;
@@ -16,11 +17,6 @@ use drc_base::{MAX_VALUES, Memory};
 use mesh_model::Head;
 use predict::Wrap;
 use std::alloc::Global;
-
-/// No prediction, and the byte that says so.
-const NO_PREDICTION: i8 = -2;
-
-const NO_PREDICTION_BYTE: u8 = 254;
 
 /// Appends a signed number of four bytes.
 fn put_i32(out: &mut Vec<u8>, x: i32) -> Result<(), Memory>
@@ -129,12 +125,16 @@ pub fn put_values(
 {
     let comps = head.comps as u32;
     let values = v.values.as_slice();
-    if v.predict == NO_PREDICTION {
-        out.push(NO_PREDICTION_BYTE)?;
-        put_integers(alloc, out, values, comps, plain)?;
-    } else {
-        out.push(0)?;
-        put_differences(alloc, out, values, comps, plain)?;
+    let prediction = Prediction::of_code(v.predict);
+    match prediction {
+        Prediction::Off => {
+            out.push(prediction.byte())?;
+            put_integers(alloc, out, values, comps, plain)?;
+        }
+        Prediction::Difference => {
+            out.push(prediction.byte())?;
+            put_differences(alloc, out, values, comps, plain)?;
+        }
     }
     Ok(())
 }

@@ -1,4 +1,5 @@
 -- The parts of a written stream are read back.
+use Rattle.drc_base.specs.Profile.{profile_two}
 use Rattle.std.proofs.Common.{◌≡◌, ℕ, ◌+◌, ◌≤◌, false, List, [], ◌∷◌, ◌++◌, map, length, Option, None, Ok, refl, sym, ◌∙◌, ap, subst, arith, append_assoc, length-append}
 use Rattle.std.specs.Prelude.{ℤ, Bool, is_some}
 use Rattle.drc_base.specs.declared.kinds.Kind.TheVariants as kind
@@ -56,21 +57,22 @@ header_spelled g =
 pub attributes_spelled : (plain : Bool) (g : Geometry) (predict : ℤ)
     → Spells (heads_at None) (attribute_heads_bytes g) (bare_decoder (decoder_of g) ∷ [])
     → ((entries spent place : ℕ) (rest : List ℕ) → HaveEntries entries (heads_in g) (values_of g predict) → spent + values_in (values_of g predict) ≤ MAX_VALUES
-    → decoder_values_at (bare_decoder (decoder_of g)) entries spent (record { place = place; rest = decoder_values_bytes plain (heads_in g) (values_of g predict) ++ rest })
+    → decoder_values_at profile_two (bare_decoder (decoder_of g)) entries spent (record { place = place; rest = decoder_values_bytes plain (heads_in g) (values_of g predict) ++ rest })
     ≡ Ok ((placed plain place (heads_in g) (values_of g predict), decoder_of g), record { place = place + length (decoder_values_bytes plain (heads_in g) (values_of g predict)); rest = rest }))
     → HaveEntries (length (points_in g)) (heads_in g) (values_of g predict) → values_in (values_of g predict) ≤ MAX_VALUES
     → AttributesSpelled plain g predict
 unfolding attributes_at decoders_at attributes_bytes
 attributes_spelled plain g predict heads body entries few = record {
+  heads = heads;
   reads = λ place rest.
       let front = attribute_heads_bytes g in
       let back = decoder_values_bytes plain (heads_in g) (values_of g predict) in
       let n = length (points_in g) in
       let none : Attributes = record { heads = []; values = [] } in
       let there : place + length front + length back ≡ place + length (front ++ back) = omega (arith, length-append front back) in
-      ap (λ bytes. heads_at None (record { place = place; rest = bytes }) >>= λ d. decoders_at n none d.0 d.1) (append_assoc front back rest)
-      ∙ ap (λ x. x >>= λ d. decoders_at n none d.0 d.1) (heads.reads place (back ++ rest))
-      ∙ ap (λ x. x >>= λ x. decoders_at n (record { heads = [] ++ x.0.1.heads; values = [] ++ x.0.0 }) [] x.1)
+      ap (λ bytes. heads_at None (record { place = place; rest = bytes }) >>= λ d. decoders_at profile_two n none d.0 d.1) (append_assoc front back rest)
+      ∙ ap (λ x. x >>= λ d. decoders_at profile_two n none d.0 d.1) (heads.reads place (back ++ rest))
+      ∙ ap (λ x. x >>= λ x. decoders_at profile_two n (record { heads = [] ++ x.0.1.heads; values = [] ++ x.0.0 }) [] x.1)
       (body n 0 (place + length front) rest entries (omega (arith, few)))
       ∙ ap (λ p. Ok (attributes_again plain g predict place, record { place = p; rest = rest })) there;
 }
@@ -87,7 +89,7 @@ heads_again g ds out is bytes again =
 -- the values of a decoder are read back from these bytes
 abbrev pub ValuesAgain : Bool → DecoderHead → List Values → List ℕ → Type 0
 ValuesAgain plain d values body = (entries spent place : ℕ) (rest : List ℕ) → HaveEntries entries d.heads values → spent + values_in values ≤ MAX_VALUES
-    → decoder_values_at (bare_decoder d) entries spent (record { place = place; rest = body ++ rest })
+    → decoder_values_at profile_two (bare_decoder d) entries spent (record { place = place; rest = body ++ rest })
     ≡ Ok ((placed plain place d.heads values, d), record { place = place + length body; rest = rest })
 
 -- those of the one decoder

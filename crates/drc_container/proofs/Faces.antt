@@ -1,4 +1,5 @@
 -- Connectivity that was read: its limits, and that each face has three points.
+use Rattle.drc_base.specs.Profile.{profile_two}
 use Rattle.std.proofs.Common.{◌≡◌, ℕ, zero, suc, ◌*◌, ◌%◌, ◌<◌, ◌≤◌, ℤ, pos, negsuc, List, [], ◌∷◌, length, map, Ok, refl, sym, ◌∙◌, ap, subst, arith}
 use Rattle.std.specs.Prelude.{◌==◌, ◌+ℤ◌, nat_lt, nat_le}
 use Rattle.std.specs.List.{All}
@@ -22,7 +23,7 @@ use Rattle.drc_container.proofs.Parted.{given, parts, passed, either, must-passe
 use Rattle.drc_container.proofs.Counted.{block-counted}
 
 -- an opening is within the limits
-opening-passed : (c : Reading) (y : Opening × Reading) → opening_at c ≡ Ok y → (y.0.faces ≤ MAX_FACES) × (y.0.points ≤ MAX_POINTS)
+opening-passed : (c : Reading) (y : Opening × Reading) → opening_at profile_two c ≡ Ok y → (y.0.faces ≤ MAX_FACES) × (y.0.points ≤ MAX_POINTS)
 unfolding opening_at
 opening-passed c y is =
     let p = parts (must kind.FaceLimit (λ n. nat_le n MAX_FACES) var32_at c) _ y is in
@@ -110,10 +111,10 @@ pub record IndicesPass (r : SeqRead) : Type 0 where
   pub few_faces : length r.faces ≤ MAX_FACES
   pub faces : All (IsFaceOf r.points) r.faces
 
-pub indices-passed : (c : Reading) (y : SeqRead × Reading) → indices_at c ≡ Ok y → IndicesPass y.0
+pub indices-passed : (c : Reading) (y : SeqRead × Reading) → indices_at profile_two c ≡ Ok y → IndicesPass y.0
 unfolding indices_at
 indices-passed c y is =
-    let p = parts (opening_at c) _ y is in
+    let p = parts (opening_at profile_two c) _ y is in
     let q = parts (faces_at p.0.0 p.0.1) _ y p.2 in
     let opening = opening-passed c p.0 p.1 in
     let n = p.0.0.points in

@@ -1,4 +1,5 @@
 -- Answers of calls that take no memory, and faults of the front of a stream.
+use Rattle.drc_base.specs.Profile.{profile_two}
 use Rattle.std.proofs.Common.{◌≡◌, ℕ, List, Result, Ok, Err, refl, sym, ◌∙◌, ap}
 use Rattle.drc_base.specs.declared.faults.Fault.{Fault}
 use Rattle.drc_base.specs.Refusals.{Answers}
@@ -22,7 +23,7 @@ place-fault (Ok x) f is = absurd (err≢ok (sym is))
 place-fault (Err e) f is = ap Err (Err-injective is)
 
 -- indices that were read have no fault in their opening
-pub opening-passed : (c d : Reading) (r : SeqRead) (f : Fault) → indices_at c ≡ Ok (r, d) → opening_at c ≡ Err f → ⊥
+pub opening-passed : (c d : Reading) (r : SeqRead) (f : Fault) → indices_at profile_two c ≡ Ok (r, d) → opening_at profile_two c ≡ Err f → ⊥
 unfolding indices_at
 opening-passed c d r f read fault = err≢ok {e = f} (sym (rw fault refl) ∙ read)
 

@@ -1,8 +1,10 @@
 -- A written stream is coded as chosen.
-use Rattle.std.proofs.Common.{◌≡◌, ◌⊎◌, ℕ, ◌+◌, ◌≤◌, true, false, Bool, List, [], ◌∷◌, ◌++◌, map, length, get_or, Option, None, Some, Ok, refl, sym, ◌∙◌, ap, subst, inl, inr, arith, append_assoc, length-append, nat_le, if◌then◌else◌}
+use Rattle.drc_base.specs.Profile.{profile_two}
+use Rattle.std.proofs.Common.{◌≡◌, ◌⊎◌, ℕ, ◌+◌, ◌≤◌, true, false, Bool, List, [], ◌∷◌, ◌++◌, ◌-◌, map, length, drop, replicate, append-nil, get_or, Option, None, Some, Ok, refl, sym, ◌∙◌, ap, subst, inl, inr, arith, append_assoc, length-append, nat_le, if◌then◌else◌}
 use Rattle.std.specs.Prelude.{ℤ, pos, slice_index}
 use Rattle.std.specs.Ordering.{int_eq}
 use Rattle.std.proofs.lemmas.List.{get_or-append-add, length-map}
+use Rattle.std.proofs.Math.Seq.{drop-append_seam}
 use Rattle.drc_base.specs.declared.kinds.Kind.TheVariants as kind
 use Rattle.drc_base.specs.declared.limits.TheConstants.{MAX_FACES, MAX_POINTS}
 use Rattle.drc_base.specs.Steps.{◌>>=◌}
@@ -21,6 +23,7 @@ use Rattle.seq_section.specs.declared.reading.Opening.{Opening}
 use Rattle.seq_section.specs.Indices.{method_at, opening_at, opening_bytes, faces_bytes, indices_bytes}
 use Rattle.predict.specs.Restored.{corrections, entry_before}
 use Rattle.attr_section.specs.declared.values.Values.{Values}
+use Rattle.attr_section.specs.Heads.{bare_head, bare_decoder, heads_at}
 use Rattle.attr_section.specs.Values.{no_prediction}
 use Rattle.attr_section.specs.Written.{range_of, range_bytes, integers_bytes, differences_bytes, values_bytes, attributes_bytes as columns_bytes, quants_bytes, decoder_values_bytes, placed}
 use Rattle.drc_container.specs.declared.methods.Method.TheVariants as method
@@ -28,9 +31,9 @@ use Rattle.drc_container.specs.declared.choices.Choice.{Choice}
 use Rattle.drc_container.specs.Columns.{columns_of}
 use Rattle.drc_container.specs.Choice.{method_of, prediction_of, index_of, is_packed}
 use Rattle.drc_container.specs.Stream.{attrs_seen}
-use Rattle.drc_container.specs.Written.{header_bytes, connectivity_bytes, attribute_heads_bytes, attributes_bytes, values_of, stream_bytes}
+use Rattle.drc_container.specs.Written.{header_bytes, connectivity_bytes, decoder_of, attribute_heads_bytes, attributes_bytes, values_of, stream_bytes}
 use Rattle.drc_container.specs.Encoded.{CanCode, ConnectivitySpelled, AttributesSpelled}
-use Rattle.drc_container.specs.Layout.{AttrLayout, Layout, attr_layout, index_layout, opening_method, layout_seen, layout_of, method_byte, layout_chosen}
+use Rattle.drc_container.specs.Layout.{AttrLayout, Layout, attr_layouts, links_of, attr_data_of, links_layout, traversal_layout, traversal_of, index_layout, opening_method, layout_seen, layout_of, method_byte, layout_chosen}
 use Rattle.drc_container.proofs.Meanings.{connectivity_place, attributes_place, seen_written, stream-written}
 
 -- whether values are compressed, as a byte
@@ -57,12 +60,20 @@ compressed-at plain comps values predict rest (inr on) =
     let cs = corrections (entry_before comps) r values in
     rw on (ap (λ bytes. get_or bytes 0 0) (append_assoc (integers_bytes plain comps cs) (range_bytes r) rest) ∙ integers-first plain comps cs (range_bytes r ++ rest))
 
+-- the element type and the walk of a sequential stream
+abbrev unlinked : ℕ × ℕ
+unlinked = (0, 0)
+
+-- how an attribute of a sequential stream is coded
+abbrev coded : ℤ → ℕ → AttrLayout
+coded predict compressed = record { element = 0; walk = 0; predict = predict; compressed = compressed }
+
 -- the attributes that are seen in these bytes are coded with this prediction
 layouts : (plain : Bool) (n : ℕ) (bytes front rest : List ℕ) (place : ℕ) (predict : ℤ) (heads : List Head) (columns : List (List ℤ))
     → IsPredicted predict → length columns ≡ length heads → place ≡ length front
     → bytes ≡ front ++ (columns_bytes plain heads (map (λ column. record { values = column; predict = predict; at = 0 }) columns) ++ rest)
-    → map (attr_layout bytes) (attrs_seen n heads (placed plain place heads (map (λ column. record { values = column; predict = predict; at = 0 }) columns)))
-    ≡ map (λ _. record { predict = predict; compressed = compressed_byte plain }) heads
+    → attr_layouts bytes (replicate (length heads) unlinked) (attrs_seen n heads (placed plain place heads (map (λ column. record { values = column; predict = predict; at = 0 }) columns)))
+    ≡ map (λ _. coded predict (compressed_byte plain)) heads
 layouts plain n bytes front rest place predict [] columns predicted same at is = refl
 layouts plain n bytes front rest place predict (h ∷ heads) [] predicted same at is = absurd (omega (arith, same))
 layouts plain n bytes front rest place predict (h ∷ heads) (column ∷ columns) predicted same at is =
@@ -78,19 +89,19 @@ layouts plain n bytes front rest place predict (h ∷ heads) (column ∷ columns
     ∙ compressed-at plain h.comps column predict (others ++ rest) predicted in
     let again = layouts plain n bytes (front ++ this) rest (place + length this) predict heads columns predicted (omega (arith, same))
     (omega (arith, at, length-append front this)) (parted ∙ sym (append_assoc front this (others ++ rest))) in
-    ap (λ c. record { predict = predict; compressed = c } ∷ map (attr_layout bytes) (attrs_seen n heads (placed plain (place + length this) heads (map made columns)))) byte
-    ∙ ap (λ l. record { predict = predict; compressed = compressed_byte plain } ∷ l) again
+    ap (λ c. coded predict c ∷ attr_layouts bytes (replicate (length heads) unlinked) (attrs_seen n heads (placed plain (place + length this) heads (map made columns)))) byte
+    ∙ ap (λ l. coded predict (compressed_byte plain) ∷ l) again
 
 -- the opening of indices
 opening-spelled : (faces points method : ℕ) → faces ≤ MAX_FACES → points ≤ MAX_POINTS → method ≤ 1
-    → Spells opening_at (opening_bytes faces points method) (record { faces = faces; points = points; method = method })
+    → Spells (opening_at profile_two) (opening_bytes faces points method) (record { faces = faces; points = points; method = method })
 unfolding opening_at
 opening-spelled faces points method few_faces few_points known =
     let opening : Opening = record { faces = faces; points = points; method = method } in
     let f : nat_le faces MAX_FACES ≡ true = grind (arith, few_faces) in
     let p : nat_le points MAX_POINTS ≡ true = grind (arith, few_points) in
     let m : nat_le method 1 ≡ true = grind (arith, known) in
-    subst (λ bytes. Spells opening_at bytes opening) (sym (append_assoc (spelling 5 faces) (spelling 5 points) (method ∷ [])))
+    subst (λ bytes. Spells (opening_at profile_two) bytes opening) (sym (append_assoc (spelling 5 faces) (spelling 5 points) (method ∷ [])))
     (Spells-then (must kind.FaceLimit (λ n. nat_le n MAX_FACES) var32_at) (λ f c. must kind.PointLimit (λ n. nat_le n MAX_POINTS) var32_at c >>= λ p. method_at p.1 >>= λ m. Ok (record { faces = f; points = p.0; method = m.0 }, m.1))
     (spelling 5 faces) (spelling 5 points ++ (method ∷ [])) faces opening
     (Spells-must kind.FaceLimit (λ n. nat_le n MAX_FACES) var32_at (spelling 5 faces) faces f (Spells-var32 faces (omega (arith, few_faces))))
@@ -101,13 +112,13 @@ opening-spelled faces points method few_faces few_points known =
 
 -- the method of the indices of a written mesh
 index-mesh : (m : MeshParts) (packed : Bool) (place : ℕ) (rest : List ℕ) → IsMesh m
-    → opening_method (opening_at (record { place = place; rest = connectivity_bytes packed (Mesh m) ++ rest })) ≡ Some (if packed then 0 else 1)
+    → opening_method (opening_at profile_two (record { place = place; rest = connectivity_bytes packed (Mesh m) ++ rest })) ≡ Some (if packed then 0 else 1)
 unfolding indices_bytes
 index-mesh m packed place rest is =
     let code = if packed then 0 else 1 in
     let known : code ≤ 1 = code_known packed in
     let back = faces_bytes packed m.faces (length m.points) in
-    ap (λ bytes. opening_method (opening_at (record { place = place; rest = bytes }))) (append_assoc (opening_bytes (length m.faces) (length m.points) code) back rest)
+    ap (λ bytes. opening_method (opening_at profile_two (record { place = place; rest = bytes }))) (append_assoc (opening_bytes (length m.faces) (length m.points) code) back rest)
     ∙ ap opening_method ((opening-spelled (length m.faces) (length m.points) code is.few_faces is.points.few_points known).reads place (back ++ rest))
   where
     code_known : (packed : Bool) → (if packed then 0 else 1) ≤ 1
@@ -146,7 +157,7 @@ predicted-of : (g : Geometry) (choice : Choice) → CanCode g choice → IsPredi
 predicted-of g choice can = elim can.predicted [ inl off ↦ inl off | inr on ↦ inr on.0 ]
 
 attributes-written : (g : Geometry) (choice : Choice) → CanCode g choice → length (values_of g (prediction_of g choice)) ≡ length (heads_in g)
-    → map (attr_layout (stream_bytes g choice)) (seen_written g choice).attrs ≡ (layout_chosen g choice).attributes
+    → attr_layouts (stream_bytes g choice) (replicate (length (heads_in g)) unlinked) (seen_written g choice).attrs ≡ (layout_chosen g choice).attributes
 attributes-written g choice can same =
     let h = header_bytes g in
     let c = connectivity_bytes (is_packed (index_of choice)) g in
@@ -157,6 +168,40 @@ attributes-written g choice can same =
     (sym (length-map columns (λ column. let v : Values = record { values = column; predict = prediction_of g choice; at = 0 } in v)) ∙ same)
     (omega (arith, length-append h (c ++ a), length-append c a)) (parts g choice)
 
+traversal-written : (g : Geometry) (choice : Choice) (place : ℕ) → traversal_layout (stream_bytes g choice) place ≡ None
+unfolding stream_bytes header_bytes
+traversal-written (Mesh m) choice place = refl
+traversal-written (Cloud c) choice place = refl
+
+-- the heads of the one decoder behind other bytes have neither element types nor walks
+links-there : (g : Geometry) (front back : List ℕ) (place : ℕ) → Spells (heads_at None) (attribute_heads_bytes g) (bare_decoder (decoder_of g) ∷ [])
+    → place ≡ length front
+    → links_of (heads_at None (record { place = place; rest = drop place (front ++ (attribute_heads_bytes g ++ back)) })) ≡ replicate (length (heads_in g)) unlinked
+links-there g front back place spells at =
+    let a = attribute_heads_bytes g in
+    ap (λ l. links_of (heads_at None (record { place = place; rest = l }))) (ap (λ n. drop n (front ++ (a ++ back))) at ∙ drop-append_seam front (a ++ back))
+    ∙ ap links_of (spells.reads place back)
+    ∙ append-nil (replicate (length (map bare_head (heads_in g))) unlinked)
+    ∙ ap (λ n. replicate n unlinked) (length-map (heads_in g) bare_head)
+
+no-data : (g : Geometry) (choice : Choice) → attr_data_of (stream_bytes g choice) ≡ None
+unfolding stream_bytes header_bytes
+no-data g choice = refl
+
+links-written : (g : Geometry) (choice : Choice) → AttributesSpelled choice.plain_values g (prediction_of g choice)
+    → links_layout (stream_bytes g choice) (connectivity_place g + (attributes_place g choice - connectivity_place g)) ≡ replicate (length (heads_in g)) unlinked
+links-written g choice attributes =
+    let h = header_bytes g in
+    let c = connectivity_bytes (is_packed (index_of choice)) g in
+    let a = attribute_heads_bytes g in
+    let v = columns_bytes choice.plain_values (heads_in g) (values_of g (prediction_of g choice)) ++ quants_bytes (heads_in g) in
+    let place = connectivity_place g + (attributes_place g choice - connectivity_place g) in
+    let at : place ≡ length (h ++ c) = omega (arith, length-append h c) in
+    let joined : stream_bytes g choice ≡ (h ++ c) ++ (a ++ v) = parts g choice ∙ ap (λ l. l ++ v) (sym (append_assoc h c a)) ∙ append_assoc (h ++ c) a v in
+    ap (λ beside. links_of (heads_at beside (record { place = place; rest = drop place (stream_bytes g choice) }))) (no-data g choice)
+    ∙ ap (λ l. links_of (heads_at None (record { place = place; rest = drop place l }))) joined
+    ∙ links-there g (h ++ c) v place attributes.heads at
+
 -- a written stream is coded as chosen
 pub layout-written : (g : Geometry) (choice : Choice) → CanCode g choice → IsGeometry g → ConnectivitySpelled (is_packed (index_of choice)) g
     → AttributesSpelled choice.plain_values g (prediction_of g choice) → length (values_of g (prediction_of g choice)) ≡ length (heads_in g)
@@ -164,12 +209,19 @@ pub layout-written : (g : Geometry) (choice : Choice) → CanCode g choice → I
 layout-written g choice can is connectivity attributes same =
     let bytes = stream_bytes g choice in
     let seen = seen_written g choice in
-    let made : ℕ → Option ℕ → List AttrLayout → Layout = λ m i a. record { method = m; index = i; attributes = a } in
+    let made : ℕ → Option ℕ → Option ℕ → List AttrLayout → Layout = λ m i t a. record { method = m; index = i; traversal = t; attributes = a } in
+    let heads = seen.connectivity.0 + seen.connectivity.1 in
     let m : slice_index bytes 8 ≡ (layout_chosen g choice).method = method-written g choice ∙ sym (ap method_byte can.sequential) in
     let i : index_layout bytes seen.connectivity.0 ≡ (layout_chosen g choice).index = index-written g choice is ∙ sym (index-chosen g choice can.sequential) in
-    let a : map (attr_layout bytes) seen.attrs ≡ (layout_chosen g choice).attributes = attributes-written g choice can same in
+    let t : traversal_layout bytes seen.connectivity.0 ≡ (layout_chosen g choice).traversal =
+    traversal-written g choice seen.connectivity.0 ∙ sym (ap traversal_of can.sequential) in
+    let a : attr_layouts bytes (links_layout bytes heads) seen.attrs ≡ (layout_chosen g choice).attributes =
+    ap (λ links. attr_layouts bytes links seen.attrs) (links-written g choice attributes) ∙ attributes-written g choice can same in
+    let seen_attrs = attr_layouts bytes (links_layout bytes heads) seen.attrs in
+    let chosen = layout_chosen g choice in
     ap (λ r. r >>= λ d. Ok (layout_seen bytes d.seen)) (stream-written g choice is connectivity attributes same)
     ∙ ap Ok (
-    ap (λ m. made m (index_layout bytes seen.connectivity.0) (map (attr_layout bytes) seen.attrs)) m
-    ∙ ap (λ i. made (layout_chosen g choice).method i (map (attr_layout bytes) seen.attrs)) i
-    ∙ ap (λ a. made (layout_chosen g choice).method (layout_chosen g choice).index a) a)
+    ap (λ m. made m (index_layout bytes seen.connectivity.0) (traversal_layout bytes seen.connectivity.0) seen_attrs) m
+    ∙ ap (λ i. made chosen.method i (traversal_layout bytes seen.connectivity.0) seen_attrs) i
+    ∙ ap (λ t. made chosen.method chosen.index t seen_attrs) t
+    ∙ ap (λ a. made chosen.method chosen.index chosen.traversal a) a)

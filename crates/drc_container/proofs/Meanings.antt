@@ -1,4 +1,5 @@
 -- A written stream means the geometry that was written.
+use Rattle.drc_base.specs.Profile.{profile_two}
 use Rattle.std.proofs.Common.{◌≡◌, ℕ, ◌+◌, List, [], ◌∷◌, ◌++◌, map, length, Ok, refl, sym, ◌∙◌, ap, arith, append-nil, length-append}
 use Rattle.std.specs.Prelude.{ℤ, Bool}
 use Rattle.std.specs.List.{All}
@@ -22,7 +23,7 @@ use Rattle.drc_container.specs.declared.seen.Seen.{Seen}
 use Rattle.drc_container.specs.declared.seen.Decoded.{Decoded}
 use Rattle.drc_container.specs.Columns.{columns_of, cells_at}
 use Rattle.drc_container.specs.Choice.{prediction_of, index_of, is_packed}
-use Rattle.drc_container.specs.Stream.{stream, body_at, mesh_at, mesh_behind, cloud_at, cloud_behind, attributes_at, seen_of, points_of}
+use Rattle.drc_container.specs.Stream.{stream, stream_in, body_at, mesh_at, mesh_behind, cloud_at, cloud_behind, attributes_at, seen_of, points_of}
 use Rattle.drc_container.specs.Written.{header_bytes, connectivity_bytes, attributes_bytes, attribute_heads_bytes, values_of, stream_bytes}
 use Rattle.drc_container.specs.Encoded.{ConnectivitySpelled, AttributesSpelled, attributes_again, Means}
 use Rattle.drc_container.proofs.Columns.{AreWide, cells_at-columns_of}
@@ -85,7 +86,7 @@ behind_header g choice = record {
 body-mesh : (m : MeshParts) (choice : Choice) → IsMesh m → ConnectivitySpelled (is_packed (index_of choice)) (Mesh m)
     → AttributesSpelled choice.plain_values (Mesh m) (prediction_of (Mesh m) choice)
     → length (values_of (Mesh m) (prediction_of (Mesh m) choice)) ≡ length m.heads
-    → mesh_at (behind_header (Mesh m) choice) ≡ Ok (decoded_written (Mesh m) choice)
+    → mesh_at profile_two (behind_header (Mesh m) choice) ≡ Ok (decoded_written (Mesh m) choice)
 unfolding mesh_at mesh_behind
 body-mesh m choice is connectivity attributes same =
     let predict = prediction_of (Mesh m) choice in
@@ -95,8 +96,8 @@ body-mesh m choice is connectivity attributes same =
     let n = length m.points in
     let a = attributes_again choice.plain_values (Mesh m) predict q in
     let end : Reading = record { place = end_place (Mesh m) choice; rest = [] } in
-    ap (λ x. x >>= λ indices. mesh_behind p indices.0 indices.1) (connectivity.reads p bytes)
-    ∙ ap (λ rest. attributes_at n (record { place = q; rest = rest }) >>= λ a. mesh_of a.0.heads (points_of n a.0) m.faces >>= λ mesh. Ok (record { geometry = Mesh mesh; seen = seen_of p q n a.0 a.1 })) (sym (append-nil bytes))
+    ap (λ x. x >>= λ indices. mesh_behind profile_two p indices.0 indices.1) (connectivity.reads p bytes)
+    ∙ ap (λ rest. attributes_at profile_two n (record { place = q; rest = rest }) >>= λ a. mesh_of a.0.heads (points_of n a.0) m.faces >>= λ mesh. Ok (record { geometry = Mesh mesh; seen = seen_of p q n a.0 a.1 })) (sym (append-nil bytes))
     ∙ ap (λ x. x >>= λ a. mesh_of a.0.heads (points_of n a.0) m.faces >>= λ mesh. Ok (record { geometry = Mesh mesh; seen = seen_of p q n a.0 a.1 })) (attributes.reads q [])
     ∙ ap (λ x. x >>= λ mesh. Ok (record { geometry = Mesh mesh; seen = seen_of p q n a end }))
     (ap (λ cells. mesh_of m.heads cells m.faces) (cells-again choice.plain_values (q + length (attribute_heads_bytes (Mesh m))) predict m.heads m.points is.points.rows_fit same) ∙ mesh_of-IsMesh m is)
@@ -104,7 +105,7 @@ body-mesh m choice is connectivity attributes same =
 body-cloud : (m : CloudParts) (choice : Choice) → IsCloud m → ConnectivitySpelled (is_packed (index_of choice)) (Cloud m)
     → AttributesSpelled choice.plain_values (Cloud m) (prediction_of (Cloud m) choice)
     → length (values_of (Cloud m) (prediction_of (Cloud m) choice)) ≡ length m.heads
-    → cloud_at (behind_header (Cloud m) choice) ≡ Ok (decoded_written (Cloud m) choice)
+    → cloud_at profile_two (behind_header (Cloud m) choice) ≡ Ok (decoded_written (Cloud m) choice)
 unfolding cloud_at cloud_behind
 body-cloud m choice is connectivity attributes same =
     let predict = prediction_of (Cloud m) choice in
@@ -114,15 +115,15 @@ body-cloud m choice is connectivity attributes same =
     let n = length m.points in
     let a = attributes_again choice.plain_values (Cloud m) predict q in
     let end : Reading = record { place = end_place (Cloud m) choice; rest = [] } in
-    ap (λ x. x >>= λ points. cloud_behind p points.0 points.1) (connectivity.reads p bytes)
-    ∙ ap (λ rest. attributes_at n (record { place = q; rest = rest }) >>= λ a. cloud_of a.0.heads (points_of n a.0) >>= λ cloud. Ok (record { geometry = Cloud cloud; seen = seen_of p q n a.0 a.1 })) (sym (append-nil bytes))
+    ap (λ x. x >>= λ points. cloud_behind profile_two p points.0 points.1) (connectivity.reads p bytes)
+    ∙ ap (λ rest. attributes_at profile_two n (record { place = q; rest = rest }) >>= λ a. cloud_of a.0.heads (points_of n a.0) >>= λ cloud. Ok (record { geometry = Cloud cloud; seen = seen_of p q n a.0 a.1 })) (sym (append-nil bytes))
     ∙ ap (λ x. x >>= λ a. cloud_of a.0.heads (points_of n a.0) >>= λ cloud. Ok (record { geometry = Cloud cloud; seen = seen_of p q n a.0 a.1 })) (attributes.reads q [])
     ∙ ap (λ x. x >>= λ cloud. Ok (record { geometry = Cloud cloud; seen = seen_of p q n a end }))
     (ap (λ cells. cloud_of m.heads cells) (cells-again choice.plain_values (q + length (attribute_heads_bytes (Cloud m))) predict m.heads m.points is.rows_fit same) ∙ cloud_of-IsCloud m is)
 
 body-written : (g : Geometry) (choice : Choice) → IsGeometry g → ConnectivitySpelled (is_packed (index_of choice)) g
     → AttributesSpelled choice.plain_values g (prediction_of g choice) → length (values_of g (prediction_of g choice)) ≡ length (heads_in g)
-    → body_at (written_form g) (behind_header g choice) ≡ Ok (decoded_written g choice)
+    → body_at profile_two (written_form g) (behind_header g choice) ≡ Ok (decoded_written g choice)
 body-written (Mesh m) choice is connectivity attributes same = body-mesh m choice is connectivity attributes same
 body-written (Cloud m) choice is connectivity attributes same = body-cloud m choice is connectivity attributes same
 
@@ -130,9 +131,9 @@ body-written (Cloud m) choice is connectivity attributes same = body-cloud m cho
 pub stream-written : (g : Geometry) (choice : Choice) → IsGeometry g → ConnectivitySpelled (is_packed (index_of choice)) g
     → AttributesSpelled choice.plain_values g (prediction_of g choice) → length (values_of g (prediction_of g choice)) ≡ length (heads_in g)
     → stream (stream_bytes g choice) ≡ Ok (decoded_written g choice)
-unfolding stream stream_bytes
+unfolding stream_in stream_bytes
 stream-written g choice is connectivity attributes same =
-    ap (λ x. x >>= λ header. body_at header.0 header.1)
+    ap (λ x. x >>= λ header. body_at profile_two header.0 header.1)
     ((header_spelled g).reads 0 (connectivity_bytes (is_packed (index_of choice)) g ++ attributes_bytes choice.plain_values g (prediction_of g choice)))
     ∙ body-written g choice is connectivity attributes same
 

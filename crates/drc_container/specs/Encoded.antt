@@ -1,5 +1,6 @@
 -- What an encoding answers, and what its bytes mean (this project's choice).
-use Rattle.std.specs.Prelude.{◌≡◌, ◌<◌, ◌⊎◌, ℕ, ◌+◌, ℤ, pos, Bool, List, ◌++◌, length, Result, Ok, All}
+use Rattle.drc_base.specs.Profile.{profile_two}
+use Rattle.std.specs.Prelude.{◌≡◌, ◌<◌, ◌⊎◌, ℕ, ◌+◌, ℤ, pos, Bool, List, [], ◌∷◌, ◌++◌, length, None, Result, Ok, All}
 use Rattle.drc_base.specs.declared.faults.Fault.{Fault}
 use Rattle.drc_bits.specs.Spells.{Spells}
 use Rattle.mesh_model.specs.declared.geometries.Geometry.{Geometry}
@@ -9,6 +10,7 @@ use Rattle.mesh_model.specs.Same.{Rows, Same}
 use Rattle.mesh_model.specs.Contents.{heads_in, points_in}
 use Rattle.predict.specs.Wrap.{CanWrap}
 use Rattle.seq_section.specs.Indices.{indices_at}
+use Rattle.attr_section.specs.Heads.{bare_decoder, heads_at}
 use Rattle.attr_section.specs.Values.{no_prediction}
 use Rattle.attr_section.specs.Written.{range_of, placed}
 use Rattle.drc_container.specs.declared.choices.Choice.{Choice}
@@ -19,7 +21,7 @@ use Rattle.drc_container.specs.Header.{cloud_points_at}
 use Rattle.drc_container.specs.Choice.{method_of, prediction_of}
 use Rattle.drc_container.specs.Stream.{stream, attributes_at}
 use Rattle.drc_container.specs.Refused.{refused}
-use Rattle.drc_container.specs.Written.{connectivity_bytes, attribute_heads_bytes, attributes_bytes, values_of, written}
+use Rattle.drc_container.specs.Written.{connectivity_bytes, decoder_of, attribute_heads_bytes, attributes_bytes, values_of, written}
 
 -- what is due: the bytes and rows, or why the geometry isn't encoded as chosen
 abbrev pub due : Geometry → Choice → Result (List ℕ × Rows) Fault
@@ -43,8 +45,9 @@ pub record CanCode (g : Geometry) (choice : Choice) : Type 0 where
 
 -- the connectivity is read back: the faces of a mesh and its number of points, or the number of points of a cloud
 abbrev pub ConnectivitySpelled : Bool → Geometry → Type 0
-ConnectivitySpelled packed (Mesh m) = Spells indices_at (connectivity_bytes packed (Mesh m)) (record { faces = m.faces; points = length m.points })
-ConnectivitySpelled packed (Cloud c) = Spells cloud_points_at (connectivity_bytes packed (Cloud c)) (length c.points)
+ConnectivitySpelled packed (Mesh m) =
+    Spells (indices_at profile_two) (connectivity_bytes packed (Mesh m)) (record { faces = m.faces; points = length m.points })
+ConnectivitySpelled packed (Cloud c) = Spells (cloud_points_at profile_two) (connectivity_bytes packed (Cloud c)) (length c.points)
 
 -- the attributes that are read back from a place on: the heads, and the values with the places of their prediction bytes
 abbrev pub attributes_again : Bool → Geometry → ℤ → ℕ → Attributes
@@ -53,8 +56,9 @@ attributes_again plain g predict place = record {
   values = placed plain (place + length (attribute_heads_bytes g)) (heads_in g) (values_of g predict);
 }
 
--- the attributes are read back
+-- the attributes are read back, and in front of them their heads
 pub record AttributesSpelled (plain : Bool) (g : Geometry) (predict : ℤ) : Type 0 where
+  pub heads : Spells (heads_at None) (attribute_heads_bytes g) (bare_decoder (decoder_of g) ∷ [])
   pub reads : (place : ℕ) (rest : List ℕ)
-      → attributes_at (length (points_in g)) (record { place = place; rest = attributes_bytes plain g predict ++ rest })
+      → attributes_at profile_two (length (points_in g)) (record { place = place; rest = attributes_bytes plain g predict ++ rest })
       ≡ Ok (attributes_again plain g predict place, record { place = place + length (attributes_bytes plain g predict); rest = rest })

@@ -5,7 +5,7 @@ use Rattle.std.specs.Str.{bytes_eq}
 use Rattle.drc_base.specs.declared.faults.Fault.{Fault}
 use Rattle.drc_base.specs.declared.kinds.Kind.{Kind}
 use Rattle.drc_base.specs.declared.kinds.Kind.TheVariants as kind
-use Rattle.drc_base.specs.declared.limits.TheConstants.{MAX_POINTS}
+use Rattle.drc_base.specs.Profile.{Profile}
 use Rattle.drc_base.specs.Steps.{◌>>=◌}
 use Rattle.drc_bits.specs.Reading.{Reading, Item, must, bytes_at}
 use Rattle.drc_bits.specs.Numbers.{number_at}
@@ -62,6 +62,6 @@ header_at c = do
   form ← form_said major.0 minor.0 geometry.0 method.0 flags.0
   Ok (form, flags.1)
 
--- the number of points of a cloud
-abbrev pub cloud_points_at : Reading → Item ℕ
-cloud_points_at c = must kind.PointLimit (λ n. nat_le n MAX_POINTS) (number_at 4) c
+-- the number of points of a cloud in a profile
+abbrev pub cloud_points_at : Profile → Reading → Item ℕ
+cloud_points_at p c = must kind.PointLimit (λ n. nat_le n p.points) (number_at 4) c

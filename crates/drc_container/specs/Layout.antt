@@ -1,6 +1,8 @@
--- How a stream is coded, read off its bytes (Draco Bitstream Specification 2.2, sections "Header", "Sequential Connectivity"
--- and "Sequential Attributes").
-use Rattle.std.specs.Prelude.{ℕ, ◌+◌, ◌==◌, ◌&&◌, ℤ, List, map, slice_index, drop, Option, None, Some, Result, Ok, Err, if◌then◌else◌}
+-- How a stream is coded, read off its bytes (Draco Bitstream Specification 2.2, sections "Header", "Sequential
+-- Connectivity", "Edgebreaker Connectivity", "Attributes Decoder" and "Sequential Attributes").
+use Rattle.drc_base.specs.Profile.{profile_two}
+use Rattle.std.specs.Prelude.{ℕ, ◌+◌, ◌==◌, ◌&&◌, ℤ, List, [], ◌∷◌, map, flat_map, replicate, length, slice_index, drop, Option, None, Some}
+use Rattle.std.specs.Prelude.{Result, Ok, Err, if◌then◌else◌}
 use Rattle.std.specs.Ordering.{int_eq}
 use Rattle.drc_base.specs.declared.faults.Fault.{Fault}
 use Rattle.drc_base.specs.Steps.{◌>>=◌}
@@ -9,6 +11,8 @@ use Rattle.mesh_model.specs.declared.geometries.Geometry.{Geometry}
 use Rattle.mesh_model.specs.Contents.{is_mesh, heads_in}
 use Rattle.seq_section.specs.declared.reading.Opening.{Opening}
 use Rattle.seq_section.specs.Indices.{opening_at}
+use Rattle.attr_section.specs.declared.decoder_heads.DecoderHead.{DecoderHead}
+use Rattle.attr_section.specs.Heads.{position_id, heads_at}
 use Rattle.attr_section.specs.Values.{no_prediction}
 use Rattle.drc_container.specs.declared.methods.Method.{Method}
 use Rattle.drc_container.specs.declared.methods.Method.TheVariants as method
@@ -18,26 +22,46 @@ use Rattle.drc_container.specs.declared.seen.Seen.{Seen}
 use Rattle.drc_container.specs.Choice.{method_of, is_sequential, index_of, is_packed, prediction_of}
 use Rattle.drc_container.specs.Stream.{stream}
 
--- how an attribute is coded: its prediction (-2 none, 0 difference, 1 parallelogram), and the byte that says whether its
--- values are compressed (0 as they are, else in a symbol block)
+-- how an attribute is coded: the element type (0 vertices, 1 corners) and the walk (0 depth first, 1 by prediction degree)
+-- of its decoder, both 0 in a sequential stream; its prediction (-2 none, 0 difference, 1 parallelogram); and the byte that
+-- says whether its values are compressed (0 as they are, else in a symbol block)
 pub record AttrLayout : Type 0 where
+  pub element : ℕ
+  pub walk : ℕ
   pub predict : ℤ
   pub compressed : ℕ
 
 -- how a stream is coded: the method of its header (0 sequential, 1 Edgebreaker), that of the indices of a sequential mesh
--- (0 packed, 1 plain), and its attributes
+-- (0 packed, 1 plain), the traversal of Edgebreaker (0 standard, 2 valence), and its attributes
 pub record Layout : Type 0 where
   pub method : ℕ
   pub index : Option ℕ
+  pub traversal : Option ℕ
   pub attributes : List AttrLayout
 
 -- the byte that says whether values are compressed stands behind the prediction and, where there is one, its transform
 abbrev pub compressed_place : AttrSeen → ℕ
 compressed_place a = a.at + (if int_eq a.predict no_prediction then 1 else 2)
 
--- how an attribute that was seen in these bytes is coded
-abbrev pub attr_layout : List ℕ → AttrSeen → AttrLayout
-attr_layout bytes a = record { predict = a.predict; compressed = slice_index bytes (compressed_place a) }
+-- how an attribute that was seen in these bytes is coded, beside its element type and walk
+abbrev pub attr_layout : List ℕ → ℕ × ℕ → AttrSeen → AttrLayout
+attr_layout bytes link a = record {
+  element = link.0;
+  walk = link.1;
+  predict = a.predict;
+  compressed = slice_index bytes (compressed_place a);
+}
+
+-- how attributes that were seen in these bytes are coded, with the element type and the walk of each
+abbrev pub attr_layouts : List ℕ → List (ℕ × ℕ) → List AttrSeen → List AttrLayout
+attr_layouts bytes links [] = []
+attr_layouts bytes [] (a ∷ attrs) = []
+attr_layouts bytes (link ∷ links) (a ∷ attrs) = attr_layout bytes link a ∷ attr_layouts bytes links attrs
+
+-- the element type and the walk of each attribute of these decoders
+abbrev pub links_of : Item (List DecoderHead) → List (ℕ × ℕ)
+links_of (Ok x) = flat_map (λ d. replicate (length d.heads) ((if d.corner then 1 else 0), (if d.degree then 1 else 0))) x.0
+links_of (Err f) = []
 
 -- the method of the indices of an opening
 abbrev pub opening_method : Item Opening → Option ℕ
@@ -51,18 +75,33 @@ type_place = 7
 abbrev pub method_place : ℕ
 method_place = 8
 
+-- beside how many attribute data heads are read: none under the sequential method; under Edgebreaker beside so many that
+-- every data id is known, since the ids of a stream that means something were tested where they stand
+abbrev pub attr_data_of : List ℕ → Option ℕ
+attr_data_of bytes = if slice_index bytes method_place == 0 then None else Some position_id
+
+-- the element type and the walk of each attribute, read off the heads, which stand at this place
+abbrev pub links_layout : List ℕ → ℕ → List (ℕ × ℕ)
+links_layout bytes place = links_of (heads_at (attr_data_of bytes) (record { place = place; rest = drop place bytes }))
+
+-- the traversal of an Edgebreaker mesh: the first byte of its connectivity, which stands at this place
+abbrev pub traversal_layout : List ℕ → ℕ → Option ℕ
+traversal_layout bytes place =
+    if (slice_index bytes type_place == 1) && (slice_index bytes method_place == 1) then Some (slice_index bytes place) else None
+
 -- the method of the indices of a sequential mesh; its connectivity stands at this place
 abbrev pub index_layout : List ℕ → ℕ → Option ℕ
 index_layout bytes place =
     if (slice_index bytes type_place == 1) && (slice_index bytes method_place == 0)
-    then opening_method (opening_at (record { place = place; rest = drop place bytes })) else None
+    then opening_method (opening_at profile_two (record { place = place; rest = drop place bytes })) else None
 
 -- how a stream is coded of which this was seen
 abbrev pub layout_seen : List ℕ → Seen → Layout
 layout_seen bytes seen = record {
   method = slice_index bytes method_place;
   index = index_layout bytes seen.connectivity.0;
-  attributes = map (attr_layout bytes) seen.attrs;
+  traversal = traversal_layout bytes seen.connectivity.0;
+  attributes = attr_layouts bytes (links_layout bytes (seen.connectivity.0 + seen.connectivity.1)) seen.attrs;
 }
 
 -- how a stream is coded, or its first fault
@@ -75,10 +114,26 @@ method_byte method.Seq = 0
 method_byte method.Eb = 1
 method_byte method.Valence = 1
 
+-- the traversal of a method
+abbrev pub traversal_of : Method → Option ℕ
+traversal_of method.Seq = None
+traversal_of method.Eb = Some 0
+traversal_of method.Valence = Some 2
+
+-- how an attribute is coded by a choice: a sequential stream has neither element type nor walk
+abbrev pub attr_chosen : Geometry → Choice → AttrLayout
+attr_chosen g choice = record {
+  element = 0;
+  walk = 0;
+  predict = prediction_of g choice;
+  compressed = if choice.plain_values then 0 else 1;
+}
+
 -- how a geometry is coded by a choice
 abbrev pub layout_chosen : Geometry → Choice → Layout
 layout_chosen g choice = record {
   method = method_byte (method_of g choice);
   index = if is_mesh g && is_sequential (method_of g choice) then Some (if is_packed (index_of choice) then 0 else 1) else None;
-  attributes = map (λ _. record { predict = prediction_of g choice; compressed = (if choice.plain_values then 0 else 1) }) (heads_in g);
+  traversal = traversal_of (method_of g choice);
+  attributes = map (λ _. attr_chosen g choice) (heads_in g);
 }

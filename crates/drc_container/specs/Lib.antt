@@ -7,3 +7,4 @@ pub mod Refused
 pub mod Encoded
 pub mod Layout
 pub mod Laws
+pub mod Profiles

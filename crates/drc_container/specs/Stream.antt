@@ -3,6 +3,7 @@
 use Rattle.std.specs.Prelude.{ℕ, ◌-◌, ℤ, List, [], ◌∷◌, ◌++◌, length, map, None, Result, Ok, Err}
 use Rattle.drc_base.specs.declared.faults.Fault.{Fault}
 use Rattle.drc_base.specs.declared.kinds.Kind.TheVariants as kind
+use Rattle.drc_base.specs.Profile.{Profile, profile_two}
 use Rattle.drc_base.specs.Steps.{◌>>=◌}
 use Rattle.drc_bits.specs.Reading.{Reading, Item, start_of}
 use Rattle.mesh_model.specs.declared.heads.Head.{Head}
@@ -26,23 +27,24 @@ use Rattle.drc_container.specs.declared.seen.Seen.{Seen}
 use Rattle.drc_container.specs.declared.seen.Decoded.{Decoded}
 
 -- the attributes of these decoders in turn, for so many entries, behind other attributes
-unfoldable pub decoders_at : ℕ → Attributes → List DecoderHead → Reading → Item Attributes
-decoders_at entries before [] c = Ok (before, c)
-decoders_at entries before (d ∷ decoders) c =
-    decoder_values_at d entries (values_in before.values) c >>= λ x.
-    decoders_at entries (record { heads = before.heads ++ x.0.1.heads; values = before.values ++ x.0.0 }) decoders x.1
+unfoldable pub decoders_at : Profile → ℕ → Attributes → List DecoderHead → Reading → Item Attributes
+decoders_at p entries before [] c = Ok (before, c)
+decoders_at p entries before (d ∷ decoders) c =
+    decoder_values_at p d entries (values_in before.values) c >>= λ x.
+    decoders_at p entries (record { heads = before.heads ++ x.0.1.heads; values = before.values ++ x.0.0 }) decoders x.1
 
 -- all attributes of a sequential stream: the heads of its decoders, and the values of each decoder in turn
-unfoldable pub attributes_at : ℕ → Reading → Item Attributes
-attributes_at entries c = do
+unfoldable pub attributes_at : Profile → ℕ → Reading → Item Attributes
+attributes_at p entries c = do
   decoders ← heads_at None c
-  decoders_at entries (record { heads = []; values = [] }) decoders.0 decoders.1
+  decoders_at p entries (record { heads = []; values = [] }) decoders.0 decoders.1
 
 -- what was seen of these attributes
 abbrev pub attrs_seen : ℕ → List Head → List Values → List AttrSeen
 attrs_seen entries [] values = []
 attrs_seen entries (h ∷ heads) [] = []
-attrs_seen entries (h ∷ heads) (v ∷ values) = record { head = h; predict = v.predict; entries = entries; at = v.at } ∷ attrs_seen entries heads values
+attrs_seen entries (h ∷ heads) (v ∷ values) =
+    record { head = h; predict = v.predict; entries = entries; at = v.at } ∷ attrs_seen entries heads values
 
 -- what was seen of a sequential stream: its connectivity stands between two places, and its end is a reading
 abbrev pub seen_of : ℕ → ℕ → ℕ → Attributes → Reading → Seen
@@ -66,42 +68,47 @@ abbrev pub points_of : ℕ → Attributes → List ℤ
 points_of points a = cells_at a.heads (map (λ v. v.values) a.values) points
 
 -- a sequential mesh behind its indices; its connectivity begins at this place
-unfoldable pub mesh_behind : ℕ → SeqRead → Reading → Result Decoded Fault
-mesh_behind from indices c = do
-  attributes ← attributes_at indices.points c
+unfoldable pub mesh_behind : Profile → ℕ → SeqRead → Reading → Result Decoded Fault
+mesh_behind p from indices c = do
+  attributes ← attributes_at p indices.points c
   mesh ← mesh_of attributes.0.heads (points_of indices.points attributes.0) indices.faces
   Ok (record { geometry = geometry.Mesh mesh; seen = seen_of from c.place indices.points attributes.0 attributes.1 })
 
 -- a sequential mesh behind its header
-unfoldable pub mesh_at : Reading → Result Decoded Fault
-mesh_at c = do
-  indices ← indices_at c
-  mesh_behind c.place indices.0 indices.1
+unfoldable pub mesh_at : Profile → Reading → Result Decoded Fault
+mesh_at p c = do
+  indices ← indices_at p c
+  mesh_behind p c.place indices.0 indices.1
 
 -- a cloud behind its number of points, which stands at this place
-unfoldable pub cloud_behind : ℕ → ℕ → Reading → Result Decoded Fault
-cloud_behind from points c = do
-  attributes ← attributes_at points c
+unfoldable pub cloud_behind : Profile → ℕ → ℕ → Reading → Result Decoded Fault
+cloud_behind p from points c = do
+  attributes ← attributes_at p points c
   cloud ← cloud_of attributes.0.heads (points_of points attributes.0)
   Ok (record { geometry = geometry.Cloud cloud; seen = seen_of from c.place points attributes.0 attributes.1 })
 
 -- a cloud behind its header
-unfoldable pub cloud_at : Reading → Result Decoded Fault
-cloud_at c = do
-  points ← cloud_points_at c
-  cloud_behind c.place points.0 points.1
+unfoldable pub cloud_at : Profile → Reading → Result Decoded Fault
+cloud_at p c = do
+  points ← cloud_points_at p c
+  cloud_behind p c.place points.0 points.1
 
 -- what follows a header of this form
-abbrev pub body_at : Form → Reading → Result Decoded Fault
-body_at form.SequentialMesh c = mesh_at c
-body_at form.EdgebreakerMesh c = Err (record { kind = kind.NotYet; at = 8 })
-body_at form.Cloud c = cloud_at c
+abbrev pub body_at : Profile → Form → Reading → Result Decoded Fault
+body_at p form.SequentialMesh c = mesh_at p c
+body_at p form.EdgebreakerMesh c = Err (record { kind = kind.NotYet; at = 8 })
+body_at p form.Cloud c = cloud_at p c
 
--- what a stream means: its geometry, and where its parts stand; or its first fault. Bytes after its end count for nothing
-unfoldable pub stream : List ℕ → Result Decoded Fault
-stream bytes = do
+-- what a stream means in a profile: its geometry, and where its parts stand; or its first fault. Bytes after its end count
+-- for nothing
+unfoldable pub stream_in : Profile → List ℕ → Result Decoded Fault
+stream_in p bytes = do
   header ← header_at (start_of bytes)
-  body_at header.0 header.1
+  body_at p header.0 header.1
+
+-- what a stream means: what it means in profile 2
+abbrev pub stream : List ℕ → Result Decoded Fault
+stream bytes = stream_in profile_two bytes
 
 -- the geometry that a stream means, or its first fault
 abbrev pub meaning_of : List ℕ → Result Geometry Fault
@@ -110,9 +117,9 @@ meaning_of bytes = stream bytes >>= λ d. Ok d.geometry
 -- the front of a stream, whose faults come before memory is taken: the header, then a cloud's number of points, or the two
 -- numbers and the method of sequential connectivity
 abbrev pub front_at : Form → Reading → Result ℕ Fault
-front_at form.SequentialMesh c = opening_at c >>= λ x. Ok x.1.place
+front_at form.SequentialMesh c = opening_at profile_two c >>= λ x. Ok x.1.place
 front_at form.EdgebreakerMesh c = Err (record { kind = kind.NotYet; at = 8 })
-front_at form.Cloud c = cloud_points_at c >>= λ x. Ok x.1.place
+front_at form.Cloud c = cloud_points_at profile_two c >>= λ x. Ok x.1.place
 
 unfoldable pub front_of : List ℕ → Result ℕ Fault
 front_of bytes = header_at (start_of bytes) >>= λ h. front_at h.0 h.1

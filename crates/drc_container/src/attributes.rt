@@ -1,5 +1,6 @@
 //! The attributes of a stream.
 
+ghost use Rattle.drc_base.specs.Profile.{profile_two};
 ghost use Rattle.std.specs.Prelude.{◌≡◌, ◌<◌, [], IfOk, All};
 ghost use Rattle.drc_bits.specs.Reading.{Gives};
 ghost use Rattle.attr_section.specs.Values.{AreColumns};
@@ -28,7 +29,7 @@ pub fn read_attributes(
     c: &mut Cursor<'_>,
     entries: u32,
 ) -> Result<Attributes, Refusal>
-    ensures attributes { Gives (λ a. a) (attributes_at entries c.old) c.new result }
+    ensures attributes { Gives (λ a. a) (attributes_at profile_two entries c.old) c.new result }
     ensures columns { IfOk result (λ a. AreColumns entries a.heads a.values) }
 {
     let decoders = read_heads(alloc, c, None)?;
@@ -43,7 +44,7 @@ fn read_decoders(
     decoders: Vec<DecoderHead>,
 ) -> Result<Attributes, Refusal>
     requires { All (λ d. All (λ h. 0 < h.comps) d.heads) decoders.items }
-    ensures attributes { Gives (λ a. a) (decoders_at entries (record { heads = []; values = [] }) decoders.items c.old) c.new result }
+    ensures attributes { Gives (λ a. a) (decoders_at profile_two entries (record { heads = []; values = [] }) decoders.items c.old) c.new result }
     ensures columns { IfOk result (λ a. AreColumns entries a.heads a.values) }
 {
     let mut heads = Vec::new(alloc);

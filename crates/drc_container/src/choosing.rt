@@ -1,7 +1,7 @@
 //! What a choice says of an encoding.
 
 ghost use Rattle.std.specs.Prelude.{◌≡◌};
-ghost use Rattle.drc_container.specs.Choice.{method_of, is_sequential, index_of, is_packed, predict_of, number_of_predict, prediction_of};
+ghost use Rattle.drc_container.specs.Choice.{method_of, is_sequential, index_of, is_packed, predict_of, number_of_predict};
 
 use crate::choices::{Choice, Index, Predict};
 use crate::contents::is_mesh;
@@ -40,7 +40,7 @@ pub fn packs(choice: &Choice) -> bool
 }
 
 /// How values are predicted.
-fn predict_of(g: &Geometry, choice: &Choice) -> Predict
+pub fn predict_of(g: &Geometry, choice: &Choice) -> Predict
     ensures { result ≡ predict_of (method_of g.now choice.now) choice.now }
 {
     match choice.predict {
@@ -55,11 +55,11 @@ fn predict_of(g: &Geometry, choice: &Choice) -> Predict
     }
 }
 
-/// The number of the prediction of a geometry's values: -2 none, 0 difference, 1 parallelogram.
-pub fn prediction_of(g: &Geometry, choice: &Choice) -> i8
-    ensures { result ≡ prediction_of g.now choice.now }
+/// The number of a prediction: -2 none, 0 difference, 1 parallelogram.
+pub fn number_of_predict(predict: Predict) -> i8
+    ensures { result ≡ number_of_predict predict }
 {
-    match predict_of(g, choice) {
+    match predict {
         Predict::Off => -2,
         Predict::Diff => 0,
         Predict::Para => 1,

@@ -1,6 +1,6 @@
 //! The values of attributes from the points of a geometry.
 
-ghost use Rattle.std.specs.Prelude.{◌≡◌, ◌+◌, ◌≤◌, ℤ, List, take, drop, IfOk};
+ghost use Rattle.std.specs.Prelude.{◌≡◌, ◌+◌, ◌++◌, ◌≤◌, ℤ, List, take, drop, length, IfOk, vec_len, vec_capacity};
 ghost use Rattle.std.specs.List.{flat_map};
 ghost use Rattle.mesh_model.specs.Head.{width_of};
 ghost use Rattle.mesh_model.specs.Contents.{heads_in, points_in};
@@ -40,7 +40,20 @@ fn column_of(alloc: Global, g: &Geometry, start: usize, comps: usize) -> Result<
     let mut column = Vec::with_capacity(alloc, count as usize * comps)?;
     for i in 0..count {
         let row = point(g, i);
-        column.extend_from_slice(&row[start..start + comps])?;
+        put_piece(&mut column, &row[start..start + comps]);
     }
     Ok(column)
+}
+
+/// Appends integers, where there is room.
+#[inline(always)]
+fn put_piece(column: &mut Vec<i32>, piece: &[i32])
+    requires room { vec_len column.old + length piece.now ≤ vec_capacity column.old }
+    ensures items { column.new.items ≡ column.old.items ++ piece.now }
+    ensures len { vec_len column.new ≡ vec_len column.old + length piece.now }
+    ensures capacity { vec_capacity column.new ≡ vec_capacity column.old }
+{
+    for x in piece {
+        column.push_reserved(*x);
+    }
 }

@@ -1,5 +1,6 @@
 //! Decoding a whole stream.
 
+ghost use Rattle.drc_base.specs.Profile.{profile_two};
 ghost use Rattle.std.specs.Prelude.{◌≡◌, None, Err};
 ghost use Rattle.drc_base.specs.declared.faults.Fault.{Fault as AnyFault};
 ghost use Rattle.drc_base.specs.declared.faults.Refusal.TheVariants as refusal;
@@ -32,7 +33,7 @@ pub fn decode(alloc: Global, bytes: &[u8]) -> Result<Geometry, Refusal>
 }
 
 /// The geometry that a stream means and what was seen of it, or its first fault, as `decode`.
-#[tactic(auto, unfolding(crate::specs::Stream::stream))]
+#[tactic(auto, unfolding(crate::specs::Stream::stream_in))]
 pub fn decode_whole(alloc: Global, bytes: &[u8]) -> Result<Decoded, Refusal>
     ensures stream { Answers (λ d. d) (stream bytes.now) result }
     ensures early { (f : AnyFault) → front_of bytes.now ≡ Err f → result ≡ Err (refusal.Fault f) }
@@ -41,18 +42,15 @@ pub fn decode_whole(alloc: Global, bytes: &[u8]) -> Result<Decoded, Refusal>
     match read_header(&mut c)? {
         Form::SequentialMesh => read_mesh(alloc, &mut c),
         Form::Cloud => read_cloud(alloc, &mut c),
-        Form::EdgebreakerMesh => Err(Refusal::Fault(Fault {
-            kind: Kind::NotYet,
-            at: 8,
-        })),
+        Form::EdgebreakerMesh => Err(Refusal::Fault(Fault::new(Kind::NotYet, 8))),
     }
 }
 
 /// Reads a sequential mesh behind its header.
 #[tactic(auto, unfolding(crate::specs::Stream::mesh_at))]
 fn read_mesh(alloc: Global, c: &mut Cursor<'_>) -> Result<Decoded, Refusal>
-    ensures mesh { Answers (λ d. d) (mesh_at c.old) result }
-    ensures early { (f : AnyFault) → opening_at c.old ≡ Err f → result ≡ Err (refusal.Fault f) }
+    ensures mesh { Answers (λ d. d) (mesh_at profile_two c.old) result }
+    ensures early { (f : AnyFault) → opening_at profile_two c.old ≡ Err f → result ≡ Err (refusal.Fault f) }
 {
     let from = c.place();
     let indices = read_indices(alloc, c)?;
@@ -67,7 +65,7 @@ fn read_mesh_values(
     from: u64,
     indices: SeqRead,
 ) -> Result<Decoded, Refusal>
-    ensures { Answers (λ d. d) (mesh_behind from indices c.old) result }
+    ensures { Answers (λ d. d) (mesh_behind profile_two from indices c.old) result }
 {
     let to = c.place();
     let points = indices.points;
@@ -99,8 +97,8 @@ fn mesh_of(
 /// Reads a cloud behind its header.
 #[tactic(auto, unfolding(crate::specs::Stream::cloud_at))]
 fn read_cloud(alloc: Global, c: &mut Cursor<'_>) -> Result<Decoded, Refusal>
-    ensures cloud { Answers (λ d. d) (cloud_at c.old) result }
-    ensures early { (f : AnyFault) → cloud_points_at c.old ≡ Err f → result ≡ Err (refusal.Fault f) }
+    ensures cloud { Answers (λ d. d) (cloud_at profile_two c.old) result }
+    ensures early { (f : AnyFault) → cloud_points_at profile_two c.old ≡ Err f → result ≡ Err (refusal.Fault f) }
 {
     let from = c.place();
     let points = read_cloud_points(c)?;
@@ -115,7 +113,7 @@ fn read_cloud_values(
     from: u64,
     points: u32,
 ) -> Result<Decoded, Refusal>
-    ensures { Answers (λ d. d) (cloud_behind from points c.old) result }
+    ensures { Answers (λ d. d) (cloud_behind profile_two from points c.old) result }
 {
     let to = c.place();
     let attributes = read_attributes(alloc, c, points)?;

@@ -14,7 +14,7 @@ ghost use Rattle.drc_container.specs.Encoded.{due, CanCode, Means};
 ghost use Rattle.drc_container.specs.Layout.{layout_of, layout_chosen};
 
 use crate::choices::Choice;
-use crate::choosing::prediction_of;
+use crate::choosing::{number_of_predict, predict_of};
 use crate::coded_values::values_of;
 use crate::contents::point_count;
 use crate::refusals::{test_early, test_ranges};
@@ -32,7 +32,7 @@ use std::alloc::Global;
 /// where the method isn't sequential on a mesh, at 2 a parallelogram and at 3 a walk where the method
 /// is sequential. `Empty` at 0: no points under the sequential method, no faces else. `NoPosition` at
 /// 0: Edgebreaker, and the first attribute is no position. `NotYet` at 0: Edgebreaker, which isn't
-/// built yet. `ValueLimit` at the number of coded values where that is above 2^24. `Range` at the
+/// built yet. `ValueLimit` at the number of coded values where that is above `MAX_VALUES`. `Range` at the
 /// number of the first attribute that is predicted though its greatest value is 2^31 - 1 or more
 /// above its least. Before the last two no memory is taken.
 pub fn encode(alloc: Global, g: &Geometry, choice: &Choice) -> Result<(Vec<u8>, Renumber), Refusal>
@@ -59,9 +59,11 @@ fn coded_values(alloc: Global, g: &Geometry, choice: &Choice) -> Result<Vec<Valu
     ensures answer { Answers (λ v. v.items) (value_unless (refused g.now choice.now) (values_of g.now (prediction_of g.now choice.now))) result }
     ensures can { IfOk result (λ _. CanCode g.now choice.now) }
 {
+    // For the proof alone: the call tells what holds of every geometry.
     let _count = point_count(g);
-    let predict = prediction_of(g, choice);
-    let values = values_of(alloc, g, predict)?;
+    let predict = predict_of(g, choice);
+    let number = number_of_predict(predict);
+    let values = values_of(alloc, g, number)?;
     test_ranges(predict, values.as_slice())?;
     Ok(values)
 }

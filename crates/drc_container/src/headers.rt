@@ -1,5 +1,6 @@
 //! The header of a stream.
 
+ghost use Rattle.drc_base.specs.Profile.{profile_two};
 ghost use Rattle.std.specs.Prelude.{◌≡◌, Err};
 ghost use Rattle.drc_bits.specs.Reading.{Reads};
 ghost use Rattle.drc_container.specs.Header.{magic, magic_at, header_at, form_said, minor_of, greatest_method, form_of, cloud_points_at};
@@ -90,7 +91,7 @@ fn form_said(major: u8, minor: u8, geometry: u8, method: u8, flags: u16) -> Resu
 fn refused(kind: Kind, at: u64) -> Result<Form, Fault>
     ensures { result ≡ Err (record { kind = kind; at = at }) }
 {
-    Err(Fault { kind, at })
+    Err(Fault::new(kind, at))
 }
 
 /// The minor version of a geometry type.
@@ -122,7 +123,7 @@ fn form_of(geometry: u8, method: u8) -> Form
 
 /// Reads the number of points of a cloud.
 pub fn read_cloud_points(c: &mut Cursor<'_>) -> Result<u32, Fault>
-    ensures { Reads (λ n. n) (cloud_points_at c.old) c.new result }
+    ensures { Reads (λ n. n) (cloud_points_at profile_two c.old) c.new result }
 {
     let fault = c.fault(Kind::PointLimit);
     let points = c.get_u32()?;

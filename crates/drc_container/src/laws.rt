@@ -1,6 +1,7 @@
 //! What holds of the definitions themselves.
 
 ghost use Rattle.drc_container.specs.Laws.{MeshesPass, CloudsPass};
+ghost use Rattle.drc_container.specs.Profiles.{WiderMeansTheSame, OldFilesMeanTheSame};
 
 /// What is read is a geometry: the faces, or the number of points, and the attributes behind them pass
 /// each test of a mesh or a cloud, since the limits, the indices and the ranges of values were tested
@@ -9,4 +10,14 @@ ghost use Rattle.drc_container.specs.Laws.{MeshesPass, CloudsPass};
 pub fn what_is_read_is_a_geometry()
     ensures meshes { MeshesPass }
     ensures clouds { CloudsPass }
+{}
+
+/// A file of this codec's first profile keeps its meaning: where its bytes are a geometry under the
+/// first limits (2^20 faces, 2^20 points, 2^24 values, and no prediction that came later), decoding
+/// gives the same geometry, with the same end and the same places; and so it is for any two profiles
+/// of which the second accepts all that the first accepts. This is the contract of a call that does
+/// nothing.
+pub fn old_files_keep_their_meaning()
+    ensures wider { WiderMeansTheSame }
+    ensures old { OldFilesMeanTheSame }
 {}

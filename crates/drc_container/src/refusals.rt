@@ -1,10 +1,12 @@
 //! Which geometries and choices are refused.
 
 ghost use Rattle.std.specs.Prelude.{◌≡◌, position, not};
-ghost use Rattle.mesh_model.specs.FirstFault.{Tests, unless};
+ghost use Rattle.drc_base.specs.declared.kinds.Kind.TheVariants.{Range};
+ghost use Rattle.mesh_model.specs.FirstFault.{Tests, unless, at_place};
 ghost use Rattle.mesh_model.specs.Contents.{heads_in};
 ghost use Rattle.attr_section.specs.Values.{can_wrap};
 ghost use Rattle.attr_section.specs.Written.{range_of};
+ghost use Rattle.drc_container.specs.Choice.{number_of_predict};
 ghost use Rattle.drc_container.specs.Refused.{choice_fault, empty_fault, position_fault, unbuilt_fault, early_fault, begins_with_position, range_fault};
 
 use crate::choices::{Choice, Predict};
@@ -14,9 +16,6 @@ use attr_section::{Values, range_of};
 use drc_base::{Fault, Kind};
 use mesh_model::{Geometry, Head};
 
-/// No prediction.
-const NO_PREDICTION: i8 = -2;
-
 /// A fault of this kind with this number, where a test doesn't hold.
 fn unless(holds: bool, kind: Kind, at: u64) -> Result<(), Fault>
     ensures { Tests (unless holds kind at) result }
@@ -24,7 +23,7 @@ fn unless(holds: bool, kind: Kind, at: u64) -> Result<(), Fault>
     if holds {
         Ok(())
     } else {
-        Err(Fault { kind, at })
+        Err(Fault::new(kind, at))
     }
 }
 
@@ -115,17 +114,21 @@ fn first_wide(values: &[Values]) -> Option<usize>
 }
 
 /// The fault of the first attribute whose values can't be predicted, where they are to be.
-pub fn test_ranges(predict: i8, values: &[Values]) -> Result<(), Fault>
-    ensures { Tests (range_fault predict values.now) result }
+pub fn test_ranges(predict: Predict, values: &[Values]) -> Result<(), Fault>
+    ensures { Tests (range_fault (number_of_predict predict) values.now) result }
 {
-    if predict == NO_PREDICTION {
-        return Ok(());
+    match predict {
+        Predict::Off => Ok(()),
+        Predict::Diff | Predict::Para => test_spans(values),
     }
+}
+
+/// The fault of the first attribute whose values can't be predicted.
+fn test_spans(values: &[Values]) -> Result<(), Fault>
+    ensures { Tests (at_place Range (position (λ v. not (can_wrap (range_of v.values))) values.now)) result }
+{
     match first_wide(values) {
         None => Ok(()),
-        Some(at) => Err(Fault {
-            kind: Kind::Range,
-            at: at as u64,
-        }),
+        Some(at) => Err(Fault::new(Kind::Range, at as u64)),
     }
 }

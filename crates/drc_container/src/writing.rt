@@ -1,5 +1,6 @@
 //! Writing a stream.
 
+ghost use Rattle.drc_base.specs.Profile.{profile_two};
 ghost use Rattle.std.specs.Prelude.{◌≡◌, ◌≤◌, ◌<◌, ◌++◌, Ok, IfOk, OnOk, length};
 ghost use Rattle.drc_bits.specs.Bits.{low_bytes};
 ghost use Rattle.drc_bits.specs.Spells.{Spells};
@@ -52,7 +53,7 @@ fn mesh_connectivity(alloc: Global, mesh: &CornerMesh, packed: bool) -> Result<V
 fn cloud_connectivity(alloc: Global, points: u32) -> Result<Vec<u8>, Memory>
     requires { points ≤ MAX_POINTS }
     ensures bytes { IfOk result (λ v. v.items ≡ low_bytes 4 points) }
-    ensures again { OnOk result (Spells cloud_points_at (low_bytes 4 points) points) }
+    ensures again { OnOk result (Spells (cloud_points_at profile_two) (low_bytes 4 points) points) }
 {
     Ok(Vec::from_slice(alloc, &points.to_le_bytes())?)
 }
@@ -152,6 +153,7 @@ pub fn write_stream(
     ensures means { IfOk result (λ v. Means g.now v.items (plain (count_of g.now))) }
     ensures layout { IfOk result (λ v. layout_of v.items ≡ Ok (layout_chosen g.now choice.now)) }
 {
+    // For the proof alone: the call tells what holds of every geometry.
     let _count = point_count(g);
     let out = written_stream(alloc, g, choice, values)?;
     Ok(out)

@@ -49,7 +49,8 @@ point_count (geometry.Cloud c) = length c.points
 -- the declared numbers of Edgebreaker connectivity; a sequential stream has none
 abbrev pub declared_line : Seen → Method → List ℕ
 declared_line seen method.Seq = []
-declared_line seen how = field (codes "symbols") (seen.symbols ∷ []) ++ field (codes " splits") (seen.splits ∷ []) ++ line (codes " events") (seen.events ∷ [])
+declared_line seen how =
+    field (codes "symbols") (seen.symbols ∷ []) ++ field (codes " splits") (seen.splits ∷ []) ++ line (codes " events") (seen.events ∷ [])
 
 -- the line of attribute k: its head, its prediction, the number of its entries, and the place of its prediction
 abbrev pub attr_line : ℕ → AttrSeen → List ℕ
@@ -63,11 +64,15 @@ attr_lines k (a ∷ attrs) = attr_line k a ++ attr_lines (k + 1) attrs
 
 -- the form of the stream, and where its connectivity stands: its place and its length
 unfoldable pub first_lines : Decoded → List ℕ
-first_lines d = form_words d.geometry d.seen.method ++ newline ++ line (codes "connectivity") (d.seen.connectivity.0 ∷ d.seen.connectivity.1 ∷ [])
+first_lines d =
+    form_words d.geometry d.seen.method ++ newline ++ line (codes "connectivity") (d.seen.connectivity.0 ∷ d.seen.connectivity.1 ∷ [])
 
 -- how many things the stream holds
 unfoldable pub count_lines : Decoded → List ℕ
-count_lines d = line (codes "faces") (face_count d.geometry ∷ []) ++ line (codes "points") (point_count d.geometry ∷ []) ++ declared_line d.seen d.seen.method
+count_lines d =
+    line (codes "faces") (face_count d.geometry ∷ [])
+    ++ line (codes "points") (point_count d.geometry ∷ [])
+    ++ declared_line d.seen d.seen.method
 
 -- the last line: where the stream ends, and how many bytes follow
 unfoldable pub end_line : Seen → List ℕ

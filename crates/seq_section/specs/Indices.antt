@@ -1,9 +1,10 @@
 -- The connectivity of a sequential mesh (Draco Bitstream Specification 2.2, section "Sequential Connectivity"; the limits
 -- are this project's choice).
-use Rattle.std.specs.Prelude.{◌≡◌, ℕ, ◌*◌, ◌<◌, Bool, ◌==◌, List, [], ◌∷◌, ◌++◌, length, Option, None, Some, Ok, nat_le, nat_lt, if◌then◌else◌, All}
+use Rattle.std.specs.Prelude.{◌≡◌, ℕ, ◌*◌, ◌<◌, Bool, ◌==◌, List, [], ◌∷◌, ◌++◌, length, Option, None, Some, Ok, nat_le, nat_lt}
+use Rattle.std.specs.Prelude.{if◌then◌else◌, All}
 use Rattle.std.specs.List.{flat_map}
 use Rattle.drc_base.specs.declared.kinds.Kind.TheVariants as kind
-use Rattle.drc_base.specs.declared.limits.TheConstants.{MAX_FACES, MAX_POINTS}
+use Rattle.drc_base.specs.Profile.{Profile}
 use Rattle.drc_base.specs.Steps.{◌>>=◌}
 use Rattle.drc_bits.specs.Reading.{Reading, Item, must, many_at}
 use Rattle.drc_bits.specs.Numbers.{number_at}
@@ -18,11 +19,11 @@ use Rattle.seq_section.specs.declared.reading.Opening.{Opening}
 abbrev pub method_at : Reading → Item ℕ
 method_at c = must kind.IndexMethod (λ n. nat_le n 1) (number_at 1) c
 
--- the opening of the section: faces, points, and the coding of the indices
-unfoldable pub opening_at : Reading → Item Opening
-opening_at c = do
-  faces ← must kind.FaceLimit (λ n. nat_le n MAX_FACES) var32_at c
-  points ← must kind.PointLimit (λ n. nat_le n MAX_POINTS) var32_at faces.1
+-- the opening of the section in a profile: faces, points, and the coding of the indices
+unfoldable pub opening_at : Profile → Reading → Item Opening
+opening_at p c = do
+  faces ← must kind.FaceLimit (λ n. nat_le n p.faces) var32_at c
+  points ← must kind.PointLimit (λ n. nat_le n p.points) var32_at faces.1
   method ← method_at points.1
   Ok (record { faces = faces.0; points = points.0; method = method.0 }, method.1)
 
@@ -68,10 +69,10 @@ abbrev pub faces_at : Opening → Reading → Item (List (List ℕ))
 faces_at opening c = if opening.method == 0 then packed_at opening.points opening.faces c
     else many_at (face_at opening.points) opening.faces c
 
--- the section
-unfoldable pub indices_at : Reading → Item SeqRead
-indices_at c = do
-  opening ← opening_at c
+-- the section in a profile
+unfoldable pub indices_at : Profile → Reading → Item SeqRead
+indices_at p c = do
+  opening ← opening_at p c
   faces ← faces_at opening.0 opening.1
   Ok (record { faces = faces.0; points = opening.0.points }, faces.1)
 

@@ -3,6 +3,7 @@
 ghost use Rattle.std.specs.Prelude.{◌≡◌, ◌≤◌, Err, IfOk, OnErr, nat_le};
 ghost use Rattle.drc_base.specs.declared.faults.Fault.{Fault as AnyFault};
 ghost use Rattle.drc_base.specs.declared.faults.Refusal.TheVariants as refusal;
+ghost use Rattle.drc_base.specs.Profile.{profile_two};
 ghost use Rattle.drc_bits.specs.Reading.{Reads, Gives, must};
 ghost use Rattle.drc_bits.specs.Varint.{var32_at};
 ghost use Rattle.seq_section.specs.Indices.{method_at, opening_at, faces_at, indices_at};
@@ -17,18 +18,18 @@ use std::alloc::Global;
 /// The faces of a sequential mesh, each three indices below its number of points.
 #[derive(Debug, Drop)]
 pub struct SeqRead {
-    /// The faces, at most 2^20.
+    /// The faces, at most `MAX_FACES`.
     pub faces: Sequence<[u32; 3]>,
-    /// The number of points, at most 2^20.
+    /// The number of points, at most `MAX_POINTS`.
     pub points: u32,
 }
 
 /// The two numbers and the method at the front of the section.
 #[derive(Clone, Copy, Debug, PartialEq, Eq)]
 pub struct Opening {
-    /// The number of faces, at most 2^20.
+    /// The number of faces, at most `MAX_FACES`.
     pub faces: u32,
-    /// The number of points, at most 2^20.
+    /// The number of points, at most `MAX_POINTS`.
     pub points: u32,
     /// How indices are coded: 0 packed, 1 plain.
     pub method: u8,
@@ -41,8 +42,8 @@ pub struct Opening {
 /// numbers and of the method come before memory is taken. After a refusal the cursor is where it was.
 #[tactic(auto, unfolding(crate::specs::Indices::indices_at))]
 pub fn read_indices(alloc: Global, c: &mut Cursor<'_>) -> Result<SeqRead, Refusal>
-    ensures indices { Gives (λ r. r) (indices_at c.old) c.new result }
-    ensures early { (f : AnyFault) → opening_at c.old ≡ Err f → result ≡ Err (refusal.Fault f) }
+    ensures indices { Gives (λ r. r) (indices_at profile_two c.old) c.new result }
+    ensures early { (f : AnyFault) → opening_at profile_two c.old ≡ Err f → result ≡ Err (refusal.Fault f) }
     ensures unchanged { OnErr result (c.new ≡ c.old) }
 {
     let mut ahead = c.copy();
@@ -74,7 +75,7 @@ fn read_behind(
 /// Reads the front of the section.
 #[tactic(auto, unfolding(crate::specs::Indices::opening_at))]
 fn read_opening(c: &mut Cursor<'_>) -> Result<Opening, Fault>
-    ensures opening { Reads (λ o. o) (opening_at c.old) c.new result }
+    ensures opening { Reads (λ o. o) (opening_at profile_two c.old) c.new result }
     ensures faces { IfOk result (λ o. o.faces ≤ MAX_FACES) }
     ensures points { IfOk result (λ o. o.points ≤ MAX_POINTS) }
 {

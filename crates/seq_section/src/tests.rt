@@ -43,7 +43,7 @@ fn fault_of(alloc: Global, bytes: &[u8]) -> Option<Fault> {
 
 #[test]
 fn faces_both_ways(rt: HostRuntime) -> Result<(), Fail> {
-    let rows: [([u32; 3], u32, bool, &[u8]); 6] = [
+    let rows: [([u32; 3], u32, bool, &[u8]); 7] = [
         (
             [0, 1, 2],
             3,
@@ -72,6 +72,14 @@ fn faces_both_ways(rt: HostRuntime) -> Result<(), Fail> {
             false,
             &[1, 0x80, 0x80, 4, 1, 0, 0xfe, 0xff, 3, 0xff, 0xff, 3],
         ),
+        (
+            [0, 2097150, 2097151],
+            2097152,
+            false,
+            &[
+                1, 0x80, 0x80, 0x80, 1, 1, 0, 0, 0, 0, 0xfe, 0xff, 0x1f, 0, 0xff, 0xff, 0x1f, 0,
+            ],
+        ),
     ];
     for (face, points, packed, bytes) in rows {
         assert!(rt;
@@ -99,7 +107,7 @@ fn other_sections_are_read(rt: HostRuntime) -> Result<(), Fail> {
             1,
         ),
         (&[0, 5, 0], &[], 5),
-        (&[0, 0x80, 0x80, 0x40, 1], &[], 0x10_0000),
+        (&[0, 0x80, 0x80, 0x80, 2, 1], &[], 0x40_0000),
         (&[1, 9, 1, 8, 8, 0], &[[8, 8, 0]], 9),
     ];
     for (bytes, faces, points) in rows {
@@ -112,8 +120,8 @@ fn other_sections_are_read(rt: HostRuntime) -> Result<(), Fail> {
 fn faults_of_sections(rt: HostRuntime) {
     let rows: [(&[u8], Kind, u64); 12] = [
         (&[], Kind::Short, 0),
-        (&[0x81, 0x80, 0x40], Kind::FaceLimit, 0),
-        (&[1, 0x81, 0x80, 0x40], Kind::PointLimit, 1),
+        (&[0x81, 0x80, 0x80, 2], Kind::FaceLimit, 0),
+        (&[1, 0x81, 0x80, 0x80, 2], Kind::PointLimit, 1),
         (&[1, 3], Kind::Short, 2),
         (&[1, 3, 2, 0, 1, 2], Kind::IndexMethod, 2),
         (&[1, 3, 1, 0, 1, 3], Kind::IndexRange, 5),

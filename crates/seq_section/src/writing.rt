@@ -2,6 +2,7 @@
 
 ghost use Rattle.std.specs.Prelude.{◌≡◌, ◌≤◌, ◌++◌, length, IfOk, OnOk, All, if◌then◌else◌};
 ghost use Rattle.std.specs.List.{flat_map};
+ghost use Rattle.drc_base.specs.Profile.{profile_two};
 ghost use Rattle.drc_bits.specs.Spells.{Spells};
 ghost use Rattle.seq_section.specs.Indices.{faces_at, indices_at, opening_bytes, faces_bytes, indices_bytes, IsFaceBelow};
 
@@ -24,7 +25,7 @@ pub fn write_indices(
     requires few_points { points ≤ MAX_POINTS }
     requires below { All (IsFaceBelow points) faces.now }
     ensures bytes { IfOk result (λ v. v.items ≡ indices_bytes packed faces.now points) }
-    ensures again { IfOk result (λ v. Spells indices_at v.items (record { faces = faces.now; points = points })) }
+    ensures again { IfOk result (λ v. Spells (indices_at profile_two) v.items (record { faces = faces.now; points = points })) }
 {
     let out = written_indices(alloc, faces, points, packed)?;
     Ok(out)

@@ -1,7 +1,5 @@
-use Rattle.std.proofs.Common.{◌≡◌, ◌∙◌, List, [], ◌∷◌, ap, refl}
+use Rattle.std.proofs.Common.{◌≡◌, ◌∙◌, [], ◌∷◌, ap, refl}
 use Rattle.attr_section.specs.declared.decoder_heads.DecoderHead.{DecoderHead}
-use Rattle.attr_section.specs.declared.values.Values.{Values}
-use Rattle.mesh_model.specs.declared.heads.Head.{Head}
 use Rattle.attr_section.specs.Examples.{position_head, texture_head, position_values, texture_values, prediction_of}
 use Rattle.attr_section.proofs.Examples.{values-pass}
 use Rattle.attr_section.proofs.tests.values_both_ways.Goals as goal

@@ -1,3 +1,4 @@
+use Rattle.drc_base.specs.Profile.{profile_two}
 use Rattle.std.proofs.Common.{◌≡◌, ◌≤◌, ◌+◌, [], drop, take}
 use Rattle.drc_base.specs.declared.limits.TheConstants.{MAX_VALUES}
 use Rattle.attr_section.specs.Each.{each_at}
@@ -6,8 +7,8 @@ use Rattle.attr_section.proofs.value_reading.read_attributes.Given as goal
 
 abbrev pub invariant-loop-head : goal.invariant-loop-head
 invariant-loop-head l =
-    (each_at (λ before h. values_at h l.entries (l.spent + values_in before)) l.attributes.items (drop l.head-index l.heads) l.c
-    ≡ each_at (λ before h. values_at h l.entries (l.spent + values_in before)) [] l.heads l.fn.c)
+    (each_at (λ before h. values_at profile_two h l.entries (l.spent + values_in before)) l.attributes.items (drop l.head-index l.heads) l.c
+    ≡ each_at (λ before h. values_at profile_two h l.entries (l.spent + values_in before)) [] l.heads l.fn.c)
     × (l.total ≡ l.spent + values_in l.attributes.items)
     × (l.total ≤ MAX_VALUES)
     × AreColumns l.entries (take l.head-index l.heads) l.attributes.items

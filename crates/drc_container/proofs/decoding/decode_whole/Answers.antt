@@ -1,4 +1,4 @@
-use Rattle.std.proofs.Common.{Err, refl, ap}
+use Rattle.std.proofs.Common.{Err, refl, ap, ◌∙◌}
 use Rattle.std.proofs.lemmas.Result.{err_from_is_err_and}
 use Rattle.drc_base.specs.declared.faults.Refusal.TheVariants as refusal
 use Rattle.drc_bits.proofs.Results.{Err-injective}
@@ -20,4 +20,4 @@ returns-in-Cloud-clause-early c f front =
 
 pub returns-in-EdgebreakerMesh-clause-early : goal.returns-in-EdgebreakerMesh-clause-early
 returns-in-EdgebreakerMesh-clause-early c f front =
-    ap (λ e. Err (refusal.Fault e)) (Err-injective (front-behind c.args.bytes.now c.new-c.result _ _ _ f c.new-c.ensures c.in_ok-read_header.ensures c.in-EdgebreakerMesh.is front))
+    ap (λ e. Err (refusal.Fault e)) (c.new.ensures ∙ Err-injective (front-behind c.args.bytes.now c.new-c.result _ _ _ f c.new-c.ensures c.in_ok-read_header.ensures c.in-EdgebreakerMesh.is front))

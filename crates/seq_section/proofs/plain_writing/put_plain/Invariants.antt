@@ -6,5 +6,5 @@ use Rattle.seq_section.proofs.plain_writing.put_plain.Given as goal
 abbrev pub invariant-loop-face : goal.invariant-loop-face
 invariant-loop-face l = record {
   bytes : l.out.items ≡ l.fn.front.items ++ flat_map (face_bytes l.points) (take l.face-index l.faces);
-  room : vec_len l.out + 9 * (length l.faces - l.face-index) ≤ vec_capacity l.out;
+  room : vec_len l.out + 12 * (length l.faces - l.face-index) ≤ vec_capacity l.out;
 }

@@ -1,0 +1,137 @@
+-- A stream that is a geometry in a profile is the same one in each wider profile.
+use Rattle.std.proofs.Common.{◌≡◌, ℕ, ◌+◌, ◌*◌, ◌≤◌, true, List, [], ◌∷◌, ◌++◌, None, refl, arith, lit≤}
+use Rattle.std.specs.Prelude.{nat_le}
+use Rattle.std.proofs.lemmas.Bool.{leb-true, le-leb}
+use Rattle.drc_base.specs.declared.kinds.Kind.TheVariants as kind
+use Rattle.drc_base.specs.Profile.{Profile, profile_one, profile_two}
+use Rattle.drc_bits.specs.Reading.{Reading, must, start_of}
+use Rattle.drc_bits.specs.Numbers.{number_at}
+use Rattle.drc_bits.specs.Varint.{var32_at}
+use Rattle.mesh_model.specs.declared.heads.Head.{Head}
+use Rattle.seq_section.specs.declared.reading.SeqRead.{SeqRead}
+use Rattle.seq_section.specs.Indices.{opening_at, indices_at}
+use Rattle.attr_section.specs.declared.decoder_heads.DecoderHead.{DecoderHead}
+use Rattle.attr_section.specs.Heads.{heads_at}
+use Rattle.attr_section.specs.Values.{is_prediction, prediction_at, typed_values_at, values_at, values_in, attributes_at as columns_at, decoder_values_at}
+use Rattle.drc_container.specs.declared.headers.Form.{Form}
+use Rattle.drc_container.specs.declared.headers.Form.TheVariants as form
+use Rattle.drc_container.specs.declared.attributes.Attributes.{Attributes}
+use Rattle.drc_container.specs.Header.{header_at, cloud_points_at}
+use Rattle.drc_container.specs.Stream.{decoders_at, attributes_at, mesh_behind, mesh_at, cloud_behind, cloud_at, body_at, stream_in}
+use Rattle.drc_container.specs.Profiles.{IsWider, WiderMeansTheSame, OldFilesMeanTheSame}
+use Rattle.drc_container.proofs.Parted.{parts, passed}
+use Rattle.drc_container.proofs.Keeping.{Keeps, keeps-must, keeps-each}
+
+-- what is within a limit is within a greater one
+within : (n m k : ℕ) → m ≤ k → nat_le n m ≡ true → nat_le n k ≡ true
+within n m k wider is = le-leb n k (omega (arith, wider, leb-true n m is))
+
+opening : (p q : Profile) → IsWider p q → (c : Reading) → Keeps (opening_at p c) (opening_at q c)
+unfolding opening_at
+opening p q wider c y is =
+    let a = parts (must kind.FaceLimit (λ n. nat_le n p.faces) var32_at c) _ y is in
+    let b = parts (must kind.PointLimit (λ n. nat_le n p.points) var32_at a.0.1) _ y a.2 in
+    let faces = keeps-must kind.FaceLimit (λ n. nat_le n p.faces) (λ n. nat_le n q.faces) var32_at var32_at c
+    (λ n. within n p.faces q.faces wider.faces) (λ y same. same) a.0 a.1 in
+    let points = keeps-must kind.PointLimit (λ n. nat_le n p.points) (λ n. nat_le n q.points) var32_at var32_at a.0.1
+    (λ n. within n p.points q.points wider.points) (λ y same. same) b.0 b.1 in
+    rw (faces, points) b.2
+
+indices : (p q : Profile) → IsWider p q → (c : Reading) → Keeps (indices_at p c) (indices_at q c)
+unfolding indices_at
+indices p q wider c y is =
+    let a = parts (opening_at p c) _ y is in
+    rw (opening p q wider c a.0 a.1) a.2
+
+cloud_points : (p q : Profile) → IsWider p q → (c : Reading) → Keeps (cloud_points_at p c) (cloud_points_at q c)
+cloud_points p q wider c y is =
+    keeps-must kind.PointLimit (λ n. nat_le n p.points) (λ n. nat_le n q.points) (number_at 4) (number_at 4) c
+    (λ n. within n p.points q.points wider.points) (λ y same. same) y is
+
+prediction : (p q : Profile) → IsWider p q → (c : Reading) → Keeps (prediction_at p c) (prediction_at q c)
+unfolding prediction_at
+prediction p q wider c y is =
+    let a = parts (must kind.Prediction (is_prediction p) (number_at 1) c) _ y is in
+    let byte = keeps-must kind.Prediction (is_prediction p) (is_prediction q) (number_at 1) (number_at 1) c (λ b same. same) (λ y same. same) a.0 a.1 in
+    rw byte a.2
+
+typed_values : (p q : Profile) → IsWider p q → (h : Head) (n : ℕ) (c : Reading) → Keeps (typed_values_at p h n c) (typed_values_at q h n c)
+unfolding typed_values_at
+typed_values p q wider h n c y is =
+    let a = parts (prediction_at p c) _ y is in
+    rw (prediction p q wider c a.0 a.1) a.2
+
+values : (p q : Profile) → IsWider p q → (h : Head) (entries spent : ℕ) (c : Reading) → Keeps (values_at p h entries spent c) (values_at q h entries spent c)
+unfolding values_at
+values p q wider h entries spent c y is =
+    let t = passed (nat_le (spent + entries * h.comps) p.values) _ _ y is in
+    rw (within (spent + entries * h.comps) p.values q.values wider.values t.0) (typed_values p q wider h (entries * h.comps) c y t.1)
+
+columns : (p q : Profile) → IsWider p q → (heads : List Head) (entries spent : ℕ) (c : Reading)
+    → Keeps (columns_at p heads entries spent c) (columns_at q heads entries spent c)
+unfolding columns_at
+columns p q wider heads entries spent c y is =
+    keeps-each (λ before h. values_at p h entries (spent + values_in before)) (λ before h. values_at q h entries (spent + values_in before))
+    (λ before h c. values p q wider h entries (spent + values_in before) c) [] heads c y is
+
+decoder_values : (p q : Profile) → IsWider p q → (d : DecoderHead) (entries spent : ℕ) (c : Reading)
+    → Keeps (decoder_values_at p d entries spent c) (decoder_values_at q d entries spent c)
+unfolding decoder_values_at
+decoder_values p q wider d entries spent c y is =
+    let a = parts (columns_at p d.heads entries spent c) _ y is in
+    rw (columns p q wider d.heads entries spent c a.0 a.1) a.2
+
+decoders : (p q : Profile) → IsWider p q → (entries : ℕ) (ds : List DecoderHead) (before : Attributes) (c : Reading)
+    → Keeps (decoders_at p entries before ds c) (decoders_at q entries before ds c)
+unfolding decoders_at
+decoders p q wider entries [] before c y is = is
+decoders p q wider entries (d ∷ ds) before c y is =
+    let a = parts (decoder_values_at p d entries (values_in before.values) c) _ y is in
+    rw (decoder_values p q wider d entries (values_in before.values) c a.0 a.1)
+    (decoders p q wider entries ds (record { heads = before.heads ++ a.0.0.1.heads; values = before.values ++ a.0.0.0 }) a.0.1 y a.2)
+
+attributes : (p q : Profile) → IsWider p q → (entries : ℕ) (c : Reading) → Keeps (attributes_at p entries c) (attributes_at q entries c)
+unfolding attributes_at
+attributes p q wider entries c y is =
+    let none : Attributes = record { heads = []; values = [] } in
+    let a = parts (heads_at None c) (λ d. decoders_at p entries none d.0 d.1) y is in
+    rw a.1 (decoders p q wider entries a.0.0 none a.0.1 y a.2)
+
+mesh_values : (p q : Profile) → IsWider p q → (from : ℕ) (r : SeqRead) (c : Reading) → Keeps (mesh_behind p from r c) (mesh_behind q from r c)
+unfolding mesh_behind
+mesh_values p q wider from r c y is =
+    let a = parts (attributes_at p r.points c) _ y is in
+    rw (attributes p q wider r.points c a.0 a.1) a.2
+
+mesh : (p q : Profile) → IsWider p q → (c : Reading) → Keeps (mesh_at p c) (mesh_at q c)
+unfolding mesh_at
+mesh p q wider c y is =
+    let a = parts (indices_at p c) _ y is in
+    rw (indices p q wider c a.0 a.1) (mesh_values p q wider c.place a.0.0 a.0.1 y a.2)
+
+cloud_values : (p q : Profile) → IsWider p q → (from points : ℕ) (c : Reading) → Keeps (cloud_behind p from points c) (cloud_behind q from points c)
+unfolding cloud_behind
+cloud_values p q wider from points c y is =
+    let a = parts (attributes_at p points c) _ y is in
+    rw (attributes p q wider points c a.0 a.1) a.2
+
+cloud : (p q : Profile) → IsWider p q → (c : Reading) → Keeps (cloud_at p c) (cloud_at q c)
+unfolding cloud_at
+cloud p q wider c y is =
+    let a = parts (cloud_points_at p c) _ y is in
+    rw (cloud_points p q wider c a.0 a.1) (cloud_values p q wider c.place a.0.0 a.0.1 y a.2)
+
+body : (p q : Profile) → IsWider p q → (said : Form) (c : Reading) → Keeps (body_at p said c) (body_at q said c)
+body p q wider form.SequentialMesh c y is = mesh p q wider c y is
+body p q wider form.EdgebreakerMesh c y is = is
+body p q wider form.Cloud c y is = cloud p q wider c y is
+
+pub wider-same : WiderMeansTheSame
+unfolding stream_in
+wider-same p q wider bytes d is =
+    let a = parts (header_at (start_of bytes)) _ d is in
+    rw a.1 (body p q wider a.0.0 a.0.1 d a.2)
+
+pub old-same : OldFilesMeanTheSame
+old-same bytes d is =
+    wider-same profile_one profile_two (record { faces = lit≤ tt; points = lit≤ tt; values = lit≤ tt; multi = λ _. refl }) bytes d is

@@ -1,0 +1,5 @@
+use Rattle.drc_container.proofs.Widened.{wider-same, old-same}
+use Rattle.drc_container.proofs.laws.old_files_keep_their_meaning.Goals as goal
+
+pub returns : goal.returns
+returns c = record { wider = wider-same; old = old-same }
