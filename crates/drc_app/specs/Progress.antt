@@ -1,5 +1,6 @@
--- The command lines (this project's choice).
-use Rattle.std.specs.Prelude.{ℕ, ◌+◌, Bool, true, false, List, [], ◌∷◌, Option, Some, None, Result, Ok, Err, codes, if◌then◌else◌, is_some}
+-- A command line read word by word: how far it has come (this project's choice). It finds what the words say.
+use Rattle.std.specs.Prelude.{ℕ, ◌+◌, Bool, true, false, List, [], ◌∷◌, codes, if◌then◌else◌}
+use Rattle.std.specs.Prelude.{Option, Some, None, Result, Ok, Err, is_some}
 use Rattle.std.specs.Option.{option_map}
 use Rattle.std.specs.Str.{bytes_eq}
 use Rattle.drc_container.specs.declared.choices.Choice.{Choice}
@@ -11,6 +12,7 @@ use Rattle.drc_container.specs.declared.choices.Predict.{Predict}
 use Rattle.drc_container.specs.declared.choices.Predict.TheVariants as predict
 use Rattle.drc_container.specs.declared.choices.Walk.{Walk}
 use Rattle.drc_container.specs.declared.choices.Walk.TheVariants as walk
+use Rattle.drc_app.specs.Line.{no_choice}
 use Rattle.drc_app.specs.declared.commands.Command.{Command}
 use Rattle.drc_app.specs.declared.commands.Command.TheVariants as command
 use Rattle.drc_app.specs.declared.commands.OptionWord.{OptionWord}
@@ -18,11 +20,7 @@ use Rattle.drc_app.specs.declared.commands.OptionWord.TheVariants as option
 use Rattle.drc_app.specs.declared.commands.Progress.{Progress}
 use Rattle.drc_app.specs.declared.commands.Progress.TheVariants as progress
 
--- no option was given
-abbrev pub no_choice : Choice
-no_choice = record { method = None; index = None; predict = None; walk = None; plain_values = false }
-
--- the words of a method, of an index coding, of a prediction and of a walk
+-- the method, the index coding, the prediction, the walk and the option of a word
 abbrev pub method_named : List ℕ → Option Method
 method_named w =
     if bytes_eq w (codes "seq") then Some method.Seq
