@@ -2,9 +2,9 @@
 //! tests of the format, and refusals that tell the place.
 use crate::blocks;
 
-const MAX_FACES: usize = 1 << 20;
-const MAX_POINTS: usize = 1 << 20;
-const MAX_VALUES: usize = 1 << 24;
+const MAX_FACES: usize = 1 << 22;
+const MAX_POINTS: usize = 1 << 22;
+const MAX_VALUES: usize = 1 << 26;
 const MAX_ATTRIBUTES: usize = 16;
 const MAX_COMPONENTS: u8 = 8;
 

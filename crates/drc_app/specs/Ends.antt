@@ -1,6 +1,6 @@
 -- What one call did to a source and to a sink (this project's choice).
-use Rattle.std.specs.Prelude.{◌≡◌, ℕ, ◌+◌, ◌<◌, ◌≤◌, Bool, true, List, Option, ◌⊎◌}
-use Rattle.std.specs.Io.KnownBytes.{Appends, Keeps, IsAtEnd}
+use Rattle.std.specs.Prelude.{◌≡◌, ℕ, ◌+◌, ◌<◌, ◌≤◌, Bool, true, List, length, Option, ◌⊎◌}
+use Rattle.std.specs.Io.KnownBytes.{Appends, Consumes, Keeps, IsAtEnd}
 use Rattle.drc_base.specs.Counters.{Rose, last_count}
 use Rattle.drc_base.specs.Sinks.{AppendsFront}
 use Rattle.drc_base.specs.declared.limits.TheConstants.{MAX_INPUT_BYTES}
@@ -53,9 +53,13 @@ pub record IsReadWhole (t : Taking) : Type 0 where
   pub ended : t.ended ≡ true
   pub none_left : IsAtEnd t.left_after
 
--- more bytes came than a command reads
-abbrev pub IsPastMost : Taking → Type 0
-IsPastMost t = (t.given + MAX_INPUT_BYTES < t.given_after) ⊎ (last_count ≤ t.given_after)
+-- a byte past the most that a command reads was taken, and none after it: of the bytes, where the source tells them; its count
+-- says that they were more
+pub record IsPastMost (t : Taking) : Type 0 where
+  pub taken : List ℕ
+  pub more : length taken ≡ MAX_INPUT_BYTES + 1
+  pub consumed : Consumes t.left t.left_after taken
+  pub counted : (t.given + MAX_INPUT_BYTES < t.given_after) ⊎ (last_count ≤ t.given_after)
 
 -- nothing was taken, and the count stands
 pub record IsUntaken (t : Taking) : Type 0 where
@@ -73,7 +77,7 @@ pub record IsWritten (p : Putting) (text : List ℕ) : Type 0 where
   pub appended : Appends p.held p.held_after text
   pub finished : p.finished ≡ true
 
--- a front of the text was appended: all of it, and the sink finished, unless the sink failed
+-- a prefix of the text was appended: all of it, and the sink finished, unless the sink failed
 pub record IsTried (p : Putting) (text : List ℕ) : Type 0 where
-  pub front : AppendsFront p.held p.held_after text
+  pub prefix : AppendsFront p.held p.held_after text
   pub whole : HasWriteFault p ⊎ IsWritten p text

@@ -1,7 +1,9 @@
 pub mod Line
+pub mod Progress
 pub mod Notes
 pub mod Ends
 pub mod Due
 pub mod Kept
 pub mod Outcome
 pub mod Run
+pub mod Laws

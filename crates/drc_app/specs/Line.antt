@@ -1,7 +1,6 @@
--- The command lines (this project's choice).
-use Rattle.std.specs.Prelude.{ℕ, ◌+◌, Bool, true, false, List, [], ◌∷◌, Option, Some, None, Result, Ok, Err, codes, if◌then◌else◌, is_some}
-use Rattle.std.specs.Option.{option_map}
-use Rattle.std.specs.Str.{bytes_eq}
+-- Which words are a command line, and which word of other words is the bad one (this project's choice).
+use Rattle.std.specs.Prelude.{◌≡◌, ◌≢◌, ℕ, suc, ◌<◌, ◌⊎◌, List, [], ◌∷◌, ◌++◌, length, take, codes}
+use Rattle.std.specs.Prelude.{Option, Some, None, Result, Ok, Err, true, false}
 use Rattle.drc_container.specs.declared.choices.Choice.{Choice}
 use Rattle.drc_container.specs.declared.methods.Method.{Method}
 use Rattle.drc_container.specs.declared.methods.Method.TheVariants as method
@@ -15,99 +14,112 @@ use Rattle.drc_app.specs.declared.commands.Command.{Command}
 use Rattle.drc_app.specs.declared.commands.Command.TheVariants as command
 use Rattle.drc_app.specs.declared.commands.OptionWord.{OptionWord}
 use Rattle.drc_app.specs.declared.commands.OptionWord.TheVariants as option
-use Rattle.drc_app.specs.declared.commands.Progress.{Progress}
-use Rattle.drc_app.specs.declared.commands.Progress.TheVariants as progress
+
+-- an option of `enc` with its value, where it has one
+pub data Setting : Type 0 where
+  MethodIs : Method → Setting
+  IndexIs : Index → Setting
+  PredictIs : Predict → Setting
+  WalkIs : Walk → Setting
+  ValuesArePlain : Setting
+
+-- the word of a method, of an index coding, of a prediction, of a walk and of an option
+abbrev pub method_word : Method → List ℕ
+method_word method.Seq = codes "seq"
+method_word method.Eb = codes "eb"
+method_word method.Valence = codes "valence"
+
+abbrev pub index_word : Index → List ℕ
+index_word index.Plain = codes "plain"
+index_word index.Packed = codes "packed"
+
+abbrev pub predict_word : Predict → List ℕ
+predict_word predict.Off = codes "none"
+predict_word predict.Diff = codes "diff"
+predict_word predict.Para = codes "para"
+
+abbrev pub walk_word : Walk → List ℕ
+walk_word walk.Depth = codes "depth"
+
+abbrev pub option_word : OptionWord → List ℕ
+option_word option.Method = codes "--method"
+option_word option.Index = codes "--index"
+option_word option.Predict = codes "--predict"
+option_word option.Walk = codes "--walk"
+option_word option.PlainValues = codes "--plain-values"
+
+-- the option that is set
+abbrev pub option_of : Setting → OptionWord
+option_of (MethodIs m) = option.Method
+option_of (IndexIs i) = option.Index
+option_of (PredictIs p) = option.Predict
+option_of (WalkIs w) = option.Walk
+option_of ValuesArePlain = option.PlainValues
+
+-- the words of the value
+abbrev pub value_words : Setting → List (List ℕ)
+value_words (MethodIs m) = method_word m ∷ []
+value_words (IndexIs i) = index_word i ∷ []
+value_words (PredictIs p) = predict_word p ∷ []
+value_words (WalkIs w) = walk_word w ∷ []
+value_words ValuesArePlain = []
+
+-- the words of settings: of each its option, then its value, as words of their own
+abbrev pub words_of : List Setting → List (List ℕ)
+words_of [] = []
+words_of (s ∷ ss) = option_word (option_of s) ∷ value_words s ++ words_of ss
+
+-- none of the settings is of this option
+abbrev pub SetsNone : OptionWord → List Setting → Type 0
+SetsNone o [] = Unit {0}
+SetsNone o (s ∷ ss) = (option_of s ≢ o) × SetsNone o ss
+
+-- each option is set at most once
+abbrev pub SetsOnce : List Setting → Type 0
+SetsOnce [] = Unit {0}
+SetsOnce (s ∷ ss) = SetsNone (option_of s) ss × SetsOnce ss
+
+-- a choice with a setting more
+abbrev pub with_setting : Choice → Setting → Choice
+with_setting c (MethodIs m) = record c { method = Some m }
+with_setting c (IndexIs i) = record c { index = Some i }
+with_setting c (PredictIs p) = record c { predict = Some p }
+with_setting c (WalkIs w) = record c { walk = Some w }
+with_setting c ValuesArePlain = record c { plain_values = true }
+
+-- a choice with these settings more
+abbrev pub with_settings : Choice → List Setting → Choice
+with_settings c [] = c
+with_settings c (s ∷ ss) = with_settings (with_setting c s) ss
 
 -- no option was given
 abbrev pub no_choice : Choice
 no_choice = record { method = None; index = None; predict = None; walk = None; plain_values = false }
 
--- the words of a method, of an index coding, of a prediction and of a walk
-abbrev pub method_named : List ℕ → Option Method
-method_named w =
-    if bytes_eq w (codes "seq") then Some method.Seq
-    else if bytes_eq w (codes "eb") then Some method.Eb
-    else if bytes_eq w (codes "valence") then Some method.Valence else None
+-- these words are the command line of this command: `dec`, `info`, or `enc` with options in any order, each at most once
+pub data IsLine (words : List (List ℕ)) (c : Command) : Type 0 where
+  dec : words ≡ codes "dec" ∷ [] → c ≡ command.Dec → IsLine words c
+  info : words ≡ codes "info" ∷ [] → c ≡ command.Info → IsLine words c
+  enc : (settings : List Setting) → SetsOnce settings → words ≡ codes "enc" ∷ words_of settings
+      → c ≡ command.Enc (with_settings no_choice settings) → IsLine words c
 
-abbrev pub index_named : List ℕ → Option Index
-index_named w =
-    if bytes_eq w (codes "plain") then Some index.Plain
-    else if bytes_eq w (codes "packed") then Some index.Packed else None
+-- these words begin a command line, or are one
+pub record Begins (words : List (List ℕ)) : Type 0 where
+  pub rest : List (List ℕ)
+  pub command : Command
+  pub line : IsLine (words ++ rest) command
 
-abbrev pub predict_named : List ℕ → Option Predict
-predict_named w =
-    if bytes_eq w (codes "none") then Some predict.Off
-    else if bytes_eq w (codes "diff") then Some predict.Diff
-    else if bytes_eq w (codes "para") then Some predict.Para else None
+-- i is the number of the bad word: the least such that the first i + 1 words begin no command line; or how many words there
+-- are, where all of them begin one and they aren't one
+pub record IsBadWord (words : List (List ℕ)) (i : ℕ) : Type 0 where
+  pub least : (j : ℕ) → j < i → Begins (take (suc j) words)
+  pub bad : ((i < length words) × ¬ Begins (take (suc i) words)) ⊎ ((i ≡ length words) × ((c : Command) → ¬ IsLine words c))
 
-abbrev pub walk_named : List ℕ → Option Walk
-walk_named w = if bytes_eq w (codes "depth") then Some walk.Depth else None
+-- what the words say: the command whose line they are, or the number of the bad word
+abbrev pub WordsSay : List (List ℕ) → Result Command ℕ → Type 0
+WordsSay words (Ok c) = IsLine words c
+WordsSay words (Err i) = IsBadWord words i
 
-abbrev pub option_named : List ℕ → Option OptionWord
-option_named w =
-    if bytes_eq w (codes "--method") then Some option.Method
-    else if bytes_eq w (codes "--index") then Some option.Index
-    else if bytes_eq w (codes "--predict") then Some option.Predict
-    else if bytes_eq w (codes "--walk") then Some option.Walk
-    else if bytes_eq w (codes "--plain-values") then Some option.PlainValues else None
-
--- whether the option was given
-abbrev pub is_given : Choice → OptionWord → Bool
-is_given c option.Method = is_some c.method
-is_given c option.Index = is_some c.index
-is_given c option.Predict = is_some c.predict
-is_given c option.Walk = is_some c.walk
-is_given c option.PlainValues = c.plain_values
-
--- the choice with this value of the option
-abbrev pub with_value : Choice → OptionWord → List ℕ → Option Choice
-with_value c option.Method w = option_map (λ m. record c { method = Some m }) (method_named w)
-with_value c option.Index w = option_map (λ m. record c { index = Some m }) (index_named w)
-with_value c option.Predict w = option_map (λ m. record c { predict = Some m }) (predict_named w)
-with_value c option.Walk w = option_map (λ m. record c { walk = Some m }) (walk_named w)
-with_value c option.PlainValues w = None
-
--- the choice with the option that has no value, or the line whose next word is the option's value
-abbrev pub without_value : Choice → OptionWord → Option Progress
-without_value c option.Method = Some (progress.Value c option.Method)
-without_value c option.Index = Some (progress.Value c option.Index)
-without_value c option.Predict = Some (progress.Value c option.Predict)
-without_value c option.Walk = Some (progress.Value c option.Walk)
-without_value c option.PlainValues = Some (progress.Options (record c { plain_values = true }))
-
--- a line with one option more, which wasn't given before: its value is due, but for the option that has none
-abbrev pub with_option : Choice → Option OptionWord → Option Progress
-with_option c None = None
-with_option c (Some o) =
-    if is_given c o then None else without_value c o
-
--- a line with one word more, where such a line begins a command line
-abbrev pub after_word : Progress → List ℕ → Option Progress
-after_word progress.Nothing w =
-    if bytes_eq w (codes "enc") then Some (progress.Options no_choice)
-    else if bytes_eq w (codes "dec") then Some (progress.Whole command.Dec)
-    else if bytes_eq w (codes "info") then Some (progress.Whole command.Info) else None
-after_word (progress.Options c) w = with_option c (option_named w)
-after_word (progress.Value c o) w = option_map progress.Options (with_value c o w)
-after_word (progress.Whole c) w = None
-
--- the command of a whole line; else the number of its words, i
-abbrev pub whole_line : ℕ → Progress → Result Command ℕ
-whole_line i progress.Nothing = Err i
-whole_line i (progress.Options c) = Ok (command.Enc c)
-whole_line i (progress.Value c o) = Err i
-whole_line i (progress.Whole c) = Ok c
-
--- what follows the word of number i, where it begins a command line
-abbrev pub continued : ℕ → Option Progress → (Progress → Result Command ℕ) → Result Command ℕ
-continued i None next = Err i
-continued i (Some q) next = next q
-
--- the command of these words behind i words, or the number of the first that begins no command line
-abbrev pub line_from : ℕ → Progress → List (List ℕ) → Result Command ℕ
-line_from i p [] = whole_line i p
-line_from i p (w ∷ ws) = continued i (after_word p w) (λ q. line_from (i + 1) q ws)
-
--- the command of a line, or the number of its bad word
-abbrev pub line_of : List (List ℕ) → Result Command ℕ
-line_of words = line_from 0 progress.Nothing words
+-- what the words say has this property
+abbrev pub OfWords : List (List ℕ) → (Result Command ℕ → Type 0) → Type 0
+OfWords words property = (line : Result Command ℕ) × WordsSay words line × property line

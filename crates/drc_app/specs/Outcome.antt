@@ -2,7 +2,8 @@
 use Rattle.std.specs.Prelude.{◌≡◌, ℕ, zero, suc, ◌⊎◌, List, Result, Ok, Err, IfSome, IsOk, IsOkAnd}
 use Rattle.drc_base.specs.Sinks.{AppendsFront}
 use Rattle.drc_base.specs.declared.faults.Fault.{Fault}
-use Rattle.drc_app.specs.Ends.{Taking, Putting, HasReadFault, HasWriteFault, IsReadWhole, IsPastMost, IsUntaken, IsUntouched, IsWritten, IsTried}
+use Rattle.drc_app.specs.Ends.{Taking, HasReadFault, IsReadWhole, IsPastMost, IsUntaken}
+use Rattle.drc_app.specs.Ends.{Putting, HasWriteFault, IsUntouched, IsWritten, IsTried}
 use Rattle.drc_app.specs.Notes.{refused_note, bad_word_note, read_failed_note, write_failed_note, memory_note}
 use Rattle.drc_app.specs.Due.{due}
 use Rattle.drc_app.specs.Kept.{Keeps}
@@ -28,7 +29,8 @@ IsOutcome line input (outcome.BadWord i) = (line ≡ Err i) × IsUntaken input
 IsOutcome line input outcome.ReadFailed = IsOk line × HasReadFault input
 IsOutcome line input outcome.NoMemory = IsOk line
 IsOutcome line input (outcome.Refused f) = IsOkAnd line (λ c. WasRead input × Gives c input (Err f))
-IsOutcome line input (outcome.Done d) = IsOkAnd line (λ c. IsReadWhole input × Gives c input (Ok (d.output.items, d.note.items)) × Kept c input (d.output.items, d.note.items))
+IsOutcome line input (outcome.Done d) = IsOkAnd line (λ c.
+    IsReadWhole input × Gives c input (Ok (d.output.items, d.note.items)) × Kept c input (d.output.items, d.note.items))
 
 -- what a command came to on all bytes of its input
 abbrev pub IsOutcomeAt : Command → List ℕ → Outcome → Type 0

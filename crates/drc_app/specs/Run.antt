@@ -12,7 +12,8 @@ use Rattle.drc_app.specs.declared.commands.Command.{Command}
 abbrev pub IsDone : Command → Taking → Putting → Putting → Type 0
 IsDone c input output notes =
     IsReadWhole input
-    × ((text : List ℕ) × (note : List ℕ) × Gives c input (Ok (text, note)) × Kept c input (text, note) × IsWritten output text × IsWritten notes note)
+    × ((text : List ℕ) × (note : List ℕ) × Gives c input (Ok (text, note)) × Kept c input (text, note)
+    × IsWritten output text × IsWritten notes note)
 
 -- the words are a command, all was read, and this fault is the input's first
 abbrev pub IsRefused : Command → Taking → Putting → Type 0
@@ -36,13 +37,13 @@ pub record HasRun (line : Result Command ℕ) (input : Taking) (output notes : P
   pub memory : status ≡ 5 → IsOk line × IsTried notes memory_note
   pub kept : status ≢ 0 → status ≢ 4 → IsUntouched output
 
--- where the whole input is told and gives an output, and nothing failed, the call is done, unless memory was wanting
+-- where the whole input is told and gives an output, and nothing failed, the call is done, unless memory ran out
 abbrev pub IsComplete : Result Command ℕ → Taking → Putting → Putting → ℕ → Type 0
 IsComplete line input output notes status =
     IfOk line (λ c. IfSome input.left (λ bytes. (answer : List ℕ × List ℕ) → due c bytes ≡ Ok answer
     → ¬ HasReadFault input → ¬ HasWriteFault output → ¬ HasWriteFault notes → (status ≡ 0) ⊎ (status ≡ 5)))
 
--- where the whole input is told and has a fault, the call names it, unless the input failed or memory was wanting
+-- where the whole input is told and has a fault, the call names it, unless the input failed or memory ran out
 abbrev pub NamesFault : Result Command ℕ → Taking → ℕ → Type 0
 NamesFault line input status =
     IfOk line (λ c. IfSome input.left (λ bytes. (f : Fault) → due c bytes ≡ Err f

@@ -1,7 +1,8 @@
 //! The command lines.
 
 ghost use Rattle.std.specs.Prelude.{◌≡◌, List, ℕ, map, Result, string_bytes};
-ghost use Rattle.drc_app.specs.Line.{no_choice, method_named, index_named, predict_named, walk_named, option_named, is_given, with_value, without_value, with_option, after_word, whole_line, line_of};
+ghost use Rattle.drc_app.specs.Line.{no_choice};
+ghost use Rattle.drc_app.specs.Progress.{method_named, index_named, predict_named, walk_named, option_named, is_given, with_value, without_value, with_option, after_word, whole_line, line_of};
 
 use drc_container::{Choice, Index, Method, Predict, Walk};
 
@@ -45,7 +46,7 @@ pub enum Progress {
 }
 
 /// The command of a line, or the number of its bad word: the least i such that the first i + 1 words
-/// begin no command line, or the number of words where a word is wanting. It takes no memory.
+/// begin no command line, or the number of words where a word is missing. It takes no memory.
 pub fn command_of(words: &[String]) -> Result<Command, u64>
     ensures { result ≡ line_of (map string_bytes words.now) }
 {

@@ -2,6 +2,7 @@
 
 ghost use Rattle.std.specs.Prelude.{◌≡◌, ◌≤◌};
 ghost use Rattle.drc_app.specs.Ends.{puts, IsTried};
+ghost use Rattle.drc_app.specs.Notes.{memory_note};
 ghost use Rattle.drc_app.specs.Outcome.{Delivers, IsDelivered};
 
 use crate::notes::{bad_word, refused};
@@ -9,7 +10,7 @@ use crate::outcomes::{Due, Outcome};
 use drc_base::{Sink, write_all};
 
 /// Writes the outcome and its note, and answers its status: 0 where all that was due was written, 1
-/// for a bad word, 2 for a refusal, 3 where reading failed, 4 where writing failed, 5 for want of
+/// for a bad word, 2 for a refusal, 3 where reading failed, 4 where writing failed, 5 for out of
 /// memory. It takes no memory.
 pub fn deliver<O: Sink, N: Sink>(outcome: &Outcome, output: &mut O, notes: &mut N) -> u8
     ensures delivered { Delivers outcome.now
@@ -22,8 +23,18 @@ pub fn deliver<O: Sink, N: Sink>(outcome: &Outcome, output: &mut O, notes: &mut 
         Outcome::Refused(fault) => leave_note(notes, refused(*fault).as_bytes(), 2),
         Outcome::BadWord(index) => leave_note(notes, bad_word(*index).as_bytes(), 1),
         Outcome::ReadFailed => leave_note(notes, b"read failed\n", 3),
-        Outcome::NoMemory => leave_note(notes, b"memory wanting\n", 5),
+        Outcome::NoMemory => out_of_memory(notes),
     }
+}
+
+/// Tries the note of a run that is out of memory, and answers its status, 5. It takes no memory. `run`
+/// ends so, and a program that can't hold the words of its command line.
+pub fn out_of_memory<N: Sink>(notes: &mut N) -> u8
+    ensures status { result ≡ 5 }
+    ensures tried { IsTried (puts N.held N.faults N.finished notes.old notes.new) memory_note }
+    ensures counts { N.faults notes.old ≤ N.faults notes.new }
+{
+    leave_note(notes, b"memory wanting\n", 5)
 }
 
 /// Writes an output and then its note; where the output failed, the note of that.

@@ -5,11 +5,14 @@
 
 mod commands;
 mod delivery;
+mod laws;
 mod notes;
 mod outcomes;
 mod running;
 
 pub use commands::Command;
+pub use delivery::out_of_memory;
+pub use laws::words_say_one_thing;
 pub use running::run;
 
 #[cfg(test)]

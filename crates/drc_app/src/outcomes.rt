@@ -4,7 +4,7 @@ ghost use Rattle.std.specs.Prelude.{◌≡◌, ◌≤◌, map, string_bytes, len
 ghost use Rattle.drc_base.specs.Refusals.{Answers};
 ghost use Rattle.ply_mesh.specs.Read.{ply_read};
 ghost use Rattle.drc_container.specs.Stream.{meaning_of};
-ghost use Rattle.drc_app.specs.Line.{line_of};
+ghost use Rattle.drc_app.specs.Progress.{line_of};
 ghost use Rattle.drc_app.specs.Ends.{takes};
 ghost use Rattle.drc_app.specs.Due.{input_limit, worked, stream_due, text_due, report_due};
 ghost use Rattle.drc_app.specs.Kept.{Keeps, KeepsGeometry};
@@ -38,7 +38,7 @@ pub enum Outcome {
     BadWord(u64),
     /// The source failed.
     ReadFailed,
-    /// Memory was wanting.
+    /// Out of memory.
     NoMemory,
 }
 

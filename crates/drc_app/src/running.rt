@@ -1,7 +1,8 @@
 //! The top call.
 
 ghost use Rattle.std.specs.Prelude.{◌≡◌, ◌≤◌, map, string_bytes};
-ghost use Rattle.drc_app.specs.Line.{line_of};
+ghost use Rattle.drc_app.specs.Line.{OfWords};
+ghost use Rattle.drc_app.specs.Progress.{line_of};
 ghost use Rattle.drc_app.specs.Ends.{takes, puts};
 ghost use Rattle.drc_app.specs.Run.{HasRun, IsComplete, NamesFault};
 
@@ -12,8 +13,28 @@ use std::alloc::Global;
 
 /// Runs the command of `words`, without the program's name: reads `input`, writes `output` and leaves
 /// a note. It answers the status: 0 done, 1 bad words, 2 the input is refused, 3 reading failed, 4
-/// writing failed, 5 memory was wanting.
+/// writing failed, 5 out of memory.
 pub fn run<I: Source, O: Sink, N: Sink>(
+    alloc: Global,
+    words: &[String],
+    input: &mut I,
+    output: &mut O,
+    notes: &mut N,
+) -> u8
+    ensures ran { OfWords (map string_bytes words.now) (λ line. HasRun line (takes I.left I.given I.faults I.ended input.old input.new)
+        (puts O.held O.faults O.finished output.old output.new) (puts N.held N.faults N.finished notes.old notes.new) result) }
+    ensures complete { OfWords (map string_bytes words.now) (λ line. IsComplete line (takes I.left I.given I.faults I.ended input.old input.new)
+        (puts O.held O.faults O.finished output.old output.new) (puts N.held N.faults N.finished notes.old notes.new) result) }
+    ensures named { OfWords (map string_bytes words.now) (λ line. NamesFault line (takes I.left I.given I.faults I.ended input.old input.new) result) }
+    ensures input_counts { I.faults input.old ≤ I.faults input.new }
+    ensures output_counts { O.faults output.old ≤ O.faults output.new }
+    ensures note_counts { N.faults notes.old ≤ N.faults notes.new }
+{
+    run_by_word(alloc, words, input, output, notes)
+}
+
+/// `run`, told of the line that is found word by word. It stands for the proof of `run` alone.
+fn run_by_word<I: Source, O: Sink, N: Sink>(
     alloc: Global,
     words: &[String],
     input: &mut I,

@@ -84,10 +84,10 @@ fn calls(text: &[u8], piece: usize) -> u64
     (text.len().div_ceil(piece) as u64).min(1000) + 1
 }
 
-/// The front of a text that so many whole pieces have.
-fn front(text: &[u8], pieces: u64, piece: usize) -> Result<&[u8], Fail> {
+/// The prefix of a text that so many whole pieces have.
+fn prefix(text: &[u8], pieces: u64, piece: usize) -> Result<&[u8], Fail> {
     let len = (pieces.min(1000) as usize * piece.min(1000)).min(text.len());
-    Ok(text.get(..len).ok_or("a front")?)
+    Ok(text.get(..len).ok_or("a prefix")?)
 }
 
 /// Runs the words over these bytes, with the failing calls of the source and of both sinks.
@@ -133,12 +133,12 @@ fn a_failed_take_is_never_the_end(rt: HostRuntime) -> Result<(), Fail> {
 }
 
 #[test]
-fn an_output_that_fails_keeps_a_front(rt: HostRuntime) -> Result<(), Fail> {
+fn an_output_that_fails_keeps_a_prefix(rt: HostRuntime) -> Result<(), Fail> {
     for (line, input, output, _) in cases() {
         for call in 0..calls(output, 16) {
             let done = run_line(rt.alloc(), line, input, [NEVER, call, NEVER])?;
             assert_eq!(rt; done.status, 4);
-            assert_eq!(rt; done.output.held(), front(output, call, 16)?);
+            assert_eq!(rt; done.output.held(), prefix(output, call, 16)?);
             assert_eq!(rt; done.notes.held(), b"write failed\n".as_slice());
         }
     }
@@ -146,13 +146,13 @@ fn an_output_that_fails_keeps_a_front(rt: HostRuntime) -> Result<(), Fail> {
 }
 
 #[test]
-fn notes_that_fail_keep_a_front(rt: HostRuntime) -> Result<(), Fail> {
+fn notes_that_fail_keep_a_prefix(rt: HostRuntime) -> Result<(), Fail> {
     for (line, input, output, note) in cases() {
         for call in 0..calls(note.as_bytes(), 4) {
             let done = run_line(rt.alloc(), line, input, [NEVER, NEVER, call])?;
             assert_eq!(rt; done.status, 4);
             assert_eq!(rt; done.output.held(), output);
-            assert_eq!(rt; done.notes.held(), front(note.as_bytes(), call, 4)?);
+            assert_eq!(rt; done.notes.held(), prefix(note.as_bytes(), call, 4)?);
         }
     }
     for (line, input, status, note) in [
@@ -169,7 +169,7 @@ fn notes_that_fail_keep_a_front(rt: HostRuntime) -> Result<(), Fail> {
             let done = run_line(rt.alloc(), line, input, [NEVER, NEVER, call])?;
             assert_eq!(rt; done.status, status);
             assert!(rt; done.output.held().is_empty());
-            assert_eq!(rt; done.notes.held(), front(note.as_bytes(), call, 4)?);
+            assert_eq!(rt; done.notes.held(), prefix(note.as_bytes(), call, 4)?);
         }
     }
     Ok(())

@@ -12,7 +12,7 @@ abbrev pub finished_after_finish : {A E : Type 0} → Bool → Result A E → Bo
 finished_after_finish finished (Ok u) = true
 finished_after_finish finished (Err e) = finished
 
--- the front of these bytes was appended
+-- a prefix of these bytes was appended
 pub record AppendsFront (held held' : Option (List ℕ)) (bytes : List ℕ) : Type 0 where
   pub front : List ℕ
   pub rest : List ℕ

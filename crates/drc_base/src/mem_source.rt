@@ -72,7 +72,7 @@ impl MemSource {
     }
 }
 
-/// Copies the front of `from` into the front of `to`, at most `piece` bytes, and answers how many.
+/// Copies a prefix of `from` to the beginning of `to`, at most `piece` bytes, and answers how many.
 fn move_front(from: &[u8], piece: usize, to: &mut [u8]) -> usize
     ensures count { result ≡ min (min piece (length to.old)) (length from.now) }
     ensures front { take result to.new ≡ take result from.now }

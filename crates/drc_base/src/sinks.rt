@@ -21,7 +21,7 @@ pub trait Sink {
     fn faults(&self) -> u64
         ensures { result ≡ faults self.now };
 
-    /// Appends the front of `piece`, at least one byte, and answers how many bytes it was.
+    /// Appends a prefix of `piece`, at least one byte, and answers how many bytes it was.
     /// `Failed` comes only where the count of failures rose, and then nothing was appended.
     fn put(&mut self, piece: &[u8]) -> Result<usize, Failed>
         requires { 0 < length piece.now }

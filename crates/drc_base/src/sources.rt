@@ -24,7 +24,7 @@ pub trait Source {
     fn faults(&self) -> u64
         ensures { result ≡ faults self.now };
 
-    /// Moves the next bytes into the front of `buf`, and answers how many: 0 exactly where none is
+    /// Moves the next bytes to the beginning of `buf`, and answers how many: 0 exactly where none is
     /// left. `Failed` comes only where the count of failures rose, and then nothing was taken.
     fn take(&mut self, buf: &mut [u8]) -> Result<usize, Failed>
         requires { 0 < length buf.old }

@@ -9,7 +9,7 @@ use crate::faults::Failed;
 use crate::sinks::Sink;
 
 /// Appends all of `bytes` to `out` and finishes it. `Failed` comes only where the sink's count of
-/// failures rose, and then a front of `bytes` was appended. It takes no memory.
+/// failures rose, and then a prefix of `bytes` was appended. It takes no memory.
 pub fn write_all<O: Sink>(out: &mut O, bytes: &[u8]) -> Result<(), Failed>
     ensures all { OnOk result (Appends (O.held out.old) (O.held out.new) bytes.now) }
     ensures finished { OnOk result (O.finished out.new ≡ true) }

@@ -1,5 +1,5 @@
 use Rattle.std.proofs.Common.{◌≡◌, map, drop, string_bytes}
-use Rattle.drc_app.specs.Line.{line_from, line_of}
+use Rattle.drc_app.specs.Progress.{line_from, line_of}
 use Rattle.drc_app.proofs.commands.command_of.Given as goal
 
 abbrev pub invariant-loop-i : goal.invariant-loop-i
