@@ -212,16 +212,16 @@ module _ (faces : ℕ) (g : Gluing) (labels : List ℕ) (count : ℕ) (ends : Li
   from_walked : (f : ℕ) → f < faces → (w : Walk) → IsWalked f w → IsWalked (suc f) (walked_from faces g labels ends f w)
   from_walked f h w W = elim (cases_Bool (is_visited w f)) [
     | inl t ↦ subst (IsWalked (suc f)) (sym (cond-true (is_visited w f) w _ t)) (record {
-        covered = W.covered;
-        all = λ e l. elim (cases_eq e f) [ inl q ↦ ap (is_visited w) q ∙ t | inr q ↦ W.all e (omega arith) ];
-      })
+      covered = W.covered;
+      all = λ e l. elim (cases_eq e f) [ inl q ↦ ap (is_visited w) q ∙ t | inr q ↦ W.all e (omega arith) ];
+    })
     | inr u ↦ subst (IsWalked (suc f)) (sym (cond-false (is_visited w f) w _ u)) (record {
-        covered = walk_covers faces (with_base labels w f) (Some (side f first)) (base_covers w f W.covered) (base_ready w f h);
-        all = λ e l. elim (cases_eq e f) [
-          | inl q ↦ ap (is_visited (walk g labels ends faces (with_base labels w f) (Some (side f first)))) q ∙ walk_visits faces (with_base labels w f) (side f first) (omega arith)
-          | inr q ↦ (walk_grows faces (with_base labels w f) (Some (side f first))).visited e (W.all e (omega arith))
-        ];
-      })
+      covered = walk_covers faces (with_base labels w f) (Some (side f first)) (base_covers w f W.covered) (base_ready w f h);
+      all = λ e l. elim (cases_eq e f) [
+        | inl q ↦ ap (is_visited (walk g labels ends faces (with_base labels w f) (Some (side f first)))) q ∙ walk_visits faces (with_base labels w f) (side f first) (omega arith)
+        | inr q ↦ (walk_grows faces (with_base labels w f) (Some (side f first))).visited e (W.all e (omega arith))
+      ];
+    })
   ]
 
   pub walked_none : walked faces g labels ends zero ≡ unwalked faces

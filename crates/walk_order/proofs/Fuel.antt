@@ -79,16 +79,16 @@ module _ (g : Gluing) (labels : List ℕ) (ends : List Bool) where
   ] in x) e
 
   pub walk_alone : (n : ℕ) (w : Walk) (c : Side) → is_visited w c.face ≡ false → goes_right_alone labels ends w c ≡ true →
-    walk g labels ends (suc n) w (Some c) ≡ walk g labels ends n (entered labels w c) (g (next c))
+      walk g labels ends (suc n) w (Some c) ≡ walk g labels ends n (entered labels w c) (g (next c))
   walk_alone n w c e a = walk_goes n w c e ∙ ap (Goes n w c) a
 
   pub walk_both : (n : ℕ) (w : Walk) (c : Side) → is_visited w c.face ≡ false → goes_right_alone labels ends w c ≡ false →
-    walk g labels ends (suc n) w (Some c) ≡ walk g labels ends n (walk g labels ends n (entered labels w c) (g (next c))) (g (prev c))
+      walk g labels ends (suc n) w (Some c) ≡ walk g labels ends n (walk g labels ends n (entered labels w c) (g (next c))) (g (prev c))
   walk_both n w c e a = walk_goes n w c e ∙ ap (Goes n w c) a
 
   -- an unvisited face is entered
   pub walk_on : (n : ℕ) (w : Walk) (c : Side) → is_visited w c.face ≡ false →
-    walk g labels ends (suc n) w (Some c) ≡ walk g labels ends n (walk g labels ends n (entered labels w c) (g (next c))) (left_of w c)
+      walk g labels ends (suc n) w (Some c) ≡ walk g labels ends n (walk g labels ends n (entered labels w c) (g (next c))) (left_of w c)
   walk_on n w c e = elim (cases_Bool (goes_right_alone labels ends w c)) [
     | inl t ↦ walk_alone n w c e t ∙ sym (walk_missing n _) ∙ ap (walk g labels ends n (walk g labels ends n (entered labels w c) (g (next c)))) (sym (cond-true (goes_right_alone labels ends w c) None (g (prev c)) t))
     | inr f ↦ walk_both n w c e f ∙ ap (walk g labels ends n (walk g labels ends n (entered labels w c) (g (next c)))) (sym (cond-false (goes_right_alone labels ends w c) None (g (prev c)) f))
@@ -124,7 +124,7 @@ module _ (g : Gluing) (labels : List ℕ) (ends : List Bool) where
 
   -- one turn of the walk, with the same fuel before and after
   pub one_turn : (n : ℕ) (w : Walk) (c : Side) → unvisited w.visited ≤ n → is_visited w c.face ≡ false →
-    walk g labels ends n w (Some c) ≡ walk g labels ends n (walk g labels ends n (entered labels w c) (g (next c))) (left_of w c)
+      walk g labels ends n w (Some c) ≡ walk g labels ends n (walk g labels ends n (entered labels w c) (g (next c))) (left_of w c)
   one_turn n w c h f = sym (enough n w (Some c) h) ∙ walk_on n w c f
 
   -- the relation tells what the recursion computes

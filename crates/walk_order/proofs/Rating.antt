@@ -51,8 +51,9 @@ module _ (P : Side → Type 0) where
   takes_off w (c ∷ cs) h = elim (cases_Bool (is_visited w c.face)) [
     | inl t ↦ subst (TakesOff w) (sym (take_met w c cs t)) (takes_off w cs (All-tail P c cs h))
     | inr f ↦ subst (TakesOff w) (sym (take_here w c cs f)) (
-        All-tail P c cs h,
-        λ d e. (let same : c ≡ d = Some_injective c d e in (subst P same (All-head P c cs h), ap (λ (x : Side). is_visited w x.face) (sym same) ∙ f)))
+      All-tail P c cs h,
+      λ d e. (let same : c ≡ d = Some_injective c d e in (subst P same (All-head P c cs h), ap (λ (x : Side). is_visited w x.face) (sym same) ∙ f)),
+    )
   ]
 
   taken2_goes : (r : Ranked) → Holds P r → Going r.walk P (taken2 r)
@@ -76,10 +77,10 @@ module _ (P : Side → Type 0) where
       elim (option_tells (take_unvisited r.walk r.stack1).1) [
         | inl n ↦ subst (Going r.walk P) (sym (taken1_none r n)) (taken2_goes (record r { stack1 = (take_unvisited r.walk r.stack1).0 }) (record { held0 = h.held0; held1 = t.0; held2 = h.held2 }))
         | inr c ↦ subst (Going r.walk P) (sym (taken1_some r c.0 c.1)) (record {
-            walk = refl;
-            holds = record { held0 = h.held0; held1 = t.0; held2 = h.held2 };
-            next_is = λ d e. t.1 d (c.1 ∙ e);
-          })
+          walk = refl;
+          holds = record { held0 = h.held0; held1 = t.0; held2 = h.held2 };
+          next_is = λ d e. t.1 d (c.1 ∙ e);
+        })
       ]
 
   pub taken0_none : (r : Ranked) → (take_unvisited r.walk r.stack0).1 ≡ None → taken0 r ≡ taken1 (record r { stack0 = (take_unvisited r.walk r.stack0).0 })
@@ -100,10 +101,10 @@ module _ (P : Side → Type 0) where
       elim (option_tells (take_unvisited r.walk r.stack0).1) [
         | inl n ↦ subst (Going r.walk P) (sym (taken0_none r n)) (taken1_goes (record r { stack0 = (take_unvisited r.walk r.stack0).0 }) (record { held0 = t.0; held1 = h.held1; held2 = h.held2 }))
         | inr c ↦ subst (Going r.walk P) (sym (taken0_some r c.0 c.1)) (record {
-            walk = refl;
-            holds = record { held0 = t.0; held1 = h.held1; held2 = h.held2 };
-            next_is = λ d e. t.1 d (c.1 ∙ e);
-          })
+          walk = refl;
+          holds = record { held0 = t.0; held1 = h.held1; held2 = h.held2 };
+          next_is = λ d e. t.1 d (c.1 ∙ e);
+        })
       ]
 
   taken_from_goes : (k : ℕ) (r : Ranked) → Holds P r → Going r.walk P (taken_from k r)
@@ -307,9 +308,9 @@ module _ (faces : ℕ) (g : Gluing) (labels : List ℕ) (count : ℕ) (ends : Li
   from_ranked : (f : ℕ) → f < faces → (r : Ranked) → IsRankedTo f r → IsRankedTo (suc f) (ranked_from faces g labels f r)
   from_ranked f h r W = elim (cases_Bool (is_visited r.walk f)) [
     | inl t ↦ subst (IsRankedTo (suc f)) (sym (cond-true (is_visited r.walk f) r _ t)) (record {
-        held = W.held;
-        all = λ e l. elim (cases_eq e f) [ inl q ↦ ap (is_visited r.walk) q ∙ t | inr q ↦ W.all e (omega arith) ];
-      })
+      held = W.held;
+      all = λ e l. elim (cases_eq e f) [ inl q ↦ ap (is_visited r.walk) q ∙ t | inr q ↦ W.all e (omega arith) ];
+    })
     | inr u ↦ subst (IsRankedTo (suc f)) (sym (cond-false (is_visited r.walk f) r _ u)) (
         let t = visits_hold faces (record r { walk = with_base labels r.walk f; best = 0 }) (side f first) (base_held f r W.held) (base_ready faces g labels count ends G L r.walk f h) in
         record {

@@ -104,7 +104,7 @@ table_more labels ends entries table c T h few new = record { long = long; count
     ]
 
     told : (j : ℕ) → j < length (set table (label_at labels c) (length entries)) → lacks labels (entries ++ (c ∷ [])) j ≡ false →
-      (get_or (set table (label_at labels c) (length entries)) j 0 < length (entries ++ (c ∷ []))) × (label_at labels (get_or (entries ++ (c ∷ [])) (get_or (set table (label_at labels c) (length entries)) j 0) (side_at 0)) ≡ j)
+        (get_or (set table (label_at labels c) (length entries)) j 0 < length (entries ++ (c ∷ []))) × (label_at labels (get_or (entries ++ (c ∷ [])) (get_or (set table (label_at labels c) (length entries)) j 0) (side_at 0)) ≡ j)
     told j l t =
         let m = length-last entries c in
         elim (cases_eq j (label_at labels c)) [
@@ -114,12 +114,11 @@ table_more labels ends entries table c T h few new = record { long = long; count
           | inr ne ↦ (
               let at : get_or (set table (label_at labels c) (length entries)) j 0 ≡ get_or table j 0 = get_or-set_other table (label_at labels c) j (length entries) 0 ne in
               let p = T.told j (let s = length-set table (label_at labels c) (length entries) in omega arith) (sym (lacks_other labels entries c j (λ e. ne (sym e))) ∙ t) in
-              let low = p.0 in
-              (
+              let low = p.0 in (
                 omega arith,
                 ap (λ (x : ℕ). label_at labels (get_or (entries ++ (c ∷ [])) x (side_at 0))) at
-                ∙ ap (label_at labels) (get_or_append_left entries (c ∷ []) (side_at 0) (get_or table j 0) low)
-                ∙ p.1,
+                    ∙ ap (label_at labels) (get_or_append_left entries (c ∷ []) (side_at 0) (get_or table j 0) low)
+                    ∙ p.1,
               ))
         ]
 
@@ -158,6 +157,7 @@ table_none labels ends table e = subst (IsEntryTable labels ends []) (sym e) (re
   told = λ k h t. absurd (let no : true ≡ false = sym (lacks_nothing labels k) ∙ t in cc);
   back = λ i h. absurd (let no : i < 0 = h in omega arith);
 })
+
 -- what is kept for a class tells whether it has an entry
 pub kept_new : (labels : List ℕ) (ends : List Bool) (entries : List Side) (table : List ℕ) → IsEntryTable labels ends entries table → length table < 4294967294 → (k v : ℕ) → k < length table → v ≡ get_or table k 0 →
     (4294967294 ≤ v → lacks labels entries k ≡ true) × (v < 4294967294 → lacks labels entries k ≡ false)

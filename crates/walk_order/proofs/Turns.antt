@@ -28,7 +28,7 @@ module _ (g : Gluing) (labels : List ℕ) (ends : List Bool) where
   turn_met w cs c e = cond-true (is_visited w c.face) (w, cs, None) _ e
 
   turn_goes : (w : Walk) (cs : List Side) (c : Side) → is_visited w c.face ≡ false →
-    turn g labels ends w cs c ≡ (entered labels w c, cond (goes_right_alone labels ends w c) cs (before (g (prev c)) cs), g (next c))
+      turn g labels ends w cs c ≡ (entered labels w c, cond (goes_right_alone labels ends w c) cs (before (g (prev c)) cs), g (next c))
   turn_goes w cs c e = cond-false (is_visited w c.face) (w, cs, None) _ e
 
   in_turn : (n : ℕ) (w : Walk) (c : Side) (cs : List Side) → walks_in_turn g labels ends n w (c ∷ cs) ≡ walks_in_turn g labels ends n (walk g labels ends n w (Some c)) cs
@@ -49,7 +49,7 @@ module _ (g : Gluing) (labels : List ℕ) (ends : List Bool) where
 
   -- a turn keeps what all that waits comes to
   pub turn_walks : (n : ℕ) (w : Walk) (cs : List Side) (c : Side) (t : Walk × List Side × Option Side) → unvisited w.visited ≤ n → turn g labels ends w cs c ≡ t →
-    walks_in_turn g labels ends n w (c ∷ cs) ≡ walks_in_turn g labels ends n t.0 (before t.2 t.1)
+      walks_in_turn g labels ends n w (c ∷ cs) ≡ walks_in_turn g labels ends n t.0 (before t.2 t.1)
   turn_walks n w cs c t h e = in_turn n w c cs ∙ elim (cases_Bool (is_visited w c.face)) [
     | inl v ↦ ap (λ (u : Walk). walks_in_turn g labels ends n u cs) (walk_met g labels ends n w c v) ∙ ap (λ (x : Walk × List Side × Option Side). walks_in_turn g labels ends n x.0 (before x.2 x.1)) (sym (turn_met w cs c v) ∙ e)
     | inr v ↦
@@ -62,7 +62,7 @@ module _ (g : Gluing) (labels : List ℕ) (ends : List Bool) where
 
   -- and makes the measure smaller, unless no corner is given to go on at
   pub turn_falls : (w : Walk) (cs : List Side) (c : Side) (t : Walk × List Side × Option Side) → turn g labels ends w cs c ≡ t →
-    (2 * unvisited t.0.visited + length t.1 < 2 * unvisited w.visited + length cs) ⊎ ((2 * unvisited t.0.visited + length t.1 ≤ 2 * unvisited w.visited + length cs) × (t.2 ≡ None))
+      (2 * unvisited t.0.visited + length t.1 < 2 * unvisited w.visited + length cs) ⊎ ((2 * unvisited t.0.visited + length t.1 ≤ 2 * unvisited w.visited + length cs) × (t.2 ≡ None))
   turn_falls w cs c t e = elim (cases_Bool (is_visited w c.face)) [
     | inl v ↦ inr (
         let q = sym (turn_met w cs c v) ∙ e in

@@ -38,20 +38,20 @@ module _ (g : Gluing) (labels : List ℕ) (ends : List Bool) (n : ℕ) where
   comes_first w at xs e = in_turn_one g labels ends n w (side_at at) ∙ ap (λ (ys : List ℕ). Comes w at ys) (sym (nothing_in xs e))
 
   pub comes_next : (w v : Walk) (at next : ℕ) (xs ys : List ℕ) (o : Option ℕ) → unvisited w.visited ≤ n → turn g labels ends w (waiting xs) (side_at at) ≡ (v, waiting ys, option_map side_at o) → o ≡ Some next →
-    Comes w at xs ≡ Comes v next ys
+      Comes w at xs ≡ Comes v next ys
   comes_next w v at next xs ys o h e i =
       turn_walks g labels ends n w (waiting xs) (side_at at) (v, waiting ys, option_map side_at o) h e
       ∙ ap (λ (p : Option ℕ). walks_in_turn g labels ends n v (before (option_map side_at p) (waiting ys))) i
 
   pub comes_back : (w v : Walk) (at last : ℕ) (xs ys zs : List ℕ) (o : Option ℕ) → unvisited w.visited ≤ n → turn g labels ends w (waiting xs) (side_at at) ≡ (v, waiting ys, option_map side_at o) → o ≡ None → ys ≡ zs ++ (last ∷ []) →
-    Comes w at xs ≡ Comes v last zs
+      Comes w at xs ≡ Comes v last zs
   comes_back w v at last xs ys zs o h e i t =
       turn_walks g labels ends n w (waiting xs) (side_at at) (v, waiting ys, option_map side_at o) h e
       ∙ ap (λ (p : Option ℕ). walks_in_turn g labels ends n v (before (option_map side_at p) (waiting ys))) i
       ∙ ap (walks_in_turn g labels ends n v) (taken_off ys zs last t)
 
   pub comes_to_end : (w v : Walk) (at : ℕ) (xs ys : List ℕ) (o : Option ℕ) → unvisited w.visited ≤ n → turn g labels ends w (waiting xs) (side_at at) ≡ (v, waiting ys, option_map side_at o) → o ≡ None → length ys ≡ 0 →
-    Comes w at xs ≡ v
+      Comes w at xs ≡ v
   comes_to_end w v at xs ys o h e i t =
       turn_walks g labels ends n w (waiting xs) (side_at at) (v, waiting ys, option_map side_at o) h e
       ∙ ap (λ (p : Option ℕ). walks_in_turn g labels ends n v (before (option_map side_at p) (waiting ys))) i
@@ -60,7 +60,7 @@ module _ (g : Gluing) (labels : List ℕ) (ends : List Bool) (n : ℕ) where
 
 module _ (g : Gluing) (labels : List ℕ) (ends : List Bool) where
   pub falls_on : (w v : Walk) (at next : ℕ) (xs ys : List ℕ) (o : Option ℕ) → turn g labels ends w (waiting xs) (side_at at) ≡ (v, waiting ys, option_map side_at o) → o ≡ Some next →
-    2 * unvisited v.visited + length ys < 2 * unvisited w.visited + length xs
+      2 * unvisited v.visited + length ys < 2 * unvisited w.visited + length xs
   falls_on w v at next xs ys o e i =
       let a = waiting_count xs in
       let b = waiting_count ys in
@@ -73,7 +73,7 @@ module _ (g : Gluing) (labels : List ℕ) (ends : List Bool) where
       some_none d q = cc
 
   pub falls_back : (w v : Walk) (at : ℕ) (xs ys : List ℕ) (o : Option ℕ) → turn g labels ends w (waiting xs) (side_at at) ≡ (v, waiting ys, option_map side_at o) →
-    2 * unvisited v.visited + length ys ≤ 2 * unvisited w.visited + length xs
+      2 * unvisited v.visited + length ys ≤ 2 * unvisited w.visited + length xs
   falls_back w v at xs ys o e =
       let a = waiting_count xs in
       let b = waiting_count ys in

@@ -13,10 +13,10 @@ pub data Walks (g : Gluing) (labels : List ℕ) (ends : List Bool) : Walk → Op
   met : {w : Walk} {c : Side} → is_visited w c.face ≡ true → Walks g labels ends w (Some c) w
   -- where its class is new and no free side meets it, the face is entered, and the walk to the right follows
   alone : {w v : Walk} {c : Side} → is_visited w c.face ≡ false → goes_right_alone labels ends w c ≡ true →
-    Walks g labels ends (entered labels w c) (g (next c)) v → Walks g labels ends w (Some c) v
+      Walks g labels ends (entered labels w c) (g (next c)) v → Walks g labels ends w (Some c) v
   -- else the face is entered, and the walk to the right follows, and then the one to the left
   both : {w u v : Walk} {c : Side} → is_visited w c.face ≡ false → goes_right_alone labels ends w c ≡ false →
-    Walks g labels ends (entered labels w c) (g (next c)) u → Walks g labels ends u (g (prev c)) v → Walks g labels ends w (Some c) v
+      Walks g labels ends (entered labels w c) (g (next c)) u → Walks g labels ends u (g (prev c)) v → Walks g labels ends w (Some c) v
 
 -- the recursion with fuel for the unvisited faces is the relation
 abbrev pub WalkIsRelation : Type 0
