@@ -1,31 +1,37 @@
 -- Each class of a visited face has an entry: a face is entered where the classes of its other two corners have entries, since the faces across
 -- its sides share these corners' classes.
-use Rattle.std.proofs.Common.{◌≡◌, ℕ, zero, suc, ◌+◌, ◌<◌, ◌≤◌, Bool, true, false, cond, List, length, get_or, set, replicate, Option, Some, None, option_map, ◌⊎◌, inl, inr, sym, refl, ap, ◌∙◌, subst, arith, length-set, get_or-set_other, get_or-set_same}
+use Rattle.std.proofs.Common.{◌≡◌, ℕ, zero, suc, ◌+◌, ◌<◌, ◌≤◌, Bool, true, false, cond, List, [], ◌∷◌, ◌++◌, length, get_or, set, replicate, Option, Some, None, option_map, ◌⊎◌, inl, inr, sym, refl, ap, ◌∙◌, subst, arith, length-set, get_or-set_other, get_or-set_same}
 use Rattle.std.proofs.lemmas.Bool.{cases_Bool, cases_lt, cases_eq, cond-true, cond-false}
-use Rattle.std.proofs.lemmas.List.{get_or_past, get_or-replicate, length-replicate}
-use Rattle.corner_table.specs.Sides.{Side, Place, first, second, third, side, next, prev, Gluing, IsGluing}
+use Rattle.std.proofs.lemmas.List.{get_or_past, get_or_append_left, get_or-replicate, length-replicate}
+use Rattle.corner_table.specs.Sides.{Side, Place, first, second, third, side, next, prev, side_at, Gluing, IsGluing}
 use Rattle.corner_table.specs.Fans.{InFan, here, leftwards, rightwards, swing_left, swing_right}
 use Rattle.corner_table.specs.Labels.{IsLabelled, label_at}
 use Rattle.corner_table.proofs.Places.{next-prev, prev-next, next-next, prev-prev, option_tells}
 use Rattle.walk_order.specs.Visits.{Walk, unwalked, is_visited, lacks, is_new, with_entry, entered, with_base}
-use Rattle.walk_order.specs.DepthFirst.{goes_right_alone, walk, walked_from, walked}
+use Rattle.walk_order.specs.DepthFirst.{goes_right_alone, walk, walked_from, walked, depth_first_order}
+use Rattle.walk_order.specs.Laws.{ListsClasses, DepthFirstListsClasses}
 use Rattle.walk_order.specs.Stored.{AllHaveEntries}
 use Rattle.walk_order.proofs.Fuel.{walk_missing, walk_out, walk_met, walk_on, left_of}
-use Rattle.walk_order.proofs.Tables.{lacks_other, lacks_here}
+use Rattle.walk_order.proofs.Tables.{lacks_none, lacks_some, lacks_other, lacks_here, length-last, last_is}
 
 true_not_false : (b : Bool) → b ≡ true → b ≡ false → ⊥
 true_not_false b e f = (let no : true ≡ false = sym e ∙ f in cc)
 
--- what is visited stays visited, and what has an entry keeps it
+-- no two entries are of one class
+abbrev pub AreApart : List ℕ → List Side → Type 0
+AreApart labels entries = (i j : ℕ) → i < length entries → j < length entries → label_at labels (get_or entries i (side_at 0)) ≡ label_at labels (get_or entries j (side_at 0)) → i ≡ j
+
+-- what is visited stays visited, what has an entry keeps it, and entries stay apart
 pub record Grows (labels : List ℕ) (w v : Walk) : Type 0 where
   pub visited : (f : ℕ) → is_visited w f ≡ true → is_visited v f ≡ true
   pub entries : (k : ℕ) → lacks labels w.entries k ≡ false → lacks labels v.entries k ≡ false
+  pub apart : AreApart labels w.entries → AreApart labels v.entries
 
 pub grows_refl : (labels : List ℕ) (w : Walk) → Grows labels w w
-grows_refl labels w = record { visited = λ f h. h; entries = λ k h. h }
+grows_refl labels w = record { visited = λ f h. h; entries = λ k h. h; apart = λ h. h }
 
 pub grows_trans : {labels : List ℕ} {w v u : Walk} → Grows labels w v → Grows labels v u → Grows labels w u
-grows_trans A B = record { visited = λ f h. B.visited f (A.visited f h); entries = λ k h. B.entries k (A.entries k h) }
+grows_trans A B = record { visited = λ f h. B.visited f (A.visited f h); entries = λ k h. B.entries k (A.entries k h); apart = λ h. B.apart (A.apart h) }
 
 pub set_here : (xs : List Bool) (i : ℕ) → get_or (set xs i true) i true ≡ true
 set_here xs i = elim (cases_lt i (length xs)) [
@@ -49,6 +55,30 @@ entry_keeps labels entries c k h = elim (cases_Bool (is_new labels entries c)) [
   ]
 ]
 
+-- and is of a class that no other is of
+pub entry_apart : (labels : List ℕ) (entries : List Side) (c : Side) → AreApart labels entries → AreApart labels (with_entry labels entries c)
+entry_apart labels entries c A = elim (cases_Bool (is_new labels entries c)) [
+  | inr old ↦ subst (AreApart labels) (sym (cond-false (is_new labels entries c) (entries ++ (c ∷ [])) entries old)) A
+  | inl new ↦ subst (AreApart labels) (sym (cond-true (is_new labels entries c) (entries ++ (c ∷ [])) entries new)) (apart new)
+]
+  where
+    at_old : (i : ℕ) → i < length entries → get_or (entries ++ (c ∷ [])) i (side_at 0) ≡ get_or entries i (side_at 0)
+    at_old i l = get_or_append_left entries (c ∷ []) (side_at 0) i l
+
+    apart : is_new labels entries c ≡ true → AreApart labels (entries ++ (c ∷ []))
+    apart new i j h l e =
+        let m = length-last entries c in
+        elim (cases_lt i (length entries)) [
+          | inl a ↦ elim (cases_lt j (length entries)) [
+            | inl b ↦ A i j a b (ap (label_at labels) (sym (at_old i a)) ∙ e ∙ ap (label_at labels) (at_old j b))
+            | inr b ↦ absurd (lacks_none labels entries (label_at labels c) new i a (ap (label_at labels) (sym (at_old i a)) ∙ e ∙ ap (label_at labels) (last_is entries c j (let q : j ≡ length entries = omega arith in q))))
+          ]
+          | inr a ↦ elim (cases_lt j (length entries)) [
+            | inl b ↦ absurd (lacks_none labels entries (label_at labels c) new j b (ap (label_at labels) (sym (at_old j b)) ∙ sym e ∙ ap (label_at labels) (last_is entries c i (let q : i ≡ length entries = omega arith in q))))
+            | inr b ↦ omega arith
+          ]
+        ]
+
 -- and then the corner's class has one
 pub entry_gives : (labels : List ℕ) (entries : List Side) (c : Side) → lacks labels (with_entry labels entries c) (label_at labels c) ≡ false
 entry_gives labels entries c = elim (cases_Bool (is_new labels entries c)) [
@@ -57,10 +87,10 @@ entry_gives labels entries c = elim (cases_Bool (is_new labels entries c)) [
 ]
 
 pub entered_grows : (labels : List ℕ) (w : Walk) (c : Side) → Grows labels w (entered labels w c)
-entered_grows labels w c = record { visited = λ f h. set_stays w.visited c.face f h; entries = λ k h. entry_keeps labels w.entries c k h }
+entered_grows labels w c = record { visited = λ f h. set_stays w.visited c.face f h; entries = λ k h. entry_keeps labels w.entries c k h; apart = entry_apart labels w.entries c }
 
 pub base_grows : (labels : List ℕ) (w : Walk) (f : ℕ) → Grows labels w (with_base labels w f)
-base_grows labels w f = record { visited = λ k h. h; entries = λ k h. entry_keeps labels _ (side f third) k (entry_keeps labels w.entries (side f second) k h) }
+base_grows labels w f = record { visited = λ k h. h; entries = λ k h. entry_keeps labels _ (side f third) k (entry_keeps labels w.entries (side f second) k h); apart = λ h. entry_apart labels _ (side f third) (entry_apart labels w.entries (side f second) h) }
 
 module _ (faces : ℕ) (g : Gluing) (labels : List ℕ) (count : ℕ) (ends : List Bool) (G : IsGluing faces g) (L : IsLabelled faces g labels count ends) where
   -- the class of a corner has an entry
@@ -167,6 +197,13 @@ module _ (faces : ℕ) (g : Gluing) (labels : List ℕ) (count : ℕ) (ends : Li
   nothing_visited : (f : ℕ) → f < faces → is_visited (unwalked faces) f ≡ false
   nothing_visited f h = get_or-replicate faces f false true h
 
+  pub nothing_apart : AreApart labels []
+  nothing_apart i j h l e = absurd (let no : i < 0 = h in omega arith)
+
+  -- with an entry for each class, the entries are a list of the classes
+  pub lists_classes : (entries : List Side) → AllHaveEntries labels entries count → AreApart labels entries → ListsClasses labels count entries
+  lists_classes entries A B = record { all = λ k h. lacks_some labels entries k (A k h); apart = B }
+
   pub nothing_covered : IsCovered (unwalked faces)
   nothing_covered c h v = absurd (true_not_false _ v (nothing_visited c.face h))
 
@@ -224,6 +261,12 @@ module _ (faces : ℕ) (g : Gluing) (labels : List ℕ) (count : ℕ) (ends : Li
     })
   ]
 
+  from_grows : (f : ℕ) (w : Walk) → Grows labels w (walked_from faces g labels ends f w)
+  from_grows f w = elim (cases_Bool (is_visited w f)) [
+    | inl t ↦ subst (Grows labels w) (sym (cond-true (is_visited w f) w _ t)) (grows_refl labels w)
+    | inr u ↦ subst (Grows labels w) (sym (cond-false (is_visited w f) w _ u)) (grows_trans (base_grows labels w f) (walk_grows faces (with_base labels w f) (Some (side f first))))
+  ]
+
   pub walked_none : walked faces g labels ends zero ≡ unwalked faces
   unfolding walked
   walked_none = refl
@@ -232,6 +275,10 @@ module _ (faces : ℕ) (g : Gluing) (labels : List ℕ) (count : ℕ) (ends : Li
   unfolding walked
   walked_more f = refl
 
+  walked_apart : (n : ℕ) → AreApart labels (walked faces g labels ends n).entries
+  walked_apart zero = subst (λ (w : Walk). AreApart labels w.entries) (sym walked_none) nothing_apart
+  walked_apart (suc f) = subst (λ (w : Walk). AreApart labels w.entries) (sym (walked_more f)) ((from_grows f (walked faces g labels ends f)).apart (walked_apart f))
+
   pub walked_all : (n : ℕ) → n ≤ faces → IsWalked n (walked faces g labels ends n)
   walked_all zero h = subst (IsWalked zero) (sym walked_none) (record { covered = nothing_covered; all = λ f l. absurd (omega arith) })
   walked_all (suc f) h = subst (IsWalked (suc f)) (sym (walked_more f)) (from_walked f (omega arith) (walked faces g labels ends f) (walked_all f (omega arith)))
@@ -239,3 +286,9 @@ module _ (faces : ℕ) (g : Gluing) (labels : List ℕ) (count : ℕ) (ends : Li
   -- every class has an entry in the depth-first order
   pub depth_first_has_all : AllHaveEntries labels (walked faces g labels ends faces).entries count
   depth_first_has_all = (let W = walked_all faces (omega arith) in all_have (walked faces g labels ends faces) W.covered W.all)
+
+  pub depth_first_lists : ListsClasses labels count (depth_first_order faces g labels ends)
+  depth_first_lists = lists_classes (walked faces g labels ends faces).entries depth_first_has_all (walked_apart faces)
+
+pub depth_first_lists_classes : DepthFirstListsClasses
+depth_first_lists_classes faces g labels count ends G L = depth_first_lists faces g labels count ends G L

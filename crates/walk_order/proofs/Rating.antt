@@ -6,11 +6,11 @@ use Rattle.corner_table.specs.Sides.{Side, first, side, next, prev, Gluing, IsGl
 use Rattle.corner_table.specs.Labels.{IsLabelled, label_at}
 use Rattle.corner_table.proofs.Places.{option_tells, Some_injective}
 use Rattle.walk_order.specs.Visits.{Walk, unwalked, is_visited, unvisited, entered, with_base}
-use Rattle.walk_order.specs.PredictionDegree.{Ranked, unranked, rate, rated, pushed, take_unvisited, taken2, taken1, taken0, taken_from, taken, unvisited_across, turned_to, turned, visit, visits, ranked_from, ranked}
-use Rattle.walk_order.specs.Laws.{Visits, last, on, VisitsAreRelation}
+use Rattle.walk_order.specs.PredictionDegree.{Ranked, unranked, rate, rated, pushed, take_unvisited, taken2, taken1, taken0, taken_from, taken, unvisited_across, turned_to, turned, visit, visits, ranked_from, ranked, prediction_degree_order}
+use Rattle.walk_order.specs.Laws.{ListsClasses, PredictionDegreeListsClasses, Visits, last, on, VisitsAreRelation}
 use Rattle.walk_order.specs.Stored.{AllHaveEntries}
 use Rattle.walk_order.proofs.Fuel.{one_fewer}
-use Rattle.walk_order.proofs.Covering.{Grows, grows_refl, grows_trans, entered_grows, base_grows, set_here, IsCovered, IsReadyAt, entered_covers, entered_left, entered_right, base_ready, base_covers, all_have, nothing_covered, IsWalked}
+use Rattle.walk_order.proofs.Covering.{AreApart, nothing_apart, lists_classes, Grows, grows_refl, grows_trans, entered_grows, base_grows, set_here, IsCovered, IsReadyAt, entered_covers, entered_left, entered_right, base_ready, base_covers, all_have, nothing_covered, IsWalked}
 
 abbrev Going_on : Type 0
 Going_on = Ranked × Option Side
@@ -340,6 +340,26 @@ module _ (faces : ℕ) (g : Gluing) (labels : List ℕ) (count : ℕ) (ends : Li
   ranked_all zero h = subst (IsRankedTo zero) (sym ranked_none) (record { held = nothing_held; all = λ f l. absurd (omega arith) })
   ranked_all (suc f) h = subst (IsRankedTo (suc f)) (sym (ranked_more f)) (from_ranked f (omega arith) (ranked faces g labels count f) (ranked_all f (omega arith)))
 
+  from_grows : (f : ℕ) → f < faces → (r : Ranked) → IsRankedTo f r → Grows labels r.walk (ranked_from faces g labels f r).walk
+  from_grows f h r W = elim (cases_Bool (is_visited r.walk f)) [
+    | inl t ↦ subst (λ (x : Ranked). Grows labels r.walk x.walk) (sym (cond-true (is_visited r.walk f) r _ t)) (grows_refl labels r.walk)
+    | inr u ↦ subst (λ (x : Ranked). Grows labels r.walk x.walk) (sym (cond-false (is_visited r.walk f) r _ u)) (
+        grows_trans (base_grows labels r.walk f)
+        (visits_hold faces (record r { walk = with_base labels r.walk f; best = 0 }) (side f first) (base_held f r W.held) (base_ready faces g labels count ends G L r.walk f h)).0.grows)
+  ]
+
+  ranked_apart : (n : ℕ) → n ≤ faces → AreApart labels (ranked faces g labels count n).walk.entries
+  ranked_apart zero h = subst (λ (x : Ranked). AreApart labels x.walk.entries) (sym ranked_none) (nothing_apart faces g labels count ends G L)
+  ranked_apart (suc f) h =
+      subst (λ (x : Ranked). AreApart labels x.walk.entries) (sym (ranked_more f))
+      ((from_grows f (omega arith) (ranked faces g labels count f) (ranked_all f (omega arith))).apart (ranked_apart f (omega arith)))
+
   -- every class has an entry in the order by prediction degree
   pub degree_has_all : AllHaveEntries labels (ranked faces g labels count faces).walk.entries count
   degree_has_all = (let W = ranked_all faces (omega arith) in all_have faces g labels count ends G L (ranked faces g labels count faces).walk W.held.covered W.all)
+
+  pub degree_lists : ListsClasses labels count (prediction_degree_order faces g labels count)
+  degree_lists = lists_classes faces g labels count ends G L (ranked faces g labels count faces).walk.entries degree_has_all (ranked_apart faces (omega arith))
+
+pub prediction_degree_lists_classes : PredictionDegreeListsClasses
+prediction_degree_lists_classes faces g labels count ends G L = degree_lists faces g labels count ends G L

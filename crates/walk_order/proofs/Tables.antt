@@ -24,6 +24,15 @@ pub lacks_nothing : (labels : List ℕ) (k : ℕ) → lacks labels [] k ≡ true
 unfolding lacks
 lacks_nothing labels k = refl
 
+-- a class with an entry is that of one of them
+pub lacks_some : (labels : List ℕ) (entries : List Side) (k : ℕ) → lacks labels entries k ≡ false → (i : ℕ) × (i < length entries) × (label_at labels (get_or entries i (side_at 0)) ≡ k)
+unfolding lacks
+lacks_some labels [] k e = absurd (let no : true ≡ false = e in cc)
+lacks_some labels (x ∷ xs) k e = elim (cases_Bool (label_at labels x == k)) [
+  | inl t ↦ (0, omega arith, eqb-true (label_at labels x) k t)
+  | inr f ↦ (let r = lacks_some labels xs k (sym (ap (λ (b : Bool). not (b || list_any (λ (y : Side). label_at labels y == k) xs)) f) ∙ e) in (suc r.0, (let l = r.1 in omega arith), r.2))
+]
+
 or_none : (b : Bool) → (b || false) ≡ b
 or_none true = refl
 or_none false = refl
@@ -69,7 +78,7 @@ unused_set table k v n m h e f t u =
 pub length-last : (entries : List Side) (c : Side) → length (entries ++ (c ∷ [])) ≡ length entries + 1
 length-last entries c = length-append entries (c ∷ [])
 
-last_is : (entries : List Side) (c : Side) (i : ℕ) → i ≡ length entries → get_or (entries ++ (c ∷ [])) i (side_at 0) ≡ c
+pub last_is : (entries : List Side) (c : Side) (i : ℕ) → i ≡ length entries → get_or (entries ++ (c ∷ [])) i (side_at 0) ≡ c
 last_is entries c i e = ap (λ (k : ℕ). get_or (entries ++ (c ∷ [])) k (side_at 0)) e ∙ get_or-append_seam entries c [] (side_at 0)
 
 -- a new entry is the last one

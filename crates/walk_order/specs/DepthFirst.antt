@@ -8,8 +8,8 @@ use Rattle.walk_order.specs.Visits.{Walk, unwalked, is_visited, is_new, entered,
 abbrev pub goes_right_alone : List ℕ → List Bool → Walk → Side → Bool
 goes_right_alone labels ends w c = is_new labels w.entries c && not (get_or ends (label_at labels c) false)
 
--- the walk from a corner, over no more than so many faces one inside the other: nothing at a visited face; else the face is entered, and the
--- walk goes on across the side after the corner, to the right, and then, unless it goes right alone, across the side before it, to the left
+-- the walk from a corner, no more than so many faces deep: nothing at a visited face; else the face is entered, and the walk goes on
+-- to the right, across the side after the corner, and then, unless it goes right alone, to the left, across the side before it
 unfoldable pub walk : Gluing → List ℕ → List Bool → ℕ → Walk → Option Side → Walk
 walk g labels ends zero w o = w
 walk g labels ends (suc n) w None = w

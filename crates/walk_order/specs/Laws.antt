@@ -1,9 +1,10 @@
--- The walks as relations, one sentence of the rules each, and that the recursions are just these.
-use Rattle.std.specs.Prelude.{◌≡◌, ℕ, ◌≤◌, ◌↔◌, Bool, true, false, List, Option, Some, None}
-use Rattle.corner_table.specs.Sides.{Side, next, prev, Gluing}
+-- What holds of the walks: they are relations, one sentence of the rules each, and their entries are a list of the classes.
+use Rattle.std.specs.Prelude.{◌≡◌, ℕ, ◌<◌, ◌≤◌, ◌↔◌, Bool, true, false, List, length, get_or, Option, Some, None}
+use Rattle.corner_table.specs.Sides.{Side, next, prev, side_at, Gluing, IsGluing}
+use Rattle.corner_table.specs.Labels.{IsLabelled, label_at}
 use Rattle.walk_order.specs.Visits.{Walk, is_visited, unvisited, entered}
-use Rattle.walk_order.specs.DepthFirst.{goes_right_alone, walk}
-use Rattle.walk_order.specs.PredictionDegree.{Ranked, visit, visits}
+use Rattle.walk_order.specs.DepthFirst.{goes_right_alone, walk, depth_first_order}
+use Rattle.walk_order.specs.PredictionDegree.{Ranked, visit, visits, prediction_degree_order}
 
 -- the depth-first walk from a corner makes one state of another
 pub data Walks (g : Gluing) (labels : List ℕ) (ends : List Bool) : Walk → Option Side → Walk → Type 0 where
@@ -32,5 +33,21 @@ pub data Visits (g : Gluing) (labels : List ℕ) : Ranked → Side → Ranked �
 
 -- the recursion with fuel for the unvisited faces is the relation
 abbrev pub VisitsAreRelation : Type 0
-VisitsAreRelation = (g : Gluing) (labels : List ℕ) (n : ℕ) (r q : Ranked) (c : Side) → unvisited r.walk.visited ≤ n → is_visited r.walk c.face ≡ false →
-    Visits g labels r c q ↔ (visits g labels n r c ≡ q)
+VisitsAreRelation = (g : Gluing) (labels : List ℕ) (n : ℕ) (r q : Ranked) (c : Side) →
+    unvisited r.walk.visited ≤ n → is_visited r.walk c.face ≡ false → Visits g labels r c q ↔ (visits g labels n r c ≡ q)
+
+-- the entries are a list of the classes: each class is that of one entry, and of no other
+pub record ListsClasses (labels : List ℕ) (count : ℕ) (entries : List Side) : Type 0 where
+  pub all : (k : ℕ) → k < count → (i : ℕ) × (i < length entries) × (label_at labels (get_or entries i (side_at 0)) ≡ k)
+  pub apart : (i j : ℕ) → i < length entries → j < length entries →
+      label_at labels (get_or entries i (side_at 0)) ≡ label_at labels (get_or entries j (side_at 0)) → i ≡ j
+
+-- depth first, for every labelled surface
+abbrev pub DepthFirstListsClasses : Type 0
+DepthFirstListsClasses = (faces : ℕ) (g : Gluing) (labels : List ℕ) (count : ℕ) (ends : List Bool) → IsGluing faces g →
+    IsLabelled faces g labels count ends → ListsClasses labels count (depth_first_order faces g labels ends)
+
+-- and by prediction degree
+abbrev pub PredictionDegreeListsClasses : Type 0
+PredictionDegreeListsClasses = (faces : ℕ) (g : Gluing) (labels : List ℕ) (count : ℕ) (ends : List Bool) → IsGluing faces g →
+    IsLabelled faces g labels count ends → ListsClasses labels count (prediction_degree_order faces g labels count)

@@ -1,5 +1,6 @@
 -- The order of entries by prediction degree (Draco Bitstream Specification 2.2, prediction degree traversal).
-use Rattle.std.specs.Prelude.{ℕ, zero, suc, Bool, true, false, cond, min, nat_le, List, [], ◌∷◌, get_or, set, replicate, length, Option, Some, None}
+use Rattle.std.specs.Prelude.{ℕ, zero, suc, Bool, true, false, cond, min, nat_le, Option, Some, None}
+use Rattle.std.specs.Prelude.{List, [], ◌∷◌, get_or, set, replicate}
 use Rattle.corner_table.specs.Sides.{Side, first, side, next, prev, Gluing}
 use Rattle.corner_table.specs.Labels.{label_at}
 use Rattle.walk_order.specs.Visits.{Walk, unwalked, is_visited, is_new, entered, with_base}
@@ -68,8 +69,8 @@ abbrev pub unvisited_across : Walk → Option Side → Option Side
 unvisited_across w None = None
 unvisited_across w (Some d) = cond (is_visited w d.face) None (Some d)
 
--- where the walk goes on, with at most one corner across: there, where no better stack is known; else that corner is put on its stack, and the
--- next one is taken
+-- where the walk goes on, with at most one corner across: there, where its rate is no more than the number of the best stack; else that
+-- corner is put on its stack, and the next one is taken
 abbrev pub turned_to : List ℕ → Ranked → Option Side → Ranked × Option Side
 turned_to labels r None = taken r
 turned_to labels r (Some d) = elim (nat_le (rate labels r d) r.best) [

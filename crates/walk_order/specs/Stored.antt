@@ -1,5 +1,6 @@
 -- How a walk lies in the lists of the code.
-use Rattle.std.specs.Prelude.{◌≡◌, ℕ, ◌+◌, ◌*◌, ◌<◌, ◌≤◌, Bool, true, false, cond, nat_le, List, [], ◌∷◌, length, get_or, map, count_by, All, Option, Some, None, vec_len}
+use Rattle.std.specs.Prelude.{◌≡◌, ℕ, ◌+◌, ◌*◌, ◌<◌, ◌≤◌, Bool, true, false, cond, nat_le, Option, Some, None}
+use Rattle.std.specs.Prelude.{List, [], ◌∷◌, length, get_or, map, count_by, All, vec_len}
 use Rattle.drc_base.specs.declared.sides.Side.{Side as NumberedSide}
 use Rattle.drc_base.specs.declared.limits.TheConstants.{MAX_FACES}
 use Rattle.corner_table.specs.Sides.{Side, next, prev, side_at, Gluing, IsGluing}

@@ -1,5 +1,5 @@
--- How far a walk over the faces of a surface has come: the visited faces and the entries, of which each stands for a class of corners (Draco
--- Bitstream Specification 2.2, traversals of attributes).
+-- How far a walk over the faces of a surface has come: the visited faces, and the entries, of which each stands for a class of corners
+-- (Draco Bitstream Specification 2.2, attribute traversal).
 use Rattle.std.specs.Prelude.{ℕ, Bool, true, false, not, cond, ◌==◌, List, [], ◌∷◌, ◌++◌, get_or, set, replicate, count_by}
 use Rattle.std.specs.List.{list_any}
 use Rattle.corner_table.specs.Sides.{Side, side, second, third}
@@ -40,4 +40,4 @@ entered labels w c = record { visited = set w.visited c.face true; entries = wit
 
 -- corners 1 and 2 of a face become entries, where their classes are new
 abbrev pub with_base : List ℕ → Walk → ℕ → Walk
-with_base labels w f = record { visited = w.visited; entries = with_entry labels (with_entry labels w.entries (side f second)) (side f third) }
+with_base labels w f = record w { entries = with_entry labels (with_entry labels w.entries (side f second)) (side f third) }
