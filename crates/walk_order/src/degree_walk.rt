@@ -1,9 +1,9 @@
 //! The walk by prediction degree.
 //!
-//! From a corner the walk enters a face. Of the corners across to the left and to the right, whose
-//! faces are unvisited, each is rated; the walk goes on at the last one if no corner of a better rate may
-//! wait, and else puts it on the stack of its rate and takes the next corner off the first stack that has
-//! one. A better rate is a smaller number: the corner's value has more neighbours to be predicted from.
+//! From a corner the walk enters a face. The corners across to the left and to the right, whose faces are
+//! unvisited, are rated. The walk goes on at the last of them if its rate is no more than the number of the
+//! best stack, and else puts it on the stack of its rate and takes the next corner off the first stack
+//! that has one of an unvisited face.
 
 ghost use Rattle.std.specs.Prelude.{◌≡◌, ℕ, ◌*◌, ◌<◌, ◌≤◌, All, IfOk, IfSome, OnOk, vec_len, length, map, reverse};
 ghost use Rattle.std.specs.Option.{option_map};
