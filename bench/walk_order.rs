@@ -17,41 +17,41 @@ fn previous(corner: u32) -> u32 {
     if corner % 3 == 0 { corner + 2 } else { corner - 1 }
 }
 
-/// The faces of a grid of 512 by 512 cells, or of one whose rows and columns close round.
-fn faces(closed: bool) -> Vec<[u32; 3]> {
-    let points = if closed { 512 } else { 513 };
-    let point = |x: u32, y: u32| y % points * points + x % points;
-    (0..FACES)
-        .map(|f| {
-            let (x, y) = (f / 2 % 512, f / 2 / 512);
-            if f % 2 == 0 {
-                [point(x, y), point(x + 1, y), point(x + 1, y + 1)]
-            } else {
-                [point(x, y), point(x + 1, y + 1), point(x, y + 1)]
+/// A surface of which no side is glued.
+fn unglued() -> Vec<u32> {
+    vec![NONE; 3 * FACES as usize]
+}
+
+fn glue(across: &mut [u32], a: u32, b: u32) {
+    across[a as usize] = b;
+    across[b as usize] = a;
+}
+
+/// A grid of 512 by 512 cells, or one whose rows and columns close round. Of the two faces of a cell one lies below its
+/// diagonal, and one above it.
+fn grid(closed: bool) -> Vec<u32> {
+    let mut across = unglued();
+    let cell = |x: u32, y: u32| (y % 512 * 512 + x % 512) * 2;
+    for y in 0..512 {
+        for x in 0..512 {
+            let (lower, upper) = (cell(x, y), cell(x, y) + 1);
+            glue(&mut across, 3 * lower + 1, 3 * upper + 2);
+            if closed || x < 511 {
+                glue(&mut across, 3 * lower, 3 * (cell(x + 1, y) + 1) + 1);
             }
-        })
-        .collect()
+            if closed || y < 511 {
+                glue(&mut across, 3 * upper, 3 * cell(x, y + 1) + 2);
+            }
+        }
+    }
+    across
 }
 
 /// The faces round one vertex.
-fn fan() -> Vec<[u32; 3]> {
-    (0..FACES).map(|f| [0, f + 1, f + 2]).collect()
-}
-
-/// For each side the number of the side across.
-fn glued(faces: &[[u32; 3]]) -> Vec<u32> {
-    let mut known = std::collections::HashMap::new();
-    let mut across = vec![NONE; 3 * faces.len()];
-    for (f, face) in faces.iter().enumerate() {
-        for k in 0..3 {
-            let (start, end, side) = (face[(k + 1) % 3], face[(k + 2) % 3], (3 * f + k) as u32);
-            if let Some(other) = known.remove(&(end, start)) {
-                across[side as usize] = other;
-                across[other as usize] = side;
-            } else {
-                known.insert((start, end), side);
-            }
-        }
+fn fan() -> Vec<u32> {
+    let mut across = unglued();
+    for f in 1..FACES {
+        glue(&mut across, 3 * (f - 1) + 1, 3 * f + 2);
     }
     across
 }
@@ -291,7 +291,7 @@ fn show(name: String, start: Instant, order: &Order) {
 }
 
 fn main() {
-    let surfaces = [("grid", glued(&faces(false))), ("torus", glued(&faces(true))), ("fan", glued(&fan()))];
+    let surfaces = [("grid", grid(false)), ("torus", grid(true)), ("fan", fan())];
     for _ in 0..9 {
         for (name, across) in &surfaces {
             let (labels, ends) = label(across);
