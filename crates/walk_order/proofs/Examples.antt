@@ -1,6 +1,6 @@
 -- Worked surfaces, computed: the orders of their classes.
 use Rattle.std.proofs.Common.{◌≡◌, ℕ, true, false, Bool, List, [], ◌∷◌, refl}
-use Rattle.corner_table.specs.Sides.{Side, first, second, third, side, Gluing}
+use Rattle.corner_table.specs.Sides.{first, second, third, side, Gluing}
 use Rattle.corner_table.specs.Table.{glued_in, free_entry}
 use Rattle.walk_order.specs.Visits.{lacks}
 use Rattle.walk_order.specs.DepthFirst.{walk, walked, depth_first_order}

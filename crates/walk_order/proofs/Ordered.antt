@@ -1,5 +1,5 @@
 -- Once every class has an entry, the table and the entries are an order of the classes.
-use Rattle.std.proofs.Common.{◌≡◌, ℕ, zero, suc, ◌+◌, ◌*◌, ◌<◌, ◌≤◌, Bool, true, false, cond, List, [], ◌∷◌, length, get_or, map, All, sym, refl, ap, ◌∙◌, subst, arith}
+use Rattle.std.proofs.Common.{◌≡◌, ℕ, zero, suc, ◌+◌, ◌<◌, Bool, false, cond, List, [], ◌∷◌, length, get_or, map, All, sym, refl, ap, ◌∙◌, subst, arith}
 use Rattle.std.proofs.lemmas.List.{length-map, get_or-map}
 use Rattle.std.proofs.lemmas.List.Sums.{sum_by-cons}
 use Rattle.std.proofs.lemmas.List.Elements.{All-get_or, All-from_get_or}
@@ -11,10 +11,9 @@ use Rattle.corner_table.specs.Labels.{label_at}
 use Rattle.corner_table.proofs.Numbers.{number-lt}
 use Rattle.walk_order.specs.declared.surface.Surface.{Surface}
 use Rattle.walk_order.specs.declared.marks.Marks.{Marks}
-use Rattle.walk_order.specs.Visits.{lacks}
-use Rattle.walk_order.specs.Orders.{corners_in, entry_at, class_of, IsOrderOver, IsOrderOf}
-use Rattle.walk_order.specs.Stored.{is_mark, unused, IsSurface, IsStored, IsEntryTable, AllHaveEntries, entries_of}
-use Rattle.walk_order.proofs.Surfaces.{few_classes, labels_within}
+use Rattle.walk_order.specs.Orders.{corners_in, entry_at, class_of, IsOrderOf}
+use Rattle.walk_order.specs.Stored.{is_mark, unused, IsSurface, IsStored, AllHaveEntries, entries_of}
+use Rattle.walk_order.proofs.Surfaces.{labels_within}
 use Rattle.walk_order.proofs.Tables.{number_no_mark}
 use Rattle.walk_order.proofs.Stored.{entries_fit}
 
@@ -30,12 +29,6 @@ counted_plain : (u n m l : ℕ) → u + n ≡ m → u ≡ 0 → m ≡ l → n �
 counted_plain u n m l a b e = omega arith
 
 module _ (s : Surface) (m : Marks) (S : IsSurface s) (M : IsStored s m) (A : AllHaveEntries s.labels.now (entries_of m) (length s.ends.now)) where
-  abbrev labels : List ℕ
-  labels = s.labels.now
-
-  abbrev table : List ℕ
-  table = m.entry_of_class.items
-
   -- the number of a class's entry
   told : (k : ℕ) → k < length s.ends.now → (get_or m.entry_of_class.items k 0 < length (entries_of m)) × (label_at s.labels.now (get_or (entries_of m) (get_or m.entry_of_class.items k 0) (side_at 0)) ≡ k)
   told k h = M.table.told k (let l = M.table.long in omega arith) (A k h)

@@ -1,19 +1,16 @@
 -- The walk by prediction degree: where it goes on is unvisited, all that waits may be entered, and the recursion with fuel is the relation.
-use Rattle.std.proofs.Common.{◌≡◌, ℕ, zero, suc, ◌+◌, ◌<◌, ◌≤◌, Bool, true, false, cond, nat_le, List, [], ◌∷◌, get_or, All, Option, Some, None, ◌⊎◌, inl, inr, sym, refl, ap, ◌∙◌, subst, arith}
+use Rattle.std.proofs.Common.{◌≡◌, ℕ, zero, suc, ◌+◌, ◌<◌, ◌≤◌, Bool, true, false, nat_le, List, [], ◌∷◌, All, Option, Some, None, inl, inr, sym, refl, ap, ◌∙◌, subst, arith}
 use Rattle.std.proofs.lemmas.Bool.{cases_Bool, cases_eq, cond-true, cond-false}
 use Rattle.std.proofs.lemmas.List.Elements.{All-nil, All-cons, All-head, All-tail, All-weaker}
 use Rattle.corner_table.specs.Sides.{Side, first, side, next, prev, Gluing, IsGluing}
-use Rattle.corner_table.specs.Labels.{IsLabelled, label_at}
+use Rattle.corner_table.specs.Labels.{IsLabelled}
 use Rattle.corner_table.proofs.Places.{option_tells, Some_injective}
 use Rattle.walk_order.specs.Visits.{Walk, unwalked, is_visited, unvisited, entered, with_base}
 use Rattle.walk_order.specs.PredictionDegree.{Ranked, unranked, rate, rated, pushed, take_unvisited, taken2, taken1, taken0, taken_from, taken, unvisited_across, turned_to, turned, visit, visits, ranked_from, ranked, prediction_degree_order}
 use Rattle.walk_order.specs.Laws.{ListsClasses, PredictionDegreeListsClasses, Visits, last, on, VisitsAreRelation}
 use Rattle.walk_order.specs.Stored.{AllHaveEntries}
 use Rattle.walk_order.proofs.Fuel.{one_fewer}
-use Rattle.walk_order.proofs.Covering.{AreApart, nothing_apart, lists_classes, Grows, grows_refl, grows_trans, entered_grows, base_grows, set_here, IsCovered, IsReadyAt, entered_covers, entered_left, entered_right, base_ready, base_covers, all_have, nothing_covered, IsWalked}
-
-abbrev Going_on : Type 0
-Going_on = Ranked × Option Side
+use Rattle.walk_order.proofs.Covering.{AreApart, nothing_apart, lists_classes, Grows, grows_refl, grows_trans, entered_grows, base_grows, set_here, IsCovered, IsReadyAt, entered_covers, entered_left, entered_right, base_ready, base_covers, all_have, nothing_covered}
 
 -- all corners that wait have a property
 pub record Holds (P : Side → Type 0) (r : Ranked) : Type 0 where
@@ -155,7 +152,6 @@ module _ (P : Side → Type 0) where
   turned_goes labels r None u h a b = turned_to_goes labels r u h b
   turned_goes labels r (Some d) None h a b = turned_to_goes labels r (Some d) h a
   turned_goes labels r (Some d) (Some e) h a b =
-      let k : ℕ = rate labels r d in
       subst (λ (w : Walk). Going w P (turned_to labels (pushed (rate labels r d) d (rated labels r d)) (Some e))) (pushed_walk (rate labels r d) d (rated labels r d))
       (turned_to_goes labels (pushed (rate labels r d) d (rated labels r d)) (Some e) (pushed_holds (rate labels r d) d (rated labels r d) (a d refl).0 (rated_holds labels r d h))
       (subst (λ (w : Walk). Offered w (Some e)) (sym (pushed_walk (rate labels r d) d (rated labels r d))) b))
@@ -280,7 +276,6 @@ module _ (faces : ℕ) (g : Gluing) (labels : List ℕ) (count : ℕ) (ends : Li
   visits_hold zero r c H R = (subst (Visited r) (sym (visits_none g labels r c)) (record { held = H; grows = grows_refl labels r.walk }), λ h. absurd (omega arith))
   visits_hold (suc n) r c H R =
       let V = visit_holds r c H R in
-      let q : Ranked = (visit g labels r c).0 in
       let step : Grows labels r.walk (visit g labels r c).0.walk = subst (Grows labels r.walk) (sym V.walk) (entered_grows labels r.walk c) in
       let here : is_visited (visit g labels r c).0.walk c.face ≡ true = ap (λ (w : Walk). is_visited w c.face) V.walk ∙ set_here r.walk.visited c.face in
       let held : IsHeld (visit g labels r c).0 = held_after r (visit g labels r c).0 c H R V.walk V.holds in
@@ -295,9 +290,6 @@ module _ (faces : ℕ) (g : Gluing) (labels : List ℕ) (count : ℕ) (ends : Li
   pub record IsRankedTo (n : ℕ) (r : Ranked) : Type 0 where
     pub held : IsHeld r
     pub all : (f : ℕ) → f < n → is_visited r.walk f ≡ true
-
-  based : ℕ → Ranked → Ranked
-  based f r = record r { walk = with_base labels r.walk f; best = 0 }
 
   base_held : (f : ℕ) (r : Ranked) → IsHeld r → IsHeld (record r { walk = with_base labels r.walk f; best = 0 })
   base_held f r H = record {

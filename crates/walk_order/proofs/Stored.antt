@@ -1,20 +1,20 @@
 -- What a step of the code makes of a stored walk.
-use Rattle.std.proofs.Common.{◌≡◌, ℕ, ◌+◌, ◌*◌, ◌/◌, ◌<◌, ◌≤◌, Bool, true, false, not, ◌&&◌, cond, nat_eq, nat_le, List, [], ◌∷◌, ◌++◌, length, get_or, set, map, replicate, All, ◌⊎◌, inl, inr, sym, refl, ap, ◌∙◌, subst, arith, vec_len, Vec, eqb-true, eq-eqb, ne_eqb, length-set}
+use Rattle.std.proofs.Common.{◌≡◌, ℕ, ◌+◌, ◌*◌, ◌/◌, ◌<◌, ◌≤◌, Bool, true, false, not, ◌&&◌, nat_eq, nat_le, List, [], ◌∷◌, ◌++◌, length, get_or, set, map, All, inl, inr, sym, refl, ap, ◌∙◌, subst, arith, vec_len, eq-eqb, ne_eqb}
 use Rattle.std.proofs.lemmas.Bool.{cases_lt, le-leb, lt-leb}
 use Rattle.std.proofs.lemmas.List.{length-map, map-append}
 use Rattle.std.proofs.lemmas.List.Elements.{All-nil, All-push}
 use Rattle.drc_base.specs.declared.sides.Side.{Side as NumberedSide}
 use Rattle.corner_table.specs.Sides.{Side, side_at}
-use Rattle.corner_table.specs.Table.{side_of, free_entry}
+use Rattle.corner_table.specs.Table.{side_of}
 use Rattle.corner_table.specs.Labels.{label_at}
 use Rattle.corner_table.proofs.Numbers.{face-lt}
 use Rattle.walk_order.specs.declared.surface.Surface.{Surface}
 use Rattle.walk_order.specs.declared.marks.Marks.{Marks}
-use Rattle.walk_order.specs.Visits.{Walk, lacks, is_new, with_entry, entered}
+use Rattle.walk_order.specs.Visits.{is_new}
 use Rattle.walk_order.specs.DepthFirst.{goes_right_alone}
 use Rattle.walk_order.specs.Stored.{new_mark, IsSurface, IsStored, IsEntryTable, entries_of, walk_of}
 use Rattle.walk_order.proofs.Surfaces.{few_classes}
-use Rattle.walk_order.proofs.Tables.{table_more, table_none, kept_new, mark_is}
+use Rattle.walk_order.proofs.Tables.{table_more, table_none, kept_new}
 
 -- the numbers of entries fit
 pub entries_fit : {s : Surface} {m : Marks} → IsSurface s → IsStored s m → length (entries_of m) < 4294967294

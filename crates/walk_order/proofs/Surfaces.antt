@@ -1,8 +1,8 @@
 -- Surfaces by lists: what is found across, and how many classes there are.
-use Rattle.std.proofs.Common.{◌≡◌, ◌≢◌, ℕ, zero, suc, ◌+◌, ◌*◌, ◌<◌, ◌≤◌, Bool, true, false, eqb, List, length, get_or, All, Some, None, ◌⊎◌, inl, inr, sym, refl, ap, ◌∙◌, arith, eqb-true}
+use Rattle.std.proofs.Common.{◌≡◌, ◌≢◌, ℕ, zero, suc, ◌+◌, ◌*◌, ◌<◌, ◌≤◌, Bool, eqb, List, length, get_or, All, Some, None, inl, inr, ap, arith, eqb-true}
 use Rattle.std.proofs.lemmas.Bool.{cases_lt, cond-false, false_from_ne_true}
 use Rattle.std.proofs.lemmas.List.Elements.{All-from_get_or}
-use Rattle.corner_table.specs.Sides.{Side, Place, first, second, third, place_number, number, side_at, Gluing, IsGluing}
+use Rattle.corner_table.specs.Sides.{Side, place_number, number, side_at, Gluing, IsGluing}
 use Rattle.corner_table.specs.Table.{glued_in, other_at, free_entry}
 use Rattle.corner_table.specs.Labels.{IsLabelled, label_at}
 use Rattle.corner_table.proofs.Numbers.{number-side_at, number-lt, face-lt}

@@ -1,15 +1,15 @@
 -- The table of the entries of classes: what it is before the walk, what a new entry makes of it, and that it tells the order once every class has
 -- an entry.
-use Rattle.std.proofs.Common.{◌≡◌, ◌≢◌, ℕ, zero, suc, ◌+◌, ◌*◌, ◌<◌, ◌≤◌, Bool, true, false, not, ◌||◌, ◌==◌, cond, nat_le, List, [], ◌∷◌, ◌++◌, length, get_or, set, map, All, ◌⊎◌, inl, inr, sym, refl, ap, ◌∙◌, subst, arith, eqb-true, eq-eqb, ne_eqb, length-append, length-set, get_or-set_other, get_or-set_same}
+use Rattle.std.proofs.Common.{◌≡◌, ◌≢◌, ℕ, suc, ◌+◌, ◌<◌, ◌≤◌, Bool, true, false, not, ◌||◌, ◌==◌, cond, List, [], ◌∷◌, ◌++◌, length, get_or, set, map, inl, inr, sym, refl, ap, ◌∙◌, subst, arith, eqb-true, eq-eqb, ne_eqb, length-append, length-set, get_or-set_other, get_or-set_same}
 use Rattle.std.specs.List.{list_any}
-use Rattle.std.proofs.lemmas.Bool.{cases_Bool, cases_lt, cases_eq, cond-true, cond-false, leb-true, leb-false, le-leb, lt-leb, or_parts, not_from_true, not_from_false, false_from_ne_true}
-use Rattle.std.proofs.lemmas.List.{get_or_past, get_or_append_left, get_or-map, length-map}
+use Rattle.std.proofs.lemmas.Bool.{cases_Bool, cases_lt, cases_eq, lt-leb, not_from_true}
+use Rattle.std.proofs.lemmas.List.{get_or_append_left, get_or-map, length-map}
 use Rattle.std.proofs.Math.Seq.{get_or-append_seam}
 use Rattle.std.proofs.lemmas.List.Folds.{list_any_at, list_any-append}
 use Rattle.std.proofs.lemmas.List.Sums.{sum_by-set, sum_by-cons}
-use Rattle.corner_table.specs.Sides.{Side, number, side_at, Gluing}
-use Rattle.corner_table.specs.Labels.{IsLabelled, label_at}
-use Rattle.walk_order.specs.Visits.{lacks, is_new, with_entry}
+use Rattle.corner_table.specs.Sides.{Side, side_at}
+use Rattle.corner_table.specs.Labels.{label_at}
+use Rattle.walk_order.specs.Visits.{lacks, is_new}
 use Rattle.walk_order.specs.Stored.{new_mark, is_mark, unused, IsEntryTable}
 
 -- a class without an entry is no entry's
@@ -86,12 +86,6 @@ pub table_more : (labels : List ℕ) (ends : List Bool) (entries : List Side) (t
     is_new labels entries c ≡ true → IsEntryTable labels ends (entries ++ (c ∷ [])) (set table (label_at labels c) (length entries))
 table_more labels ends entries table c T h few new = record { long = long; counted = counted; new = fresh; told = told; back = back }
   where
-    k : ℕ
-    k = label_at labels c
-
-    n : ℕ
-    n = length entries
-
     was_mark : is_mark (get_or table (label_at labels c) 0) ≡ true
     was_mark = ap is_mark (T.new (label_at labels c) h new) ∙ mark_is _
 

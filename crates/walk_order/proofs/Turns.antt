@@ -1,5 +1,5 @@
 -- The walk with a stack: each turn leaves the walks that wait as the recursion has them, and the measure falls.
-use Rattle.std.proofs.Common.{◌≡◌, ℕ, ◌+◌, ◌*◌, ◌<◌, ◌≤◌, Bool, true, false, cond, List, [], ◌∷◌, length, set, Option, Some, None, ◌⊎◌, inl, inr, sym, refl, ap, ◌∙◌, subst, arith}
+use Rattle.std.proofs.Common.{◌≡◌, ℕ, ◌+◌, ◌*◌, ◌<◌, ◌≤◌, Bool, true, false, cond, List, [], ◌∷◌, length, Option, Some, None, ◌⊎◌, inl, inr, sym, refl, ap, ◌∙◌, arith}
 use Rattle.std.proofs.lemmas.Bool.{cases_Bool, cond-true, cond-false}
 use Rattle.corner_table.specs.Sides.{Side, next, prev, Gluing}
 use Rattle.walk_order.specs.Visits.{Walk, is_visited, unvisited, entered}
@@ -21,9 +21,6 @@ before_left true o cs = refl
 before_left false o cs = refl
 
 module _ (g : Gluing) (labels : List ℕ) (ends : List Bool) where
-  abbrev Turned : Type 0
-  Turned = Walk × List Side × Option Side
-
   turn_met : (w : Walk) (cs : List Side) (c : Side) → is_visited w c.face ≡ true → turn g labels ends w cs c ≡ (w, cs, None)
   turn_met w cs c e = cond-true (is_visited w c.face) (w, cs, None) _ e
 

@@ -1,5 +1,5 @@
 -- The loop over the stack is the recursion.
-use Rattle.std.proofs.Common.{◌≡◌, ℕ, zero, suc, ◌+◌, ◌*◌, ◌<◌, ◌≤◌, Bool, List, [], ◌∷◌, ◌++◌, length, map, reverse, Option, Some, None, option_map, ◌⊎◌, inl, inr, sym, refl, ap, ◌∙◌, subst, arith, vec_len}
+use Rattle.std.proofs.Common.{◌≡◌, ℕ, suc, ◌+◌, ◌*◌, ◌<◌, ◌≤◌, Bool, List, [], ◌∷◌, ◌++◌, length, map, reverse, Option, Some, None, option_map, inl, inr, sym, refl, ap, ◌∙◌, subst, arith}
 use Rattle.std.proofs.lemmas.List.{length-map, length-reverse, reverse-append}
 use Rattle.corner_table.specs.Sides.{Side, side_at, Gluing}
 use Rattle.walk_order.specs.declared.surface.Surface.{Surface}

@@ -5,16 +5,15 @@
 //! best stack, and else puts it on the stack of its rate and takes the next corner off the first stack
 //! that has one of an unvisited face.
 
-ghost use Rattle.std.specs.Prelude.{◌≡◌, ℕ, ◌*◌, ◌<◌, ◌≤◌, All, IfOk, IfSome, OnOk, vec_len, length, map, reverse};
+ghost use Rattle.std.specs.Prelude.{◌≡◌, ℕ, ◌*◌, ◌<◌, All, IfOk, IfSome, OnOk, length, map, reverse};
 ghost use Rattle.std.specs.Option.{option_map};
-ghost use Rattle.corner_table.specs.Sides.{side, first, side_at, prev, next};
+ghost use Rattle.corner_table.specs.Sides.{side_at};
 ghost use Rattle.corner_table.specs.Labels.{IsLabelled};
 ghost use Rattle.corner_table.specs.Table.{gluing_of};
-ghost use Rattle.walk_order.specs.Visits.{is_visited, entered};
 ghost use Rattle.walk_order.specs.PredictionDegree.{rate, rated, pushed, take_unvisited, taken2, taken1, taken0, taken, unvisited_across, turned_to, turned, visit, visits, ranked_from, ranked, unranked, prediction_degree_order};
 ghost use Rattle.walk_order.specs.Orders.{corners_in, IsOrderOf};
 ghost use Rattle.walk_order.specs.Stored.{gluing_in, walk_of, IsSurface, IsStored};
-ghost use Rattle.walk_order.specs.Ranking.{ranked_of, AreWithin, IsRanked};
+ghost use Rattle.walk_order.specs.Ranking.{ranked_of, IsRanked};
 
 use crate::marks::{Marks, no_marks};
 use crate::orders::order_of;

@@ -6,10 +6,9 @@
 
 ghost use Rattle.std.specs.Prelude.{◌≡◌, ℕ, ◌*◌, ◌<◌, All, IfOk, IfSome, OnOk, Some, vec_len, map, reverse};
 ghost use Rattle.std.specs.Option.{option_map};
-ghost use Rattle.corner_table.specs.Sides.{side, first, side_at};
+ghost use Rattle.corner_table.specs.Sides.{side_at};
 ghost use Rattle.corner_table.specs.Labels.{IsLabelled};
 ghost use Rattle.corner_table.specs.Table.{gluing_of};
-ghost use Rattle.walk_order.specs.Visits.{is_visited};
 ghost use Rattle.walk_order.specs.DepthFirst.{walk, walked_from, walked, depth_first_order};
 ghost use Rattle.walk_order.specs.Orders.{corners_in, IsOrderOf};
 ghost use Rattle.walk_order.specs.Stored.{gluing_in, walk_of, before, turn, IsSurface, IsStored};

@@ -1,6 +1,6 @@
 //! What a walk has visited, and the entries so far.
 
-ghost use Rattle.std.specs.Prelude.{◌≡◌, ◌+◌, ◌*◌, ◌<◌, ◌≤◌, ◌++◌, ◌∷◌, [], true, IfOk, OnOk, map, length, vec_len, get_or, set};
+ghost use Rattle.std.specs.Prelude.{◌≡◌, ◌+◌, ◌*◌, ◌<◌, ◌++◌, ◌∷◌, [], true, IfOk, OnOk, map, vec_len, get_or};
 ghost use Rattle.corner_table.specs.Sides.{side_at};
 ghost use Rattle.corner_table.specs.Labels.{label_at};
 ghost use Rattle.walk_order.specs.Visits.{is_visited, is_new, with_entry, entered, unwalked};

@@ -1,8 +1,7 @@
 //! Worked surfaces: the two orders of their classes. What is expected was computed by a slow program of its own,
 //! with sets and recursion.
 
-ghost use Rattle.std.specs.Prelude.{◌≡◌, ◌≤◌, ◌<◌};
-ghost use Rattle.drc_base.specs.declared.limits.TheConstants.{MAX_FACES as most_faces};
+ghost use Rattle.std.specs.Prelude.{◌≡◌, ◌<◌};
 ghost use Rattle.corner_table.specs.Table.{room_of};
 
 use crate::degree_walk::prediction_degree;

@@ -1,5 +1,5 @@
 -- Each turn takes one corner off.
-use Rattle.std.proofs.Common.{◌≡◌, ◌*◌, ◌<◌, ℕ, Some, length, sym, ◌∙◌, arith}
+use Rattle.std.proofs.Common.{◌≡◌, ◌*◌, ◌<◌, ℕ, length, sym, ◌∙◌, arith}
 use Rattle.std.proofs.lemmas.List.Elements.{All-pop}
 use Rattle.walk_order.specs.Stored.{walk_of}
 use Rattle.walk_order.proofs.Ranking.{took_none, took_some, took_on}

@@ -2,7 +2,6 @@
 use Rattle.std.proofs.Common.{◌≡◌, ℕ, ◌*◌, ◌<◌, length, Some, sym, subst, ◌∙◌, arith}
 use Rattle.std.specs.Option.{IfSome}
 use Rattle.std.proofs.lemmas.List.Elements.{All-nil, All-same, All-pop}
-use Rattle.corner_table.specs.Sides.{side_at}
 use Rattle.walk_order.specs.Stored.{gluing_in, walk_of}
 use Rattle.walk_order.proofs.Walking.{stored_few, nothing_in, comes_first, comes_next, comes_back, comes_to_end, falls_on, falls_back}
 use Rattle.walk_order.proofs.depth_walk.walk_on.Goals as goal

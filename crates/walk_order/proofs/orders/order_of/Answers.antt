@@ -1,6 +1,5 @@
 -- The table and the entries are an order.
 use Rattle.std.proofs.Common.{ℕ, List, get_or, map, ap, ◌∙◌, arith}
-use Rattle.std.proofs.lemmas.List.Elements.{All-get_or}
 use Rattle.walk_order.proofs.Surfaces.{labels_within}
 use Rattle.walk_order.proofs.Ordered.{order_is}
 use Rattle.walk_order.proofs.orders.order_of.Goals as goal

@@ -1,5 +1,4 @@
 -- What is kept for the class tells whether it is new.
-use Rattle.std.proofs.Common.{ap, ◌∙◌, refl}
 use Rattle.walk_order.proofs.Stored.{new_told}
 use Rattle.walk_order.proofs.marks.Marks.is_new.Goals as goal
 
