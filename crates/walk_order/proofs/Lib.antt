@@ -1,0 +1,11 @@
+pub mod Fuel
+pub mod Tables
+pub mod Surfaces
+pub mod Stored
+pub mod Turns
+pub mod Covering
+pub mod Ordered
+pub mod Walking
+pub mod Rating
+pub mod Ranking
+pub mod Examples

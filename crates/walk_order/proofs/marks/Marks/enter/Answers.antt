@@ -1,0 +1,6 @@
+-- What was kept for the class tells whether the walk goes right alone.
+use Rattle.walk_order.proofs.Stored.{alone_told}
+use Rattle.walk_order.proofs.marks.Marks.enter.Goals as goal
+
+pub returns-clause-alone : goal.returns-clause-alone
+returns-clause-alone c = alone_told c.requires.surface c.requires.stored c.args.corner c.in_ok-kept.kept c.requires.corner c.in_ok-kept.ensures.kept

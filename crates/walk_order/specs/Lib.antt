@@ -1,0 +1,7 @@
+pub mod Visits
+pub mod DepthFirst
+pub mod Orders
+pub mod PredictionDegree
+pub mod Laws
+pub mod Stored
+pub mod Ranking

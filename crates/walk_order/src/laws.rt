@@ -1,0 +1,19 @@
+//! What holds of the definitions themselves.
+
+ghost use Rattle.walk_order.specs.Laws.{DepthFirstListsClasses, PredictionDegreeListsClasses, VisitsAreRelation, WalkIsRelation};
+
+/// Both walks are the relations that their rules tell, one sentence each. With as much fuel as there are
+/// unvisited faces, the depth-first recursion from a corner leads from one state to another exactly where
+/// the relation does, and so do the visits by prediction degree from a corner of an unvisited face. This is
+/// the contract of a call that does nothing.
+pub fn walks_are_relations()
+    ensures depth_first { WalkIsRelation }
+    ensures prediction_degree { VisitsAreRelation }
+{}
+
+/// The entries of both orders are a list of the classes, for every table with labelled fans: each class is
+/// that of one entry, and of no other. This is the contract of a call that does nothing.
+pub fn orders_list_classes()
+    ensures depth_first { DepthFirstListsClasses }
+    ensures prediction_degree { PredictionDegreeListsClasses }
+{}
