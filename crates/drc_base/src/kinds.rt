@@ -110,8 +110,12 @@ pub enum Kind {
     Transform,
     /// A number of bytes per value out of range.
     ByteWidth,
+    /// Too many flags of a prediction.
+    FlagCount,
     /// A range that corrections can't wrap in.
     WrapRange,
+    /// A prediction wants a flag where none is left.
+    FlagsShort,
     /// A value outside its data type.
     ValueRange,
     /// A number of quantisation bits out of range.
@@ -211,7 +215,9 @@ impl Kind {
             Kind::Prediction => "Prediction",
             Kind::Transform => "Transform",
             Kind::ByteWidth => "ByteWidth",
+            Kind::FlagCount => "FlagCount",
             Kind::WrapRange => "WrapRange",
+            Kind::FlagsShort => "FlagsShort",
             Kind::ValueRange => "ValueRange",
             Kind::QuantBits => "QuantBits",
             Kind::PlyMagic => "PlyMagic",

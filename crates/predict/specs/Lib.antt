@@ -1,2 +1,9 @@
 pub mod Wrap
 pub mod Restored
+pub mod Walked
+pub mod Parallelogram
+pub mod Gathered
+pub mod Multi
+pub mod Laws
+pub mod Stored
+pub mod Entry

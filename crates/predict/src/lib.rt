@@ -1,15 +1,31 @@
 //! Predictions of attribute values and the wrap transform: corrections to values in place, and
 //! values to corrections. The contract above it: each value is its prediction, clipped and
-//! corrected, where a prediction is a function of the values before. After the Draco Bitstream
-//! Specification 2.2, sections "Prediction Scheme Transforms" and "Prediction Difference".
+//! corrected, where a prediction is a function of the values before: by difference, by a parallelogram
+//! over the surface, or by the mean of several that flags keep. After the Draco Bitstream
+//! Specification 2.2, sections "Prediction Scheme Transforms", "Prediction Difference", "Mesh
+//! Parallelogram Prediction" and "Mesh Constrained Multi Parallelogram Prediction".
 #![tactic(auto)]
 
 mod differences;
+mod entry;
+mod flags;
+mod gathering;
+mod laws;
+mod multi;
+mod parallelograms;
+mod single;
+mod surface;
 mod wholes;
 mod wraps;
 
 pub use differences::{correct_difference, restore_difference};
+pub use flags::Flags;
+pub use laws::{corrections_restore, flags_are_few};
+pub use multi::{correct_multi, restore_multi};
+pub use single::{correct_parallelogram, restore_parallelogram};
 pub use wraps::Wrap;
 
+#[cfg(test)]
+mod surface_tests;
 #[cfg(test)]
 mod tests;

@@ -1,0 +1,134 @@
+//! One entry, restored or corrected: its components one after another.
+
+ghost use Rattle.std.specs.Prelude.{◌≡◌, ℕ, ◌+◌, ◌*◌, ◌<◌, ◌≤◌, ◌≤ℤ◌, ℤ, List, length, take, pos, slice_index_or, IfSome, Option};
+ghost use Rattle.std.specs.List.{All};
+ghost use Rattle.predict.specs.Wrap.{restored_value, correction_of};
+ghost use Rattle.predict.specs.Walked.{IsBelow};
+ghost use Rattle.predict.specs.Parallelogram.{by_one};
+ghost use Rattle.predict.specs.Multi.{by_many};
+ghost use Rattle.predict.specs.Entry.{Foretells, Goes, Corrected};
+
+use crate::parallelograms::predicted;
+use crate::surface::FaceAcross;
+use crate::wraps::Wrap;
+
+/// Component `j` of entry `e`, from its correction and the entries before.
+fn component_restored(
+    w: &Wrap,
+    v: &[i32],
+    comps: usize,
+    e: usize,
+    faces: &[FaceAcross],
+    j: usize,
+) -> i32
+    requires component { j < comps }
+    requires below { All (IsBelow e) faces.now }
+    requires within { e * comps + comps ≤ length v.now }
+    requires few { length faces.now ≤ 4 }
+    ensures { result ≡ restored_value w.now (by_many comps faces.now j (take (e * comps + j) v.now)) (slice_index_or v.now (e * comps + j) (pos 0)) }
+{
+    w.restored(predicted(v, comps, e, faces, j), v[e * comps + j])
+}
+
+/// The correction of component `j` of entry `e`.
+fn component_corrected(
+    w: &Wrap,
+    v: &[i32],
+    comps: usize,
+    e: usize,
+    faces: &[FaceAcross],
+    j: usize,
+) -> i32
+    requires component { j < comps }
+    requires below { All (IsBelow e) faces.now }
+    requires within { e * comps + comps ≤ length v.now }
+    requires few { length faces.now ≤ 4 }
+    requires range { All (λ x. (w.now.low ≤ℤ x) × (x ≤ℤ w.now.high)) v.now }
+    ensures { result ≡ correction_of w.now (by_many comps faces.now j (take (e * comps + j) v.now)) (slice_index_or v.now (e * comps + j) (pos 0)) }
+{
+    w.correction(predicted(v, comps, e, faces, j), v[e * comps + j])
+}
+
+/// Turns the corrections of entry `e` into its values, predicted from the parallelograms over these
+/// faces.
+pub(crate) fn restore_entry(
+    w: &Wrap,
+    v: &mut [i32],
+    comps: usize,
+    e: usize,
+    faces: &[FaceAcross],
+)
+    requires below { All (IsBelow e) faces.now }
+    requires within { e * comps + comps ≤ length v.old }
+    requires few { length faces.now ≤ 4 }
+    ensures { (f : List ℤ → ℤ) → Foretells f comps e (by_many comps faces.now) → Goes f w.now v.old (e * comps) v.new (e * comps + comps) }
+{
+    let first = e * comps;
+    for j in 0..comps {
+        let value = component_restored(w, v, comps, e, faces, j);
+        v[first + j] = value;
+    }
+}
+
+/// Puts the corrections of entry `e`, predicted from the parallelograms over these faces.
+pub(crate) fn correct_entry(
+    w: &Wrap,
+    v: &[i32],
+    comps: usize,
+    e: usize,
+    faces: &[FaceAcross],
+    out: &mut [i32],
+)
+    requires below { All (IsBelow e) faces.now }
+    requires within { e * comps + comps ≤ length v.now }
+    requires few { length faces.now ≤ 4 }
+    requires range { All (λ x. (w.now.low ≤ℤ x) × (x ≤ℤ w.now.high)) v.now }
+    requires room { length out.old ≡ length v.now }
+    ensures { (f : List ℤ → ℤ) → Foretells f comps e (by_many comps faces.now) → Corrected f w.now v.now out.old (e * comps) → Corrected f w.now v.now out.new (e * comps + comps) }
+{
+    let first = e * comps;
+    for j in 0..comps {
+        let correction = component_corrected(w, v, comps, e, faces, j);
+        out[first + j] = correction;
+    }
+}
+
+/// Turns the corrections of entry `e` into its values, predicted from the parallelogram over a face
+/// where there is one.
+pub(crate) fn restore_by_one(
+    w: &Wrap,
+    v: &mut [i32],
+    comps: usize,
+    e: usize,
+    face: Option<FaceAcross>,
+)
+    requires below { IfSome face (IsBelow e) }
+    requires within { e * comps + comps ≤ length v.old }
+    ensures { (f : List ℤ → ℤ) → Foretells f comps e (by_one comps face) → Goes f w.now v.old (e * comps) v.new (e * comps + comps) }
+{
+    match face {
+        None => restore_entry(w, v, comps, e, &[]),
+        Some(t) => restore_entry(w, v, comps, e, &[t]),
+    }
+}
+
+/// Puts the corrections of entry `e`, predicted from the parallelogram over a face where there is one.
+pub(crate) fn correct_by_one(
+    w: &Wrap,
+    v: &[i32],
+    comps: usize,
+    e: usize,
+    face: Option<FaceAcross>,
+    out: &mut [i32],
+)
+    requires below { IfSome face (IsBelow e) }
+    requires within { e * comps + comps ≤ length v.now }
+    requires range { All (λ x. (w.now.low ≤ℤ x) × (x ≤ℤ w.now.high)) v.now }
+    requires room { length out.old ≡ length v.now }
+    ensures { (f : List ℤ → ℤ) → Foretells f comps e (by_one comps face) → Corrected f w.now v.now out.old (e * comps) → Corrected f w.now v.now out.new (e * comps + comps) }
+{
+    match face {
+        None => correct_entry(w, v, comps, e, &[], out),
+        Some(t) => correct_entry(w, v, comps, e, &[t], out),
+    }
+}

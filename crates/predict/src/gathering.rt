@@ -1,0 +1,121 @@
+//! The faces round the vertex of an entry, over which parallelograms predict it.
+
+ghost use Rattle.std.specs.Prelude.{◌≡◌, ◌<◌, ◌≤◌, ◌++◌, [], ◌∷◌, IfSome, length};
+ghost use Rattle.std.specs.List.{All};
+ghost use Rattle.std.specs.Option.{option_map, option_to_list};
+ghost use Rattle.corner_table.specs.Sides.{side_at};
+ghost use Rattle.corner_table.specs.Fans.{swing_left, swing_right};
+ghost use Rattle.predict.specs.Walked.{IsBelow, corner_at, at_corner};
+ghost use Rattle.predict.specs.Gathered.{gathered, turn_on, rightwards};
+ghost use Rattle.predict.specs.Stored.{IsSurface, walked_in, turn_of};
+
+use crate::surface::{FaceAcross, Surface};
+use arrayvec::ArrayVec;
+use corner_table::{next_number, previous_number};
+
+/// A corner that is met on the way round a vertex, and whether the way goes on to the left.
+#[derive(Clone, Copy, Debug)]
+pub(crate) struct Turn {
+    pub(crate) at: u32,
+    pub(crate) leftwards: bool,
+}
+
+impl Surface<'_> {
+    /// The next corner to the left round a corner's vertex.
+    fn left_of(&self, corner: u32) -> Option<u32>
+        requires surface { IsSurface self.now }
+        requires corner { corner < length self.now.entries.now }
+        ensures corner { option_map side_at result ≡ swing_left (walked_in self.now).gluing (side_at corner) }
+        ensures within { IfSome result (λ n. n < length self.now.entries.now) }
+    {
+        match self.across_of(next_number(corner)) {
+            None => None,
+            Some(side) => Some(next_number(side)),
+        }
+    }
+
+    /// The next corner to the right round a corner's vertex, as a turn.
+    fn rightwards(&self, corner: u32) -> Option<Turn>
+        requires surface { IsSurface self.now }
+        requires corner { corner < length self.now.entries.now }
+        ensures turn { option_map turn_of result ≡ rightwards (walked_in self.now).gluing (side_at corner) }
+        ensures within { IfSome result (λ t. t.at < length self.now.entries.now) }
+    {
+        match self.across_of(previous_number(corner)) {
+            None => None,
+            Some(side) => Some(Turn {
+                at: previous_number(side),
+                leftwards: false,
+            }),
+        }
+    }
+
+    /// What comes after a corner on the way round from `start`.
+    fn turn_on(&self, start: u32, turn: Turn) -> Option<Turn>
+        requires surface { IsSurface self.now }
+        requires start { start < length self.now.entries.now }
+        requires corner { turn.at < length self.now.entries.now }
+        ensures turn { option_map turn_of result ≡ turn_on (walked_in self.now).gluing (side_at start) (turn_of turn) }
+        ensures within { IfSome result (λ t. t.at < length self.now.entries.now) }
+    {
+        if !turn.leftwards {
+            return self.rightwards(turn.at);
+        }
+        match self.left_of(turn.at) {
+            None => self.rightwards(start),
+            Some(at) => {
+                if at == start {
+                    None
+                } else {
+                    Some(Turn {
+                        at,
+                        leftwards: true,
+                    })
+                }
+            }
+        }
+    }
+
+    /// Adds the face across the side of a corner to those found, where entry `e` can be predicted
+    /// from it.
+    fn gather_corner(&self, e: usize, corner: u32, found: &mut ArrayVec<FaceAcross, 4>)
+        requires surface { IsSurface self.now }
+        requires corner { corner < length self.now.entries.now }
+        requires room { length found.old.items < 4 }
+        ensures { found.new.items ≡ found.old.items ++ option_to_list (at_corner (walked_in self.now) e (side_at corner)) }
+    {
+        match self.at_corner(e, corner) {
+            None => {}
+            Some(face) => found.push(face),
+        }
+    }
+
+    /// The first four faces round the vertex of entry `e` from which it can be predicted.
+    pub(crate) fn gather(&self, e: usize) -> ArrayVec<FaceAcross, 4>
+        requires surface { IsSurface self.now }
+        requires entry { e < length self.now.corners.now }
+        ensures faces { result.items ≡ gathered (walked_in self.now) e }
+        ensures below { All (IsBelow e) result.items }
+        ensures few { length result.items ≤ 4 }
+    {
+        let start = self.corner_of(e);
+        let mut found = ArrayVec::new();
+        let mut turn = Some(Turn {
+            at: start,
+            leftwards: true,
+        });
+        for step in 0..self.entries.len() {
+            match turn {
+                None => return found,
+                Some(now) => {
+                    self.gather_corner(e, now.at, &mut found);
+                    if found.len() == 4 {
+                        return found;
+                    }
+                    turn = self.turn_on(start, now);
+                }
+            }
+        }
+        found
+    }
+}

@@ -1,0 +1,202 @@
+//! Constrained multi-parallelogram prediction.
+
+ghost use Rattle.std.specs.Prelude.{◌≡◌, ℕ, ℤ, suc, ◌+◌, ◌-◌, ◌*◌, ◌^◌, ◌<◌, ◌≤◌, ◌≤ℤ◌, ◌++◌, [], cond, nat_eq, List, Bool, length, take, drop, map, get_or, IfOk, IfSome, MatchOption, MatchResult};
+ghost use Rattle.std.specs.List.{All};
+ghost use Rattle.predict.specs.Wrap.{CanWrap, least_correction, greatest_correction};
+ghost use Rattle.predict.specs.Restored.{restored, corrections};
+ghost use Rattle.predict.specs.Walked.{Walked, IsBelow, IsOver, walked};
+ghost use Rattle.predict.specs.Gathered.{gathered};
+ghost use Rattle.predict.specs.Multi.{by_many, kept, multi, wanted, flags_for, HasFlags, LacksFlags, AreMarked, marks, is_left_out};
+ghost use Rattle.predict.specs.Entry.{Foretells, Goes, Corrected, AreUsed, LacksNext, ForetellsAll, lists_of, put};
+ghost use Rattle.predict.specs.Stored.{IsSurface, walked_in};
+
+use crate::entry::{correct_entry, restore_entry};
+use crate::flags::{Flags, keep, marks_of};
+use crate::surface::{FaceAcross, Surface, surface_of};
+use crate::wraps::Wrap;
+use arrayvec::ArrayVec;
+use corner_table::{Order, SideTable};
+use drc_base::{Kind, Memory, Sequence};
+use std::alloc::Global;
+
+/// The faces of an entry that its flags keep; `used` has how many flags of each list are taken. None
+/// where the list has too few.
+fn take_flags(
+    flags: &Flags,
+    used: &mut [usize; 4],
+    found: &[FaceAcross],
+) -> Option<ArrayVec<FaceAcross, 4>>
+    requires few { length found.now ≤ 4 }
+    requires used { length used.old ≡ 4 }
+    ensures long { length used.new ≡ 4 }
+    ensures faces { (w : Walked) (e : ℕ) → found.now ≡ gathered w e → AreUsed w flags.now.lists e used.old → MatchOption result (LacksNext w flags.now.lists e) (λ faces. (faces.items ≡ kept (flags_for w flags.now.lists e) found.now) × AreUsed w flags.now.lists (suc e) used.new) }
+    ensures few { IfSome result (λ faces. length faces.items ≤ 4) }
+    ensures below { (e : ℕ) → All (IsBelow e) found.now → IfSome result (λ faces. All (IsBelow e) faces.items) }
+{
+    let count = found.len();
+    if count == 0 {
+        return Some(ArrayVec::new());
+    }
+    let list = flags.lists[count - 1].as_slice();
+    let first = used[count - 1];
+    if first > list.len() || list.len() - first < count {
+        return None;
+    }
+    used[count - 1] = first + count;
+    Some(keep(found, &list[first..first + count]))
+}
+
+/// Turns the corrections `v` of entries of `comps` components into their values, in place, each
+/// predicted by the mean of those parallelograms that its flags keep. The order `o` is one over the
+/// table `t`, and `v` has `comps` values for each of its entries. It takes no memory. `FlagsShort`
+/// exactly where more flags of a list are wanted than it has; `v` is given up then. Flags that are
+/// left over are ignored.
+pub fn restore_multi(
+    w: &Wrap,
+    comps: u32,
+    t: &SideTable,
+    o: &Order,
+    flags: &Flags,
+    v: &mut [i32],
+) -> Result<(), Kind>
+    requires some { 0 < comps }
+    requires order { IsOver t.now.faces (walked t.now o.now) }
+    requires whole { length v.old ≡ length o.now.corner_of_entry * comps }
+    ensures values { IfOk result (λ _. v.new ≡ restored (multi (walked t.now o.now) comps flags.now.lists) w.now v.old) }
+    ensures flags { MatchResult result (λ _. HasFlags (walked t.now o.now) flags.now.lists) (λ k. (k ≡ Kind.FlagsShort) × LacksFlags (walked t.now o.now) flags.now.lists) }
+{
+    let wrap = w.copy();
+    let surface = surface_of(t, o);
+    let comps = comps as usize;
+    let mut used = [0usize; 4];
+    for e in 0..surface.corners.len() {
+        let found = surface.gather(e);
+        match take_flags(flags, &mut used, found.as_slice()) {
+            None => return Err(Kind::FlagsShort),
+            Some(faces) => restore_entry(&wrap, v, comps, e, faces.as_slice()),
+        }
+    }
+    Ok(())
+}
+
+/// Puts the flags of an entry behind those of its list.
+fn put_marks(lists: &mut [Vec<bool>; 4], marks: &[bool]) -> Result<(), Memory>
+    requires few { length marks.now ≤ 4 }
+    requires four { length lists.old ≡ 4 }
+    ensures long { length lists.new ≡ 4 }
+    ensures put { IfOk result (λ _. lists_of lists.new ≡ put marks.now (lists_of lists.old)) }
+{
+    let count = marks.len();
+    if count > 0 {
+        lists[count - 1].extend_from_slice(marks)?;
+    }
+    Ok(())
+}
+
+/// Puts the corrections of all entries, and their flags.
+fn correct_entries(
+    w: &Wrap,
+    comps: usize,
+    surface: &Surface<'_>,
+    v: &[i32],
+    lists: &mut [Vec<bool>; 4],
+    out: &mut [i32],
+) -> Result<(), Memory>
+    requires some { 0 < comps }
+    requires comps { comps < 2 ^ 32 }
+    requires surface { IsSurface surface.now }
+    requires whole { length v.now ≡ length surface.now.corners.now * comps }
+    requires range { All (λ x. (w.now.low ≤ℤ x) × (x ≤ℤ w.now.high)) v.now }
+    requires room { length out.old ≡ length v.now }
+    requires four { length lists.old ≡ 4 }
+    requires none { (k : ℕ) → k < 4 → get_or (lists_of lists.old) k [] ≡ [] }
+    ensures long { length lists.new ≡ 4 }
+    ensures marked { IfOk result (λ _. AreMarked (walked_in surface.now) comps v.now (lists_of lists.new) (length surface.now.corners.now)) }
+    ensures corrections { IfOk result (λ _. (f : List ℤ → ℤ) → ForetellsAll f (walked_in surface.now) comps v.now (length surface.now.corners.now) → out.new ≡ corrections f w.now v.now) }
+{
+    for e in 0..surface.corners.len() {
+        let found = surface.gather(e);
+        let marks = marks_of(v, comps, e, found.as_slice());
+        put_marks(lists, marks.as_slice())?;
+        let faces = keep(found.as_slice(), marks.as_slice());
+        correct_entry(w, v, comps, e, faces.as_slice(), out);
+    }
+    Ok(())
+}
+
+/// Puts the corrections of all entries, and answers their flags.
+fn correct_with_flags(
+    alloc: Global,
+    w: &Wrap,
+    comps: usize,
+    surface: &Surface<'_>,
+    v: &[i32],
+    out: &mut [i32],
+) -> Result<Flags, Memory>
+    requires some { 0 < comps }
+    requires comps { comps < 2 ^ 32 }
+    requires surface { IsSurface surface.now }
+    requires whole { length v.now ≡ length surface.now.corners.now * comps }
+    requires range { All (λ x. (w.now.low ≤ℤ x) × (x ≤ℤ w.now.high)) v.now }
+    requires room { length out.old ≡ length v.now }
+    requires can_wrap { CanWrap w.now }
+    ensures flags { IfOk result (λ x. AreMarked (walked_in surface.now) comps v.now x.lists (length surface.now.corners.now)) }
+    ensures enough { IfOk result (λ x. HasFlags (walked_in surface.now) x.lists) }
+    ensures corrections { IfOk result (λ x. out.new ≡ corrections (multi (walked_in surface.now) comps x.lists) w.now v.now) }
+    ensures restores { IfOk result (λ x. restored (multi (walked_in surface.now) comps x.lists) w.now out.new ≡ v.now) }
+    ensures small { IfOk result (λ x. All (λ c. (least_correction w.now ≤ℤ c) × (c ≤ℤ greatest_correction w.now)) out.new) }
+{
+    let mut lists = [
+        Vec::new(alloc),
+        Vec::new(alloc),
+        Vec::new(alloc),
+        Vec::new(alloc),
+    ];
+    correct_entries(w, comps, surface, v, &mut lists, out)?;
+    let [one, two, three, four] = lists;
+    let lists = [
+        Sequence::from_vec(one),
+        Sequence::from_vec(two),
+        Sequence::from_vec(three),
+        Sequence::from_vec(four),
+    ];
+    Ok(Flags { lists })
+}
+
+/// The corrections of the values `v` of entries of `comps` components, each predicted by the mean of
+/// those parallelograms that its flags keep, and the flags: each correction is of at most half a span,
+/// and from both the values are restored. A flag is set, and leaves its parallelogram out, exactly
+/// where the entry before is nearer to the entry, by the sums of the distances of their components.
+/// The order `o` is one over the table `t`, and `v` has `comps` values for each of its entries. It
+/// takes memory for the corrections and the flags, and is refused for want of it alone.
+pub fn correct_multi(
+    alloc: Global,
+    w: &Wrap,
+    comps: u32,
+    t: &SideTable,
+    o: &Order,
+    v: &[i32],
+) -> Result<(Vec<i32>, Flags), Memory>
+    requires some { 0 < comps }
+    requires order { IsOver t.now.faces (walked t.now o.now) }
+    requires whole { length v.now ≡ length o.now.corner_of_entry * comps }
+    requires within { All (λ x. (w.now.low ≤ℤ x) × (x ≤ℤ w.now.high)) v.now }
+    ensures flags { IfOk result (λ c. AreMarked (walked t.now o.now) comps v.now c.1.lists (length o.now.corner_of_entry)) }
+    ensures enough { IfOk result (λ c. HasFlags (walked t.now o.now) c.1.lists) }
+    ensures corrections { IfOk result (λ c. c.0.items ≡ corrections (multi (walked t.now o.now) comps c.1.lists) w.now v.now) }
+    ensures restores { IfOk result (λ c. restored (multi (walked t.now o.now) comps c.1.lists) w.now c.0.items ≡ v.now) }
+    ensures small { IfOk result (λ c. All (λ x. (least_correction w.now ≤ℤ x) × (x ≤ℤ greatest_correction w.now)) c.0.items) }
+{
+    let wrap = w.copy();
+    let surface = surface_of(t, o);
+    let mut out = vec![in alloc; 0i32; v.len()]?;
+    let flags = correct_with_flags(
+        alloc,
+        &wrap,
+        comps as usize,
+        &surface,
+        v,
+        out.as_mut_slice(),
+    )?;
+    Ok((out, flags))
+}
