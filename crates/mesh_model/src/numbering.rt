@@ -58,7 +58,7 @@ pub(crate) fn number_corners(
     width: u32,
 ) -> Result<Numbering, Memory>
     requires columns { AreColumns corners heads.now tables.now }
-    requires few { corners ≤ 3 * 2 ^ 20 }
+    requires few { corners ≤ 3 * 2 ^ 22 }
     requires width { width ≡ width_of heads.now }
     requires wide { 0 < width }
     ensures numbering { IfOk result (λ n. IsNumbering (zip heads.now tables.now) corners n.numbers.items (rows_of width n.cells.items)) }
