@@ -106,10 +106,10 @@ place_at xs rest x less =
     let l = length-append xs (x ∷ rest) in
     position_or_len_is (same x) (xs ++ x ∷ rest) (length xs) x (omega arith)
     (λ k before. not_same x (get_or (xs ++ x ∷ rest) k x) (λ e. (
-      let at : get_or (xs ++ x ∷ rest) k x ≡ get_or xs k x = get_or_append_left xs (x ∷ rest) x k before in
-      let h = less k x before in
-      let q : number x ≡ number (get_or xs k x) = ap number (e ∙ at) in
-      absurd (omega arith))))
+    let at : get_or (xs ++ x ∷ rest) k x ≡ get_or xs k x = get_or_append_left xs (x ∷ rest) x k before in
+    let h = less k x before in
+    let q : number x ≡ number (get_or xs k x) = ap number (e ∙ at) in
+    absurd (omega arith))))
     (λ _. ap (same x) (get_or-append_right xs (x ∷ rest) (length xs) (length xs) x refl (omega arith) ∙ (let z : length xs - length xs ≡ 0 = omega arith in ap (λ i. get_or (x ∷ rest) i x) z)) ∙ same_refl x)
 
 -- where side number n stands
@@ -133,9 +133,11 @@ place_has faces g n d h t =
     let p = place_is faces g n h t in
     let l = length-append (bit_sides_below n g) (side_at n ∷ s.0) in
     let k = ap (λ (xs : List Side). length xs) s.1 in
-    let i = length (bit_sides_below n g) in
-    (omega arith, ap (λ xs. get_or xs (place_in (bit_sides faces g) (side_at n)) d) s.1 ∙ ap (λ j. get_or (bit_sides_below n g ++ side_at n ∷ s.0) j d) p
-        ∙ get_or-append_right (bit_sides_below n g) (side_at n ∷ s.0) i i d refl (omega arith) ∙ (let z : i - i ≡ 0 = omega arith in ap (λ j. get_or (side_at n ∷ s.0) j d) z))
+    let i = length (bit_sides_below n g) in (
+      omega arith,
+      ap (λ xs. get_or xs (place_in (bit_sides faces g) (side_at n)) d) s.1 ∙ ap (λ j. get_or (bit_sides_below n g ++ side_at n ∷ s.0) j d) p
+          ∙ get_or-append_right (bit_sides_below n g) (side_at n ∷ s.0) i i d refl (omega arith) ∙ (let z : i - i ≡ 0 = omega arith in ap (λ j. get_or (side_at n ∷ s.0) j d) z),
+    )
 
 -- the same of a side
 pub side_stands : (faces : ℕ) (g : Gluing) (x d : Side) → x.face < faces → has_bit g x ≡ true →

@@ -113,11 +113,11 @@ pair_free faces n o h H e after =
 -- a side that has no bit, or is a seam, adds no pair
 pub bare_over : (faces n : ℕ) (flags : Side → Bool) (g : Gluing) → IsGluing faces g → IsGluing faces (unseamed flags g) → has_bit g (side_at n) ≡ false → pairs_to (n + 1) (unseamed flags g) ≡ pairs_to n (unseamed flags g)
 bare_over faces n flags g G H bare = pairs_over faces n (unseamed flags g) H (λ y e. (
-  let f = (cut_tells flags g (side_at n) y e).1 in
-  let apart = G.apart (side_at n) y f in
-  let k = number-side_at n in
-  let q : nat_lt (n / 3) y.face ≡ false = sym (bit_of_glued g (side_at n) y f) ∙ bare in
-  behind y apart q))
+    let f = (cut_tells flags g (side_at n) y e).1 in
+    let apart = G.apart (side_at n) y f in
+    let k = number-side_at n in
+    let q : nat_lt (n / 3) y.face ≡ false = sym (bit_of_glued g (side_at n) y f) ∙ bare in
+    behind y apart q))
   where
     behind : (y : Side) → n / 3 ≢ y.face → nat_lt (n / 3) y.face ≡ false → number y < n
     behind y apart q = elim (cases_lt (n / 3) y.face) [

@@ -89,9 +89,9 @@ told_more faces g F n o flag flags G small A T v = record {
 
     before : (x : Side) → number x < n → (x ≢ side_at n) × (x ≢ side_at o)
     before x h = (
-        (λ e. (let q = ap number e in let k = number-side_at n in absurd (omega arith))),
-        (λ e. (let q = ap number e in let k = number-side_at o in let w = T.2 in absurd (omega arith))),
-      )
+      (λ e. (let q = ap number e in let k = number-side_at n in absurd (omega arith))),
+      (λ e. (let q = ap number e in let k = number-side_at o in let w = T.2 in absurd (omega arith))),
+    )
 
     beside : (x y : Side) → g x ≡ Some y → number x < n → (y ≢ side_at n) × (y ≢ side_at o)
     beside x y e h =

@@ -1,12 +1,12 @@
 -- What holds of seams, their bits, and classes.
-use Rattle.std.specs.Prelude.{◌≡◌, ℕ, ◌+◌, ◌*◌, ◌<◌, ◌↔◌, Bool, true, false, List, length, get_or, count_by, Some, None}
+use Rattle.std.specs.Prelude.{◌≡◌, ℕ, ◌+◌, ◌*◌, ◌<◌, ◌↔◌, Bool, true, false, List, length, get_or, count_by, Some}
 use Rattle.std.specs.Option.{is_none}
 use Rattle.mesh_model.specs.Parts.{MeshParts}
 use Rattle.corner_table.specs.Sides.{Side, Gluing, IsGluing}
 use Rattle.corner_table.specs.Fans.{corners_of, InFan, MeetsBoundary}
 use Rattle.rans_binary.specs.Blocks.{Block, first_bits}
 use Rattle.seams.specs.Seams.{flag_at, listed, unseamed, AreFlags}
-use Rattle.seams.specs.SeamBits.{has_bit, bit_sides, seam_bits, told, bit_of, flags_of}
+use Rattle.seams.specs.SeamBits.{has_bit, bit_sides, seam_bits, told, flags_of}
 use Rattle.seams.specs.Values.{piece, is_seam}
 use Rattle.seams.specs.Classes.{InClass, MeetsEnd}
 
@@ -48,7 +48,8 @@ SeamsAreFlags = (faces : ℕ) (g : Gluing) (m : MeshParts) (k : ℕ) → IsGluin
 
 -- a list of flags and what it was made of cut the surface alike
 abbrev pub ListCutsAlike : Type 0
-ListCutsAlike = (faces : ℕ) (g : Gluing) (flags : Side → Bool) → IsGluing faces g → unseamed (flag_at (listed faces flags)) g ≡ unseamed flags g
+ListCutsAlike = (faces : ℕ) (g : Gluing) (flags : Side → Bool) → IsGluing faces g →
+    unseamed (flag_at (listed faces flags)) g ≡ unseamed flags g
 
 -- whatever the bits are, what they tell is flags
 abbrev pub ToldAreFlags : Type 0
@@ -57,7 +58,8 @@ ToldAreFlags = (faces : ℕ) (g : Gluing) (bits : ℕ → Bool) → IsGluing fac
 -- bits that are the seam bits of flags tell these flags
 abbrev pub BitsTellFlags : Type 0
 BitsTellFlags = (faces : ℕ) (g : Gluing) (flags : List Bool) (bits : ℕ → Bool) → IsGluing faces g → AreFlags faces g flags →
-    ((i : ℕ) → i < length (bit_sides faces g) → bits i ≡ get_or (seam_bits faces g (flag_at flags)) i false) → listed faces (told faces g bits) ≡ flags
+    ((i : ℕ) → i < length (bit_sides faces g) → bits i ≡ get_or (seam_bits faces g (flag_at flags)) i false) →
+    listed faces (told faces g bits) ≡ flags
 
 -- so does a block that has them first
 abbrev pub BlockTellsFlags : Type 0
@@ -70,4 +72,5 @@ OneSideHasBit = (faces : ℕ) (g : Gluing) (x y : Side) → IsGluing faces g →
 
 -- each side is free or one of a pair, and each pair has a bit
 abbrev pub SidesAreCounted : Type 0
-SidesAreCounted = (faces : ℕ) (g : Gluing) → IsGluing faces g → 2 * length (bit_sides faces g) + count_by (λ x. is_none (g x)) (corners_of faces) ≡ 3 * faces
+SidesAreCounted = (faces : ℕ) (g : Gluing) → IsGluing faces g →
+    2 * length (bit_sides faces g) + count_by (λ x. is_none (g x)) (corners_of faces) ≡ 3 * faces

@@ -1,6 +1,6 @@
 -- Seam bits: one for each pair of sides, in the order of the sides of the lesser face (Draco Bitstream Specification 2.2, section
 -- Edgebreaker Connectivity, attribute seams; that the lesser face has the bit is this project's choice).
-use Rattle.std.specs.Prelude.{ℕ, zero, suc, Bool, true, false, nat_lt, cond, List, map, filter, length, Some, None}
+use Rattle.std.specs.Prelude.{ℕ, zero, suc, Bool, true, false, nat_lt, cond, List, map, filter, Some, None}
 use Rattle.std.specs.List.{position_or_len}
 use Rattle.rans_binary.specs.Blocks.{Block, next_bit, after_bit}
 use Rattle.corner_table.specs.Sides.{Side, same, Gluing}

@@ -89,10 +89,7 @@ fn points_differ(m: &CornerMesh, span: (usize, usize), p: u32, q: u32) -> bool
     if p == q {
         return false;
     }
-    are_apart(
-        &m.point(p)[span.0..span.1],
-        &m.point(q)[span.0..span.1],
-    )
+    are_apart(&m.point(p)[span.0..span.1], &m.point(q)[span.0..span.1])
 }
 
 /// Whether at either end of a pair of sides its two corners differ in an attribute.
@@ -147,12 +144,7 @@ fn marked(alloc: Global, m: &CornerMesh, t: &SideTable, attr: u8) -> Result<Vec<
 /// Of each side 3f + k of a mesh's surface, whether it is a seam of attribute `attr`: boundaries are, and a
 /// pair is one where at either of its ends the two corners that meet there differ in the attribute (this
 /// project's choice). Refused for want of memory alone.
-pub fn seams_of(
-    alloc: Global,
-    m: &CornerMesh,
-    t: &SideTable,
-    attr: u8,
-) -> Result<Vec<bool>, Memory>
+pub fn seams_of(alloc: Global, m: &CornerMesh, t: &SideTable, attr: u8) -> Result<Vec<bool>, Memory>
     requires attribute { attr < length m.now.heads }
     requires faces { t.now.faces ≡ length m.now.faces }
     ensures seams { IfOk result (λ v. v.items ≡ listed t.now.faces (is_seam m.now attr (gluing_of t.now))) }

@@ -44,15 +44,15 @@ loop-side-preserved g c =
     let more : suc n ≡ n + 1 = omega arith in
     elim c.match-kept_pair.branch [
       | in-Some w ↦ record {
-          faces = rw w.table-is (w.glue.ensures.faces ∙ c.loop-side.invariant.faces);
-          pairs = rw w.table-is (glued_as (gluing_of c.loop-side.table) (gluing_of w.glue.new.self) (pairs_to n h) (side_at n) (side_of w.side_with.result) (side_at w.in-Some.other) (side_of w.side_with-in-Some.result)
-              w.glue.ensures.glued w.side_with.ensures.side w.side_with-in-Some.ensures.side c.loop-side.invariant.pairs
-              ∙ pairs_more c.args.faces n w.in-Some.other h H w.in-Some.ensures.0 w.in-Some.ensures.1);
-        }
+        faces = rw w.table-is (w.glue.ensures.faces ∙ c.loop-side.invariant.faces);
+        pairs = rw w.table-is (glued_as (gluing_of c.loop-side.table) (gluing_of w.glue.new.self) (pairs_to n h) (side_at n) (side_of w.side_with.result) (side_at w.in-Some.other) (side_of w.side_with-in-Some.result)
+            w.glue.ensures.glued w.side_with.ensures.side w.side_with-in-Some.ensures.side c.loop-side.invariant.pairs
+            ∙ pairs_more c.args.faces n w.in-Some.other h H w.in-Some.ensures.0 w.in-Some.ensures.1);
+      }
       | in-None w ↦ record {
-          faces = rw w.table-is c.loop-side.invariant.faces;
-          pairs = rw w.table-is (c.loop-side.invariant.pairs ∙ sym w.in-None.ensures ∙ ap (λ k. pairs_to k h) more);
-        }
+        faces = rw w.table-is c.loop-side.invariant.faces;
+        pairs = rw w.table-is (c.loop-side.invariant.pairs ∙ sym w.in-None.ensures ∙ ap (λ k. pairs_to k h) more);
+      }
     ]
 
 pub returns-clause-pairs : goal.returns-clause-pairs

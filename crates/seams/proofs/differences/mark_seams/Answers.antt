@@ -28,7 +28,7 @@ loop-side-preserved c =
       | in-Some w ↦ (
           let T = w.in-Some.ensures in
           rw w.flags-is (told_more c.face_count-faces.result g (is_seam c.args.m.now c.args.attr g) c.loop-side.side w.in-Some.other w.pair_differs-flag.result c.loop-side.flags G small A T
-              (w.pair_differs-flag.ensures c.args.attr c.span_of-span.ensures.start c.span_of-span.ensures.end ∙ sym (seam_glued c.args.m.now c.args.attr g (side_at c.loop-side.side) (side_at w.in-Some.other) T.1))))
+          (w.pair_differs-flag.ensures c.args.attr c.span_of-span.ensures.start c.span_of-span.ensures.end ∙ sym (seam_glued c.args.m.now c.args.attr g (side_at c.loop-side.side) (side_at w.in-Some.other) T.1))))
       | in-None w ↦ rw w.flags-is (told_over c.face_count-faces.result g (is_seam c.args.m.now c.args.attr g) c.loop-side.side c.loop-side.flags A w.in-None.ensures)
     ]
 

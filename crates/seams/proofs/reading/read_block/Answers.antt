@@ -23,14 +23,14 @@ loop-side-preserved c =
     let small = c.loop-side-test.true in
     elim c.match-later_side.branch [
       | in-Some w ↦ (let T = w.in-Some.ensures in record {
-          told = rw w.flags-is (told_more c.args.faces g _ c.loop-side.side w.in-Some.other w.next-flag.result c.loop-side.flags c.requires.gluing small A.told T
-              (flag_next c.args.faces g c.loop-side.side w.next-flag.result c.loop-side.block _ small T.0 A.block w.next-flag.ensures.bit));
-          block = rw w.block-is (block_more g c.loop-side.side _ c.loop-side.block _ T.0 A.block w.next-flag.ensures.after);
-        })
+        told = rw w.flags-is (told_more c.args.faces g _ c.loop-side.side w.in-Some.other w.next-flag.result c.loop-side.flags c.requires.gluing small A.told T
+            (flag_next c.args.faces g c.loop-side.side w.next-flag.result c.loop-side.block _ small T.0 A.block w.next-flag.ensures.bit));
+        block = rw w.block-is (block_more g c.loop-side.side _ c.loop-side.block _ T.0 A.block w.next-flag.ensures.after);
+      })
       | in-None w ↦ record {
-          told = rw w.flags-is (told_over c.args.faces g _ c.loop-side.side c.loop-side.flags A.told w.in-None.ensures);
-          block = rw w.block-is (block_over g c.loop-side.side c.loop-side.block _ w.in-None.ensures A.block);
-        }
+        told = rw w.flags-is (told_over c.args.faces g _ c.loop-side.side c.loop-side.flags A.told w.in-None.ensures);
+        block = rw w.block-is (block_over g c.loop-side.side c.loop-side.block _ w.in-None.ensures A.block);
+      }
     ]
 
 pub returns-clause-flags : goal.returns-clause-flags

@@ -17,7 +17,7 @@ read_block-requires-clause-set c =
     let faces = c.args.t.now.faces in
     c.as_mut_slice.ensures.value
     ∙ filled_at (λ (v : Vec Bool Global). v.items) (flags_of faces (gluing_of c.args.t.now)) (replicate (3 * faces) true) c.args.blocks.now c.loop-k.lists.items c.loop-k.k c.index_mut.result.now (omega arith)
-      c.loop-k.invariant.lists c.index_mut.ensures.value
+    c.loop-k.invariant.lists c.index_mut.ensures.value
     ∙ ap (λ n. replicate (3 * n) true) (sym c.face_count-faces.ensures.count)
 
 pub loop-k-preserved : goal.loop-k-preserved
