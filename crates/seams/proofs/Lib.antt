@@ -1,0 +1,10 @@
+pub mod Listing
+pub mod Bits
+pub mod Telling
+pub mod Chains
+pub mod Values
+pub mod Blocks
+pub mod Gluing
+pub mod Counting
+pub mod Filling
+mod Examples

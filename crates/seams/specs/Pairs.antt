@@ -1,0 +1,32 @@
+-- Pairs and flags while they are being written, side after side. These are the code's own words, for the steps of the loops; what the
+-- calls answer is told in `Seams` and `SeamBits`.
+use Rattle.std.specs.Prelude.{◌≡◌, ℕ, suc, ◌*◌, ◌<◌, ◌||◌, Bool, true, false, cond, nat_lt, List, map, filter, length, Option, Some, None}
+use Rattle.std.specs.List.{range_with_len}
+use Rattle.corner_table.specs.Sides.{Side, number, side_at, Gluing}
+use Rattle.seams.specs.Seams.{flag_at}
+use Rattle.seams.specs.SeamBits.{has_bit}
+
+-- what the numbers of the sides tell: o is the number of the other side, where the side has the bit of its pair
+abbrev pub TellsLater : ℕ → Gluing → ℕ → Option ℕ → Type 0
+TellsLater faces g n None = has_bit g (side_at n) ≡ false
+TellsLater faces g n (Some o) = (has_bit g (side_at n) ≡ true) × (g (side_at n) ≡ Some (side_at o)) × (n < o) × (o < 3 * faces)
+
+-- the sides below a number that have a bit
+abbrev pub bit_sides_below : ℕ → Gluing → List Side
+bit_sides_below n g = filter (has_bit g) (map side_at (range_with_len 0 n))
+
+-- the flags once the sides below a number that have a bit were told
+pub record AreToldTo (faces : ℕ) (g : Gluing) (told : Side → Bool) (n : ℕ) (flags : List Bool) : Type 0 where
+  pub each_side : length flags ≡ 3 * faces
+  pub boundary : (x : Side) → x.face < faces → g x ≡ None → flag_at flags x ≡ true
+  pub one : (x y : Side) → g x ≡ Some y → has_bit g x ≡ true → number x < n → flag_at flags x ≡ told x
+  pub other : (x y : Side) → g x ≡ Some y → has_bit g x ≡ true → number x < n → flag_at flags y ≡ told x
+
+-- the pairs of which one side has a number below n
+abbrev pub pairs_to : ℕ → Gluing → Gluing
+pairs_to n g x = elim (g x) [ None ↦ None | Some y ↦ cond (nat_lt (number x) n || nat_lt (number y) n) (Some y) None ]
+
+-- the pair that a side adds to those before, of the other side's number, if it adds one
+abbrev pub TellsKept : Gluing → ℕ → Option ℕ → Type 0
+TellsKept h n None = pairs_to (suc n) h ≡ pairs_to n h
+TellsKept h n (Some o) = (h (side_at n) ≡ Some (side_at o)) × (n < o)

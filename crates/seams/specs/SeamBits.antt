@@ -1,0 +1,46 @@
+-- Seam bits: one for each pair of sides, in the order of the sides of the lesser face (Draco Bitstream Specification 2.2, section
+-- Edgebreaker Connectivity, attribute seams; that the lesser face has the bit is this project's choice).
+use Rattle.std.specs.Prelude.{ℕ, zero, suc, Bool, true, false, nat_lt, cond, List, map, filter, Some, None}
+use Rattle.std.specs.List.{position_or_len}
+use Rattle.rans_binary.specs.Blocks.{Block, next_bit, after_bit}
+use Rattle.corner_table.specs.Sides.{Side, same, Gluing}
+use Rattle.corner_table.specs.Fans.{corners_of}
+use Rattle.seams.specs.Seams.{listed}
+
+-- whether a side has the bit of its pair: it is glued, and its face is the lesser one
+abbrev pub has_bit : Gluing → Side → Bool
+has_bit g x = elim (g x) [ None ↦ false | Some y ↦ nat_lt x.face y.face ]
+
+-- the sides that have a bit, in order: one of each pair
+abbrev pub bit_sides : ℕ → Gluing → List Side
+bit_sides faces g = filter (has_bit g) (corners_of faces)
+
+-- the seam bits that tell flags
+abbrev pub seam_bits : ℕ → Gluing → (Side → Bool) → List Bool
+seam_bits faces g flags = map flags (bit_sides faces g)
+
+-- the place of a side among others
+abbrev pub place_in : List Side → Side → ℕ
+place_in sides x = position_or_len (same x) sides
+
+-- what is told of the sides that have a bit, told of all: of both sides of a pair, and a boundary is a seam
+abbrev pub of_pairs : (Side → Bool) → Gluing → Side → Bool
+of_pairs flags g x = elim (g x) [ None ↦ true | Some y ↦ flags (cond (has_bit g x) x y) ]
+
+-- the flags that seam bits tell, of which bit i is that of the side at place i
+abbrev pub told : ℕ → Gluing → (ℕ → Bool) → Side → Bool
+told faces g bits = of_pairs (λ x. bits (place_in (bit_sides faces g) x)) g
+
+-- bit k of a block
+abbrev pub bit_of : Block → ℕ → Bool
+bit_of b zero = next_bit b
+bit_of b (suc k) = bit_of (after_bit b) k
+
+-- a block after k bits
+abbrev pub after_bits : ℕ → Block → Block
+after_bits zero b = b
+after_bits (suc k) b = after_bits k (after_bit b)
+
+-- the flags that a block's next bits tell
+abbrev pub flags_of : ℕ → Gluing → Block → List Bool
+flags_of faces g b = listed faces (told faces g (bit_of b))

@@ -1,0 +1,52 @@
+//! The sides of a table by their numbers.
+
+ghost use Rattle.std.specs.Prelude.{◌≡◌, ◌*◌, ◌<◌, ◌≤◌, length, replicate, true, IfOk, slice_index_or};
+ghost use Rattle.drc_base.specs.declared.limits.TheConstants.{MAX_FACES as most_faces};
+ghost use Rattle.corner_table.specs.Sides.{IsGluing};
+ghost use Rattle.corner_table.specs.Table.{glued_in};
+ghost use Rattle.seams.specs.Pairs.{TellsLater};
+
+use corner_table::SideTable;
+use drc_base::Memory;
+use std::alloc::Global;
+
+/// For each side the number of the side across.
+pub(crate) fn sides_across(t: &SideTable) -> &[u32]
+    ensures entries { result.now ≡ t.now.entries }
+{
+    t.across()
+}
+
+/// The number of the side across a side, where that side is glued and lies in the lesser face, so that it
+/// has the bit of the pair.
+pub(crate) fn later_side(across: &[u32], faces: u32, side: u32) -> Option<u32>
+    requires few { faces ≤ most_faces }
+    requires gluing { IsGluing faces (glued_in across.now) }
+    requires room { 3 * faces ≤ length across.now }
+    requires side { side < 3 * faces }
+    ensures { TellsLater faces (glued_in across.now) side result }
+{
+    let other = across[side as usize];
+    if other <= side {
+        return None;
+    }
+    if other >= 3 * faces {
+        return None;
+    }
+    Some(other)
+}
+
+/// The flag of a side.
+pub(crate) fn flag_of(flags: &[bool], side: u32) -> bool
+    requires { side < length flags.now }
+    ensures { result ≡ slice_index_or flags.now side true }
+{
+    flags[side as usize]
+}
+
+/// A flag for each side, all of them set.
+pub(crate) fn all_set(alloc: Global, sides: usize) -> Result<Vec<bool>, Memory>
+    ensures { IfOk result (λ v. v.items ≡ replicate sides true) }
+{
+    Ok(vec![in alloc; true; sides]?)
+}

@@ -1,0 +1,440 @@
+//! Worked surfaces: their seams, the bits of these, and their classes. What is wanted was computed by a
+//! plain program that joins corners one by one.
+
+ghost use Rattle.std.specs.Prelude.{◌≡◌, ◌<◌, length, IfOk};
+ghost use Rattle.corner_table.specs.Table.{gluing_of};
+ghost use Rattle.seams.specs.Seams.{AreFlags};
+
+use crate::cutting::faces_apart;
+use crate::{classes, read_seams, seam_bits, seams_of, unglued};
+use corner_table::{SideTable, Steps, side_with};
+use drc_base::{MAX_FACES, Memory, Refusal};
+use drc_bits::Cursor;
+use mesh_model::{CornerMesh, Head};
+use rans_binary::{BitBlock, write_block};
+use std::alloc::Global;
+use std::marker::Brand;
+use std::process::Abort;
+use std::sync::ledger::{Blank, Ledger};
+use std::test::Fail;
+
+/// A surface by its pairs of sides and a label for each corner, and what is to be told of it: its seam
+/// bits, the class of each corner, and of each class whether it ends.
+#[derive(Drop)]
+struct Worked<'a> {
+    pairs: &'a [(u32, u32)],
+    labels: &'a [[u32; 3]],
+    bits: &'a [bool],
+    classes: &'a [u32],
+    ends: &'a [bool],
+}
+
+/// A head of small integers.
+fn head(comps: u8) -> Head {
+    Head {
+        usage: 4,
+        dtype: 1,
+        comps,
+        normalized: 0,
+        id: 0,
+        quant: None,
+    }
+}
+
+/// A mesh whose first attribute is the same at all corners, and the second one tells labels apart: one by
+/// the first of its integers or by the second alone.
+fn mesh(rt: &impl Abort, alloc: Global, labels: &[[u32; 3]]) -> Result<CornerMesh, Refusal> {
+    let heads = vec![in alloc; head(1), head(2)]?;
+    let mut points = Vec::new(alloc);
+    for p in 0..32u8 {
+        points.push(7)?;
+        points.push(i32::from(p / 2))?;
+        points.push(i32::from(p % 2))?;
+    }
+    assert!(rt; points.len() % 3 == 0);
+    CornerMesh::new(heads, points, labels.to_vec(alloc)?)
+}
+
+/// Glues two sides, which have to be free sides of two faces.
+fn glue_pair<L: Ledger>(
+    rt: &impl Abort,
+    table: &mut SideTable,
+    pair: (u32, u32),
+    steps: &mut Steps<L>,
+) {
+    let (a, b) = (side_with(pair.0), side_with(pair.1));
+    assert!(rt; a.face < table.face_count() && b.face < table.face_count() && a.face != b.face);
+    match (table.other(a, steps), table.other(b, steps)) {
+        (None, None) => table.glue(a, b, steps),
+        _ => assert!(rt; false, "a side is glued already"),
+    }
+}
+
+/// A table of these pairs.
+fn table<L: Ledger>(
+    rt: &impl Abort,
+    alloc: Global,
+    faces: u32,
+    pairs: &[(u32, u32)],
+    blank: Blank,
+) -> Result<SideTable, Memory>
+    requires name { blank.name ≡ L.name }
+    requires parts { blank.parts ≡ L.parts }
+    requires some { 0 < L.parts }
+{
+    assert!(rt; faces <= MAX_FACES);
+    let mut steps = Steps::<L>::new(blank);
+    let mut table = faces_apart(alloc, faces, &mut steps)?;
+    for pair in pairs {
+        glue_pair(rt, &mut table, *pair, &mut steps);
+    }
+    Ok(table)
+}
+
+/// Reads the blocks of two lists of flags, behind which other bytes stand, and compares.
+fn reads_back(
+    rt: &impl Abort,
+    alloc: Global,
+    t: &SideTable,
+    flags: [&[bool]; 2],
+    bits: [&[bool]; 2],
+) -> Result<(), Fail> {
+    assert!(rt; bits[0].len() < 100 && bits[1].len() < 100);
+    let mut first = write_block(alloc, bits[0])?;
+    let mut second = write_block(alloc, bits[1])?;
+    first.extend_from_slice(&[7, 200])?;
+    second.extend_from_slice(&[255, 1, 2])?;
+    let one = BitBlock::read(&mut Cursor::new(first.as_slice())).map_err(|_| "a fault")?;
+    let other = BitBlock::read(&mut Cursor::new(second.as_slice())).map_err(|_| "a fault")?;
+    let mut blocks = [one, other];
+    let lists = read_seams(alloc, t, &mut blocks)?;
+    assert_eq!(rt; lists.len(), 2);
+    assert!(rt; lists[0].as_slice() == flags[0]);
+    assert!(rt; lists[1].as_slice() == flags[1]);
+    Ok(())
+}
+
+/// Whether a table has the pairs of another that are no seam, and no others.
+fn is_cut(cut: &SideTable, t: &SideTable, flags: &[bool]) -> bool {
+    for ((now, before), flag) in cut.across().iter().zip(t.across()).zip(flags) {
+        let wanted = if *flag { u32::MAX } else { *before };
+        if *now != wanted {
+            return false;
+        }
+    }
+    true
+}
+
+/// Compares what is told of a surface.
+fn is_told(rt: &impl Abort, alloc: Global, worked: Worked<'_>) -> Result<(), Fail> {
+    let m = mesh(rt, alloc, worked.labels).map_err(|_| "a refusal")?;
+    let t = table::<Brand>(rt, alloc, m.face_count(), worked.pairs, Blank::new(1))?;
+    assert!(rt; m.heads().len() == 2 && t.face_count() == m.face_count());
+    let flags = seams_of(alloc, &m, &t, 1)?;
+    let whole = seams_of(alloc, &m, &t, 0)?;
+    let bits = seam_bits(alloc, &t, flags.as_slice())?;
+    let no_bits = seam_bits(alloc, &t, whole.as_slice())?;
+    assert!(rt; bits.as_slice() == worked.bits);
+    reads_back(
+        rt,
+        alloc,
+        &t,
+        [flags.as_slice(), whole.as_slice()],
+        [bits.as_slice(), no_bits.as_slice()],
+    )?;
+    let found = classes(alloc, &t, Some(flags.as_slice()))?;
+    assert!(rt; found.of_corner.as_slice() == worked.classes);
+    assert!(rt; found.ends.as_slice() == worked.ends);
+    let vertices = classes(alloc, &t, None)?;
+    let uncut = classes(alloc, &t, Some(whole.as_slice()))?;
+    assert!(rt; vertices.of_corner.as_slice() == uncut.of_corner.as_slice());
+    assert!(rt; vertices.ends.as_slice() == uncut.ends.as_slice());
+    let cut = unglued(alloc, &t, flags.as_slice())?;
+    assert!(rt; is_cut(&cut, &t, flags.as_slice()));
+    Ok(())
+}
+
+#[test]
+fn tells_seams_of_few_faces(rt: HostRuntime) -> Result<(), Fail> {
+    // Two faces with a label each.
+    is_told(
+        &rt,
+        rt.alloc(),
+        Worked {
+            pairs: &[(0, 5)],
+            labels: &[[7, 7, 7], [9, 9, 9]],
+            bits: &[true],
+            classes: &[0, 1, 2, 3, 4, 5],
+            ends: &[true; 6],
+        },
+    )?;
+    // The same, where the labels differ at one end of their side alone.
+    is_told(
+        &rt,
+        rt.alloc(),
+        Worked {
+            pairs: &[(0, 5)],
+            labels: &[[0, 1, 2], [3, 1, 4]],
+            bits: &[true],
+            classes: &[0, 1, 2, 3, 4, 5],
+            ends: &[true; 6],
+        },
+    )?;
+    // The same, at the other end.
+    is_told(
+        &rt,
+        rt.alloc(),
+        Worked {
+            pairs: &[(0, 5)],
+            labels: &[[0, 1, 2], [2, 3, 4]],
+            bits: &[true],
+            classes: &[0, 1, 2, 3, 4, 5],
+            ends: &[true; 6],
+        },
+    )?;
+    // Two faces without a seam.
+    is_told(
+        &rt,
+        rt.alloc(),
+        Worked {
+            pairs: &[(0, 5)],
+            labels: &[[0, 1, 2], [2, 1, 3]],
+            bits: &[false],
+            classes: &[0, 1, 2, 2, 1, 3],
+            ends: &[true; 4],
+        },
+    )?;
+    // A closed fan in two halves.
+    is_told(
+        &rt,
+        rt.alloc(),
+        Worked {
+            pairs: &[(1, 5), (2, 10), (4, 8), (7, 11)],
+            labels: &[[0, 1, 2], [0, 2, 3], [5, 3, 4], [5, 4, 1]],
+            bits: &[false, true, true, false],
+            classes: &[0, 1, 2, 0, 2, 3, 4, 5, 6, 4, 6, 7],
+            ends: &[true; 8],
+        },
+    )?;
+    // A closed fan with a seam that ends at its vertex: one class, which ends.
+    is_told(
+        &rt,
+        rt.alloc(),
+        Worked {
+            pairs: &[(1, 5), (2, 10), (4, 8), (7, 11)],
+            labels: &[[0, 1, 2], [0, 2, 3], [0, 3, 4], [0, 4, 9]],
+            bits: &[false, true, false, false],
+            classes: &[0, 1, 2, 0, 2, 3, 0, 3, 4, 0, 4, 5],
+            ends: &[true; 6],
+        },
+    )?;
+    // An open fan of three faces.
+    is_told(
+        &rt,
+        rt.alloc(),
+        Worked {
+            pairs: &[(1, 5), (4, 8)],
+            labels: &[[0, 1, 2], [0, 2, 3], [5, 3, 4]],
+            bits: &[false, true],
+            classes: &[0, 1, 2, 0, 2, 3, 4, 5, 6],
+            ends: &[true; 7],
+        },
+    )?;
+    Ok(())
+}
+
+#[test]
+fn tells_seams_of_surfaces(rt: HostRuntime) -> Result<(), Fail> {
+    // A cube with a label for each of its sides.
+    is_told(
+        &rt,
+        rt.alloc(),
+        Worked {
+            pairs: &[
+                (0, 22),
+                (1, 5),
+                (2, 28),
+                (3, 32),
+                (4, 14),
+                (6, 33),
+                (7, 11),
+                (8, 15),
+                (9, 18),
+                (10, 24),
+                (12, 34),
+                (13, 17),
+                (16, 26),
+                (19, 23),
+                (20, 27),
+                (21, 30),
+                (25, 29),
+                (31, 35),
+            ],
+            labels: &[
+                [0, 0, 0],
+                [0, 0, 0],
+                [1, 1, 1],
+                [1, 1, 1],
+                [2, 2, 2],
+                [2, 2, 2],
+                [3, 3, 3],
+                [3, 3, 3],
+                [4, 4, 4],
+                [4, 4, 4],
+                [5, 5, 5],
+                [5, 5, 5],
+            ],
+            bits: &[
+                true, false, true, true, true, true, false, true, true, true, true, false, true,
+                false, true, true, false, false,
+            ],
+            classes: &[
+                0, 1, 2, 0, 2, 3, 4, 5, 6, 4, 6, 7, 8, 9, 10, 8, 10, 11, 12, 13, 14, 12, 14, 15,
+                16, 17, 18, 16, 18, 19, 20, 21, 22, 20, 22, 23,
+            ],
+            ends: &[true; 24],
+        },
+    )?;
+    // A torus without seams.
+    is_told(
+        &rt,
+        rt.alloc(),
+        Worked {
+            pairs: &[
+                (0, 25),
+                (1, 23),
+                (2, 36),
+                (3, 28),
+                (4, 26),
+                (5, 39),
+                (6, 31),
+                (7, 29),
+                (8, 21),
+                (9, 34),
+                (10, 32),
+                (11, 24),
+                (12, 37),
+                (13, 35),
+                (14, 27),
+                (15, 40),
+                (16, 38),
+                (17, 30),
+                (18, 22),
+                (19, 41),
+                (20, 33),
+            ],
+            labels: &[
+                [0, 1, 3],
+                [1, 2, 4],
+                [2, 3, 5],
+                [3, 4, 6],
+                [4, 5, 0],
+                [5, 6, 1],
+                [6, 0, 2],
+                [0, 3, 2],
+                [1, 4, 3],
+                [2, 5, 4],
+                [3, 6, 5],
+                [4, 0, 6],
+                [5, 1, 0],
+                [6, 2, 1],
+            ],
+            bits: &[
+                false, false, false, false, false, false, false, false, false, false, false, false,
+                false, false, false, false, false, false, false, false, false,
+            ],
+            classes: &[
+                0, 1, 2, 1, 3, 4, 3, 2, 5, 2, 4, 6, 4, 5, 0, 5, 6, 1, 6, 0, 3, 0, 2, 3, 1, 4, 2, 3,
+                5, 4, 2, 6, 5, 4, 0, 6, 5, 1, 0, 6, 3, 1,
+            ],
+            ends: &[false; 7],
+        },
+    )?;
+    // A torus with a strip of five faces cut out.
+    is_told(
+        &rt,
+        rt.alloc(),
+        Worked {
+            pairs: &[
+                (0, 25),
+                (1, 23),
+                (2, 36),
+                (3, 28),
+                (4, 26),
+                (5, 39),
+                (6, 31),
+                (7, 29),
+                (8, 21),
+                (9, 34),
+                (10, 32),
+                (11, 24),
+                (12, 37),
+                (13, 35),
+                (14, 27),
+                (15, 40),
+                (16, 38),
+                (17, 30),
+                (18, 22),
+                (19, 41),
+                (20, 33),
+            ],
+            labels: &[
+                [10, 11, 13],
+                [11, 12, 14],
+                [12, 13, 15],
+                [13, 14, 16],
+                [14, 15, 10],
+                [5, 6, 1],
+                [6, 0, 2],
+                [0, 3, 2],
+                [1, 4, 3],
+                [2, 5, 4],
+                [3, 6, 5],
+                [4, 0, 6],
+                [5, 1, 0],
+                [6, 2, 1],
+            ],
+            bits: &[
+                true, true, true, true, true, true, true, true, true, true, true, true, true, true,
+                true, false, false, false, false, false, false,
+            ],
+            classes: &[
+                0, 1, 2, 3, 4, 5, 6, 7, 8, 9, 10, 11, 12, 13, 14, 15, 16, 17, 16, 18, 19, 18, 20,
+                19, 21, 22, 23, 24, 25, 26, 27, 16, 15, 28, 18, 16, 15, 17, 29, 16, 19, 17,
+            ],
+            ends: &[true; 30],
+        },
+    )?;
+    // Eight faces, of which three parts meet at a point; three faces are cut off.
+    is_told(
+        &rt,
+        rt.alloc(),
+        Worked {
+            pairs: &[
+                (0, 9),
+                (3, 15),
+                (6, 21),
+                (11, 13),
+                (14, 16),
+                (17, 19),
+                (20, 22),
+            ],
+            labels: &[
+                [0, 1, 2],
+                [3, 4, 5],
+                [6, 7, 8],
+                [9, 2, 1],
+                [9, 4, 2],
+                [29, 25, 24],
+                [29, 27, 25],
+                [29, 28, 27],
+            ],
+            bits: &[false, true, true, false, true, false, false],
+            classes: &[
+                0, 1, 2, 3, 4, 5, 6, 7, 8, 9, 2, 1, 9, 10, 2, 11, 12, 13, 11, 14, 12, 11, 15, 14,
+            ],
+            ends: &[true; 16],
+        },
+    )?;
+    Ok(())
+}
