@@ -131,6 +131,7 @@ module _ {faces : ℕ} {across after before : List ℕ} {rows : List (ℕ × ℕ
       IsSideTable faces now next_now last_now
   table_carried k next_now last_now e P Q = record {
     limit = (let l = T.across_are.long in let f = T.table.fits in let m = T.table.limit in omega arith);
+    whole = (let l = T.across_are.long in omega arith);
     fits = (let l = T.across_are.long in omega arith);
     after_room = A.long ∙ sym T.across_are.long;
     before_room = B.long ∙ sym T.across_are.long;

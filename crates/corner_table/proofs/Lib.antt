@@ -16,3 +16,4 @@ pub mod Ends
 pub mod Joining
 pub mod BoundaryLaws
 pub mod FanLaws
+pub mod PairLaws

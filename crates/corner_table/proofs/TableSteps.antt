@@ -174,6 +174,7 @@ pub table_grown : {faces : ℕ} {across after before : List ℕ} → IsSideTable
     IsSideTable (suc faces) across (new_loop faces (after, before)).0 (new_loop faces (after, before)).1
 table_grown {faces} {across} {after} {before} T h = record {
   limit = T.limit;
+  whole = T.whole;
   fits = h;
   after_room = length-set _ _ _ ∙ length-set _ _ _ ∙ length-set _ _ _ ∙ T.after_room;
   before_room = length-set _ _ _ ∙ length-set _ _ _ ∙ length-set _ _ _ ∙ T.before_room;
@@ -201,6 +202,7 @@ pub table_glued : {faces : ℕ} {across after before : List ℕ} (a b : Side) �
     IsSideTable faces (set (set across (number a) (number b)) (number b) (number a)) (relinked (number a) (number b) (after, before)).0 (relinked (number a) (number b) (after, before)).1
 table_glued {faces} {across} {after} {before} a b T A B h = record {
   limit = (let e = longs in let l = T.limit in omega arith);
+  whole = (let e = longs in let w = T.whole in omega arith);
   fits = (let e = longs in let l = T.fits in omega arith);
   after_room = (relinked-lengths (length across) _ _ (after, before) (T.after_room, T.before_room)).0 ∙ sym longs;
   before_room = (relinked-lengths (length across) _ _ (after, before) (T.after_room, T.before_room)).1 ∙ sym longs;
@@ -239,6 +241,7 @@ length-replicate (suc n) v = ap suc (length-replicate n v)
 pub table_empty : (room : ℕ) → room ≤ MAX_FACES → IsSideTable 0 (replicate (3 * room) free_entry) (replicate (3 * room) 0) (replicate (3 * room) 0)
 table_empty room h = record {
   limit = (let e = length-replicate (3 * room) free_entry in omega arith);
+  whole = (let e = length-replicate (3 * room) free_entry in omega arith);
   fits = omega arith;
   after_room = length-replicate (3 * room) 0 ∙ sym (length-replicate (3 * room) free_entry);
   before_room = length-replicate (3 * room) 0 ∙ sym (length-replicate (3 * room) free_entry);

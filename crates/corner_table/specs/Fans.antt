@@ -1,6 +1,7 @@
 -- The corners that meet at one vertex: fans, their ends, and the boundary from one free side to the next (swings on a corner table,
 -- after Rossignac 1999).
-use Rattle.std.specs.Prelude.{◌≡◌, ℕ, zero, suc, ◌*◌, ◌<◌, ◌⊎◌, Bool, true, false, ◌||◌, cond, List, [], ◌∷◌, ◌++◌, Option, Some, None, option_map}
+use Rattle.std.specs.Prelude.{◌≡◌, ℕ, zero, suc, ◌*◌, ◌<◌, ◌⊎◌, Bool, true, false, ◌||◌, cond, List, [], ◌∷◌, ◌++◌, Option, Some, None}
+use Rattle.std.specs.Prelude.{option_map}
 use Rattle.corner_table.specs.Sides.{Side, first, second, third, side, next, prev, same, Gluing, IsGluing, IsFree}
 
 -- the next corner to the left round c's vertex: across the side after c, the corner after the one found there

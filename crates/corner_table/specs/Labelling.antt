@@ -77,7 +77,8 @@ pub record IsLabelling (faces : ℕ) (g : Gluing) (i n : ℕ) (labels : List ℕ
   pub passed : (c : Side) → number c < i → label_at labels c ≢ free_entry
   pub bounded : (c : Side) → label_at labels c ≢ free_entry → label_at labels c < n
   pub used : (k : ℕ) → k < n → (b : Side) × (number b < i) × (label_at labels b ≡ k)
-  pub in_order : (c : Side) → label_at labels c ≢ free_entry → (k : ℕ) → k < label_at labels c → (b : Side) × (number b < number c) × (label_at labels b ≡ k)
+  pub in_order : (c : Side) → label_at labels c ≢ free_entry → (k : ℕ) → k < label_at labels c →
+      (b : Side) × (number b < number c) × (label_at labels b ≡ k)
   pub one_fan : (c d : Side) → label_at labels c ≢ free_entry → label_at labels c ≡ label_at labels d → InFan g c d
   pub each_label : length ends ≡ n
   pub boundary : (c : Side) → label_at labels c ≢ free_entry → IsTrue (get_or ends (label_at labels c) false) ↔ MeetsBoundary g c

@@ -14,7 +14,8 @@ pub record IsLabelled (faces : ℕ) (g : Gluing) (labels : List ℕ) (count : �
   pub bounded : (c : Side) → c.face < faces → label_at labels c < count
   pub used : (k : ℕ) → k < count → (c : Side) × (c.face < faces) × (label_at labels c ≡ k)
   -- before a corner each lesser label has been met
-  pub in_order : (c : Side) → c.face < faces → (k : ℕ) → k < label_at labels c → (b : Side) × (number b < number c) × (label_at labels b ≡ k)
+  pub in_order : (c : Side) → c.face < faces → (k : ℕ) → k < label_at labels c →
+      (b : Side) × (number b < number c) × (label_at labels b ≡ k)
   pub one_label : (c d : Side) → c.face < faces → d.face < faces → InFan g c d → label_at labels c ≡ label_at labels d
   pub one_fan : (c d : Side) → c.face < faces → d.face < faces → label_at labels c ≡ label_at labels d → InFan g c d
   pub each_label : length ends ≡ count

@@ -1,7 +1,8 @@
 -- What holds of swings, fans, gluings, prefixes, new numbers of faces, and the boundary.
 use Rattle.std.specs.Prelude.{◌≡◌, ◌≢◌, ℕ, suc, ◌*◌, ◌<◌, ◌≤◌, ◌⊎◌, ◌↔◌, true, cond, List, length, Some, None}
 use Rattle.corner_table.specs.Sides.{Side, Place, side, place_after, place_before, next, prev, number, same, Gluing, glue, IsGluing, IsFree}
-use Rattle.corner_table.specs.Fans.{swing_left, swing_right, left_by, right_by, InFan, side_before, side_after, Follows, HasThreeFans, IsProper, meets}
+use Rattle.corner_table.specs.Fans.{swing_left, swing_right, left_by, right_by, InFan, side_before, side_after, Follows, HasThreeFans}
+use Rattle.corner_table.specs.Fans.{IsProper, meets}
 use Rattle.corner_table.specs.Prefixes.{prefix, IsSurrounded, IsGap}
 use Rattle.corner_table.specs.Carried.{carry, IsRenumbering, IsCarried}
 use Rattle.corner_table.specs.Links.{IsLinked, new_loop, relinked}
@@ -12,11 +13,13 @@ SwingsAreInverse = (faces : ℕ) (g : Gluing) → IsGluing faces g → (c d : Si
 
 -- to be in one fan goes both ways, and on
 abbrev pub FansAreClasses : Type 0
-FansAreClasses = (faces : ℕ) (g : Gluing) → IsGluing faces g → ((c d : Side) → InFan g c d → InFan g d c) × ((c d e : Side) → InFan g c d → InFan g d e → InFan g c e)
+FansAreClasses = (faces : ℕ) (g : Gluing) → IsGluing faces g →
+    ((c d : Side) → InFan g c d → InFan g d c) × ((c d e : Side) → InFan g c d → InFan g d e → InFan g c e)
 
 -- two corners are in one fan just where swings to the left lead from one of them to the other
 abbrev pub FanIsOneWalk : Type 0
-FanIsOneWalk = (faces : ℕ) (g : Gluing) → IsGluing faces g → (c d : Side) → InFan g c d ↔ ((n : ℕ) × ((left_by g n c ≡ Some d) ⊎ (left_by g n d ≡ Some c)))
+FanIsOneWalk = (faces : ℕ) (g : Gluing) → IsGluing faces g → (c d : Side) →
+    InFan g c d ↔ ((n : ℕ) × ((left_by g n c ≡ Some d) ⊎ (left_by g n d ≡ Some c)))
 
 -- from any corner of a fan swings to the left come to a last one, and swings to the right to a first one
 abbrev pub WalksEnd : Type 0
@@ -54,7 +57,8 @@ pub data IsJoined (g : Gluing) (a b : Side) : Side → Side → Type 0 where
 
 -- two free sides of two faces make a gluing again
 abbrev pub GluingStays : Type 0
-GluingStays = (faces : ℕ) (g : Gluing) (a b : Side) → IsGluing faces g → IsFree faces g a → IsFree faces g b → a.face ≢ b.face → IsGluing faces (glue a b g)
+GluingStays = (faces : ℕ) (g : Gluing) (a b : Side) → IsGluing faces g → IsFree faces g a → IsFree faces g b → a.face ≢ b.face →
+    IsGluing faces (glue a b g)
 
 -- what is one fan stays one
 abbrev pub FansStay : Type 0
@@ -75,7 +79,8 @@ NoOthersJoin = (g : Gluing) (a b c d : Side) → InFan (glue a b g) c d → IsJo
 
 -- among the faces below m there is a gap for a corner of a later face that they surround
 abbrev pub SurroundedFillsGap : Type 0
-SurroundedFillsGap = (faces : ℕ) (g : Gluing) (m : ℕ) (c : Side) → IsGluing faces g → m ≤ c.face → IsSurrounded g m c → (right left : Side) × IsGap g m c right left
+SurroundedFillsGap = (faces : ℕ) (g : Gluing) (m : ℕ) (c : Side) → IsGluing faces g → m ≤ c.face → IsSurrounded g m c →
+    (right left : Side) × IsGap g m c right left
 
 -- a corner of a later face between sides of which one starts where the other ends is surrounded
 abbrev pub GapIsSurrounded : Type 0
@@ -84,7 +89,8 @@ GapIsSurrounded = (faces : ℕ) (g : Gluing) (m : ℕ) (c right left : Side) →
 
 -- round the boundary of the faces below m, the second side of a gap comes before the first
 abbrev pub GapIsOneStep : Type 0
-GapIsOneStep = (faces : ℕ) (g : Gluing) (m : ℕ) (c right left : Side) → IsGluing faces g → IsGap g m c right left → left ≡ side_before m (prefix m g) right
+GapIsOneStep = (faces : ℕ) (g : Gluing) (m : ℕ) (c right left : Side) → IsGluing faces g → IsGap g m c right left →
+    left ≡ side_before m (prefix m g) right
 
 -- the pairs among the faces below m are a gluing of these faces
 abbrev pub PrefixIsGluing : Type 0
@@ -96,7 +102,8 @@ IsPairOf m g x y = (g x ≡ Some y) × (((x.face ≡ m) × (y.face < m)) ⊎ ((y
 
 -- one face more brings just its pairs with the faces below it
 abbrev pub OneFaceMore : Type 0
-OneFaceMore = (faces : ℕ) (g : Gluing) (m : ℕ) → IsGluing faces g → (x y : Side) → (prefix (suc m) g x ≡ Some y) ↔ ((prefix m g x ≡ Some y) ⊎ IsPairOf m g x y)
+OneFaceMore = (faces : ℕ) (g : Gluing) (m : ℕ) → IsGluing faces g → (x y : Side) →
+    (prefix (suc m) g x ≡ Some y) ↔ ((prefix m g x ≡ Some y) ⊎ IsPairOf m g x y)
 
 -- h is the gluing g under new numbers of its faces
 pub record AreOneSurface (faces : ℕ) (g : Gluing) (rows : List (ℕ × ℕ)) (h : Gluing) : Type 0 where
@@ -121,15 +128,18 @@ FreeIsCarried = (faces : ℕ) (g h : Gluing) (rows : List (ℕ × ℕ)) → AreO
 -- the boundary is the same one
 abbrev pub BoundaryIsCarried : Type 0
 BoundaryIsCarried = (faces : ℕ) (g h : Gluing) (rows : List (ℕ × ℕ)) → AreOneSurface faces g rows h → (x : Side) → IsFree faces h x →
-    (carry rows (side_after faces h x) ≡ side_after faces g (carry rows x)) × (carry rows (side_before faces h x) ≡ side_before faces g (carry rows x))
+    (carry rows (side_after faces h x) ≡ side_after faces g (carry rows x))
+    × (carry rows (side_before faces h x) ≡ side_before faces g (carry rows x))
 
 -- three fans to a face stay three
 abbrev pub ThreeFansAreCarried : Type 0
-ThreeFansAreCarried = (faces : ℕ) (g h : Gluing) (rows : List (ℕ × ℕ)) → IsRenumbering faces rows → IsCarried faces g rows h → HasThreeFans faces g → HasThreeFans faces h
+ThreeFansAreCarried = (faces : ℕ) (g h : Gluing) (rows : List (ℕ × ℕ)) → IsRenumbering faces rows → IsCarried faces g rows h →
+    HasThreeFans faces g → HasThreeFans faces h
 
 -- a proper surface stays proper
 abbrev pub ProperIsCarried : Type 0
-ProperIsCarried = (faces : ℕ) (g h : Gluing) (rows : List (ℕ × ℕ)) → IsRenumbering faces rows → IsCarried faces g rows h → IsProper faces g → IsProper faces h
+ProperIsCarried = (faces : ℕ) (g h : Gluing) (rows : List (ℕ × ℕ)) → IsRenumbering faces rows → IsCarried faces g rows h →
+    IsProper faces g → IsProper faces h
 
 -- just one free side follows a free one
 abbrev pub OneFollows : Type 0
@@ -139,7 +149,8 @@ OneFollows = (faces : ℕ) (g : Gluing) → IsGluing faces g → (a : Side) → 
 -- and it follows just one
 abbrev pub OneComesBefore : Type 0
 OneComesBefore = (faces : ℕ) (g : Gluing) → IsGluing faces g → (a : Side) → IsFree faces g a →
-    IsFree faces g (side_before faces g a) × Follows faces g (side_before faces g a) a × ((z : Side) → IsFree faces g z → Follows faces g z a → z ≡ side_before faces g a)
+    IsFree faces g (side_before faces g a) × Follows faces g (side_before faces g a) a
+    × ((z : Side) → IsFree faces g z → Follows faces g z a → z ≡ side_before faces g a)
 
 -- the side that follows the one before x is x, and so is the one before the side that follows it
 abbrev pub LinksAreInverse : Type 0
@@ -149,7 +160,8 @@ LinksAreInverse = (faces : ℕ) (g : Gluing) → IsGluing faces g → (x : Side)
 -- the sides of a new face follow one another
 abbrev pub NewFaceIsLoop : Type 0
 NewFaceIsLoop = (faces : ℕ) (g : Gluing) → IsGluing faces g → (k : Place) →
-    (side_after (suc faces) g (side faces k) ≡ side faces (place_after k)) × (side_before (suc faces) g (side faces k) ≡ side faces (place_before k))
+    (side_after (suc faces) g (side faces k) ≡ side faces (place_after k))
+    × (side_before (suc faces) g (side faces k) ≡ side faces (place_before k))
 
 -- and it changes nothing else of the boundary
 abbrev pub OthersStay : Type 0
@@ -162,12 +174,16 @@ past neighbour a b = cond (same (neighbour b) b) (neighbour a) (neighbour b)
 
 -- the neighbour of x when a and b are glued
 abbrev pub neighbour_past : (Side → Side) → Side → Side → Side → Side
-neighbour_past neighbour a b x = cond (same (neighbour x) a) (past neighbour a b) (cond (same (neighbour x) b) (past neighbour b a) (neighbour x))
+neighbour_past neighbour a b x =
+    cond (same (neighbour x) a) (past neighbour a b)
+    (cond (same (neighbour x) b) (past neighbour b a) (neighbour x))
 
 -- a gluing takes its two sides out of the boundary
 abbrev pub GluingTakesOut : Type 0
-GluingTakesOut = (faces : ℕ) (g : Gluing) (a b : Side) → IsGluing faces g → IsFree faces g a → IsFree faces g b → a.face ≢ b.face → (x : Side) → IsFree faces (glue a b g) x →
-    (side_after faces (glue a b g) x ≡ neighbour_past (side_after faces g) a b x) × (side_before faces (glue a b g) x ≡ neighbour_past (side_before faces g) a b x)
+GluingTakesOut = (faces : ℕ) (g : Gluing) (a b : Side) → IsGluing faces g → IsFree faces g a → IsFree faces g b → a.face ≢ b.face →
+    (x : Side) → IsFree faces (glue a b g) x →
+    (side_after faces (glue a b g) x ≡ neighbour_past (side_after faces g) a b x)
+    × (side_before faces (glue a b g) x ≡ neighbour_past (side_before faces g) a b x)
 
 -- the lists of links of a boundary, with room for all its sides
 pub record AreLinkLists (faces room : ℕ) (g : Gluing) (links : List ℕ × List ℕ) : Type 0 where
@@ -183,12 +199,14 @@ NewLoopIsLinked = (faces : ℕ) (g : Gluing) (links : List ℕ × List ℕ) → 
 
 -- the lists without two glued sides are those of the new boundary
 abbrev pub TakenOutIsLinked : Type 0
-TakenOutIsLinked = (faces : ℕ) (g : Gluing) (a b : Side) (links : List ℕ × List ℕ) → AreLinkLists faces faces g links → IsFree faces g a → IsFree faces g b → a.face ≢ b.face →
+TakenOutIsLinked = (faces : ℕ) (g : Gluing) (a b : Side) (links : List ℕ × List ℕ) → AreLinkLists faces faces g links → IsFree faces g a →
+    IsFree faces g b → a.face ≢ b.face →
     IsLinked faces (glue a b g) (relinked (number a) (number b) links).0 (relinked (number a) (number b) links).1
 
 -- the test of one fan finds the corners of the fan
 abbrev pub TestFindsFan : Type 0
-TestFindsFan = (faces : ℕ) (g : Gluing) → IsGluing faces g → (c d : Side) → c.face < faces → d.face < faces → InFan g c d → meets faces g c d ≡ true
+TestFindsFan = (faces : ℕ) (g : Gluing) → IsGluing faces g → (c d : Side) → c.face < faces → d.face < faces → InFan g c d →
+    meets faces g c d ≡ true
 
 -- and no other
 abbrev pub TestFindsNoOther : Type 0

@@ -2,6 +2,7 @@ pub mod Sides
 pub mod Fans
 pub mod Carried
 pub mod Prefixes
+pub mod Pairs
 pub mod Renumbering
 pub mod Links
 pub mod Table

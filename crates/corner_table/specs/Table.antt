@@ -41,6 +41,7 @@ IsFreeIn t x = IsFree t.faces (gluing_of t) x
 -- the lists of a table fit together: entries glue sides of its faces, and the links are those of its boundary
 pub record IsSideTable (faces : ℕ) (across after before : List ℕ) : Type 0 where
   pub limit : length across ≤ 3 * MAX_FACES
+  pub whole : length across ≡ 3 * (length across / 3)
   pub fits : 3 * faces ≤ length across
   pub after_room : length after ≡ length across
   pub before_room : length before ≡ length across

@@ -1,5 +1,6 @@
 //! What holds of the definitions themselves.
 
+ghost use Rattle.corner_table.specs.Pairs.{OneBitEach, BitSidesAreListed, BitSidesRise, PairsHaveTwoSides};
 ghost use Rattle.corner_table.specs.Laws.{SwingsAreInverse, FansAreClasses, FanIsOneWalk, WalksEnd, FanIsClosedOrOpen, StartsOnce, EndsOnce};
 ghost use Rattle.corner_table.specs.Laws.{GluingStays, FansStay, EndsMeet, FansJoin, NoOthersJoin};
 ghost use Rattle.corner_table.specs.Laws.{PrefixIsGluing, SurroundedFillsGap, GapIsSurrounded, GapIsOneStep, OneFaceMore};
@@ -89,4 +90,15 @@ pub fn links_are_a_permutation()
 pub fn meeting_is_one_fan()
     ensures found { TestFindsFan }
     ensures only { TestFindsNoOther }
+{}
+
+/// The pairs of a surface, each told at the one of its two sides whose face comes first: of a pair just
+/// one side has a bit; the list of those sides has each of them once, by rising numbers, and no others;
+/// and twice the pairs and the free sides together are three for each face. This is the contract of a
+/// call that does nothing.
+pub fn pairs_have_one_bit_each()
+    ensures one { OneBitEach }
+    ensures listed { BitSidesAreListed }
+    ensures rise { BitSidesRise }
+    ensures counted { PairsHaveTwoSides }
 {}

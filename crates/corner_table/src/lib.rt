@@ -18,7 +18,8 @@ mod tests;
 pub use corner_lists::{Classes, Order};
 pub use laws::{
     a_fan_is_one_walk, fans_end_once, gluing_joins_fans, links_are_a_permutation,
-    meeting_is_one_fan, prefixes_have_gaps, renumbering_keeps_fans, swings_are_inverse,
+    meeting_is_one_fan, pairs_have_one_bit_each, prefixes_have_gaps, renumbering_keeps_fans,
+    swings_are_inverse,
 };
 pub use side_numbers::{next_number, number_of, previous_number, side_with};
 pub use side_table::SideTable;

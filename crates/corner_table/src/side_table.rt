@@ -70,6 +70,7 @@ impl SideTable {
     pub fn face_count(&self) -> u32
         ensures count { result ≡ self.now.faces }
         ensures room { result ≤ room_of self.now }
+        ensures entries { length self.now.entries ≡ 3 * room_of self.now }
         ensures limit { room_of self.now ≤ most_faces }
         ensures gluing { IsGluing self.now.faces (gluing_of self.now) }
     {
@@ -103,6 +104,7 @@ impl SideTable {
         ensures steps { steps.new ≡ steps.old + 1 }
     {
         steps.tick();
+        // Read for the prover alone, who knows of the lists from here on that they fit together.
         let _ = &self.faces;
         let first = number_of(a);
         let second = number_of(b);
@@ -112,10 +114,13 @@ impl SideTable {
     }
 
     /// For each side, by its number 3f + k, the number of the side that it is glued to, and `u32::MAX`
-    /// where it is free. Sides of faces for which there is room alone are free.
-    pub fn across(&self) -> &[u32]
+    /// where it is free. Sides of faces for which there is room alone are free. The call counts as one
+    /// for each entry, that is three for each face for which there is room.
+    pub fn across<L: Ledger>(&self, steps: &mut Steps<L>) -> &[u32]
         ensures entries { result.now ≡ self.now.entries }
+        ensures steps { steps.new ≡ steps.old + length self.now.entries }
     {
+        steps.count(self.across.len() as u64);
         self.across.as_slice()
     }
 
@@ -167,6 +172,7 @@ impl SideTable {
         ensures steps { steps.new ≡ steps.old + 1 }
     {
         steps.tick();
+        // Read for the prover alone, who knows of the lists from here on that they fit together.
         let _ = &self.faces;
         side_with(entry_at(&self.after, number_of(s)))
     }
@@ -182,6 +188,7 @@ impl SideTable {
         ensures steps { steps.new ≡ steps.old + 1 }
     {
         steps.tick();
+        // Read for the prover alone, who knows of the lists from here on that they fit together.
         let _ = &self.faces;
         side_with(entry_at(&self.before, number_of(s)))
     }
@@ -214,6 +221,7 @@ impl SideTable {
         requires { s.face < self.now.faces }
         ensures { option_map side_of result ≡ gluing_of self.now (side_of s) }
     {
+        // Read for the prover alone, who knows of the lists from here on that they fit together.
         let _ = &self.faces;
         let entry = self.across[number_of(s) as usize];
         if entry == FREE {
@@ -229,6 +237,7 @@ impl SideTable {
         ensures corner { option_map side_at result ≡ swing_left (gluing_of self.now) (side_at corner) }
         ensures within { IfSome result (λ n. n < 3 * self.now.faces) }
     {
+        // Read for the prover alone, who knows of the lists from here on that they fit together.
         let _ = &self.faces;
         let side = entry_or_free(&self.across, next_number(corner));
         if side == FREE {
@@ -244,6 +253,7 @@ impl SideTable {
         ensures corner { option_map side_at result ≡ swing_right (gluing_of self.now) (side_at corner) }
         ensures within { IfSome result (λ n. n < 3 * self.now.faces) }
     {
+        // Read for the prover alone, who knows of the lists from here on that they fit together.
         let _ = &self.faces;
         let side = entry_or_free(&self.across, previous_number(corner));
         if side == FREE {

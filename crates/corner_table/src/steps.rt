@@ -1,9 +1,10 @@
-//! Counting of table calls.
+//! Counting of table calls, and of the entries that a call lends.
 
 use std::marker::Model;
 use std::sync::ledger::{Blank, Book, Ledger, Share};
 
-/// How many table calls were made. It takes no bytes, and only `tick` changes it.
+/// How many table calls were made; one that lends a list counts for each of its entries. It takes no
+/// bytes, and only `tick` and `count` change it.
 #[derive(Drop)]
 pub struct Steps<L: Ledger> {
     book: Book<L>,
@@ -38,6 +39,13 @@ impl<L: Ledger> Steps<L> {
     pub(crate) fn tick(&mut self)
         ensures { self.new ≡ self.old + 1 }
     {
-        self.book.add(&mut self.share, 1);
+        self.count(1);
+    }
+
+    /// Counts as many calls as is said.
+    pub(crate) fn count(&mut self, calls: u64)
+        ensures { self.new ≡ self.old + calls }
+    {
+        self.book.add(&mut self.share, calls);
     }
 }

@@ -8,7 +8,7 @@ use crate::built::Built;
 use crate::link_rebuild::LinkRebuild;
 use crate::rebuild::Rebuild;
 use crate::row_rebuild::RowRebuild;
-use corner_table::{Event, Steps, Symbol};
+use corner_table::{Event, SideTable, Steps, Symbol};
 use drc_base::{Kind, Refusal};
 use std::alloc::Global;
 use std::marker::Brand;
@@ -88,13 +88,20 @@ fn rebuilt<R: Rebuild, L: Ledger>(
 /// The number across a side that is free.
 const FREE: u32 = u32::MAX;
 
+/// The table has these entries.
+fn has_entries<L: Ledger>(rt: &impl Abort, table: &SideTable, entries: &[u32], blank: Blank)
+    requires name { blank.name ≡ L.name }
+    requires parts { blank.parts ≡ L.parts }
+    requires some { 0 < L.parts }
+{
+    let mut steps = Steps::<L>::new(blank);
+    assert!(rt; table.across(&mut steps) == entries);
+}
+
 /// The rebuilding has the table that is listed.
 fn has_table(rt: &impl Abort, done: Result<Built, Refusal>, across: &[u32]) {
     match done {
-        Ok(built) => {
-            let table = built.table();
-            assert!(rt; table.across() == across);
-        }
+        Ok(built) => has_entries::<Brand>(rt, built.table(), across, Blank::new(1)),
         Err(_) => assert!(rt; false, "refused"),
     }
 }

@@ -30,7 +30,7 @@ place_less first = omega arith
 place_less second = omega arith
 place_less third = omega arith
 
-pub number_told : (x : Side) → x.face < 1048576 → other_at (number x) ≡ Some x
+pub number_told : (x : Side) → x.face < 4194304 → other_at (number x) ≡ Some x
 number_told x h = other_some (number x) (let p = place_less x.place in λ e. (let q : 3 * x.face + place_number x.place ≡ 4294967295 = e in absurd (omega arith))) ∙ ap {A = Side} Some (side_at-number x)
 
 -- what is found across is a side of the surface
@@ -153,7 +153,7 @@ started_third faces g f o p q e n d m u =
     ∙ sym (ap (λ (a : Option Side). or_else a (or_else (start_by faces g (side f second)) (start_by faces g (side f third)))) first_is ∙ ap (λ (a : Option Side). or_else a (start_by faces g (side f third))) second_is)
 
 -- the number of what a table answers
-pub across_number : (o : Option NumberedSide) (v : ℕ) (x : Option Side) → option_map side_of o ≡ x → ((y : Side) → x ≡ Some y → y.face < 1048576) → MatchOption o (v ≡ free_entry) (λ s. v ≡ number (side_of s)) → other_at v ≡ x
+pub across_number : (o : Option NumberedSide) (v : ℕ) (x : Option Side) → option_map side_of o ≡ x → ((y : Side) → x ≡ Some y → y.face < 4194304) → MatchOption o (v ≡ free_entry) (λ s. v ≡ number (side_of s)) → other_at v ≡ x
 across_number None v x e w m = ap other_at m ∙ e
 across_number (Some s) v x e w m = ap other_at m ∙ number_told (side_of s) (w (side_of s) (sym e)) ∙ e
 
@@ -166,12 +166,12 @@ one_more g entries new n v l e q told k h = elim (cases_eq k n) [
   | inr ne ↦ ap (λ (xs : List ℕ). other_at (get_or xs k free_entry)) e ∙ ap other_at (get_or_append_left entries (v ∷ []) free_entry k (omega arith)) ∙ told k (omega arith)
 ]
 
-pub across_small : (o : Option NumberedSide) (x : Option Side) → option_map side_of o ≡ x → ((y : Side) → x ≡ Some y → y.face < 1048576) → IfSome o (λ s. s.face < 1048576)
+pub across_small : (o : Option NumberedSide) (x : Option Side) → option_map side_of o ≡ x → ((y : Side) → x ≡ Some y → y.face < 4194304) → IfSome o (λ s. s.face < 4194304)
 across_small None x e w = tt
 across_small (Some s) x e w = w (side_of s) (sym e)
 
 -- the lists of a table are a surface
-pub surface_is : (s : Surface) (faces : ℕ) (g : Gluing) (labels : List ℕ) (count : ℕ) (ends : List Bool) → s.faces ≡ faces → s.faces ≤ 1048576 → 3 * faces ≤ length s.across.now → glued_in s.across.now ≡ g → IsGluing faces g →
+pub surface_is : (s : Surface) (faces : ℕ) (g : Gluing) (labels : List ℕ) (count : ℕ) (ends : List Bool) → s.faces ≡ faces → s.faces ≤ 4194304 → 3 * faces ≤ length s.across.now → glued_in s.across.now ≡ g → IsGluing faces g →
     IsLabelled faces g labels count ends → s.labels.items ≡ labels → s.ends.items ≡ ends → s.vertices ≡ count → IsSurface s
 surface_is s faces g labels count ends f most long e G L l d v = record {
   limit = most;

@@ -11,9 +11,11 @@ ghost use Rattle.eb_trace.specs.Stored.{gluing_in, IsSurface};
 ghost use Rattle.eb_trace.specs.Trace.{start_by, start_corner};
 
 use crate::numbers::{NONE, entry_at};
-use corner_table::{SideTable, previous_number};
+use corner_table::{SideTable, Steps, previous_number};
 use drc_base::Memory;
 use std::alloc::Global;
+use std::marker::Brand;
+use std::sync::ledger::{Blank, Ledger};
 
 /// A surface by lists that go by the numbers of its sides, its corners and its vertices; what is across
 /// each side is read from its table.
@@ -26,6 +28,17 @@ pub(crate) struct Surface<'t> {
     pub(crate) ends: Vec<bool>,
 }
 
+/// The entries of a table, under a count of calls that nothing else takes part in.
+fn entries_of<'t, L: Ledger>(t: &'t SideTable, blank: Blank) -> &'t [u32]
+    requires name { blank.name ≡ L.name }
+    requires parts { blank.parts ≡ L.parts }
+    requires some { 0 < L.parts }
+    ensures entries { result.now ≡ t.now.entries }
+{
+    let mut steps = Steps::<L>::new(blank);
+    t.across(&mut steps)
+}
+
 /// A surface, from its table.
 pub(crate) fn surface_of<'t>(alloc: Global, t: &'t SideTable) -> Result<Surface<'t>, Memory>
     ensures surface { IfOk result (λ s. IsSurface s) }
@@ -36,7 +49,7 @@ pub(crate) fn surface_of<'t>(alloc: Global, t: &'t SideTable) -> Result<Surface<
     Ok(Surface {
         faces: t.face_count(),
         vertices: classes.count,
-        across: t.across(),
+        across: entries_of::<Brand>(t, Blank::new(1)),
         labels: classes.of_corner.into_vec(),
         ends: classes.ends.into_vec(),
     })

@@ -1,10 +1,15 @@
 //! Worked surfaces: which sides are glued, and how many vertices there are.
 
+ghost use Rattle.std.specs.Prelude.{◌≡◌, ◌<◌};
+
 use crate::pair;
+use corner_table::{SideTable, Steps};
 use drc_base::{Fault, Kind, Refusal};
 use mesh_model::{CornerMesh, Head};
 use std::alloc::Global;
+use std::marker::Brand;
 use std::process::Abort;
+use std::sync::ledger::{Blank, Ledger};
 use std::test::Fail;
 
 /// What the table has across a free side.
@@ -36,6 +41,16 @@ fn mesh(
     let heads = vec![in alloc; head]?;
     assert!(rt; points.len() % 3 == 0);
     CornerMesh::new(heads, points, faces.to_vec(alloc)?)
+}
+
+/// The table has these entries.
+fn has_entries<L: Ledger>(rt: &impl Abort, table: &SideTable, entries: &[u32], blank: Blank)
+    requires name { blank.name ≡ L.name }
+    requires parts { blank.parts ≡ L.parts }
+    requires some { 0 < L.parts }
+{
+    let mut steps = Steps::<L>::new(blank);
+    assert!(rt; table.across(&mut steps) == entries);
 }
 
 #[test]
@@ -140,7 +155,7 @@ fn glues_worked_surfaces(rt: HostRuntime) -> Result<(), Fail> {
         ),
     ] {
         let table = pair(alloc, &mesh(&rt, alloc, positions, faces)?)?;
-        assert!(&rt; table.across() == sides);
+        has_entries::<Brand>(&rt, &table, sides, Blank::new(1));
         assert_eq!(&rt; table.label_vertices(alloc)?.count, vertices);
     }
     // The second face has one position at two points.

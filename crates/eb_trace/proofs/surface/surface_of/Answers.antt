@@ -6,4 +6,4 @@ use Rattle.eb_trace.proofs.surface.surface_of.Goals as goal
 
 pub returns-clause-surface : goal.returns-clause-surface
 returns-clause-surface c = surface_is _ _ _ _ _ _ c.face_count.ensures.count (let r = c.face_count.ensures.room in let l = c.face_count.ensures.limit in omega arith)
-    (let r = c.face_count.ensures.room in let n = c.face_count.ensures.count in let e = ap (λ (l : List ℕ). length l) c.across.ensures.entries in omega arith) (ap glued_in c.across.ensures.entries) c.face_count.ensures.gluing c.in_ok-classes.ensures c.into_vec.ensures c.into_vec-2.ensures refl
+    (let r = c.face_count.ensures.room in let n = c.face_count.ensures.count in let e = ap (λ (l : List ℕ). length l) c.entries_of.ensures.entries in omega arith) (ap glued_in c.entries_of.ensures.entries) c.face_count.ensures.gluing c.in_ok-classes.ensures c.into_vec.ensures c.into_vec-2.ensures refl
