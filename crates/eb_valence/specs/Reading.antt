@@ -1,0 +1,35 @@
+-- Reading symbols from the lists of their contexts, each of which is used from its back (Draco Bitstream Specification 2.2, Edgebreaker
+-- valence traversal).
+use Rattle.std.specs.Prelude.{◌≡◌, ℕ, ◌-◌, List, [], ◌∷◌, length, take, get_or, set, slice_get, Option, Some, None, Result, Ok, Err}
+use Rattle.drc_base.specs.declared.kinds.Kind.{Kind}
+use Rattle.drc_base.specs.declared.kinds.Kind.TheVariants as kind
+use Rattle.corner_table.specs.declared.symbols.Symbol.{Symbol}
+use Rattle.corner_table.specs.declared.symbols.Symbol.TheVariants.{E}
+use Rattle.eb_valence.specs.Numbers.{symbol_numbered, context_of}
+
+-- the last item of a list
+abbrev pub last_of : List ℕ → Option ℕ
+last_of xs = slice_get xs (length xs - 1)
+
+-- a list without its last item
+abbrev pub front_of : List ℕ → List ℕ
+front_of xs = take (length xs - 1) xs
+
+-- the symbol of the last item of list k, and the lists without it
+abbrev pub taken_from : ℕ → List (List ℕ) → Result (Symbol × List (List ℕ)) Kind
+taken_from k lists =
+    let items = get_or lists k [] in
+    elim (last_of items) [
+      None ↦ Err kind.ContextEmpty
+    | Some n ↦ elim (symbol_numbered n) [ None ↦ Err kind.BadSymbol | Some x ↦ Ok (x, set lists k (front_of items)) ]
+    ]
+
+-- the next symbol at a vertex of this degree; without a degree it is E, and nothing is taken
+abbrev pub taken_at : Option ℕ → List (List ℕ) → Result (Symbol × List (List ℕ)) Kind
+taken_at None lists = Ok (E, lists)
+taken_at (Some degree) lists = taken_from (context_of degree) lists
+
+-- a reader answers the next symbol, or why there is none; then it stays as it was
+abbrev pub Draws : Result (Symbol × List (List ℕ)) Kind → List (List ℕ) → List (List ℕ) → Result Symbol Kind → Type 0
+Draws due old new (Ok x) = due ≡ Ok (x, new)
+Draws due old new (Err k) = (due ≡ Err k) × (new ≡ old)

@@ -1,0 +1,65 @@
+//! Reading symbols by their contexts.
+
+ghost use Rattle.std.specs.Prelude.{◌≡◌, ◌<◌};
+ghost use Rattle.eb_valence.specs.Reading.{taken_from, taken_at, Draws};
+
+use crate::context_lists::{CONTEXTS, ContextLists};
+use crate::numbers::{context_of_degree, symbol_of_number};
+use corner_table::Symbol;
+use drc_base::Kind;
+use std::marker::Model;
+
+/// A reader of symbols from the lists of their contexts, each used from its back. Contracts see it as what
+/// is left of the lists.
+#[derive(Debug, Drop)]
+pub struct ContextReader {
+    left: ContextLists,
+}
+
+impl Model for ContextReader {
+    ghost use Rattle.std.specs.Prelude.{ℕ, List};
+
+    ghost Value = { List (List ℕ) };
+
+    ghost view = { λ r. r.left };
+}
+
+impl ContextReader {
+    /// A reader that begins at the back of each list.
+    pub fn new(lists: ContextLists) -> ContextReader
+        ensures { result ≡ lists }
+    {
+        ContextReader { left: lists }
+    }
+
+    /// The next symbol: the last one left in the context of this degree, which is that of the vertex at
+    /// which the top side starts. Without a degree it is E, the first symbol, which isn't in the lists (Draco
+    /// Bitstream Specification 2.2, Edgebreaker valence traversal). ContextEmpty where nothing is left in the
+    /// context, BadSymbol where the last number left there stands for no symbol; then the reader stays as it
+    /// was. It takes no memory.
+    pub fn next(&mut self, degree: Option<u32>) -> Result<Symbol, Kind>
+        ensures { Draws (taken_at degree self.old) self.old self.new result }
+    {
+        match degree {
+            None => Ok(Symbol::E),
+            Some(degree) => self.next_in(context_of_degree(degree)),
+        }
+    }
+}
+
+impl ContextReader {
+    /// The next symbol of a context.
+    fn next_in(&mut self, context: usize) -> Result<Symbol, Kind>
+        requires { context < CONTEXTS }
+        ensures { Draws (taken_from context self.old) self.old self.new result }
+    {
+        let Some(number) = self.left.last(context) else {
+            return Err(Kind::ContextEmpty);
+        };
+        let Some(symbol) = symbol_of_number(number) else {
+            return Err(Kind::BadSymbol);
+        };
+        self.left.take_last(context);
+        Ok(symbol)
+    }
+}

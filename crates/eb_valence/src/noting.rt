@@ -1,0 +1,110 @@
+//! Noting symbols in the lists of their contexts.
+//!
+//! The symbols are fed to the machine of reverse decoding, the last first; before each the degree of the
+//! vertex at which the top side starts tells the context. What was noted then stands from back to front.
+
+ghost use Rattle.std.specs.Prelude.{◌≡◌, ◌==◌, ℕ, ◌<◌, ◌≤◌, List, All, IfOk, OnOk, length, map, reverse, replicate, [], IsTrue, true};
+ghost use Rattle.drc_base.specs.declared.limits.TheConstants.{MAX_FACES as most_faces};
+ghost use Rattle.eb_rebuild.specs.Machine.{start};
+ghost use Rattle.eb_rebuild.specs.Rebuilding.{IsEventOf};
+ghost use Rattle.eb_valence.specs.Contexts.{coded_at, coded, context_lists};
+ghost use Rattle.eb_valence.specs.Noting.{noted, Takes};
+
+use crate::context_lists::ContextLists;
+use crate::numbers::{context_of_degree, number_of_symbol};
+use corner_table::{Event, Steps, Symbol};
+use drc_base::Memory;
+use eb_rebuild::{LinkRebuild, Rebuild};
+use std::alloc::Global;
+use std::marker::Brand;
+use std::sync::ledger::{Blank, Ledger};
+
+/// Notes the symbol that the machine takes next, unless it is the first.
+fn note<R: Rebuild>(
+    lists: &mut ContextLists,
+    machine: &R,
+    symbol: Symbol,
+    first: bool,
+) -> Result<(), Memory>
+    requires live { IsTrue (R.live machine.now) }
+    requires unclosed { (R.state machine.now).closes ≡ 0 }
+    requires first { first ≡ ((R.state machine.now).built == 0) }
+    ensures { OnOk result (lists.new ≡ noted lists.old (coded_at (R.state machine.now) symbol)) }
+{
+    if first {
+        return Ok(());
+    }
+    let context = context_of_degree(machine.degree());
+    lists.put(context, number_of_symbol(symbol))?;
+    Ok(())
+}
+
+/// Notes all symbols in the order of decoding, each behind its list.
+fn note_all<R: Rebuild, L: Ledger>(
+    lists: &mut ContextLists,
+    mut machine: R,
+    symbols: &[Symbol],
+    steps: &mut Steps<L>,
+) -> Result<(), Memory>
+    requires live { IsTrue (R.live machine) }
+    requires linked { IsTrue (R.linked machine) }
+    requires none { (R.state machine).built ≡ 0 }
+    requires unclosed { (R.state machine).closes ≡ 0 }
+    requires all { (R.plan machine).symbols ≡ length symbols.now }
+    requires takes { Takes (length symbols.now) (reverse symbols.now) (R.state machine) }
+    ensures { OnOk result (lists.new ≡ noted lists.old (coded (length symbols.now) (reverse symbols.now) (R.state machine))) }
+{
+    for number in (0..symbols.len()).rev() {
+        let symbol = symbols[number];
+        note(lists, &machine, symbol, number + 1 == symbols.len())?;
+        match machine.symbol(symbol, steps) {
+            Ok(()) => {}
+            Err(_) => unreachable!(),
+        }
+    }
+    Ok(())
+}
+
+/// Notes all symbols, under a count of table calls that nothing else takes part in.
+fn lists_by<L: Ledger>(
+    alloc: Global,
+    symbols: &[Symbol],
+    events: Vec<Event>,
+    blank: Blank,
+) -> Result<ContextLists, Memory>
+    requires few { length symbols.now ≤ most_faces }
+    requires events { All (IsEventOf (length symbols.now)) events.items }
+    requires takes { Takes (length symbols.now) (reverse symbols.now) (start (reverse events.items)) }
+    requires name { blank.name ≡ L.name }
+    requires parts { blank.parts ≡ L.parts }
+    requires some { 0 < L.parts }
+    ensures { IfOk result (λ lists. lists ≡ context_lists symbols.now events.items) }
+{
+    let count = symbols.len() as u32;
+    let mut steps = Steps::<L>::new(blank);
+    let machine = LinkRebuild::new(alloc, count, 0, count, events)?;
+    let mut lists = ContextLists::none(alloc);
+    note_all(&mut lists, machine, symbols, &mut steps)?;
+    Ok(lists.turned_round())
+}
+
+/// The lists of the contexts of symbols, in which they are coded (Draco Bitstream Specification 2.2,
+/// Edgebreaker valence traversal): each symbol but the one that is decoded first stands in the list of the
+/// degree of the vertex at which the machine's top side starts before it. Symbols and events are in the
+/// order of the encoder; there are no more symbols than a mesh may have faces, and the machine of reverse
+/// decoding, fed the last symbol first, meets no fault on them. The machine makes at most 12 table calls for
+/// each symbol. Refused for want of memory alone.
+pub fn contexts_of(
+    alloc: Global,
+    symbols: &[Symbol],
+    events: &[Event],
+) -> Result<ContextLists, Memory>
+    requires few { length symbols.now ≤ most_faces }
+    requires events { All (IsEventOf (length symbols.now)) events.now }
+    requires takes { Takes (length symbols.now) (reverse symbols.now) (start (reverse events.now)) }
+    ensures { IfOk result (λ lists. lists ≡ context_lists symbols.now events.now) }
+{
+    let events = events.to_vec(alloc)?;
+    let lists = lists_by::<Brand>(alloc, symbols, events, Blank::new(1))?;
+    Ok(lists)
+}
