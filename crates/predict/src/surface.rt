@@ -8,8 +8,10 @@ ghost use Rattle.corner_table.specs.Table.{gluing_of, free_entry};
 ghost use Rattle.predict.specs.Walked.{IsOver, IsBelow, walked, corner_at, face_at, only_below, at_corner};
 ghost use Rattle.predict.specs.Stored.{IsSurface, walked_in};
 
-use corner_table::{Order, SideTable, next_number, number_of, previous_number};
+use corner_table::{Order, SideTable, Steps, next_number, number_of, previous_number};
 use drc_base::Side;
+use std::marker::Brand;
+use std::sync::ledger::{Blank, Ledger};
 
 /// What stands for the side across where there is none.
 const FREE: u32 = u32::MAX;
@@ -31,6 +33,17 @@ pub(crate) struct Surface<'t> {
     pub(crate) entries: &'t [u32],
 }
 
+/// The entries of a table, under a count of calls that nothing else takes part in.
+fn entries_of<'t, L: Ledger>(t: &'t SideTable, blank: Blank) -> &'t [u32]
+    requires name { blank.name ≡ L.name }
+    requires parts { blank.parts ≡ L.parts }
+    requires some { 0 < L.parts }
+    ensures { result.now ≡ t.now.entries }
+{
+    let mut steps = Steps::<L>::new(blank);
+    t.across(&mut steps)
+}
+
 /// A surface, from its table and an order over it.
 pub(crate) fn surface_of<'t>(t: &'t SideTable, o: &'t Order) -> Surface<'t>
     requires { IsOver t.now.faces (walked t.now o.now) }
@@ -40,7 +53,7 @@ pub(crate) fn surface_of<'t>(t: &'t SideTable, o: &'t Order) -> Surface<'t>
 {
     let _faces = t.face_count();
     Surface {
-        across: t.across(),
+        across: entries_of::<Brand>(t, Blank::new(1)),
         corners: o.corner_of_entry.as_slice(),
         entries: o.entry_of_corner.as_slice(),
     }

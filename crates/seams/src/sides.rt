@@ -6,15 +6,28 @@ ghost use Rattle.corner_table.specs.Sides.{IsGluing};
 ghost use Rattle.corner_table.specs.Table.{glued_in};
 ghost use Rattle.seams.specs.Pairs.{TellsLater};
 
-use corner_table::SideTable;
+use corner_table::{SideTable, Steps};
 use drc_base::Memory;
 use std::alloc::Global;
+use std::marker::Brand;
+use std::sync::ledger::{Blank, Ledger};
+
+/// The entries of a table, under a count of calls that nothing else takes part in.
+fn entries_of<'t, L: Ledger>(t: &'t SideTable, blank: Blank) -> &'t [u32]
+    requires name { blank.name ≡ L.name }
+    requires parts { blank.parts ≡ L.parts }
+    requires some { 0 < L.parts }
+    ensures { result.now ≡ t.now.entries }
+{
+    let mut steps = Steps::<L>::new(blank);
+    t.across(&mut steps)
+}
 
 /// For each side the number of the side across.
 pub(crate) fn sides_across(t: &SideTable) -> &[u32]
     ensures entries { result.now ≡ t.now.entries }
 {
-    t.across()
+    entries_of::<Brand>(t, Blank::new(1))
 }
 
 /// The number of the side across a side, where that side is glued and lies in the lesser face, so that it

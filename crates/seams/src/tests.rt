@@ -116,7 +116,8 @@ fn reads_back(
 
 /// Whether a table has the pairs of another that are no seam, and no others.
 fn is_cut(cut: &SideTable, t: &SideTable, flags: &[bool]) -> bool {
-    for ((now, before), flag) in cut.across().iter().zip(t.across()).zip(flags) {
+    let pairs = sides_across(cut).iter().zip(sides_across(t));
+    for ((now, before), flag) in pairs.zip(flags) {
         let wanted = if *flag { u32::MAX } else { *before };
         if *now != wanted {
             return false;

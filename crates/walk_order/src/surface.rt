@@ -8,7 +8,9 @@ ghost use Rattle.corner_table.specs.Labels.{IsLabelled, label_at};
 ghost use Rattle.corner_table.specs.Table.{free_entry, gluing_of};
 ghost use Rattle.walk_order.specs.Stored.{gluing_in, IsSurface};
 
-use corner_table::{Classes, SideTable};
+use corner_table::{Classes, SideTable, Steps};
+use std::marker::Brand;
+use std::sync::ledger::{Blank, Ledger};
 
 /// No side.
 const NONE: u32 = u32::MAX;
@@ -22,6 +24,17 @@ pub(crate) struct Surface<'t> {
     pub(crate) ends: &'t [bool],
 }
 
+/// The entries of a table, under a count of calls that nothing else takes part in.
+fn entries_of<'t, L: Ledger>(t: &'t SideTable, blank: Blank) -> &'t [u32]
+    requires name { blank.name ≡ L.name }
+    requires parts { blank.parts ≡ L.parts }
+    requires some { 0 < L.parts }
+    ensures { result.now ≡ t.now.entries }
+{
+    let mut steps = Steps::<L>::new(blank);
+    t.across(&mut steps)
+}
+
 /// A surface, from its table and its classes.
 pub(crate) fn surface_of<'t>(t: &'t SideTable, c: &'t Classes) -> Surface<'t>
     requires { IsLabelled t.now.faces (gluing_of t.now) c.now.of_corner c.now.count c.now.ends }
@@ -33,7 +46,7 @@ pub(crate) fn surface_of<'t>(t: &'t SideTable, c: &'t Classes) -> Surface<'t>
 {
     Surface {
         faces: t.face_count(),
-        across: t.across(),
+        across: entries_of::<Brand>(t, Blank::new(1)),
         labels: c.of_corner.as_slice(),
         ends: c.ends.as_slice(),
     }
