@@ -30,3 +30,4 @@ pub mod Tables
 pub mod Marking
 pub mod Going
 pub mod Given
+pub mod Writable

@@ -1,5 +1,5 @@
--- The split events of a walk (Isenburg and Snoeyink 2001; which are noted, and in what order: this project's choice). Words and events stand
--- in the order of the walk, and numbers count symbols in it, from 0.
+-- The split events of a walk (Isenburg and Snoeyink 2001; which are noted, and in what order: this project's choice). Words and events
+-- stand in the order of the walk, and numbers count symbols in it, from 0.
 use Rattle.std.specs.Prelude.{◌≡◌, ◌≢◌, ℕ, ◌<◌, ◌⊎◌, Bool, true, false, not, List, length, reverse, All, AllPairs}
 use Rattle.corner_table.specs.declared.symbols.Symbol.{Symbol}
 use Rattle.corner_table.specs.declared.symbols.Symbol.TheVariants.{C, S, L, R, E}
@@ -44,4 +44,5 @@ pub record AreSplitEvents (word : List Symbol) (events : List Event) : Type 0 wh
 
 -- what the walk notes are such events
 abbrev pub WalkNotesSplits : Type 0
-WalkNotesSplits = (faces : ℕ) (g : Gluing) → IsGluing faces g → HasThreeFans faces g → AreSplitEvents (reverse (word_of (trace faces g))) (reverse (trace faces g).events)
+WalkNotesSplits = (faces : ℕ) (g : Gluing) → IsGluing faces g → HasThreeFans faces g →
+    AreSplitEvents (reverse (word_of (trace faces g))) (reverse (trace faces g).events)

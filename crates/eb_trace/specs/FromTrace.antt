@@ -28,7 +28,8 @@ CarriesFans faces g rows count = (h : Gluing) → IsCarried faces g rows h → f
 abbrev pub IsRebuiltFrom : ℕ → Gluing → List Symbol → List Event → List Bool → List (ℕ × ℕ) → ℕ → Type 0
 IsRebuiltFrom faces g symbols events starts order vertices =
     (created : ℕ) (h : Gluing) → IsCarried faces g order h → vertices + count_by is_split (reverse symbols) ≤ created →
-    rebuild (record { faces = faces; created = created; symbols = length symbols }) (reverse symbols) (reverse events) (λ k. get_or starts k false) ≡ Ok (finished faces h (reverse symbols))
+    rebuild (record { faces = faces; created = created; symbols = length symbols }) (reverse symbols) (reverse events)
+    (λ k. get_or starts k false) ≡ Ok (finished faces h (reverse symbols))
 
 -- the surface in that order tells the start bits: one for each side that waits after the symbols
 abbrev pub AreStartBits : ℕ → Gluing → List Symbol → List Bool → List (ℕ × ℕ) → Type 0
@@ -36,13 +37,16 @@ AreStartBits faces g symbols starts order = (h : Gluing) → IsCarried faces g o
 
 -- the machine that names vertices, fed the same, meets no fault; its last state shows the surface in the order of decoding, with as many
 -- distinct names in its triangles as the surface has vertices
-pub record EndsNamed (faces created : ℕ) (g : Gluing) (symbols : List Symbol) (events : List Event) (starts : List Bool) (order : List (ℕ × ℕ)) (vertices : ℕ) : Type 0 where
+pub record EndsNamed (faces created : ℕ) (g : Gluing) (symbols : List Symbol) (events : List Event) (starts : List Bool)
+    (order : List (ℕ × ℕ)) (vertices : ℕ) : Type 0 where
   pub last : NamedState
-  pub no_fault : named_rebuild (record { faces = faces; created = created; symbols = length symbols }) (reverse symbols) (reverse events) (λ k. get_or starts k false) ≡ Ok last
+  pub no_fault : named_rebuild (record { faces = faces; created = created; symbols = length symbols }) (reverse symbols) (reverse events)
+      (λ k. get_or starts k false) ≡ Ok last
   pub shows : (h : Gluing) → IsCarried faces g order h → Shows last (finished faces h (reverse symbols))
   pub names : distinct_count nat_eq (names_in last.triangles) ≡ vertices
 
 -- so it is where no fewer vertices are declared than the surface has and the S take
 abbrev pub NamesVertices : ℕ → Gluing → List Symbol → List Event → List Bool → List (ℕ × ℕ) → ℕ → Type 0
 NamesVertices faces g symbols events starts order vertices =
-    (created : ℕ) → vertices + count_by is_split (reverse symbols) ≤ created → EndsNamed faces created g symbols events starts order vertices
+    (created : ℕ) → vertices + count_by is_split (reverse symbols) ≤ created →
+    EndsNamed faces created g symbols events starts order vertices

@@ -7,3 +7,4 @@ pub mod Events
 pub mod Kept
 pub mod Vertices
 pub mod FromTrace
+pub mod Writable

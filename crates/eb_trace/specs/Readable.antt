@@ -44,7 +44,8 @@ Says g i L = GoesOn g (side i second) × IsPast g (side i third)
 Says g i R = IsPast g (side i second) × GoesOn g (side i third)
 Says g i E = IsPast g (side i second) × IsPast g (side i third)
 
--- the faces from number n on are interior start faces: the run of each starts across its side 0, and its three fans are rings of faces below n
+-- the faces from number n on are interior start faces: the run of each starts across its side 0, and its three fans are rings of faces
+-- below n
 pub record IsInterior (g : Gluing) (n f : ℕ) : Type 0 where
   pub run : ℕ
   pub is_run : run < n

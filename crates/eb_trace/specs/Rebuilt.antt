@@ -19,12 +19,15 @@ symbol_at word i = get_or word i E
 
 -- each symbol takes the state before it to the state after it
 abbrev pub EachStepReads : Type 0
-EachStepReads = (faces : ℕ) (g : Gluing) (n : ℕ) (word : ℕ → Symbol) → IsReadable faces g n word → (m : ℕ) → m < n → step n (word m) (front n g word m) ≡ Ok (front n g word (suc m))
+EachStepReads = (faces : ℕ) (g : Gluing) (n : ℕ) (word : ℕ → Symbol) → IsReadable faces g n word → (m : ℕ) → m < n →
+    step n (word m) (front n g word m) ≡ Ok (front n g word (suc m))
 
 -- from the start, any number of symbols of a word take it to the state after so many
 abbrev pub PassesFronts : Type 0
-PassesFronts = (faces : ℕ) (g : Gluing) (word : List Symbol) → IsReadable faces g (length word) (symbol_at word) → (m : ℕ) → m ≤ length word →
-    take_symbols (length word) (take m word) (start (events_left (length word) g (symbol_at word) (length word))) ≡ Ok (front (length word) g (symbol_at word) m)
+PassesFronts = (faces : ℕ) (g : Gluing) (word : List Symbol) → IsReadable faces g (length word) (symbol_at word) → (m : ℕ) →
+    m ≤ length word →
+    take_symbols (length word) (take m word) (start (events_left (length word) g (symbol_at word) (length word)))
+    ≡ Ok (front (length word) g (symbol_at word) m)
 
 -- the state in which the whole table is built
 abbrev pub finished : ℕ → Gluing → List Symbol → State
@@ -49,20 +52,26 @@ abbrev pub ReadsWord : Type 0
 ReadsWord = (p : Plan) (g : Gluing) (word : List Symbol) → IsReadable p.faces g (length word) (symbol_at word) → p.symbols ≡ length word →
     let n = length word in
     let bits : ℕ → _ = λ k. get_or (start_bits n g) k false in
-    (take_symbols n word (start (events_left n g (symbol_at word) n)) >>= λ s. close_all p bits (length s.stack) s) ≡ Ok (finished p.faces g word)
+    (take_symbols n word (start (events_left n g (symbol_at word) n)) >>= λ s. close_all p bits (length s.stack) s)
+    ≡ Ok (finished p.faces g word)
 
 -- where its faces have three fans each and no fewer vertices are declared than are made, it passes the tests at the end
 abbrev pub RebuildsWord : Type 0
-RebuildsWord = (p : Plan) (g : Gluing) (word : List Symbol) → IsReadable p.faces g (length word) (symbol_at word) → p.symbols ≡ length word →
+RebuildsWord = (p : Plan) (g : Gluing) (word : List Symbol) → IsReadable p.faces g (length word) (symbol_at word) →
+    p.symbols ≡ length word →
     HasThreeFans p.faces g → made_by (symbol_at word) (length word) ≤ p.created →
-    rebuild p word (events_left (length word) g (symbol_at word) (length word)) (λ k. get_or (start_bits (length word) g) k false) ≡ Ok (finished p.faces g word)
+    rebuild p word (events_left (length word) g (symbol_at word) (length word)) (λ k. get_or (start_bits (length word) g) k false)
+    ≡ Ok (finished p.faces g word)
 
 -- where fewer are declared, it refuses them and says how many are made
 abbrev pub RefusesFewer : Type 0
-RefusesFewer = (p : Plan) (g : Gluing) (word : List Symbol) → IsReadable p.faces g (length word) (symbol_at word) → p.symbols ≡ length word →
+RefusesFewer = (p : Plan) (g : Gluing) (word : List Symbol) → IsReadable p.faces g (length word) (symbol_at word) →
+    p.symbols ≡ length word →
     p.created < made_by (symbol_at word) (length word) →
-    rebuild p word (events_left (length word) g (symbol_at word) (length word)) (λ k. get_or (start_bits (length word) g) k false) ≡ Err (fault kind.VertexCount (made_by (symbol_at word) (length word)))
+    rebuild p word (events_left (length word) g (symbol_at word) (length word)) (λ k. get_or (start_bits (length word) g) k false)
+    ≡ Err (fault kind.VertexCount (made_by (symbol_at word) (length word)))
 
 -- the vertices made are the fans of the table and, once more, each vertex that an S takes away
 abbrev pub CountsWord : Type 0
-CountsWord = (faces : ℕ) (g : Gluing) (word : List Symbol) → IsReadable faces g (length word) (symbol_at word) → made_by (symbol_at word) (length word) ≡ fan_count faces g + count_by is_split word
+CountsWord = (faces : ℕ) (g : Gluing) (word : List Symbol) → IsReadable faces g (length word) (symbol_at word) →
+    made_by (symbol_at word) (length word) ≡ fan_count faces g + count_by is_split word

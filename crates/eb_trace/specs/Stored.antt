@@ -1,5 +1,6 @@
 -- How the walk of the code lies in its tables.
-use Rattle.std.specs.Prelude.{◌≡◌, ℕ, ◌+◌, ◌*◌, ◌/◌, ◌%◌, ◌<◌, ◌≤◌, Bool, true, false, cond, eqb, List, length, get_or, set, map, reverse, Option, Some, None, All, vec_len}
+use Rattle.std.specs.Prelude.{◌≡◌, ℕ, ◌+◌, ◌*◌, ◌/◌, ◌%◌, ◌<◌, ◌≤◌, Bool, true, false, cond, eqb, List, length, get_or, set, map, reverse}
+use Rattle.std.specs.Prelude.{Option, Some, None, All, vec_len}
 use Rattle.drc_base.specs.declared.limits.TheConstants.{MAX_FACES}
 use Rattle.corner_table.specs.declared.symbols.Symbol.{Symbol}
 use Rattle.corner_table.specs.Sides.{Side, side_at, Gluing, IsGluing}
@@ -65,7 +66,8 @@ pub record AreMarksOf (s : Surface) (m : Marks) (w : Walk) : Type 0 where
 -- the vertices of a face become met
 abbrev pub met_after : List ℕ → ℕ → List Bool → List Bool
 met_after labels face met =
-    set (set (set met (get_or labels (3 * face) free_entry) true) (get_or labels (3 * face + 1) free_entry) true) (get_or labels (3 * face + 2) free_entry) true
+    set (set (set met (get_or labels (3 * face) free_entry) true) (get_or labels (3 * face + 1) free_entry) true)
+    (get_or labels (3 * face + 2) free_entry) true
 
 -- kept corners are of the surface's faces
 abbrev pub AreWithin : Surface → Notes → Type 0

@@ -1,6 +1,7 @@
 -- The encoder's walk over a surface (Edgebreaker: Rossignac 1999; split events: Isenburg and Snoeyink 2001; where a run starts and what is
 -- kept: this project's choice).
-use Rattle.std.specs.Prelude.{ℕ, zero, suc, Bool, true, false, not, ◌||◌, ◌&&◌, ◌==◌, cond, is_none, List, [], ◌∷◌, ◌++◌, length, map, reverse, Option, Some, None, nat_lt, count_by, ◌*◌}
+use Rattle.std.specs.Prelude.{ℕ, zero, suc, Bool, true, false, not, ◌||◌, ◌&&◌, ◌==◌, cond, is_none, List, [], ◌∷◌, ◌++◌, length, map}
+use Rattle.std.specs.Prelude.{reverse, Option, Some, None, nat_lt, count_by, ◌*◌}
 use Rattle.std.specs.List.{list_any}
 use Rattle.corner_table.specs.declared.symbols.Symbol.{Symbol}
 use Rattle.corner_table.specs.declared.symbols.Symbol.TheVariants.{C, S, L, R, E}
@@ -41,7 +42,9 @@ is_visited_across w (Some y) = is_visited w y.face
 
 -- the vertex of a corner is new: no side at it is free, and no visited face has a corner of it
 abbrev pub is_new_vertex : ℕ → Gluing → Walk → Side → Bool
-is_new_vertex faces g w c = not (list_any (λ (d : Side). meets faces g c d && (is_none (g (next d)) || is_none (g (prev d)) || is_visited w d.face)) (corners_of faces))
+is_new_vertex faces g w c =
+    not (list_any (λ (d : Side). meets faces g c d && (is_none (g (next d)) || is_none (g (prev d)) || is_visited w d.face))
+    (corners_of faces))
 
 -- the symbol at a corner of an unvisited face. The face across the side after the corner lies to the right, the one across the side before
 -- it to the left
@@ -73,7 +76,9 @@ split_across entries (Some y) = split_of entries y.face
 
 -- the events of a symbol at a corner, left before right, since the last is first
 abbrev pub events_noted : Gluing → List Entry → Side → List Event
-events_noted g entries c = event_noted (length entries) false (split_across entries (g (prev c))) ++ event_noted (length entries) true (split_across entries (g (next c)))
+events_noted g entries c =
+    event_noted (length entries) false (split_across entries (g (prev c)))
+    ++ event_noted (length entries) true (split_across entries (g (next c)))
 
 -- kept corners are taken off up to and with the first of an unvisited face
 unfoldable pub take_kept : Walk → List Side → Option (Side × List Side)
@@ -95,7 +100,8 @@ after_symbol g w c C = (entered w c C, g (next c))
 after_symbol g w c S = (record (entered w c S) { kept = pushed (g (prev c)) w.kept }, g (next c))
 after_symbol g w c L = (record (entered w c L) { events = events_noted g w.entries c ++ w.events }, g (next c))
 after_symbol g w c R = (record (entered w c R) { events = events_noted g w.entries c ++ w.events }, g (prev c))
-after_symbol g w c E = go_back (record (entered w c E) { events = events_noted g w.entries c ++ w.events }) (take_kept (entered w c E) w.kept)
+after_symbol g w c E =
+    go_back (record (entered w c E) { events = events_noted g w.entries c ++ w.events }) (take_kept (entered w c E) w.kept)
 
 -- the face of a corner is visited: the walk after it, and where the run goes on
 abbrev pub visit : ℕ → Gluing → Walk → Side → Walk × Option Side
@@ -111,7 +117,8 @@ abbrev pub or_else : Option Side → Option Side → Option Side
 or_else None o = o
 or_else (Some c) o = Some c
 
--- a start corner told by one corner of a face: itself where its side is free; else the one whose side is free at the right end of its vertex
+-- a start corner told by one corner of a face: itself where its side is free; else the one whose side is free at the right end of its
+-- vertex
 abbrev pub start_by : ℕ → Gluing → Side → Option Side
 start_by faces g c =
     let last = prev (rightmost g (3 * faces) c) in
@@ -119,7 +126,8 @@ start_by faces g c =
 
 -- the start corner that the first of a face's corners tells that tells one
 abbrev pub start_corner : ℕ → Gluing → ℕ → Option Side
-start_corner faces g f = or_else (start_by faces g (side f first)) (or_else (start_by faces g (side f second)) (start_by faces g (side f third)))
+start_corner faces g f =
+    or_else (start_by faces g (side f first)) (or_else (start_by faces g (side f second)) (start_by faces g (side f third)))
 
 -- the run round an interior start face, from the corner across its side 1
 abbrev pub begun_inside : ℕ → Gluing → ℕ → Walk → Option Side → Walk
@@ -154,4 +162,6 @@ order_of w = map (λ (e : Entry). (e.corner.face, place_number e.corner.place)) 
 
 -- how many fans there are: corners with no lesser corner in their fan
 abbrev pub fan_count : ℕ → Gluing → ℕ
-fan_count faces g = count_by (λ (c : Side). not (list_any (λ (d : Side). nat_lt (number d) (number c) && meets faces g c d) (corners_of faces))) (corners_of faces)
+fan_count faces g =
+    count_by (λ (c : Side). not (list_any (λ (d : Side). nat_lt (number d) (number c) && meets faces g c d) (corners_of faces)))
+    (corners_of faces)

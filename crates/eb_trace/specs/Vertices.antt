@@ -24,16 +24,20 @@ abbrev pub fans_joined : ℕ → Gluing → Side → Side → ℕ
 fans_joined faces g a b =
     goes_unless (meets faces g (prev a) (next b))
     + goes_unless (meets faces g (next a) (prev b)
-    || ((meets faces g (next a) (prev a) && meets faces g (prev b) (next b)) || (meets faces g (next a) (next b) && meets faces g (prev b) (prev a))))
+    || ((meets faces g (next a) (prev a) && meets faces g (prev b) (next b))
+    || (meets faces g (next a) (next b) && meets faces g (prev b) (prev a))))
 
 -- as free sides of two faces are glued, so many fans go
 abbrev pub GluingJoins : Type 0
-GluingJoins = (faces : ℕ) (g : Gluing) (a b : Side) → IsGluing faces g → IsFree faces g a → IsFree faces g b → a.face ≢ b.face → fan_count faces (glue a b g) + fans_joined faces g a b ≡ fan_count faces g
+GluingJoins = (faces : ℕ) (g : Gluing) (a b : Side) → IsGluing faces g → IsFree faces g a → IsFree faces g b → a.face ≢ b.face →
+    fan_count faces (glue a b g) + fans_joined faces g a b ≡ fan_count faces g
 
 -- the labels of the vertices are as many as the fans
 abbrev pub LabelsAreFans : Type 0
-LabelsAreFans = (faces : ℕ) (g : Gluing) (labels : List ℕ) (count : ℕ) (ends : List Bool) → IsGluing faces g → IsLabelled faces g labels count ends → count ≡ fan_count faces g
+LabelsAreFans = (faces : ℕ) (g : Gluing) (labels : List ℕ) (count : ℕ) (ends : List Bool) → IsGluing faces g →
+    IsLabelled faces g labels count ends → count ≡ fan_count faces g
 
 -- new numbers of the faces change nothing
 abbrev pub RenumberedAlike : Type 0
-RenumberedAlike = (faces : ℕ) (g h : Gluing) (rows : List (ℕ × ℕ)) → IsGluing faces g → IsRenumbering faces rows → IsCarried faces g rows h → fan_count faces h ≡ fan_count faces g
+RenumberedAlike = (faces : ℕ) (g h : Gluing) (rows : List (ℕ × ℕ)) → IsGluing faces g → IsRenumbering faces rows →
+    IsCarried faces g rows h → fan_count faces h ≡ fan_count faces g

@@ -7,6 +7,7 @@ ghost use Rattle.corner_table.specs.Carried.{IsRenumbering};
 ghost use Rattle.eb_rebuild.specs.Rebuilding.{IsEventOf};
 ghost use Rattle.eb_trace.specs.Events.{IsSplitEvent, AreInOrder, SplitOnce};
 ghost use Rattle.eb_trace.specs.FromTrace.{AreStartBits, CarriesOne, CarriesFans, IsRebuiltFrom, NamesVertices};
+ghost use Rattle.eb_trace.specs.Writable.{IsWritable};
 ghost use Rattle.eb_trace.specs.declared.notes.Entered.{Entered as entered_value};
 ghost use Rattle.eb_trace.specs.Stored.{gluing_in, walk_of, row_of, IsSurface};
 ghost use Rattle.eb_trace.specs.Trace.{trace, word_of, order_of, fan_count};
@@ -84,13 +85,13 @@ fn rows_in_order(alloc: Global, notes: &Notes) -> Result<Vec<(u32, u8)>, AllocEr
 /// The walk over a proper surface (Edgebreaker: Rossignac 1999; split events: Isenburg and Snoeyink
 /// 2001; the order and where runs start: this project's choice): its symbols, split events and start
 /// bits, each in the order of the walk; its faces in the order of decoding, each with its turn; and
-/// how many vertices there are. There are no more symbols than faces, nor events than symbols, and
-/// the order lists each face once. Each event is of an R or E that met an earlier S on its right, or
+/// how many vertices there are. There are no more symbols than faces, nor events or start bits than
+/// symbols, and the order lists each face once. Each event is of an R or E that met an earlier S on its right, or
 /// of an L or E that met one on its left; events come by rising sources, the right one of a symbol
 /// first, and no S has two. There is one surface in the order of decoding; it has as many vertices,
 /// and tells the start bits. The machine of reverse decoding that is made for all faces and for no
 /// fewer vertices than there are vertices and S together, and is fed what is answered, meets no fault
-/// and builds that surface. So does the machine that names vertices, and in the end as many distinct
+/// and builds that surface; after the symbols as many sides wait as there are start bits. So does the machine that names vertices, and in the end as many distinct
 /// names stand in its triangles. Refused for want of memory alone.
 pub fn trace(alloc: Global, t: &SideTable) -> Result<Traced, Memory>
     requires proper { IsProper t.now.faces (gluing_of t.now) }
@@ -105,11 +106,13 @@ pub fn trace(alloc: Global, t: &SideTable) -> Result<Traced, Memory>
     ensures split_once { IfOk result (λ r. SplitOnce r.events) }
     ensures few { IfOk result (λ r. length r.symbols ≤ t.now.faces) }
     ensures few_events { IfOk result (λ r. length r.events ≤ length r.symbols) }
+    ensures few_starts { IfOk result (λ r. length r.starts ≤ length r.symbols) }
     ensures once { IfOk result (λ r. IsRenumbering t.now.faces r.order) }
     ensures carried { IfOk result (λ r. CarriesOne t.now.faces (gluing_of t.now) r.order) }
     ensures counted { IfOk result (λ r. CarriesFans t.now.faces (gluing_of t.now) r.order r.vertices) }
     ensures kept { IfOk result (λ r. IsRebuiltFrom t.now.faces (gluing_of t.now) r.symbols r.events r.starts r.order r.vertices) }
     ensures bits { IfOk result (λ r. AreStartBits t.now.faces (gluing_of t.now) r.symbols r.starts r.order) }
+    ensures writable { IfOk result (λ r. IsWritable t.now.faces r.vertices r.symbols r.events r.starts) }
     ensures named { IfOk result (λ r. NamesVertices t.now.faces (gluing_of t.now) r.symbols r.events r.starts r.order r.vertices) }
 {
     let surface = surface_of(alloc, t)?;

@@ -1,8 +1,8 @@
 -- The carried surface is the one with the old pairs, and keeps what fits.
-use Rattle.std.proofs.Common.{◌≡◌, ℕ, zero, suc, ◌+◌, ◌*◌, ◌-◌, ◌%◌, ◌<◌, ◌≤◌, Bool, true, false, not, ◌&&◌, cond, eqb, nat_lt, ℤ, ◌⊎◌, List, [], length, take, get_or, Option, Some, None, inl, inr, refl, sym, ap, ◌∙◌, subst, arith}
+use Rattle.std.proofs.Common.{◌≡◌, ℕ, zero, suc, ◌+◌, ◌-◌, ◌%◌, ◌<◌, ◌≤◌, Bool, not, ◌&&◌, eqb, nat_lt, ℤ, ◌⊎◌, List, length, take, get_or, Some, None, inl, inr, refl, sym, ap, ◌∙◌, subst, arith}
 use mathlib.Core.Path.{fun_ext}
 use Rattle.std.specs.Prelude.{option_map}
-use Rattle.std.specs.List.{range_with_len, position_or_len}
+use Rattle.std.specs.List.{position_or_len}
 use Rattle.std.proofs.lemmas.Bool.{cases_lt, cond-true, cond-false, eq-eqb, eqb-true, lt-ltb, le-ltb}
 use Rattle.std.proofs.lemmas.List.FromFn.{get_or-map-range_with_len}
 use Rattle.mesh_model.specs.Parts.{MeshParts, corner}
@@ -11,11 +11,10 @@ use Rattle.mesh_model.specs.Assembled.{same_row}
 use Rattle.mesh_model.specs.Renumbering.{inverted}
 use Rattle.mesh_model.proofs.Counts.{OnePlace, first-one_place}
 use Rattle.corner_table.specs.Sides.{Side, Place, first, second, third, side, place_number, next, prev, Gluing, IsGluing}
-use Rattle.corner_table.specs.Fans.{IsProper}
 use Rattle.corner_table.specs.Carried.{turned, carry, IsRenumbering, IsCarried}
 use Rattle.corner_table.proofs.Places.{option_tells, Some_injective}
 use Rattle.corner_table.proofs.Carrying.{carry-next, carry-prev, carry_onto, proper_carried}
-use Rattle.pairing.specs.Pairing.{first_width, corner_position, same_position, may_pair, PairsFit}
+use Rattle.pairing.specs.Pairing.{first_width, corner_position, same_position}
 use Rattle.pairing.specs.CarriedPairs.{carried, InvertedLeadsBack, CarriedIsTheOne, CarriedIsProper, FitIsCarried, MeshFitIsCarried}
 
 -- ---- the way back

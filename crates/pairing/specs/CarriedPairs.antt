@@ -1,5 +1,5 @@
 -- A surface under new numbers of its faces, as a function of it, and what its pairs keep (this project's own definition).
-use Rattle.std.specs.Prelude.{◌≡◌, ℕ, ◌<◌, Bool, nat_lt, cond, List, length, Option, Some, None, option_map}
+use Rattle.std.specs.Prelude.{◌≡◌, ℕ, ◌<◌, Bool, nat_lt, cond, List, length, None, option_map}
 use Rattle.mesh_model.specs.Parts.{MeshParts}
 use Rattle.mesh_model.specs.Same.{SameMesh}
 use Rattle.mesh_model.specs.Renumbering.{inverted}

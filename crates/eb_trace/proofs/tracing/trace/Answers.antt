@@ -1,12 +1,13 @@
 -- What is given out is the walk's.
 use Rattle.std.proofs.Common.{ℕ, sym, subst, List, map, reverse, ap, ◌∙◌}
-use Rattle.std.proofs.lemmas.List.{reverse-reverse}
+use Rattle.std.proofs.lemmas.List.{reverse-reverse, length-reverse}
 use Rattle.corner_table.specs.Carried.{IsRenumbering}
 use Rattle.eb_trace.specs.Trace.{Walk, word_of, order_of}
 use Rattle.eb_trace.specs.declared.notes.Entered.{Entered}
 use Rattle.corner_table.specs.Table.{gluing_of}
 use Rattle.eb_trace.proofs.Given.{vertices_are, rebuilt_from, bits_given, named_given, events_given, events_taken, few_events, few_symbols, carried_given}
 use Rattle.eb_trace.proofs.StartBits.{walk_orders}
+use Rattle.eb_trace.proofs.Writable.{few_starts, is_writable}
 use Rattle.eb_trace.proofs.Going.{few_of, trace_same, symbols_are}
 use Rattle.eb_trace.proofs.tracing.trace.Goals as goal
 
@@ -69,3 +70,11 @@ returns-clause-bits c = bits_given c.args.t.now.faces (gluing_of c.args.t.now) c
 
 pub returns-clause-named : goal.returns-clause-named
 returns-clause-named c = named_given c.args.t.now.faces (gluing_of c.args.t.now) c.requires.proper.gluing c.requires.proper.three_fans _ _ _ _ _ (returns-clause-symbols c) (returns-clause-events c) (returns-clause-starts c) (returns-clause-order c) (returns-clause-vertices c)
+
+pub returns-clause-few_starts : goal.returns-clause-few_starts
+returns-clause-few_starts c = few_starts c.args.t.now.faces (gluing_of c.args.t.now) _ _ _ (returns-clause-carried c) (returns-clause-bits c)
+
+pub returns-clause-writable : goal.returns-clause-writable
+returns-clause-writable c =
+    is_writable c.args.t.now.faces _ (gluing_of c.args.t.now) _ _ _ _ (returns-clause-carried c) (returns-clause-kept c) (returns-clause-bits c) (length-reverse _)
+    (returns-clause-few c) (returns-clause-few_events c) (returns-clause-events_fit c) (returns-clause-events_in_order c)
