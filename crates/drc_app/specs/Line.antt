@@ -1,6 +1,6 @@
 -- Which words are a command line, and which word of other words is the bad one (this project's choice).
 use Rattle.std.specs.Prelude.{◌≡◌, ◌≢◌, ℕ, suc, ◌<◌, ◌⊎◌, List, [], ◌∷◌, ◌++◌, length, take, codes}
-use Rattle.std.specs.Prelude.{Option, Some, None, Result, Ok, Err, true, false}
+use Rattle.std.specs.Prelude.{Some, None, Result, Ok, Err, true, false}
 use Rattle.drc_container.specs.declared.choices.Choice.{Choice}
 use Rattle.drc_container.specs.declared.methods.Method.{Method}
 use Rattle.drc_container.specs.declared.methods.Method.TheVariants as method
