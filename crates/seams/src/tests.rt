@@ -29,22 +29,26 @@ struct Worked<'a> {
     ends: &'a [bool],
 }
 
-/// A head of small integers.
-fn head(comps: u8) -> Head {
-    Head {
-        usage: 4,
-        dtype: 1,
-        comps,
-        normalized: 0,
-        id: 0,
-        quant: None,
-    }
-}
-
 /// A mesh whose first attribute is the same at all corners, and the second one tells labels apart: one by
 /// the first of its integers or by the second alone.
 fn mesh(rt: &impl Abort, alloc: Global, labels: &[[u32; 3]]) -> Result<CornerMesh, Refusal> {
-    let heads = vec![in alloc; head(1), head(2)]?;
+    let same = Head {
+        usage: 4,
+        dtype: 1,
+        comps: 1,
+        normalized: 0,
+        id: 0,
+        quant: None,
+    };
+    let label = Head {
+        usage: 4,
+        dtype: 1,
+        comps: 2,
+        normalized: 0,
+        id: 0,
+        quant: None,
+    };
+    let heads = vec![in alloc; same, label]?;
     let mut points = Vec::new(alloc);
     for p in 0..32u8 {
         points.push(7)?;
@@ -91,26 +95,38 @@ fn table<L: Ledger>(
     Ok(table)
 }
 
-/// Reads the blocks of two lists of flags, behind which other bytes stand, and compares.
+/// The blocks of two lists of bits, one after the other, and other bytes behind them.
+fn two_blocks(
+    rt: &impl Abort,
+    alloc: Global,
+    first: &[bool],
+    second: &[bool],
+) -> Result<Vec<u8>, Memory> {
+    assert!(rt; first.len() < 100 && second.len() < 100);
+    let mut bytes = write_block(alloc, first)?;
+    let more = write_block(alloc, second)?;
+    bytes.extend_from_slice(more.as_slice())?;
+    bytes.extend_from_slice(&[7, 200, 255])?;
+    Ok(bytes)
+}
+
+/// Reads two blocks, and compares with the flags that they are to tell.
 fn reads_back(
     rt: &impl Abort,
     alloc: Global,
     t: &SideTable,
-    flags: [&[bool]; 2],
-    bits: [&[bool]; 2],
+    bytes: &[u8],
+    first: &[bool],
+    second: &[bool],
 ) -> Result<(), Fail> {
-    assert!(rt; bits[0].len() < 100 && bits[1].len() < 100);
-    let mut first = write_block(alloc, bits[0])?;
-    let mut second = write_block(alloc, bits[1])?;
-    first.extend_from_slice(&[7, 200])?;
-    second.extend_from_slice(&[255, 1, 2])?;
-    let one = BitBlock::read(&mut Cursor::new(first.as_slice())).map_err(|_| "a fault")?;
-    let other = BitBlock::read(&mut Cursor::new(second.as_slice())).map_err(|_| "a fault")?;
+    let mut c = Cursor::new(bytes);
+    let one = BitBlock::read(&mut c).map_err(|_| "a fault")?;
+    let other = BitBlock::read(&mut c).map_err(|_| "a fault")?;
     let mut blocks = [one, other];
     let lists = read_seams(alloc, t, &mut blocks)?;
     assert_eq!(rt; lists.len(), 2);
-    assert!(rt; lists[0].as_slice() == flags[0]);
-    assert!(rt; lists[1].as_slice() == flags[1]);
+    assert!(rt; lists[0].as_slice() == first);
+    assert!(rt; lists[1].as_slice() == second);
     Ok(())
 }
 
@@ -136,12 +152,14 @@ fn is_told(rt: &impl Abort, alloc: Global, worked: Worked<'_>) -> Result<(), Fai
     let bits = seam_bits(alloc, &t, flags.as_slice())?;
     let no_bits = seam_bits(alloc, &t, whole.as_slice())?;
     assert!(rt; bits.as_slice() == worked.bits);
+    let bytes = two_blocks(rt, alloc, bits.as_slice(), no_bits.as_slice())?;
     reads_back(
         rt,
         alloc,
         &t,
-        [flags.as_slice(), whole.as_slice()],
-        [bits.as_slice(), no_bits.as_slice()],
+        bytes.as_slice(),
+        flags.as_slice(),
+        whole.as_slice(),
     )?;
     let found = classes(alloc, &t, Some(flags.as_slice()))?;
     assert!(rt; found.of_corner.as_slice() == worked.classes);
