@@ -6,6 +6,7 @@ ghost use Rattle.corner_table.specs.Table.{gluing_of};
 ghost use Rattle.seams.specs.Seams.{AreFlags};
 
 use crate::cutting::faces_apart;
+use crate::sides::sides_across;
 use crate::{classes, read_seams, seam_bits, seams_of, unglued};
 use corner_table::{SideTable, Steps, side_with};
 use drc_base::{MAX_FACES, Memory, Refusal};
