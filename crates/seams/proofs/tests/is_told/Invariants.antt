@@ -2,4 +2,4 @@
 use Rattle.seams.proofs.tests.is_told.Given as goal
 
 abbrev pub ghosts-table : goal.ghosts-table
-ghosts-table a = record { name = a.blank.name; parts = a.blank.parts }
+ghosts-table g a = record { name = a.blank.name; parts = a.blank.parts }
