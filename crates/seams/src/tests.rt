@@ -147,7 +147,8 @@ fn is_cut(cut: &SideTable, t: &SideTable, flags: &[bool]) -> bool {
 fn is_told(rt: &impl Abort, alloc: Global, worked: Worked<'_>) -> Result<(), Fail> {
     let m = mesh(rt, alloc, worked.labels).map_err(|_| "a refusal")?;
     let t = table::<Brand>(rt, alloc, m.face_count(), worked.pairs, Blank::new(1))?;
-    assert!(rt; m.heads().len() == 2 && t.face_count() == m.face_count());
+    assert_eq!(rt; m.heads().len(), 2);
+    assert_eq!(rt; t.face_count(), m.face_count());
     let flags = seams_of(alloc, &m, &t, 1)?;
     let whole = seams_of(alloc, &m, &t, 0)?;
     let bits = seam_bits(alloc, &t, flags.as_slice())?;
