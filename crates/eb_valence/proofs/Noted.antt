@@ -29,13 +29,13 @@ length-noted lists (c ∷ codes) = length-noted (put lists c) codes ∙ length-s
 
 put_at : (lists : List (List ℕ)) (c : Coded) (k : ℕ) → k < length lists → get_or (put lists c) k [] ≡ get_or lists k [] ++ cond (c.context == k) (c.number ∷ []) []
 put_at lists c k h = elim (cases_eq k c.context) [
-    inl is ↦
+  | inl is ↦
       get_or-set_at lists c.context k _ [] is (subst (λ n. n < length lists) is h) ∙ ap (λ i. get_or lists i [] ++ c.number ∷ []) (sym is)
       ∙ ap (λ (b : Bool). get_or lists k [] ++ cond b (c.number ∷ []) []) (sym (eq-eqb c.context k (sym is)))
   | inr other ↦
       get_or-set_other lists c.context k _ [] other ∙ sym (append-nil (get_or lists k []))
       ∙ ap (λ (b : Bool). get_or lists k [] ++ cond b (c.number ∷ []) []) (sym (ne_eqb c.context k (λ (e : c.context ≡ k). other (sym e))))
-  ]
+]
 
 noted_at : (lists : List (List ℕ)) (codes : List Coded) (k : ℕ) → k < length lists → get_or (noted lists codes) k [] ≡ get_or lists k [] ++ numbers_in k codes
 unfolding noted
@@ -45,10 +45,10 @@ noted_at lists (c ∷ codes) k h =
     ∙ ap (λ l. l ++ numbers_in k codes) (put_at lists c k h)
     ∙ append_assoc (get_or lists k []) (cond (c.context == k) (c.number ∷ []) []) (numbers_in k codes)
     ∙ ap (λ l. get_or lists k [] ++ l) (
-      elim (c.context == k) as (λ (b : Bool). cond b (c.number ∷ []) [] ++ numbers_in k codes ≡ map (λ x. x.number) (cond b (c ∷ filter (λ x. x.context == k) codes) (filter (λ x. x.context == k) codes))) [
-        true ↦ refl
+    elim (c.context == k) as (λ (b : Bool). cond b (c.number ∷ []) [] ++ numbers_in k codes ≡ map (λ x. x.number) (cond b (c ∷ filter (λ x. x.context == k) codes) (filter (λ x. x.context == k) codes))) [
+      | true ↦ refl
       | false ↦ refl
-      ])
+    ])
 
 -- the first symbol isn't coded
 pub noted_none : (lists : List (List ℕ)) (s : State) (x : Symbol) → (s.built == 0) ≡ true → lists ≡ noted lists (coded_at s x)
@@ -107,7 +107,7 @@ noted_all codes =
     let none : List (List ℕ) = replicate CONTEXTS [] in
     let long : length (map reverse (noted none codes)) ≡ CONTEXTS = length-map (noted none codes) reverse ∙ length-noted none codes in
     ext_get_or [] (map reverse (noted none codes)) (lists_of codes) (long ∙ sym (length-map-range_with_len (list_of codes) 0 CONTEXTS)) (λ k h.
-      let within : k < CONTEXTS = subst (λ n. k < n) long h in
-      get_or-map reverse (noted none codes) k [] [] (subst (λ n. k < n) (sym (length-noted none codes)) within)
-      ∙ ap reverse (noted_at none codes k within ∙ ap (λ l. l ++ numbers_in k codes) (get_or-replicate CONTEXTS k [] [] within))
-      ∙ sym (get_or-map-range_with_len (list_of codes) 0 CONTEXTS k k [] within (zero-add k)))
+    let within : k < CONTEXTS = subst (λ n. k < n) long h in
+    get_or-map reverse (noted none codes) k [] [] (subst (λ n. k < n) (sym (length-noted none codes)) within)
+    ∙ ap reverse (noted_at none codes k within ∙ ap (λ l. l ++ numbers_in k codes) (get_or-replicate CONTEXTS k [] [] within))
+    ∙ sym (get_or-map-range_with_len (list_of codes) 0 CONTEXTS k k [] within (zero-add k)))

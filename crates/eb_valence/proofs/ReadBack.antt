@@ -45,8 +45,8 @@ unfolding list_of
 list_more codes c k =
     let rest : List Coded = filter (λ x. x.context == k) codes in
     elim (c.context == k) as (λ (b : Bool). reverse (map (λ x. x.number) (cond b (c ∷ rest) rest)) ≡ reverse (map (λ x. x.number) rest) ++ cond b (c.number ∷ []) []) [
-      true ↦ reverse-append (c.number ∷ []) (map (λ x. x.number) rest)
-    | false ↦ sym (append-nil (reverse (map (λ x. x.number) rest)))
+      | true ↦ reverse-append (c.number ∷ []) (map (λ x. x.number) rest)
+      | false ↦ sym (append-nil (reverse (map (λ x. x.number) rest)))
     ]
 
 -- the list of one context is replaced
@@ -56,12 +56,12 @@ set_is F G v k h e same =
     let xs : List (List ℕ) = map F (range_with_len 0 CONTEXTS) in
     let long : length xs ≡ CONTEXTS = length-map-range_with_len F 0 CONTEXTS in
     let each : (i : ℕ) → i < length (set xs k v) → get_or (set xs k v) i [] ≡ get_or (map G (range_with_len 0 CONTEXTS)) i [] = λ i below.
-      let inside : i < CONTEXTS = subst (λ n. i < n) (length-set xs k v ∙ long) below in
-      elim (cases_eq i k) [
-        inl is ↦ get_or-set_at xs k i v [] is (subst (λ n. k < n) (sym long) h) ∙ sym e ∙ sym (get_or-map-range_with_len G 0 CONTEXTS i k [] inside (zero-add i ∙ is))
+    let inside : i < CONTEXTS = subst (λ n. i < n) (length-set xs k v ∙ long) below in
+    elim (cases_eq i k) [
+      | inl is ↦ get_or-set_at xs k i v [] is (subst (λ n. k < n) (sym long) h) ∙ sym e ∙ sym (get_or-map-range_with_len G 0 CONTEXTS i k [] inside (zero-add i ∙ is))
       | inr other ↦ get_or-set_other xs k i v [] other ∙ get_or-map-range_with_len F 0 CONTEXTS i i [] inside (zero-add i) ∙ same i other
           ∙ sym (get_or-map-range_with_len G 0 CONTEXTS i i [] inside (zero-add i))
-      ] in
+    ] in
     ext_get_or [] (set xs k v) (map G (range_with_len 0 CONTEXTS)) (length-set xs k v ∙ long ∙ sym (length-map-range_with_len G 0 CONTEXTS)) each
 
 -- what is taken from a context is the code that was put behind its list, and the others are left
@@ -72,12 +72,12 @@ taken_is codes k n x h s =
     let lists : List (List ℕ) = lists_of (c ∷ codes) in
     let here : in_context k c ≡ n ∷ [] = ap (λ (b : Bool). cond b (n ∷ []) []) (eq-eqb k k refl) in
     let items : get_or lists k [] ≡ list_of codes k ++ n ∷ [] =
-      get_or-map-range_with_len (list_of (c ∷ codes)) 0 CONTEXTS k k [] h (zero-add k) ∙ list_more codes c k ∙ ap (λ l. list_of codes k ++ l) here in
+    get_or-map-range_with_len (list_of (c ∷ codes)) 0 CONTEXTS k k [] h (zero-add k) ∙ list_more codes c k ∙ ap (λ l. list_of codes k ++ l) here in
     let elsewhere : (j : ℕ) → (j ≡ k → ⊥) → list_of (c ∷ codes) j ≡ list_of codes j = λ j other.
-      let not : (k == j) ≡ false = ne_eqb k j (λ (e : k ≡ j). other (sym e)) in
-      list_more codes c j ∙ ap (λ (b : Bool). list_of codes j ++ cond b (n ∷ []) []) not ∙ append-nil (list_of codes j) in
+    let not : (k == j) ≡ false = ne_eqb k j (λ (e : k ≡ j). other (sym e)) in
+    list_more codes c j ∙ ap (λ (b : Bool). list_of codes j ++ cond b (n ∷ []) []) not ∙ append-nil (list_of codes j) in
     let left : set lists k (front_of (get_or lists k [])) ≡ lists_of codes =
-      set_is (list_of (c ∷ codes)) (list_of codes) (front_of (get_or lists k [])) k h (sym (ap front_of items ∙ front_is (list_of codes k) n)) elsewhere in
+    set_is (list_of (c ∷ codes)) (list_of codes) (front_of (get_or lists k [])) k h (sym (ap front_of items ∙ front_is (list_of codes k) n)) elsewhere in
     let read : Option Symbol → List (List ℕ) → Result (Symbol × List (List ℕ)) Kind = λ o rest. elim o [ None ↦ Err kind.BadSymbol | Some y ↦ Ok (y, rest) ] in
     let rest : List (List ℕ) = set lists k (front_of (get_or lists k [])) in
     let found : Option ℕ → Result (Symbol × List (List ℕ)) Kind = λ o. elim o [ None ↦ Err kind.ContextEmpty | Some m ↦ read (symbol_numbered m) rest ] in
@@ -128,7 +128,7 @@ unfolding at_number
 each_reads_back n x word s t first e =
     ap (λ codes. symbol_at (lists_of codes) s) (coded_more n x word s t e)
     ∙ one_read (s.built == 0) s.built x (top_degree s) (coded n word t)
-      (λ is. only_end n x s t (first (elim (cases_eq s.built 0) [ inl none ↦ none | inr other ↦ absurd (let no = sym (ne_eqb s.built 0 other) ∙ is in cc) ])) e)
+    (λ is. only_end n x s t (first (elim (cases_eq s.built 0) [ inl none ↦ none | inr other ↦ absurd (let no = sym (ne_eqb s.built 0 other) ∙ is in cc) ])) e)
 
 -- a word, symbol by symbol
 pub words_read_back : WordsReadBack
@@ -136,10 +136,10 @@ unfolding take_symbols fed
 words_read_back n [] s t first e = e
 words_read_back n (x ∷ word) s t first e =
     elim (step n x s) as (λ (r : Result State Fault). step n x s ≡ r → (r >>= take_symbols n word) ≡ Ok t → fed n (length (x ∷ word)) (lists_of (coded n (x ∷ word) s)) s ≡ Ok t) [
-      Err f ↦ λ is no. absurd (cc)
-    | Ok u ↦ λ is rest.
-        let more : (u.built ≡ 0 → u.stack ≡ []) = λ none. absurd (let one = (step_counts n x s u is).0 in omega arith) in
-        ap (λ (r : Result (Symbol × List (List ℕ)) Fault). r >>= λ y. step n y.0 s >>= fed n (length word) y.1) (each_reads_back n x word s u first is)
-        ∙ ap (λ (r : Result State Fault). r >>= fed n (length word) (lists_of (coded n word u))) is
-        ∙ words_read_back n word u t more rest
+      | Err f ↦ λ is no. absurd (cc)
+      | Ok u ↦ λ is rest.
+          let more : (u.built ≡ 0 → u.stack ≡ []) = λ none. absurd (let one = (step_counts n x s u is).0 in omega arith) in
+          ap (λ (r : Result (Symbol × List (List ℕ)) Fault). r >>= λ y. step n y.0 s >>= fed n (length word) y.1) (each_reads_back n x word s u first is)
+          ∙ ap (λ (r : Result State Fault). r >>= fed n (length word) (lists_of (coded n word u))) is
+          ∙ words_read_back n word u t more rest
     ] refl e

@@ -20,8 +20,8 @@ abbrev pub taken_from : ℕ → List (List ℕ) → Result (Symbol × List (List
 taken_from k lists =
     let items = get_or lists k [] in
     elim (last_of items) [
-      None ↦ Err kind.ContextEmpty
-    | Some n ↦ elim (symbol_numbered n) [ None ↦ Err kind.BadSymbol | Some x ↦ Ok (x, set lists k (front_of items)) ]
+      | None ↦ Err kind.ContextEmpty
+      | Some n ↦ elim (symbol_numbered n) [ None ↦ Err kind.BadSymbol | Some x ↦ Ok (x, set lists k (front_of items)) ]
     ]
 
 -- the next symbol at a vertex of this degree; without a degree it is E, and nothing is taken

@@ -1,0 +1,80 @@
+//! Lists of worked surfaces, noted and read.
+
+use crate::context_lists::ContextLists;
+use crate::context_reader::ContextReader;
+use crate::noting::contexts_of;
+use corner_table::{Event, Symbol};
+use drc_base::{Kind, Memory};
+use std::alloc::{AllocError, Global};
+use std::process::Abort;
+use std::test::Fail;
+
+/// Compares the lists of all contexts.
+fn has_lists(rt: &impl Abort, lists: &ContextLists, wanted: [&[u32]; 6]) {
+    for context in 0..6 {
+        assert!(rt; lists.list(context) == wanted[context]);
+    }
+}
+
+#[test]
+fn notes_contexts_of_surfaces(rt: HostRuntime) -> Result<(), Fail> {
+    use Symbol::{C, E, L, R, S};
+    let alloc = rt.alloc();
+    let none = contexts_of(alloc, &[], &[])?;
+    has_lists(&rt, &none, [&[], &[], &[], &[], &[], &[]]);
+    let tetrahedron = contexts_of(alloc, &[C, R, E], &[])?;
+    has_lists(&rt, &tetrahedron, [&[3], &[0], &[], &[], &[], &[]]);
+    let events = [
+        Event {
+            source: 11,
+            split: 6,
+            right: false,
+        },
+        Event {
+            source: 12,
+            split: 5,
+            right: true,
+        },
+    ];
+    let torus = contexts_of(alloc, &[C, C, C, C, R, S, S, L, R, S, L, E, E], &events)?;
+    has_lists(
+        &rt,
+        &torus,
+        [&[1, 1, 2, 4], &[1, 3], &[2], &[3], &[0, 0, 0, 0], &[]],
+    );
+    Ok(())
+}
+
+/// Lists of which two have symbols, and one has a number that stands for none in front.
+fn worked(alloc: Global) -> Result<ContextLists, AllocError> {
+    Ok(ContextLists::new([
+        vec![in alloc; 5, 1, 3]?,
+        vec![in alloc; 0]?,
+        Vec::new(alloc),
+        Vec::new(alloc),
+        Vec::new(alloc),
+        vec![in alloc; 4, 2]?,
+    ]))
+}
+
+#[test]
+fn reads_from_the_backs(rt: HostRuntime) -> Result<(), Fail> {
+    let mut reader = ContextReader::new(worked(rt.alloc())?);
+    for (degree, symbol) in [
+        (None, Ok(Symbol::E)),
+        (Some(2), Ok(Symbol::R)),
+        (Some(0), Ok(Symbol::S)),
+        (Some(3), Ok(Symbol::C)),
+        (Some(3), Err(Kind::ContextEmpty)),
+        (Some(4), Err(Kind::ContextEmpty)),
+        (Some(7), Ok(Symbol::L)),
+        (Some(900), Ok(Symbol::E)),
+        (Some(8), Err(Kind::ContextEmpty)),
+        (Some(1), Err(Kind::BadSymbol)),
+        (Some(2), Err(Kind::BadSymbol)),
+        (None, Ok(Symbol::E)),
+    ] {
+        assert!(&rt; reader.next(degree) == symbol);
+    }
+    Ok(())
+}
