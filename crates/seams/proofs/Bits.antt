@@ -1,19 +1,18 @@
 -- Which sides have a bit, and at which place.
-use Rattle.std.proofs.Common.{◌≡◌, ◌≢◌, ℕ, zero, suc, ◌+◌, ◌-◌, ◌*◌, ◌/◌, ◌<◌, ◌≤◌, Bool, true, false, cond, eqb, nat_lt, List, [], ◌∷◌, ◌++◌, map, filter, length, get_or, Option, Some, None, ◌⊎◌, inl, inr, refl, ap, sym, ◌∙◌, subst, arith, append_assoc, eqb-true, lt-ltb, le-ltb, ltb-true, ltb-false}
-use Rattle.std.specs.List.{range_with_len, All}
-use Rattle.std.proofs.lemmas.Bool.{cases_Bool, cases_lt, cond-true, cond-false, false_from_ne_true, false≢true}
+use Rattle.std.proofs.Common.{◌≡◌, ◌≢◌, ℕ, zero, suc, ◌+◌, ◌-◌, ◌*◌, ◌/◌, ◌<◌, ◌≤◌, true, false, cond, eqb, nat_lt, List, [], ◌∷◌, ◌++◌, filter, length, get_or, Option, Some, None, ◌⊎◌, inl, inr, refl, ap, sym, ◌∙◌, subst, arith, append_assoc, eqb-true, lt-ltb, le-ltb, ltb-true}
+use Rattle.std.specs.List.{All}
+use Rattle.std.proofs.lemmas.Bool.{cases_Bool, cases_lt, cond-false, false_from_ne_true, false≢true}
 use Rattle.std.proofs.lemmas.List.{append-nil, length-append, get_or_append_left, get_or-append_right}
 use Rattle.std.proofs.lemmas.List.Elements.{All-nil, All-cons, All-append}
 use Rattle.std.proofs.lemmas.List.FromFn.{filter_of_map_range_with_len_more}
 use Rattle.std.proofs.lemmas.List.Sums.{position_or_len_is}
 use Rattle.corner_table.specs.Sides.{Side, number, side_at, same, Gluing, IsGluing}
 use Rattle.corner_table.specs.Table.{glued_in, other_at, free_entry}
-use Rattle.corner_table.specs.Fans.{corners_of}
-use Rattle.corner_table.proofs.Numbers.{side_at-number, number-side_at, number-lt, face-lt}
+use Rattle.corner_table.proofs.Numbers.{side_at-number, number-side_at, number-lt}
 use Rattle.corner_table.proofs.Places.{option_tells, Some_injective, same_refl, not_same}
 use Rattle.seams.specs.SeamBits.{has_bit, bit_sides, place_in}
 use Rattle.seams.specs.Pairs.{TellsLater, bit_sides_below}
-use Rattle.seams.proofs.Listing.{numbered, corners_are}
+use Rattle.seams.proofs.Listing.{corners_are}
 
 -- by what is across
 pub bit_of_glued : (g : Gluing) (x y : Side) → g x ≡ Some y → has_bit g x ≡ nat_lt x.face y.face

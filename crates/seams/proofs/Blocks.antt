@@ -1,12 +1,12 @@
 -- Bits that were made of flags tell these flags.
-use Rattle.std.proofs.Common.{◌≡◌, ℕ, zero, suc, ◌+◌, ◌*◌, ◌<◌, Bool, true, false, List, [], ◌∷◌, ◌++◌, map, length, get_or, Some, None, inl, inr, refl, ap, sym, ◌∙◌, arith}
-use Rattle.std.proofs.lemmas.List.{get_or-map, length-map, length-append, map-append}
+use Rattle.std.proofs.Common.{◌≡◌, ℕ, zero, suc, ◌+◌, ◌*◌, ◌<◌, Bool, true, false, List, [], ◌∷◌, ◌++◌, map, length, get_or, inl, inr, refl, ap, sym, ◌∙◌, arith}
+use Rattle.std.proofs.lemmas.List.{get_or-map, length-append, map-append}
 use Rattle.rans_binary.specs.Blocks.{Block, next_bit, after_bit, first_bits}
-use Rattle.corner_table.specs.Sides.{Side, number, side_at, Gluing, IsGluing}
+use Rattle.corner_table.specs.Sides.{Side, side_at, Gluing}
 use Rattle.corner_table.proofs.Numbers.{number-side_at}
 use Rattle.corner_table.proofs.Places.{option_tells}
-use Rattle.seams.specs.Seams.{AreFlags, flag_at, listed}
-use Rattle.seams.specs.SeamBits.{has_bit, bit_sides, seam_bits, place_in, told, bit_of, after_bits}
+use Rattle.seams.specs.Seams.{flag_at}
+use Rattle.seams.specs.SeamBits.{has_bit, bit_sides, place_in, told, bit_of, after_bits}
 use Rattle.seams.specs.Pairs.{bit_sides_below}
 use Rattle.seams.specs.Laws.{BitsTellFlags, BlockTellsFlags}
 use Rattle.seams.proofs.Listing.{listed-is}

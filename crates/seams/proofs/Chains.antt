@@ -1,14 +1,13 @@
 -- A class is a fan of the surface cut at its seams.
-use Rattle.std.proofs.Common.{◌≡◌, ℕ, ◌<◌, Bool, true, false, cond, Option, Some, None, option_map, inl, inr, refl, ap, sym, ◌∙◌}
+use Rattle.std.proofs.Common.{◌≡◌, Bool, true, false, cond, Option, Some, None, option_map, inl, inr, refl, ap, sym, ◌∙◌}
 use mathlib.Core.Path.{fun_ext}
 use Rattle.std.proofs.lemmas.Bool.{cases_Bool, cond-true, cond-false}
-use Rattle.corner_table.specs.Sides.{Side, next, prev, Gluing, IsGluing}
+use Rattle.corner_table.specs.Sides.{Side, next, prev, Gluing}
 use Rattle.corner_table.specs.Fans.{swing_left, swing_right, InFan, here, leftwards, rightwards, MeetsBoundary}
 use Rattle.corner_table.proofs.Places.{option_tells}
-use Rattle.corner_table.proofs.Gluings.{new_free}
 use Rattle.seams.specs.Seams.{flag_at, listed, unseamed}
 use Rattle.seams.specs.Classes.{InClass, itself, over_next, over_prev, IsEnd, MeetsEnd}
-use Rattle.seams.specs.Laws.{AreAlike, ClassIsFan, ClassEnds, ClassInFan, UncutIsFan, CutIsGluing, ListCutsAlike}
+use Rattle.seams.specs.Laws.{ClassIsFan, ClassEnds, ClassInFan, UncutIsFan, CutIsGluing, ListCutsAlike}
 use Rattle.seams.proofs.Listing.{flag_at-listed}
 
 -- a side that is no seam is glued as it was

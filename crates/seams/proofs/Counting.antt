@@ -1,14 +1,14 @@
 -- Each side is free or one of a pair, and one side of each pair has a bit: the pairs are counted from both their sides.
-use Rattle.std.proofs.Common.{◌≡◌, ◌≢◌, ℕ, zero, suc, ◌+◌, ◌*◌, ◌<◌, ◌≤◌, Bool, true, false, cond, is_none, List, length, filter, Option, Some, None, inl, inr, refl, ap, sym, ◌∙◌, arith}
+use Rattle.std.proofs.Common.{◌≡◌, ℕ, zero, suc, ◌+◌, ◌*◌, ◌<◌, ◌≤◌, Bool, true, false, cond, is_none, Option, Some, None, inl, inr, refl, ap, sym, ◌∙◌, arith}
 use Rattle.std.specs.List.{sum_by, count_by}
 use Rattle.std.proofs.lemmas.Bool.{cases_Bool, cases_lt, cond-true, cond-false, false≢true}
 use Rattle.std.proofs.lemmas.List.Sums.{length-filter}
 use Rattle.std.proofs.lemmas.List.FromFn.{sum_by-map-range_with_len_more}
 use Rattle.corner_table.specs.Sides.{Side, number, side_at, same, Gluing, IsGluing}
 use Rattle.corner_table.specs.Fans.{corners_of}
-use Rattle.corner_table.proofs.Numbers.{side_at-number, number-side_at, number-lt, face-lt}
+use Rattle.corner_table.proofs.Numbers.{side_at-number, number-side_at, number-lt}
 use Rattle.corner_table.proofs.Places.{option_tells, Some_injective, same_tells, same_refl, not_same}
-use Rattle.seams.specs.SeamBits.{has_bit, bit_sides}
+use Rattle.seams.specs.SeamBits.{has_bit}
 use Rattle.seams.specs.Laws.{SidesAreCounted}
 use Rattle.seams.proofs.Listing.{numbered, corners_are}
 use Rattle.seams.proofs.Bits.{one_has, bit_tells, bit_of_free}

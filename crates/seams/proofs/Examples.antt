@@ -1,6 +1,6 @@
 -- Two faces with one pair, and a fan of four faces round a point: their bits, what these tell, and the classes round the point.
-use Rattle.std.proofs.Common.{◌≡◌, ℕ, Bool, true, false, List, [], ◌∷◌, get_or, refl}
-use Rattle.corner_table.specs.Sides.{Side, first, second, third, side, Gluing, unglued, glue}
+use Rattle.std.proofs.Common.{◌≡◌, Bool, true, false, List, [], ◌∷◌, get_or, refl}
+use Rattle.corner_table.specs.Sides.{first, second, third, side, Gluing, unglued, glue}
 use Rattle.corner_table.specs.Fans.{corners_of, meets, walks_left, walks_right}
 use Rattle.seams.specs.Seams.{flag_at, listed, unseamed}
 use Rattle.seams.specs.SeamBits.{bit_sides, seam_bits, told}

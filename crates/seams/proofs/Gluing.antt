@@ -1,7 +1,7 @@
 -- The pairs of a surface, glued side after side.
-use Rattle.std.proofs.Common.{◌≡◌, ◌≢◌, ℕ, zero, suc, ◌+◌, ◌*◌, ◌/◌, ◌<◌, ◌≤◌, ◌||◌, ◌⊎◌, Bool, true, false, cond, nat_lt, Option, Some, None, inl, inr, refl, ap, sym, ◌∙◌, subst, List, get_or, arith, lt-ltb, le-ltb}
+use Rattle.std.proofs.Common.{◌≡◌, ◌≢◌, ℕ, suc, ◌+◌, ◌*◌, ◌/◌, ◌<◌, ◌≤◌, ◌||◌, ◌⊎◌, Bool, true, false, cond, nat_lt, Option, Some, None, inl, inr, refl, ap, sym, ◌∙◌, subst, List, get_or, arith, lt-ltb, le-ltb}
 use mathlib.Core.Path.{fun_ext}
-use Rattle.std.proofs.lemmas.Bool.{cases_Bool, cases_lt, cond-true, cond-false, or_from}
+use Rattle.std.proofs.lemmas.Bool.{cases_lt, cond-true, cond-false, or_from}
 use Rattle.corner_table.specs.Sides.{Side, number, side_at, Gluing, IsGluing, unglued, glue, IsFree}
 use Rattle.corner_table.proofs.Numbers.{side_at-number, number-side_at, number-lt}
 use Rattle.corner_table.proofs.Places.{option_tells, Some_injective, same_tells, glue_first, glue_second, glue_other}

@@ -1,6 +1,6 @@
 -- The flags while they are written.
-use Rattle.std.proofs.Common.{◌≡◌, ◌≢◌, ℕ, zero, suc, ◌+◌, ◌*◌, ◌<◌, ◌≤◌, Bool, true, false, cond, List, length, get_or, set, replicate, Option, Some, None, inl, inr, refl, ap, sym, ◌∙◌, subst, arith}
-use Rattle.std.proofs.lemmas.Bool.{cases_Bool, cases_lt, cases_eq, cond-true, cond-false, false≢true}
+use Rattle.std.proofs.Common.{◌≡◌, ◌≢◌, ℕ, ◌+◌, ◌*◌, ◌<◌, Bool, true, false, cond, List, length, get_or, set, replicate, Option, Some, None, inl, inr, ap, sym, ◌∙◌, subst, arith}
+use Rattle.std.proofs.lemmas.Bool.{cases_lt, cond-true, cond-false, false≢true}
 use Rattle.std.proofs.lemmas.List.{get_or-set_same, get_or-set_other, length-set, length-replicate, get_or-replicate}
 use Rattle.corner_table.specs.Sides.{Side, number, side_at, Gluing, IsGluing}
 use Rattle.corner_table.proofs.Numbers.{side_at-number, number-side_at, number-lt}
@@ -9,7 +9,7 @@ use Rattle.seams.specs.Seams.{flag_at, listed}
 use Rattle.seams.specs.SeamBits.{has_bit, of_pairs}
 use Rattle.seams.specs.Pairs.{TellsLater, AreToldTo}
 use Rattle.seams.proofs.Listing.{listed-is}
-use Rattle.seams.proofs.Bits.{one_has, bit_tells}
+use Rattle.seams.proofs.Bits.{one_has}
 
 -- both sides of a pair
 pub of_glued : (F : Side → Bool) (g : Gluing) (x y : Side) → g x ≡ Some y → of_pairs F g x ≡ F (cond (has_bit g x) x y)

@@ -1,5 +1,5 @@
 -- The seams of a mesh are alike on both sides of each pair, and the corners of one class have one value.
-use Rattle.std.proofs.Common.{◌≡◌, ℕ, ◌<◌, ◌||◌, Bool, true, false, not, ℤ, List, [], get_or, take, drop, ◌+◌, ◌-◌, ◌%◌, ◌≤◌, arith, Option, Some, None, inl, inr, refl, ap, sym, ◌∙◌}
+use Rattle.std.proofs.Common.{◌≡◌, ℕ, ◌||◌, Bool, true, false, not, ℤ, List, [], get_or, take, drop, ◌+◌, ◌-◌, ◌%◌, ◌≤◌, arith, Option, Some, None, inl, inr, refl, ap, sym, ◌∙◌}
 use Rattle.std.proofs.lemmas.Bool.{cases_Bool, or_parts}
 use Rattle.std.proofs.lemmas.List.{take-append-drop}
 use Rattle.std.proofs.lemmas.List.Sums.{sum_by-append, sum_by-take-le}
@@ -11,10 +11,10 @@ use Rattle.mesh_model.proofs.DistinctRows.{same_row-decides, same_row-refl, same
 use Rattle.corner_table.specs.Sides.{Side, Place, first, second, third, next, prev, place_number, Gluing, IsGluing}
 use Rattle.corner_table.proofs.Places.{option_tells, next-prev, prev-next}
 use Rattle.corner_table.proofs.Walks.{left_crosses, right_crosses}
-use Rattle.seams.specs.Seams.{AreFlags, flag_at, listed}
-use Rattle.seams.specs.SeamBits.{has_bit, bit_sides, place_in, of_pairs, told}
+use Rattle.seams.specs.Seams.{AreFlags, listed}
+use Rattle.seams.specs.SeamBits.{bit_sides, place_in, of_pairs, told}
 use Rattle.seams.specs.Values.{piece, part_of, point_at, differ, is_seam}
-use Rattle.seams.specs.Classes.{InClass, itself, over_next, over_prev}
+use Rattle.seams.specs.Classes.{itself, over_next, over_prev}
 use Rattle.seams.specs.Laws.{AreAlike, SeamsAreAlike, SeamsAreFlags, ClassHasOneValue, ToldAreFlags}
 use Rattle.seams.proofs.Listing.{length-listed, flag_at-listed}
 use Rattle.seams.proofs.Bits.{one_has}

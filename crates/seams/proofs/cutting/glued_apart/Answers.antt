@@ -1,5 +1,5 @@
 -- Each pair that is kept is glued.
-use Rattle.std.proofs.Common.{◌≡◌, ℕ, suc, ◌+◌, ◌*◌, ap, sym, ◌∙◌, arith}
+use Rattle.std.proofs.Common.{◌≡◌, suc, ◌+◌, ◌*◌, ap, sym, ◌∙◌, arith}
 use Rattle.corner_table.specs.Sides.{side_at}
 use Rattle.corner_table.specs.Table.{gluing_of, glued_in, side_of}
 use Rattle.seams.specs.Seams.{flag_at, unseamed}

@@ -1,5 +1,5 @@
 -- Each pair is told by its side that has the bit.
-use Rattle.std.proofs.Common.{◌≡◌, ◌*◌, true, replicate, ap, sym, ◌∙◌, length, arith}
+use Rattle.std.proofs.Common.{◌≡◌, ◌*◌, true, replicate, sym, ◌∙◌, length, arith}
 use Rattle.corner_table.specs.Sides.{side_at, IsGluing}
 use Rattle.corner_table.specs.Table.{glued_in}
 use Rattle.seams.specs.SeamBits.{of_pairs}

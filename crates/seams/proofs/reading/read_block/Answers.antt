@@ -1,10 +1,8 @@
 -- Each side takes its bit, for both sides of its pair.
-use Rattle.std.proofs.Common.{◌≡◌, ℕ, ◌*◌, ap, sym, ◌∙◌, length, List, set, refl, arith}
-use Rattle.rans_binary.specs.Blocks.{Block}
+use Rattle.std.proofs.Common.{ap, ◌∙◌, length, List, refl, arith}
 use Rattle.corner_table.specs.Sides.{Side}
 use Rattle.corner_table.specs.Table.{glued_in}
-use Rattle.seams.specs.SeamBits.{bit_of, bit_sides, place_in, after_bits}
-use Rattle.seams.specs.Pairs.{AreToldTo}
+use Rattle.seams.specs.SeamBits.{after_bits}
 use Rattle.seams.proofs.Telling.{told_start, told_over, told_more, told_end}
 use Rattle.seams.proofs.Blocks.{flag_next, block_more, block_over, bits_end}
 use Rattle.seams.proofs.reading.read_block.Goals.{in-Some, in-None}

@@ -1,10 +1,10 @@
 -- Each side that has a bit writes it.
-use Rattle.std.proofs.Common.{◌≡◌, ℕ, ◌*◌, Bool, true, false, map, length, List, ap, sym, ◌∙◌, arith}
+use Rattle.std.proofs.Common.{◌≡◌, Bool, true, false, map, length, List, ap, sym, ◌∙◌, arith}
 use Rattle.std.proofs.lemmas.List.{length-map}
 use Rattle.corner_table.specs.Sides.{side_at}
 use Rattle.corner_table.specs.Table.{gluing_of, glued_in}
 use Rattle.seams.specs.Seams.{flag_at}
-use Rattle.seams.specs.SeamBits.{has_bit, bit_sides, seam_bits}
+use Rattle.seams.specs.SeamBits.{has_bit, bit_sides}
 use Rattle.seams.proofs.Blocks.{bits_more, bits_over, bits_end, block_tells_flags}
 use Rattle.seams.proofs.writing.seam_bits.Goals.{in-Some+in_ok-push-in-Some, in-None}
 use Rattle.seams.proofs.writing.seam_bits.Goals as goal
