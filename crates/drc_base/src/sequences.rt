@@ -1,5 +1,6 @@
 //! Lists inside public types.
 
+use crate::faults::Memory;
 use std::marker::Model;
 
 /// A list that is filled once and then read. Contracts see it as the list of its items, whatever
@@ -54,5 +55,18 @@ impl<T> Sequence<T> {
         ensures { result.items ≡ self }
     {
         self.items
+    }
+}
+
+impl<T: Copy> Sequence<T> {
+    ghost use Rattle.std.specs.Prelude.{◌≡◌, ◌++◌, IfOk, OnErr};
+
+    /// Adds items behind the others; they stay as they are where memory is wanting.
+    pub fn append(&mut self, items: &[T]) -> Result<(), Memory>
+        ensures added { IfOk result (λ _. self.new ≡ self.old ++ items.now) }
+        ensures same { OnErr result (self.new ≡ self.old) }
+    {
+        self.items.extend_from_slice(items)?;
+        Ok(())
     }
 }

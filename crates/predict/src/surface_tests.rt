@@ -174,7 +174,9 @@ fn one_parallelogram_is_kept_where_it_comes_before(rt: HostRuntime) {
     let values = [0, 2, 0, 2, 0, 0, 2, 2, 0, 0, 0, 0];
     let (one, many, flags) = told(&rt, alloc, &t, &o, (0, 2), 3, &values);
     let corrections = [0, -1, 0, -1, 1, 0, 0, -1, 0, 0, 0, 0];
-    assert!(&rt; one.as_slice() == corrections.as_slice() && many.as_slice() == corrections.as_slice());
+    assert!(&rt;
+        one.as_slice() == corrections.as_slice() && many.as_slice() == corrections.as_slice()
+    );
     assert!(&rt; flags.lists[0].as_slice() == [false].as_slice());
     let over = with_list(&rt, alloc, &[false, true], 0);
     let (read, again) = answer(&rt, alloc, &t, &o, &over, &corrections);
