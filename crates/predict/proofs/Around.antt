@@ -78,9 +78,9 @@ other_numbers a b h = not_same (side_at a) (side_at b) (λ e. h (sym (number-sid
 -- what is found at a corner comes before the entry
 only_below-below : (e : ℕ) (t : FaceAcross) → IfSome (only_below e t) (IsBelow e)
 only_below-below e t = elim (cases_Bool (is_below e t)) [
-    | inl h ↦ subst (λ (o : Option FaceAcross). IfSome o (IsBelow e)) (sym (cond-true (is_below e t) (Some t) None h)) (below h)
-    | inr h ↦ subst (λ (o : Option FaceAcross). IfSome o (IsBelow e)) (sym (cond-false (is_below e t) (Some t) None h)) tt
-  ]
+  | inl h ↦ subst (λ (o : Option FaceAcross). IfSome o (IsBelow e)) (sym (cond-true (is_below e t) (Some t) None h)) (below h)
+  | inr h ↦ subst (λ (o : Option FaceAcross). IfSome o (IsBelow e)) (sym (cond-false (is_below e t) (Some t) None h)) tt
+]
   where
     below : is_below e t ≡ true → IsBelow e t
     below h =

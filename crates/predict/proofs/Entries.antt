@@ -93,10 +93,10 @@ corrected_more f r v out new comps e j p x foretells h has room is write so =
     is ∙ ap (λ (q : ℤ). correction_of r q (get_or v (e * comps + j) (pos 0))) told in
     let next : e * comps + (j + 1) ≡ e * comps + j + 1 = omega arith in
     rw (write, next) (
-      take_more_set out (e * comps + j) x in_out
-      ∙ ap (λ (front : List ℤ). front ++ x ∷ []) so
-      ∙ ap (λ (y : ℤ). take (e * comps + j) (corrections f r v) ++ y ∷ []) value
-      ∙ sym (take-corrections f r v (e * comps + j) at))
+    take_more_set out (e * comps + j) x in_out
+    ∙ ap (λ (front : List ℤ). front ++ x ∷ []) so
+    ∙ ap (λ (y : ℤ). take (e * comps + j) (corrections f r v) ++ y ∷ []) value
+    ∙ sym (take-corrections f r v (e * comps + j) at))
 
 -- all corrections are put
 pub corrected_end : (f : List ℤ → ℤ) (r : Range) (v out : List ℤ) (k : ℕ) → length out ≡ length v → length v ≤ k → Corrected f r v out k → out ≡ corrections f r v

@@ -2,7 +2,6 @@
 use Rattle.std.proofs.Common.{◌≡◌, ◌≢◌, ℕ, zero, suc, ◌+◌, ◌-◌, ◌*◌, ◌/◌, ◌%◌, ◌<◌, ◌≤◌, Bool, true, false, cond, nat_eq, eqb, eq-eqb, eqb-true, List, [], ◌∷◌, ◌++◌, length, map, take, drop, get_or, set, ℤ, inl, inr, refl, sym, subst, ◌∙◌, ap, arith, append-nil, append_assoc, add-one}
 use Rattle.std.specs.Prelude.{unsigned_abs, ◌-ℤ◌}
 use Rattle.std.specs.List.{All}
-use Rattle.std.specs.Global.{Vec}
 use Rattle.std.proofs.lemmas.Bool.{cond-true, cond-false, cases_Bool, cases_eq, eqb-false}
 use Rattle.std.proofs.lemmas.List.{take_all, length-take, length-drop, length-append, length-map, take_more, drop_at, take_at, drop-append-le, take-append-le, length-take-le, map_more, get_or_default, get_or-set_same, get_or-set_other}
 use Rattle.std.proofs.lemmas.List.Elements.{All-nil, All-cons, All-head, All-tail}
@@ -11,7 +10,7 @@ use Rattle.predict.specs.Walked.{Walked, IsBelow}
 use Rattle.predict.specs.Gathered.{gathered}
 use Rattle.predict.specs.Parallelogram.{component, fourth}
 use Rattle.predict.specs.Multi.{by_many, kept, wanted, flags_for, multi, marks, marked, AreMarked, HasFlags, LacksFlags, off_by, is_left_out}
-use Rattle.predict.specs.Entry.{Foretells, AreUsed, LacksNext, ForetellsAll, lists_of, put}
+use Rattle.predict.specs.Entry.{Foretells, AreUsed, LacksNext, ForetellsAll, put}
 use Rattle.predict.proofs.Entries.{entry_of, component_of}
 use Rattle.predict.proofs.Around.{gathered_few}
 
@@ -77,14 +76,14 @@ wanted_none w k = refl
 pub wanted_grows : (w : Walked) (k e n : ℕ) → e ≤ n → wanted w k e ≤ wanted w k n
 wanted_grows w k e zero h = let z : e ≡ zero = omega arith in rw z (omega arith)
 wanted_grows w k e (suc n) h = elim (cases_eq e (suc n)) [
-    | inl q ↦ rw q (omega arith)
-    | inr q ↦
-        let m = wanted_grows w k e n (omega arith) in
-        elim (cases_eq (length (gathered w n)) k) [
-          | inl y ↦ let s = wanted_here w k n y in omega arith
-          | inr y ↦ let s = wanted_there w k n y in omega arith
-        ]
-  ]
+  | inl q ↦ rw q (omega arith)
+  | inr q ↦
+      let m = wanted_grows w k e n (omega arith) in
+      elim (cases_eq (length (gathered w n)) k) [
+        | inl y ↦ let s = wanted_here w k n y in omega arith
+        | inr y ↦ let s = wanted_there w k n y in omega arith
+      ]
+]
 
 -- the prediction with flags foretells an entry from the faces that its flags keep
 pub foretells_many : (w : Walked) (comps : ℕ) (lists : List (List Bool)) (e : ℕ) → Foretells (multi w comps lists) comps e (by_many comps (kept (flags_for w lists e) (gathered w e)))
@@ -130,15 +129,17 @@ length-marked w comps v k (suc e) =
 pub marked_front : (w : Walked) (comps : ℕ) (v : List ℤ) (k e n : ℕ) → e ≤ n → (rest : List Bool) × (marked w comps v k n ≡ marked w comps v k e ++ rest)
 marked_front w comps v k e zero h = let z : zero ≡ e = omega arith in ([], ap (marked w comps v k) z ∙ sym (append-nil (marked w comps v k e)))
 marked_front w comps v k e (suc n) h = elim (cases_eq e (suc n)) [
-    | inl q ↦ ([], ap (marked w comps v k) (sym q) ∙ sym (append-nil (marked w comps v k e)))
-    | inr q ↦
-        let f = marked_front w comps v k e n (omega arith) in
-        elim (cases_eq (length (gathered w n)) k) [
-          | inl y ↦ (f.0 ++ marks w comps v n,
-              marked_here w comps v k n y ∙ ap (λ (l : List Bool). l ++ marks w comps v n) f.1 ∙ append_assoc (marked w comps v k e) f.0 (marks w comps v n))
-          | inr y ↦ (f.0, marked_there w comps v k n y ∙ f.1)
-        ]
-  ]
+  | inl q ↦ ([], ap (marked w comps v k) (sym q) ∙ sym (append-nil (marked w comps v k e)))
+  | inr q ↦
+      let f = marked_front w comps v k e n (omega arith) in
+      elim (cases_eq (length (gathered w n)) k) [
+        | inl y ↦ (
+          f.0 ++ marks w comps v n,
+          marked_here w comps v k n y ∙ ap (λ (l : List Bool). l ++ marks w comps v n) f.1 ∙ append_assoc (marked w comps v k e) f.0 (marks w comps v n),
+        )
+        | inr y ↦ (f.0, marked_there w comps v k n y ∙ f.1)
+      ]
+]
 
 -- of the written lists, an entry takes just its own marks
 pub flags_are : (w : Walked) (comps : ℕ) (v : List ℤ) (lists : List (List Bool)) (e n : ℕ) → AreMarked w comps v lists n → e < n → flags_for w lists e ≡ marks w comps v e
@@ -254,7 +255,7 @@ marked_more w comps v lists new e four write M k h = at (length (gathered w e)) 
         elim (cases_eq k n) [
           | inl y ↦ subst (λ (x : ℕ). get_or new x [] ≡ marked w comps v (suc x) (suc e)) (sym y)
               (ap (λ (l : List (List Bool)). get_or l n []) is ∙ get_or-set_same lists n (get_or lists n [] ++ marks w comps v e) [] (omega arith)
-                ∙ ap (λ (l : List Bool). l ++ marks w comps v e) (M n (omega arith)) ∙ sym (marked_here w comps v (suc n) e q))
+              ∙ ap (λ (l : List Bool). l ++ marks w comps v e) (M n (omega arith)) ∙ sym (marked_here w comps v (suc n) e q))
           | inr y ↦ ap (λ (l : List (List Bool)). get_or l k []) is ∙ get_or-set_other lists n k (get_or lists n [] ++ marks w comps v e) [] y ∙ M k h
               ∙ sym (marked_there w comps v (suc k) e (λ z. y (let a = q in omega arith)))
         ]
@@ -286,10 +287,6 @@ pub kept_long : (flags : List Bool) (faces : List FaceAcross) (i : ℕ) (now : L
 kept_long flags faces i now is =
     let few = kept_few (take i flags) (take i faces) in
     omega (arith, few, length-take i faces, ap (λ (l : List FaceAcross). length l) is)
-
--- as many lists of items as lists
-pub lists_long : (lists : List (Vec Bool)) → length lists ≡ 4 → length (lists_of lists) ≡ 4
-lists_long lists four = length-map lists (λ (l : Vec Bool). l.items) ∙ four
 
 -- one face more is kept or left out
 pub keep_more : (flags : List Bool) (faces : List FaceAcross) (i : ℕ) (d : Bool) (t : FaceAcross) (found now : List FaceAcross) → i < length flags → length flags ≡ length faces

@@ -1,10 +1,11 @@
 -- Restoring and correcting one entry after another.
 use Rattle.std.proofs.Common.{◌≡◌, ℕ, zero, suc, ◌+◌, ◌-◌, ◌<◌, ◌≤◌, ◌≤ℤ◌, ℤ, pos, List, [], ◌∷◌, ◌++◌, length, take, drop, get_or, set, FitsSigned, refl, sym, ◌∙◌, ap, add-one, append-nil, append_assoc, arith}
 use Rattle.std.proofs.lemmas.List.{drop_more, take_more_set, drop-set-lt, length-take-le, get_or-take, take_all, drop_all}
+use Rattle.std.proofs.lemmas.Int.{ints}
 use Rattle.std.proofs.lemmas.List.Elements.{All-nil, All-cons, All-head, All-tail}
 use Rattle.std.specs.Int.{w32}
 use Rattle.std.specs.List.{All}
-use Rattle.predict.specs.Wrap.{Range, CanWrap, restored_value, correction_of, least_correction, greatest_correction}
+use Rattle.predict.specs.Wrap.{Range, CanWrap, HasEnds, restored_value, correction_of, least_correction, greatest_correction}
 use Rattle.predict.specs.Restored.{restored, restored_behind, corrections, corrections_behind, entry_before}
 use Rattle.predict.proofs.Wrapping.{correction_restores, correction_small}
 
@@ -117,3 +118,10 @@ small-corrections f r v can within = behind f r [] v can within
         let in_range : InRange r x = All-head (InRange r) x v within in
         All-cons (IsSmall r) (correction_of r (f before) x) (corrections_behind f r (before ++ x ∷ []) v)
         (correction_small r (f before) x can in_range.0 in_range.1) (behind f r (before ++ x ∷ []) v can (All-tail (InRange r) x v within))
+
+-- numbers between two that have 32 bits have 32 bits
+fits_between : (l h x : ℤ) → FitsSigned w32 l → FitsSigned w32 h → l ≤ℤ x → x ≤ℤ h → FitsSigned w32 x
+fits_between l h x low high above below = search (arith, ints)
+
+pub fit_within : (r : Range) (v : List ℤ) → HasEnds r → All (InRange r) v → All (FitsSigned w32) v
+fit_within r v ends within k d p = let x = within k d p in fits_between r.low r.high (get_or v k d) ends.low ends.high x.0 x.1

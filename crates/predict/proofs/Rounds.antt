@@ -120,9 +120,9 @@ round_none g s (suc n) = refl
 -- a step to the right
 right_goes : (g : Gluing) (s c : Side) (i : ℕ) (P : Option Turn → Type 0) → RightAt g s i c → P None → ((d : Side) → RightAt g s (suc i) d → P (Some (turn d false))) → P (rightwards g c)
 right_goes g s c i P R none some = elim (option_tells (swing_right g c)) [
-    | inl e ↦ subst (λ (o : Option Side). P (option_map (λ d. turn d false) o)) (sym e) none
-    | inr x ↦ subst (λ (o : Option Side). P (option_map (λ d. turn d false) o)) (sym x.1) (some x.0 (record { met = right_last g i s c x.0 R.met x.1; open_fan = R.open_fan }))
-  ]
+  | inl e ↦ subst (λ (o : Option Side). P (option_map (λ d. turn d false) o)) (sym e) none
+  | inr x ↦ subst (λ (o : Option Side). P (option_map (λ d. turn d false) o)) (sym x.1) (some x.0 (record { met = right_last g i s c x.0 R.met x.1; open_fan = R.open_fan }))
+]
 
 -- what comes to the right is met there, once
 record GoodRight (g : Gluing) (s : Side) (i : ℕ) (cs : List Side) : Type 0 where
@@ -168,15 +168,15 @@ left_round {faces} {g} G s c i (suc n) L = with_rest (rest (λ d D. left_round G
         let ends : Ends g s = record { swings = i; last = c; met = L.met; ends = e } in
         right_goes g s s 0 (λ o. GoodLeft g s (suc i) (round_from g s n o)) (record { met = right_none g s; open_fan = ends }) (nothing n) (λ d D. of_right (right_round G s d 1 n D))
     rest on (Some d) e = elim (cases_Bool (same d s)) [
-        | inl h ↦ subst (λ (o : Option Turn). GoodLeft g s (suc i) (round_from g s n o)) (sym (cond-true (same d s) None (Some (turn d true)) h)) (nothing n)
-        | inr h ↦ subst (λ (o : Option Turn). GoodLeft g s (suc i) (round_from g s n o)) (sym (cond-false (same d s) None (Some (turn d true)) h)) (on d (record {
-            met = left_last g i s c d L.met e;
-            new = λ j p q r. elim (cases_eq j (suc i)) [
-              | inl z ↦ same-false d s h (Some_injective _ _ (sym (left_last g i s c d L.met e) ∙ ap (λ (k : ℕ). left_by g k s) (sym z) ∙ r))
-              | inr z ↦ L.new j p (omega arith) r
-            ];
-          }))
-      ]
+      | inl h ↦ subst (λ (o : Option Turn). GoodLeft g s (suc i) (round_from g s n o)) (sym (cond-true (same d s) None (Some (turn d true)) h)) (nothing n)
+      | inr h ↦ subst (λ (o : Option Turn). GoodLeft g s (suc i) (round_from g s n o)) (sym (cond-false (same d s) None (Some (turn d true)) h)) (on d (record {
+        met = left_last g i s c d L.met e;
+        new = λ j p q r. elim (cases_eq j (suc i)) [
+          | inl z ↦ same-false d s h (Some_injective _ _ (sym (left_last g i s c d L.met e) ∙ ap (λ (k : ℕ). left_by g k s) (sym z) ∙ r))
+          | inr z ↦ L.new j p (omega arith) r
+        ];
+      }))
+    ]
 
     with_rest : {cs : List Side} → GoodLeft g s (suc i) cs → GoodLeft g s i (c ∷ cs)
     with_rest {cs} rest = record {
@@ -219,9 +219,10 @@ round_is {faces} w G s h =
 -- lists with nothing in common, one after the other
 Apart-append : (xs ys : List Side) → Apart xs → Apart ys → All (λ x. All (λ y. x ≢ y) ys) xs → Apart (xs ++ ys)
 Apart-append [] ys X Y between = Y
-Apart-append (x ∷ xs) ys X Y between =
-    (All-append (λ d. x ≢ d) xs ys X.0 (All-head (λ x. All (λ y. x ≢ y) ys) x xs between),
-      Apart-append xs ys X.1 Y (All-tail (λ x. All (λ y. x ≢ y) ys) x xs between))
+Apart-append (x ∷ xs) ys X Y between = (
+  All-append (λ d. x ≢ d) xs ys X.0 (All-head (λ x. All (λ y. x ≢ y) ys) x xs between),
+  Apart-append xs ys X.1 Y (All-tail (λ x. All (λ y. x ≢ y) ys) x xs between),
+)
 
 -- the corners round the vertices of the entries before e
 rounds : Walked → ℕ → List Side
@@ -245,11 +246,11 @@ rounds_are {faces} w G O A (suc e) h =
     let r = round_is w G (corner_at w e) within in
     record {
       near = All-append (NearSome faces w (suc e)) (rounds w e) (round w (corner_at w e))
-      (All-weaker (NearSome faces w e) (NearSome faces w (suc e)) (λ d x. (x.0, (let b = x.1 in omega arith), x.2)) (rounds w e) before.near)
-      (All-weaker (Near faces w.gluing (corner_at w e)) (NearSome faces w (suc e)) (λ d x. (e, omega arith, x)) (round w (corner_at w e)) r.near);
+          (All-weaker (NearSome faces w e) (NearSome faces w (suc e)) (λ d x. (x.0, (let b = x.1 in omega arith), x.2)) (rounds w e) before.near)
+          (All-weaker (Near faces w.gluing (corner_at w e)) (NearSome faces w (suc e)) (λ d x. (e, omega arith, x)) (round w (corner_at w e)) r.near);
       apart = Apart-append (rounds w e) (round w (corner_at w e)) before.apart r.apart
-      (All-weaker (NearSome faces w e) (λ x. All (λ y. x ≢ y) (round w (corner_at w e)))
-      (λ x X. All-weaker (Near faces w.gluing (corner_at w e)) (λ y. x ≢ y) (λ y Y. other x y X Y) (round w (corner_at w e)) r.near) (rounds w e) before.near);
+          (All-weaker (NearSome faces w e) (λ x. All (λ y. x ≢ y) (round w (corner_at w e)))
+          (λ x X. All-weaker (Near faces w.gluing (corner_at w e)) (λ y. x ≢ y) (λ y Y. other x y X Y) (round w (corner_at w e)) r.near) (rounds w e) before.near);
     }
   where
     other : (x y : Side) → NearSome faces w e x → Near faces w.gluing (corner_at w e) y → x ≢ y
@@ -271,11 +272,11 @@ apart_at (x ∷ xs) (suc i) (suc j) d A p q e = ap suc (apart_at xs i j d A.1 (o
 -- a list of corners of the faces, none twice, is no longer than there are corners
 pub few_corners : (faces : ℕ) (xs : List Side) → All (λ c. c.face < faces) xs → Apart xs → length xs ≤ 3 * faces
 few_corners faces xs within apart = elim (cases_lt (3 * faces) (length xs)) [
-    | inr h ↦ h
-    | inl h ↦ absurd (no_room (3 * faces) (λ i. number (get_or xs i (side 0 first)))
-        (λ i p. number-lt (get_or xs i (side 0 first)) faces (All-get_or (λ c. c.face < faces) xs i (side 0 first) (omega arith) within))
-        (λ i j p q e. apart_at xs i j (side 0 first) apart (omega arith) (omega arith) (number_injective _ _ e)))
-  ]
+  | inr h ↦ h
+  | inl h ↦ absurd (no_room (3 * faces) (λ i. number (get_or xs i (side 0 first)))
+      (λ i p. number-lt (get_or xs i (side 0 first)) faces (All-get_or (λ c. c.face < faces) xs i (side 0 first) (omega arith) within))
+      (λ i j p q e. apart_at xs i j (side 0 first) apart (omega arith) (omega arith) (number_injective _ _ e)))
+]
 
 -- no more faces are gathered than there are corners
 found_few : (f : Side → Option FaceAcross) (cs : List Side) → length (filter_map f cs) ≤ length cs

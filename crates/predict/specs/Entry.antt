@@ -1,7 +1,7 @@
 -- One entry after another: what a step of restoring or correcting does for every prediction that foretells it. These are the code's own
 -- words.
-use Rattle.std.specs.Prelude.{◌≡◌, ℕ, suc, ◌+◌, ◌-◌, ◌*◌, ◌<◌, ◌≤◌, ℤ, Bool, cond, nat_eq, List, [], ◌++◌, length, map, take, drop, get_or, set}
-use Rattle.std.specs.Global.{Vec}
+use Rattle.std.specs.Prelude.{◌≡◌, ℕ, suc, ◌+◌, ◌-◌, ◌*◌, ◌<◌, ◌≤◌, ℤ, Bool, cond, nat_eq, List, [], ◌++◌, length, take, drop}
+use Rattle.std.specs.Prelude.{get_or, set}
 use Rattle.predict.specs.Wrap.{Range}
 use Rattle.predict.specs.Restored.{restored_behind, corrections}
 use Rattle.predict.specs.Walked.{Walked}
@@ -28,10 +28,6 @@ pub record AreUsed (w : Walked) (lists : List (List Bool)) (e : ℕ) (used : Lis
 -- entry e wants more flags of a list than it has
 abbrev pub LacksNext : Walked → List (List Bool) → ℕ → Type 0
 LacksNext w lists e = (k : ℕ) × (k < 4) × (length (get_or lists k []) < wanted w (suc k) (suc e))
-
--- the items of each list
-abbrev pub lists_of : List (Vec Bool) → List (List Bool)
-lists_of lists = map (λ l. l.items) lists
 
 -- the flags of one entry, put behind those of their list
 abbrev pub put : List Bool → List (List Bool) → List (List Bool)

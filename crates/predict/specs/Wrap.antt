@@ -1,6 +1,6 @@
 -- The wrap transform (Draco Bitstream Specification 2.2, section "Prediction Scheme Transforms"; that its sums are whole
 -- numbers is this project's choice).
-use Rattle.std.specs.Prelude.{ℕ, suc, ◌-◌, ◌/◌, ◌^◌, ℤ, pos, ◌+ℤ◌, ◌-ℤ◌, ◌<ℤ◌, ◌≤ℤ◌, neg_ℤ, unsigned_abs, int_lt, if◌then◌else◌}
+use Rattle.std.specs.Prelude.{ℕ, suc, ◌-◌, ◌/◌, ◌^◌, ℤ, pos, ◌+ℤ◌, ◌-ℤ◌, ◌<ℤ◌, ◌≤ℤ◌, neg_ℤ, unsigned_abs, FitsSigned, int_lt, if◌then◌else◌}
 use Rattle.std.specs.Int.{w32, int_min, int_max, int_wrap}
 
 -- the range in which values lie
@@ -16,6 +16,11 @@ span_of r = suc (unsigned_abs (r.high -ℤ r.low))
 pub record CanWrap (r : Range) : Type 0 where
   pub ordered : r.low ≤ℤ r.high
   pub narrow : (r.high -ℤ r.low) <ℤ pos (2 ^ 31 - 1)
+
+-- a range whose ends have 32 bits
+pub record HasEnds (r : Range) : Type 0 where
+  pub low : FitsSigned w32 r.low
+  pub high : FitsSigned w32 r.high
 
 -- a prediction, moved into the range
 abbrev pub clipped : Range → ℤ → ℤ

@@ -51,13 +51,7 @@ fn component_corrected(
 
 /// Turns the corrections of entry `e` into its values, predicted from the parallelograms over these
 /// faces.
-pub(crate) fn restore_entry(
-    w: &Wrap,
-    v: &mut [i32],
-    comps: usize,
-    e: usize,
-    faces: &[FaceAcross],
-)
+pub(crate) fn restore_entry(w: &Wrap, v: &mut [i32], comps: usize, e: usize, faces: &[FaceAcross])
     requires below { All (IsBelow e) faces.now }
     requires within { e * comps + comps ≤ length v.old }
     requires few { length faces.now ≤ 4 }

@@ -77,12 +77,7 @@ fn off_fourth(v: &[i32], comps: usize, e: usize, t: FaceAcross) -> u64
 }
 
 /// The flags that are written for the faces of entry `e`: set where the entry before is nearer.
-pub(crate) fn marks_of(
-    v: &[i32],
-    comps: usize,
-    e: usize,
-    found: &[FaceAcross],
-) -> ArrayVec<bool, 4>
+pub(crate) fn marks_of(v: &[i32], comps: usize, e: usize, found: &[FaceAcross]) -> ArrayVec<bool, 4>
     requires below { All (IsBelow e) found.now }
     requires within { e * comps + comps ≤ length v.now }
     requires comps { comps < 2 ^ 32 }

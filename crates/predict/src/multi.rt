@@ -2,12 +2,12 @@
 
 ghost use Rattle.std.specs.Prelude.{◌≡◌, ℕ, ℤ, suc, ◌+◌, ◌-◌, ◌*◌, ◌^◌, ◌<◌, ◌≤◌, ◌≤ℤ◌, ◌++◌, [], cond, nat_eq, List, Bool, length, take, drop, map, get_or, IfOk, IfSome, MatchOption, MatchResult};
 ghost use Rattle.std.specs.List.{All};
-ghost use Rattle.predict.specs.Wrap.{CanWrap, least_correction, greatest_correction};
+ghost use Rattle.predict.specs.Wrap.{CanWrap, HasEnds, least_correction, greatest_correction};
 ghost use Rattle.predict.specs.Restored.{restored, corrections};
 ghost use Rattle.predict.specs.Walked.{Walked, IsBelow, IsOver, walked};
 ghost use Rattle.predict.specs.Gathered.{gathered};
 ghost use Rattle.predict.specs.Multi.{by_many, kept, multi, wanted, flags_for, HasFlags, LacksFlags, AreMarked, marks, is_left_out};
-ghost use Rattle.predict.specs.Entry.{Foretells, Goes, Corrected, AreUsed, LacksNext, ForetellsAll, lists_of, put};
+ghost use Rattle.predict.specs.Entry.{Foretells, Goes, Corrected, AreUsed, LacksNext, ForetellsAll, put};
 ghost use Rattle.predict.specs.Stored.{IsSurface, walked_in};
 
 use crate::entry::{correct_entry, restore_entry};
@@ -80,15 +80,15 @@ pub fn restore_multi(
 }
 
 /// Puts the flags of an entry behind those of its list.
-fn put_marks(lists: &mut [Vec<bool>; 4], marks: &[bool]) -> Result<(), Memory>
+fn put_marks(lists: &mut [Sequence<bool>; 4], marks: &[bool]) -> Result<(), Memory>
     requires few { length marks.now ≤ 4 }
     requires four { length lists.old ≡ 4 }
     ensures long { length lists.new ≡ 4 }
-    ensures put { IfOk result (λ _. lists_of lists.new ≡ put marks.now (lists_of lists.old)) }
+    ensures put { IfOk result (λ _. lists.new ≡ put marks.now lists.old) }
 {
     let count = marks.len();
     if count > 0 {
-        lists[count - 1].extend_from_slice(marks)?;
+        lists[count - 1].append(marks)?;
     }
     Ok(())
 }
@@ -99,7 +99,7 @@ fn correct_entries(
     comps: usize,
     surface: &Surface<'_>,
     v: &[i32],
-    lists: &mut [Vec<bool>; 4],
+    lists: &mut [Sequence<bool>; 4],
     out: &mut [i32],
 ) -> Result<(), Memory>
     requires some { 0 < comps }
@@ -109,9 +109,9 @@ fn correct_entries(
     requires range { All (λ x. (w.now.low ≤ℤ x) × (x ≤ℤ w.now.high)) v.now }
     requires room { length out.old ≡ length v.now }
     requires four { length lists.old ≡ 4 }
-    requires none { (k : ℕ) → k < 4 → get_or (lists_of lists.old) k [] ≡ [] }
+    requires none { (k : ℕ) → k < 4 → get_or lists.old k [] ≡ [] }
     ensures long { length lists.new ≡ 4 }
-    ensures marked { IfOk result (λ _. AreMarked (walked_in surface.now) comps v.now (lists_of lists.new) (length surface.now.corners.now)) }
+    ensures marked { IfOk result (λ _. AreMarked (walked_in surface.now) comps v.now lists.new (length surface.now.corners.now)) }
     ensures corrections { IfOk result (λ _. (f : List ℤ → ℤ) → ForetellsAll f (walked_in surface.now) comps v.now (length surface.now.corners.now) → out.new ≡ corrections f w.now v.now) }
 {
     for e in 0..surface.corners.len() {
@@ -140,6 +140,7 @@ fn correct_with_flags(
     requires range { All (λ x. (w.now.low ≤ℤ x) × (x ≤ℤ w.now.high)) v.now }
     requires room { length out.old ≡ length v.now }
     requires can_wrap { CanWrap w.now }
+    requires ends { HasEnds w.now }
     ensures flags { IfOk result (λ x. AreMarked (walked_in surface.now) comps v.now x.lists (length surface.now.corners.now)) }
     ensures enough { IfOk result (λ x. HasFlags (walked_in surface.now) x.lists) }
     ensures corrections { IfOk result (λ x. out.new ≡ corrections (multi (walked_in surface.now) comps x.lists) w.now v.now) }
@@ -147,19 +148,12 @@ fn correct_with_flags(
     ensures small { IfOk result (λ x. All (λ c. (least_correction w.now ≤ℤ c) × (c ≤ℤ greatest_correction w.now)) out.new) }
 {
     let mut lists = [
-        Vec::new(alloc),
-        Vec::new(alloc),
-        Vec::new(alloc),
-        Vec::new(alloc),
+        Sequence::from_vec(Vec::new(alloc)),
+        Sequence::from_vec(Vec::new(alloc)),
+        Sequence::from_vec(Vec::new(alloc)),
+        Sequence::from_vec(Vec::new(alloc)),
     ];
     correct_entries(w, comps, surface, v, &mut lists, out)?;
-    let [one, two, three, four] = lists;
-    let lists = [
-        Sequence::from_vec(one),
-        Sequence::from_vec(two),
-        Sequence::from_vec(three),
-        Sequence::from_vec(four),
-    ];
     Ok(Flags { lists })
 }
 

@@ -2,7 +2,7 @@
 
 ghost use Rattle.std.specs.Prelude.{◌≡◌, ◌*◌, ◌<◌, ◌≤ℤ◌, length, IfOk};
 ghost use Rattle.std.specs.List.{All};
-ghost use Rattle.predict.specs.Wrap.{CanWrap, least_correction, greatest_correction};
+ghost use Rattle.predict.specs.Wrap.{CanWrap, HasEnds, least_correction, greatest_correction};
 ghost use Rattle.predict.specs.Restored.{restored, corrections};
 ghost use Rattle.predict.specs.Walked.{IsOver, walked};
 ghost use Rattle.predict.specs.Parallelogram.{parallelogram};
@@ -41,6 +41,7 @@ fn correct_entries(w: &Wrap, comps: usize, surface: &Surface<'_>, v: &[i32], out
     requires range { All (λ x. (w.now.low ≤ℤ x) × (x ≤ℤ w.now.high)) v.now }
     requires room { length out.old ≡ length v.now }
     requires can_wrap { CanWrap w.now }
+    requires ends { HasEnds w.now }
     ensures corrections { out.new ≡ corrections (parallelogram (walked_in surface.now) comps) w.now v.now }
     ensures restores { restored (parallelogram (walked_in surface.now) comps) w.now out.new ≡ v.now }
     ensures small { All (λ x. (least_correction w.now ≤ℤ x) × (x ≤ℤ greatest_correction w.now)) out.new }

@@ -10,7 +10,7 @@ use crate::{
     Flags, Wrap, correct_multi, correct_parallelogram, restore_multi, restore_parallelogram,
 };
 use corner_table::{Order, SideTable, Steps, side_with};
-use drc_base::{Kind, Sequence};
+use drc_base::{Kind, Sequence, Side};
 use std::alloc::Global;
 use std::marker::Brand;
 use std::process::Abort;
@@ -67,18 +67,28 @@ fn order_of(rt: &impl Abort, alloc: Global, corners: &[u32], entries: &[u32]) ->
     }
 }
 
+/// Whether all corners are of the faces below a number.
+fn all_below(corners: &[Side], faces: u32) -> bool
+    ensures { IsTrue result → All (λ c. c.face < faces) corners.now }
+{
+    for i in 0..corners.len() {
+        let face = corners[i].face;
+        if face >= faces {
+            return false;
+        }
+    }
+    true
+}
+
 /// Whether an order is one over a table.
 fn is_over(t: &SideTable, o: &Order) -> bool
     ensures { IsTrue result → IsOver t.now.faces (walked t.now o.now) }
 {
     let faces = t.face_count();
-    let corners = o.corner_of_entry.as_slice();
-    for i in 0..corners.len() {
-        if corners[i].face >= faces {
-            return false;
-        }
+    if o.entry_of_corner.len() != 3 * faces as usize {
+        return false;
     }
-    o.entry_of_corner.len() == 3 * faces as usize
+    all_below(o.corner_of_entry.as_slice(), faces)
 }
 
 /// Whether all values lie in a range.
@@ -86,7 +96,11 @@ fn all_within(v: &[i32], low: i32, high: i32) -> bool
     ensures { IsTrue result → All (λ x. (low ≤ℤ x) × (x ≤ℤ high)) v.now }
 {
     for i in 0..v.len() {
-        if v[i] < low || v[i] > high {
+        let value = v[i];
+        if value < low {
+            return false;
+        }
+        if value > high {
             return false;
         }
     }
@@ -163,7 +177,7 @@ fn parallelograms_round_a_tetrahedron_are_left_out(rt: HostRuntime) {
     let (_, many, flags) = told(&rt, alloc, &t, &o, (0, 1), 3, &values);
     assert!(&rt; many.as_slice() == [0, 0, -1, 0, -1, -1, 0, -1, 0, -1, 0, 0].as_slice());
     assert!(&rt; flags.lists[2].as_slice() == [true; 3].as_slice());
-    assert!(&rt; flags.lists[0].len() + flags.lists[1].len() + flags.lists[3].len() == 0);
+    assert!(&rt; flags.lists[0].is_empty() && flags.lists[1].is_empty() && flags.lists[3].is_empty());
 }
 
 #[test]
@@ -174,7 +188,9 @@ fn one_parallelogram_is_kept_where_it_comes_before(rt: HostRuntime) {
     let values = [0, 2, 0, 2, 0, 0, 2, 2, 0, 0, 0, 0];
     let (one, many, flags) = told(&rt, alloc, &t, &o, (0, 2), 3, &values);
     let corrections = [0, -1, 0, -1, 1, 0, 0, -1, 0, 0, 0, 0];
-    assert!(&rt; one.as_slice() == corrections.as_slice() && many.as_slice() == corrections.as_slice());
+    assert!(&rt;
+        one.as_slice() == corrections.as_slice() && many.as_slice() == corrections.as_slice()
+    );
     assert!(&rt; flags.lists[0].as_slice() == [false].as_slice());
     let over = with_list(&rt, alloc, &[false, true], 0);
     let (read, again) = answer(&rt, alloc, &t, &o, &over, &corrections);

@@ -1,7 +1,7 @@
 //! The wrap transform of corrections.
 
 ghost use Rattle.std.specs.Prelude.{◌≡◌, ◌↔◌, ◌≤ℤ◌, ◌+ℤ◌, IfSome, IsSome};
-ghost use Rattle.predict.specs.Wrap.{CanWrap, least_correction, greatest_correction, clipped, wrapped, halved, restored_value, correction_of};
+ghost use Rattle.predict.specs.Wrap.{CanWrap, HasEnds, least_correction, greatest_correction, clipped, wrapped, halved, restored_value, correction_of};
 
 use crate::wholes::{difference, sum, sum_within, wrapping_sum};
 use std::marker::Model;
@@ -49,6 +49,7 @@ impl Wrap {
     pub fn copy(&self) -> Wrap
         ensures same { result ≡ self.now }
         ensures can_wrap { CanWrap self.now }
+        ensures ends { HasEnds self.now }
     {
         Wrap {
             low: self.low,

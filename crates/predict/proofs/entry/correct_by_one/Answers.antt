@@ -9,9 +9,9 @@ use Rattle.predict.proofs.entry.correct_by_one.Goals as goal
 pub returns-in-None : goal.returns-in-None
 returns-in-None c = λ f foretells so. c.correct_entry.ensures f
     (foretells_alike f c.args.comps c.args.e (by_one c.args.comps c.args.face) (by_many c.args.comps [])
-      (λ j before. ap (λ (o : Option FaceAcross). by_one c.args.comps o j before) c.in-None.is) foretells) so
+    (λ j before. ap (λ (o : Option FaceAcross). by_one c.args.comps o j before) c.in-None.is) foretells) so
 
 pub returns-in-Some : goal.returns-in-Some
 returns-in-Some c = λ f foretells so. c.correct_entry-in-Some.ensures f
     (foretells_alike f c.args.comps c.args.e (by_one c.args.comps c.args.face) (by_many c.args.comps (c.in-Some.t ∷ []))
-      (λ j before. ap (λ (o : Option FaceAcross). by_one c.args.comps o j before) c.in-Some.is ∙ mean_of_one c.args.comps c.in-Some.t j before) foretells) so
+    (λ j before. ap (λ (o : Option FaceAcross). by_one c.args.comps o j before) c.in-Some.is ∙ mean_of_one c.args.comps c.in-Some.t j before) foretells) so

@@ -6,16 +6,16 @@ use Rattle.predict.specs.declared.surface.FaceAcross.{FaceAcross}
 use Rattle.predict.specs.Walked.{IsBelow}
 use Rattle.predict.specs.Gathered.{gathered}
 use Rattle.predict.specs.Multi.{by_many, kept, marks, is_left_out, AreMarked}
-use Rattle.predict.specs.Entry.{Foretells, lists_of, put}
+use Rattle.predict.specs.Entry.{Foretells, put}
 use Rattle.predict.specs.Stored.{walked_in}
 use Rattle.predict.proofs.Entries.{corrected_start, corrected_on, corrected_end, all_entries}
-use Rattle.predict.proofs.Kept.{marked_none, marked_more, lists_long}
+use Rattle.predict.proofs.Kept.{marked_none, marked_more}
 use Rattle.predict.proofs.multi.correct_entries.Goals as goal
 
 pub loop-e-init : goal.loop-e-init
 loop-e-init c = record {
   long = c.requires.four;
-  marked = marked_none (walked_in c.args.surface.now) c.args.comps c.args.v.now (lists_of c.args.lists.now) c.requires.none;
+  marked = marked_none (walked_in c.args.surface.now) c.args.comps c.args.v.now c.args.lists.now c.requires.none;
   corrected = λ f foretells. corrected_start f c.args.w.now c.args.v.now c.args.out.now c.args.comps;
 }
 
@@ -37,15 +37,14 @@ loop-e-preserved c =
     let kept_by : c.as_slice-in-loop-e-3.result.now ≡ marks w comps v e = c.as_slice-in-loop-e-3.ensures.value ∙ marks_are in
     let faces : c.as_slice-in-loop-e-4.result.now ≡ kept (marks w comps v e) (gathered w e) =
     c.as_slice-in-loop-e-4.ensures.value ∙ c.keep-faces.ensures.faces ∙ ap (λ (l : List Bool). kept l c.as_slice-in-loop-e-2.result.now) kept_by ∙ ap (kept (marks w comps v e)) again in
-    let four : length (lists_of c.loop-e.lists) ≡ 4 = lists_long c.loop-e.lists c.loop-e.invariant.long in
     record {
       long = c.in_ok-put_marks.ensures.long;
-      marked = subst (λ (n : ℕ). AreMarked w comps v (lists_of c.put_marks.new.lists) n) (sym (add-one e))
-          (marked_more w comps v (lists_of c.loop-e.lists) (lists_of c.put_marks.new.lists) e four
-            (c.in_ok-put_marks.ensures.put ∙ ap (λ (m : List Bool). put m (lists_of c.loop-e.lists)) put_are) c.loop-e.invariant.marked);
+      marked = subst (λ (n : ℕ). AreMarked w comps v c.put_marks.new.lists n) (sym (add-one e))
+          (marked_more w comps v c.loop-e.lists c.put_marks.new.lists e c.loop-e.invariant.long
+          (c.in_ok-put_marks.ensures.put ∙ ap (λ (m : List Bool). put m c.loop-e.lists) put_are) c.loop-e.invariant.marked);
       corrected = λ f foretells. corrected_on f c.args.w.now v c.correct_entry.new.out comps e
           (c.correct_entry.ensures f (subst (λ (l : List FaceAcross). Foretells f comps e (by_many comps l)) (sym faces) (foretells e (omega arith)))
-            (c.loop-e.invariant.corrected f (λ i h. foretells i (omega arith))));
+          (c.loop-e.invariant.corrected f (λ i h. foretells i (omega arith))));
     }
 
 pub returns-clause-corrections : goal.returns-clause-corrections

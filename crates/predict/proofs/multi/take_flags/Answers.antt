@@ -9,9 +9,10 @@ use Rattle.predict.proofs.multi.take_flags.Goals as goal
 use Rattle.predict.proofs.multi.take_flags.Goals.{then-first-list-via-then-first-list, then-first-list-via-else-first-list+then-list-first}
 
 pub returns-then-count-eq0-clause-faces : goal.returns-then-count-eq0-clause-faces
-returns-then-count-eq0-clause-faces c = λ w e is U.
-    (c.new.ensures ∙ kept_nothing (flags_for w c.args.flags.now.lists e) c.args.found.now c.if-count-eq0.true,
-      used_same w c.args.flags.now.lists e c.args.used.now (sym (ap (λ (l : List FaceAcross). length l) is) ∙ c.if-count-eq0.true) U)
+returns-then-count-eq0-clause-faces c = λ w e is U. (
+  c.new.ensures ∙ kept_nothing (flags_for w c.args.flags.now.lists e) c.args.found.now c.if-count-eq0.true,
+  used_same w c.args.flags.now.lists e c.args.used.now (sym (ap (λ (l : List FaceAcross). length l) is) ∙ c.if-count-eq0.true) U,
+)
 
 pub returns-then-first-list-clause-faces : goal.returns-then-first-list-clause-faces
 returns-then-first-list-clause-faces c = λ w e is U.
@@ -43,6 +44,7 @@ returns-clause-faces c = λ w e is U.
     ap (λ (n : ℕ). take n (drop first c.as_slice-list.result.now)) many ∙ ap (λ (l : List Bool). take (suc k) (drop first l)) list ∙ taken_are w lists e k c.args.used.now low here U in
     let enough : first + suc k ≤ length (get_or lists k []) =
     omega (arith, ap (λ (l : List Bool). length l) list, c.if-first-list.false, c.if-list-first.false, c.if-count-eq0.false) in
-    let next : first + length c.args.found.now ≡ first + suc k = omega (arith, c.if-count-eq0.false) in
-    (c.keep.ensures.faces ∙ ap (λ (l : List Bool). kept l c.args.found.now) flags,
-      used_more w lists e k c.args.used.now _ c.requires.used low here (ap (λ (n : ℕ). set c.args.used.now k n) next) enough U)
+    let next : first + length c.args.found.now ≡ first + suc k = omega (arith, c.if-count-eq0.false) in (
+      c.keep.ensures.faces ∙ ap (λ (l : List Bool). kept l c.args.found.now) flags,
+      used_more w lists e k c.args.used.now _ c.requires.used low here (ap (λ (n : ℕ). set c.args.used.now k n) next) enough U,
+    )

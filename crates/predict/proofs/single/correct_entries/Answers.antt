@@ -1,5 +1,5 @@
 -- Entry after entry is corrected.
-use Rattle.std.proofs.Common.{rules, ◌≡◌, ◌*◌, ◌≤◌, ◌≤ℤ◌, FitsSigned, w32, ℕ, ℤ, List, Option, length, ap, ◌∙◌, sym, subst, arith}
+use Rattle.std.proofs.Common.{◌≡◌, ◌*◌, ◌≤◌, ◌≤ℤ◌, FitsSigned, w32, ℕ, ℤ, List, Option, length, ap, ◌∙◌, sym, subst, arith}
 use Rattle.std.specs.List.{All}
 use Rattle.std.proofs.lemmas.List.Elements.{All-same}
 use Rattle.corner_table.specs.Sides.{Side}
@@ -11,7 +11,7 @@ use Rattle.predict.specs.Wrap.{least_correction, greatest_correction}
 use Rattle.predict.specs.Restored.{restored, corrections}
 use Rattle.predict.specs.Stored.{walked_in}
 use Rattle.predict.proofs.Entries.{corrected_on, corrected_end, foretells_one, all_entries}
-use Rattle.predict.proofs.Restoring.{restored-corrections, small-corrections}
+use Rattle.predict.proofs.Restoring.{fit_within, restored-corrections, small-corrections}
 use Rattle.predict.proofs.single.correct_entries.Goals as goal
 
 pub loop-e-preserved : goal.loop-e-preserved
@@ -32,7 +32,7 @@ returns-clause-corrections c =
 
 pub returns-clause-restores : goal.returns-clause-restores
 returns-clause-restores c =
-    let fits : All (FitsSigned w32) c.args.v.now = search rules in
+    let fits : All (FitsSigned w32) c.args.v.now = fit_within c.args.w.now c.args.v.now c.requires.ends c.requires.range in
     let f = parallelogram (walked_in c.args.surface.now) c.args.comps in
     ap (restored f c.args.w.now) (returns-clause-corrections c) ∙ restored-corrections f c.args.w.now c.args.v.now c.requires.can_wrap c.requires.range fits
 

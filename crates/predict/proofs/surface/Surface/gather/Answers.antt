@@ -44,10 +44,10 @@ returns-then-len-eq4-clause-faces c =
     let four : length c.gather_corner.new.found.items ≡ 4 = omega (arith, c.len.ensures.value, c.if-len-eq4.true) in
     gathered_full c.gather_corner.new.found.items _ _ four
     (gathered_step (at_corner (walked_in c.args.self.now) c.args.e) (walked_in c.args.self.now).gluing (side_at c.corner_of-start.result)
-      (length c.args.self.now.entries.now - c.loop-step.step) (length c.args.self.now.entries.now - (c.loop-step.step + 1))
-      (option_map turn_of c.loop-step.turn) (turn_on (walked_in c.args.self.now).gluing (side_at c.corner_of-start.result) (turn_of c.in-Some.now)) (turn_of c.in-Some.now)
-      c.loop-step.found.items c.gather_corner.new.found.items (gathered (walked_in c.args.self.now) c.args.e)
-      fuel (ap (option_map turn_of) c.in-Some.is) refl c.gather_corner.ensures c.loop-step.invariant.rest)
+    (length c.args.self.now.entries.now - c.loop-step.step) (length c.args.self.now.entries.now - (c.loop-step.step + 1))
+    (option_map turn_of c.loop-step.turn) (turn_on (walked_in c.args.self.now).gluing (side_at c.corner_of-start.result) (turn_of c.in-Some.now)) (turn_of c.in-Some.now)
+    c.loop-step.found.items c.gather_corner.new.found.items (gathered (walked_in c.args.self.now) c.args.e)
+    fuel (ap (option_map turn_of) c.in-Some.is) refl c.gather_corner.ensures c.loop-step.invariant.rest)
 
 pub returns-then-len-eq4-clause-below : goal.returns-then-len-eq4-clause-below
 returns-then-len-eq4-clause-below c = all_gathered (walked_in c.args.self.now) c.args.e c.gather_corner.new.found.items (returns-then-len-eq4-clause-faces c)
