@@ -1,5 +1,5 @@
 -- Gathering the faces round a vertex, corner after corner.
-use Rattle.std.proofs.Common.{◌≡◌, ◌≢◌, ℕ, zero, suc, ◌+◌, ◌-◌, ◌<◌, ◌≤◌, Bool, true, false, cond, ◌&&◌, nat_lt, List, [], ◌∷◌, ◌++◌, length, take, Option, Some, None, IfSome, option_map, inl, inr, refl, sym, subst, ◌∙◌, ap, arith, append-nil, append_assoc}
+use Rattle.std.proofs.Common.{◌≡◌, ◌≢◌, ℕ, zero, suc, ◌+◌, ◌≤◌, true, false, ◌&&◌, nat_lt, List, [], ◌∷◌, ◌++◌, length, take, Option, Some, None, IfSome, inl, inr, refl, sym, subst, ◌∙◌, ap, arith, append-nil, append_assoc}
 use Rattle.std.specs.Option.{option_to_list}
 use Rattle.std.specs.List.{All, filter_map}
 use Rattle.std.proofs.lemmas.Bool.{cond-true, cond-false, cases_Bool, and_parts, ltb-true}
@@ -7,7 +7,7 @@ use Rattle.std.proofs.lemmas.List.{take-append-le, take_all, length-take, length
 use Rattle.std.proofs.lemmas.List.Elements.{All-nil, All-cons, All-append, All-same, All-take, filter_map-append}
 use Rattle.corner_table.specs.Sides.{Side, side_at, same, number, Gluing}
 use Rattle.corner_table.proofs.Numbers.{number-side_at}
-use Rattle.corner_table.proofs.Places.{same-true, same_refl, not_same}
+use Rattle.corner_table.proofs.Places.{same_refl, not_same}
 use Rattle.predict.specs.declared.surface.FaceAcross.{FaceAcross}
 use Rattle.predict.specs.Walked.{Walked, IsBelow, is_below, only_below, face_at, corner_at, at_corner}
 use Rattle.predict.specs.Gathered.{Turn, turn, turn_on, round_from, round, gathered}

@@ -1,14 +1,13 @@
 -- Flags: what they keep, how many are wanted, and where those of an entry stand.
-use Rattle.std.proofs.Common.{◌≡◌, ◌≢◌, ℕ, zero, suc, ◌+◌, ◌-◌, ◌*◌, ◌/◌, ◌%◌, ◌<◌, ◌≤◌, Bool, true, false, cond, nat_eq, eqb, eq-eqb, eqb-true, List, [], ◌∷◌, ◌++◌, length, map, take, drop, get_or, set, ℤ, inl, inr, refl, sym, subst, ◌∙◌, ap, arith, append-nil, append_assoc, add-one}
+use Rattle.std.proofs.Common.{◌≡◌, ◌≢◌, ℕ, zero, suc, ◌+◌, ◌-◌, ◌/◌, ◌%◌, ◌<◌, ◌≤◌, Bool, true, false, cond, nat_eq, eqb, eq-eqb, eqb-true, List, [], ◌∷◌, ◌++◌, length, map, take, drop, get_or, set, ℤ, inl, inr, refl, sym, subst, ◌∙◌, ap, arith, append-nil, append_assoc, add-one}
 use Rattle.std.specs.Prelude.{unsigned_abs, ◌-ℤ◌}
 use Rattle.std.specs.List.{All}
-use Rattle.std.proofs.lemmas.Bool.{cond-true, cond-false, cases_Bool, cases_eq, eqb-false}
-use Rattle.std.proofs.lemmas.List.{take_all, length-take, length-drop, length-append, length-map, take_more, drop_at, take_at, drop-append-le, take-append-le, length-take-le, map_more, get_or_default, get_or-set_same, get_or-set_other}
+use Rattle.std.proofs.lemmas.Bool.{cond-true, cond-false, cases_Bool, cases_eq}
+use Rattle.std.proofs.lemmas.List.{take_all, length-take, length-append, length-map, drop_at, take_at, map_more, get_or_default, get_or-set_same, get_or-set_other}
 use Rattle.std.proofs.lemmas.List.Elements.{All-nil, All-cons, All-head, All-tail}
 use Rattle.predict.specs.declared.surface.FaceAcross.{FaceAcross}
 use Rattle.predict.specs.Walked.{Walked, IsBelow}
 use Rattle.predict.specs.Gathered.{gathered}
-use Rattle.predict.specs.Parallelogram.{component, fourth}
 use Rattle.predict.specs.Multi.{by_many, kept, wanted, flags_for, multi, marks, marked, AreMarked, HasFlags, LacksFlags, off_by, is_left_out}
 use Rattle.predict.specs.Entry.{Foretells, AreUsed, LacksNext, ForetellsAll, put}
 use Rattle.predict.proofs.Entries.{entry_of, component_of}

@@ -1,6 +1,6 @@
 -- The mean of up to four parallelograms.
 use Rattle.std.specs.Option.{option_to_list}
-use Rattle.std.proofs.Common.{◌≡◌, ℕ, Option, Some, None, zero, suc, ◌+◌, ◌*◌, ◌<◌, ◌≤◌, ◌/◌, ℤ, pos, negsuc, ◌+ℤ◌, ◌-ℤ◌, neg_ℤ, List, [], ◌∷◌, length, take, get_or, map, fold, refl, sym, ◌∙◌, ap, arith, FitsSigned}
+use Rattle.std.proofs.Common.{◌≡◌, ℕ, Option, Some, None, suc, ◌+◌, ◌*◌, ◌<◌, ◌/◌, ℤ, pos, negsuc, ◌+ℤ◌, ◌-ℤ◌, neg_ℤ, List, [], ◌∷◌, length, take, get_or, map, fold, refl, sym, ◌∙◌, ap, arith, FitsSigned}
 use Rattle.std.specs.Prelude.{int_div}
 use Rattle.std.specs.Int.{w32, int_wrap}
 use Rattle.std.specs.List.{All}
@@ -9,7 +9,7 @@ use Rattle.std.proofs.lemmas.List.Elements.{All-head, All-tail}
 use Rattle.predict.specs.declared.surface.FaceAcross.{FaceAcross}
 use Rattle.predict.specs.Walked.{IsBelow}
 use Rattle.predict.specs.Parallelogram.{component, fourth, by_one}
-use Rattle.predict.specs.Multi.{total, by_many}
+use Rattle.predict.specs.Multi.{by_many}
 use Rattle.predict.specs.Restored.{entry_before}
 use Rattle.predict.proofs.Entries.{fourth_take}
 

@@ -1,17 +1,17 @@
 -- The way round a vertex meets no corner twice, and no corner of another fan: so the flags that are wanted are no more than corners.
-use Rattle.std.proofs.Common.{◌≡◌, ◌≢◌, ℕ, zero, suc, ◌+◌, ◌-◌, ◌*◌, ◌<◌, ◌≤◌, Bool, true, false, cond, List, [], ◌∷◌, ◌++◌, length, take, get_or, map, Option, Some, None, ◌⊎◌, inl, inr, refl, sym, subst, ◌∙◌, ap, arith, option_map}
+use Rattle.std.proofs.Common.{◌≡◌, ◌≢◌, ℕ, zero, suc, ◌+◌, ◌-◌, ◌*◌, ◌<◌, ◌≤◌, true, false, List, [], ◌∷◌, ◌++◌, length, get_or, Option, Some, None, ◌⊎◌, inl, inr, refl, sym, subst, ◌∙◌, ap, arith, option_map}
 use Rattle.std.specs.List.{All, filter_map}
 use Rattle.std.proofs.lemmas.Bool.{cases_Bool, cases_eq, cases_lt, cond-true, cond-false}
-use Rattle.std.proofs.lemmas.List.{length-append, length-take, get_or_append_left, get_or-append_right}
+use Rattle.std.proofs.lemmas.List.{length-append, length-take}
 use Rattle.std.proofs.lemmas.List.Elements.{All-nil, All-cons, All-head, All-tail, All-append, All-weaker, All-get_or, filter_map-append}
 use Rattle.corner_table.specs.Sides.{Side, first, side, same, number, Gluing, IsGluing}
-use Rattle.corner_table.specs.Fans.{swing_left, swing_right, left_by, right_by, InFan, here}
+use Rattle.corner_table.specs.Fans.{swing_left, swing_right, left_by, right_by, InFan}
 use Rattle.corner_table.proofs.Numbers.{no_room, number-lt, number_injective}
 use Rattle.corner_table.proofs.Places.{option_tells, Some_injective, same-false}
-use Rattle.corner_table.proofs.Walks.{left_none, right_none, left_by-zero, right_by-zero, left_last, right_last, left_split, right_split, left_back, right_back, left_by-fan, right_by-fan, left-within, right-within, left_count, left_more, left_then_right, fan_trans, fan_sym}
+use Rattle.corner_table.proofs.Walks.{left_none, right_none, left_by-zero, right_by-zero, left_last, right_last, left_split, right_split, right_back, left_by-fan, right_by-fan, left-within, right-within, left_count, left_more, left_then_right, fan_trans, fan_sym}
 use Rattle.predict.specs.declared.surface.FaceAcross.{FaceAcross}
 use Rattle.predict.specs.Walked.{Walked, IsOver, corner_at, at_corner}
-use Rattle.predict.specs.Gathered.{Turn, turn, turn_on, rightwards, leftwards_from, round_from, round, gathered}
+use Rattle.predict.specs.Gathered.{Turn, turn, rightwards, leftwards_from, round_from, round, gathered}
 use Rattle.predict.specs.Multi.{wanted}
 use Rattle.predict.specs.Laws.{AreApart, FlagsAreFew}
 use Rattle.predict.proofs.Kept.{wanted_here, wanted_there}

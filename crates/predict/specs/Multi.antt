@@ -1,6 +1,6 @@
 -- Constrained multi-parallelogram prediction (Draco Bitstream Specification 2.2, section "Mesh Constrained Multi Parallelogram
 -- Prediction"): the mean of those parallelograms round an entry that its flags keep. Which flags are written is this project's choice.
-use Rattle.std.specs.Prelude.{◌≡◌, ℕ, zero, suc, ◌+◌, ◌-◌, ◌*◌, ◌/◌, ◌%◌, ◌<◌, ◌≤◌, nat_eq, nat_lt, ℤ, pos, ◌+ℤ◌, ◌-ℤ◌, int_div}
+use Rattle.std.specs.Prelude.{◌≡◌, ℕ, zero, suc, ◌+◌, ◌-◌, ◌/◌, ◌%◌, ◌<◌, ◌≤◌, nat_eq, nat_lt, ℤ, pos, ◌+ℤ◌, ◌-ℤ◌, int_div}
 use Rattle.std.specs.Prelude.{unsigned_abs, Bool, cond, List, [], ◌∷◌, ◌++◌, length, map, take, drop, get_or, fold}
 use Rattle.std.specs.Int.{w32, int_wrap}
 use Rattle.predict.specs.declared.surface.FaceAcross.{FaceAcross}

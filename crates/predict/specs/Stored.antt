@@ -1,7 +1,7 @@
 -- How a surface lies in the lists of the code. These are the code's own words.
-use Rattle.std.specs.Prelude.{◌≡◌, ℕ, ◌*◌, ◌/◌, ◌<◌, ◌≤◌, List, length, map, All}
+use Rattle.std.specs.Prelude.{◌≡◌, ℕ, ◌*◌, ◌/◌, ◌<◌, ◌≤◌, length, map, All}
 use Rattle.drc_base.specs.declared.limits.TheConstants.{MAX_FACES}
-use Rattle.corner_table.specs.Sides.{Side, side_at, IsGluing}
+use Rattle.corner_table.specs.Sides.{side_at, IsGluing}
 use Rattle.corner_table.specs.Table.{side_of, glued_in}
 use Rattle.predict.specs.declared.surface.Surface.{Surface}
 use Rattle.predict.specs.declared.gathering.Turn.{Turn as StoredTurn}

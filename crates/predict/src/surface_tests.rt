@@ -177,7 +177,9 @@ fn parallelograms_round_a_tetrahedron_are_left_out(rt: HostRuntime) {
     let (_, many, flags) = told(&rt, alloc, &t, &o, (0, 1), 3, &values);
     assert!(&rt; many.as_slice() == [0, 0, -1, 0, -1, -1, 0, -1, 0, -1, 0, 0].as_slice());
     assert!(&rt; flags.lists[2].as_slice() == [true; 3].as_slice());
-    assert!(&rt; flags.lists[0].is_empty() && flags.lists[1].is_empty() && flags.lists[3].is_empty());
+    assert!(&rt;
+        flags.lists[0].is_empty() && flags.lists[1].is_empty() && flags.lists[3].is_empty()
+    );
 }
 
 #[test]

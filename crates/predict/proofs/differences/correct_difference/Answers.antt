@@ -1,7 +1,7 @@
 use Rattle.std.proofs.Common.{rules, ◌-◌, ◌<◌, length, pos, FitsSigned, get_or, w32, arith}
 use Rattle.std.specs.List.{All}
 use Rattle.std.proofs.lemmas.Int.{to_z-of_z}
-use Rattle.predict.specs.Restored.{corrections, entry_before}
+use Rattle.predict.specs.Restored.{entry_before}
 use Rattle.predict.proofs.Restoring.{entry_before-first, entry_before-later, corrections-more, corrections-end, restored-corrections, small-corrections}
 use Rattle.predict.proofs.differences.correct_difference.Goals as goal
 

@@ -1,4 +1,4 @@
-use Rattle.std.proofs.Common.{◌≡◌, ◌≤◌, take, drop}
+use Rattle.std.proofs.Common.{◌≡◌, take, drop}
 use Rattle.predict.specs.Restored.{restored, restored_behind, entry_before}
 use Rattle.predict.proofs.differences.restore_difference.Given as goal
 

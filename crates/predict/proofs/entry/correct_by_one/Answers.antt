@@ -1,4 +1,4 @@
-use Rattle.std.proofs.Common.{ℕ, ℤ, List, [], ◌∷◌, Option, ap, ◌∙◌, sym}
+use Rattle.std.proofs.Common.{[], ◌∷◌, Option, ap, ◌∙◌}
 use Rattle.predict.specs.declared.surface.FaceAcross.{FaceAcross}
 use Rattle.predict.specs.Parallelogram.{by_one}
 use Rattle.predict.specs.Multi.{by_many}

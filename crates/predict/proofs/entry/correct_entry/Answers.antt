@@ -1,5 +1,5 @@
 -- Correction after correction is put.
-use Rattle.std.proofs.Common.{rules, refl, ◌≡◌, ◌+◌, ◌*◌, ◌<◌, ◌≤◌, ℕ, length, set, FitsSigned, w32, arith}
+use Rattle.std.proofs.Common.{rules, refl, ◌≡◌, ◌+◌, ◌*◌, ◌<◌, ◌≤◌, length, set, FitsSigned, w32, arith}
 use Rattle.std.proofs.lemmas.Int.{to_z-of_z}
 use Rattle.predict.specs.Multi.{by_many}
 use Rattle.predict.proofs.Entries.{corrected_none, corrected_more, corrected_all}

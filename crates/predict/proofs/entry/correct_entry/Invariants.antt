@@ -1,4 +1,4 @@
-use Rattle.std.proofs.Common.{◌≡◌, ◌+◌, ◌*◌, ◌<◌, ◌≤◌, ℤ, List}
+use Rattle.std.proofs.Common.{◌+◌, ◌*◌, ℤ, List}
 use Rattle.predict.specs.Multi.{by_many}
 use Rattle.predict.specs.Entry.{Foretells, Corrected}
 use Rattle.predict.proofs.entry.correct_entry.Given as goal

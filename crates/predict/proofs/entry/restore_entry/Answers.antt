@@ -1,5 +1,5 @@
 -- Component after component is restored.
-use Rattle.std.proofs.Common.{rules, refl, ◌≡◌, ◌+◌, ◌*◌, ◌<◌, ◌≤◌, ℕ, length, set, FitsSigned, w32, arith}
+use Rattle.std.proofs.Common.{rules, refl, ◌≡◌, ◌+◌, ◌*◌, ◌<◌, ◌≤◌, length, set, FitsSigned, w32, arith}
 use Rattle.std.proofs.lemmas.Int.{to_z-of_z}
 use Rattle.predict.specs.Multi.{by_many}
 use Rattle.predict.proofs.Entries.{goes_none, goes_more, goes_all}

@@ -1,4 +1,4 @@
-use Rattle.std.proofs.Common.{◌≡◌, ◌+◌, ◌*◌, ◌<◌, ◌≤◌, ℤ, List}
+use Rattle.std.proofs.Common.{◌+◌, ◌*◌, ℤ, List}
 use Rattle.predict.specs.Multi.{by_many}
 use Rattle.predict.specs.Entry.{Foretells, Goes}
 use Rattle.predict.proofs.entry.restore_entry.Given as goal

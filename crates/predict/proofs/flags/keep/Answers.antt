@@ -1,6 +1,5 @@
-use Rattle.std.proofs.Common.{◌≡◌, take, ◌<◌, ◌≤◌, ◌+◌, length, List, ◌++◌, ap, ◌∙◌, sym, arith}
+use Rattle.std.proofs.Common.{◌≡◌, take, ◌<◌, ◌+◌, length, ◌∙◌, arith}
 use Rattle.std.proofs.lemmas.List.Elements.{All-same}
-use Rattle.predict.specs.declared.surface.FaceAcross.{FaceAcross}
 use Rattle.predict.specs.Walked.{IsBelow}
 use Rattle.predict.specs.Multi.{kept}
 use Rattle.predict.proofs.Kept.{keep_more, kept_all, kept_below, kept_long}

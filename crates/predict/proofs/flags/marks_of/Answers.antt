@@ -1,4 +1,4 @@
-use Rattle.std.proofs.Common.{◌≡◌, ◌<◌, ◌-◌, nat_lt, length, get_or, ℕ, ap, ◌∙◌, arith}
+use Rattle.std.proofs.Common.{◌<◌, ◌-◌, nat_lt, length, ℕ, ap, ◌∙◌, arith}
 use Rattle.predict.specs.declared.surface.FaceAcross.{FaceAcross}
 use Rattle.predict.specs.Multi.{off_by, is_left_out}
 use Rattle.predict.specs.Parallelogram.{component}

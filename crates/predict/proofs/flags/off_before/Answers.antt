@@ -1,6 +1,6 @@
-use Rattle.std.proofs.Common.{rules, ◌≡◌, ◌-◌, ◌<◌, ◌^◌, ℕ, ℤ, ◌-ℤ◌, unsigned_abs, FitsSigned, w32, refl, ap, ◌∙◌, arith}
+use Rattle.std.proofs.Common.{rules, ◌-◌, ◌<◌, ◌^◌, FitsSigned, w32, refl, ◌∙◌, arith}
 use Rattle.std.proofs.lemmas.Int.{to_z-of_z}
-use Rattle.predict.specs.Parallelogram.{component, fourth}
+use Rattle.predict.specs.Parallelogram.{component}
 use Rattle.predict.specs.Multi.{off_by}
 use Rattle.predict.proofs.Kept.{off_more, apart_is}
 use Rattle.predict.proofs.flags.off_before.Goals as goal

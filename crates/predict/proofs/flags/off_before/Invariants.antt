@@ -1,5 +1,5 @@
 use Rattle.std.proofs.Common.{◌≡◌, ◌-◌, ◌*◌, ◌≤◌}
-use Rattle.predict.specs.Parallelogram.{component, fourth}
+use Rattle.predict.specs.Parallelogram.{component}
 use Rattle.predict.specs.Multi.{off_by}
 use Rattle.predict.proofs.flags.off_before.Given as goal
 

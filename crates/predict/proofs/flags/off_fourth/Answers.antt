@@ -1,4 +1,4 @@
-use Rattle.std.proofs.Common.{rules, ◌≡◌, ◌-◌, ◌<◌, ◌^◌, ℕ, ℤ, ◌-ℤ◌, unsigned_abs, FitsSigned, w32, refl, ap, ◌∙◌, arith}
+use Rattle.std.proofs.Common.{rules, ◌<◌, ◌^◌, FitsSigned, w32, refl, ◌∙◌, arith}
 use Rattle.std.proofs.lemmas.Int.{to_z-of_z}
 use Rattle.predict.specs.Parallelogram.{component, fourth}
 use Rattle.predict.specs.Multi.{off_by}

@@ -1,4 +1,4 @@
-use Rattle.std.proofs.Common.{◌≡◌, ◌-◌, ◌*◌, ◌≤◌}
+use Rattle.std.proofs.Common.{◌≡◌, ◌*◌, ◌≤◌}
 use Rattle.predict.specs.Parallelogram.{component, fourth}
 use Rattle.predict.specs.Multi.{off_by}
 use Rattle.predict.proofs.flags.off_fourth.Given as goal

@@ -1,5 +1,5 @@
 -- The flags are those of the lists, and they and the corrections restore the values.
-use Rattle.std.proofs.Common.{◌≡◌, ◌<◌, ◌≤ℤ◌, ℕ, ℤ, Bool, List, length, get_or, FitsSigned, w32, ap, ◌∙◌, sym, subst}
+use Rattle.std.proofs.Common.{◌≤ℤ◌, ℕ, ℤ, Bool, List, length, FitsSigned, w32, ap, ◌∙◌, sym, subst}
 use Rattle.std.specs.List.{All}
 use Rattle.std.proofs.lemmas.List.{length-map}
 use Rattle.std.proofs.lemmas.List.Elements.{All-same}

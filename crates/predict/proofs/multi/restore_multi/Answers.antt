@@ -1,5 +1,5 @@
 -- Entry after entry is restored, with its flags.
-use Rattle.std.proofs.Common.{◌≡◌, ◌<◌, ◌≤◌, ◌*◌, ℕ, ℤ, List, length, map, ap, ◌∙◌, sym, subst, refl, arith, add-one}
+use Rattle.std.proofs.Common.{◌≡◌, ◌<◌, ◌≤◌, ◌*◌, ℕ, List, length, map, ap, ◌∙◌, sym, subst, refl, arith, add-one}
 use Rattle.std.proofs.lemmas.List.{length-map, get_or-replicate}
 use Rattle.std.proofs.lemmas.List.Elements.{All-same}
 use Rattle.corner_table.specs.Table.{side_of}

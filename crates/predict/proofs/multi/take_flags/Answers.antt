@@ -1,9 +1,7 @@
-use Rattle.std.proofs.Common.{◌≡◌, ◌<◌, ◌≤◌, ◌-◌, ◌+◌, suc, ℕ, Bool, List, [], length, take, drop, get_or, set, rules, ap, ◌∙◌, sym, refl, arith}
+use Rattle.std.proofs.Common.{◌≡◌, ◌<◌, ◌≤◌, ◌-◌, ◌+◌, suc, ℕ, Bool, List, [], length, take, drop, get_or, set, rules, ap, ◌∙◌, sym, arith}
 use Rattle.predict.specs.declared.surface.FaceAcross.{FaceAcross}
-use Rattle.predict.specs.Walked.{Walked}
 use Rattle.predict.specs.Gathered.{gathered}
 use Rattle.predict.specs.Multi.{kept, flags_for}
-use Rattle.predict.specs.Entry.{AreUsed, LacksNext}
 use Rattle.predict.proofs.Kept.{kept_nothing, used_same, used_more, lacks_next, taken_are, list_is}
 use Rattle.predict.proofs.multi.take_flags.Goals as goal
 use Rattle.predict.proofs.multi.take_flags.Goals.{then-first-list-via-then-first-list, then-first-list-via-else-first-list+then-list-first}

@@ -1,6 +1,6 @@
 use Rattle.std.proofs.Common.{rules, ◌≡◌, length, FitsSigned, w32, arith}
 use Rattle.std.proofs.lemmas.Int.{to_z-of_z}
-use Rattle.predict.proofs.Means.{predicted_none, predicted_one, predicted_two, predicted_three, predicted_four}
+use Rattle.predict.proofs.Means.{predicted_one, predicted_two, predicted_three, predicted_four}
 use Rattle.predict.proofs.parallelograms.predicted.Goals as goal
 
 pub returns-in-1 : goal.returns-in-1

@@ -1,5 +1,5 @@
 -- Entry after entry is corrected.
-use Rattle.std.proofs.Common.{◌≡◌, ◌*◌, ◌≤◌, ◌≤ℤ◌, FitsSigned, w32, ℕ, ℤ, List, Option, length, ap, ◌∙◌, sym, subst, arith}
+use Rattle.std.proofs.Common.{◌≡◌, ◌*◌, ◌≤◌, ◌≤ℤ◌, FitsSigned, w32, ℤ, Option, length, ap, ◌∙◌, sym, subst}
 use Rattle.std.specs.List.{All}
 use Rattle.std.proofs.lemmas.List.Elements.{All-same}
 use Rattle.corner_table.specs.Sides.{Side}

@@ -1,5 +1,5 @@
 -- Entry after entry is restored.
-use Rattle.std.proofs.Common.{◌≡◌, ◌*◌, ◌≤◌, ℕ, ℤ, List, Option, length, ap, ◌∙◌, sym, subst, arith}
+use Rattle.std.proofs.Common.{◌≡◌, ◌*◌, ◌≤◌, Option, length, ap, ◌∙◌, sym, subst, arith}
 use Rattle.corner_table.specs.Sides.{Side}
 use Rattle.predict.specs.declared.surface.FaceAcross.{FaceAcross}
 use Rattle.predict.specs.Wrap.{Range}

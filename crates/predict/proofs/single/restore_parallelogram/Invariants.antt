@@ -1,4 +1,4 @@
-use Rattle.std.proofs.Common.{◌≡◌, ◌*◌}
+use Rattle.std.proofs.Common.{◌*◌}
 use Rattle.predict.specs.Walked.{walked}
 use Rattle.predict.specs.Parallelogram.{parallelogram}
 use Rattle.predict.specs.Entry.{Goes}

@@ -1,6 +1,5 @@
 -- The lists are those of the table and of the order.
-use Rattle.std.proofs.Common.{◌≡◌, ◌≤◌, ℕ, subst, arith}
-use Rattle.corner_table.specs.Sides.{IsGluing}
+use Rattle.std.proofs.Common.{◌≤◌, arith}
 use Rattle.corner_table.specs.Table.{room_of}
 use Rattle.predict.proofs.Surfaces.{surface_is}
 use Rattle.predict.proofs.surface.surface_of.Goals as goal

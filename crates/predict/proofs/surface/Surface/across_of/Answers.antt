@@ -1,9 +1,8 @@
 -- What is found is a side of the surface.
-use Rattle.std.proofs.Common.{◌≡◌, ◌/◌, ◌<◌, ℕ, get_or, sym, ap, ◌∙◌, arith}
+use Rattle.std.proofs.Common.{ℕ, get_or, sym, ap, ◌∙◌, arith}
 use Rattle.corner_table.specs.Sides.{side_at}
 use Rattle.corner_table.specs.Table.{free_entry}
 use Rattle.corner_table.proofs.Numbers.{number-side_at}
-use Rattle.predict.specs.Stored.{faces_in}
 use Rattle.predict.proofs.Surfaces.{found_within}
 use Rattle.predict.proofs.surface.Surface.across_of.Goals as goal
 

@@ -1,5 +1,5 @@
 -- What is found so far, with what is ahead on the way round, are the faces that are gathered.
-use Rattle.std.proofs.Common.{◌≡◌, ◌≤◌, ◌-◌, ◌+◌, suc, ℕ, List, length, option_map, refl, ap, arith}
+use Rattle.std.proofs.Common.{◌≡◌, ◌≤◌, ◌-◌, ◌+◌, suc, List, length, option_map, refl, ap, arith}
 use Rattle.corner_table.specs.Sides.{side_at}
 use Rattle.predict.specs.declared.surface.FaceAcross.{FaceAcross}
 use Rattle.predict.specs.Walked.{at_corner}

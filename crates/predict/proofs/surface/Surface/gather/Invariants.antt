@@ -1,4 +1,4 @@
-use Rattle.std.proofs.Common.{◌≡◌, ◌<◌, ◌≤◌, ◌-◌, ◌++◌, IfSome, length, take, option_map}
+use Rattle.std.proofs.Common.{◌≡◌, ◌<◌, ◌-◌, ◌++◌, IfSome, length, take, option_map}
 use Rattle.std.specs.List.{filter_map}
 use Rattle.corner_table.specs.Sides.{side_at}
 use Rattle.predict.specs.Walked.{at_corner}
