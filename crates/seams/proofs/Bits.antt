@@ -10,7 +10,8 @@ use Rattle.corner_table.specs.Sides.{Side, number, side_at, same, Gluing, IsGlui
 use Rattle.corner_table.specs.Table.{glued_in, other_at, free_entry}
 use Rattle.corner_table.proofs.Numbers.{side_at-number, number-side_at, number-lt}
 use Rattle.corner_table.proofs.Places.{option_tells, Some_injective, same_refl, not_same}
-use Rattle.seams.specs.SeamBits.{has_bit, bit_sides, place_in}
+use Rattle.corner_table.specs.Pairs.{has_bit, bit_sides}
+use Rattle.seams.specs.SeamBits.{place_in}
 use Rattle.seams.specs.Pairs.{TellsLater, bit_sides_below}
 use Rattle.seams.proofs.Listing.{corners_are}
 

@@ -6,7 +6,8 @@ use Rattle.corner_table.specs.Sides.{Side, side_at, Gluing}
 use Rattle.corner_table.proofs.Numbers.{number-side_at}
 use Rattle.corner_table.proofs.Places.{option_tells}
 use Rattle.seams.specs.Seams.{flag_at}
-use Rattle.seams.specs.SeamBits.{has_bit, bit_sides, place_in, told, bit_of, after_bits}
+use Rattle.corner_table.specs.Pairs.{has_bit, bit_sides}
+use Rattle.seams.specs.SeamBits.{place_in, told, bit_of, after_bits}
 use Rattle.seams.specs.Pairs.{bit_sides_below}
 use Rattle.seams.specs.Laws.{BitsTellFlags, BlockTellsFlags}
 use Rattle.seams.proofs.Listing.{listed-is}

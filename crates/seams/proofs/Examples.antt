@@ -3,7 +3,8 @@ use Rattle.std.proofs.Common.{◌≡◌, Bool, true, false, List, [], ◌∷◌,
 use Rattle.corner_table.specs.Sides.{first, second, third, side, Gluing, unglued, glue}
 use Rattle.corner_table.specs.Fans.{corners_of, meets, walks_left, walks_right}
 use Rattle.seams.specs.Seams.{flag_at, listed, unseamed}
-use Rattle.seams.specs.SeamBits.{bit_sides, seam_bits, told}
+use Rattle.corner_table.specs.Pairs.{bit_sides}
+use Rattle.seams.specs.SeamBits.{seam_bits, told}
 
 abbrev two : Gluing
 two = glue (side 0 first) (side 1 third) unglued

@@ -6,7 +6,7 @@ use Rattle.corner_table.specs.Sides.{Side, number, side_at, Gluing, IsGluing, un
 use Rattle.corner_table.proofs.Numbers.{side_at-number, number-side_at, number-lt}
 use Rattle.corner_table.proofs.Places.{option_tells, Some_injective, same_tells, glue_first, glue_second, glue_other}
 use Rattle.seams.specs.Seams.{AreFlags, flag_at, unseamed}
-use Rattle.seams.specs.SeamBits.{has_bit}
+use Rattle.corner_table.specs.Pairs.{has_bit}
 use Rattle.seams.specs.Pairs.{pairs_to, TellsLater, TellsKept}
 use Rattle.seams.proofs.Bits.{bit_of_glued}
 use Rattle.seams.proofs.Chains.{cut, uncut, cut_tells, cut_is_gluing}

@@ -5,6 +5,5 @@ pub mod Chains
 pub mod Values
 pub mod Blocks
 pub mod Gluing
-pub mod Counting
 pub mod Filling
 mod Examples

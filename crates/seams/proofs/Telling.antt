@@ -6,7 +6,8 @@ use Rattle.corner_table.specs.Sides.{Side, number, side_at, Gluing, IsGluing}
 use Rattle.corner_table.proofs.Numbers.{side_at-number, number-side_at, number-lt}
 use Rattle.corner_table.proofs.Places.{option_tells, Some_injective}
 use Rattle.seams.specs.Seams.{flag_at, listed}
-use Rattle.seams.specs.SeamBits.{has_bit, of_pairs}
+use Rattle.corner_table.specs.Pairs.{has_bit}
+use Rattle.seams.specs.SeamBits.{of_pairs}
 use Rattle.seams.specs.Pairs.{TellsLater, AreToldTo}
 use Rattle.seams.proofs.Listing.{listed-is}
 use Rattle.seams.proofs.Bits.{one_has}

@@ -12,7 +12,8 @@ use Rattle.corner_table.specs.Sides.{Side, Place, first, second, third, next, pr
 use Rattle.corner_table.proofs.Places.{option_tells, next-prev, prev-next}
 use Rattle.corner_table.proofs.Walks.{left_crosses, right_crosses}
 use Rattle.seams.specs.Seams.{AreFlags, listed}
-use Rattle.seams.specs.SeamBits.{bit_sides, place_in, of_pairs, told}
+use Rattle.corner_table.specs.Pairs.{bit_sides}
+use Rattle.seams.specs.SeamBits.{place_in, of_pairs, told}
 use Rattle.seams.specs.Values.{piece, part_of, point_at, differ, is_seam}
 use Rattle.seams.specs.Classes.{itself, over_next, over_prev}
 use Rattle.seams.specs.Laws.{AreAlike, SeamsAreAlike, SeamsAreFlags, ClassHasOneValue, ToldAreFlags}

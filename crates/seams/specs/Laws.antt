@@ -1,12 +1,12 @@
 -- What holds of seams, their bits, and classes.
-use Rattle.std.specs.Prelude.{◌≡◌, ℕ, ◌+◌, ◌*◌, ◌<◌, ◌↔◌, Bool, true, false, List, length, get_or, count_by, Some}
-use Rattle.std.specs.Option.{is_none}
+use Rattle.std.specs.Prelude.{◌≡◌, ℕ, ◌<◌, ◌↔◌, Bool, false, List, length, get_or, Some}
 use Rattle.mesh_model.specs.Parts.{MeshParts}
 use Rattle.corner_table.specs.Sides.{Side, Gluing, IsGluing}
-use Rattle.corner_table.specs.Fans.{corners_of, InFan, MeetsBoundary}
+use Rattle.corner_table.specs.Fans.{InFan, MeetsBoundary}
 use Rattle.rans_binary.specs.Blocks.{Block, first_bits}
 use Rattle.seams.specs.Seams.{flag_at, listed, unseamed, AreFlags}
-use Rattle.seams.specs.SeamBits.{has_bit, bit_sides, seam_bits, told, flags_of}
+use Rattle.corner_table.specs.Pairs.{bit_sides}
+use Rattle.seams.specs.SeamBits.{seam_bits, told, flags_of}
 use Rattle.seams.specs.Values.{piece, is_seam}
 use Rattle.seams.specs.Classes.{InClass, MeetsEnd}
 
@@ -65,12 +65,3 @@ BitsTellFlags = (faces : ℕ) (g : Gluing) (flags : List Bool) (bits : ℕ → B
 abbrev pub BlockTellsFlags : Type 0
 BlockTellsFlags = (faces : ℕ) (g : Gluing) (flags : List Bool) (b : Block) → IsGluing faces g → AreFlags faces g flags →
     first_bits (length (bit_sides faces g)) b ≡ seam_bits faces g (flag_at flags) → flags_of faces g b ≡ flags
-
--- of the two sides of a pair just one has a bit
-abbrev pub OneSideHasBit : Type 0
-OneSideHasBit = (faces : ℕ) (g : Gluing) (x y : Side) → IsGluing faces g → g x ≡ Some y → (has_bit g x ≡ false) ↔ (has_bit g y ≡ true)
-
--- each side is free or one of a pair, and each pair has a bit
-abbrev pub SidesAreCounted : Type 0
-SidesAreCounted = (faces : ℕ) (g : Gluing) → IsGluing faces g →
-    2 * length (bit_sides faces g) + count_by (λ x. is_none (g x)) (corners_of faces) ≡ 3 * faces

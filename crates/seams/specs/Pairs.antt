@@ -4,7 +4,7 @@ use Rattle.std.specs.Prelude.{◌≡◌, ℕ, suc, ◌*◌, ◌<◌, ◌||◌, B
 use Rattle.std.specs.List.{range_with_len}
 use Rattle.corner_table.specs.Sides.{Side, number, side_at, Gluing}
 use Rattle.seams.specs.Seams.{flag_at}
-use Rattle.seams.specs.SeamBits.{has_bit}
+use Rattle.corner_table.specs.Pairs.{has_bit}
 
 -- what the numbers of the sides tell: o is the number of the other side, where the side has the bit of its pair
 abbrev pub TellsLater : ℕ → Gluing → ℕ → Option ℕ → Type 0

@@ -1,19 +1,11 @@
 -- Seam bits: one for each pair of sides, in the order of the sides of the lesser face (Draco Bitstream Specification 2.2, section
--- Edgebreaker Connectivity, attribute seams; that the lesser face has the bit is this project's choice).
-use Rattle.std.specs.Prelude.{ℕ, zero, suc, Bool, true, false, nat_lt, cond, List, map, filter, Some, None}
+-- Edgebreaker Connectivity, attribute seams).
+use Rattle.std.specs.Prelude.{ℕ, zero, suc, Bool, true, cond, List, map, Some, None}
 use Rattle.std.specs.List.{position_or_len}
 use Rattle.rans_binary.specs.Blocks.{Block, next_bit, after_bit}
 use Rattle.corner_table.specs.Sides.{Side, same, Gluing}
-use Rattle.corner_table.specs.Fans.{corners_of}
+use Rattle.corner_table.specs.Pairs.{has_bit, bit_sides}
 use Rattle.seams.specs.Seams.{listed}
-
--- whether a side has the bit of its pair: it is glued, and its face is the lesser one
-abbrev pub has_bit : Gluing → Side → Bool
-has_bit g x = elim (g x) [ None ↦ false | Some y ↦ nat_lt x.face y.face ]
-
--- the sides that have a bit, in order: one of each pair
-abbrev pub bit_sides : ℕ → Gluing → List Side
-bit_sides faces g = filter (has_bit g) (corners_of faces)
 
 -- the seam bits that tell flags
 abbrev pub seam_bits : ℕ → Gluing → (Side → Bool) → List Bool

@@ -1,7 +1,7 @@
 //! What holds of the definitions themselves.
 
 ghost use Rattle.seams.specs.Laws.{ClassIsFan, ClassEnds, ClassInFan, UncutIsFan, CutIsGluing, SeamsAreAlike, SeamsAreFlags, ClassHasOneValue};
-ghost use Rattle.seams.specs.Laws.{ListCutsAlike, ToldAreFlags, BitsTellFlags, BlockTellsFlags, OneSideHasBit, SidesAreCounted};
+ghost use Rattle.seams.specs.Laws.{ListCutsAlike, ToldAreFlags, BitsTellFlags, BlockTellsFlags};
 
 /// A class, which chains of swings over glued sides that are no seam connect, is a fan of the surface cut
 /// at its seams, and lies in a fan of the surface; a boundary or seam meets it just where that fan meets a
@@ -25,14 +25,11 @@ pub fn classes_have_one_value()
 {}
 
 /// Seam bits tell flags, whatever the bits are; those of given flags tell these again, and so does a block
-/// that has them first; a list of flags cuts a surface as what it was made of does. Of the two sides of a
-/// pair one has the bit, so that the sides are two for each bit and the free ones. This is the contract of
+/// that has them first; a list of flags cuts a surface as what it was made of does. This is the contract of
 /// a call that does nothing.
 pub fn bits_tell_seams()
     ensures flags { ToldAreFlags }
     ensures bits { BitsTellFlags }
     ensures block { BlockTellsFlags }
     ensures list { ListCutsAlike }
-    ensures one_side { OneSideHasBit }
-    ensures counted { SidesAreCounted }
 {}

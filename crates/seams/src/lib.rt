@@ -2,7 +2,7 @@
 //! bits tell which pairs of a surface are seams, the same flags as the bits were made of; a class is what
 //! is connected round a vertex once the seams are cut, and on a class of a mesh's own seams the attribute
 //! has one value. It follows the Draco Bitstream Specification 2.2, section Edgebreaker Connectivity
-//! (attribute seams); the order of the bits is this project's choice.
+//! (attribute seams); which pairs of a mesh are seams is this project's choice.
 #![tactic(auto)]
 
 mod cutting;

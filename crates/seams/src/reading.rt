@@ -6,7 +6,8 @@ ghost use Rattle.corner_table.specs.Sides.{IsGluing};
 ghost use Rattle.corner_table.specs.Table.{gluing_of, glued_in};
 ghost use Rattle.rans_binary.specs.Blocks.{Block};
 ghost use Rattle.seams.specs.Seams.{AreFlags};
-ghost use Rattle.seams.specs.SeamBits.{bit_sides, after_bits, flags_of};
+ghost use Rattle.corner_table.specs.Pairs.{bit_sides};
+ghost use Rattle.seams.specs.SeamBits.{after_bits, flags_of};
 
 use crate::sides::{all_set, later_side, sides_across};
 use corner_table::SideTable;

@@ -4,7 +4,8 @@ ghost use Rattle.std.specs.Prelude.{◌≡◌, ℕ, ◌*◌, ◌<◌, ◌≤◌,
 ghost use Rattle.corner_table.specs.Table.{gluing_of};
 ghost use Rattle.rans_binary.specs.Blocks.{Block, first_bits};
 ghost use Rattle.seams.specs.Seams.{AreFlags, flag_at};
-ghost use Rattle.seams.specs.SeamBits.{seam_bits as bits_for, bit_sides, flags_of};
+ghost use Rattle.corner_table.specs.Pairs.{bit_sides};
+ghost use Rattle.seams.specs.SeamBits.{seam_bits as bits_for, flags_of};
 
 use crate::sides::{flag_of, later_side, sides_across};
 use corner_table::SideTable;

@@ -1,7 +1,6 @@
 use Rattle.seams.proofs.Chains.{list_cuts_alike}
 use Rattle.seams.proofs.Values.{told_are_flags}
 use Rattle.seams.proofs.Blocks.{bits_tell_flags, block_tells_flags}
-use Rattle.seams.proofs.Counting.{sides_are_counted}
 use Rattle.seams.proofs.laws.bits_tell_seams.Goals as goal
 
 pub returns-clause-flags : goal.returns-clause-flags
@@ -15,6 +14,3 @@ returns-clause-block c = block_tells_flags
 
 pub returns-clause-list : goal.returns-clause-list
 returns-clause-list c = list_cuts_alike
-
-pub returns-clause-counted : goal.returns-clause-counted
-returns-clause-counted c = sides_are_counted

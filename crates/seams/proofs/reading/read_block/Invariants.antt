@@ -1,7 +1,8 @@
 -- The sides so far are told, by as many bits.
 use Rattle.std.proofs.Common.{◌≡◌, length}
 use Rattle.corner_table.specs.Table.{glued_in}
-use Rattle.seams.specs.SeamBits.{after_bits, bit_of, bit_sides, place_in}
+use Rattle.corner_table.specs.Pairs.{bit_sides}
+use Rattle.seams.specs.SeamBits.{after_bits, bit_of, place_in}
 use Rattle.seams.specs.Pairs.{AreToldTo, bit_sides_below}
 use Rattle.seams.proofs.reading.read_block.Given as goal
 

@@ -4,7 +4,8 @@ use Rattle.std.specs.Vec.{with_items}
 use Rattle.std.proofs.lemmas.List.{with_items_is, length-replicate}
 use Rattle.std.proofs.lemmas.List.Edits.{map_over_more}
 use Rattle.corner_table.specs.Table.{gluing_of, glued_in}
-use Rattle.seams.specs.SeamBits.{bit_of, bit_sides, told, after_bits, flags_of}
+use Rattle.corner_table.specs.Pairs.{bit_sides}
+use Rattle.seams.specs.SeamBits.{bit_of, told, after_bits, flags_of}
 use Rattle.seams.proofs.Listing.{length-listed}
 use Rattle.seams.proofs.Filling.{filled_at, filled_more, passed_at}
 use Rattle.seams.proofs.reading.read_each.Goals as goal

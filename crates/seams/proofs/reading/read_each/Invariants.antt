@@ -1,7 +1,8 @@
 -- The blocks so far gave their flags, and stand behind them.
 use Rattle.std.proofs.Common.{◌≡◌, ◌-◌, ◌*◌, ◌++◌, map, take, drop, length, replicate, true}
 use Rattle.corner_table.specs.Table.{gluing_of}
-use Rattle.seams.specs.SeamBits.{after_bits, bit_sides, flags_of}
+use Rattle.corner_table.specs.Pairs.{bit_sides}
+use Rattle.seams.specs.SeamBits.{after_bits, flags_of}
 use Rattle.seams.proofs.reading.read_each.Given as goal
 
 abbrev pub invariant-loop-k : goal.invariant-loop-k

@@ -4,7 +4,7 @@ use Rattle.std.proofs.lemmas.List.{length-map}
 use Rattle.corner_table.specs.Sides.{side_at}
 use Rattle.corner_table.specs.Table.{gluing_of, glued_in}
 use Rattle.seams.specs.Seams.{flag_at}
-use Rattle.seams.specs.SeamBits.{has_bit, bit_sides}
+use Rattle.corner_table.specs.Pairs.{has_bit, bit_sides}
 use Rattle.seams.proofs.Blocks.{bits_more, bits_over, bits_end, block_tells_flags}
 use Rattle.seams.proofs.writing.seam_bits.Goals.{in-Some+in_ok-push-in-Some, in-None}
 use Rattle.seams.proofs.writing.seam_bits.Goals as goal
