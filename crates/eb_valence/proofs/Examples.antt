@@ -1,7 +1,5 @@
 -- The lists of worked surfaces, computed, and that the machine takes their symbols.
-use Rattle.std.specs.Prelude.{◌≡◌, ℕ, Bool, true, false, List, [], ◌∷◌, length, reverse, refl}
-use Rattle.std.specs.List.{range_with_len}
-use Rattle.corner_table.specs.declared.symbols.Symbol.{Symbol}
+use Rattle.std.specs.Prelude.{◌≡◌, ℕ, Bool, true, false, [], ◌∷◌, refl}
 use Rattle.corner_table.specs.declared.symbols.Symbol.TheVariants.{C, S, L, R, E}
 use Rattle.corner_table.specs.declared.symbols.Event.{Event}
 use Rattle.corner_table.specs.Fans.{corners_of, leftmost, walks_left, walks_right}

@@ -1,9 +1,8 @@
 -- A symbol is read from the back of the list in which it is coded, and the lists of those behind it are left.
-use Rattle.std.proofs.Common.{◌≡◌, ℕ, zero, suc, ◌+◌, ◌-◌, ◌<◌, ◌≤◌, Bool, true, false, cond, ◌==◌, nat_eq, min, max, List, [], ◌∷◌, ◌++◌, length, map, reverse, take, get_or, set, slice_get, Option, Some, None, Result, Ok, Err, refl, sym, ap, ◌∙◌, subst, arith, inl, inr, eq-eqb, ne_eqb, zero-add}
+use Rattle.std.proofs.Common.{◌≡◌, ℕ, ◌-◌, ◌<◌, Bool, true, false, cond, ◌==◌, List, [], ◌∷◌, ◌++◌, length, map, reverse, take, get_or, set, slice_get, Option, Some, None, Result, Ok, Err, refl, sym, ap, ◌∙◌, subst, arith, inl, inr, eq-eqb, ne_eqb, zero-add}
 use Rattle.std.proofs.lemmas.Bool.{cases_eq}
-use Rattle.std.proofs.lemmas.List.{map-append, length-append, length-set, ext_get_or, get_or-set_other, append-nil, reverse-append}
+use Rattle.std.proofs.lemmas.List.{length-append, length-set, ext_get_or, get_or-set_other, append-nil, reverse-append}
 use Rattle.std.proofs.lemmas.Grind.{get_or-set_at}
-use Rattle.std.proofs.lemmas.List.Elements.{filter-append}
 use Rattle.std.proofs.lemmas.List.FromFn.{length-map-range_with_len, get_or-map-range_with_len}
 use Rattle.std.proofs.Math.Seq.{take-append_seam}
 use Rattle.std.specs.List.{filter, range_with_len}
@@ -14,13 +13,13 @@ use Rattle.drc_base.specs.Steps.{◌>>=◌}
 use Rattle.corner_table.specs.Sides.{Side}
 use Rattle.corner_table.specs.declared.symbols.Symbol.{Symbol}
 use Rattle.corner_table.specs.declared.symbols.Symbol.TheVariants.{C, S, L, R, E}
-use Rattle.eb_rebuild.specs.Machine.{State, step, take_symbols, top, fault}
+use Rattle.eb_rebuild.specs.Machine.{State, step, take_symbols, top}
 use Rattle.eb_rebuild.specs.Degree.{top_degree}
 use Rattle.eb_rebuild.proofs.Counts.{step_counts}
 use Rattle.eb_valence.specs.declared.context_lists.TheConstants.{CONTEXTS}
 use Rattle.eb_valence.specs.Numbers.{symbol_number, symbol_numbered, context_of}
 use Rattle.eb_valence.specs.Reading.{last_of, front_of, taken_from, taken_at}
-use Rattle.eb_valence.specs.Contexts.{Coded, coded, coded_at, list_of, lists_of, context, symbol_at, degree_before, fed, EachReadsBack, WordsReadBack}
+use Rattle.eb_valence.specs.Contexts.{Coded, coded, coded_at, list_of, lists_of, symbol_at, fed, EachReadsBack, WordsReadBack}
 
 -- the last item of a list is the one that was put behind it
 slice_last : (xs : List ℕ) (n : ℕ) → slice_get (xs ++ n ∷ []) (length xs) ≡ Some n

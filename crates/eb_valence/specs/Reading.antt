@@ -1,6 +1,6 @@
 -- Reading symbols from the lists of their contexts, each of which is used from its back (Draco Bitstream Specification 2.2, Edgebreaker
 -- valence traversal).
-use Rattle.std.specs.Prelude.{◌≡◌, ℕ, ◌-◌, List, [], ◌∷◌, length, take, get_or, set, slice_get, Option, Some, None, Result, Ok, Err}
+use Rattle.std.specs.Prelude.{◌≡◌, ℕ, ◌-◌, List, [], length, take, get_or, set, slice_get, Option, Some, None, Result, Ok, Err}
 use Rattle.drc_base.specs.declared.kinds.Kind.{Kind}
 use Rattle.drc_base.specs.declared.kinds.Kind.TheVariants as kind
 use Rattle.corner_table.specs.declared.symbols.Symbol.{Symbol}

@@ -3,7 +3,7 @@ use Rattle.std.proofs.Common.{◌≡◌, ◌∙◌, ℕ, List, [], ap, map, reve
 use Rattle.corner_table.specs.declared.symbols.Symbol.{Symbol}
 use Rattle.eb_rebuild.specs.Machine.{State, start}
 use Rattle.eb_valence.specs.declared.context_lists.TheConstants.{CONTEXTS}
-use Rattle.eb_valence.specs.Contexts.{Coded, coded, context_lists}
+use Rattle.eb_valence.specs.Contexts.{coded}
 use Rattle.eb_valence.specs.Noting.{noted}
 use Rattle.eb_valence.proofs.Noted.{noted_all}
 use Rattle.eb_valence.proofs.noting.lists_by.Goals as goal

@@ -1,7 +1,5 @@
 -- The machine takes each symbol, and it is noted before.
-use Rattle.std.proofs.Common.{◌≡◌, ◌-◌, ◌+◌, ◌∙◌, ℕ, ap, sym, subst, arith, Bool, IsTrue, Result, Ok, Err, List, slice_index_or}
-use Rattle.drc_base.specs.declared.faults.Fault.{Fault}
-use Rattle.drc_base.specs.declared.faults.Refusal.{Refusal}
+use Rattle.std.proofs.Common.{◌≡◌, ◌-◌, ◌+◌, ◌∙◌, ℕ, ap, sym, subst, arith, Bool, IsTrue, Err, slice_index_or}
 use Rattle.corner_table.specs.declared.symbols.Symbol.{Symbol}
 use Rattle.corner_table.specs.declared.symbols.Symbol.TheVariants.{C}
 use Rattle.eb_rebuild.specs.Machine.{State, Plan, step}

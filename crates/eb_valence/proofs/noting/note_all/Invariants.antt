@@ -1,5 +1,5 @@
 -- The symbols from this number on are noted; the machine takes the others without a fault.
-use Rattle.std.proofs.Common.{◌≡◌, ◌+◌, ◌≤◌, ℕ, List, length, reverse, take, IsTrue}
+use Rattle.std.proofs.Common.{◌≡◌, ◌+◌, ◌≤◌, ℕ, length, reverse, take, IsTrue}
 use Rattle.eb_rebuild.specs.Machine.{State}
 use Rattle.eb_valence.specs.Contexts.{coded}
 use Rattle.eb_valence.specs.Noting.{noted, Takes}
