@@ -3,7 +3,7 @@
 //! Corners are taken in order. One without a label begins a new fan: from it the fan is walked to the
 //! left until it comes round or ends, and where it ends, to the right too. Each corner is labelled once.
 
-ghost use Rattle.std.specs.Prelude.{◌≡◌, ℕ, ◌*◌, ◌<◌, true, List, IfOk, vec_len};
+ghost use Rattle.std.specs.Prelude.{◌≡◌, ℕ, ◌+◌, ◌*◌, ◌<◌, true, List, IfOk, length, vec_len};
 ghost use Rattle.std.specs.Option.{option_map};
 ghost use Rattle.corner_table.specs.Sides.{side_at, IsGluing};
 ghost use Rattle.corner_table.specs.Fans.{swing_left, swing_right};
@@ -14,8 +14,10 @@ ghost use Rattle.corner_table.specs.Labelling.{IsReady, IsLeftDone, IsWhole, IsF
 use crate::corner_lists::Classes;
 use crate::entries::{entry_or_free, filled};
 use crate::side_table::SideTable;
+use crate::steps::Steps;
 use drc_base::{Memory, Sequence};
 use std::alloc::Global;
+use std::sync::ledger::Ledger;
 
 /// The label of a corner that has none yet.
 const NONE: u32 = u32::MAX;
@@ -89,10 +91,16 @@ impl SideTable {
     /// Labels the vertices: a class for each fan, and of each class whether a free side meets it. Classes
     /// are numbered from 0 in the order of their fans' least corners, which is this project's own choice.
     /// Takes memory for a number for each corner and a mark for each class, and is refused for want of it
-    /// alone.
-    pub fn label_vertices(&self, alloc: Global) -> Result<Classes, Memory>
-        ensures { IfOk result (λ c. IsLabelled self.now.faces (gluing_of self.now) c.of_corner c.count c.ends) }
+    /// alone. All entries are looked at, so the call counts as many steps as `across` does.
+    pub fn label_vertices<L: Ledger>(
+        &self,
+        alloc: Global,
+        steps: &mut Steps<L>,
+    ) -> Result<Classes, Memory>
+        ensures labels { IfOk result (λ c. IsLabelled self.now.faces (gluing_of self.now) c.of_corner c.count c.ends) }
+        ensures steps { steps.new ≡ steps.old + length self.now.entries }
     {
+        steps.count(self.entry_count());
         let corners = 3 * self.face_count();
         let mut labels = filled(alloc, NONE, corners as usize)?;
         let mut ends = Vec::new(alloc);

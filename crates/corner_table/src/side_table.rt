@@ -196,13 +196,21 @@ impl SideTable {
     /// The same surface under new numbers: row i says which face the new face i is, and by how much it
     /// is turned, so that its corner k is corner k + turn, modulo 3, of that face. Its pairs are those
     /// of this table, renumbered, and no others. It has room for just these faces. Three lists of a number
-    /// for each side are made for it, and one more while it is made. Refused for want of memory alone.
-    pub fn renumbered(&self, alloc: Global, rows: &[(u32, u8)]) -> Result<SideTable, Memory>
+    /// for each side are made for it, and one more while it is made. Refused for want of memory alone. All
+    /// entries are looked at, so the call counts as many steps as `across` does.
+    pub fn renumbered<L: Ledger>(
+        &self,
+        alloc: Global,
+        rows: &[(u32, u8)],
+        steps: &mut Steps<L>,
+    ) -> Result<SideTable, Memory>
         requires { IsRenumbering self.now.faces rows.now }
         ensures faces { IfOk result (λ t. t.faces ≡ self.now.faces) }
         ensures room { IfOk result (λ t. room_of t ≡ self.now.faces) }
         ensures carried { IfOk result (λ t. IsCarried self.now.faces (gluing_of self.now) rows.now (gluing_of t)) }
+        ensures steps { steps.new ≡ steps.old + length self.now.entries }
     {
+        steps.count(self.entry_count());
         let faces = self.face_count();
         let places = places_of(alloc, faces, rows)?;
         let across = carried(alloc, faces, rows, &places, &self.across)?;
@@ -214,6 +222,13 @@ impl SideTable {
             after,
             before,
         })
+    }
+
+    /// How many entries there are, three for each face for which there is room.
+    pub(crate) fn entry_count(&self) -> u64
+        ensures { result ≡ length self.now.entries }
+    {
+        self.across.len() as u64
     }
 
     /// The side that `s` is glued to.

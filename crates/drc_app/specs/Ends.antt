@@ -2,7 +2,7 @@
 use Rattle.std.specs.Prelude.{◌≡◌, ℕ, ◌+◌, ◌<◌, ◌≤◌, Bool, true, List, length, Option, ◌⊎◌}
 use Rattle.std.specs.Io.KnownBytes.{Appends, Consumes, Keeps, IsAtEnd}
 use Rattle.drc_base.specs.Counters.{Rose, last_count}
-use Rattle.drc_base.specs.Sinks.{AppendsFront}
+use Rattle.drc_base.specs.Sinks.{AppendsPrefix}
 use Rattle.drc_base.specs.declared.limits.TheConstants.{MAX_INPUT_BYTES}
 
 -- a source before and after a call
@@ -79,5 +79,5 @@ pub record IsWritten (p : Putting) (text : List ℕ) : Type 0 where
 
 -- a prefix of the text was appended: all of it, and the sink finished, unless the sink failed
 pub record IsTried (p : Putting) (text : List ℕ) : Type 0 where
-  pub prefix : AppendsFront p.held p.held_after text
+  pub prefix : AppendsPrefix p.held p.held_after text
   pub whole : HasWriteFault p ⊎ IsWritten p text

@@ -1,6 +1,6 @@
 -- What a command line came to before anything is written, and what was then written (this project's choice).
 use Rattle.std.specs.Prelude.{◌≡◌, ℕ, zero, suc, ◌⊎◌, List, Result, Ok, Err, IfSome, IsOk, IsOkAnd}
-use Rattle.drc_base.specs.Sinks.{AppendsFront}
+use Rattle.drc_base.specs.Sinks.{AppendsPrefix}
 use Rattle.drc_base.specs.declared.faults.Fault.{Fault}
 use Rattle.drc_app.specs.Ends.{Taking, HasReadFault, IsReadWhole, IsPastMost, IsUntaken}
 use Rattle.drc_app.specs.Ends.{Putting, HasWriteFault, IsUntouched, IsWritten, IsTried}
@@ -43,8 +43,8 @@ IsOutcomeAt c bytes (outcome.Done d) = (due c bytes ≡ Ok (d.output.items, d.no
 -- the writing of an output and then of its note stopped: in the output, and then the note of the failure is tried; or in the note
 abbrev pub IsCutShort : Putting → Putting → List ℕ → List ℕ → Type 0
 IsCutShort output notes text note =
-    (HasWriteFault output × AppendsFront output.held output.held_after text × IsTried notes write_failed_note)
-    ⊎ (IsWritten output text × HasWriteFault notes × AppendsFront notes.held notes.held_after note)
+    (HasWriteFault output × AppendsPrefix output.held output.held_after text × IsTried notes write_failed_note)
+    ⊎ (IsWritten output text × HasWriteFault notes × AppendsPrefix notes.held notes.held_after note)
 
 -- an output and its note were written, and the status is 0; or the writing stopped, and it is 4
 abbrev pub IsDelivered : Putting → Putting → List ℕ → List ℕ → ℕ → Type 0

@@ -13,8 +13,8 @@ finished_after_finish finished (Ok u) = true
 finished_after_finish finished (Err e) = finished
 
 -- a prefix of these bytes was appended
-pub record AppendsFront (held held' : Option (List ℕ)) (bytes : List ℕ) : Type 0 where
-  pub front : List ℕ
+pub record AppendsPrefix (held held' : Option (List ℕ)) (bytes : List ℕ) : Type 0 where
+  pub prefix : List ℕ
   pub rest : List ℕ
-  pub split : bytes ≡ front ++ rest
-  pub appended : Appends held held' front
+  pub split : bytes ≡ prefix ++ rest
+  pub appended : Appends held held' prefix

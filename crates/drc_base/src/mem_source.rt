@@ -73,9 +73,9 @@ impl MemSource {
 }
 
 /// Copies a prefix of `from` to the beginning of `to`, at most `piece` bytes, and answers how many.
-fn move_front(from: &[u8], piece: usize, to: &mut [u8]) -> usize
+fn move_first(from: &[u8], piece: usize, to: &mut [u8]) -> usize
     ensures count { result ≡ min (min piece (length to.old)) (length from.now) }
-    ensures front { take result to.new ≡ take result from.now }
+    ensures prefix { take result to.new ≡ take result from.now }
 {
     let n = piece.min(to.len()).min(from.len());
     to[..n].copy_from_slice(&from[..n]);
@@ -95,7 +95,7 @@ impl Source for MemSource {
         self.faults
     }
 
-    #[tactic(auto, using(crate::proofs::Fronts::taken_front), unfolding(crate::specs::InMemory::after_take))]
+    #[tactic(auto, using(crate::proofs::Prefixes::taken_prefix), unfolding(crate::specs::InMemory::after_take))]
     fn take(&mut self, buf: &mut [u8]) -> Result<usize, Failed>
         requires { 0 < length buf.old }
         ensures bound { ReadsAtMost result buf.new }
@@ -114,7 +114,7 @@ impl Source for MemSource {
             self.ended = false;
             return Err(Failed);
         }
-        let n = move_front(&self.bytes[self.place..], self.piece, buf);
+        let n = move_first(&self.bytes[self.place..], self.piece, buf);
         self.place += n;
         self.given = self.given.saturating_add(n as u64);
         self.ended = n == 0;

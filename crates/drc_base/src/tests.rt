@@ -42,7 +42,7 @@ fn reading_ends_at_a_failure_or_past_the_most(rt: HostRuntime) -> Result<(), Fai
 }
 
 #[test]
-fn a_sink_in_memory_keeps_the_front_that_came_before_a_failure(
+fn a_sink_in_memory_keeps_the_prefix_that_came_before_a_failure(
     rt: HostRuntime,
 ) -> Result<(), Fail> {
     for (fails, room, held, failed) in [
@@ -57,7 +57,7 @@ fn a_sink_in_memory_keeps_the_front_that_came_before_a_failure(
         let mut sink = MemSink::new(rt.alloc(), 16, room, fails)?;
         assert_eq!(rt; write_all(&mut sink, &bytes).is_err(), failed);
         assert_eq!(rt; sink.faults() > 0, failed);
-        assert_eq!(rt; sink.held(), bytes.get(..held).ok_or("a front")?);
+        assert_eq!(rt; sink.held(), bytes.get(..held).ok_or("a prefix")?);
     }
     Ok(())
 }

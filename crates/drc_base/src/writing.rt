@@ -3,7 +3,7 @@
 ghost use Rattle.std.specs.Prelude.{◌≡◌, ◌<◌, ◌≤◌, List, ℕ, true, length, OnOk};
 ghost use Rattle.std.specs.Io.KnownBytes.{Appends};
 ghost use Rattle.drc_base.specs.Counters.{HasCause};
-ghost use Rattle.drc_base.specs.Sinks.{AppendsFront};
+ghost use Rattle.drc_base.specs.Sinks.{AppendsPrefix};
 
 use crate::faults::Failed;
 use crate::sinks::Sink;
@@ -13,7 +13,7 @@ use crate::sinks::Sink;
 pub fn write_all<O: Sink>(out: &mut O, bytes: &[u8]) -> Result<(), Failed>
     ensures all { OnOk result (Appends (O.held out.old) (O.held out.new) bytes.now) }
     ensures finished { OnOk result (O.finished out.new ≡ true) }
-    ensures front { AppendsFront (O.held out.old) (O.held out.new) bytes.now }
+    ensures prefix { AppendsPrefix (O.held out.old) (O.held out.new) bytes.now }
     ensures cause { HasCause (O.faults out.old) (O.faults out.new) result }
 {
     let mut rest = bytes;

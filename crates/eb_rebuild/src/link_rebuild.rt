@@ -10,7 +10,7 @@ ghost use Rattle.corner_table.specs.Table.{side_of};
 ghost use Rattle.eb_rebuild.specs.Linked.{refused_by};
 
 use crate::built::Built;
-use crate::degenerate::first_equal;
+use crate::degenerate::{first_equal, labels_of};
 use crate::kept_degrees::{
     degree_at, end_degrees, left_degrees, no_degrees, right_degrees, split_degrees, tip_degrees,
 };
@@ -20,8 +20,8 @@ use crate::splits::Splits;
 use corner_table::{Event, SideTable, Steps, Symbol, number_of, side_with};
 use drc_base::{Fault, Kind, Memory, Refusal, Side};
 use std::alloc::Global;
-use std::marker::Model;
-use std::sync::ledger::Ledger;
+use std::marker::{Brand, Model};
+use std::sync::ledger::{Blank, Ledger};
 
 /// Whether two sides are one.
 fn is_same(a: Side, b: Side) -> bool
@@ -409,7 +409,7 @@ impl Rebuild for LinkRebuild {
         if self.created < self.made {
             return Err(Refusal::Fault(Fault::new(Kind::VertexCount, u64::from(self.made))));
         }
-        let classes = self.table.label_vertices(alloc)?;
+        let classes = labels_of::<Brand>(alloc, &self.table, Blank::new(1))?;
         match first_equal(classes.of_corner.as_slice(), built) {
             None => Ok(Built::new(self.table, true)),
             Some(face) => Err(Refusal::Fault(Fault::new(Kind::Degenerate, u64::from(face)))),

@@ -113,19 +113,26 @@ fn have_same_entries<L: Ledger>(a: &SideTable, b: &SideTable, blank: Blank) -> b
 }
 
 /// Walks over a surface, rebuilds it, and compares both tables and the numbers of vertices.
-fn comes_back(
+fn comes_back<L: Ledger>(
     rt: &impl Abort,
     alloc: Global,
     points: u8,
     faces: &[[u32; 3]],
-) -> Result<(), Refusal> {
+    blank: Blank,
+) -> Result<(), Refusal>
+    requires name { blank.name ≡ L.name }
+    requires parts { blank.parts ≡ L.parts }
+    requires some { 0 < L.parts }
+{
+    let mut steps = Steps::<L>::new(blank);
     let table = pair(alloc, &mesh(rt, alloc, points, faces)?)?;
     let traced = trace(alloc, &table)?;
-    let turned = table.renumbered(alloc, traced.order.as_slice())?;
+    let turned = table.renumbered(alloc, traced.order.as_slice(), &mut steps)?;
     let count = table.face_count();
     let built = rebuilt::<RowRebuild, Brand>(rt, alloc, count, &traced, Blank::new(1))?;
     assert!(rt; have_same_entries::<Brand>(built.table(), &turned, Blank::new(1)));
-    assert!(rt; built.table().label_vertices(alloc)?.count == traced.vertices);
+    let classes = built.table().label_vertices(alloc, &mut steps)?;
+    assert!(rt; classes.count == traced.vertices);
     Ok(())
 }
 
@@ -163,7 +170,7 @@ fn surfaces_come_back(rt: HostRuntime) -> Result<(), Fail> {
         (36, four_holes.as_slice()),
         (32, three_holes.as_slice()),
     ] {
-        comes_back(&rt, alloc, points, faces)?;
+        comes_back::<Brand>(&rt, alloc, points, faces, Blank::new(1))?;
     }
     Ok(())
 }

@@ -28,15 +28,28 @@ pub(crate) struct Surface<'t> {
     pub(crate) ends: Vec<bool>,
 }
 
-/// The entries of a table, under a count of calls that nothing else takes part in.
-fn entries_of<'t, L: Ledger>(t: &'t SideTable, blank: Blank) -> &'t [u32]
+/// A surface, from its table, under a count of calls that nothing else takes part in.
+fn counted_surface<'t, L: Ledger>(
+    alloc: Global,
+    t: &'t SideTable,
+    blank: Blank,
+) -> Result<Surface<'t>, Memory>
     requires name { blank.name ≡ L.name }
     requires parts { blank.parts ≡ L.parts }
     requires some { 0 < L.parts }
-    ensures entries { result.now ≡ t.now.entries }
+    ensures surface { IfOk result (λ s. IsSurface s) }
+    ensures faces { IfOk result (λ s. s.faces ≡ t.now.faces) }
+    ensures gluing { IfOk result (λ s. gluing_in s ≡ gluing_of t.now) }
 {
     let mut steps = Steps::<L>::new(blank);
-    t.across(&mut steps)
+    let classes = t.label_vertices(alloc, &mut steps)?;
+    Ok(Surface {
+        faces: t.face_count(),
+        vertices: classes.count,
+        across: t.across(&mut steps),
+        labels: classes.of_corner.into_vec(),
+        ends: classes.ends.into_vec(),
+    })
 }
 
 /// A surface, from its table.
@@ -45,14 +58,8 @@ pub(crate) fn surface_of<'t>(alloc: Global, t: &'t SideTable) -> Result<Surface<
     ensures faces { IfOk result (λ s. s.faces ≡ t.now.faces) }
     ensures gluing { IfOk result (λ s. gluing_in s ≡ gluing_of t.now) }
 {
-    let classes = t.label_vertices(alloc)?;
-    Ok(Surface {
-        faces: t.face_count(),
-        vertices: classes.count,
-        across: entries_of::<Brand>(t, Blank::new(1)),
-        labels: classes.of_corner.into_vec(),
-        ends: classes.ends.into_vec(),
-    })
+    let surface = counted_surface::<Brand>(alloc, t, Blank::new(1))?;
+    Ok(surface)
 }
 
 impl Surface<'_> {

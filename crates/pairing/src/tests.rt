@@ -4,7 +4,7 @@ ghost use Rattle.std.specs.Prelude.{◌≡◌, ◌<◌};
 
 use crate::pair;
 use corner_table::{SideTable, Steps};
-use drc_base::{Fault, Kind, Refusal};
+use drc_base::{Fault, Kind, Memory, Refusal};
 use mesh_model::{CornerMesh, Head};
 use std::alloc::Global;
 use std::marker::Brand;
@@ -56,6 +56,41 @@ fn has_entries<L: Ledger>(rt: &impl Abort, table: &SideTable, entries: &[u32], b
 /// The table has these entries.
 fn has_table(rt: &impl Abort, table: &SideTable, entries: &[u32]) {
     has_entries::<Brand>(rt, table, entries, Blank::new(1));
+}
+
+/// How many vertices a table has.
+fn vertices_by<L: Ledger>(alloc: Global, table: &SideTable, blank: Blank) -> Result<u32, Memory>
+    requires name { blank.name ≡ L.name }
+    requires parts { blank.parts ≡ L.parts }
+    requires some { 0 < L.parts }
+{
+    let mut steps = Steps::<L>::new(blank);
+    let classes = table.label_vertices(alloc, &mut steps)?;
+    Ok(classes.count)
+}
+
+/// How many vertices a table has.
+fn vertices_of(alloc: Global, table: &SideTable) -> Result<u32, Memory> {
+    vertices_by::<Brand>(alloc, table, Blank::new(1))
+}
+
+/// How many vertices a table has.
+fn vertices_by<L: Ledger>(
+    alloc: Global,
+    table: &SideTable,
+    blank: Blank,
+) -> Result<u32, Memory>
+    requires name { blank.name ≡ L.name }
+    requires parts { blank.parts ≡ L.parts }
+    requires some { 0 < L.parts }
+{
+    let mut steps = Steps::<L>::new(blank);
+    Ok(table.label_vertices(alloc, &mut steps)?.count)
+}
+
+/// How many vertices a table has.
+fn vertices_of(alloc: Global, table: &SideTable) -> Result<u32, Memory> {
+    vertices_by::<Brand>(alloc, table, Blank::new(1))
 }
 
 #[test]
@@ -161,7 +196,7 @@ fn glues_worked_surfaces(rt: HostRuntime) -> Result<(), Fail> {
     ] {
         let table = pair(alloc, &mesh(&rt, alloc, positions, faces)?)?;
         has_table(&rt, &table, sides);
-        assert_eq!(&rt; table.label_vertices(alloc)?.count, vertices);
+        assert_eq!(&rt; vertices_of(alloc, &table)?, vertices);
     }
     // The second face has one position at two points.
     let twice = mesh(

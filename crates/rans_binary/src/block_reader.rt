@@ -103,6 +103,18 @@ impl<'a> BitBlock<'a> {
         })
     }
 
+    /// The same block at the same bit: each of the two goes on by itself.
+    pub fn copy(&self) -> BitBlock<'a>
+        ensures { result ≡ self.now }
+    {
+        BitBlock {
+            coded: self.coded,
+            left: self.left,
+            number: self.number,
+            ones: self.ones,
+        }
+    }
+
     /// The next bit. It can't fail, however often it is called, and takes no memory.
     pub fn next(&mut self) -> bool
         ensures bit { result ≡ next_bit self.old }

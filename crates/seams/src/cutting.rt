@@ -89,6 +89,17 @@ pub fn unglued(alloc: Global, t: &SideTable, seam: &[bool]) -> Result<SideTable,
     Ok(table)
 }
 
+/// The labels of a table's vertices, under a count of calls that nothing else takes part in.
+fn labels_of<L: Ledger>(alloc: Global, t: &SideTable, blank: Blank) -> Result<Classes, Memory>
+    requires name { blank.name ≡ L.name }
+    requires parts { blank.parts ≡ L.parts }
+    requires some { 0 < L.parts }
+    ensures { IfOk result (λ c. IsLabelled t.now.faces (gluing_of t.now) c.of_corner c.count c.ends) }
+{
+    let mut steps = Steps::<L>::new(blank);
+    t.label_vertices(alloc, &mut steps)
+}
+
 /// The classes of corners: what is connected round a vertex over glued sides that are no seam, so that a
 /// class is a fan of the surface cut at its seams; without flags nothing is cut, and a class is a vertex.
 /// `ends` says of a class whether a boundary or a seam meets it. Classes are numbered from 0 in the order
@@ -99,10 +110,10 @@ pub fn classes(alloc: Global, t: &SideTable, seam: Option<&[bool]>) -> Result<Cl
     ensures { IfOk result (λ c. IsLabelled t.now.faces (unseamed_by (option_map (λ s. s.now) seam.entry) (gluing_of t.now)) c.of_corner c.count c.ends) }
 {
     match seam {
-        None => t.label_vertices(alloc),
+        None => labels_of::<Brand>(alloc, t, Blank::new(1)),
         Some(flags) => {
             let cut = unglued(alloc, t, flags)?;
-            cut.label_vertices(alloc)
+            labels_of::<Brand>(alloc, &cut, Blank::new(1))
         }
     }
 }

@@ -15,25 +15,32 @@ use drc_base::Memory;
 use rans_binary::BitBlock;
 use std::alloc::Global;
 
-/// Takes the flags of all sides from a block, where each is set before.
-fn read_block(across: &[u32], faces: u32, block: &mut BitBlock<'_>, flags: &mut [bool])
+/// Takes the flags of all sides from a block, where each is set before. Gives the block behind its bits.
+fn read_block<'a>(
+    across: &[u32],
+    faces: u32,
+    block: BitBlock<'a>,
+    flags: &mut [bool],
+) -> BitBlock<'a>
     requires few { faces ≤ most_faces }
     requires gluing { IsGluing faces (glued_in across.now) }
     requires room { 3 * faces ≤ length across.now }
     requires set { flags.old ≡ replicate (3 * faces) true }
-    ensures flags { flags.new ≡ flags_of faces (glued_in across.now) block.old }
-    ensures after { block.new ≡ after_bits (length (bit_sides faces (glued_in across.now))) block.old }
+    ensures flags { flags.new ≡ flags_of faces (glued_in across.now) block }
+    ensures after { result ≡ after_bits (length (bit_sides faces (glued_in across.now))) block }
 {
+    let mut ahead = block;
     for side in 0..3 * faces {
         match later_side(across, faces, side) {
             None => {}
             Some(other) => {
-                let flag = block.next();
+                let flag = ahead.next();
                 flags[side as usize] = flag;
                 flags[other as usize] = flag;
             }
         }
     }
+    ahead
 }
 
 /// As many lists of flags for each side, all of them set.
@@ -61,7 +68,7 @@ fn read_each(
     let across = sides_across(t);
     let mut lists = lists_set(alloc, blocks.len(), 3 * faces as usize)?;
     for k in 0..blocks.len() {
-        read_block(across, faces, &mut blocks[k], lists[k].as_mut_slice());
+        blocks[k] = read_block(across, faces, blocks[k].copy(), lists[k].as_mut_slice());
     }
     Ok(lists)
 }

@@ -1,6 +1,7 @@
 //! The table that is written for counts.
 
 ghost use Rattle.std.specs.Prelude.{◌≡◌, ℕ, ◌+◌, ◌-◌, ◌*◌, ◌/◌, ◌^◌, ◌<◌, ◌≤◌, length, map, sum, count_by, nat_lt, slice_index, slice_set, position, ◌==◌, IfOk};
+ghost use Rattle.drc_base.specs.declared.limits.TheConstants.{MAX_TABLE_SYMBOLS as most_symbols};
 ghost use Rattle.symbol_tables.specs.Normal.{HasTable, greatest_of, most_frequent, normal, share_of, shares, used_of};
 
 use crate::table::Table;
@@ -62,7 +63,7 @@ fn share(others: u32, all: u32, count: u32) -> u32
 
 /// The shares of all counts.
 fn shares_of(alloc: Global, counts: &[u32], slots: u32) -> Result<Vec<u32>, Memory>
-    requires few { length counts.now ≤ 2 ^ 20 }
+    requires few { length counts.now ≤ most_symbols }
     requires small { sum counts.now < 2 ^ 31 }
     requires slots { slots ≤ 2 ^ 20 }
     requires some { 0 < sum counts.now }

@@ -1,6 +1,7 @@
 //! Reading a table.
 
 ghost use Rattle.std.specs.Prelude.{◌≡◌, ℕ, ◌+◌, ◌-◌, ◌*◌, ◌/◌, ◌%◌, ◌^◌, ◌<◌, ◌≤◌, ◌==◌, length, sum, IfOk, OnErr, Ok, Err, if◌then◌else◌};
+ghost use Rattle.drc_base.specs.declared.limits.TheConstants.{MAX_TABLE_SYMBOLS as most_symbols};
 ghost use Rattle.drc_base.specs.declared.faults.Fault.{Fault as TheFault};
 ghost use Rattle.drc_bits.specs.Reading.{Gives, Item, Reading, Reads, many_at};
 ghost use Rattle.drc_bits.specs.Numbers.{little_endian, number_at};
@@ -16,7 +17,7 @@ use std::alloc::Global;
 fn read_count(c: &mut Cursor<'_>) -> Result<u32, Fault>
     ensures count { Reads (λ n. n) (count_at c.old) c.new result }
     ensures some { IfOk result (λ n. 0 < n) }
-    ensures few { IfOk result (λ n. n ≤ 2 ^ 20) }
+    ensures few { IfOk result (λ n. n ≤ most_symbols) }
 {
     let limit = c.fault(Kind::TableLimit);
     let empty = c.fault(Kind::EmptyTable);
@@ -86,7 +87,7 @@ fn read_probs(alloc: Global, c: &mut Cursor<'_>, count: u32) -> Result<Vec<u32>,
 
 /// The sum of probabilities.
 fn total_of(probs: &[u32]) -> u64
-    requires { length probs.now ≤ 2 ^ 20 }
+    requires { length probs.now ≤ most_symbols }
     ensures { result ≡ sum probs.now }
 {
     let mut total = 0u64;
@@ -107,7 +108,7 @@ impl Table {
         requires high { bits ≤ 20 }
         ensures table { Gives (λ t. t) (table_at bits c.old) c.new result }
         ensures whole { IfOk result (λ t. sum t ≡ 2 ^ bits) }
-        ensures len { IfOk result (λ t. (0 < length t) × (length t ≤ 2 ^ 20)) }
+        ensures len { IfOk result (λ t. (0 < length t) × (length t ≤ most_symbols)) }
         ensures unchanged { OnErr result (c.new ≡ c.old) }
         // Faults of the number of symbols come before any memory is taken.
         ensures early { (f : TheFault) → count_at c.old ≡ Err f → result ≡ Err (Refusal.Fault f) }

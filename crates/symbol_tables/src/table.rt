@@ -1,6 +1,7 @@
 //! A table and its look-ups.
 
 ghost use Rattle.std.specs.Prelude.{◌≡◌, ℕ, ◌+◌, ◌*◌, ◌^◌, ◌<◌, ◌≤◌, List, length, sum, take, slice_index, IfOk, OnOk, OnErr, ◌++◌, [], ◌∷◌, vec_len};
+ghost use Rattle.drc_base.specs.declared.limits.TheConstants.{MAX_TABLE_SYMBOLS as most_symbols};
 ghost use Rattle.symbol_tables.specs.Tables.{HasSymbol, cum_of};
 
 use drc_base::Memory;
@@ -45,7 +46,7 @@ fn cums_of(alloc: Global, probs: &[u32]) -> Result<Vec<u32>, Memory>
 
 /// The symbol of each slot.
 fn slots_of(alloc: Global, probs: &[u32]) -> Result<Vec<u32>, Memory>
-    requires few { length probs.now ≤ 2 ^ 20 }
+    requires few { length probs.now ≤ most_symbols }
     requires small { sum probs.now ≤ 2 ^ 20 }
     ensures len { IfOk result (λ v. length v.items ≡ sum probs.now) }
     ensures slots { IfOk result (λ v. (slot : ℕ) → slot < sum probs.now → HasSymbol probs.now slot (slice_index v.items slot)) }
@@ -62,7 +63,7 @@ impl Table {
     /// The table of these probabilities.
     pub(crate) fn build(alloc: Global, probs: Vec<u32>) -> Result<Table, Memory>
         requires some { 0 < length probs.items }
-        requires few { length probs.items ≤ 2 ^ 20 }
+        requires few { length probs.items ≤ most_symbols }
         requires small { sum probs.items ≤ 2 ^ 20 }
         ensures { IfOk result (λ t. t ≡ probs.items) }
     {
@@ -75,7 +76,7 @@ impl Table {
     pub(crate) fn probs(&self) -> &[u32]
         ensures probs { result.now ≡ self.now }
         ensures some { 0 < length self.now }
-        ensures few { length self.now ≤ 2 ^ 20 }
+        ensures few { length self.now ≤ most_symbols }
         ensures small { sum self.now ≤ 2 ^ 20 }
     {
         self.probs.as_slice()

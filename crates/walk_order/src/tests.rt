@@ -242,18 +242,18 @@ fn add_faces<L: Ledger>(table: &mut SideTable, faces: u32, steps: &mut Steps<L>)
 }
 
 /// The table of a surface.
-fn table_of<L: Ledger>(rt: &impl Abort, alloc: Global, case: &Case, blank: Blank) -> SideTable
-    requires name { blank.name ≡ L.name }
-    requires parts { blank.parts ≡ L.parts }
-    requires some { 0 < L.parts }
-{
-    let mut steps = Steps::<L>::new(blank);
+fn table_of<L: Ledger>(
+    rt: &impl Abort,
+    alloc: Global,
+    case: &Case,
+    steps: &mut Steps<L>,
+) -> SideTable {
     let faces = case.faces;
     assert!(rt; faces <= MAX_FACES);
     let mut table = SideTable::with_room(alloc, faces).expect(rt, "room");
-    add_faces(&mut table, faces, &mut steps);
+    add_faces(&mut table, faces, steps);
     for pair in case.pairs {
-        glue_pair(rt, &mut table, *pair, &mut steps);
+        glue_pair(rt, &mut table, *pair, steps);
     }
     table
 }
@@ -266,11 +266,17 @@ fn is_order(order: &Order, due: (&[u32], &[u32])) -> bool {
 }
 
 /// Both orders of a surface are those that are due.
-fn has_orders(rt: &impl Abort, alloc: Global, case: &Case, table: &SideTable) {
-    let classes = table.label_vertices(alloc).expect(rt, "labels");
-    let depth = depth_first(alloc, table, &classes).expect(rt, "depth first");
+fn has_orders<L: Ledger>(rt: &impl Abort, alloc: Global, case: &Case, blank: Blank)
+    requires name { blank.name ≡ L.name }
+    requires parts { blank.parts ≡ L.parts }
+    requires some { 0 < L.parts }
+{
+    let mut steps = Steps::<L>::new(blank);
+    let table = table_of(rt, alloc, case, &mut steps);
+    let classes = table.label_vertices(alloc, &mut steps).expect(rt, "labels");
+    let depth = depth_first(alloc, &table, &classes).expect(rt, "depth first");
     assert!(rt; is_order(&depth, case.depth_first));
-    let degree = prediction_degree(alloc, table, &classes).expect(rt, "by prediction degree");
+    let degree = prediction_degree(alloc, &table, &classes).expect(rt, "by prediction degree");
     assert!(rt; is_order(&degree, case.prediction_degree));
 }
 
@@ -278,8 +284,7 @@ fn has_orders(rt: &impl Abort, alloc: Global, case: &Case, table: &SideTable) {
 fn small_surfaces(rt: HostRuntime) {
     let alloc = rt.alloc();
     for case in [&FIVE, &TETRAHEDRON, &FAN, &CUT_VERTEX, &NOTHING, &APART] {
-        let table = table_of::<Brand>(&rt, alloc, case, Blank::new(1));
-        has_orders(&rt, alloc, case, &table);
+        has_orders::<Brand>(&rt, alloc, case, Blank::new(1));
     }
 }
 
@@ -287,7 +292,6 @@ fn small_surfaces(rt: HostRuntime) {
 fn larger_surfaces(rt: HostRuntime) {
     let alloc = rt.alloc();
     for case in [&CUBE, &TORUS, &GRID] {
-        let table = table_of::<Brand>(&rt, alloc, case, Blank::new(1));
-        has_orders(&rt, alloc, case, &table);
+        has_orders::<Brand>(&rt, alloc, case, Blank::new(1));
     }
 }

@@ -1,5 +1,5 @@
--- The call counts in the ledger of its blank.
+-- The calls count in the ledger of their blank.
 use Rattle.eb_trace.proofs.surface.surface_of.Given as goal
 
-abbrev pub ghosts-entries_of : goal.ghosts-entries_of
-ghosts-entries_of a = record { name = a.blank.name; parts = a.blank.parts }
+abbrev pub ghosts-counted_surface : goal.ghosts-counted_surface
+ghosts-counted_surface a = record { name = a.blank.name; parts = a.blank.parts }

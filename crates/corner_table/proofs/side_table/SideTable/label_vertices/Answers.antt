@@ -6,7 +6,7 @@ use Rattle.corner_table.proofs.side_table.SideTable.label_vertices.Goals as goal
 use Rattle.corner_table.proofs.side_table.SideTable.label_vertices.Goals.{then-entry_or_free+in_ok-push, else-entry_or_free}
 
 pub loop-corner-init : goal.loop-corner-init
-loop-corner-init c =
+loop-corner-init g c =
     let n = c.face_count-corners.ensures.count in
     record {
       len = (let e = c.in_ok-labels.ensures.len in omega arith);
@@ -15,7 +15,7 @@ loop-corner-init c =
     }
 
 pub loop-corner-preserved : goal.loop-corner-preserved
-loop-corner-preserved c = elim c.if-entry_or_free.branch [
+loop-corner-preserved g c = elim c.if-entry_or_free.branch [
   | then-entry_or_free+in_ok-push w ↦ (
       let unlabelled = sym c.entry_or_free.ensures ∙ w.if-entry_or_free.true in
       let small : c.loop-corner.count < free_entry = (
@@ -35,8 +35,8 @@ loop-corner-preserved c = elim c.if-entry_or_free.branch [
       }))
 ]
 
-pub returns : goal.returns
-returns c =
+pub returns-clause-labels : goal.returns-clause-labels
+returns-clause-labels g c =
     let n = c.face_count-corners.ensures.count in
     let last : c.loop-corner.corner ≡ 3 * c.args.self.now.faces = (let t = c.loop-corner-test.false in let e = c.loop-corner.auto.corner-end in omega arith) in
     rw (c.from_vec.ensures, c.from_vec-2.ensures) (all_done _ _ _ _ _ (rw last at c.loop-corner.invariant.labelling))

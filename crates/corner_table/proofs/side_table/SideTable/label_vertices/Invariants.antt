@@ -5,7 +5,7 @@ use Rattle.corner_table.specs.Labelling.{IsLabelling}
 use Rattle.corner_table.proofs.side_table.SideTable.label_vertices.Given as goal
 
 abbrev pub invariant-loop-corner : goal.invariant-loop-corner
-invariant-loop-corner l = record {
+invariant-loop-corner g l = record {
   len : vec_len l.labels ≡ 3 * l.self.faces;
   few : l.count ≤ l.corner;
   labelling : IsLabelling l.self.faces (gluing_of l.self) l.corner l.count l.labels.items l.ends.items;

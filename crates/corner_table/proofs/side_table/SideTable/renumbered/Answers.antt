@@ -5,14 +5,14 @@ use Rattle.corner_table.proofs.CarriedLists.{renumbered_from, table_carried, glu
 use Rattle.corner_table.proofs.side_table.SideTable.renumbered.Goals as goal
 
 pub invariant_of-result : goal.invariant_of-result
-invariant_of-result c =
+invariant_of-result g c =
     let now = ap (λ (t : Table). t.faces) c.self.view_is in
     let n = c.face_count-faces.ensures.count in
     let made = renumbered_from c.self.invariant now n c.requires c.in_ok-places.ensures c.in_ok-across.ensures in
     rw (n ∙ sym now) (table_carried made _ _ _ (n ∙ sym now) c.in_ok-after.ensures c.in_ok-before.ensures)
 
 pub returns-clause-carried : goal.returns-clause-carried
-returns-clause-carried c =
+returns-clause-carried g c =
     let now = ap (λ (t : Table). t.faces) c.self.view_is in
     let n = c.face_count-faces.ensures.count in
     let made = renumbered_from c.self.invariant now n c.requires c.in_ok-places.ensures c.in_ok-across.ensures in

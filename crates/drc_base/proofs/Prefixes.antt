@@ -1,7 +1,7 @@
--- Fronts of lists that are taken away.
+-- What comes first in a list, and is taken away.
 use Rattle.std.proofs.Common.{◌≡◌, ℕ, ◌+◌, ◌≤◌, List, ◌++◌, length, take, drop, refl, sym, ◌∙◌, ap, arith}
 use Rattle.std.proofs.lemmas.List.{take-append-drop, drop-drop, take_at, length-take-le}
 
 -- what stands from p on is its first n and what stands from p + n on
-pub taken_front : (bytes : List ℕ) (p n : ℕ) → drop p bytes ≡ take n (drop p bytes) ++ drop (p + n) bytes
-taken_front bytes p n = rw (← drop-drop n p bytes) (sym (take-append-drop n (drop p bytes)))
+pub taken_prefix : (bytes : List ℕ) (p n : ℕ) → drop p bytes ≡ take n (drop p bytes) ++ drop (p + n) bytes
+taken_prefix bytes p n = rw (← drop-drop n p bytes) (sym (take-append-drop n (drop p bytes)))
