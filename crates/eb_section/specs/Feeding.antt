@@ -1,0 +1,37 @@
+-- How the machine of reverse decoding is fed: each symbol is drawn from what is left of a source when the machine is to take it, so that a
+-- fault of the source comes behind those of the symbols before (Draco Bitstream Specification 2.2, section "Edgebreaker Connectivity").
+use Rattle.std.specs.Prelude.{◌≡◌, ℕ, zero, suc, Bool, List, length, Option, Some, None, Result, Ok, Err}
+use Rattle.drc_base.specs.declared.faults.Fault.{Fault}
+use Rattle.drc_base.specs.Steps.{◌>>=◌}
+use Rattle.corner_table.specs.declared.symbols.Symbol.{Symbol}
+use Rattle.rans_binary.specs.Blocks.{Block, bit_of}
+use Rattle.eb_rebuild.specs.Machine.{Plan, State, step, close_all, finish}
+use Rattle.eb_standard.specs.SymbolBits.{SymbolPlace, next_symbol, after_symbol}
+
+-- a source gives the next symbol, and what is left of it, to a machine in this state; or a fault
+abbrev pub Source : Type 0 → Type 0
+Source S = S → State → Result (Symbol × S) Fault
+
+-- the machine takes so many symbols, of n in all
+unfoldable pub fed : {S : Type 0} → Source S → ℕ → ℕ → S → State → Result State Fault
+fed next n zero source s = Ok s
+fed next n (suc left) source s = next source s >>= λ x. step n x.0 s >>= fed next n left x.1
+
+-- a whole rebuilding: the symbols of a source, the closes by start bits, the tests at the end
+unfoldable pub rebuilt : {S : Type 0} → Source S → Plan → S → Block → State → Result State Fault
+rebuilt next p source starts s =
+    fed next p.symbols p.symbols source s >>= λ t.
+    close_all p (bit_of starts) (length t.stack) t >>=
+    finish p
+
+-- the source of the standard traversal: symbols in bits, and the fault that comes where the bits of a symbol aren't there
+pub record Standard : Type 0 where
+  pub short : Fault
+  pub place : SymbolPlace
+
+-- the next symbol of the bits
+abbrev pub standard : Source Standard
+standard source s = elim (next_symbol source.place) [
+  | None ↦ Err source.short
+  | Some x ↦ Ok (x, record { short = source.short; place = after_symbol source.place })
+]
