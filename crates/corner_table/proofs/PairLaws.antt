@@ -1,18 +1,18 @@
 -- The sides of a surface by their numbers, and its pairs.
-use Rattle.std.proofs.Common.{◌≡◌, ◌≢◌, ℕ, zero, suc, ◌+◌, ◌*◌, ◌-◌, ◌<◌, ◌≤◌, Bool, true, false, not, ◌&&◌, nat_lt, cond, List, [], ◌∷◌, ◌++◌, length, map, get_or, All, AllPairs, Option, Some, None, inl, inr, sym, refl, ap, ◌∙◌, subst, arith, zero-add}
-use Rattle.std.specs.Prelude.{is_none, filter, Contains}
-use Rattle.std.specs.List.{list_any, count_by, IsDistinct}
+use Rattle.std.proofs.Common.{◌≡◌, ◌≢◌, ℕ, zero, suc, ◌+◌, ◌*◌, ◌-◌, ◌<◌, ◌≤◌, Bool, true, false, not, ◌&&◌, nat_lt, cond, List, [], ◌∷◌, length, map, get_or, AllPairs, Some, None, inl, inr, sym, refl, ap, ◌∙◌, subst, arith, zero-add}
+use Rattle.std.specs.Prelude.{is_none, filter}
+use Rattle.std.specs.List.{count_by}
 use Rattle.std.specs.Bool.{Decides}
 use Rattle.std.specs.Set.{is_member}
 use Rattle.std.specs.Cmp.{IsEquivalence, decided}
-use Rattle.std.proofs.lemmas.Bool.{cases_Bool, cases_eq, cases_lt, and_parts, and_from, lt-ltb, le-ltb, ltb-true}
+use Rattle.std.proofs.lemmas.Bool.{cases_lt, and_parts, and_from, lt-ltb, le-ltb, ltb-true}
 use Rattle.std.proofs.lemmas.List.{length-append, get_or-map, get_or_append_left, get_or-append_right, length-map}
-use Rattle.std.proofs.lemmas.List.Sums.{length-filter, count_by-le-length, sum_by-append}
+use Rattle.std.proofs.lemmas.List.Sums.{length-filter, sum_by-append}
 use Rattle.std.proofs.lemmas.List.Kept.{AllPairs-filter}
 use Rattle.std.proofs.lemmas.Map.Made.{is_member-Decides, is_member-filter, length-le_from_is_member, IsDistinct-from_AllPairs}
-use Rattle.corner_table.specs.Sides.{Side, Place, first, second, third, side, side_at, number, same, Gluing, IsGluing}
+use Rattle.corner_table.specs.Sides.{Side, first, second, third, side, side_at, number, same, Gluing, IsGluing}
 use Rattle.corner_table.specs.Fans.{corners_of}
-use Rattle.corner_table.specs.Pairs.{has_bit, bit_sides, pair_count, free_count, OneBitEach, BitSidesAreListed, BitSidesRise, PairsHaveTwoSides}
+use Rattle.corner_table.specs.Pairs.{has_bit, bit_sides, OneBitEach, BitSidesAreListed, BitSidesRise, PairsHaveTwoSides}
 use Rattle.corner_table.proofs.Places.{same-true, same_refl, option_tells, Some_injective}
 use Rattle.corner_table.proofs.Numbers.{number-side_at, side_at-number, number-lt}
 

@@ -242,7 +242,9 @@ fn renumbered_pair<L: Ledger>(rt: &impl Abort, alloc: Global, blank: Blank) -> V
     add_faces(&mut table, 2, &mut steps);
     glue_pair(rt, &mut table, (0, 5), &mut steps);
     let rows = [(1, 1), (0, 2)];
-    let now = table.renumbered(alloc, &rows, &mut steps).expect(rt, "a table");
+    let now = table
+        .renumbered(alloc, &rows, &mut steps)
+        .expect(rt, "a table");
     let mut told = Vec::new(alloc);
     for side in 0..6 {
         let s = numbered(side);

@@ -1,13 +1,11 @@
 -- Symbols build a face each and close no side; closes take a side each.
-use Rattle.std.proofs.Common.{◌≡◌, ℕ, zero, suc, ◌+◌, ◌<◌, Bool, true, false, not, ◌==◌, nat_le, List, [], ◌∷◌, length, Option, Some, None, Result, Ok, Err, sym, refl, ap, ◌∙◌, subst, arith}
+use Rattle.std.proofs.Common.{◌≡◌, ℕ, ◌+◌, Bool, ◌==◌, nat_le, List, [], ◌∷◌, length, Option, Some, None, Result, Ok, Err, sym, refl, ap, ◌∙◌, arith}
 use Rattle.drc_base.specs.declared.kinds.Kind.TheVariants as kind
 use Rattle.drc_base.specs.declared.faults.Fault.{Fault}
 use Rattle.drc_base.specs.Steps.{◌>>=◌}
-use Rattle.corner_table.specs.declared.symbols.Symbol.{Symbol}
-use Rattle.corner_table.specs.declared.symbols.Event.{Event}
 use Rattle.corner_table.specs.Sides.{Side}
 use Rattle.eb_rebuild.specs.Machine.{State, Plan, start, step, close, finish, must, fault, first_degenerate, take_symbols, close_all, rebuild}
-use Rattle.eb_rebuild.specs.Closes.{SymbolsCloseNone, CloseTakesOne, AllAreClosed, FinishKeepsState, WaitsBetween, RunClosesAll}
+use Rattle.eb_rebuild.specs.Closes.{SymbolsCloseNone, CloseTakesOne, AllAreClosed, FinishKeepsState, RunClosesAll}
 use Rattle.eb_rebuild.proofs.Steps.{Next}
 use Rattle.eb_rebuild.proofs.Counts.{If, if_ok, if_then, step_counts, close_counts}
 
