@@ -9,3 +9,5 @@ pub mod Walking
 pub mod Rating
 pub mod Ranking
 pub mod Examples
+pub mod Labels
+pub mod OfSurface

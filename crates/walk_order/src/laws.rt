@@ -1,5 +1,6 @@
 //! What holds of the definitions themselves.
 
+ghost use Rattle.walk_order.specs.OfSurface.{EntriesAreOfSurface, LabelsAreOne, OrdersAreOfSurface, SurfaceIsLabelled};
 ghost use Rattle.walk_order.specs.Laws.{DepthFirstListsClasses, PredictionDegreeListsClasses, VisitsAreRelation, WalkIsRelation};
 
 /// Both walks are the relations that their rules tell, one sentence each. With as much fuel as there are
@@ -16,4 +17,15 @@ pub fn walks_are_relations()
 pub fn orders_list_classes()
     ensures depth_first { DepthFirstListsClasses }
     ensures prediction_degree { PredictionDegreeListsClasses }
+{}
+
+/// A surface has one labelling of its fans: the label of a corner is the place of its fan among the least
+/// corners of all fans. So both orders are functions of the surface alone, whatever labels they were made
+/// from, and so are the entries of corners: that of a corner is the first whose corner is in its fan. This is
+/// the contract of a call that does nothing.
+pub fn orders_are_of_surfaces()
+    ensures labelled { SurfaceIsLabelled }
+    ensures one { LabelsAreOne }
+    ensures orders { OrdersAreOfSurface }
+    ensures entries { EntriesAreOfSurface }
 {}
