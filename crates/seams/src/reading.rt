@@ -26,8 +26,8 @@ fn read_block<'a>(
     requires gluing { IsGluing faces (glued_in across.now) }
     requires room { 3 * faces ≤ length across.now }
     requires set { flags.old ≡ replicate (3 * faces) true }
-    ensures flags { flags.new ≡ flags_of faces (glued_in across.now) block }
-    ensures after { result ≡ after_bits (length (bit_sides faces (glued_in across.now))) block }
+    ensures flags { flags.new ≡ flags_of faces (glued_in across.now) block.entry }
+    ensures after { result ≡ after_bits (length (bit_sides faces (glued_in across.now))) block.entry }
 {
     let mut ahead = block;
     for side in 0..3 * faces {

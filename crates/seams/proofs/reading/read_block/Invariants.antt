@@ -9,5 +9,5 @@ use Rattle.seams.proofs.reading.read_block.Given as goal
 abbrev pub invariant-loop-side : goal.invariant-loop-side
 invariant-loop-side l = record {
   told : AreToldTo l.faces (glued_in l.across) (λ x. bit_of l.fn.block (place_in (bit_sides l.faces (glued_in l.across)) x)) l.side l.flags;
-  block : l.block ≡ after_bits (length (bit_sides_below l.side (glued_in l.across))) l.fn.block;
+  block : l.ahead ≡ after_bits (length (bit_sides_below l.side (glued_in l.across))) l.fn.block;
 }

@@ -35,10 +35,12 @@ loop-k-preserved c =
     let inside : c.loop-k.k < length c.args.blocks.now = omega arith in
     let block_is : b ≡ get_or c.args.blocks.now c.loop-k.k b =
     passed_at (after_bits (length (bit_sides faces g))) c.args.blocks.now c.loop-k.blocks c.loop-k.k b inside c.loop-k.invariant.blocks (ap (λ x. get_or c.loop-k.blocks c.loop-k.k x) is) in
+    let copied : c.copy.result ≡ b = c.copy.ensures in
     let told_is : c.read_block.new.flags ≡ flags_of faces g b =
-    c.read_block.ensures.flags ∙ ap (λ xs. flags_of c.face_count-faces.result (glued_in xs) b) es ∙ ap (λ n. flags_of n g b) count in
-    let after_is : c.read_block.new.block ≡ after_bits (length (bit_sides faces g)) b =
-    c.read_block.ensures.after ∙ ap (λ xs. after_bits (length (bit_sides c.face_count-faces.result (glued_in xs))) b) es ∙ ap (λ n. after_bits (length (bit_sides n g)) b) count in
+    c.read_block.ensures.flags ∙ ap (flags_of c.face_count-faces.result (glued_in c.sides_across-across.result.now)) copied ∙ ap (λ xs. flags_of c.face_count-faces.result (glued_in xs) b) es ∙ ap (λ n. flags_of n g b) count in
+    let after_is : c.read_block.result ≡ after_bits (length (bit_sides faces g)) b =
+    c.read_block.ensures.after ∙ ap (after_bits (length (bit_sides c.face_count-faces.result (glued_in c.sides_across-across.result.now)))) copied
+    ∙ ap (λ xs. after_bits (length (bit_sides c.face_count-faces.result (glued_in xs))) b) es ∙ ap (λ n. after_bits (length (bit_sides n g)) b) count in
     let v = c.index_mut.result.now in
     let first : v.items ≡ replicate (3 * faces) true =
     filled_at (λ (w : Vec Bool Global). w.items) (flags_of faces g) (replicate (3 * faces) true) c.args.blocks.now c.loop-k.lists.items c.loop-k.k v inside c.loop-k.invariant.lists c.index_mut.ensures.value in
