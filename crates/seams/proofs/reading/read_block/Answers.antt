@@ -2,7 +2,7 @@
 use Rattle.std.proofs.Common.{ap, ◌∙◌, length, List, refl, arith}
 use Rattle.corner_table.specs.Sides.{Side}
 use Rattle.corner_table.specs.Table.{glued_in}
-use Rattle.seams.specs.SeamBits.{after_bits}
+use Rattle.rans_binary.specs.Blocks.{behind}
 use Rattle.seams.proofs.Telling.{told_start, told_over, told_more, told_end}
 use Rattle.seams.proofs.Blocks.{flag_next, block_more, block_over, bits_end}
 use Rattle.seams.proofs.reading.read_block.Goals.{in-Some, in-None}
@@ -41,4 +41,4 @@ pub returns-clause-after : goal.returns-clause-after
 returns-clause-after c =
     let n = c.loop-side-test.false in
     let e = c.loop-side.auto.side-end in
-    c.loop-side.invariant.block ∙ ap (λ (xs : List Side). after_bits (length xs) c.args.block) (bits_end c.args.faces c.loop-side.side (glued_in c.args.across.now) (omega arith))
+    c.loop-side.invariant.block ∙ ap (λ (xs : List Side). behind (length xs) c.args.block) (bits_end c.args.faces c.loop-side.side (glued_in c.args.across.now) (omega arith))
