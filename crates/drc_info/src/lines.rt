@@ -4,8 +4,8 @@ ghost use Rattle.std.specs.Prelude.{◌≡◌, ◌++◌, ◌∷◌, decimal, OnO
 ghost use Rattle.std.specs.List.{flat_map};
 ghost use Rattle.drc_info.specs.InfoText.{field};
 
+use decimal_text::append_spaced;
 use drc_base::Memory;
-use itoa::Buffer;
 
 /// Appends a word and the numbers behind it.
 pub fn put_field(out: &mut Vec<u8>, word: &[u8], numbers: &[u64]) -> Result<(), Memory>
@@ -20,17 +20,7 @@ fn put_numbers(out: &mut Vec<u8>, numbers: &[u64]) -> Result<(), Memory>
     ensures { OnOk result (out.new.items ≡ out.old.items ++ flat_map (λ n. 32 ∷ decimal n) numbers.now) }
 {
     for n in numbers {
-        put_number(out, *n)?;
+        append_spaced(out, *n)?;
     }
-    Ok(())
-}
-
-/// Appends a space and a number.
-fn put_number(out: &mut Vec<u8>, n: u64) -> Result<(), Memory>
-    ensures { OnOk result (out.new.items ≡ out.old.items ++ (32 ∷ decimal n)) }
-{
-    out.push(b' ')?;
-    let mut buffer = Buffer::new();
-    out.extend_from_slice(buffer.format(n).as_bytes())?;
     Ok(())
 }

@@ -1,23 +1,13 @@
 //! The text of a renumbering.
 
-ghost use Rattle.std.specs.Prelude.{◌≡◌, ◌+◌, ◌≤◌, ◌++◌, codes, decimal, length, take, flat_map, IfOk, OnOk};
+ghost use Rattle.std.specs.Prelude.{◌≡◌, ◌+◌, ◌≤◌, ◌++◌, codes, length, take, flat_map, IfOk, OnOk};
 ghost use Rattle.mesh_model.specs.MapText.{map_text_of, map_words, row_line};
 
 use crate::geometries::Geometry;
 use crate::renumberings::Renumber;
-use decimal_text::{CHUNK_BYTES, ROOM_BYTES, flushed, put_unsigned, with_room};
+use decimal_text::{CHUNK_BYTES, ROOM_BYTES, append_number, flushed, put_unsigned, with_room};
 use drc_base::Memory;
-use itoa::Buffer;
 use std::alloc::Global;
-
-/// Appends a number in decimal.
-fn put_number(out: &mut Vec<u8>, n: u64) -> Result<(), Memory>
-    ensures { OnOk result (out.new.items ≡ out.old.items ++ decimal n) }
-{
-    let mut buffer = Buffer::new();
-    out.extend_from_slice(buffer.format(n).as_bytes())?;
-    Ok(())
-}
 
 /// Writes the line of one row from `at` on, and answers the place behind it.
 #[inline(always)]
@@ -62,7 +52,7 @@ pub fn map_text(alloc: Global, g: &Geometry, c: &Renumber) -> Result<Vec<u8>, Me
     let rows = c.rows.as_slice();
     let mut out = Vec::new(alloc);
     out.extend_from_slice(words(g))?;
-    put_number(&mut out, rows.len() as u64)?;
+    append_number(&mut out, rows.len() as u64)?;
     out.extend_from_slice(b"\n")?;
     put_rows(&mut out, rows)?;
     Ok(out)

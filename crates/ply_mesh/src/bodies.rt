@@ -10,9 +10,9 @@ ghost use Rattle.ply_mesh.specs.Body.{IsRange, row_of, face_of, items_from, ends
 use crate::face_lines::read_face;
 use crate::faces_ahead::face_ahead;
 use crate::numbers::range_of;
-use crate::rows::{read_row, refusal};
+use crate::rows::read_row;
 use crate::rows_ahead::{ranges_of, row_ahead};
-use drc_base::{Kind, Refusal};
+use drc_base::{Fault, Kind, Refusal};
 use ply_text::{Lines, is_at_end};
 use std::alloc::Global;
 
@@ -48,7 +48,7 @@ fn take_row<'a>(
         return Ok(());
     }
     let Some(line) = lines.next() else {
-        return Err(refusal(Kind::PlyShort, at));
+        return Err(Refusal::Fault(Fault::new(Kind::PlyShort, at)));
     };
     read_row(alloc, dtypes, at, line, out)
 }
@@ -103,7 +103,7 @@ fn take_face<'a>(
         return Ok(found.0);
     }
     let Some(line) = lines.next() else {
-        return Err(refusal(Kind::PlyShort, at));
+        return Err(Refusal::Fault(Fault::new(Kind::PlyShort, at)));
     };
     read_face(alloc, list, points, at, line)
 }
@@ -143,7 +143,7 @@ pub(crate) fn read_end(lines: &mut Lines<'_>, at: u64) -> Result<(), Refusal>
     let mut number = at;
     while let Some(line) = lines.next() {
         if !is_at_end(line, 0) {
-            return Err(refusal(Kind::PlyRest, number));
+            return Err(Refusal::Fault(Fault::new(Kind::PlyRest, number)));
         }
         number += 1;
     }

@@ -6,8 +6,7 @@ ghost use Rattle.ply_text.specs.Tokens.{tokens_of};
 ghost use Rattle.ply_mesh.specs.Body.{point_of, points_of, indices_of, counted_face, face_of, texts};
 
 use crate::numbers::{number_of, range_of};
-use crate::rows::refusal;
-use drc_base::{Kind, Refusal};
+use drc_base::{Fault, Kind, Refusal};
 use ply_text::{first_tokens, int_at, is_at_end};
 use std::alloc::Global;
 
@@ -67,16 +66,16 @@ fn indices_of(
     ensures { Answers (λ face. face) (indices_of itype points at (first.now ∷ second.now ∷ third.now ∷ [])) result }
 {
     let Some(a) = number_of(itype, first) else {
-        return Err(refusal(Kind::PlyNumber, at));
+        return Err(Refusal::Fault(Fault::new(Kind::PlyNumber, at)));
     };
     let Some(b) = number_of(itype, second) else {
-        return Err(refusal(Kind::PlyNumber, at));
+        return Err(Refusal::Fault(Fault::new(Kind::PlyNumber, at)));
     };
     let Some(c) = number_of(itype, third) else {
-        return Err(refusal(Kind::PlyNumber, at));
+        return Err(Refusal::Fault(Fault::new(Kind::PlyNumber, at)));
     };
     match points_of(points, a, b, c) {
-        None => Err(refusal(Kind::PlyIndex, at)),
+        None => Err(Refusal::Fault(Fault::new(Kind::PlyIndex, at))),
         Some(face) => Ok(face),
     }
 }
@@ -87,7 +86,7 @@ fn indices_by_tokens(itype: u8, points: u32, at: u64, found: &[&[u8]]) -> Result
     ensures { Answers (λ face. face) (indices_of itype points at (texts found.now)) result }
 {
     if found.len() != 3 {
-        return Err(refusal(Kind::PlyRow, at));
+        return Err(Refusal::Fault(Fault::new(Kind::PlyRow, at)));
     }
     indices_of(itype, points, at, found[0], found[1], found[2])
 }
@@ -104,10 +103,10 @@ fn counted_face(
     ensures { Answers (λ face. face) (counted_face list points at count.now (texts rest.now)) result }
 {
     let Some(n) = number_of(list.0, count) else {
-        return Err(refusal(Kind::PlyNumber, at));
+        return Err(Refusal::Fault(Fault::new(Kind::PlyNumber, at)));
     };
     if n != 3 {
-        return Err(refusal(Kind::PlyFace, at));
+        return Err(Refusal::Fault(Fault::new(Kind::PlyFace, at)));
     }
     indices_by_tokens(list.1, points, at, rest)
 }
@@ -123,7 +122,7 @@ fn face_by_tokens(
     ensures { Answers (λ face. face) (face_of list points at (texts found.now)) result }
 {
     if found.len() == 0 {
-        return Err(refusal(Kind::PlyRow, at));
+        return Err(Refusal::Fault(Fault::new(Kind::PlyRow, at)));
     }
     counted_face(list, points, at, found[0], &found[1..])
 }

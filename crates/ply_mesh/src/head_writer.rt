@@ -6,17 +6,9 @@ ghost use Rattle.mesh_model.specs.Head.{width_of};
 ghost use Rattle.ply_mesh.specs.Fields.{QuantFields, HasFields};
 ghost use Rattle.ply_mesh.specs.Text.{spaced, line_text, text_of, hex_digit, pattern_text, attr_line, quant_line, quant_lines, head_lines};
 
+use decimal_text::append_spaced;
 use drc_base::Memory;
 use mesh_model::{Head, Quant};
-use ply_text::put_int;
-
-/// Appends a space and a number.
-pub(crate) fn put_number(out: &mut Vec<u8>, n: u32) -> Result<(), Memory>
-    ensures { OnOk result (out.new.items ≡ out.old.items ++ (32 ∷ decimal n)) }
-{
-    out.push(b' ')?;
-    put_int(out, n as i64)
-}
 
 fn hex_digit(d: u32) -> u8
     requires { d < 16 }
@@ -69,12 +61,12 @@ fn put_attr(out: &mut Vec<u8>, k: u32, head: &Head) -> Result<(), Memory>
     ensures fields { OnOk result ((head.now.normalized < 256) × (head.now.id < 2 ^ 32)) }
 {
     out.extend_from_slice(b"comment drc attr")?;
-    put_number(out, k)?;
-    put_number(out, head.usage as u32)?;
-    put_number(out, head.dtype as u32)?;
-    put_number(out, head.comps as u32)?;
-    put_number(out, head.normalized as u32)?;
-    put_number(out, head.id)?;
+    append_spaced(out, k as u64)?;
+    append_spaced(out, head.usage as u64)?;
+    append_spaced(out, head.dtype as u64)?;
+    append_spaced(out, head.comps as u64)?;
+    append_spaced(out, head.normalized as u64)?;
+    append_spaced(out, head.id as u64)?;
     out.push(b'\n')?;
     Ok(())
 }
@@ -85,8 +77,8 @@ fn put_quant(out: &mut Vec<u8>, k: u32, quant: &Quant) -> Result<(), Memory>
     ensures fields { OnOk result (QuantFields quant.now) }
 {
     out.extend_from_slice(b"comment drc quant")?;
-    put_number(out, k)?;
-    put_number(out, quant.bits as u32)?;
+    append_spaced(out, k as u64)?;
+    append_spaced(out, quant.bits as u64)?;
     put_pattern(out, quant.range)?;
     put_patterns(out, quant.min.as_slice())?;
     out.push(b'\n')?;

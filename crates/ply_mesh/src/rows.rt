@@ -2,7 +2,6 @@
 
 ghost use Rattle.std.specs.Prelude.{◌≡◌, ◌++◌, ◌≤◌, Some, length, IfOk, MatchBool, MatchResult};
 ghost use Rattle.drc_base.specs.Refusals.{Refuses};
-ghost use Rattle.drc_base.specs.declared.faults.Refusal.TheVariants as refusals;
 ghost use Rattle.drc_base.specs.declared.kinds.Kind.TheVariants.{PlyNumber};
 ghost use Rattle.ply_text.specs.Faults.{or_refuse};
 ghost use Rattle.ply_text.specs.Tokens.{tokens_of};
@@ -12,12 +11,6 @@ use crate::numbers::{number_of, range_of};
 use drc_base::{Fault, Kind, Memory, Refusal};
 use ply_text::{first_tokens, int_at, is_at_end};
 use std::alloc::Global;
-
-pub(crate) fn refusal(kind: Kind, at: u64) -> Refusal
-    ensures { result ≡ refusals.Fault (record { kind = kind; at = at }) }
-{
-    Refusal::Fault(Fault { kind, at })
-}
 
 /// Appends the numbers of a line of points, read in place. False leaves the list as it was, and says
 /// no more than that this call doesn't tell.
@@ -54,7 +47,7 @@ fn put_numbers(dtypes: &[u8], found: &[&[u8]], at: u64, out: &mut Vec<i32>) -> R
 {
     for j in 0..dtypes.len() {
         let Some(value) = number_of(dtypes[j], found[j]) else {
-            return Err(refusal(Kind::PlyNumber, at));
+            return Err(Refusal::Fault(Fault::new(Kind::PlyNumber, at)));
         };
         out.push(value)?;
     }
@@ -76,7 +69,7 @@ fn row_by_tokens(
 {
     let found = first_tokens(alloc, line, dtypes.len() + 1)?;
     if found.as_slice().len() != dtypes.len() {
-        return Err(refusal(Kind::PlyRow, at));
+        return Err(Refusal::Fault(Fault::new(Kind::PlyRow, at)));
     }
     put_numbers(dtypes, found.as_slice(), at, out)
 }

@@ -75,19 +75,13 @@ fn refuses_the_first_fault(rt: HostRuntime) -> Result<(), Fail> {
         ("", "", Kind::PlyShort, 11),
     ] {
         let answer = fault(alloc, &[HEADER, PROPERTIES, FACES, rows, faces])?;
-        assert_eq!(rt; answer, Some(Refusal::Fault(Fault { kind, at })));
+        assert_eq!(rt; answer, Some(Refusal::Fault(Fault::new(kind, at))));
     }
     let answer = fault(
         alloc,
         &[HEADER, "property float x\n", PROPERTIES, FACES, ROWS],
     )?;
-    assert_eq!(rt;
-        answer,
-        Some(Refusal::Fault(Fault {
-            kind: Kind::PlyType,
-            at: 5
-        }))
-    );
+    assert_eq!(rt; answer, Some(Refusal::Fault(Fault::new(Kind::PlyType, 5))));
     Ok(())
 }
 
@@ -117,10 +111,7 @@ fn keeps_each_type_within_its_range(rt: HostRuntime) -> Result<(), Fail> {
             let answer = fault(alloc, &[start, word, end, row])?;
             assert_eq!(rt;
                 answer,
-                Some(Refusal::Fault(Fault {
-                    kind: Kind::PlyNumber,
-                    at: 6
-                }))
+                Some(Refusal::Fault(Fault::new(Kind::PlyNumber, 6)))
             );
         }
     }
@@ -140,13 +131,7 @@ fn reads_a_scanned_mesh(rt: HostRuntime) -> Result<(), Fail> {
     let rest = "property uchar red\nproperty uchar green\nproperty uchar blue\n";
     let faces = "element face 2\nproperty list uchar int vertex_indices\nend_header\n";
     let answer = fault(alloc, &[start, PROPERTIES, rest, faces])?;
-    assert_eq!(rt;
-        answer,
-        Some(Refusal::Fault(Fault {
-            kind: Kind::PlyAttr,
-            at: 16
-        }))
-    );
+    assert_eq!(rt; answer, Some(Refusal::Fault(Fault::new(Kind::PlyAttr, 16))));
     Ok(())
 }
 
@@ -179,10 +164,7 @@ fn tells_where_a_text_ends_too_early(rt: HostRuntime) -> Result<(), Fail> {
             let answer = read_ply(alloc, &bytes[..i]).err();
             assert_eq!(rt;
                 answer,
-                Some(Refusal::Fault(Fault {
-                    kind: Kind::PlyShort,
-                    at
-                }))
+                Some(Refusal::Fault(Fault::new(Kind::PlyShort, at)))
             );
             if at < 99 {
                 at += 1;

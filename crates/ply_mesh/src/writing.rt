@@ -7,9 +7,11 @@ ghost use Rattle.ply_mesh.specs.Fields.{HasFields};
 ghost use Rattle.ply_mesh.specs.Read.{ply_read};
 ghost use Rattle.ply_mesh.specs.Text.{line_text, text_of, element_line, first_lines, points_header, faces_header, last_line, point_lines, list_line, face_line, face_lines, ply_lines, ply_text};
 
-use crate::head_writer::{put_heads, put_number};
+use crate::head_writer::put_heads;
 use crate::property_writer::put_properties;
-use decimal_text::{CHUNK_BYTES, ROOM_BYTES, flushed, put_signed, put_unsigned, with_room};
+use decimal_text::{
+    CHUNK_BYTES, ROOM_BYTES, append_spaced, flushed, put_signed, put_unsigned, with_room,
+};
 use drc_base::Memory;
 use mesh_model::{Cloud, CornerMesh, Geometry, Head};
 use std::alloc::Global;
@@ -61,7 +63,7 @@ fn put_element(out: &mut Vec<u8>, name: &[u8], n: u32) -> Result<(), Memory>
 {
     out.extend_from_slice(b"element ")?;
     out.extend_from_slice(name)?;
-    put_number(out, n)?;
+    append_spaced(out, n as u64)?;
     out.push(b'\n')?;
     Ok(())
 }
@@ -118,7 +120,7 @@ fn put_last(out: &mut Vec<u8>) -> Result<(), Memory>
 fn put_mesh_points(out: &mut Vec<u8>, mesh: &CornerMesh) -> Result<(), Memory>
     ensures { OnOk result (out.new.items ≡ out.old.items ++ text_of (point_lines mesh.now.points)) }
 {
-    // For the proof alone: a row has 1 to 128 integers.
+    // For the prover alone: a row has 1 to 128 integers.
     let _width = mesh.width();
     let mut chunk = [0u8; CHUNK_BYTES];
     let mut held = 0;
@@ -134,7 +136,7 @@ fn put_mesh_points(out: &mut Vec<u8>, mesh: &CornerMesh) -> Result<(), Memory>
 fn put_cloud_points(out: &mut Vec<u8>, cloud: &Cloud) -> Result<(), Memory>
     ensures { OnOk result (out.new.items ≡ out.old.items ++ text_of (point_lines cloud.now.points)) }
 {
-    // For the proof alone: a row has 1 to 128 integers.
+    // For the prover alone: a row has 1 to 128 integers.
     let _width = cloud.width();
     let mut chunk = [0u8; CHUNK_BYTES];
     let mut held = 0;

@@ -35,6 +35,7 @@ abbrev pub run_by : List NameRun → ℕ → List Property → ℕ × ℕ
 run_by [] dtype ps = (4, 1)
 run_by (run ∷ runs) dtype ps = if stand run.words dtype ps then (run.usage, length run.words) else run_by runs dtype ps
 
+-- the same, by the names above
 unfoldable pub run_of : ℕ → List Property → ℕ × ℕ
 run_of dtype ps = run_by name_runs dtype ps
 

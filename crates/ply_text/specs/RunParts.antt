@@ -7,6 +7,7 @@ use Rattle.ply_text.specs.NamedHeads.{NameRun}
 abbrev pub run_parts : KeptRun → NameRun
 run_parts run = record { usage = run.usage; words = map (λ word. word.now) run.words.now }
 
+-- the rows of a table
 abbrev pub runs_of : List KeptRun → List NameRun
 runs_of runs = map run_parts runs
 

@@ -2,7 +2,6 @@
 
 ghost use Rattle.std.specs.Prelude.{◌≡◌, ◌<◌, ◌≤◌, [], All, IfOk, IfSome, OnOk, vec_len};
 ghost use Rattle.drc_base.specs.Refusals.{Answers};
-ghost use Rattle.drc_base.specs.declared.faults.Refusal.TheVariants as refusals;
 ghost use Rattle.ply_text.specs.Tokens.{tokens_of};
 ghost use Rattle.ply_text.specs.Draft.{draft_of, element, scalar, list, attribute, quantisation, comment, declaration, body, statement};
 ghost use Rattle.ply_text.specs.Comments.{with_quant};
@@ -28,12 +27,6 @@ pub(crate) struct HeaderDraft {
     pub list: Option<(u8, u8)>,
 }
 
-pub(crate) fn refusal(kind: Kind, at: u64) -> Refusal
-    ensures { result ≡ refusals.Fault (record { kind = kind; at = at }) }
-{
-    Refusal::Fault(Fault { kind, at })
-}
-
 /// A list of these bytes.
 fn copied(alloc: Global, bytes: &[u8]) -> Result<Sequence<u8>, Memory>
     ensures { IfOk result (λ copy. copy ≡ bytes.now) }
@@ -50,23 +43,23 @@ impl HeaderDraft {
         ensures sound { OnOk result (IsDraft (draft_of self.new)) }
     {
         let Some((name, number)) = element_of(line) else {
-            return Err(refusal(Kind::PlyHeader, at));
+            return Err(Refusal::Fault(Fault::new(Kind::PlyHeader, at)));
         };
         if is_word(name, b"vertex") && self.vertices.is_none() {
             let Some(count) = natural_within(number, MAX_POINTS as u64) else {
-                return Err(refusal(Kind::PointLimit, at));
+                return Err(Refusal::Fault(Fault::new(Kind::PointLimit, at)));
             };
             self.vertices = Some(count as u32);
             return Ok(());
         }
         if is_word(name, b"face") && self.vertices.is_some() && self.faces.is_none() {
             let Some(count) = natural_within(number, MAX_FACES as u64) else {
-                return Err(refusal(Kind::FaceLimit, at));
+                return Err(Refusal::Fault(Fault::new(Kind::FaceLimit, at)));
             };
             self.faces = Some(count as u32);
             return Ok(());
         }
-        Err(refusal(Kind::PlyElement, at))
+        Err(Refusal::Fault(Fault::new(Kind::PlyElement, at)))
     }
 
     /// A property of numbers.
@@ -77,13 +70,13 @@ impl HeaderDraft {
         ensures sound { OnOk result (IsDraft (draft_of self.new)) }
     {
         let Some((word, name)) = scalar_of(line) else {
-            return Err(refusal(Kind::PlyHeader, at));
+            return Err(Refusal::Fault(Fault::new(Kind::PlyHeader, at)));
         };
         let Some(dtype) = type_of(word) else {
-            return Err(refusal(Kind::PlyType, at));
+            return Err(Refusal::Fault(Fault::new(Kind::PlyType, at)));
         };
         if self.vertices.is_none() || self.faces.is_some() {
-            return Err(refusal(Kind::PlyElement, at));
+            return Err(Refusal::Fault(Fault::new(Kind::PlyElement, at)));
         }
         let name = copied(alloc, name)?;
         self.properties.push(Property { dtype, name })?;
@@ -98,22 +91,22 @@ impl HeaderDraft {
         ensures sound { OnOk result (IsDraft (draft_of self.new)) }
     {
         let Some((count, index, name)) = list_of(line) else {
-            return Err(refusal(Kind::PlyHeader, at));
+            return Err(Refusal::Fault(Fault::new(Kind::PlyHeader, at)));
         };
         let Some(ctype) = type_of(count) else {
-            return Err(refusal(Kind::PlyType, at));
+            return Err(Refusal::Fault(Fault::new(Kind::PlyType, at)));
         };
         let Some(itype) = type_of(index) else {
-            return Err(refusal(Kind::PlyType, at));
+            return Err(Refusal::Fault(Fault::new(Kind::PlyType, at)));
         };
         if self.vertices.is_some() && self.faces.is_none() {
-            return Err(refusal(Kind::PlyType, at));
+            return Err(Refusal::Fault(Fault::new(Kind::PlyType, at)));
         }
         if self.faces.is_some() && self.list.is_none() && is_indices(name) {
             self.list = Some((ctype, itype));
             return Ok(());
         }
-        Err(refusal(Kind::PlyElement, at))
+        Err(Refusal::Fault(Fault::new(Kind::PlyElement, at)))
     }
 
     /// An attribute's line.
@@ -124,10 +117,10 @@ impl HeaderDraft {
         ensures sound { OnOk result (IsDraft (draft_of self.new)) }
     {
         if self.heads.len() >= MAX_ATTRIBUTES as usize {
-            return Err(refusal(Kind::AttrLimit, at));
+            return Err(Refusal::Fault(Fault::new(Kind::AttrLimit, at)));
         }
         let Some(head) = attr_of(self.heads.len() as u64, line) else {
-            return Err(refusal(Kind::PlyAttr, at));
+            return Err(Refusal::Fault(Fault::new(Kind::PlyAttr, at)));
         };
         self.heads.push(head)?;
         Ok(())
@@ -141,7 +134,7 @@ impl HeaderDraft {
         ensures sound { OnOk result (IsDraft (draft_of self.new)) }
     {
         match quant_of(alloc, &self.heads, line)? {
-            None => Err(refusal(Kind::PlyAttr, at)),
+            None => Err(Refusal::Fault(Fault::new(Kind::PlyAttr, at))),
             Some(found) => {
                 set_quant(&mut self.heads, found.0, found.1);
                 Ok(())
@@ -185,7 +178,7 @@ impl HeaderDraft {
                 }
                 self.scalar(alloc, at, line)
             }
-            _ => Err(refusal(Kind::PlyHeader, at)),
+            _ => Err(Refusal::Fault(Fault::new(Kind::PlyHeader, at))),
         }
     }
 
@@ -200,7 +193,7 @@ impl HeaderDraft {
             return self.declaration(alloc, at, line, word);
         }
         if !is_format(line) {
-            return Err(refusal(Kind::PlyFormat, at));
+            return Err(Refusal::Fault(Fault::new(Kind::PlyFormat, at)));
         }
         self.formatted = true;
         Ok(())

@@ -8,13 +8,13 @@ ghost use Rattle.ply_text.specs.Draft.{draft_of};
 ghost use Rattle.ply_text.specs.IsHeader.{HeadFits, IsDraft, IsHeader};
 ghost use Rattle.ply_text.specs.Header.{column_type, column_types, is_typed, types_of, is_whole, agrees, header_by, header_at};
 
-use crate::drafts::{HeaderDraft, refusal};
+use crate::drafts::HeaderDraft;
 use crate::headers::{Header, PlyHead, Property};
 use crate::named_heads::named_heads;
 use crate::statements::is_alone;
 use crate::words::is_word;
 use drc_base::{
-    Kind, MAX_ATTRIBUTES, MAX_FACES, MAX_POINTS, MAX_VALUES, Memory, Refusal, Sequence,
+    Fault, Kind, MAX_ATTRIBUTES, MAX_FACES, MAX_POINTS, MAX_VALUES, Memory, Refusal, Sequence,
 };
 use std::alloc::Global;
 use std::mem;
@@ -155,16 +155,16 @@ fn header_by(
     ensures body { IfOk result (λ header. header.body_line ≡ at + 1) }
 {
     if heads.len() > MAX_ATTRIBUTES as usize {
-        return Err(refusal(Kind::AttrLimit, at));
+        return Err(Refusal::Fault(Fault::new(Kind::AttrLimit, at)));
     }
     let types = types_of(alloc, &draft.properties)?;
     let columns = column_types(alloc, &heads)?;
     if !is_word(&columns, &types) || !are_typed(&heads) {
-        return Err(refusal(Kind::PlyAttr, at));
+        return Err(Refusal::Fault(Fault::new(Kind::PlyAttr, at)));
     }
     let vertices = vertices_of(draft.vertices);
     if vertices as u128 * draft.properties.len() as u128 > MAX_VALUES as u128 {
-        return Err(refusal(Kind::ValueLimit, at));
+        return Err(Refusal::Fault(Fault::new(Kind::ValueLimit, at)));
     }
     Ok(header_made(heads, vertices, draft.faces, types, draft.list, at + 1))
 }
@@ -184,17 +184,17 @@ pub(crate) fn header_at(
     ensures body { IfOk result (λ header. header.body_line ≡ at + 1) }
 {
     if !is_alone(line) {
-        return Err(refusal(Kind::PlyHeader, at));
+        return Err(Refusal::Fault(Fault::new(Kind::PlyHeader, at)));
     }
     if !is_whole(&draft) {
-        return Err(refusal(Kind::PlyElement, at));
+        return Err(Refusal::Fault(Fault::new(Kind::PlyElement, at)));
     }
     if draft.heads.len() > 0 {
         let heads = mem::replace(&mut draft.heads, Vec::new(alloc));
         return header_by(alloc, at, &draft, heads);
     }
     match named_heads(alloc, &draft.properties)? {
-        None => Err(refusal(Kind::AttrLimit, at)),
+        None => Err(Refusal::Fault(Fault::new(Kind::AttrLimit, at))),
         Some(heads) => header_by(alloc, at, &draft, heads),
     }
 }

@@ -7,13 +7,13 @@ ghost use Rattle.ply_text.specs.Draft.{draft_of};
 ghost use Rattle.ply_text.specs.IsHeader.{IsDraft, IsHeader};
 ghost use Rattle.ply_text.specs.Header.{is_end_by, is_end, no_draft, header_from, header_of};
 
-use crate::drafts::{HeaderDraft, refusal};
+use crate::drafts::HeaderDraft;
 use crate::header_ends::header_at;
 use crate::headers::Header;
 use crate::line_reader::Lines;
 use crate::statements::{is_magic, keyword_at};
 use crate::words::Keyword;
-use drc_base::{Kind, Refusal};
+use drc_base::{Fault, Kind, Refusal};
 use std::alloc::Global;
 
 fn is_end_by(word: Keyword) -> bool
@@ -62,7 +62,7 @@ fn header_from(alloc: Global, lines: &mut Lines<'_>) -> Result<Header, Refusal>
         draft.statement(alloc, at, line)?;
         at += 1;
     }
-    Err(refusal(Kind::PlyShort, at))
+    Err(Refusal::Fault(Fault::new(Kind::PlyShort, at)))
 }
 
 /// The header of a PLY text, or its first fault with its line: PlyMagic, PlyFormat, PlyHeader, PlyType,
@@ -77,10 +77,10 @@ pub fn read_header(alloc: Global, bytes: &[u8]) -> Result<Header, Refusal>
 {
     let mut lines = Lines::new(bytes);
     let Some(first) = lines.next() else {
-        return Err(refusal(Kind::PlyShort, 1));
+        return Err(Refusal::Fault(Fault::new(Kind::PlyShort, 1)));
     };
     if !is_magic(first) {
-        return Err(refusal(Kind::PlyMagic, 1));
+        return Err(Refusal::Fault(Fault::new(Kind::PlyMagic, 1)));
     }
     header_from(alloc, &mut lines)
 }

@@ -236,7 +236,7 @@ fn refuses_the_first_fault(rt: HostRuntime) -> Result<(), Fail> {
         ),
     ] {
         let answer = header(alloc, start, rest).err();
-        assert_eq!(rt; answer, Some(Refusal::Fault(Fault { kind, at })));
+        assert_eq!(rt; answer, Some(Refusal::Fault(Fault::new(kind, at))));
     }
     Ok(())
 }
@@ -286,7 +286,7 @@ fn refuses_wrong_lines_of_attributes(rt: HostRuntime) -> Result<(), Fail> {
         let kind = Kind::PlyAttr;
         assert_eq!(rt;
             header(alloc, POINT, rest).err(),
-            Some(Refusal::Fault(Fault { kind, at }))
+            Some(Refusal::Fault(Fault::new(kind, at)))
         );
     }
     for (rest, heads) in [
@@ -372,7 +372,7 @@ fn limits_attributes_and_values(rt: HostRuntime) -> Result<(), Fail> {
             properties,
             end,
         };
-        let wanted = fault.map(|(kind, at)| Refusal::Fault(Fault { kind, at }));
+        let wanted = fault.map(|(kind, at)| Refusal::Fault(Fault::new(kind, at)));
         assert_eq!(rt; refusal_of(alloc, many)?, wanted);
     }
     Ok(())

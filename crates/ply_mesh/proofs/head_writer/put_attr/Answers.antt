@@ -7,10 +7,10 @@ pub returns-clause-text : goal.returns-clause-text
 returns-clause-text c =
     let h = c.args.head.now in
     onto (10 ∷ []) c.in_ok-push.ensures.items
-    (onto (32 ∷ decimal h.id) c.in_ok-put_number-6.ensures
-    (onto (32 ∷ decimal h.normalized) c.in_ok-put_number-5.ensures
-    (onto (32 ∷ decimal h.comps) c.in_ok-put_number-4.ensures
-    (onto (32 ∷ decimal h.dtype) c.in_ok-put_number-3.ensures
-    (onto (32 ∷ decimal h.usage) c.in_ok-put_number-2.ensures
-    (onto (32 ∷ decimal c.args.k) c.in_ok-put_number.ensures c.in_ok-extend_from_slice.ensures.items))))))
+    (onto (32 ∷ decimal h.id) c.in_ok-append_spaced-6.ensures
+    (onto (32 ∷ decimal h.normalized) c.in_ok-append_spaced-5.ensures
+    (onto (32 ∷ decimal h.comps) c.in_ok-append_spaced-4.ensures
+    (onto (32 ∷ decimal h.dtype) c.in_ok-append_spaced-3.ensures
+    (onto (32 ∷ decimal h.usage) c.in_ok-append_spaced-2.ensures
+    (onto (32 ∷ decimal c.args.k) c.in_ok-append_spaced.ensures c.in_ok-extend_from_slice.ensures.items))))))
     ∙ attr_text c.args.out.now.items c.args.k h

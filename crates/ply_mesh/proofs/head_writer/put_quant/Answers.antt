@@ -11,6 +11,6 @@ returns-clause-text c =
     onto (10 ∷ []) c.in_ok-push.ensures.items
     (onto (spaced (map pattern_text q.min)) patterns
     (onto (32 ∷ pattern_text q.range) c.in_ok-put_pattern.ensures
-    (onto (32 ∷ decimal q.bits) c.in_ok-put_number-2.ensures
-    (onto (32 ∷ decimal c.args.k) c.in_ok-put_number.ensures c.in_ok-extend_from_slice.ensures.items))))
+    (onto (32 ∷ decimal q.bits) c.in_ok-append_spaced-2.ensures
+    (onto (32 ∷ decimal c.args.k) c.in_ok-append_spaced.ensures c.in_ok-extend_from_slice.ensures.items))))
     ∙ quant_text c.args.out.now.items c.args.k q

@@ -9,7 +9,7 @@ loop-j-init c = row_begun _ _
 pub returns-in_default : goal.returns-in_default
 returns-in_default c =
     let none = token_none c.args.dtypes.now c.args.found.now c.args.out.now.items c.loop-j.out.items c.loop-j.j _ c.requires c.loop-j-test.true (sym c.number_of.ensures ∙ c.in_default.is) c.loop-j.invariant in
-    rw (c.refusal.ensures, none) refl
+    rw (c.new.ensures, none) refl
 
 pub loop-j-preserved : goal.loop-j-preserved
 loop-j-preserved c =

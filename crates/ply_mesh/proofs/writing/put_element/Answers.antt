@@ -7,6 +7,6 @@ use Rattle.ply_mesh.proofs.writing.put_element.Goals as goal
 pub returns : goal.returns
 returns c =
     onto (10 ∷ []) c.in_ok-push.ensures.items
-    (onto (32 ∷ decimal c.args.n) c.in_ok-put_number.ensures
+    (onto (32 ∷ decimal c.args.n) c.in_ok-append_spaced.ensures
     (onto c.args.name.now c.in_ok-extend_from_slice-2.ensures.items c.in_ok-extend_from_slice.ensures.items))
     ∙ element_text c.args.out.now.items c.args.name.now c.args.n
