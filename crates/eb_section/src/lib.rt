@@ -4,6 +4,7 @@
 //! Bitstream Specification 2.2, section "Edgebreaker Connectivity".
 #![tactic(auto)]
 
+mod events;
 mod opening;
 mod reading;
 
