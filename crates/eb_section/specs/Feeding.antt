@@ -12,6 +12,11 @@ use Rattle.eb_standard.specs.SymbolBits.{SymbolPlace, next_symbol, after_symbol}
 abbrev pub Source : Type 0 → Type 0
 Source S = S → State → Result (Symbol × S) Fault
 
+-- a source answers the next symbol and is then what is left of it, or answers the fault
+abbrev pub Draws : {S : Type 0} → Result (Symbol × S) Fault → S → Result Symbol Fault → Type 0
+Draws due new (Ok x) = due ≡ Ok (x, new)
+Draws due new (Err f) = due ≡ Err f
+
 -- the machine takes so many symbols, of n in all
 unfoldable pub fed : {S : Type 0} → Source S → ℕ → ℕ → S → State → Result State Fault
 fed next n zero source s = Ok s

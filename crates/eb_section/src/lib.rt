@@ -4,8 +4,11 @@
 //! Bitstream Specification 2.2, section "Edgebreaker Connectivity".
 #![tactic(auto)]
 
+mod blocks;
+mod contexts;
 mod events;
 mod opening;
 mod reading;
+mod sources;
 
 pub use reading::EbRead;
