@@ -9,6 +9,7 @@ mod contexts;
 mod events;
 mod opening;
 mod reading;
+mod rebuilding;
 mod sources;
 
 pub use reading::EbRead;
