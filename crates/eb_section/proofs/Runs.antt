@@ -1,7 +1,8 @@
 -- A rebuilding symbol after symbol and side after side, and as a whole.
-use Rattle.std.proofs.Common.{◌≡◌, ℕ, zero, suc, ◌+◌, ◌-◌, ◌*◌, ◌<◌, ◌≤◌, Bool, true, false, not, ◌==◌, is_none, List, [], ◌∷◌, length, Result, Ok, Err, sym, refl, ap, subst, ◌∙◌, arith}
+use Rattle.std.proofs.Common.{◌≡◌, ℕ, zero, suc, ◌+◌, ◌-◌, ◌*◌, ◌<◌, ◌≤◌, Bool, true, false, not, ◌==◌, nat_le, is_none, IfOk, Option, Some, None, List, [], ◌∷◌, length, Result, Ok, Err, sym, refl, ap, subst, ◌∙◌, arith, ne_eqb, eqb-true}
 use Rattle.std.proofs.lemmas.Bool.{cond-false, eqb-false}
-use Rattle.drc_bits.proofs.Results.{Ok-injective}
+use Rattle.drc_bits.proofs.Results.{Ok-injective, err≢ok}
+use Rattle.drc_base.specs.declared.kinds.Kind.{Kind}
 use Rattle.drc_base.specs.declared.kinds.Kind.TheVariants as kind
 use Rattle.drc_base.specs.declared.faults.Fault.{Fault}
 use Rattle.drc_base.specs.declared.faults.Refusal.{Refusal}
@@ -12,7 +13,7 @@ use Rattle.drc_bits.proofs.Many.{one_fewer}
 use Rattle.corner_table.specs.declared.symbols.Symbol.{Symbol}
 use Rattle.corner_table.specs.Sides.{Side}
 use Rattle.rans_binary.specs.Blocks.{Block, behind, bit_of, next_bit}
-use Rattle.eb_rebuild.specs.Machine.{Plan, State, step, close, close_all, close_top, finish, must}
+use Rattle.eb_rebuild.specs.Machine.{Plan, State, step, close, close_all, close_top, finish, must, fault, first_degenerate}
 use Rattle.eb_rebuild.specs.Rebuilding.{BuiltValue, Holds, Moves, Ends}
 use Rattle.eb_rebuild.proofs.Steps.{Next, fill_loop, fill_count, filled_state, loop_test}
 use Rattle.eb_rebuild.proofs.Counts.{If, if_ok, if_then, close_counts}
@@ -158,6 +159,22 @@ pub ends-as : (run : Next) (p : Plan) (u : State) (r : Result BuiltValue Refusal
 ends-as run p u (Ok b) same h = (u, same ∙ h.0, h.1)
 ends-as run p u (Err (refusal.Fault f)) same h = same ∙ h
 ends-as run p u (Err refusal.Memory) same h = tt
+
+-- an end without a fault has the declared faces
+must-then : (b : Bool) (k : Kind) (n : ℕ) (f : Unit {0} → Next) (t : State) → (must b k n >>= f) ≡ Ok t → b ≡ true
+must-then true k n f t e = refl
+must-then false k n f t e = absurd (err≢ok e)
+
+finish-faces : (p : Plan) (s t : State) → finish p s ≡ Ok t → s.built ≡ p.faces
+unfolding finish
+finish-faces p s t e = eqb-true s.built p.faces (must-then (s.built == p.faces) kind.FaceCount s.built (λ u. must (nat_le s.made p.created) kind.VertexCount s.made >>= λ v. last p s) t e)
+  where
+    last : Plan → State → Next
+    last p s = elim (first_degenerate s.built s.glued s.built) [ None ↦ Ok s | Some f ↦ Err (fault kind.Degenerate f) ]
+
+pub ended-faces : (p q : Plan) (s : State) (r : Result BuiltValue Refusal) → q ≡ p → Ends q s r → IfOk r (λ b. b.table.faces ≡ p.faces)
+ended-faces p q s (Ok b) same h = h.1.faces ∙ finish-faces q s s h.0 ∙ ap (λ (o : Plan). o.faces) same
+ended-faces p q s (Err e) same h = tt
 
 -- ---- table calls
 

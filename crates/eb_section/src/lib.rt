@@ -12,4 +12,4 @@ mod reading;
 mod rebuilding;
 mod sources;
 
-pub use reading::EbRead;
+pub use reading::{EbRead, read_connectivity};

@@ -7,8 +7,9 @@ ghost use Rattle.drc_base.specs.declared.faults.Refusal.TheVariants as refusal;
 ghost use Rattle.drc_base.specs.Profile.{profile_two};
 ghost use Rattle.drc_bits.specs.Reading.{Gives};
 ghost use Rattle.eb_rebuild.specs.Rebuilding.{IsEventOf};
-ghost use Rattle.eb_section.specs.Opening.{declared_faces, most_calls, opening_at, front_at};
-ghost use Rattle.eb_section.specs.Connectivity.{behind_at, connectivity_at, meaning, standard_behind, valence_behind};
+ghost use Rattle.eb_section.specs.Opening.{declared_faces, most_calls, opening_at};
+ghost use Rattle.eb_section.specs.Events.{event_count_at};
+ghost use Rattle.eb_section.specs.Connectivity.{behind_at, connectivity_at, front_at, meaning, standard_behind, valence_behind};
 
 use crate::blocks::read_blocks;
 use crate::contexts::read_contexts;
@@ -50,7 +51,7 @@ fn read_of<'a>(
     seams: Vec<BitBlock<'a>>,
     events: u32,
 ) -> EbRead<'a>
-    ensures { result ≡ record { sides = sides; valence = opening.valence; attr_data = opening.attr_data; seams = seams.items; symbols = opening.symbols; splits = opening.splits; events = events } }
+    ensures { result ≡ record { sides = sides; valence = opening.valence; attr_data = opening.attr_data; seams = seams.entry.items; symbols = opening.symbols; splits = opening.splits; events = events } }
 {
     EbRead {
         sides,
@@ -81,8 +82,10 @@ fn read_standard<'a, L: Ledger>(
     requires few { length events.items ≤ opening.faces }
     ensures section { Gives meaning (standard_behind opening events.items c.old) c.new result }
     ensures linked { IfOk result (λ r. IsTrue r.sides.linked) }
+    ensures faces { IfOk result (λ r. r.sides.table.faces ≡ opening.faces) }
     ensures room { IfOk result (λ r. length r.sides.table.entries ≤ 3 * opening.faces) }
-    ensures seams { IfOk result (λ r. length r.seams ≡ r.attr_data) }
+    ensures attr_data { IfOk result (λ r. r.attr_data ≡ opening.attr_data) }
+    ensures seams { IfOk result (λ r. length r.seams ≡ opening.attr_data) }
     ensures cost { steps.new ≤ steps.old + most_calls opening.faces }
 {
     let count = events.len() as u32;
@@ -111,8 +114,10 @@ fn read_valence<'a, L: Ledger>(
     requires few { length events.items ≤ opening.faces }
     ensures section { Gives meaning (valence_behind opening events.items c.old) c.new result }
     ensures linked { IfOk result (λ r. IsTrue r.sides.linked) }
+    ensures faces { IfOk result (λ r. r.sides.table.faces ≡ opening.faces) }
     ensures room { IfOk result (λ r. length r.sides.table.entries ≤ 3 * opening.faces) }
-    ensures seams { IfOk result (λ r. length r.seams ≡ r.attr_data) }
+    ensures attr_data { IfOk result (λ r. r.attr_data ≡ opening.attr_data) }
+    ensures seams { IfOk result (λ r. length r.seams ≡ opening.attr_data) }
     ensures cost { steps.new ≤ steps.old + most_calls opening.faces }
 {
     let count = events.len() as u32;
@@ -121,4 +126,66 @@ fn read_valence<'a, L: Ledger>(
     let source = read_contexts(alloc, c, opening.symbols)?;
     let sides = rebuild_linked(alloc, opening, events, source, starts, steps)?;
     Ok(read_of(sides, opening, seams, count))
+}
+
+/// Reads what is behind the front: the events, and the rest of the traversal.
+#[tactic(auto, unfolding(crate::specs::Connectivity::behind_at))]
+fn read_behind<'a, L: Ledger>(
+    alloc: Global,
+    c: &mut Cursor<'a>,
+    opening: Opening,
+    steps: &mut Steps<L>,
+) -> Result<EbRead<'a>, Refusal>
+    requires vertices { opening.vertices ≤ MAX_POINTS }
+    requires faces { opening.faces ≤ most_faces }
+    requires symbols { opening.symbols ≤ opening.faces }
+    requires splits { opening.splits ≤ opening.symbols }
+    ensures section { Gives meaning (behind_at opening c.old) c.new result }
+    ensures early { (f : AnyFault) → event_count_at opening.faces c.old ≡ Err f → result ≡ Err (refusal.Fault f) }
+    ensures linked { IfOk result (λ r. IsTrue r.sides.linked) }
+    ensures faces { IfOk result (λ r. r.sides.table.faces ≡ opening.faces) }
+    ensures room { IfOk result (λ r. length r.sides.table.entries ≤ 3 * opening.faces) }
+    ensures attr_data { IfOk result (λ r. r.attr_data ≡ opening.attr_data) }
+    ensures seams { IfOk result (λ r. length r.seams ≡ opening.attr_data) }
+    ensures cost { steps.new ≤ steps.old + most_calls opening.faces }
+{
+    let events = read_events(alloc, c, opening)?;
+    if opening.valence {
+        return read_valence(alloc, c, opening, events, steps);
+    }
+    read_standard(alloc, c, opening, events, steps)
+}
+
+/// Reads the connectivity of an Edgebreaker mesh and rebuilds its surface by links, or refuses with the
+/// first fault. Those of the front, each at its place: `Traversal`, `PointLimit`, `FaceLimit`,
+/// `AttrLimit`, and `Count` of symbols, splits and events; they come before memory is taken. Then, at
+/// their places, `EventDelta`, `Short` and `Long`, those of a block of bits (`BadProb`, `BadStart`) and of
+/// the lists of contexts (`Count`, and those of a symbol block). Then those of rebuilding: `Short` at the
+/// first byte of the symbols where the bits of a symbol aren't there; `ContextEmpty` and `BadSymbol`, and
+/// those of the machine's rules, at the symbol's number in the order of decoding; and at the end
+/// `FaceCount`, `VertexCount` and `Degenerate`. Symbols, events, bits and coded bytes that are left over
+/// are passed. It makes at most 12 table calls for each declared face and 4 more, and none for no face.
+/// After a refusal the cursor is where it was.
+#[tactic(auto, unfolding(crate::specs::Connectivity::connectivity_at, crate::specs::Connectivity::front_at))]
+pub fn read_connectivity<'a, L: Ledger>(
+    alloc: Global,
+    c: &mut Cursor<'a>,
+    steps: &mut Steps<L>,
+) -> Result<EbRead<'a>, Refusal>
+    ensures section { Gives meaning (connectivity_at profile_two c.old) c.new result }
+    ensures early { (f : AnyFault) → opening_at profile_two c.old ≡ Err f → result ≡ Err (refusal.Fault f) }
+    ensures early_count { (f : AnyFault) → front_at profile_two c.old ≡ Err f → result ≡ Err (refusal.Fault f) }
+    ensures unchanged { OnErr result (c.new ≡ c.old) }
+    ensures linked { IfOk result (λ r. IsTrue r.sides.linked) }
+    ensures cost { steps.new ≤ steps.old + most_calls (declared_faces (opening_at profile_two c.old)) }
+    ensures room { IfOk result (λ r. length r.sides.table.entries ≤ 3 * r.sides.table.faces) }
+    ensures faces { IfOk result (λ r. r.sides.table.faces ≤ most_faces) }
+    ensures attr_data { IfOk result (λ r. r.attr_data ≤ most_attributes) }
+    ensures seams { IfOk result (λ r. length r.seams ≡ r.attr_data) }
+{
+    let mut ahead = c.copy();
+    let opening = read_opening(&mut ahead)?;
+    let read = read_behind(alloc, &mut ahead, opening, steps)?;
+    *c = ahead;
+    Ok(read)
 }

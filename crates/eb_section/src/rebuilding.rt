@@ -93,6 +93,7 @@ fn rebuild<R: Rebuild, F: SymbolSource, L: Ledger>(
     requires all { (R.plan machine).symbols ≡ count }
     requires within { count ≤ (R.plan machine).faces }
     ensures ends { EndsAs (rebuilt F.gives (R.plan machine) source starts.entry (R.state machine)) result }
+    ensures faces { IfOk result (λ b. b.table.faces ≡ (R.plan machine).faces) }
     ensures room { IfOk result (λ b. length b.table.entries ≤ 3 * (R.plan machine).faces) }
     ensures linked { IfOk result (λ b. b.linked ≡ R.linked machine) }
     ensures cost { IsTrue (R.linked machine) → steps.new ≤ steps.old + most_calls (R.plan machine).faces }
@@ -118,6 +119,7 @@ pub(crate) fn rebuild_linked<F: SymbolSource, L: Ledger>(
     requires splits { opening.splits ≤ opening.symbols }
     requires events { All (IsEventOf opening.symbols) events.items }
     ensures ends { EndsAs (rebuilt F.gives (plan_of opening) source starts.entry (start (reverse events.items))) result }
+    ensures faces { IfOk result (λ b. b.table.faces ≡ opening.faces) }
     ensures room { IfOk result (λ b. length b.table.entries ≤ 3 * opening.faces) }
     ensures linked { IfOk result (λ b. IsTrue b.linked) }
     ensures cost { steps.new ≤ steps.old + most_calls opening.faces }

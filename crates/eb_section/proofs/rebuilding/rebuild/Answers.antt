@@ -2,7 +2,7 @@
 use Rattle.std.proofs.Common.{◌∙◌, Bool, IsTrue, ap, sym, subst}
 use Rattle.std.proofs.lemmas.Result.{err_from_is_err_and}
 use Rattle.eb_rebuild.specs.Machine.{State, Plan, finish}
-use Rattle.eb_section.proofs.Runs.{refused-symbol, refused-close, behind-closes, ends-as, fed-none, calls-within}
+use Rattle.eb_section.proofs.Runs.{refused-symbol, refused-close, behind-closes, ends-as, ended-faces, fed-none, calls-within}
 use Rattle.eb_section.proofs.rebuilding.rebuild.Goals as goal
 
 pub returns-in_err-grown-clause-ends : goal.returns-in_err-grown-clause-ends
@@ -30,6 +30,11 @@ returns-clause-ends g c =
     (g.R.Rebuild.state c.in_ok-grown.grown) (g.R.Rebuild.state c.in_ok-closed.closed) c.requires.all c.in_ok-grown.ensures.plan c.in_ok-grown.ensures.fed c.in_ok-closed.ensures.closed
     ∙ ap (λ (p : Plan). finish p (g.R.Rebuild.state c.in_ok-closed.closed)) (sym (c.in_ok-closed.ensures.plan ∙ c.in_ok-grown.ensures.plan)))
     c.finish.ensures.ends
+
+pub returns-clause-faces : goal.returns-clause-faces
+returns-clause-faces g c =
+    ended-faces (g.R.Rebuild.plan c.args.machine) (g.R.Rebuild.plan c.in_ok-closed.closed) (g.R.Rebuild.state c.in_ok-closed.closed) c.finish.result
+    (c.in_ok-closed.ensures.plan ∙ c.in_ok-grown.ensures.plan) c.finish.ensures.ends
 
 pub returns-clause-cost : goal.returns-clause-cost
 returns-clause-cost g c = λ linked.
