@@ -1,0 +1,3 @@
+pub mod EventLists
+pub mod Runs
+pub mod Examples
