@@ -1,0 +1,5 @@
+pub mod WrittenSymbols
+pub mod WrittenFront
+pub mod WrittenEvents
+pub mod WrittenBlocks
+pub mod WrittenSection
