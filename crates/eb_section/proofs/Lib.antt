@@ -2,4 +2,5 @@ pub mod WrittenSymbols
 pub mod WrittenFront
 pub mod WrittenEvents
 pub mod WrittenBlocks
+pub mod WrittenLoops
 pub mod WrittenSection

@@ -1,8 +1,8 @@
 -- Written blocks of bits and lists of contexts are read again.
 use Rattle.std.proofs.Common.{◌≡◌, ℕ, suc, ◌+◌, ◌^◌, ◌<◌, ◌≤◌, Bool, true, false, cond, ◌==◌, List, [], ◌∷◌, ◌++◌, length, map, flat_map, reverse, Result, Ok, Err, nat_le, sym, refl, ap, ◌∙◌, subst, arith, append-nil, le-leb}
-use Rattle.std.specs.List.{All, filter, count_by}
+use Rattle.std.specs.List.{All, filter, count_by, range_with_len}
 use Rattle.std.proofs.lemmas.List.{length-append, length-map, length-reverse}
-use Rattle.std.proofs.lemmas.List.Elements.{All-cons}
+use Rattle.std.proofs.lemmas.List.Elements.{All-head, All-tail, All-map}
 use Rattle.std.proofs.lemmas.List.Sums.{length-filter, count_by-le-length}
 use Rattle.drc_base.specs.declared.kinds.Kind.TheVariants as kind
 use Rattle.drc_base.specs.declared.faults.Fault.{Fault}
@@ -16,11 +16,13 @@ use Rattle.symbol_coding.specs.Block.{block_bytes, block_at as symbols_at}
 use Rattle.corner_table.specs.declared.symbols.Symbol.{Symbol}
 use Rattle.corner_table.specs.declared.symbols.Event.{Event}
 use Rattle.eb_rebuild.specs.Machine.{State, start, step}
+use Rattle.eb_valence.specs.declared.context_lists.TheConstants.{CONTEXTS}
 use Rattle.eb_valence.specs.Numbers.{symbol_number}
-use Rattle.eb_valence.specs.Contexts.{Coded, context, coded, coded_at, list_of}
+use Rattle.eb_valence.specs.Contexts.{Coded, context, coded, coded_at, list_of, context_lists}
 use Rattle.eb_section.specs.Connectivity.{list_at}
 use Rattle.eb_section.specs.Written.{list_bytes, blocks_bytes}
-use Rattle.eb_section.specs.ReadAgain.{BeginsWith, BeginWith, AreBlocks, AreListBlocks}
+use Rattle.eb_section.specs.ReadAgain.{BeginsWith, BeginWith}
+use Rattle.eb_section.specs.CodedBlocks.{AreBlocks, IsSymbolBlock}
 
 -- ---- items one after another
 
@@ -46,16 +48,17 @@ pub record AreRead (lists : List (List Bool)) : Type 0 where
 pub blocks-again : (lists : List (List Bool)) → AreBlocks lists → AreRead lists
 blocks-again [] each = record { blocks = []; spells = Spells-no_more block_at; begin = tt }
 blocks-again (bits ∷ lists) each =
-    let rest = blocks-again lists each.1 in
+    let here : IsBlockOf bits (block bits) = All-head (λ x. IsBlockOf x (block x)) bits lists each in
+    let rest = blocks-again lists (All-tail (λ x. IsBlockOf x (block x)) bits lists each) in
     record {
-      blocks = each.0.start ∷ rest.blocks;
-      spells = Spells-more block_at (length lists) (block bits) (blocks_bytes lists) each.0.start rest.blocks each.0.spells rest.spells;
-      begin = (record { first = each.0.first; numbered = each.0.numbered }, rest.begin);
+      blocks = here.start ∷ rest.blocks;
+      spells = Spells-more block_at (length lists) (block bits) (blocks_bytes lists) here.start rest.blocks here.spells rest.spells;
+      begin = (record { first = here.first; numbered = here.numbered }, rest.begin);
     }
 
 -- ---- lists of contexts
 
-Spells-list : (symbols : ℕ) (numbers : List ℕ) → length numbers ≤ symbols → symbols < 2 ^ 32 → Spells (symbols_at (length numbers) 1) (block_bytes numbers 1) numbers
+Spells-list : (symbols : ℕ) (numbers : List ℕ) → length numbers ≤ symbols → symbols < 2 ^ 32 → IsSymbolBlock numbers
     → Spells (list_at symbols) (list_bytes numbers) numbers
 unfolding list_at
 Spells-list symbols numbers few small reads =
@@ -63,12 +66,13 @@ Spells-list symbols numbers few small reads =
     (Spells-must kind.Count (λ n. nat_le n symbols) var32_at (spelling 5 (length numbers)) (length numbers) (le-leb (length numbers) symbols few) (Spells-var32 (length numbers) (omega (arith, few, small))))
     reads
 
-pub Spells-lists : (symbols : ℕ) (lists : List (List ℕ)) → symbols < 2 ^ 32 → AreListBlocks symbols lists
+pub Spells-lists : (symbols : ℕ) (lists : List (List ℕ)) → symbols < 2 ^ 32 → All (λ numbers. length numbers ≤ symbols) lists → All IsSymbolBlock lists
     → Spells (many_at (list_at symbols) (length lists)) (flat_map list_bytes lists) lists
-Spells-lists symbols [] small each = Spells-no_more (list_at symbols)
-Spells-lists symbols (numbers ∷ lists) small each =
+Spells-lists symbols [] small short each = Spells-no_more (list_at symbols)
+Spells-lists symbols (numbers ∷ lists) small short each =
     Spells-more (list_at symbols) (length lists) (list_bytes numbers) (flat_map list_bytes lists) numbers lists
-    (Spells-list symbols numbers each.0 small each.1) (Spells-lists symbols lists small each.2)
+    (Spells-list symbols numbers (All-head (λ x. length x ≤ symbols) numbers lists short) small (All-head IsSymbolBlock numbers lists each))
+    (Spells-lists symbols lists small (All-tail (λ x. length x ≤ symbols) numbers lists short) (All-tail IsSymbolBlock numbers lists each))
 
 -- a context has no more numbers than there are symbols
 one-most : (s : State) (x : Symbol) → length (coded_at s x) ≤ 1
@@ -87,7 +91,7 @@ fewer-coded n (x ∷ word) s =
       | Ok t ↦ omega (arith, length-append (coded_at s x) (coded n word t), fewer-coded n word t, one-most s x)
     ]
 
-pub fewer-numbers : (symbols : List Symbol) (events : List Event) (k : ℕ)
+fewer-numbers : (symbols : List Symbol) (events : List Event) (k : ℕ)
     → length (list_of (coded (length symbols) (reverse symbols) (start (reverse events))) k) ≤ length symbols
 unfolding list_of
 fewer-numbers symbols events k =
@@ -95,3 +99,15 @@ fewer-numbers symbols events k =
     let chosen : List Coded = filter (λ c. c.context == k) codes in
     omega (arith, length-reverse (map (λ c. c.number) chosen), length-map chosen (λ c. c.number), length-filter (λ c. c.context == k) codes, count_by-le-length (λ c. c.context == k) codes,
         fewer-coded (length symbols) (reverse symbols) (start (reverse events)), length-reverse symbols)
+
+pub short-lists : (symbols : List Symbol) (events : List Event) → All (λ numbers. length numbers ≤ length symbols) (context_lists symbols events)
+short-lists symbols events =
+    All-map (λ numbers. length numbers ≤ length symbols) (list_of (coded (length symbols) (reverse symbols) (start (reverse events)))) (range_with_len 0 CONTEXTS)
+    (λ k d below. fewer-numbers symbols events _)
+
+-- so no more than a limit
+pub short-contexts : (symbols : List Symbol) (events : List Event) (most : ℕ) (lists : List (List ℕ)) → length symbols ≤ most → lists ≡ context_lists symbols events
+    → All (λ numbers. length numbers ≤ most) lists
+short-contexts symbols events most lists few is =
+    let P : List (List ℕ) → Type 0 = λ l. All (λ numbers. length numbers ≤ most) l in
+    subst P (sym is) (λ k d below. omega (arith, short-lists symbols events k d below, few))

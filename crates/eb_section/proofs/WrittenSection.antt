@@ -1,6 +1,6 @@
 -- A written section is read again.
 use Rattle.std.proofs.Common.{◌≡◌, ℕ, suc, ◌+◌, ◌-◌, ◌*◌, ◌/◌, ◌^◌, ◌<◌, ◌≤◌, Bool, true, false, cond, IsTrue, List, [], ◌∷◌, ◌++◌, length, reverse, flat_map, Result, Ok, Err, nat_lt, if◌then◌else◌, sym, refl, ap, ◌∙◌, subst, arith, append_assoc, append-nil, length-append}
-use Rattle.std.specs.List.{count_by}
+use Rattle.std.specs.List.{All, count_by}
 use Rattle.std.proofs.lemmas.List.{reverse-append}
 use Rattle.std.proofs.lemmas.List.Sums.{count_by-le-length, sum_by-append}
 use Rattle.drc_base.specs.declared.kinds.Kind.TheVariants as kind
@@ -31,11 +31,12 @@ use Rattle.eb_section.specs.Events.{events_at}
 use Rattle.eb_section.specs.Feeding.{Source, rebuilt, Standard, standard}
 use Rattle.eb_section.specs.Connectivity.{Connectivity, told, standard_at, list_at, standard_behind, valence_behind, behind_at, connectivity_at}
 use Rattle.eb_section.specs.Written.{opening_of, opening_bytes, events_bytes, standard_bytes, list_bytes, blocks_bytes, standard_behind_bytes, valence_behind_bytes, connectivity_bytes}
-use Rattle.eb_section.specs.ReadAgain.{IsReadAgain, AreBlocks, AreListBlocks, IsCoded}
+use Rattle.eb_section.specs.ReadAgain.{IsReadAgain}
+use Rattle.eb_section.specs.CodedBlocks.{IsSymbolBlock, AreCoded}
 use Rattle.eb_section.proofs.WrittenSymbols.{AreBits-symbols, length-symbols, fed-standard, fed-contexts, rebuilt-again}
 use Rattle.eb_section.proofs.WrittenFront.{IsWithin, Spells-opening}
 use Rattle.eb_section.proofs.WrittenEvents.{Spells-events}
-use Rattle.eb_section.proofs.WrittenBlocks.{AreRead, blocks-again, Spells-lists}
+use Rattle.eb_section.proofs.WrittenBlocks.{AreRead, blocks-again, Spells-lists, short-lists}
 
 -- ---- counts
 
@@ -125,7 +126,7 @@ standard-again o t seams p attr plan many few back starts read =
 
 valence-again : (o : Opening) (t : Traced) (seams : List (List Bool)) (p : Plan) → o.attr_data ≡ length seams → plan_of o ≡ p → p.symbols ≡ length t.symbols
     → length t.symbols ≤ MAX_FACES → (back : IsReadBack p t.symbols t.events t.starts) → (starts : IsBlockOf t.starts (block t.starts)) → (read : AreRead seams)
-    → AreListBlocks (length t.symbols) (context_lists t.symbols t.events)
+    → All IsSymbolBlock (context_lists t.symbols t.events)
     → Spells (valence_behind o t.events) (valence_behind_bytes t seams) (told o t.events read.blocks back.last)
 unfolding valence_behind valence_behind_bytes
 valence-again o t seams p attr plan many few back starts read lists =
@@ -139,7 +140,7 @@ valence-again o t seams p attr plan many few back starts read lists =
     subst (λ n. Spells (many_at block_at n) (blocks_bytes seams) read.blocks) (sym attr) read.spells in
     let lists_spell : Spells (many_at (list_at o.symbols) CONTEXTS) (flat_map list_bytes codes) codes =
     subst (λ n. Spells (many_at (list_at n) CONTEXTS) (flat_map list_bytes codes) codes) (sym (ap (λ (q : Plan). q.symbols) plan ∙ many))
-    (Spells-lists (length t.symbols) codes (omega (arith, few)) lists) in
+    (Spells-lists (length t.symbols) codes (omega (arith, few)) (short-lists t.symbols t.events) lists) in
     subst (λ bytes. Spells (valence_behind o t.events) bytes value) (by_groups (block t.starts) (blocks_bytes seams) (flat_map list_bytes codes))
     (Spells-then block_at
     (λ b c. many_at block_at o.attr_data c >>= λ seams. many_at (list_at o.symbols) CONTEXTS seams.1 >>= λ lists. rebuilt symbol_at (plan_of o) lists.0 b s >>= λ u. Ok (told o t.events seams.0 u, lists.1))
@@ -172,7 +173,7 @@ Spells-parts o events front text behind value first second third =
     (Spells-then (events_at o) (behind_of o) text behind events value second third))
 
 pub section-again : (valence : Bool) (faces : ℕ) (t : Traced) (seams : List (List Bool)) → faces ≤ MAX_FACES → t.vertices ≤ MAX_POINTS → length seams ≤ MAX_ATTRIBUTES
-    → IsWritable faces t.vertices t.symbols t.events t.starts → IsCoded valence t seams
+    → IsWritable faces t.vertices t.symbols t.events t.starts → AreCoded valence t seams
     → IsReadAgain valence faces t seams (connectivity_bytes valence faces t seams)
 unfolding connectivity_bytes
 section-again valence faces t seams few_faces few_vertices few_seams w coded =
@@ -180,15 +181,15 @@ section-again valence faces t seams few_faces few_vertices few_seams w coded =
     let splits = count_by-le-length is_split t.symbols in
     let turned = count-reverse is_split t.symbols in
     let back : IsReadBack (plan_of o) t.symbols t.events t.starts = w.read_back (t.vertices + count_by is_split t.symbols) (omega (arith, turned)) in
-    let read : AreRead seams = blocks-again seams coded.1 in
+    let read : AreRead seams = blocks-again seams coded.seams in
     let within : IsWithin o = record { vertices = few_vertices; faces = few_faces; attr_data = few_seams; symbols = w.few_symbols; splits = splits } in
     let few : length t.symbols ≤ MAX_FACES = omega (arith, w.few_symbols, few_faces) in
     let behind : (v : Bool) → v ≡ valence → Spells (behind_of (opening_of v faces (length seams) t) t.events) (if v then valence_behind_bytes t seams else standard_behind_bytes t seams)
         (told (opening_of v faces (length seams) t) t.events read.blocks back.last) = λ v.
     elim v as (λ v. v ≡ valence → Spells (behind_of (opening_of v faces (length seams) t) t.events) (if v then valence_behind_bytes t seams else standard_behind_bytes t seams)
         (told (opening_of v faces (length seams) t) t.events read.blocks back.last)) [
-      | true ↦ λ is. valence-again (opening_of true faces (length seams) t) t seams (plan_of o) refl refl refl few back coded.0 read (coded.2 is)
-      | false ↦ λ is. standard-again (opening_of false faces (length seams) t) t seams (plan_of o) refl refl refl few back coded.0 read
+      | true ↦ λ is. valence-again (opening_of true faces (length seams) t) t seams (plan_of o) refl refl refl few back coded.starts read (coded.contexts (sym is))
+      | false ↦ λ is. standard-again (opening_of false faces (length seams) t) t seams (plan_of o) refl refl refl few back coded.starts read
     ] in
     record {
       last = back.last;

@@ -1,6 +1,6 @@
 -- Written symbols are fed to the machine as they were, and of written start bits no others are looked at.
 use Rattle.std.proofs.Common.{◌≡◌, ℕ, zero, suc, ◌+◌, ◌*◌, ◌<◌, ◌≤◌, Bool, false, List, [], ◌∷◌, ◌++◌, length, reverse, flat_map, get_or, Option, Some, None, Result, Ok, Err, sym, refl, ap, ◌∙◌, arith, append_assoc, append-nil, length-append}
-use Rattle.std.specs.Prelude.{slice_get}
+use Rattle.std.specs.Prelude.{slice_get, count_by}
 use Rattle.std.proofs.lemmas.Grind.{flat_map-append}
 use Rattle.std.proofs.lemmas.List.{reverse-append, length-reverse}
 use Rattle.std.proofs.lemmas.Option.{get_or_from_slice_get}
@@ -20,7 +20,9 @@ use Rattle.eb_standard.specs.SymbolBits.{symbol_bits, reversed_bits, next_symbol
 use Rattle.eb_standard.proofs.Reading.{reads_back}
 use Rattle.eb_valence.specs.Contexts.{context_lists, symbol_at, fed as context_fed}
 use Rattle.eb_valence.proofs.ReadBack.{words_read_back}
-use Rattle.eb_trace.specs.Writable.{IsReadBack}
+use Rattle.eb_rebuild.specs.Shown.{is_split}
+use Rattle.eb_valence.specs.Noting.{Takes}
+use Rattle.eb_trace.specs.Writable.{IsReadBack, IsWritable}
 use Rattle.eb_section.specs.Feeding.{Source, fed, rebuilt, Standard, standard}
 
 -- ---- steps that go on alike
@@ -141,3 +143,12 @@ rebuilt-again next source b p symbols events starts many back feeds numbered =
     ∙ ap (λ (r : Result State Fault). r >>= finish p) (closes-same p (bit_of b) bits (length starts) same m.between.stack m.between refl few)
     ∙ sym (ap (λ (r : Result State Fault). r >>= λ t. close_all p bits (length t.stack) t >>= finish p) m.symbols_taken)
     ∙ back.no_fault
+
+-- the machine takes the symbols of a trace that is written
+pub takes-of : (faces vertices : ℕ) (symbols : List Symbol) (events : List Event) (starts : List Bool) → IsWritable faces vertices symbols events starts
+    → Takes (length symbols) (reverse symbols) (start (reverse events))
+takes-of faces vertices symbols events starts w =
+    let created : ℕ = vertices + count_by is_split (reverse symbols) in
+    let back = w.read_back created (omega arith) in
+    let m = run_closes_all (record { faces = faces; created = created; symbols = length symbols }) (reverse symbols) (reverse events) (λ k. get_or starts k false) back.last back.no_fault in
+    (m.between, m.symbols_taken)

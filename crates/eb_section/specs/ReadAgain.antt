@@ -1,11 +1,9 @@
 -- What written connectivity is read as (this project's choice of words).
-use Rattle.std.specs.Prelude.{◌≡◌, ℕ, ◌<◌, ◌≤◌, Bool, true, false, List, [], ◌∷◌, length, reverse, get_or, Some, Ok, slice_get}
+use Rattle.std.specs.Prelude.{◌≡◌, ℕ, ◌<◌, Bool, false, List, [], ◌∷◌, length, reverse, get_or, Some, Ok, slice_get}
 use Rattle.drc_base.specs.Profile.{profile_two}
 use Rattle.drc_bits.specs.Spells.{Spells}
-use Rattle.rans_binary.specs.Blocks.{Block, IsBlockOf, block, bit_of, first_bits}
-use Rattle.symbol_coding.specs.Block.{block_bytes, block_at as symbols_at}
+use Rattle.rans_binary.specs.Blocks.{Block, bit_of, first_bits}
 use Rattle.eb_rebuild.specs.Machine.{State, rebuild}
-use Rattle.eb_valence.specs.Contexts.{context_lists}
 use Rattle.eb_trace.specs.declared.tracing.Traced.{Traced}
 use Rattle.eb_section.specs.Opening.{plan_of}
 use Rattle.eb_section.specs.Connectivity.{told, connectivity_at}
@@ -32,17 +30,3 @@ pub record IsReadAgain (valence : Bool) (faces : ℕ) (t : Traced) (seams : List
       ≡ Ok last
   pub seam_bits : BeginWith seams blocks
   pub read : Spells (connectivity_at profile_two) bytes (told (opening_of valence faces (length seams) t) t.events blocks last)
-
--- a block of each of these lists is read as one that begins with its bits
-abbrev pub AreBlocks : List (List Bool) → Type 0
-AreBlocks [] = Unit {0}
-AreBlocks (bits ∷ lists) = IsBlockOf bits (block bits) × AreBlocks lists
-
--- each of these lists has no more numbers than there are symbols, and its block is read as just it
-abbrev pub AreListBlocks : ℕ → List (List ℕ) → Type 0
-AreListBlocks symbols [] = Unit {0}
-AreListBlocks symbols (numbers ∷ lists) = (length numbers ≤ symbols) × Spells (symbols_at (length numbers) 1) (block_bytes numbers 1) numbers × AreListBlocks symbols lists
-
--- the blocks of a section are read as what they are written for
-abbrev pub IsCoded : Bool → Traced → List (List Bool) → Type 0
-IsCoded valence t seams = IsBlockOf t.starts (block t.starts) × AreBlocks seams × (true ≡ valence → AreListBlocks (length t.symbols) (context_lists t.symbols t.events))

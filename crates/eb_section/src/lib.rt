@@ -6,5 +6,9 @@
 
 mod opening;
 mod reading;
+mod writing;
+mod writing_coded;
+mod writing_events;
 
 pub use reading::EbRead;
+pub use writing::write_connectivity;
