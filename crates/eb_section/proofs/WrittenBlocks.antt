@@ -97,8 +97,15 @@ unfolding list_of
 fewer-numbers symbols events k =
     let codes : List Coded = coded (length symbols) (reverse symbols) (start (reverse events)) in
     let chosen : List Coded = filter (λ c. c.context == k) codes in
-    omega (arith, length-reverse (map (λ c. c.number) chosen), length-map chosen (λ c. c.number), length-filter (λ c. c.context == k) codes, count_by-le-length (λ c. c.context == k) codes,
-        fewer-coded (length symbols) (reverse symbols) (start (reverse events)), length-reverse symbols)
+    omega (
+      arith,
+      length-reverse (map (λ c. c.number) chosen),
+      length-map chosen (λ c. c.number),
+      length-filter (λ c. c.context == k) codes,
+      count_by-le-length (λ c. c.context == k) codes,
+      fewer-coded (length symbols) (reverse symbols) (start (reverse events)),
+      length-reverse symbols,
+    )
 
 pub short-lists : (symbols : List Symbol) (events : List Event) → All (λ numbers. length numbers ≤ length symbols) (context_lists symbols events)
 short-lists symbols events =

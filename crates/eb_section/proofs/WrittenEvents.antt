@@ -38,7 +38,7 @@ Spells-event symbols before x small rises below earlier =
     let split_is : before.source + ahead - back ≡ x.split = omega (arith, rises, earlier) in
     let told : EventNumbers = record { source = before.source + ahead; split = before.source + ahead - back } in
     let same : told ≡ x = ap (λ (s : ℕ). let y : EventNumbers = record { source = s; split = before.source + ahead - back } in y) there
-        ∙ ap (λ (p : ℕ). let y : EventNumbers = record { source = x.source; split = p } in y) split_is in
+    ∙ ap (λ (p : ℕ). let y : EventNumbers = record { source = x.source; split = p } in y) split_is in
     let first : nat_lt (before.source + ahead) symbols ≡ true = lt-ltb (before.source + ahead) symbols (omega (arith, there, below)) in
     let second : nat_le back (before.source + ahead) ≡ true = le-leb back (before.source + ahead) (omega (arith, there)) in
     subst (λ y. Spells (numbers_at symbols before) (bytes_of before x) y) same

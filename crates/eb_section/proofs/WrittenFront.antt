@@ -38,32 +38,32 @@ unfolding opening_at told_by
 Spells-numbers t o known within =
     Spells-then traversal_at
     (λ t c. must kind.PointLimit (λ n. nat_le n MAX_POINTS) var32_at c >>= λ v. must kind.FaceLimit (λ n. nat_le n MAX_FACES) var32_at v.1 >>= λ f.
-        must kind.AttrLimit (λ n. nat_le n MAX_ATTRIBUTES) (number_at 1) f.1 >>= λ a. must kind.Count (λ n. nat_le n f.0) var32_at a.1 >>= λ s.
-        must kind.Count (λ n. nat_le n s.0) var32_at s.1 >>= λ p.
-        Ok (record { valence = (t == 2); vertices = v.0; faces = f.0; attr_data = a.0; symbols = s.0; splits = p.0 }, p.1))
+    must kind.AttrLimit (λ n. nat_le n MAX_ATTRIBUTES) (number_at 1) f.1 >>= λ a. must kind.Count (λ n. nat_le n f.0) var32_at a.1 >>= λ s.
+    must kind.Count (λ n. nat_le n s.0) var32_at s.1 >>= λ p.
+    Ok (record { valence = (t == 2); vertices = v.0; faces = f.0; attr_data = a.0; symbols = s.0; splits = p.0 }, p.1))
     (t ∷ []) (spelling 5 o.vertices ++ (spelling 5 o.faces ++ ((o.attr_data ∷ []) ++ (spelling 5 o.symbols ++ (spelling 5 o.splits ++ []))))) t (told_by t o)
     (Spells-must kind.Traversal (λ t. t == 0 || t == 2) (number_at 1) (t ∷ []) t known (Spells-byte t))
     (Spells-then (must kind.PointLimit (λ n. nat_le n MAX_POINTS) var32_at)
     (λ v c. must kind.FaceLimit (λ n. nat_le n MAX_FACES) var32_at c >>= λ f.
-        must kind.AttrLimit (λ n. nat_le n MAX_ATTRIBUTES) (number_at 1) f.1 >>= λ a. must kind.Count (λ n. nat_le n f.0) var32_at a.1 >>= λ s.
-        must kind.Count (λ n. nat_le n s.0) var32_at s.1 >>= λ p.
-        Ok (record { valence = (t == 2); vertices = v; faces = f.0; attr_data = a.0; symbols = s.0; splits = p.0 }, p.1))
+    must kind.AttrLimit (λ n. nat_le n MAX_ATTRIBUTES) (number_at 1) f.1 >>= λ a. must kind.Count (λ n. nat_le n f.0) var32_at a.1 >>= λ s.
+    must kind.Count (λ n. nat_le n s.0) var32_at s.1 >>= λ p.
+    Ok (record { valence = (t == 2); vertices = v; faces = f.0; attr_data = a.0; symbols = s.0; splits = p.0 }, p.1))
     (spelling 5 o.vertices) (spelling 5 o.faces ++ ((o.attr_data ∷ []) ++ (spelling 5 o.symbols ++ (spelling 5 o.splits ++ [])))) o.vertices (told_by t o)
     (limited o.vertices MAX_POINTS kind.PointLimit within.vertices (omega arith))
     (Spells-then (must kind.FaceLimit (λ n. nat_le n MAX_FACES) var32_at)
     (λ f c. must kind.AttrLimit (λ n. nat_le n MAX_ATTRIBUTES) (number_at 1) c >>= λ a. must kind.Count (λ n. nat_le n f) var32_at a.1 >>= λ s.
-        must kind.Count (λ n. nat_le n s.0) var32_at s.1 >>= λ p.
-        Ok (record { valence = (t == 2); vertices = o.vertices; faces = f; attr_data = a.0; symbols = s.0; splits = p.0 }, p.1))
+    must kind.Count (λ n. nat_le n s.0) var32_at s.1 >>= λ p.
+    Ok (record { valence = (t == 2); vertices = o.vertices; faces = f; attr_data = a.0; symbols = s.0; splits = p.0 }, p.1))
     (spelling 5 o.faces) ((o.attr_data ∷ []) ++ (spelling 5 o.symbols ++ (spelling 5 o.splits ++ []))) o.faces (told_by t o)
     (limited o.faces MAX_FACES kind.FaceLimit within.faces (omega arith))
     (Spells-then (must kind.AttrLimit (λ n. nat_le n MAX_ATTRIBUTES) (number_at 1))
     (λ a c. must kind.Count (λ n. nat_le n o.faces) var32_at c >>= λ s. must kind.Count (λ n. nat_le n s.0) var32_at s.1 >>= λ p.
-        Ok (record { valence = (t == 2); vertices = o.vertices; faces = o.faces; attr_data = a; symbols = s.0; splits = p.0 }, p.1))
+    Ok (record { valence = (t == 2); vertices = o.vertices; faces = o.faces; attr_data = a; symbols = s.0; splits = p.0 }, p.1))
     (o.attr_data ∷ []) (spelling 5 o.symbols ++ (spelling 5 o.splits ++ [])) o.attr_data (told_by t o)
     (Spells-must kind.AttrLimit (λ n. nat_le n MAX_ATTRIBUTES) (number_at 1) (o.attr_data ∷ []) o.attr_data (le-leb o.attr_data MAX_ATTRIBUTES within.attr_data) (Spells-byte o.attr_data))
     (Spells-then (must kind.Count (λ n. nat_le n o.faces) var32_at)
     (λ s c. must kind.Count (λ n. nat_le n s) var32_at c >>= λ p.
-        Ok (record { valence = (t == 2); vertices = o.vertices; faces = o.faces; attr_data = o.attr_data; symbols = s; splits = p.0 }, p.1))
+    Ok (record { valence = (t == 2); vertices = o.vertices; faces = o.faces; attr_data = o.attr_data; symbols = s; splits = p.0 }, p.1))
     (spelling 5 o.symbols) (spelling 5 o.splits ++ []) o.symbols (told_by t o)
     (limited o.symbols o.faces kind.Count within.symbols (omega (arith, within.faces)))
     (Spells-then (must kind.Count (λ n. nat_le n o.symbols) var32_at)

@@ -102,7 +102,7 @@ standard-again o t seams p attr plan many few back starts read =
     let seams_spell : Spells (many_at block_at o.attr_data) (blocks_bytes seams) read.blocks =
     subst (λ n. Spells (many_at block_at n) (blocks_bytes seams) read.blocks) (sym attr) read.spells in
     let tail : (place : ℕ) → Spells (λ c. block_at c >>= λ b. many_at block_at o.attr_data b.1 >>= λ seams. rebuilt standard (plan_of o) (source_at place t.symbols) b.0 s >>= λ u. Ok (told o t.events seams.0 u, seams.1))
-        (block t.starts ++ (blocks_bytes seams ++ [])) value = λ place.
+    (block t.starts ++ (blocks_bytes seams ++ [])) value = λ place.
     Spells-then block_at
     (λ b c. many_at block_at o.attr_data c >>= λ seams. rebuilt standard (plan_of o) (source_at place t.symbols) b s >>= λ u. Ok (told o t.events seams.0 u, seams.1))
     (block t.starts) (blocks_bytes seams ++ []) starts.start value starts.spells
@@ -185,9 +185,9 @@ section-again valence faces t seams few_faces few_vertices few_seams w coded =
     let within : IsWithin o = record { vertices = few_vertices; faces = few_faces; attr_data = few_seams; symbols = w.few_symbols; splits = splits } in
     let few : length t.symbols ≤ MAX_FACES = omega (arith, w.few_symbols, few_faces) in
     let behind : (v : Bool) → v ≡ valence → Spells (behind_of (opening_of v faces (length seams) t) t.events) (if v then valence_behind_bytes t seams else standard_behind_bytes t seams)
-        (told (opening_of v faces (length seams) t) t.events read.blocks back.last) = λ v.
+    (told (opening_of v faces (length seams) t) t.events read.blocks back.last) = λ v.
     elim v as (λ v. v ≡ valence → Spells (behind_of (opening_of v faces (length seams) t) t.events) (if v then valence_behind_bytes t seams else standard_behind_bytes t seams)
-        (told (opening_of v faces (length seams) t) t.events read.blocks back.last)) [
+    (told (opening_of v faces (length seams) t) t.events read.blocks back.last)) [
       | true ↦ λ is. valence-again (opening_of true faces (length seams) t) t seams (plan_of o) refl refl refl few back coded.starts read (coded.contexts (sym is))
       | false ↦ λ is. standard-again (opening_of false faces (length seams) t) t seams (plan_of o) refl refl refl few back coded.starts read
     ] in

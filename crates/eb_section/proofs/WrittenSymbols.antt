@@ -125,7 +125,7 @@ pub rebuilt-again : {A : Type 0} (next : Source A) (source : A) (b : Block) (p :
     → p.symbols ≡ length symbols
     → (back : IsReadBack p symbols events starts)
     → ((t : State) → take_symbols (length symbols) (reverse symbols) (start (reverse events)) ≡ Ok t
-        → fed next (length symbols) (length symbols) source (start (reverse events)) ≡ Ok t)
+    → fed next (length symbols) (length symbols) source (start (reverse events)) ≡ Ok t)
     → ((k : ℕ) → k < length starts → slice_get starts k ≡ Some (bit_of b k))
     → rebuilt next p source b (start (reverse events)) ≡ Ok back.last
 unfolding rebuilt rebuild

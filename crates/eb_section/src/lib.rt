@@ -9,6 +9,8 @@ mod reading;
 mod writing;
 mod writing_coded;
 mod writing_events;
+#[cfg(test)]
+mod writing_tests;
 
 pub use reading::EbRead;
 pub use writing::write_connectivity;
