@@ -1,6 +1,6 @@
 -- Written blocks of bits and lists of contexts are read again.
-use Rattle.std.proofs.Common.{◌≡◌, ℕ, suc, ◌+◌, ◌^◌, ◌<◌, ◌≤◌, Bool, true, false, cond, ◌==◌, List, [], ◌∷◌, ◌++◌, length, map, flat_map, reverse, Result, Ok, Err, nat_le, sym, refl, ap, ◌∙◌, subst, arith, append-nil, le-leb}
-use Rattle.std.specs.List.{All, filter, count_by, range_with_len}
+use Rattle.std.proofs.Common.{◌≡◌, ℕ, suc, ◌^◌, ◌<◌, ◌≤◌, Bool, true, false, cond, ◌==◌, List, [], ◌∷◌, ◌++◌, length, map, flat_map, reverse, Result, Ok, Err, nat_le, sym, ap, subst, arith, le-leb}
+use Rattle.std.specs.List.{All, filter, range_with_len}
 use Rattle.std.proofs.lemmas.List.{length-append, length-map, length-reverse}
 use Rattle.std.proofs.lemmas.List.Elements.{All-head, All-tail, All-map}
 use Rattle.std.proofs.lemmas.List.Sums.{length-filter, count_by-le-length}
@@ -21,7 +21,7 @@ use Rattle.eb_valence.specs.Numbers.{symbol_number}
 use Rattle.eb_valence.specs.Contexts.{Coded, context, coded, coded_at, list_of, context_lists}
 use Rattle.eb_section.specs.Connectivity.{list_at}
 use Rattle.eb_section.specs.Written.{list_bytes, blocks_bytes}
-use Rattle.eb_section.specs.ReadAgain.{BeginsWith, BeginWith}
+use Rattle.eb_section.specs.ReadAgain.{BeginWith}
 use Rattle.eb_section.specs.CodedBlocks.{AreBlocks, IsSymbolBlock}
 
 -- ---- items one after another

@@ -1,12 +1,11 @@
 -- Lists whose bytes are written item by item.
-use Rattle.std.proofs.Common.{◌≡◌, ℕ, ◌+◌, ◌-◌, ◌<◌, ◌≤◌, Bool, true, false, List, [], ◌∷◌, ◌++◌, All, length, map, flat_map, take, drop, get_or, if◌then◌else◌, sym, refl, ap, ◌∙◌, subst, arith, append_assoc, append-nil}
+use Rattle.std.proofs.Common.{◌≡◌, ℕ, ◌+◌, ◌<◌, ◌≤◌, Bool, true, false, List, [], ◌∷◌, ◌++◌, All, length, map, flat_map, take, drop, get_or, if◌then◌else◌, sym, refl, ap, ◌∙◌, subst, arith, append_assoc, append-nil}
 use Rattle.std.proofs.lemmas.List.{take_more, drop_more, drop_all, flat_map_more, get_or-map, length-map, map_more}
 use Rattle.std.proofs.lemmas.List.Elements.{All-more}
 use Rattle.drc_bits.specs.Bits.{low_bits}
-use Rattle.drc_bits.specs.Varint.{spelling}
 use Rattle.corner_table.specs.declared.symbols.Event.{Event}
 use Rattle.eb_trace.specs.Writable.{RiseFrom}
-use Rattle.eb_section.specs.Written.{numbers_bytes, side_bit}
+use Rattle.eb_section.specs.Written.{event_bytes, numbers_bytes, side_bit}
 
 -- ---- lists of blocks
 
@@ -36,25 +35,21 @@ next-mapped view bytes P xs i x y front before after below is so held all more h
 -- ---- events
 
 -- the numbers of one event more are written
-pub record NextNumbers (events : List Event) (i : ℕ) (e : Event) (two whole : List ℕ) : Type 0 where
-  pub bytes : two ++ numbers_bytes e.source (drop (i + 1) events) ≡ whole
+pub record NextNumbers (events : List Event) (i : ℕ) (e : Event) (next whole : List ℕ) : Type 0 where
+  pub bytes : next ++ numbers_bytes e.source (drop (i + 1) events) ≡ whole
   pub rise : RiseFrom e.source (drop (i + 1) events)
 
-pub next-numbers : (events : List Event) (i before : ℕ) (d : Event) (front one two whole : List ℕ)
+pub next-numbers : (events : List Event) (i before : ℕ) (d : Event) (front next whole : List ℕ)
     → i < length events
-    → front ++ numbers_bytes before (drop i events) ≡ whole → RiseFrom before (drop i events)
-    → one ≡ front ++ spelling 5 ((get_or events i d).source - before) → two ≡ one ++ spelling 5 ((get_or events i d).source - (get_or events i d).split)
-    → NextNumbers events i (get_or events i d) two whole
+    → front ++ numbers_bytes before (drop i events) ≡ whole → RiseFrom before (drop i events) → next ≡ front ++ event_bytes before (get_or events i d)
+    → NextNumbers events i (get_or events i d) next whole
 unfolding numbers_bytes
-next-numbers events i before d front one two whole below so rise first second =
+next-numbers events i before d front next whole below so rise is =
     let e : Event = get_or events i d in
     let more : drop i events ≡ e ∷ drop (i + 1) events = drop_more events i d below in
-    let a : List ℕ = spelling 5 (e.source - before) in
-    let b : List ℕ = spelling 5 (e.source - e.split) in
-    let c : List ℕ = numbers_bytes e.source (drop (i + 1) events) in
+    let rest : List ℕ = numbers_bytes e.source (drop (i + 1) events) in
     record {
-      bytes = ap (λ l. l ++ c) (second ∙ ap (λ l. l ++ b) first ∙ append_assoc front a b) ∙ append_assoc front (a ++ b) c
-          ∙ ap (λ l. front ++ numbers_bytes before l) (sym more) ∙ so;
+      bytes = ap (λ l. l ++ rest) is ∙ append_assoc front (event_bytes before e) rest ∙ ap (λ l. front ++ numbers_bytes before l) (sym more) ∙ so;
       rise = (subst (RiseFrom before) more rise).1;
     }
 

@@ -1,5 +1,5 @@
 -- A written section is read again.
-use Rattle.std.proofs.Common.{◌≡◌, ℕ, suc, ◌+◌, ◌-◌, ◌*◌, ◌/◌, ◌^◌, ◌<◌, ◌≤◌, Bool, true, false, cond, IsTrue, List, [], ◌∷◌, ◌++◌, length, reverse, flat_map, Result, Ok, Err, nat_lt, if◌then◌else◌, sym, refl, ap, ◌∙◌, subst, arith, append_assoc, append-nil, length-append}
+use Rattle.std.proofs.Common.{◌≡◌, ℕ, ◌+◌, ◌^◌, ◌<◌, ◌≤◌, Bool, true, false, cond, List, [], ◌∷◌, ◌++◌, length, reverse, flat_map, Result, Ok, if◌then◌else◌, sym, refl, ap, ◌∙◌, subst, arith, append_assoc, append-nil, length-append}
 use Rattle.std.specs.List.{All, count_by}
 use Rattle.std.proofs.lemmas.List.{reverse-append}
 use Rattle.std.proofs.lemmas.List.Sums.{count_by-le-length, sum_by-append}
@@ -9,7 +9,7 @@ use Rattle.drc_base.specs.declared.faults.Fault.{Fault}
 use Rattle.drc_base.specs.Profile.{profile_two}
 use Rattle.drc_base.specs.Steps.{◌>>=◌}
 use Rattle.drc_bits.specs.Reading.{Reading, Item, many_at}
-use Rattle.drc_bits.specs.Bits.{packed, bits_left}
+use Rattle.drc_bits.specs.Bits.{packed}
 use Rattle.drc_bits.specs.Varint.{spelling}
 use Rattle.drc_bits.specs.Spells.{Spells}
 use Rattle.drc_bits.proofs.Spelled.{Spells-none, Spells-then, Spells-same}
@@ -17,7 +17,7 @@ use Rattle.drc_bits.proofs.PackedBits.{length-packed, packed-again}
 use Rattle.drc_bits.proofs.Written.{reading, bytes_at-front, var64_at-spelling}
 use Rattle.corner_table.specs.declared.symbols.Symbol.{Symbol}
 use Rattle.corner_table.specs.declared.symbols.Event.{Event}
-use Rattle.rans_binary.specs.Blocks.{Block, IsBlockOf, block, block_at}
+use Rattle.rans_binary.specs.Blocks.{IsBlockOf, block, block_at}
 use Rattle.eb_rebuild.specs.Machine.{Plan, State, start}
 use Rattle.eb_rebuild.specs.Shown.{is_split}
 use Rattle.eb_standard.specs.SymbolBits.{reversed_bits}
@@ -28,7 +28,7 @@ use Rattle.eb_trace.specs.Writable.{IsWritable, IsReadBack}
 use Rattle.eb_section.specs.declared.opening.Opening.{Opening}
 use Rattle.eb_section.specs.Opening.{opening_at, plan_of}
 use Rattle.eb_section.specs.Events.{events_at}
-use Rattle.eb_section.specs.Feeding.{Source, rebuilt, Standard, standard}
+use Rattle.eb_section.specs.Feeding.{rebuilt, Standard, standard}
 use Rattle.eb_section.specs.Connectivity.{Connectivity, told, standard_at, list_at, standard_behind, valence_behind, behind_at, connectivity_at}
 use Rattle.eb_section.specs.Written.{opening_of, opening_bytes, events_bytes, standard_bytes, list_bytes, blocks_bytes, standard_behind_bytes, valence_behind_bytes, connectivity_bytes}
 use Rattle.eb_section.specs.ReadAgain.{IsReadAgain}

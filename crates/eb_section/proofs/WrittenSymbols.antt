@@ -6,7 +6,7 @@ use Rattle.std.proofs.lemmas.List.{reverse-append, length-reverse}
 use Rattle.std.proofs.lemmas.Option.{get_or_from_slice_get}
 use Rattle.drc_base.specs.declared.faults.Fault.{Fault}
 use Rattle.drc_base.specs.Steps.{◌>>=◌}
-use Rattle.drc_bits.specs.Bits.{AreBits, bits_left, low_bits}
+use Rattle.drc_bits.specs.Bits.{AreBits, bits_left}
 use Rattle.drc_bits.proofs.PackedBits.{AreBits-append, AreBits-low_bits}
 use Rattle.drc_bits.proofs.BitLists.{length-low_bits}
 use Rattle.corner_table.specs.declared.symbols.Symbol.{Symbol}
@@ -16,7 +16,7 @@ use Rattle.corner_table.specs.Sides.{Side}
 use Rattle.rans_binary.specs.Blocks.{Block, bit_of}
 use Rattle.eb_rebuild.specs.Machine.{Plan, State, start, step, take_symbols, close, close_all, finish, rebuild}
 use Rattle.eb_rebuild.proofs.Closes.{symbols_close_none, close_takes_one, run_closes_all}
-use Rattle.eb_standard.specs.SymbolBits.{symbol_bits, reversed_bits, next_symbol, after_symbol}
+use Rattle.eb_standard.specs.SymbolBits.{symbol_bits, reversed_bits, after_symbol}
 use Rattle.eb_standard.proofs.Reading.{reads_back}
 use Rattle.eb_valence.specs.Contexts.{context_lists, symbol_at, fed as context_fed}
 use Rattle.eb_valence.proofs.ReadBack.{words_read_back}

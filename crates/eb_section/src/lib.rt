@@ -7,10 +7,12 @@
 mod opening;
 mod reading;
 mod writing;
-mod writing_coded;
+mod writing_blocks;
 mod writing_events;
+mod writing_standard;
 #[cfg(test)]
 mod writing_tests;
+mod writing_valence;
 
 pub use reading::EbRead;
 pub use writing::write_connectivity;

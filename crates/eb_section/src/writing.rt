@@ -1,15 +1,19 @@
 //! Writing the section.
 
-ghost use Rattle.std.specs.Prelude.{◌≡◌, ◌<◌, ◌≤◌, ◌^◌, ◌++◌, IfOk, OnOk, All, count_by, length, map};
+ghost use Rattle.std.specs.Prelude.{◌≡◌, ◌<◌, ◌≤◌, ◌^◌, ◌++◌, IfOk, OnOk, All, length, map, reverse};
+ghost use Rattle.eb_rebuild.specs.Machine.{start};
+ghost use Rattle.eb_rebuild.specs.Rebuilding.{IsEventOf};
 ghost use Rattle.eb_rebuild.specs.Shown.{is_split as is_split_symbol};
 ghost use Rattle.eb_trace.specs.Writable.{IsWritable};
-ghost use Rattle.eb_section.specs.Written.{opening_of, opening_bytes, connectivity_bytes};
+ghost use Rattle.eb_valence.specs.Noting.{Takes};
+ghost use Rattle.eb_section.specs.Written.{opening_of, opening_bytes, coded_bytes, connectivity_bytes};
 ghost use Rattle.eb_section.specs.ReadAgain.{IsReadAgain};
 ghost use Rattle.eb_section.specs.CodedBlocks.{AreCoded};
 
 use crate::opening::Opening;
-use crate::writing_coded::put_coded;
 use crate::writing_events::put_events;
+use crate::writing_standard::put_standard;
+use crate::writing_valence::put_valence;
 use corner_table::Symbol;
 use drc_base::{MAX_ATTRIBUTES, MAX_FACES, MAX_POINTS, Memory};
 use drc_bits::put_var32;
@@ -67,6 +71,29 @@ fn written(
     put_events(alloc, &mut out, t.events.as_slice())?;
     put_coded(alloc, &mut out, t, valence, seams)?;
     Ok(out)
+}
+
+/// Appends what lies behind the events.
+fn put_coded(
+    alloc: Global,
+    out: &mut Vec<u8>,
+    t: &Traced,
+    valence: bool,
+    seams: &[Vec<bool>],
+) -> Result<(), Memory>
+    requires few { length t.now.symbols ≤ MAX_FACES }
+    requires events { All (IsEventOf (length t.now.symbols)) t.now.events }
+    requires takes { Takes (length t.now.symbols) (reverse t.now.symbols) (start (reverse t.now.events)) }
+    requires starts { length t.now.starts < 2 ^ 31 }
+    requires short { All (λ v. length v.items < 2 ^ 31) seams.now }
+    ensures bytes { OnOk result (out.new.items ≡ out.old.items ++ coded_bytes valence t.now (map (λ s. s.items) seams.now)) }
+    ensures coded { OnOk result (AreCoded valence t.now (map (λ s. s.items) seams.now)) }
+{
+    if valence {
+        put_valence(alloc, out, t, seams)
+    } else {
+        put_standard(alloc, out, t, seams)
+    }
 }
 
 /// Whether a symbol is a split.

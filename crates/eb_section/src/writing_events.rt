@@ -3,7 +3,7 @@
 ghost use Rattle.std.specs.Prelude.{◌≡◌, ◌≤◌, ◌++◌, IfOk, OnOk, All, length, map, if◌then◌else◌};
 ghost use Rattle.drc_bits.specs.Bits.{packed};
 ghost use Rattle.eb_trace.specs.Writable.{RiseFrom};
-ghost use Rattle.eb_section.specs.Written.{numbers_bytes, side_bit, events_bytes};
+ghost use Rattle.eb_section.specs.Written.{event_bytes, numbers_bytes, side_bit, events_bytes};
 
 use corner_table::Event;
 use drc_base::{MAX_FACES, Memory};
@@ -25,8 +25,19 @@ pub(crate) fn put_events(alloc: Global, out: &mut Vec<u8>, events: &[Event]) -> 
     Ok(())
 }
 
-/// Appends the numbers of events: how far the source of each is from the source before it, and how far its
-/// split lies before its source.
+/// Appends the numbers of an event behind one of this source: how far its source is from that, and how far
+/// its split lies before its source.
+fn put_event(out: &mut Vec<u8>, event: Event, before: u32) -> Result<(), Memory>
+    requires rises { before ≤ event.source }
+    requires earlier { event.split ≤ event.source }
+    ensures { OnOk result (out.new.items ≡ out.old.items ++ event_bytes before event) }
+{
+    out.extend_from_slice(&put_var32(event.source - before))?;
+    out.extend_from_slice(&put_var32(event.source - event.split))?;
+    Ok(())
+}
+
+/// Appends the numbers of events, each behind the one before it, and the first behind source 0.
 fn put_numbers(out: &mut Vec<u8>, events: &[Event]) -> Result<(), Memory>
     requires rise { RiseFrom 0 events.now }
     requires earlier { All (λ (e : Event). e.split ≤ e.source) events.now }
@@ -34,10 +45,8 @@ fn put_numbers(out: &mut Vec<u8>, events: &[Event]) -> Result<(), Memory>
 {
     let mut before: u32 = 0;
     for i in 0..events.len() {
-        let event = events[i];
-        out.extend_from_slice(&put_var32(event.source - before))?;
-        out.extend_from_slice(&put_var32(event.source - event.split))?;
-        before = event.source;
+        put_event(out, events[i], before)?;
+        before = events[i].source;
     }
     Ok(())
 }

@@ -1,4 +1,4 @@
-use Rattle.std.proofs.Common.{◌≡◌, ◌≤◌, Bool, List, ℕ, Vec, Global, map, length, subst, sym, arith}
+use Rattle.std.proofs.Common.{◌≤◌, Bool, List, ℕ, Vec, Global, map, length, subst, sym, arith}
 use Rattle.std.proofs.lemmas.List.{length-map}
 use Rattle.drc_base.specs.declared.limits.TheConstants.{MAX_ATTRIBUTES}
 use Rattle.eb_section.specs.ReadAgain.{IsReadAgain}

@@ -1,11 +1,10 @@
-use Rattle.std.proofs.Common.{rules}
 use Rattle.eb_section.proofs.WrittenLoops.{next-numbers, all-numbers}
 use Rattle.eb_section.proofs.writing_events.put_numbers.Goals as goal
 
 pub loop-i-preserved : goal.loop-i-preserved
 loop-i-preserved c =
-    let n = next-numbers c.args.events.now c.loop-i.i c.loop-i.before _ c.loop-i.out.items c.extend_from_slice.new.self.items c.extend_from_slice-in-loop-i.new.self.items _
-    c.loop-i-test.true c.loop-i.invariant.bytes c.loop-i.invariant.rise (search rules) (search rules) in
+    let n = next-numbers c.args.events.now c.loop-i.i c.loop-i.before _ c.loop-i.out.items c.put_event.new.out.items _
+    c.loop-i-test.true c.loop-i.invariant.bytes c.loop-i.invariant.rise c.in_ok-put_event.ensures in
     record { bytes = n.bytes; rise = n.rise }
 
 pub returns : goal.returns

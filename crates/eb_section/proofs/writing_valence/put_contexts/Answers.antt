@@ -3,7 +3,7 @@ use Rattle.drc_base.specs.declared.limits.TheConstants.{MAX_FACES}
 use Rattle.eb_valence.specs.Contexts.{context_lists}
 use Rattle.eb_section.specs.CodedBlocks.{IsSymbolBlock}
 use Rattle.eb_section.proofs.WrittenBlocks.{short-contexts}
-use Rattle.eb_section.proofs.writing_coded.put_contexts.Goals as goal
+use Rattle.eb_section.proofs.writing_valence.put_contexts.Goals as goal
 
 pub put_lists-requires-clause-short : goal.put_lists-requires-clause-short
 put_lists-requires-clause-short c = short-contexts c.args.t.now.symbols c.args.t.now.events MAX_FACES c.in_ok-lists.lists c.requires.few (search rules)

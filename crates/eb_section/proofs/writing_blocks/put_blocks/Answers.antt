@@ -1,7 +1,7 @@
-use Rattle.std.proofs.Common.{List, Bool, Vec, Global}
+use Rattle.std.proofs.Common.{Bool, Vec, Global}
 use Rattle.rans_binary.specs.Blocks.{IsBlockOf, block}
 use Rattle.eb_section.proofs.WrittenLoops.{next-mapped}
-use Rattle.eb_section.proofs.writing_coded.put_blocks.Goals as goal
+use Rattle.eb_section.proofs.writing_blocks.put_blocks.Goals as goal
 
 pub loop-i-preserved : goal.loop-i-preserved
 loop-i-preserved c =

@@ -1,7 +1,7 @@
 use Rattle.std.proofs.Common.{◌≡◌, ◌++◌, All, flat_map, take}
 use Rattle.eb_section.specs.Written.{list_bytes}
 use Rattle.eb_section.specs.CodedBlocks.{IsSymbolBlock}
-use Rattle.eb_section.proofs.writing_coded.put_lists.Given as goal
+use Rattle.eb_section.proofs.writing_valence.put_lists.Given as goal
 
 abbrev pub invariant-loop-context : goal.invariant-loop-context
 invariant-loop-context l = record {

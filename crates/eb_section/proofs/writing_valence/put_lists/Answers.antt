@@ -2,7 +2,7 @@ use Rattle.std.proofs.Common.{◌<◌, [], length, arith}
 use Rattle.eb_section.specs.Written.{list_bytes}
 use Rattle.eb_section.specs.CodedBlocks.{IsSymbolBlock}
 use Rattle.eb_section.proofs.WrittenLoops.{next-written}
-use Rattle.eb_section.proofs.writing_coded.put_lists.Goals as goal
+use Rattle.eb_section.proofs.writing_valence.put_lists.Goals as goal
 
 pub loop-context-preserved : goal.loop-context-preserved
 loop-context-preserved c =
