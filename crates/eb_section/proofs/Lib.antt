@@ -1,3 +1,9 @@
 pub mod EventLists
 pub mod Runs
 pub mod Examples
+pub mod WrittenSymbols
+pub mod WrittenFront
+pub mod WrittenEvents
+pub mod WrittenBlocks
+pub mod WrittenLoops
+pub mod WrittenSection

@@ -4,3 +4,4 @@ pub mod Feeding
 pub mod Connectivity
 pub mod Written
 pub mod ReadAgain
+pub mod CodedBlocks

@@ -26,7 +26,7 @@ BeginWith (bits ∷ lists) (b ∷ blocks) = BeginsWith bits b × BeginWith lists
 pub record IsReadAgain (valence : Bool) (faces : ℕ) (t : Traced) (seams : List (List Bool)) (bytes : List ℕ) : Type 0 where
   pub last : State
   pub blocks : List Block
-  pub built : rebuild (plan_of (opening_of valence faces (length seams) t)) (reverse t.symbols) (reverse t.events) (λ k. get_or t.starts k false)
-      ≡ Ok last
+  pub built : rebuild (plan_of (opening_of valence faces (length seams) t)) (reverse t.symbols) (reverse t.events)
+      (λ k. get_or t.starts k false) ≡ Ok last
   pub seam_bits : BeginWith seams blocks
   pub read : Spells (connectivity_at profile_two) bytes (told (opening_of valence faces (length seams) t) t.events blocks last)

@@ -1,6 +1,6 @@
 -- The bytes of Edgebreaker connectivity (Draco Bitstream Specification 2.2, section "Edgebreaker Connectivity"; which of the allowed
 -- spellings is written is this project's choice).
-use Rattle.std.specs.Prelude.{ℕ, ◌-◌, ◌==◌, Bool, List, [], ◌∷◌, ◌++◌, length, map, count_by, flat_map, if◌then◌else◌}
+use Rattle.std.specs.Prelude.{ℕ, ◌-◌, Bool, List, [], ◌∷◌, ◌++◌, length, map, count_by, flat_map, if◌then◌else◌}
 use Rattle.drc_bits.specs.Bits.{packed}
 use Rattle.drc_bits.specs.Varint.{spelling}
 use Rattle.corner_table.specs.declared.symbols.Symbol.{Symbol}
@@ -26,12 +26,18 @@ opening_of valence faces attr_data t = record {
 
 -- the front
 unfoldable pub opening_bytes : Opening → List ℕ
-opening_bytes o = (if o.valence then 2 else 0) ∷ spelling 5 o.vertices ++ spelling 5 o.faces ++ o.attr_data ∷ spelling 5 o.symbols ++ spelling 5 o.splits
+opening_bytes o =
+    (if o.valence then 2 else 0) ∷ spelling 5 o.vertices ++ spelling 5 o.faces
+    ++ o.attr_data ∷ spelling 5 o.symbols ++ spelling 5 o.splits
+
+-- the numbers of an event behind one of this source: how far its source is from that, and how far its split lies before its source
+abbrev pub event_bytes : ℕ → Event → List ℕ
+event_bytes before e = spelling 5 (e.source - before) ++ spelling 5 (e.source - e.split)
 
 -- the numbers of events behind one of this source
 unfoldable pub numbers_bytes : ℕ → List Event → List ℕ
 numbers_bytes before [] = []
-numbers_bytes before (e ∷ events) = spelling 5 (e.source - before) ++ spelling 5 (e.source - e.split) ++ numbers_bytes e.source events
+numbers_bytes before (e ∷ events) = event_bytes before e ++ numbers_bytes e.source events
 
 -- the bit of a side
 abbrev pub side_bit : Event → ℕ
@@ -61,8 +67,11 @@ standard_behind_bytes t seams = standard_bytes t.symbols ++ block t.starts ++ bl
 unfoldable pub valence_behind_bytes : Traced → List (List Bool) → List ℕ
 valence_behind_bytes t seams = block t.starts ++ blocks_bytes seams ++ flat_map list_bytes (context_lists t.symbols t.events)
 
+-- what lies behind the events
+abbrev pub coded_bytes : Bool → Traced → List (List Bool) → List ℕ
+coded_bytes valence t seams = if valence then valence_behind_bytes t seams else standard_behind_bytes t seams
+
 -- the section of a trace of so many faces, with these lists of seam bits
 unfoldable pub connectivity_bytes : Bool → ℕ → Traced → List (List Bool) → List ℕ
 connectivity_bytes valence faces t seams =
-    opening_bytes (opening_of valence faces (length seams) t) ++ events_bytes t.events
-    ++ (if valence then valence_behind_bytes t seams else standard_behind_bytes t seams)
+    opening_bytes (opening_of valence faces (length seams) t) ++ events_bytes t.events ++ coded_bytes valence t seams

@@ -13,5 +13,13 @@ mod reading;
 mod reading_tests;
 mod rebuilding;
 mod sources;
+mod writing;
+mod writing_blocks;
+mod writing_events;
+mod writing_standard;
+#[cfg(test)]
+mod writing_tests;
+mod writing_valence;
 
 pub use reading::{EbRead, read_connectivity};
+pub use writing::write_connectivity;

@@ -1,0 +1,139 @@
+//! Writing the section.
+
+ghost use Rattle.std.specs.Prelude.{◌≡◌, ◌<◌, ◌≤◌, ◌^◌, ◌++◌, IfOk, OnOk, All, length, map, reverse};
+ghost use Rattle.eb_rebuild.specs.Machine.{start};
+ghost use Rattle.eb_rebuild.specs.Rebuilding.{IsEventOf};
+ghost use Rattle.eb_rebuild.specs.Shown.{is_split as is_split_symbol};
+ghost use Rattle.eb_trace.specs.Writable.{IsWritable};
+ghost use Rattle.eb_valence.specs.Noting.{Takes};
+ghost use Rattle.eb_section.specs.Written.{opening_of, opening_bytes, coded_bytes, connectivity_bytes};
+ghost use Rattle.eb_section.specs.ReadAgain.{IsReadAgain};
+ghost use Rattle.eb_section.specs.CodedBlocks.{AreCoded};
+
+use crate::opening::Opening;
+use crate::writing_events::put_events;
+use crate::writing_standard::put_standard;
+use crate::writing_valence::put_valence;
+use corner_table::Symbol;
+use drc_base::{MAX_ATTRIBUTES, MAX_FACES, MAX_POINTS, Memory};
+use drc_bits::put_var32;
+use eb_trace::Traced;
+use std::alloc::Global;
+
+/// The traversal whose symbols are written by themselves.
+const STANDARD: u8 = 0;
+
+/// The traversal whose symbols are written by the degrees of vertices.
+const VALENCE: u8 = 2;
+
+/// The bytes of the section (Draco Bitstream Specification 2.2, section "Edgebreaker Connectivity") of a
+/// trace of so many faces, with the seam bits of each attribute data: symbols standard, or by valence.
+/// Wherever these bytes stand and whatever follows them, they are read with just their length, as the surface
+/// that reverse decoding builds of the trace, with a block of seam bits for each list. Refused for want of
+/// memory alone.
+pub fn write_connectivity(
+    alloc: Global,
+    t: &Traced,
+    faces: u32,
+    valence: bool,
+    seams: &[Vec<bool>],
+) -> Result<Vec<u8>, Memory>
+    requires writable { IsWritable faces t.now.vertices t.now.symbols t.now.events t.now.starts }
+    requires faces { faces ≤ MAX_FACES }
+    requires vertices { t.now.vertices ≤ MAX_POINTS }
+    requires few { length seams.now ≤ MAX_ATTRIBUTES }
+    requires short { All (λ v. length v.items < 2 ^ 31) seams.now }
+    ensures bytes { IfOk result (λ v. v.items ≡ connectivity_bytes valence faces t.now (map (λ s. s.items) seams.now)) }
+    ensures again { IfOk result (λ v. IsReadAgain valence faces t.now (map (λ s. s.items) seams.now) v.items) }
+{
+    let out = written(alloc, t, faces, valence, seams)?;
+    Ok(out)
+}
+
+/// The bytes of the section, each block of which is read by itself as what it is written for.
+#[tactic(auto, unfolding(crate::specs::Written::connectivity_bytes))]
+fn written(
+    alloc: Global,
+    t: &Traced,
+    faces: u32,
+    valence: bool,
+    seams: &[Vec<bool>],
+) -> Result<Vec<u8>, Memory>
+    requires writable { IsWritable faces t.now.vertices t.now.symbols t.now.events t.now.starts }
+    requires faces { faces ≤ MAX_FACES }
+    requires few { length seams.now ≤ MAX_ATTRIBUTES }
+    requires short { All (λ v. length v.items < 2 ^ 31) seams.now }
+    ensures bytes { IfOk result (λ v. v.items ≡ connectivity_bytes valence faces t.now (map (λ s. s.items) seams.now)) }
+    ensures coded { OnOk result (AreCoded valence t.now (map (λ s. s.items) seams.now)) }
+{
+    let mut out = Vec::new(alloc);
+    put_opening(&mut out, opening_for(t, faces, valence, seams.len()))?;
+    put_events(alloc, &mut out, t.events.as_slice())?;
+    put_coded(alloc, &mut out, t, valence, seams)?;
+    Ok(out)
+}
+
+/// Appends what lies behind the events.
+fn put_coded(
+    alloc: Global,
+    out: &mut Vec<u8>,
+    t: &Traced,
+    valence: bool,
+    seams: &[Vec<bool>],
+) -> Result<(), Memory>
+    requires few { length t.now.symbols ≤ MAX_FACES }
+    requires events { All (IsEventOf (length t.now.symbols)) t.now.events }
+    requires takes { Takes (length t.now.symbols) (reverse t.now.symbols) (start (reverse t.now.events)) }
+    requires starts { length t.now.starts < 2 ^ 31 }
+    requires short { All (λ v. length v.items < 2 ^ 31) seams.now }
+    ensures bytes { OnOk result (out.new.items ≡ out.old.items ++ coded_bytes valence t.now (map (λ s. s.items) seams.now)) }
+    ensures coded { OnOk result (AreCoded valence t.now (map (λ s. s.items) seams.now)) }
+{
+    if valence {
+        put_valence(alloc, out, t, seams)
+    } else {
+        put_standard(alloc, out, t, seams)
+    }
+}
+
+/// Whether a symbol is a split.
+fn is_split(symbol: Symbol) -> bool
+    ensures { result ≡ is_split_symbol symbol }
+{
+    match symbol {
+        Symbol::S => true,
+        Symbol::C | Symbol::L | Symbol::R | Symbol::E => false,
+    }
+}
+
+/// What the front declares of a trace.
+fn opening_for(t: &Traced, faces: u32, valence: bool, attr_data: usize) -> Opening
+    requires symbols { length t.now.symbols ≤ MAX_FACES }
+    requires few { attr_data ≤ MAX_ATTRIBUTES }
+    ensures { result ≡ opening_of valence faces attr_data t.now }
+{
+    let symbols = t.symbols.as_slice();
+    let splits = symbols.iter().filter(|symbol| is_split(**symbol)).count();
+    Opening {
+        valence,
+        vertices: t.vertices,
+        faces,
+        attr_data: attr_data as u8,
+        symbols: symbols.len() as u32,
+        splits: splits as u32,
+    }
+}
+
+/// Appends the front.
+#[tactic(auto, unfolding(crate::specs::Written::opening_bytes))]
+fn put_opening(out: &mut Vec<u8>, o: Opening) -> Result<(), Memory>
+    ensures { OnOk result (out.new.items ≡ out.old.items ++ opening_bytes o) }
+{
+    out.push(if o.valence { VALENCE } else { STANDARD })?;
+    out.extend_from_slice(&put_var32(o.vertices))?;
+    out.extend_from_slice(&put_var32(o.faces))?;
+    out.push(o.attr_data)?;
+    out.extend_from_slice(&put_var32(o.symbols))?;
+    out.extend_from_slice(&put_var32(o.splits))?;
+    Ok(())
+}
