@@ -15,7 +15,8 @@ use Rattle.corner_table.specs.declared.symbols.Event.{Event}
 use Rattle.eb_rebuild.specs.Rebuilding.{IsEventOf}
 use Rattle.eb_trace.specs.Writable.{RiseFrom}
 use Rattle.eb_section.specs.declared.opening.Opening.{Opening}
-use Rattle.eb_section.specs.Events.{EventNumbers, no_numbers, numbers_at, events_of, event_count_at, events_at}
+use Rattle.eb_section.specs.declared.events.EventNumbers.{EventNumbers}
+use Rattle.eb_section.specs.Events.{no_numbers, numbers_at, events_of, event_count_at, events_at}
 use Rattle.eb_section.specs.Written.{numbers_bytes, side_bit, events_bytes}
 
 -- the numbers of an event
