@@ -1,5 +1,5 @@
 -- A trace is as a writer needs it.
-use Rattle.std.proofs.Common.{◌≡◌, ℕ, zero, suc, ◌+◌, ◌<◌, ◌≤◌, Bool, true, false, is_none, cond, List, [], ◌∷◌, length, reverse, get_or, All, AllPairs, inl, inr, refl, sym, ap, ◌∙◌, subst, arith, Result, Ok, count_by}
+use Rattle.std.proofs.Common.{◌≡◌, ℕ, zero, suc, ◌+◌, ◌<◌, ◌≤◌, Bool, false, is_none, List, [], ◌∷◌, length, reverse, get_or, All, inl, inr, sym, ap, ◌∙◌, arith, Result, Ok, count_by}
 use Rattle.std.proofs.lemmas.Bool.{cases_Bool, cond-true, cond-false}
 use Rattle.std.proofs.lemmas.List.{length-map}
 use Rattle.std.specs.Prelude.{is_some}
@@ -8,7 +8,7 @@ use Rattle.corner_table.specs.declared.symbols.Symbol.{Symbol}
 use Rattle.corner_table.specs.declared.symbols.Event.{Event}
 use Rattle.corner_table.specs.Sides.{Side, first, side, Gluing}
 use Rattle.corner_table.specs.Prefixes.{prefix}
-use Rattle.eb_rebuild.specs.Machine.{State, Plan, start, take_symbols, rebuild}
+use Rattle.eb_rebuild.specs.Machine.{State}
 use Rattle.eb_rebuild.specs.Rebuilding.{IsEventOf}
 use Rattle.eb_rebuild.specs.Shown.{is_split}
 use Rattle.eb_rebuild.proofs.Closes.{run_closes_all}

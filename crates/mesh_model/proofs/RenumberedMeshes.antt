@@ -1,9 +1,8 @@
 -- A mesh whose faces are put in another order and turned.
-use Rattle.std.proofs.Common.{◌≡◌, ◌⊎◌, ℕ, zero, suc, ◌+◌, ◌%◌, ◌<◌, ◌≤◌, List, [], ◌∷◌, length, get_or, map, ℤ, refl, sym, ap, ◌∙◌, subst, inl, inr, arith}
-use Rattle.std.specs.List.{All}
+use Rattle.std.proofs.Common.{◌≡◌, ◌⊎◌, ℕ, zero, suc, ◌+◌, ◌%◌, ◌<◌, List, [], length, get_or, refl, sym, ap, ◌∙◌, subst, inl, inr, arith}
 use Rattle.std.proofs.lemmas.List.{length-map, get_or-map}
 use Rattle.std.proofs.lemmas.List.Elements.{All-from_get_or}
-use Rattle.mesh_model.specs.Parts.{MeshParts, IsMesh, IsFaceOf, corner}
+use Rattle.mesh_model.specs.Parts.{MeshParts, IsMesh, IsFaceOf}
 use Rattle.mesh_model.specs.Renumbering.{NamesApart, turned_face, renumbered}
 use Rattle.mesh_model.specs.Same.{Rows, named, turn, SameMesh}
 use Rattle.mesh_model.proofs.Pigeonholes.{names-once}

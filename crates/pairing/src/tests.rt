@@ -75,11 +75,7 @@ fn vertices_of(alloc: Global, table: &SideTable) -> Result<u32, Memory> {
 }
 
 /// How many vertices a table has.
-fn vertices_by<L: Ledger>(
-    alloc: Global,
-    table: &SideTable,
-    blank: Blank,
-) -> Result<u32, Memory>
+fn vertices_by<L: Ledger>(alloc: Global, table: &SideTable, blank: Blank) -> Result<u32, Memory>
     requires name { blank.name ≡ L.name }
     requires parts { blank.parts ≡ L.parts }
     requires some { 0 < L.parts }

@@ -1,7 +1,6 @@
 -- Lines that are read from the rest of a text, number by number.
-use Rattle.std.proofs.Common.{◌≡◌, ℕ, ◌+◌, ◌-◌, ◌<◌, ◌≤◌, true, List, [], ◌∷◌, ◌++◌, length, take, drop, get_or, Some, Ok, refl, sym, ap, subst, ◌∙◌, append_assoc, inl, inr, arith}
+use Rattle.std.proofs.Common.{◌≡◌, ℕ, ◌+◌, ◌-◌, ◌<◌, ◌≤◌, true, List, [], ◌∷◌, ◌++◌, length, take, drop, get_or, Some, refl, sym, ap, subst, ◌∙◌, append_assoc, inl, inr, arith}
 use Rattle.std.specs.Prelude.{ℤ, pos}
-use Rattle.std.specs.Str.Lines.{lines}
 use Rattle.std.proofs.lemmas.Bool.{cases_lt, lt-ltb}
 use Rattle.std.proofs.lemmas.List.{get_or_append_left, get_or_push, length_push, get_or-take, length-take, take_at}
 use Rattle.ply_text.specs.Tokens.{is_blank, tokens_of}
@@ -10,7 +9,7 @@ use Rattle.ply_text.specs.InPlace.{IsNumberAt}
 use Rattle.ply_text.proofs.Cutting.{IsPlain, none_plain, cuts_plain}
 use Rattle.ply_text.proofs.InPlace.{between}
 use Rattle.ply_text.proofs.Splitting.{skips_blank, no_token}
-use Rattle.ply_mesh.specs.Body.{IsRange, numbers_of, points_of, face_of, AppendsSome}
+use Rattle.ply_mesh.specs.Body.{IsRange, numbers_of, points_of}
 use Rattle.ply_mesh.specs.Ahead.{AreRanges, IsFirstLine, IsRowAhead, IsFaceAhead}
 use Rattle.ply_mesh.proofs.FaceSteps.{face_whole}
 use Rattle.ply_mesh.proofs.RowSteps.{IsRowSoFar, row_begun, row_more, row_done, row_undone}

@@ -4,7 +4,7 @@ use Rattle.std.specs.Prelude.{codes, ℤ}
 use Rattle.std.specs.Fmt.{decimal, signed_decimal}
 use Rattle.std.proofs.lemmas.List.{at_drop_more, at_drop_all, append-nil, drop_more, drop_all, length-drop}
 use Rattle.std.proofs.lemmas.List.Concat.{flat_map-append}
-use Rattle.ply_mesh.specs.Text.{rest_text, line_text, text_of, element_line, point_lines, face_line, face_lines}
+use Rattle.ply_mesh.specs.Text.{line_text, text_of, element_line, point_lines, face_line, face_lines}
 
 -- the line of numbers begins with the first and a space, where more follow
 line_cons : (v : ℤ) (vs : List ℤ) → 0 < length vs → line_text (map signed_decimal (v ∷ vs)) ≡ (signed_decimal v ++ 32 ∷ []) ++ line_text (map signed_decimal vs)

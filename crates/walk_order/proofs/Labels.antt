@@ -1,19 +1,19 @@
 -- A surface has one labelling of its fans, by their least corners.
-use Rattle.std.proofs.Common.{◌≡◌, ◌≢◌, ℕ, zero, suc, ◌*◌, ◌<◌, ◌≤◌, ◌⊎◌, Bool, true, false, not, ◌&&◌, ◌||◌, nat_lt, is_none, List, length, map, filter, get_or, All, AllPairs, Some, None, inl, inr, sym, refl, ap, ◌∙◌, subst, arith, lt-ltb, IsTrue, Option, cond, [], ◌∷◌}
-use Rattle.std.specs.List.{list_any, position_or_len}
+use Rattle.std.proofs.Common.{◌≡◌, ℕ, zero, suc, ◌*◌, ◌<◌, ◌≤◌, Bool, true, false, not, ◌&&◌, ◌||◌, nat_lt, is_none, List, length, filter, get_or, AllPairs, Some, None, inl, inr, sym, refl, ap, ◌∙◌, subst, arith, lt-ltb, IsTrue, Option, cond, [], ◌∷◌}
+use Rattle.std.specs.List.{list_any}
 use Rattle.std.proofs.lemmas.Bool.{cases_Bool, cases_eq, cases_lt, and_parts, and_from, ltb-true, or_cases, or_left, or_right}
-use Rattle.std.proofs.lemmas.List.{length-map, get_or-map, ext_get_or, get_or_default}
+use Rattle.std.proofs.lemmas.List.{length-map, get_or-map, ext_get_or}
 use Rattle.std.proofs.lemmas.List.Elements.{filter_passes, All-filter, All-get_or, All-from_get_or}
 use Rattle.std.proofs.lemmas.List.Kept.{AllPairs-filter}
 use Rattle.std.proofs.lemmas.List.Folds.{list_any_at}
-use Rattle.std.proofs.lemmas.List.Sums.{position_or_len_is, fails_before_first, passes_at_first}
+use Rattle.std.proofs.lemmas.List.Sums.{position_or_len_is}
 use Rattle.corner_table.specs.Sides.{Side, number, next, prev, side_at, Gluing, IsGluing}
 use Rattle.corner_table.specs.Fans.{InFan, here, leftwards, rightwards, MeetsBoundary, meets, corners_of}
 use Rattle.corner_table.specs.Labels.{IsLabelled, label_at}
 use Rattle.corner_table.specs.Table.{free_entry}
 use Rattle.corner_table.proofs.FanLaws.{fans_are_classes}
 use Rattle.corner_table.proofs.Meeting.{fan_meets, meets-fan}
-use Rattle.corner_table.proofs.Numbers.{number-side_at, side_at-number, number-lt, face-lt, number_injective}
+use Rattle.corner_table.proofs.Numbers.{number-side_at, side_at-number, number-lt, face-lt}
 use Rattle.corner_table.proofs.PairLaws.{length-corners_of, corner_at}
 use Rattle.corner_table.proofs.Walks.{left-within, right-within}
 use Rattle.walk_order.specs.OfSurface.{is_least, least_corners, fan_label, fan_labels, fans_of, meets_boundary, fan_ends, LabelsAreOne, SurfaceIsLabelled}
@@ -212,26 +212,27 @@ module _ (faces : ℕ) (g : Gluing) (G : IsGluing faces g) where
     bounded = λ c h. (let e = label_here c h in let b = (labelled c h).0 in omega arith);
     used = λ k h. (nth k, least_within k h, label_here (nth k) (least_within k h) ∙ label_of_nth k h);
     in_order = λ c h k l. (
-      let e = label_here c h in
-      let b = labelled c h in
-      let m : k < fan_label faces g c = omega arith in
-      let n : k < length leasts = (let x = b.0 in omega arith) in
-      let r = leasts_rise k (fan_label faces g c) m b.0 in
-      let f = least_first c (fan_label faces g c) h b.0 b.1 in
-      (nth k, omega arith, label_here (nth k) (least_within k n) ∙ label_of_nth k n));
+        let e = label_here c h in
+        let b = labelled c h in
+        let m : k < fan_label faces g c = omega arith in
+        let n : k < length leasts = (let x = b.0 in omega arith) in
+        let r = leasts_rise k (fan_label faces g c) m b.0 in
+        let f = least_first c (fan_label faces g c) h b.0 b.1 in
+        (nth k, omega arith, label_here (nth k) (least_within k n) ∙ label_of_nth k n));
     one_label = λ c d hc hd p. (let b = labelled d hd in label_here c hc ∙ label_is c (fan_label faces g d) hc b.0 (on c d _ p b.1) ∙ sym (label_here d hd));
     one_fan = λ c d hc hd e. (
-      let b = labelled c hc in
-      let q = labelled d hd in
-      let s : fan_label faces g c ≡ fan_label faces g d = sym (label_here c hc) ∙ e ∙ label_here d hd in
-      on c _ d b.1 (subst (λ (k : ℕ). InFan g (nth k) d) (sym s) (back d _ q.1)));
+        let b = labelled c hc in
+        let q = labelled d hd in
+        let s : fan_label faces g c ≡ fan_label faces g d = sym (label_here c hc) ∙ e ∙ label_here d hd in
+        on c _ d b.1 (subst (λ (k : ℕ). InFan g (nth k) d) (sym s) (back d _ q.1)));
     each_label = length-map leasts (meets_boundary faces g);
     boundary = λ c h. (
-      let b = labelled c h in
-      let is = ap (λ (k : ℕ). get_or (fan_ends faces g) k false) (label_here c h) ∙ end_here (fan_label faces g c) b.0 in
-      let w = least_within (fan_label faces g c) b.0 in
-      (λ t. boundary_moves c _ b.1 (boundary_told _ (sym is ∙ t)),
-      λ m. is ∙ boundary_tells _ w (boundary_moves _ c (back c _ b.1) m)));
+        let b = labelled c h in
+        let is = ap (λ (k : ℕ). get_or (fan_ends faces g) k false) (label_here c h) ∙ end_here (fan_label faces g c) b.0 in
+        let w = least_within (fan_label faces g c) b.0 in (
+          λ t. boundary_moves c _ b.1 (boundary_told _ (sym is ∙ t)),
+          λ m. is ∙ boundary_tells _ w (boundary_moves _ c (back c _ b.1) m),
+        ));
   }
 
 pub surface_is_labelled : SurfaceIsLabelled
@@ -280,9 +281,9 @@ module _ {faces : ℕ} {g : Gluing} (G : IsGluing faces g) {labels others : List
 
   same_labels : labels ≡ others
   same_labels = ext_get_or free_entry labels others (L.each_corner ∙ sym M.each_corner) (λ i l. (
-    let n : i < 3 * faces = (let e = L.each_corner in omega arith) in
-    let s = number-side_at i in
-    ap (λ (k : ℕ). get_or labels k free_entry) (sym s) ∙ same_label (suc (number (side_at i))) (side_at i) (omega arith) (face-lt i faces n) ∙ ap (λ (k : ℕ). get_or others k free_entry) s))
+      let n : i < 3 * faces = (let e = L.each_corner in omega arith) in
+      let s = number-side_at i in
+      ap (λ (k : ℕ). get_or labels k free_entry) (sym s) ∙ same_label (suc (number (side_at i))) (side_at i) (omega arith) (face-lt i faces n) ∙ ap (λ (k : ℕ). get_or others k free_entry) s))
 
   no_more : count ≤ number_of_others
   no_more = elim (cases_lt number_of_others count) [

@@ -1,11 +1,10 @@
 -- The orders of a surface are told by the surface alone.
-use Rattle.std.proofs.Common.{◌≡◌, ℕ, ◌*◌, ◌<◌, ◌≤◌, Bool, true, false, List, length, map, get_or, All, inl, inr, sym, ap, ◌∙◌, subst, arith}
+use Rattle.std.proofs.Common.{◌≡◌, ℕ, ◌*◌, ◌<◌, Bool, List, length, map, get_or, inl, inr, sym, ap, ◌∙◌, arith}
 use Rattle.std.specs.List.{position_or_len}
 use Rattle.std.proofs.lemmas.Bool.{cases_Bool}
 use Rattle.std.proofs.lemmas.List.{length-map, get_or-map, ext_get_or}
 use Rattle.std.proofs.lemmas.List.Elements.{All-get_or, All-map}
 use Rattle.std.proofs.lemmas.List.Sums.{position_or_len_is}
-use Rattle.drc_base.specs.declared.sides.Side.{Side as NumberedSide}
 use Rattle.corner_table.specs.declared.corner_lists.Order.{Order}
 use Rattle.corner_table.specs.Sides.{Side, number, side_at, Gluing, IsGluing}
 use Rattle.corner_table.specs.Fans.{InFan, meets, corners_of}
@@ -69,9 +68,9 @@ module _ {faces : ℕ} {g : Gluing} (G : IsGluing faces g) {labels : List ℕ} {
       let f : Side → ℕ = λ c. position_or_len (meets faces g c) (corners_in o) in
       let long : length (map f (corners_of faces)) ≡ 3 * faces = length-map (corners_of faces) f ∙ length-corners_of faces in
       ext_get_or free_entry o.entry_of_corner (map f (corners_of faces)) (O.over.each_corner ∙ sym long) (λ i l. (
-        let n : i < 3 * faces = (let e = O.over.each_corner in omega arith) in
-        let m : i < length (corners_of faces) = (let e = length-corners_of faces in omega arith) in
-        sym (get_or-map f (corners_of faces) i (side_at 0) free_entry m ∙ ap f (corner_at faces i (side_at 0) n) ∙ entry_is i n)))
+      let n : i < 3 * faces = (let e = O.over.each_corner in omega arith) in
+      let m : i < length (corners_of faces) = (let e = length-corners_of faces in omega arith) in
+      sym (get_or-map f (corners_of faces) i (side_at 0) free_entry m ∙ ap f (corner_at faces i (side_at 0) n) ∙ entry_is i n)))
 
 pub entries_are_of_surface : EntriesAreOfSurface
 entries_are_of_surface faces g labels count ends o G L O = all_entries G L o O

@@ -1,4 +1,4 @@
-use Rattle.std.proofs.Common.{◌≡◌, ◌+◌, ◌-◌, ◌++◌, ◌∷◌, [], length, map, get_or, take, drop, pos, sym, subst, rules, arith}
+use Rattle.std.proofs.Common.{◌≡◌, ◌-◌, ◌++◌, ◌∷◌, [], length, map, get_or, take, drop, pos, subst, rules, arith}
 use Rattle.std.specs.Fmt.{signed_decimal}
 use Rattle.ply_mesh.specs.Text.{line_text}
 use Rattle.ply_mesh.proofs.RowTexts.{row_more, row_end}
