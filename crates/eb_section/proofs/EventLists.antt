@@ -1,13 +1,12 @@
 -- Events from their numbers and the bits of their sides.
-use Rattle.std.proofs.Common.{◌≡◌, ℕ, zero, suc, ◌+◌, ◌-◌, ◌*◌, ◌<◌, ◌≤◌, Bool, ◌==◌, List, [], ◌∷◌, ◌++◌, length, take, drop, get_or, All, sym, refl, ap, subst, ◌∙◌, arith, append_assoc, append-nil, add-one, drop-cons}
+use Rattle.std.proofs.Common.{◌≡◌, ℕ, suc, ◌+◌, ◌<◌, ◌≤◌, Bool, ◌==◌, List, [], ◌∷◌, ◌++◌, length, take, drop, get_or, All, sym, refl, ap, ◌∙◌, arith, append_assoc, append-nil, add-one, drop-cons}
 use Rattle.std.proofs.Math.ListN.{drop_of_length-le}
 use Rattle.std.proofs.lemmas.List.Elements.{All-nil, All-cons}
-use Rattle.drc_bits.specs.Bits.{BitPlace, bits_left, bits_of, number_of}
+use Rattle.drc_bits.specs.Bits.{BitPlace, bits_left, number_of}
 use Rattle.symbol_coding.proofs.Values.{IsTaken, left-taken}
 use Rattle.corner_table.specs.declared.symbols.Event.{Event}
 use Rattle.eb_rebuild.specs.Rebuilding.{IsEventOf}
-use Rattle.eb_section.specs.declared.events.EventNumbers.{EventNumbers}
-use Rattle.eb_section.specs.Events.{events_of, no_numbers, IsSideBefore, AreNumbersOf}
+use Rattle.eb_section.specs.Events.{EventNumbers, events_of, IsSideBefore, AreNumbersOf}
 
 -- ---- the bit of a side
 

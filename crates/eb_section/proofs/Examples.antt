@@ -1,5 +1,5 @@
 -- The section of worked surfaces, computed by its definition.
-use Rattle.std.specs.Prelude.{◌≡◌, ℕ, ◌+◌, ◌*◌, true, false, List, [], ◌∷◌, map, Option, Some, None, Ok, Err, refl}
+use Rattle.std.specs.Prelude.{◌≡◌, ℕ, ◌+◌, ◌*◌, List, [], ◌∷◌, map, Some, None, Ok, Err, refl}
 use Rattle.drc_base.specs.declared.kinds.Kind.TheVariants as kind
 use Rattle.drc_base.specs.Profile.{profile_two}
 use Rattle.drc_bits.specs.Reading.{Item, start_of, many_at, chain_at}

@@ -1,5 +1,5 @@
 -- A rebuilding symbol after symbol and side after side, and as a whole.
-use Rattle.std.proofs.Common.{◌≡◌, ℕ, zero, suc, ◌+◌, ◌-◌, ◌*◌, ◌<◌, ◌≤◌, Bool, true, false, not, ◌==◌, nat_le, is_none, IfOk, Option, Some, None, List, [], ◌∷◌, length, Result, Ok, Err, sym, refl, ap, subst, ◌∙◌, arith, ne_eqb, eqb-true}
+use Rattle.std.proofs.Common.{◌≡◌, ℕ, zero, suc, ◌+◌, ◌-◌, ◌*◌, ◌<◌, ◌≤◌, Bool, true, false, not, ◌==◌, nat_le, is_none, IfOk, Some, None, List, [], ◌∷◌, length, Result, Ok, Err, sym, refl, ap, subst, ◌∙◌, arith, ne_eqb, eqb-true}
 use Rattle.std.proofs.lemmas.Bool.{cond-false, eqb-false}
 use Rattle.drc_bits.proofs.Results.{Ok-injective, err≢ok}
 use Rattle.drc_base.specs.declared.kinds.Kind.{Kind}
@@ -14,7 +14,7 @@ use Rattle.corner_table.specs.declared.symbols.Symbol.{Symbol}
 use Rattle.corner_table.specs.Sides.{Side}
 use Rattle.rans_binary.specs.Blocks.{Block, behind, bit_of, next_bit}
 use Rattle.eb_rebuild.specs.Machine.{Plan, State, step, close, close_all, close_top, finish, must, fault, first_degenerate}
-use Rattle.eb_rebuild.specs.Rebuilding.{BuiltValue, Holds, Moves, Ends}
+use Rattle.eb_rebuild.specs.Rebuilding.{BuiltValue, Moves, Ends}
 use Rattle.eb_rebuild.proofs.Steps.{Next, fill_loop, fill_count, filled_state, loop_test}
 use Rattle.eb_rebuild.proofs.Counts.{If, if_ok, if_then, close_counts}
 use Rattle.eb_section.specs.Opening.{most_calls}

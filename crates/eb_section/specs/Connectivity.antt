@@ -1,7 +1,6 @@
 -- The connectivity of an Edgebreaker mesh (Rossignac 1999; Isenburg and Snoeyink 2001; Draco Bitstream Specification 2.2, section
 -- "Edgebreaker Connectivity"; the limits and what is refused are this project's choice).
-use Rattle.std.specs.Prelude.{ℕ, Bool, false, List, [], ◌∷◌, length, reverse, Ok, nat_le, if◌then◌else◌}
-use Rattle.drc_base.specs.declared.faults.Fault.{Fault}
+use Rattle.std.specs.Prelude.{ℕ, Bool, false, List, length, reverse, Ok, nat_le, if◌then◌else◌}
 use Rattle.drc_base.specs.declared.kinds.Kind.TheVariants as kind
 use Rattle.drc_base.specs.Profile.{Profile}
 use Rattle.drc_base.specs.Steps.{◌>>=◌}

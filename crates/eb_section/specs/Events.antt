@@ -8,7 +8,7 @@ use Rattle.drc_bits.specs.Bits.{bits_at}
 use Rattle.drc_bits.specs.Varint.{var32_at}
 use Rattle.corner_table.specs.declared.symbols.Event.{Event}
 use Rattle.eb_section.specs.declared.opening.Opening.{Opening}
-use Rattle.eb_section.specs.declared.events.EventNumbers.{EventNumbers}
+pub use Rattle.eb_section.specs.declared.events.EventNumbers.{EventNumbers}
 
 -- the numbers from which the first event counts on
 abbrev pub no_numbers : EventNumbers

@@ -1,6 +1,6 @@
 -- How the machine of reverse decoding is fed: each symbol is drawn from what is left of a source when the machine is to take it, so that a
 -- fault of the source comes behind those of the symbols before (Draco Bitstream Specification 2.2, section "Edgebreaker Connectivity").
-use Rattle.std.specs.Prelude.{◌≡◌, ℕ, zero, suc, Bool, List, length, Option, Some, None, Result, Ok, Err}
+use Rattle.std.specs.Prelude.{◌≡◌, ℕ, zero, suc, length, Some, None, Result, Ok, Err}
 use Rattle.drc_base.specs.declared.faults.Fault.{Fault}
 use Rattle.drc_base.specs.declared.faults.Refusal.{Refusal}
 use Rattle.drc_base.specs.Refusals.{Refuses}

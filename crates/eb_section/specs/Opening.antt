@@ -1,6 +1,6 @@
 -- The numbers at the front of Edgebreaker connectivity (Draco Bitstream Specification 2.2, section "Edgebreaker Connectivity"; the limits
 -- and what is refused are this project's choice).
-use Rattle.std.specs.Prelude.{ℕ, ◌+◌, ◌*◌, ◌==◌, ◌||◌, Bool, true, Ok, Err, nat_le, cond}
+use Rattle.std.specs.Prelude.{ℕ, ◌+◌, ◌*◌, ◌==◌, ◌||◌, Ok, Err, nat_le, cond}
 use Rattle.drc_base.specs.declared.kinds.Kind.TheVariants as kind
 use Rattle.drc_base.specs.declared.limits.TheConstants.{MAX_ATTRIBUTES}
 use Rattle.drc_base.specs.Profile.{Profile}

@@ -1,7 +1,7 @@
-use Rattle.std.proofs.Common.{◌≡◌, ◌+◌, ◌∙◌, ℕ, sym, ap, refl, rules, arith, length}
-use Rattle.drc_bits.specs.Bits.{bits_left, bits_of}
+use Rattle.std.proofs.Common.{◌∙◌, sym, refl, rules, arith}
+use Rattle.drc_bits.specs.Bits.{bits_of}
 use Rattle.drc_bits.proofs.BitLists.{length-bits_of}
-use Rattle.eb_section.specs.Events.{no_numbers, events_of}
+use Rattle.eb_section.specs.Events.{no_numbers}
 use Rattle.eb_section.proofs.EventLists.{event_next, events_end, events_within, side_behind}
 use Rattle.eb_section.proofs.events.with_sides.Goals as goal
 

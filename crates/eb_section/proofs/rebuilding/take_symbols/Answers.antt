@@ -1,10 +1,8 @@
 -- Each symbol is drawn and taken; the first fault is that of the whole.
-use Rattle.std.proofs.Common.{◌≡◌, ◌+◌, ◌*◌, ◌≤◌, ◌∙◌, ℕ, Bool, IsTrue, Err, ap, sym, subst, arith}
+use Rattle.std.proofs.Common.{◌≡◌, ◌∙◌, Bool, IsTrue, ap, sym, subst, arith}
 use Rattle.std.proofs.lemmas.Result.{err_from_is_err_and}
-use Rattle.drc_base.specs.Refusals.{Refuses}
 use Rattle.eb_rebuild.specs.Machine.{State, Plan, step}
 use Rattle.eb_rebuild.proofs.Counts.{step_counts}
-use Rattle.eb_section.specs.Feeding.{fed}
 use Rattle.eb_section.proofs.Runs.{fed-next, fed-missing, fed-refused, fed-end, moves-err}
 use Rattle.eb_section.proofs.rebuilding.take_symbols.Goals as goal
 
