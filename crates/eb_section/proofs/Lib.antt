@@ -7,3 +7,4 @@ pub mod WrittenEvents
 pub mod WrittenBlocks
 pub mod WrittenLoops
 pub mod WrittenSection
+mod WrittenExamples
