@@ -28,7 +28,7 @@ fn read_flag_count(c: &mut Cursor<'_>, corners: usize) -> Result<u32, Fault>
 
 /// The first `count` bits of a block.
 fn bits_of(alloc: Global, block: BitBlock<'_>, count: u32) -> Result<Vec<bool>, Memory>
-    ensures { IfOk result (λ v. v.items ≡ first_bits count block) }
+    ensures { IfOk result (λ v. v.items ≡ first_bits count block.entry) }
 {
     let mut block = block;
     let mut bits = Vec::with_capacity(alloc, count as usize)?;
@@ -63,7 +63,7 @@ fn read_flags(alloc: Global, c: &mut Cursor<'_>, corners: usize) -> Result<Seque
 
 /// The four lists of flags over the surface of a walk. `FlagCount` at the number of a list that has more
 /// than three for each face, and the faults of their blocks.
-#[tactic(auto, unfolding(crate::specs::Values::flag_lists_at))]
+#[tactic(auto, unfolding(crate::specs::Values::flag_lists_at, drc_bits::specs::Reading::many_at))]
 pub fn read_flag_lists(
     alloc: Global,
     c: &mut Cursor<'_>,
