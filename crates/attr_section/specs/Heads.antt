@@ -1,6 +1,6 @@
 -- The heads of attribute decoders (Draco Bitstream Specification 2.2, sections "Attributes Decoder" and "Sequential
 -- Attributes"; the limits and what is refused are this project's choice).
-use Rattle.std.specs.Prelude.{◌≡◌, ◌≤◌, ◌<◌, ℕ, ◌+◌, ◌==◌, ◌&&◌, ◌||◌, Bool, false, not, IsTrue, List, [], ◌∷◌, ◌++◌, length, map}
+use Rattle.std.specs.Prelude.{◌≡◌, ◌≤◌, ◌<◌, ℕ, ◌+◌, ◌==◌, ◌&&◌, ◌||◌, Bool, true, false, not, IsTrue, List, [], ◌∷◌, ◌++◌, length, map}
 use Rattle.std.specs.Prelude.{replicate, Option, None, Some, Ok, sum_by, nat_le, nat_lt, if◌then◌else◌, All, flat_map}
 use Rattle.std.specs.List.{list_any, range_with_len}
 use Rattle.drc_base.specs.declared.kinds.Kind.TheVariants as kind

@@ -3,7 +3,7 @@
 -- refused are this project's choice). The values of a stream's decoder stand on the surface of its walk, where there is one:
 -- there is none in a sequential stream.
 use Rattle.std.specs.Prelude.{◌≡◌, ℕ, suc, ◌+◌, ◌-◌, ◌*◌, ◌/◌, ◌%◌, ◌^◌, ◌==◌, ◌&&◌, ◌||◌, Bool, ℤ, pos, negsuc, ◌-ℤ◌, List, [], ◌∷◌}
-use Rattle.std.specs.Prelude.{length, get_or, map, Option, None, Some, Ok, sum_by, nat_le, int_le, int_lt, if◌then◌else◌}
+use Rattle.std.specs.Prelude.{length, get_or, map, Option, None, Some, Ok, Err, sum_by, nat_le, int_le, int_lt, if◌then◌else◌}
 use Rattle.std.specs.List.{list_all}
 use Rattle.drc_base.specs.declared.kinds.Kind.TheVariants as kind
 use Rattle.drc_base.specs.Profile.{Profile}
@@ -145,38 +145,39 @@ flag_lists_at w c = many_at (flags_at (length w.entries)) 4 c
 abbrev pub has_flags : Walked → List (List Bool) → Bool
 has_flags w lists = list_all (λ k. nat_le (wanted w (suc k) (length w.corners)) (length (get_or lists k []))) (0 ∷ 1 ∷ 2 ∷ 3 ∷ [])
 
--- the values of corrections and flags; where a flag is wanted that isn't there, they are refused where the prediction began
-abbrev pub with_flags : Reading → Walked → ℕ → List (List Bool) → Range → List ℤ → Reading → Item (List ℤ)
-with_flags begin w comps lists range corrections after =
-    if has_flags w lists then Ok (restored (multi w comps lists) range corrections, after) else fault_at kind.FlagsShort begin
+-- the values of corrections and flags; where a flag is wanted that isn't there, they are refused at this place
+abbrev pub with_flags : ℕ → Walked → ℕ → List (List Bool) → Range → List ℤ → Reading → Item (List ℤ)
+with_flags at w comps lists range corrections after =
+    if has_flags w lists then Ok (restored (multi w comps lists) range corrections, after)
+    else Err (record { kind = kind.FlagsShort; at = at })
 
--- n values that are restored from corrections by the means of parallelograms over a surface, which flags choose; their prediction began
--- at this reading
-unfoldable pub means_at : Reading → Walked → ℕ → ℕ → Reading → Item (List ℤ)
-means_at begin w comps n c = do
+-- n values that are restored from corrections by the means of parallelograms over a surface, which flags choose; the byte of their
+-- prediction stands at this place
+unfoldable pub means_at : ℕ → Walked → ℕ → ℕ → Reading → Item (List ℤ)
+means_at at w comps n c = do
   transform ← transform_at c
   corrections ← integers_at comps n transform.1
   lists ← flag_lists_at w corrections.1
   range ← range_at lists.1
-  with_flags begin w comps lists.0 range.0 corrections.0 range.1
+  with_flags at w comps lists.0 range.0 corrections.0 range.1
 
--- values over the surface of a walk; without one their prediction is refused where it began
-abbrev pub over_surface : Reading → Option Walked → (Walked → Reading → Item (List ℤ)) → Reading → Item (List ℤ)
-over_surface begin None values c = fault_at kind.Prediction begin
-over_surface begin (Some w) values c = values w c
+-- values over the surface of a walk; where there is none their prediction is refused at this place
+abbrev pub over_surface : ℕ → Option Walked → (Walked → Reading → Item (List ℤ)) → Reading → Item (List ℤ)
+over_surface at None values c = Err (record { kind = kind.Prediction; at = at })
+over_surface at (Some w) values c = values w c
 
--- n values of this prediction, which began at this reading
-abbrev pub predicted_at : Reading → Option Walked → Prediction → ℕ → ℕ → Reading → Item (List ℤ)
-predicted_at begin w prediction.Off comps n c = integers_at comps n c
-predicted_at begin w prediction.Difference comps n c = differences_at comps n c
-predicted_at begin w prediction.Parallelogram comps n c = over_surface begin w (λ s. parallelograms_at s comps n) c
-predicted_at begin w prediction.Multi comps n c = over_surface begin w (λ s. means_at begin s comps n) c
+-- n values of this prediction, whose byte stands at this place
+abbrev pub predicted_at : ℕ → Option Walked → Prediction → ℕ → ℕ → Reading → Item (List ℤ)
+predicted_at at w prediction.Off comps n c = integers_at comps n c
+predicted_at at w prediction.Difference comps n c = differences_at comps n c
+predicted_at at w prediction.Parallelogram comps n c = over_surface at w (λ s. parallelograms_at s comps n) c
+predicted_at at w prediction.Multi comps n c = over_surface at w (λ s. means_at at s comps n) c
 
 -- n values of an attribute, each of which is in its data type
 unfoldable pub typed_values_at : Profile → Option Walked → Head → ℕ → Reading → Item Values
 typed_values_at p w h n c = do
   predict ← prediction_at p c
-  values ← predicted_at c w predict.0 h.comps n predict.1
+  values ← predicted_at c.place w predict.0 h.comps n predict.1
   if list_all (in_type h.dtype) values.0
       then Ok (record { values = values.0; predict = code_of predict.0; at = c.place }, values.1)
       else fault_at kind.ValueRange c

@@ -112,7 +112,7 @@ fn restore_means(
     requires some { 0 < comps }
     requires over { IsOver walk.now.sides.faces (surface walk.now) }
     requires entries { length values.old ≡ length walk.now.order.corner_of_entry * comps }
-    ensures { (begin after : Reading) → begin.place ≡ at → Reads (λ _. values.new) (with_flags begin (surface walk.now) comps flags.now.lists wrap.now values.old after) after result }
+    ensures { (after : Reading) → Reads (λ _. values.new) (with_flags at (surface walk.now) comps flags.now.lists wrap.now values.old after) after result }
 {
     match restore_multi(wrap, comps, &walk.sides, &walk.order, flags, values) {
         Ok(()) => Ok(()),
@@ -136,7 +136,7 @@ fn read_means(
     requires few { n ≤ MAX_VALUES }
     requires over { IsOver walk.now.sides.faces (surface walk.now) }
     requires entries { n ≡ length walk.now.order.corner_of_entry * comps }
-    ensures item { (begin : Reading) → begin.place ≡ at → Gives (λ v. v.items) (means_at begin (surface walk.now) comps n c.old) c.new result }
+    ensures item { Gives (λ v. v.items) (means_at at (surface walk.now) comps n c.old) c.new result }
     ensures len { IfOk result (λ v. length v.items ≡ n) }
 {
     read_transform(c)?;
@@ -161,7 +161,7 @@ pub fn read_predicted(
     requires whole { n % comps ≡ 0 }
     requires few { n ≤ MAX_VALUES }
     requires walk { (entries : ℕ) × (n ≡ entries * comps) × MayBeWalkOf entries (option_map (λ t. t.now) walk) }
-    ensures item { (begin : Reading) → begin.place ≡ at → Gives (λ v. v.items) (predicted_at begin (surface_of (option_map (λ t. t.now) walk.entry)) prediction comps n c.old) c.new result }
+    ensures item { Gives (λ v. v.items) (predicted_at at (surface_of (option_map (λ t. t.now) walk.entry)) prediction comps n c.old) c.new result }
     ensures len { IfOk result (λ v. length v.items ≡ n) }
 {
     match prediction {
