@@ -149,7 +149,7 @@ decoder-passed before link c y is =
     let most = must-passed kind.AttrLimit few (λ c. must kind.NoAttribute some var32_at c) c p.0 p.1 in
     let least = must-passed kind.NoAttribute some var32_at c p.0 most.1 in
     let heads = many-passed HeadPasses head_at head-passed p.0.0 p.0.1 q.0 q.1 in
-    let d : DecoderHead = record { data_id = link.data_id; corner = link.corner; degree = false; heads = q.0.0 } in
+    let d : DecoderHead = record { data_id = link.data_id; corner = link.corner; degree = link.degree; heads = q.0.0 } in
     given (λ (z : DecoderHead × Reading). DecoderRead z.0 × (before + length z.0.heads ≤ MAX_ATTRIBUTES)) (d, r.0.1) y r.2
     (record { some = omega (arith, ltb-true 0 p.0.0 least.0, heads.0); heads = heads.1 }, omega (arith, leb-true (before + p.0.0) MAX_ATTRIBUTES most.0, heads.0))
 

@@ -56,14 +56,14 @@ record AreColumns (n spent : ℕ) (shape : List (ℕ × ℕ)) (values : List Val
 
 columns-from : (n spent : ℕ) (heads : List Head) (s : List (ℕ × ℕ)) (front : List Values) → AreColumns n spent s front
     → (c : Reading) (y : List Values × Reading)
-    → each_at (λ before h. values_at profile_two h n (spent + values_in before)) front heads c ≡ Ok y → AreColumns n spent (s ++ shapes heads) y.0
+    → each_at (λ before h. values_at profile_two None h n (spent + values_in before)) front heads c ≡ Ok y → AreColumns n spent (s ++ shapes heads) y.0
 unfolding each_at
 columns-from n spent [] s front are c y is =
     rw (append-nil s) (subst (λ (z : List Values × Reading). AreColumns n spent s z.0) (Ok-injective is) are)
 columns-from n spent (h ∷ heads) s front are c y is =
-    let next : Values × Reading → Item (List Values) = λ x. each_at (λ before h. values_at profile_two h n (spent + values_in before)) (front ++ x.0 ∷ []) heads x.1 in
-    let p = parts (values_at profile_two h n (spent + values_in front) c) next y is in
-    let here = values-column h n (spent + values_in front) c p.0 p.1 in
+    let next : Values × Reading → Item (List Values) = λ x. each_at (λ before h. values_at profile_two None h n (spent + values_in before)) (front ++ x.0 ∷ []) heads x.1 in
+    let p = parts (values_at profile_two None h n (spent + values_in front) c) next y is in
+    let here = values-column None h n (spent + values_in front) c p.0 p.1 in
     let shape : List (ℕ × ℕ) = (h.comps, h.dtype) ∷ [] in
     let sum = values_in-append front (p.0.0 ∷ []) in
     let one = sum_by-cons (λ (v : Values). length v.values) p.0.0 [] in
@@ -101,8 +101,8 @@ decoders-typed n (d ∷ ds) read before are c y is =
     let spent = values_in before.values in
     let next : (List Values × DecoderHead) × Reading → Item Attributes =
     λ x. decoders_at profile_two n (record { heads = before.heads ++ x.0.1.heads; values = before.values ++ x.0.0 }) ds x.1 in
-    let p = parts (decoder_values_at profile_two d n spent c) next y is in
-    let q = parts (columns_at profile_two d.heads n spent c) _ p.0 p.1 in
+    let p = parts (decoder_values_at profile_two None d n spent c) next y is in
+    let q = parts (columns_at profile_two None d.heads n spent c) _ p.0 p.1 in
     let r = parts (quants_at d.heads q.0.1) _ p.0 q.2 in
     let passes = (All-head DecoderRead d ds read).heads in
     let none : AreColumns n spent [] [] = record { typed = tt; few = omega (arith, are.few) } in

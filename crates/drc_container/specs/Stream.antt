@@ -30,7 +30,7 @@ use Rattle.drc_container.specs.declared.seen.Decoded.{Decoded}
 unfoldable pub decoders_at : Profile → ℕ → Attributes → List DecoderHead → Reading → Item Attributes
 decoders_at p entries before [] c = Ok (before, c)
 decoders_at p entries before (d ∷ decoders) c =
-    decoder_values_at p d entries (values_in before.values) c >>= λ x.
+    decoder_values_at p None d entries (values_in before.values) c >>= λ x.
     decoders_at p entries (record { heads = before.heads ++ x.0.1.heads; values = before.values ++ x.0.0 }) decoders x.1
 
 -- all attributes of a sequential stream: the heads of its decoders, and the values of each decoder in turn
