@@ -18,7 +18,7 @@ use Rattle.eb_valence.specs.Contexts.{symbol_at}
 use Rattle.eb_section.specs.declared.opening.Opening.{Opening}
 use Rattle.eb_section.specs.declared.reading.EbRead.{EbRead}
 use Rattle.eb_section.specs.Opening.{opening_at, plan_of}
-use Rattle.eb_section.specs.Events.{events_at}
+use Rattle.eb_section.specs.Events.{event_count_at, events_at}
 use Rattle.eb_section.specs.Feeding.{Standard, standard, rebuilt}
 
 -- what the section says: how many faces there are and how their sides are glued, in the order of decoding; the blocks of seam bits, one for
@@ -99,6 +99,12 @@ unfoldable pub behind_at : Opening → Reading → Item Connectivity
 behind_at o c = do
   events ← events_at o c
   if o.valence then valence_behind o events.0 events.1 else standard_behind o events.0 events.1
+
+-- the front of the section and the number of its events: what is read before any memory is taken
+unfoldable pub front_at : Profile → Reading → Item ℕ
+front_at p c = do
+  o ← opening_at p c
+  event_count_at o.0.faces o.1
 
 -- the section in a profile
 unfoldable pub connectivity_at : Profile → Reading → Item Connectivity

@@ -1,6 +1,6 @@
 -- Split events (Isenburg and Snoeyink 2001; Draco Bitstream Specification 2.2, section "Edgebreaker Connectivity", topology splits; what is
 -- refused is this project's choice).
-use Rattle.std.specs.Prelude.{ℕ, ◌+◌, ◌-◌, ◌==◌, List, [], ◌∷◌, Ok, nat_le, nat_lt}
+use Rattle.std.specs.Prelude.{◌≡◌, ℕ, ◌+◌, ◌-◌, ◌<◌, ◌≤◌, ◌==◌, Bool, List, [], ◌∷◌, Ok, nat_le, nat_lt}
 use Rattle.drc_base.specs.declared.kinds.Kind.TheVariants as kind
 use Rattle.drc_base.specs.Steps.{◌>>=◌}
 use Rattle.drc_bits.specs.Reading.{Reading, Item, must, chain_at}
@@ -8,11 +8,7 @@ use Rattle.drc_bits.specs.Bits.{bits_at}
 use Rattle.drc_bits.specs.Varint.{var32_at}
 use Rattle.corner_table.specs.declared.symbols.Event.{Event}
 use Rattle.eb_section.specs.declared.opening.Opening.{Opening}
-
--- the numbers of an event: of the symbol that met the split, and of the split; symbols are counted in the order of the encoder
-pub record EventNumbers : Type 0 where
-  pub source : ℕ
-  pub split : ℕ
+use Rattle.eb_section.specs.declared.events.EventNumbers.{EventNumbers}
 
 -- the numbers from which the first event counts on
 abbrev pub no_numbers : EventNumbers
@@ -43,3 +39,12 @@ events_at o c = do
   numbers ← chain_at (numbers_at o.symbols) count.0 no_numbers count.1
   sides ← bits_at count.0 numbers.1
   Ok (events_of numbers.0 sides.0, sides.1)
+
+-- a list of bits begins with this side's bit, and these are the bits behind it
+abbrev pub IsSideBefore : Bool → List ℕ → List ℕ → Type 0
+IsSideBefore right rest [] = ⊥
+IsSideBefore right rest (b ∷ bits) = (right ≡ (b == 1)) × (rest ≡ bits)
+
+-- the source is one of so many symbols, and the split doesn't come behind it
+abbrev pub AreNumbersOf : ℕ → EventNumbers → Type 0
+AreNumbersOf symbols n = (n.source < symbols) × (n.split ≤ n.source)

@@ -2,15 +2,23 @@
 -- fault of the source comes behind those of the symbols before (Draco Bitstream Specification 2.2, section "Edgebreaker Connectivity").
 use Rattle.std.specs.Prelude.{◌≡◌, ℕ, zero, suc, Bool, List, length, Option, Some, None, Result, Ok, Err}
 use Rattle.drc_base.specs.declared.faults.Fault.{Fault}
+use Rattle.drc_base.specs.declared.faults.Refusal.{Refusal}
+use Rattle.drc_base.specs.Refusals.{Refuses}
 use Rattle.drc_base.specs.Steps.{◌>>=◌}
 use Rattle.corner_table.specs.declared.symbols.Symbol.{Symbol}
 use Rattle.rans_binary.specs.Blocks.{Block, bit_of}
 use Rattle.eb_rebuild.specs.Machine.{Plan, State, step, close_all, finish}
+use Rattle.eb_rebuild.specs.Rebuilding.{BuiltValue, Holds}
 use Rattle.eb_standard.specs.SymbolBits.{SymbolPlace, next_symbol, after_symbol}
 
 -- a source gives the next symbol, and what is left of it, to a machine in this state; or a fault
 abbrev pub Source : Type 0 → Type 0
 Source S = S → State → Result (Symbol × S) Fault
+
+-- a source answers the next symbol and is then what is left of it, or answers the fault
+abbrev pub Draws : {S : Type 0} → Result (Symbol × S) Fault → S → Result Symbol Fault → Type 0
+Draws due new (Ok x) = due ≡ Ok (x, new)
+Draws due new (Err f) = due ≡ Err f
 
 -- the machine takes so many symbols, of n in all
 unfoldable pub fed : {S : Type 0} → Source S → ℕ → ℕ → S → State → Result State Fault
@@ -23,6 +31,11 @@ rebuilt next p source starts s =
     fed next p.symbols p.symbols source s >>= λ t.
     close_all p (bit_of starts) (length t.stack) t >>=
     finish p
+
+-- a rebuilding answers the table of the state in which it ends, or its first fault; want of memory is free
+abbrev pub EndsAs : Result State Fault → Result BuiltValue Refusal → Type 0
+EndsAs run (Ok built) = (s : State) × (run ≡ Ok s) × Holds s built.table
+EndsAs run (Err e) = Refuses run e
 
 -- the source of the standard traversal: symbols in bits, and the fault that comes where the bits of a symbol aren't there
 pub record Standard : Type 0 where

@@ -4,7 +4,12 @@
 //! Bitstream Specification 2.2, section "Edgebreaker Connectivity".
 #![tactic(auto)]
 
+mod blocks;
+mod contexts;
+mod events;
 mod opening;
 mod reading;
+mod rebuilding;
+mod sources;
 
-pub use reading::EbRead;
+pub use reading::{EbRead, read_connectivity};

@@ -1,8 +1,29 @@
 //! Reading the section.
 
-use drc_base::Sequence;
+ghost use Rattle.std.specs.Prelude.{◌≡◌, ◌+◌, ◌*◌, ◌≤◌, Err, All, IfOk, IsTrue, OnErr, length};
+ghost use Rattle.drc_base.specs.declared.limits.TheConstants.{MAX_FACES as most_faces, MAX_ATTRIBUTES as most_attributes};
+ghost use Rattle.drc_base.specs.declared.faults.Fault.{Fault as AnyFault};
+ghost use Rattle.drc_base.specs.declared.faults.Refusal.TheVariants as refusal;
+ghost use Rattle.drc_base.specs.Profile.{profile_two};
+ghost use Rattle.drc_bits.specs.Reading.{Gives};
+ghost use Rattle.eb_rebuild.specs.Rebuilding.{IsEventOf};
+ghost use Rattle.eb_section.specs.Opening.{declared_faces, most_calls, opening_at};
+ghost use Rattle.eb_section.specs.Events.{event_count_at};
+ghost use Rattle.eb_section.specs.Connectivity.{behind_at, connectivity_at, front_at, meaning, standard_behind, valence_behind};
+
+use crate::blocks::read_blocks;
+use crate::contexts::read_contexts;
+use crate::events::read_events;
+use crate::opening::{Opening, read_opening};
+use crate::rebuilding::rebuild_linked;
+use crate::sources::BitSource;
+use corner_table::{Event, Steps};
+use drc_base::{MAX_POINTS, Refusal, Sequence};
+use drc_bits::Cursor;
 use eb_rebuild::Built;
 use rans_binary::BitBlock;
+use std::alloc::Global;
+use std::sync::ledger::Ledger;
 
 /// The connectivity of an Edgebreaker mesh, as it was read.
 #[derive(Drop)]
@@ -21,4 +42,150 @@ pub struct EbRead<'a> {
     pub splits: u32,
     /// The number of split events.
     pub events: u32,
+}
+
+/// What was read, of these parts.
+fn read_of<'a>(
+    sides: Built,
+    opening: Opening,
+    seams: Vec<BitBlock<'a>>,
+    events: u32,
+) -> EbRead<'a>
+    ensures { result ≡ record { sides = sides; valence = opening.valence; attr_data = opening.attr_data; seams = seams.entry.items; symbols = opening.symbols; splits = opening.splits; events = events } }
+{
+    EbRead {
+        sides,
+        valence: opening.valence,
+        attr_data: opening.attr_data,
+        seams: Sequence::from_vec(seams),
+        symbols: opening.symbols,
+        splits: opening.splits,
+        events,
+    }
+}
+
+/// Reads what is behind the events of the standard traversal: the symbols, the block of start bits, and
+/// those of seam bits; then rebuilds the surface.
+#[tactic(auto, unfolding(crate::specs::Connectivity::standard_behind))]
+fn read_standard<'a, L: Ledger>(
+    alloc: Global,
+    c: &mut Cursor<'a>,
+    opening: Opening,
+    events: Vec<Event>,
+    steps: &mut Steps<L>,
+) -> Result<EbRead<'a>, Refusal>
+    requires vertices { opening.vertices ≤ MAX_POINTS }
+    requires faces { opening.faces ≤ most_faces }
+    requires symbols { opening.symbols ≤ opening.faces }
+    requires splits { opening.splits ≤ opening.symbols }
+    requires events { All (IsEventOf opening.symbols) events.items }
+    requires few { length events.items ≤ opening.faces }
+    ensures section { Gives meaning (standard_behind opening events.items c.old) c.new result }
+    ensures linked { IfOk result (λ r. IsTrue r.sides.linked) }
+    ensures faces { IfOk result (λ r. r.sides.table.faces ≡ opening.faces) }
+    ensures room { IfOk result (λ r. length r.sides.table.entries ≤ 3 * opening.faces) }
+    ensures attr_data { IfOk result (λ r. r.attr_data ≡ opening.attr_data) }
+    ensures seams { IfOk result (λ r. length r.seams ≡ opening.attr_data) }
+    ensures cost { steps.new ≤ steps.old + most_calls opening.faces }
+{
+    let count = events.len() as u32;
+    let source = BitSource::read(c)?;
+    let starts = BitBlock::read(c)?;
+    let seams = read_blocks(alloc, c, opening.attr_data)?;
+    let sides = rebuild_linked(alloc, opening, events, source, starts, steps)?;
+    Ok(read_of(sides, opening, seams, count))
+}
+
+/// Reads what is behind the events of the valence traversal: the block of start bits, those of seam bits,
+/// and the symbols of each context; then rebuilds the surface.
+#[tactic(auto, unfolding(crate::specs::Connectivity::valence_behind))]
+fn read_valence<'a, L: Ledger>(
+    alloc: Global,
+    c: &mut Cursor<'a>,
+    opening: Opening,
+    events: Vec<Event>,
+    steps: &mut Steps<L>,
+) -> Result<EbRead<'a>, Refusal>
+    requires vertices { opening.vertices ≤ MAX_POINTS }
+    requires faces { opening.faces ≤ most_faces }
+    requires symbols { opening.symbols ≤ opening.faces }
+    requires splits { opening.splits ≤ opening.symbols }
+    requires events { All (IsEventOf opening.symbols) events.items }
+    requires few { length events.items ≤ opening.faces }
+    ensures section { Gives meaning (valence_behind opening events.items c.old) c.new result }
+    ensures linked { IfOk result (λ r. IsTrue r.sides.linked) }
+    ensures faces { IfOk result (λ r. r.sides.table.faces ≡ opening.faces) }
+    ensures room { IfOk result (λ r. length r.sides.table.entries ≤ 3 * opening.faces) }
+    ensures attr_data { IfOk result (λ r. r.attr_data ≡ opening.attr_data) }
+    ensures seams { IfOk result (λ r. length r.seams ≡ opening.attr_data) }
+    ensures cost { steps.new ≤ steps.old + most_calls opening.faces }
+{
+    let count = events.len() as u32;
+    let starts = BitBlock::read(c)?;
+    let seams = read_blocks(alloc, c, opening.attr_data)?;
+    let source = read_contexts(alloc, c, opening.symbols)?;
+    let sides = rebuild_linked(alloc, opening, events, source, starts, steps)?;
+    Ok(read_of(sides, opening, seams, count))
+}
+
+/// Reads what is behind the front: the events, and the rest of the traversal.
+#[tactic(auto, unfolding(crate::specs::Connectivity::behind_at))]
+fn read_behind<'a, L: Ledger>(
+    alloc: Global,
+    c: &mut Cursor<'a>,
+    opening: Opening,
+    steps: &mut Steps<L>,
+) -> Result<EbRead<'a>, Refusal>
+    requires vertices { opening.vertices ≤ MAX_POINTS }
+    requires faces { opening.faces ≤ most_faces }
+    requires symbols { opening.symbols ≤ opening.faces }
+    requires splits { opening.splits ≤ opening.symbols }
+    ensures section { Gives meaning (behind_at opening c.old) c.new result }
+    ensures early { (f : AnyFault) → event_count_at opening.faces c.old ≡ Err f → result ≡ Err (refusal.Fault f) }
+    ensures linked { IfOk result (λ r. IsTrue r.sides.linked) }
+    ensures faces { IfOk result (λ r. r.sides.table.faces ≡ opening.faces) }
+    ensures room { IfOk result (λ r. length r.sides.table.entries ≤ 3 * opening.faces) }
+    ensures attr_data { IfOk result (λ r. r.attr_data ≡ opening.attr_data) }
+    ensures seams { IfOk result (λ r. length r.seams ≡ opening.attr_data) }
+    ensures cost { steps.new ≤ steps.old + most_calls opening.faces }
+{
+    let events = read_events(alloc, c, opening)?;
+    if opening.valence {
+        return read_valence(alloc, c, opening, events, steps);
+    }
+    read_standard(alloc, c, opening, events, steps)
+}
+
+/// Reads the connectivity of an Edgebreaker mesh and rebuilds its surface by links, or refuses with the
+/// first fault. Those of the front, each at its place: `Traversal`, `PointLimit`, `FaceLimit`,
+/// `AttrLimit`, and `Count` of symbols, splits and events; they come before memory is taken. Then, at
+/// their places, `EventDelta`, `Short` and `Long`, those of a block of bits (`BadProb`, `BadStart`) and of
+/// the lists of contexts (`Count`, and those of a symbol block). Then those of rebuilding: `Short` at the
+/// first byte of the symbols where the bits of a symbol aren't there; `ContextEmpty` and `BadSymbol`, and
+/// those of the machine's rules, at the symbol's number in the order of decoding; and at the end
+/// `FaceCount`, `VertexCount` and `Degenerate`. Symbols, events, bits and coded bytes that are left over
+/// are passed. It makes at most 12 table calls for each declared face and 4 more, and none for no face.
+/// After a refusal the cursor is where it was.
+#[tactic(auto, unfolding(crate::specs::Connectivity::connectivity_at, crate::specs::Connectivity::front_at))]
+pub fn read_connectivity<'a, L: Ledger>(
+    alloc: Global,
+    c: &mut Cursor<'a>,
+    steps: &mut Steps<L>,
+) -> Result<EbRead<'a>, Refusal>
+    ensures section { Gives meaning (connectivity_at profile_two c.old) c.new result }
+    ensures early { (f : AnyFault) → opening_at profile_two c.old ≡ Err f → result ≡ Err (refusal.Fault f) }
+    ensures early_count { (f : AnyFault) → front_at profile_two c.old ≡ Err f → result ≡ Err (refusal.Fault f) }
+    ensures unchanged { OnErr result (c.new ≡ c.old) }
+    ensures linked { IfOk result (λ r. IsTrue r.sides.linked) }
+    ensures cost { steps.new ≤ steps.old + most_calls (declared_faces (opening_at profile_two c.old)) }
+    ensures room { IfOk result (λ r. length r.sides.table.entries ≤ 3 * r.sides.table.faces) }
+    ensures faces { IfOk result (λ r. r.sides.table.faces ≤ most_faces) }
+    ensures attr_data { IfOk result (λ r. r.attr_data ≤ most_attributes) }
+    ensures seams { IfOk result (λ r. length r.seams ≡ r.attr_data) }
+{
+    let mut ahead = c.copy();
+    let opening = read_opening(&mut ahead)?;
+    let read = read_behind(alloc, &mut ahead, opening, steps)?;
+    *c = ahead;
+    Ok(read)
 }

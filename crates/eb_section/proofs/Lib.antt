@@ -1,0 +1,2 @@
+pub mod EventLists
+pub mod Runs

@@ -1,0 +1,86 @@
+//! Where the symbols come from that the machine of reverse decoding is fed: bits, or lists of contexts.
+
+ghost use Rattle.std.specs.Prelude.{◌≡◌, IsTrue};
+ghost use Rattle.drc_bits.specs.Reading.{Reads};
+ghost use Rattle.eb_valence.specs.Contexts.{symbol_at};
+ghost use Rattle.eb_section.specs.Feeding.{Source, standard, Draws};
+ghost use Rattle.eb_section.specs.Connectivity.{standard_at};
+
+use corner_table::Symbol;
+use drc_base::{Fault, Kind};
+use drc_bits::Cursor;
+use eb_rebuild::Rebuild;
+use eb_standard::SymbolReader;
+use eb_valence::ContextReader;
+use std::marker::Model;
+
+/// A source of symbols in the order of decoding.
+pub(crate) trait SymbolSource: Drop {
+    /// The next symbol for a machine in a state, and what is left of the source, or a fault.
+    ghost gives: { Source Self };
+
+    /// Draws the symbol that the machine is to take next, which has this number. After a fault the source
+    /// is given up. It takes no memory.
+    fn draw<R: Rebuild>(&mut self, machine: &R, number: u32) -> Result<Symbol, Fault>
+        requires live { IsTrue (R.live machine.now) }
+        requires unclosed { (R.state machine.now).closes ≡ 0 }
+        requires number { number ≡ (R.state machine.now).built }
+        ensures { Draws (gives self.old (R.state machine.now)) self.new result };
+}
+
+/// The symbols of the standard traversal, in bits.
+#[derive(Drop)]
+pub(crate) struct BitSource<'a> {
+    reader: SymbolReader<'a>,
+    short: Fault,
+}
+
+impl<'a> Model for BitSource<'a> {
+    ghost use Rattle.eb_section.specs.Feeding.{Standard};
+
+    ghost Value = { Standard };
+
+    ghost view = { λ s. record { short = s.short; place = s.reader } };
+}
+
+impl<'a> BitSource<'a> {
+    /// Reads how many bytes the symbols have, and these, their bits not yet.
+    #[tactic(auto, unfolding(crate::specs::Connectivity::standard_at))]
+    pub(crate) fn read(c: &mut Cursor<'a>) -> Result<BitSource<'a>, Fault>
+        ensures { Reads (λ s. s) (standard_at c.old) c.new result }
+    {
+        let size = c.var64()?;
+        let short = c.fault(Kind::Short);
+        let bytes = c.slice(size)?;
+        Ok(BitSource {
+            reader: SymbolReader::new(bytes),
+            short,
+        })
+    }
+}
+
+impl<'a> SymbolSource for BitSource<'a> {
+    ghost gives = { standard };
+
+    /// The symbol whose bits come next; where they aren't there, `Short` at the first byte of the symbols.
+    fn draw<R: Rebuild>(&mut self, machine: &R, number: u32) -> Result<Symbol, Fault> {
+        match self.reader.next() {
+            Some(symbol) => Ok(symbol),
+            None => Err(self.short),
+        }
+    }
+}
+
+impl SymbolSource for ContextReader {
+    ghost gives = { symbol_at };
+
+    /// The last symbol left in the context of the machine's degree; the first symbol is E. `ContextEmpty`
+    /// and `BadSymbol` at the symbol's number.
+    fn draw<R: Rebuild>(&mut self, machine: &R, number: u32) -> Result<Symbol, Fault> {
+        let degree = if number == 0 { None } else { Some(machine.degree()) };
+        match self.next(degree) {
+            Ok(symbol) => Ok(symbol),
+            Err(kind) => Err(Fault::new(kind, u64::from(number))),
+        }
+    }
+}
