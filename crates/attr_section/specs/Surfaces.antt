@@ -5,7 +5,7 @@ use Rattle.attr_section.specs.declared.walks.Walked.{Walked as WalkedTable}
 
 -- the surface of a table and an order over it
 abbrev pub surface : WalkedTable → Walked
-surface t = walked t.sides t.order
+surface t = walked t.sides.now t.order.now
 
 -- the surface of a walk, where there is one
 abbrev pub surface_of : Option WalkedTable → Option Walked
@@ -13,8 +13,8 @@ surface_of walk = option_map surface walk
 
 -- a walk over its table, of so many entries
 pub record IsWalkOf (entries : ℕ) (t : WalkedTable) : Type 0 where
-  pub over : IsOver t.sides.faces (surface t)
-  pub each_entry : entries ≡ length t.order.corner_of_entry
+  pub over : IsOver t.sides.now.faces (surface t)
+  pub each_entry : entries ≡ length t.order.now.corner_of_entry
 
 -- where there is a walk, it is one over its table, of so many entries
 abbrev pub MayBeWalkOf : ℕ → Option WalkedTable → Type 0

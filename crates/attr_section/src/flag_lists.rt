@@ -67,7 +67,7 @@ fn read_flags(alloc: Global, c: &mut Cursor<'_>, corners: usize) -> Result<Seque
 pub fn read_flag_lists(
     alloc: Global,
     c: &mut Cursor<'_>,
-    walk: &Walked,
+    walk: &Walked<'_>,
 ) -> Result<Flags, Refusal>
     ensures { Gives (λ f. f.lists) (flag_lists_at (surface walk.now) c.old) c.new result }
 {

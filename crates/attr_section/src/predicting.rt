@@ -80,22 +80,22 @@ fn read_differences(
 fn read_parallelograms(
     alloc: Global,
     c: &mut Cursor<'_>,
-    walk: &Walked,
+    walk: &Walked<'_>,
     comps: u32,
     n: u32,
 ) -> Result<Vec<i32>, Refusal>
     requires some { 0 < comps }
     requires whole { n % comps ≡ 0 }
     requires few { n ≤ MAX_VALUES }
-    requires over { IsOver walk.now.sides.faces (surface walk.now) }
-    requires entries { n ≡ length walk.now.order.corner_of_entry * comps }
+    requires over { IsOver walk.now.sides.now.faces (surface walk.now) }
+    requires entries { n ≡ length walk.now.order.now.corner_of_entry * comps }
     ensures item { Gives (λ v. v.items) (parallelograms_at (surface walk.now) comps n c.old) c.new result }
     ensures len { IfOk result (λ v. length v.items ≡ n) }
 {
     read_transform(c)?;
     let mut values = read_integers(alloc, c, comps, n)?;
     let wrap = read_range(c)?;
-    restore_parallelogram(&wrap, comps, &walk.sides, &walk.order, values.as_mut_slice());
+    restore_parallelogram(&wrap, comps, walk.sides, walk.order, values.as_mut_slice());
     Ok(values)
 }
 
@@ -105,16 +105,16 @@ fn restore_means(
     at: u64,
     wrap: &Wrap,
     comps: u32,
-    walk: &Walked,
+    walk: &Walked<'_>,
     flags: &Flags,
     values: &mut [i32],
 ) -> Result<(), Fault>
     requires some { 0 < comps }
-    requires over { IsOver walk.now.sides.faces (surface walk.now) }
-    requires entries { length values.old ≡ length walk.now.order.corner_of_entry * comps }
+    requires over { IsOver walk.now.sides.now.faces (surface walk.now) }
+    requires entries { length values.old ≡ length walk.now.order.now.corner_of_entry * comps }
     ensures { (after : Reading) → Reads (λ _. values.new) (with_flags at (surface walk.now) comps flags.now.lists wrap.now values.old after) after result }
 {
-    match restore_multi(wrap, comps, &walk.sides, &walk.order, flags, values) {
+    match restore_multi(wrap, comps, walk.sides, walk.order, flags, values) {
         Ok(()) => Ok(()),
         Err(kind) => Err(Fault::new(kind, at)),
     }
@@ -127,15 +127,15 @@ fn read_means(
     alloc: Global,
     c: &mut Cursor<'_>,
     at: u64,
-    walk: &Walked,
+    walk: &Walked<'_>,
     comps: u32,
     n: u32,
 ) -> Result<Vec<i32>, Refusal>
     requires some { 0 < comps }
     requires whole { n % comps ≡ 0 }
     requires few { n ≤ MAX_VALUES }
-    requires over { IsOver walk.now.sides.faces (surface walk.now) }
-    requires entries { n ≡ length walk.now.order.corner_of_entry * comps }
+    requires over { IsOver walk.now.sides.now.faces (surface walk.now) }
+    requires entries { n ≡ length walk.now.order.now.corner_of_entry * comps }
     ensures item { Gives (λ v. v.items) (means_at at (surface walk.now) comps n c.old) c.new result }
     ensures len { IfOk result (λ v. length v.items ≡ n) }
 {
@@ -152,7 +152,7 @@ pub fn read_predicted(
     alloc: Global,
     c: &mut Cursor<'_>,
     at: u64,
-    walk: Option<&Walked>,
+    walk: Option<&Walked<'_>>,
     prediction: Prediction,
     comps: u32,
     n: u32,

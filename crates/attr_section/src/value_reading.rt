@@ -26,7 +26,7 @@ use std::alloc::Global;
 fn read_typed_values(
     alloc: Global,
     c: &mut Cursor<'_>,
-    walk: Option<&Walked>,
+    walk: Option<&Walked<'_>>,
     head: &Head,
     n: u32,
 ) -> Result<Values, Refusal>
@@ -55,7 +55,7 @@ fn read_typed_values(
 fn read_values(
     alloc: Global,
     c: &mut Cursor<'_>,
-    walk: Option<&Walked>,
+    walk: Option<&Walked<'_>>,
     head: &Head,
     entries: u32,
     spent: u64,
@@ -78,7 +78,7 @@ fn read_values(
 fn read_attributes(
     alloc: Global,
     c: &mut Cursor<'_>,
-    walk: Option<&Walked>,
+    walk: Option<&Walked<'_>>,
     heads: &[Head],
     entries: u32,
     spent: u64,
@@ -128,7 +128,7 @@ pub fn read_decoder(
     c: &mut Cursor<'_>,
     h: &mut DecoderHead,
     entries: u32,
-    walk: Option<&Walked>,
+    walk: Option<&Walked<'_>>,
     spent: &mut u64,
 ) -> Result<Vec<Values>, Refusal>
     requires some { All (λ head. 0 < head.comps) h.old.heads }
