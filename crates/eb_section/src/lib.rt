@@ -9,6 +9,8 @@ mod contexts;
 mod events;
 mod opening;
 mod reading;
+#[cfg(test)]
+mod reading_tests;
 mod rebuilding;
 mod sources;
 
