@@ -41,9 +41,15 @@ next_symbol s = cond s.begun (longer s.place)
 
 -- the reader behind the other two bits, if they are there
 abbrev pub after_longer : BitPlace → SymbolPlace
-after_longer r = elim (next_bits 2 r) [ None ↦ record { place = r; begun = true } | Some n ↦ record { place = after_bits 2 r; begun = false } ]
+after_longer r = elim (next_bits 2 r) [
+  | None ↦ record { place = r; begun = true }
+  | Some n ↦ record { place = after_bits 2 r; begun = false }
+]
 
 -- the reader behind the next symbol; where bits of it aren't there, no symbol follows ever
 abbrev pub after_symbol : SymbolPlace → SymbolPlace
 after_symbol s = cond s.begun (after_longer s.place)
-    (elim (next_bits 1 s.place) [ None ↦ s | Some b ↦ cond (b == 0) (record { place = after_bits 1 s.place; begun = false }) (after_longer (after_bits 1 s.place)) ])
+    (elim (next_bits 1 s.place) [
+      | None ↦ s
+      | Some b ↦ cond (b == 0) (record { place = after_bits 1 s.place; begun = false }) (after_longer (after_bits 1 s.place))
+    ])

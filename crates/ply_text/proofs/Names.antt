@@ -10,7 +10,7 @@ pub record IsNamedSoFar (properties : List Property) (heads : List PlyHead) (ski
   pub whole : heads ++ named_heads (length heads) skip (drop i properties) ≡ named_heads 0 0 properties
 
 abbrev nothing : Property
-nothing = record { dtype = 0; name = 0 }
+nothing = record { dtype = 0; name = [] }
 
 pub skips : (ps : List Property) (heads : List PlyHead) (skip i : ℕ) → i < length ps → 0 < skip → IsNamedSoFar ps heads skip i → IsNamedSoFar ps heads (skip - 1) (i + 1)
 skips ps heads zero i lt some h = absurd (omega arith)

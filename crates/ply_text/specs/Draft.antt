@@ -15,16 +15,16 @@ use Rattle.ply_text.specs.declared.words.Keyword.{Keyword}
 use Rattle.ply_text.specs.declared.words.Keyword.TheVariants as keyword
 use Rattle.ply_text.specs.Faults.{refuse, or_refuse}
 use Rattle.ply_text.specs.Numbers.{natural_within}
-use Rattle.ply_text.specs.Words.{type_of, name_of, is_indices}
+use Rattle.ply_text.specs.Words.{type_of, is_indices}
 use Rattle.ply_text.specs.Comments.{is_form, attr_of, quant_of, with_quant}
 use Rattle.ply_text.specs.Declarations.{is_format, keyword_at, element_of, is_list, scalar_of, list_of}
 
--- a property of a point: its data type, and the place of its name
+-- a property of a point: its data type, and its name
 abbrev pub PropertyParts : Type 0
 PropertyParts = Property
 
 abbrev pub property : ℕ → List ℕ → PropertyParts
-property dtype name = record { dtype = dtype; name = name_of name }
+property dtype name = record { dtype = dtype; name = name }
 
 -- what was declared so far
 pub record Draft : Type 0 where

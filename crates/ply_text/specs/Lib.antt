@@ -6,6 +6,7 @@ pub mod Declarations
 pub mod Faults
 pub mod Draft
 pub mod NamedHeads
+pub mod RunParts
 pub mod Header
 pub mod IsHeader
 pub mod InPlace

@@ -1,37 +1,42 @@
 -- The attributes that the names of properties give where no comment line does (this project's choice).
-use Rattle.std.specs.Prelude.{ℕ, zero, suc, ◌+◌, ◌-◌, ◌&&◌, Bool, false, List, [], ◌∷◌, Option, None, Some, ◌==◌, slice_get, if◌then◌else◌}
+use Rattle.std.specs.Prelude.{ℕ, zero, suc, ◌+◌, ◌-◌, ◌&&◌, Bool, true, false, List, [], ◌∷◌, length, None, ◌==◌, codes, if◌then◌else◌}
+use Rattle.std.specs.Str.{bytes_eq}
 use Rattle.ply_text.specs.declared.headers.PlyHead.{PlyHead}
 use Rattle.ply_text.specs.declared.headers.Property.{Property}
 
--- the names by their places: 0 x, 1 y, 2 z, 3 nx, 4 ny, 5 nz, 6 red, 7 green, 8 blue, 9 alpha, 10 s, 11 t, 12 u, 13 v
+-- an attribute that names tell: its usage, and the names of its components
+pub record NameRun : Type 0 where
+  pub usage : ℕ
+  pub words : List (List ℕ)
+
+-- the names that tell an attribute: where two rows fit, the one above is taken
+abbrev pub name_runs : List NameRun
+name_runs =
+    record { usage = 0; words = codes "x" ∷ codes "y" ∷ codes "z" ∷ [] }
+    ∷ record { usage = 1; words = codes "nx" ∷ codes "ny" ∷ codes "nz" ∷ [] }
+    ∷ record { usage = 2; words = codes "red" ∷ codes "green" ∷ codes "blue" ∷ codes "alpha" ∷ [] }
+    ∷ record { usage = 2; words = codes "red" ∷ codes "green" ∷ codes "blue" ∷ [] }
+    ∷ record { usage = 3; words = codes "s" ∷ codes "t" ∷ [] }
+    ∷ record { usage = 3; words = codes "u" ∷ codes "v" ∷ [] }
+    ∷ []
+
 -- a property has this name and this type
-abbrev pub is_named : ℕ → ℕ → Option Property → Bool
-is_named name dtype None = false
-is_named name dtype (Some p) = (p.name == name) && (p.dtype == dtype)
+abbrev pub is_named : List ℕ → ℕ → Property → Bool
+is_named word dtype p = bytes_eq p.name word && (p.dtype == dtype)
 
--- property j has this name and this type
-abbrev pub stands : ℕ → List Property → ℕ → ℕ → Bool
-stands dtype properties j name = is_named name dtype (slice_get properties j)
+-- properties of one type with these names stand in front
+abbrev pub stand : List (List ℕ) → ℕ → List Property → Bool
+stand [] dtype ps = true
+stand (word ∷ words) dtype [] = false
+stand (word ∷ words) dtype (p ∷ ps) = is_named word dtype p && stand words dtype ps
 
--- two, three or four properties of one type, with the names from `first` on, stand in front
-abbrev pub two : ℕ → List Property → ℕ → Bool
-two dtype ps first = stands dtype ps 0 first && stands dtype ps 1 (first + 1)
+-- the usage and the components of the attribute in front: by the first row whose names stand there, else generic
+abbrev pub run_by : List NameRun → ℕ → List Property → ℕ × ℕ
+run_by [] dtype ps = (4, 1)
+run_by (run ∷ runs) dtype ps = if stand run.words dtype ps then (run.usage, length run.words) else run_by runs dtype ps
 
-abbrev pub three : ℕ → List Property → ℕ → Bool
-three dtype ps first = two dtype ps first && stands dtype ps 2 (first + 2)
-
-abbrev pub four : ℕ → List Property → ℕ → Bool
-four dtype ps first = three dtype ps first && stands dtype ps 3 (first + 3)
-
--- the usage and the components of the attribute in front
 unfoldable pub run_of : ℕ → List Property → ℕ × ℕ
-run_of dtype ps =
-    if three dtype ps 0 then (0, 3)
-    else (if three dtype ps 3 then (1, 3)
-    else (if four dtype ps 6 then (2, 4)
-    else (if three dtype ps 6 then (2, 3)
-    else (if two dtype ps 10 then (3, 2)
-    else (if two dtype ps 12 then (3, 2) else (4, 1))))))
+run_of dtype ps = run_by name_runs dtype ps
 
 -- attribute number k with this usage, type and components
 abbrev pub named_head : ℕ → ℕ → ℕ × ℕ → PlyHead

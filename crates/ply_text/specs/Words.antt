@@ -1,4 +1,4 @@
--- The words of a PLY header (PLY 1.0; the attribute names that mean something are this project's choice).
+-- The words of a PLY header (PLY 1.0).
 use Rattle.std.specs.Prelude.{ℕ, ◌||◌, Bool, List, Option, None, Some, codes, if◌then◌else◌}
 use Rattle.std.specs.Str.{bytes_eq}
 use Rattle.ply_text.specs.declared.words.Keyword.{Keyword}
@@ -22,28 +22,6 @@ type_of word =
     else (if bytes_eq word (codes "ushort") || bytes_eq word (codes "uint16") then Some 4
     else (if bytes_eq word (codes "int") || bytes_eq word (codes "int32") then Some 5
     else (if bytes_eq word (codes "uint") || bytes_eq word (codes "uint32") then Some 6 else None)))))
-
--- the place of a vector's name among x y z nx ny nz, else 14
-unfoldable pub vector_name : List ℕ → ℕ
-vector_name word =
-    if bytes_eq word (codes "x") then 0
-    else (if bytes_eq word (codes "y") then 1
-    else (if bytes_eq word (codes "z") then 2
-    else (if bytes_eq word (codes "nx") then 3
-    else (if bytes_eq word (codes "ny") then 4
-    else (if bytes_eq word (codes "nz") then 5 else 14)))))
-
--- the place of a property's name among x y z nx ny nz red green blue alpha s t u v, else 14
-unfoldable pub name_of : List ℕ → ℕ
-name_of word =
-    if bytes_eq word (codes "red") then 6
-    else (if bytes_eq word (codes "green") then 7
-    else (if bytes_eq word (codes "blue") then 8
-    else (if bytes_eq word (codes "alpha") then 9
-    else (if bytes_eq word (codes "s") then 10
-    else (if bytes_eq word (codes "t") then 11
-    else (if bytes_eq word (codes "u") then 12
-    else (if bytes_eq word (codes "v") then 13 else vector_name word)))))))
 
 -- the two names of the list of a face's points
 unfoldable pub is_indices : List ℕ → Bool

@@ -1,6 +1,6 @@
 //! A header that is read line by line.
 
-ghost use Rattle.std.specs.Prelude.{◌≡◌, ◌<◌, ◌≤◌, [], All, IfSome, OnOk, vec_len};
+ghost use Rattle.std.specs.Prelude.{◌≡◌, ◌<◌, ◌≤◌, [], All, IfOk, IfSome, OnOk, vec_len};
 ghost use Rattle.drc_base.specs.Refusals.{Answers};
 ghost use Rattle.drc_base.specs.declared.faults.Refusal.TheVariants as refusals;
 ghost use Rattle.ply_text.specs.Tokens.{tokens_of};
@@ -12,8 +12,8 @@ use crate::comments::{attr_of, quant_of};
 use crate::headers::{PlyHead, PlyQuant, Property};
 use crate::integers::natural_within;
 use crate::statements::{element_of, is_form, is_format, is_list, keyword_at, list_of, scalar_of};
-use crate::words::{Keyword, is_indices, is_word, name_of, type_of};
-use drc_base::{Fault, Kind, MAX_ATTRIBUTES, MAX_FACES, MAX_POINTS, Refusal};
+use crate::words::{Keyword, is_indices, is_word, type_of};
+use drc_base::{Fault, Kind, MAX_ATTRIBUTES, MAX_FACES, MAX_POINTS, Memory, Refusal, Sequence};
 use std::alloc::Global;
 
 /// What the lines of a header have declared so far.
@@ -32,6 +32,13 @@ pub(crate) fn refusal(kind: Kind, at: u64) -> Refusal
     ensures { result ≡ refusals.Fault (record { kind = kind; at = at }) }
 {
     Refusal::Fault(Fault { kind, at })
+}
+
+/// A list of these bytes.
+fn copied(alloc: Global, bytes: &[u8]) -> Result<Sequence<u8>, Memory>
+    ensures { IfOk result (λ copy. copy ≡ bytes.now) }
+{
+    Ok(Sequence::from_vec(bytes.to_vec(alloc)?))
 }
 
 impl HeaderDraft {
@@ -64,7 +71,7 @@ impl HeaderDraft {
 
     /// A property of numbers.
     #[tactic(auto, unfolding(crate::specs::Draft::scalar))]
-    fn scalar(&mut self, at: u64, line: &[u8]) -> Result<(), Refusal>
+    fn scalar(&mut self, alloc: Global, at: u64, line: &[u8]) -> Result<(), Refusal>
         requires { IsDraft (draft_of self.old) }
         ensures step { Answers (λ _. draft_of self.new) (scalar at (draft_of self.old) (tokens_of line.now)) result }
         ensures sound { OnOk result (IsDraft (draft_of self.new)) }
@@ -78,10 +85,8 @@ impl HeaderDraft {
         if self.vertices.is_none() || self.faces.is_some() {
             return Err(refusal(Kind::PlyElement, at));
         }
-        self.properties.push(Property {
-            dtype,
-            name: name_of(name),
-        })?;
+        let name = copied(alloc, name)?;
+        self.properties.push(Property { dtype, name })?;
         Ok(())
     }
 
@@ -161,7 +166,13 @@ impl HeaderDraft {
     }
 
     /// A line after the format's.
-    fn declaration(&mut self, at: u64, line: &[u8], word: Keyword) -> Result<(), Refusal>
+    fn declaration(
+        &mut self,
+        alloc: Global,
+        at: u64,
+        line: &[u8],
+        word: Keyword,
+    ) -> Result<(), Refusal>
         requires { IsDraft (draft_of self.old) }
         ensures step { Answers (λ _. draft_of self.new) (declaration at (draft_of self.old) (tokens_of line.now) word) result }
         ensures sound { OnOk result (IsDraft (draft_of self.new)) }
@@ -172,7 +183,7 @@ impl HeaderDraft {
                 if is_list(line) {
                     return self.list(at, line);
                 }
-                self.scalar(at, line)
+                self.scalar(alloc, at, line)
             }
             _ => Err(refusal(Kind::PlyHeader, at)),
         }
@@ -180,13 +191,13 @@ impl HeaderDraft {
 
     /// Any other line than a comment: the first is the format's.
     #[tactic(auto, unfolding(crate::specs::Draft::body))]
-    fn body(&mut self, at: u64, line: &[u8], word: Keyword) -> Result<(), Refusal>
+    fn body(&mut self, alloc: Global, at: u64, line: &[u8], word: Keyword) -> Result<(), Refusal>
         requires { IsDraft (draft_of self.old) }
         ensures step { Answers (λ _. draft_of self.new) (body at (draft_of self.old) (tokens_of line.now) word) result }
         ensures sound { OnOk result (IsDraft (draft_of self.new)) }
     {
         if self.formatted {
-            return self.declaration(at, line, word);
+            return self.declaration(alloc, at, line, word);
         }
         if !is_format(line) {
             return Err(refusal(Kind::PlyFormat, at));
@@ -205,7 +216,7 @@ impl HeaderDraft {
         match keyword_at(line) {
             Keyword::Comment => self.comment(alloc, at, line),
             Keyword::ObjInfo => Ok(()),
-            word => self.body(at, line, word),
+            word => self.body(alloc, at, line, word),
         }
     }
 }

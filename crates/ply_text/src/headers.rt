@@ -48,10 +48,9 @@ pub struct Header {
     pub body_line: u64,
 }
 
-/// A property of a point: its data type, 1 to 6, and the place of its name among the names that mean
-/// something, else 14.
-#[derive(Clone, Copy, Debug)]
+/// A property of a point: its data type, 1 to 6, and its name.
+#[derive(Debug, Drop)]
 pub(crate) struct Property {
     pub dtype: u8,
-    pub name: u8,
+    pub name: Sequence<u8>,
 }

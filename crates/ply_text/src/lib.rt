@@ -16,6 +16,7 @@ mod in_place;
 mod integers;
 mod line_reader;
 mod line_tokens;
+mod name_runs;
 mod named_heads;
 mod statements;
 #[cfg(test)]

@@ -2,69 +2,12 @@
 
 ghost use Rattle.std.specs.Prelude.{◌≡◌, ◌≤◌, ◌<◌, length, All, IfOk, IfSome, MatchOption};
 ghost use Rattle.ply_text.specs.IsHeader.{HeadFits, HasType};
-ghost use Rattle.ply_text.specs.NamedHeads.{stands, two, three, four, run_of, named_head, named_heads};
+ghost use Rattle.ply_text.specs.NamedHeads.{named_head, named_heads};
 
 use crate::headers::{PlyHead, Property};
+use crate::name_runs::run_of;
 use drc_base::{MAX_ATTRIBUTES, Memory};
 use std::alloc::Global;
-
-/// Whether property `j` has this name and this type.
-fn stands(dtype: u8, properties: &[Property], j: usize, name: u8) -> bool
-    ensures { result ≡ stands dtype properties.now j name }
-{
-    if j >= properties.len() {
-        return false;
-    }
-    properties[j].name == name && properties[j].dtype == dtype
-}
-
-fn two(dtype: u8, properties: &[Property], first: u8) -> bool
-    requires { first < 200 }
-    ensures { result ≡ two dtype properties.now first }
-{
-    stands(dtype, properties, 0, first) && stands(dtype, properties, 1, first + 1)
-}
-
-fn three(dtype: u8, properties: &[Property], first: u8) -> bool
-    requires { first < 200 }
-    ensures { result ≡ three dtype properties.now first }
-{
-    two(dtype, properties, first) && stands(dtype, properties, 2, first + 2)
-}
-
-fn four(dtype: u8, properties: &[Property], first: u8) -> bool
-    requires { first < 200 }
-    ensures { result ≡ four dtype properties.now first }
-{
-    three(dtype, properties, first) && stands(dtype, properties, 3, first + 3)
-}
-
-/// The usage and the components of the attribute in front.
-#[tactic(auto, unfolding(crate::specs::NamedHeads::run_of))]
-fn run_of(dtype: u8, properties: &[Property]) -> (u8, u8)
-    ensures run { result ≡ run_of dtype properties.now }
-    ensures some { (result.0 ≤ 4) × (0 < result.1) × (result.1 ≤ 4) }
-{
-    if three(dtype, properties, 0) {
-        return (0, 3);
-    }
-    if three(dtype, properties, 3) {
-        return (1, 3);
-    }
-    if four(dtype, properties, 6) {
-        return (2, 4);
-    }
-    if three(dtype, properties, 6) {
-        return (2, 3);
-    }
-    if two(dtype, properties, 10) {
-        return (3, 2);
-    }
-    if two(dtype, properties, 12) {
-        return (3, 2);
-    }
-    (4, 1)
-}
 
 /// Attribute number `k` with this usage, type and components.
 fn named_head(k: u32, dtype: u8, run: (u8, u8)) -> PlyHead

@@ -2,7 +2,7 @@
 
 ghost use Rattle.std.specs.Prelude.{◌≡◌, ◌≤◌, IsTrue, IfSome};
 ghost use Rattle.std.specs.Str.{bytes_eq};
-ghost use Rattle.ply_text.specs.Words.{keyword_of, type_of, vector_name, name_of, is_indices};
+ghost use Rattle.ply_text.specs.Words.{keyword_of, type_of, is_indices};
 
 /// What the first word of a header line says.
 #[derive(Clone, Copy)]
@@ -69,63 +69,6 @@ pub(crate) fn type_of(token: &[u8]) -> Option<u8>
         return Some(6);
     }
     None
-}
-
-#[tactic(auto, unfolding(crate::specs::Words::vector_name))]
-fn vector_name(token: &[u8]) -> u8
-    ensures { result ≡ vector_name token.now }
-{
-    if is_word(token, b"x") {
-        return 0;
-    }
-    if is_word(token, b"y") {
-        return 1;
-    }
-    if is_word(token, b"z") {
-        return 2;
-    }
-    if is_word(token, b"nx") {
-        return 3;
-    }
-    if is_word(token, b"ny") {
-        return 4;
-    }
-    if is_word(token, b"nz") {
-        return 5;
-    }
-    14
-}
-
-/// The place of a property's name among the names that mean something, else 14.
-#[tactic(auto, unfolding(crate::specs::Words::name_of))]
-pub(crate) fn name_of(token: &[u8]) -> u8
-    ensures { result ≡ name_of token.now }
-{
-    if is_word(token, b"red") {
-        return 6;
-    }
-    if is_word(token, b"green") {
-        return 7;
-    }
-    if is_word(token, b"blue") {
-        return 8;
-    }
-    if is_word(token, b"alpha") {
-        return 9;
-    }
-    if is_word(token, b"s") {
-        return 10;
-    }
-    if is_word(token, b"t") {
-        return 11;
-    }
-    if is_word(token, b"u") {
-        return 12;
-    }
-    if is_word(token, b"v") {
-        return 13;
-    }
-    vector_name(token)
 }
 
 #[tactic(auto, unfolding(crate::specs::Words::is_indices))]

@@ -147,10 +147,6 @@ goes_start f r v comps = let z : 0 * comps ≡ 0 = omega arith in rw z refl
 pub corrected_start : (f : List ℤ → ℤ) (r : Range) (v out : List ℤ) (comps : ℕ) → Corrected f r v out (0 * comps)
 corrected_start f r v out comps = let z : 0 * comps ≡ 0 = omega arith in rw z refl
 
--- the values of an entry are among those of all entries
-pub entry_within : (n e comps len : ℕ) → e < n → len ≡ n * comps → e * comps + comps ≤ len
-entry_within n e comps len h is = let m = entry_below e n comps h in omega arith
-
 -- all entries are passed
 pub all_entries : (n e comps len : ℕ) → n ≤ e → len ≡ n * comps → len ≤ e * comps
 all_entries n e comps len h is = let m : n * comps ≤ e * comps = mul-le-mul_right comps h in omega arith

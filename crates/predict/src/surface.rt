@@ -51,6 +51,7 @@ pub(crate) fn surface_of<'t>(t: &'t SideTable, o: &'t Order) -> Surface<'t>
     ensures walked { walked_in result ≡ walked t.now o.now }
     ensures count { length result.corners.now ≡ length o.now.corner_of_entry }
 {
+    // For the prover alone: the entries of a table are a gluing, with three for each face.
     let _faces = t.face_count();
     Surface {
         across: entries_of::<Brand>(t, Blank::new(1)),
@@ -121,8 +122,8 @@ impl Surface<'_> {
         }
     }
 
-    #[tactic(auto, unfolding(crate::specs::Walked::at_corner))]
     /// The face across the side of a corner, where there is one whose entries come before entry `e`.
+    #[tactic(auto, unfolding(crate::specs::Walked::at_corner))]
     pub(crate) fn at_corner(&self, e: usize, corner: u32) -> Option<FaceAcross>
         requires surface { IsSurface self.now }
         requires corner { corner < length self.now.entries.now }

@@ -1,13 +1,14 @@
 -- Bits that were made of flags tell these flags.
 use Rattle.std.proofs.Common.{◌≡◌, ℕ, zero, suc, ◌+◌, ◌*◌, ◌<◌, Bool, true, false, List, [], ◌∷◌, ◌++◌, map, length, get_or, inl, inr, refl, ap, sym, ◌∙◌, arith}
 use Rattle.std.proofs.lemmas.List.{get_or-map, length-append, map-append}
-use Rattle.rans_binary.specs.Blocks.{Block, next_bit, after_bit, first_bits}
+use Rattle.rans_binary.specs.Blocks.{Block, next_bit, after_bit, behind, bit_of, first_bits}
+use Rattle.rans_binary.proofs.BitNumbers.{bit_of-after}
 use Rattle.corner_table.specs.Sides.{Side, side_at, Gluing}
 use Rattle.corner_table.proofs.Numbers.{number-side_at}
 use Rattle.corner_table.proofs.Places.{option_tells}
 use Rattle.seams.specs.Seams.{flag_at}
 use Rattle.corner_table.specs.Pairs.{has_bit, bit_sides}
-use Rattle.seams.specs.SeamBits.{place_in, told, bit_of, after_bits}
+use Rattle.seams.specs.SeamBits.{place_in, told}
 use Rattle.seams.specs.Pairs.{bit_sides_below}
 use Rattle.seams.specs.Laws.{BitsTellFlags, BlockTellsFlags}
 use Rattle.seams.proofs.Listing.{listed-is}
@@ -35,25 +36,16 @@ bits_tell_flags faces g flags bits G A same = sym (listed-is faces flags (told f
 pub first_bits-at : (n : ℕ) (b : Block) (i : ℕ) → i < n → get_or (first_bits n b) i false ≡ bit_of b i
 first_bits-at zero b i h = absurd (omega arith)
 first_bits-at (suc n) b zero h = refl
-first_bits-at (suc n) b (suc i) h = first_bits-at n (after_bit b) i (omega arith)
+first_bits-at (suc n) b (suc i) h = first_bits-at n (after_bit b) i (omega arith) ∙ bit_of-after b i
 
 pub block_tells_flags : BlockTellsFlags
 block_tells_flags faces g flags b G A first =
     bits_tell_flags faces g flags (bit_of b) G A (λ i h. sym (first_bits-at (length (bit_sides faces g)) b i h) ∙ ap (λ bits. get_or bits i false) first)
 
--- the next bit after k bits
-pub next_of-after : (k : ℕ) (b : Block) → next_bit (after_bits k b) ≡ bit_of b k
-next_of-after zero b = refl
-next_of-after (suc k) b = next_of-after k (after_bit b)
-
-pub after_one : (k : ℕ) (b : Block) → after_bit (after_bits k b) ≡ after_bits (suc k) b
-after_one zero b = refl
-after_one (suc k) b = after_one k (after_bit b)
-
 -- the next bit is that of the next side
 pub next_tells : (faces : ℕ) (g : Gluing) (n : ℕ) (b : Block) → n < 3 * faces → has_bit g (side_at n) ≡ true →
-    next_bit (after_bits (length (bit_sides_below n g)) b) ≡ bit_of b (place_in (bit_sides faces g) (side_at n))
-next_tells faces g n b h t = next_of-after (length (bit_sides_below n g)) b ∙ ap (bit_of b) (sym (place_is faces g n h t))
+    next_bit (behind (length (bit_sides_below n g)) b) ≡ bit_of b (place_in (bit_sides faces g) (side_at n))
+next_tells faces g n b h t = ap (bit_of b) (sym (place_is faces g n h t))
 
 -- the bits of the sides so far
 bits_longer : (g : Gluing) (n : ℕ) → has_bit g (side_at n) ≡ true → suc (length (bit_sides_below n g)) ≡ length (bit_sides_below (n + 1) g)
@@ -62,15 +54,15 @@ bits_longer g n t =
     let l = length-append (bit_sides_below n g) (side_at n ∷ []) in
     omega arith
 
-pub flag_next : (faces : ℕ) (g : Gluing) (n : ℕ) (flag : Bool) (old b : Block) → n < 3 * faces → has_bit g (side_at n) ≡ true → old ≡ after_bits (length (bit_sides_below n g)) b → flag ≡ next_bit old →
+pub flag_next : (faces : ℕ) (g : Gluing) (n : ℕ) (flag : Bool) (old b : Block) → n < 3 * faces → has_bit g (side_at n) ≡ true → old ≡ behind (length (bit_sides_below n g)) b → flag ≡ next_bit old →
     flag ≡ bit_of b (place_in (bit_sides faces g) (side_at n))
 flag_next faces g n flag old b h t o e = e ∙ ap next_bit o ∙ next_tells faces g n b h t
 
-pub block_more : (g : Gluing) (n : ℕ) (new old b : Block) → has_bit g (side_at n) ≡ true → old ≡ after_bits (length (bit_sides_below n g)) b → new ≡ after_bit old → new ≡ after_bits (length (bit_sides_below (n + 1) g)) b
-block_more g n new old b t o e = e ∙ ap after_bit o ∙ after_one (length (bit_sides_below n g)) b ∙ ap (λ k. after_bits k b) (bits_longer g n t)
+pub block_more : (g : Gluing) (n : ℕ) (new old b : Block) → has_bit g (side_at n) ≡ true → old ≡ behind (length (bit_sides_below n g)) b → new ≡ after_bit old → new ≡ behind (length (bit_sides_below (n + 1) g)) b
+block_more g n new old b t o e = e ∙ ap after_bit o ∙ ap (λ k. behind k b) (bits_longer g n t)
 
-pub block_over : (g : Gluing) (n : ℕ) (old b : Block) → has_bit g (side_at n) ≡ false → old ≡ after_bits (length (bit_sides_below n g)) b → old ≡ after_bits (length (bit_sides_below (n + 1) g)) b
-block_over g n old b t o = o ∙ ap (λ (xs : List Side). after_bits (length xs) b) (sym (below_more_no g n t))
+pub block_over : (g : Gluing) (n : ℕ) (old b : Block) → has_bit g (side_at n) ≡ false → old ≡ behind (length (bit_sides_below n g)) b → old ≡ behind (length (bit_sides_below (n + 1) g)) b
+block_over g n old b t o = o ∙ ap (λ (xs : List Side). behind (length xs) b) (sym (below_more_no g n t))
 
 pub bits_end : (faces n : ℕ) (g : Gluing) → n ≡ 3 * faces → bit_sides_below n g ≡ bit_sides faces g
 bits_end faces n g e = ap (λ k. bit_sides_below k g) e ∙ sym (bits_are faces g)

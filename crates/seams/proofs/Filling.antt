@@ -4,10 +4,10 @@ use Rattle.std.specs.List.{All}
 use Rattle.std.proofs.lemmas.List.{get_or-map, length-map, length-take, length-append, length-replicate, get_or-append_right, get_or-replicate, get_or-drop, map-set, map_more}
 use Rattle.std.proofs.lemmas.List.Elements.{All-nil, All-cons}
 use Rattle.std.proofs.Math.Seq.{set-append_seam}
-use Rattle.rans_binary.specs.Blocks.{Block}
+use Rattle.rans_binary.specs.Blocks.{Block, bit_of}
 use Rattle.corner_table.specs.Sides.{Gluing, IsGluing}
 use Rattle.seams.specs.Seams.{AreFlags}
-use Rattle.seams.specs.SeamBits.{bit_of, flags_of}
+use Rattle.seams.specs.SeamBits.{flags_of}
 use Rattle.seams.proofs.Values.{told_are_flags}
 
 length-front : {B X : Type 0} (F : X → B) (xs : List X) (k : ℕ) → k < length xs → length (map F (take k xs)) ≡ k

@@ -1,8 +1,8 @@
 -- Seam bits: one for each pair of sides, in the order of the sides of the lesser face (Draco Bitstream Specification 2.2, section
 -- Edgebreaker Connectivity, attribute seams).
-use Rattle.std.specs.Prelude.{ℕ, zero, suc, Bool, true, cond, List, map, Some, None}
+use Rattle.std.specs.Prelude.{ℕ, Bool, true, cond, List, map, Some, None}
 use Rattle.std.specs.List.{position_or_len}
-use Rattle.rans_binary.specs.Blocks.{Block, next_bit, after_bit}
+use Rattle.rans_binary.specs.Blocks.{Block, bit_of}
 use Rattle.corner_table.specs.Sides.{Side, same, Gluing}
 use Rattle.corner_table.specs.Pairs.{has_bit, bit_sides}
 use Rattle.seams.specs.Seams.{listed}
@@ -22,16 +22,6 @@ of_pairs flags g x = elim (g x) [ None ↦ true | Some y ↦ flags (cond (has_bi
 -- the flags that seam bits tell, of which bit i is that of the side at place i
 abbrev pub told : ℕ → Gluing → (ℕ → Bool) → Side → Bool
 told faces g bits = of_pairs (λ x. bits (place_in (bit_sides faces g) x)) g
-
--- bit k of a block
-abbrev pub bit_of : Block → ℕ → Bool
-bit_of b zero = next_bit b
-bit_of b (suc k) = bit_of (after_bit b) k
-
--- a block after k bits
-abbrev pub after_bits : ℕ → Block → Block
-after_bits zero b = b
-after_bits (suc k) b = after_bits k (after_bit b)
 
 -- the flags that a block's next bits tell
 abbrev pub flags_of : ℕ → Gluing → Block → List Bool

@@ -36,6 +36,7 @@ fn span_of(m: &CornerMesh, attr: u8) -> (usize, usize)
     ensures end { result.1 ≡ result.0 + heads_width (take 1 (drop attr m.now.heads)) }
     ensures within { result.1 ≤ heads_width m.now.heads }
 {
+    // For the prover alone: a row has 1 to 128 integers.
     let _width = m.width();
     let heads = m.heads();
     let k = attr as usize;
@@ -150,6 +151,7 @@ pub fn seams_of(alloc: Global, m: &CornerMesh, t: &SideTable, attr: u8) -> Resul
     ensures seams { IfOk result (λ v. v.items ≡ listed t.now.faces (is_seam m.now attr (gluing_of t.now))) }
     ensures flags { IfOk result (λ v. AreFlags t.now.faces (gluing_of t.now) v.items) }
 {
+    // For the prover alone: the entries of a table are a gluing.
     let _faces = t.face_count();
     let flags = marked(alloc, m, t, attr)?;
     Ok(flags)

@@ -4,10 +4,10 @@ ghost use Rattle.std.specs.Prelude.{◌≡◌, ℕ, ◌*◌, ◌<◌, ◌≤◌,
 ghost use Rattle.drc_base.specs.declared.limits.TheConstants.{MAX_FACES as most_faces};
 ghost use Rattle.corner_table.specs.Sides.{IsGluing};
 ghost use Rattle.corner_table.specs.Table.{gluing_of, glued_in};
-ghost use Rattle.rans_binary.specs.Blocks.{Block};
+ghost use Rattle.rans_binary.specs.Blocks.{behind};
 ghost use Rattle.seams.specs.Seams.{AreFlags};
 ghost use Rattle.corner_table.specs.Pairs.{bit_sides};
-ghost use Rattle.seams.specs.SeamBits.{after_bits, flags_of};
+ghost use Rattle.seams.specs.SeamBits.{flags_of};
 
 use crate::sides::{all_set, later_side, sides_across};
 use corner_table::SideTable;
@@ -26,8 +26,8 @@ fn read_block<'a>(
     requires gluing { IsGluing faces (glued_in across.now) }
     requires room { 3 * faces ≤ length across.now }
     requires set { flags.old ≡ replicate (3 * faces) true }
-    ensures flags { flags.new ≡ flags_of faces (glued_in across.now) block }
-    ensures after { result ≡ after_bits (length (bit_sides faces (glued_in across.now))) block }
+    ensures flags { flags.new ≡ flags_of faces (glued_in across.now) block.entry }
+    ensures after { result ≡ behind (length (bit_sides faces (glued_in across.now))) block.entry }
 {
     let mut ahead = block;
     for side in 0..3 * faces {
@@ -61,7 +61,7 @@ fn read_each(
     blocks: &mut [BitBlock<'_>],
 ) -> Result<Vec<Vec<bool>>, Memory>
     ensures flags { IfOk result (λ v. map (λ s. s.items) v.items ≡ map (flags_of t.now.faces (gluing_of t.now)) blocks.old) }
-    ensures after { IfOk result (λ v. blocks.new ≡ map (after_bits (length (bit_sides t.now.faces (gluing_of t.now)))) blocks.old) }
+    ensures after { IfOk result (λ v. blocks.new ≡ map (behind (length (bit_sides t.now.faces (gluing_of t.now)))) blocks.old) }
     ensures refused { OnErr result (blocks.new ≡ blocks.old) }
 {
     let faces = t.face_count();
@@ -85,9 +85,10 @@ pub fn read_seams(
 ) -> Result<Vec<Vec<bool>>, Memory>
     ensures flags { IfOk result (λ v. map (λ s. s.items) v.items ≡ map (flags_of t.now.faces (gluing_of t.now)) blocks.old) }
     ensures sound { IfOk result (λ v. All (AreFlags t.now.faces (gluing_of t.now)) (map (λ s. s.items) v.items)) }
-    ensures after { IfOk result (λ v. blocks.new ≡ map (after_bits (length (bit_sides t.now.faces (gluing_of t.now)))) blocks.old) }
+    ensures after { IfOk result (λ v. blocks.new ≡ map (behind (length (bit_sides t.now.faces (gluing_of t.now)))) blocks.old) }
     ensures refused { OnErr result (blocks.new ≡ blocks.old) }
 {
+    // For the prover alone: the entries of a table are a gluing.
     let _faces = t.face_count();
     let lists = read_each(alloc, t, blocks)?;
     Ok(lists)

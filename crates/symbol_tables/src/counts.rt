@@ -101,6 +101,7 @@ fn normal_of(alloc: Global, counts: &[u32], bits: u32) -> Result<Vec<u32>, Memor
     let mut probs = shares_of(alloc, counts, slots)?;
     let at = most_frequent_in(counts);
     let left = slots - total_of(probs.as_slice());
+    // For the prover alone: the list has a name of its own while it is written.
     let probs_now = probs.as_mut_slice();
     probs_now[at] += left;
     Ok(probs)

@@ -95,6 +95,7 @@ impl Ranks {
         ensures stored { OnOk result (IsRanked s.now self.new) }
         ensures ranked { OnOk result (ranked_of self.new ≡ pushed rate (side_at corner) (ranked_of self.old)) }
     {
+        // For the prover alone: the number of faces is within its range.
         let _ = &s.faces;
         match rate {
             0 => {

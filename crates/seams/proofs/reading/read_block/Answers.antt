@@ -2,7 +2,7 @@
 use Rattle.std.proofs.Common.{ap, ◌∙◌, length, List, refl, arith}
 use Rattle.corner_table.specs.Sides.{Side}
 use Rattle.corner_table.specs.Table.{glued_in}
-use Rattle.seams.specs.SeamBits.{after_bits}
+use Rattle.rans_binary.specs.Blocks.{behind}
 use Rattle.seams.proofs.Telling.{told_start, told_over, told_more, told_end}
 use Rattle.seams.proofs.Blocks.{flag_next, block_more, block_over, bits_end}
 use Rattle.seams.proofs.reading.read_block.Goals.{in-Some, in-None}
@@ -22,12 +22,12 @@ loop-side-preserved c =
     elim c.match-later_side.branch [
       | in-Some w ↦ (let T = w.in-Some.ensures in record {
         told = rw w.flags-is (told_more c.args.faces g _ c.loop-side.side w.in-Some.other w.next-flag.result c.loop-side.flags c.requires.gluing small A.told T
-            (flag_next c.args.faces g c.loop-side.side w.next-flag.result c.loop-side.block _ small T.0 A.block w.next-flag.ensures.bit));
-        block = rw w.block-is (block_more g c.loop-side.side _ c.loop-side.block _ T.0 A.block w.next-flag.ensures.after);
+            (flag_next c.args.faces g c.loop-side.side w.next-flag.result c.loop-side.ahead _ small T.0 A.block w.next-flag.ensures.bit));
+        block = rw w.ahead-is (block_more g c.loop-side.side _ c.loop-side.ahead _ T.0 A.block w.next-flag.ensures.after);
       })
       | in-None w ↦ record {
         told = rw w.flags-is (told_over c.args.faces g _ c.loop-side.side c.loop-side.flags A.told w.in-None.ensures);
-        block = rw w.block-is (block_over g c.loop-side.side c.loop-side.block _ w.in-None.ensures A.block);
+        block = rw w.ahead-is (block_over g c.loop-side.side c.loop-side.ahead _ w.in-None.ensures A.block);
       }
     ]
 
@@ -41,4 +41,4 @@ pub returns-clause-after : goal.returns-clause-after
 returns-clause-after c =
     let n = c.loop-side-test.false in
     let e = c.loop-side.auto.side-end in
-    c.loop-side.invariant.block ∙ ap (λ (xs : List Side). after_bits (length xs) c.args.block.now) (bits_end c.args.faces c.loop-side.side (glued_in c.args.across.now) (omega arith))
+    c.loop-side.invariant.block ∙ ap (λ (xs : List Side). behind (length xs) c.args.block) (bits_end c.args.faces c.loop-side.side (glued_in c.args.across.now) (omega arith))

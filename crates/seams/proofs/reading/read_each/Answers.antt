@@ -5,7 +5,8 @@ use Rattle.std.proofs.lemmas.List.{with_items_is, length-replicate}
 use Rattle.std.proofs.lemmas.List.Edits.{map_over_more}
 use Rattle.corner_table.specs.Table.{gluing_of, glued_in}
 use Rattle.corner_table.specs.Pairs.{bit_sides}
-use Rattle.seams.specs.SeamBits.{bit_of, told, after_bits, flags_of}
+use Rattle.rans_binary.specs.Blocks.{behind, bit_of}
+use Rattle.seams.specs.SeamBits.{told, flags_of}
 use Rattle.seams.proofs.Listing.{length-listed}
 use Rattle.seams.proofs.Filling.{filled_at, filled_more, passed_at}
 use Rattle.seams.proofs.reading.read_each.Goals as goal
@@ -34,11 +35,13 @@ loop-k-preserved c =
     let is = c.index-blocks-k.is in
     let inside : c.loop-k.k < length c.args.blocks.now = omega arith in
     let block_is : b ≡ get_or c.args.blocks.now c.loop-k.k b =
-    passed_at (after_bits (length (bit_sides faces g))) c.args.blocks.now c.loop-k.blocks c.loop-k.k b inside c.loop-k.invariant.blocks (ap (λ x. get_or c.loop-k.blocks c.loop-k.k x) is) in
+    passed_at (behind (length (bit_sides faces g))) c.args.blocks.now c.loop-k.blocks c.loop-k.k b inside c.loop-k.invariant.blocks (ap (λ x. get_or c.loop-k.blocks c.loop-k.k x) is) in
+    let copied : c.copy.result ≡ b = c.copy.ensures in
     let told_is : c.read_block.new.flags ≡ flags_of faces g b =
-    c.read_block.ensures.flags ∙ ap (λ xs. flags_of c.face_count-faces.result (glued_in xs) b) es ∙ ap (λ n. flags_of n g b) count in
-    let after_is : c.read_block.new.block ≡ after_bits (length (bit_sides faces g)) b =
-    c.read_block.ensures.after ∙ ap (λ xs. after_bits (length (bit_sides c.face_count-faces.result (glued_in xs))) b) es ∙ ap (λ n. after_bits (length (bit_sides n g)) b) count in
+    c.read_block.ensures.flags ∙ ap (flags_of c.face_count-faces.result (glued_in c.sides_across-across.result.now)) copied ∙ ap (λ xs. flags_of c.face_count-faces.result (glued_in xs) b) es ∙ ap (λ n. flags_of n g b) count in
+    let after_is : c.read_block.result ≡ behind (length (bit_sides faces g)) b =
+    c.read_block.ensures.after ∙ ap (behind (length (bit_sides c.face_count-faces.result (glued_in c.sides_across-across.result.now)))) copied
+    ∙ ap (λ xs. behind (length (bit_sides c.face_count-faces.result (glued_in xs))) b) es ∙ ap (λ n. behind (length (bit_sides n g)) b) count in
     let v = c.index_mut.result.now in
     let first : v.items ≡ replicate (3 * faces) true =
     filled_at (λ (w : Vec Bool Global). w.items) (flags_of faces g) (replicate (3 * faces) true) c.args.blocks.now c.loop-k.lists.items c.loop-k.k v inside c.loop-k.invariant.lists c.index_mut.ensures.value in
@@ -47,6 +50,6 @@ loop-k-preserved c =
     record {
       lists = filled_more (λ (w : Vec Bool Global). w.items) (flags_of faces g) (replicate (3 * faces) true) c.args.blocks.now c.loop-k.lists.items c.loop-k.k b (with_items v c.read_block.new.flags) inside
           c.loop-k.invariant.lists block_is (with_items_is v c.read_block.new.flags (new_long ∙ sym old_long) ∙ told_is);
-      blocks = ap (λ x. set c.loop-k.blocks c.loop-k.k x) after_is ∙ map_over_more (after_bits (length (bit_sides faces g))) c.args.blocks.now c.loop-k.blocks c.loop-k.k b inside c.loop-k.invariant.blocks
+      blocks = ap (λ x. set c.loop-k.blocks c.loop-k.k x) after_is ∙ map_over_more (behind (length (bit_sides faces g))) c.args.blocks.now c.loop-k.blocks c.loop-k.k b inside c.loop-k.invariant.blocks
           (ap (λ x. get_or c.loop-k.blocks c.loop-k.k x) is);
     }

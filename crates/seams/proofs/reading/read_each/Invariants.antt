@@ -2,12 +2,13 @@
 use Rattle.std.proofs.Common.{◌≡◌, ◌-◌, ◌*◌, ◌++◌, map, take, drop, length, replicate, true}
 use Rattle.corner_table.specs.Table.{gluing_of}
 use Rattle.corner_table.specs.Pairs.{bit_sides}
-use Rattle.seams.specs.SeamBits.{after_bits, flags_of}
+use Rattle.rans_binary.specs.Blocks.{behind}
+use Rattle.seams.specs.SeamBits.{flags_of}
 use Rattle.seams.proofs.reading.read_each.Given as goal
 
 abbrev pub invariant-loop-k : goal.invariant-loop-k
 invariant-loop-k l = record {
   lists : map (λ s. s.items) l.lists.items
       ≡ map (flags_of l.t.faces (gluing_of l.t)) (take l.k l.fn.blocks) ++ replicate (length l.fn.blocks - l.k) (replicate (3 * l.t.faces) true);
-  blocks : l.blocks ≡ map (after_bits (length (bit_sides l.t.faces (gluing_of l.t)))) (take l.k l.fn.blocks) ++ drop l.k l.fn.blocks;
+  blocks : l.blocks ≡ map (behind (length (bit_sides l.t.faces (gluing_of l.t)))) (take l.k l.fn.blocks) ++ drop l.k l.fn.blocks;
 }
