@@ -63,7 +63,7 @@ fn read_decoders(
 }
 
 /// The heads of a decoder.
-fn heads_of(decoder: DecoderHead) -> Vec<Head>
+pub fn heads_of(decoder: DecoderHead) -> Vec<Head>
     ensures { result.items ≡ decoder.heads }
 {
     let DecoderHead {

@@ -11,13 +11,17 @@ mod choosing;
 mod coded_values;
 mod contents;
 mod decoding;
+mod edgebreaker;
 mod encoding;
 mod headers;
 mod laws;
 mod methods;
+mod placed;
+mod placing;
 mod points;
 mod refusals;
 mod seen;
+mod walking;
 mod writing;
 
 pub use choices::{Choice, Index, Predict, Walk};
