@@ -1,17 +1,17 @@
 -- The attributes of an Edgebreaker mesh that were read are tables for assembling.
 use Rattle.drc_base.specs.Profile.{profile_two}
-use Rattle.std.proofs.Common.{◌≡◌, ℕ, suc, ◌+◌, ◌*◌, ◌<◌, ◌≤◌, true, List, [], ◌∷◌, ◌++◌, length, Option, Some, None, Ok, refl, sym, ◌∙◌, ap, arith, length-append}
+use Rattle.std.proofs.Common.{◌≡◌, ℕ, suc, ◌+◌, ◌*◌, ◌<◌, ◌≤◌, true, List, [], ◌∷◌, ◌++◌, length, Option, Some, Ok, refl, sym, ◌∙◌, ap, arith, length-append}
 use Rattle.std.specs.List.{All, zip, list_all}
 use Rattle.std.proofs.Math.Nat.{mul-le-mul_right}
 use Rattle.std.proofs.lemmas.List.{map-append}
 use Rattle.std.proofs.lemmas.List.Sums.{sum_by-cons, sum_by-append, AllPass-from_list_all}
 use Rattle.std.proofs.lemmas.List.Elements.{All-nil, All-cons, All-head, All-tail, All-append}
-use Rattle.drc_base.specs.declared.limits.TheConstants.{MAX_VALUES}
+use Rattle.drc_base.specs.declared.limits.TheConstants.{MAX_FACES, MAX_VALUES}
 use Rattle.drc_bits.specs.Reading.{Reading, Item}
 use Rattle.mesh_model.specs.declared.heads.Head.{Head}
 use Rattle.mesh_model.specs.declared.tables.AttrTable.{AttrTable}
-use Rattle.mesh_model.specs.Head.{in_type, heads_fault}
-use Rattle.mesh_model.specs.Assembled.{IsColumn, AreColumns}
+use Rattle.mesh_model.specs.Head.{in_type}
+use Rattle.mesh_model.specs.Assembled.{IsColumn, AreColumns, AreTables}
 use Rattle.predict.specs.Walked.{Walked}
 use Rattle.attr_section.specs.declared.decoder_heads.DecoderHead.{DecoderHead}
 use Rattle.attr_section.specs.declared.values.Values.{Values}
@@ -19,7 +19,7 @@ use Rattle.attr_section.specs.Heads.{HeadPasses, attributes_of, heads_at}
 use Rattle.attr_section.specs.Values.{quants_at, decoder_values_at, attributes_at as columns_at, values_in}
 use Rattle.eb_section.specs.Connectivity.{Connectivity}
 use Rattle.drc_container.specs.declared.placed.Placed.{Placed}
-use Rattle.drc_container.specs.OnSurface.{walked_for, tables_of, placed_on, joined, values_on, decoder_on, none_placed, placed_at, attributes_on}
+use Rattle.drc_container.specs.OnSurface.{walked_for, tables_of, placed_on, joined, values_on, decoder_on, none_placed, placed_at}
 use Rattle.drc_container.proofs.Parted.{given, parts}
 use Rattle.drc_container.proofs.Headed.{IsHead, shapes, quants-passed, DecoderRead, heads-read, heads-none}
 use Rattle.drc_container.proofs.Whole.{AreTyped, AreColumns as ColumnsWithin, columns-from, shapes-length}
@@ -131,11 +131,15 @@ heads-placed s (d ∷ ds) read before are c y is =
     let sum = sum_by-cons (λ (x : DecoderHead). length x.heads) d ds in
     (rest.0, rest.1 ∙ omega (arith, length-append before.heads p.0.0.heads, part.1, sum))
 
--- the heads of attributes that were read have no fault
-pub heads-whole : (s : Connectivity) (c : Reading) (y : Placed × Reading) → attributes_on profile_two s c ≡ Ok y → heads_fault y.0.heads ≡ None
-unfolding attributes_on
-heads-whole s c y is =
-    let p = parts (heads_at (Some s.attr_data) c) (λ d. placed_at profile_two s none_placed d.0 d.1) y is in
-    let read = heads-read (Some s.attr_data) c p.0 p.1 in
-    let all = heads-placed s p.0.0 read.each none_placed (All-nil IsHead) p.0.1 y p.2 in
-    heads-none y.0.heads (omega (arith, all.1, read.some)) (omega (arith, all.1, read.few)) all.0
+-- attributes that were read on a surface are tables for assembling
+pub tables-whole : (s : Connectivity) (c d e : Reading) (ds : List DecoderHead) (a : Placed) → heads_at (Some s.attr_data) c ≡ Ok (ds, d)
+    → placed_at profile_two s none_placed ds d ≡ Ok (a, e) → s.faces ≤ MAX_FACES → AreColumns (3 * s.faces) a.heads a.tables
+    → AreTables a.heads a.tables s.faces
+tables-whole s c d e ds a heads placed few columns =
+    let read = heads-read (Some s.attr_data) c (ds, d) heads in
+    let all = heads-placed s ds read.each none_placed (All-nil IsHead) d (a, e) placed in
+    record {
+      heads_pass = heads-none a.heads (omega (arith, all.1, read.some)) (omega (arith, all.1, read.few)) all.0;
+      few_faces = few;
+      columns = columns;
+    }

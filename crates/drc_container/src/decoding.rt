@@ -59,6 +59,7 @@ pub fn decode_whole(alloc: Global, bytes: &[u8]) -> Result<Decoded, Refusal>
 #[tactic(auto, unfolding(crate::specs::Stream::mesh_at))]
 fn read_mesh(alloc: Global, c: &mut Cursor<'_>) -> Result<Decoded, Refusal>
     ensures mesh { Answers told_by (mesh_at profile_two c.old) result }
+    ensures sides { IfOk result (λ d. d.sides ≡ None) }
     ensures early { (f : AnyFault) → opening_at profile_two c.old ≡ Err f → result ≡ Err (refusal.Fault f) }
 {
     let from = c.place();
@@ -74,7 +75,8 @@ fn read_mesh_values(
     from: u64,
     indices: SeqRead,
 ) -> Result<Decoded, Refusal>
-    ensures { Answers told_by (mesh_behind profile_two from indices c.old) result }
+    ensures mesh { Answers told_by (mesh_behind profile_two from indices c.old) result }
+    ensures sides { IfOk result (λ d. d.sides ≡ None) }
 {
     let to = c.place();
     let points = indices.points;
@@ -108,6 +110,7 @@ fn mesh_of(
 #[tactic(auto, unfolding(crate::specs::Stream::cloud_at))]
 fn read_cloud(alloc: Global, c: &mut Cursor<'_>) -> Result<Decoded, Refusal>
     ensures cloud { Answers told_by (cloud_at profile_two c.old) result }
+    ensures sides { IfOk result (λ d. d.sides ≡ None) }
     ensures early { (f : AnyFault) → cloud_points_at profile_two c.old ≡ Err f → result ≡ Err (refusal.Fault f) }
 {
     let from = c.place();
@@ -123,7 +126,8 @@ fn read_cloud_values(
     from: u64,
     points: u32,
 ) -> Result<Decoded, Refusal>
-    ensures { Answers told_by (cloud_behind profile_two from points c.old) result }
+    ensures cloud { Answers told_by (cloud_behind profile_two from points c.old) result }
+    ensures sides { IfOk result (λ d. d.sides ≡ None) }
 {
     let to = c.place();
     let attributes = read_attributes(alloc, c, points)?;

@@ -12,6 +12,8 @@ mod coded_values;
 mod contents;
 mod decoding;
 mod edgebreaker;
+#[cfg(test)]
+mod edgebreaker_tests;
 mod encoding;
 mod headers;
 mod laws;

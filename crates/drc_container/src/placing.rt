@@ -125,5 +125,6 @@ pub fn read_attributes_on(
     ensures tables { IfOk result (λ p. AreTables p.heads p.tables surface.now.sides.table.faces) }
 {
     let decoders = read_heads(alloc, c, Some(surface.attr_data))?;
-    read_each(alloc, c, surface, decoders)
+    let placed = read_each(alloc, c, surface, decoders)?;
+    Ok(placed)
 }
