@@ -65,10 +65,13 @@ unfoldable pub standard_at : Reading → Item Standard
 standard_at c = do
   size ← var64_at c
   coded ← bytes_at size.0 size.1
-  Ok (record {
-    short = record { kind = kind.Short; at = size.1.place };
-    place = record { place = record { bytes = coded.0; taken = 0 }; begun = false };
-  }, coded.1)
+  Ok (
+    record {
+      short = record { kind = kind.Short; at = size.1.place };
+      place = record { place = record { bytes = coded.0; taken = 0 }; begun = false };
+    },
+    coded.1,
+  )
 
 -- the symbols of one context of the valence traversal: how many there are, and those
 unfoldable pub list_at : ℕ → Reading → Item (List ℕ)

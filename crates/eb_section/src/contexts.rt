@@ -9,8 +9,7 @@ ghost use Rattle.eb_section.specs.Connectivity.{list_at};
 use crate::opening::read_count;
 use drc_base::{Kind, Refusal};
 use drc_bits::Cursor;
-use eb_valence::ContextReader;
-use eb_valence::ContextLists;
+use eb_valence::{ContextLists, ContextReader};
 use std::alloc::Global;
 use symbol_coding::read_symbols;
 

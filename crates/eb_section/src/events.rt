@@ -1,7 +1,7 @@
 //! Reading split events (Isenburg and Snoeyink 2001; Draco Bitstream Specification 2.2, section
 //! "Edgebreaker Connectivity", topology splits).
 
-ghost use Rattle.std.specs.Prelude.{◌≡◌, ℕ, ◌+◌, ◌*◌, ◌<◌, ◌≤◌, Err, All, IfOk, take, length, vec_len};
+ghost use Rattle.std.specs.Prelude.{◌≡◌, ℕ, ◌+◌, ◌*◌, ◌<◌, ◌≤◌, ◌==◌, Err, All, IfOk, take, length, vec_len};
 ghost use Rattle.drc_base.specs.declared.limits.TheConstants.{MAX_FACES as most_faces};
 ghost use Rattle.drc_base.specs.declared.faults.Fault.{Fault as AnyFault};
 ghost use Rattle.drc_bits.specs.Bits.{bits_of, bits_left};
@@ -78,12 +78,19 @@ fn read_each_numbers(
     Ok(numbers)
 }
 
+/// Whether a bit is that of the right side.
+fn is_right(bit: u32) -> bool
+    ensures { result ≡ (bit == 1) }
+{
+    bit == 1
+}
+
 /// Whether the next bit, which is there, is that of the right side.
 fn next_side(sides: &mut BitReader<'_>) -> bool
     requires { 0 < length (bits_left sides.old) }
     ensures { IsSideBefore result (bits_left sides.new) (bits_left sides.old) }
 {
-    sides.bits(1).unwrap() == 1
+    is_right(sides.bits(1).unwrap())
 }
 
 /// The events of these numbers, with their sides in the bits of these bytes.

@@ -45,12 +45,7 @@ pub struct EbRead<'a> {
 }
 
 /// What was read, of these parts.
-fn read_of<'a>(
-    sides: Built,
-    opening: Opening,
-    seams: Vec<BitBlock<'a>>,
-    events: u32,
-) -> EbRead<'a>
+fn read_of<'a>(sides: Built, opening: Opening, seams: Vec<BitBlock<'a>>, events: u32) -> EbRead<'a>
     ensures { result ≡ record { sides = sides; valence = opening.valence; attr_data = opening.attr_data; seams = seams.entry.items; symbols = opening.symbols; splits = opening.splits; events = events } }
 {
     EbRead {
@@ -90,10 +85,10 @@ fn read_standard<'a, L: Ledger>(
 {
     let count = events.len() as u32;
     let source = BitSource::read(c)?;
-    let starts = BitBlock::read(c)?;
-    let seams = read_blocks(alloc, c, opening.attr_data)?;
-    let sides = rebuild_linked(alloc, opening, events, source, starts, steps)?;
-    Ok(read_of(sides, opening, seams, count))
+    let start_bits = BitBlock::read(c)?;
+    let seam_bits = read_blocks(alloc, c, opening.attr_data)?;
+    let sides = rebuild_linked(alloc, opening, events, source, start_bits, steps)?;
+    Ok(read_of(sides, opening, seam_bits, count))
 }
 
 /// Reads what is behind the events of the valence traversal: the block of start bits, those of seam bits,

@@ -65,11 +65,13 @@ fn reads<L: Ledger>(
         read.events,
     ];
     let is_same = read.sides.table().across(&mut steps) == entries;
-    Ok(is_same
-        && read.valence == valence
-        && told == numbers
-        && read.seams.len() == usize::from(read.attr_data)
-        && c.rest().len() == 2)
+    Ok(
+        is_same
+            && read.valence == valence
+            && told == numbers
+            && read.seams.len() == usize::from(read.attr_data)
+            && c.rest().len() == 2,
+    )
 }
 
 /// The fault of a section, where the cursor then is at its start.
@@ -81,13 +83,7 @@ fn fault_of<L: Ledger>(alloc: Global, bytes: &[u8], blank: Blank) -> Option<Faul
     let mut steps = Steps::<L>::new(blank);
     let mut c = Cursor::new(bytes);
     match read_connectivity(alloc, &mut c, &mut steps) {
-        Err(Refusal::Fault(fault)) => {
-            if c.place() == 0 {
-                Some(fault)
-            } else {
-                None
-            }
-        }
+        Err(Refusal::Fault(fault)) => { if c.place() == 0 { Some(fault) } else { None } }
         _ => None,
     }
 }
@@ -165,9 +161,7 @@ fn reads_standard(rt: HostRuntime) -> Result<(), Fail> {
         ),
         // As many declared vertices as there may be.
         (
-            &[
-                0, 0x80, 0x80, 0x80, 2, 1, 0, 1, 0, 0, 1, 7, 0xff, 1, 0x11,
-            ],
+            &[0, 0x80, 0x80, 0x80, 2, 1, 0, 1, 0, 0, 1, 7, 0xff, 1, 0x11],
             [0, 1, 0, 0],
             &[FREE, FREE, FREE],
         ),
@@ -199,17 +193,9 @@ fn refuses_faults(rt: HostRuntime) {
         (&[0, 3, 2, 0, 2, 1, 1, 2], Kind::EventDelta, 7),
         (&[0, 3, 2, 0, 2, 1, 1, 1, 2], Kind::EventDelta, 8),
         // The second source is counted from the first.
-        (
-            &[0, 3, 3, 0, 3, 1, 2, 2, 0, 1],
-            Kind::EventDelta,
-            9,
-        ),
+        (&[0, 3, 3, 0, 3, 1, 2, 2, 0, 1], Kind::EventDelta, 9),
         // A block without zeros, and one without a first state.
-        (
-            &[0, 3, 1, 0, 1, 0, 0, 1, 7, 0, 1, 0x11],
-            Kind::BadProb,
-            9,
-        ),
+        (&[0, 3, 1, 0, 1, 0, 0, 1, 7, 0, 1, 0x11], Kind::BadProb, 9),
         (
             &[0, 3, 1, 0, 1, 0, 0, 1, 7, 0xff, 1, 0x40],
             Kind::BadStart,
@@ -218,11 +204,7 @@ fn refuses_faults(rt: HostRuntime) {
         // Faults of the blocks come before those of the symbols.
         (&[0, 3, 1, 0, 1, 0, 0, 0, 0], Kind::BadProb, 8),
         // The bits of the first symbol, and of the third, aren't there.
-        (
-            &[0, 3, 1, 0, 1, 0, 0, 0, 0xff, 1, 0x11],
-            Kind::Short,
-            8,
-        ),
+        (&[0, 3, 1, 0, 1, 0, 0, 0, 0xff, 1, 0x11], Kind::Short, 8),
         (
             &[0, 9, 3, 0, 3, 0, 0, 1, 0xff, 0xff, 1, 0x11],
             Kind::Short,
@@ -233,11 +215,7 @@ fn refuses_faults(rt: HostRuntime) {
             Kind::NoActive,
             1,
         ),
-        (
-            &[0, 4, 3, 0, 2, 0, 0, 1, 0x2f, 1, 1, 0x10],
-            Kind::Loop,
-            2,
-        ),
+        (&[0, 4, 3, 0, 2, 0, 0, 1, 0x2f, 1, 1, 0x10], Kind::Loop, 2),
         (
             &[0, 5, 3, 0, 3, 0, 1, 1, 1, 0, 1, 0x57, 0xff, 1, 0x11],
             Kind::EventOrder,
@@ -260,11 +238,7 @@ fn refuses_faults(rt: HostRuntime) {
             Kind::Taken,
             0,
         ),
-        (
-            &[0, 3, 4, 0, 4, 0, 0, 1, 7, 0xff, 1, 0x11],
-            Kind::Alone,
-            3,
-        ),
+        (&[0, 3, 4, 0, 4, 0, 0, 1, 7, 0xff, 1, 0x11], Kind::Alone, 3),
         (
             &[0, 3, 3, 0, 3, 0, 0, 1, 7, 0xff, 1, 0x11],
             Kind::Degenerate,
@@ -286,11 +260,7 @@ fn refuses_faults(rt: HostRuntime) {
             Kind::Degenerate,
             2,
         ),
-        (
-            &[0, 9, 4, 0, 4, 0, 0, 1, 0xa7, 1, 1, 0x10],
-            Kind::Loop,
-            4,
-        ),
+        (&[0, 9, 4, 0, 4, 0, 0, 1, 0xa7, 1, 1, 0x10], Kind::Loop, 4),
         // Contexts: more than all symbols, one that has none left, and a number that is no symbol.
         (&[2, 4, 4, 0, 3, 0, 0, 1, 1, 0x10, 4], Kind::Count, 10),
         (
@@ -327,9 +297,17 @@ fn refuses_cuts(rt: HostRuntime) {
     ];
     for (bytes, first, end) in rows {
         for len in 0..bytes.len() {
-            let at = if first <= len && len < end { first } else { len };
+            let at = if first <= len && len < end {
+                first
+            } else {
+                len
+            };
             let fault = fault_of::<Brand>(alloc, &bytes[..len], Blank::new(1));
-            assert_eq!(&rt; fault, Some(Fault::new(Kind::Short, at as u64)), "at {len} of {bytes:?}");
+            assert_eq!(&rt;
+                fault,
+                Some(Fault::new(Kind::Short, at as u64)),
+                "at {len} of {bytes:?}"
+            );
         }
     }
 }

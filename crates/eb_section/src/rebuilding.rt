@@ -68,8 +68,8 @@ fn close_sides<R: Rebuild, L: Ledger>(
 {
     let mut machine = machine;
     let mut starts = starts;
-    let count = machine.pending();
-    for number in 0..count {
+    let waiting = machine.pending();
+    for number in 0..waiting {
         let interior = starts.next();
         machine.close(interior, steps)?;
     }

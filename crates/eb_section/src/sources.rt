@@ -77,7 +77,11 @@ impl SymbolSource for ContextReader {
     /// The last symbol left in the context of the machine's degree; the first symbol is E. `ContextEmpty`
     /// and `BadSymbol` at the symbol's number.
     fn draw<R: Rebuild>(&mut self, machine: &R, number: u32) -> Result<Symbol, Fault> {
-        let degree = if number == 0 { None } else { Some(machine.degree()) };
+        let degree = if number == 0 {
+            None
+        } else {
+            Some(machine.degree())
+        };
         match self.next(degree) {
             Ok(symbol) => Ok(symbol),
             Err(kind) => Err(Fault::new(kind, u64::from(number))),

@@ -2,4 +2,4 @@
 use Rattle.eb_section.proofs.reading_tests.reads_standard.Given as goal
 
 abbrev pub ghosts-reads : goal.ghosts-reads
-ghosts-reads a = record { name = a.blank.name; parts = a.blank.parts }
+ghosts-reads g a = record { name = a.blank.name; parts = a.blank.parts }

@@ -2,4 +2,4 @@
 use Rattle.eb_section.proofs.reading_tests.refuses_cuts.Given as goal
 
 abbrev pub ghosts-fault_of : goal.ghosts-fault_of
-ghosts-fault_of a = record { name = a.blank.name; parts = a.blank.parts }
+ghosts-fault_of g a = record { name = a.blank.name; parts = a.blank.parts }

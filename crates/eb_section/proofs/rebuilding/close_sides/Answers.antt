@@ -12,7 +12,7 @@ returns-in_err-close-clause-closed g c =
     let s : State = g.R.Rebuild.state c.loop-number.machine in
     let bit = bit-drawn c.loop-number.starts c.args.starts c.loop-number.number s.closes c.next-interior.result c.loop-number.invariant.bits c.loop-number.invariant.closes c.next-interior.ensures.bit in
     rw (p.1, p.2) (moves-err _ (g.R.Rebuild.state c.close.new.self) (g.R.Rebuild.live c.close.new.self) c.in_err-close.field-0.0 _ c.in_err-close.ensures.moves
-    (λ f refused. closes-refused (g.R.Rebuild.plan c.args.machine) (bit_of c.args.starts) c.pending-count.result c.loop-number.number s f _ c.loop-number.invariant.told c.loop-number-test.true
+    (λ f refused. closes-refused (g.R.Rebuild.plan c.args.machine) (bit_of c.args.starts) c.pending-waiting.result c.loop-number.number s f _ c.loop-number.invariant.told c.loop-number-test.true
     (ap (λ (q : Plan). close q (bit_of c.args.starts s.closes) s) (sym c.loop-number.invariant.plan) ∙ ap (λ (b : Bool). close (g.R.Rebuild.plan c.loop-number.machine) b s) (sym bit) ∙ refused)))
 
 pub loop-number-preserved : goal.loop-number-preserved
@@ -27,7 +27,7 @@ loop-number-preserved g c =
     let linked_before = λ (linked : IsTrue (g.R.Rebuild.linked c.args.machine)). subst (λ (b : Bool). IsTrue b) (sym c.loop-number.invariant.linked) linked in
     let faces = closed-built p c.next-interior.result s t counts in
     record {
-      told = closes-next p (bit_of c.args.starts) c.pending-count.result c.loop-number.number s t _ c.loop-number.invariant.told c.loop-number-test.true
+      told = closes-next p (bit_of c.args.starts) c.pending-waiting.result c.loop-number.number s t _ c.loop-number.invariant.told c.loop-number-test.true
           (ap (λ (b : Bool). close p b s) (sym bit) ∙ closed);
       live = c.in_ok-close.ensures.moves.1;
       plan = c.in_ok-close.ensures.plan ∙ c.loop-number.invariant.plan;
@@ -43,4 +43,4 @@ loop-number-preserved g c =
     }
 
 pub returns-clause-closed : goal.returns-clause-closed
-returns-clause-closed g c = closes-end (g.R.Rebuild.plan c.args.machine) (bit_of c.args.starts) c.pending-count.result c.loop-number.number (g.R.Rebuild.state c.loop-number.machine) _ c.loop-number.invariant.told c.loop-number-test.false
+returns-clause-closed g c = closes-end (g.R.Rebuild.plan c.args.machine) (bit_of c.args.starts) c.pending-waiting.result c.loop-number.number (g.R.Rebuild.state c.loop-number.machine) _ c.loop-number.invariant.told c.loop-number-test.false

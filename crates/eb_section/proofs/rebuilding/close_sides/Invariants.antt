@@ -9,15 +9,15 @@ invariant-loop-number g l =
     let now : State = g.R.Rebuild.state l.machine in
     let first : State = g.R.Rebuild.state l.fn.machine in
     record {
-      told : close_all (g.R.Rebuild.plan l.fn.machine) (bit_of l.fn.starts) (l.count - l.number) now ≡ close_all (g.R.Rebuild.plan l.fn.machine) (bit_of l.fn.starts) (length first.stack) first;
+      told : close_all (g.R.Rebuild.plan l.fn.machine) (bit_of l.fn.starts) (l.waiting - l.number) now ≡ close_all (g.R.Rebuild.plan l.fn.machine) (bit_of l.fn.starts) (length first.stack) first;
       live : IsTrue (g.R.Rebuild.live l.machine);
       plan : g.R.Rebuild.plan l.machine ≡ g.R.Rebuild.plan l.fn.machine;
       linked : g.R.Rebuild.linked l.machine ≡ g.R.Rebuild.linked l.fn.machine;
       bits : l.starts ≡ behind l.number l.fn.starts;
       closes : now.closes ≡ l.number;
-      waiting : length now.stack + l.number ≡ l.count;
+      waiting : length now.stack + l.number ≡ l.waiting;
       grown : first.built ≤ now.built;
       within : now.built ≤ (g.R.Rebuild.plan l.fn.machine).faces;
       cost : IsTrue (g.R.Rebuild.linked l.fn.machine) → l.steps + 12 * first.built ≤ l.fn.steps + 12 * now.built;
-      same : l.count ≡ 0 → l.steps ≡ l.fn.steps;
+      same : l.waiting ≡ 0 → l.steps ≡ l.fn.steps;
     }
