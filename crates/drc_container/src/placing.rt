@@ -74,7 +74,9 @@ fn read_for(
     ensures few { IfOk result (λ _. spent.new ≤ most_values) }
     ensures columns { IfOk result (λ p. AreColumns (3 * surface.now.sides.table.faces) p.heads p.tables) }
 {
-    if decoder.corner && let Some(id) = decoder.data_id {
+    if decoder.corner
+        && let Some(id) = decoder.data_id
+    {
         let block = seams_of(surface.seams.as_slice(), id);
         let cut = cut_at(alloc, surface.sides.table(), block)?;
         return read_on(alloc, c, &cut, decoder, spent);

@@ -112,9 +112,5 @@ pub fn attrs_seen(
 pub fn method_read(valence: bool) -> Method
     ensures { result ≡ (if valence then method.Valence else method.Eb) }
 {
-    if valence {
-        Method::Valence
-    } else {
-        Method::Eb
-    }
+    if valence { Method::Valence } else { Method::Eb }
 }
