@@ -20,7 +20,7 @@ use Rattle.mesh_model.specs.Head.{in_type}
 use Rattle.attr_section.specs.declared.values.Values.{Values}
 use Rattle.attr_section.specs.Each.{each_at}
 use Rattle.attr_section.specs.Heads.{bare_head, bare_decoder}
-use Rattle.attr_section.specs.Values.{no_prediction, prediction_of, prediction_at, predicted_at, integers_at, differences_at, typed_values_at, values_at, quant_bits_at, quant_at, quant_of_at, quantised_at, values_in, attributes_at, quants_at, decoder_values_at}
+use Rattle.attr_section.specs.Values.{no_prediction, code_of, is_prediction, prediction_of, prediction_at, predicted_at, integers_at, differences_at, typed_values_at, values_at, quant_bits_at, quant_at, quant_of_at, quantised_at, values_in, attributes_at, quants_at, decoder_values_at}
 use Rattle.attr_section.specs.Written.{integers_bytes, differences_bytes, values_bytes, quant_bytes, attributes_bytes, quants_bytes, decoder_values_bytes, HasQuant, QuantFits, placed, HaveEntries, ValuesSpelled}
 use Rattle.attr_section.proofs.Spelling.{Spells-map}
 use Rattle.attr_section.proofs.SpelledIntegers.{Spells-low_bytes, Spells-all}
@@ -29,34 +29,34 @@ use Rattle.attr_section.proofs.SpelledIntegers.{Spells-low_bytes, Spells-all}
 abbrev behind : ℕ → ℕ → List ℕ → Reading
 behind place n rest = record { place = place + n; rest = rest }
 
-Spells-prediction : (b : ℕ) → (b == 254 || b == 0) ≡ true → Spells (prediction_at profile_two) (b ∷ []) (prediction_of b)
+Spells-prediction : (b : ℕ) → is_prediction profile_two b ≡ true → Spells (prediction_at profile_two) (b ∷ []) (prediction_of b)
 unfolding prediction_at
 Spells-prediction b known =
-    Spells-map prediction_of (must kind.Prediction (λ b. b == 254 || b == 0) (number_at 1)) (b ∷ []) b
-    (Spells-must kind.Prediction (λ b. b == 254 || b == 0) (number_at 1) (b ∷ []) b known (Spells-byte b))
+    Spells-map prediction_of (must kind.Prediction (is_prediction profile_two) (number_at 1)) (b ∷ []) b
+    (Spells-must kind.Prediction (is_prediction profile_two) (number_at 1) (b ∷ []) b known (Spells-byte b))
 
 -- values of a prediction byte
-typed_values : (h : Head) (n b : ℕ) (bytes : List ℕ) (values : List ℤ) → (b == 254 || b == 0) ≡ true
-    → Spells (predicted_at (prediction_of b) h.comps n) bytes values → list_all (in_type h.dtype) values ≡ true
-    → (place : ℕ) (rest : List ℕ) → typed_values_at profile_two h n (record { place = place; rest = (b ∷ bytes) ++ rest })
-    ≡ Ok (record { values = values; predict = prediction_of b; at = place }, behind place (length (b ∷ bytes)) rest)
+typed_values : (h : Head) (n b : ℕ) (bytes : List ℕ) (values : List ℤ) → is_prediction profile_two b ≡ true
+    → ((at : ℕ) → Spells (predicted_at at None (prediction_of b) h.comps n) bytes values) → list_all (in_type h.dtype) values ≡ true
+    → (place : ℕ) (rest : List ℕ) → typed_values_at profile_two None h n (record { place = place; rest = (b ∷ bytes) ++ rest })
+    ≡ Ok (record { values = values; predict = code_of (prediction_of b); at = place }, behind place (length (b ∷ bytes)) rest)
 unfolding typed_values_at
 typed_values h n b bytes values known spells typed place rest =
     let first = (Spells-prediction b known).reads place (bytes ++ rest) in
-    let second = spells.reads (place + 1) rest in
+    let second = (spells place).reads (place + 1) rest in
     let after : place + 1 + length bytes ≡ place + length (b ∷ bytes) = omega arith in
     rw (first, second, typed, after) refl
 
 -- values of a prediction byte are those of an attribute
-spelled_by : (plain : Bool) (h : Head) (v : Values) (b : ℕ) (bytes : List ℕ) → (b == 254 || b == 0) ≡ true → prediction_of b ≡ v.predict
-    → values_bytes plain h.comps v ≡ b ∷ bytes → Spells (predicted_at (prediction_of b) h.comps (length v.values)) bytes v.values
+spelled_by : (plain : Bool) (h : Head) (v : Values) (b : ℕ) (bytes : List ℕ) → is_prediction profile_two b ≡ true → code_of (prediction_of b) ≡ v.predict
+    → values_bytes plain h.comps v ≡ b ∷ bytes → ((at : ℕ) → Spells (predicted_at at None (prediction_of b) h.comps (length v.values)) bytes v.values)
     → list_all (in_type h.dtype) v.values ≡ true → ValuesSpelled plain h v
 unfolding values_at
 spelled_by plain h v b bytes known predict is spells typed = record {
   reads = λ entries spent place rest count few.
       let within : nat_le (spent + entries * h.comps) MAX_VALUES ≡ true = rw (← count) (grind (arith, few)) in
       rw (is, within, ← count) (
-      subst (λ p. typed_values_at profile_two (bare_head h) (length v.values) (record { place = place; rest = (b ∷ bytes) ++ rest }) ≡ Ok (record { values = v.values; predict = p; at = place }, behind place (length (b ∷ bytes)) rest)) predict
+      subst (λ p. typed_values_at profile_two None (bare_head h) (length v.values) (record { place = place; rest = (b ∷ bytes) ++ rest }) ≡ Ok (record { values = v.values; predict = p; at = place }, behind place (length (b ∷ bytes)) rest)) predict
       (typed_values (bare_head h) (length v.values) b bytes v.values known spells typed place rest));
 }
 
@@ -65,19 +65,19 @@ pub unpredicted_spelled : (plain : Bool) (h : Head) (v : Values) → v.predict �
     → list_all (in_type h.dtype) v.values ≡ true → ValuesSpelled plain h v
 unfolding values_bytes
 unpredicted_spelled plain h v none spells typed =
-    spelled_by plain h v 254 (integers_bytes plain h.comps v.values) refl (sym none) (rw none refl) spells typed
+    spelled_by plain h v 254 (integers_bytes plain h.comps v.values) refl (sym none) (rw none refl) (λ at. spells) typed
 
 -- values that are predicted by difference
 pub differences_spelled : (plain : Bool) (h : Head) (v : Values) → v.predict ≡ pos 0 → Spells (differences_at h.comps (length v.values)) (differences_bytes plain h.comps v.values) v.values
     → list_all (in_type h.dtype) v.values ≡ true → ValuesSpelled plain h v
 unfolding values_bytes
 differences_spelled plain h v difference spells typed =
-    spelled_by plain h v 0 (differences_bytes plain h.comps v.values) refl (sym difference) (rw difference refl) spells typed
+    spelled_by plain h v 0 (differences_bytes plain h.comps v.values) refl (sym difference) (rw difference refl) (λ at. spells) typed
 
 -- the values of attributes behind others
 attributes_spelled : (plain : Bool) (entries spent : ℕ) (front : List Values) (heads : List Head) (vs : List Values) → length vs ≡ length heads
     → All (λ (h, v). ValuesSpelled plain h v) (zip heads vs) → HaveEntries entries heads vs → spent + values_in front + values_in vs ≤ MAX_VALUES → (place : ℕ) (rest : List ℕ)
-    → each_at (λ before h. values_at profile_two h entries (spent + values_in before)) front (map bare_head heads) (record { place = place; rest = attributes_bytes plain heads vs ++ rest })
+    → each_at (λ before h. values_at profile_two None h entries (spent + values_in before)) front (map bare_head heads) (record { place = place; rest = attributes_bytes plain heads vs ++ rest })
     ≡ Ok (front ++ placed plain place heads vs, behind place (length (attributes_bytes plain heads vs)) rest)
 unfolding each_at
 attributes_spelled plain entries spent front [] [] same each counts few place rest =
@@ -97,9 +97,9 @@ attributes_spelled plain entries spent front (h ∷ heads) (v ∷ vs) same each 
     (All-tail (λ (h, v). ValuesSpelled plain h v) (h, v) (zip heads vs) each) (All-tail (λ (h, v). length v.values ≡ entries * h.comps) (h, v) (zip heads vs) counts)
     (omega (arith, few, total, more)) (place + length bytes) rest in
     let after : place + length bytes + length others ≡ place + length (bytes ++ others) = omega (arith, length-append bytes others) in
-    ap (λ bs. values_at profile_two (bare_head h) entries (spent + values_in front) (record { place = place; rest = bs }) >>= λ x. each_at (λ before h. values_at profile_two h entries (spent + values_in before)) (front ++ x.0 ∷ []) (map bare_head heads) x.1)
+    ap (λ bs. values_at profile_two None (bare_head h) entries (spent + values_in front) (record { place = place; rest = bs }) >>= λ x. each_at (λ before h. values_at profile_two None h entries (spent + values_in before)) (front ++ x.0 ∷ []) (map bare_head heads) x.1)
     (append_assoc bytes others rest)
-    ∙ ap (λ r. r >>= λ x. each_at (λ before h. values_at profile_two h entries (spent + values_in before)) (front ++ x.0 ∷ []) (map bare_head heads) x.1) first
+    ∙ ap (λ r. r >>= λ x. each_at (λ before h. values_at profile_two None h entries (spent + values_in before)) (front ++ x.0 ∷ []) (map bare_head heads) x.1) first
     ∙ next
     ∙ ap (λ l. Ok (l, record { place = place + length bytes + length others; rest = rest })) (append_assoc front (record v { at = place } ∷ []) (placed plain (place + length bytes) heads vs))
     ∙ ap (λ n. Ok (front ++ placed plain place (h ∷ heads) (v ∷ vs), record { place = n; rest = rest })) after
@@ -157,7 +157,7 @@ quants_spelled front (h ∷ heads) each =
 pub decoder_spelled : (plain : Bool) (entries spent : ℕ) (d : DecoderHead) (vs : List Values) → length vs ≡ length d.heads
     → All (λ (h, v). ValuesSpelled plain h v) (zip d.heads vs) → All (λ h. Spells (quantised_at (bare_head h)) (quant_bytes h.quant) h) d.heads
     → HaveEntries entries d.heads vs → spent + values_in vs ≤ MAX_VALUES → (place : ℕ) (rest : List ℕ)
-    → decoder_values_at profile_two (bare_decoder d) entries spent (record { place = place; rest = decoder_values_bytes plain d.heads vs ++ rest })
+    → decoder_values_at profile_two None (bare_decoder d) entries spent (record { place = place; rest = decoder_values_bytes plain d.heads vs ++ rest })
     ≡ Ok ((placed plain place d.heads vs, d), record { place = place + length (decoder_values_bytes plain d.heads vs); rest = rest })
 unfolding decoder_values_at decoder_values_bytes attributes_at quants_at
 decoder_spelled plain entries spent d vs same each quants counts few place rest =
@@ -165,5 +165,5 @@ decoder_spelled plain entries spent d vs same each quants counts few place rest 
     let first = attributes_spelled plain entries spent [] d.heads vs same each counts (omega (arith, few)) place (quants_bytes d.heads ++ rest) in
     let second = (quants_spelled [] d.heads quants).reads (place + length values) rest in
     let after : place + length values + length (quants_bytes d.heads) ≡ place + length (values ++ quants_bytes d.heads) = omega (arith, length-append values (quants_bytes d.heads)) in
-    ap (λ bs. decoder_values_at profile_two (bare_decoder d) entries spent (record { place = place; rest = bs })) (append_assoc values (quants_bytes d.heads) rest)
+    ap (λ bs. decoder_values_at profile_two None (bare_decoder d) entries spent (record { place = place; rest = bs })) (append_assoc values (quants_bytes d.heads) rest)
     ∙ rw (first, second, after) refl

@@ -17,7 +17,7 @@ use Rattle.mesh_model.specs.declared.heads.Head.{Head}
 use Rattle.attr_section.specs.declared.decoder_heads.DecoderHead.{DecoderHead}
 use Rattle.attr_section.specs.declared.links.Link.{Link}
 use Rattle.attr_section.specs.Each.{each_at}
-use Rattle.attr_section.specs.Heads.{position_id, no_link, decoder_count_at, is_known_id, is_used_id, most_element, link_at, linked_at, links_at, is_type, head_at, coding_of, coding_at, codings_at, attributes_of, attribute_count_at, decoder_at, decoders_at, heads_at, id_byte, link_bytes, head_bytes, decoder_bytes, links_bytes, heads_bytes, bare_head, bare_decoder, link_of, HeadPasses, DecoderPasses, DecodersPass, LinkPasses, LinksPass, AreLinked, DecoderSpelled}
+use Rattle.attr_section.specs.Heads.{position_id, no_link, decoder_count_at, is_known_id, is_used_id, most_element, most_walk, link_at, linked_at, links_at, is_type, head_at, coding_of, coding_at, codings_at, attributes_of, attribute_count_at, decoder_at, decoders_at, heads_at, id_byte, link_bytes, head_bytes, decoder_bytes, links_bytes, heads_bytes, bare_head, bare_decoder, link_of, HeadPasses, DecoderPasses, DecodersPass, LinkPasses, LinksPass, AreLinked, DecoderSpelled}
 
 -- a value that is changed after it is read
 pub Spells-map : {A B : Type 0} (f : A → B) (item : Reading → Item A) (bytes : List ℕ) (x : A) → Spells item bytes x → Spells (λ c. item c >>= λ r. Ok (f r.0, r.1)) bytes (f x)
@@ -79,15 +79,13 @@ decoder_spelled d passes each = record {
       let some : nat_lt 0 (length d.heads) ≡ true = grind (arith, passes.some) in
       let within : nat_le (before + length d.heads) MAX_ATTRIBUTES ≡ true = grind (arith, few) in
       let link = link_of d in
-      Spells-then (attribute_count_at before) (λ n c. many_at head_at n c >>= λ hs. codings_at hs.0 hs.1 >>= λ ks. Ok (record { data_id = link.data_id; corner = link.corner; degree = false; heads = hs.0 }, ks.1))
+      Spells-then (attribute_count_at before) (λ n c. many_at head_at n c >>= λ hs. codings_at hs.0 hs.1 >>= λ ks. Ok (record { data_id = link.data_id; corner = link.corner; degree = link.degree; heads = hs.0 }, ks.1))
       (spelling 5 (length d.heads)) (flat_map head_bytes d.heads ++ map (λ h. coding_of h.dtype) d.heads) (length d.heads) (bare_decoder d)
       (Spells-must kind.AttrLimit (λ n. nat_le (before + n) MAX_ATTRIBUTES) (must kind.NoAttribute (λ n. nat_lt 0 n) var32_at) (spelling 5 (length d.heads)) (length d.heads) within
       (Spells-must kind.NoAttribute (λ n. nat_lt 0 n) var32_at (spelling 5 (length d.heads)) (length d.heads) some (Spells-var32 (length d.heads) (omega (arith, few)))))
-      (Spells-then (many_at head_at (length d.heads)) (λ hs c. codings_at hs c >>= λ ks. Ok (record { data_id = link.data_id; corner = link.corner; degree = false; heads = hs }, ks.1))
+      (Spells-then (many_at head_at (length d.heads)) (λ hs c. codings_at hs c >>= λ ks. Ok (record { data_id = link.data_id; corner = link.corner; degree = link.degree; heads = hs }, ks.1))
       (flat_map head_bytes d.heads) (map (λ h. coding_of h.dtype) d.heads) (map bare_head d.heads) (bare_decoder d) (Spells-heads d.heads each)
-      (subst (λ y. Spells (λ c. codings_at (map bare_head d.heads) c >>= λ ks. Ok (record { data_id = link.data_id; corner = link.corner; degree = false; heads = map bare_head d.heads }, ks.1)) (map (λ h. coding_of h.dtype) d.heads) y)
-      (rw passes.depth_first refl)
-      (Spells-map (λ ks. record { data_id = link.data_id; corner = link.corner; degree = false; heads = map bare_head d.heads }) (codings_at (map bare_head d.heads)) (map (λ h. coding_of h.dtype) d.heads) (map (λ h. coding_of h.dtype) d.heads) (Spells-codings_behind [] d.heads))));
+      (Spells-map (λ ks. record { data_id = link.data_id; corner = link.corner; degree = link.degree; heads = map bare_head d.heads }) (codings_at (map bare_head d.heads)) (map (λ h. coding_of h.dtype) d.heads) (map (λ h. coding_of h.dtype) d.heads) (Spells-codings_behind [] d.heads)));
 }
 
 -- decoders behind others, each of which is read back
@@ -111,56 +109,60 @@ Spells-decoders front (d ∷ ds) each few =
         let push : attributes_of (front ++ bare_decoder d ∷ []) ≡ attributes_of front + length (map bare_head d.heads) = grind (arith, common_steps) in
         push ∙ ap (λ n. attributes_of front + n) (length-map d.heads bare_head)
 
--- a link of this element type
-element_spelled : (attr_data : ℕ) (before : List Link) (id element : ℕ) → is_known_id attr_data id ≡ true → is_used_id before id ≡ false → nat_le element (most_element id) ≡ true
-    → Spells (link_at attr_data before) (id ∷ element ∷ 0 ∷ []) (record { data_id = Some id; corner = (element == 1) })
+-- a link of this element type and walk
+element_spelled : (attr_data : ℕ) (before : List Link) (id element walk : ℕ) → is_known_id attr_data id ≡ true → is_used_id before id ≡ false
+    → nat_le element (most_element id) ≡ true → nat_le walk (most_walk element) ≡ true
+    → Spells (link_at attr_data before) (id ∷ element ∷ walk ∷ []) (record { data_id = Some id; corner = (element == 1); degree = (walk == 1) })
 unfolding link_at
-element_spelled attr_data before id element known unused fits =
+element_spelled attr_data before id element walk known unused fits walks =
     let new : (is_known_id attr_data id && not (is_used_id before id)) ≡ true = rw (known, unused) refl in
     Spells-then (must kind.DataId (λ id. is_known_id attr_data id && not (is_used_id before id)) (number_at 1))
-    (λ i c. must kind.Element (λ e. nat_le e (most_element i)) (number_at 1) c >>= λ e. must kind.Walk (λ w. w == 0) (number_at 1) e.1 >>= λ w. Ok (record { data_id = Some i; corner = (e.0 == 1) }, w.1))
-    (id ∷ []) (element ∷ 0 ∷ []) id (record { data_id = Some id; corner = (element == 1) })
+    (λ i c. must kind.Element (λ e. nat_le e (most_element i)) (number_at 1) c >>= λ e. must kind.Walk (λ w. nat_le w (most_walk e.0)) (number_at 1) e.1 >>= λ w. Ok (record { data_id = Some i; corner = (e.0 == 1); degree = (w.0 == 1) }, w.1))
+    (id ∷ []) (element ∷ walk ∷ []) id (record { data_id = Some id; corner = (element == 1); degree = (walk == 1) })
     (Spells-must kind.DataId (λ id. is_known_id attr_data id && not (is_used_id before id)) (number_at 1) (id ∷ []) id new (Spells-byte id))
     (Spells-then (must kind.Element (λ e. nat_le e (most_element id)) (number_at 1))
-    (λ e c. must kind.Walk (λ w. w == 0) (number_at 1) c >>= λ w. Ok (record { data_id = Some id; corner = (e == 1) }, w.1))
-    (element ∷ []) (0 ∷ []) element (record { data_id = Some id; corner = (element == 1) })
+    (λ e c. must kind.Walk (λ w. nat_le w (most_walk e)) (number_at 1) c >>= λ w. Ok (record { data_id = Some id; corner = (e == 1); degree = (w.0 == 1) }, w.1))
+    (element ∷ []) (walk ∷ []) element (record { data_id = Some id; corner = (element == 1); degree = (walk == 1) })
     (Spells-must kind.Element (λ e. nat_le e (most_element id)) (number_at 1) (element ∷ []) element fits (Spells-byte element))
-    (Spells-map (λ w. record { data_id = Some id; corner = (element == 1) }) (must kind.Walk (λ w. w == 0) (number_at 1)) (0 ∷ []) 0
-    (Spells-must kind.Walk (λ w. w == 0) (number_at 1) (0 ∷ []) 0 refl (Spells-byte 0))))
+    (Spells-map (λ w. record { data_id = Some id; corner = (element == 1); degree = (w == 1) }) (must kind.Walk (λ w. nat_le w (most_walk element)) (number_at 1)) (walk ∷ []) walk
+    (Spells-must kind.Walk (λ w. nat_le w (most_walk element)) (number_at 1) (walk ∷ []) walk walks (Spells-byte walk))))
 
-link_spelled : (attr_data : ℕ) (before : List Link) (id : ℕ) (corner : Bool) → is_known_id attr_data id ≡ true → is_used_id before id ≡ false → (id ≡ position_id → corner ≡ false)
-    → Spells (link_at attr_data before) (id ∷ (if corner then 1 else 0) ∷ 0 ∷ []) (record { data_id = Some id; corner = corner })
-link_spelled attr_data before id false known unused vertex = element_spelled attr_data before id 0 known unused (grind arith)
-link_spelled attr_data before id true known unused vertex = element_spelled attr_data before id 1 known unused (one_fits id vertex)
+link_spelled : (attr_data : ℕ) (before : List Link) (id : ℕ) (corner degree : Bool) → is_known_id attr_data id ≡ true → is_used_id before id ≡ false
+    → (id ≡ position_id → corner ≡ false) → (corner ≡ true → degree ≡ false)
+    → Spells (link_at attr_data before) (id ∷ (if corner then 1 else 0) ∷ (if degree then 1 else 0) ∷ []) (record { data_id = Some id; corner = corner; degree = degree })
+link_spelled attr_data before id false false known unused vertex walks = element_spelled attr_data before id 0 0 known unused (grind arith) refl
+link_spelled attr_data before id false true known unused vertex walks = element_spelled attr_data before id 0 1 known unused (grind arith) refl
+link_spelled attr_data before id true true known unused vertex walks = absurd (false≢true (sym (walks refl)))
+link_spelled attr_data before id true false known unused vertex walks = element_spelled attr_data before id 1 0 known unused (one_fits id vertex) refl
   where
     one_fits : (id : ℕ) → (id ≡ position_id → true ≡ false) → nat_le 1 (most_element id) ≡ true
     one_fits id vertex = elim (cases_eq id position_id) [ inl is ↦ absurd (false≢true (sym (vertex is))) | inr other ↦ grind (arith, other) ]
 
 -- a link behind others
-Spells-link : (attr_data : ℕ) (before : List Link) (d : DecoderHead) → LinkPasses attr_data before d → d.degree ≡ false → Spells (link_at attr_data before) (link_bytes d) (link_of d)
-Spells-link attr_data before d passes depth_first =
-    let spelled = link_spelled attr_data before (id_byte d.data_id) d.corner passes.known passes.unused passes.vertex in
-    rw depth_first (subst (λ o. Spells (link_at attr_data before) (id_byte d.data_id ∷ (if d.corner then 1 else 0) ∷ 0 ∷ []) (record { data_id = o; corner = d.corner })) (sym passes.has) spelled)
+Spells-link : (attr_data : ℕ) (before : List Link) (d : DecoderHead) → LinkPasses attr_data before d → Spells (link_at attr_data before) (link_bytes d) (link_of d)
+Spells-link attr_data before d passes =
+    let spelled = link_spelled attr_data before (id_byte d.data_id) d.corner d.degree passes.known passes.unused passes.vertex passes.depth_first in
+    subst (λ o. Spells (link_at attr_data before) (id_byte d.data_id ∷ (if d.corner then 1 else 0) ∷ (if d.degree then 1 else 0) ∷ []) (record { data_id = o; corner = d.corner; degree = d.degree })) (sym passes.has) spelled
 
 -- the links behind others
-Spells-links : (attr_data start : ℕ) (front : List Link) (ds : List DecoderHead) → LinksPass attr_data front ds → All (λ d. d.degree ≡ false) ds
+Spells-links : (attr_data start : ℕ) (front : List Link) (ds : List DecoderHead) → LinksPass attr_data front ds
     → Spells (each_at (λ before _. link_at attr_data before) front (range_with_len start (length ds))) (flat_map link_bytes ds) (front ++ map link_of ds)
 unfolding each_at
-Spells-links attr_data start front [] pass depth_first = subst (λ l. Spells (λ c. Ok (front, c)) [] l) (sym (append-nil front)) (Spells-none front)
-Spells-links attr_data start front (d ∷ ds) pass depth_first =
+Spells-links attr_data start front [] pass = subst (λ l. Spells (λ c. Ok (front, c)) [] l) (sym (append-nil front)) (Spells-none front)
+Spells-links attr_data start front (d ∷ ds) pass =
     Spells-then (link_at attr_data front) (λ x c. each_at (λ before _. link_at attr_data before) (front ++ x ∷ []) (range_with_len (start + 1) (length ds)) c)
     (link_bytes d) (flat_map link_bytes ds) (link_of d) (front ++ map link_of (d ∷ ds))
-    (Spells-link attr_data front d pass.0 (All-head (λ d. d.degree ≡ false) d ds depth_first))
+    (Spells-link attr_data front d pass.0)
     (subst (λ l. Spells (each_at (λ before _. link_at attr_data before) (front ++ link_of d ∷ []) (range_with_len (start + 1) (length ds))) (flat_map link_bytes ds) l)
     (append_assoc front (link_of d ∷ []) (map link_of ds))
-    (Spells-links attr_data (start + 1) (front ++ link_of d ∷ []) ds pass.1 (All-tail (λ d. d.degree ≡ false) d ds depth_first)))
+    (Spells-links attr_data (start + 1) (front ++ link_of d ∷ []) ds pass.1))
 
 -- the links of all decoders
-Spells-linked : (attr_data : Option ℕ) (ds : List DecoderHead) → AreLinked attr_data ds → All (λ d. d.degree ≡ false) ds
+Spells-linked : (attr_data : Option ℕ) (ds : List DecoderHead) → AreLinked attr_data ds
     → Spells (links_at attr_data (length ds)) (links_bytes (is_some attr_data) ds) (map link_of ds)
 unfolding links_at linked_at
-Spells-linked None ds linked depth_first = subst (λ l. Spells (λ c. Ok (replicate (length ds) no_link, c)) [] l) (sym linked) (Spells-none (replicate (length ds) no_link))
-Spells-linked (Some attr_data) ds linked depth_first = Spells-links attr_data 0 [] ds linked depth_first
+Spells-linked None ds linked = subst (λ l. Spells (λ c. Ok (replicate (length ds) no_link, c)) [] l) (sym linked) (Spells-none (replicate (length ds) no_link))
+Spells-linked (Some attr_data) ds linked = Spells-links attr_data 0 [] ds linked
 
 -- each decoder has an attribute
 pub attributes_of-some : (ds : List DecoderHead) → All DecoderPasses ds → length ds ≤ attributes_of ds
@@ -184,5 +186,5 @@ heads_spelled attr_data ds pass linked each =
     (Spells-must kind.NoAttribute (λ n. nat_lt 0 n) (number_at 1) (length ds ∷ []) (length ds) some (Spells-byte (length ds))))
     (Spells-then (links_at attr_data (length ds)) (λ ls c. decoders_at ls c)
     (links_bytes (is_some attr_data) ds) (flat_map decoder_bytes ds) (map link_of ds) (map bare_decoder ds)
-    (Spells-linked attr_data ds linked (All-weaker DecoderPasses (λ d. d.degree ≡ false) (λ d passes. passes.depth_first) ds pass.each))
+    (Spells-linked attr_data ds linked)
     (Spells-decoders [] ds each (omega (arith, pass.few))))

@@ -1,6 +1,6 @@
 -- The heads of attribute decoders (Draco Bitstream Specification 2.2, sections "Attributes Decoder" and "Sequential
 -- Attributes"; the limits and what is refused are this project's choice).
-use Rattle.std.specs.Prelude.{◌≡◌, ◌≤◌, ◌<◌, ℕ, ◌+◌, ◌==◌, ◌&&◌, ◌||◌, Bool, false, not, IsTrue, List, [], ◌∷◌, ◌++◌, length, map}
+use Rattle.std.specs.Prelude.{◌≡◌, ◌≤◌, ◌<◌, ℕ, ◌+◌, ◌==◌, ◌&&◌, ◌||◌, Bool, true, false, not, IsTrue, List, [], ◌∷◌, ◌++◌, length, map}
 use Rattle.std.specs.Prelude.{replicate, Option, None, Some, Ok, sum_by, nat_le, nat_lt, if◌then◌else◌, All, flat_map}
 use Rattle.std.specs.List.{list_any, range_with_len}
 use Rattle.drc_base.specs.declared.kinds.Kind.TheVariants as kind
@@ -21,7 +21,7 @@ position_id = 255
 
 -- a decoder of a sequential stream is linked to none
 abbrev pub no_link : Link
-no_link = record { data_id = None; corner = false }
+no_link = record { data_id = None; corner = false; degree = false }
 
 -- the number of decoders
 unfoldable pub decoder_count_at : Reading → Item ℕ
@@ -44,13 +44,17 @@ is_used_id before id = list_any (λ l. is_id id l.data_id) before
 abbrev pub most_element : ℕ → ℕ
 most_element id = if id == position_id then 0 else 1
 
--- the link of an Edgebreaker decoder behind those before: data id, element type and walk, which is depth first
+-- the greatest walk: entries of vertices alone may be walked by prediction degree
+abbrev pub most_walk : ℕ → ℕ
+most_walk element = if element == 0 then 1 else 0
+
+-- the link of an Edgebreaker decoder behind those before: data id, element type, and walk: depth first, or by prediction degree
 unfoldable pub link_at : ℕ → List Link → Reading → Item Link
 link_at attr_data before c = do
   id ← must kind.DataId (λ id. is_known_id attr_data id && not (is_used_id before id)) (number_at 1) c
   element ← must kind.Element (λ e. nat_le e (most_element id.0)) (number_at 1) id.1
-  walk ← must kind.Walk (λ w. w == 0) (number_at 1) element.1
-  Ok (record { data_id = Some id.0; corner = (element.0 == 1) }, walk.1)
+  walk ← must kind.Walk (λ w. nat_le w (most_walk element.0)) (number_at 1) element.1
+  Ok (record { data_id = Some id.0; corner = (element.0 == 1); degree = (walk.0 == 1) }, walk.1)
 
 -- the links of n decoders beside so many attribute data
 unfoldable pub linked_at : ℕ → ℕ → Reading → Item (List Link)
@@ -104,7 +108,7 @@ decoder_at before link c = do
   n ← attribute_count_at before c
   heads ← many_at head_at n.0 n.1
   codings ← codings_at heads.0 heads.1
-  Ok (record { data_id = link.data_id; corner = link.corner; degree = false; heads = heads.0 }, codings.1)
+  Ok (record { data_id = link.data_id; corner = link.corner; degree = link.degree; heads = heads.0 }, codings.1)
 
 -- the decoders of these links
 unfoldable pub decoders_at : List Link → Reading → Item (List DecoderHead)
@@ -152,7 +156,7 @@ bare_decoder d = record d { heads = map bare_head d.heads }
 
 -- the link of a decoder
 abbrev pub link_of : DecoderHead → Link
-link_of d = record { data_id = d.data_id; corner = d.corner }
+link_of d = record { data_id = d.data_id; corner = d.corner; degree = d.degree }
 
 -- a head that is accepted
 pub record HeadPasses (h : Head) : Type 0 where
@@ -161,11 +165,10 @@ pub record HeadPasses (h : Head) : Type 0 where
   pub some : 1 ≤ h.comps
   pub few : h.comps ≤ MAX_COMPONENTS
 
--- a decoder whose heads are accepted, and whose walk is depth first
+-- a decoder whose heads are accepted
 pub record DecoderPasses (d : DecoderHead) : Type 0 where
   pub some : 0 < length d.heads
   pub heads : All HeadPasses d.heads
-  pub depth_first : d.degree ≡ false
 
 -- decoders whose heads are accepted
 pub record DecodersPass (decoders : List DecoderHead) : Type 0 where
@@ -179,6 +182,7 @@ pub record LinkPasses (attr_data : ℕ) (before : List Link) (d : DecoderHead) :
   pub known : IsTrue (is_known_id attr_data (id_byte d.data_id))
   pub unused : is_used_id before (id_byte d.data_id) ≡ false
   pub vertex : id_byte d.data_id ≡ position_id → d.corner ≡ false
+  pub depth_first : d.corner ≡ true → d.degree ≡ false
 
 -- behind these links each decoder's link is accepted
 abbrev pub LinksPass : ℕ → List Link → List DecoderHead → Type 0

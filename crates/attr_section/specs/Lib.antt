@@ -1,5 +1,7 @@
 pub mod Each
 pub mod Heads
+pub mod Surfaces
 pub mod Values
+pub mod ValueLaws
 pub mod Written
 pub mod Examples

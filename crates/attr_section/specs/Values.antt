@@ -1,20 +1,26 @@
--- The values of attributes (Draco Bitstream Specification 2.2, sections "Sequential Attributes", "Prediction Decoder" and
--- "Quantization"; the limits and what is refused are this project's choice).
-use Rattle.std.specs.Prelude.{◌≡◌, ℕ, ◌+◌, ◌-◌, ◌*◌, ◌/◌, ◌%◌, ◌^◌, ◌==◌, ◌&&◌, ◌||◌, Bool, ℤ, pos, negsuc, ◌-ℤ◌, List, [], ◌∷◌, length}
-use Rattle.std.specs.Prelude.{map, Option, None, Some, Ok, sum_by, nat_le, int_le, int_lt, if◌then◌else◌}
+-- The values of attributes (Draco Bitstream Specification 2.2, sections "Sequential Attributes", "Prediction Decoder", "Mesh
+-- Parallelogram Prediction", "Mesh Constrained Multi Parallelogram Prediction" and "Quantization"; the limits and what is
+-- refused are this project's choice). The values of a stream's decoder stand on the surface of its walk, where there is one:
+-- there is none in a sequential stream.
+use Rattle.std.specs.Prelude.{◌≡◌, ℕ, suc, ◌+◌, ◌-◌, ◌*◌, ◌/◌, ◌%◌, ◌^◌, ◌==◌, ◌&&◌, ◌||◌, Bool, ℤ, pos, negsuc, ◌-ℤ◌, List, [], ◌∷◌}
+use Rattle.std.specs.Prelude.{length, get_or, map, Option, None, Some, Ok, Err, sum_by, nat_le, int_le, int_lt, if◌then◌else◌}
 use Rattle.std.specs.List.{list_all}
-use Rattle.std.specs.Ordering.{int_eq}
 use Rattle.drc_base.specs.declared.kinds.Kind.TheVariants as kind
 use Rattle.drc_base.specs.Profile.{Profile}
 use Rattle.drc_base.specs.Steps.{◌>>=◌}
 use Rattle.drc_bits.specs.Reading.{Reading, Item, must, many_at, fault_at}
 use Rattle.drc_bits.specs.Numbers.{number_at, signed_at}
+use Rattle.drc_bits.specs.Varint.{var32_at}
+use Rattle.rans_binary.specs.Blocks.{first_bits, block_at as bit_block_at}
 use Rattle.mesh_model.specs.declared.heads.Head.{Head}
 use Rattle.mesh_model.specs.declared.heads.Quant.{Quant}
 use Rattle.mesh_model.specs.Head.{in_type}
 use Rattle.predict.specs.Wrap.{Range}
 use Rattle.symbol_coding.specs.Block.{block_at}
 use Rattle.predict.specs.Restored.{restored, entry_before}
+use Rattle.predict.specs.Walked.{Walked}
+use Rattle.predict.specs.Parallelogram.{parallelogram}
+use Rattle.predict.specs.Multi.{multi, wanted}
 use Rattle.attr_section.specs.declared.decoder_heads.DecoderHead.{DecoderHead}
 use Rattle.attr_section.specs.declared.values.Values.{Values}
 use Rattle.attr_section.specs.declared.predictions.Prediction.{Prediction}
@@ -25,26 +31,33 @@ use Rattle.attr_section.specs.Each.{each_at}
 abbrev pub no_prediction : ℤ
 no_prediction = negsuc 1
 
--- the number of a prediction
+-- the number of a prediction: -2 none, 0 difference, 1 parallelogram, 4 constrained multi-parallelogram
 abbrev pub code_of : Prediction → ℤ
 code_of prediction.Off = no_prediction
 code_of prediction.Difference = pos 0
+code_of prediction.Parallelogram = pos 1
+code_of prediction.Multi = pos 4
 
 -- the byte of a prediction
 abbrev pub byte_of : Prediction → ℕ
 byte_of prediction.Off = 254
 byte_of prediction.Difference = 0
+byte_of prediction.Parallelogram = 1
+byte_of prediction.Multi = 4
 
--- the prediction of a byte: -2 none, 0 difference
-abbrev pub prediction_of : ℕ → ℤ
-prediction_of b = if b == 254 then no_prediction else pos b
+-- the prediction of a byte
+abbrev pub prediction_of : ℕ → Prediction
+prediction_of b =
+    if b == 254 then prediction.Off else if b == 0 then prediction.Difference
+    else if b == 1 then prediction.Parallelogram else prediction.Multi
 
--- whether a byte is a prediction that a profile accepts in a sequential stream: none or difference, in every profile
+-- whether a byte is a prediction of a profile: constrained multi-parallelogram prediction is one where the profile says so, the others
+-- are in every profile
 abbrev pub is_prediction : Profile → ℕ → Bool
-is_prediction p b = b == 254 || b == 0
+is_prediction p b = b == 254 || b == 0 || b == 1 || (b == 4 && p.multi)
 
 -- the prediction of an attribute in a profile
-unfoldable pub prediction_at : Profile → Reading → Item ℤ
+unfoldable pub prediction_at : Profile → Reading → Item Prediction
 prediction_at p c = must kind.Prediction (is_prediction p) (number_at 1) c >>= λ x. Ok (prediction_of x.0, x.1)
 
 -- the integer of a zigzag symbol: 0, -1, 1, -2 and so on
@@ -102,23 +115,77 @@ differences_at comps n c = do
   range ← range_at corrections.1
   Ok (restored (entry_before comps) range.0 corrections.0, range.1)
 
--- n values of this prediction
-abbrev pub predicted_at : ℤ → ℕ → ℕ → Reading → Item (List ℤ)
-predicted_at predict comps n c = if int_eq predict no_prediction then integers_at comps n c else differences_at comps n c
+-- n values that are restored from corrections by parallelograms over a surface
+unfoldable pub parallelograms_at : Walked → ℕ → ℕ → Reading → Item (List ℤ)
+parallelograms_at w comps n c = do
+  transform ← transform_at c
+  corrections ← integers_at comps n transform.1
+  range ← range_at corrections.1
+  Ok (restored (parallelogram w comps) range.0 corrections.0, range.1)
+
+-- so many flags: the first bits of a block, and no block where there are none. What a block has behind them counts for nothing
+unfoldable pub flag_bits_at : ℕ → Reading → Item (List Bool)
+flag_bits_at count c = if count == 0 then Ok ([], c) else (bit_block_at c >>= λ b. Ok (first_bits count b.0, b.1))
+
+-- how many flags a list over so many corners has: at most one for each corner, so three for each face
+abbrev pub flag_count_at : ℕ → Reading → Item ℕ
+flag_count_at corners c = must kind.FlagCount (λ n. nat_le n corners) var32_at c
+
+-- a list of flags over so many corners: true leaves a parallelogram out
+unfoldable pub flags_at : ℕ → Reading → Item (List Bool)
+flags_at corners c = do
+  count ← flag_count_at corners c
+  flag_bits_at count.0 count.1
+
+-- the four lists of flags over a surface: those of entries with one parallelogram, with two, three and four
+unfoldable pub flag_lists_at : Walked → Reading → Item (List (List Bool))
+flag_lists_at w c = many_at (flags_at (length w.entries)) 4 c
+
+-- whether each of the four lists has the flags that are wanted of it
+abbrev pub has_flags : Walked → List (List Bool) → Bool
+has_flags w lists = list_all (λ k. nat_le (wanted w (suc k) (length w.corners)) (length (get_or lists k []))) (0 ∷ 1 ∷ 2 ∷ 3 ∷ [])
+
+-- the values of corrections and flags; where a flag is wanted that isn't there, they are refused at this place
+abbrev pub with_flags : ℕ → Walked → ℕ → List (List Bool) → Range → List ℤ → Reading → Item (List ℤ)
+with_flags at w comps lists range corrections after =
+    if has_flags w lists then Ok (restored (multi w comps lists) range corrections, after)
+    else Err (record { kind = kind.FlagsShort; at = at })
+
+-- n values that are restored from corrections by the means of parallelograms over a surface, which flags choose; the byte of their
+-- prediction stands at this place
+unfoldable pub means_at : ℕ → Walked → ℕ → ℕ → Reading → Item (List ℤ)
+means_at at w comps n c = do
+  transform ← transform_at c
+  corrections ← integers_at comps n transform.1
+  lists ← flag_lists_at w corrections.1
+  range ← range_at lists.1
+  with_flags at w comps lists.0 range.0 corrections.0 range.1
+
+-- values over the surface of a walk; where there is none their prediction is refused at this place
+abbrev pub over_surface : ℕ → Option Walked → (Walked → Reading → Item (List ℤ)) → Reading → Item (List ℤ)
+over_surface at None values c = Err (record { kind = kind.Prediction; at = at })
+over_surface at (Some w) values c = values w c
+
+-- n values of this prediction, whose byte stands at this place
+abbrev pub predicted_at : ℕ → Option Walked → Prediction → ℕ → ℕ → Reading → Item (List ℤ)
+predicted_at at w prediction.Off comps n c = integers_at comps n c
+predicted_at at w prediction.Difference comps n c = differences_at comps n c
+predicted_at at w prediction.Parallelogram comps n c = over_surface at w (λ s. parallelograms_at s comps n) c
+predicted_at at w prediction.Multi comps n c = over_surface at w (λ s. means_at at s comps n) c
 
 -- n values of an attribute, each of which is in its data type
-unfoldable pub typed_values_at : Profile → Head → ℕ → Reading → Item Values
-typed_values_at p h n c = do
+unfoldable pub typed_values_at : Profile → Option Walked → Head → ℕ → Reading → Item Values
+typed_values_at p w h n c = do
   predict ← prediction_at p c
-  values ← predicted_at predict.0 h.comps n predict.1
+  values ← predicted_at c.place w predict.0 h.comps n predict.1
   if list_all (in_type h.dtype) values.0
-      then Ok (record { values = values.0; predict = predict.0; at = c.place }, values.1)
+      then Ok (record { values = values.0; predict = code_of predict.0; at = c.place }, values.1)
       else fault_at kind.ValueRange c
 
 -- the values of an attribute for so many entries, behind so many values of other attributes
-unfoldable pub values_at : Profile → Head → ℕ → ℕ → Reading → Item Values
-values_at p h entries spent c =
-    if nat_le (spent + entries * h.comps) p.values then typed_values_at p h (entries * h.comps) c else fault_at kind.ValueLimit c
+unfoldable pub values_at : Profile → Option Walked → Head → ℕ → ℕ → Reading → Item Values
+values_at p w h entries spent c =
+    if nat_le (spent + entries * h.comps) p.values then typed_values_at p w h (entries * h.comps) c else fault_at kind.ValueLimit c
 
 -- how many bits quantised values have
 abbrev pub quant_bits_at : Reading → Item ℕ
@@ -145,17 +212,18 @@ abbrev pub values_in : List Values → ℕ
 values_in attributes = sum_by (λ v. length v.values) attributes
 
 -- the values of these attributes for so many entries, behind so many other values
-unfoldable pub attributes_at : Profile → List Head → ℕ → ℕ → Reading → Item (List Values)
-attributes_at p heads entries spent c = each_at (λ before h. values_at p h entries (spent + values_in before)) [] heads c
+unfoldable pub attributes_at : Profile → Option Walked → List Head → ℕ → ℕ → Reading → Item (List Values)
+attributes_at p w heads entries spent c = each_at (λ before h. values_at p w h entries (spent + values_in before)) [] heads c
 
 -- these heads with their quantisations
 unfoldable pub quants_at : List Head → Reading → Item (List Head)
 quants_at heads c = each_at (λ _ h. quantised_at h) [] heads c
 
--- a decoder's values for so many entries, behind so many other values, and the decoder with its quantisations
-unfoldable pub decoder_values_at : Profile → DecoderHead → ℕ → ℕ → Reading → Item (List Values × DecoderHead)
-decoder_values_at p d entries spent c = do
-  values ← attributes_at p d.heads entries spent c
+-- a decoder's values for so many entries on the surface of its walk, behind so many other values, and the decoder with its
+-- quantisations
+unfoldable pub decoder_values_at : Profile → Option Walked → DecoderHead → ℕ → ℕ → Reading → Item (List Values × DecoderHead)
+decoder_values_at p w d entries spent c = do
+  values ← attributes_at p w d.heads entries spent c
   heads ← quants_at d.heads values.1
   Ok ((values.0, record d { heads = heads.0 }), heads.1)
 

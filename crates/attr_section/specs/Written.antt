@@ -123,5 +123,5 @@ HaveEntries entries heads attributes = All (λ (h, v). length v.values ≡ entri
 -- the values of an attribute, where they are read from wherever they were written
 pub record ValuesSpelled (plain : Bool) (h : Head) (v : Values) : Type 0 where
   pub reads : (entries spent place : ℕ) (rest : List ℕ) → length v.values ≡ entries * h.comps → spent + length v.values ≤ MAX_VALUES
-      → values_at profile_two (bare_head h) entries spent (record { place = place; rest = values_bytes plain h.comps v ++ rest })
+      → values_at profile_two None (bare_head h) entries spent (record { place = place; rest = values_bytes plain h.comps v ++ rest })
       ≡ Ok (record v { at = place }, record { place = place + length (values_bytes plain h.comps v); rest = rest })

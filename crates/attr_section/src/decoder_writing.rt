@@ -1,7 +1,7 @@
 //! Writing the values of a decoder.
 
 ghost use Rattle.drc_base.specs.Profile.{profile_two};
-ghost use Rattle.std.specs.Prelude.{◌≡◌, ◌≤◌, ◌+◌, ◌++◌, ℕ, List, Ok, IfOk, OnOk, All, length};
+ghost use Rattle.std.specs.Prelude.{◌≡◌, ◌≤◌, ◌+◌, ◌++◌, ℕ, List, Ok, None, IfOk, OnOk, All, length};
 ghost use Rattle.std.specs.List.{zip};
 ghost use Rattle.attr_section.specs.Heads.{bare_head, bare_decoder};
 ghost use Rattle.drc_bits.specs.Spells.{Spells};
@@ -68,7 +68,7 @@ pub fn write_decoder(
 ) -> Result<Vec<u8>, Memory>
     requires { DecoderValuesPass h.now.heads v.now }
     ensures bytes { IfOk result (λ o. o.items ≡ decoder_values_bytes plain h.now.heads v.now) }
-    ensures again { IfOk result (λ o. (entries spent place : ℕ) (rest : List ℕ) → HaveEntries entries h.now.heads v.now → spent + values_in v.now ≤ MAX_VALUES → decoder_values_at profile_two (bare_decoder h.now) entries spent (record { place = place; rest = o.items ++ rest }) ≡ Ok ((placed plain place h.now.heads v.now, h.now), record { place = place + length o.items; rest = rest })) }
+    ensures again { IfOk result (λ o. (entries spent place : ℕ) (rest : List ℕ) → HaveEntries entries h.now.heads v.now → spent + values_in v.now ≤ MAX_VALUES → decoder_values_at profile_two None (bare_decoder h.now) entries spent (record { place = place; rest = o.items ++ rest }) ≡ Ok ((placed plain place h.now.heads v.now, h.now), record { place = place + length o.items; rest = rest })) }
 {
     let out = written_decoder(alloc, h.heads.as_slice(), v, plain)?;
     Ok(out)

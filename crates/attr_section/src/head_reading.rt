@@ -64,7 +64,7 @@ fn read_decoder_head(
     Ok(DecoderHead {
         data_id: link.data_id,
         corner: link.corner,
-        degree: false,
+        degree: link.degree,
         heads: Sequence::from_vec(heads),
     })
 }
@@ -93,7 +93,8 @@ fn read_linked_decoders(
 /// an Edgebreaker stream, and None stands for a sequential stream. The heads have no quantisation
 /// yet. The first fault of the bytes: `Short` and `Long`; `NoAttribute` where there is no decoder,
 /// or a decoder has no attribute; `AttrLimit` past 16 decoders or attributes; `DataId`, `Element`
-/// and `Walk` at the links of Edgebreaker decoders; `AttrType`, `DataType` and `Components`; then
+/// and `Walk` at the links of Edgebreaker decoders, where the walk is 0 depth first, or 1 by prediction
+/// degree with values of vertices alone; `AttrType`, `DataType` and `Components`; then
 /// `Generic`, `Octahedral` and `Coding` at the codings of a decoder. After a refusal the cursor is
 /// where it was.
 #[tactic(auto, unfolding(crate::specs::Heads::heads_at))]

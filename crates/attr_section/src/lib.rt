@@ -1,17 +1,21 @@
 //! Attributes of a stream: the heads of their decoders and their values. The contract above it: what
 //! is read is the attribute part of its definition at the cursor's place, or its first fault, and
-//! what is written is read back with just its length. After the Draco Bitstream Specification 2.2,
-//! sections "Attributes Decoder" and "Sequential Attributes".
+//! what is written is read back with just its length. The values of an Edgebreaker stream stand on the
+//! surface of a walk. After the Draco Bitstream Specification 2.2, sections "Attributes Decoder",
+//! "Sequential Attributes" and "Prediction Decoder".
 #![tactic(auto)]
 
 mod decoder_heads;
 mod decoder_writing;
+mod flag_lists;
 mod head_items;
 mod head_reading;
 mod head_writing;
 mod integer_writing;
 mod integers;
+mod laws;
 mod links;
+mod predicting;
 mod predictions;
 mod quant_writing;
 mod quants;
@@ -21,14 +25,17 @@ mod types;
 mod value_reading;
 mod value_writing;
 mod values;
+mod walks;
 
 pub use decoder_heads::DecoderHead;
 pub use decoder_writing::write_decoder;
 pub use head_reading::read_heads;
 pub use head_writing::write_heads;
+pub use laws::{flags_are_tested, predictions_have_bytes};
 pub use ranges::range_of;
 pub use value_reading::read_decoder;
 pub use values::Values;
+pub use walks::Walked;
 
 #[cfg(test)]
 mod tests;

@@ -19,6 +19,8 @@ pub struct Link {
     pub data_id: Option<u8>,
     /// Whether values belong to corners, and not to vertices.
     pub corner: bool,
+    /// Whether entries are walked by prediction degree, and not depth first.
+    pub degree: bool,
 }
 
 fn is_id(id: u8, data_id: Option<u8>) -> bool
@@ -44,7 +46,8 @@ fn is_used_id(before: &[Link], id: u8) -> bool
     before.iter().any(|l| is_id(id, l.data_id))
 }
 
-/// The link behind those before.
+/// The link behind those before: the data id, the element type and the walk. Entries of corners are
+/// walked depth first alone.
 #[tactic(auto, unfolding(crate::specs::Heads::link_at))]
 fn read_link(c: &mut Cursor<'_>, attr_data: u8, before: &[Link]) -> Result<Link, Fault>
     ensures { Reads (λ l. l) (link_at attr_data before.now c.old) c.new result }
@@ -62,12 +65,14 @@ fn read_link(c: &mut Cursor<'_>, attr_data: u8, before: &[Link]) -> Result<Link,
     }
     let at = c.place();
     let walk = c.get_u8()?;
-    if walk != 0 {
+    let most = if element == 0 { 1 } else { 0 };
+    if walk > most {
         return Err(Fault::new(Kind::Walk, at));
     }
     Ok(Link {
         data_id: Some(id),
         corner: element == 1,
+        degree: walk == 1,
     })
 }
 
@@ -94,7 +99,8 @@ fn no_links(alloc: Global, n: u8) -> Result<Vec<Link>, AllocError>
 {
     vec![in alloc; Link {
         data_id: None,
-        corner: false
+        corner: false,
+        degree: false
     }; n as usize]
 }
 

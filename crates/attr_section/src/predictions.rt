@@ -10,6 +10,10 @@ pub enum Prediction {
     Off,
     /// By the entry before.
     Difference,
+    /// By the parallelogram across a side, over the surface of a walk.
+    Parallelogram,
+    /// By the mean of parallelograms round a vertex that flags choose, over the surface of a walk.
+    Multi,
 }
 
 impl Prediction {
@@ -20,6 +24,8 @@ impl Prediction {
         match self {
             Prediction::Off => -2,
             Prediction::Difference => 0,
+            Prediction::Parallelogram => 1,
+            Prediction::Multi => 4,
         }
     }
 
@@ -30,17 +36,21 @@ impl Prediction {
         match self {
             Prediction::Off => 254,
             Prediction::Difference => 0,
+            Prediction::Parallelogram => 1,
+            Prediction::Multi => 4,
         }
     }
 
     /// The prediction of this number.
     pub fn of_code(code: i8) -> Prediction
-        requires { (code ≡ no_prediction) ⊎ (code ≡ pos 0) }
+        requires { (code ≡ no_prediction) ⊎ (code ≡ pos 0) ⊎ (code ≡ pos 1) ⊎ (code ≡ pos 4) }
         ensures { code_of result ≡ code }
     {
         match code {
             -2 => Prediction::Off,
             0 => Prediction::Difference,
+            1 => Prediction::Parallelogram,
+            4 => Prediction::Multi,
             _ => unreachable!(),
         }
     }

@@ -135,6 +135,7 @@ pub fn put_values(
             out.push(prediction.byte())?;
             put_differences(alloc, out, values, comps, plain)?;
         }
+        Prediction::Parallelogram | Prediction::Multi => unreachable!(),
     }
     Ok(())
 }

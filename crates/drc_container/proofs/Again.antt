@@ -57,7 +57,7 @@ header_spelled g =
 pub attributes_spelled : (plain : Bool) (g : Geometry) (predict : ℤ)
     → Spells (heads_at None) (attribute_heads_bytes g) (bare_decoder (decoder_of g) ∷ [])
     → ((entries spent place : ℕ) (rest : List ℕ) → HaveEntries entries (heads_in g) (values_of g predict) → spent + values_in (values_of g predict) ≤ MAX_VALUES
-    → decoder_values_at profile_two (bare_decoder (decoder_of g)) entries spent (record { place = place; rest = decoder_values_bytes plain (heads_in g) (values_of g predict) ++ rest })
+    → decoder_values_at profile_two None (bare_decoder (decoder_of g)) entries spent (record { place = place; rest = decoder_values_bytes plain (heads_in g) (values_of g predict) ++ rest })
     ≡ Ok ((placed plain place (heads_in g) (values_of g predict), decoder_of g), record { place = place + length (decoder_values_bytes plain (heads_in g) (values_of g predict)); rest = rest }))
     → HaveEntries (length (points_in g)) (heads_in g) (values_of g predict) → values_in (values_of g predict) ≤ MAX_VALUES
     → AttributesSpelled plain g predict
@@ -89,7 +89,7 @@ heads_again g ds out is bytes again =
 -- the values of a decoder are read back from these bytes
 abbrev pub ValuesAgain : Bool → DecoderHead → List Values → List ℕ → Type 0
 ValuesAgain plain d values body = (entries spent place : ℕ) (rest : List ℕ) → HaveEntries entries d.heads values → spent + values_in values ≤ MAX_VALUES
-    → decoder_values_at profile_two (bare_decoder d) entries spent (record { place = place; rest = body ++ rest })
+    → decoder_values_at profile_two None (bare_decoder d) entries spent (record { place = place; rest = body ++ rest })
     ≡ Ok ((placed plain place d.heads values, d), record { place = place + length body; rest = rest })
 
 -- those of the one decoder

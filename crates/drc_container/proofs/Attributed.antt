@@ -55,7 +55,6 @@ decoder_passes g are =
       each = All-cons DecoderPasses (decoder_of g) [] (record {
         some = omega (arith, say.some);
         heads = All-weaker HeadSays HeadPasses head_passes (heads_in g) say.each;
-        depth_first = refl;
       }) (All-nil DecoderPasses);
     }
 

@@ -1,8 +1,7 @@
 -- Values that were read: how many they are, and that each is in its type.
 use Rattle.drc_base.specs.Profile.{profile_two}
-use Rattle.std.proofs.Common.{◌≡◌, ℕ, zero, suc, ◌+◌, ◌*◌, ◌/◌, ◌%◌, ◌≤◌, true, ℤ, List, [], ◌∷◌, ◌++◌, length, take, drop, map, Ok, refl, sym, ◌∙◌, ap, arith, length-append, replicate}
+use Rattle.std.proofs.Common.{◌≡◌, ℕ, zero, suc, ◌+◌, ◌*◌, ◌/◌, ◌%◌, ◌≤◌, true, ℤ, List, [], ◌∷◌, ◌++◌, length, take, drop, map, Option, None, Some, Ok, refl, sym, ◌∙◌, ap, arith, length-append, replicate}
 use Rattle.std.specs.Prelude.{◌==◌, ◌&&◌, nat_lt, nat_le}
-use Rattle.std.specs.Ordering.{int_eq}
 use Rattle.std.specs.List.{list_all}
 use Rattle.std.proofs.lemmas.Bool.{eqb-true, leb-true}
 use Rattle.std.proofs.lemmas.List.{length-map, length-replicate}
@@ -23,8 +22,13 @@ use Rattle.mesh_model.specs.declared.heads.Head.{Head}
 use Rattle.mesh_model.specs.Head.{in_type}
 use Rattle.predict.specs.Wrap.{Range, restored_value}
 use Rattle.predict.specs.Restored.{restored_behind, entry_before}
+use Rattle.predict.specs.Walked.{Walked}
+use Rattle.predict.specs.Parallelogram.{parallelogram}
+use Rattle.predict.specs.Multi.{multi}
+use Rattle.attr_section.specs.declared.predictions.Prediction.{Prediction}
+use Rattle.attr_section.specs.declared.predictions.Prediction.TheVariants as prediction
 use Rattle.attr_section.specs.declared.values.Values.{Values}
-use Rattle.attr_section.specs.Values.{no_prediction, prediction_at, plain_value_at, byte_width_at, plain_values_at, signed_of, transform_at, range_at, compressed_values_at, integers_at, differences_at, predicted_at, typed_values_at, values_at}
+use Rattle.attr_section.specs.Values.{code_of, prediction_at, plain_value_at, byte_width_at, plain_values_at, signed_of, transform_at, range_at, compressed_values_at, integers_at, differences_at, flag_lists_at, has_flags, parallelograms_at, means_at, predicted_at, typed_values_at, values_at}
 use Rattle.drc_container.proofs.Parted.{given, parts, passed, not_refused, either, many-passed}
 
 values_in-counted : (long short : ℕ) (ws bits vs : List ℕ) → values_in_bits long short ws bits ≡ Ok vs → length vs ≡ length ws
@@ -109,27 +113,60 @@ differences-counted comps n whole c y is =
     ∙ length-restored (entry_before comps) r.0.0 [] q.0.0
     ∙ omega (arith, integers-counted comps n whole p.0.1 q.0 q.1)
 
+parallelograms-counted : (w : Walked) (comps n : ℕ) → n % comps ≡ 0 → (c : Reading) (y : List ℤ × Reading) → parallelograms_at w comps n c ≡ Ok y
+    → length y.0 ≡ n
+unfolding parallelograms_at
+parallelograms-counted w comps n whole c y is =
+    let p = parts (transform_at c) _ y is in
+    let q = parts (integers_at comps n p.0.1) _ y p.2 in
+    let r = parts (range_at q.0.1) _ y q.2 in
+    ap (λ (z : List ℤ × Reading). length z.0) (sym (Ok-injective r.2))
+    ∙ length-restored (parallelogram w comps) r.0.0 [] q.0.0
+    ∙ omega (arith, integers-counted comps n whole p.0.1 q.0 q.1)
+
+means-counted : (at : ℕ) (w : Walked) (comps n : ℕ) → n % comps ≡ 0 → (c : Reading) (y : List ℤ × Reading) → means_at at w comps n c ≡ Ok y
+    → length y.0 ≡ n
+unfolding means_at
+means-counted at w comps n whole c y is =
+    let p = parts (transform_at c) _ y is in
+    let q = parts (integers_at comps n p.0.1) _ y p.2 in
+    let f = parts (flag_lists_at w q.0.1) _ y q.2 in
+    let r = parts (range_at f.0.1) _ y f.2 in
+    let t = passed (has_flags w f.0.0) _ _ y r.2 in
+    ap (λ (z : List ℤ × Reading). length z.0) (sym (Ok-injective t.1))
+    ∙ length-restored (multi w comps f.0.0) r.0.0 [] q.0.0
+    ∙ omega (arith, integers-counted comps n whole p.0.1 q.0 q.1)
+
+-- however they are predicted, values are as many as were asked for
+predicted-counted : (at : ℕ) (w : Option Walked) (q : Prediction) (comps n : ℕ) → n % comps ≡ 0 → (c : Reading) (y : List ℤ × Reading)
+    → predicted_at at w q comps n c ≡ Ok y → length y.0 ≡ n
+predicted-counted at w prediction.Off comps n whole c y is = integers-counted comps n whole c y is
+predicted-counted at w prediction.Difference comps n whole c y is = differences-counted comps n whole c y is
+predicted-counted at None prediction.Parallelogram comps n whole c y is = cc
+predicted-counted at (Some s) prediction.Parallelogram comps n whole c y is = parallelograms-counted s comps n whole c y is
+predicted-counted at None prediction.Multi comps n whole c y is = cc
+predicted-counted at (Some s) prediction.Multi comps n whole c y is = means-counted at s comps n whole c y is
+
 -- a column of so many values, each in this type
 pub record IsColumn (n dtype : ℕ) (v : Values) : Type 0 where
   pub long : length v.values ≡ n
   pub typed : list_all (in_type dtype) v.values ≡ true
 
-typed-column : (h : Head) (n : ℕ) → n % h.comps ≡ 0 → (c : Reading) (y : Values × Reading) → typed_values_at profile_two h n c ≡ Ok y
-    → IsColumn n h.dtype y.0
+typed-column : (w : Option Walked) (h : Head) (n : ℕ) → n % h.comps ≡ 0 → (c : Reading) (y : Values × Reading)
+    → typed_values_at profile_two w h n c ≡ Ok y → IsColumn n h.dtype y.0
 unfolding typed_values_at
-typed-column h n whole c y is =
+typed-column w h n whole c y is =
     let p = parts (prediction_at profile_two c) _ y is in
-    let q = parts (predicted_at p.0.0 h.comps n p.0.1) _ y p.2 in
+    let q = parts (predicted_at c.place w p.0.0 h.comps n p.0.1) _ y p.2 in
     let t = passed (list_all (in_type h.dtype) q.0.0) _ _ y q.2 in
-    let v : Values = record { values = q.0.0; predict = p.0.0; at = c.place } in
-    let long : length q.0.0 ≡ n = either (length q.0.0 ≡ n) (int_eq p.0.0 no_prediction) (integers_at h.comps n p.0.1) (differences_at h.comps n p.0.1) q.0 q.1
-    (λ off read. integers-counted h.comps n whole p.0.1 q.0 read) (λ on read. differences-counted h.comps n whole p.0.1 q.0 read) in
+    let v : Values = record { values = q.0.0; predict = code_of p.0.0; at = c.place } in
+    let long : length q.0.0 ≡ n = predicted-counted c.place w p.0.0 h.comps n whole p.0.1 q.0 q.1 in
     given (λ (z : Values × Reading). IsColumn n h.dtype z.0) (v, q.0.1) y t.1 (record { long = long; typed = t.0 })
 
 -- the values of an attribute are a column within the limit
-pub values-column : (h : Head) (entries spent : ℕ) (c : Reading) (y : Values × Reading) → values_at profile_two h entries spent c ≡ Ok y
-    → IsColumn (entries * h.comps) h.dtype y.0 × (spent + entries * h.comps ≤ MAX_VALUES)
+pub values-column : (w : Option Walked) (h : Head) (entries spent : ℕ) (c : Reading) (y : Values × Reading)
+    → values_at profile_two w h entries spent c ≡ Ok y → IsColumn (entries * h.comps) h.dtype y.0 × (spent + entries * h.comps ≤ MAX_VALUES)
 unfolding values_at
-values-column h entries spent c y is =
+values-column w h entries spent c y is =
     let t = passed (nat_le (spent + entries * h.comps) MAX_VALUES) _ _ y is in
-    (typed-column h (entries * h.comps) (mul-mod_left entries h.comps) c y t.1, leb-true (spent + entries * h.comps) MAX_VALUES t.0)
+    (typed-column w h (entries * h.comps) (mul-mod_left entries h.comps) c y t.1, leb-true (spent + entries * h.comps) MAX_VALUES t.0)

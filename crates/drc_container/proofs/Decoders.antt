@@ -1,6 +1,6 @@
 -- Decoders of attributes, one at a time.
 use Rattle.drc_base.specs.Profile.{profile_two}
-use Rattle.std.proofs.Common.{◌≡◌, ℕ, ◌+◌, List, [], ◌∷◌, ◌++◌, length, Ok, refl, sym, ◌∙◌}
+use Rattle.std.proofs.Common.{◌≡◌, ℕ, ◌+◌, List, [], ◌∷◌, ◌++◌, length, None, Ok, refl, sym, ◌∙◌}
 use Rattle.std.proofs.lemmas.List.Sums.{sum_by-append}
 use Rattle.drc_base.specs.declared.faults.Refusal.{Refusal}
 use Rattle.drc_base.specs.declared.faults.Refusal.TheVariants as refusal
@@ -16,7 +16,7 @@ use Rattle.drc_container.specs.Stream.{decoders_at}
 -- the next decoder was read
 pub decoders_at-next : (n : ℕ) (heads : List Head) (values new : List Values) (d e : DecoderHead) (ds rest : List DecoderHead) (c next : Reading) (whole : Item Attributes)
     → decoders_at profile_two n (record { heads = heads; values = values }) ds c ≡ whole → ds ≡ d ∷ rest
-    → decoder_values_at profile_two d n (values_in values) c ≡ Ok ((new, e), next)
+    → decoder_values_at profile_two None d n (values_in values) c ≡ Ok ((new, e), next)
     → decoders_at profile_two n (record { heads = heads ++ e.heads; values = values ++ new }) rest next ≡ whole
 unfolding decoders_at
 decoders_at-next n heads values new d e ds rest c next whole so is read = sym (rw (is, read) refl) ∙ so
@@ -24,7 +24,7 @@ decoders_at-next n heads values new d e ds rest c next whole so is read = sym (r
 -- the next decoder is refused
 pub decoders_at-refuses : (n : ℕ) (heads : List Head) (values : List Values) (d : DecoderHead) (ds rest : List DecoderHead) (c : Reading) (r : Refusal) (whole : Item Attributes)
     → decoders_at profile_two n (record { heads = heads; values = values }) ds c ≡ whole → ds ≡ d ∷ rest
-    → Refuses (decoder_values_at profile_two d n (values_in values) c) r → Refuses whole r
+    → Refuses (decoder_values_at profile_two None d n (values_in values) c) r → Refuses whole r
 unfolding decoders_at
 decoders_at-refuses n heads values d ds rest c refusal.Memory whole so is refuses = tt
 decoders_at-refuses n heads values d ds rest c (refusal.Fault f) whole so is refuses = sym so ∙ rw (is, refuses) refl

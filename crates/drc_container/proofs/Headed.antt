@@ -1,16 +1,17 @@
 -- Heads of attributes that were read have no fault, with the quantisations that were read behind them.
-use Rattle.std.proofs.Common.{◌≡◌, ℕ, suc, ◌+◌, ◌≤◌, Bool, true, false, List, [], ◌∷◌, ◌++◌, length, map, Option, None, Some, Ok, refl, sym, ◌∙◌, ap, subst, arith, append-nil, append_assoc, replicate}
+use Rattle.std.proofs.Common.{◌≡◌, ℕ, suc, ◌+◌, ◌≤◌, Bool, true, false, List, [], ◌∷◌, ◌++◌, length, map, Option, None, Some, Ok, refl, sym, ◌∙◌, ap, subst, arith, append-nil, append_assoc, length-append, replicate}
 use Rattle.std.specs.Prelude.{◌==◌, ◌&&◌, ◌||◌, nat_lt, nat_le}
-use Rattle.std.specs.List.{All}
+use Rattle.std.specs.List.{All, range_with_len}
 use Rattle.std.proofs.lemmas.Bool.{leb-true, ltb-true, le-leb, eq-eqb, and_parts, and_from}
 use Rattle.std.proofs.Math.Bool.{or-false}
 use Rattle.std.proofs.lemmas.List.{length-replicate, map-append}
+use Rattle.std.proofs.lemmas.List.FromFn.{length-range_with_len}
 use Rattle.std.proofs.lemmas.List.Sums.{sum_by-cons, sum_by-append}
 use Rattle.std.proofs.lemmas.List.Elements.{All-nil, All-cons, All-head, All-tail, All-append}
 use Rattle.drc_base.specs.declared.kinds.Kind.TheVariants as kind
 use Rattle.drc_base.specs.declared.limits.TheConstants.{MAX_ATTRIBUTES, MAX_COMPONENTS}
 use Rattle.drc_base.specs.Steps.{◌>>=◌}
-use Rattle.drc_bits.specs.Reading.{Reading, must, many_at}
+use Rattle.drc_bits.specs.Reading.{Reading, Item, must, many_at}
 use Rattle.drc_bits.specs.Numbers.{number_at}
 use Rattle.drc_bits.specs.Varint.{var32_at}
 use Rattle.drc_bits.proofs.Results.{Ok-injective}
@@ -21,7 +22,7 @@ use Rattle.mesh_model.proofs.FirstFaults.{unless-true, first_fault-cons}
 use Rattle.attr_section.specs.declared.decoder_heads.DecoderHead.{DecoderHead}
 use Rattle.attr_section.specs.declared.links.Link.{Link}
 use Rattle.attr_section.specs.Each.{each_at}
-use Rattle.attr_section.specs.Heads.{is_type, HeadPasses, head_at, codings_at, attributes_of, attribute_count_at, decoder_at, decoders_at, decoder_count_at, links_at, no_link, heads_at}
+use Rattle.attr_section.specs.Heads.{is_type, HeadPasses, head_at, codings_at, attributes_of, attribute_count_at, decoder_at, decoders_at, decoder_count_at, link_at, linked_at, links_at, no_link, heads_at}
 use Rattle.attr_section.specs.Values.{quant_bits_at, quant_at, quant_of_at, quantised_at, quants_at}
 use Rattle.drc_container.proofs.Parted.{given, parts, either, must-passed, many-passed}
 
@@ -149,7 +150,7 @@ decoder-passed before link c y is =
     let most = must-passed kind.AttrLimit few (λ c. must kind.NoAttribute some var32_at c) c p.0 p.1 in
     let least = must-passed kind.NoAttribute some var32_at c p.0 most.1 in
     let heads = many-passed HeadPasses head_at head-passed p.0.0 p.0.1 q.0 q.1 in
-    let d : DecoderHead = record { data_id = link.data_id; corner = link.corner; degree = false; heads = q.0.0 } in
+    let d : DecoderHead = record { data_id = link.data_id; corner = link.corner; degree = link.degree; heads = q.0.0 } in
     given (λ (z : DecoderHead × Reading). DecoderRead z.0 × (before + length z.0.heads ≤ MAX_ATTRIBUTES)) (d, r.0.1) y r.2
     (record { some = omega (arith, ltb-true 0 p.0.0 least.0, heads.0); heads = heads.1 }, omega (arith, leb-true (before + p.0.0) MAX_ATTRIBUTES most.0, heads.0))
 
@@ -180,19 +181,44 @@ decoders-from (link ∷ links) n front are c y is =
     } in
     subst (λ m. DecodersRead m y.0) more (decoders-from links (n + 1) (front ++ p.0.0 ∷ []) next p.0.1 y p.2)
 
--- the heads of all decoders of a sequential stream
-pub heads-passed : (c : Reading) (y : List DecoderHead × Reading) → heads_at None c ≡ Ok y → DecodersRead 1 y.0
-unfolding heads_at decoder_count_at links_at decoders_at
-heads-passed c y is =
+-- items of which each may depend on those before it: as many as there are to read
+each-counted : {A B : Type 0} (item : List A → B → Reading → Item A) (front : List A) (bs : List B) (c : Reading) (y : List A × Reading)
+    → each_at item front bs c ≡ Ok y → length y.0 ≡ length front + length bs
+unfolding each_at
+each-counted {A} {B} item front [] c y is =
+    let same : length front ≡ length front + 0 = omega arith in
+    given (λ (z : List A × Reading). length z.0 ≡ length front + 0) (front, c) y is same
+each-counted {A} {B} item front (b ∷ bs) c y is =
+    let p = parts (item front b c) (λ x. each_at item (front ++ x.0 ∷ []) bs x.1) y is in
+    let rest = each-counted item (front ++ p.0.0 ∷ []) bs p.0.1 y p.2 in
+    rest ∙ omega (arith, length-append front (p.0.0 ∷ []))
+
+-- as many links as decoders
+links-counted : (a : Option ℕ) (n : ℕ) (c : Reading) (y : List Link × Reading) → links_at a n c ≡ Ok y → length y.0 ≡ n
+unfolding links_at linked_at
+links-counted None n c y is =
+    given (λ (z : List Link × Reading). length z.0 ≡ n) (replicate n no_link, c) y is (length-replicate n no_link)
+links-counted (Some k) n c y is =
+    each-counted (λ before _. link_at k before) [] (range_with_len 0 n) c y is ∙ omega (arith, length-range_with_len 0 n)
+
+-- the heads of all decoders, beside so many attribute data in an Edgebreaker stream
+pub heads-read : (a : Option ℕ) (c : Reading) (y : List DecoderHead × Reading) → heads_at a c ≡ Ok y → DecodersRead 1 y.0
+unfolding heads_at decoder_count_at decoders_at
+heads-read a c y is =
     let few : ℕ → Bool = λ n. nat_le n MAX_ATTRIBUTES in
     let some : ℕ → Bool = λ n. nat_lt 0 n in
     let p = parts (must kind.AttrLimit few (λ c. must kind.NoAttribute some (number_at 1) c) c) _ y is in
+    let q = parts (links_at a p.0.0 p.0.1) _ y p.2 in
     let most = must-passed kind.AttrLimit few (λ c. must kind.NoAttribute some (number_at 1) c) c p.0 p.1 in
     let least = must-passed kind.NoAttribute some (number_at 1) c p.0 most.1 in
-    let links = replicate p.0.0 no_link in
+    let count = links-counted a p.0.0 p.0.1 q.0 q.1 in
     let none : DecodersRead 0 [] = record { some = omega arith; few = omega arith; each = All-nil DecoderRead } in
-    let all = decoders-from links 0 [] none p.0.1 y p.2 in
-    record { some = omega (arith, all.some, length-replicate p.0.0 no_link, ltb-true 0 p.0.0 least.0); few = all.few; each = all.each }
+    let all = decoders-from q.0.0 0 [] none q.0.1 y q.2 in
+    record { some = omega (arith, all.some, count, ltb-true 0 p.0.0 least.0); few = all.few; each = all.each }
+
+-- the heads of all decoders of a sequential stream
+pub heads-passed : (c : Reading) (y : List DecoderHead × Reading) → heads_at None c ≡ Ok y → DecodersRead 1 y.0
+heads-passed c y is = heads-read None c y is
 
 each-none : (k : ℕ) (heads : List Head) → All IsHead heads → each_fault k heads ≡ None
 each-none k [] are = refl

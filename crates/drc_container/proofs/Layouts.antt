@@ -30,7 +30,7 @@ use Rattle.drc_container.specs.declared.methods.Method.TheVariants as method
 use Rattle.drc_container.specs.declared.choices.Choice.{Choice}
 use Rattle.drc_container.specs.Columns.{columns_of}
 use Rattle.drc_container.specs.Choice.{method_of, prediction_of, index_of, is_packed}
-use Rattle.drc_container.specs.Stream.{attrs_seen}
+use Rattle.drc_container.specs.Meaning.{attrs_seen}
 use Rattle.drc_container.specs.Written.{header_bytes, connectivity_bytes, decoder_of, attribute_heads_bytes, attributes_bytes, values_of, stream_bytes}
 use Rattle.drc_container.specs.Encoded.{CanCode, ConnectivitySpelled, AttributesSpelled}
 use Rattle.drc_container.specs.Layout.{AttrLayout, Layout, attr_layouts, links_of, attr_data_of, links_layout, traversal_layout, traversal_of, index_layout, opening_method, layout_seen, layout_of, method_byte, layout_chosen}

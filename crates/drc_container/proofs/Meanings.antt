@@ -1,6 +1,6 @@
 -- A written stream means the geometry that was written.
 use Rattle.drc_base.specs.Profile.{profile_two}
-use Rattle.std.proofs.Common.{◌≡◌, ℕ, ◌+◌, List, [], ◌∷◌, ◌++◌, map, length, Ok, refl, sym, ◌∙◌, ap, arith, append-nil, length-append}
+use Rattle.std.proofs.Common.{◌≡◌, ℕ, ◌+◌, List, [], ◌∷◌, ◌++◌, map, length, None, Ok, refl, sym, ◌∙◌, ap, arith, append-nil, length-append}
 use Rattle.std.specs.Prelude.{ℤ, Bool}
 use Rattle.std.specs.List.{All}
 use Rattle.drc_base.specs.Steps.{◌>>=◌}
@@ -20,10 +20,10 @@ use Rattle.attr_section.specs.declared.values.Values.{Values}
 use Rattle.attr_section.specs.Written.{placed, values_bytes}
 use Rattle.drc_container.specs.declared.choices.Choice.{Choice}
 use Rattle.drc_container.specs.declared.seen.Seen.{Seen}
-use Rattle.drc_container.specs.declared.seen.Decoded.{Decoded}
 use Rattle.drc_container.specs.Columns.{columns_of, cells_at}
 use Rattle.drc_container.specs.Choice.{prediction_of, index_of, is_packed}
-use Rattle.drc_container.specs.Stream.{stream, stream_in, body_at, mesh_at, mesh_behind, cloud_at, cloud_behind, attributes_at, seen_of, points_of}
+use Rattle.drc_container.specs.Stream.{stream, stream_in, body_at, mesh_at, mesh_behind, cloud_at, cloud_behind, attributes_at, points_of}
+use Rattle.drc_container.specs.Meaning.{Meaning, seen_of}
 use Rattle.drc_container.specs.Written.{header_bytes, connectivity_bytes, attributes_bytes, attribute_heads_bytes, values_of, stream_bytes}
 use Rattle.drc_container.specs.Encoded.{ConnectivitySpelled, AttributesSpelled, attributes_again, Means}
 use Rattle.drc_container.proofs.Columns.{AreWide, cells_at-columns_of}
@@ -73,8 +73,8 @@ seen_written g choice =
     (attributes_again choice.plain_values g (prediction_of g choice) (attributes_place g choice)) (record { place = end_place g choice; rest = [] })
 
 -- what a written stream means
-abbrev pub decoded_written : Geometry → Choice → Decoded
-decoded_written g choice = record { geometry = g; seen = seen_written g choice }
+abbrev pub decoded_written : Geometry → Choice → Meaning
+decoded_written g choice = record { geometry = g; surface = None; seen = seen_written g choice }
 
 -- where the connectivity of a written stream begins
 abbrev behind_header : Geometry → Choice → Reading
@@ -97,9 +97,9 @@ body-mesh m choice is connectivity attributes same =
     let a = attributes_again choice.plain_values (Mesh m) predict q in
     let end : Reading = record { place = end_place (Mesh m) choice; rest = [] } in
     ap (λ x. x >>= λ indices. mesh_behind profile_two p indices.0 indices.1) (connectivity.reads p bytes)
-    ∙ ap (λ rest. attributes_at profile_two n (record { place = q; rest = rest }) >>= λ a. mesh_of a.0.heads (points_of n a.0) m.faces >>= λ mesh. Ok (record { geometry = Mesh mesh; seen = seen_of p q n a.0 a.1 })) (sym (append-nil bytes))
-    ∙ ap (λ x. x >>= λ a. mesh_of a.0.heads (points_of n a.0) m.faces >>= λ mesh. Ok (record { geometry = Mesh mesh; seen = seen_of p q n a.0 a.1 })) (attributes.reads q [])
-    ∙ ap (λ x. x >>= λ mesh. Ok (record { geometry = Mesh mesh; seen = seen_of p q n a end }))
+    ∙ ap (λ rest. attributes_at profile_two n (record { place = q; rest = rest }) >>= λ a. mesh_of a.0.heads (points_of n a.0) m.faces >>= λ mesh. Ok (record { geometry = Mesh mesh; surface = None; seen = seen_of p q n a.0 a.1 })) (sym (append-nil bytes))
+    ∙ ap (λ x. x >>= λ a. mesh_of a.0.heads (points_of n a.0) m.faces >>= λ mesh. Ok (record { geometry = Mesh mesh; surface = None; seen = seen_of p q n a.0 a.1 })) (attributes.reads q [])
+    ∙ ap (λ x. x >>= λ mesh. Ok (record { geometry = Mesh mesh; surface = None; seen = seen_of p q n a end }))
     (ap (λ cells. mesh_of m.heads cells m.faces) (cells-again choice.plain_values (q + length (attribute_heads_bytes (Mesh m))) predict m.heads m.points is.points.rows_fit same) ∙ mesh_of-IsMesh m is)
 
 body-cloud : (m : CloudParts) (choice : Choice) → IsCloud m → ConnectivitySpelled (is_packed (index_of choice)) (Cloud m)
@@ -116,9 +116,9 @@ body-cloud m choice is connectivity attributes same =
     let a = attributes_again choice.plain_values (Cloud m) predict q in
     let end : Reading = record { place = end_place (Cloud m) choice; rest = [] } in
     ap (λ x. x >>= λ points. cloud_behind profile_two p points.0 points.1) (connectivity.reads p bytes)
-    ∙ ap (λ rest. attributes_at profile_two n (record { place = q; rest = rest }) >>= λ a. cloud_of a.0.heads (points_of n a.0) >>= λ cloud. Ok (record { geometry = Cloud cloud; seen = seen_of p q n a.0 a.1 })) (sym (append-nil bytes))
-    ∙ ap (λ x. x >>= λ a. cloud_of a.0.heads (points_of n a.0) >>= λ cloud. Ok (record { geometry = Cloud cloud; seen = seen_of p q n a.0 a.1 })) (attributes.reads q [])
-    ∙ ap (λ x. x >>= λ cloud. Ok (record { geometry = Cloud cloud; seen = seen_of p q n a end }))
+    ∙ ap (λ rest. attributes_at profile_two n (record { place = q; rest = rest }) >>= λ a. cloud_of a.0.heads (points_of n a.0) >>= λ cloud. Ok (record { geometry = Cloud cloud; surface = None; seen = seen_of p q n a.0 a.1 })) (sym (append-nil bytes))
+    ∙ ap (λ x. x >>= λ a. cloud_of a.0.heads (points_of n a.0) >>= λ cloud. Ok (record { geometry = Cloud cloud; surface = None; seen = seen_of p q n a.0 a.1 })) (attributes.reads q [])
+    ∙ ap (λ x. x >>= λ cloud. Ok (record { geometry = Cloud cloud; surface = None; seen = seen_of p q n a end }))
     (ap (λ cells. cloud_of m.heads cells) (cells-again choice.plain_values (q + length (attribute_heads_bytes (Cloud m))) predict m.heads m.points is.rows_fit same) ∙ cloud_of-IsCloud m is)
 
 body-written : (g : Geometry) (choice : Choice) → IsGeometry g → ConnectivitySpelled (is_packed (index_of choice)) g

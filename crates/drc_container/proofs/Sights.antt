@@ -5,7 +5,7 @@ use Rattle.std.proofs.lemmas.List.{drop_all}
 use Rattle.mesh_model.specs.declared.heads.Head.{Head}
 use Rattle.attr_section.specs.declared.values.Values.{Values}
 use Rattle.drc_container.specs.declared.seen.AttrSeen.{AttrSeen}
-use Rattle.drc_container.specs.Stream.{attrs_seen}
+use Rattle.drc_container.specs.Meaning.{attrs_seen}
 
 -- one attribute more was seen
 pub attrs_seen-next : (n k : ℕ) (heads : List Head) (values : List Values) (h : Head) (v : Values) (front whole : List AttrSeen)

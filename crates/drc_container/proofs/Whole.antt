@@ -1,6 +1,6 @@
 -- What is read as a mesh or a cloud passes each test of one.
 use Rattle.drc_base.specs.Profile.{profile_two}
-use Rattle.std.proofs.Common.{◌≡◌, ℕ, ◌+◌, ◌*◌, ◌-◌, ◌<◌, ◌≤◌, true, ℤ, pos, List, [], ◌∷◌, ◌++◌, length, map, take, drop, get_or, None, Ok, refl, sym, ◌∙◌, ap, subst, arith, inl, inr, length-append, length-take-le, append-nil, append_assoc, replicate}
+use Rattle.std.proofs.Common.{◌≡◌, Option, ℕ, ◌+◌, ◌*◌, ◌-◌, ◌<◌, ◌≤◌, true, ℤ, pos, List, [], ◌∷◌, ◌++◌, length, map, take, drop, get_or, None, Ok, refl, sym, ◌∙◌, ap, subst, arith, inl, inr, length-append, length-take-le, append-nil, append_assoc, replicate}
 use Rattle.std.specs.Prelude.{nat_le}
 use Rattle.std.specs.List.{All, range_with_len}
 use Rattle.std.proofs.lemmas.Bool.{leb-true, cases_lt}
@@ -18,6 +18,7 @@ use Rattle.mesh_model.specs.declared.heads.Head.{Head}
 use Rattle.mesh_model.specs.Head.{width_of, types_of, in_type, heads_fault}
 use Rattle.mesh_model.specs.Parts.{RowFits, ArePoints, cells_of, range_fault, mesh_fault, cloud_fault}
 use Rattle.mesh_model.proofs.Made.{range_fault-cells_of, mesh_of-IsMesh, cloud_of-IsCloud}
+use Rattle.predict.specs.Walked.{Walked}
 use Rattle.attr_section.specs.declared.decoder_heads.DecoderHead.{DecoderHead}
 use Rattle.attr_section.specs.declared.values.Values.{Values}
 use Rattle.attr_section.specs.Each.{each_at}
@@ -50,20 +51,20 @@ AreTyped-append n (s ∷ shape) t [] more are also = absurd are
 AreTyped-append n (s ∷ shape) t (v ∷ values) more are also = (are.0, AreTyped-append n shape t values more are.1 also)
 
 -- columns within the limit
-record AreColumns (n spent : ℕ) (shape : List (ℕ × ℕ)) (values : List Values) : Type 0 where
-  typed : AreTyped n shape values
-  few : spent + values_in values ≤ MAX_VALUES
+pub record AreColumns (n spent : ℕ) (shape : List (ℕ × ℕ)) (values : List Values) : Type 0 where
+  pub typed : AreTyped n shape values
+  pub few : spent + values_in values ≤ MAX_VALUES
 
-columns-from : (n spent : ℕ) (heads : List Head) (s : List (ℕ × ℕ)) (front : List Values) → AreColumns n spent s front
+pub columns-from : (w : Option Walked) (n spent : ℕ) (heads : List Head) (s : List (ℕ × ℕ)) (front : List Values) → AreColumns n spent s front
     → (c : Reading) (y : List Values × Reading)
-    → each_at (λ before h. values_at profile_two h n (spent + values_in before)) front heads c ≡ Ok y → AreColumns n spent (s ++ shapes heads) y.0
+    → each_at (λ before h. values_at profile_two w h n (spent + values_in before)) front heads c ≡ Ok y → AreColumns n spent (s ++ shapes heads) y.0
 unfolding each_at
-columns-from n spent [] s front are c y is =
+columns-from w n spent [] s front are c y is =
     rw (append-nil s) (subst (λ (z : List Values × Reading). AreColumns n spent s z.0) (Ok-injective is) are)
-columns-from n spent (h ∷ heads) s front are c y is =
-    let next : Values × Reading → Item (List Values) = λ x. each_at (λ before h. values_at profile_two h n (spent + values_in before)) (front ++ x.0 ∷ []) heads x.1 in
-    let p = parts (values_at profile_two h n (spent + values_in front) c) next y is in
-    let here = values-column h n (spent + values_in front) c p.0 p.1 in
+columns-from w n spent (h ∷ heads) s front are c y is =
+    let next : Values × Reading → Item (List Values) = λ x. each_at (λ before h. values_at profile_two w h n (spent + values_in before)) (front ++ x.0 ∷ []) heads x.1 in
+    let p = parts (values_at profile_two w h n (spent + values_in front) c) next y is in
+    let here = values-column w h n (spent + values_in front) c p.0 p.1 in
     let shape : List (ℕ × ℕ) = (h.comps, h.dtype) ∷ [] in
     let sum = values_in-append front (p.0.0 ∷ []) in
     let one = sum_by-cons (λ (v : Values). length v.values) p.0.0 [] in
@@ -71,7 +72,7 @@ columns-from n spent (h ∷ heads) s front are c y is =
       typed = AreTyped-append n s shape front (p.0.0 ∷ []) are.typed (here.0, tt);
       few = omega (arith, here.1, here.0.long, sum, one);
     } in
-    subst (λ l. AreColumns n spent l y.0) (append_assoc s shape (shapes heads)) (columns-from n spent heads (s ++ shape) (front ++ p.0.0 ∷ []) more p.0.1 y p.2)
+    subst (λ l. AreColumns n spent l y.0) (append_assoc s shape (shapes heads)) (columns-from w n spent heads (s ++ shape) (front ++ p.0.0 ∷ []) more p.0.1 y p.2)
 
 -- attributes of n entries whose heads have no fault
 record ArePart (n : ℕ) (a : Attributes) : Type 0 where
@@ -87,7 +88,7 @@ gives-same next x z y same is = ap next (Ok-injective same) ∙ is
 shapes-behind : (before xs hs : List Head) → shapes xs ≡ shapes hs → shapes (before ++ xs) ≡ shapes before ++ shapes hs
 shapes-behind before xs hs same = map-append (λ (h : Head). (h.comps, h.dtype)) before xs ∙ ap (λ l. shapes before ++ l) same
 
-shapes-length : (xs hs : List Head) → shapes xs ≡ shapes hs → length xs ≡ length hs
+pub shapes-length : (xs hs : List Head) → shapes xs ≡ shapes hs → length xs ≡ length hs
 shapes-length xs hs same = sym (length-map xs (λ (h : Head). (h.comps, h.dtype))) ∙ ap length same ∙ length-map hs (λ (h : Head). (h.comps, h.dtype))
 
 decoders-typed : (n : ℕ) (ds : List DecoderHead) → All DecoderRead ds → (before : Attributes) → ArePart n before
@@ -101,12 +102,12 @@ decoders-typed n (d ∷ ds) read before are c y is =
     let spent = values_in before.values in
     let next : (List Values × DecoderHead) × Reading → Item Attributes =
     λ x. decoders_at profile_two n (record { heads = before.heads ++ x.0.1.heads; values = before.values ++ x.0.0 }) ds x.1 in
-    let p = parts (decoder_values_at profile_two d n spent c) next y is in
-    let q = parts (columns_at profile_two d.heads n spent c) _ p.0 p.1 in
+    let p = parts (decoder_values_at profile_two None d n spent c) next y is in
+    let q = parts (columns_at profile_two None d.heads n spent c) _ p.0 p.1 in
     let r = parts (quants_at d.heads q.0.1) _ p.0 q.2 in
     let passes = (All-head DecoderRead d ds read).heads in
     let none : AreColumns n spent [] [] = record { typed = tt; few = omega (arith, are.few) } in
-    let here = columns-from n spent d.heads [] [] none c q.0 q.1 in
+    let here = columns-from None n spent d.heads [] [] none c q.0 q.1 in
     let heads = quants-passed d.heads passes q.0.1 r.0 r.1 in
     let all : Attributes = record { heads = before.heads ++ r.0.0; values = before.values ++ q.0.0 } in
     let shape : shapes (before.heads ++ r.0.0) ≡ shapes before.heads ++ shapes d.heads = shapes-behind before.heads r.0.0 d.heads heads.same in

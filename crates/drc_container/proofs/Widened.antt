@@ -1,5 +1,5 @@
 -- A stream that is a geometry in a profile is the same one in each wider profile.
-use Rattle.std.proofs.Common.{◌≡◌, ℕ, ◌+◌, ◌*◌, ◌≤◌, true, List, [], ◌∷◌, ◌++◌, None, refl, arith, lit≤}
+use Rattle.std.proofs.Common.{◌≡◌, ℕ, ◌+◌, ◌*◌, ◌≤◌, ◌==◌, ◌&&◌, ◌||◌, Bool, true, false, Option, List, [], ◌∷◌, ◌++◌, length, None, Some, refl, arith, lit≤}
 use Rattle.std.specs.Prelude.{nat_le}
 use Rattle.std.proofs.lemmas.Bool.{leb-true, le-leb}
 use Rattle.drc_base.specs.declared.kinds.Kind.TheVariants as kind
@@ -8,8 +8,11 @@ use Rattle.drc_bits.specs.Reading.{Reading, must, start_of}
 use Rattle.drc_bits.specs.Numbers.{number_at}
 use Rattle.drc_bits.specs.Varint.{var32_at}
 use Rattle.mesh_model.specs.declared.heads.Head.{Head}
+use Rattle.predict.specs.Walked.{Walked}
 use Rattle.seq_section.specs.declared.reading.SeqRead.{SeqRead}
 use Rattle.seq_section.specs.Indices.{opening_at, indices_at}
+use Rattle.eb_section.specs.Opening.{traversal_at, opening_at as edgebreaker_opening_at}
+use Rattle.eb_section.specs.Connectivity.{Connectivity, connectivity_at}
 use Rattle.attr_section.specs.declared.decoder_heads.DecoderHead.{DecoderHead}
 use Rattle.attr_section.specs.Heads.{heads_at}
 use Rattle.attr_section.specs.Values.{is_prediction, prediction_at, typed_values_at, values_at, values_in, attributes_at as columns_at, decoder_values_at}
@@ -17,7 +20,9 @@ use Rattle.drc_container.specs.declared.headers.Form.{Form}
 use Rattle.drc_container.specs.declared.headers.Form.TheVariants as form
 use Rattle.drc_container.specs.declared.attributes.Attributes.{Attributes}
 use Rattle.drc_container.specs.Header.{header_at, cloud_points_at}
-use Rattle.drc_container.specs.Stream.{decoders_at, attributes_at, mesh_behind, mesh_at, cloud_behind, cloud_at, body_at, stream_in}
+use Rattle.drc_container.specs.Stream.{decoders_at, attributes_at, mesh_behind, mesh_at, cloud_behind, cloud_at, surface_behind, edgebreaker_at, body_at, stream_in}
+use Rattle.drc_container.specs.declared.placed.Placed.{Placed}
+use Rattle.drc_container.specs.OnSurface.{walked_for, joined, values_on, none_placed, decoder_on, placed_at, attributes_on}
 use Rattle.drc_container.specs.Profiles.{IsWider, WiderMeansTheSame, OldFilesMeanTheSame}
 use Rattle.drc_container.proofs.Parted.{parts, passed}
 use Rattle.drc_container.proofs.Keeping.{Keeps, keeps-must, keeps-each}
@@ -48,46 +53,58 @@ cloud_points p q wider c y is =
     keeps-must kind.PointLimit (λ n. nat_le n p.points) (λ n. nat_le n q.points) (number_at 4) (number_at 4) c
     (λ n. within n p.points q.points wider.points) (λ y same. same) y is
 
+-- a prediction of a profile is one of each wider profile
+weaker-last : (a b m n : Bool) → (m ≡ true → n ≡ true) → (a || (b && m)) ≡ true → (a || (b && n)) ≡ true
+weaker-last true b m n more is = refl
+weaker-last false true m n more is = more is
+weaker-last false false m n more is = is
+
+known : (p q : Profile) → IsWider p q → (b : ℕ) → is_prediction p b ≡ true → is_prediction q b ≡ true
+known p q wider b is = weaker-last (b == 254 || b == 0 || b == 1) (b == 4) p.multi q.multi wider.multi is
+
 prediction : (p q : Profile) → IsWider p q → (c : Reading) → Keeps (prediction_at p c) (prediction_at q c)
 unfolding prediction_at
 prediction p q wider c y is =
     let a = parts (must kind.Prediction (is_prediction p) (number_at 1) c) _ y is in
-    let byte = keeps-must kind.Prediction (is_prediction p) (is_prediction q) (number_at 1) (number_at 1) c (λ b same. same) (λ y same. same) a.0 a.1 in
+    let byte = keeps-must kind.Prediction (is_prediction p) (is_prediction q) (number_at 1) (number_at 1) c (known p q wider) (λ y same. same) a.0 a.1 in
     rw byte a.2
 
-typed_values : (p q : Profile) → IsWider p q → (h : Head) (n : ℕ) (c : Reading) → Keeps (typed_values_at p h n c) (typed_values_at q h n c)
+typed_values : (p q : Profile) → IsWider p q → (w : Option Walked) (h : Head) (n : ℕ) (c : Reading)
+    → Keeps (typed_values_at p w h n c) (typed_values_at q w h n c)
 unfolding typed_values_at
-typed_values p q wider h n c y is =
+typed_values p q wider w h n c y is =
     let a = parts (prediction_at p c) _ y is in
     rw (prediction p q wider c a.0 a.1) a.2
 
-values : (p q : Profile) → IsWider p q → (h : Head) (entries spent : ℕ) (c : Reading) → Keeps (values_at p h entries spent c) (values_at q h entries spent c)
+values : (p q : Profile) → IsWider p q → (w : Option Walked) (h : Head) (entries spent : ℕ) (c : Reading)
+    → Keeps (values_at p w h entries spent c) (values_at q w h entries spent c)
 unfolding values_at
-values p q wider h entries spent c y is =
+values p q wider w h entries spent c y is =
     let t = passed (nat_le (spent + entries * h.comps) p.values) _ _ y is in
-    rw (within (spent + entries * h.comps) p.values q.values wider.values t.0) (typed_values p q wider h (entries * h.comps) c y t.1)
+    rw (within (spent + entries * h.comps) p.values q.values wider.values t.0) (typed_values p q wider w h (entries * h.comps) c y t.1)
 
-columns : (p q : Profile) → IsWider p q → (heads : List Head) (entries spent : ℕ) (c : Reading)
-    → Keeps (columns_at p heads entries spent c) (columns_at q heads entries spent c)
+columns : (p q : Profile) → IsWider p q → (w : Option Walked) (heads : List Head) (entries spent : ℕ) (c : Reading)
+    → Keeps (columns_at p w heads entries spent c) (columns_at q w heads entries spent c)
 unfolding columns_at
-columns p q wider heads entries spent c y is =
-    keeps-each (λ before h. values_at p h entries (spent + values_in before)) (λ before h. values_at q h entries (spent + values_in before))
-    (λ before h c. values p q wider h entries (spent + values_in before) c) [] heads c y is
+columns p q wider w heads entries spent c y is =
+    keeps-each (λ before h. values_at p w h entries (spent + values_in before)) (λ before h. values_at q w h entries (spent + values_in before))
+    (λ before h c. values p q wider w h entries (spent + values_in before) c) [] heads c y is
 
-decoder_values : (p q : Profile) → IsWider p q → (d : DecoderHead) (entries spent : ℕ) (c : Reading)
-    → Keeps (decoder_values_at p d entries spent c) (decoder_values_at q d entries spent c)
+-- the values of a decoder, over any walk
+decoder_values : (p q : Profile) → IsWider p q → (w : Option Walked) (d : DecoderHead) (entries spent : ℕ) (c : Reading)
+    → Keeps (decoder_values_at p w d entries spent c) (decoder_values_at q w d entries spent c)
 unfolding decoder_values_at
-decoder_values p q wider d entries spent c y is =
-    let a = parts (columns_at p d.heads entries spent c) _ y is in
-    rw (columns p q wider d.heads entries spent c a.0 a.1) a.2
+decoder_values p q wider w d entries spent c y is =
+    let a = parts (columns_at p w d.heads entries spent c) _ y is in
+    rw (columns p q wider w d.heads entries spent c a.0 a.1) a.2
 
 decoders : (p q : Profile) → IsWider p q → (entries : ℕ) (ds : List DecoderHead) (before : Attributes) (c : Reading)
     → Keeps (decoders_at p entries before ds c) (decoders_at q entries before ds c)
 unfolding decoders_at
 decoders p q wider entries [] before c y is = is
 decoders p q wider entries (d ∷ ds) before c y is =
-    let a = parts (decoder_values_at p d entries (values_in before.values) c) _ y is in
-    rw (decoder_values p q wider d entries (values_in before.values) c a.0 a.1)
+    let a = parts (decoder_values_at p None d entries (values_in before.values) c) _ y is in
+    rw (decoder_values p q wider None d entries (values_in before.values) c a.0 a.1)
     (decoders p q wider entries ds (record { heads = before.heads ++ a.0.0.1.heads; values = before.values ++ a.0.0.0 }) a.0.1 y a.2)
 
 attributes : (p q : Profile) → IsWider p q → (entries : ℕ) (c : Reading) → Keeps (attributes_at p entries c) (attributes_at q entries c)
@@ -121,9 +138,62 @@ cloud p q wider c y is =
     let a = parts (cloud_points_at p c) _ y is in
     rw (cloud_points p q wider c a.0 a.1) (cloud_values p q wider c.place a.0.0 a.0.1 y a.2)
 
+edgebreaker_opening : (p q : Profile) → IsWider p q → (c : Reading) → Keeps (edgebreaker_opening_at p c) (edgebreaker_opening_at q c)
+unfolding edgebreaker_opening_at
+edgebreaker_opening p q wider c y is =
+    let a = parts (traversal_at c) _ y is in
+    let b = parts (must kind.PointLimit (λ n. nat_le n p.points) var32_at a.0.1) _ y a.2 in
+    let d = parts (must kind.FaceLimit (λ n. nat_le n p.faces) var32_at b.0.1) _ y b.2 in
+    let points = keeps-must kind.PointLimit (λ n. nat_le n p.points) (λ n. nat_le n q.points) var32_at var32_at a.0.1
+    (λ n. within n p.points q.points wider.points) (λ y same. same) b.0 b.1 in
+    let faces = keeps-must kind.FaceLimit (λ n. nat_le n p.faces) (λ n. nat_le n q.faces) var32_at var32_at b.0.1
+    (λ n. within n p.faces q.faces wider.faces) (λ y same. same) d.0 d.1 in
+    rw (a.1, points, faces) d.2
+
+connectivity : (p q : Profile) → IsWider p q → (c : Reading) → Keeps (connectivity_at p c) (connectivity_at q c)
+unfolding connectivity_at
+connectivity p q wider c y is =
+    let a = parts (edgebreaker_opening_at p c) _ y is in
+    rw (edgebreaker_opening p q wider c a.0 a.1) a.2
+
+-- the attributes of a decoder on a surface
+decoder_values_on : (p q : Profile) → IsWider p q → (w : Walked) (d : DecoderHead) (spent : ℕ) (c : Reading)
+    → Keeps (decoder_on p w d spent c) (decoder_on q w d spent c)
+unfolding decoder_on
+decoder_values_on p q wider w d spent c y is =
+    let a = parts (decoder_values_at p (Some w) d (length w.corners) spent c) _ y is in
+    rw (decoder_values p q wider (Some w) d (length w.corners) spent c a.0 a.1) a.2
+
+placed : (p q : Profile) → IsWider p q → (s : Connectivity) (ds : List DecoderHead) (before : Placed) (c : Reading)
+    → Keeps (placed_at p s before ds c) (placed_at q s before ds c)
+unfolding placed_at
+placed p q wider s [] before c y is = is
+placed p q wider s (d ∷ ds) before c y is =
+    let spent = values_on before.tables in
+    let a = parts (decoder_on p (walked_for s d) d spent c) (λ x. placed_at p s (joined before x.0) ds x.1) y is in
+    rw (decoder_values_on p q wider (walked_for s d) d spent c a.0 a.1) (placed p q wider s ds (joined before a.0.0) a.0.1 y a.2)
+
+on_surface : (p q : Profile) → IsWider p q → (s : Connectivity) (c : Reading) → Keeps (attributes_on p s c) (attributes_on q s c)
+unfolding attributes_on
+on_surface p q wider s c y is =
+    let a = parts (heads_at (Some s.attr_data) c) (λ d. placed_at p s none_placed d.0 d.1) y is in
+    rw a.1 (placed p q wider s a.0.0 none_placed a.0.1 y a.2)
+
+surface_values : (p q : Profile) → IsWider p q → (from : ℕ) (s : Connectivity) (c : Reading) → Keeps (surface_behind p from s c) (surface_behind q from s c)
+unfolding surface_behind
+surface_values p q wider from s c y is =
+    let a = parts (attributes_on p s c) _ y is in
+    rw (on_surface p q wider s c a.0 a.1) a.2
+
+edgebreaker : (p q : Profile) → IsWider p q → (c : Reading) → Keeps (edgebreaker_at p c) (edgebreaker_at q c)
+unfolding edgebreaker_at
+edgebreaker p q wider c y is =
+    let a = parts (connectivity_at p c) _ y is in
+    rw (connectivity p q wider c a.0 a.1) (surface_values p q wider c.place a.0.0 a.0.1 y a.2)
+
 body : (p q : Profile) → IsWider p q → (said : Form) (c : Reading) → Keeps (body_at p said c) (body_at q said c)
 body p q wider form.SequentialMesh c y is = mesh p q wider c y is
-body p q wider form.EdgebreakerMesh c y is = is
+body p q wider form.EdgebreakerMesh c y is = edgebreaker p q wider c y is
 body p q wider form.Cloud c y is = cloud p q wider c y is
 
 pub wider-same : WiderMeansTheSame

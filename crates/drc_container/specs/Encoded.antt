@@ -16,7 +16,7 @@ use Rattle.attr_section.specs.Written.{range_of, placed}
 use Rattle.drc_container.specs.declared.choices.Choice.{Choice}
 use Rattle.drc_container.specs.declared.methods.Method.TheVariants as method
 use Rattle.drc_container.specs.declared.attributes.Attributes.{Attributes}
-use Rattle.drc_container.specs.declared.seen.Decoded.{Decoded}
+use Rattle.drc_container.specs.Meaning.{Meaning}
 use Rattle.drc_container.specs.Header.{cloud_points_at}
 use Rattle.drc_container.specs.Choice.{method_of, prediction_of}
 use Rattle.drc_container.specs.Stream.{stream, attributes_at}
@@ -29,7 +29,7 @@ due g choice = value_unless (refused g choice) (written g choice)
 
 -- these bytes are a stream that ends with them, and its geometry is this one by these rows, with the same list of points
 pub record Means (g : Geometry) (bytes : List ℕ) (rows : Rows) : Type 0 where
-  pub decoded : Decoded
+  pub decoded : Meaning
   pub stream_is : stream bytes ≡ Ok decoded
   pub same : Same g decoded.geometry rows
   pub points : points_in decoded.geometry ≡ points_in g

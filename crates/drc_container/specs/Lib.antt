@@ -1,5 +1,7 @@
 pub mod Header
 pub mod Columns
+pub mod Meaning
+pub mod OnSurface
 pub mod Stream
 pub mod Choice
 pub mod Written

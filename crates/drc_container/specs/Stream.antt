@@ -1,36 +1,33 @@
 -- What a stream means (Draco Bitstream Specification 2.2, section "Draco Decoder"; the stream of clouds is this project's
 -- choice).
-use Rattle.std.specs.Prelude.{ℕ, ◌-◌, ℤ, List, [], ◌∷◌, ◌++◌, length, map, None, Result, Ok, Err}
+use Rattle.std.specs.Prelude.{ℕ, ℤ, List, [], ◌∷◌, ◌++◌, map, None, Some, Result, Ok}
 use Rattle.drc_base.specs.declared.faults.Fault.{Fault}
-use Rattle.drc_base.specs.declared.kinds.Kind.TheVariants as kind
 use Rattle.drc_base.specs.Profile.{Profile, profile_two}
 use Rattle.drc_base.specs.Steps.{◌>>=◌}
 use Rattle.drc_bits.specs.Reading.{Reading, Item, start_of}
-use Rattle.mesh_model.specs.declared.heads.Head.{Head}
 use Rattle.mesh_model.specs.declared.geometries.Geometry.{Geometry}
 use Rattle.mesh_model.specs.declared.geometries.Geometry.TheVariants as geometry
 use Rattle.mesh_model.specs.Parts.{mesh_of, cloud_of}
 use Rattle.seq_section.specs.declared.reading.SeqRead.{SeqRead}
 use Rattle.seq_section.specs.Indices.{opening_at, indices_at}
+use Rattle.eb_section.specs.Connectivity.{Connectivity, connectivity_at, front_at as edgebreaker_front_at}
 use Rattle.attr_section.specs.declared.decoder_heads.DecoderHead.{DecoderHead}
 use Rattle.attr_section.specs.declared.values.Values.{Values}
 use Rattle.attr_section.specs.Heads.{heads_at}
 use Rattle.attr_section.specs.Values.{decoder_values_at, values_in}
 use Rattle.drc_container.specs.Header.{header_at, cloud_points_at}
 use Rattle.drc_container.specs.Columns.{row_at, cells_at}
-use Rattle.drc_container.specs.declared.methods.Method.TheVariants as method
 use Rattle.drc_container.specs.declared.headers.Form.{Form}
 use Rattle.drc_container.specs.declared.headers.Form.TheVariants as form
 use Rattle.drc_container.specs.declared.attributes.Attributes.{Attributes}
-use Rattle.drc_container.specs.declared.seen.AttrSeen.{AttrSeen}
-use Rattle.drc_container.specs.declared.seen.Seen.{Seen}
-use Rattle.drc_container.specs.declared.seen.Decoded.{Decoded}
+use Rattle.drc_container.specs.Meaning.{Meaning, seen_of, seen_on}
+use Rattle.drc_container.specs.OnSurface.{attributes_on, assembled_at}
 
 -- the attributes of these decoders in turn, for so many entries, behind other attributes
 unfoldable pub decoders_at : Profile → ℕ → Attributes → List DecoderHead → Reading → Item Attributes
 decoders_at p entries before [] c = Ok (before, c)
 decoders_at p entries before (d ∷ decoders) c =
-    decoder_values_at p d entries (values_in before.values) c >>= λ x.
+    decoder_values_at p None d entries (values_in before.values) c >>= λ x.
     decoders_at p entries (record { heads = before.heads ++ x.0.1.heads; values = before.values ++ x.0.0 }) decoders x.1
 
 -- all attributes of a sequential stream: the heads of its decoders, and the values of each decoder in turn
@@ -38,26 +35,6 @@ unfoldable pub attributes_at : Profile → ℕ → Reading → Item Attributes
 attributes_at p entries c = do
   decoders ← heads_at None c
   decoders_at p entries (record { heads = []; values = [] }) decoders.0 decoders.1
-
--- what was seen of these attributes
-abbrev pub attrs_seen : ℕ → List Head → List Values → List AttrSeen
-attrs_seen entries [] values = []
-attrs_seen entries (h ∷ heads) [] = []
-attrs_seen entries (h ∷ heads) (v ∷ values) =
-    record { head = h; predict = v.predict; entries = entries; at = v.at } ∷ attrs_seen entries heads values
-
--- what was seen of a sequential stream: its connectivity stands between two places, and its end is a reading
-abbrev pub seen_of : ℕ → ℕ → ℕ → Attributes → Reading → Seen
-seen_of from to entries a end = record {
-  method = method.Seq;
-  connectivity = (from, to - from);
-  symbols = 0;
-  splits = 0;
-  events = 0;
-  attrs = attrs_seen entries a.heads a.values;
-  end = end.place;
-  rest = length end.rest;
-}
 
 -- the integers of point i that attributes give
 abbrev pub row_of : Attributes → ℕ → List ℤ
@@ -68,46 +45,63 @@ abbrev pub points_of : ℕ → Attributes → List ℤ
 points_of points a = cells_at a.heads (map (λ v. v.values) a.values) points
 
 -- a sequential mesh behind its indices; its connectivity begins at this place
-unfoldable pub mesh_behind : Profile → ℕ → SeqRead → Reading → Result Decoded Fault
+unfoldable pub mesh_behind : Profile → ℕ → SeqRead → Reading → Result Meaning Fault
 mesh_behind p from indices c = do
   attributes ← attributes_at p indices.points c
   mesh ← mesh_of attributes.0.heads (points_of indices.points attributes.0) indices.faces
-  Ok (record { geometry = geometry.Mesh mesh; seen = seen_of from c.place indices.points attributes.0 attributes.1 })
+  Ok (record { geometry = geometry.Mesh mesh; surface = None; seen = seen_of from c.place indices.points attributes.0 attributes.1 })
 
 -- a sequential mesh behind its header
-unfoldable pub mesh_at : Profile → Reading → Result Decoded Fault
+unfoldable pub mesh_at : Profile → Reading → Result Meaning Fault
 mesh_at p c = do
   indices ← indices_at p c
   mesh_behind p c.place indices.0 indices.1
 
 -- a cloud behind its number of points, which stands at this place
-unfoldable pub cloud_behind : Profile → ℕ → ℕ → Reading → Result Decoded Fault
+unfoldable pub cloud_behind : Profile → ℕ → ℕ → Reading → Result Meaning Fault
 cloud_behind p from points c = do
   attributes ← attributes_at p points c
   cloud ← cloud_of attributes.0.heads (points_of points attributes.0)
-  Ok (record { geometry = geometry.Cloud cloud; seen = seen_of from c.place points attributes.0 attributes.1 })
+  Ok (record { geometry = geometry.Cloud cloud; surface = None; seen = seen_of from c.place points attributes.0 attributes.1 })
 
 -- a cloud behind its header
-unfoldable pub cloud_at : Profile → Reading → Result Decoded Fault
+unfoldable pub cloud_at : Profile → Reading → Result Meaning Fault
 cloud_at p c = do
   points ← cloud_points_at p c
   cloud_behind p c.place points.0 points.1
 
+-- an Edgebreaker mesh behind its connectivity, which begins at this place
+unfoldable pub surface_behind : Profile → ℕ → Connectivity → Reading → Result Meaning Fault
+surface_behind p from s c = do
+  attributes ← attributes_on p s c
+  mesh ← assembled_at attributes.1.place s.faces attributes.0
+  Ok (record {
+    geometry = geometry.Mesh mesh;
+    surface = Some (record { faces = s.faces; glued = s.glued });
+    seen = seen_on from c.place s attributes.0.seen attributes.1;
+  })
+
+-- an Edgebreaker mesh behind its header
+unfoldable pub edgebreaker_at : Profile → Reading → Result Meaning Fault
+edgebreaker_at p c = do
+  connectivity ← connectivity_at p c
+  surface_behind p c.place connectivity.0 connectivity.1
+
 -- what follows a header of this form
-abbrev pub body_at : Profile → Form → Reading → Result Decoded Fault
+abbrev pub body_at : Profile → Form → Reading → Result Meaning Fault
 body_at p form.SequentialMesh c = mesh_at p c
-body_at p form.EdgebreakerMesh c = Err (record { kind = kind.NotYet; at = 8 })
+body_at p form.EdgebreakerMesh c = edgebreaker_at p c
 body_at p form.Cloud c = cloud_at p c
 
--- what a stream means in a profile: its geometry, and where its parts stand; or its first fault. Bytes after its end count
+-- what a stream means in a profile: its geometry and surface, and where its parts stand; or its first fault. Bytes after its end count
 -- for nothing
-unfoldable pub stream_in : Profile → List ℕ → Result Decoded Fault
+unfoldable pub stream_in : Profile → List ℕ → Result Meaning Fault
 stream_in p bytes = do
   header ← header_at (start_of bytes)
   body_at p header.0 header.1
 
 -- what a stream means: what it means in profile 2
-abbrev pub stream : List ℕ → Result Decoded Fault
+abbrev pub stream : List ℕ → Result Meaning Fault
 stream bytes = stream_in profile_two bytes
 
 -- the geometry that a stream means, or its first fault
@@ -115,10 +109,10 @@ abbrev pub meaning_of : List ℕ → Result Geometry Fault
 meaning_of bytes = stream bytes >>= λ d. Ok d.geometry
 
 -- the front of a stream, whose faults come before memory is taken: the header, then a cloud's number of points, or the two
--- numbers and the method of sequential connectivity
+-- numbers and the method of sequential connectivity, or the numbers that Edgebreaker connectivity declares
 abbrev pub front_at : Form → Reading → Result ℕ Fault
 front_at form.SequentialMesh c = opening_at profile_two c >>= λ x. Ok x.1.place
-front_at form.EdgebreakerMesh c = Err (record { kind = kind.NotYet; at = 8 })
+front_at form.EdgebreakerMesh c = edgebreaker_front_at profile_two c >>= λ x. Ok x.1.place
 front_at form.Cloud c = cloud_points_at profile_two c >>= λ x. Ok x.1.place
 
 unfoldable pub front_of : List ℕ → Result ℕ Fault

@@ -51,7 +51,7 @@ fn read_decoders(
     let mut values = Vec::new(alloc);
     let mut spent: u64 = 0;
     for mut decoder in decoders {
-        let mut read = read_decoder(alloc, c, &mut decoder, entries, &mut spent)?;
+        let mut read = read_decoder(alloc, c, &mut decoder, entries, None, &mut spent)?;
         values.append(&mut read)?;
         let mut its_heads = heads_of(decoder);
         heads.append(&mut its_heads)?;
@@ -63,7 +63,7 @@ fn read_decoders(
 }
 
 /// The heads of a decoder.
-fn heads_of(decoder: DecoderHead) -> Vec<Head>
+pub fn heads_of(decoder: DecoderHead) -> Vec<Head>
     ensures { result.items ≡ decoder.heads }
 {
     let DecoderHead {

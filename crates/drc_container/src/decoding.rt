@@ -1,10 +1,11 @@
 //! Decoding a whole stream.
 
 ghost use Rattle.drc_base.specs.Profile.{profile_two};
-ghost use Rattle.std.specs.Prelude.{◌≡◌, None, Err};
+ghost use Rattle.std.specs.Prelude.{◌≡◌, None, Err, IfOk, IfSome, IsTrue};
 ghost use Rattle.drc_base.specs.declared.faults.Fault.{Fault as AnyFault};
 ghost use Rattle.drc_base.specs.declared.faults.Refusal.TheVariants as refusal;
 ghost use Rattle.drc_base.specs.Refusals.{Answers};
+ghost use Rattle.drc_container.specs.Meaning.{told_by};
 ghost use Rattle.drc_container.specs.Stream.{stream, meaning_of, mesh_at, mesh_behind, cloud_at, cloud_behind, front_of, points_of};
 ghost use Rattle.attr_section.specs.Values.{AreColumns};
 ghost use Rattle.mesh_model.specs.Parts.{mesh_of, cloud_of, range_fault};
@@ -12,44 +13,53 @@ ghost use Rattle.drc_container.specs.Header.{cloud_points_at};
 ghost use Rattle.seq_section.specs.Indices.{opening_at};
 
 use crate::attributes::{Attributes, read_attributes};
+use crate::edgebreaker::read_edgebreaker;
 use crate::headers::{Form, read_cloud_points, read_header};
 use crate::points::points_of;
 use crate::seen::{Decoded, seen_of};
-use drc_base::{Fault, Kind, Refusal};
+use drc_base::Refusal;
 use drc_bits::Cursor;
 use mesh_model::{Cloud, CornerMesh, Geometry};
 use seq_section::{SeqRead, read_indices};
 use std::alloc::Global;
 
 /// The geometry that a stream means, or its first fault, whose `at` is a place but for the kinds that
-/// say otherwise. Bytes after the stream's end are ignored. Faults of the header, and of the two
-/// numbers and the method of sequential connectivity, come before memory is taken.
+/// say otherwise. Bytes after the stream's end are ignored. Faults of the header, of the two numbers
+/// and the method of sequential connectivity, and of the numbers that Edgebreaker connectivity declares,
+/// come before memory is taken.
 pub fn decode(alloc: Global, bytes: &[u8]) -> Result<Geometry, Refusal>
     ensures meaning { Answers (λ g. g) (meaning_of bytes.now) result }
     ensures early { (f : AnyFault) → front_of bytes.now ≡ Err f → result ≡ Err (refusal.Fault f) }
 {
-    let Decoded { geometry, seen: _ } = decode_whole(alloc, bytes)?;
+    let Decoded {
+        geometry,
+        sides: _,
+        seen: _,
+    } = decode_whole(alloc, bytes)?;
     Ok(geometry)
 }
 
-/// The geometry that a stream means and what was seen of it, or its first fault, as `decode`.
+/// The geometry that a stream means, the surface of an Edgebreaker mesh, which was rebuilt by links, and
+/// what was seen of the stream; or its first fault, as `decode`.
 #[tactic(auto, unfolding(crate::specs::Stream::stream_in))]
 pub fn decode_whole(alloc: Global, bytes: &[u8]) -> Result<Decoded, Refusal>
-    ensures stream { Answers (λ d. d) (stream bytes.now) result }
+    ensures stream { Answers told_by (stream bytes.now) result }
     ensures early { (f : AnyFault) → front_of bytes.now ≡ Err f → result ≡ Err (refusal.Fault f) }
+    ensures linked { IfOk result (λ d. IfSome d.sides (λ b. IsTrue b.linked)) }
 {
     let mut c = Cursor::new(bytes);
     match read_header(&mut c)? {
         Form::SequentialMesh => read_mesh(alloc, &mut c),
         Form::Cloud => read_cloud(alloc, &mut c),
-        Form::EdgebreakerMesh => Err(Refusal::Fault(Fault::new(Kind::NotYet, 8))),
+        Form::EdgebreakerMesh => read_edgebreaker(alloc, &mut c),
     }
 }
 
 /// Reads a sequential mesh behind its header.
 #[tactic(auto, unfolding(crate::specs::Stream::mesh_at))]
 fn read_mesh(alloc: Global, c: &mut Cursor<'_>) -> Result<Decoded, Refusal>
-    ensures mesh { Answers (λ d. d) (mesh_at profile_two c.old) result }
+    ensures mesh { Answers told_by (mesh_at profile_two c.old) result }
+    ensures sides { IfOk result (λ d. d.sides ≡ None) }
     ensures early { (f : AnyFault) → opening_at profile_two c.old ≡ Err f → result ≡ Err (refusal.Fault f) }
 {
     let from = c.place();
@@ -65,7 +75,8 @@ fn read_mesh_values(
     from: u64,
     indices: SeqRead,
 ) -> Result<Decoded, Refusal>
-    ensures { Answers (λ d. d) (mesh_behind profile_two from indices c.old) result }
+    ensures mesh { Answers told_by (mesh_behind profile_two from indices c.old) result }
+    ensures sides { IfOk result (λ d. d.sides ≡ None) }
 {
     let to = c.place();
     let points = indices.points;
@@ -74,6 +85,7 @@ fn read_mesh_values(
     let mesh = mesh_of(alloc, points, attributes, indices.faces.into_vec())?;
     Ok(Decoded {
         geometry: Geometry::Mesh(mesh),
+        sides: None,
         seen,
     })
 }
@@ -97,7 +109,8 @@ fn mesh_of(
 /// Reads a cloud behind its header.
 #[tactic(auto, unfolding(crate::specs::Stream::cloud_at))]
 fn read_cloud(alloc: Global, c: &mut Cursor<'_>) -> Result<Decoded, Refusal>
-    ensures cloud { Answers (λ d. d) (cloud_at profile_two c.old) result }
+    ensures cloud { Answers told_by (cloud_at profile_two c.old) result }
+    ensures sides { IfOk result (λ d. d.sides ≡ None) }
     ensures early { (f : AnyFault) → cloud_points_at profile_two c.old ≡ Err f → result ≡ Err (refusal.Fault f) }
 {
     let from = c.place();
@@ -113,7 +126,8 @@ fn read_cloud_values(
     from: u64,
     points: u32,
 ) -> Result<Decoded, Refusal>
-    ensures { Answers (λ d. d) (cloud_behind profile_two from points c.old) result }
+    ensures cloud { Answers told_by (cloud_behind profile_two from points c.old) result }
+    ensures sides { IfOk result (λ d. d.sides ≡ None) }
 {
     let to = c.place();
     let attributes = read_attributes(alloc, c, points)?;
@@ -121,6 +135,7 @@ fn read_cloud_values(
     let cloud = cloud_of(alloc, points, attributes)?;
     Ok(Decoded {
         geometry: Geometry::Cloud(cloud),
+        sides: None,
         seen,
     })
 }

@@ -11,13 +11,19 @@ mod choosing;
 mod coded_values;
 mod contents;
 mod decoding;
+mod edgebreaker;
+#[cfg(test)]
+mod edgebreaker_tests;
 mod encoding;
 mod headers;
 mod laws;
 mod methods;
+mod placed;
+mod placing;
 mod points;
 mod refusals;
 mod seen;
+mod walking;
 mod writing;
 
 pub use choices::{Choice, Index, Predict, Walk};

@@ -1,12 +1,15 @@
 //! What is seen of a stream beside its geometry.
 
-ghost use Rattle.std.specs.Prelude.{◌≡◌, IfOk};
-ghost use Rattle.drc_container.specs.Stream.{attrs_seen, seen_of};
+ghost use Rattle.std.specs.Prelude.{◌≡◌, IfOk, if◌then◌else◌};
+ghost use Rattle.drc_container.specs.Meaning.{attrs_seen, seen_of};
+ghost use Rattle.drc_container.specs.declared.methods.Method.TheVariants as method;
 
 use crate::attributes::Attributes;
 use crate::methods::Method;
+use attr_section::Values;
 use drc_base::{Memory, Sequence};
 use drc_bits::Cursor;
+use eb_rebuild::Built;
 use mesh_model::{Geometry, Head};
 use std::alloc::Global;
 
@@ -15,7 +18,8 @@ use std::alloc::Global;
 pub struct AttrSeen {
     /// What the attribute is.
     pub head: Head,
-    /// How its values are predicted: -2 not at all, 0 by the difference to the entry before.
+    /// How its values are predicted: -2 not at all, 0 by the difference to the entry before, 1 by a
+    /// parallelogram, 4 by the mean of several.
     pub predict: i8,
     /// How many entries it has.
     pub entries: u32,
@@ -45,11 +49,14 @@ pub struct Seen {
     pub rest: u64,
 }
 
-/// What a stream means: its geometry, and what was seen of it.
+/// What a stream means: its geometry, the surface of an Edgebreaker mesh, and what was seen of it.
 #[derive(Debug, Drop)]
 pub struct Decoded {
     /// The geometry.
     pub geometry: Geometry,
+    /// How the sides of an Edgebreaker mesh's faces are glued, its faces in the order of decoding; None in
+    /// any other stream.
+    pub sides: Option<Built>,
     /// What was seen beside it.
     pub seen: Seen,
 }
@@ -66,7 +73,8 @@ pub fn seen_of(
 ) -> Result<Seen, Memory>
     ensures { IfOk result (λ s. s ≡ seen_of from to entries attributes.now end.now) }
 {
-    let attrs = attrs_seen(alloc, entries, attributes)?;
+    let heads = attributes.heads.as_slice();
+    let attrs = attrs_seen(alloc, entries, heads, attributes.values.as_slice())?;
     Ok(Seen {
         method: Method::Seq,
         connectivity: (from, to.saturating_sub(from)),
@@ -79,12 +87,15 @@ pub fn seen_of(
     })
 }
 
-/// What was seen of these attributes.
-fn attrs_seen(alloc: Global, entries: u32, attributes: &Attributes) -> Result<Vec<AttrSeen>, Memory>
-    ensures { IfOk result (λ v. v.items ≡ attrs_seen entries attributes.now.heads attributes.now.values) }
+/// What was seen of attributes with these heads and values, which have so many entries.
+pub fn attrs_seen(
+    alloc: Global,
+    entries: u32,
+    heads: &[Head],
+    values: &[Values],
+) -> Result<Vec<AttrSeen>, Memory>
+    ensures { IfOk result (λ v. v.items ≡ attrs_seen entries heads.now values.now) }
 {
-    let heads = attributes.heads.as_slice();
-    let values = attributes.values.as_slice();
     let mut seen = Vec::new(alloc);
     for k in 0..heads.len().min(values.len()) {
         seen.push(AttrSeen {
@@ -95,4 +106,11 @@ fn attrs_seen(alloc: Global, entries: u32, attributes: &Attributes) -> Result<Ve
         })?;
     }
     Ok(seen)
+}
+
+/// The method of Edgebreaker: by valence, or standard.
+pub fn method_read(valence: bool) -> Method
+    ensures { result ≡ (if valence then method.Valence else method.Eb) }
+{
+    if valence { Method::Valence } else { Method::Eb }
 }

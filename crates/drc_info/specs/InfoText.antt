@@ -11,7 +11,7 @@ use Rattle.drc_container.specs.declared.methods.Method.{Method}
 use Rattle.drc_container.specs.declared.methods.Method.TheVariants as method
 use Rattle.drc_container.specs.declared.seen.AttrSeen.{AttrSeen}
 use Rattle.drc_container.specs.declared.seen.Seen.{Seen}
-use Rattle.drc_container.specs.declared.seen.Decoded.{Decoded}
+use Rattle.drc_container.specs.Meaning.{Meaning}
 
 -- a word, and numbers behind it, each after a space
 abbrev pub field : List ℕ → List ℕ → List ℕ
@@ -63,12 +63,12 @@ attr_lines k [] = []
 attr_lines k (a ∷ attrs) = attr_line k a ++ attr_lines (k + 1) attrs
 
 -- the form of the stream, and where its connectivity stands: its place and its length
-unfoldable pub first_lines : Decoded → List ℕ
+unfoldable pub first_lines : Meaning → List ℕ
 first_lines d =
     form_words d.geometry d.seen.method ++ newline ++ line (codes "connectivity") (d.seen.connectivity.0 ∷ d.seen.connectivity.1 ∷ [])
 
 -- how many things the stream holds
-unfoldable pub count_lines : Decoded → List ℕ
+unfoldable pub count_lines : Meaning → List ℕ
 count_lines d =
     line (codes "faces") (face_count d.geometry ∷ [])
     ++ line (codes "points") (point_count d.geometry ∷ [])
@@ -79,7 +79,7 @@ unfoldable pub end_line : Seen → List ℕ
 end_line seen = field (codes "end") (seen.end ∷ []) ++ line (codes " rest") (seen.rest ∷ [])
 
 -- the report of what a stream means and what was seen of it
-unfoldable pub info_text : Decoded → List ℕ
+unfoldable pub info_text : Meaning → List ℕ
 info_text d = first_lines d ++ count_lines d ++ attr_lines 0 d.seen.attrs ++ end_line d.seen
 
 -- the report of a stream, or its first fault

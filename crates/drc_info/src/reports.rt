@@ -5,6 +5,7 @@ ghost use Rattle.std.specs.Fmt.{signed_decimal};
 ghost use Rattle.drc_base.specs.declared.faults.Fault.{Fault as AnyFault};
 ghost use Rattle.drc_base.specs.declared.faults.Refusal.TheVariants as refusal;
 ghost use Rattle.drc_base.specs.Refusals.{Answers};
+ghost use Rattle.drc_container.specs.Meaning.{told_by};
 ghost use Rattle.drc_container.specs.Stream.{front_of};
 ghost use Rattle.drc_info.specs.InfoText.{field, line, mesh_words, form_words, face_count, point_count, declared_line, attr_line, attr_lines, first_lines, count_lines, end_line, info_text, report_of};
 
@@ -31,7 +32,7 @@ pub fn report(alloc: Global, bytes: &[u8]) -> Result<Vec<u8>, Refusal>
 /// The report of what a stream means and what was seen of it.
 #[tactic(auto, unfolding(crate::specs::InfoText::info_text))]
 fn info_text(alloc: Global, decoded: &Decoded) -> Result<Vec<u8>, Memory>
-    ensures { IfOk result (λ v. v.items ≡ info_text decoded.now) }
+    ensures { IfOk result (λ v. v.items ≡ info_text (told_by decoded.now)) }
 {
     let mut out = Vec::new(alloc);
     put_first(&mut out, decoded)?;
@@ -44,7 +45,7 @@ fn info_text(alloc: Global, decoded: &Decoded) -> Result<Vec<u8>, Memory>
 /// Appends the form of the stream and where its connectivity stands.
 #[tactic(auto, unfolding(crate::specs::InfoText::first_lines))]
 fn put_first(out: &mut Vec<u8>, decoded: &Decoded) -> Result<(), Memory>
-    ensures { OnOk result (out.new.items ≡ out.old.items ++ first_lines decoded.now) }
+    ensures { OnOk result (out.new.items ≡ out.old.items ++ first_lines (told_by decoded.now)) }
 {
     let (place, length) = decoded.seen.connectivity;
     out.extend_from_slice(form_words(&decoded.geometry, decoded.seen.method))?;
@@ -56,7 +57,7 @@ fn put_first(out: &mut Vec<u8>, decoded: &Decoded) -> Result<(), Memory>
 /// Appends how many things the stream holds.
 #[tactic(auto, unfolding(crate::specs::InfoText::count_lines))]
 fn put_counts(out: &mut Vec<u8>, decoded: &Decoded) -> Result<(), Memory>
-    ensures { OnOk result (out.new.items ≡ out.old.items ++ count_lines decoded.now) }
+    ensures { OnOk result (out.new.items ≡ out.old.items ++ count_lines (told_by decoded.now)) }
 {
     put_line(out, b"faces", &[face_count(&decoded.geometry)])?;
     put_line(out, b"points", &[point_count(&decoded.geometry)])?;

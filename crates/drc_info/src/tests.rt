@@ -36,9 +36,29 @@ attr 1 2 2 1 0 9 predict -2 entries 2 at 36
 end 54 rest 3
 ";
 
+/// A face in Edgebreaker's order.
+const FACE: [u8; 55] = [
+    0x44, 0x52, 0x41, 0x43, 0x4f, 2, 2, 1, 1, 0, 0, 0, 3, 1, 0, 1, 0, 0, 1, 7, 0xff, 1, 0x11, 1, 0xff,
+    0, 0, 1, 0, 5, 3, 0, 0, 1, 1, 1, 0, 1, 3, 0, 0, 4, 3, 1, 0, 4, 2, 0xff, 0xff, 0xff, 0xff, 10, 0, 0,
+    0,
+];
+
+const FACE_REPORT: &str = "drc 2.2 mesh eb
+connectivity 11 12
+faces 1
+points 3
+symbols 1 splits 0 events 0
+attr 0 0 5 3 0 0 predict 1 entries 3 at 34
+end 55 rest 0
+";
+
 #[test]
 fn reports_of_streams(rt: HostRuntime) -> Result<(), Fail> {
-    let rows: [(&[u8], &str); 2] = [(&TRIANGLE, TRIANGLE_REPORT), (&CLOUD, CLOUD_REPORT)];
+    let rows: [(&[u8], &str); 3] = [
+        (&TRIANGLE, TRIANGLE_REPORT),
+        (&CLOUD, CLOUD_REPORT),
+        (&FACE, FACE_REPORT),
+    ];
     for (bytes, text) in rows {
         let given = report(rt.alloc(), bytes)?;
         assert_eq!(rt; given.as_slice(), text.as_bytes());

@@ -1,7 +1,5 @@
-use Rattle.std.proofs.Common.{Err, refl, ap, ◌∙◌}
+use Rattle.std.proofs.Common.{refl}
 use Rattle.std.proofs.lemmas.Result.{err_from_is_err_and}
-use Rattle.drc_base.specs.declared.faults.Refusal.TheVariants as refusal
-use Rattle.drc_bits.proofs.Results.{Err-injective}
 use Rattle.drc_container.proofs.Fronts.{front-header, front-behind, place-fault}
 use Rattle.drc_container.proofs.decoding.decode_whole.Goals as goal
 
@@ -20,4 +18,4 @@ returns-in-Cloud-clause-early c f front =
 
 pub returns-in-EdgebreakerMesh-clause-early : goal.returns-in-EdgebreakerMesh-clause-early
 returns-in-EdgebreakerMesh-clause-early c f front =
-    ap (λ e. Err (refusal.Fault e)) (c.new.ensures ∙ Err-injective (front-behind c.args.bytes.now c.new-c.result _ _ _ f c.new-c.ensures c.in_ok-read_header.ensures c.in-EdgebreakerMesh.is front))
+    c.read_edgebreaker.ensures.early f (place-fault _ f (front-behind c.args.bytes.now c.new-c.result _ _ _ f c.new-c.ensures c.in_ok-read_header.ensures c.in-EdgebreakerMesh.is front))

@@ -4,5 +4,5 @@ use Rattle.drc_container.proofs.seen.attrs_seen.Goals as goal
 
 pub returns : goal.returns
 returns c =
-    attrs_seen-end c.args.entries c.loop-k.k c.as_slice-heads.result.now c.as_slice-values.result.now _ _ c.loop-k.invariant
+    attrs_seen-end c.args.entries c.loop-k.k c.args.heads.now c.args.values.now _ _ c.loop-k.invariant
     (omega (arith, c.loop-k-test.false, c.min-k-end.ensures))

@@ -1,0 +1,23 @@
+use Rattle.std.proofs.Common.{◌≡◌, ap, subst, sym}
+use Rattle.std.specs.List.{All}
+use Rattle.attr_section.specs.declared.decoder_heads.DecoderHead.{DecoderHead}
+use Rattle.eb_section.specs.Connectivity.{meaning}
+use Rattle.drc_container.proofs.Headed.{heads-read}
+use Rattle.drc_container.proofs.Linked.{IsCut, heads-linked}
+use Rattle.drc_container.proofs.Tabled.{tables-whole}
+use Rattle.drc_container.proofs.placing.read_attributes_on.Goals as goal
+
+pub read_each-requires-clause-heads : goal.read_each-requires-clause-heads
+read_each-requires-clause-heads c =
+    let read = heads-read _ c.args.c.now (c.in_ok-decoders.decoders.items, _) c.in_ok-decoders.ensures.item in
+    λ k d below. (read.each k d below).heads
+
+pub read_each-requires-clause-seams : goal.read_each-requires-clause-seams
+read_each-requires-clause-seams c =
+    let linked = heads-linked c.args.surface.now.attr_data c.args.c.now (c.in_ok-decoders.decoders.items, _) c.in_ok-decoders.ensures.item in
+    subst (λ n. All (IsCut n) c.in_ok-decoders.decoders.items) (sym c.requires.seams) linked
+
+pub returns-clause-tables : goal.returns-clause-tables
+returns-clause-tables c =
+    tables-whole (meaning c.args.surface.now) c.args.c.now _ _ c.in_ok-decoders.decoders.items c.in_ok-placed.placed
+    c.in_ok-decoders.ensures.item c.in_ok-placed.ensures.item c.requires.faces c.in_ok-placed.ensures.columns

@@ -1,0 +1,33 @@
+use Rattle.std.proofs.Common.{◌≡◌, ◌+◌, ◌*◌, ◌<◌, refl, sym, ◌∙◌, ap, subst}
+use Rattle.std.specs.List.{All}
+use Rattle.attr_section.specs.Values.{values_in}
+use Rattle.predict.specs.Walked.{Walked, walked}
+use Rattle.mesh_model.specs.Assembled.{AreColumns}
+use Rattle.drc_container.specs.OnSurface.{placed_on, values_on}
+use Rattle.drc_container.specs.declared.placed.Placed.{Placed}
+use Rattle.drc_container.proofs.Walks.{over-table}
+use Rattle.drc_container.proofs.Tabled.{decoder-read, columns-tables, values_on-tables}
+use Rattle.drc_container.proofs.placing.read_on.Goals as goal
+
+pub read_decoder-requires-clause-walk : goal.read_decoder-requires-clause-walk
+read_decoder-requires-clause-walk c = record {
+  over = over-table c.args.t.now c.in_ok-order.order c.in_ok-order.ensures.over;
+  each_entry = c.len-entries.ensures;
+}
+
+pub returns-clause-spent : goal.returns-clause-spent
+returns-clause-spent c =
+    let w : Walked = walked c.args.t.now c.in_ok-order.order in
+    let is : c.in_ok-placed.placed ≡ placed_on w c.read_decoder.new.h c.in_ok-values.values.items = c.in_ok-placed.ensures w refl refl in
+    c.in_ok-values.ensures.spent
+    ∙ ap (λ n. c.args.spent.now + n) (sym (ap (λ (p : Placed). values_on p.tables) is ∙ values_on-tables w.entries c.in_ok-values.values.items))
+
+pub returns-clause-columns : goal.returns-clause-columns
+returns-clause-columns c =
+    let w : Walked = walked c.args.t.now c.in_ok-order.order in
+    let is : c.in_ok-placed.placed ≡ placed_on w c.read_decoder.new.h c.in_ok-values.values.items = c.in_ok-placed.ensures w refl refl in
+    let read = decoder-read _ c.args.decoder c.len-entries.result c.args.spent.now c.requires.spent c.requires.heads c.args.c.now _ c.in_ok-values.ensures.values in
+    let within : All (λ e. e < c.len-entries.result) w.entries =
+    subst (λ n. All (λ e. e < n) w.entries) (sym c.len-entries.ensures) c.in_ok-order.ensures.over.entries in
+    subst (λ (p : Placed). AreColumns (3 * c.args.t.now.faces) p.heads p.tables) (sym is)
+    (columns-tables (3 * c.args.t.now.faces) c.len-entries.result w.entries c.in_ok-order.ensures.over.each_corner within c.read_decoder.new.h.heads c.in_ok-values.values.items read.typed)

@@ -1,0 +1,111 @@
+-- The attributes of an Edgebreaker mesh, whose values stand on its surface (Draco Bitstream Specification 2.2, sections "Attributes Decoder"
+-- and "Edgebreaker Connectivity"; that equal rows of corners become one point is this project's choice).
+use Rattle.std.specs.Prelude.{◌≡◌, ℕ, ◌<◌, Bool, true, List, [], ◌∷◌, ◌++◌, length, map, get_or, sum_by, Option, None, Some, Result, Ok, Err, if◌then◌else◌}
+use Rattle.drc_base.specs.declared.faults.Fault.{Fault}
+use Rattle.drc_base.specs.Profile.{Profile}
+use Rattle.drc_base.specs.Steps.{◌>>=◌}
+use Rattle.drc_bits.specs.Reading.{Reading, Item}
+use Rattle.mesh_model.specs.declared.tables.AttrTable.{AttrTable}
+use Rattle.mesh_model.specs.Parts.{MeshParts}
+use Rattle.mesh_model.specs.Assembled.{assembled}
+use Rattle.corner_table.specs.Sides.{Side, Gluing}
+use Rattle.rans_binary.specs.Blocks.{Block}
+use Rattle.walk_order.specs.OfSurface.{depth_first_of, prediction_degree_of, entries_of}
+use Rattle.seams.specs.Seams.{flag_at, unseamed}
+use Rattle.seams.specs.SeamBits.{flags_of}
+use Rattle.predict.specs.Walked.{Walked}
+use Rattle.attr_section.specs.declared.decoder_heads.DecoderHead.{DecoderHead}
+use Rattle.attr_section.specs.declared.values.Values.{Values}
+use Rattle.attr_section.specs.Heads.{heads_at}
+use Rattle.attr_section.specs.Values.{decoder_values_at}
+use Rattle.eb_section.specs.Connectivity.{Connectivity}
+use Rattle.drc_container.specs.declared.placed.Placed.{Placed}
+use Rattle.drc_container.specs.Meaning.{attrs_seen}
+
+-- the order of entries by which a surface is walked: depth first, or by prediction degree
+abbrev pub order_by : Bool → ℕ → Gluing → List Side
+order_by degree faces g = if degree then prediction_degree_of faces g else depth_first_of faces g
+
+-- a surface walked in this order
+abbrev pub in_order : ℕ → Gluing → List Side → Walked
+in_order faces g order = record { gluing = g; corners = order; entries = entries_of faces g order }
+
+-- a surface as it is walked
+unfoldable pub walked_by : Bool → ℕ → Gluing → Walked
+walked_by degree faces g = in_order faces g (order_by degree faces g)
+
+-- what stands for the seams of an attribute data that isn't there
+abbrev pub no_block : Block
+no_block = record { ones = 0; state = record { number = 0; bytes = [] } }
+
+-- the block of seam bits of an attribute data
+abbrev pub seams_of : List Block → Option ℕ → Block
+seams_of blocks None = no_block
+seams_of blocks (Some id) = get_or blocks id no_block
+
+-- a decoder's attribute data is one of so many
+pub record HasSeams (blocks : ℕ) (d : DecoderHead) : Type 0 where
+  pub id : ℕ
+  pub is : d.data_id ≡ Some id
+  pub within : id < blocks
+
+-- a surface cut at the seams that the first bits of a block tell
+abbrev pub cut_at : ℕ → Gluing → Block → Gluing
+cut_at faces g block = unseamed (flag_at (flags_of faces g block)) g
+
+-- the surface on which a decoder's values stand: cut at the seams of its attribute data, where they belong to corners
+abbrev pub cut_for : Connectivity → DecoderHead → Gluing
+cut_for s d = if d.corner then cut_at s.faces s.glued (seams_of s.seams d.data_id) else s.glued
+
+-- this surface as the decoder walks it
+abbrev pub walked_for : Connectivity → DecoderHead → Walked
+walked_for s d = walked_by d.degree s.faces (cut_for s d)
+
+-- no attributes
+abbrev pub none_placed : Placed
+none_placed = record { heads = []; tables = []; seen = [] }
+
+-- the values of attributes, each with the entries of the corners
+abbrev pub tables_of : List ℕ → List Values → List AttrTable
+tables_of entries values = map (λ v. record { values = v.values; of_corner = entries }) values
+
+-- the attributes of a decoder that walks a surface so
+abbrev pub placed_on : Walked → DecoderHead → List Values → Placed
+placed_on w d values = record {
+  heads = d.heads;
+  tables = tables_of w.entries values;
+  seen = attrs_seen (length w.corners) d.heads values;
+}
+
+-- attributes behind others
+abbrev pub joined : Placed → Placed → Placed
+joined a b = record { heads = a.heads ++ b.heads; tables = a.tables ++ b.tables; seen = a.seen ++ b.seen }
+
+-- how many values attributes have
+abbrev pub values_on : List AttrTable → ℕ
+values_on tables = sum_by (λ t. length t.values) tables
+
+-- the attributes of a decoder that walks a surface so, behind so many values of other attributes
+unfoldable pub decoder_on : Profile → Walked → DecoderHead → ℕ → Reading → Item Placed
+decoder_on p w d spent c = decoder_values_at p (Some w) d (length w.corners) spent c >>= λ x. Ok (placed_on w x.0.1 x.0.0, x.1)
+
+-- the attributes of these decoders in turn, behind others
+unfoldable pub placed_at : Profile → Connectivity → Placed → List DecoderHead → Reading → Item Placed
+placed_at p s before [] c = Ok (before, c)
+placed_at p s before (d ∷ decoders) c =
+    decoder_on p (walked_for s d) d (values_on before.tables) c >>= λ x. placed_at p s (joined before x.0) decoders x.1
+
+-- all attributes of an Edgebreaker mesh: the heads of its decoders, and the values of each decoder in turn
+unfoldable pub attributes_on : Profile → Connectivity → Reading → Item Placed
+attributes_on p s c = do
+  decoders ← heads_at (Some s.attr_data) c
+  placed_at p s none_placed decoders.0 decoders.1
+
+-- what is made at the end of a stream has its faults at that place
+abbrev pub at_end : {A : Type 0} → ℕ → Result A Fault → Result A Fault
+at_end end (Ok x) = Ok x
+at_end end (Err f) = Err (record { kind = f.kind; at = end })
+
+-- the mesh of attributes on a surface of so many faces, at the end of the stream, which stands at this place
+abbrev pub assembled_at : ℕ → ℕ → Placed → Result MeshParts Fault
+assembled_at end faces a = at_end end (assembled a.heads a.tables faces)
