@@ -64,11 +64,7 @@ fn read_flags(alloc: Global, c: &mut Cursor<'_>, corners: usize) -> Result<Seque
 /// The four lists of flags over the surface of a walk. `FlagCount` at the number of a list that has more
 /// than three for each face, and the faults of their blocks.
 #[tactic(auto, unfolding(crate::specs::Values::flag_lists_at, drc_bits::specs::Reading::many_at))]
-pub fn read_flag_lists(
-    alloc: Global,
-    c: &mut Cursor<'_>,
-    walk: &Walked,
-) -> Result<Flags, Refusal>
+pub fn read_flag_lists(alloc: Global, c: &mut Cursor<'_>, walk: &Walked) -> Result<Flags, Refusal>
     ensures { Gives (λ f. f.lists) (flag_lists_at (surface walk.now) c.old) c.new result }
 {
     let corners = walk.order.entry_of_corner.len();

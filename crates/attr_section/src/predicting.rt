@@ -95,7 +95,13 @@ fn read_parallelograms(
     read_transform(c)?;
     let mut values = read_integers(alloc, c, comps, n)?;
     let wrap = read_range(c)?;
-    restore_parallelogram(&wrap, comps, &walk.sides, &walk.order, values.as_mut_slice());
+    restore_parallelogram(
+        &wrap,
+        comps,
+        &walk.sides,
+        &walk.order,
+        values.as_mut_slice(),
+    );
     Ok(values)
 }
 
