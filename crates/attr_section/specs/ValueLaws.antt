@@ -1,5 +1,5 @@
 -- What holds of predictions and their flags.
-use Rattle.std.specs.Prelude.{◌≡◌, ◌⊎◌, ◌↔◌, ℕ, pos, List, Bool, true, false, IsTrue, Option, None, Ok}
+use Rattle.std.specs.Prelude.{◌≡◌, ◌⊎◌, ◌↔◌, ℕ, pos, List, Bool, false, IsTrue, Option, None, Ok}
 use Rattle.drc_base.specs.Profile.{Profile}
 use Rattle.drc_bits.specs.Reading.{Reading}
 use Rattle.mesh_model.specs.declared.heads.Head.{Head}
