@@ -1,3 +1,4 @@
+pub mod Accepted
 pub mod FlagBits
 pub mod Corrections
 pub mod Columned

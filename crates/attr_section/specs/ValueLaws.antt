@@ -1,10 +1,13 @@
 -- What holds of predictions and their flags.
-use Rattle.std.specs.Prelude.{◌≡◌, ◌↔◌, ℕ, List, Bool, true, false, IsTrue, Result, Ok}
+use Rattle.std.specs.Prelude.{◌≡◌, ◌⊎◌, ◌↔◌, ℕ, pos, List, Bool, false, IsTrue, Option, None, Ok}
 use Rattle.drc_base.specs.Profile.{Profile}
+use Rattle.drc_bits.specs.Reading.{Reading}
+use Rattle.mesh_model.specs.declared.heads.Head.{Head}
 use Rattle.predict.specs.Walked.{Walked}
 use Rattle.predict.specs.Multi.{HasFlags, LacksFlags}
 use Rattle.attr_section.specs.declared.predictions.Prediction.{Prediction}
-use Rattle.attr_section.specs.Values.{byte_of, prediction_of, has_flags}
+use Rattle.attr_section.specs.declared.values.Values.{Values}
+use Rattle.attr_section.specs.Values.{no_prediction, byte_of, prediction_of, has_flags, values_at}
 
 -- the test of flags is true exactly where each list has those that are wanted of it, and false where one has fewer
 pub record FlagsAreTested : Type 0 where
@@ -14,3 +17,11 @@ pub record FlagsAreTested : Type 0 where
 -- the byte of a prediction is that of no other
 abbrev pub BytesArePredictions : Type 0
 BytesArePredictions = (q : Prediction) → prediction_of (byte_of q) ≡ q
+
+-- in a sequential stream values are predicted not at all, or by difference; and by constrained multi-parallelogram prediction they are
+-- predicted nowhere but in a profile that has it
+pub record PredictionsAreAccepted : Type 0 where
+  pub sequential : (p : Profile) (h : Head) (entries spent : ℕ) (c : Reading) (y : Values × Reading)
+      → values_at p None h entries spent c ≡ Ok y → (y.0.predict ≡ no_prediction) ⊎ (y.0.predict ≡ pos 0)
+  pub profile : (p : Profile) (w : Option Walked) (h : Head) (entries spent : ℕ) (c : Reading) (y : Values × Reading)
+      → p.multi ≡ false → values_at p w h entries spent c ≡ Ok y → ¬ (y.0.predict ≡ pos 4)

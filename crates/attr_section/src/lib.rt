@@ -31,7 +31,7 @@ pub use decoder_heads::DecoderHead;
 pub use decoder_writing::write_decoder;
 pub use head_reading::read_heads;
 pub use head_writing::write_heads;
-pub use laws::{flags_are_tested, predictions_have_bytes};
+pub use laws::{flags_are_tested, predictions_are_accepted, predictions_have_bytes};
 pub use ranges::range_of;
 pub use value_reading::read_decoder;
 pub use values::Values;
@@ -39,3 +39,5 @@ pub use walks::Walked;
 
 #[cfg(test)]
 mod tests;
+#[cfg(test)]
+mod walk_tests;

@@ -164,16 +164,13 @@ pub fn read_predicted(
     ensures item { Gives (λ v. v.items) (predicted_at at (surface_of (option_map (λ t. t.now) walk.entry)) prediction comps n c.old) c.new result }
     ensures len { IfOk result (λ v. length v.items ≡ n) }
 {
-    match prediction {
-        Prediction::Off => read_integers(alloc, c, comps, n),
-        Prediction::Difference => read_differences(alloc, c, comps, n),
-        Prediction::Parallelogram => match walk {
-            None => Err(Refusal::Fault(Fault::new(Kind::Prediction, at))),
-            Some(walk) => read_parallelograms(alloc, c, walk, comps, n),
-        },
-        Prediction::Multi => match walk {
-            None => Err(Refusal::Fault(Fault::new(Kind::Prediction, at))),
-            Some(walk) => read_means(alloc, c, at, walk, comps, n),
-        },
+    match (prediction, walk) {
+        (Prediction::Off, _) => read_integers(alloc, c, comps, n),
+        (Prediction::Difference, _) => read_differences(alloc, c, comps, n),
+        (Prediction::Parallelogram, Some(walk)) => read_parallelograms(alloc, c, walk, comps, n),
+        (Prediction::Multi, Some(walk)) => read_means(alloc, c, at, walk, comps, n),
+        (Prediction::Parallelogram | Prediction::Multi, None) => {
+            Err(Refusal::Fault(Fault::new(Kind::Prediction, at)))
+        }
     }
 }

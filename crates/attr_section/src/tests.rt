@@ -72,14 +72,14 @@ fn texture_values(alloc: Global, difference: bool) -> Result<Values, AllocError>
     })
 }
 
-/// A decoder of the two attributes, linked to this data id.
-fn decoder(alloc: Global, data_id: Option<u8>) -> Result<DecoderHead, AllocError>
-    ensures { IfOk result (λ d. d ≡ record { data_id = data_id; corner = false; degree = false; heads = position_head ∷ texture_head ∷ [] }) }
+/// A decoder of the two attributes, linked to this data id, with this walk.
+fn decoder(alloc: Global, data_id: Option<u8>, degree: bool) -> Result<DecoderHead, AllocError>
+    ensures { IfOk result (λ d. d ≡ record { data_id = data_id; corner = false; degree = degree; heads = position_head ∷ texture_head ∷ [] }) }
 {
     Ok(DecoderHead {
         data_id,
         corner: false,
-        degree: false,
+        degree,
         heads: Sequence::from_vec(vec![in alloc; positions(), texture(alloc)?]?),
     })
 }
@@ -101,10 +101,11 @@ fn told(head: &Head) -> (u8, u8, u8, u8, u32, bool) {
 fn heads_both_ways(
     alloc: Global,
     data_id: Option<u8>,
+    degree: bool,
     attr_data: Option<u8>,
     bytes: &[u8],
 ) -> Result<bool, Refusal> {
-    let decoders = vec![in alloc; decoder(alloc, data_id)?]?;
+    let decoders = vec![in alloc; decoder(alloc, data_id, degree)?]?;
     let written = write_heads(alloc, &decoders, attr_data.is_some())?;
     let mut longer = Vec::new(alloc);
     longer.extend_from_slice(bytes)?;
@@ -115,7 +116,7 @@ fn heads_both_ways(
         return Ok(false);
     }
     let one = &read[0];
-    if one.heads.len() != 2 || one.data_id != data_id || one.corner || one.degree {
+    if one.heads.len() != 2 || one.data_id != data_id || one.corner || one.degree != degree {
         return Ok(false);
     }
     let heads = one.heads.as_slice();
@@ -123,7 +124,7 @@ fn heads_both_ways(
 }
 
 /// A decoder of one attribute of this type and so many components.
-fn decoder_of(alloc: Global, dtype: u8, comps: u8) -> Result<DecoderHead, AllocError>
+pub(crate) fn decoder_of(alloc: Global, dtype: u8, comps: u8) -> Result<DecoderHead, AllocError>
     requires { 0 < comps }
     ensures { IfOk result (λ d. All (λ head. 0 < head.comps) d.heads) }
 {
@@ -152,7 +153,7 @@ fn values_both_ways(
     second: u64,
     bytes: &[u8],
 ) -> Result<bool, Refusal> {
-    let mut h = decoder(alloc, None)?;
+    let mut h = decoder(alloc, None, false)?;
     let given = vec![in alloc;
         position_values(alloc, difference)?,
         texture_values(alloc, difference)?,
@@ -163,7 +164,7 @@ fn values_both_ways(
     longer.push(0xff)?;
     let mut c = Cursor::new(longer.as_slice());
     let mut spent = 5;
-    let read = read_decoder(alloc, &mut c, &mut h, 2, &mut spent)?;
+    let read = read_decoder(alloc, &mut c, &mut h, 2, None, &mut spent)?;
     if written.as_slice() != bytes || c.rest().len() != 1 || spent != 15 || read.len() != 2 {
         return Ok(false);
     }
@@ -194,7 +195,7 @@ fn fault_of_values(
 ) -> Result<Option<Fault>, AllocError> {
     let mut h = decoder_of(alloc, dtype, 1)?;
     let mut spent = spent.min(MAX_VALUES as u64);
-    match read_decoder(alloc, &mut Cursor::new(bytes), &mut h, 1, &mut spent) {
+    match read_decoder(alloc, &mut Cursor::new(bytes), &mut h, 1, None, &mut spent) {
         Err(Refusal::Fault(fault)) => Ok(Some(fault)),
         _ => Ok(None),
     }
@@ -203,9 +204,11 @@ fn fault_of_values(
 #[test]
 fn attributes_both_ways(rt: HostRuntime) -> Result<(), Fail> {
     let sequential = [1, 2, 0, 5, 3, 0, 0, 3, 9, 2, 1, 0xac, 2, 1, 2];
-    assert!(rt; heads_both_ways(rt.alloc(), None, None, &sequential)?);
+    assert!(rt; heads_both_ways(rt.alloc(), None, false, None, &sequential)?);
     let linked = [1, 255, 0, 0, 2, 0, 5, 3, 0, 0, 3, 9, 2, 1, 0xac, 2, 1, 2];
-    assert!(rt; heads_both_ways(rt.alloc(), Some(255), Some(0), &linked)?);
+    assert!(rt; heads_both_ways(rt.alloc(), Some(255), false, Some(0), &linked)?);
+    let by_degree = [1, 0, 0, 1, 2, 0, 5, 3, 0, 0, 3, 9, 2, 1, 0xac, 2, 1, 2];
+    assert!(rt; heads_both_ways(rt.alloc(), Some(0), true, Some(1), &by_degree)?);
     let rows: [(bool, bool, u64, &[u8]); 4] = [
         (
             false,
@@ -259,7 +262,7 @@ fn attributes_both_ways(rt: HostRuntime) -> Result<(), Fail> {
 
 #[test]
 fn faults_of_attributes(rt: HostRuntime) -> Result<(), Fail> {
-    let heads: [(Option<u8>, &[u8], Kind, u64); 22] = [
+    let heads: [(Option<u8>, &[u8], Kind, u64); 24] = [
         (None, &[], Kind::Short, 0),
         (None, &[0], Kind::NoAttribute, 0),
         (None, &[17], Kind::AttrLimit, 0),
@@ -287,6 +290,8 @@ fn faults_of_attributes(rt: HostRuntime) -> Result<(), Fail> {
         (Some(1), &[2, 255, 0, 0, 255], Kind::DataId, 4),
         (Some(1), &[1, 255, 1], Kind::Element, 2),
         (Some(1), &[1, 0, 1, 2], Kind::Walk, 3),
+        (Some(1), &[1, 0, 1, 1], Kind::Walk, 3),
+        (Some(1), &[1, 255, 0, 2], Kind::Walk, 3),
     ];
     for (attr_data, bytes, kind, at) in heads {
         assert_eq!(rt;
@@ -295,10 +300,13 @@ fn faults_of_attributes(rt: HostRuntime) -> Result<(), Fail> {
             "{bytes:?}"
         );
     }
-    let values: [(u8, u64, &[u8], Kind, u64); 15] = [
+    let values: [(u8, u64, &[u8], Kind, u64); 17] = [
         (5, 0, &[], Kind::Short, 0),
         (5, 1 << 26, &[], Kind::ValueLimit, 0),
         (5, 0, &[5], Kind::Prediction, 0),
+        // Parallelograms want a surface.
+        (5, 0, &[1, 1], Kind::Prediction, 0),
+        (5, 0, &[4, 1], Kind::Prediction, 0),
         (5, 0, &[0, 0], Kind::Transform, 1),
         (5, 0, &[254, 0, 0], Kind::ByteWidth, 2),
         (5, 0, &[254, 0, 5], Kind::ByteWidth, 2),
