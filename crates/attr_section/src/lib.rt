@@ -42,3 +42,5 @@ pub use walks::Walked;
 
 #[cfg(test)]
 mod tests;
+#[cfg(test)]
+mod walk_tests;

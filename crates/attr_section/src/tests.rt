@@ -157,13 +157,13 @@ fn values_both_ways(
         position_values(alloc, difference)?,
         texture_values(alloc, difference)?,
     ]?;
-    let written = write_decoder(alloc, &h, &given, plain)?;
+    let written = write_decoder(alloc, &h, &given, plain, None)?;
     let mut longer = Vec::new(alloc);
     longer.extend_from_slice(bytes)?;
     longer.push(0xff)?;
     let mut c = Cursor::new(longer.as_slice());
     let mut spent = 5;
-    let read = read_decoder(alloc, &mut c, &mut h, 2, &mut spent)?;
+    let read = read_decoder(alloc, &mut c, &mut h, 2, None, &mut spent)?;
     if written.as_slice() != bytes || c.rest().len() != 1 || spent != 15 || read.len() != 2 {
         return Ok(false);
     }
@@ -194,7 +194,7 @@ fn fault_of_values(
 ) -> Result<Option<Fault>, AllocError> {
     let mut h = decoder_of(alloc, dtype, 1)?;
     let mut spent = spent.min(MAX_VALUES as u64);
-    match read_decoder(alloc, &mut Cursor::new(bytes), &mut h, 1, &mut spent) {
+    match read_decoder(alloc, &mut Cursor::new(bytes), &mut h, 1, None, &mut spent) {
         Err(Refusal::Fault(fault)) => Ok(Some(fault)),
         _ => Ok(None),
     }
