@@ -6,6 +6,8 @@ pub mod Each
 pub mod Loops
 pub mod PlainValues
 pub mod SpelledIntegers
+pub mod SpelledFlags
+pub mod SpelledSurface
 pub mod SpelledValues
 pub mod Spelling
 pub mod Examples

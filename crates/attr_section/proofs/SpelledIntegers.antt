@@ -18,7 +18,7 @@ use Rattle.predict.specs.Restored.{restored, corrections, entry_before}
 use Rattle.predict.proofs.Restoring.{length-corrections}
 use Rattle.symbol_coding.specs.Block.{block_at, block_bytes}
 use Rattle.attr_section.specs.Values.{signed_of, plain_value_at, byte_width_at, plain_values_at, compressed_values_at, integers_at, can_wrap, range_at, transform_at, differences_at}
-use Rattle.attr_section.specs.Written.{symbol_of, greatest_symbol, byte_width, plain_bytes, symbols_bytes, integers_bytes, range_of, signed_bytes, range_bytes, differences_bytes}
+use Rattle.attr_section.specs.Written.{symbol_of, greatest_symbol, byte_width, plain_bytes, symbols_bytes, integers_bytes, range_of, signed_bytes, range_bytes, corrected_bytes, differences_bytes}
 use Rattle.attr_section.proofs.Spelling.{Spells-map}
 
 -- a symbol gives its integer back
@@ -180,6 +180,33 @@ Spells-range r can low high =
         let second : int_lt (r.high -ℤ r.low) (pos (2 ^ 31 - 1)) ≡ true = grind (arith, ints, can.narrow) in
         rw (first, second) refl
 
+-- the corrections of values by a prediction, as many as the values
+pub Spells-corrections : (plain : Bool) (comps : ℕ) (f : List ℤ → ℤ) (values : List ℤ)
+    → Spells (integers_at comps (length (corrections f (range_of values) values))) (integers_bytes plain comps (corrections f (range_of values) values)) (corrections f (range_of values) values)
+    → Spells (integers_at comps (length values)) (integers_bytes plain comps (corrections f (range_of values) values)) (corrections f (range_of values) values)
+Spells-corrections plain comps f values integers =
+    let r = range_of values in
+    subst (λ n. Spells (integers_at comps n) (integers_bytes plain comps (corrections f r values)) (corrections f r values)) (length-corrections f r values) integers
+
+-- values that are restored from corrections by a prediction
+pub Spells-corrected : (plain : Bool) (comps : ℕ) (f : List ℤ → ℤ) (values : List ℤ)
+    → Spells (integers_at comps (length (corrections f (range_of values) values))) (integers_bytes plain comps (corrections f (range_of values) values)) (corrections f (range_of values) values)
+    → Spells range_at (range_bytes (range_of values)) (range_of values)
+    → restored f (range_of values) (corrections f (range_of values) values) ≡ values
+    → Spells (λ c. transform_at c >>= λ t. integers_at comps (length values) t.1 >>= λ x. range_at x.1 >>= λ y. Ok (restored f y.0 x.0, y.1))
+    (corrected_bytes plain comps f [] values) values
+Spells-corrected plain comps f values integers range back =
+    let r = range_of values in
+    let cs = corrections f r values in
+    Spells-then transform_at (λ _ c. integers_at comps (length values) c >>= λ x. range_at x.1 >>= λ y. Ok (restored f y.0 x.0, y.1))
+    (1 ∷ []) (integers_bytes plain comps cs ++ range_bytes r) 1 values
+    (Spells-must kind.Transform (λ t. t == 1) (number_at 1) (1 ∷ []) 1 refl (Spells-byte 1))
+    (Spells-then (integers_at comps (length values)) (λ x c. range_at c >>= λ y. Ok (restored f y.0 x, y.1))
+    (integers_bytes plain comps cs) (range_bytes r) cs values
+    (Spells-corrections plain comps f values integers)
+    (subst (λ vs. Spells (λ c. range_at c >>= λ y. Ok (restored f y.0 cs, y.1)) (range_bytes r) vs) back
+    (Spells-map (λ y. restored f y cs) range_at (range_bytes r) r range)))
+
 -- values that are restored from corrections by difference
 pub Spells-differences : (plain : Bool) (comps : ℕ) (values : List ℤ)
     → Spells (integers_at comps (length (corrections (entry_before comps) (range_of values) values))) (integers_bytes plain comps (corrections (entry_before comps) (range_of values) values)) (corrections (entry_before comps) (range_of values) values)
@@ -187,18 +214,7 @@ pub Spells-differences : (plain : Bool) (comps : ℕ) (values : List ℤ)
     → restored (entry_before comps) (range_of values) (corrections (entry_before comps) (range_of values) values) ≡ values
     → Spells (differences_at comps (length values)) (differences_bytes plain comps values) values
 unfolding differences_at differences_bytes
-Spells-differences plain comps values integers range back =
-    let r = range_of values in
-    let cs = corrections (entry_before comps) r values in
-    let same : length cs ≡ length values = length-corrections (entry_before comps) r values in
-    Spells-then transform_at (λ _ c. integers_at comps (length values) c >>= λ x. range_at x.1 >>= λ y. Ok (restored (entry_before comps) y.0 x.0, y.1))
-    (1 ∷ []) (integers_bytes plain comps cs ++ range_bytes r) 1 values
-    (Spells-must kind.Transform (λ t. t == 1) (number_at 1) (1 ∷ []) 1 refl (Spells-byte 1))
-    (Spells-then (integers_at comps (length values)) (λ x c. range_at c >>= λ y. Ok (restored (entry_before comps) y.0 x, y.1))
-    (integers_bytes plain comps cs) (range_bytes r) cs values
-    (subst (λ n. Spells (integers_at comps n) (integers_bytes plain comps cs) cs) same integers)
-    (subst (λ vs. Spells (λ c. range_at c >>= λ y. Ok (restored (entry_before comps) y.0 cs, y.1)) (range_bytes r) vs) back
-    (Spells-map (λ y. restored (entry_before comps) y cs) range_at (range_bytes r) r range)))
+Spells-differences plain comps values integers range back = Spells-corrected plain comps (entry_before comps) values integers range back
 
 -- values lie in their range
 pub range_of-bounds : (values : List ℤ) → All (λ x. ((range_of values).low ≤ℤ x) × (x ≤ℤ (range_of values).high)) values

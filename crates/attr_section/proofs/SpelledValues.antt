@@ -1,6 +1,6 @@
 -- Values of attributes that are read back from their bytes.
 use Rattle.drc_base.specs.Profile.{profile_two}
-use Rattle.std.proofs.Common.{◌≡◌, ℕ, ◌+◌, ◌*◌, ◌^◌, ◌<◌, ◌≤◌, ◌&&◌, Bool, true, ℤ, pos, List, [], ◌∷◌, ◌++◌, length, map, flat_map, nat_le, Option, None, Some, Ok, refl, sym, ◌∙◌, ap, subst, append_assoc, append-nil, length-append, arith}
+use Rattle.std.proofs.Common.{◌≡◌, ℕ, ◌+◌, ◌*◌, ◌^◌, ◌<◌, ◌≤◌, ◌&&◌, Bool, true, ℤ, pos, List, [], ◌∷◌, ◌++◌, length, map, flat_map, nat_le, Option, None, Some, Ok, refl, sym, ◌∙◌, ap, subst, append_assoc, append-nil, length-append, arith, ◌==◌, ◌||◌, to_z, of_z, w8}
 use Rattle.std.specs.List.{All, list_all, zip}
 use Rattle.std.proofs.lemmas.Grind.{common_steps}
 use Rattle.std.proofs.lemmas.List.Elements.{All-head, All-tail, All-weaker}
@@ -20,8 +20,11 @@ use Rattle.mesh_model.specs.Head.{in_type}
 use Rattle.attr_section.specs.declared.values.Values.{Values}
 use Rattle.attr_section.specs.Each.{each_at}
 use Rattle.attr_section.specs.Heads.{bare_head, bare_decoder}
-use Rattle.attr_section.specs.Values.{no_prediction, code_of, is_prediction, prediction_of, prediction_at, predicted_at, integers_at, differences_at, typed_values_at, values_at, quant_bits_at, quant_at, quant_of_at, quantised_at, values_in, attributes_at, quants_at, decoder_values_at}
-use Rattle.attr_section.specs.Written.{integers_bytes, differences_bytes, values_bytes, quant_bytes, attributes_bytes, quants_bytes, decoder_values_bytes, HasQuant, QuantFits, placed, HaveEntries, ValuesSpelled}
+use Rattle.attr_section.specs.declared.predictions.Prediction.{Prediction}
+use Rattle.attr_section.specs.declared.predictions.Prediction.TheVariants as prediction
+use Rattle.predict.specs.Walked.{Walked}
+use Rattle.attr_section.specs.Values.{code_of, byte_of, is_prediction, prediction_of, prediction_at, predicted_at, typed_values_at, values_at, quant_bits_at, quant_at, quant_of_at, quantised_at, values_in, attributes_at, quants_at, decoder_values_at}
+use Rattle.attr_section.specs.Written.{predicted_bytes, prediction_coded, values_bytes, quant_bytes, attributes_bytes, quants_bytes, decoder_values_bytes, HasQuant, QuantFits, placed, HaveEntries, MayHaveFewFlags, PredictedSpelled, ValuesSpelled}
 use Rattle.attr_section.proofs.Spelling.{Spells-map}
 use Rattle.attr_section.proofs.SpelledIntegers.{Spells-low_bytes, Spells-all}
 
@@ -36,73 +39,96 @@ Spells-prediction b known =
     (Spells-must kind.Prediction (is_prediction profile_two) (number_at 1) (b ∷ []) b known (Spells-byte b))
 
 -- values of a prediction byte
-typed_values : (h : Head) (n b : ℕ) (bytes : List ℕ) (values : List ℤ) → is_prediction profile_two b ≡ true
-    → ((at : ℕ) → Spells (predicted_at at None (prediction_of b) h.comps n) bytes values) → list_all (in_type h.dtype) values ≡ true
-    → (place : ℕ) (rest : List ℕ) → typed_values_at profile_two None h n (record { place = place; rest = (b ∷ bytes) ++ rest })
+typed_values : (w : Option Walked) (h : Head) (n b : ℕ) (bytes : List ℕ) (values : List ℤ) → is_prediction profile_two b ≡ true
+    → ((at : ℕ) → Spells (predicted_at at w (prediction_of b) h.comps n) bytes values) → list_all (in_type h.dtype) values ≡ true
+    → (place : ℕ) (rest : List ℕ) → typed_values_at profile_two w h n (record { place = place; rest = (b ∷ bytes) ++ rest })
     ≡ Ok (record { values = values; predict = code_of (prediction_of b); at = place }, behind place (length (b ∷ bytes)) rest)
 unfolding typed_values_at
-typed_values h n b bytes values known spells typed place rest =
+typed_values w h n b bytes values known spells typed place rest =
     let first = (Spells-prediction b known).reads place (bytes ++ rest) in
     let second = (spells place).reads (place + 1) rest in
     let after : place + 1 + length bytes ≡ place + length (b ∷ bytes) = omega arith in
     rw (first, second, typed, after) refl
 
 -- values of a prediction byte are those of an attribute
-spelled_by : (plain : Bool) (h : Head) (v : Values) (b : ℕ) (bytes : List ℕ) → is_prediction profile_two b ≡ true → code_of (prediction_of b) ≡ v.predict
-    → values_bytes plain h.comps v ≡ b ∷ bytes → ((at : ℕ) → Spells (predicted_at at None (prediction_of b) h.comps (length v.values)) bytes v.values)
-    → list_all (in_type h.dtype) v.values ≡ true → ValuesSpelled plain h v
+spelled_by : (plain : Bool) (w : Option Walked) (h : Head) (v : Values) (b : ℕ) (bytes : List ℕ) → is_prediction profile_two b ≡ true → code_of (prediction_of b) ≡ v.predict
+    → values_bytes plain w h.comps v ≡ b ∷ bytes
+    → (MayHaveFewFlags w → (at : ℕ) → Spells (predicted_at at w (prediction_of b) h.comps (length v.values)) bytes v.values)
+    → list_all (in_type h.dtype) v.values ≡ true → ValuesSpelled plain w h v
 unfolding values_at
-spelled_by plain h v b bytes known predict is spells typed = record {
-  reads = λ entries spent place rest count few.
+spelled_by plain w h v b bytes known predict is spells typed = record {
+  reads = λ flags entries spent place rest count few.
       let within : nat_le (spent + entries * h.comps) MAX_VALUES ≡ true = rw (← count) (grind (arith, few)) in
       rw (is, within, ← count) (
-      subst (λ p. typed_values_at profile_two None (bare_head h) (length v.values) (record { place = place; rest = (b ∷ bytes) ++ rest }) ≡ Ok (record { values = v.values; predict = p; at = place }, behind place (length (b ∷ bytes)) rest)) predict
-      (typed_values (bare_head h) (length v.values) b bytes v.values known spells typed place rest));
+      subst (λ p. typed_values_at profile_two w (bare_head h) (length v.values) (record { place = place; rest = (b ∷ bytes) ++ rest }) ≡ Ok (record { values = v.values; predict = p; at = place }, behind place (length (b ∷ bytes)) rest)) predict
+      (typed_values w (bare_head h) (length v.values) b bytes v.values known (spells flags) typed place rest));
 }
 
--- values without a prediction
-pub unpredicted_spelled : (plain : Bool) (h : Head) (v : Values) → v.predict ≡ no_prediction → Spells (integers_at h.comps (length v.values)) (integers_bytes plain h.comps v.values) v.values
-    → list_all (in_type h.dtype) v.values ≡ true → ValuesSpelled plain h v
-unfolding values_bytes
-unpredicted_spelled plain h v none spells typed =
-    spelled_by plain h v 254 (integers_bytes plain h.comps v.values) refl (sym none) (rw none refl) (λ at. spells) typed
+-- a prediction is that of its number
+coded : (q : Prediction) → prediction_coded (code_of q) ≡ q
+coded prediction.Off = refl
+coded prediction.Difference = refl
+coded prediction.Parallelogram = refl
+coded prediction.Multi = refl
 
--- values that are predicted by difference
-pub differences_spelled : (plain : Bool) (h : Head) (v : Values) → v.predict ≡ pos 0 → Spells (differences_at h.comps (length v.values)) (differences_bytes plain h.comps v.values) v.values
-    → list_all (in_type h.dtype) v.values ≡ true → ValuesSpelled plain h v
+-- the number of a prediction has eight bits
+code_fits : (q : Prediction) → to_z w8 (of_z w8 (code_of q)) ≡ code_of q
+code_fits prediction.Off = refl
+code_fits prediction.Difference = refl
+code_fits prediction.Parallelogram = refl
+code_fits prediction.Multi = refl
+
+-- so it is what eight bits tell
+pub code_told : (q : Prediction) (code told : ℤ) → told ≡ to_z w8 (of_z w8 code) → code ≡ code_of q → told ≡ code
+code_told q code told is of = is ∙ ap (λ (x : ℤ). to_z w8 (of_z w8 x)) of ∙ code_fits q ∙ sym of
+
+-- the prediction of a number is the one that has it
+pub coded_is : (q : Prediction) (code : ℤ) → code_of q ≡ code → prediction_coded code ≡ q
+coded_is q code is = ap prediction_coded (sym is) ∙ coded q
+
+-- the bytes of an attribute's values: the byte of their prediction, and what it says
+pub values_are : (plain : Bool) (w : Option Walked) (comps : ℕ) (v : Values) (q : Prediction) → code_of q ≡ v.predict
+    → values_bytes plain w comps v ≡ byte_of q ∷ predicted_bytes plain w q comps v.values
 unfolding values_bytes
-differences_spelled plain h v difference spells typed =
-    spelled_by plain h v 0 (differences_bytes plain h.comps v.values) refl (sym difference) (rw difference refl) (λ at. spells) typed
+values_are plain w comps v q is = ap (λ (p : Prediction). byte_of p ∷ predicted_bytes plain w p comps v.values) (coded_is q v.predict is)
+
+-- values of a prediction, each in the data type
+pub predicted_spelled : (plain : Bool) (w : Option Walked) (h : Head) (v : Values) (q : Prediction) → code_of q ≡ v.predict
+    → PredictedSpelled plain w q h.comps v.values → list_all (in_type h.dtype) v.values ≡ true → ValuesSpelled plain w h v
+predicted_spelled plain w h v prediction.Off is spelled typed = spelled_by plain w h v 254 (predicted_bytes plain w prediction.Off h.comps v.values) refl is (values_are plain w h.comps v prediction.Off is) spelled.again typed
+predicted_spelled plain w h v prediction.Difference is spelled typed = spelled_by plain w h v 0 (predicted_bytes plain w prediction.Difference h.comps v.values) refl is (values_are plain w h.comps v prediction.Difference is) spelled.again typed
+predicted_spelled plain w h v prediction.Parallelogram is spelled typed = spelled_by plain w h v 1 (predicted_bytes plain w prediction.Parallelogram h.comps v.values) refl is (values_are plain w h.comps v prediction.Parallelogram is) spelled.again typed
+predicted_spelled plain w h v prediction.Multi is spelled typed = spelled_by plain w h v 4 (predicted_bytes plain w prediction.Multi h.comps v.values) refl is (values_are plain w h.comps v prediction.Multi is) spelled.again typed
 
 -- the values of attributes behind others
-attributes_spelled : (plain : Bool) (entries spent : ℕ) (front : List Values) (heads : List Head) (vs : List Values) → length vs ≡ length heads
-    → All (λ (h, v). ValuesSpelled plain h v) (zip heads vs) → HaveEntries entries heads vs → spent + values_in front + values_in vs ≤ MAX_VALUES → (place : ℕ) (rest : List ℕ)
-    → each_at (λ before h. values_at profile_two None h entries (spent + values_in before)) front (map bare_head heads) (record { place = place; rest = attributes_bytes plain heads vs ++ rest })
-    ≡ Ok (front ++ placed plain place heads vs, behind place (length (attributes_bytes plain heads vs)) rest)
+attributes_spelled : (plain : Bool) (w : Option Walked) → MayHaveFewFlags w → (entries spent : ℕ) (front : List Values) (heads : List Head) (vs : List Values) → length vs ≡ length heads
+    → All (λ (h, v). ValuesSpelled plain w h v) (zip heads vs) → HaveEntries entries heads vs → spent + values_in front + values_in vs ≤ MAX_VALUES → (place : ℕ) (rest : List ℕ)
+    → each_at (λ before h. values_at profile_two w h entries (spent + values_in before)) front (map bare_head heads) (record { place = place; rest = attributes_bytes plain w heads vs ++ rest })
+    ≡ Ok (front ++ placed plain w place heads vs, behind place (length (attributes_bytes plain w heads vs)) rest)
 unfolding each_at
-attributes_spelled plain entries spent front [] [] same each counts few place rest =
+attributes_spelled plain w flags entries spent front [] [] same each counts few place rest =
     let here : place ≡ place + 0 = omega arith in
     ap (λ l. Ok (l, record { place = place; rest = rest })) (sym (append-nil front)) ∙ ap (λ n. Ok (front ++ [], record { place = n; rest = rest })) here
-attributes_spelled plain entries spent front [] (v ∷ vs) same each counts few place rest = absurd (omega (arith, same))
-attributes_spelled plain entries spent front (h ∷ heads) [] same each counts few place rest = absurd (omega (arith, same))
-attributes_spelled plain entries spent front (h ∷ heads) (v ∷ vs) same each counts few place rest =
-    let bytes = values_bytes plain h.comps v in
+attributes_spelled plain w flags entries spent front [] (v ∷ vs) same each counts few place rest = absurd (omega (arith, same))
+attributes_spelled plain w flags entries spent front (h ∷ heads) [] same each counts few place rest = absurd (omega (arith, same))
+attributes_spelled plain w flags entries spent front (h ∷ heads) (v ∷ vs) same each counts few place rest =
+    let bytes = values_bytes plain w h.comps v in
     let count : length v.values ≡ entries * h.comps = All-head (λ (h, v). length v.values ≡ entries * h.comps) (h, v) (zip heads vs) counts in
-    let spelled = All-head (λ (h, v). ValuesSpelled plain h v) (h, v) (zip heads vs) each in
+    let spelled = All-head (λ (h, v). ValuesSpelled plain w h v) (h, v) (zip heads vs) each in
     let total : values_in (v ∷ vs) ≡ length v.values + values_in vs = grind (arith, common_steps) in
     let more : values_in (front ++ record v { at = place } ∷ []) ≡ values_in front + length v.values = values_in-more front v place in
-    let first = spelled.reads entries (spent + values_in front) place (attributes_bytes plain heads vs ++ rest) count (omega (arith, few, total)) in
-    let others = attributes_bytes plain heads vs in
-    let next = attributes_spelled plain entries spent (front ++ record v { at = place } ∷ []) heads vs (omega (arith, same))
-    (All-tail (λ (h, v). ValuesSpelled plain h v) (h, v) (zip heads vs) each) (All-tail (λ (h, v). length v.values ≡ entries * h.comps) (h, v) (zip heads vs) counts)
+    let first = spelled.reads flags entries (spent + values_in front) place (attributes_bytes plain w heads vs ++ rest) count (omega (arith, few, total)) in
+    let others = attributes_bytes plain w heads vs in
+    let next = attributes_spelled plain w flags entries spent (front ++ record v { at = place } ∷ []) heads vs (omega (arith, same))
+    (All-tail (λ (h, v). ValuesSpelled plain w h v) (h, v) (zip heads vs) each) (All-tail (λ (h, v). length v.values ≡ entries * h.comps) (h, v) (zip heads vs) counts)
     (omega (arith, few, total, more)) (place + length bytes) rest in
     let after : place + length bytes + length others ≡ place + length (bytes ++ others) = omega (arith, length-append bytes others) in
-    ap (λ bs. values_at profile_two None (bare_head h) entries (spent + values_in front) (record { place = place; rest = bs }) >>= λ x. each_at (λ before h. values_at profile_two None h entries (spent + values_in before)) (front ++ x.0 ∷ []) (map bare_head heads) x.1)
+    ap (λ bs. values_at profile_two w (bare_head h) entries (spent + values_in front) (record { place = place; rest = bs }) >>= λ x. each_at (λ before h. values_at profile_two w h entries (spent + values_in before)) (front ++ x.0 ∷ []) (map bare_head heads) x.1)
     (append_assoc bytes others rest)
-    ∙ ap (λ r. r >>= λ x. each_at (λ before h. values_at profile_two None h entries (spent + values_in before)) (front ++ x.0 ∷ []) (map bare_head heads) x.1) first
+    ∙ ap (λ r. r >>= λ x. each_at (λ before h. values_at profile_two w h entries (spent + values_in before)) (front ++ x.0 ∷ []) (map bare_head heads) x.1) first
     ∙ next
-    ∙ ap (λ l. Ok (l, record { place = place + length bytes + length others; rest = rest })) (append_assoc front (record v { at = place } ∷ []) (placed plain (place + length bytes) heads vs))
-    ∙ ap (λ n. Ok (front ++ placed plain place (h ∷ heads) (v ∷ vs), record { place = n; rest = rest })) after
+    ∙ ap (λ l. Ok (l, record { place = place + length bytes + length others; rest = rest })) (append_assoc front (record v { at = place } ∷ []) (placed plain w (place + length bytes) heads vs))
+    ∙ ap (λ n. Ok (front ++ placed plain w place (h ∷ heads) (v ∷ vs), record { place = n; rest = rest })) after
   where
     values_in-more : (front : List Values) (v : Values) (place : ℕ) → values_in (front ++ record v { at = place } ∷ []) ≡ values_in front + length v.values
     values_in-more front v place = grind (arith, common_steps)
@@ -154,16 +180,16 @@ quants_spelled front (h ∷ heads) each =
     (quants_spelled (front ++ h ∷ []) heads (All-tail (λ h. Spells (quantised_at (bare_head h)) (quant_bytes h.quant) h) h heads each)))
 
 -- a decoder's values, and its quantisations
-pub decoder_spelled : (plain : Bool) (entries spent : ℕ) (d : DecoderHead) (vs : List Values) → length vs ≡ length d.heads
-    → All (λ (h, v). ValuesSpelled plain h v) (zip d.heads vs) → All (λ h. Spells (quantised_at (bare_head h)) (quant_bytes h.quant) h) d.heads
+pub decoder_spelled : (plain : Bool) (w : Option Walked) → MayHaveFewFlags w → (entries spent : ℕ) (d : DecoderHead) (vs : List Values) → length vs ≡ length d.heads
+    → All (λ (h, v). ValuesSpelled plain w h v) (zip d.heads vs) → All (λ h. Spells (quantised_at (bare_head h)) (quant_bytes h.quant) h) d.heads
     → HaveEntries entries d.heads vs → spent + values_in vs ≤ MAX_VALUES → (place : ℕ) (rest : List ℕ)
-    → decoder_values_at profile_two None (bare_decoder d) entries spent (record { place = place; rest = decoder_values_bytes plain d.heads vs ++ rest })
-    ≡ Ok ((placed plain place d.heads vs, d), record { place = place + length (decoder_values_bytes plain d.heads vs); rest = rest })
+    → decoder_values_at profile_two w (bare_decoder d) entries spent (record { place = place; rest = decoder_values_bytes plain w d.heads vs ++ rest })
+    ≡ Ok ((placed plain w place d.heads vs, d), record { place = place + length (decoder_values_bytes plain w d.heads vs); rest = rest })
 unfolding decoder_values_at decoder_values_bytes attributes_at quants_at
-decoder_spelled plain entries spent d vs same each quants counts few place rest =
-    let values = attributes_bytes plain d.heads vs in
-    let first = attributes_spelled plain entries spent [] d.heads vs same each counts (omega (arith, few)) place (quants_bytes d.heads ++ rest) in
+decoder_spelled plain w flags entries spent d vs same each quants counts few place rest =
+    let values = attributes_bytes plain w d.heads vs in
+    let first = attributes_spelled plain w flags entries spent [] d.heads vs same each counts (omega (arith, few)) place (quants_bytes d.heads ++ rest) in
     let second = (quants_spelled [] d.heads quants).reads (place + length values) rest in
     let after : place + length values + length (quants_bytes d.heads) ≡ place + length (values ++ quants_bytes d.heads) = omega (arith, length-append values (quants_bytes d.heads)) in
-    ap (λ bs. decoder_values_at profile_two None (bare_decoder d) entries spent (record { place = place; rest = bs })) (append_assoc values (quants_bytes d.heads) rest)
+    ap (λ bs. decoder_values_at profile_two w (bare_decoder d) entries spent (record { place = place; rest = bs })) (append_assoc values (quants_bytes d.heads) rest)
     ∙ rw (first, second, after) refl

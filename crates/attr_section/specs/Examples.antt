@@ -1,6 +1,8 @@
--- The attributes of the tests: positions, and quantised texture coordinates.
-use Rattle.std.specs.Prelude.{ℤ, pos, negsuc, List, [], ◌∷◌, Some, None, Bool, if◌then◌else◌}
+-- The attributes of the tests: positions, and quantised texture coordinates; and positions on small surfaces.
+use Rattle.std.specs.Prelude.{ℤ, pos, negsuc, List, [], ◌∷◌, Some, None, Bool, false, if◌then◌else◌}
 use Rattle.mesh_model.specs.declared.heads.Head.{Head}
+use Rattle.attr_section.specs.declared.decoder_heads.DecoderHead.{DecoderHead}
+use Rattle.attr_section.specs.declared.values.Values.{Values}
 
 -- integer positions
 abbrev pub position_head : Head
@@ -28,3 +30,21 @@ texture_values = pos 1 ∷ pos 2 ∷ pos 3 ∷ pos 255 ∷ []
 -- the difference, or no prediction
 abbrev pub prediction_of : Bool → ℤ
 prediction_of difference = if difference then pos 0 else negsuc 1
+
+-- positions of the four entries of two triangles with a side in common, and of a tetrahedron
+abbrev pub surface_values : Bool → List ℤ
+surface_values closed =
+    if closed then pos 0 ∷ pos 0 ∷ pos 1 ∷ pos 0 ∷ pos 1 ∷ pos 0 ∷ pos 0 ∷ pos 0 ∷ pos 0 ∷ pos 1 ∷ pos 0 ∷ pos 0 ∷ []
+    else pos 0 ∷ pos 2 ∷ pos 0 ∷ pos 2 ∷ pos 0 ∷ pos 0 ∷ pos 2 ∷ pos 2 ∷ pos 0 ∷ pos 0 ∷ pos 0 ∷ pos 0 ∷ []
+
+-- by one parallelogram, or by the mean of several
+abbrev pub surface_prediction : Bool → ℤ
+surface_prediction many = if many then pos 4 else pos 1
+
+-- the positions of a surface
+abbrev pub surface_positions : Bool → Bool → Values
+surface_positions closed many = record { values = surface_values closed; predict = surface_prediction many; at = 0 }
+
+-- a decoder of these positions
+abbrev pub surface_decoder : DecoderHead
+surface_decoder = record { data_id = Some 255; corner = false; degree = false; heads = position_head ∷ [] }

@@ -20,3 +20,8 @@ pub record IsWalkOf (entries : ℕ) (t : WalkedTable) : Type 0 where
 abbrev pub MayBeWalkOf : ℕ → Option WalkedTable → Type 0
 MayBeWalkOf entries None = Unit {0}
 MayBeWalkOf entries (Some t) = IsWalkOf entries t
+
+-- where there is a walk, it is one over its table
+abbrev pub MayBeOver : Option WalkedTable → Type 0
+MayBeOver None = Unit {0}
+MayBeOver (Some t) = IsOver t.sides.now.faces (surface t)

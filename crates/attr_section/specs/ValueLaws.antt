@@ -3,11 +3,14 @@ use Rattle.std.specs.Prelude.{◌≡◌, ◌⊎◌, ◌↔◌, ℕ, pos, List, B
 use Rattle.drc_base.specs.Profile.{Profile}
 use Rattle.drc_bits.specs.Reading.{Reading}
 use Rattle.mesh_model.specs.declared.heads.Head.{Head}
-use Rattle.predict.specs.Walked.{Walked}
+use Rattle.predict.specs.Walked.{Walked, IsOver}
+use Rattle.corner_table.specs.Sides.{IsGluing}
 use Rattle.predict.specs.Multi.{HasFlags, LacksFlags}
+use Rattle.predict.specs.Laws.{AreApart}
 use Rattle.attr_section.specs.declared.predictions.Prediction.{Prediction}
 use Rattle.attr_section.specs.declared.values.Values.{Values}
 use Rattle.attr_section.specs.Values.{no_prediction, byte_of, prediction_of, has_flags, values_at}
+use Rattle.attr_section.specs.Written.{HasFewFlags}
 
 -- the test of flags is true exactly where each list has those that are wanted of it, and false where one has fewer
 pub record FlagsAreTested : Type 0 where
@@ -25,3 +28,7 @@ pub record PredictionsAreAccepted : Type 0 where
       → values_at p None h entries spent c ≡ Ok y → (y.0.predict ≡ no_prediction) ⊎ (y.0.predict ≡ pos 0)
   pub profile : (p : Profile) (w : Option Walked) (h : Head) (entries spent : ℕ) (c : Reading) (y : Values × Reading)
       → p.multi ≡ false → values_at p w h entries spent c ≡ Ok y → ¬ (y.0.predict ≡ pos 4)
+
+-- where no two entries of an order over a table stand at one vertex, no list of flags has more of them than there are corners
+abbrev pub FlagsAreFew : Type 0
+FlagsAreFew = (faces : ℕ) (w : Walked) → IsGluing faces w.gluing → IsOver faces w → AreApart w → HasFewFlags w

@@ -1,17 +1,20 @@
 //! Writing the values of a decoder.
 
 ghost use Rattle.drc_base.specs.Profile.{profile_two};
-ghost use Rattle.std.specs.Prelude.{◌≡◌, ◌≤◌, ◌+◌, ◌++◌, ℕ, List, Ok, None, IfOk, OnOk, All, length};
+ghost use Rattle.std.specs.Prelude.{◌≡◌, ◌≤◌, ◌+◌, ◌++◌, ℕ, List, Ok, IfOk, OnOk, All, length};
 ghost use Rattle.std.specs.List.{zip};
+ghost use Rattle.std.specs.Option.{option_map};
 ghost use Rattle.attr_section.specs.Heads.{bare_head, bare_decoder};
 ghost use Rattle.drc_bits.specs.Spells.{Spells};
+ghost use Rattle.attr_section.specs.Surfaces.{surface_of, MayBeOver};
 ghost use Rattle.attr_section.specs.Values.{quantised_at, values_in, decoder_values_at};
-ghost use Rattle.attr_section.specs.Written.{quant_bytes, attributes_bytes, decoder_values_bytes, placed, ValuesPass, DecoderValuesPass, HaveEntries, ValuesSpelled};
+ghost use Rattle.attr_section.specs.Written.{quant_bytes, attributes_bytes, decoder_values_bytes, placed, ValuesPass, DecoderValuesPass, HaveEntries, MayHaveFewFlags, ValuesSpelled};
 
 use crate::decoder_heads::DecoderHead;
 use crate::quant_writing::put_quants;
 use crate::value_writing::put_values;
 use crate::values::Values;
+use crate::walks::Walked;
 use drc_base::{MAX_VALUES, Memory};
 use mesh_model::Head;
 use std::alloc::Global;
@@ -20,19 +23,21 @@ use std::alloc::Global;
 fn put_attributes(
     alloc: Global,
     out: &mut Vec<u8>,
+    walk: Option<&Walked<'_>>,
     heads: &[Head],
     attributes: &[Values],
     plain: bool,
 ) -> Result<(), Memory>
     requires each_head { length attributes.now ≡ length heads.now }
-    requires each { All (λ (h, v). ValuesPass h v) (zip heads.now attributes.now) }
-    ensures bytes { OnOk result (out.new.items ≡ out.old.items ++ attributes_bytes plain heads.now attributes.now) }
-    ensures again { OnOk result (All (λ (h, v). ValuesSpelled plain h v) (zip heads.now attributes.now)) }
+    requires each { All (λ (h, v). ValuesPass (surface_of (option_map (λ t. t.now) walk)) h v) (zip heads.now attributes.now) }
+    requires walk { MayBeOver (option_map (λ t. t.now) walk) }
+    ensures bytes { OnOk result (out.new.items ≡ out.old.items ++ attributes_bytes plain (surface_of (option_map (λ t. t.now) walk.entry)) heads.now attributes.now) }
+    ensures again { OnOk result (All (λ (h, v). ValuesSpelled plain (surface_of (option_map (λ t. t.now) walk.entry)) h v) (zip heads.now attributes.now)) }
 {
     for i in 0..heads.len() {
         let head = &heads[i];
         let values = &attributes[i];
-        put_values(alloc, out, head, values, plain)?;
+        put_values(alloc, out, walk, head, values, plain)?;
     }
     Ok(())
 }
@@ -41,35 +46,44 @@ fn put_attributes(
 #[tactic(auto, unfolding(crate::specs::Written::decoder_values_bytes))]
 fn written_decoder(
     alloc: Global,
+    walk: Option<&Walked<'_>>,
     heads: &[Head],
     attributes: &[Values],
     plain: bool,
 ) -> Result<Vec<u8>, Memory>
-    requires { DecoderValuesPass heads.now attributes.now }
-    ensures bytes { IfOk result (λ o. o.items ≡ decoder_values_bytes plain heads.now attributes.now) }
-    ensures again { OnOk result (All (λ (h, v). ValuesSpelled plain h v) (zip heads.now attributes.now)) }
+    requires values { DecoderValuesPass (surface_of (option_map (λ t. t.now) walk)) heads.now attributes.now }
+    requires walk { MayBeOver (option_map (λ t. t.now) walk) }
+    ensures bytes { IfOk result (λ o. o.items ≡ decoder_values_bytes plain (surface_of (option_map (λ t. t.now) walk.entry)) heads.now attributes.now) }
+    ensures again { OnOk result (All (λ (h, v). ValuesSpelled plain (surface_of (option_map (λ t. t.now) walk.entry)) h v) (zip heads.now attributes.now)) }
     ensures quants { OnOk result (All (λ h. Spells (quantised_at (bare_head h)) (quant_bytes h.quant) h) heads.now) }
 {
     let mut out = Vec::new(alloc);
-    put_attributes(alloc, &mut out, heads, attributes, plain)?;
+    put_attributes(alloc, &mut out, walk, heads, attributes, plain)?;
     put_quants(&mut out, heads)?;
     Ok(out)
 }
 
 /// The bytes of the values `v` of the decoder `h`, attribute after attribute, and then of its
-/// quantisations: as they are where `plain` says so, else in symbol blocks. They are read back,
-/// wherever they begin and whatever follows them, and take just their length, for the number of
-/// entries that the values have, where the values of all decoders are within their limit.
+/// quantisations: as they are where `plain` says so, else in symbol blocks. `walk` is the surface that the
+/// values of an Edgebreaker stream stand on, in the order of the decoder's walk; None stands for a
+/// sequential stream. Attributes may be predicted by parallelograms, by one or by the mean of several,
+/// where there is a walk, and then have values for each of its entries. They are read back over that
+/// surface, wherever they begin and whatever follows them, and take just their length, for the number of
+/// entries that the values have, where the values of all decoders are within their limit, and no list of
+/// flags over the surface has more of them than there are corners (`flags_are_few`). It is refused for
+/// want of memory alone.
 pub fn write_decoder(
     alloc: Global,
     h: &DecoderHead,
     v: &[Values],
     plain: bool,
+    walk: Option<&Walked<'_>>,
 ) -> Result<Vec<u8>, Memory>
-    requires { DecoderValuesPass h.now.heads v.now }
-    ensures bytes { IfOk result (λ o. o.items ≡ decoder_values_bytes plain h.now.heads v.now) }
-    ensures again { IfOk result (λ o. (entries spent place : ℕ) (rest : List ℕ) → HaveEntries entries h.now.heads v.now → spent + values_in v.now ≤ MAX_VALUES → decoder_values_at profile_two None (bare_decoder h.now) entries spent (record { place = place; rest = o.items ++ rest }) ≡ Ok ((placed plain place h.now.heads v.now, h.now), record { place = place + length o.items; rest = rest })) }
+    requires values { DecoderValuesPass (surface_of (option_map (λ t. t.now) walk)) h.now.heads v.now }
+    requires walk { MayBeOver (option_map (λ t. t.now) walk) }
+    ensures bytes { IfOk result (λ o. o.items ≡ decoder_values_bytes plain (surface_of (option_map (λ t. t.now) walk.entry)) h.now.heads v.now) }
+    ensures again { IfOk result (λ o. MayHaveFewFlags (surface_of (option_map (λ t. t.now) walk.entry)) → (entries spent place : ℕ) (rest : List ℕ) → HaveEntries entries h.now.heads v.now → spent + values_in v.now ≤ MAX_VALUES → decoder_values_at profile_two (surface_of (option_map (λ t. t.now) walk.entry)) (bare_decoder h.now) entries spent (record { place = place; rest = o.items ++ rest }) ≡ Ok ((placed plain (surface_of (option_map (λ t. t.now) walk.entry)) place h.now.heads v.now, h.now), record { place = place + length o.items; rest = rest })) }
 {
-    let out = written_decoder(alloc, h.heads.as_slice(), v, plain)?;
+    let out = written_decoder(alloc, walk, h.heads.as_slice(), v, plain)?;
     Ok(out)
 }

@@ -1,6 +1,6 @@
 //! What holds of the definitions themselves.
 
-ghost use Rattle.attr_section.specs.ValueLaws.{FlagsAreTested, BytesArePredictions, PredictionsAreAccepted};
+ghost use Rattle.attr_section.specs.ValueLaws.{FlagsAreTested, BytesArePredictions, PredictionsAreAccepted, FlagsAreFew};
 
 /// The test of flags is true exactly where each list has the flags that are wanted of it, and it is
 /// false where a list has fewer. This is the contract of a call that does nothing.
@@ -19,4 +19,11 @@ pub fn predictions_have_bytes()
 /// of a call that does nothing.
 pub fn predictions_are_accepted()
     ensures { PredictionsAreAccepted }
+{}
+
+/// Where no two entries of an order over a table stand at one vertex, as in the order of a walk, no list
+/// of flags that is written has more of them than there are corners, so reading accepts it. This is the
+/// contract of a call that does nothing.
+pub fn flags_are_few()
+    ensures { FlagsAreFew }
 {}

@@ -5,9 +5,11 @@
 //! "Sequential Attributes" and "Prediction Decoder".
 #![tactic(auto)]
 
+mod correcting;
 mod decoder_heads;
 mod decoder_writing;
 mod flag_lists;
+mod flag_writing;
 mod head_items;
 mod head_reading;
 mod head_writing;
@@ -15,6 +17,7 @@ mod integer_writing;
 mod integers;
 mod laws;
 mod links;
+mod predicted_writing;
 mod predicting;
 mod predictions;
 mod quant_writing;
@@ -31,7 +34,9 @@ pub use decoder_heads::DecoderHead;
 pub use decoder_writing::write_decoder;
 pub use head_reading::read_heads;
 pub use head_writing::write_heads;
-pub use laws::{flags_are_tested, predictions_are_accepted, predictions_have_bytes};
+pub use laws::{
+    flags_are_few, flags_are_tested, predictions_are_accepted, predictions_have_bytes,
+};
 pub use ranges::range_of;
 pub use value_reading::read_decoder;
 pub use values::Values;
@@ -41,3 +46,5 @@ pub use walks::Walked;
 mod tests;
 #[cfg(test)]
 mod walk_tests;
+#[cfg(test)]
+mod walk_writing_tests;

@@ -158,7 +158,7 @@ fn values_both_ways(
         position_values(alloc, difference)?,
         texture_values(alloc, difference)?,
     ]?;
-    let written = write_decoder(alloc, &h, &given, plain)?;
+    let written = write_decoder(alloc, &h, &given, plain, None)?;
     let mut longer = Vec::new(alloc);
     longer.extend_from_slice(bytes)?;
     longer.push(0xff)?;

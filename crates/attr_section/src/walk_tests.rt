@@ -4,7 +4,6 @@
 ghost use Rattle.std.specs.Prelude.{◌≡◌, ◌<◌, ◌≤◌, IsTrue, length};
 ghost use Rattle.std.specs.List.{All};
 ghost use Rattle.predict.specs.Walked.{IsOver, walked};
-ghost use Rattle.attr_section.specs.Surfaces.{IsWalkOf};
 
 use crate::tests::decoder_of;
 use crate::{Values, Walked, read_decoder};
@@ -65,8 +64,9 @@ fn is_over(t: &SideTable, o: &Order) -> bool
 }
 
 /// The two faces, and an order of their four corners in which the first face comes first.
-fn square(rt: &impl Abort, alloc: Global) -> Walked
-    ensures { IsWalkOf 4 result }
+fn square(rt: &impl Abort, alloc: Global) -> (SideTable, Order)
+    ensures over { IsOver result.0.faces (walked result.0 result.1) }
+    ensures entries { length result.1.corner_of_entry ≡ 4 }
 {
     let sides = two_faces::<Brand>(rt, alloc, Blank::new(1));
     let corners = [side_with(1), side_with(2), side_with(0), side_with(4)];
@@ -75,7 +75,7 @@ fn square(rt: &impl Abort, alloc: Global) -> Walked
         entry_of_corner: Sequence::from_vec([2, 0, 1, 0, 3, 1].to_vec(alloc).expect(rt, "entries")),
     };
     assert!(rt; is_over(&sides, &order) && order.corner_of_entry.len() == 4);
-    Walked { sides, order }
+    (sides, order)
 }
 
 /// What is read over the square from a prediction byte, the corrections and these bytes: positions of
@@ -87,7 +87,11 @@ fn read_over(
     prediction: u8,
     bytes: &[u8],
 ) -> Result<Vec<Values>, Refusal> {
-    let walk = square(rt, alloc);
+    let (sides, order) = square(rt, alloc);
+    let walk = Walked {
+        sides: &sides,
+        order: &order,
+    };
     let mut all = Vec::new(alloc);
     all.push(prediction)?;
     all.extend_from_slice(&CORRECTIONS)?;

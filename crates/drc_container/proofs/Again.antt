@@ -57,8 +57,8 @@ header_spelled g =
 pub attributes_spelled : (plain : Bool) (g : Geometry) (predict : ℤ)
     → Spells (heads_at None) (attribute_heads_bytes g) (bare_decoder (decoder_of g) ∷ [])
     → ((entries spent place : ℕ) (rest : List ℕ) → HaveEntries entries (heads_in g) (values_of g predict) → spent + values_in (values_of g predict) ≤ MAX_VALUES
-    → decoder_values_at profile_two None (bare_decoder (decoder_of g)) entries spent (record { place = place; rest = decoder_values_bytes plain (heads_in g) (values_of g predict) ++ rest })
-    ≡ Ok ((placed plain place (heads_in g) (values_of g predict), decoder_of g), record { place = place + length (decoder_values_bytes plain (heads_in g) (values_of g predict)); rest = rest }))
+    → decoder_values_at profile_two None (bare_decoder (decoder_of g)) entries spent (record { place = place; rest = decoder_values_bytes plain None (heads_in g) (values_of g predict) ++ rest })
+    ≡ Ok ((placed plain None place (heads_in g) (values_of g predict), decoder_of g), record { place = place + length (decoder_values_bytes plain None (heads_in g) (values_of g predict)); rest = rest }))
     → HaveEntries (length (points_in g)) (heads_in g) (values_of g predict) → values_in (values_of g predict) ≤ MAX_VALUES
     → AttributesSpelled plain g predict
 unfolding attributes_at decoders_at attributes_bytes
@@ -66,7 +66,7 @@ attributes_spelled plain g predict heads body entries few = record {
   heads = heads;
   reads = λ place rest.
       let front = attribute_heads_bytes g in
-      let back = decoder_values_bytes plain (heads_in g) (values_of g predict) in
+      let back = decoder_values_bytes plain None (heads_in g) (values_of g predict) in
       let n = length (points_in g) in
       let none : Attributes = record { heads = []; values = [] } in
       let there : place + length front + length back ≡ place + length (front ++ back) = omega (arith, length-append front back) in
@@ -90,14 +90,14 @@ heads_again g ds out is bytes again =
 abbrev pub ValuesAgain : Bool → DecoderHead → List Values → List ℕ → Type 0
 ValuesAgain plain d values body = (entries spent place : ℕ) (rest : List ℕ) → HaveEntries entries d.heads values → spent + values_in values ≤ MAX_VALUES
     → decoder_values_at profile_two None (bare_decoder d) entries spent (record { place = place; rest = body ++ rest })
-    ≡ Ok ((placed plain place d.heads values, d), record { place = place + length body; rest = rest })
+    ≡ Ok ((placed plain None place d.heads values, d), record { place = place + length body; rest = rest })
 
 -- those of the one decoder
 pub values_again : (plain : Bool) (g : Geometry) (predict : ℤ) (d : DecoderHead) (values : List Values) (body : List ℕ)
-    → d ≡ decoder_of g → values ≡ values_of g predict → body ≡ decoder_values_bytes plain d.heads values → ValuesAgain plain d values body
-    → ValuesAgain plain (decoder_of g) (values_of g predict) (decoder_values_bytes plain (heads_in g) (values_of g predict))
+    → d ≡ decoder_of g → values ≡ values_of g predict → body ≡ decoder_values_bytes plain None d.heads values → ValuesAgain plain d values body
+    → ValuesAgain plain (decoder_of g) (values_of g predict) (decoder_values_bytes plain None (heads_in g) (values_of g predict))
 values_again plain g predict d values body is_d is_values bytes again =
-    let there : body ≡ decoder_values_bytes plain (heads_in g) (values_of g predict) =
-    bytes ∙ ap (λ (x : DecoderHead). decoder_values_bytes plain x.heads values) is_d ∙ ap (decoder_values_bytes plain (heads_in g)) is_values in
+    let there : body ≡ decoder_values_bytes plain None (heads_in g) (values_of g predict) =
+    bytes ∙ ap (λ (x : DecoderHead). decoder_values_bytes plain None x.heads values) is_d ∙ ap (decoder_values_bytes plain None (heads_in g)) is_values in
     subst (ValuesAgain plain (decoder_of g) (values_of g predict)) there
     (subst (λ vs. ValuesAgain plain (decoder_of g) vs body) is_values (subst (λ x. ValuesAgain plain x values body) is_d again))

@@ -65,7 +65,7 @@ columns_of_geometry g choice can are =
     columns_pass (prediction_of g choice) (heads_in g) (points_in g) (heads_say (heads_in g) are.heads_pass).each are.rows_fit can.some are.few_values can.predicted
 
 pub decoder_values_pass : (g : Geometry) (choice : Choice) → CanCode g choice → ArePoints (heads_in g) (points_in g)
-    → DecoderValuesPass (heads_in g) (values_of g (prediction_of g choice))
+    → DecoderValuesPass None (heads_in g) (values_of g (prediction_of g choice))
 decoder_values_pass g choice can are =
     let pass = columns_of_geometry g choice can are in
     record {

@@ -1,5 +1,5 @@
 -- The values of a geometry's attributes are values that attributes may have.
-use Rattle.std.proofs.Common.{◌≡◌, ◌⊎◌, ℕ, suc, ◌+◌, ◌*◌, ◌<◌, ◌≤◌, true, ℤ, pos, List, [], ◌∷◌, map, length, take, drop, get_or, refl, sym, ◌∙◌, ap, subst, inl, inr, arith, length-append, length-take-le, replicate}
+use Rattle.std.proofs.Common.{◌≡◌, ◌⊎◌, ℕ, suc, ◌+◌, ◌*◌, ◌<◌, ◌≤◌, true, ℤ, pos, List, [], ◌∷◌, map, length, take, drop, get_or, None, refl, sym, ◌∙◌, ap, subst, inl, inr, arith, length-append, length-take-le, replicate}
 use Rattle.std.specs.List.{All, flat_map, list_all, zip}
 use Rattle.std.proofs.lemmas.List.{length-drop, length-map, length-replicate, get_or_append_left, get_or-append-add, get_or-replicate, get_or-take, get_or-drop}
 use Rattle.std.proofs.lemmas.List.Sums.{sum_by-cons, list_all-from_AllPass}
@@ -14,8 +14,10 @@ use Rattle.mesh_model.specs.Parts.{RowFits}
 use Rattle.mesh_model.proofs.Passing.{HeadSays}
 use Rattle.predict.specs.Wrap.{CanWrap}
 use Rattle.attr_section.specs.declared.values.Values.{Values}
-use Rattle.attr_section.specs.Values.{no_prediction, values_in}
-use Rattle.attr_section.specs.Written.{range_of, ValuesPass, HaveEntries}
+use Rattle.attr_section.specs.Values.{no_prediction, code_of, values_in}
+use Rattle.attr_section.specs.Written.{range_of, CanPredict, ValuesPass, HaveEntries}
+use Rattle.attr_section.specs.declared.predictions.Prediction.{Prediction}
+use Rattle.attr_section.specs.declared.predictions.Prediction.TheVariants as prediction
 use Rattle.drc_container.specs.Columns.{columns_of}
 use Rattle.drc_container.proofs.Extracted.{valued}
 
@@ -76,9 +78,15 @@ ArePredicted-rest : (predict : ℤ) (v : Values) (values : List Values) → AreP
 ArePredicted-rest predict v values (inl off) = inl off
 ArePredicted-rest predict v values (inr on) = inr (on.0, All-tail (λ (x : Values). CanWrap (range_of x.values)) v values on.1)
 
+-- which prediction it is
+prediction_told : (predict : ℤ) (comps : ℕ) (v : Values) → (predict ≡ no_prediction) ⊎ ((predict ≡ pos 0) × CanWrap (range_of v.values))
+    → (q : Prediction) × (predict ≡ code_of q) × CanPredict None comps v.values q
+prediction_told predict comps v (inl off) = (prediction.Off, off, tt)
+prediction_told predict comps v (inr on) = (prediction.Difference, on.0, on.1)
+
 -- the values of attributes may be those of n entries
 pub record ColumnsPass (n : ℕ) (heads : List Head) (values : List Values) : Type 0 where
-  pub each : All (λ (h, v). ValuesPass h v) (zip heads values)
+  pub each : All (λ (h, v). ValuesPass None h v) (zip heads values)
   pub entries : HaveEntries n heads values
   pub total : values_in values ≡ n * width_of heads
   pub each_head : length values ≡ length heads
@@ -87,7 +95,7 @@ pub columns_pass : (predict : ℤ) (heads : List Head) (rows : List (List ℤ)) 
     → length rows * width_of heads ≤ MAX_VALUES → ArePredicted predict (valued predict (columns_of heads rows))
     → ColumnsPass (length rows) heads (valued predict (columns_of heads rows))
 columns_pass predict [] rows say fit some few predicted = record {
-  each = All-nil (λ (h, v). ValuesPass h v);
+  each = All-nil (λ (h, v). ValuesPass None h v);
   entries = All-nil (λ (h, v). length v.values ≡ length rows * h.comps);
   total = omega arith;
   each_head = refl;
@@ -110,13 +118,13 @@ columns_pass predict (h ∷ heads) rows say fit some few predicted =
     let others_pass : ColumnsPass n heads values = subst (λ m. ColumnsPass m heads values) same rest in
     let there : 1 ≤ n * h.comps = product_some n h.comps some says.some in
     record {
-      each = All-cons (λ (h, v). ValuesPass h v) (h, v) (zip heads values) (record {
+      each = All-cons (λ (h, v). ValuesPass None h v) (h, v) (zip heads values) (record {
         comps = says.some;
         some = omega (arith, len, there);
         few = omega (arith, len, all, few);
         whole = rw len (mul-mod_left n h.comps);
         typed = column-typed h.dtype h.comps rows (All-weaker (RowFits (h ∷ heads)) (λ row. list_all (in_type h.dtype) (take h.comps row) ≡ true) (λ row fits. fits-first h heads row fits) rows fit);
-        predicted = ArePredicted-first predict v values predicted;
+        predicted = prediction_told predict h.comps v (ArePredicted-first predict v values predicted);
       }) others_pass.each;
       entries = All-cons (λ (h, v). length v.values ≡ n * h.comps) (h, v) (zip heads values) len others_pass.entries;
       total = sum_by-cons (λ (x : Values). length x.values) v values ∙ omega (arith, len, all, others_pass.total);

@@ -52,7 +52,7 @@ IsPredicted predict = (predict ≡ no_prediction) ⊎ (predict ≡ pos 0)
 
 -- where that byte stands in the values of an attribute
 compressed-at : (plain : Bool) (comps : ℕ) (values : List ℤ) (predict : ℤ) (rest : List ℕ) → IsPredicted predict
-    → get_or (values_bytes plain comps (record { values = values; predict = predict; at = 0 }) ++ rest) (if int_eq predict no_prediction then 1 else 2) 0 ≡ compressed_byte plain
+    → get_or (values_bytes plain None comps (record { values = values; predict = predict; at = 0 }) ++ rest) (if int_eq predict no_prediction then 1 else 2) 0 ≡ compressed_byte plain
 unfolding values_bytes differences_bytes
 compressed-at plain comps values predict rest (inl off) = rw off (integers-first plain comps values rest)
 compressed-at plain comps values predict rest (inr on) =
@@ -71,15 +71,15 @@ coded predict compressed = record { element = 0; walk = 0; predict = predict; co
 -- the attributes that are seen in these bytes are coded with this prediction
 layouts : (plain : Bool) (n : ℕ) (bytes front rest : List ℕ) (place : ℕ) (predict : ℤ) (heads : List Head) (columns : List (List ℤ))
     → IsPredicted predict → length columns ≡ length heads → place ≡ length front
-    → bytes ≡ front ++ (columns_bytes plain heads (map (λ column. record { values = column; predict = predict; at = 0 }) columns) ++ rest)
-    → attr_layouts bytes (replicate (length heads) unlinked) (attrs_seen n heads (placed plain place heads (map (λ column. record { values = column; predict = predict; at = 0 }) columns)))
+    → bytes ≡ front ++ (columns_bytes plain None heads (map (λ column. record { values = column; predict = predict; at = 0 }) columns) ++ rest)
+    → attr_layouts bytes (replicate (length heads) unlinked) (attrs_seen n heads (placed plain None place heads (map (λ column. record { values = column; predict = predict; at = 0 }) columns)))
     ≡ map (λ _. coded predict (compressed_byte plain)) heads
 layouts plain n bytes front rest place predict [] columns predicted same at is = refl
 layouts plain n bytes front rest place predict (h ∷ heads) [] predicted same at is = absurd (omega (arith, same))
 layouts plain n bytes front rest place predict (h ∷ heads) (column ∷ columns) predicted same at is =
     let made = λ (column : List ℤ). let v : Values = record { values = column; predict = predict; at = 0 } in v in
-    let this = values_bytes plain h.comps (made column) in
-    let others = columns_bytes plain heads (map made columns) in
+    let this = values_bytes plain None h.comps (made column) in
+    let others = columns_bytes plain None heads (map made columns) in
     let skip : ℕ = if int_eq predict no_prediction then 1 else 2 in
     let parted : bytes ≡ front ++ (this ++ (others ++ rest)) = is ∙ ap (λ l. front ++ l) (append_assoc this others rest) in
     let byte : get_or bytes (place + skip) 0 ≡ compressed_byte plain =
@@ -89,7 +89,7 @@ layouts plain n bytes front rest place predict (h ∷ heads) (column ∷ columns
     ∙ compressed-at plain h.comps column predict (others ++ rest) predicted in
     let again = layouts plain n bytes (front ++ this) rest (place + length this) predict heads columns predicted (omega (arith, same))
     (omega (arith, at, length-append front this)) (parted ∙ sym (append_assoc front this (others ++ rest))) in
-    ap (λ c. coded predict c ∷ attr_layouts bytes (replicate (length heads) unlinked) (attrs_seen n heads (placed plain (place + length this) heads (map made columns)))) byte
+    ap (λ c. coded predict c ∷ attr_layouts bytes (replicate (length heads) unlinked) (attrs_seen n heads (placed plain None (place + length this) heads (map made columns)))) byte
     ∙ ap (λ l. coded predict (compressed_byte plain) ∷ l) again
 
 -- the opening of indices
@@ -128,13 +128,13 @@ index-mesh m packed place rest is =
 -- the parts of the bytes of a written stream
 parts : (g : Geometry) (choice : Choice)
     → stream_bytes g choice ≡ (header_bytes g ++ (connectivity_bytes (is_packed (index_of choice)) g ++ attribute_heads_bytes g))
-    ++ (columns_bytes choice.plain_values (heads_in g) (values_of g (prediction_of g choice)) ++ quants_bytes (heads_in g))
+    ++ (columns_bytes choice.plain_values None (heads_in g) (values_of g (prediction_of g choice)) ++ quants_bytes (heads_in g))
 unfolding stream_bytes attributes_bytes decoder_values_bytes
 parts g choice =
     let h = header_bytes g in
     let c = connectivity_bytes (is_packed (index_of choice)) g in
     let a = attribute_heads_bytes g in
-    let v = columns_bytes choice.plain_values (heads_in g) (values_of g (prediction_of g choice)) ++ quants_bytes (heads_in g) in
+    let v = columns_bytes choice.plain_values None (heads_in g) (values_of g (prediction_of g choice)) ++ quants_bytes (heads_in g) in
     ap (λ l. h ++ l) (sym (append_assoc c a v)) ∙ sym (append_assoc h (c ++ a) v)
 
 method-written : (g : Geometry) (choice : Choice) → slice_index (stream_bytes g choice) 8 ≡ 0
@@ -194,7 +194,7 @@ links-written g choice attributes =
     let h = header_bytes g in
     let c = connectivity_bytes (is_packed (index_of choice)) g in
     let a = attribute_heads_bytes g in
-    let v = columns_bytes choice.plain_values (heads_in g) (values_of g (prediction_of g choice)) ++ quants_bytes (heads_in g) in
+    let v = columns_bytes choice.plain_values None (heads_in g) (values_of g (prediction_of g choice)) ++ quants_bytes (heads_in g) in
     let place = connectivity_place g + (attributes_place g choice - connectivity_place g) in
     let at : place ≡ length (h ++ c) = omega (arith, length-append h c) in
     let joined : stream_bytes g choice ≡ (h ++ c) ++ (a ++ v) = parts g choice ∙ ap (λ l. l ++ v) (sym (append_assoc h c a)) ∙ append_assoc (h ++ c) a v in

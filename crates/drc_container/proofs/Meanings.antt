@@ -32,12 +32,12 @@ use Rattle.drc_container.proofs.Again.{written_form, header_spelled}
 
 -- values keep their integers where their places are told
 placed-columns : (plain : Bool) (place : ℕ) (heads : List Head) (values : List Values) → length values ≡ length heads
-    → map (λ v. v.values) (placed plain place heads values) ≡ map (λ v. v.values) values
+    → map (λ v. v.values) (placed plain None place heads values) ≡ map (λ v. v.values) values
 placed-columns plain place [] [] same = refl
 placed-columns plain place [] (v ∷ values) same = absurd (omega (arith, same))
 placed-columns plain place (h ∷ heads) [] same = refl
 placed-columns plain place (h ∷ heads) (v ∷ values) same =
-    ap (λ l. v.values ∷ l) (placed-columns plain (place + length (values_bytes plain h.comps v)) heads values (omega (arith, same)))
+    ap (λ l. v.values ∷ l) (placed-columns plain (place + length (values_bytes plain None h.comps v)) heads values (omega (arith, same)))
 
 valued-columns : (predict : ℤ) (columns : List (List ℤ)) → map (λ v. v.values) (valued predict columns) ≡ columns
 valued-columns predict [] = refl
@@ -50,7 +50,7 @@ wide-rows heads points fit = λ j below. (fit j [] below).0
 -- the cells that are read back are those of the points
 cells-again : (plain : Bool) (place : ℕ) (predict : ℤ) (heads : List Head) (points : List (List ℤ)) → All (RowFits heads) points
     → length (valued predict (columns_of heads points)) ≡ length heads
-    → cells_at heads (map (λ v. v.values) (placed plain place heads (valued predict (columns_of heads points)))) (length points) ≡ cells_of points
+    → cells_at heads (map (λ v. v.values) (placed plain None place heads (valued predict (columns_of heads points)))) (length points) ≡ cells_of points
 cells-again plain place predict heads points fit same =
     ap (λ columns. cells_at heads columns (length points))
     (placed-columns plain place heads (valued predict (columns_of heads points)) same ∙ valued-columns predict (columns_of heads points))

@@ -53,7 +53,7 @@ ConnectivitySpelled packed (Cloud c) = Spells (cloud_points_at profile_two) (con
 abbrev pub attributes_again : Bool → Geometry → ℤ → ℕ → Attributes
 attributes_again plain g predict place = record {
   heads = heads_in g;
-  values = placed plain (place + length (attribute_heads_bytes g)) (heads_in g) (values_of g predict);
+  values = placed plain None (place + length (attribute_heads_bytes g)) (heads_in g) (values_of g predict);
 }
 
 -- the attributes are read back, and in front of them their heads

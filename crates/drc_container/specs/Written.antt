@@ -45,7 +45,7 @@ attribute_heads_bytes g = heads_bytes false (decoder_of g ∷ [])
 
 -- the attributes: their heads, then their values with this prediction, as they are or in symbol blocks
 unfoldable pub attributes_bytes : Bool → Geometry → ℤ → List ℕ
-attributes_bytes plain g predict = attribute_heads_bytes g ++ decoder_values_bytes plain (heads_in g) (values_of g predict)
+attributes_bytes plain g predict = attribute_heads_bytes g ++ decoder_values_bytes plain None (heads_in g) (values_of g predict)
 
 -- the stream
 unfoldable pub stream_bytes : Geometry → Choice → List ℕ

@@ -110,7 +110,8 @@ fn attributes(
     let mut decoders = Vec::new(alloc);
     decoders.push(decoder_of(alloc, g)?)?;
     let mut out = write_heads(alloc, decoders.as_slice(), false)?;
-    let body = write_decoder(alloc, &decoders[0], values.as_slice(), choice.plain_values)?;
+    let plain = choice.plain_values;
+    let body = write_decoder(alloc, &decoders[0], values.as_slice(), plain, None)?;
     out.extend_from_slice(body.as_slice())?;
     Ok(out)
 }

@@ -1,12 +1,14 @@
 use Rattle.std.proofs.Common.{◌<◌, ◌≤◌, length, arith, sym}
 use Rattle.std.specs.List.{zip}
 use Rattle.std.proofs.lemmas.List.{take_all}
+use Rattle.std.specs.Option.{option_map}
+use Rattle.attr_section.specs.Surfaces.{surface_of}
 use Rattle.attr_section.specs.Written.{values_bytes, ValuesSpelled}
 use Rattle.attr_section.proofs.Loops.{appended-more, all-more, zipped, length-zipped}
 use Rattle.attr_section.proofs.decoder_writing.put_attributes.Goals as goal
 
-pub put_values-requires : goal.put_values-requires
-put_values-requires c =
+pub put_values-requires-clause-values : goal.put_values-requires-clause-values
+put_values-requires-clause-values c =
     let h = c.index-heads-i.result in
     let v = c.index-attributes-i.result in
     let here : c.loop-i.i < length (zip c.args.heads.now c.args.attributes.now) = omega (arith, length-zipped c.args.heads.now c.args.attributes.now c.requires.each_head) in
@@ -20,8 +22,8 @@ loop-i-preserved c =
     let pairs = zip c.args.heads.now c.args.attributes.now in
     let here : c.loop-i.i < length pairs = omega (arith, length-zipped c.args.heads.now c.args.attributes.now c.requires.each_head) in
     let at = zipped c.args.heads.now c.args.attributes.now c.loop-i.i h v c.requires.each_head c.loop-i-test.true c.index-heads-i.is c.index-attributes-i.is in (
-      appended-more (λ (h, v). values_bytes c.args.plain h.comps v) pairs c.loop-i.i (h, v) c.args.out.now.items c.loop-i.out.items c.put_values.new.out.items here at c.loop-i.invariant.0 c.in_ok-put_values.ensures.bytes,
-      all-more (λ (h, v). ValuesSpelled c.args.plain h v) pairs c.loop-i.i (h, v) here at c.loop-i.invariant.1 c.in_ok-put_values.ensures.again,
+      appended-more (λ (h, v). values_bytes c.args.plain (surface_of (option_map (λ t. t.now) c.args.walk)) h.comps v) pairs c.loop-i.i (h, v) c.args.out.now.items c.loop-i.out.items c.put_values.new.out.items here at c.loop-i.invariant.0 c.in_ok-put_values.ensures.bytes,
+      all-more (λ (h, v). ValuesSpelled c.args.plain (surface_of (option_map (λ t. t.now) c.args.walk)) h v) pairs c.loop-i.i (h, v) here at c.loop-i.invariant.1 c.in_ok-put_values.ensures.again,
     )
 
 pub returns-clause-bytes : goal.returns-clause-bytes

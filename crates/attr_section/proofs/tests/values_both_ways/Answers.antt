@@ -4,8 +4,8 @@ use Rattle.attr_section.specs.Examples.{position_head, texture_head, position_va
 use Rattle.attr_section.proofs.Examples.{values-pass}
 use Rattle.attr_section.proofs.tests.values_both_ways.Goals as goal
 
-pub write_decoder-requires : goal.write_decoder-requires
-write_decoder-requires c =
+pub write_decoder-requires-clause-values : goal.write_decoder-requires-clause-values
+write_decoder-requires-clause-values c =
     let heads : c.in_ok-h.h.heads ≡ position_head ∷ texture_head ∷ [] = ap (λ (d : DecoderHead). d.heads) c.in_ok-h.ensures in
     let given : c.deref.result.now ≡ record { values = position_values; predict = prediction_of c.args.difference; at = 0 } ∷ record { values = texture_values; predict = prediction_of c.args.difference; at = 0 } ∷ [] =
     c.deref.ensures.value ∙ c.in_ok-given.ensures.items ∙ rw (c.in_ok-position_values.ensures, c.in_ok-texture_values.ensures) refl in

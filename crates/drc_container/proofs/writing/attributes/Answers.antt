@@ -11,8 +11,8 @@ pub write_heads-requires : goal.write_heads-requires
 write_heads-requires c =
     rw (c.as_slice.ensures.value, c.in_ok-push.ensures.items, c.new-decoders.ensures.items, c.in_ok-decoder_of.ensures) (decoder_passes c.args.g.now c.requires.sound)
 
-pub write_decoder-requires : goal.write_decoder-requires
-write_decoder-requires c =
+pub write_decoder-requires-clause-values : goal.write_decoder-requires-clause-values
+write_decoder-requires-clause-values c =
     let items : c.push.new.self.items ≡ decoder_of c.args.g.now ∷ [] = c.in_ok-push.ensures.items ∙ rw (c.new-decoders.ensures.items, c.in_ok-decoder_of.ensures) refl in
     let is : c.index.result.now ≡ decoder_of c.args.g.now = c.index.ensures ∙ ap (λ ds. get_or ds 0 c.index.result.now) items in
     rw (is, c.as_slice-2.ensures.value, c.requires.values) (decoder_values_pass c.args.g.now c.args.choice.now c.requires.can c.requires.sound)
@@ -28,5 +28,5 @@ returns-clause-again c =
     let few : values_in (values_of g predict) ≤ MAX_VALUES = subst (λ n. n ≤ MAX_VALUES) (sym pass.total) c.requires.sound.few_values in
     attributes_spelled plain g predict
     (heads_again g c.as_slice.result.now c.in_ok-out.out.items (c.as_slice.ensures.value ∙ items) c.in_ok-out.ensures.bytes c.in_ok-out.ensures.again)
-    (values_again plain g predict c.index.result.now c.as_slice-2.result.now c.in_ok-body.body.items is (c.as_slice-2.ensures.value ∙ c.requires.values) c.in_ok-body.ensures.bytes c.in_ok-body.ensures.again)
+    (values_again plain g predict c.index.result.now c.as_slice-2.result.now c.in_ok-body.body.items is (c.as_slice-2.ensures.value ∙ c.requires.values) c.in_ok-body.ensures.bytes (c.in_ok-body.ensures.again tt))
     pass.entries few

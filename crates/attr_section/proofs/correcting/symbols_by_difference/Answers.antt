@@ -7,8 +7,8 @@ use Rattle.predict.specs.Restored.{corrections, entry_before}
 use Rattle.predict.proofs.Restoring.{restored-corrections, length-corrections}
 use Rattle.attr_section.specs.Written.{symbol_of, range_of}
 use Rattle.attr_section.proofs.SpelledIntegers.{range_of-bounds, fits_within}
-use Rattle.attr_section.proofs.value_writing.symbols_by_difference.Goals.{After-wrap_of-wrap}
-use Rattle.attr_section.proofs.value_writing.symbols_by_difference.Goals as goal
+use Rattle.attr_section.proofs.correcting.symbols_by_difference.Goals.{After-wrap_of-wrap}
+use Rattle.attr_section.proofs.correcting.symbols_by_difference.Goals as goal
 
 -- the wrap has the range of the values
 wrap_is : (c : After-wrap_of-wrap) → c.wrap_of-wrap.result ≡ range_of c.args.values.now

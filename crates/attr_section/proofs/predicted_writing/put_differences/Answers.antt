@@ -3,7 +3,7 @@ use Rattle.std.proofs.lemmas.Int.{to_z-of_z}
 use Rattle.predict.specs.Restored.{corrections, entry_before}
 use Rattle.attr_section.specs.Written.{range_of}
 use Rattle.attr_section.proofs.SpelledIntegers.{Spells-differences, Spells-integers}
-use Rattle.attr_section.proofs.value_writing.put_differences.Goals as goal
+use Rattle.attr_section.proofs.predicted_writing.put_differences.Goals as goal
 
 pub returns-clause-again : goal.returns-clause-again
 returns-clause-again c =

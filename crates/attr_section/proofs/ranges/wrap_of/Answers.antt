@@ -1,6 +1,6 @@
 use Rattle.std.proofs.Common.{FitsSigned, w32}
 use Rattle.std.proofs.lemmas.Int.{to_z-of_z}
-use Rattle.attr_section.proofs.value_writing.wrap_of.Goals as goal
+use Rattle.attr_section.proofs.ranges.wrap_of.Goals as goal
 
 pub unwrap-requires : goal.unwrap-requires
 unwrap-requires c =
