@@ -113,12 +113,12 @@ fn put_means(
     ensures bytes { OnOk result (out.new.items ≡ out.old.items ++ means_bytes plain (surface walk.now) comps values.now) }
     ensures again { OnOk result (HasFewFlags (surface walk.now) → (at : ℕ) → Spells (means_at at (surface walk.now) comps (length values.now)) (means_bytes plain (surface walk.now) comps values.now) values.now) }
 {
-    let (low, high) = range_of(values);
-    let (symbols, flags) = symbols_by_means(alloc, walk, values, comps, low, high)?;
+    let (least, greatest) = range_of(values);
+    let (symbols, flags) = symbols_by_means(alloc, walk, values, comps, least, greatest)?;
     out.push(1)?;
     put_symbols(alloc, out, symbols, comps, plain)?;
     put_flag_lists(alloc, out, &flags.lists)?;
-    put_range(out, low, high)?;
+    put_range(out, least, greatest)?;
     Ok(())
 }
 

@@ -174,12 +174,18 @@ fn one_parallelogram_is_kept(rt: HostRuntime) -> Result<(), Fail> {
     let one = [
         1, 1, 0, 1, 0, 1, 0, 1, 2, 0, 0, 1, 0, 0, 0, 0, 0, 0, 0, 0, 2, 0, 0, 0,
     ];
-    assert!(&rt; values_both_ways(alloc, &walk, false, false, &one)?, "by one");
+    assert!(&rt;
+        values_both_ways(alloc, &walk, false, false, &one)?,
+        "by one"
+    );
     let many = [
-        4, 1, 0, 1, 0, 1, 0, 1, 2, 0, 0, 1, 0, 0, 0, 0, 1, 255, 1, 17, 0, 0, 0, 0, 0, 0, 0, 2, 0, 0,
-        0,
+        4, 1, 0, 1, 0, 1, 0, 1, 2, 0, 0, 1, 0, 0, 0, 0, 1, 255, 1, 17, 0, 0, 0, 0, 0, 0, 0, 2, 0,
+        0, 0,
     ];
-    assert!(&rt; values_both_ways(alloc, &walk, false, true, &many)?, "by the mean");
+    assert!(&rt;
+        values_both_ways(alloc, &walk, false, true, &many)?,
+        "by the mean"
+    );
     Ok(())
 }
 
@@ -197,11 +203,17 @@ fn three_parallelograms_are_left_out(rt: HostRuntime) -> Result<(), Fail> {
     let one = [
         1, 1, 0, 1, 0, 0, 1, 0, 1, 1, 0, 1, 0, 1, 1, 0, 0, 0, 0, 0, 1, 0, 0, 0,
     ];
-    assert!(&rt; values_both_ways(alloc, &walk, true, false, &one)?, "by one");
+    assert!(&rt;
+        values_both_ways(alloc, &walk, true, false, &one)?,
+        "by one"
+    );
     let many = [
         4, 1, 0, 1, 0, 0, 1, 0, 1, 1, 0, 1, 0, 1, 0, 0, 0, 0, 3, 1, 1, 48, 0, 0, 0, 0, 0, 1, 0, 0,
         0,
     ];
-    assert!(&rt; values_both_ways(alloc, &walk, true, true, &many)?, "by the mean");
+    assert!(&rt;
+        values_both_ways(alloc, &walk, true, true, &many)?,
+        "by the mean"
+    );
     Ok(())
 }

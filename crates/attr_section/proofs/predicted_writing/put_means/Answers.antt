@@ -21,10 +21,10 @@ joined o p s f r a b d first second third last =
 pub returns-clause-bytes : goal.returns-clause-bytes
 unfolding flagged_bytes integers_bytes
 returns-clause-bytes c =
-    let low : FitsSigned w32 c.range_of-low.result.0 = search rules in
-    let high : FitsSigned w32 c.range_of-low.result.1 = search rules in
+    let low : FitsSigned w32 c.range_of-least.result.0 = search rules in
+    let high : FitsSigned w32 c.range_of-least.result.1 = search rules in
     let bytes : c.put_range.new.out.items ≡ c.args.out.now.items ++ flagged_bytes c.args.plain (surface c.args.walk.now) c.args.comps c.in_ok-symbols.flags.lists c.args.values.now =
-    rw (← c.in_ok-symbols.ensures.symbols, c.range_of-low.ensures)
+    rw (← c.in_ok-symbols.ensures.symbols, c.range_of-least.ensures)
     (joined c.args.out.now.items c.push.new.self.items c.put_symbols.new.out.items c.put_flag_lists.new.out.items c.put_range.new.out.items _ _ _
     c.in_ok-push.ensures.items c.in_ok-put_symbols.ensures.bytes c.in_ok-put_flag_lists.ensures.bytes (simp to_z-of_z at c.in_ok-put_range.ensures.bytes)) in
     subst (λ (lists : List (List Bool)). c.put_range.new.out.items ≡ c.args.out.now.items ++ flagged_bytes c.args.plain (surface c.args.walk.now) c.args.comps lists c.args.values.now)
@@ -32,8 +32,8 @@ returns-clause-bytes c =
 
 pub returns-clause-again : goal.returns-clause-again
 returns-clause-again c = λ few at.
-    let low : FitsSigned w32 c.range_of-low.result.0 = search rules in
-    let high : FitsSigned w32 c.range_of-low.result.1 = search rules in
+    let low : FitsSigned w32 c.range_of-least.result.0 = search rules in
+    let high : FitsSigned w32 c.range_of-least.result.1 = search rules in
     let range = simp to_z-of_z at c.in_ok-put_range.ensures.again in
     let w = surface c.args.walk.now in
     let values = c.args.values.now in
@@ -45,4 +45,4 @@ returns-clause-again c = λ few at.
     (Spells-integers c.args.plain c.args.comps (corrections (multi w c.args.comps lists) (range_of values) values)
     (rw c.in_ok-symbols.ensures.symbols at c.in_ok-put_symbols.ensures.again))
     (Spells-flag_lists w lists four c.in_ok-put_flag_lists.ensures.again (All-same (λ (flags : List Bool). length flags ≤ length w.entries) lists (flag_lists_of w c.args.comps values) is (lists_few w c.args.comps values few)))
-    (rw c.range_of-low.ensures range) c.in_ok-symbols.ensures.enough c.in_ok-symbols.ensures.restore)
+    (rw c.range_of-least.ensures range) c.in_ok-symbols.ensures.enough c.in_ok-symbols.ensures.restore)
