@@ -11,10 +11,10 @@ use drc_base::{Fault, Kind, MAX_ATTRIBUTES, MAX_FACES, MAX_POINTS};
 use drc_bits::Cursor;
 
 /// The traversal whose symbols are coded by themselves.
-const STANDARD: u8 = 0;
+pub(crate) const STANDARD: u8 = 0;
 
 /// The traversal whose symbols are coded by the degrees of vertices.
-const VALENCE: u8 = 2;
+pub(crate) const VALENCE: u8 = 2;
 
 /// What the front of the section declares.
 #[derive(Clone, Copy, Debug)]

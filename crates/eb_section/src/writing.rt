@@ -10,7 +10,7 @@ ghost use Rattle.eb_section.specs.Written.{opening_of, opening_bytes, coded_byte
 ghost use Rattle.eb_section.specs.ReadAgain.{IsReadAgain};
 ghost use Rattle.eb_section.specs.CodedBlocks.{AreCoded};
 
-use crate::opening::Opening;
+use crate::opening::{Opening, STANDARD, VALENCE};
 use crate::writing_events::put_events;
 use crate::writing_standard::put_standard;
 use crate::writing_valence::put_valence;
@@ -19,12 +19,6 @@ use drc_base::{MAX_ATTRIBUTES, MAX_FACES, MAX_POINTS, Memory};
 use drc_bits::put_var32;
 use eb_trace::Traced;
 use std::alloc::Global;
-
-/// The traversal whose symbols are written by themselves.
-const STANDARD: u8 = 0;
-
-/// The traversal whose symbols are written by the degrees of vertices.
-const VALENCE: u8 = 2;
 
 /// The bytes of the section (Draco Bitstream Specification 2.2, section "Edgebreaker Connectivity") of a
 /// trace of so many faces, with the seam bits of each attribute data: symbols standard, or by valence.

@@ -52,7 +52,8 @@ entries_of faces g order = map (λ c. position_or_len (meets faces g c) order) (
 
 -- these labels and ends are those of the fans
 abbrev pub SurfaceIsLabelled : Type 0
-SurfaceIsLabelled = (faces : ℕ) (g : Gluing) → IsGluing faces g → IsLabelled faces g (fan_labels faces g) (fans_of faces g) (fan_ends faces g)
+SurfaceIsLabelled = (faces : ℕ) (g : Gluing) → IsGluing faces g →
+    IsLabelled faces g (fan_labels faces g) (fans_of faces g) (fan_ends faces g)
 
 -- and no others are
 abbrev pub LabelsAreOne : Type 0
@@ -63,7 +64,8 @@ LabelsAreOne = (faces : ℕ) (g : Gluing) (labels : List ℕ) (count : ℕ) (end
 abbrev pub OrdersAreOfSurface : Type 0
 OrdersAreOfSurface = (faces : ℕ) (g : Gluing) (labels : List ℕ) (count : ℕ) (ends : List Bool) → IsGluing faces g →
     IsLabelled faces g labels count ends →
-    (depth_first_order faces g labels ends ≡ depth_first_of faces g) × (prediction_degree_order faces g labels count ≡ prediction_degree_of faces g)
+    (depth_first_order faces g labels ends ≡ depth_first_of faces g)
+    × (prediction_degree_order faces g labels count ≡ prediction_degree_of faces g)
 
 -- and the entries of corners in an order of its classes are told by the corners of the entries
 abbrev pub EntriesAreOfSurface : Type 0
