@@ -8,7 +8,7 @@ use Rattle.corner_table.specs.Labels.{IsLabelled}
 use Rattle.walk_order.specs.Orders.{corners_in, IsOrderOver, IsOrderOf}
 use Rattle.walk_order.specs.DepthFirst.{depth_first_order}
 use Rattle.walk_order.specs.PredictionDegree.{prediction_degree_order}
-use Rattle.walk_order.specs.OfSurface.{depth_first_of, prediction_degree_of, entries_of}
+use Rattle.walk_order.specs.OfSurface.{depth_first_of, prediction_degree_of}
 use Rattle.walk_order.proofs.OfSurface.{orders_are_of_surface, entries_are_of_surface}
 use Rattle.predict.specs.Walked.{Walked, walked, IsOver}
 use Rattle.drc_container.specs.OnSurface.{in_order, walked_by}

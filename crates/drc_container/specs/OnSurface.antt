@@ -1,6 +1,6 @@
 -- The attributes of an Edgebreaker mesh, whose values stand on its surface (Draco Bitstream Specification 2.2, sections "Attributes
 -- Decoder" and "Edgebreaker Connectivity"; that equal rows of corners become one point is this project's choice).
-use Rattle.std.specs.Prelude.{◌≡◌, ℕ, ◌<◌, Bool, true, List, [], ◌∷◌, ◌++◌, length, map, get_or, sum_by, Option, None, Some}
+use Rattle.std.specs.Prelude.{◌≡◌, ℕ, ◌<◌, Bool, List, [], ◌∷◌, ◌++◌, length, map, get_or, sum_by, Option, None, Some}
 use Rattle.std.specs.Prelude.{Result, Ok, Err, if◌then◌else◌}
 use Rattle.drc_base.specs.declared.faults.Fault.{Fault}
 use Rattle.drc_base.specs.Profile.{Profile}

@@ -12,7 +12,6 @@ use Rattle.seq_section.specs.declared.reading.SeqRead.{SeqRead}
 use Rattle.seq_section.specs.Indices.{opening_at, indices_at}
 use Rattle.eb_section.specs.Connectivity.{Connectivity, connectivity_at, front_at as edgebreaker_front_at}
 use Rattle.attr_section.specs.declared.decoder_heads.DecoderHead.{DecoderHead}
-use Rattle.attr_section.specs.declared.values.Values.{Values}
 use Rattle.attr_section.specs.Heads.{heads_at}
 use Rattle.attr_section.specs.Values.{decoder_values_at, values_in}
 use Rattle.drc_container.specs.Header.{header_at, cloud_points_at}

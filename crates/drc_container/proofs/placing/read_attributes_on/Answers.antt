@@ -1,6 +1,5 @@
-use Rattle.std.proofs.Common.{◌≡◌, ap, subst, sym}
+use Rattle.std.proofs.Common.{subst, sym}
 use Rattle.std.specs.List.{All}
-use Rattle.attr_section.specs.declared.decoder_heads.DecoderHead.{DecoderHead}
 use Rattle.eb_section.specs.Connectivity.{meaning}
 use Rattle.drc_container.proofs.Headed.{heads-read}
 use Rattle.drc_container.proofs.Linked.{IsCut, heads-linked}

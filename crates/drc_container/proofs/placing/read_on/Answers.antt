@@ -1,6 +1,5 @@
 use Rattle.std.proofs.Common.{◌≡◌, ◌+◌, ◌*◌, ◌<◌, refl, sym, ◌∙◌, ap, subst}
 use Rattle.std.specs.List.{All}
-use Rattle.attr_section.specs.Values.{values_in}
 use Rattle.predict.specs.Walked.{Walked, walked}
 use Rattle.mesh_model.specs.Assembled.{AreColumns}
 use Rattle.drc_container.specs.OnSurface.{placed_on, values_on}
