@@ -1,0 +1,5 @@
+pub mod Draws
+pub mod Lattice
+pub mod Generated
+pub mod Turns
+pub mod GeneratedLaws
