@@ -1,7 +1,6 @@
 -- Generated meshes are meshes.
-use Rattle.std.proofs.Common.{◌≡◌, ℕ, zero, suc, ◌+◌, ◌*◌, ◌/◌, ◌%◌, ◌^◌, ◌<◌, ◌≤◌, Bool, true, false, cond, eqb, leb, List, [], ◌∷◌, length, get_or, Option, None, Some, Result, Ok, ℤ, pos, refl, sym, ap, ◌∙◌, subst, ◌&&◌, arith}
-use Rattle.std.specs.Prelude.{map}
-use Rattle.std.specs.List.{All, flat_map, range_with_len}
+use Rattle.std.proofs.Common.{◌≡◌, ℕ, zero, suc, ◌+◌, ◌*◌, ◌%◌, ◌^◌, ◌<◌, ◌≤◌, Bool, true, false, cond, eqb, leb, List, [], ◌∷◌, length, get_or, Option, None, Some, Ok, ℤ, pos, refl, sym, ap, ◌∙◌, subst, ◌&&◌, arith}
+use Rattle.std.specs.List.{All, range_with_len}
 use Rattle.std.proofs.lemmas.Bool.{le-leb}
 use Rattle.std.proofs.lemmas.List.{length-map}
 use Rattle.std.proofs.lemmas.List.FromFn.{length-range_with_len}
@@ -11,7 +10,7 @@ use Rattle.drc_base.specs.declared.faults.Fault.{Fault}
 use Rattle.mesh_model.specs.declared.heads.Head.{Head}
 use Rattle.mesh_model.specs.FirstFault.{value_unless}
 use Rattle.mesh_model.specs.Head.{heads_fault, in_type, types_of, width_of}
-use Rattle.mesh_model.specs.Parts.{MeshParts, RowFits, ArePoints, IsFaceOf, IsMesh, AreRows, cells_of, mesh_fault, range_fault, rows_of}
+use Rattle.mesh_model.specs.Parts.{MeshParts, RowFits, IsFaceOf, IsMesh, AreRows, cells_of, mesh_fault, range_fault, rows_of}
 use Rattle.mesh_model.proofs.Made.{mesh_of-IsMesh, AreRows-cells_of, range_fault-cells_of}
 use Rattle.drc_gen.specs.declared.kinds.GenKind.{GenKind}
 use Rattle.drc_gen.specs.declared.kinds.GenKind.TheVariants.{Grid, Torus, Holes, Fans, Seams}

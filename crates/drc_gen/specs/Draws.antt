@@ -1,5 +1,5 @@
--- Draws from a seed: a linear congruential generator modulo 2^64 of which the upper ten bits are taken (Knuth's numbers for
--- MMIX, The Art of Computer Programming, volume 2, section 3.3.4).
+-- Draws from a seed: a linear congruential generator modulo 2^64 of which the upper ten bits are taken (this project's choice;
+-- the multiplier stands in Knuth, The Art of Computer Programming, volume 2, section 3.3.4).
 use Rattle.std.specs.Prelude.{ℕ, zero, suc, ◌+◌, ◌*◌, ◌/◌, ◌%◌, ◌^◌}
 
 -- the state behind a state

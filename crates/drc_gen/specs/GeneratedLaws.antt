@@ -22,6 +22,7 @@ point_count Holes n = (n + 1) * (n + 1)
 point_count Fans n = 2 * (n * n) + 1
 point_count Seams n = 4 * (n * n)
 
+-- each kind has these points, whatever the seed
 abbrev pub PointsAreCounted : Type 0
 PointsAreCounted = (kind : GenKind) (n seed : ℕ) → length (points_of kind n seed) ≡ point_count kind n
 

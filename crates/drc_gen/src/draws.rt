@@ -1,5 +1,6 @@
-//! Numbers drawn from a seed (Knuth's linear congruential generator of MMIX, of which the upper ten
-//! bits are taken).
+//! Numbers drawn from a seed: a linear congruential generator modulo 2^64 of which the upper ten bits
+//! are taken (this project's choice; the multiplier stands in Knuth, The Art of Computer Programming,
+//! volume 2, section 3.3.4).
 
 ghost use Rattle.std.specs.Prelude.{◌≡◌, ◌/◌, ◌^◌, ◌<◌};
 ghost use Rattle.drc_gen.specs.Draws.{state_behind};
