@@ -74,21 +74,6 @@ fn vertices_of(alloc: Global, table: &SideTable) -> Result<u32, Memory> {
     vertices_by::<Brand>(alloc, table, Blank::new(1))
 }
 
-/// How many vertices a table has.
-fn vertices_by<L: Ledger>(alloc: Global, table: &SideTable, blank: Blank) -> Result<u32, Memory>
-    requires name { blank.name ≡ L.name }
-    requires parts { blank.parts ≡ L.parts }
-    requires some { 0 < L.parts }
-{
-    let mut steps = Steps::<L>::new(blank);
-    Ok(table.label_vertices(alloc, &mut steps)?.count)
-}
-
-/// How many vertices a table has.
-fn vertices_of(alloc: Global, table: &SideTable) -> Result<u32, Memory> {
-    vertices_by::<Brand>(alloc, table, Blank::new(1))
-}
-
 #[test]
 fn glues_worked_surfaces(rt: HostRuntime) -> Result<(), Fail> {
     let alloc = rt.alloc();
