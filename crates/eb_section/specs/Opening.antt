@@ -25,14 +25,17 @@ opening_at p c = do
   attr_data ← must kind.AttrLimit (λ n. nat_le n MAX_ATTRIBUTES) (number_at 1) faces.1
   symbols ← must kind.Count (λ n. nat_le n faces.0) var32_at attr_data.1
   splits ← must kind.Count (λ n. nat_le n symbols.0) var32_at symbols.1
-  Ok (record {
-    valence = (traversal.0 == 2);
-    vertices = vertices.0;
-    faces = faces.0;
-    attr_data = attr_data.0;
-    symbols = symbols.0;
-    splits = splits.0;
-  }, splits.1)
+  Ok (
+    record {
+      valence = (traversal.0 == 2);
+      vertices = vertices.0;
+      faces = faces.0;
+      attr_data = attr_data.0;
+      symbols = symbols.0;
+      splits = splits.0;
+    },
+    splits.1,
+  )
 
 -- what the machine of reverse decoding is made for: the declared faces and symbols, and as many vertices as are declared, beside one for
 -- each declared split
