@@ -152,8 +152,6 @@ pub enum Kind {
     NoPosition,
     /// Values too far apart for a prediction.
     Range,
-    /// A form that isn't built.
-    NotYet,
 }
 
 impl Kind {
@@ -236,7 +234,6 @@ impl Kind {
             Kind::Empty => "Empty",
             Kind::NoPosition => "NoPosition",
             Kind::Range => "Range",
-            Kind::NotYet => "NotYet",
         }
     }
 }

@@ -1,5 +1,5 @@
 -- What a choice says of an encoding, with what is written where nothing is chosen (this project's choice).
-use Rattle.std.specs.Prelude.{ℤ, pos, negsuc, Bool, true, false, unwrap_or, if◌then◌else◌}
+use Rattle.std.specs.Prelude.{ℤ, pos, negsuc, Bool, true, false, Option, None, Some, unwrap_or, if◌then◌else◌}
 use Rattle.mesh_model.specs.declared.geometries.Geometry.{Geometry}
 use Rattle.mesh_model.specs.Contents.{is_mesh}
 use Rattle.drc_container.specs.declared.methods.Method.{Method}
@@ -8,6 +8,8 @@ use Rattle.drc_container.specs.declared.choices.Index.{Index}
 use Rattle.drc_container.specs.declared.choices.Index.TheVariants as indexed
 use Rattle.drc_container.specs.declared.choices.Predict.{Predict}
 use Rattle.drc_container.specs.declared.choices.Predict.TheVariants as predict
+use Rattle.drc_container.specs.declared.choices.Walk.{Walk}
+use Rattle.drc_container.specs.declared.choices.Walk.TheVariants as walk
 use Rattle.drc_container.specs.declared.choices.Choice.{Choice}
 
 -- the method: Edgebreaker with standard symbols for a mesh and sequential for a cloud, where none is chosen
@@ -20,16 +22,29 @@ is_sequential method.Seq = true
 is_sequential method.Eb = false
 is_sequential method.Valence = false
 
+-- whether symbols are coded by valence
+abbrev pub is_valence : Method → Bool
+is_valence method.Seq = false
+is_valence method.Eb = false
+is_valence method.Valence = true
+
 -- whether indices are packed
 abbrev pub is_packed : Index → Bool
 is_packed indexed.Plain = false
 is_packed indexed.Packed = true
 
--- whether a prediction is by a parallelogram
+-- whether a prediction is by parallelograms
 abbrev pub is_parallelogram : Predict → Bool
 is_parallelogram predict.Off = false
 is_parallelogram predict.Diff = false
 is_parallelogram predict.Para = true
+is_parallelogram predict.Multi = true
+
+-- whether vertices are walked by prediction degree: depth first, where nothing is chosen
+abbrev pub is_degree : Option Walk → Bool
+is_degree None = false
+is_degree (Some walk.Depth) = false
+is_degree (Some walk.Degree) = true
 
 -- how indices are written: plain, where nothing is chosen
 abbrev pub index_of : Choice → Index
@@ -40,11 +55,12 @@ index_of choice = unwrap_or choice.index indexed.Plain
 abbrev pub predict_of : Method → Choice → Predict
 predict_of m choice = unwrap_or choice.predict (if is_sequential m then predict.Diff else predict.Para)
 
--- the number of a prediction: -2 none, 0 difference, 1 parallelogram
+-- the number of a prediction: -2 none, 0 difference, 1 parallelogram, 4 constrained multi-parallelogram
 abbrev pub number_of_predict : Predict → ℤ
 number_of_predict predict.Off = negsuc 1
 number_of_predict predict.Diff = pos 0
 number_of_predict predict.Para = pos 1
+number_of_predict predict.Multi = pos 4
 
 -- the number of the prediction of a geometry's values
 abbrev pub prediction_of : Geometry → Choice → ℤ

@@ -1,41 +1,68 @@
 -- What an encoding answers, and what its bytes mean (this project's choice).
 use Rattle.drc_base.specs.Profile.{profile_two}
-use Rattle.std.specs.Prelude.{◌≡◌, ◌<◌, ◌⊎◌, ℕ, ◌+◌, ℤ, pos, Bool, List, [], ◌∷◌, ◌++◌, length, None, Result, Ok, All}
+use Rattle.std.specs.Prelude.{◌≡◌, ◌<◌, ◌≤◌, ◌⊎◌, ℕ, ◌+◌, ◌-◌, ℤ, pos, Bool, true, false, List, [], ◌∷◌, ◌++◌, map, length, Option, None, Some}
+use Rattle.std.specs.Prelude.{Result, Ok, All}
+use Rattle.std.specs.List.{enumerate_from}
 use Rattle.drc_base.specs.declared.faults.Fault.{Fault}
+use Rattle.drc_base.specs.declared.limits.TheConstants.{MAX_POINTS, MAX_VALUES}
 use Rattle.drc_bits.specs.Spells.{Spells}
 use Rattle.mesh_model.specs.declared.geometries.Geometry.{Geometry}
 use Rattle.mesh_model.specs.declared.geometries.Geometry.TheVariants.{Mesh, Cloud}
 use Rattle.mesh_model.specs.FirstFault.{value_unless}
 use Rattle.mesh_model.specs.Same.{Rows, Same}
+use Rattle.mesh_model.specs.declared.heads.Head.{Head}
+use Rattle.mesh_model.specs.Parts.{MeshParts}
 use Rattle.mesh_model.specs.Contents.{heads_in, points_in}
+use Rattle.corner_table.specs.Carried.{IsCarried}
+use Rattle.pairing.specs.Pairing.{pairing}
+use Rattle.pairing.specs.Degenerate.{degenerate_fault}
+use Rattle.eb_trace.specs.Trace.{fan_count}
+use Rattle.eb_section.specs.ReadAgain.{IsReadAgain}
 use Rattle.predict.specs.Wrap.{CanWrap}
 use Rattle.seq_section.specs.Indices.{indices_at}
+use Rattle.attr_section.specs.declared.predictions.Prediction.{Prediction}
 use Rattle.attr_section.specs.Heads.{bare_decoder, heads_at}
-use Rattle.attr_section.specs.Values.{no_prediction}
+use Rattle.attr_section.specs.Values.{no_prediction, code_of, values_in, decoder_values_at}
 use Rattle.attr_section.specs.Written.{range_of, placed}
+use Rattle.drc_container.specs.declared.codings.Coding.{Coding}
 use Rattle.drc_container.specs.declared.choices.Choice.{Choice}
 use Rattle.drc_container.specs.declared.methods.Method.TheVariants as method
 use Rattle.drc_container.specs.declared.attributes.Attributes.{Attributes}
-use Rattle.drc_container.specs.Meaning.{Meaning}
+use Rattle.drc_container.specs.Meaning.{Surface, Meaning}
 use Rattle.drc_container.specs.Header.{cloud_points_at}
-use Rattle.drc_container.specs.Choice.{method_of, prediction_of}
+use Rattle.drc_container.specs.Choice.{method_of, is_sequential, prediction_of}
 use Rattle.drc_container.specs.Stream.{stream, attributes_at}
 use Rattle.drc_container.specs.Refused.{refused}
-use Rattle.drc_container.specs.Written.{connectivity_bytes, decoder_of, attribute_heads_bytes, attributes_bytes, values_of, written}
+use Rattle.drc_container.specs.Written.{connectivity_bytes, decoder_of, attribute_heads_bytes, attributes_bytes, values_of}
+use Rattle.drc_container.specs.WrittenOnSurface.{traced, Glued, decoded, walk_of, coded_by, coded_values, decoder_for, decoders_for}
+use Rattle.drc_container.specs.WrittenOnSurface.{seam_lists, attribute_bytes, decoder_heads_bytes, surface_bytes}
+use Rattle.drc_container.specs.Chosen.{mesh_in, written}
 
 -- what is due: the bytes and rows, or why the geometry isn't encoded as chosen
 abbrev pub due : Geometry → Choice → Result (List ℕ × Rows) Fault
 due g choice = value_unless (refused g choice) (written g choice)
 
--- these bytes are a stream that ends with them, and its geometry is this one by these rows, with the same list of points
-pub record Means (g : Geometry) (bytes : List ℕ) (rows : Rows) : Type 0 where
+-- the surface is that of the mesh's pairs, under the new numbers that the rows give to the faces
+pub record KeepsSurface (m : MeshParts) (rows : Rows) (s : Option Surface) : Type 0 where
+  pub surface : Surface
+  pub is : s ≡ Some surface
+  pub faces : surface.faces ≡ length m.faces
+  pub pairs : IsCarried (length m.faces) (pairing m) rows surface.glued
+
+-- what is kept beside the geometry: by the sequential method the list of points, and by Edgebreaker the surface
+abbrev pub KeepsBeside : Bool → Geometry → Meaning → Rows → Type 0
+KeepsBeside true g d rows = (points_in d.geometry ≡ points_in g) × (d.surface ≡ None)
+KeepsBeside false g d rows = KeepsSurface (mesh_in g) rows d.surface
+
+-- these bytes are a stream that ends with them, its geometry is this one by these rows, and the points or the surface are kept
+pub record Means (g : Geometry) (choice : Choice) (bytes : List ℕ) (rows : Rows) : Type 0 where
   pub decoded : Meaning
   pub stream_is : stream bytes ≡ Ok decoded
   pub same : Same g decoded.geometry rows
-  pub points : points_in decoded.geometry ≡ points_in g
+  pub beside : KeepsBeside (is_sequential (method_of g choice)) g decoded rows
   pub whole : decoded.seen.end ≡ length bytes
 
--- this geometry can be coded by this choice: the method is sequential, there is a point, and values that are predicted lie
+-- this geometry can be coded by this choice, sequentially: there is a point, and values that are predicted lie
 -- near enough
 pub record CanCode (g : Geometry) (choice : Choice) : Type 0 where
   pub sequential : method_of g choice ≡ method.Seq
@@ -62,3 +89,30 @@ pub record AttributesSpelled (plain : Bool) (g : Geometry) (predict : ℤ) : Typ
   pub reads : (place : ℕ) (rest : List ℕ)
       → attributes_at profile_two (length (points_in g)) (record { place = place; rest = attributes_bytes plain g predict ++ rest })
       ≡ Ok (attributes_again plain g predict place, record { place = place + length (attributes_bytes plain g predict); rest = rest })
+
+-- this mesh can be coded so by Edgebreaker: it has faces, none of which is degenerate; its vertices and its coded values are few; and
+-- values that are predicted lie near enough
+pub record CanCodeSurface (coding : Coding) (m : MeshParts) : Type 0 where
+  pub some : 0 < length m.faces
+  pub proper : degenerate_fault m ≡ None
+  pub few_vertices : fan_count (length m.faces) (pairing m) ≤ MAX_POINTS
+  pub few_values : values_in (coded_values coding (decoded m)) ≤ MAX_VALUES
+  pub known : (q : Prediction) × (coding.predict ≡ code_of q)
+  pub predicted : (coding.predict ≡ no_prediction) ⊎ All (λ v. CanWrap (range_of v.values)) (coded_values coding (decoded m))
+
+-- the values of attribute k, which has this head, are read back, wherever they stand and whatever follows them
+pub record AttributeSpelled (coding : Coding) (d : Glued) (k : ℕ) (h : Head) : Type 0 where
+  pub reads : (spent place : ℕ) (rest : List ℕ) → spent + length (coded_by coding d k).values ≤ MAX_VALUES
+      → decoder_values_at profile_two (Some (walk_of coding d k)) (bare_decoder (decoder_for coding d k h)) (length (walk_of coding d k).corners)
+      spent (record { place = place; rest = attribute_bytes coding d k h ++ rest })
+      ≡ Ok (
+        (placed coding.plain (Some (walk_of coding d k)) place (h ∷ []) (coded_by coding d k ∷ []), decoder_for coding d k h),
+        record { place = place + length (attribute_bytes coding d k h); rest = rest },
+      )
+
+-- the parts of a mesh's stream by Edgebreaker are read back: the connectivity, the heads of the decoders, and the values of each attribute
+pub record SurfaceSpelled (coding : Coding) (m : MeshParts) : Type 0 where
+  pub connectivity : IsReadAgain coding.valence (length m.faces) (traced m) (seam_lists (decoded m)) (surface_bytes coding m)
+  pub heads : Spells (heads_at (Some (length m.heads - 1))) (decoder_heads_bytes coding (decoded m))
+      (map bare_decoder (decoders_for coding (decoded m)))
+  pub values : All (λ (k, h). AttributeSpelled coding (decoded m) k h) (enumerate_from 0 m.heads)

@@ -1,8 +1,9 @@
 -- How a stream is coded, read off its bytes (Draco Bitstream Specification 2.2, sections "Header", "Sequential
 -- Connectivity", "Edgebreaker Connectivity", "Attributes Decoder" and "Sequential Attributes").
 use Rattle.drc_base.specs.Profile.{profile_two}
-use Rattle.std.specs.Prelude.{ℕ, ◌+◌, ◌==◌, ◌&&◌, ℤ, List, [], ◌∷◌, map, flat_map, replicate, length, slice_index, drop, Option, None, Some}
+use Rattle.std.specs.Prelude.{ℕ, ◌+◌, ◌==◌, ◌&&◌, Bool, ℤ, List, [], ◌∷◌, map, flat_map, replicate, length, slice_index, drop, Option, None, Some}
 use Rattle.std.specs.Prelude.{Result, Ok, Err, if◌then◌else◌}
+use Rattle.std.specs.List.{range_with_len}
 use Rattle.std.specs.Ordering.{int_eq}
 use Rattle.drc_base.specs.declared.faults.Fault.{Fault}
 use Rattle.drc_base.specs.Steps.{◌>>=◌}
@@ -20,10 +21,13 @@ use Rattle.drc_container.specs.declared.choices.Choice.{Choice}
 use Rattle.drc_container.specs.declared.seen.AttrSeen.{AttrSeen}
 use Rattle.drc_container.specs.declared.seen.Seen.{Seen}
 use Rattle.drc_container.specs.Choice.{method_of, is_sequential, index_of, is_packed, prediction_of}
+use Rattle.drc_container.specs.WrittenOnSurface.{decoded, is_cornered, is_by_degree}
+use Rattle.drc_container.specs.Chosen.{mesh_in, coding_of}
 use Rattle.drc_container.specs.Stream.{stream}
 
 -- how an attribute is coded: the element type (0 vertices, 1 corners) and the walk (0 depth first, 1 by prediction degree)
--- of its decoder, both 0 in a sequential stream; its prediction (-2 none, 0 difference, 1 parallelogram); and the byte that
+-- of its decoder, both 0 in a sequential stream; its prediction (-2 none, 0 difference, 1 parallelogram,
+-- 4 constrained multi-parallelogram); and the byte that
 -- says whether its values are compressed (0 as they are, else in a symbol block)
 pub record AttrLayout : Type 0 where
   pub element : ℕ
@@ -120,14 +124,30 @@ traversal_of method.Seq = None
 traversal_of method.Eb = Some 0
 traversal_of method.Valence = Some 2
 
--- how an attribute is coded by a choice: a sequential stream has neither element type nor walk
-abbrev pub attr_chosen : Geometry → Choice → AttrLayout
-attr_chosen g choice = record {
-  element = 0;
-  walk = 0;
+-- a truth as a byte
+abbrev pub bit_of : Bool → ℕ
+bit_of b = if b then 1 else 0
+
+-- how an attribute of this element type and walk is coded by a choice
+abbrev pub attr_coded : Geometry → Choice → ℕ → ℕ → AttrLayout
+attr_coded g choice element walk = record {
+  element = element;
+  walk = walk;
   predict = prediction_of g choice;
   compressed = if choice.plain_values then 0 else 1;
 }
+
+-- how attribute k is coded by Edgebreaker: its values belong to corners where it has seams, and else may be walked by prediction degree
+abbrev pub attr_on_surface : Geometry → Choice → ℕ → AttrLayout
+attr_on_surface g choice k =
+    let d = decoded (mesh_in g) in
+    attr_coded g choice (bit_of (is_cornered d k)) (bit_of (is_by_degree (coding_of g choice) d k))
+
+-- how the attributes are coded by a choice: those of a sequential stream have neither element type nor walk
+abbrev pub attributes_chosen : Geometry → Choice → List AttrLayout
+attributes_chosen g choice =
+    if is_sequential (method_of g choice) then map (λ _. attr_coded g choice 0 0) (heads_in g)
+    else map (attr_on_surface g choice) (range_with_len 0 (length (heads_in g)))
 
 -- how a geometry is coded by a choice
 abbrev pub layout_chosen : Geometry → Choice → Layout
@@ -135,5 +155,5 @@ layout_chosen g choice = record {
   method = method_byte (method_of g choice);
   index = if is_mesh g && is_sequential (method_of g choice) then Some (if is_packed (index_of choice) then 0 else 1) else None;
   traversal = traversal_of (method_of g choice);
-  attributes = map (λ _. attr_chosen g choice) (heads_in g);
+  attributes = attributes_chosen g choice;
 }

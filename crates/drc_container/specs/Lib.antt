@@ -5,6 +5,8 @@ pub mod OnSurface
 pub mod Stream
 pub mod Choice
 pub mod Written
+pub mod WrittenOnSurface
+pub mod Chosen
 pub mod Refused
 pub mod Encoded
 pub mod Layout

@@ -1,30 +1,33 @@
 -- Which geometries and choices are refused, by the first of the tests that fails (this project's choice).
-use Rattle.std.specs.Prelude.{ℕ, ◌*◌, ◌==◌, ◌&&◌, ◌||◌, Bool, false, not, ℤ, List, [], ◌∷◌, length, Option, None, Some, position, is_none}
+use Rattle.std.specs.Prelude.{ℕ, ◌==◌, ◌&&◌, ◌||◌, Bool, false, not, ℤ, List, [], ◌∷◌, length, Option, None, Some, position, is_none}
 use Rattle.std.specs.Prelude.{nat_le, nat_lt, if◌then◌else◌}
 use Rattle.std.specs.Ordering.{int_eq}
 use Rattle.drc_base.specs.declared.faults.Fault.{Fault}
-use Rattle.drc_base.specs.declared.kinds.Kind.TheVariants.{Choice as ChoiceKind, Empty, NoPosition, NotYet, ValueLimit, Range}
-use Rattle.drc_base.specs.declared.limits.TheConstants.{MAX_VALUES}
+use Rattle.drc_base.specs.declared.kinds.Kind.TheVariants.{Choice as ChoiceKind, Empty, NoPosition, PointLimit, ValueLimit, Range}
+use Rattle.drc_base.specs.declared.limits.TheConstants.{MAX_POINTS, MAX_VALUES}
 use Rattle.mesh_model.specs.declared.heads.Head.{Head}
 use Rattle.mesh_model.specs.declared.geometries.Geometry.{Geometry}
-use Rattle.mesh_model.specs.Head.{width_of}
 use Rattle.mesh_model.specs.FirstFault.{unless, first_fault, at_place}
 use Rattle.mesh_model.specs.Contents.{is_mesh, heads_in, points_in, faces_in}
+use Rattle.mesh_model.specs.Parts.{MeshParts}
+use Rattle.pairing.specs.Degenerate.{degenerate_fault}
+use Rattle.pairing.specs.Pairing.{pairing}
+use Rattle.eb_trace.specs.Trace.{fan_count}
 use Rattle.attr_section.specs.declared.values.Values.{Values}
-use Rattle.attr_section.specs.Values.{no_prediction, can_wrap}
+use Rattle.attr_section.specs.Values.{no_prediction, can_wrap, values_in}
 use Rattle.attr_section.specs.Written.{range_of}
 use Rattle.drc_container.specs.declared.choices.Choice.{Choice}
 use Rattle.drc_container.specs.declared.choices.Predict.{Predict}
 use Rattle.drc_container.specs.Choice.{method_of, is_sequential, is_parallelogram, prediction_of}
-use Rattle.drc_container.specs.Written.{values_of}
+use Rattle.drc_container.specs.Chosen.{mesh_in, values_chosen}
 
--- whether a parallelogram is chosen
+-- whether a prediction by parallelograms is chosen
 abbrev pub chooses_parallelogram : Option Predict → Bool
 chooses_parallelogram None = false
 chooses_parallelogram (Some p) = is_parallelogram p
 
 -- a choice that doesn't fit: 0 a cloud whose method isn't sequential; 1 indices, but the geometry is no sequential mesh;
--- 2 a parallelogram, but the method is sequential; 3 a walk, but the method is sequential
+-- 2 a prediction by parallelograms, but the method is sequential; 3 a walk, but the method is sequential
 abbrev pub choice_fault : Geometry → Choice → Option Fault
 choice_fault g choice =
     let sequential = is_sequential (method_of g choice) in
@@ -49,26 +52,29 @@ begins_with_position (h ∷ heads) = h.usage == 0
 abbrev pub position_fault : Geometry → Choice → Option Fault
 position_fault g choice = unless (is_sequential (method_of g choice) || begins_with_position (heads_in g)) NoPosition 0
 
--- Edgebreaker isn't built yet
-abbrev pub unbuilt_fault : Geometry → Choice → Option Fault
-unbuilt_fault g choice = unless (is_sequential (method_of g choice)) NotYet 0
-
 -- the first fault that is found before memory is taken
 unfoldable pub early_fault : Geometry → Choice → Option Fault
 early_fault g choice = first_fault (
     choice_fault g choice
     ∷ empty_fault g choice
     ∷ position_fault g choice
-    ∷ unbuilt_fault g choice
     ∷ [])
 
--- how many values are coded: each point has a value for each component
-abbrev pub coded_values : Geometry → ℕ
-coded_values g = length (points_in g) * width_of (heads_in g)
+-- too many vertices of a mesh's surface: a point at which several parts of it meet counts once for each
+abbrev pub vertices_fault : MeshParts → Option Fault
+vertices_fault m =
+    let vertices = fan_count (length m.faces) (pairing m) in
+    unless (nat_le vertices MAX_POINTS) PointLimit vertices
+
+-- Edgebreaker takes no face with two corners at one position, and not too many vertices
+unfoldable pub surface_fault : Geometry → Choice → Option Fault
+surface_fault g choice =
+    if is_sequential (method_of g choice) then None
+    else first_fault (degenerate_fault (mesh_in g) ∷ vertices_fault (mesh_in g) ∷ [])
 
 -- too many coded values
-abbrev pub limit_fault : Geometry → Option Fault
-limit_fault g = unless (nat_le (coded_values g) MAX_VALUES) ValueLimit (coded_values g)
+abbrev pub limit_fault : List Values → Option Fault
+limit_fault values = unless (nat_le (values_in values) MAX_VALUES) ValueLimit (values_in values)
 
 -- the first attribute whose coded values lie too far apart to be predicted: the greatest is 2^31 - 1 or more above the least
 abbrev pub range_fault : ℤ → List Values → Option Fault
@@ -80,6 +86,7 @@ range_fault predict values =
 unfoldable pub refused : Geometry → Choice → Option Fault
 refused g choice = first_fault (
     early_fault g choice
-    ∷ limit_fault g
-    ∷ range_fault (prediction_of g choice) (values_of g (prediction_of g choice))
+    ∷ surface_fault g choice
+    ∷ limit_fault (values_chosen g choice)
+    ∷ range_fault (prediction_of g choice) (values_chosen g choice)
     ∷ [])

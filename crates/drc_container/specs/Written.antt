@@ -4,9 +4,6 @@ use Rattle.std.specs.Prelude.{ℕ, ℤ, Bool, false, List, [], ◌∷◌, ◌++�
 use Rattle.drc_bits.specs.Bits.{low_bytes}
 use Rattle.mesh_model.specs.declared.geometries.Geometry.{Geometry}
 use Rattle.mesh_model.specs.declared.geometries.Geometry.TheVariants.{Mesh, Cloud}
-use Rattle.mesh_model.specs.Same.{Rows}
-use Rattle.mesh_model.specs.Renumbering.{plain}
-use Rattle.mesh_model.specs.SameLaws.{count_of}
 use Rattle.mesh_model.specs.Contents.{is_mesh, heads_in, points_in}
 use Rattle.seq_section.specs.Indices.{indices_bytes}
 use Rattle.attr_section.specs.declared.decoder_heads.DecoderHead.{DecoderHead}
@@ -22,9 +19,9 @@ use Rattle.drc_container.specs.Choice.{prediction_of, index_of, is_packed}
 abbrev pub geometry_type : Geometry → ℕ
 geometry_type g = if is_mesh g then 1 else 0
 
--- the header: magic, version, geometry type, method 0 and no flags
-unfoldable pub header_bytes : Geometry → List ℕ
-header_bytes g = magic ++ (2 ∷ minor_of (geometry_type g) ∷ geometry_type g ∷ 0 ∷ 0 ∷ 0 ∷ [])
+-- the header: magic, version, geometry type, this method and no flags
+unfoldable pub header_bytes : ℕ → Geometry → List ℕ
+header_bytes method g = magic ++ (2 ∷ minor_of (geometry_type g) ∷ geometry_type g ∷ method ∷ 0 ∷ 0 ∷ [])
 
 -- the connectivity: the indices of a mesh, the number of points of a cloud
 abbrev pub connectivity_bytes : Bool → Geometry → List ℕ
@@ -47,12 +44,8 @@ attribute_heads_bytes g = heads_bytes false (decoder_of g ∷ [])
 unfoldable pub attributes_bytes : Bool → Geometry → ℤ → List ℕ
 attributes_bytes plain g predict = attribute_heads_bytes g ++ decoder_values_bytes plain None (heads_in g) (values_of g predict)
 
--- the stream
+-- the sequential stream
 unfoldable pub stream_bytes : Geometry → Choice → List ℕ
 stream_bytes g choice =
-    header_bytes g
+    header_bytes 0 g
     ++ (connectivity_bytes (is_packed (index_of choice)) g ++ attributes_bytes choice.plain_values g (prediction_of g choice))
-
--- what is written: the stream, and the rows by which its geometry is the one that was encoded, each face or point itself
-abbrev pub written : Geometry → Choice → List ℕ × Rows
-written g choice = (stream_bytes g choice, plain (count_of g))

@@ -20,6 +20,8 @@ pub enum Predict {
     Diff,
     /// By a parallelogram, under Edgebreaker alone.
     Para,
+    /// By the mean of several parallelograms, each of which may be left out, under Edgebreaker alone.
+    Multi,
 }
 
 /// The order in which Edgebreaker's entries are walked.
@@ -27,6 +29,8 @@ pub enum Predict {
 pub enum Walk {
     /// Depth first.
     Depth,
+    /// By prediction degree, where the entries are those of vertices; else depth first.
+    Degree,
 }
 
 /// What is chosen of an encoding. Where nothing is chosen the method is Edgebreaker with standard

@@ -55,7 +55,8 @@ pub fn predict_of(g: &Geometry, choice: &Choice) -> Predict
     }
 }
 
-/// The number of a prediction: -2 none, 0 difference, 1 parallelogram.
+/// The number of a prediction: -2 none, 0 difference, 1 parallelogram, 4 constrained
+/// multi-parallelogram.
 pub fn number_of_predict(predict: Predict) -> i8
     ensures { result ≡ number_of_predict predict }
 {
@@ -63,5 +64,6 @@ pub fn number_of_predict(predict: Predict) -> i8
         Predict::Off => -2,
         Predict::Diff => 0,
         Predict::Para => 1,
+        Predict::Multi => 4,
     }
 }

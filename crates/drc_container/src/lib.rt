@@ -9,6 +9,7 @@ mod attributes;
 mod choices;
 mod choosing;
 mod coded_values;
+mod codings;
 mod contents;
 mod decoding;
 mod edgebreaker;

@@ -7,7 +7,7 @@ ghost use Rattle.mesh_model.specs.Contents.{heads_in};
 ghost use Rattle.attr_section.specs.Values.{can_wrap};
 ghost use Rattle.attr_section.specs.Written.{range_of};
 ghost use Rattle.drc_container.specs.Choice.{number_of_predict};
-ghost use Rattle.drc_container.specs.Refused.{choice_fault, empty_fault, position_fault, unbuilt_fault, early_fault, begins_with_position, range_fault};
+ghost use Rattle.drc_container.specs.Refused.{choice_fault, empty_fault, position_fault, early_fault, begins_with_position, range_fault};
 
 use crate::choices::{Choice, Predict};
 use crate::choosing::is_sequential;
@@ -84,8 +84,7 @@ pub fn test_early(g: &Geometry, choice: &Choice) -> Result<(), Fault>
 {
     test_choice(g, choice)?;
     test_empty(g, choice)?;
-    test_position(g, choice)?;
-    unless(is_sequential(g, choice), Kind::NotYet, 0)
+    test_position(g, choice)
 }
 
 /// Whether corrections can wrap between these: the greatest is less than 2^31 - 1 above the least.
@@ -119,7 +118,7 @@ pub fn test_ranges(predict: Predict, values: &[Values]) -> Result<(), Fault>
 {
     match predict {
         Predict::Off => Ok(()),
-        Predict::Diff | Predict::Para => test_spans(values),
+        Predict::Diff | Predict::Para | Predict::Multi => test_spans(values),
     }
 }
 
