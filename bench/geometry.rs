@@ -89,12 +89,30 @@ fn matches(a: &Mesh, b: &Mesh, rows: &[(u32, u8)]) -> bool {
 
 /// A hash of a row.
 fn hash(row: &[i32]) -> u32 {
-    let hash = row.iter().fold(0, |hash: u32, value| (hash ^ *value as u32).wrapping_mul(0x9e37_79b1));
+    let hash = row.iter().fold(0, |hash: u32, value| {
+        (hash ^ (hash >> 16) ^ *value as u32).wrapping_mul(0x9e37_79b1)
+    });
     hash ^ (hash >> 15)
 }
 
+/// Of each corner the latest one before it with the same entry of the first table, where the entries of the other
+/// tables are the same too.
+fn earlier(tables: &[Table], corners: usize) -> Vec<u32> {
+    let (first, others) = tables.split_first().unwrap();
+    let mut latest = vec![NONE; first.values.len() / first.comps];
+    let mut earlier = Vec::with_capacity(corners);
+    for corner in 0..corners {
+        let kept = &mut latest[first.of_corner[corner] as usize];
+        let same = |table: &Table| table.of_corner[*kept as usize] == table.of_corner[corner];
+        earlier.push(if *kept != NONE && others.iter().all(same) { *kept } else { NONE });
+        *kept = corner as u32;
+    }
+    earlier
+}
+
 /// The distinct rows of the corners, in order of first occurrence, and each corner's number. The row of a corner
-/// has the entries of all tables. Rows are found by a hash, in lists of those with one hash.
+/// has the entries of all tables. A corner with the entries of an earlier one has its number; other rows are found
+/// by a hash, in lists of those with one hash.
 #[inline(never)]
 fn assemble(tables: &[Table], face_count: usize) -> Mesh {
     let width = tables.iter().map(|table| table.comps).sum();
@@ -102,30 +120,31 @@ fn assemble(tables: &[Table], face_count: usize) -> Mesh {
     let mask = heads.len() as u32 - 1;
     let mut nexts: Vec<u32> = Vec::new();
     let mut points: Vec<i32> = Vec::new();
-    let mut faces = Vec::with_capacity(face_count);
+    let mut numbers = earlier(tables, 3 * face_count);
     let mut row = Vec::with_capacity(width);
-    for f in 0..face_count {
-        let mut face = [0; 3];
-        for (k, point) in face.iter_mut().enumerate() {
-            row.clear();
-            for table in tables {
-                row.extend_from_slice(table.entry(3 * f + k));
-            }
-            let bucket = (hash(&row) & mask) as usize;
-            let mut at = heads[bucket];
-            while at != NONE && points[at as usize * width..][..width] != row {
-                at = nexts[at as usize];
-            }
-            if at == NONE {
-                at = nexts.len() as u32;
-                points.extend_from_slice(&row);
-                nexts.push(heads[bucket]);
-                heads[bucket] = at;
-            }
-            *point = at;
+    for corner in 0..3 * face_count {
+        if numbers[corner] != NONE {
+            numbers[corner] = numbers[numbers[corner] as usize];
+            continue;
         }
-        faces.push(face);
+        row.clear();
+        for table in tables {
+            row.extend_from_slice(table.entry(corner));
+        }
+        let bucket = (hash(&row) & mask) as usize;
+        let mut at = heads[bucket];
+        while at != NONE && points[at as usize * width..][..width] != row {
+            at = nexts[at as usize];
+        }
+        if at == NONE {
+            at = nexts.len() as u32;
+            points.extend_from_slice(&row);
+            nexts.push(heads[bucket]);
+            heads[bucket] = at;
+        }
+        numbers[corner] = at;
     }
+    let faces = numbers.chunks_exact(3).map(|face| [face[0], face[1], face[2]]).collect();
     Mesh { width, points, faces }
 }
 

@@ -1,5 +1,5 @@
 -- The data types and the width of the heads so far.
-use Rattle.std.proofs.Common.{◌≡◌, ℕ, ◌+◌, ◌-◌, ◌<◌, ◌≤◌, ◌*◌, leb, None, List, [], ◌∷◌, ◌++◌, length, get_or, take, drop, replicate, ap, ◌∙◌, sym, arith}
+use Rattle.std.proofs.Common.{◌≡◌, ℕ, ◌+◌, ◌-◌, ◌<◌, ◌≤◌, ◌*◌, leb, None, List, [], ◌∷◌, ◌++◌, length, get_or, take, drop, replicate, ap, ◌∙◌, sym, subst, arith}
 use Rattle.std.proofs.lemmas.List.{take_more, append-nil, length-take, length-drop}
 use Rattle.std.proofs.lemmas.List.Sums.{sum_by_more, sum_by-take-le, sum_by-cons}
 use Rattle.std.proofs.lemmas.List.Concat.{flat_map-append}
@@ -60,3 +60,20 @@ width_of-bounds heads e =
     let one = leb-true 1 (length heads) (unless-none _ NoAttribute (length heads) some.0) in
     let most = leb-true (length heads) 16 (unless-none _ AttrLimit (length heads) few.0) in
     (omega (arith, one, each.0), omega (arith, most, each.1))
+
+-- heads that pass are some
+pub heads_some : (heads : List Head) → heads_fault heads ≡ None → 0 < length heads
+unfolding heads_fault
+heads_some heads e =
+    omega (arith, leb-true 1 (length heads) (unless-none _ NoAttribute (length heads) (first_fault-none (unless (leb 1 (length heads)) NoAttribute (length heads)) _ e).0))
+
+-- the first of heads that pass has components
+pub first_comps : (heads : List Head) (h : Head) → heads_fault heads ≡ None → h ≡ get_or heads 0 h → 0 < h.comps
+unfolding heads_fault
+first_comps [] h e is = absurd (omega (arith, heads_some [] e))
+first_comps (g ∷ heads) h e is =
+    let some = first_fault-none (unless (leb 1 (length (g ∷ heads))) NoAttribute (length (g ∷ heads))) _ e in
+    let few = first_fault-none (unless (leb (length (g ∷ heads)) 16) AttrLimit (length (g ∷ heads))) _ some.1 in
+    let each = (first_fault-none _ _ few.1).0 in
+    let here = head_fault-comps 0 g (first_fault-none (head_fault 0 g) _ each).0 in
+    subst (λ (k : Head). 0 < k.comps) (sym is) (omega (arith, here.0))

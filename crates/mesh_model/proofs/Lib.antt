@@ -1,6 +1,7 @@
 pub mod Columns
 pub mod AssembledLaws
 pub mod AssembledParts
+pub mod CornerLinks
 pub mod CornerRows
 pub mod Counts
 pub mod DistinctRows

@@ -5,7 +5,7 @@ use Rattle.std.specs.Int.{w32, cast_unsigned}
 
 -- one more value
 unfoldable pub mixed : ℕ → ℤ → ℕ
-mixed hash value = (bit_xor hash (cast_unsigned w32 value) * 0x9e37_79b1) % 2 ^ 32
+mixed hash value = (bit_xor (bit_xor hash (hash / 2 ^ 16)) (cast_unsigned w32 value) * 0x9e37_79b1) % 2 ^ 32
 
 -- more values
 abbrev pub hash_from : ℕ → List ℤ → ℕ

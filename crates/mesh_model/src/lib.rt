@@ -13,6 +13,7 @@ mod data_types;
 mod geometries;
 mod heads;
 mod laws;
+mod links;
 mod mapping;
 mod matching;
 mod meshes;

@@ -8,12 +8,13 @@ use crate::row_rules::stored_row;
 use drc_base::Memory;
 use std::alloc::Global;
 
-/// A hash with one more value.
+/// A hash with one more value. The upper half goes into the lower half first, since a product keeps what its
+/// factors have in common at their lower ends.
 #[tactic(auto, unfolding(crate::specs::Hash::mixed))]
 fn mix(hash: u32, value: i32) -> u32
     ensures { result ≡ mixed hash value }
 {
-    (hash ^ value.cast_unsigned()).wrapping_mul(0x9e37_79b1)
+    (hash ^ (hash >> 16) ^ value.cast_unsigned()).wrapping_mul(0x9e37_79b1)
 }
 
 /// The hash of a row.

@@ -133,9 +133,10 @@ fn counts_equal_points_of_clouds(rt: HostRuntime) -> Result<(), Fail> {
     Ok(())
 }
 
-/// The square of two faces, with labels that part its third point.
+/// The square of two faces, with labels that part its third point, and its second face once more, with a fifth
+/// entry that equals the first and the label of the third point that it had at first.
 fn square_tables(alloc: Global) -> Result<(Vec<Head>, Vec<AttrTable>), AllocError>
-    ensures { IfOk result (λ p. AreTables p.0.items p.1.items 2) }
+    ensures { IfOk result (λ p. AreTables p.0.items p.1.items 3) }
 {
     let label = Head {
         usage: 4,
@@ -146,12 +147,12 @@ fn square_tables(alloc: Global) -> Result<(Vec<Head>, Vec<AttrTable>), AllocErro
         quant: None,
     };
     let places = AttrTable {
-        values: Sequence::from_vec(vec![in alloc; 0, 0, 0, 1, 0, 0, 1, 1, 0, 0, 1, 0]?),
-        of_corner: Sequence::from_vec(vec![in alloc; 0, 1, 2, 0, 2, 3]?),
+        values: Sequence::from_vec(vec![in alloc; 0, 0, 0, 1, 0, 0, 1, 1, 0, 0, 1, 0, 0, 0, 0]?),
+        of_corner: Sequence::from_vec(vec![in alloc; 0, 1, 2, 0, 2, 3, 4, 2, 3]?),
     };
     let labels = AttrTable {
         values: Sequence::from_vec(vec![in alloc; 7, 9]?),
-        of_corner: Sequence::from_vec(vec![in alloc; 0, 0, 0, 0, 1, 0]?),
+        of_corner: Sequence::from_vec(vec![in alloc; 0, 0, 0, 0, 1, 0, 0, 0, 0]?),
     };
     let heads = vec![in alloc; positions(5), label]?;
     let tables = vec![in alloc; places, labels]?;
@@ -162,10 +163,11 @@ fn square_tables(alloc: Global) -> Result<(Vec<Head>, Vec<AttrTable>), AllocErro
 fn merges_equal_rows_in_order_of_first_occurrence(rt: HostRuntime) -> Result<(), Fail> {
     let alloc = rt.alloc();
     let (heads, tables) = square_tables(alloc)?;
-    let m = assemble(alloc, heads, tables, 2)?;
-    assert_eq!(rt; m.face_count(), 2);
+    let m = assemble(alloc, heads, tables, 3)?;
+    assert_eq!(rt; m.face_count(), 3);
     assert_eq!(rt; m.face(0), [0, 1, 2]);
     assert_eq!(rt; m.face(1), [0, 3, 4]);
+    assert_eq!(rt; m.face(2), [0, 2, 4]);
     assert_eq!(rt; m.point_count(), 5);
     assert_eq!(rt; m.point(2), [1, 1, 0, 7].as_slice());
     assert_eq!(rt; m.point(3), [1, 1, 0, 9].as_slice());

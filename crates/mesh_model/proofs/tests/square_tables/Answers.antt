@@ -26,22 +26,22 @@ label = record { usage = 4; dtype = 2; comps = 1; normalized = 0; id = 1; quant 
 
 abbrev places : AttrTable
 places = record {
-  values = pos 0 ∷ pos 0 ∷ pos 0 ∷ pos 1 ∷ pos 0 ∷ pos 0 ∷ pos 1 ∷ pos 1 ∷ pos 0 ∷ pos 0 ∷ pos 1 ∷ pos 0 ∷ [];
-  of_corner = 0 ∷ 1 ∷ 2 ∷ 0 ∷ 2 ∷ 3 ∷ [];
+  values = pos 0 ∷ pos 0 ∷ pos 0 ∷ pos 1 ∷ pos 0 ∷ pos 0 ∷ pos 1 ∷ pos 1 ∷ pos 0 ∷ pos 0 ∷ pos 1 ∷ pos 0 ∷ pos 0 ∷ pos 0 ∷ pos 0 ∷ [];
+  of_corner = 0 ∷ 1 ∷ 2 ∷ 0 ∷ 2 ∷ 3 ∷ 4 ∷ 2 ∷ 3 ∷ [];
 }
 
 abbrev labels : AttrTable
-labels = record { values = pos 7 ∷ pos 9 ∷ []; of_corner = 0 ∷ 0 ∷ 0 ∷ 0 ∷ 1 ∷ 0 ∷ [] }
+labels = record { values = pos 7 ∷ pos 9 ∷ []; of_corner = 0 ∷ 0 ∷ 0 ∷ 0 ∷ 1 ∷ 0 ∷ 0 ∷ 0 ∷ 0 ∷ [] }
 
-square : AreTables (place ∷ label ∷ []) (places ∷ labels ∷ []) 2
+square : AreTables (place ∷ label ∷ []) (places ∷ labels ∷ []) 3
 unfolding heads_fault in_type
 square = record {
   heads_pass = refl;
   few_faces = lit≤ tt;
   columns = record {
     each_head = refl;
-    each_column = All-cons (IsColumn 6) (place, places) ((label, labels) ∷ []) (IsColumn-tested 6 place places refl refl refl)
-        (All-cons (IsColumn 6) (label, labels) [] (IsColumn-tested 6 label labels refl refl refl) (All-nil (IsColumn 6)));
+    each_column = All-cons (IsColumn 9) (place, places) ((label, labels) ∷ []) (IsColumn-tested 9 place places refl refl refl)
+        (All-cons (IsColumn 9) (label, labels) [] (IsColumn-tested 9 label labels refl refl refl) (All-nil (IsColumn 9)));
   };
 }
 
