@@ -70,7 +70,7 @@ fn connectivity(alloc: Global, g: &Geometry, packed: bool) -> Result<Vec<u8>, Me
 }
 
 /// Equal heads.
-fn copies_of(alloc: Global, heads: &[Head]) -> Result<Vec<Head>, Memory>
+pub fn copies_of(alloc: Global, heads: &[Head]) -> Result<Vec<Head>, Memory>
     ensures { IfOk result (λ v. v.items ≡ heads.now) }
 {
     let mut copies = Vec::new(alloc);
