@@ -37,7 +37,7 @@ said (Mesh m) = refl
 said (Cloud c) = refl
 
 -- the header
-pub header_spelled : (g : Geometry) → Spells header_at (header_bytes g) (written_form g)
+pub header_spelled : (g : Geometry) → Spells header_at (header_bytes 0 g) (written_form g)
 unfolding header_at header_bytes
 header_spelled g =
     Spells-then magic_at (λ _ c. number_at 1 c >>= λ major. number_at 1 major.1 >>= λ minor. number_at 1 minor.1 >>= λ geometry. number_at 1 geometry.1 >>= λ method. number_at 2 method.1 >>= λ flags. form_said major.0 minor.0 geometry.0 method.0 flags.0 >>= λ f. Ok (f, flags.1))

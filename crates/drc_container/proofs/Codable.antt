@@ -66,6 +66,24 @@ column-typed dtype comps (row ∷ rows) typed =
     ∙ and_from _ _ (All-head (λ (r : List ℤ). list_all (in_type dtype) (take comps r) ≡ true) row rows typed)
     (column-typed dtype comps rows (All-tail (λ (r : List ℤ). list_all (in_type dtype) (take comps r) ≡ true) row rows typed))
 
+-- columns have as many values as the rows have integers
+pub columns-total : (predict : ℤ) (heads : List Head) (rows : List (List ℤ)) → All (RowFits heads) rows
+    → values_in (valued predict (columns_of heads rows)) ≡ length rows * width_of heads
+columns-total predict [] rows fit = omega arith
+columns-total predict (h ∷ heads) rows fit =
+    let n = length rows in
+    let whole = width-cons h heads in
+    let column = flat_map (λ (row : List ℤ). take h.comps row) rows in
+    let v : Values = record { values = column; predict = predict; at = 0 } in
+    let others = map (λ (row : List ℤ). drop h.comps row) rows in
+    let same : length others ≡ n = length-map rows (λ (row : List ℤ). drop h.comps row) in
+    let len : length column ≡ n * h.comps = column-length h.comps rows (All-weaker (RowFits (h ∷ heads)) (λ row. h.comps ≤ length row) (λ row fits. omega (arith, whole, fits.0)) rows fit) in
+    let all : n * width_of (h ∷ heads) ≡ n * h.comps + n * width_of heads = ap (λ w. n * w) whole ∙ omega arith in
+    let rest : values_in (valued predict (columns_of heads others)) ≡ n * width_of heads =
+    columns-total predict heads others (All-map (RowFits heads) (λ row. drop h.comps row) rows (All-weaker (RowFits (h ∷ heads)) (λ row. RowFits heads (drop h.comps row)) (λ row fits. fits-rest h heads row fits) rows fit))
+    ∙ ap (λ k. k * width_of heads) same in
+    sum_by-cons (λ (x : Values). length x.values) v (valued predict (columns_of heads others)) ∙ omega (arith, len, all, rest)
+
 -- how the values of attributes are predicted
 abbrev pub ArePredicted : ℤ → List Values → Type 0
 ArePredicted predict values = (predict ≡ no_prediction) ⊎ ((predict ≡ pos 0) × All (λ v. CanWrap (range_of v.values)) values)

@@ -1,5 +1,5 @@
 -- Which fault a geometry is refused with, and what holds where there is none.
-use Rattle.std.proofs.Common.{◌≡◌, ◌⊎◌, ◌-◌, ◌^◌, ◌<◌, true, false, Bool, leb, ltb, ◌&&◌, List, [], ◌∷◌, length, Option, None, Some, Ok, Err, refl, sym, ◌∙◌, ap, subst, inl, inr, get_or, arith}
+use Rattle.std.proofs.Common.{◌≡◌, ◌⊎◌, ◌-◌, ◌*◌, ◌^◌, ◌<◌, ◌≤◌, true, false, Bool, leb, ltb, ◌&&◌, List, [], ◌∷◌, length, Option, None, Some, Ok, Err, refl, sym, ◌∙◌, ap, subst, inl, inr, get_or, arith}
 use Rattle.std.specs.Prelude.{ℤ, pos, ◌-ℤ◌, ◌||◌, not, position, is_none, int_le, int_lt, if◌then◌else◌}
 use Rattle.std.specs.List.{All}
 use Rattle.std.proofs.lemmas.Int.{ints}
@@ -8,18 +8,21 @@ use Rattle.std.proofs.lemmas.List.Elements.{All-from_get_or}
 use Rattle.drc_base.specs.declared.faults.Fault.{Fault}
 use Rattle.drc_base.specs.declared.faults.Refusal.{Refusal}
 use Rattle.drc_base.specs.declared.faults.Refusal.TheVariants as refusal
-use Rattle.drc_base.specs.declared.kinds.Kind.TheVariants.{Choice as ChoiceKind, Empty, NotYet, ValueLimit, Range}
+use Rattle.drc_base.specs.declared.kinds.Kind.TheVariants.{Choice as ChoiceKind, Empty, ValueLimit, Range}
 use Rattle.drc_base.specs.declared.limits.TheConstants.{MAX_VALUES}
 use Rattle.drc_base.specs.Refusals.{Refuses}
 use Rattle.mesh_model.specs.declared.geometries.Geometry.{Geometry}
+use Rattle.mesh_model.specs.Head.{width_of}
 use Rattle.mesh_model.specs.Parts.{ArePoints}
+use Rattle.mesh_model.specs.Renumbering.{plain}
+use Rattle.mesh_model.specs.SameLaws.{count_of}
 use Rattle.mesh_model.specs.FirstFault.{unless, first_fault, value_unless}
 use Rattle.mesh_model.specs.Contents.{is_mesh, heads_in, points_in, faces_in}
 use Rattle.mesh_model.proofs.FirstFaults.{unless-none, unless-true, at_place-none, first_fault-none}
 use Rattle.mesh_model.proofs.Places.{position-none_back}
 use Rattle.predict.specs.Wrap.{Range as WrapRange, CanWrap}
 use Rattle.attr_section.specs.declared.values.Values.{Values}
-use Rattle.attr_section.specs.Values.{no_prediction, can_wrap}
+use Rattle.attr_section.specs.Values.{no_prediction, can_wrap, values_in}
 use Rattle.attr_section.specs.Written.{range_of}
 use Rattle.drc_container.specs.declared.methods.Method.{Method}
 use Rattle.drc_container.specs.declared.methods.Method.TheVariants as method
@@ -27,9 +30,11 @@ use Rattle.drc_container.specs.declared.choices.Predict.{Predict}
 use Rattle.drc_container.specs.declared.choices.Predict.TheVariants as predict
 use Rattle.drc_container.specs.declared.choices.Choice.{Choice}
 use Rattle.drc_container.specs.Choice.{method_of, is_sequential, prediction_of}
-use Rattle.drc_container.specs.Refused.{chooses_parallelogram, choice_fault, empty_fault, position_fault, unbuilt_fault, early_fault, coded_values, limit_fault, range_fault, refused}
-use Rattle.drc_container.specs.Written.{values_of}
-use Rattle.drc_container.specs.Encoded.{CanCode}
+use Rattle.drc_container.specs.Refused.{chooses_parallelogram, choice_fault, empty_fault, position_fault, early_fault, surface_fault, limit_fault, range_fault, refused}
+use Rattle.drc_container.specs.Written.{values_of, stream_bytes}
+use Rattle.drc_container.specs.Chosen.{values_chosen}
+use Rattle.drc_container.specs.Encoded.{due, CanCode}
+use Rattle.drc_container.proofs.Codable.{columns-total}
 
 -- the first of a fault and others
 first_fault-some : (t : Option Fault) (f : Fault) (ts : List (Option Fault)) → t ≡ Some f → first_fault (t ∷ ts) ≡ Some f
@@ -45,18 +50,33 @@ unfolding refused
 refused-early g choice f is = first_fault-some (early_fault g choice) f _ is
 
 -- a geometry has no more values than may be coded
-limit-none : (g : Geometry) → ArePoints (heads_in g) (points_in g) → limit_fault g ≡ None
-limit-none g are = unless-true (leb (coded_values g) MAX_VALUES) ValueLimit (coded_values g) (le-leb (coded_values g) MAX_VALUES are.few_values)
+limit-none : (g : Geometry) (predict : ℤ) → ArePoints (heads_in g) (points_in g) → limit_fault (values_of g predict) ≡ None
+limit-none g predict are =
+    let n = values_in (values_of g predict) in
+    let total : n ≡ length (points_in g) * width_of (heads_in g) = columns-total predict (heads_in g) (points_in g) are.rows_fit in
+    unless-true (leb n MAX_VALUES) ValueLimit n (le-leb n MAX_VALUES (subst (λ k. k ≤ MAX_VALUES) (sym total) are.few_values))
 
--- where there is no early fault, the values alone can be refused
+-- the sequential method codes the values of the points, and takes every surface
+values-in_order : (g : Geometry) (choice : Choice) → is_sequential (method_of g choice) ≡ true → values_chosen g choice ≡ values_of g (prediction_of g choice)
+unfolding values_chosen
+values-in_order g choice on = rw on refl
+
+surface-none : (g : Geometry) (choice : Choice) → is_sequential (method_of g choice) ≡ true → surface_fault g choice ≡ None
+unfolding surface_fault
+surface-none g choice on = rw on refl
+
+-- where there is no early fault, the values alone can be refused by the sequential method
 pub refused-later : (g : Geometry) (choice : Choice) → ArePoints (heads_in g) (points_in g) → early_fault g choice ≡ None
-    → refused g choice ≡ range_fault (prediction_of g choice) (values_of g (prediction_of g choice))
+    → is_sequential (method_of g choice) ≡ true → refused g choice ≡ range_fault (prediction_of g choice) (values_of g (prediction_of g choice))
 unfolding refused
-refused-later g choice are none =
-    let r = range_fault (prediction_of g choice) (values_of g (prediction_of g choice)) in
-    ap (λ x. first_fault (x ∷ limit_fault g ∷ r ∷ [])) none
-    ∙ ap (λ x. first_fault (x ∷ r ∷ [])) (limit-none g are)
-    ∙ first_fault-one r
+refused-later g choice are none on =
+    let predict = prediction_of g choice in
+    let vs = values_of g predict in
+    ap (λ x. first_fault (x ∷ surface_fault g choice ∷ limit_fault (values_chosen g choice) ∷ range_fault predict (values_chosen g choice) ∷ [])) none
+    ∙ ap (λ x. first_fault (x ∷ limit_fault (values_chosen g choice) ∷ range_fault predict (values_chosen g choice) ∷ [])) (surface-none g choice on)
+    ∙ ap (λ values. first_fault (limit_fault values ∷ range_fault predict values ∷ [])) (values-in_order g choice on)
+    ∙ ap (λ x. first_fault (x ∷ range_fault predict vs ∷ [])) (limit-none g predict are)
+    ∙ first_fault-one (range_fault predict vs)
 
 -- a refusal doesn't depend on the value that isn't given
 pub refuses-alike : {A B : Type 0} (r : Option Fault) (a : A) (b : B) (e : Refusal) → Refuses (value_unless r a) e → Refuses (value_unless r b) e
@@ -74,21 +94,18 @@ sequential-is method.Seq is = refl
 sequential-is method.Eb is = cc
 sequential-is method.Valence is = cc
 
--- the tests of a sequential encoding
-record EarlyPasses (g : Geometry) (choice : Choice) : Type 0 where
-  pub sequential : method_of g choice ≡ method.Seq
-  pub some : 0 < length (points_in g)
-  pub no_parallelogram : chooses_parallelogram choice.predict ≡ false
+-- the tests of an encoding
+pub record EarlyPasses (g : Geometry) (choice : Choice) : Type 0 where
+  pub mesh : (is_mesh g || is_sequential (method_of g choice)) ≡ true
+  pub some : 0 < (if is_sequential (method_of g choice) then length (points_in g) else length (faces_in g))
+  pub no_parallelogram : not (chooses_parallelogram choice.predict && is_sequential (method_of g choice)) ≡ true
 
-early_passes : (g : Geometry) (choice : Choice) → early_fault g choice ≡ None → EarlyPasses g choice
+pub early_passes : (g : Geometry) (choice : Choice) → early_fault g choice ≡ None → EarlyPasses g choice
 unfolding early_fault
 early_passes g choice e =
     let s = is_sequential (method_of g choice) in
-    let a = first_fault-none (choice_fault g choice) (empty_fault g choice ∷ position_fault g choice ∷ unbuilt_fault g choice ∷ []) e in
-    let b = first_fault-none (empty_fault g choice) (position_fault g choice ∷ unbuilt_fault g choice ∷ []) a.1 in
-    let d = first_fault-none (position_fault g choice) (unbuilt_fault g choice ∷ []) b.1 in
-    let u = first_fault-none (unbuilt_fault g choice) [] d.1 in
-    let is : s ≡ true = unless-none s NotYet 0 u.0 in
+    let a = first_fault-none (choice_fault g choice) (empty_fault g choice ∷ position_fault g choice ∷ []) e in
+    let b = first_fault-none (empty_fault g choice) (position_fault g choice ∷ []) a.1 in
     let t0 = unless (is_mesh g || s) ChoiceKind 0 in
     let t1 = unless (is_none choice.index || (is_mesh g && s)) ChoiceKind 1 in
     let t2 = unless (not (chooses_parallelogram choice.predict && s)) ChoiceKind 2 in
@@ -96,19 +113,21 @@ early_passes g choice e =
     let c0 = first_fault-none t0 (t1 ∷ t2 ∷ t3 ∷ []) a.0 in
     let c1 = first_fault-none t1 (t2 ∷ t3 ∷ []) c0.1 in
     let c2 = first_fault-none t2 (t3 ∷ []) c1.1 in
-    let no : not (chooses_parallelogram choice.predict && s) ≡ true = unless-none (not (chooses_parallelogram choice.predict && s)) ChoiceKind 2 c2.0 in
     let counted = if s then length (points_in g) else length (faces_in g) in
-    let some : 0 < counted = ltb-true 0 counted (unless-none (ltb 0 counted) Empty 0 b.0) in
     record {
-      sequential = sequential-is (method_of g choice) is;
-      some = rw is at some;
-      no_parallelogram = neither (chooses_parallelogram choice.predict) s no is;
+      mesh = unless-none (is_mesh g || s) ChoiceKind 0 c0.0;
+      some = ltb-true 0 counted (unless-none (ltb 0 counted) Empty 0 b.0);
+      no_parallelogram = unless-none (not (chooses_parallelogram choice.predict && s)) ChoiceKind 2 c2.0;
     }
-  where
-    neither : (a b : Bool) → not (a && b) ≡ true → b ≡ true → a ≡ false
-    neither true true kept is = cc
-    neither true false kept is = cc
-    neither false b kept is = refl
+
+-- a geometry without an early fault that isn't encoded by Edgebreaker is encoded by the sequential method: a cloud
+pub cloud-sequential : (g : Geometry) (choice : Choice) → early_fault g choice ≡ None → is_mesh g ≡ false → is_sequential (method_of g choice) ≡ true
+cloud-sequential g choice early cloud = ap (λ b. b || is_sequential (method_of g choice)) (sym cloud) ∙ (early_passes g choice early).mesh
+
+-- what is due of a geometry that is encoded by the sequential method
+pub due-in_order : (g : Geometry) (choice : Choice) → is_sequential (method_of g choice) ≡ true
+    → due g choice ≡ value_unless (refused g choice) (stream_bytes g choice, plain (count_of g))
+due-in_order g choice on = rw on refl
 
 -- without a parallelogram the prediction is none or difference
 prediction-is : (g : Geometry) (choice : Choice) → method_of g choice ≡ method.Seq → chooses_parallelogram choice.predict ≡ false
@@ -120,6 +139,7 @@ prediction-is g choice sequential none = go choice.predict refl none
     go (Some predict.Off) is none = inl (rw is refl)
     go (Some predict.Diff) is none = inr (rw is refl)
     go (Some predict.Para) is none = cc
+    go (Some predict.Multi) is none = cc
 
 can_wraps : (r : WrapRange) → can_wrap r ≡ true → CanWrap r
 can_wraps r is =
@@ -136,28 +156,34 @@ wraps values e =
     (not-false (can_wrap (range_of (get_or values i d).values)) (position-none_back test values (at_place-none Range (position test values) e) i d below)))
 
 -- a geometry that isn't refused can be coded
-pub can-code : (g : Geometry) (choice : Choice) → early_fault g choice ≡ None
+pub can-code : (g : Geometry) (choice : Choice) → early_fault g choice ≡ None → is_sequential (method_of g choice) ≡ true
     → range_fault (prediction_of g choice) (values_of g (prediction_of g choice)) ≡ None → CanCode g choice
-can-code g choice early none =
+can-code g choice early on none =
     let p = early_passes g choice early in
+    let sequential = sequential-is (method_of g choice) on in
     record {
-      sequential = p.sequential;
-      some = p.some;
-      predicted = elim (prediction-is g choice p.sequential p.no_parallelogram) [
+      sequential = sequential;
+      some = subst (λ b. 0 < (if b then length (points_in g) else length (faces_in g))) on p.some;
+      predicted = elim (prediction-is g choice sequential (neither (chooses_parallelogram choice.predict) (is_sequential (method_of g choice)) p.no_parallelogram on)) [
         | inl off ↦ inl off
-        | inr on ↦ inr (on, wraps (values_of g (prediction_of g choice)) (subst (λ q. range_fault q (values_of g (prediction_of g choice)) ≡ None) on none))
+        | inr by ↦ inr (by, wraps (values_of g (prediction_of g choice)) (subst (λ q. range_fault q (values_of g (prediction_of g choice)) ≡ None) by none))
       ];
     }
+  where
+    neither : (a b : Bool) → not (a && b) ≡ true → b ≡ true → a ≡ false
+    neither true true kept is = cc
+    neither true false kept is = cc
+    neither false b kept is = refl
 
 -- values with a fault of range are refused
 pub later-refuses : (g : Geometry) (choice : Choice) (p : ℤ) (values : List Values) (f : Fault) → ArePoints (heads_in g) (points_in g) → early_fault g choice ≡ None
-    → p ≡ prediction_of g choice → values ≡ values_of g p → range_fault p values ≡ Some f
+    → is_sequential (method_of g choice) ≡ true → p ≡ prediction_of g choice → values ≡ values_of g p → range_fault p values ≡ Some f
     → value_unless (refused g choice) (values_of g (prediction_of g choice)) ≡ Err f
-later-refuses g choice p values f are early is_p is_values fault =
+later-refuses g choice p values f are early on is_p is_values fault =
     let own : List Values = values_of g (prediction_of g choice) in
     let same : range_fault (prediction_of g choice) own ≡ Some f =
     sym (ap (λ q. range_fault q (values_of g q)) is_p) ∙ sym (ap (range_fault p) is_values) ∙ fault in
-    ap (λ r. value_unless r own) (refused-later g choice are early ∙ same)
+    ap (λ r. value_unless r own) (refused-later g choice are early on ∙ same)
 
 none-there : (g : Geometry) (choice : Choice) (p : ℤ) (values : List Values) → p ≡ prediction_of g choice → values ≡ values_of g p → range_fault p values ≡ None
     → range_fault (prediction_of g choice) (values_of g (prediction_of g choice)) ≡ None
@@ -166,14 +192,14 @@ none-there g choice p values is_p is_values none =
 
 -- other values are given
 pub later-gives : (g : Geometry) (choice : Choice) (p : ℤ) (values : List Values) → ArePoints (heads_in g) (points_in g) → early_fault g choice ≡ None
-    → p ≡ prediction_of g choice → values ≡ values_of g p → range_fault p values ≡ None
+    → is_sequential (method_of g choice) ≡ true → p ≡ prediction_of g choice → values ≡ values_of g p → range_fault p values ≡ None
     → value_unless (refused g choice) (values_of g (prediction_of g choice)) ≡ Ok values
-later-gives g choice p values are early is_p is_values none =
+later-gives g choice p values are early on is_p is_values none =
     let own : List Values = values_of g (prediction_of g choice) in
-    ap (λ r. value_unless r own) (refused-later g choice are early ∙ none-there g choice p values is_p is_values none)
+    ap (λ r. value_unless r own) (refused-later g choice are early on ∙ none-there g choice p values is_p is_values none)
     ∙ ap Ok (sym (is_values ∙ ap (values_of g) is_p))
 
 -- and their geometry can be coded
-pub later-can : (g : Geometry) (choice : Choice) (p : ℤ) (values : List Values) → early_fault g choice ≡ None
+pub later-can : (g : Geometry) (choice : Choice) (p : ℤ) (values : List Values) → early_fault g choice ≡ None → is_sequential (method_of g choice) ≡ true
     → p ≡ prediction_of g choice → values ≡ values_of g p → range_fault p values ≡ None → CanCode g choice
-later-can g choice p values early is_p is_values none = can-code g choice early (none-there g choice p values is_p is_values none)
+later-can g choice p values early on is_p is_values none = can-code g choice early on (none-there g choice p values is_p is_values none)

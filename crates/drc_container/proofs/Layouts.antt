@@ -33,7 +33,7 @@ use Rattle.drc_container.specs.Choice.{method_of, prediction_of, index_of, is_pa
 use Rattle.drc_container.specs.Meaning.{attrs_seen}
 use Rattle.drc_container.specs.Written.{header_bytes, connectivity_bytes, decoder_of, attribute_heads_bytes, attributes_bytes, values_of, stream_bytes}
 use Rattle.drc_container.specs.Encoded.{CanCode, ConnectivitySpelled, AttributesSpelled}
-use Rattle.drc_container.specs.Layout.{AttrLayout, Layout, attr_layouts, links_of, attr_data_of, links_layout, traversal_layout, traversal_of, index_layout, opening_method, layout_seen, layout_of, method_byte, layout_chosen}
+use Rattle.drc_container.specs.Layout.{AttrLayout, Layout, attr_layouts, links_of, attr_data_of, links_layout, traversal_layout, traversal_of, index_layout, opening_method, layout_seen, layout_of, method_byte, attr_coded, attributes_chosen, layout_chosen}
 use Rattle.drc_container.proofs.Meanings.{connectivity_place, attributes_place, seen_written, stream-written}
 
 -- whether values are compressed, as a byte
@@ -127,11 +127,11 @@ index-mesh m packed place rest is =
 
 -- the parts of the bytes of a written stream
 parts : (g : Geometry) (choice : Choice)
-    → stream_bytes g choice ≡ (header_bytes g ++ (connectivity_bytes (is_packed (index_of choice)) g ++ attribute_heads_bytes g))
+    → stream_bytes g choice ≡ (header_bytes 0 g ++ (connectivity_bytes (is_packed (index_of choice)) g ++ attribute_heads_bytes g))
     ++ (columns_bytes choice.plain_values None (heads_in g) (values_of g (prediction_of g choice)) ++ quants_bytes (heads_in g))
 unfolding stream_bytes attributes_bytes decoder_values_bytes
 parts g choice =
-    let h = header_bytes g in
+    let h = header_bytes 0 g in
     let c = connectivity_bytes (is_packed (index_of choice)) g in
     let a = attribute_heads_bytes g in
     let v = columns_bytes choice.plain_values None (heads_in g) (values_of g (prediction_of g choice)) ++ quants_bytes (heads_in g) in
@@ -156,10 +156,14 @@ index-chosen (Cloud c) choice sequential = refl
 predicted-of : (g : Geometry) (choice : Choice) → CanCode g choice → IsPredicted (prediction_of g choice)
 predicted-of g choice can = elim can.predicted [ inl off ↦ inl off | inr on ↦ inr on.0 ]
 
+-- how the attributes are coded by the sequential method
+attributes-in_order : (g : Geometry) (choice : Choice) → method_of g choice ≡ method.Seq → attributes_chosen g choice ≡ map (λ _. attr_coded g choice 0 0) (heads_in g)
+attributes-in_order g choice sequential = rw sequential refl
+
 attributes-written : (g : Geometry) (choice : Choice) → CanCode g choice → length (values_of g (prediction_of g choice)) ≡ length (heads_in g)
     → attr_layouts (stream_bytes g choice) (replicate (length (heads_in g)) unlinked) (seen_written g choice).attrs ≡ (layout_chosen g choice).attributes
 attributes-written g choice can same =
-    let h = header_bytes g in
+    let h = header_bytes 0 g in
     let c = connectivity_bytes (is_packed (index_of choice)) g in
     let a = attribute_heads_bytes g in
     let columns = columns_of (heads_in g) (points_in g) in
@@ -167,6 +171,7 @@ attributes-written g choice can same =
     (prediction_of g choice) (heads_in g) columns (predicted-of g choice can)
     (sym (length-map columns (λ column. let v : Values = record { values = column; predict = prediction_of g choice; at = 0 } in v)) ∙ same)
     (omega (arith, length-append h (c ++ a), length-append c a)) (parts g choice)
+    ∙ sym (attributes-in_order g choice can.sequential)
 
 traversal-written : (g : Geometry) (choice : Choice) (place : ℕ) → traversal_layout (stream_bytes g choice) place ≡ None
 unfolding stream_bytes header_bytes
@@ -191,7 +196,7 @@ no-data g choice = refl
 links-written : (g : Geometry) (choice : Choice) → AttributesSpelled choice.plain_values g (prediction_of g choice)
     → links_layout (stream_bytes g choice) (connectivity_place g + (attributes_place g choice - connectivity_place g)) ≡ replicate (length (heads_in g)) unlinked
 links-written g choice attributes =
-    let h = header_bytes g in
+    let h = header_bytes 0 g in
     let c = connectivity_bytes (is_packed (index_of choice)) g in
     let a = attribute_heads_bytes g in
     let v = columns_bytes choice.plain_values None (heads_in g) (values_of g (prediction_of g choice)) ++ quants_bytes (heads_in g) in

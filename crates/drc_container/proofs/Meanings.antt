@@ -1,6 +1,6 @@
 -- A written stream means the geometry that was written.
 use Rattle.drc_base.specs.Profile.{profile_two}
-use Rattle.std.proofs.Common.{◌≡◌, ℕ, ◌+◌, List, [], ◌∷◌, ◌++◌, map, length, None, Ok, refl, sym, ◌∙◌, ap, arith, append-nil, length-append}
+use Rattle.std.proofs.Common.{◌≡◌, ℕ, ◌+◌, List, [], ◌∷◌, ◌++◌, map, length, None, Ok, refl, sym, ◌∙◌, ap, subst, arith, append-nil, length-append}
 use Rattle.std.specs.Prelude.{ℤ, Bool}
 use Rattle.std.specs.List.{All}
 use Rattle.drc_base.specs.Steps.{◌>>=◌}
@@ -21,11 +21,12 @@ use Rattle.attr_section.specs.Written.{placed, values_bytes}
 use Rattle.drc_container.specs.declared.choices.Choice.{Choice}
 use Rattle.drc_container.specs.declared.seen.Seen.{Seen}
 use Rattle.drc_container.specs.Columns.{columns_of, cells_at}
-use Rattle.drc_container.specs.Choice.{prediction_of, index_of, is_packed}
+use Rattle.drc_container.specs.declared.methods.Method.TheVariants as method
+use Rattle.drc_container.specs.Choice.{method_of, is_sequential, prediction_of, index_of, is_packed}
 use Rattle.drc_container.specs.Stream.{stream, stream_in, body_at, mesh_at, mesh_behind, cloud_at, cloud_behind, attributes_at, points_of}
 use Rattle.drc_container.specs.Meaning.{Meaning, seen_of}
 use Rattle.drc_container.specs.Written.{header_bytes, connectivity_bytes, attributes_bytes, attribute_heads_bytes, values_of, stream_bytes}
-use Rattle.drc_container.specs.Encoded.{ConnectivitySpelled, AttributesSpelled, attributes_again, Means}
+use Rattle.drc_container.specs.Encoded.{ConnectivitySpelled, AttributesSpelled, attributes_again, KeepsBeside, Means}
 use Rattle.drc_container.proofs.Columns.{AreWide, cells_at-columns_of}
 use Rattle.drc_container.proofs.Extracted.{valued}
 use Rattle.drc_container.proofs.Again.{written_form, header_spelled}
@@ -58,7 +59,7 @@ cells-again plain place predict heads points fit same =
 
 -- where connectivity and attributes of a written stream begin, and where it ends
 abbrev pub connectivity_place : Geometry → ℕ
-connectivity_place g = 0 + length (header_bytes g)
+connectivity_place g = 0 + length (header_bytes 0 g)
 
 abbrev pub attributes_place : Geometry → Choice → ℕ
 attributes_place g choice = connectivity_place g + length (connectivity_bytes (is_packed (index_of choice)) g)
@@ -140,18 +141,18 @@ stream-written g choice is connectivity attributes same =
 length-written : (g : Geometry) (choice : Choice) → end_place g choice ≡ length (stream_bytes g choice)
 unfolding stream_bytes
 length-written g choice =
-    let h = header_bytes g in
+    let h = header_bytes 0 g in
     let c = connectivity_bytes (is_packed (index_of choice)) g in
     let a = attributes_bytes choice.plain_values g (prediction_of g choice) in
     omega (arith, length-append h (c ++ a), length-append c a)
 
-pub means : (g : Geometry) (choice : Choice) → IsGeometry g → ConnectivitySpelled (is_packed (index_of choice)) g
+pub means : (g : Geometry) (choice : Choice) → method_of g choice ≡ method.Seq → IsGeometry g → ConnectivitySpelled (is_packed (index_of choice)) g
     → AttributesSpelled choice.plain_values g (prediction_of g choice) → length (values_of g (prediction_of g choice)) ≡ length (heads_in g)
-    → Means g (stream_bytes g choice) (plain_rows (count_of g))
-means g choice is connectivity attributes same = record {
+    → Means g choice (stream_bytes g choice) (plain_rows (count_of g))
+means g choice sequential is connectivity attributes same = record {
   decoded = decoded_written g choice;
   stream_is = stream-written g choice is connectivity attributes same;
   same = same-refl g;
-  points = refl;
+  beside = subst (λ m. KeepsBeside (is_sequential m) g (decoded_written g choice) (plain_rows (count_of g))) (sym sequential) (refl, refl);
   whole = length-written g choice;
 }

@@ -55,6 +55,18 @@ repeated = Mesh (record {
   faces = (0 ∷ 0 ∷ 1 ∷ []) ∷ [];
 })
 
+-- a triangle of which no position is told
+abbrev without_position : Geometry
+without_position = Mesh (record {
+  heads = record { usage = 2; dtype = 5; comps = 3; normalized = 0; id = 0; quant = None } ∷ [];
+  points = point (pos 0) (pos 0) (pos 0) ∷ [];
+  faces = (0 ∷ 0 ∷ 0 ∷ []) ∷ [];
+})
+
+-- a point, and no faces
+abbrev without_faces : Geometry
+without_faces = Mesh (record { heads = position ∷ []; points = point (pos 0) (pos 0) (pos 0) ∷ []; faces = [] })
+
 -- three points, two of which are equal
 abbrev cloud : Geometry
 cloud = Cloud (record {
@@ -132,10 +144,32 @@ empty_cloud : early_fault no_points (chosen None None None None) ≡ Some (recor
 unfolding early_fault
 empty_cloud = refl
 
--- a mesh of which no method is chosen
-mesh_by_default : early_fault triangle (chosen None None None None) ≡ Some (record { kind = kind.NotYet; at = 0 })
+cloud_by_parallelograms : early_fault cloud (chosen None None (Some predict.Multi) None) ≡ Some (record { kind = kind.Choice; at = 2 })
+unfolding early_fault
+cloud_by_parallelograms = refl
+
+-- a mesh of which no method is chosen has no early fault, whatever is chosen of its prediction and its walk
+mesh_by_default : early_fault triangle (chosen None None None None) ≡ None
 unfolding early_fault
 mesh_by_default = refl
+
+mesh_by_parallelograms : early_fault triangle (chosen (Some method.Valence) None (Some predict.Multi) (Some walk.Degree)) ≡ None
+unfolding early_fault
+mesh_by_parallelograms = refl
+
+-- indices of a mesh that isn't sequential
+mesh_of_indices : early_fault triangle (chosen None (Some indexed.Plain) None None) ≡ Some (record { kind = kind.Choice; at = 1 })
+unfolding early_fault
+mesh_of_indices = refl
+
+-- a mesh without positions, and one of no faces
+coloured : early_fault without_position (chosen None None None None) ≡ Some (record { kind = kind.NoPosition; at = 0 })
+unfolding early_fault
+coloured = refl
+
+no_faces : early_fault without_faces (chosen None None None None) ≡ Some (record { kind = kind.Empty; at = 0 })
+unfolding early_fault
+no_faces = refl
 
 abbrev column : List ℤ → Values
 column values = record { values = values; predict = pos 0; at = 0 }

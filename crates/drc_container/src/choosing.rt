@@ -1,9 +1,11 @@
 //! What a choice says of an encoding.
 
 ghost use Rattle.std.specs.Prelude.{◌≡◌};
-ghost use Rattle.drc_container.specs.Choice.{method_of, is_sequential, index_of, is_packed, predict_of, number_of_predict};
+ghost use Rattle.drc_container.specs.Choice.{method_of, is_sequential, is_valence, is_degree, index_of, is_packed, predict_of, number_of_predict};
+ghost use Rattle.drc_container.specs.Chosen.{coding_of};
 
-use crate::choices::{Choice, Index, Predict};
+use crate::choices::{Choice, Index, Predict, Walk};
+use crate::codings::Coding;
 use crate::contents::is_mesh;
 use crate::methods::Method;
 use mesh_model::Geometry;
@@ -26,6 +28,26 @@ pub fn is_sequential(g: &Geometry, choice: &Choice) -> bool
     match method_of(g, choice) {
         Method::Seq => true,
         Method::Eb | Method::Valence => false,
+    }
+}
+
+/// Whether symbols are coded by valence.
+fn is_valence(g: &Geometry, choice: &Choice) -> bool
+    ensures { result ≡ is_valence (method_of g.now choice.now) }
+{
+    match method_of(g, choice) {
+        Method::Seq | Method::Eb => false,
+        Method::Valence => true,
+    }
+}
+
+/// Whether entries of vertices are walked by prediction degree.
+fn is_degree(choice: &Choice) -> bool
+    ensures { result ≡ is_degree choice.now.walk }
+{
+    match choice.walk {
+        None | Some(Walk::Depth) => false,
+        Some(Walk::Degree) => true,
     }
 }
 
@@ -65,5 +87,17 @@ pub fn number_of_predict(predict: Predict) -> i8
         Predict::Diff => 0,
         Predict::Para => 1,
         Predict::Multi => 4,
+    }
+}
+
+/// How a geometry is coded by Edgebreaker.
+pub fn coding_of(g: &Geometry, choice: &Choice) -> Coding
+    ensures { result ≡ coding_of g.now choice.now }
+{
+    Coding {
+        valence: is_valence(g, choice),
+        degree: is_degree(choice),
+        predict: number_of_predict(predict_of(g, choice)),
+        plain: choice.plain_values,
     }
 }

@@ -24,6 +24,9 @@ mod placing;
 mod points;
 mod refusals;
 mod seen;
+mod surface_encoding;
+#[cfg(test)]
+mod surface_encoding_tests;
 mod walking;
 mod writing;
 
@@ -36,3 +39,5 @@ pub use seen::{AttrSeen, Decoded, Seen};
 
 #[cfg(test)]
 mod tests;
+#[cfg(test)]
+mod worked_meshes;

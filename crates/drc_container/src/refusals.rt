@@ -7,7 +7,7 @@ ghost use Rattle.mesh_model.specs.Contents.{heads_in};
 ghost use Rattle.attr_section.specs.Values.{can_wrap};
 ghost use Rattle.attr_section.specs.Written.{range_of};
 ghost use Rattle.drc_container.specs.Choice.{number_of_predict};
-ghost use Rattle.drc_container.specs.Refused.{choice_fault, empty_fault, position_fault, early_fault, begins_with_position, range_fault};
+ghost use Rattle.drc_container.specs.Refused.{choice_fault, empty_fault, position_fault, early_fault, chooses_parallelogram, begins_with_position, range_fault};
 
 use crate::choices::{Choice, Predict};
 use crate::choosing::is_sequential;
@@ -27,6 +27,16 @@ fn unless(holds: bool, kind: Kind, at: u64) -> Result<(), Fault>
     }
 }
 
+/// Whether a prediction by parallelograms is chosen.
+fn chooses_parallelogram(choice: &Choice) -> bool
+    ensures { result ≡ chooses_parallelogram choice.now.predict }
+{
+    match choice.predict {
+        None | Some(Predict::Off | Predict::Diff) => false,
+        Some(Predict::Para | Predict::Multi) => true,
+    }
+}
+
 /// The first fault of a choice for this geometry.
 fn test_choice(g: &Geometry, choice: &Choice) -> Result<(), Fault>
     ensures { Tests (choice_fault g.now choice.now) result }
@@ -40,7 +50,7 @@ fn test_choice(g: &Geometry, choice: &Choice) -> Result<(), Fault>
         1,
     )?;
     unless(
-        !(choice.predict == Some(Predict::Para) && sequential),
+        !(chooses_parallelogram(choice) && sequential),
         Kind::Choice,
         2,
     )?;

@@ -36,6 +36,17 @@ const REPEATED: [u8; 34] = [
     0, 0, 2, 0, 0,
 ];
 
+/// The triangle with a normal in place of its position.
+const NO_POSITION: [u8; 37] = [
+    68, 82, 65, 67, 79, 2, 2, 1, 0, 0, 0, 1, 3, 1, 0, 1, 2, 1, 1, 1, 5, 3, 0, 0, 1, 254, 0, 1, 0,
+    0, 0, 20, 0, 0, 0, 20, 1,
+];
+
+/// A mesh of one point and no faces.
+const NO_FACES: [u8; 28] = [
+    68, 82, 65, 67, 79, 2, 2, 1, 0, 0, 0, 0, 1, 1, 1, 1, 0, 5, 3, 0, 0, 1, 254, 0, 1, 2, 2, 2,
+];
+
 /// A mesh with a quantised position and a label.
 const LABELLED: [u8; 75] = [
     68, 82, 65, 67, 79, 2, 2, 1, 0, 0, 0, 1, 3, 1, 0, 1, 2, 1, 2, 0, 9, 3, 0, 0, 4, 2, 1, 1, 1, 2,
@@ -173,6 +184,10 @@ fn refuses_the_first_fault(rt: HostRuntime) -> Result<(), Fail> {
         walk: Some(Walk::Depth),
         ..SEQUENTIAL
     };
+    let parallelograms = Choice {
+        predict: Some(Predict::Multi),
+        ..SEQUENTIAL
+    };
     let walked = Choice {
         walk: Some(Walk::Depth),
         ..SEQUENTIAL
@@ -182,9 +197,12 @@ fn refuses_the_first_fault(rt: HostRuntime) -> Result<(), Fail> {
         (NARROW.as_slice(), edgebreaker, Kind::Choice, 1),
         (CLOUD.as_slice(), indexed, Kind::Choice, 1),
         (NARROW.as_slice(), parallelogram, Kind::Choice, 2),
+        (NARROW.as_slice(), parallelograms, Kind::Choice, 2),
         (NO_POINTS.as_slice(), walked, Kind::Choice, 3),
         (NO_POINTS.as_slice(), NOTHING, Kind::Empty, 0),
-        (NARROW.as_slice(), NOTHING, Kind::NotYet, 0),
+        (NO_FACES.as_slice(), NOTHING, Kind::Empty, 0),
+        (NO_POSITION.as_slice(), NOTHING, Kind::NoPosition, 0),
+        (REPEATED.as_slice(), NOTHING, Kind::Degenerate, 0),
     ] {
         assert_eq!(rt;
             fault(alloc, bytes, &choice),

@@ -1,4 +1,4 @@
-//! Writing a stream.
+//! Writing a sequential stream.
 
 ghost use Rattle.drc_base.specs.Profile.{profile_two};
 ghost use Rattle.std.specs.Prelude.{◌≡◌, ◌≤◌, ◌<◌, ◌++◌, Ok, IfOk, OnOk, length};
@@ -30,14 +30,14 @@ use std::alloc::Global;
 /// The method of sequential streams.
 const SEQUENTIAL: u8 = 0;
 
-/// Appends the header.
+/// Appends the header, with this method.
 #[tactic(auto, unfolding(crate::specs::Written::header_bytes))]
-fn put_header(out: &mut Vec<u8>, g: &Geometry) -> Result<(), Memory>
-    ensures { OnOk result (out.new.items ≡ out.old.items ++ header_bytes g.now) }
+pub fn put_header(out: &mut Vec<u8>, g: &Geometry, method: u8) -> Result<(), Memory>
+    ensures { OnOk result (out.new.items ≡ out.old.items ++ header_bytes method g.now) }
 {
     let geometry = if is_mesh(g) { MESH } else { CLOUD };
     out.extend_from_slice(MAGIC)?;
-    out.extend_from_slice(&[MAJOR, minor_of(geometry), geometry, SEQUENTIAL, 0, 0])?;
+    out.extend_from_slice(&[MAJOR, minor_of(geometry), geometry, method, 0, 0])?;
     Ok(())
 }
 
@@ -70,7 +70,7 @@ fn connectivity(alloc: Global, g: &Geometry, packed: bool) -> Result<Vec<u8>, Me
 }
 
 /// Equal heads.
-fn copies_of(alloc: Global, heads: &[Head]) -> Result<Vec<Head>, Memory>
+pub fn copies_of(alloc: Global, heads: &[Head]) -> Result<Vec<Head>, Memory>
     ensures { IfOk result (λ v. v.items ≡ heads.now) }
 {
     let mut copies = Vec::new(alloc);
@@ -132,7 +132,7 @@ fn written_stream(
     ensures attributes { OnOk result (AttributesSpelled choice.now.plain_values g.now (prediction_of g.now choice.now)) }
 {
     let mut out = Vec::new(alloc);
-    put_header(&mut out, g)?;
+    put_header(&mut out, g, SEQUENTIAL)?;
     let connectivity = connectivity(alloc, g, packs(choice))?;
     out.extend_from_slice(connectivity.as_slice())?;
     let attributes = attributes(alloc, g, choice, values)?;
@@ -140,8 +140,8 @@ fn written_stream(
     Ok(out)
 }
 
-/// The stream of a geometry with these values, which are freed. It means the geometry, and is coded as
-/// chosen.
+/// The sequential stream of a geometry with these values, which are freed. It means the geometry, and is
+/// coded as chosen.
 pub fn write_stream(
     alloc: Global,
     g: &Geometry,
@@ -151,7 +151,7 @@ pub fn write_stream(
     requires can { CanCode g.now choice.now }
     requires values { values.items ≡ values_of g.now (prediction_of g.now choice.now) }
     ensures bytes { IfOk result (λ v. v.items ≡ stream_bytes g.now choice.now) }
-    ensures means { IfOk result (λ v. Means g.now v.items (plain (count_of g.now))) }
+    ensures means { IfOk result (λ v. Means g.now choice.now v.items (plain (count_of g.now))) }
     ensures layout { IfOk result (λ v. layout_of v.items ≡ Ok (layout_chosen g.now choice.now)) }
 {
     // For the proof alone: the call tells what holds of every geometry.

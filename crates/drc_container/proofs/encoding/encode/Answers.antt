@@ -1,7 +1,7 @@
 use Rattle.std.proofs.Common.{ap}
 use Rattle.std.proofs.lemmas.Result.{err_from_is_err_and}
 use Rattle.mesh_model.specs.FirstFault.{value_unless}
-use Rattle.drc_container.specs.Written.{written}
+use Rattle.drc_container.specs.Chosen.{written}
 use Rattle.drc_container.proofs.FirstRefusals.{refused-early}
 use Rattle.drc_container.proofs.encoding.encode.Goals as goal
 

@@ -1,0 +1,46 @@
+-- A stream that is written by Edgebreaker means its mesh, with the surface of the mesh's pairs, and is coded as chosen.
+use Rattle.std.proofs.Common.{◌≡◌, false, length, Ok, refl, sym, subst}
+use Rattle.mesh_model.specs.declared.geometries.Geometry.TheVariants.{Mesh}
+use Rattle.mesh_model.specs.Parts.{MeshParts, IsMesh}
+use Rattle.drc_container.specs.declared.codings.Coding.{Coding}
+use Rattle.drc_container.specs.declared.choices.Choice.{Choice}
+use Rattle.drc_container.specs.Choice.{method_of, is_sequential}
+use Rattle.drc_container.specs.Stream.{stream}
+use Rattle.drc_container.specs.WrittenOnSurface.{traced, decoded, edgebreaker_bytes}
+use Rattle.drc_container.specs.Chosen.{coding_of}
+use Rattle.drc_container.specs.Encoded.{KeepsSurface, KeepsBeside, Means, CanCodeSurface, SurfaceSpelled}
+use Rattle.drc_container.specs.Layout.{layout_of, layout_chosen}
+use Rattle.drc_container.proofs.SurfaceWritten.{meaning_written}
+use Rattle.drc_container.proofs.SurfaceTraced.{decoded-carried}
+use Rattle.drc_container.proofs.SurfaceRead.{stream-on-surface}
+use Rattle.drc_container.proofs.SurfaceMesh.{mesh-assembled, mesh-same}
+use Rattle.drc_container.proofs.SurfaceLayout.{layout-on-surface}
+
+-- the stream has a meaning
+stream-written : (coding : Coding) (m : MeshParts) → IsMesh m → CanCodeSurface coding m → SurfaceSpelled coding m
+    → stream (edgebreaker_bytes coding m) ≡ Ok (meaning_written coding m)
+stream-written coding m is can spelled = stream-on-surface coding m is can spelled (mesh-assembled coding m is can)
+
+-- which keeps the surface
+surface-kept : (coding : Coding) (m : MeshParts) → IsMesh m → CanCodeSurface coding m → KeepsSurface m (traced m).order (meaning_written coding m).surface
+surface-kept coding m is can = record { surface = record { faces = length m.faces; glued = (decoded m).pairs }; is = refl; faces = refl; pairs = decoded-carried m is can.proper }
+
+-- and is the mesh
+pub surface-means : (m : MeshParts) (choice : Choice) → is_sequential (method_of (Mesh m) choice) ≡ false → IsMesh m
+    → CanCodeSurface (coding_of (Mesh m) choice) m → SurfaceSpelled (coding_of (Mesh m) choice) m
+    → Means (Mesh m) choice (edgebreaker_bytes (coding_of (Mesh m) choice) m) (traced m).order
+surface-means m choice off is can spelled =
+    let coding = coding_of (Mesh m) choice in
+    record {
+      decoded = meaning_written coding m;
+      stream_is = stream-written coding m is can spelled;
+      same = mesh-same coding m is can;
+      beside = subst (λ b. KeepsBeside b (Mesh m) (meaning_written coding m) (traced m).order) (sym off) (surface-kept coding m is can);
+      whole = refl;
+    }
+
+-- it is coded as chosen
+pub surface-laid_out : (m : MeshParts) (choice : Choice) → is_sequential (method_of (Mesh m) choice) ≡ false → IsMesh m
+    → CanCodeSurface (coding_of (Mesh m) choice) m → SurfaceSpelled (coding_of (Mesh m) choice) m
+    → layout_of (edgebreaker_bytes (coding_of (Mesh m) choice) m) ≡ Ok (layout_chosen (Mesh m) choice)
+surface-laid_out m choice off is can spelled = layout-on-surface m choice off is can spelled (stream-written (coding_of (Mesh m) choice) m is can spelled)
