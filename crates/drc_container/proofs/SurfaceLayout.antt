@@ -1,5 +1,4 @@
 -- A stream that is written by Edgebreaker is coded as chosen.
-<<<<<<< HEAD
 use Rattle.std.proofs.Common.{◌≡◌, ℕ, ◌+◌, ◌-◌, true, false, Bool, List, [], ◌∷◌, ◌++◌, map, length, drop, get_or, Option, None, Some, Ok, refl, sym, ◌∙◌, ap, arith, append_assoc, append-nil, length-append, if◌then◌else◌}
 use Rattle.std.specs.Prelude.{ℤ, slice_index}
 use Rattle.std.specs.List.{flat_map, range_with_len, enumerate_from}
@@ -221,25 +220,10 @@ attributes-chosen m choice eb =
     otherwise (is_sequential (method_of g choice)) (map (λ _. attr_coded g choice 0 0) m.heads) (map (attr_on_surface g choice) (range_with_len 0 (length m.heads))) eb
 
 -- a stream that is written by Edgebreaker is coded as chosen
-=======
-use Rattle.std.proofs.Common.{◌≡◌, false, Ok}
-use Rattle.mesh_model.specs.declared.geometries.Geometry.TheVariants.{Mesh}
-use Rattle.mesh_model.specs.Parts.{MeshParts, IsMesh}
-use Rattle.drc_container.specs.declared.choices.Choice.{Choice}
-use Rattle.drc_container.specs.Choice.{method_of, is_sequential}
-use Rattle.drc_container.specs.Stream.{stream}
-use Rattle.drc_container.specs.WrittenOnSurface.{edgebreaker_bytes}
-use Rattle.drc_container.specs.Chosen.{coding_of}
-use Rattle.drc_container.specs.Encoded.{CanCodeSurface, SurfaceSpelled}
-use Rattle.drc_container.specs.Layout.{layout_of, layout_chosen}
-use Rattle.drc_container.proofs.SurfaceWritten.{meaning_written}
-
->>>>>>> b9afb93e810b0eb67bf753d45c397ffae9730df6
 pub layout-on-surface : (m : MeshParts) (choice : Choice) → is_sequential (method_of (Mesh m) choice) ≡ false → IsMesh m
     → CanCodeSurface (coding_of (Mesh m) choice) m → SurfaceSpelled (coding_of (Mesh m) choice) m
     → stream (edgebreaker_bytes (coding_of (Mesh m) choice) m) ≡ Ok (meaning_written (coding_of (Mesh m) choice) m)
     → layout_of (edgebreaker_bytes (coding_of (Mesh m) choice) m) ≡ Ok (layout_chosen (Mesh m) choice)
-<<<<<<< HEAD
 layout-on-surface m choice eb is can spelled means =
     let coding = coding_of (Mesh m) choice in
     let bytes = edgebreaker_bytes coding m in
@@ -259,6 +243,3 @@ layout-on-surface m choice eb is can spelled means =
     ∙ ap (λ i. made chosen.method i (traversal_layout bytes surface_place) seen_attrs) i
     ∙ ap (λ t. made chosen.method chosen.index t seen_attrs) t
     ∙ ap (λ a. made chosen.method chosen.index chosen.traversal a) a)
-=======
-layout-on-surface m choice off is can spelled means = ?
->>>>>>> b9afb93e810b0eb67bf753d45c397ffae9730df6
