@@ -1,6 +1,6 @@
 -- How far a line has come tells which words make it a command line.
-use Rattle.std.proofs.Common.{◌≡◌, ℕ, zero, suc, ◌+◌, ◌<◌, Bool, true, false, List, [], ◌∷◌, ◌++◌, length, take, drop, Option, Some, None, Result, Ok, Err, ◌⊎◌, inl, inr, refl, sym, ap, ◌∙◌, subst, option_map, arith}
-use Rattle.std.specs.Prelude.{codes, ◌≢◌, if◌then◌else◌}
+use Rattle.std.proofs.Common.{◌≡◌, ℕ, zero, suc, ◌+◌, ◌^◌, ◌<◌, Bool, true, false, List, [], ◌∷◌, ◌++◌, length, take, drop, Option, Some, None, Result, Ok, Err, ◌⊎◌, inl, inr, refl, sym, ap, ◌∙◌, subst, option_map, arith}
+use Rattle.std.specs.Prelude.{codes, decimal, IfOk, ◌≢◌, if◌then◌else◌}
 use Rattle.std.specs.Str.{bytes_eq}
 use Rattle.std.proofs.lemmas.Option.{none-some}
 use Rattle.std.proofs.lemmas.List.{take-append-drop}
@@ -14,16 +14,20 @@ use Rattle.drc_container.specs.declared.choices.Predict.{Predict}
 use Rattle.drc_container.specs.declared.choices.Predict.TheVariants as predict
 use Rattle.drc_container.specs.declared.choices.Walk.{Walk}
 use Rattle.drc_container.specs.declared.choices.Walk.TheVariants as walk
+use Rattle.drc_gen.specs.declared.kinds.GenKind.{GenKind}
+use Rattle.drc_gen.specs.declared.kinds.GenKind.TheVariants.{Grid, Torus, Holes, Fans, Seams}
+use Rattle.drc_gen.specs.GeneratedLaws.{IsSize}
 use Rattle.drc_app.specs.declared.commands.Command.{Command}
 use Rattle.drc_app.specs.declared.commands.Command.TheVariants as command
 use Rattle.drc_app.specs.declared.commands.OptionWord.{OptionWord}
 use Rattle.drc_app.specs.declared.commands.OptionWord.TheVariants as option
 use Rattle.drc_app.specs.declared.commands.Progress.{Progress}
 use Rattle.drc_app.specs.declared.commands.Progress.TheVariants as progress
-use Rattle.drc_app.specs.Line.{Setting, MethodIs, IndexIs, PredictIs, WalkIs, ValuesArePlain, method_word, index_word, predict_word, walk_word, option_word, option_of, value_words, words_of, with_setting, with_settings, no_choice, IsLine, dec, info, enc, Begins, IsBadWord, WordsSay}
-use Rattle.drc_app.specs.Progress.{method_named, index_named, predict_named, walk_named, option_named, is_given, with_value, without_value, with_option, after_word, whole_line, continued, line_from, line_of}
+use Rattle.drc_app.specs.Line.{Setting, MethodIs, IndexIs, PredictIs, WalkIs, ValuesArePlain, method_word, index_word, predict_word, walk_word, option_word, option_of, value_words, words_of, with_setting, with_settings, no_choice, gen_word, IsLine, dec, info, enc, gen, IsSized, Begins, IsBadWord, WordsSay}
+use Rattle.drc_app.specs.Progress.{method_named, index_named, predict_named, walk_named, gen_named, number_named, size_named, option_named, is_given, with_value, without_value, with_option, after_word, whole_line, continued, line_from, line_of}
 use Rattle.drc_app.specs.Laws.{WordsSaySomething, WordsSayOneThing}
 use Rattle.drc_app.proofs.Choices.{AreNew, new-once, once-new_choice}
+use Rattle.drc_app.proofs.Numbers.{number_is, number_back, size_is, size_back}
 
 -- ---- words and what they name
 
@@ -72,7 +76,10 @@ predict_is w p e = elim (chosen w (codes "none") predict.Off _ p e) [
     | inl h ↦ sym (h.0 ∙ ap predict_word h.1)
     | inr e2 ↦ elim (chosen w (codes "para") predict.Para _ p e2) [
       | inl h ↦ sym (h.0 ∙ ap predict_word h.1)
-      | inr e3 ↦ absurd (none-some p e3)
+      | inr e3 ↦ elim (chosen w (codes "multi") predict.Multi _ p e3) [
+        | inl h ↦ sym (h.0 ∙ ap predict_word h.1)
+        | inr e4 ↦ absurd (none-some p e4)
+      ]
     ]
   ]
 ]
@@ -80,7 +87,28 @@ predict_is w p e = elim (chosen w (codes "none") predict.Off _ p e) [
 walk_is : (w : List ℕ) (k : Walk) → walk_named w ≡ Some k → walk_word k ≡ w
 walk_is w k e = elim (chosen w (codes "depth") walk.Depth _ k e) [
   | inl h ↦ sym (h.0 ∙ ap walk_word h.1)
-  | inr e1 ↦ absurd (none-some k e1)
+  | inr e1 ↦ elim (chosen w (codes "degree") walk.Degree _ k e1) [
+    | inl h ↦ sym (h.0 ∙ ap walk_word h.1)
+    | inr e2 ↦ absurd (none-some k e2)
+  ]
+]
+
+gen_is : (w : List ℕ) (k : GenKind) → gen_named w ≡ Some k → gen_word k ≡ w
+gen_is w k e = elim (chosen w (codes "grid") Grid _ k e) [
+  | inl h ↦ sym (h.0 ∙ ap gen_word h.1)
+  | inr e1 ↦ elim (chosen w (codes "torus") Torus _ k e1) [
+    | inl h ↦ sym (h.0 ∙ ap gen_word h.1)
+    | inr e2 ↦ elim (chosen w (codes "holes") Holes _ k e2) [
+      | inl h ↦ sym (h.0 ∙ ap gen_word h.1)
+      | inr e3 ↦ elim (chosen w (codes "fans") Fans _ k e3) [
+        | inl h ↦ sym (h.0 ∙ ap gen_word h.1)
+        | inr e4 ↦ elim (chosen w (codes "seams") Seams _ k e4) [
+          | inl h ↦ sym (h.0 ∙ ap gen_word h.1)
+          | inr e5 ↦ absurd (none-some k e5)
+        ]
+      ]
+    ]
+  ]
 ]
 
 option_is : (w : List ℕ) (o : OptionWord) → option_named w ≡ Some o → option_word o ≡ w
@@ -114,9 +142,18 @@ predict_back : (p : Predict) → predict_named (predict_word p) ≡ Some p
 predict_back predict.Off = refl
 predict_back predict.Diff = refl
 predict_back predict.Para = refl
+predict_back predict.Multi = refl
 
 walk_back : (k : Walk) → walk_named (walk_word k) ≡ Some k
 walk_back walk.Depth = refl
+walk_back walk.Degree = refl
+
+gen_back : (k : GenKind) → gen_named (gen_word k) ≡ Some k
+gen_back Grid = refl
+gen_back Torus = refl
+gen_back Holes = refl
+gen_back Fans = refl
+gen_back Seams = refl
 
 option_back : (o : OptionWord) → option_named (option_word o) ≡ Some o
 option_back option.Method = refl
@@ -171,11 +208,36 @@ record SetsValue (ch : Choice) (o : OptionWord) (ws : List (List ℕ)) (c : Comm
   is : with_value ch o value ≡ Some after
   sets : Sets after rest c
 
+-- these words are a seed behind a kind and a size
+record SeedFollows (kind : GenKind) (size : ℕ) (ws : List (List ℕ)) (c : Command) : Type 0 where
+  seed : ℕ
+  small : seed < 2 ^ 64
+  spelled : ws ≡ decimal seed ∷ []
+  made : c ≡ command.Gen (record { kind = kind; size = size; seed = seed })
+
+-- these words are a size and a seed behind a kind
+record SizeFollows (kind : GenKind) (ws : List (List ℕ)) (c : Command) : Type 0 where
+  size : ℕ
+  rest : List (List ℕ)
+  may : IsSize size
+  spelled : ws ≡ decimal size ∷ rest
+  seeded : SeedFollows kind size rest c
+
+-- these words are a kind, a size and a seed
+record KindFollows (ws : List (List ℕ)) (c : Command) : Type 0 where
+  kind : GenKind
+  rest : List (List ℕ)
+  spelled : ws ≡ gen_word kind ∷ rest
+  sized : SizeFollows kind rest c
+
 -- with these words more the line is a command's
 Completes : Progress → List (List ℕ) → Command → Type 0
 Completes progress.Nothing ws c = IsLine ws c
 Completes (progress.Options ch) ws c = Sets ch ws c
 Completes (progress.Value ch o) ws c = SetsValue ch o ws c
+Completes progress.KindDue ws c = KindFollows ws c
+Completes (progress.SizeDue kind) ws c = SizeFollows kind ws c
+Completes (progress.SeedDue kind size) ws c = SeedFollows kind size ws c
 Completes (progress.Whole d) ws c = (ws ≡ []) × (c ≡ d)
 
 -- ---- a word read, and back
@@ -221,6 +283,13 @@ taken ch (Some o) q e = pick (is_given ch o) refl e
     pick true is h = absurd (none-some q h)
     pick false is h = record { named = o; is = refl; free = is; gives = h }
 
+-- `gen` in front of a kind, a size and a seed
+asked : (w : List ℕ) (ws : List (List ℕ)) (c : Command) → w ≡ codes "gen" → KindFollows ws c → IsLine (w ∷ ws) c
+asked w ws c e x = gen x.kind x.sized.size x.sized.seeded.seed x.sized.may x.sized.seeded.small
+    (ap (λ v. v ∷ ws) e
+    ∙ ap (λ r. codes "gen" ∷ r) (x.spelled ∙ ap (λ r. gen_word x.kind ∷ r) (x.sized.spelled ∙ ap (λ r. decimal x.sized.size ∷ r) x.sized.seeded.spelled)))
+    x.sized.seeded.made
+
 -- a line that is complete behind a word is complete with it
 back : (p : Progress) (w : List ℕ) (ws : List (List ℕ)) (c : Command) (q : Progress) → after_word p w ≡ Some q → Completes q ws c → Completes p (w ∷ ws) c
 unfolding Completes
@@ -233,7 +302,10 @@ back progress.Nothing w ws c q e x = elim (chosen w (codes "enc") (progress.Opti
     | inr e2 ↦ elim (chosen w (codes "info") (progress.Whole command.Info) _ q e2) [
       | inl h ↦ (let end : (ws ≡ []) × (c ≡ command.Info) = subst (λ q. Completes q ws c) (sym h.1) x in
           info (ap (λ v. v ∷ ws) h.0 ∙ ap (λ r. codes "info" ∷ r) end.0) end.1)
-      | inr e3 ↦ absurd (none-some q e3)
+      | inr e3 ↦ elim (chosen w (codes "gen") progress.KindDue _ q e3) [
+        | inl h ↦ asked w ws c h.0 (subst (λ q. Completes q ws c) (sym h.1) x)
+        | inr e4 ↦ absurd (none-some q e4)
+      ]
     ]
   ]
 ]
@@ -243,6 +315,18 @@ back (progress.Options ch) w ws c q e x =
 back (progress.Value ch o) w ws c q e x =
     let m = mapped progress.Options (with_value ch o w) q e in
     record { value = w; rest = ws; after = m.0; spelled = refl; is = m.1; sets = subst (λ q. Completes q ws c) (sym m.2) x }
+back progress.KindDue w ws c q e x =
+    let m = mapped progress.SizeDue (gen_named w) q e in
+    record { kind = m.0; rest = ws; spelled = ap (λ v. v ∷ ws) (sym (gen_is w m.0 m.1)); sized = subst (λ q. Completes q ws c) (sym m.2) x }
+back (progress.SizeDue kind) w ws c q e x =
+    let m = mapped (progress.SeedDue kind) (size_named w) q e in
+    let is = size_is w m.0 m.1 in
+    record { size = m.0; rest = ws; may = is.1; spelled = ap (λ v. v ∷ ws) is.0; seeded = subst (λ q. Completes q ws c) (sym m.2) x }
+back (progress.SeedDue kind size) w ws c q e x =
+    let m = mapped (λ seed. progress.Whole (command.Gen (record { kind = kind; size = size; seed = seed }))) (number_named w) q e in
+    let is = number_is w m.0 m.1 in
+    let end : (ws ≡ []) × (c ≡ command.Gen (record { kind = kind; size = size; seed = m.0 })) = subst (λ q. Completes q ws c) (sym m.2) x in
+    record { seed = m.0; small = is.1; spelled = ap (λ v. v ∷ ws) is.0 ∙ ap (λ r. decimal m.0 ∷ r) end.0; made = end.1 }
 back (progress.Whole d) w ws c q e x = absurd (none-some q e)
 
 -- a line that a word completes, and what it is behind the word
@@ -347,12 +431,46 @@ read progress.Nothing w ws c (enc settings once e is) = record {
   is = ap (after_word progress.Nothing) (head_is _ _ _ _ e);
   completes = record { settings = settings; spelled = tail_is _ _ _ _ e; new = once-new_choice settings once; made = is };
 }
+read progress.Nothing w ws c (gen kind size seed may small e is) = record {
+  next = progress.KindDue;
+  is = ap (after_word progress.Nothing) (head_is _ _ _ _ e);
+  completes = record {
+    kind = kind;
+    rest = decimal size ∷ decimal seed ∷ [];
+    spelled = tail_is _ _ _ _ e;
+    sized = record {
+      size = size;
+      rest = decimal seed ∷ [];
+      may = may;
+      spelled = refl;
+      seeded = record { seed = seed; small = small; spelled = refl; made = is };
+    };
+  };
+}
 read (progress.Options ch) w ws c x = sets_read ch x.settings w ws c x.spelled x.new x.made
 read (progress.Value ch o) w ws c x = record {
   next = progress.Options x.after;
   is = ap (λ v. option_map progress.Options (with_value ch o v)) (head_is _ _ _ _ x.spelled) ∙ ap (option_map progress.Options) x.is;
   completes = subst (λ r. Sets x.after r c) (sym (tail_is _ _ _ _ x.spelled)) x.sets;
 }
+read progress.KindDue w ws c x = record {
+  next = progress.SizeDue x.kind;
+  is = ap (λ v. option_map progress.SizeDue (gen_named v)) (head_is _ _ _ _ x.spelled) ∙ ap (option_map progress.SizeDue) (gen_back x.kind);
+  completes = subst (λ r. SizeFollows x.kind r c) (sym (tail_is _ _ _ _ x.spelled)) x.sized;
+}
+read (progress.SizeDue kind) w ws c x = record {
+  next = progress.SeedDue kind x.size;
+  is = ap (λ v. option_map (progress.SeedDue kind) (size_named v)) (head_is _ _ _ _ x.spelled)
+      ∙ ap (option_map (progress.SeedDue kind)) (size_back x.size x.may);
+  completes = subst (λ r. SeedFollows kind x.size r c) (sym (tail_is _ _ _ _ x.spelled)) x.seeded;
+}
+read (progress.SeedDue kind size) w ws c x =
+    let whole : ℕ → Progress = λ seed. progress.Whole (command.Gen (record { kind = kind; size = size; seed = seed })) in
+    record {
+      next = whole x.seed;
+      is = ap (λ v. option_map whole (number_named v)) (head_is _ _ _ _ x.spelled) ∙ ap (option_map whole) (number_back x.seed x.small);
+      completes = (tail_is _ _ _ _ x.spelled, x.made);
+    }
 read (progress.Whole d) w ws c x = no_words w ws (sym x.0)
 
 -- ---- lines that can be completed
@@ -362,6 +480,9 @@ Reached : Progress → Type 0
 Reached progress.Nothing = Unit {0}
 Reached (progress.Options ch) = Unit {0}
 Reached (progress.Value ch o) = o ≢ option.PlainValues
+Reached progress.KindDue = Unit {0}
+Reached (progress.SizeDue kind) = Unit {0}
+Reached (progress.SeedDue kind size) = Unit {0}
 Reached (progress.Whole d) = Unit {0}
 
 -- words that complete a line, with the words so far
@@ -372,6 +493,16 @@ record BeginsAt (p : Progress) (ws : List (List ℕ)) : Type 0 where
 
 set_none : (ch : Choice) → Sets ch [] (command.Enc ch)
 set_none ch = record { settings = []; spelled = refl; new = tt; made = refl }
+
+-- a seed, a size and a kind that a line can end with
+some_seed : (kind : GenKind) (size : ℕ) → SeedFollows kind size (decimal 0 ∷ []) (command.Gen (record { kind = kind; size = size; seed = 0 }))
+some_seed kind size = record { seed = 0; small = omega arith; spelled = refl; made = refl }
+
+some_size : (kind : GenKind) → SizeFollows kind (decimal 3 ∷ decimal 0 ∷ []) (command.Gen (record { kind = kind; size = 3; seed = 0 }))
+some_size kind = record { size = 3; rest = decimal 0 ∷ []; may = (omega arith, omega arith); spelled = refl; seeded = some_seed kind 3 }
+
+some_kind : KindFollows (codes "grid" ∷ decimal 3 ∷ decimal 0 ∷ []) (command.Gen (record { kind = Grid; size = 3; seed = 0 }))
+some_kind = record { kind = Grid; rest = decimal 3 ∷ decimal 0 ∷ []; spelled = refl; sized = some_size Grid }
 
 can_end : (p : Progress) → Reached p → BeginsAt p []
 unfolding Reached Completes
@@ -398,6 +529,9 @@ can_end (progress.Value ch option.Walk) reached = record {
   completes = record { value = codes "depth"; rest = []; after = record ch { walk = Some walk.Depth }; spelled = refl; is = refl; sets = set_none _ };
 }
 can_end (progress.Value ch option.PlainValues) reached = absurd (reached refl)
+can_end progress.KindDue reached = record { rest = codes "grid" ∷ decimal 3 ∷ decimal 0 ∷ []; command = _; completes = some_kind }
+can_end (progress.SizeDue kind) reached = record { rest = decimal 3 ∷ decimal 0 ∷ []; command = _; completes = some_size kind }
+can_end (progress.SeedDue kind size) reached = record { rest = decimal 0 ∷ []; command = _; completes = some_seed kind size }
 can_end (progress.Whole d) reached = record { rest = []; command = d; completes = (refl, refl) }
 
 reached_option : (ch : Choice) (o : OptionWord) (q : Progress) → without_value ch o ≡ Some q → Reached q
@@ -416,12 +550,20 @@ reached progress.Nothing w q e = elim (chosen w (codes "enc") (progress.Options 
     | inl h ↦ subst Reached h.1 tt
     | inr e2 ↦ elim (chosen w (codes "info") (progress.Whole command.Info) _ q e2) [
       | inl h ↦ subst Reached h.1 tt
-      | inr e3 ↦ absurd (none-some q e3)
+      | inr e3 ↦ elim (chosen w (codes "gen") progress.KindDue _ q e3) [
+        | inl h ↦ subst Reached h.1 tt
+        | inr e4 ↦ absurd (none-some q e4)
+      ]
     ]
   ]
 ]
 reached (progress.Options ch) w q e = let t = taken ch (option_named w) q e in reached_option ch t.named q t.gives
 reached (progress.Value ch o) w q e = let m = mapped progress.Options (with_value ch o w) q e in subst Reached m.2 tt
+reached progress.KindDue w q e = let m = mapped progress.SizeDue (gen_named w) q e in subst Reached m.2 tt
+reached (progress.SizeDue kind) w q e = let m = mapped (progress.SeedDue kind) (size_named w) q e in subst Reached m.2 tt
+reached (progress.SeedDue kind size) w q e =
+    let m = mapped (λ seed. progress.Whole (command.Gen (record { kind = kind; size = size; seed = seed }))) (number_named w) q e in
+    subst Reached m.2 tt
 reached (progress.Whole d) w q e = absurd (none-some q e)
 
 -- ---- the ends of lines
@@ -431,6 +573,9 @@ unfolding Completes
 whole_completes i progress.Nothing c e = cc
 whole_completes i (progress.Options ch) c e = record { settings = []; spelled = refl; new = tt; made = sym (Ok_is _ _ e) }
 whole_completes i (progress.Value ch o) c e = cc
+whole_completes i progress.KindDue c e = cc
+whole_completes i (progress.SizeDue kind) c e = cc
+whole_completes i (progress.SeedDue kind size) c e = cc
 whole_completes i (progress.Whole d) c e = (refl, sym (Ok_is _ _ e))
 
 completes_whole : (i : ℕ) (p : Progress) (c : Command) → Completes p [] c → whole_line i p ≡ Ok c
@@ -438,6 +583,7 @@ unfolding Completes
 completes_whole i progress.Nothing c (dec e is) = no_words _ _ e
 completes_whole i progress.Nothing c (info e is) = no_words _ _ e
 completes_whole i progress.Nothing c (enc settings once e is) = no_words _ _ e
+completes_whole i progress.Nothing c (gen kind size seed may small e is) = no_words _ _ e
 completes_whole i (progress.Options ch) c x = no_settings ch x.settings c x.spelled x.made
   where
     no_settings : (ch : Choice) (ss : List Setting) (c : Command) → [] ≡ words_of ss → c ≡ command.Enc (with_settings ch ss)
@@ -445,12 +591,18 @@ completes_whole i (progress.Options ch) c x = no_settings ch x.settings c x.spel
     no_settings ch [] c e made = ap Ok (sym made)
     no_settings ch (s ∷ ss) c e made = no_words _ _ e
 completes_whole i (progress.Value ch o) c x = no_words _ _ x.spelled
+completes_whole i progress.KindDue c x = no_words _ _ x.spelled
+completes_whole i (progress.SizeDue kind) c x = no_words _ _ x.spelled
+completes_whole i (progress.SeedDue kind size) c x = no_words _ _ x.spelled
 completes_whole i (progress.Whole d) c x = ap Ok (sym x.1)
 
 unwhole : (i : ℕ) (p : Progress) (j : ℕ) → whole_line i p ≡ Err j → j ≡ i
 unwhole i progress.Nothing j e = cc
 unwhole i (progress.Options ch) j e = cc
 unwhole i (progress.Value ch o) j e = cc
+unwhole i progress.KindDue j e = cc
+unwhole i (progress.SizeDue kind) j e = cc
+unwhole i (progress.SeedDue kind size) j e = cc
 unwhole i (progress.Whole d) j e = cc
 
 -- ---- whole lines
@@ -597,3 +749,16 @@ say_one_thing words (Err i) b = said (line_of words) refl
     said : (line : Result Command ℕ) → line_of words ≡ line → ◌≡◌ {A = Result Command ℕ} (Err i) (line_of words)
     said (Ok c) e = absurd (no_line words c i (found progress.Nothing words 0 c e) b)
     said (Err j) e = ap Err (one_bad words i j b (subst (WordsSay words) e (words_say words))) ∙ sym e
+
+-- ---- sizes
+
+sized_line : (words : List (List ℕ)) (c : Command) → IsLine words c → IsSized c
+sized_line words c (dec e is) = subst IsSized (sym is) tt
+sized_line words c (info e is) = subst IsSized (sym is) tt
+sized_line words c (enc settings once e is) = subst IsSized (sym is) tt
+sized_line words c (gen kind size seed may small e is) = subst IsSized (sym is) may
+
+-- a command that words say is of a size that a mesh may have
+pub sized_command : (words : List (List ℕ)) (r : Result Command ℕ) → r ≡ line_of words → IfOk r IsSized
+sized_command words (Ok c) e = sized_line words c (subst (WordsSay words) (sym e) (words_say words))
+sized_command words (Err i) e = tt

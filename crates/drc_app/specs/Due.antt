@@ -1,18 +1,29 @@
 -- What a command gives from the bytes of its input: an output and a note, or the first fault (this project's choice).
-use Rattle.std.specs.Prelude.{ℕ, List, [], length, Result, Ok, Err, nat_lt, if◌then◌else◌}
+use Rattle.std.specs.Prelude.{ℕ, ◌&&◌, Bool, true, false, List, [], length, Some, Result, Ok, Err, nat_lt, if◌then◌else◌}
 use Rattle.drc_base.specs.declared.faults.Fault.{Fault}
 use Rattle.drc_base.specs.declared.kinds.Kind.TheVariants as kind
 use Rattle.drc_base.specs.declared.limits.TheConstants.{MAX_INPUT_BYTES}
 use Rattle.drc_base.specs.Steps.{◌>>=◌}
 use Rattle.ply_mesh.specs.Text.{ply_text}
+use Rattle.mesh_model.specs.declared.geometries.Geometry.{Geometry}
+use Rattle.mesh_model.specs.declared.geometries.Geometry.TheVariants.{Mesh}
+use Rattle.mesh_model.specs.Parts.{MeshParts}
 use Rattle.mesh_model.specs.MapText.{map_text_of}
+use Rattle.drc_gen.specs.declared.kinds.GenKind.{GenKind}
+use Rattle.drc_gen.specs.Generated.{generated}
 use Rattle.ply_mesh.specs.Read.{ply_read}
+use Rattle.drc_container.specs.declared.methods.Method.{Method}
+use Rattle.drc_container.specs.declared.methods.Method.TheVariants as method
 use Rattle.drc_container.specs.declared.choices.Choice.{Choice}
 use Rattle.drc_container.specs.Encoded.{due as encoded}
 use Rattle.drc_container.specs.Stream.{meaning_of}
 use Rattle.drc_info.specs.InfoText.{report_of}
+use Rattle.drc_app.specs.Line.{no_choice}
+use Rattle.drc_app.specs.Summary.{summary_text}
 use Rattle.drc_app.specs.declared.commands.Command.{Command}
 use Rattle.drc_app.specs.declared.commands.Command.TheVariants as command
+use Rattle.drc_app.specs.declared.commands.GenMesh.{GenMesh}
+use Rattle.drc_app.specs.declared.summaries.Summary.{Summary}
 
 -- the stream of the geometry that a text means, coded as chosen, and the map of its faces or points
 unfoldable pub stream_due : Choice → List ℕ → Result (List ℕ × List ℕ) Fault
@@ -33,16 +44,44 @@ report_due stream = do
   text ← report_of stream
   Ok (text, [])
 
--- what the command gives from bytes within the limit
+-- how many bytes a geometry is encoded as by this method, with no other option
+unfoldable pub length_due : Geometry → Method → Result ℕ Fault
+length_due g by = do
+  stream ← encoded g (record no_choice { method = Some by })
+  Ok (length stream.0)
+
+-- what a summary tells of a mesh that was asked for so
+unfoldable pub summary_of : GenMesh → MeshParts → Result Summary Fault
+summary_of asked m = do
+  seq ← length_due (Mesh m) method.Seq
+  eb ← length_due (Mesh m) method.Eb
+  valence ← length_due (Mesh m) method.Valence
+  Ok (record { asked = asked; faces = length m.faces; points = length m.points; seq = seq; eb = eb; valence = valence })
+
+-- the summary of the generated mesh of this kind, size and seed; no note
+unfoldable pub summary_due : GenKind → ℕ → ℕ → Result (List ℕ × List ℕ) Fault
+summary_due kind size seed = do
+  summary ← summary_of (record { kind = kind; size = size; seed = seed }) (generated kind size seed)
+  Ok (summary_text summary, [])
+
+-- whether a command reads its input
+abbrev pub reads : Command → Bool
+reads (command.Enc choice) = true
+reads command.Dec = true
+reads command.Info = true
+reads (command.Gen mesh) = false
+
+-- what the command gives from bytes within the limit, where it reads them
 abbrev pub worked : Command → List ℕ → Result (List ℕ × List ℕ) Fault
 worked (command.Enc choice) bytes = stream_due choice bytes
 worked command.Dec bytes = text_due bytes
 worked command.Info bytes = report_due bytes
+worked (command.Gen mesh) bytes = summary_due mesh.kind mesh.size mesh.seed
 
 -- too many bytes of input
 abbrev pub input_limit : Fault
 input_limit = record { kind = kind.InputLimit; at = MAX_INPUT_BYTES }
 
--- what the command gives from all bytes of its input
+-- what the command gives from all bytes of its input: too many of them are a fault, where it reads them
 abbrev pub due : Command → List ℕ → Result (List ℕ × List ℕ) Fault
-due c bytes = if nat_lt MAX_INPUT_BYTES (length bytes) then Err input_limit else worked c bytes
+due c bytes = if reads c && nat_lt MAX_INPUT_BYTES (length bytes) then Err input_limit else worked c bytes

@@ -16,7 +16,7 @@ pub record KeepsGeometry (choice : Choice) (text stream note : List ℕ) : Type 
   pub geometry : Geometry
   pub rows : Rows
   pub read : ply_read text ≡ Ok geometry
-  pub means : Means geometry stream rows
+  pub means : Means geometry choice stream rows
   pub coded : layout_of stream ≡ Ok (layout_chosen geometry choice)
   pub map : note ≡ map_text_of geometry rows
 
@@ -25,3 +25,4 @@ abbrev pub Keeps : Command → List ℕ → List ℕ × List ℕ → Type 0
 Keeps (command.Enc choice) input answer = KeepsGeometry choice input answer.0 answer.1
 Keeps command.Dec input answer = Unit {0}
 Keeps command.Info input answer = Unit {0}
+Keeps (command.Gen mesh) input answer = Unit {0}

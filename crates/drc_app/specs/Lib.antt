@@ -2,6 +2,7 @@ pub mod Line
 pub mod Progress
 pub mod Notes
 pub mod Ends
+pub mod Summary
 pub mod Due
 pub mod Kept
 pub mod Outcome

@@ -1,6 +1,9 @@
 -- Which words are a command line, and which word of other words is the bad one (this project's choice).
-use Rattle.std.specs.Prelude.{◌≡◌, ◌≢◌, ℕ, suc, ◌<◌, ◌⊎◌, List, [], ◌∷◌, ◌++◌, length, take, codes}
+use Rattle.std.specs.Prelude.{◌≡◌, ◌≢◌, ℕ, suc, ◌<◌, ◌^◌, ◌⊎◌, List, [], ◌∷◌, ◌++◌, length, take, codes, decimal}
 use Rattle.std.specs.Prelude.{Some, None, Result, Ok, Err, true, false}
+use Rattle.drc_gen.specs.declared.kinds.GenKind.{GenKind}
+use Rattle.drc_gen.specs.declared.kinds.GenKind.TheVariants.{Grid, Torus, Holes, Fans, Seams}
+use Rattle.drc_gen.specs.GeneratedLaws.{IsSize}
 use Rattle.drc_container.specs.declared.choices.Choice.{Choice}
 use Rattle.drc_container.specs.declared.methods.Method.{Method}
 use Rattle.drc_container.specs.declared.methods.Method.TheVariants as method
@@ -37,9 +40,11 @@ abbrev pub predict_word : Predict → List ℕ
 predict_word predict.Off = codes "none"
 predict_word predict.Diff = codes "diff"
 predict_word predict.Para = codes "para"
+predict_word predict.Multi = codes "multi"
 
 abbrev pub walk_word : Walk → List ℕ
 walk_word walk.Depth = codes "depth"
+walk_word walk.Degree = codes "degree"
 
 abbrev pub option_word : OptionWord → List ℕ
 option_word option.Method = codes "--method"
@@ -96,12 +101,29 @@ with_settings c (s ∷ ss) = with_settings (with_setting c s) ss
 abbrev pub no_choice : Choice
 no_choice = record { method = None; index = None; predict = None; walk = None; plain_values = false }
 
--- these words are the command line of this command: `dec`, `info`, or `enc` with options in any order, each at most once
+-- the word of a kind of generated mesh
+abbrev pub gen_word : GenKind → List ℕ
+gen_word Grid = codes "grid"
+gen_word Torus = codes "torus"
+gen_word Holes = codes "holes"
+gen_word Fans = codes "fans"
+gen_word Seams = codes "seams"
+
+-- these words are the command line of this command: `dec`, `info`, `enc` with options in any order, each at most once, or `gen`
+-- with a kind, a size and a seed, the two numbers as their decimal texts, so without leading zeros
 pub data IsLine (words : List (List ℕ)) (c : Command) : Type 0 where
   dec : words ≡ codes "dec" ∷ [] → c ≡ command.Dec → IsLine words c
   info : words ≡ codes "info" ∷ [] → c ≡ command.Info → IsLine words c
   enc : (settings : List Setting) → SetsOnce settings → words ≡ codes "enc" ∷ words_of settings
       → c ≡ command.Enc (with_settings no_choice settings) → IsLine words c
+  gen : (kind : GenKind) (size seed : ℕ) → IsSize size → seed < 2 ^ 64
+      → words ≡ codes "gen" ∷ gen_word kind ∷ decimal size ∷ decimal seed ∷ []
+      → c ≡ command.Gen (record { kind = kind; size = size; seed = seed }) → IsLine words c
+
+-- a generated mesh that is asked for has a size that a mesh may have
+abbrev pub IsSized : Command → Type 0
+IsSized (command.Gen mesh) = IsSize mesh.size
+IsSized c = Unit {0}
 
 -- these words begin a command line, or are one
 pub record Begins (words : List (List ℕ)) : Type 0 where

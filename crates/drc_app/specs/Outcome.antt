@@ -1,11 +1,13 @@
 -- What a command line came to before anything is written, and what was then written (this project's choice).
-use Rattle.std.specs.Prelude.{◌≡◌, ℕ, zero, suc, ◌⊎◌, List, Result, Ok, Err, IfSome, IsOk, IsOkAnd}
+use Rattle.std.specs.Prelude.{◌≡◌, ℕ, zero, suc, ◌⊎◌, List, [], Option, Some, Result, Ok, Err, IfSome, IsOkAnd, IsTrue, MatchBool}
+use Rattle.std.specs.Prelude.{if◌then◌else◌}
+use Rattle.std.specs.Bool.{OnFalse}
 use Rattle.drc_base.specs.Sinks.{AppendsPrefix}
 use Rattle.drc_base.specs.declared.faults.Fault.{Fault}
 use Rattle.drc_app.specs.Ends.{Taking, HasReadFault, IsReadWhole, IsPastMost, IsUntaken}
 use Rattle.drc_app.specs.Ends.{Putting, HasWriteFault, IsUntouched, IsWritten, IsTried}
 use Rattle.drc_app.specs.Notes.{refused_note, bad_word_note, read_failed_note, write_failed_note, memory_note}
-use Rattle.drc_app.specs.Due.{due}
+use Rattle.drc_app.specs.Due.{reads, due}
 use Rattle.drc_app.specs.Kept.{Keeps}
 use Rattle.drc_app.specs.declared.commands.Command.{Command}
 use Rattle.drc_app.specs.declared.outcomes.Outcome.{Outcome}
@@ -15,22 +17,38 @@ use Rattle.drc_app.specs.declared.outcomes.Outcome.TheVariants as outcome
 abbrev pub WasRead : Taking → Type 0
 WasRead input = IsReadWhole input ⊎ IsPastMost input
 
--- where the source tells its bytes, this is what the command gives from them
-abbrev pub Gives : Command → Taking → Result (List ℕ × List ℕ) Fault → Type 0
-Gives c input answer = IfSome input.left (λ bytes. due c bytes ≡ answer)
+-- the input was read to its end, where the command reads; else nothing was taken
+abbrev pub WasReadWhole : Command → Taking → Type 0
+WasReadWhole c input = MatchBool (reads c) (IsReadWhole input) (IsUntaken input)
 
--- where the source tells its bytes, the command keeps of them what it has to
+-- the input was read to its end or past the most bytes, where the command reads; else nothing was taken
+abbrev pub WasReadEnough : Command → Taking → Type 0
+WasReadEnough c input = MatchBool (reads c) (WasRead input) (IsUntaken input)
+
+-- nothing was taken, where the command doesn't read
+abbrev pub IsUnreadBy : Command → Taking → Type 0
+IsUnreadBy c input = OnFalse (reads c) (IsUntaken input)
+
+-- the bytes that a command works from: those of its input, where it reads and the source tells them; none, where it doesn't read
+abbrev pub told_to : Command → Taking → Option (List ℕ)
+told_to c input = if reads c then input.left else Some []
+
+-- where its bytes are told, this is what the command gives from them
+abbrev pub Gives : Command → Taking → Result (List ℕ × List ℕ) Fault → Type 0
+Gives c input answer = IfSome (told_to c input) (λ bytes. due c bytes ≡ answer)
+
+-- where its bytes are told, the command keeps of them what it has to
 abbrev pub Kept : Command → Taking → List ℕ × List ℕ → Type 0
-Kept c input answer = IfSome input.left (λ bytes. Keeps c bytes answer)
+Kept c input answer = IfSome (told_to c input) (λ bytes. Keeps c bytes answer)
 
 -- what the line and its input came to
 abbrev pub IsOutcome : Result Command ℕ → Taking → Outcome → Type 0
 IsOutcome line input (outcome.BadWord i) = (line ≡ Err i) × IsUntaken input
-IsOutcome line input outcome.ReadFailed = IsOk line × HasReadFault input
-IsOutcome line input outcome.NoMemory = IsOk line
-IsOutcome line input (outcome.Refused f) = IsOkAnd line (λ c. WasRead input × Gives c input (Err f))
+IsOutcome line input outcome.ReadFailed = IsOkAnd line (λ c. IsTrue (reads c)) × HasReadFault input
+IsOutcome line input outcome.NoMemory = IsOkAnd line (λ c. IsUnreadBy c input)
+IsOutcome line input (outcome.Refused f) = IsOkAnd line (λ c. WasReadEnough c input × Gives c input (Err f))
 IsOutcome line input (outcome.Done d) = IsOkAnd line (λ c.
-    IsReadWhole input × Gives c input (Ok (d.output.items, d.note.items)) × Kept c input (d.output.items, d.note.items))
+    WasReadWhole c input × Gives c input (Ok (d.output.items, d.note.items)) × Kept c input (d.output.items, d.note.items))
 
 -- what a command came to on all bytes of its input
 abbrev pub IsOutcomeAt : Command → List ℕ → Outcome → Type 0

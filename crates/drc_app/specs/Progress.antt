@@ -1,8 +1,12 @@
 -- A command line read word by word: how far it has come (this project's choice). It finds what the words say.
-use Rattle.std.specs.Prelude.{ℕ, ◌+◌, Bool, true, List, [], ◌∷◌, codes, if◌then◌else◌}
-use Rattle.std.specs.Prelude.{Option, Some, None, Result, Ok, Err, is_some}
+use Rattle.std.specs.Prelude.{ℕ, ◌+◌, ◌^◌, ◌&&◌, nat_lt, nat_le, Bool, true, List, [], ◌∷◌, codes, decimal, if◌then◌else◌}
+use Rattle.std.specs.Prelude.{Option, Some, None, Result, Ok, Err, is_some, option_and_then}
 use Rattle.std.specs.Option.{option_map}
 use Rattle.std.specs.Str.{bytes_eq}
+use Rattle.std.specs.Str.Parse.{digits_value}
+use Rattle.drc_gen.specs.declared.kinds.GenKind.{GenKind}
+use Rattle.drc_gen.specs.declared.kinds.GenKind.TheVariants.{Grid, Torus, Holes, Fans, Seams}
+use Rattle.drc_gen.specs.declared.sizes.TheConstants.{LEAST_SIZE, MOST_SIZE}
 use Rattle.drc_container.specs.declared.choices.Choice.{Choice}
 use Rattle.drc_container.specs.declared.methods.Method.{Method}
 use Rattle.drc_container.specs.declared.methods.Method.TheVariants as method
@@ -36,10 +40,13 @@ abbrev pub predict_named : List ℕ → Option Predict
 predict_named w =
     if bytes_eq w (codes "none") then Some predict.Off
     else if bytes_eq w (codes "diff") then Some predict.Diff
-    else if bytes_eq w (codes "para") then Some predict.Para else None
+    else if bytes_eq w (codes "para") then Some predict.Para
+    else if bytes_eq w (codes "multi") then Some predict.Multi else None
 
 abbrev pub walk_named : List ℕ → Option Walk
-walk_named w = if bytes_eq w (codes "depth") then Some walk.Depth else None
+walk_named w =
+    if bytes_eq w (codes "depth") then Some walk.Depth
+    else if bytes_eq w (codes "degree") then Some walk.Degree else None
 
 abbrev pub option_named : List ℕ → Option OptionWord
 option_named w =
@@ -48,6 +55,28 @@ option_named w =
     else if bytes_eq w (codes "--predict") then Some option.Predict
     else if bytes_eq w (codes "--walk") then Some option.Walk
     else if bytes_eq w (codes "--plain-values") then Some option.PlainValues else None
+
+-- the kind of generated mesh of a word
+abbrev pub gen_named : List ℕ → Option GenKind
+gen_named w =
+    if bytes_eq w (codes "grid") then Some Grid
+    else if bytes_eq w (codes "torus") then Some Torus
+    else if bytes_eq w (codes "holes") then Some Holes
+    else if bytes_eq w (codes "fans") then Some Fans
+    else if bytes_eq w (codes "seams") then Some Seams else None
+
+-- the number below 2^64 whose decimal text the word is
+abbrev pub number_named : List ℕ → Option ℕ
+number_named w =
+    if nat_lt (digits_value 10 w) (2 ^ 64) && bytes_eq w (decimal (digits_value 10 w)) then Some (digits_value 10 w) else None
+
+-- the number, if it is the size of a mesh
+abbrev pub sized : ℕ → Option ℕ
+sized n = if nat_le LEAST_SIZE n && nat_le n MOST_SIZE then Some n else None
+
+-- the size whose decimal text the word is
+abbrev pub size_named : List ℕ → Option ℕ
+size_named w = option_and_then sized (number_named w)
 
 -- whether the option was given
 abbrev pub is_given : Choice → OptionWord → Bool
@@ -84,9 +113,14 @@ abbrev pub after_word : Progress → List ℕ → Option Progress
 after_word progress.Nothing w =
     if bytes_eq w (codes "enc") then Some (progress.Options no_choice)
     else if bytes_eq w (codes "dec") then Some (progress.Whole command.Dec)
-    else if bytes_eq w (codes "info") then Some (progress.Whole command.Info) else None
+    else if bytes_eq w (codes "info") then Some (progress.Whole command.Info)
+    else if bytes_eq w (codes "gen") then Some progress.KindDue else None
 after_word (progress.Options c) w = with_option c (option_named w)
 after_word (progress.Value c o) w = option_map progress.Options (with_value c o w)
+after_word progress.KindDue w = option_map progress.SizeDue (gen_named w)
+after_word (progress.SizeDue kind) w = option_map (progress.SeedDue kind) (size_named w)
+after_word (progress.SeedDue kind size) w =
+    option_map (λ seed. progress.Whole (command.Gen (record { kind = kind; size = size; seed = seed }))) (number_named w)
 after_word (progress.Whole c) w = None
 
 -- the command of a whole line; else the number of its words, i
@@ -94,6 +128,9 @@ abbrev pub whole_line : ℕ → Progress → Result Command ℕ
 whole_line i progress.Nothing = Err i
 whole_line i (progress.Options c) = Ok (command.Enc c)
 whole_line i (progress.Value c o) = Err i
+whole_line i progress.KindDue = Err i
+whole_line i (progress.SizeDue kind) = Err i
+whole_line i (progress.SeedDue kind size) = Err i
 whole_line i (progress.Whole c) = Ok c
 
 -- what follows the word of number i, where it begins a command line

@@ -1,50 +1,50 @@
 -- What one call of the program does, status by status (this project's choice).
-use Rattle.std.specs.Prelude.{◌≡◌, ◌≢◌, ℕ, ◌≤◌, ◌⊎◌, List, Result, Ok, Err, IfSome, IsOk, IsErr, IsOkAnd, IsErrAnd, IfOk}
+use Rattle.std.specs.Prelude.{◌≡◌, ◌≢◌, ℕ, ◌≤◌, ◌⊎◌, List, Result, Ok, Err, IfSome, IsErr, IsOkAnd, IsErrAnd, IfOk, IsTrue}
 use Rattle.drc_base.specs.declared.faults.Fault.{Fault}
-use Rattle.drc_app.specs.Ends.{Taking, Putting, HasReadFault, HasWriteFault, IsReadWhole, IsUntaken, IsUntouched, IsWritten, IsTried}
+use Rattle.drc_app.specs.Ends.{Taking, Putting, HasReadFault, HasWriteFault, IsUntaken, IsUntouched, IsWritten, IsTried}
 use Rattle.drc_app.specs.Notes.{refused_note, bad_word_note, read_failed_note, memory_note}
-use Rattle.drc_app.specs.Due.{due}
-use Rattle.drc_app.specs.Outcome.{WasRead, Gives, Kept, IsCutShort}
+use Rattle.drc_app.specs.Due.{reads, due}
+use Rattle.drc_app.specs.Outcome.{WasReadWhole, WasReadEnough, IsUnreadBy, told_to, Gives, Kept, IsCutShort}
 use Rattle.drc_app.specs.declared.commands.Command.{Command}
 
--- the words are a command, the whole input was read, and all that it gives was written; what the command has to keep of its
+-- the words are a command, the whole input was read where it reads, and all that it gives was written; what the command has to keep of its
 -- input it kept
 abbrev pub IsDone : Command → Taking → Putting → Putting → Type 0
 IsDone c input output notes =
-    IsReadWhole input
+    WasReadWhole c input
     × ((text : List ℕ) × (note : List ℕ) × Gives c input (Ok (text, note)) × Kept c input (text, note)
     × IsWritten output text × IsWritten notes note)
 
--- the words are a command, all was read, and this fault is the input's first
+-- the words are a command, all was read where it reads, and this is the first fault
 abbrev pub IsRefused : Command → Taking → Putting → Type 0
-IsRefused c input notes = WasRead input × ((f : Fault) × Gives c input (Err f) × IsTried notes (refused_note f))
+IsRefused c input notes = WasReadEnough c input × ((f : Fault) × Gives c input (Err f) × IsTried notes (refused_note f))
 
 -- an output is due, and a sink failed
 abbrev pub IsStopped : Command → Taking → Putting → Putting → Type 0
 IsStopped c input output notes =
-    IsReadWhole input
+    WasReadWhole c input
     × ((text : List ℕ) × (note : List ℕ) × Gives c input (Ok (text, note)) × IsCutShort output notes text note)
 
--- what a call with this line did to its source and its sinks, by its status
+-- what a call with this line did to its source and its sinks, by its status; reading fails only for a command that reads
 pub record HasRun (line : Result Command ℕ) (input : Taking) (output notes : Putting) (status : ℕ) : Type 0 where
   pub known : status ≤ 5
   pub done : status ≡ 0 → IsOkAnd line (λ c. IsDone c input output notes)
   pub bad_words : status ≡ 1 → IsErrAnd line (λ i. IsUntaken input × IsTried notes (bad_word_note i))
   pub bad_words_only : IsErr line → status ≡ 1
   pub refused : status ≡ 2 → IsOkAnd line (λ c. IsRefused c input notes)
-  pub read_failed : status ≡ 3 → IsOk line × HasReadFault input × IsTried notes read_failed_note
+  pub read_failed : status ≡ 3 → IsOkAnd line (λ c. IsTrue (reads c)) × HasReadFault input × IsTried notes read_failed_note
   pub write_failed : status ≡ 4 → IsOkAnd line (λ c. IsStopped c input output notes)
-  pub memory : status ≡ 5 → IsOk line × IsTried notes memory_note
+  pub memory : status ≡ 5 → IsOkAnd line (λ c. IsUnreadBy c input) × IsTried notes memory_note
   pub kept : status ≢ 0 → status ≢ 4 → IsUntouched output
 
--- where the whole input is told and gives an output, and nothing failed, the call is done, unless memory ran out
+-- where what the command works from is told and gives an output, and nothing failed, the call is done, unless memory ran out
 abbrev pub IsComplete : Result Command ℕ → Taking → Putting → Putting → ℕ → Type 0
 IsComplete line input output notes status =
-    IfOk line (λ c. IfSome input.left (λ bytes. (answer : List ℕ × List ℕ) → due c bytes ≡ Ok answer
+    IfOk line (λ c. IfSome (told_to c input) (λ bytes. (answer : List ℕ × List ℕ) → due c bytes ≡ Ok answer
     → ¬ HasReadFault input → ¬ HasWriteFault output → ¬ HasWriteFault notes → (status ≡ 0) ⊎ (status ≡ 5)))
 
--- where the whole input is told and has a fault, the call names it, unless the input failed or memory ran out
+-- where what the command works from is told and has a fault, the call names it, unless the input failed or memory ran out
 abbrev pub NamesFault : Result Command ℕ → Taking → ℕ → Type 0
 NamesFault line input status =
-    IfOk line (λ c. IfSome input.left (λ bytes. (f : Fault) → due c bytes ≡ Err f
+    IfOk line (λ c. IfSome (told_to c input) (λ bytes. (f : Fault) → due c bytes ≡ Err f
     → (status ≡ 2) ⊎ ((status ≡ 3) × HasReadFault input) ⊎ (status ≡ 5)))

@@ -1,10 +1,25 @@
 //! The command lines.
 
-ghost use Rattle.std.specs.Prelude.{◌≡◌, List, ℕ, map, Result, string_bytes};
-ghost use Rattle.drc_app.specs.Line.{no_choice};
+ghost use Rattle.std.specs.Prelude.{◌≡◌, List, ℕ, map, Result, string_bytes, IfOk};
+ghost use Rattle.drc_app.specs.Line.{no_choice, IsSized};
+ghost use Rattle.drc_app.specs.Due.{reads};
 ghost use Rattle.drc_app.specs.Progress.{method_named, index_named, predict_named, walk_named, option_named, is_given, with_value, without_value, with_option, after_word, whole_line, line_of};
 
+use crate::gen_words::{gen_named, number_named, size_named};
 use drc_container::{Choice, Index, Method, Predict, Walk};
+use drc_gen::GenKind;
+
+/// A generated mesh: its kind, its size, from `LEAST_SIZE` to `MOST_SIZE` in a command line, and its
+/// seed.
+#[derive(Clone, Copy, Debug, PartialEq, Eq)]
+pub struct GenMesh {
+    /// The kind.
+    pub kind: GenKind,
+    /// How many cells it has each way.
+    pub size: u32,
+    /// What its draws come from.
+    pub seed: u64,
+}
 
 /// What a command line asks for.
 #[derive(Clone, Copy, Debug, PartialEq, Eq)]
@@ -15,6 +30,8 @@ pub enum Command {
     Dec,
     /// A stream to a report.
     Info,
+    /// A generated mesh to a summary. It reads nothing.
+    Gen(GenMesh),
 }
 
 /// An option of `enc`.
@@ -41,6 +58,12 @@ pub enum Progress {
     Options(Choice),
     /// `enc` with whole options and one whose value is due.
     Value(Choice, OptionWord),
+    /// `gen`, whose kind is due.
+    KindDue,
+    /// `gen` with a kind, whose size is due.
+    SizeDue(GenKind),
+    /// `gen` with a kind and a size, whose seed is due.
+    SeedDue(GenKind, u32),
     /// A line that takes no more words.
     Whole(Command),
 }
@@ -48,7 +71,8 @@ pub enum Progress {
 /// The command of a line, or the number of its bad word: the least i such that the first i + 1 words
 /// begin no command line, or the number of words where a word is missing. It takes no memory.
 pub fn command_of(words: &[String]) -> Result<Command, u64>
-    ensures { result ≡ line_of (map string_bytes words.now) }
+    ensures line { result ≡ line_of (map string_bytes words.now) }
+    ensures sized { IfOk result IsSized }
 {
     let mut progress = Progress::Nothing;
     for (i, word) in words.iter().enumerate() {
@@ -60,6 +84,18 @@ pub fn command_of(words: &[String]) -> Result<Command, u64>
     whole_line(words.len() as u64, progress)
 }
 
+/// Whether a command reads its input.
+pub fn reads(command: Command) -> bool
+    ensures { result ≡ reads command }
+{
+    match command {
+        Command::Enc(_) => true,
+        Command::Dec => true,
+        Command::Info => true,
+        Command::Gen(_) => false,
+    }
+}
+
 /// The command of a whole line; else the number of its words.
 fn whole_line(count: u64, progress: Progress) -> Result<Command, u64>
     ensures { result ≡ whole_line count progress }
@@ -69,6 +105,9 @@ fn whole_line(count: u64, progress: Progress) -> Result<Command, u64>
         Progress::Whole(command) => Ok(command),
         Progress::Nothing => Err(count),
         Progress::Value(_, _) => Err(count),
+        Progress::KindDue => Err(count),
+        Progress::SizeDue(_) => Err(count),
+        Progress::SeedDue(_, _) => Err(count),
     }
 }
 
@@ -84,6 +123,18 @@ fn after_word(progress: Progress, word: &str) -> Option<Progress>
         },
         Progress::Value(choice, option) => match with_value(choice, option, word) {
             Some(choice) => Some(Progress::Options(choice)),
+            None => None,
+        },
+        Progress::KindDue => match gen_named(word) {
+            Some(kind) => Some(Progress::SizeDue(kind)),
+            None => None,
+        },
+        Progress::SizeDue(kind) => match size_named(word) {
+            Some(size) => Some(Progress::SeedDue(kind, size)),
+            None => None,
+        },
+        Progress::SeedDue(kind, size) => match number_named(word) {
+            Some(seed) => Some(Progress::Whole(Command::Gen(GenMesh { kind, size, seed }))),
             None => None,
         },
         Progress::Whole(_) => None,
@@ -103,11 +154,14 @@ fn first_word(word: &str) -> Option<Progress>
     if word == "info" {
         return Some(Progress::Whole(Command::Info));
     }
+    if word == "gen" {
+        return Some(Progress::KindDue);
+    }
     None
 }
 
 /// No option.
-fn no_choice() -> Choice
+pub fn no_choice() -> Choice
     ensures { result ≡ no_choice }
 {
     Choice {
@@ -230,6 +284,9 @@ fn predict_named(word: &str) -> Option<Predict>
     if word == "para" {
         return Some(Predict::Para);
     }
+    if word == "multi" {
+        return Some(Predict::Multi);
+    }
     None
 }
 
@@ -239,6 +296,9 @@ fn walk_named(word: &str) -> Option<Walk>
 {
     if word == "depth" {
         return Some(Walk::Depth);
+    }
+    if word == "degree" {
+        return Some(Walk::Degree);
     }
     None
 }

@@ -5,12 +5,14 @@
 
 mod commands;
 mod delivery;
+mod gen_words;
 mod laws;
 mod notes;
 mod outcomes;
 mod running;
+mod summaries;
 
-pub use commands::Command;
+pub use commands::{Command, GenMesh};
 pub use delivery::out_of_memory;
 pub use laws::words_say_one_thing;
 pub use running::run;

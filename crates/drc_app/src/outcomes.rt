@@ -1,16 +1,19 @@
 //! What a command line and its input come to, before anything is written.
 
-ghost use Rattle.std.specs.Prelude.{◌≡◌, ◌≤◌, map, string_bytes, length, IfOk};
+ghost use Rattle.std.specs.Prelude.{◌≡◌, ◌≤◌, map, string_bytes, length, IfOk, IsTrue};
 ghost use Rattle.drc_base.specs.Refusals.{Answers};
 ghost use Rattle.ply_mesh.specs.Read.{ply_read};
+ghost use Rattle.drc_gen.specs.GeneratedLaws.{IsSize};
 ghost use Rattle.drc_container.specs.Stream.{meaning_of};
+ghost use Rattle.drc_app.specs.Line.{IsSized};
 ghost use Rattle.drc_app.specs.Progress.{line_of};
 ghost use Rattle.drc_app.specs.Ends.{takes};
-ghost use Rattle.drc_app.specs.Due.{input_limit, worked, stream_due, text_due, report_due};
+ghost use Rattle.drc_app.specs.Due.{input_limit, reads, due, worked, stream_due, text_due, report_due, summary_due};
 ghost use Rattle.drc_app.specs.Kept.{Keeps, KeepsGeometry};
 ghost use Rattle.drc_app.specs.Outcome.{IsOutcome, IsOutcomeAt};
 
-use crate::commands::{Command, command_of};
+use crate::commands::{Command, GenMesh, command_of, reads};
+use crate::summaries::summary_due;
 use drc_base::{Fault, Kind, MAX_INPUT_BYTES, ReadEnd, Refusal, Source, read_all};
 use drc_container::{Choice, decode, encode};
 use drc_info::report;
@@ -51,6 +54,9 @@ pub fn outcome_of<I: Source>(alloc: Global, words: &[String], input: &mut I) -> 
         Ok(command) => command,
         Err(index) => return Outcome::BadWord(index),
     };
+    if !reads(command) {
+        return outcome_at(alloc, command, Vec::new(alloc));
+    }
     match read_all(alloc, input, MAX_INPUT_BYTES) {
         Ok(bytes) => outcome_at(alloc, command, bytes),
         Err(ReadEnd::Failed) => Outcome::ReadFailed,
@@ -71,7 +77,8 @@ fn input_limit() -> Fault
 
 /// What the command comes to on all bytes of its input.
 fn outcome_at(alloc: Global, command: Command, bytes: Vec<u8>) -> Outcome
-    requires { length bytes.items ≤ MAX_INPUT_BYTES }
+    requires few { length bytes.items ≤ MAX_INPUT_BYTES }
+    requires sized { IsSized command }
     ensures { IsOutcomeAt command bytes.items result }
 {
     match work(alloc, command, bytes) {
@@ -83,6 +90,7 @@ fn outcome_at(alloc: Global, command: Command, bytes: Vec<u8>) -> Outcome
 
 /// What the command gives from these bytes, which are freed as soon as they are read.
 fn work(alloc: Global, command: Command, bytes: Vec<u8>) -> Result<Due, Refusal>
+    requires { IsSized command }
     ensures answer { Answers (λ d. (d.output.items, d.note.items)) (worked command bytes.items) result }
     ensures kept { IfOk result (λ d. Keeps command bytes.items (d.output.items, d.note.items)) }
 {
@@ -90,6 +98,7 @@ fn work(alloc: Global, command: Command, bytes: Vec<u8>) -> Result<Due, Refusal>
         Command::Enc(choice) => stream_due(alloc, &choice, bytes),
         Command::Dec => text_due(alloc, bytes),
         Command::Info => report_due(alloc, &bytes),
+        Command::Gen(asked) => gen_due(alloc, asked),
     }
 }
 
@@ -138,6 +147,18 @@ fn report_due(alloc: Global, stream: &[u8]) -> Result<Due, Refusal>
     ensures { Answers (λ d. (d.output.items, d.note.items)) (report_due stream.now) result }
 {
     let output = report(alloc, stream)?;
+    Ok(Due {
+        output,
+        note: Vec::new(alloc),
+    })
+}
+
+/// The summary of a generated mesh, and no note.
+fn gen_due(alloc: Global, asked: GenMesh) -> Result<Due, Refusal>
+    requires { IsSize asked.size }
+    ensures { Answers (λ d. (d.output.items, d.note.items)) (summary_due asked.kind asked.size asked.seed) result }
+{
+    let output = summary_due(alloc, asked)?;
     Ok(Due {
         output,
         note: Vec::new(alloc),

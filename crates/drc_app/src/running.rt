@@ -11,9 +11,10 @@ use crate::outcomes::outcome_of;
 use drc_base::{Sink, Source};
 use std::alloc::Global;
 
-/// Runs the command of `words`, without the program's name: reads `input`, writes `output` and leaves
-/// a note. It answers the status: 0 done, 1 bad words, 2 the input is refused, 3 reading failed, 4
-/// writing failed, 5 out of memory.
+/// Runs the command of `words`, without the program's name: reads `input`, where the command reads,
+/// writes `output` and leaves a note. It answers the status: 0 done, 1 bad words, 2 the input is
+/// refused, 3 reading failed, 4 writing failed, 5 out of memory. With bad words, and for `gen`, nothing
+/// is taken from the input.
 pub fn run<I: Source, O: Sink, N: Sink>(
     alloc: Global,
     words: &[String],

@@ -1,8 +1,13 @@
 ghost use Rattle.std.specs.Prelude.{◌<◌};
 
 use super::*;
-use drc_base::{MemSink, MemSource, Sink};
+use crate::commands::{command_of, no_choice};
+use drc_base::{MemSink, MemSource, Refusal, Sequence, Sink};
+use drc_container::{Choice, Method, Predict, Walk, decode, encode};
+use drc_gen::{GenKind, generate};
+use mesh_model::{Geometry, Renumber, matches};
 use std::alloc::Global;
+use std::process::Abort;
 use std::test::Fail;
 
 /// A sequential stream of one triangle.
@@ -90,12 +95,18 @@ fn prefix(text: &[u8], pieces: u64, piece: usize) -> Result<&[u8], Fail> {
     Ok(text.get(..len).ok_or("a prefix")?)
 }
 
-/// Runs the words over these bytes, with the failing calls of the source and of both sinks.
-fn run_line(alloc: Global, line: &str, bytes: &[u8], fails: [u64; 3]) -> Result<Ran, Fail> {
+/// The words of a line.
+fn words_of(alloc: Global, line: &str) -> Result<Vec<String>, Fail> {
     let mut words = Vec::new(alloc);
     for word in line.split(' ') {
         words.push(String::from_str(alloc, word)?)?;
     }
+    Ok(words)
+}
+
+/// Runs the words over these bytes, with the failing calls of the source and of both sinks.
+fn run_line(alloc: Global, line: &str, bytes: &[u8], fails: [u64; 3]) -> Result<Ran, Fail> {
+    let words = words_of(alloc, line)?;
     let bytes = Vec::from_slice(alloc, bytes)?;
     let mut input = MemSource::new(bytes, 16, only(alloc, fails[0])?);
     let mut output = MemSink::new(alloc, 16, 1000, only(alloc, fails[1])?)?;
@@ -171,6 +182,139 @@ fn notes_that_fail_keep_a_prefix(rt: HostRuntime) -> Result<(), Fail> {
             assert!(rt; done.output.held().is_empty());
             assert_eq!(rt; done.notes.held(), prefix(note.as_bytes(), call, 4)?);
         }
+    }
+    Ok(())
+}
+
+/// The command of a generated mesh.
+fn gen_of(kind: GenKind, size: u32, seed: u64) -> Command {
+    Command::Gen(GenMesh { kind, size, seed })
+}
+
+#[test]
+fn the_words_of_a_generated_mesh_are_exact(rt: HostRuntime) -> Result<(), Fail> {
+    for (line, said) in [
+        ("gen grid 3 0", Ok(gen_of(GenKind::Grid, 3, 0))),
+        ("gen torus 512 10", Ok(gen_of(GenKind::Torus, 512, 10))),
+        ("gen holes 9 1", Ok(gen_of(GenKind::Holes, 9, 1))),
+        ("gen fans 10 7", Ok(gen_of(GenKind::Fans, 10, 7))),
+        (
+            "gen seams 100 18446744073709551615",
+            Ok(gen_of(GenKind::Seams, 100, u64::MAX)),
+        ),
+        ("gen", Err(1)),
+        ("gen cube", Err(1)),
+        ("gen Grid 3 0", Err(1)),
+        ("gen grid", Err(2)),
+        ("gen grid 2 0", Err(2)),
+        ("gen grid 513 0", Err(2)),
+        ("gen grid 03 0", Err(2)),
+        ("gen grid +3 0", Err(2)),
+        ("gen grid 3.0 0", Err(2)),
+        ("gen grid 3", Err(3)),
+        ("gen grid 3 01", Err(3)),
+        ("gen grid 3 -1", Err(3)),
+        ("gen grid 3 18446744073709551616", Err(3)),
+        ("gen grid 3 0 x", Err(4)),
+        ("grid 3 0", Err(0)),
+    ] {
+        let words = words_of(rt.alloc(), line)?;
+        assert_eq!(rt; command_of(&words), said);
+    }
+    Ok(())
+}
+
+#[test]
+fn predictions_and_walks_are_named(rt: HostRuntime) -> Result<(), Fail> {
+    let words = words_of(rt.alloc(), "enc --walk degree --predict multi")?;
+    let choice = Choice {
+        predict: Some(Predict::Multi),
+        walk: Some(Walk::Degree),
+        ..no_choice()
+    };
+    assert_eq!(rt; command_of(&words), Ok(Command::Enc(choice)));
+    Ok(())
+}
+
+/// How many bytes a mesh is encoded as by a method. It asserts that they mean the mesh by just the rows
+/// that are told.
+fn length_kept(
+    rt: &impl Abort,
+    alloc: Global,
+    mesh: &Geometry,
+    method: Method,
+) -> Result<usize, Refusal> {
+    let choice = Choice {
+        method: Some(method),
+        ..no_choice()
+    };
+    let (stream, rows) = encode(alloc, mesh, &choice)?;
+    let decoded = decode(alloc, &stream)?;
+    let same = matches(alloc, mesh, &decoded, &rows)?;
+    assert!(rt; same);
+    let mut fewer = rows.rows.into_vec();
+    let _ = fewer.pop();
+    let fewer = Renumber {
+        rows: Sequence::from_vec(fewer),
+    };
+    let same = matches(alloc, mesh, &decoded, &fewer)?;
+    assert!(rt; !same);
+    Ok(stream.len())
+}
+
+#[test]
+fn the_summary_of_a_generated_mesh_tells_the_lengths_of_its_streams(
+    rt: HostRuntime,
+) -> Result<(), Fail> {
+    let alloc = rt.alloc();
+    for (line, kind, size, seed, counts) in [
+        ("gen grid 3 0", GenKind::Grid, 3, 0, "faces 18\npoints 16\n"),
+        (
+            "gen grid 8 1",
+            GenKind::Grid,
+            8,
+            1,
+            "faces 128\npoints 81\n",
+        ),
+        (
+            "gen torus 8 1",
+            GenKind::Torus,
+            8,
+            1,
+            "faces 128\npoints 64\n",
+        ),
+        (
+            "gen holes 8 1",
+            GenKind::Holes,
+            8,
+            1,
+            "faces 110\npoints 81\n",
+        ),
+        (
+            "gen fans 8 1",
+            GenKind::Fans,
+            8,
+            1,
+            "faces 64\npoints 129\n",
+        ),
+        (
+            "gen seams 8 1",
+            GenKind::Seams,
+            8,
+            1,
+            "faces 128\npoints 256\n",
+        ),
+    ] {
+        let mesh = Geometry::Mesh(generate(alloc, kind, size, seed)?);
+        let seq = length_kept(&rt, alloc, &mesh, Method::Seq)?;
+        let eb = length_kept(&rt, alloc, &mesh, Method::Eb)?;
+        let valence = length_kept(&rt, alloc, &mesh, Method::Valence)?;
+        let due = format!(in alloc; "{line}\n{counts}seq {seq}\neb {eb}\nvalence {valence}\n")?;
+        // A source that fails at its first call shows that it isn't called.
+        let done = run_line(alloc, line, b"", [0, NEVER, NEVER])?;
+        assert_eq!(rt; done.status, 0);
+        assert_eq!(rt; done.output.held(), due.as_bytes());
+        assert!(rt; done.notes.held().is_empty());
     }
     Ok(())
 }

@@ -1,0 +1,116 @@
+//! The summary of a generated mesh.
+
+ghost use Rattle.std.specs.Prelude.{◌≡◌, ◌++◌, ◌∷◌, [], codes, decimal, OnOk, IfOk};
+ghost use Rattle.drc_base.specs.Refusals.{Answers};
+ghost use Rattle.mesh_model.specs.declared.geometries.Geometry.TheVariants.{Mesh};
+ghost use Rattle.drc_gen.specs.GeneratedLaws.{IsSize};
+ghost use Rattle.drc_app.specs.Summary.{count_line, asked_line, summary_text};
+ghost use Rattle.drc_app.specs.Due.{length_due, summary_of, summary_due};
+
+use crate::commands::{GenMesh, no_choice};
+use crate::gen_words::gen_word;
+use decimal_text::append_spaced;
+use drc_base::{Memory, Refusal};
+use drc_container::{Choice, Method, encode};
+use drc_gen::generate;
+use mesh_model::{CornerMesh, Geometry};
+use std::alloc::Global;
+
+/// What a summary tells of a generated mesh.
+#[derive(Clone, Copy, Debug, PartialEq, Eq)]
+pub struct Summary {
+    /// The mesh that was asked for.
+    pub asked: GenMesh,
+    /// How many faces it has.
+    pub faces: u32,
+    /// How many points it has.
+    pub points: u32,
+    /// How many bytes the sequential method gives.
+    pub seq: u64,
+    /// How many bytes Edgebreaker with standard symbols gives.
+    pub eb: u64,
+    /// How many bytes Edgebreaker with symbols by valence gives.
+    pub valence: u64,
+}
+
+/// The summary of a generated mesh: what it was asked for by, how many faces and points it has, and how
+/// many bytes each method gives with no other option. It refuses what `encode` refuses.
+#[tactic(auto, unfolding(crate::specs::Due::summary_due))]
+pub fn summary_due(alloc: Global, asked: GenMesh) -> Result<Vec<u8>, Refusal>
+    requires { IsSize asked.size }
+    ensures { Answers (λ text. (text.items, [])) (summary_due asked.kind asked.size asked.seed) result }
+{
+    let made = generate(alloc, asked.kind, asked.size, asked.seed)?;
+    let summary = summary_of(alloc, asked, made)?;
+    Ok(summary_text(alloc, &summary)?)
+}
+
+/// What a summary tells of a mesh that was asked for so. The mesh is freed.
+#[tactic(auto, unfolding(crate::specs::Due::summary_of))]
+fn summary_of(alloc: Global, asked: GenMesh, made: CornerMesh) -> Result<Summary, Refusal>
+    ensures { Answers (λ s. s) (summary_of asked made) result }
+{
+    let (faces, points) = (made.face_count(), made.point_count());
+    let geometry = Geometry::Mesh(made);
+    let seq = length_due(alloc, &geometry, Method::Seq)?;
+    let eb = length_due(alloc, &geometry, Method::Eb)?;
+    let valence = length_due(alloc, &geometry, Method::Valence)?;
+    Ok(Summary {
+        asked,
+        faces,
+        points,
+        seq,
+        eb,
+        valence,
+    })
+}
+
+/// How many bytes a geometry is encoded as by this method, with no other option.
+#[tactic(auto, unfolding(crate::specs::Due::length_due))]
+fn length_due(alloc: Global, geometry: &Geometry, method: Method) -> Result<u64, Refusal>
+    ensures { Answers (λ n. n) (length_due geometry.now method) result }
+{
+    let choice = Choice {
+        method: Some(method),
+        ..no_choice()
+    };
+    let (stream, _rows) = encode(alloc, geometry, &choice)?;
+    Ok(stream.len() as u64)
+}
+
+/// The text of a summary.
+#[tactic(auto, unfolding(crate::specs::Summary::summary_text))]
+fn summary_text(alloc: Global, s: &Summary) -> Result<Vec<u8>, Memory>
+    ensures { IfOk result (λ text. text.items ≡ summary_text s.now) }
+{
+    let mut out = Vec::new(alloc);
+    put_asked(&mut out, s.asked)?;
+    put_count(&mut out, "faces", s.faces as u64)?;
+    put_count(&mut out, "points", s.points as u64)?;
+    put_count(&mut out, "seq", s.seq)?;
+    put_count(&mut out, "eb", s.eb)?;
+    put_count(&mut out, "valence", s.valence)?;
+    Ok(out)
+}
+
+/// Appends the line of the words that ask for a mesh.
+fn put_asked(out: &mut Vec<u8>, asked: GenMesh) -> Result<(), Memory>
+    ensures { OnOk result (out.new.items ≡ out.old.items ++ asked_line asked) }
+{
+    out.extend_from_slice(b"gen ")?;
+    out.extend_from_slice(gen_word(asked.kind).as_bytes())?;
+    append_spaced(out, asked.size as u64)?;
+    append_spaced(out, asked.seed)?;
+    out.push(b'\n')?;
+    Ok(())
+}
+
+/// Appends a line of a word and a number.
+fn put_count(out: &mut Vec<u8>, word: &str, n: u64) -> Result<(), Memory>
+    ensures { OnOk result (out.new.items ≡ out.old.items ++ count_line word.now n) }
+{
+    out.extend_from_slice(word.as_bytes())?;
+    append_spaced(out, n)?;
+    out.push(b'\n')?;
+    Ok(())
+}
