@@ -141,13 +141,6 @@ pub(crate) fn rebuild_linked<F: SymbolSource, L: Ledger>(
 {
     let created = opening.vertices + opening.splits;
     let most = most_built(opening.faces, source.most(opening.symbols));
-    let machine = LinkRebuild::new(
-        alloc,
-        opening.faces,
-        created,
-        opening.symbols,
-        most,
-        events,
-    )?;
+    let machine = LinkRebuild::new(alloc, opening.faces, created, opening.symbols, most, events)?;
     rebuild(alloc, machine, source, starts, opening.symbols, steps)
 }
