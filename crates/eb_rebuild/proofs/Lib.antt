@@ -1,5 +1,6 @@
 mod Rows
 pub mod Lists
+pub mod Spread
 pub mod Noting
 pub mod Steps
 pub mod Linking

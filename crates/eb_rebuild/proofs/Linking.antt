@@ -1,5 +1,5 @@
 -- A rebuilding by links after a step: its lists, its room and its state.
-use Rattle.std.proofs.Common.{◌≡◌, ◌≢◌, ℕ, suc, ◌+◌, ◌*◌, ◌<◌, ◌≤◌, Bool, true, false, not, ◌&&◌, List, [], ◌∷◌, length, map, Option, Some, None, Result, Ok, Err, MatchResult, sym, refl, ap, ◌∙◌, subst, arith, add-zero}
+use Rattle.std.proofs.Common.{◌≡◌, ◌≢◌, ℕ, suc, ◌+◌, ◌*◌, ◌<◌, ◌≤◌, min, Bool, true, false, not, ◌&&◌, List, [], ◌∷◌, length, map, Option, Some, None, Result, Ok, Err, MatchResult, sym, refl, ap, ◌∙◌, subst, arith, add-zero}
 use Rattle.drc_base.specs.declared.faults.Fault.{Fault}
 use Rattle.drc_base.specs.declared.limits.TheConstants.{MAX_FACES}
 use Rattle.corner_table.specs.declared.symbols.Event.{Event}
@@ -45,13 +45,17 @@ pub record Grown (old new : LinkValue) : Type 0 where
   pub made : new.made ≤ old.made + 3
   pub closes : new.closes ≡ old.closes
 
+-- the room of a stack, where plan and table have as much as before
+same_least : {stack room more : ℕ} {plan same : Plan} → stack ≡ min plan.symbols room → plan ≡ same → room ≡ more → stack ≡ min same.symbols more
+same_least {stack} {room} {more} {plan} {same} e p r = e ∙ ap (λ (p : Plan). min p.symbols room) p ∙ ap (min same.symbols) r
+
 pub link_grown : {old new : LinkValue} → IsLinkState old → Grown old new → IsLinkState new
 link_grown {old} {new} I W = record {
   limit = subst (λ (p : Plan). p.faces ≤ MAX_FACES) (sym W.plan) I.limit;
-  room = W.room ∙ I.room ∙ ap (λ (p : Plan). p.faces) (sym W.plan);
+  room = (let r = W.room in let i = I.room in let p = ap (λ (p : Plan). p.faces) W.plan in omega arith);
   fewer = subst (λ (p : Plan). p.symbols ≤ p.faces) (sym W.plan) I.fewer;
   slots = W.slots ∙ I.slots ∙ ap (λ (p : Plan). p.symbols) (sym W.plan);
-  stack_room = W.stack_room ∙ I.stack_room ∙ ap (λ (p : Plan). p.symbols) (sym W.plan);
+  stack_room = W.stack_room ∙ same_least I.stack_room (sym W.plan) (sym W.room);
   low = (let a = ap {A = List ℕ} length W.sides in let b = W.shorter in let c = I.low in let d = W.faces in let e = W.closes in omega arith);
   few = (let a = ap {A = List ℕ} length W.sides in let b = W.shorter in let c = I.low in let d = W.more in let e = W.closes in let f = ap (λ (p : Plan). p.symbols) W.plan in omega arith);
   sides = subst (λ (n : ℕ). AreSidesBelow n new.stack.sides) (sym W.faces) (subst (AreSidesBelow (suc old.table.faces)) (sym W.sides) (omega arith, sides_below_more old.table.faces W.rest W.below));
@@ -351,10 +355,10 @@ pub link_closed : {v new : LinkValue} → IsLinkState v → (a : ℕ) (rest : Li
     new.splits ≡ v.splits → new.made ≡ v.made → new.closes ≡ suc v.closes → AreSidesBelow new.table.faces rest → AreKeptBelow new.table.faces v.splits.kept → IsLinkState new
 link_closed {v} {new} I a rest more e p r f s t u m c K B = record {
   limit = subst (λ (p : Plan). p.faces ≤ MAX_FACES) (sym p) I.limit;
-  room = r ∙ I.room ∙ ap (λ (p : Plan). p.faces) (sym p);
+  room = (let i = I.room in let f = ap (λ (p : Plan). p.faces) p in omega arith);
   fewer = subst (λ (p : Plan). p.symbols ≤ p.faces) (sym p) I.fewer;
   slots = ap (λ (x : SplitsValue). length x.kept) u ∙ I.slots ∙ ap (λ (p : Plan). p.symbols) (sym p);
-  stack_room = t ∙ I.stack_room ∙ ap (λ (p : Plan). p.symbols) (sym p);
+  stack_room = t ∙ same_least I.stack_room (sym p) (sym r);
   low = (let h = ap {A = List ℕ} length e in let k = ap {A = List ℕ} length s in let l = I.low in omega arith);
   few = (let h = ap {A = List ℕ} length e in let k = ap {A = List ℕ} length s in let l = I.few in let q = ap (λ (p : Plan). p.symbols) p in omega arith);
   sides = subst (AreSidesBelow new.table.faces) (sym s) K;

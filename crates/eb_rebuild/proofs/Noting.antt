@@ -1,5 +1,5 @@
 -- How the machine notes events, one at a time, and what that does to a list of kept sides.
-use Rattle.std.proofs.Common.{◌≡◌, ◌≢◌, ℕ, zero, suc, ◌+◌, ◌-◌, ◌*◌, ◌<◌, Bool, true, false, not, cond, eqb, is_none, List, [], ◌∷◌, length, get_or, set, Option, Some, None, Result, Ok, Err, inl, inr, sym, refl, ap, ◌∙◌, subst, arith, get_or-set_other, get_or-set_same, lt-ltb, le-ltb, eq-eqb, ne_eqb, eqb-true}
+use Rattle.std.proofs.Common.{◌≡◌, ◌≢◌, ℕ, zero, suc, ◌+◌, ◌-◌, ◌*◌, ◌<◌, Bool, true, false, not, cond, eqb, is_none, List, [], ◌∷◌, length, get_or, set, All, Option, Some, None, Result, Ok, Err, inl, inr, sym, refl, ap, ◌∙◌, subst, arith, get_or-set_other, get_or-set_same, lt-ltb, le-ltb, eq-eqb, ne_eqb, eqb-true}
 use Rattle.std.proofs.lemmas.Bool.{cases_Bool, cases_eq, cond-true, cond-false}
 use mathlib.Core.Path.{fun_ext}
 use Rattle.drc_base.specs.declared.kinds.Kind.TheVariants as kind
@@ -11,7 +11,8 @@ use Rattle.corner_table.specs.Sides.{Side, side, number, side_at}
 use Rattle.corner_table.specs.Table.{other_at, free_entry}
 use Rattle.corner_table.proofs.TableSteps.{entry_taken}
 use Rattle.eb_rebuild.specs.Machine.{note_events, must, fault, reserve, event_place}
-use Rattle.eb_rebuild.specs.Kept.{counted_down, no_event, kept_in, AreKeptBelow}
+use Rattle.eb_rebuild.specs.Kept.{counted_down, no_event, kept_in, split_number, HasRoomFor, AreKeptBelow}
+use Rattle.eb_rebuild.specs.Rebuilding.{IsEventOf}
 
 abbrev pub Noted : Type 0
 Noted = Result (List Event × (ℕ → Option Side)) Fault
@@ -114,23 +115,35 @@ left_passed n i left events kept e h q l =
     let P : List Event → Type 0 = λ es. note_events n i es (kept_in kept) ≡ Err (fault kind.EventOrder i) in
     subst P (sym (last_event left events e h q)) (note_passed n i e (counted_down no_event (left - 1) events) (kept_in kept) (omega arith))
 
-pub left_taken : (n i left : ℕ) (events : List Event) (kept : List ℕ) (e : Event) (v : ℕ) → (left ≡ 0 → ⊥) → e ≡ get_or events (left - 1) no_event → (e.source < n - 1 - i → ⊥) → (n - 1 - i < e.source → ⊥) →
-    v ≡ get_or kept (n - 1 - e.split) free_entry → v ≢ free_entry → note_events n i (counted_down no_event left events) (kept_in kept) ≡ Err (fault kind.Taken i)
-left_taken n i left events kept e v h q l m r f =
+pub left_taken : (n i left : ℕ) (events : List Event) (kept : List ℕ) (e : Event) (j v : ℕ) → (left ≡ 0 → ⊥) → e ≡ get_or events (left - 1) no_event → (e.source < n - 1 - i → ⊥) → (n - 1 - i < e.source → ⊥) →
+    j ≡ split_number n e → v ≡ get_or kept j free_entry → v ≢ free_entry → note_events n i (counted_down no_event left events) (kept_in kept) ≡ Err (fault kind.Taken i)
+left_taken n i left events kept e j v h q l m s r f =
     let P : List Event → Type 0 = λ es. note_events n i es (kept_in kept) ≡ Err (fault kind.Taken i) in
-    let w : n - 1 - e.split ≡ n - suc e.split = omega arith in
+    let w : j ≡ n - suc e.split = omega arith in
     subst P (sym (last_event left events e h q))
-    (note_taken n i e (counted_down no_event (left - 1) events) (kept_in kept) (side_at v) (omega arith) (ap (kept_in kept) (sym w) ∙ kept-some kept (n - 1 - e.split) v r f))
+    (note_taken n i e (counted_down no_event (left - 1) events) (kept_in kept) (side_at v) (omega arith) (ap (kept_in kept) (sym w) ∙ kept-some kept j v r f))
 
-pub left_more : (n i left : ℕ) (events : List Event) (kept : List ℕ) (e : Event) (v w : ℕ) → (left ≡ 0 → ⊥) → e ≡ get_or events (left - 1) no_event → (e.source < n - 1 - i → ⊥) → (n - 1 - i < e.source → ⊥) →
-    v ≡ get_or kept (n - 1 - e.split) free_entry → v ≡ free_entry → w ≡ number (side i (event_place e.right)) → n - 1 - e.split < length kept → i < MAX_FACES →
-    note_events n i (counted_down no_event left events) (kept_in kept) ≡ note_events n i (counted_down no_event (left - 1) events) (kept_in (set kept (n - 1 - e.split) w))
-left_more n i left events kept e v w h q l m r f s t u =
-    let k : n - suc e.split ≡ n - 1 - e.split = omega arith in
+pub left_more : (n i left : ℕ) (events : List Event) (kept more : List ℕ) (e : Event) (j v w : ℕ) → (left ≡ 0 → ⊥) → e ≡ get_or events (left - 1) no_event → (e.source < n - 1 - i → ⊥) → (n - 1 - i < e.source → ⊥) →
+    j ≡ split_number n e → v ≡ get_or kept j free_entry → v ≡ free_entry → w ≡ number (side i (event_place e.right)) → more ≡ set kept j w → j < length kept → i < MAX_FACES →
+    note_events n i (counted_down no_event left events) (kept_in kept) ≡ note_events n i (counted_down no_event (left - 1) events) (kept_in more)
+left_more n i left events kept more e j v w h q l m p r f s d t u =
+    let k : n - suc e.split ≡ j = omega arith in
     let rest = counted_down no_event (left - 1) events in
     let a = side i (event_place e.right) in
     ap (λ (es : List Event). note_events n i es (kept_in kept)) (last_event left events e h q)
-    ∙ note_more n i e rest (kept_in kept) (omega arith) (ap (kept_in kept) k ∙ kept-none kept (n - 1 - e.split) v r f)
-    ∙ ap (λ (j : ℕ). note_events n i rest (reserve j a (kept_in kept))) k
-    ∙ ap (note_events n i rest) (sym (kept_in-set kept (n - 1 - e.split) a t u))
-    ∙ ap (λ (x : ℕ). note_events n i rest (kept_in (set kept (n - 1 - e.split) x))) (sym s)
+    ∙ note_more n i e rest (kept_in kept) (omega arith) (ap (kept_in kept) k ∙ kept-none kept j v r f)
+    ∙ ap (λ (x : ℕ). note_events n i rest (reserve x a (kept_in kept))) k
+    ∙ ap (note_events n i rest) (sym (kept_in-set kept j a t u))
+    ∙ ap (λ (x : ℕ). note_events n i rest (kept_in (set kept j x))) (sym s)
+    ∙ ap (λ (l : List ℕ). note_events n i rest (kept_in l)) (sym d)
+
+-- what holds of the events holds with another list of as many entries
+pub still_events : (old more : List ℕ) (events : List Event) → length more ≡ length old → All (IsEventOf (length old)) events → All (IsEventOf (length more)) events
+still_events old more events e h = subst (λ (n : ℕ). All (IsEventOf n) events) (sym e) h
+
+pub still_room : (old more a b : List ℕ) (events : List Event) → length more ≡ length old → b ≡ a → All (HasRoomFor a (length old)) events → All (HasRoomFor b (length more)) events
+still_room old more a b events e f h = subst (λ (n : ℕ). All (HasRoomFor b n) events) (sym e) (subst (λ (l : List ℕ). All (HasRoomFor l (length old)) events) (sym f) h)
+
+-- a kept side is one of a symbol
+pub split_below : (n : ℕ) (e : Event) → IsEventOf n e → split_number n e < n
+split_below n e h = let a = h.0 in omega arith

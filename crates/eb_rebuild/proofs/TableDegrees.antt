@@ -1,5 +1,5 @@
 -- The degrees kept beside a table, after each symbol.
-use Rattle.std.proofs.Common.{◌≡◌, ◌≢◌, ℕ, suc, ◌+◌, ◌*◌, ◌^◌, ◌<◌, ◌≤◌, Bool, true, ◌==◌, cond, is_none, IsTrue, OnOk, Some, false, replicate, List, [], ◌∷◌, ◌++◌, length, get_or, map, None, Result, Ok, Err, inl, inr, sym, refl, ap, ◌∙◌, subst, arith, length-append, eq-eqb}
+use Rattle.std.proofs.Common.{◌≡◌, ◌≢◌, ℕ, suc, ◌+◌, ◌*◌, ◌^◌, ◌<◌, ◌≤◌, min, Bool, true, ◌==◌, cond, is_none, IsTrue, OnOk, Some, false, replicate, List, [], ◌∷◌, ◌++◌, length, get_or, map, None, Result, Ok, Err, inl, inr, sym, refl, ap, ◌∙◌, subst, arith, length-append, eq-eqb}
 use Rattle.std.specs.List.{list_any}
 use Rattle.std.proofs.lemmas.Bool.{cases_Bool, cond-true, cond-false}
 use Rattle.std.proofs.lemmas.List.{length-map, length-replicate}
@@ -211,7 +211,7 @@ pub start_state : (table : Table) (sides kept : List ℕ) (left events : List Ev
     ◌≡◌ {A = State} (record { built = table.faces; glued = gluing_of table; stack = map side_at sides; reserved = kept_in kept; events = left; made = 0; closes = 0 }) (start events)
 start_state table sides kept left events n a b c d e = same_state a b (ap (map side_at) c) (ap kept_in d ∙ (λ i k. none_kept n k i)) e refl refl
 
-pub start_link : (plan : Plan) (table : Table) (stack : StackValue) (splits : SplitsValue) → plan.faces ≤ MAX_FACES → plan.symbols ≤ plan.faces → room_of table ≡ plan.faces → stack.sides ≡ [] → stack.room ≡ plan.symbols → splits.kept ≡ replicate plan.symbols free_entry →
+pub start_link : (plan : Plan) (table : Table) (stack : StackValue) (splits : SplitsValue) → plan.faces ≤ MAX_FACES → plan.symbols ≤ plan.faces → room_of table ≤ plan.faces → stack.sides ≡ [] → stack.room ≡ min plan.symbols (room_of table) → splits.kept ≡ replicate plan.symbols free_entry →
     IsLinkState (record { plan = plan; table = table; stack = stack; splits = splits; made = 0; closes = 0 })
 start_link plan table stack splits limit fewer room none wide kept =
     let l = ap {A = List ℕ} length none in

@@ -1,5 +1,5 @@
 -- What a rebuilding that keeps the boundary by links holds, and the machine's state that it stands for: the code's own, from no source.
-use Rattle.std.specs.Prelude.{◌≡◌, ℕ, ◌+◌, ◌*◌, ◌≤◌, Bool, true, ◌==◌, cond, is_none, List, [], ◌∷◌, length, map, Result, Ok, Err}
+use Rattle.std.specs.Prelude.{◌≡◌, ℕ, ◌+◌, ◌*◌, ◌≤◌, min, Bool, true, ◌==◌, cond, is_none, List, [], ◌∷◌, length, map, Result, Ok, Err}
 use Rattle.drc_base.specs.declared.faults.Fault.{Fault}
 use Rattle.drc_base.specs.declared.faults.Refusal.{Refusal}
 use Rattle.drc_base.specs.declared.faults.Refusal.TheVariants as refusal
@@ -29,13 +29,13 @@ state_of v = record {
   closes = v.closes;
 }
 
--- there is room for what is to come, and the sides that wait and that are kept are those of built faces
+-- there is room for no more than is declared, and the sides that wait and that are kept are those of built faces
 pub record IsLinkState (v : LinkValue) : Type 0 where
   pub limit : v.plan.faces ≤ MAX_FACES
-  pub room : room_of v.table ≡ v.plan.faces
+  pub room : room_of v.table ≤ v.plan.faces
   pub fewer : v.plan.symbols ≤ v.plan.faces
   pub slots : length v.splits.kept ≡ v.plan.symbols
-  pub stack_room : v.stack.room ≡ v.plan.symbols
+  pub stack_room : v.stack.room ≡ min v.plan.symbols (room_of v.table)
   pub low : length v.stack.sides + v.closes ≤ v.table.faces
   pub few : length v.stack.sides + v.closes ≤ v.plan.symbols
   pub sides : AreSidesBelow v.table.faces v.stack.sides

@@ -7,6 +7,7 @@ mod active_rows;
 mod built;
 mod degenerate;
 mod kept_degrees;
+mod kept_sides;
 mod laws;
 mod link_rebuild;
 mod named_table;

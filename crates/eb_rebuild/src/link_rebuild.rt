@@ -64,6 +64,7 @@ pub struct LinkRebuild {
 
 impl Model for LinkRebuild {
     ghost use Rattle.std.specs.Prelude.{◌≡◌, ◌*◌, vec_len};
+    ghost use Rattle.corner_table.specs.Table.{room_of};
     ghost use Rattle.eb_rebuild.specs.KeptDegrees.{KeepsDegrees};
     ghost use Rattle.eb_rebuild.specs.Linked.{LinkValue, IsLinkState};
 
@@ -85,24 +86,25 @@ impl Model for LinkRebuild {
       splits = r.splits;
       made = r.made;
       closes = r.closes;
-    }) × (vec_len r.degrees ≡ 3 * r.faces) × (r.closes ≡ 0 → KeepsDegrees r.table r.made r.degrees.items) };
+    }) × (vec_len r.degrees ≡ 3 * room_of r.table) × (r.closes ≡ 0 → KeepsDegrees r.table r.made r.degrees.items) };
 }
 
 impl LinkRebuild {
     ghost use Rattle.std.specs.Prelude.{◌≡◌, ℕ, suc, ◌+◌, ◌*◌, ◌<◌, ◌≤◌, true, false, None, ◌∷◌, Ok, Err, map, length, IsTrue, IfOk, IfErr, OnOk, OnErr};
     ghost use Rattle.corner_table.specs.declared.symbols.Symbol.TheVariants as kinds;
     ghost use Rattle.corner_table.specs.Sides.{side_at};
-    ghost use Rattle.corner_table.specs.Table.{gluing_of};
+    ghost use Rattle.corner_table.specs.Table.{gluing_of, room_of};
     ghost use Rattle.eb_rebuild.specs.Machine.{top, step, close, pushed, release};
     ghost use Rattle.eb_rebuild.specs.Kept.{kept_in};
     ghost use Rattle.eb_rebuild.specs.Linked.{state_of, is_live, Does};
     ghost use Rattle.eb_rebuild.specs.Rebuilding.{Holds};
 
-    /// The table of the faces built and the pairs glued so far, with entries for just the faces that are
-    /// declared.
+    /// The table of the faces built and the pairs glued so far, with entries for just the faces that there
+    /// is room for, which are no more than are declared.
     pub fn sides(&self) -> &SideTable
         ensures holds { Holds (state_of self.now) result.now }
-        ensures room { length result.now.entries ≡ 3 * self.now.plan.faces }
+        ensures room { length result.now.entries ≡ 3 * room_of self.now.table }
+        ensures within { length result.now.entries ≤ 3 * self.now.plan.faces }
     {
         // Called for the prover alone: the table has three entries for each face for which there is room.
         let _room = self.table.face_count();
@@ -128,9 +130,11 @@ impl LinkRebuild {
     /// E: a new face, no side of which is glued.
     fn take_end<L: Ledger>(&mut self, steps: &mut Steps<L>) -> Result<(), Fault>
         requires more { self.old.table.faces < self.old.plan.symbols }
+        requires room { self.old.table.faces < room_of self.old.table }
         requires unclosed { self.old.closes ≡ 0 }
         ensures does { Does (step self.old.plan.symbols kinds.E (state_of self.old)) (state_of self.new) result }
         ensures plan { self.new.plan ≡ self.old.plan }
+        ensures room { OnOk result (room_of self.new.table ≡ room_of self.old.table) }
         ensures live { OnOk result (IsTrue (is_live self.new)) }
         ensures cost { steps.new ≤ steps.old + 4 }
     {
@@ -144,9 +148,11 @@ impl LinkRebuild {
     /// R: side 2 of the new face is glued to the top side.
     fn take_right<L: Ledger>(&mut self, steps: &mut Steps<L>) -> Result<(), Fault>
         requires more { self.old.table.faces < self.old.plan.symbols }
+        requires room { self.old.table.faces < room_of self.old.table }
         requires unclosed { self.old.closes ≡ 0 }
         ensures does { Does (step self.old.plan.symbols kinds.R (state_of self.old)) (state_of self.new) result }
         ensures plan { self.new.plan ≡ self.old.plan }
+        ensures room { OnOk result (room_of self.new.table ≡ room_of self.old.table) }
         ensures live { OnOk result (IsTrue (is_live self.new)) }
         ensures cost { steps.new ≤ steps.old + 4 }
     {
@@ -167,9 +173,11 @@ impl LinkRebuild {
     /// L: side 1 of the new face is glued to the top side.
     fn take_left<L: Ledger>(&mut self, steps: &mut Steps<L>) -> Result<(), Fault>
         requires more { self.old.table.faces < self.old.plan.symbols }
+        requires room { self.old.table.faces < room_of self.old.table }
         requires unclosed { self.old.closes ≡ 0 }
         ensures does { Does (step self.old.plan.symbols kinds.L (state_of self.old)) (state_of self.new) result }
         ensures plan { self.new.plan ≡ self.old.plan }
+        ensures room { OnOk result (room_of self.new.table ≡ room_of self.old.table) }
         ensures live { OnOk result (IsTrue (is_live self.new)) }
         ensures cost { steps.new ≤ steps.old + 4 }
     {
@@ -191,9 +199,11 @@ impl LinkRebuild {
     /// side, its side 2 to the free side before that.
     fn take_tip<L: Ledger>(&mut self, steps: &mut Steps<L>) -> Result<(), Fault>
         requires more { self.old.table.faces < self.old.plan.symbols }
+        requires room { self.old.table.faces < room_of self.old.table }
         requires unclosed { self.old.closes ≡ 0 }
         ensures does { Does (step self.old.plan.symbols kinds.C (state_of self.old)) (state_of self.new) result }
         ensures plan { self.new.plan ≡ self.old.plan }
+        ensures room { OnOk result (room_of self.new.table ≡ room_of self.old.table) }
         ensures live { OnOk result (IsTrue (is_live self.new)) }
         ensures cost { steps.new ≤ steps.old + 6 }
         ensures refused { OnErr result (steps.new ≤ steps.old + 4) }
@@ -242,9 +252,11 @@ impl LinkRebuild {
     /// side 2 to the second.
     fn take_split<L: Ledger>(&mut self, steps: &mut Steps<L>) -> Result<(), Fault>
         requires more { self.old.table.faces < self.old.plan.symbols }
+        requires room { self.old.table.faces < room_of self.old.table }
         requires unclosed { self.old.closes ≡ 0 }
         ensures does { Does (step self.old.plan.symbols kinds.S (state_of self.old)) (state_of self.new) result }
         ensures plan { self.new.plan ≡ self.old.plan }
+        ensures room { OnOk result (room_of self.new.table ≡ room_of self.old.table) }
         ensures live { OnOk result (IsTrue (is_live self.new)) }
         ensures cost { steps.new ≤ steps.old + 8 }
         ensures refused { OnErr result (steps.new ≤ steps.old + 4) }
@@ -283,6 +295,7 @@ impl LinkRebuild {
         requires { 0 < length self.old.stack.sides }
         ensures does { close self.old.plan false (state_of self.old) ≡ Ok (state_of self.new) }
         ensures plan { self.new.plan ≡ self.old.plan }
+        ensures room { room_of self.new.table ≡ room_of self.old.table }
         ensures live { IsTrue (is_live self.new) }
     {
         match self.stack.pop() {
@@ -293,9 +306,11 @@ impl LinkRebuild {
 
     /// Fills the loop of the top side with a face.
     fn close_interior<L: Ledger>(&mut self, steps: &mut Steps<L>) -> Result<(), Fault>
-        requires { 0 < length self.old.stack.sides }
+        requires pending { 0 < length self.old.stack.sides }
+        requires room { self.old.table.faces < self.old.plan.faces → self.old.table.faces < room_of self.old.table }
         ensures does { Does (close self.old.plan true (state_of self.old)) (state_of self.new) result }
         ensures plan { self.new.plan ≡ self.old.plan }
+        ensures room { OnOk result (room_of self.new.table ≡ room_of self.old.table) }
         ensures live { OnOk result (IsTrue (is_live self.new)) }
         ensures cost { steps.new ≤ steps.old + 8 }
         ensures refused { OnErr result (steps.new ≤ steps.old + 4) }
@@ -333,6 +348,7 @@ impl LinkRebuild {
 
 impl Rebuild for LinkRebuild {
     ghost use Rattle.std.specs.Prelude.{true};
+    ghost use Rattle.corner_table.specs.Table.{room_of};
     ghost use Rattle.eb_rebuild.specs.Linked.{state_of, is_live};
 
     ghost plan = { λ r. r.plan };
@@ -343,17 +359,20 @@ impl Rebuild for LinkRebuild {
 
     ghost linked = { λ _. true };
 
+    ghost room = { λ r. room_of r.table };
+
     fn new(
         alloc: Global,
         faces: u32,
         created: u32,
         symbols: u32,
+        most: u32,
         events: Vec<Event>,
     ) -> Result<LinkRebuild, Memory> {
-        let table = SideTable::with_room(alloc, faces)?;
-        let stack = SideStack::with_room(alloc, symbols)?;
+        let table = SideTable::with_room(alloc, most)?;
+        let stack = SideStack::with_room(alloc, symbols.min(most))?;
         let splits = Splits::new(alloc, symbols, events)?;
-        let degrees = no_degrees(alloc, faces)?;
+        let degrees = no_degrees(alloc, most)?;
         Ok(LinkRebuild {
             table,
             stack,

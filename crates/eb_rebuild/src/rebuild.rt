@@ -30,36 +30,46 @@ pub trait Rebuild: Sized + Drop {
     /// Whether the boundary is kept by links.
     ghost linked: { Self → Bool };
 
+    /// How many faces there is room for.
+    ghost room: { Self → ℕ };
+
     /// Nothing rebuilt yet, of `faces` declared faces, at most `created` vertices made (the declared
-    /// vertices and splits together) and `symbols` symbols, with events in the encoder's order. Memory
-    /// where there is no room for so many faces and symbols.
+    /// vertices and splits together) and `symbols` symbols, with events in the encoder's order. Room is
+    /// taken for just `most` faces and for the sides that the events keep, however much is declared.
+    /// Memory where there is none.
     fn new(
         alloc: Global,
         faces: u32,
         created: u32,
         symbols: u32,
+        most: u32,
         events: Vec<Event>,
     ) -> Result<Self, Memory>
         requires faces { faces ≤ most_faces }
         requires symbols { symbols ≤ faces }
+        requires most { most ≤ faces }
         requires events { All (IsEventOf symbols) events.items }
         ensures plan { IfOk result (λ r. plan r ≡ record { faces = faces; created = created; symbols = symbols }) }
         ensures state { IfOk result (λ r. state r ≡ start (reverse events.items)) }
-        ensures live { IfOk result (λ r. IsTrue (live r)) };
+        ensures live { IfOk result (λ r. IsTrue (live r)) }
+        ensures room { IfOk result (λ r. room r ≡ most) };
 
     /// Takes the next symbol and builds its face, or refuses at the symbol's number, counted from 0 in
     /// the order of decoding. NoActive: C, L, R or S finds no side on the stack. Gone: the side that it
     /// finds is glued, or the two sides of an S are one. Alone: the top side of a C is alone in its
     /// loop. SamePoint: the two vertices that an S joins are one already. EventOrder: the last event
     /// left at an E, L or R is of a symbol taken before. Taken, this project's choice: its split has a
-    /// side kept already. Memory, of a rebuilding that isn't linked: no room for the step.
+    /// side kept already. Memory, of a rebuilding that isn't linked: no room for the step. There has to be
+    /// room for the face.
     fn symbol<L: Ledger>(&mut self, symbol: Symbol, steps: &mut Steps<L>) -> Result<(), Refusal>
         requires live { IsTrue (live self.old) }
         requires more { (state self.old).built < (plan self.old).symbols }
+        requires room { (state self.old).built < room self.old }
         requires unclosed { (state self.old).closes ≡ 0 }
         ensures moves { Moves (step (plan self.old).symbols symbol (state self.old)) (state self.new) (live self.new) result }
         ensures plan { OnOk result (plan self.new ≡ plan self.old) }
         ensures linked { OnOk result (linked self.new ≡ linked self.old) }
+        ensures room { OnOk result (room self.new ≡ room self.old) }
         ensures memory { IsTrue (linked self.old) → result ≢ Err refusal.Memory }
         ensures cost { IsTrue (linked self.old) → OnOk result (steps.new ≤ steps.old + 12) }
         ensures refused { IsTrue (linked self.old) → OnErr result (steps.new ≤ steps.old + 4) };
@@ -75,20 +85,24 @@ pub trait Rebuild: Sized + Drop {
     fn pending(&self) -> u32
         requires live { IsTrue (live self.now) }
         requires all { (plan self.now).symbols ≤ (state self.now).built }
-        ensures { result ≡ length (state self.now).stack };
+        ensures count { result ≡ length (state self.now).stack }
+        ensures few { result + (state self.now).closes ≤ (plan self.now).symbols };
 
     /// Closes the top side by its start bit: it stays a boundary, or an interior face fills its loop of
     /// three. An interior face is refused with Gone where the side is glued, and with Loop where its
     /// loop isn't of just three sides, at the number of symbols and closes before; then with FaceCount
     /// where all declared faces are built, at their number. Memory, of a rebuilding that isn't linked:
-    /// no room for the face. That the loop has to be exact is this project's choice.
+    /// no room for the face. There has to be room for one more of the declared faces, if any are left. That
+    /// the loop has to be exact is this project's choice.
     fn close<L: Ledger>(&mut self, interior: bool, steps: &mut Steps<L>) -> Result<(), Refusal>
         requires live { IsTrue (live self.old) }
         requires all { (plan self.old).symbols ≤ (state self.old).built }
         requires pending { 0 < length (state self.old).stack }
+        requires room { (state self.old).built < (plan self.old).faces → (state self.old).built < room self.old }
         ensures moves { Moves (close (plan self.old) interior (state self.old)) (state self.new) (live self.new) result }
         ensures plan { OnOk result (plan self.new ≡ plan self.old) }
         ensures linked { OnOk result (linked self.new ≡ linked self.old) }
+        ensures room { OnOk result (room self.new ≡ room self.old) }
         ensures memory { IsTrue (linked self.old) → result ≢ Err refusal.Memory }
         ensures cost { IsTrue (linked self.old) → OnOk result (steps.new ≤ steps.old + 12) }
         ensures none { IsTrue (linked self.old) → interior ≡ false → steps.new ≡ steps.old }

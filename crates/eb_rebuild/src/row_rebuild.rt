@@ -70,9 +70,9 @@ impl Model for RowRebuild {
 }
 
 impl RowRebuild {
-    ghost use Rattle.std.specs.Prelude.{ℕ, suc, ◌+◌, ◌*◌, ◌<◌, ◌≤◌, true, false, None, ◌∷◌, Ok, Err, map, length, IfOk, IfErr};
+    ghost use Rattle.std.specs.Prelude.{ℕ, suc, ◌+◌, ◌*◌, ◌<◌, ◌≤◌, true, false, None, ◌∷◌, Ok, Err, map, length, IfOk, IfErr, OnOk};
     ghost use Rattle.corner_table.specs.declared.symbols.Symbol.TheVariants as kinds;
-    ghost use Rattle.corner_table.specs.Table.{gluing_of};
+    ghost use Rattle.corner_table.specs.Table.{gluing_of, room_of};
     ghost use Rattle.eb_rebuild.specs.Machine.{top, step, close, pushed, release};
     ghost use Rattle.eb_rebuild.specs.Kept.{kept_in};
     ghost use Rattle.eb_rebuild.specs.Linked.{state_of};
@@ -116,9 +116,11 @@ impl RowRebuild {
 
     /// E: three new vertices.
     fn take_end<L: Ledger>(&mut self, steps: &mut Steps<L>) -> Result<(), Refusal>
-        requires { self.old.named.table.faces < self.old.plan.symbols }
+        requires more { self.old.named.table.faces < self.old.plan.symbols }
+        requires room { self.old.named.table.faces < room_of self.old.named.table }
         ensures does { Tries (step self.old.plan.symbols kinds.E (state_of (plain_of self.old))) (state_of (plain_of self.new)) result }
         ensures plan { self.new.plan ≡ self.old.plan }
+        ensures room { OnOk result (room_of self.new.named.table ≡ room_of self.old.named.table) }
     {
         let face = self.named.face_count();
         self.named.add_end(steps)?;
@@ -128,9 +130,11 @@ impl RowRebuild {
 
     /// R: a new vertex at the right of the top side.
     fn take_right<L: Ledger>(&mut self, steps: &mut Steps<L>) -> Result<(), Refusal>
-        requires { self.old.named.table.faces < self.old.plan.symbols }
+        requires more { self.old.named.table.faces < self.old.plan.symbols }
+        requires room { self.old.named.table.faces < room_of self.old.named.table }
         ensures does { Tries (step self.old.plan.symbols kinds.R (state_of (plain_of self.old))) (state_of (plain_of self.new)) result }
         ensures plan { self.new.plan ≡ self.old.plan }
+        ensures room { OnOk result (room_of self.new.named.table ≡ room_of self.old.named.table) }
     {
         let a = match self.take_row() {
             Ok(a) => a,
@@ -144,9 +148,11 @@ impl RowRebuild {
 
     /// L: a new vertex at the left of the top side.
     fn take_left<L: Ledger>(&mut self, steps: &mut Steps<L>) -> Result<(), Refusal>
-        requires { self.old.named.table.faces < self.old.plan.symbols }
+        requires more { self.old.named.table.faces < self.old.plan.symbols }
+        requires room { self.old.named.table.faces < room_of self.old.named.table }
         ensures does { Tries (step self.old.plan.symbols kinds.L (state_of (plain_of self.old))) (state_of (plain_of self.new)) result }
         ensures plan { self.new.plan ≡ self.old.plan }
+        ensures room { OnOk result (room_of self.new.named.table ≡ room_of self.old.named.table) }
     {
         let a = match self.take_row() {
             Ok(a) => a,
@@ -160,9 +166,11 @@ impl RowRebuild {
 
     /// C: the new face closes the vertex at which the top row starts.
     fn take_tip<L: Ledger>(&mut self, steps: &mut Steps<L>) -> Result<(), Refusal>
-        requires { self.old.named.table.faces < self.old.plan.symbols }
+        requires more { self.old.named.table.faces < self.old.plan.symbols }
+        requires room { self.old.named.table.faces < room_of self.old.named.table }
         ensures does { Tries (step self.old.plan.symbols kinds.C (state_of (plain_of self.old))) (state_of (plain_of self.new)) result }
         ensures plan { self.new.plan ≡ self.old.plan }
+        ensures room { OnOk result (room_of self.new.named.table ≡ room_of self.old.named.table) }
     {
         let a = match self.take_row() {
             Ok(a) => a,
@@ -180,9 +188,11 @@ impl RowRebuild {
 
     /// S: the vertex at which the top row starts becomes the one at which the second row ends.
     fn take_split<L: Ledger>(&mut self, steps: &mut Steps<L>) -> Result<(), Refusal>
-        requires { self.old.named.table.faces < self.old.plan.symbols }
+        requires more { self.old.named.table.faces < self.old.plan.symbols }
+        requires room { self.old.named.table.faces < room_of self.old.named.table }
         ensures does { Tries (step self.old.plan.symbols kinds.S (state_of (plain_of self.old))) (state_of (plain_of self.new)) result }
         ensures plan { self.new.plan ≡ self.old.plan }
+        ensures room { OnOk result (room_of self.new.named.table ≡ room_of self.old.named.table) }
     {
         let b = match self.take_row() {
             Ok(b) => b,
@@ -209,6 +219,7 @@ impl RowRebuild {
         requires { 0 < length self.old.stack.sides }
         ensures does { close self.old.plan false (state_of (plain_of self.old)) ≡ Ok (state_of (plain_of self.new)) }
         ensures plan { self.new.plan ≡ self.old.plan }
+        ensures room { room_of self.new.named.table ≡ room_of self.old.named.table }
     {
         match self.stack.pop() {
             None => (),
@@ -218,9 +229,11 @@ impl RowRebuild {
 
     /// Fills the loop of the top row with a face.
     fn close_interior<L: Ledger>(&mut self, steps: &mut Steps<L>) -> Result<(), Refusal>
-        requires { 0 < length self.old.stack.sides }
+        requires pending { 0 < length self.old.stack.sides }
+        requires room { self.old.named.table.faces < self.old.plan.faces → self.old.named.table.faces < room_of self.old.named.table }
         ensures does { Tries (close self.old.plan true (state_of (plain_of self.old))) (state_of (plain_of self.new)) result }
         ensures plan { self.new.plan ≡ self.old.plan }
+        ensures room { OnOk result (room_of self.new.named.table ≡ room_of self.old.named.table) }
     {
         let number = u64::from(self.symbols) + u64::from(self.closes);
         let a = match self.stack.pop() {
@@ -251,6 +264,7 @@ impl RowRebuild {
 
 impl Rebuild for RowRebuild {
     ghost use Rattle.std.specs.Prelude.{true, false};
+    ghost use Rattle.corner_table.specs.Table.{room_of};
     ghost use Rattle.eb_rebuild.specs.Linked.{state_of};
     ghost use Rattle.eb_rebuild.specs.Rowed.{plain_of};
 
@@ -262,15 +276,18 @@ impl Rebuild for RowRebuild {
 
     ghost linked = { λ _. false };
 
+    ghost room = { λ r. room_of r.named.table };
+
     fn new(
         alloc: Global,
         faces: u32,
         created: u32,
         symbols: u32,
+        most: u32,
         events: Vec<Event>,
     ) -> Result<RowRebuild, Memory> {
-        let named = NamedTable::with_room(alloc, faces)?;
-        let stack = SideStack::with_room(alloc, symbols)?;
+        let named = NamedTable::with_room(alloc, most)?;
+        let stack = SideStack::with_room(alloc, symbols.min(most))?;
         let splits = Splits::new(alloc, symbols, events)?;
         Ok(RowRebuild {
             named,

@@ -1,39 +1,37 @@
 //! The split events that are left, and the sides that earlier ones keep.
 
-ghost use Rattle.std.specs.Prelude.{◌≡◌, ◌+◌, ◌*◌, ◌<◌, vec_len, slice_index_or, get_or};
+ghost use Rattle.std.specs.Prelude.{◌≡◌, ◌+◌, ◌*◌, ◌<◌, vec_len, slice_index_or, map, IfOk};
 ghost use Rattle.drc_base.specs.declared.limits.TheConstants.{MAX_FACES as most_faces};
 ghost use Rattle.corner_table.specs.Sides.{side, number};
-ghost use Rattle.corner_table.specs.Table.{free_entry};
 ghost use Rattle.eb_rebuild.specs.Machine.{event_place};
-ghost use Rattle.eb_rebuild.specs.Kept.{no_event};
+ghost use Rattle.eb_rebuild.specs.Kept.{no_event, split_number};
 
+use crate::kept_sides::{KeptSides, NONE};
 use corner_table::Event;
 use drc_base::{Fault, Kind, Memory};
 use std::alloc::Global;
 use std::marker::Model;
 
-/// The entry of a symbol that no side is kept for.
-const NONE: u32 = u32::MAX;
-
 /// Sides kept for the symbols of a rebuilding, and the events left. Events stand in the encoder's
 /// order, so the last ones are due first.
 #[derive(Debug, Drop)]
 pub(crate) struct Splits {
-    kept: Vec<u32>,
+    kept: KeptSides,
     events: Vec<Event>,
     left: usize,
 }
 
 impl Model for Splits {
-    ghost use Rattle.std.specs.Prelude.{◌<◌, ◌≤◌, ◌*◌, ◌^◌, vec_len, All};
-    ghost use Rattle.eb_rebuild.specs.Kept.{SplitsValue, counted_down, no_event};
+    ghost use Rattle.std.specs.Prelude.{◌<◌, ◌≤◌, ◌*◌, ◌^◌, vec_len, length, All};
+    ghost use Rattle.eb_rebuild.specs.Kept.{SplitsValue, counted_down, no_event, HasRoomFor};
     ghost use Rattle.eb_rebuild.specs.Rebuilding.{IsEventOf};
 
     ghost Value = { SplitsValue };
 
-    ghost view = { λ s. record { kept = s.kept.items; events = counted_down no_event s.left s.events.items } };
+    ghost view = { λ s. record { kept = s.kept.sides; events = counted_down no_event s.left s.events.items } };
 
-    ghost invariant = { λ s. (s.left ≤ vec_len s.events) × (vec_len s.kept < 2 ^ 24) × All (IsEventOf (vec_len s.kept)) s.events.items };
+    ghost invariant = { λ s. (s.left ≤ vec_len s.events) × (length s.kept.sides < 2 ^ 24) × All (IsEventOf (length s.kept.sides)) s.events.items
+        × All (HasRoomFor s.kept.numbers (length s.kept.sides)) s.events.items };
 }
 
 /// The event with a number.
@@ -44,12 +42,24 @@ fn event_at(events: &Vec<Event>, number: usize) -> Event
     events[number]
 }
 
-/// The side kept for a symbol.
-fn kept_at(kept: &Vec<u32>, symbol: u32) -> u32
-    requires { symbol < vec_len kept.now }
-    ensures { result ≡ get_or kept.now.items symbol free_entry }
+/// The symbol for which an event keeps a side, by its number in the order of decoding.
+fn split_number(symbols: u32, event: Event) -> u32
+    ensures { result ≡ split_number symbols event }
 {
-    kept[symbol as usize]
+    symbols.saturating_sub(1).saturating_sub(event.split)
+}
+
+/// The symbols for which events keep sides.
+fn split_numbers(alloc: Global, symbols: u32, events: &Vec<Event>) -> Result<Vec<u32>, Memory>
+    ensures { IfOk result (λ v. v.items ≡ map (split_number symbols) events.now.items) }
+{
+    Ok(
+        events
+            .as_slice()
+            .iter()
+            .map(|event| split_number(symbols, *event))
+            .collect(alloc)?,
+    )
 }
 
 /// The side of a face that an event keeps: the one of the corner after the walk's corner, or before it.
@@ -65,11 +75,13 @@ impl Splits {
     ghost use Rattle.std.specs.Prelude.{◌≡◌, ℕ, suc, ◌+◌, ◌<◌, ◌≤◌, ◌*◌, List, length, reverse, All, IfOk, OnOk, IfErr, IfSome, IfNone, Ok, Err, replicate, MatchResult};
     ghost use Rattle.std.specs.Option.{option_map};
     ghost use Rattle.corner_table.specs.Sides.{side_at};
+    ghost use Rattle.corner_table.specs.Table.{free_entry};
     ghost use Rattle.eb_rebuild.specs.Machine.{note_events, release};
     ghost use Rattle.eb_rebuild.specs.Kept.{kept_in, AreKeptBelow};
     ghost use Rattle.eb_rebuild.specs.Rebuilding.{IsEventOf};
 
-    /// No side kept, for as many symbols as are said, with events in the encoder's order.
+    /// No side kept, for as many symbols as are said, with events in the encoder's order. There is room
+    /// for the sides of these events.
     pub(crate) fn new(alloc: Global, symbols: u32, events: Vec<Event>) -> Result<Splits, Memory>
         requires symbols { symbols ≤ most_faces }
         requires events { All (IsEventOf symbols) events.items }
@@ -77,7 +89,8 @@ impl Splits {
         ensures events { IfOk result (λ s. s.events ≡ reverse events.items) }
     {
         let left = events.len();
-        let kept = vec![in alloc; NONE; symbols as usize]?;
+        let numbers = split_numbers(alloc, symbols, &events)?;
+        let kept = KeptSides::new(alloc, symbols, numbers)?;
         Ok(Splits { kept, events, left })
     }
 
@@ -92,7 +105,7 @@ impl Splits {
         ensures long { length self.new.kept ≡ length self.old.kept }
         ensures below { AreKeptBelow face self.old.kept → AreKeptBelow (suc face) self.new.kept }
     {
-        let symbols = self.kept.len() as u32;
+        let symbols = self.kept.symbols();
         let due = symbols - 1 - face;
         'noting: loop {
             if self.left == 0 {
@@ -105,11 +118,11 @@ impl Splits {
             if due < event.source {
                 return Err(Fault::new(Kind::EventOrder, u64::from(face)));
             }
-            let split = symbols - 1 - event.split;
-            if kept_at(&self.kept, split) != NONE {
+            let split = split_number(symbols, event);
+            if self.kept.side_for(split) != NONE {
                 return Err(Fault::new(Kind::Taken, u64::from(face)));
             }
-            self.kept[split as usize] = event_side(face, event.right);
+            self.kept.keep(split, event_side(face, event.right));
             self.left -= 1;
         }
     }
@@ -124,11 +137,11 @@ impl Splits {
         ensures below { (faces : ℕ) → AreKeptBelow faces self.old.kept → AreKeptBelow faces self.new.kept }
         ensures within { (faces : ℕ) → AreKeptBelow faces self.old.kept → IfSome result (λ side. side < 3 * faces) }
     {
-        let side = kept_at(&self.kept, symbol);
+        let side = self.kept.side_for(symbol);
         if side == NONE {
             None
         } else {
-            self.kept[symbol as usize] = NONE;
+            self.kept.keep(symbol, NONE);
             Some(side)
         }
     }

@@ -9,13 +9,13 @@ use crate::link_rebuild::LinkRebuild;
 use crate::rebuild::Rebuild;
 use crate::row_rebuild::RowRebuild;
 use corner_table::{Event, SideTable, Steps, Symbol};
-use drc_base::{Kind, Refusal};
+use drc_base::{Fault, Kind, MAX_FACES, Refusal};
 use std::alloc::Global;
 use std::marker::Brand;
 use std::process::Abort;
 use std::sync::ledger::{Blank, Ledger};
 
-/// Takes all symbols.
+/// Takes symbols, for which there is room, and no more than are declared.
 fn take_all<R: Rebuild, L: Ledger>(
     machine: &mut R,
     symbols: &[Symbol],
@@ -24,10 +24,13 @@ fn take_all<R: Rebuild, L: Ledger>(
     requires live { IsTrue (R.live machine.old) }
     requires none { (R.state machine.old).built ≡ 0 }
     requires unclosed { (R.state machine.old).closes ≡ 0 }
-    requires all { (R.plan machine.old).symbols ≡ length symbols.now }
+    requires few { length symbols.now ≤ (R.plan machine.old).symbols }
+    requires room { length symbols.now ≤ R.room machine.old }
     ensures live { OnOk result (IsTrue (R.live machine.new)) }
     ensures unclosed { OnOk result ((R.state machine.new).closes ≡ 0) }
-    ensures all { OnOk result ((R.plan machine.new).symbols ≤ (R.state machine.new).built) }
+    ensures built { OnOk result ((R.state machine.new).built ≡ length symbols.now) }
+    ensures plan { OnOk result (R.plan machine.new ≡ R.plan machine.old) }
+    ensures room { OnOk result (R.room machine.new ≡ R.room machine.old) }
 {
     for symbol in symbols {
         match machine.symbol(*symbol, steps) {
@@ -38,7 +41,7 @@ fn take_all<R: Rebuild, L: Ledger>(
     Ok(())
 }
 
-/// Closes all sides that wait, each by its bit.
+/// Closes all sides that wait, each by its bit, with room for all declared faces.
 fn close_all<R: Rebuild, L: Ledger>(
     machine: &mut R,
     bits: &[bool],
@@ -46,6 +49,7 @@ fn close_all<R: Rebuild, L: Ledger>(
 ) -> Result<(), Refusal>
     requires live { IsTrue (R.live machine.old) }
     requires all { (R.plan machine.old).symbols ≤ (R.state machine.old).built }
+    requires room { (R.plan machine.old).faces ≤ R.room machine.old }
     ensures live { OnOk result (IsTrue (R.live machine.new)) }
     ensures all { OnOk result ((R.plan machine.new).symbols ≤ (R.state machine.new).built) }
     ensures none { OnOk result (length (R.state machine.new).stack ≡ 0) }
@@ -79,7 +83,8 @@ fn rebuilt<R: Rebuild, L: Ledger>(
     requires some { 0 < L.parts }
 {
     let mut steps = Steps::<L>::new(blank);
-    let mut machine = R::new(alloc, plan.0, plan.1, symbols.len() as u32, events)?;
+    let count = symbols.len() as u32;
+    let mut machine = R::new(alloc, plan.0, plan.1, count, plan.0, events)?;
     take_all(&mut machine, symbols, &mut steps)?;
     close_all(&mut machine, bits, &mut steps)?;
     machine.finish(alloc)
@@ -275,39 +280,72 @@ fn refuses_ends<R: Rebuild>(rt: &impl Abort, alloc: Global) {
     assert!(rt; told(rt, done) == Some((Kind::VertexCount, 3)));
 }
 
-/// The degree of the vertex at which the top side starts, after some symbols.
+/// The degree of the vertex at which the top side starts, after some symbols. As many faces and symbols
+/// are declared as may be, and there is room for just those that come.
 fn degree_after<R: Rebuild, L: Ledger>(
     alloc: Global,
     symbols: &[Symbol],
+    events: Vec<Event>,
     blank: Blank,
 ) -> Result<u32, Refusal>
     requires symbols { length symbols.now ≤ most_faces }
+    requires events { All (IsEventOf most_faces) events.items }
     requires name { blank.name ≡ L.name }
     requires parts { blank.parts ≡ L.parts }
     requires some { 0 < L.parts }
 {
     let count = symbols.len() as u32;
-    let none = Vec::new(alloc);
     let mut steps = Steps::<L>::new(blank);
-    let mut machine = R::new(alloc, count, 9, count, none)?;
+    let mut machine = R::new(alloc, MAX_FACES, 9, MAX_FACES, count, events)?;
     take_all(&mut machine, symbols, &mut steps)?;
     Ok(machine.degree())
+}
+
+/// The same, without events.
+fn degree_of<R: Rebuild>(alloc: Global, symbols: &[Symbol]) -> Result<u32, Refusal>
+    requires { length symbols.now ≤ most_faces }
+{
+    degree_after::<R, Brand>(alloc, symbols, Vec::new(alloc), Blank::new(1))
 }
 
 /// Degrees after a few symbols.
 fn counts_degrees<R: Rebuild>(rt: &impl Abort, alloc: Global) {
     use Symbol::{C, E, L, R as Right, S};
-    let one = degree_after::<R, Brand>(alloc, &[E], Blank::new(1));
-    assert!(rt; one == Ok(2));
-    let right = degree_after::<R, Brand>(alloc, &[E, Right], Blank::new(1));
-    assert!(rt; right == Ok(3));
-    let left = degree_after::<R, Brand>(alloc, &[E, Right, L], Blank::new(1));
-    assert!(rt; left == Ok(2));
-    let tip = degree_after::<R, Brand>(alloc, &[E, Right, C], Blank::new(1));
-    assert!(rt; tip == Ok(3));
+    assert!(rt; degree_of::<R>(alloc, &[E]) == Ok(2));
+    assert!(rt; degree_of::<R>(alloc, &[E, Right]) == Ok(3));
+    assert!(rt; degree_of::<R>(alloc, &[E, Right, L]) == Ok(2));
+    assert!(rt; degree_of::<R>(alloc, &[E, Right, C]) == Ok(3));
     // The second side is alone in its loop, and its vertex takes in the first side's.
-    let merged = degree_after::<R, Brand>(alloc, &[E, C, C, E, S], Blank::new(1));
-    assert!(rt; merged == Ok(8));
+    assert!(rt; degree_of::<R>(alloc, &[E, C, C, E, S]) == Ok(8));
+}
+
+/// So many events of the first symbol that is decoded, each of which keeps a side for the last of as many
+/// symbols as may be declared.
+fn far_events(rt: &impl Abort, alloc: Global, count: usize) -> Vec<Event>
+    ensures { All (IsEventOf most_faces) result.items }
+{
+    let event = Event {
+        source: MAX_FACES - 1,
+        split: 0,
+        right: true,
+    };
+    vec![in alloc; event; count].expect(rt, "room")
+}
+
+/// A side is kept for a symbol that can't come, and for none twice.
+fn keeps_far_sides<R: Rebuild>(rt: &impl Abort, alloc: Global) {
+    let one = far_events(rt, alloc, 1);
+    let done = degree_after::<R, Brand>(alloc, &[Symbol::E], one, Blank::new(1));
+    assert!(rt; done == Ok(2));
+    let two = far_events(rt, alloc, 2);
+    let done = degree_after::<R, Brand>(alloc, &[Symbol::E], two, Blank::new(1));
+    assert!(rt; done == Err(Refusal::Fault(Fault::new(Kind::Taken, 0))));
+}
+
+#[test]
+fn far_sides_are_kept(rt: HostRuntime) {
+    keeps_far_sides::<LinkRebuild>(&rt, rt.alloc());
+    keeps_far_sides::<RowRebuild>(&rt, rt.alloc());
 }
 
 #[test]

@@ -1,5 +1,5 @@
 -- A rebuilding symbol after symbol and side after side, and as a whole.
-use Rattle.std.proofs.Common.{◌≡◌, ℕ, zero, suc, ◌+◌, ◌-◌, ◌*◌, ◌<◌, ◌≤◌, Bool, true, false, not, ◌==◌, nat_le, is_none, IfOk, Some, None, List, [], ◌∷◌, length, Result, Ok, Err, sym, refl, ap, subst, ◌∙◌, arith, ne_eqb, eqb-true}
+use Rattle.std.proofs.Common.{◌≡◌, ℕ, zero, suc, ◌+◌, ◌-◌, ◌*◌, ◌<◌, ◌≤◌, min, Bool, true, false, not, ◌==◌, nat_le, is_none, IfOk, Some, None, List, [], ◌∷◌, length, Result, Ok, Err, sym, refl, ap, subst, ◌∙◌, arith, ne_eqb, eqb-true}
 use Rattle.std.proofs.lemmas.Bool.{cond-false, eqb-false}
 use Rattle.drc_bits.proofs.Results.{Ok-injective, err≢ok}
 use Rattle.drc_base.specs.declared.kinds.Kind.{Kind}
@@ -46,6 +46,11 @@ pub fed-end : {S : Type 0} (next : Source S) (n k : ℕ) (source : S) (s : State
     fed next n (n - k) source s ≡ whole → n ≤ k → whole ≡ Ok s
 unfolding fed
 fed-end next n k source s whole so done = let none : n - k ≡ 0 = omega arith in sym so ∙ rw none refl
+
+-- the symbols taken, and those that can still come, are no more than one and those that could come: each takes one of them, but the first
+pub came-on : (k more left whole : ℕ) → more + min k 1 ≤ left → k + left ≤ suc whole → (k ≡ 0 → left ≤ whole) → k + 1 + more ≤ suc whole
+came-on zero more left whole drawn came first = let f = first refl in omega arith
+came-on (suc k) more left whole drawn came first = omega arith
 
 -- ---- closes
 
@@ -199,10 +204,10 @@ pub closed-cost : (p : Plan) (b : Bool) (s t : State) (first before between afte
 closed-cost p false s t first before between after counts so most none = let e = none refl in let f = counts.built in omega arith
 closed-cost p true s t first before between after counts so most none = let f = counts.built.0 in omega arith
 
--- no close takes a face away, and none builds more than are declared
-pub closed-built : (p : Plan) (b : Bool) (s t : State) → CloseCounts p b s t → (s.built ≤ t.built) × (s.built ≤ p.faces → t.built ≤ p.faces)
-closed-built p false s t counts = let f = counts.built in (omega arith, λ within. omega arith)
-closed-built p true s t counts = let f = counts.built.0 in (omega arith, counts.built.1)
+-- no close takes a face away, and none builds more than one, or more than are declared
+pub closed-built : (p : Plan) (b : Bool) (s t : State) → CloseCounts p b s t → (s.built ≤ t.built) × (s.built ≤ p.faces → t.built ≤ p.faces) × (t.built ≤ s.built + 1)
+closed-built p false s t counts = let f = counts.built in (omega arith, λ within. omega arith, omega arith)
+closed-built p true s t counts = let f = counts.built.0 in (omega arith, counts.built.1, omega arith)
 
 -- the bit that is drawn has the number of the close
 pub bit-drawn : (left starts : Block) (k closes : ℕ) (interior : Bool) → left ≡ behind k starts → closes ≡ k → interior ≡ next_bit left → interior ≡ bit_of starts closes

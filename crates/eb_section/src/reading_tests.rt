@@ -180,7 +180,7 @@ fn reads_standard(rt: HostRuntime) -> Result<(), Fail> {
 #[test]
 fn refuses_faults(rt: HostRuntime) {
     let alloc = rt.alloc();
-    let rows: [(&[u8], Kind, u64); 32] = [
+    let rows: [(&[u8], Kind, u64); 36] = [
         (&[1], Kind::Traversal, 0),
         (&[3], Kind::Traversal, 0),
         (&[0, 0x81, 0x80, 0x80, 2], Kind::PointLimit, 1),
@@ -276,6 +276,37 @@ fn refuses_faults(rt: HostRuntime) {
             ],
             Kind::BadSymbol,
             1,
+        ),
+        // As many faces and symbols are declared as may be, and few come.
+        (
+            &[
+                0, 3, 0x80, 0x80, 0x80, 2, 0, 0x80, 0x80, 0x80, 2, 0, 0, 1, 0xff, 0xff, 1, 0x11,
+            ],
+            Kind::Short,
+            14,
+        ),
+        (
+            &[
+                2, 3, 0x80, 0x80, 0x80, 2, 0, 0x80, 0x80, 0x80, 2, 0, 0, 0xff, 1, 0x11, 0, 0, 0, 0,
+                0, 0,
+            ],
+            Kind::ContextEmpty,
+            1,
+        ),
+        // Of as many declared faces one is built.
+        (
+            &[0, 3, 0x80, 0x80, 0x80, 2, 0, 1, 0, 0, 1, 7, 0xff, 1, 0x11],
+            Kind::FaceCount,
+            1,
+        ),
+        // Two events keep a side for the last of as many symbols.
+        (
+            &[
+                0, 3, 0x80, 0x80, 0x80, 2, 0, 0x80, 0x80, 0x80, 2, 0, 2, 0xff, 0xff, 0xff, 1, 0xff,
+                0xff, 0xff, 1, 0, 0xff, 0xff, 0xff, 1, 0, 1, 7, 0xff, 1, 0x11,
+            ],
+            Kind::Taken,
+            0,
         ),
     ];
     for (bytes, kind, at) in rows {

@@ -1,6 +1,6 @@
 //! Rebuilding a surface from a source of symbols and a block of start bits.
 
-ghost use Rattle.std.specs.Prelude.{◌≡◌, ◌+◌, ◌*◌, ◌≤◌, All, IfOk, IsTrue, length, reverse};
+ghost use Rattle.std.specs.Prelude.{◌≡◌, suc, ◌+◌, ◌*◌, ◌≤◌, min, All, IfOk, IsTrue, length, reverse};
 ghost use Rattle.drc_base.specs.declared.limits.TheConstants.{MAX_FACES as most_faces};
 ghost use Rattle.drc_base.specs.Refusals.{Answers};
 ghost use Rattle.rans_binary.specs.Blocks.{bit_of};
@@ -18,6 +18,16 @@ use rans_binary::BitBlock;
 use std::alloc::Global;
 use std::sync::ledger::Ledger;
 
+/// How many faces can be built at most of those declared, where so many symbols can come: each symbol
+/// builds one, and so does each close of a side that waits, of which there are no more than symbols.
+fn most_built(faces: u32, symbols: u32) -> u32
+    requires limit { faces ≤ most_faces }
+    requires few { symbols ≤ faces }
+    ensures { result ≡ min faces (2 * symbols) }
+{
+    faces.min(2 * symbols)
+}
+
 /// Feeds the machine so many symbols of a source, which are all that it is to take, or refuses with the
 /// first fault: one of the source comes behind those of the symbols before.
 fn take_symbols<R: Rebuild, F: SymbolSource, L: Ledger>(
@@ -30,12 +40,15 @@ fn take_symbols<R: Rebuild, F: SymbolSource, L: Ledger>(
     requires none { (R.state machine).built ≡ 0 }
     requires unclosed { (R.state machine).closes ≡ 0 }
     requires all { (R.plan machine).symbols ≡ count }
+    requires room { min count (suc (F.left source)) ≤ R.room machine }
     ensures fed { Answers R.state (fed F.gives count count source (R.state machine)) result }
     ensures live { IfOk result (λ m. IsTrue (R.live m)) }
     ensures plan { IfOk result (λ m. R.plan m ≡ R.plan machine) }
     ensures linked { IfOk result (λ m. R.linked m ≡ R.linked machine) }
     ensures built { IfOk result (λ m. (R.state m).built ≡ count) }
     ensures unclosed { IfOk result (λ m. (R.state m).closes ≡ 0) }
+    ensures room { IfOk result (λ m. R.room m ≡ R.room machine) }
+    ensures came { IfOk result (λ m. count ≤ suc (F.left source)) }
     ensures cost { IsTrue (R.linked machine) → steps.new ≤ steps.old + 12 * count }
 {
     let mut machine = machine;
@@ -56,6 +69,7 @@ fn close_sides<R: Rebuild, L: Ledger>(
     requires live { IsTrue (R.live machine) }
     requires all { (R.plan machine).symbols ≤ (R.state machine).built }
     requires within { (R.state machine).built ≤ (R.plan machine).faces }
+    requires room { min (R.plan machine).faces (2 * (R.state machine).built) ≤ R.room machine }
     requires unclosed { (R.state machine).closes ≡ 0 }
     ensures closed { Answers R.state (close_all (R.plan machine) (bit_of starts.entry) (length (R.state machine).stack) (R.state machine)) result }
     ensures live { IfOk result (λ m. IsTrue (R.live m)) }
@@ -92,6 +106,7 @@ fn rebuild<R: Rebuild, F: SymbolSource, L: Ledger>(
     requires empty { length (R.state machine).stack ≡ 0 }
     requires all { (R.plan machine).symbols ≡ count }
     requires within { count ≤ (R.plan machine).faces }
+    requires room { min (R.plan machine).faces (2 * min count (suc (F.left source))) ≤ R.room machine }
     ensures ends { EndsAs (rebuilt F.gives (R.plan machine) source starts.entry (R.state machine)) result }
     ensures faces { IfOk result (λ b. b.table.faces ≡ (R.plan machine).faces) }
     ensures room { IfOk result (λ b. length b.table.entries ≤ 3 * (R.plan machine).faces) }
@@ -104,7 +119,7 @@ fn rebuild<R: Rebuild, F: SymbolSource, L: Ledger>(
 }
 
 /// Rebuilds by links the surface that the front of the section, its events, a source of symbols and a
-/// block of start bits tell.
+/// block of start bits tell. Room is taken for no more faces than the symbols that can come may build.
 pub(crate) fn rebuild_linked<F: SymbolSource, L: Ledger>(
     alloc: Global,
     opening: Opening,
@@ -125,6 +140,7 @@ pub(crate) fn rebuild_linked<F: SymbolSource, L: Ledger>(
     ensures cost { steps.new ≤ steps.old + most_calls opening.faces }
 {
     let created = opening.vertices + opening.splits;
-    let machine = LinkRebuild::new(alloc, opening.faces, created, opening.symbols, events)?;
+    let most = most_built(opening.faces, source.most(opening.symbols));
+    let machine = LinkRebuild::new(alloc, opening.faces, created, opening.symbols, most, events)?;
     rebuild(alloc, machine, source, starts, opening.symbols, steps)
 }

@@ -1,6 +1,6 @@
 //! Where the symbols come from that the machine of reverse decoding is fed: bits, or lists of contexts.
 
-ghost use Rattle.std.specs.Prelude.{◌≡◌, IsTrue};
+ghost use Rattle.std.specs.Prelude.{◌≡◌, ℕ, suc, ◌+◌, ◌≤◌, min, IsTrue, OnOk};
 ghost use Rattle.drc_bits.specs.Reading.{Reads};
 ghost use Rattle.eb_valence.specs.Contexts.{symbol_at};
 ghost use Rattle.eb_section.specs.Feeding.{Source, standard, Draws};
@@ -19,28 +19,42 @@ pub(crate) trait SymbolSource: Drop {
     /// The next symbol for a machine in a state, and what is left of the source, or a fault.
     ghost gives: { Source Self };
 
+    /// How many symbols can still come, beside the first of all.
+    ghost left: { Self → ℕ };
+
+    /// How many of so many symbols can come at most.
+    fn most(&self, symbols: u32) -> u32
+        ensures enough { min symbols (suc (left self.now)) ≤ result }
+        ensures few { result ≤ symbols };
+
     /// Draws the symbol that the machine is to take next, which has this number. After a fault the source
     /// is given up. It takes no memory.
     fn draw<R: Rebuild>(&mut self, machine: &R, number: u32) -> Result<Symbol, Fault>
         requires live { IsTrue (R.live machine.now) }
         requires unclosed { (R.state machine.now).closes ≡ 0 }
         requires number { number ≡ (R.state machine.now).built }
-        ensures { Draws (gives self.old (R.state machine.now)) self.new result };
+        ensures draws { Draws (gives self.old (R.state machine.now)) self.new result }
+        ensures fewer { OnOk result (left self.new + min number 1 ≤ left self.old) };
 }
 
-/// The symbols of the standard traversal, in bits.
+/// The symbols of the standard traversal, in bits of so many bytes.
 #[derive(Drop)]
 pub(crate) struct BitSource<'a> {
     reader: SymbolReader<'a>,
     short: Fault,
+    bytes: usize,
 }
 
 impl<'a> Model for BitSource<'a> {
+    ghost use Rattle.std.specs.Prelude.{◌*◌, ◌≤◌, length};
+    ghost use Rattle.drc_bits.specs.Bits.{bits_left};
     ghost use Rattle.eb_section.specs.Feeding.{Standard};
 
     ghost Value = { Standard };
 
     ghost view = { λ s. record { short = s.short; place = s.reader } };
+
+    ghost invariant = { λ s. length (bits_left s.reader.place) ≤ 8 * s.bytes };
 }
 
 impl<'a> BitSource<'a> {
@@ -55,12 +69,24 @@ impl<'a> BitSource<'a> {
         Ok(BitSource {
             reader: SymbolReader::new(bytes),
             short,
+            bytes: bytes.len(),
         })
     }
 }
 
 impl<'a> SymbolSource for BitSource<'a> {
+    ghost use Rattle.std.specs.Prelude.{length};
+    ghost use Rattle.drc_bits.specs.Bits.{bits_left};
+
     ghost gives = { standard };
+
+    ghost left = { λ s. length (bits_left s.place.place) };
+
+    /// No more than there are bits, since a symbol takes one at least.
+    fn most(&self, symbols: u32) -> u32 {
+        let bits = self.bytes.saturating_mul(8);
+        bits.saturating_add(1).min(symbols as usize) as u32
+    }
 
     /// The symbol whose bits come next; where they aren't there, `Short` at the first byte of the symbols.
     fn draw<R: Rebuild>(&mut self, machine: &R, number: u32) -> Result<Symbol, Fault> {
@@ -72,7 +98,16 @@ impl<'a> SymbolSource for BitSource<'a> {
 }
 
 impl SymbolSource for ContextReader {
+    ghost use Rattle.std.specs.Prelude.{length, sum_by};
+
     ghost gives = { symbol_at };
+
+    ghost left = { λ lists. sum_by length lists };
+
+    /// No more than the first and those in the lists of the contexts.
+    fn most(&self, symbols: u32) -> u32 {
+        ContextReader::most(self, symbols)
+    }
 
     /// The last symbol left in the context of the machine's degree; the first symbol is E. `ContextEmpty`
     /// and `BadSymbol` at the symbol's number.

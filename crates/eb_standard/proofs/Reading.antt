@@ -1,6 +1,6 @@
 -- Reading back what was written, symbol by symbol.
-use Rattle.std.proofs.Common.{◌≡◌, ℕ, zero, suc, ◌+◌, ◌*◌, ◌/◌, ◌<◌, ◌≤◌, Bool, true, false, cond, ◌==◌, nat_le, List, [], ◌∷◌, ◌++◌, length, take, drop, Option, Some, None, sym, refl, ap, ◌∙◌, subst, arith, le-leb, if◌then◌else◌}
-use Rattle.std.proofs.lemmas.Bool.{cond-true, cond-false, lt-leb}
+use Rattle.std.proofs.Common.{◌≡◌, ℕ, zero, suc, ◌+◌, ◌*◌, ◌/◌, ◌<◌, ◌≤◌, Bool, true, false, cond, ◌==◌, nat_le, List, [], ◌∷◌, ◌++◌, length, take, drop, Option, Some, None, sym, refl, ap, ◌∙◌, subst, arith, le-leb, if◌then◌else◌, IfSome, inl, inr, length-drop}
+use Rattle.std.proofs.lemmas.Bool.{cond-true, cond-false, lt-leb, cases_lt}
 use Rattle.std.proofs.lemmas.List.{drop-drop}
 use Rattle.drc_bits.specs.Bits.{BitPlace, next_bits, after_bits, bits_left, bits_of, low_bits, number_of}
 use Rattle.corner_table.specs.declared.symbols.Symbol.{Symbol}
@@ -138,3 +138,55 @@ is_in_bits s None p = tt
 is_in_bits s (Some y) p = λ b.
     bits_tell s.place (bits_left s.place) y refl (bits-drop s.place.taken (bits_of s.place.bytes) (all_are_bits s.place.bytes))
     (ap next_symbol (ap (place_of s.place) (sym b)) ∙ sym p)
+
+-- a symbol takes some of the bits
+abbrev symbol_after : BitPlace → Option ℕ → Option Symbol
+symbol_after r o = elim o [ None ↦ None | Some b ↦ cond (b == 0) (Some C) (longer (after_bits 1 r)) ]
+
+abbrev place_after : BitPlace → Option ℕ → SymbolPlace
+place_after r o = elim o [ None ↦ place_of r false | Some b ↦ cond (b == 0) (place_of (after_bits 1 r) false) (after_longer (after_bits 1 r)) ]
+
+abbrev Takes : BitPlace → SymbolPlace → Option Symbol → Type 0
+Takes r t o = IfSome o (λ x. length (bits_left t.place) < length (bits_left r))
+
+-- two bits of a longer symbol
+longer_takes : (r : BitPlace) → Takes r (after_longer r) (longer r)
+longer_takes r =
+    let f : Option ℕ → Option Symbol = λ o. elim o [ None ↦ None | Some n ↦ Some (symbol_of n) ] in
+    let g : Option ℕ → SymbolPlace = λ o. elim o [ None ↦ place_of r true | Some n ↦ place_of (after_bits 2 r) false ] in
+    elim (cases_lt (length (bits_left r)) 2) [
+      | inl few ↦ subst (Takes r (after_longer r)) (sym (ap f (next_none 2 r (bits_left r) refl few))) tt
+      | inr many ↦
+          let n = next_is 2 r (bits_left r) refl many in
+          let p = ap (λ (o : Option ℕ). bits_left (g o).place) n ∙ left_is 2 r (bits_left r) refl many in
+          let l = ap (λ (w : List ℕ). length w) p ∙ length-drop 2 (bits_left r) in
+          subst (Takes r (after_longer r)) (sym (ap f n)) (omega arith)
+    ]
+
+-- the first bit, and what is behind it
+first_takes : (r : BitPlace) (b : ℕ) (zero : Bool) → (b == 0) ≡ zero → length (bits_left (after_bits 1 r)) < length (bits_left r) → Takes r (place_after r (Some b)) (symbol_after r (Some b))
+first_takes r b true e h =
+    subst (Takes r (place_after r (Some b))) (sym (cond-true (b == 0) (Some C) (longer (after_bits 1 r)) e))
+    (subst (λ (t : SymbolPlace). length (bits_left t.place) < length (bits_left r)) (sym (cond-true (b == 0) (place_of (after_bits 1 r) false) (after_longer (after_bits 1 r)) e)) h)
+first_takes r b false e h =
+    subst (Takes r (place_after r (Some b))) (sym (cond-false (b == 0) (Some C) (longer (after_bits 1 r)) e))
+    (subst (λ (t : SymbolPlace). Takes r t (longer (after_bits 1 r))) (sym (cond-false (b == 0) (place_of (after_bits 1 r) false) (after_longer (after_bits 1 r)) e))
+    (fewer_still (longer (after_bits 1 r)) (longer_takes (after_bits 1 r))))
+  where
+    fewer_still : (o : Option Symbol) → Takes (after_bits 1 r) (after_longer (after_bits 1 r)) o → Takes r (after_longer (after_bits 1 r)) o
+    fewer_still None k = tt
+    fewer_still (Some x) k = omega arith
+
+next_takes : (r : BitPlace) (begun : Bool) → Takes r (after_symbol (place_of r begun)) (next_symbol (place_of r begun))
+next_takes r true = longer_takes r
+next_takes r false = elim (cases_lt (length (bits_left r)) 1) [
+  | inl none ↦ subst (Takes r (after_symbol (place_of r false))) (sym (ap (symbol_after r) (next_none 1 r (bits_left r) refl none))) tt
+  | inr some ↦
+      let n = next_is 1 r (bits_left r) refl some in
+      let b = number_of (take 1 (bits_left r)) in
+      let l = ap (λ (w : List ℕ). length w) (left_is 1 r (bits_left r) refl some) ∙ length-drop 1 (bits_left r) in
+      subst (λ (o : Option ℕ). Takes r (place_after r o) (symbol_after r o)) (sym n) (first_takes r b (b == 0) refl (omega arith))
+]
+
+pub takes_some : (s t : SymbolPlace) (o : Option Symbol) → o ≡ next_symbol s → t ≡ after_symbol s → Takes s.place t o
+takes_some s t o p q = subst (Takes s.place t) (sym p) (subst (λ (u : SymbolPlace). Takes s.place u (next_symbol s)) (sym q) (next_takes s.place s.begun))

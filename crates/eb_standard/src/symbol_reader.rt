@@ -1,6 +1,7 @@
 //! Reading symbols.
 
-ghost use Rattle.std.specs.Prelude.{◌≡◌, false, Some, None};
+ghost use Rattle.std.specs.Prelude.{◌≡◌, ◌<◌, false, length, Some, None, IfSome};
+ghost use Rattle.drc_bits.specs.Bits.{bits_left};
 ghost use Rattle.eb_standard.specs.SymbolBits.{next_symbol, after_symbol, symbol_of, longer, after_longer};
 ghost use Rattle.eb_standard.specs.ReadBack.{ReadsBack, IsInBits};
 
@@ -55,6 +56,7 @@ impl<'a> SymbolReader<'a> {
         ensures after { self.new ≡ after_symbol self.old }
         ensures back { ReadsBack self.old self.new result }
         ensures stands { IsInBits self.old result }
+        ensures fewer { IfSome result (λ x. length (bits_left self.new.place) < length (bits_left self.old.place)) }
     {
         self.next_found()
     }

@@ -38,7 +38,10 @@ fn take_all<R: Rebuild, L: Ledger>(
     requires none { (R.state machine.old).built ≡ 0 }
     requires unclosed { (R.state machine.old).closes ≡ 0 }
     requires all { (R.plan machine.old).symbols ≡ length symbols.now }
+    requires room { length symbols.now ≤ R.room machine.old }
     ensures live { OnOk result (IsTrue (R.live machine.new)) }
+    ensures plan { OnOk result (R.plan machine.new ≡ R.plan machine.old) }
+    ensures room { OnOk result (R.room machine.new ≡ R.room machine.old) }
     ensures all { OnOk result ((R.plan machine.new).symbols ≤ (R.state machine.new).built) }
 {
     for number in 0..symbols.len() {
@@ -58,6 +61,7 @@ fn close_all<R: Rebuild, L: Ledger>(
 ) -> Result<usize, Refusal>
     requires live { IsTrue (R.live machine.old) }
     requires all { (R.plan machine.old).symbols ≤ (R.state machine.old).built }
+    requires room { (R.plan machine.old).faces ≤ R.room machine.old }
     ensures live { OnOk result (IsTrue (R.live machine.new)) }
     ensures all { OnOk result ((R.plan machine.new).symbols ≤ (R.state machine.new).built) }
     ensures none { OnOk result (length (R.state machine.new).stack ≡ 0) }
@@ -94,7 +98,7 @@ fn rebuilt<R: Rebuild, L: Ledger>(
     let events = traced.events.as_slice().to_vec(alloc)?;
     let created = traced.vertices.saturating_add(split_count(symbols));
     let mut steps = Steps::<L>::new(blank);
-    let mut machine = R::new(alloc, faces, created, count, events)?;
+    let mut machine = R::new(alloc, faces, created, count, faces, events)?;
     take_all(&mut machine, symbols, &mut steps)?;
     let starts = traced.starts.as_slice();
     let closed = close_all(&mut machine, starts, &mut steps)?;

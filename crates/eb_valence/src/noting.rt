@@ -51,6 +51,7 @@ fn note_all<R: Rebuild, L: Ledger>(
     requires none { (R.state machine).built ≡ 0 }
     requires unclosed { (R.state machine).closes ≡ 0 }
     requires all { (R.plan machine).symbols ≡ length symbols.now }
+    requires room { R.room machine ≡ length symbols.now }
     requires takes { Takes (length symbols.now) (reverse symbols.now) (R.state machine) }
     ensures { OnOk result (lists.new ≡ noted lists.old (coded (length symbols.now) (reverse symbols.now) (R.state machine))) }
 {
@@ -82,7 +83,7 @@ fn lists_by<L: Ledger>(
 {
     let count = symbols.len() as u32;
     let mut steps = Steps::<L>::new(blank);
-    let machine = LinkRebuild::new(alloc, count, 0, count, events)?;
+    let machine = LinkRebuild::new(alloc, count, 0, count, count, events)?;
     let mut lists = ContextLists::none(alloc);
     note_all(&mut lists, machine, symbols, &mut steps)?;
     Ok(lists.turned_round())

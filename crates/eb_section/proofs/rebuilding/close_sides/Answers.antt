@@ -36,6 +36,9 @@ loop-number-preserved g c =
       closes = counts.closes ∙ ap (λ k. k + 1) c.loop-number.invariant.closes;
       waiting = (let w = counts.waiting in let v = c.loop-number.invariant.waiting in omega arith);
       grown = (let v = c.loop-number.invariant.grown in let w = faces.0 in omega arith);
+      slow = (let v = c.loop-number.invariant.slow in let w = faces.2 in omega arith);
+      few = c.loop-number.invariant.few;
+      room = c.in_ok-close.ensures.room ∙ c.loop-number.invariant.room;
       within = faces.1 c.loop-number.invariant.within;
       cost = λ linked. closed-cost p c.next-interior.result s t _ _ _ _ counts (c.loop-number.invariant.cost linked)
           (c.in_ok-close.ensures.cost (linked_before linked)) (c.in_ok-close.ensures.none (linked_before linked));

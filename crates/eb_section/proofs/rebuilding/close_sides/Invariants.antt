@@ -17,6 +17,9 @@ invariant-loop-number g l =
       closes : now.closes ≡ l.number;
       waiting : length now.stack + l.number ≡ l.waiting;
       grown : first.built ≤ now.built;
+      slow : now.built ≤ first.built + l.number;
+      few : l.waiting ≤ first.built;
+      room : g.R.Rebuild.room l.machine ≡ g.R.Rebuild.room l.fn.machine;
       within : now.built ≤ (g.R.Rebuild.plan l.fn.machine).faces;
       cost : IsTrue (g.R.Rebuild.linked l.fn.machine) → l.steps + 12 * first.built ≤ l.fn.steps + 12 * now.built;
       same : l.waiting ≡ 0 → l.steps ≡ l.fn.steps;

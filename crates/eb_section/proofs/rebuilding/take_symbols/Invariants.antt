@@ -1,5 +1,5 @@
 -- The symbols that are left, drawn from what is left of the source, lead from the machine's state to where all lead.
-use Rattle.std.proofs.Common.{◌≡◌, ◌-◌, ◌+◌, ◌*◌, ◌≤◌, IsTrue}
+use Rattle.std.proofs.Common.{◌≡◌, suc, ◌-◌, ◌+◌, ◌*◌, ◌≤◌, IsTrue}
 use Rattle.eb_rebuild.specs.Machine.{State}
 use Rattle.eb_section.specs.Feeding.{fed}
 use Rattle.eb_section.proofs.rebuilding.take_symbols.Given as goal
@@ -14,5 +14,8 @@ invariant-loop-number g l =
       linked : g.R.Rebuild.linked l.machine ≡ g.R.Rebuild.linked l.fn.machine;
       built : now.built ≡ l.number;
       unclosed : now.closes ≡ 0;
+      room : g.R.Rebuild.room l.machine ≡ g.R.Rebuild.room l.fn.machine;
+      came : l.number + g.F.SymbolSource.left l.source ≤ suc (g.F.SymbolSource.left l.fn.source);
+      first : l.number ≡ 0 → g.F.SymbolSource.left l.source ≤ g.F.SymbolSource.left l.fn.source;
       cost : IsTrue (g.R.Rebuild.linked l.fn.machine) → l.steps ≤ l.fn.steps + 12 * l.number;
     }

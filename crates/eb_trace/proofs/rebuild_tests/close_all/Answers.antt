@@ -19,4 +19,7 @@ closing-preserved g c =
     let n = ap (λ (q : Plan). q.symbols) c.in-Ok.ensures.plan in
     let more = k.1 in
     let i = c.closing.invariant.0 in
-    (omega arith, c.in-Ok.ensures.moves.1)
+    let f = ap (λ (q : Plan). q.faces) c.in-Ok.ensures.plan in
+    let r = c.in-Ok.ensures.room in
+    let wide = c.closing.invariant.2 in
+    (omega arith, c.in-Ok.ensures.moves.1, omega arith)

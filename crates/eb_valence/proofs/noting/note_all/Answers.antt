@@ -22,6 +22,7 @@ loop-number-preserved g c =
       linked = subst (λ (b : Bool). IsTrue b) (sym c.in-Ok.ensures.linked) c.loop-number.invariant.linked;
       unclosed = counts.1 ∙ c.loop-number.invariant.unclosed;
       all = ap (λ (p : Plan). p.symbols) c.in-Ok.ensures.plan ∙ c.loop-number.invariant.all;
+      room = c.in-Ok.ensures.room ∙ c.loop-number.invariant.room;
       within = omega (arith, c.loop-number.invariant.within);
       built = omega (arith, one, c.loop-number.invariant.built, c.loop-number-test.true);
       takes = takes_on _ _ _ x s t w stepped c.loop-number.invariant.takes;

@@ -14,6 +14,7 @@ invariant-loop-number g l =
       linked : IsTrue (g.R.Rebuild.linked l.machine);
       unclosed : now.closes ≡ 0;
       all : (g.R.Rebuild.plan l.machine).symbols ≡ n;
+      room : g.R.Rebuild.room l.machine ≡ n;
       within : l.number ≤ n;
       built : now.built + l.number ≡ n;
       takes : Takes n (reverse (take l.number l.symbols)) now;

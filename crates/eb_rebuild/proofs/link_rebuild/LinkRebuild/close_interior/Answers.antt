@@ -1,8 +1,8 @@
 -- The loop of the top side is one of three and is filled, or the fault of its rule.
-use Rattle.std.proofs.Common.{◌≡◌, ℕ, ◌+◌, ◌/◌, not, ◌&&◌, List, length, sym, refl, ap, ◌∙◌, subst, arith, add-one}
+use Rattle.std.proofs.Common.{◌≡◌, ◌*◌, ℕ, ◌+◌, ◌/◌, not, ◌&&◌, List, length, sym, refl, ap, ◌∙◌, subst, arith, add-one}
 use Rattle.corner_table.specs.Sides.{Side, side, first, second, third, same, glue}
 use Rattle.corner_table.specs.Fans.{side_before}
-use Rattle.corner_table.specs.Table.{side_of, glued_in, gluing_of}
+use Rattle.corner_table.specs.Table.{side_of, glued_in, gluing_of, room_of}
 use Rattle.corner_table.proofs.Places.{face_apart}
 use Rattle.eb_rebuild.specs.Kept.{AreKeptBelow, AreSidesBelow}
 use Rattle.eb_rebuild.proofs.Noting.{kept_below_more}
@@ -115,13 +115,13 @@ glue-requires-3-clause-second g c =
 pub invariant_of-self-2 : goal.invariant_of-self-2
 invariant_of-self-2 g c =
     let below = sides_rest c.self.inside.table.faces c.self.inside.stack.sides c.in-Some.a c.pop.new.self.sides c.in-Some.ensures.top c.self.invariant.0.sides in
-    let more : c.glue-3.new.self.faces ≡ c.self.inside.table.faces + 1 = c.glue-3.ensures.faces ∙ c.glue-2.ensures.faces ∙ c.glue.ensures.faces ∙ c.add_face-face.ensures.faces in (
+    let more : c.glue-3.new.self.faces ≡ c.self.inside.table.faces + 1 = c.glue-3.ensures.faces ∙ c.glue-2.ensures.faces ∙ c.glue.ensures.faces ∙ c.add_face-face.ensures.faces in
+    let as_wide : room_of c.glue-3.new.self ≡ room_of c.self.inside.table = c.glue-3.ensures.room ∙ c.glue-2.ensures.room ∙ c.glue.ensures.room ∙ ap (λ (l : List ℕ). length l / 3) c.add_face-face.ensures.entries in (
       link_closed {v = (record { plan = record { faces = c.self.inside.faces; created = c.self.inside.created; symbols = c.self.inside.symbols }; table = c.self.inside.table; stack = c.self.inside.stack; splits = c.self.inside.splits; made = c.self.inside.made; closes = c.self.inside.closes })} c.self.invariant.0 c.in-Some.a c.pop.new.self.sides 1 c.in-Some.ensures.top refl
-          (c.glue-3.ensures.room ∙ c.glue-2.ensures.room ∙ c.glue.ensures.room ∙ ap (λ (l : List ℕ). length l / 3) c.add_face-face.ensures.entries)
-          more refl c.pop.ensures.room refl refl (add-one _)
+          as_wide more refl c.pop.ensures.room refl refl (add-one _)
           (subst (λ (n : ℕ). AreSidesBelow n c.pop.new.self.sides) (sym (more ∙ add-one _)) (sides_below_more _ _ below.1))
           (subst (λ (n : ℕ). AreKeptBelow n c.self.inside.splits.kept) (sym (more ∙ add-one _)) (kept_below_more _ _ c.self.invariant.0.kept)),
-      c.self.invariant.1,
+      c.self.invariant.1 ∙ ap (λ (n : ℕ). 3 * n) (sym as_wide),
       λ e. absurd (omega arith),
     )
 

@@ -1,7 +1,7 @@
 -- A face more, its side 0 on top, and its events noted.
-use Rattle.std.proofs.Common.{ℕ, suc, ◌+◌, ◌*◌, ◌<◌, ◌∷◌, List, length, map, sym, refl, ap, ◌∙◌, subst, arith, add-one, Ok, ◌/◌}
+use Rattle.std.proofs.Common.{ℕ, ◌≡◌, suc, ◌+◌, ◌*◌, ◌<◌, ◌∷◌, List, length, map, sym, refl, ap, ◌∙◌, subst, arith, add-one, Ok, ◌/◌}
 use Rattle.corner_table.specs.Sides.{side_at, first}
-use Rattle.corner_table.specs.Table.{glued_in}
+use Rattle.corner_table.specs.Table.{glued_in, room_of}
 use Rattle.eb_rebuild.specs.Linked.{LinkValue}
 use Rattle.eb_rebuild.specs.Kept.{AreKeptBelow}
 use Rattle.eb_rebuild.specs.KeptDegrees.{KeepsDegrees, after_end}
@@ -17,13 +17,14 @@ invariant_of-self g c =
     let F = c.add_face-face.ensures.face in
     let long = c.self.inside.degrees.ok.0 in
     let room = c.self.invariant.1 in
-    let fewer = c.self.invariant.0.fewer in
+    let wide = subst (λ (v : LinkValue). v.table.faces < room_of v.table) (sym c.self.view_is) c.requires.room in
+    let as_wide : room_of c.add_face-face.new.self ≡ room_of c.self.inside.table = ap (λ (l : List ℕ). length l / 3) c.add_face-face.ensures.entries in
     let items = c.end_degrees.ensures.items ∙ ap (λ (n : ℕ). after_end n c.self.inside.degrees.items) F in (
       link_grown c.self.invariant.0 (record {
         plan = refl;
         more = more;
         faces = c.add_face-face.ensures.faces ∙ add-one _;
-        room = ap (λ (l : List ℕ). length l / 3) c.add_face-face.ensures.entries;
+        room = as_wide;
         stack_room = c.push.ensures.room;
         rest = c.self.inside.stack.sides;
         below = c.self.invariant.0.sides;
@@ -34,7 +35,7 @@ invariant_of-self g c =
         made = omega arith;
         closes = refl;
       }),
-      c.end_degrees.ensures.len ∙ c.self.invariant.1,
+      c.end_degrees.ensures.len ∙ c.self.invariant.1 ∙ ap (λ (n : ℕ). 3 * n) (sym as_wide),
       λ e. subst (KeepsDegrees c.add_face-face.new.self (c.self.inside.made + 3)) (sym items)
           (keeps_end c.self.inside.table c.add_face-face.new.self c.self.inside.made c.self.inside.degrees.items W c.self.invariant.0.made (c.add_face-face.ensures.faces ∙ add-one _) (ap glued_in c.add_face-face.ensures.entries) (omega arith)),
     )

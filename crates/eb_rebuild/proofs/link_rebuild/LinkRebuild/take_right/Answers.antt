@@ -1,7 +1,7 @@
 -- A face more, glued to the top side, its side 0 on top, and its events noted.
 use Rattle.std.proofs.Common.{◌≡◌, ℕ, suc, ◌+◌, ◌*◌, ◌/◌, ◌<◌, ◌∷◌, List, length, sym, refl, ap, ◌∙◌, subst, arith, add-one}
 use Rattle.corner_table.specs.Sides.{Side, side, side_at, first, third, glue}
-use Rattle.corner_table.specs.Table.{side_of, glued_in, gluing_of}
+use Rattle.corner_table.specs.Table.{side_of, glued_in, gluing_of, room_of}
 use Rattle.corner_table.specs.Fans.{Follows}
 use Rattle.corner_table.proofs.Places.{face_apart}
 use Rattle.corner_table.proofs.Numbers.{number-side_at}
@@ -30,7 +30,8 @@ invariant_of-self g c =
     let F = c.add_face-face.ensures.face in
     let long = c.self.inside.degrees.ok.0 in
     let room = c.self.invariant.1 in
-    let fewer = c.self.invariant.0.fewer in
+    let wide = subst (λ (v : LinkValue). v.table.faces < room_of v.table) (sym whole) c.requires.room in
+    let as_wide : room_of c.glue.new.self ≡ room_of c.self.inside.table = c.glue.ensures.room ∙ ap (λ (l : List ℕ). length l / 3) c.add_face-face.ensures.entries in
     let faces = c.glue.ensures.faces ∙ c.add_face-face.ensures.faces ∙ add-one _ in
     let glued = c.glue.ensures.glued ∙ ap (λ (l : List ℕ). glue (side c.add_face-face.result third) (side_of c.side_with-top.result) (glued_in l)) c.add_face-face.ensures.entries
     ∙ ap (λ (n : ℕ). glue (side n third) (side_of c.side_with-top.result) (gluing_of c.self.inside.table)) F
@@ -42,7 +43,7 @@ invariant_of-self g c =
         plan = refl;
         more = more;
         faces = c.glue.ensures.faces ∙ c.add_face-face.ensures.faces ∙ add-one _;
-        room = c.glue.ensures.room ∙ ap (λ (l : List ℕ). length l / 3) c.add_face-face.ensures.entries;
+        room = as_wide;
         stack_room = c.push.ensures.room;
         rest = c.self.inside.stack.sides;
         below = c.self.invariant.0.sides;
@@ -53,7 +54,7 @@ invariant_of-self g c =
         made = omega arith;
         closes = refl;
       }),
-      c.right_degrees.ensures.len ∙ c.self.invariant.1,
+      c.right_degrees.ensures.len ∙ c.self.invariant.1 ∙ ap (λ (n : ℕ). 3 * n) (sym as_wide),
       λ e. subst (KeepsDegrees c.glue.new.self (c.self.inside.made + 1)) (sym items)
           (keeps_right c.self.inside.table c.glue.new.self c.self.inside.made c.self.inside.degrees.items c.in-Ok.a (side_of c.next_open-next.result) W c.self.invariant.0.made faces glued (taken_free T) follows (omega arith)),
     )

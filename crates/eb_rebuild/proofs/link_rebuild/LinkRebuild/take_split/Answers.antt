@@ -2,7 +2,7 @@
 use Rattle.std.proofs.Common.{◌≡◌, ℕ, Ok, ◌*◌, ◌/◌, ◌<◌, ◌∷◌, List, length, sym, refl, ap, ◌∙◌, subst, arith, add-one}
 use Rattle.corner_table.specs.Sides.{Side, side_at, number, side, first, second, third, glue, IsFree}
 use Rattle.corner_table.specs.Fans.{side_before, Follows}
-use Rattle.corner_table.specs.Table.{side_of, glued_in, gluing_of}
+use Rattle.corner_table.specs.Table.{side_of, glued_in, gluing_of, room_of}
 use Rattle.corner_table.proofs.Places.{same-true, same-false, face_apart}
 use Rattle.corner_table.proofs.Numbers.{number-side_at}
 use Rattle.eb_rebuild.specs.KeptDegrees.{KeepsDegrees, after_split}
@@ -113,7 +113,8 @@ invariant_of-self g c =
     let F = c.add_face-face.ensures.face in
     let long = c.self.inside.degrees.ok.0 in
     let room = c.self.invariant.1 in
-    let fewer = c.self.invariant.0.fewer in
+    let wide = subst (λ (v : LinkValue). v.table.faces < room_of v.table) (sym whole) (subst (λ (v : LinkValue). v.table.faces < room_of v.table) (sym c.take_side.ensures.rest) c.requires.room) in
+    let as_wide : room_of c.glue-2.new.self ≡ room_of c.self.inside.table = c.glue-2.ensures.room ∙ c.glue.ensures.room ∙ ap (λ (l : List ℕ). length l / 3) c.add_face-face.ensures.entries in
     let b = c.in-Ok.b in
     let a = c.in-Ok-take_second.a in
     let nb = side_of c.next_open-next_top.result in
@@ -134,7 +135,7 @@ invariant_of-self g c =
         plan = refl;
         more = more;
         faces = c.glue-2.ensures.faces ∙ c.glue.ensures.faces ∙ c.add_face-face.ensures.faces ∙ add-one _;
-        room = c.glue-2.ensures.room ∙ c.glue.ensures.room ∙ ap (λ (l : List ℕ). length l / 3) c.add_face-face.ensures.entries;
+        room = as_wide;
         stack_room = c.push.ensures.room;
         rest = c.self.inside.stack.sides;
         below = c.self.invariant.0.sides;
@@ -145,7 +146,7 @@ invariant_of-self g c =
         made = omega arith;
         closes = refl;
       }),
-      c.split_degrees.ensures.len ∙ c.self.invariant.1,
+      c.split_degrees.ensures.len ∙ c.self.invariant.1 ∙ ap (λ (n : ℕ). 3 * n) (sym as_wide),
       λ e. subst (KeepsDegrees c.glue-2.new.self c.self.inside.made) (sym items)
           (keeps_split c.self.inside.table c.glue-2.new.self c.self.inside.made ds b a nb na W c.self.invariant.0.made faces glued (first_is_free T) (second_is_free T)
           (λ q. same-false _ _ (sym c.is_same.ensures ∙ c.if-is_same.false) (c.side_with-second.ensures.side ∙ sym q ∙ sym c.side_with-top.ensures.side)) after_b after_a (omega arith)),

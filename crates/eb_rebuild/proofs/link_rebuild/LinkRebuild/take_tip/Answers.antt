@@ -2,7 +2,7 @@
 use Rattle.std.proofs.Common.{◌≡◌, ℕ, Ok, ◌*◌, ◌/◌, ◌<◌, ◌∷◌, List, length, sym, refl, ap, ◌∙◌, subst, arith, add-one}
 use Rattle.corner_table.specs.Sides.{Side, side, side_at, number, first, second, third, glue}
 use Rattle.corner_table.specs.Fans.{side_before, Follows}
-use Rattle.corner_table.specs.Table.{side_of, glued_in, gluing_of}
+use Rattle.corner_table.specs.Table.{side_of, glued_in, gluing_of, room_of}
 use Rattle.corner_table.proofs.Places.{same-true, same-false, face_apart}
 use Rattle.eb_rebuild.specs.KeptDegrees.{KeepsDegrees, after_tip}
 use Rattle.eb_rebuild.specs.Linked.{LinkValue, state_of}
@@ -60,7 +60,8 @@ invariant_of-self g c =
     let F = c.add_face-face.ensures.face in
     let long = c.self.inside.degrees.ok.0 in
     let room = c.self.invariant.1 in
-    let fewer = c.self.invariant.0.fewer in
+    let wide = subst (λ (v : LinkValue). v.table.faces < room_of v.table) (sym whole) c.requires.room in
+    let as_wide : room_of c.glue-2.new.self ≡ room_of c.self.inside.table = c.glue-2.ensures.room ∙ c.glue.ensures.room ∙ ap (λ (l : List ℕ). length l / 3) c.add_face-face.ensures.entries in
     let before = side_of c.prev_open-before.result in
     let faces = c.glue-2.ensures.faces ∙ c.glue.ensures.faces ∙ c.add_face-face.ensures.faces ∙ add-one _ in
     let glued = c.glue-2.ensures.glued ∙ ap (glue (side c.add_face-face.result third) before) (c.glue.ensures.glued ∙ ap (λ (l : List ℕ). glue (side c.add_face-face.result second) (side_of c.side_with-top.result) (glued_in l)) c.add_face-face.ensures.entries)
@@ -75,7 +76,7 @@ invariant_of-self g c =
         plan = refl;
         more = more;
         faces = c.glue-2.ensures.faces ∙ c.glue.ensures.faces ∙ c.add_face-face.ensures.faces ∙ add-one _;
-        room = c.glue-2.ensures.room ∙ c.glue.ensures.room ∙ ap (λ (l : List ℕ). length l / 3) c.add_face-face.ensures.entries;
+        room = as_wide;
         stack_room = c.push.ensures.room;
         rest = c.self.inside.stack.sides;
         below = c.self.invariant.0.sides;
@@ -86,7 +87,7 @@ invariant_of-self g c =
         made = omega arith;
         closes = refl;
       }),
-      c.tip_degrees.ensures.len ∙ c.self.invariant.1,
+      c.tip_degrees.ensures.len ∙ c.self.invariant.1 ∙ ap (λ (n : ℕ). 3 * n) (sym as_wide),
       λ e. subst (KeepsDegrees c.glue-2.new.self c.self.inside.made) (sym items)
           (keeps_tip c.self.inside.table c.glue-2.new.self c.self.inside.made c.self.inside.degrees.items (side_at c.in-Ok.a) before (side_of c.next_open-next.result) W c.self.invariant.0.made faces glued (taken_free T) c.prev_open-before.ensures.free
           (λ q. same-false _ _ (sym c.is_same.ensures ∙ c.if-is_same.false) (q ∙ sym c.side_with-top.ensures.side)) comes follows (omega arith)),

@@ -25,7 +25,7 @@ invariant_of-self-2 g c =
     let whole = c.self.view_is ∙ c.take_row.ensures.rest in
     let count = c.face_count-face.ensures.count in
     let made = c.in_ok-add_tip.ensures.made in
-    let more : c.self.inside.named.table.faces < c.self.inside.symbols = subst (λ (v : RowValue). v.named.table.faces < v.plan.symbols) (sym whole) c.requires in
+    let more : c.self.inside.named.table.faces < c.self.inside.symbols = subst (λ (v : RowValue). v.named.table.faces < v.plan.symbols) (sym whole) c.requires.more in
     link_grown c.self.invariant (record {
       plan = refl;
       more = more;

@@ -1,19 +1,20 @@
 -- What is left to note, with what is kept so far, comes to the same.
 use Rattle.std.proofs.Common.{◌≡◌, suc, ◌^◌, ◌<◌, ◌≤◌, length, vec_len, All}
 use Rattle.eb_rebuild.specs.Machine.{note_events}
-use Rattle.eb_rebuild.specs.Kept.{counted_down, no_event, kept_in, AreKeptBelow}
+use Rattle.eb_rebuild.specs.Kept.{counted_down, no_event, kept_in, HasRoomFor, AreKeptBelow}
 use Rattle.eb_rebuild.specs.Rebuilding.{IsEventOf}
 use Rattle.eb_rebuild.proofs.splits.Splits.note.Given as goal
 
 abbrev pub invariant-noting : goal.invariant-noting
 invariant-noting l = record {
   left : l.self-inside.left ≤ vec_len l.self-inside.events;
-  small : vec_len l.self-inside.kept < 2 ^ 24;
-  valid : All (IsEventOf (vec_len l.self-inside.kept)) l.self-inside.events.items;
-  long : vec_len l.self-inside.kept ≡ l.symbols;
+  small : length l.self-inside.kept.sides < 2 ^ 24;
+  valid : All (IsEventOf (length l.self-inside.kept.sides)) l.self-inside.events.items;
+  roomy : All (HasRoomFor l.self-inside.kept.numbers (length l.self-inside.kept.sides)) l.self-inside.events.items;
+  long : length l.self-inside.kept.sides ≡ l.symbols;
   fewer : l.symbols ≡ length l.fn.self.kept;
-  same : note_events l.symbols l.face l.fn.self.events (kept_in l.fn.self.kept) ≡ note_events l.symbols l.face (counted_down no_event l.self-inside.left l.self-inside.events.items) (kept_in l.self-inside.kept.items);
-  below : AreKeptBelow l.face l.fn.self.kept → AreKeptBelow (suc l.face) l.self-inside.kept.items;
+  same : note_events l.symbols l.face l.fn.self.events (kept_in l.fn.self.kept) ≡ note_events l.symbols l.face (counted_down no_event l.self-inside.left l.self-inside.events.items) (kept_in l.self-inside.kept.sides);
+  below : AreKeptBelow l.face l.fn.self.kept → AreKeptBelow (suc l.face) l.self-inside.kept.sides;
 }
 
 abbrev pub decreases-noting : goal.decreases-noting
