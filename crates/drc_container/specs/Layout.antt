@@ -26,9 +26,8 @@ use Rattle.drc_container.specs.Chosen.{mesh_in, coding_of}
 use Rattle.drc_container.specs.Stream.{stream}
 
 -- how an attribute is coded: the element type (0 vertices, 1 corners) and the walk (0 depth first, 1 by prediction degree)
--- of its decoder, both 0 in a sequential stream; its prediction (-2 none, 0 difference, 1 parallelogram,
--- 4 constrained multi-parallelogram); and the byte that
--- says whether its values are compressed (0 as they are, else in a symbol block)
+-- of its decoder, both 0 in a sequential stream; its prediction (-2 none, 0 difference, 1 parallelogram, 4 constrained
+-- multi-parallelogram); and the byte that says whether its values are compressed (0 as they are, else in a symbol block)
 pub record AttrLayout : Type 0 where
   pub element : ℕ
   pub walk : ℕ

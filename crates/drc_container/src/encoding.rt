@@ -56,6 +56,8 @@ pub fn encode(alloc: Global, g: &Geometry, choice: &Choice) -> Result<(Vec<u8>, 
     }
     match g {
         Geometry::Mesh(mesh) => {
+            // For the proof alone: the call tells what holds of every mesh.
+            let _faces = mesh.face_count();
             let (bytes, rows) = encode_surface(alloc, mesh, &coding_of(g, choice))?;
             Ok((bytes, Renumber { rows }))
         }
