@@ -1,6 +1,6 @@
 //! Encoding a geometry.
 
-ghost use Rattle.std.specs.Prelude.{◌≡◌, ◌<◌, ◌≤◌, true, Ok, Err, Some, None, length, IfOk};
+ghost use Rattle.std.specs.Prelude.{◌≡◌, true, Ok, Err, Some, None, IfOk};
 ghost use Rattle.drc_base.specs.declared.faults.Fault.{Fault as AnyFault};
 ghost use Rattle.drc_base.specs.declared.faults.Refusal.TheVariants as refusal;
 ghost use Rattle.drc_base.specs.Refusals.{Answers};
