@@ -9,14 +9,9 @@ use Rattle.mesh_model.specs.Same.{Rows}
 use Rattle.mesh_model.specs.Renumbering.{plain}
 use Rattle.mesh_model.specs.FirstFault.{first_fault, value_unless}
 use Rattle.pairing.specs.Degenerate.{degenerate_fault}
-use Rattle.attr_section.specs.declared.predictions.Prediction.{Prediction}
-use Rattle.attr_section.specs.declared.predictions.Prediction.TheVariants as prediction
-use Rattle.attr_section.specs.Values.{code_of}
 use Rattle.drc_container.specs.declared.codings.Coding.{Coding}
-use Rattle.drc_container.specs.declared.choices.Predict.{Predict}
-use Rattle.drc_container.specs.declared.choices.Predict.TheVariants as predict
 use Rattle.drc_container.specs.declared.choices.Choice.{Choice}
-use Rattle.drc_container.specs.Choice.{method_of, is_sequential, number_of_predict, predict_of, prediction_of}
+use Rattle.drc_container.specs.Choice.{method_of, is_sequential, prediction_of}
 use Rattle.drc_container.specs.Written.{values_of, stream_bytes}
 use Rattle.drc_container.specs.WrittenOnSurface.{traced, decoded, coded_values, edgebreaker_bytes}
 use Rattle.drc_container.specs.Chosen.{coding_of, values_chosen, written}
@@ -42,16 +37,7 @@ pub some-face : (g : Geometry) (choice : Choice) (m : MeshParts) → IsForSurfac
 some-face g choice m for =
     subst (λ b. 0 < (if b then length m.points else length m.faces)) (off-on_surface g choice m for) (early_passes (Mesh m) choice (early-on_surface g choice m for)).some
 
--- a prediction that is chosen has a number
-predict-known : (p : Predict) → (q : Prediction) × (number_of_predict p ≡ code_of q)
-predict-known predict.Off = (prediction.Off, refl)
-predict-known predict.Diff = (prediction.Difference, refl)
-predict-known predict.Para = (prediction.Parallelogram, refl)
-predict-known predict.Multi = (prediction.Multi, refl)
-
-pub prediction-known : (g : Geometry) (choice : Choice) → (q : Prediction) × (prediction_of g choice ≡ code_of q)
-prediction-known g choice = predict-known (predict_of (method_of g choice) choice)
-
+-- faults one after another
 first_fault-join : (a b : Option Fault) (ts : List (Option Fault)) → first_fault (first_fault (a ∷ b ∷ []) ∷ ts) ≡ first_fault (a ∷ b ∷ ts)
 first_fault-join None None ts = refl
 first_fault-join None (Some f) ts = refl

@@ -1,7 +1,7 @@
 -- What an encoding answers, and what its bytes mean (this project's choice).
 use Rattle.drc_base.specs.Profile.{profile_two}
-use Rattle.std.specs.Prelude.{◌≡◌, ◌<◌, ◌≤◌, ◌⊎◌, ℕ, ◌+◌, ◌-◌, ℤ, pos, Bool, true, false, List, [], ◌∷◌, ◌++◌, map, length, Option, None, Some}
-use Rattle.std.specs.Prelude.{Result, Ok, All}
+use Rattle.std.specs.Prelude.{◌≡◌, ◌<◌, ◌≤◌, ◌⊎◌, ℕ, ◌+◌, ◌-◌, ℤ, pos, Bool, true, false, List, [], ◌∷◌, ◌++◌, map, length}
+use Rattle.std.specs.Prelude.{Option, None, Some, Result, Ok, All}
 use Rattle.std.specs.List.{enumerate_from}
 use Rattle.drc_base.specs.declared.faults.Fault.{Fault}
 use Rattle.drc_base.specs.declared.limits.TheConstants.{MAX_POINTS, MAX_VALUES}
@@ -106,8 +106,8 @@ pub record CanCodeSurface (coding : Coding) (m : MeshParts) : Type 0 where
 -- the values of attribute k, which has this head, are read back, wherever they stand and whatever follows them
 pub record AttributeSpelled (coding : Coding) (d : Glued) (k : ℕ) (h : Head) : Type 0 where
   pub reads : (spent place : ℕ) (rest : List ℕ) → spent + length (coded_by coding d k).values ≤ MAX_VALUES
-      → decoder_values_at profile_two (Some (walk_of coding d k)) (bare_decoder (decoder_for coding d k h)) (length (walk_of coding d k).corners)
-      spent (record { place = place; rest = attribute_bytes coding d k h ++ rest })
+      → decoder_values_at profile_two (Some (walk_of coding d k)) (bare_decoder (decoder_for coding d k h))
+      (length (walk_of coding d k).corners) spent (record { place = place; rest = attribute_bytes coding d k h ++ rest })
       ≡ Ok (
         (placed coding.plain (Some (walk_of coding d k)) place (h ∷ []) (coded_by coding d k ∷ []), decoder_for coding d k h),
         record { place = place + length (attribute_bytes coding d k h); rest = rest },

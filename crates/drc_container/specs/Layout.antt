@@ -1,8 +1,8 @@
 -- How a stream is coded, read off its bytes (Draco Bitstream Specification 2.2, sections "Header", "Sequential
 -- Connectivity", "Edgebreaker Connectivity", "Attributes Decoder" and "Sequential Attributes").
 use Rattle.drc_base.specs.Profile.{profile_two}
-use Rattle.std.specs.Prelude.{ℕ, ◌+◌, ◌==◌, ◌&&◌, Bool, ℤ, List, [], ◌∷◌, map, flat_map, replicate, length, slice_index, drop, Option, None, Some}
-use Rattle.std.specs.Prelude.{Result, Ok, Err, if◌then◌else◌}
+use Rattle.std.specs.Prelude.{ℕ, ◌+◌, ◌==◌, ◌&&◌, Bool, ℤ, List, [], ◌∷◌, map, flat_map, replicate, length, slice_index, drop}
+use Rattle.std.specs.Prelude.{Option, None, Some, Result, Ok, Err, if◌then◌else◌}
 use Rattle.std.specs.List.{range_with_len}
 use Rattle.std.specs.Ordering.{int_eq}
 use Rattle.drc_base.specs.declared.faults.Fault.{Fault}
