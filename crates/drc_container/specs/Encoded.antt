@@ -1,7 +1,7 @@
 -- What an encoding answers, and what its bytes mean (this project's choice).
 use Rattle.drc_base.specs.Profile.{profile_two}
-use Rattle.std.specs.Prelude.{◌≡◌, ◌<◌, ◌≤◌, ◌⊎◌, ℕ, ◌+◌, ◌-◌, ℤ, pos, Bool, true, false, List, [], ◌∷◌, ◌++◌, map, length, Option, None, Some}
-use Rattle.std.specs.Prelude.{Result, Ok, All}
+use Rattle.std.specs.Prelude.{◌≡◌, ◌<◌, ◌≤◌, ◌⊎◌, ℕ, ◌+◌, ◌-◌, ℤ, pos, Bool, true, false, List, [], ◌∷◌, ◌++◌, map, length}
+use Rattle.std.specs.Prelude.{Option, None, Some, Result, Ok, All}
 use Rattle.std.specs.List.{enumerate_from}
 use Rattle.drc_base.specs.declared.faults.Fault.{Fault}
 use Rattle.drc_base.specs.declared.limits.TheConstants.{MAX_POINTS, MAX_VALUES}
@@ -32,15 +32,19 @@ use Rattle.drc_container.specs.Meaning.{Surface, Meaning}
 use Rattle.drc_container.specs.Header.{cloud_points_at}
 use Rattle.drc_container.specs.Choice.{method_of, is_sequential, prediction_of}
 use Rattle.drc_container.specs.Stream.{stream, attributes_at}
-use Rattle.drc_container.specs.Refused.{refused}
+use Rattle.drc_container.specs.Refused.{refused, coding_fault}
 use Rattle.drc_container.specs.Written.{connectivity_bytes, decoder_of, attribute_heads_bytes, attributes_bytes, values_of}
 use Rattle.drc_container.specs.WrittenOnSurface.{traced, Glued, decoded, walk_of, coded_by, coded_values, decoder_for, decoders_for}
-use Rattle.drc_container.specs.WrittenOnSurface.{seam_lists, attribute_bytes, decoder_heads_bytes, surface_bytes}
+use Rattle.drc_container.specs.WrittenOnSurface.{seam_lists, attribute_bytes, decoder_heads_bytes, surface_bytes, edgebreaker_bytes}
 use Rattle.drc_container.specs.Chosen.{mesh_in, written}
 
 -- what is due: the bytes and rows, or why the geometry isn't encoded as chosen
 abbrev pub due : Geometry → Choice → Result (List ℕ × Rows) Fault
 due g choice = value_unless (refused g choice) (written g choice)
+
+-- what is due of a mesh that is coded so by Edgebreaker: the bytes, and its faces in the order of decoding, or why it isn't coded so
+abbrev pub due_on_surface : Coding → MeshParts → Result (List ℕ × Rows) Fault
+due_on_surface coding m = value_unless (coding_fault coding m) (edgebreaker_bytes coding m, (traced m).order)
 
 -- the surface is that of the mesh's pairs, under the new numbers that the rows give to the faces
 pub record KeepsSurface (m : MeshParts) (rows : Rows) (s : Option Surface) : Type 0 where
@@ -62,8 +66,7 @@ pub record Means (g : Geometry) (choice : Choice) (bytes : List ℕ) (rows : Row
   pub beside : KeepsBeside (is_sequential (method_of g choice)) g decoded rows
   pub whole : decoded.seen.end ≡ length bytes
 
--- this geometry can be coded by this choice, sequentially: there is a point, and values that are predicted lie
--- near enough
+-- this geometry can be coded by this choice, sequentially: there is a point, and values that are predicted lie near enough
 pub record CanCode (g : Geometry) (choice : Choice) : Type 0 where
   pub sequential : method_of g choice ≡ method.Seq
   pub some : 0 < length (points_in g)
@@ -103,8 +106,8 @@ pub record CanCodeSurface (coding : Coding) (m : MeshParts) : Type 0 where
 -- the values of attribute k, which has this head, are read back, wherever they stand and whatever follows them
 pub record AttributeSpelled (coding : Coding) (d : Glued) (k : ℕ) (h : Head) : Type 0 where
   pub reads : (spent place : ℕ) (rest : List ℕ) → spent + length (coded_by coding d k).values ≤ MAX_VALUES
-      → decoder_values_at profile_two (Some (walk_of coding d k)) (bare_decoder (decoder_for coding d k h)) (length (walk_of coding d k).corners)
-      spent (record { place = place; rest = attribute_bytes coding d k h ++ rest })
+      → decoder_values_at profile_two (Some (walk_of coding d k)) (bare_decoder (decoder_for coding d k h))
+      (length (walk_of coding d k).corners) spent (record { place = place; rest = attribute_bytes coding d k h ++ rest })
       ≡ Ok (
         (placed coding.plain (Some (walk_of coding d k)) place (h ∷ []) (coded_by coding d k ∷ []), decoder_for coding d k h),
         record { place = place + length (attribute_bytes coding d k h); rest = rest },

@@ -1,8 +1,8 @@
 -- How a stream is coded, read off its bytes (Draco Bitstream Specification 2.2, sections "Header", "Sequential
 -- Connectivity", "Edgebreaker Connectivity", "Attributes Decoder" and "Sequential Attributes").
 use Rattle.drc_base.specs.Profile.{profile_two}
-use Rattle.std.specs.Prelude.{ℕ, ◌+◌, ◌==◌, ◌&&◌, Bool, ℤ, List, [], ◌∷◌, map, flat_map, replicate, length, slice_index, drop, Option, None, Some}
-use Rattle.std.specs.Prelude.{Result, Ok, Err, if◌then◌else◌}
+use Rattle.std.specs.Prelude.{ℕ, ◌+◌, ◌==◌, ◌&&◌, Bool, ℤ, List, [], ◌∷◌, map, flat_map, replicate, length, slice_index, drop}
+use Rattle.std.specs.Prelude.{Option, None, Some, Result, Ok, Err, if◌then◌else◌}
 use Rattle.std.specs.List.{range_with_len}
 use Rattle.std.specs.Ordering.{int_eq}
 use Rattle.drc_base.specs.declared.faults.Fault.{Fault}
@@ -26,9 +26,8 @@ use Rattle.drc_container.specs.Chosen.{mesh_in, coding_of}
 use Rattle.drc_container.specs.Stream.{stream}
 
 -- how an attribute is coded: the element type (0 vertices, 1 corners) and the walk (0 depth first, 1 by prediction degree)
--- of its decoder, both 0 in a sequential stream; its prediction (-2 none, 0 difference, 1 parallelogram,
--- 4 constrained multi-parallelogram); and the byte that
--- says whether its values are compressed (0 as they are, else in a symbol block)
+-- of its decoder, both 0 in a sequential stream; its prediction (-2 none, 0 difference, 1 parallelogram, 4 constrained
+-- multi-parallelogram); and the byte that says whether its values are compressed (0 as they are, else in a symbol block)
 pub record AttrLayout : Type 0 where
   pub element : ℕ
   pub walk : ℕ

@@ -1,6 +1,6 @@
 //! Encoding a geometry.
 
-ghost use Rattle.std.specs.Prelude.{◌≡◌, ◌<◌, ◌≤◌, true, Ok, Err, Some, None, length, IfOk};
+ghost use Rattle.std.specs.Prelude.{◌≡◌, true, Ok, Err, Some, None, IfOk};
 ghost use Rattle.drc_base.specs.declared.faults.Fault.{Fault as AnyFault};
 ghost use Rattle.drc_base.specs.declared.faults.Refusal.TheVariants as refusal;
 ghost use Rattle.drc_base.specs.Refusals.{Answers};
@@ -56,6 +56,8 @@ pub fn encode(alloc: Global, g: &Geometry, choice: &Choice) -> Result<(Vec<u8>, 
     }
     match g {
         Geometry::Mesh(mesh) => {
+            // For the proof alone: the call tells what holds of every mesh.
+            let _faces = mesh.face_count();
             let (bytes, rows) = encode_surface(alloc, mesh, &coding_of(g, choice))?;
             Ok((bytes, Renumber { rows }))
         }

@@ -63,11 +63,19 @@ fn encodes_edgebreaker(rt: HostRuntime) -> Result<(), Fail> {
         (&FLAT_RING, PLAIN, &RING, &RING_ROWS),
         (&FLAT_MIRRORED, PLAIN, &MIRRORED, &[(1, 0), (0, 0)]),
         (&FLAT_TWICE, PLAIN, &TWICE, &[(1, 0), (0, 0)]),
-        (&FLAT_EDGE_OF_THREE, PLAIN, &EDGE_OF_THREE, &[(2, 0), (1, 2), (0, 0)]),
+        (
+            &FLAT_EDGE_OF_THREE,
+            PLAIN,
+            &EDGE_OF_THREE,
+            &[(2, 0), (1, 2), (0, 0)],
+        ),
         (&FLAT_SEAM, PLAIN, &SEAM, &[(1, 2), (0, 2)]),
     ];
     for (flat, choice, bytes, order) in rows {
-        assert!(&rt; encodes(alloc, flat, &choice, bytes, order)?, "at {bytes:?}");
+        assert!(&rt;
+            encodes(alloc, flat, &choice, bytes, order)?,
+            "at {bytes:?}"
+        );
     }
     Ok(())
 }
@@ -91,7 +99,15 @@ fn encodes_colours(rt: HostRuntime) -> Result<(), Fail> {
     let (written, order) = encode(alloc, &geometry, &NOTHING)?;
     let faces = [[0, 1, 2], [1, 3, 2]];
     assert_eq!(rt; order.rows.as_slice(), [(1, 2), (0, 2)].as_slice());
-    assert!(&rt; decodes(alloc, written.as_slice(), Method::Eb, &COLOURED_POINTS, &faces)?);
+    assert!(&rt;
+        decodes(
+            alloc,
+            written.as_slice(),
+            Method::Eb,
+            &COLOURED_POINTS,
+            &faces
+        )?
+    );
     Ok(())
 }
 
