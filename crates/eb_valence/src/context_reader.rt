@@ -36,7 +36,10 @@ impl ContextReader {
     pub fn most(&self, symbols: u32) -> u32
         ensures { result ≡ min symbols (suc (sum_by length self.now)) }
     {
-        self.left.count_up_to(symbols).saturating_add(1).min(symbols)
+        self.left
+            .count_up_to(symbols)
+            .saturating_add(1)
+            .min(symbols)
     }
 
     /// The next symbol: the last one left in the context of this degree, which is that of the vertex at

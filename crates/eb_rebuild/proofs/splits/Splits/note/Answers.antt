@@ -1,9 +1,9 @@
 -- Each turn of the loop is one event of the machine.
-use Rattle.std.proofs.Common.{◌≡◌, suc, ◌-◌, ◌<◌, ℕ, List, length, get_or, All, ap, sym, subst, ◌∙◌, arith}
+use Rattle.std.proofs.Common.{◌≡◌, suc, ◌<◌, ℕ, List, length, get_or, All, ap, sym, subst, ◌∙◌, arith}
 use Rattle.std.proofs.lemmas.List.{length-set}
 use Rattle.std.proofs.lemmas.List.Elements.{All-get_or}
 use Rattle.corner_table.specs.declared.symbols.Event.{Event}
-use Rattle.eb_rebuild.specs.Kept.{no_event, split_number, HasRoomFor, AreKeptBelow}
+use Rattle.eb_rebuild.specs.Kept.{no_event, HasRoomFor, AreKeptBelow}
 use Rattle.eb_rebuild.proofs.Noting.{left_none, left_later, left_passed, left_taken, left_more, still_events, still_room, kept_below-set_more}
 use Rattle.eb_rebuild.proofs.splits.Splits.note.Goals as goal
 

@@ -1,5 +1,5 @@
 -- All bits of the bytes are left.
-use Rattle.std.proofs.Common.{◌≡◌, ◌≤◌, ◌*◌, ℕ, List, length, false, ap, sym, subst, arith}
+use Rattle.std.proofs.Common.{◌≡◌, ◌≤◌, ◌*◌, ℕ, List, length, false, sym, subst, arith}
 use Rattle.drc_bits.specs.Bits.{bits_left}
 use Rattle.drc_bits.proofs.BitLists.{length-bits_of}
 use Rattle.eb_standard.specs.SymbolBits.{SymbolPlace}
