@@ -20,6 +20,8 @@ use Rattle.drc_container.specs.declared.choices.Choice.{Choice}
 use Rattle.drc_container.specs.declared.choices.Predict.{Predict}
 use Rattle.drc_container.specs.Choice.{method_of, is_sequential, is_parallelogram, prediction_of}
 use Rattle.drc_container.specs.Chosen.{mesh_in, values_chosen}
+use Rattle.drc_container.specs.WrittenOnSurface.{decoded, coded_values}
+use Rattle.drc_container.specs.declared.codings.Coding.{Coding}
 
 -- whether a prediction by parallelograms is chosen
 abbrev pub chooses_parallelogram : Option Predict → Bool
@@ -90,3 +92,13 @@ refused g choice = first_fault (
     ∷ limit_fault (values_chosen g choice)
     ∷ range_fault (prediction_of g choice) (values_chosen g choice)
     ∷ [])
+
+-- why the surface of a mesh isn't traced: the first of these faults
+abbrev pub tracing_fault : MeshParts → Option Fault
+tracing_fault m = first_fault (degenerate_fault m ∷ vertices_fault m ∷ [])
+
+-- why a mesh isn't coded so by Edgebreaker: the first of these faults
+abbrev pub coding_fault : Coding → MeshParts → Option Fault
+coding_fault coding m =
+    let values = coded_values coding (decoded m) in
+    first_fault (degenerate_fault m ∷ vertices_fault m ∷ limit_fault values ∷ range_fault coding.predict values ∷ [])

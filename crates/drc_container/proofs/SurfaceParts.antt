@@ -1,0 +1,280 @@
+-- The decoders and the values of a mesh's attributes by Edgebreaker are what the calls that write them ask for.
+use Rattle.std.proofs.Common.{◌≡◌, ◌⊎◌, ℕ, zero, suc, ◌+◌, ◌-◌, ◌*◌, ◌%◌, ◌<◌, ◌≤◌, ◌^◌, ◌≢◌, Bool, true, false, ◌&&◌, ℤ, pos, List, [], ◌∷◌, ◌++◌, length, map, take, drop, get_or, Option, Some, None, inl, inr, refl, sym, ap, ◌∙◌, subst, arith, add-one, drop-cons, append-nil}
+use Rattle.std.specs.Prelude.{◌||◌, ◌==◌, not, nat_lt, IsTrue, sum_by, flat_map, if◌then◌else◌}
+use Rattle.std.specs.List.{All, range_with_len, enumerate_from, list_any, list_all, zip}
+use Rattle.std.proofs.lemmas.Bool.{lt-ltb, ne_eqb}
+use Rattle.std.proofs.lemmas.List.{length-map, get_or-map, map-append, take_more}
+use Rattle.std.proofs.lemmas.List.Elements.{All-nil, All-cons, All-append, All-get_or, All-from_get_or, All-weaker}
+use Rattle.std.proofs.lemmas.List.FromFn.{length-map-range_with_len, get_or-map-range_with_len, map-range_with_len_more, sum_by-map-range_with_len_more, length-enumerate_from, get_or-enumerate_from}
+use Rattle.std.proofs.lemmas.List.Filters.{length-filter_both}
+use Rattle.std.proofs.lemmas.List.Sums.{get_or-le-sum_by, sum_by-cons}
+use Rattle.std.proofs.Math.Nat.{mul-mod_left, mul-le-mul_left}
+use Rattle.drc_base.specs.declared.limits.TheConstants.{MAX_ATTRIBUTES, MAX_FACES, MAX_VALUES}
+use Rattle.mesh_model.specs.declared.heads.Head.{Head}
+use Rattle.mesh_model.specs.Head.{width_of}
+use Rattle.mesh_model.specs.Parts.{MeshParts, IsMesh}
+use Rattle.mesh_model.proofs.Passing.{HeadSays, heads_say}
+use Rattle.corner_table.specs.Sides.{Side, Gluing, IsGluing}
+use Rattle.corner_table.specs.Fans.{corners_of}
+use Rattle.corner_table.specs.Pairs.{has_bit, bit_sides}
+use Rattle.corner_table.proofs.PairLaws.{length-corners_of}
+use Rattle.predict.specs.Wrap.{CanWrap}
+use Rattle.attr_section.specs.declared.predictions.Prediction.{Prediction}
+use Rattle.attr_section.specs.declared.predictions.Prediction.TheVariants as prediction
+use Rattle.attr_section.specs.declared.decoder_heads.DecoderHead.{DecoderHead}
+use Rattle.attr_section.specs.declared.links.Link.{Link}
+use Rattle.attr_section.specs.declared.values.Values.{Values}
+use Rattle.attr_section.specs.Heads.{position_id, is_id, is_known_id, is_used_id, attributes_of, link_of, HeadPasses, DecoderPasses, DecodersPass, LinkPasses, LinksPass}
+use Rattle.attr_section.specs.Values.{no_prediction, code_of, values_in}
+use Rattle.attr_section.specs.Written.{range_of, HasQuant, CanPredict, ValuesPass, DecoderValuesPass, HaveEntries}
+use Rattle.drc_container.specs.declared.codings.Coding.{Coding}
+use Rattle.drc_container.specs.WrittenOnSurface.{Glued, bits_of, is_cornered, is_by_degree, walk_of, coded_by, coded_values, data_id_of, decoder_for, decoders_for, seam_lists}
+use Rattle.drc_container.specs.Standings.{CanCodeValues}
+use Rattle.drc_container.proofs.Attributed.{head_passes, head_quant}
+use Rattle.drc_container.proofs.SurfacePieces.{pieces-typed, pieces-long}
+use Rattle.drc_container.proofs.SurfaceColumns.{walk-on, walk-corners, cut-gluing}
+use Rattle.drc_container.proofs.SurfaceWalks.{order-some}
+
+-- ---- attribute after attribute
+
+-- one attribute more
+pub enumerate-more : {A : Type 0} (n : ℕ) (xs : List A) (i : ℕ) (d : A) → i < length xs
+    → enumerate_from n (take (i + 1) xs) ≡ enumerate_from n (take i xs) ++ (n + i, get_or xs i d) ∷ []
+enumerate-more {A} n [] i d has = absurd (omega arith)
+enumerate-more {A} n (x ∷ xs) zero d has = let e : n ≡ n + 0 = omega arith in ap (λ (m : ℕ). (m, x) ∷ []) e
+enumerate-more {A} n (x ∷ xs) (suc i) d has =
+    let e : n + 1 + i ≡ n + suc i = omega arith in
+    let more : i + 1 ≡ suc i = omega arith in
+    rw (more, ← more) (ap (λ (l : List (ℕ × A)). (n, x) ∷ l) (enumerate-more (n + 1) xs i d (omega arith) ∙ ap (λ (m : ℕ). enumerate_from (n + 1) (take i xs) ++ (m, get_or xs i d) ∷ []) e))
+
+-- ---- values
+
+-- how many values an attribute has
+pub values-long : (coding : Coding) (d : Glued) → IsMesh d.mesh → (k : ℕ) (h : Head) → k < length d.mesh.heads
+    → length (coded_by coding d k).values ≡ length (walk_of coding d k).corners * (get_or d.mesh.heads k h).comps
+values-long coding d is k h has = pieces-long d.mesh is k h has (walk_of coding d k).corners (walk-on coding d k)
+
+-- the values of one attribute more
+pub values-more : (coding : Coding) (d : Glued) (k : ℕ)
+    → values_in (map (coded_by coding d) (range_with_len 0 (k + 1))) ≡ values_in (map (coded_by coding d) (range_with_len 0 k)) + length (coded_by coding d k).values
+values-more coding d k = sum_by-map-range_with_len_more (λ (v : Values). length v.values) (coded_by coding d) 0 k k (omega arith)
+
+pub columns-more : (coding : Coding) (d : Glued) (k : ℕ)
+    → map (coded_by coding d) (range_with_len 0 (k + 1)) ≡ map (coded_by coding d) (range_with_len 0 k) ++ coded_by coding d k ∷ []
+columns-more coding d k = map-range_with_len_more (coded_by coding d) 0 k k (omega arith)
+
+-- the values of attribute k among those of all
+pub values-at : (coding : Coding) (d : Glued) (k : ℕ) (e : Values) → k < length d.mesh.heads → get_or (coded_values coding d) k e ≡ coded_by coding d k
+unfolding coded_values
+values-at coding d k e has = get_or-map-range_with_len (coded_by coding d) 0 (length d.mesh.heads) k k e has (omega arith)
+
+pub values-each : (coding : Coding) (d : Glued) → length (coded_values coding d) ≡ length d.mesh.heads
+unfolding coded_values
+values-each coding d = length-map-range_with_len (coded_by coding d) 0 (length d.mesh.heads)
+
+-- whole entries are some
+some-values : (n comps : ℕ) → 0 < n → 1 ≤ comps → 0 < n * comps
+some-values n comps some one = let more : n * 1 ≤ n * comps = mul-le-mul_left n one in omega (arith, more, some)
+
+-- values that lie near enough may be predicted
+may-predict : (coding : Coding) (d : Glued) (k comps : ℕ) → CanCodeValues coding d → k < length d.mesh.heads
+    → length (coded_by coding d k).values ≡ length (walk_of coding d k).corners * comps
+    → (q : Prediction) × (coding.predict ≡ code_of q) × CanPredict (Some (walk_of coding d k)) comps (coded_by coding d k).values q
+may-predict coding d k comps can has long = go can.known.0 can.known.1 can.predicted
+  where
+    wraps : All (λ v. CanWrap (range_of v.values)) (coded_values coding d) → CanWrap (range_of (coded_by coding d k).values)
+    wraps all =
+        let v = coded_by coding d k in
+        let P : Values → Type 0 = λ (x : Values). CanWrap (range_of x.values) in
+        subst P (values-at coding d k v has) (All-get_or P (coded_values coding d) k v (omega (arith, has, values-each coding d)) all)
+
+    go : (q : Prediction) → coding.predict ≡ code_of q → (coding.predict ≡ no_prediction) ⊎ All (λ v. CanWrap (range_of v.values)) (coded_values coding d)
+        → (q : Prediction) × (coding.predict ≡ code_of q) × CanPredict (Some (walk_of coding d k)) comps (coded_by coding d k).values q
+    go prediction.Off is predicted = (prediction.Off, is, tt)
+    go prediction.Difference is (inl off) = cc
+    go prediction.Difference is (inr all) = (prediction.Difference, is, wraps all)
+    go prediction.Parallelogram is (inl off) = cc
+    go prediction.Parallelogram is (inr all) = (prediction.Parallelogram, is, (wraps all, long))
+    go prediction.Multi is (inl off) = cc
+    go prediction.Multi is (inr all) = (prediction.Multi, is, (wraps all, long))
+
+-- the values of an attribute pass
+values-pass : (coding : Coding) (d : Glued) → IsMesh d.mesh → IsGluing (length d.mesh.faces) d.pairs → CanCodeValues coding d
+    → (k : ℕ) (e : Head) → k < length d.mesh.heads → ValuesPass (Some (walk_of coding d k)) (get_or d.mesh.heads k e) (coded_by coding d k)
+values-pass coding d is G can k e has =
+    let h = get_or d.mesh.heads k e in
+    let v = coded_by coding d k in
+    let says : HeadSays h = All-get_or HeadSays d.mesh.heads k e has (heads_say d.mesh.heads is.points.heads_pass).each in
+    let n = length (walk_of coding d k).corners in
+    let long : length v.values ≡ n * h.comps = values-long coding d is k e has in
+    let entries : 0 < n = subst (λ (order : List Side). 0 < length order) (sym (walk-corners coding d k))
+        (order-some (is_by_degree coding d k) (length d.mesh.faces) _ (cut-gluing d k G) can.some) in
+    let some : 0 < n * h.comps = some-values n h.comps entries says.some in
+    let here : length v.values ≤ values_in (coded_values coding d) =
+        subst (λ (x : Values). length x.values ≤ values_in (coded_values coding d)) (values-at coding d k v has)
+        (get_or-le-sum_by (λ (x : Values). length x.values) (coded_values coding d) k v (omega (arith, has, values-each coding d))) in
+    record {
+      comps = says.some;
+      some = omega (arith, long, some);
+      few = omega (arith, here, can.few);
+      whole = rw long (mul-mod_left n h.comps);
+      typed = pieces-typed d.mesh is k e has (walk_of coding d k).corners (walk-on coding d k);
+      predicted = may-predict coding d k h.comps can has long;
+    }
+
+-- and so do those of its decoder
+pub decoder-values-pass : (coding : Coding) (d : Glued) → IsMesh d.mesh → IsGluing (length d.mesh.faces) d.pairs → CanCodeValues coding d
+    → (k : ℕ) (e : Head) → k < length d.mesh.heads
+    → DecoderValuesPass (Some (walk_of coding d k)) (get_or d.mesh.heads k e ∷ []) (coded_by coding d k ∷ [])
+decoder-values-pass coding d is G can k e has =
+    let h = get_or d.mesh.heads k e in
+    let v = coded_by coding d k in
+    let w = Some (walk_of coding d k) in
+    let says : HeadSays h = All-get_or HeadSays d.mesh.heads k e has (heads_say d.mesh.heads is.points.heads_pass).each in
+    record {
+      each_head = refl;
+      quants = All-cons (λ (x : Head). HasQuant x x.quant) h [] (head_quant h says) (All-nil (λ (x : Head). HasQuant x x.quant));
+      each = All-cons (λ (x, y). ValuesPass w x y) (h, v) [] (values-pass coding d is G can k e has) (All-nil (λ (x, y). ValuesPass w x y));
+    }
+
+-- it has values for each entry
+pub decoder-entries : (coding : Coding) (d : Glued) → IsMesh d.mesh → (k : ℕ) (e : Head) → k < length d.mesh.heads
+    → HaveEntries (length (walk_of coding d k).corners) (get_or d.mesh.heads k e ∷ []) (coded_by coding d k ∷ [])
+decoder-entries coding d is k e has =
+    let n = length (walk_of coding d k).corners in
+    All-cons (λ (h, v). length v.values ≡ n * h.comps) (get_or d.mesh.heads k e, coded_by coding d k) [] (values-long coding d is k e has) (All-nil (λ (h, v). length v.values ≡ n * h.comps))
+
+-- ---- decoders
+
+-- the decoder of attribute k among all
+pub decoder-at : (coding : Coding) (d : Glued) (k : ℕ) (x : DecoderHead) (e : Head) → k < length d.mesh.heads
+    → get_or (decoders_for coding d) k x ≡ decoder_for coding d k (get_or d.mesh.heads k e)
+unfolding decoders_for
+decoder-at coding d k x e has =
+    let f : ℕ × Head → DecoderHead = λ (j, h). decoder_for coding d j h in
+    get_or-map f (enumerate_from 0 d.mesh.heads) k (0, e) x (omega (arith, has, length-enumerate_from 0 d.mesh.heads))
+    ∙ ap f (get_or-enumerate_from 0 d.mesh.heads k (0, e) has ∙ ap (λ (j : ℕ). (j, get_or d.mesh.heads k e)) (omega arith))
+
+pub decoders-each : (coding : Coding) (d : Glued) → length (decoders_for coding d) ≡ length d.mesh.heads
+unfolding decoders_for
+decoders-each coding d =
+    length-map (enumerate_from 0 d.mesh.heads) (λ (j, h). decoder_for coding d j h) ∙ length-enumerate_from 0 d.mesh.heads
+
+-- one decoder more
+pub decoders-more : (coding : Coding) (d : Glued) (k : ℕ) (h : Head) → k < length d.mesh.heads → h ≡ get_or d.mesh.heads k h
+    → map (λ (j, x). decoder_for coding d j x) (enumerate_from 0 (take (k + 1) d.mesh.heads))
+    ≡ map (λ (j, x). decoder_for coding d j x) (enumerate_from 0 (take k d.mesh.heads)) ++ decoder_for coding d k h ∷ []
+decoders-more coding d k h has is =
+    let f : ℕ × Head → DecoderHead = λ (j, x). decoder_for coding d j x in
+    let zero_k : 0 + k ≡ k = omega arith in
+    ap (map f) (enumerate-more 0 d.mesh.heads k h has)
+    ∙ map-append f (enumerate_from 0 (take k d.mesh.heads)) ((0 + k, get_or d.mesh.heads k h) ∷ [])
+    ∙ ap (λ (j : ℕ). map f (enumerate_from 0 (take k d.mesh.heads)) ++ decoder_for coding d j (get_or d.mesh.heads k h) ∷ []) zero_k
+    ∙ ap (λ (x : Head). map f (enumerate_from 0 (take k d.mesh.heads)) ++ decoder_for coding d k x ∷ []) (sym is)
+
+-- the decoders pass
+one-each : (coding : Coding) (d : Glued) (k : ℕ) (heads : List Head) → attributes_of (map (λ (j, h). decoder_for coding d j h) (enumerate_from k heads)) ≡ length heads
+one-each coding d k [] = refl
+one-each coding d k (h ∷ heads) =
+    let f : ℕ × Head → DecoderHead = λ (j, x). decoder_for coding d j x in
+    sum_by-cons (λ (x : DecoderHead). length x.heads) (decoder_for coding d k h) (map f (enumerate_from (k + 1) heads)) ∙ omega (arith, one-each coding d (k + 1) heads)
+
+each-passes : (coding : Coding) (d : Glued) (k : ℕ) (heads : List Head) → All HeadSays heads → All DecoderPasses (map (λ (j, h). decoder_for coding d j h) (enumerate_from k heads))
+each-passes coding d k [] say = All-nil DecoderPasses
+each-passes coding d k (h ∷ heads) say =
+    let f : ℕ × Head → DecoderHead = λ (j, x). decoder_for coding d j x in
+    All-cons DecoderPasses (decoder_for coding d k h) (map f (enumerate_from (k + 1) heads))
+    (record { some = omega arith; heads = All-cons HeadPasses h [] (head_passes h (say 0 h (omega arith))) (All-nil HeadPasses) })
+    (each-passes coding d (k + 1) heads (λ i e below. say (suc i) e (omega arith)))
+
+pub decoders-pass : (coding : Coding) (d : Glued) → IsMesh d.mesh → DecodersPass (decoders_for coding d)
+unfolding decoders_for
+decoders-pass coding d is =
+    let say = heads_say d.mesh.heads is.points.heads_pass in
+    let each = decoders-each coding d in
+    record {
+      some = omega (arith, say.some, each);
+      few = omega (arith, say.few, one-each coding d 0 d.mesh.heads);
+      each = each-passes coding d 0 d.mesh.heads say.each;
+    }
+
+-- ---- links
+
+-- no link before has the id of this attribute or of a later one
+abbrev AreFree : ℕ → ℕ → List Link → Type 0
+AreFree most k front = (j : ℕ) → k ≤ j → j ≤ most → is_used_id front (data_id_of j) ≡ false
+
+-- the ids of two attributes differ
+ids-apart : (most k j : ℕ) → most < position_id → k < j → j ≤ most → (data_id_of k == data_id_of j) ≡ false
+ids-apart most k zero small less few = absurd (omega arith)
+ids-apart most zero (suc j) small less few = ne_eqb position_id (suc j - 1) (λ e. omega arith)
+ids-apart most (suc k) (suc j) small less few = ne_eqb (suc k - 1) (suc j - 1) (λ e. omega arith)
+
+or-none : (a b : Bool) → a ≡ false → b ≡ false → (a || b) ≡ false
+or-none false b first second = second
+or-none true b first second = cc
+
+none-of : (a b : Bool) → (a || b) ≡ false → (a ≡ false) × (b ≡ false)
+none-of false b none = (refl, none)
+none-of true b none = cc
+
+any-more : {A : Type 0} (p : A → Bool) (xs : List A) (x : A) → list_any p xs ≡ false → p x ≡ false → list_any p (xs ++ x ∷ []) ≡ false
+any-more {A} p [] x none here = or-none (p x) false here refl
+any-more {A} p (y ∷ xs) x none here =
+    let parts = none-of (p y) (list_any p xs) none in
+    or-none (p y) (list_any p (xs ++ x ∷ [])) parts.0 (any-more p xs x parts.1 here)
+
+links-pass : (coding : Coding) (d : Glued) (most k : ℕ) (front : List Link) (heads : List Head) → most < position_id → k + length heads ≤ most + 1 → AreFree most k front
+    → LinksPass most front (map (λ (j, h). decoder_for coding d j h) (enumerate_from k heads))
+links-pass coding d most k front [] small few free = tt
+links-pass coding d most k front (h ∷ heads) small few free =
+    let low : k ≤ most = omega arith in
+    let link = link_of (decoder_for coding d k h) in
+    (
+      record {
+        has = refl;
+        known = known-id most k low;
+        unused = free k (omega arith) low;
+        vertex = vertex-id most k low small;
+        depth_first = depth-first (is_cornered d k) coding.degree;
+      },
+      links-pass coding d most (k + 1) (front ++ link ∷ []) heads small (omega (arith, few)) (λ j more within.
+      any-more (λ l. is_id (data_id_of j) l.data_id) front link (free j (omega (arith, more)) within) (ids-apart most k j small (omega (arith, more)) within)),
+    )
+  where
+    known-id : (most k : ℕ) → k ≤ most → IsTrue (is_known_id most (data_id_of k))
+    known-id most zero low = refl
+    known-id most (suc k) low = known-later (suc k - 1 == position_id) (nat_lt (suc k - 1) most) (lt-ltb (suc k - 1) most (omega arith))
+
+    vertex-id : (most k : ℕ) → k ≤ most → most < position_id → data_id_of k ≡ position_id → is_cornered d k ≡ false
+    vertex-id most zero low small is = first-whole
+    vertex-id most (suc k) low small is = absurd (omega arith)
+
+    first-whole : is_cornered d 0 ≡ false
+    unfolding is_cornered
+    first-whole = refl
+
+    depth-first : (corner degree : Bool) → corner ≡ true → (degree && not corner) ≡ false
+    depth-first true true is = refl
+    depth-first true false is = refl
+    depth-first false degree is = cc
+
+    known-later : (a b : Bool) → b ≡ true → IsTrue (a || b)
+    known-later true b is = refl
+    known-later false b is = is
+
+pub are-linked : (coding : Coding) (d : Glued) → IsMesh d.mesh → LinksPass (length d.mesh.heads - 1) [] (decoders_for coding d)
+unfolding decoders_for
+are-linked coding d is =
+    let say = heads_say d.mesh.heads is.points.heads_pass in
+    links-pass coding d (length d.mesh.heads - 1) 0 [] d.mesh.heads (omega (arith, say.few)) (omega (arith, say.some)) (λ j low few. refl)
+
+-- ---- seam bits
+
+-- a surface has no more seam bits than sides
+pub bits-few : (d : Glued) (k : ℕ) → length (bits_of d k) ≤ 3 * length d.mesh.faces
+bits-few d k =
+    let faces = length d.mesh.faces in
+    let both = length-filter_both (has_bit d.pairs) (λ (x : Side). not (has_bit d.pairs x)) (λ x. refl) (corners_of faces) in
+    let long = length-map (bit_sides faces d.pairs) (λ (x : Side). _) in
+    omega (arith, both, length-corners_of faces)
