@@ -3,6 +3,7 @@ use Rattle.std.proofs.Common.{◌≡◌, ◌⊎◌, ℕ, zero, suc, ◌+◌, ◌
 use Rattle.std.specs.Prelude.{◌||◌, ◌==◌, not, nat_lt, IsTrue, sum_by, flat_map, if◌then◌else◌}
 use Rattle.std.specs.List.{All, range_with_len, enumerate_from, list_any, list_all, zip}
 use Rattle.std.proofs.lemmas.Bool.{lt-ltb, ne_eqb}
+use Rattle.std.proofs.lemmas.Grind.{flat_map-append}
 use Rattle.std.proofs.lemmas.List.{length-map, get_or-map, map-append, take_more}
 use Rattle.std.proofs.lemmas.List.Elements.{All-nil, All-cons, All-append, All-get_or, All-from_get_or, All-weaker}
 use Rattle.std.proofs.lemmas.List.FromFn.{length-map-range_with_len, get_or-map-range_with_len, map-range_with_len_more, sum_by-map-range_with_len_more, length-enumerate_from, get_or-enumerate_from}
@@ -12,12 +13,15 @@ use Rattle.std.proofs.Math.Nat.{mul-mod_left, mul-le-mul_left}
 use Rattle.drc_base.specs.declared.limits.TheConstants.{MAX_ATTRIBUTES, MAX_FACES, MAX_VALUES}
 use Rattle.mesh_model.specs.declared.heads.Head.{Head}
 use Rattle.mesh_model.specs.Head.{width_of}
-use Rattle.mesh_model.specs.Parts.{MeshParts, IsMesh}
+use Rattle.mesh_model.specs.Parts.{MeshParts, corner, IsMesh}
 use Rattle.mesh_model.proofs.Passing.{HeadSays, heads_say}
-use Rattle.corner_table.specs.Sides.{Side, Gluing, IsGluing}
+use Rattle.drc_base.specs.declared.sides.Side.{Side as NumberedSide}
+use Rattle.corner_table.specs.Sides.{Side, place_of, place_number, Gluing, IsGluing}
 use Rattle.corner_table.specs.Fans.{corners_of}
 use Rattle.corner_table.specs.Pairs.{has_bit, bit_sides}
+use Rattle.corner_table.specs.Table.{side_of}
 use Rattle.corner_table.proofs.PairLaws.{length-corners_of}
+use Rattle.seams.specs.Values.{piece, is_seam}
 use Rattle.predict.specs.Wrap.{CanWrap}
 use Rattle.attr_section.specs.declared.predictions.Prediction.{Prediction}
 use Rattle.attr_section.specs.declared.predictions.Prediction.TheVariants as prediction
@@ -44,8 +48,8 @@ enumerate-more {A} n [] i d has = absurd (omega arith)
 enumerate-more {A} n (x ∷ xs) zero d has = let e : n ≡ n + 0 = omega arith in ap (λ (m : ℕ). (m, x) ∷ []) e
 enumerate-more {A} n (x ∷ xs) (suc i) d has =
     let e : n + 1 + i ≡ n + suc i = omega arith in
-    let more : i + 1 ≡ suc i = omega arith in
-    rw (more, ← more) (ap (λ (l : List (ℕ × A)). (n, x) ∷ l) (enumerate-more (n + 1) xs i d (omega arith) ∙ ap (λ (m : ℕ). enumerate_from (n + 1) (take i xs) ++ (m, get_or xs i d) ∷ []) e))
+    let more : suc i + 1 ≡ suc (i + 1) = omega arith in
+    rw more (ap (λ (l : List (ℕ × A)). (n, x) ∷ l) (enumerate-more (n + 1) xs i d (omega arith) ∙ ap (λ (m : ℕ). enumerate_from (n + 1) (take i xs) ++ (m, get_or xs i d) ∷ []) e))
 
 -- ---- values
 
@@ -198,77 +202,6 @@ decoders-pass coding d is =
       each = each-passes coding d 0 d.mesh.heads say.each;
     }
 
--- ---- links
-
--- no link before has the id of this attribute or of a later one
-abbrev AreFree : ℕ → ℕ → List Link → Type 0
-AreFree most k front = (j : ℕ) → k ≤ j → j ≤ most → is_used_id front (data_id_of j) ≡ false
-
--- the ids of two attributes differ
-ids-apart : (most k j : ℕ) → most < position_id → k < j → j ≤ most → (data_id_of k == data_id_of j) ≡ false
-ids-apart most k zero small less few = absurd (omega arith)
-ids-apart most zero (suc j) small less few = ne_eqb position_id (suc j - 1) (λ e. omega arith)
-ids-apart most (suc k) (suc j) small less few = ne_eqb (suc k - 1) (suc j - 1) (λ e. omega arith)
-
-or-none : (a b : Bool) → a ≡ false → b ≡ false → (a || b) ≡ false
-or-none false b first second = second
-or-none true b first second = cc
-
-none-of : (a b : Bool) → (a || b) ≡ false → (a ≡ false) × (b ≡ false)
-none-of false b none = (refl, none)
-none-of true b none = cc
-
-any-more : {A : Type 0} (p : A → Bool) (xs : List A) (x : A) → list_any p xs ≡ false → p x ≡ false → list_any p (xs ++ x ∷ []) ≡ false
-any-more {A} p [] x none here = or-none (p x) false here refl
-any-more {A} p (y ∷ xs) x none here =
-    let parts = none-of (p y) (list_any p xs) none in
-    or-none (p y) (list_any p (xs ++ x ∷ [])) parts.0 (any-more p xs x parts.1 here)
-
-links-pass : (coding : Coding) (d : Glued) (most k : ℕ) (front : List Link) (heads : List Head) → most < position_id → k + length heads ≤ most + 1 → AreFree most k front
-    → LinksPass most front (map (λ (j, h). decoder_for coding d j h) (enumerate_from k heads))
-links-pass coding d most k front [] small few free = tt
-links-pass coding d most k front (h ∷ heads) small few free =
-    let low : k ≤ most = omega arith in
-    let link = link_of (decoder_for coding d k h) in
-    (
-      record {
-        has = refl;
-        known = known-id most k low;
-        unused = free k (omega arith) low;
-        vertex = vertex-id most k low small;
-        depth_first = depth-first (is_cornered d k) coding.degree;
-      },
-      links-pass coding d most (k + 1) (front ++ link ∷ []) heads small (omega (arith, few)) (λ j more within.
-      any-more (λ l. is_id (data_id_of j) l.data_id) front link (free j (omega (arith, more)) within) (ids-apart most k j small (omega (arith, more)) within)),
-    )
-  where
-    known-id : (most k : ℕ) → k ≤ most → IsTrue (is_known_id most (data_id_of k))
-    known-id most zero low = refl
-    known-id most (suc k) low = known-later (suc k - 1 == position_id) (nat_lt (suc k - 1) most) (lt-ltb (suc k - 1) most (omega arith))
-
-    vertex-id : (most k : ℕ) → k ≤ most → most < position_id → data_id_of k ≡ position_id → is_cornered d k ≡ false
-    vertex-id most zero low small is = first-whole
-    vertex-id most (suc k) low small is = absurd (omega arith)
-
-    first-whole : is_cornered d 0 ≡ false
-    unfolding is_cornered
-    first-whole = refl
-
-    depth-first : (corner degree : Bool) → corner ≡ true → (degree && not corner) ≡ false
-    depth-first true true is = refl
-    depth-first true false is = refl
-    depth-first false degree is = cc
-
-    known-later : (a b : Bool) → b ≡ true → IsTrue (a || b)
-    known-later true b is = refl
-    known-later false b is = is
-
-pub are-linked : (coding : Coding) (d : Glued) → IsMesh d.mesh → LinksPass (length d.mesh.heads - 1) [] (decoders_for coding d)
-unfolding decoders_for
-are-linked coding d is =
-    let say = heads_say d.mesh.heads is.points.heads_pass in
-    links-pass coding d (length d.mesh.heads - 1) 0 [] d.mesh.heads (omega (arith, say.few)) (omega (arith, say.some)) (λ j low few. refl)
-
 -- ---- seam bits
 
 -- a surface has no more seam bits than sides
@@ -276,5 +209,33 @@ pub bits-few : (d : Glued) (k : ℕ) → length (bits_of d k) ≤ 3 * length d.m
 bits-few d k =
     let faces = length d.mesh.faces in
     let both = length-filter_both (has_bit d.pairs) (λ (x : Side). not (has_bit d.pairs x)) (λ x. refl) (corners_of faces) in
-    let long = length-map (bit_sides faces d.pairs) (λ (x : Side). _) in
-    omega (arith, both, length-corners_of faces)
+    let long : length (bits_of d k) ≡ length (bit_sides faces d.pairs) = length-map (bit_sides faces d.pairs) (is_seam d.mesh k d.pairs) in
+    omega (arith, both, long, length-corners_of faces)
+
+-- ---- a column, corner after corner
+
+-- the value at one corner more
+pub column-more : (m : MeshParts) (k : ℕ) (corners : List NumberedSide) (i : ℕ) (c : NumberedSide) → i < length corners → c ≡ get_or corners i c
+    → flat_map (piece m k) (map side_of (take (i + 1) corners)) ≡ flat_map (piece m k) (map side_of (take i corners)) ++ piece m k (side_of c)
+column-more m k corners i c has is =
+    ap (λ (l : List NumberedSide). flat_map (piece m k) (map side_of l)) (take_more corners i c has)
+    ∙ ap (flat_map (piece m k)) (map-append side_of (take i corners) (get_or corners i c ∷ []))
+    ∙ flat_map-append (piece m k) (map side_of (take i corners)) (side_of (get_or corners i c) ∷ [])
+    ∙ ap (λ (l : List ℤ). flat_map (piece m k) (map side_of (take i corners)) ++ l) (append-nil (piece m k (side_of (get_or corners i c))) ∙ ap (λ (x : NumberedSide). piece m k (side_of x)) (sym is))
+
+-- the number of a place
+place-is : (k : ℕ) → k < 3 → place_number (place_of k) ≡ k
+place-is zero low = refl
+place-is (suc zero) low = refl
+place-is (suc (suc zero)) low = refl
+place-is (suc (suc (suc k))) low = absurd (omega arith)
+
+-- the value at a corner, as it is read from the row of its point
+pub piece-read : (m : MeshParts) (attr start comps : ℕ) (c : NumberedSide) (row : List ℤ) → c.k < 3 → row ≡ corner m c.face c.k
+    → start ≡ width_of (take attr m.heads) → comps ≡ width_of (take 1 (drop attr m.heads)) → take (start + comps - start) (drop start row) ≡ piece m attr (side_of c)
+piece-read m attr start comps c row low is from many =
+    let long : start + comps - start ≡ width_of (take 1 (drop attr m.heads)) = omega (arith, many) in
+    let at : row ≡ corner m c.face (place_number (place_of c.k)) = is ∙ ap (corner m c.face) (sym (place-is c.k low)) in
+    ap (λ (n : ℕ). take n (drop start row)) long
+    ∙ ap (λ (n : ℕ). take (width_of (take 1 (drop attr m.heads))) (drop n row)) from
+    ∙ ap (λ (l : List ℤ). take (width_of (take 1 (drop attr m.heads))) (drop (width_of (take attr m.heads)) l)) at

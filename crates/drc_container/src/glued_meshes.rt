@@ -94,7 +94,8 @@ fn renumbered_sides<L: Ledger>(
     // For the proof alone: the call tells that the table is a surface.
     let _faces = sides.face_count();
     let mut steps = Steps::<L>::new(blank);
-    sides.renumbered(alloc, rows, &mut steps)
+    let table = sides.renumbered(alloc, rows, &mut steps)?;
+    Ok(table)
 }
 
 /// A mesh and its surface with the faces in the order of the rows, each turned as its row says.

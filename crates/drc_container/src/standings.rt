@@ -1,9 +1,8 @@
 //! The surfaces that the values of a mesh's attributes stand on: the mesh's own, walked once, and for each
 //! attribute with seams a surface that is cut at them.
 
-ghost use Rattle.std.specs.Prelude.{◌≡◌, ◌<◌, ◌*◌, false, map, length, option_map, IfOk, IfSome, All, IsTrue, get_or};
-ghost use Rattle.std.specs.Option.{is_some};
-ghost use Rattle.std.specs.List.{range_with_len};
+ghost use Rattle.std.specs.Prelude.{◌≡◌, ◌<◌, Bool, false, map, length, option_map, IfOk, IfSome};
+ghost use Rattle.std.specs.List.{range_with_len, list_any};
 ghost use Rattle.corner_table.specs.Table.{gluing_of};
 ghost use Rattle.drc_container.specs.OnSurface.{walked_by};
 ghost use Rattle.drc_container.specs.WrittenOnSurface.{bits_of, seam_lists, is_cornered};
@@ -48,12 +47,20 @@ struct Cuts {
 
 /// A surface, walked by prediction degree or depth first.
 fn standing_on(alloc: Global, sides: SideTable, degree: bool) -> Result<Standing, Memory>
-    ensures { IfOk result (λ s. walk_in s ≡ walked_by degree sides.faces (gluing_of sides)) }
+    ensures sides { IfOk result (λ s. s.sides ≡ sides) }
+    ensures walk { IfOk result (λ s. walk_in s ≡ walked_by degree sides.faces (gluing_of sides)) }
 {
     // For the proof alone: the call tells that the table is a surface.
     let _faces = sides.face_count();
     let order = order_of(alloc, &sides, degree)?;
     Ok(Standing { sides, order })
+}
+
+/// Whether any of the bits says that there is a seam.
+fn has_seam(bits: &[bool]) -> bool
+    ensures { result ≡ list_any (λ bit. bit) bits.now }
+{
+    bits.iter().any(|bit| *bit)
 }
 
 /// The seam bits of an attribute, and the surface that is cut at its seams, where it has any.
@@ -64,9 +71,11 @@ fn seams_at(alloc: Global, d: &GluedMesh, attr: u8) -> Result<Seams, Memory>
     ensures cut { IfOk result (λ s. option_map gluing_of s.cut ≡ seamed (glued_in d.now) attr) }
     ensures faces { IfOk result (λ s. IfSome s.cut (λ t. t.faces ≡ length d.now.mesh.faces)) }
 {
+    // For the proof alone: the call tells that the table is a surface.
+    let _faces = d.sides.face_count();
     let flags = seams_of(alloc, &d.mesh, &d.sides, attr)?;
     let bits = seam_bits(alloc, &d.sides, flags.as_slice())?;
-    if !bits.iter().any(|bit| *bit) {
+    if !has_seam(bits.as_slice()) {
         return Ok(Seams { bits, cut: None });
     }
     let cut = unglued(alloc, &d.sides, flags.as_slice())?;

@@ -37,7 +37,7 @@ fn value_count(s: &Standings, coding: &Coding) -> u64
 }
 
 /// The integers of attribute `attr`, which are the `comps` from integer `start` of a point on, at each of these corners.
-fn column_of(
+fn column_at(
     alloc: Global,
     mesh: &CornerMesh,
     corners: &[Side],
@@ -49,8 +49,11 @@ fn column_of(
     requires few { length corners.now < 2 ^ 32 }
     requires start { start ≡ width_of (take attr mesh.now.heads) }
     requires comps { comps ≡ width_of (take 1 (drop attr mesh.now.heads)) }
+    requires within { start + comps ≤ width_of mesh.now.heads }
     ensures { IfOk result (λ v. v.items ≡ flat_map (piece mesh.now attr) (map side_of corners.now)) }
 {
+    // For the proof alone: a row has at most 128 integers.
+    let _width = mesh.width();
     let mut column = Vec::with_capacity(alloc, corners.len() * comps)?;
     for corner in corners {
         let row = mesh.corner(corner.face, corner.k);
@@ -69,7 +72,7 @@ fn columns_on(alloc: Global, s: &Standings, coding: &Coding) -> Result<Vec<Value
     for (attr, head) in s.mesh.heads().iter().enumerate() {
         let comps = head.comps as usize;
         let corners = standing_at(s, attr).order.corner_of_entry.as_slice();
-        let column = column_of(alloc, &s.mesh, corners, attr, start, comps)?;
+        let column = column_at(alloc, &s.mesh, corners, attr, start, comps)?;
         values.push(Values {
             values: Sequence::from_vec(column),
             predict: coding.predict,

@@ -2,7 +2,7 @@ use Rattle.std.proofs.Common.{◌≡◌, ◌+◌, ◌-◌, ◌*◌, ◌≤◌, m
 use Rattle.std.specs.List.{flat_map}
 use Rattle.corner_table.specs.Table.{side_of}
 use Rattle.seams.specs.Values.{piece}
-use Rattle.drc_container.proofs.surface_values.column_of.Given as goal
+use Rattle.drc_container.proofs.surface_values.column_at.Given as goal
 
 abbrev pub invariant-loop-corner : goal.invariant-loop-corner
 invariant-loop-corner l = record {
