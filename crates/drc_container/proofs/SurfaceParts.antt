@@ -22,7 +22,9 @@ use Rattle.corner_table.specs.Pairs.{has_bit, bit_sides}
 use Rattle.corner_table.specs.Table.{side_of}
 use Rattle.corner_table.proofs.PairLaws.{length-corners_of}
 use Rattle.seams.specs.Values.{piece, is_seam}
+use Rattle.seams.proofs.Values.{width_part}
 use Rattle.predict.specs.Wrap.{CanWrap}
+use Rattle.predict.specs.Walked.{Walked}
 use Rattle.attr_section.specs.declared.predictions.Prediction.{Prediction}
 use Rattle.attr_section.specs.declared.predictions.Prediction.TheVariants as prediction
 use Rattle.attr_section.specs.declared.decoder_heads.DecoderHead.{DecoderHead}
@@ -32,12 +34,15 @@ use Rattle.attr_section.specs.Heads.{position_id, is_id, is_known_id, is_used_id
 use Rattle.attr_section.specs.Values.{no_prediction, code_of, values_in}
 use Rattle.attr_section.specs.Written.{range_of, HasQuant, CanPredict, ValuesPass, DecoderValuesPass, HaveEntries}
 use Rattle.drc_container.specs.declared.codings.Coding.{Coding}
-use Rattle.drc_container.specs.WrittenOnSurface.{Glued, bits_of, is_cornered, is_by_degree, walk_of, coded_by, coded_values, data_id_of, decoder_for, decoders_for, seam_lists}
-use Rattle.drc_container.specs.Standings.{CanCodeValues}
+use Rattle.drc_container.specs.declared.standing.Standing.{Standing}
+use Rattle.drc_container.specs.declared.standings.Standings.{Standings}
+use Rattle.drc_container.specs.WrittenOnSurface.{Glued, bits_of, cut_of, is_cornered, is_by_degree, walk_of, coded_by, coded_values, data_id_of, decoder_for, decoders_for, seam_lists}
+use Rattle.drc_container.specs.Standings.{glued_on, walk_in, walk_at, AreStandings, CanCodeValues}
 use Rattle.drc_container.proofs.Attributed.{head_passes, head_quant}
-use Rattle.drc_container.proofs.SurfacePieces.{pieces-typed, pieces-long}
-use Rattle.drc_container.proofs.SurfaceColumns.{walk-on, walk-corners, cut-gluing}
-use Rattle.drc_container.proofs.SurfaceWalks.{order-some}
+use Rattle.drc_container.proofs.SurfacePieces.{width-more, pieces-typed, pieces-long}
+use Rattle.drc_container.proofs.SurfaceColumns.{order_for, walk-on, walk-corners, walk-entries, cut-gluing}
+use Rattle.drc_container.proofs.SurfaceWalks.{entries-each, order-some}
+use Rattle.drc_container.proofs.SurfaceStandings.{walk-at}
 
 -- ---- attribute after attribute
 
@@ -239,3 +244,78 @@ piece-read m attr start comps c row low is from many =
     ap (λ (n : ℕ). take n (drop start row)) long
     ∙ ap (λ (n : ℕ). take (width_of (take 1 (drop attr m.heads))) (drop n row)) from
     ∙ ap (λ (l : List ℤ). take (width_of (take 1 (drop attr m.heads))) (drop (width_of (take attr m.heads)) l)) at
+
+-- ---- over the surface that is kept
+
+-- what is kept for an attribute is what its values stand on
+pub kept-walk : (coding : Coding) (s : Standings) (k : ℕ) (t : Standing) → AreStandings coding.degree s → k < length s.mesh.heads → walk_in t ≡ walk_at s k
+    → walk_in t ≡ walk_of coding (glued_on s) k
+kept-walk coding s k t are has is = is ∙ walk-at coding s k are has
+
+-- how many values an attribute has there
+pub kept-long : (coding : Coding) (s : Standings) (k : ℕ) (t : Standing) (h : Head) → AreStandings coding.degree s → IsMesh s.mesh → k < length s.mesh.heads
+    → walk_in t ≡ walk_at s k → h ≡ get_or s.mesh.heads k h → length (coded_by coding (glued_on s) k).values ≡ length t.order.corner_of_entry * h.comps
+kept-long coding s k t h are mesh has is named =
+    let entries : length (walk_of coding (glued_on s) k).corners ≡ length t.order.corner_of_entry =
+        ap (λ (w : Walked). length w.corners) (sym (kept-walk coding s k t are has is)) ∙ length-map t.order.corner_of_entry side_of in
+    values-long coding (glued_on s) mesh k h has
+    ∙ ap (λ (n : ℕ). n * (get_or s.mesh.heads k h).comps) entries
+    ∙ ap (λ (x : Head). length t.order.corner_of_entry * x.comps) (sym named)
+
+-- an attribute has few components
+pub comps-few : (m : MeshParts) (k : ℕ) (h : Head) → IsMesh m → k < length m.heads → h ≡ get_or m.heads k h → h.comps ≤ 8
+comps-few m k h is has named =
+    let says : HeadSays (get_or m.heads k h) = All-get_or HeadSays m.heads k h has (heads_say m.heads is.points.heads_pass).each in
+    subst (λ (x : Head). x.comps ≤ 8) (sym named) says.few
+
+-- so an attribute over 2^32 entries has less than 2^40 values
+pub product-few : (n comps : ℕ) → n < 2 ^ 32 → comps ≤ 8 → n * comps ≤ 2 ^ 40
+product-few n comps few narrow = let most : n * comps ≤ n * 8 = mul-le-mul_left n narrow in omega (arith, most, few)
+
+-- the surface that is kept for an attribute has the faces of the mesh
+pub kept-faces : (coding : Coding) (s : Standings) (k : ℕ) (t : Standing) → AreStandings coding.degree s → k < length s.mesh.heads → walk_in t ≡ walk_at s k
+    → t.sides.faces ≡ length s.mesh.faces
+kept-faces coding s k t are has is =
+    let d = glued_on s in
+    let entries : length t.order.entry_of_corner ≡ 3 * length s.mesh.faces =
+        ap (λ (w : Walked). length w.entries) (kept-walk coding s k t are has is)
+        ∙ ap length (walk-entries coding d k)
+        ∙ entries-each (length d.mesh.faces) (cut_of d k) (order_for coding d k) in
+    omega (arith, entries, t.over.each_corner)
+
+-- and the corners of its entries are corners of them
+pub kept-corners : (coding : Coding) (s : Standings) (k : ℕ) (t : Standing) (corners : List NumberedSide) → AreStandings coding.degree s → k < length s.mesh.heads
+    → walk_in t ≡ walk_at s k → corners ≡ t.order.corner_of_entry → All (λ (c : NumberedSide). c.face < length s.mesh.faces) corners
+kept-corners coding s k t corners are has is same =
+    subst (λ (l : List NumberedSide). All (λ (c : NumberedSide). c.face < length s.mesh.faces) l) (sym same)
+    (subst (λ (n : ℕ). All (λ (c : NumberedSide). c.face < n) t.order.corner_of_entry) (kept-faces coding s k t are has is) t.over.corners)
+
+-- the values at them are those of the attribute
+pub kept-values : (coding : Coding) (s : Standings) (k : ℕ) (t : Standing) (corners : List NumberedSide) (column : List ℤ) → AreStandings coding.degree s → k < length s.mesh.heads
+    → walk_in t ≡ walk_at s k → corners ≡ t.order.corner_of_entry → column ≡ flat_map (piece s.mesh k) (map side_of corners)
+    → record { values = column; predict = coding.predict; at = 0 } ≡ coded_by coding (glued_on s) k
+kept-values coding s k t corners column are has is same at_corners =
+    let make : List ℤ → Values = λ (l : List ℤ). record { values = l; predict = coding.predict; at = 0 } in
+    ap make (
+      at_corners
+      ∙ ap (λ (l : List NumberedSide). flat_map (piece s.mesh k) (map side_of l)) same
+      ∙ ap (λ (w : Walked). flat_map (piece s.mesh k) w.corners) (kept-walk coding s k t are has is))
+
+-- ---- where the integers of an attribute stand in a row
+
+-- how many there are
+pub one-width : (heads : List Head) (k : ℕ) (h : Head) → k < length heads → h ≡ get_or heads k h → h.comps ≡ width_of (take 1 (drop k heads))
+one-width heads k h has named =
+    let one : width_of (h ∷ []) ≡ h.comps = omega (arith, sum_by-cons (λ (x : Head). x.comps) h []) in
+    rw (drop-cons heads k h has, ← named) (sym one)
+
+-- and where those of the next attribute begin
+pub next-start : (heads : List Head) (k start : ℕ) (h : Head) → k < length heads → h ≡ get_or heads k h → start ≡ width_of (take k heads)
+    → start + h.comps ≡ width_of (take (k + 1) heads)
+next-start heads k start h has named from =
+    let more : k + 1 ≡ suc k = omega arith in
+    rw more (omega (arith, from, one-width heads k h has named, width-more heads k h has))
+
+-- they stand within the row
+pub part-within : (heads : List Head) (k start : ℕ) (h : Head) → k < length heads → h ≡ get_or heads k h → start ≡ width_of (take k heads) → start + h.comps ≤ width_of heads
+part-within heads k start h has named from = omega (arith, from, one-width heads k h has named, width_part heads k)
