@@ -1,5 +1,5 @@
 -- The decoders and the values of a mesh's attributes by Edgebreaker are what the calls that write them ask for.
-use Rattle.std.proofs.Common.{◌≡◌, ◌⊎◌, ℕ, zero, suc, ◌+◌, ◌-◌, ◌*◌, ◌%◌, ◌<◌, ◌≤◌, ◌^◌, ◌≢◌, Bool, true, false, ◌&&◌, ℤ, pos, List, [], ◌∷◌, ◌++◌, length, map, take, drop, get_or, Option, Some, None, inl, inr, refl, sym, ap, ◌∙◌, subst, arith, add-one, drop-cons, append-nil}
+use Rattle.std.proofs.Common.{◌≡◌, ◌⊎◌, ℕ, zero, suc, ◌+◌, ◌-◌, ◌*◌, ◌%◌, ◌<◌, ◌≤◌, ◌^◌, ◌≢◌, Bool, true, false, ◌&&◌, ℤ, pos, List, [], ◌∷◌, ◌++◌, length, map, take, drop, get_or, Option, Some, None, inl, inr, refl, sym, ap, ◌∙◌, subst, arith, add-one, drop-cons, append-nil, Vec, Global}
 use Rattle.std.specs.Prelude.{◌||◌, ◌==◌, not, nat_lt, IsTrue, sum_by, flat_map, if◌then◌else◌}
 use Rattle.std.specs.List.{All, range_with_len, enumerate_from, list_any, list_all, zip}
 use Rattle.std.proofs.lemmas.Bool.{lt-ltb, ne_eqb}
@@ -19,7 +19,7 @@ use Rattle.drc_base.specs.declared.sides.Side.{Side as NumberedSide}
 use Rattle.corner_table.specs.Sides.{Side, place_of, place_number, Gluing, IsGluing}
 use Rattle.corner_table.specs.Fans.{corners_of}
 use Rattle.corner_table.specs.Pairs.{has_bit, bit_sides}
-use Rattle.corner_table.specs.Table.{side_of}
+use Rattle.corner_table.specs.Table.{side_of, gluing_of}
 use Rattle.corner_table.proofs.PairLaws.{length-corners_of}
 use Rattle.seams.specs.Values.{piece, is_seam}
 use Rattle.seams.proofs.Values.{width_part}
@@ -36,6 +36,8 @@ use Rattle.attr_section.specs.Written.{range_of, HasQuant, CanPredict, ValuesPas
 use Rattle.drc_container.specs.declared.codings.Coding.{Coding}
 use Rattle.drc_container.specs.declared.standing.Standing.{Standing}
 use Rattle.drc_container.specs.declared.standings.Standings.{Standings}
+use Rattle.walk_order.specs.OfSurface.{entries_of}
+use Rattle.drc_container.specs.OnSurface.{order_by, walked_by}
 use Rattle.drc_container.specs.WrittenOnSurface.{Glued, bits_of, cut_of, is_cornered, is_by_degree, walk_of, coded_by, coded_values, data_id_of, decoder_for, decoders_for, seam_lists}
 use Rattle.drc_container.specs.Standings.{glued_on, walk_in, walk_at, AreStandings, CanCodeValues}
 use Rattle.drc_container.proofs.Attributed.{head_passes, head_quant}
@@ -319,3 +321,44 @@ next-start heads k start h has named from =
 -- they stand within the row
 pub part-within : (heads : List Head) (k start : ℕ) (h : Head) → k < length heads → h ≡ get_or heads k h → start ≡ width_of (take k heads) → start + h.comps ≤ width_of heads
 part-within heads k start h has named from = omega (arith, from, one-width heads k h has named, width_part heads k)
+
+-- ---- the lists of seam bits that are kept
+
+-- there is one for each attribute but the first
+pub lists-few : (s : Standings) → IsMesh s.mesh → map (λ (v : Vec Bool Global). v.items) s.bits.items ≡ seam_lists (glued_on s) → length s.bits.items ≤ MAX_ATTRIBUTES
+lists-few s is bits =
+    let say = heads_say s.mesh.heads is.points.heads_pass in
+    let many : length s.bits.items ≡ length s.mesh.heads - 1 =
+        sym (length-map s.bits.items (λ (v : Vec Bool Global). v.items)) ∙ ap length bits ∙ length-map-range_with_len (bits_of (glued_on s)) 1 (length s.mesh.heads - 1) in
+    omega (arith, many, say.few)
+
+-- and none has more bits than the surface has sides
+pub lists-short : (s : Standings) → IsMesh s.mesh → map (λ (v : Vec Bool Global). v.items) s.bits.items ≡ seam_lists (glued_on s)
+    → All (λ (v : Vec Bool Global). length v.items < 2 ^ 31) s.bits.items
+lists-short s is bits = λ k v below.
+    let d = glued_on s in
+    let items : Vec Bool Global → List Bool = λ (w : Vec Bool Global). w.items in
+    let n = length s.mesh.heads - 1 in
+    let many : length s.bits.items ≡ n = sym (length-map s.bits.items items) ∙ ap length bits ∙ length-map-range_with_len (bits_of d) 1 n in
+    let here : (get_or s.bits.items k v).items ≡ bits_of d (1 + k) =
+        sym (get_or-map items s.bits.items k v [] below) ∙ ap (λ (l : List (List Bool)). get_or l k []) bits ∙ get_or-map-range_with_len (bits_of d) 1 n k (1 + k) [] (omega arith) refl in
+    omega (arith, ap length here, bits-few d (1 + k), is.few_faces)
+
+-- ---- the surface of the mesh
+
+walked-entries : (degree : Bool) (faces : ℕ) (g : Gluing) → length (walked_by degree faces g).entries ≡ 3 * faces
+unfolding walked_by
+walked-entries degree faces g = entries-each faces g (order_by degree faces g)
+
+-- it has the faces of the mesh
+pub whole-faces : (degree : Bool) (s : Standings) → AreStandings degree s → s.whole.sides.faces ≡ length s.mesh.faces
+whole-faces degree s are =
+    let d = glued_on s in
+    let entries : length s.whole.order.entry_of_corner ≡ 3 * length s.mesh.faces =
+        ap (λ (w : Walked). length w.entries) are.whole ∙ walked-entries degree (length d.mesh.faces) d.pairs in
+    omega (arith, entries, s.whole.over.each_corner)
+
+-- and is a surface
+pub whole-gluing : (degree : Bool) (s : Standings) → AreStandings degree s → IsGluing s.whole.sides.faces (gluing_of s.whole.sides)
+    → IsGluing (length s.mesh.faces) (gluing_of s.whole.sides)
+whole-gluing degree s are G = subst (λ (n : ℕ). IsGluing n (gluing_of s.whole.sides)) (whole-faces degree s are) G

@@ -14,10 +14,11 @@ ghost use Rattle.attr_section.specs.Written.{decoder_values_bytes, DecoderValues
 ghost use Rattle.drc_container.specs.Written.{header_bytes};
 ghost use Rattle.drc_container.specs.WrittenOnSurface.{walk_of, coded_by, coded_values, data_id_of, decoder_for, decoders_for, seam_lists, attribute_bytes, values_bytes_on, decoder_heads_bytes};
 ghost use Rattle.drc_container.specs.Encoded.{AttributeSpelled};
-ghost use Rattle.drc_container.specs.Standings.{glued_on, AreStandings, CanCodeValues, AreReadAgain};
+ghost use Rattle.drc_container.specs.Standings.{glued_on, walk_in, AreStandings, CanCodeValues, AreReadAgain};
 
 use crate::codings::Coding;
 use crate::headers::{MAGIC, MAJOR, MESH, minor_of};
+use crate::standing::Standing;
 use crate::standings::{Standings, is_cut_at, standing_at};
 use attr_section::{DecoderHead, Values, Walked, write_decoder, write_heads};
 use drc_base::{Memory, Sequence};
@@ -55,18 +56,18 @@ fn decoder_for(
     alloc: Global,
     s: &Standings,
     coding: &Coding,
-    attr: usize,
+    attr: u8,
     head: &Head,
 ) -> Result<DecoderHead, Memory>
     requires stands { AreStandings coding.now.degree s.now }
     requires attribute { attr < length s.now.mesh.heads }
     ensures { IfOk result (λ d. d ≡ decoder_for coding.now (glued_on s.now) attr head.now) }
 {
-    let corner = is_cut_at(s, attr);
+    let corner = is_cut_at(s, attr as usize);
     let mut heads = Vec::new(alloc);
     heads.push(head.copy(alloc)?)?;
     Ok(DecoderHead {
-        data_id: Some(data_id_of(attr as u8)),
+        data_id: Some(data_id_of(attr)),
         corner,
         degree: coding.degree && !corner,
         heads: Sequence::from_vec(heads),
@@ -80,7 +81,7 @@ fn decoders_of(alloc: Global, s: &Standings, coding: &Coding) -> Result<Vec<Deco
 {
     let mut decoders = Vec::new(alloc);
     for (attr, head) in s.mesh.heads().iter().enumerate() {
-        decoders.push(decoder_for(alloc, s, coding, attr, head)?)?;
+        decoders.push(decoder_for(alloc, s, coding, attr as u8, head)?)?;
     }
     Ok(decoders)
 }
@@ -103,7 +104,28 @@ fn decoder_heads(
     Ok(out)
 }
 
-/// The values of a decoder, the one of attribute `attr`.
+/// The values of a decoder over the surface that they stand on.
+fn values_over(
+    alloc: Global,
+    standing: &Standing,
+    decoder: &DecoderHead,
+    values: &[Values],
+    plain: bool,
+) -> Result<Vec<u8>, Memory>
+    requires values { DecoderValuesPass (Some (walk_in standing.now)) decoder.now.heads values.now }
+    requires entries { HaveEntries (length (walk_in standing.now).corners) decoder.now.heads values.now }
+    ensures bytes { IfOk result (λ o. o.items ≡ decoder_values_bytes plain (Some (walk_in standing.now)) decoder.now.heads values.now) }
+    ensures again { IfOk result (λ o. AreReadAgain plain (walk_in standing.now) decoder.now values.now o.items) }
+{
+    let walk = Walked {
+        sides: &standing.sides,
+        order: &standing.order,
+    };
+    let out = write_decoder(alloc, decoder, values, plain, Some(&walk))?;
+    Ok(out)
+}
+
+/// The values of the decoder of attribute `attr`.
 fn decoder_values(
     alloc: Global,
     s: &Standings,
@@ -120,11 +142,7 @@ fn decoder_values(
     ensures again { IfOk result (λ o. AreReadAgain coding.now.plain (walk_of coding.now (glued_on s.now) attr) decoder.now values.now o.items) }
 {
     let standing = standing_at(s, attr);
-    let walk = Walked {
-        sides: &standing.sides,
-        order: &standing.order,
-    };
-    let out = write_decoder(alloc, decoder, values, coding.plain, Some(&walk))?;
+    let out = values_over(alloc, standing, decoder, values, coding.plain)?;
     Ok(out)
 }
 
@@ -144,6 +162,9 @@ fn put_values(
     ensures bytes { OnOk result (out.new.items ≡ out.old.items ++ values_bytes_on coding.now (glued_on s.now)) }
     ensures again { OnOk result (All (λ (k, h). AttributeSpelled coding.now (glued_on s.now) k h) (enumerate_from 0 s.now.mesh.heads)) }
 {
+    // For the proof alone: the calls tell what holds of every mesh, and that the table is a surface.
+    let _heads = s.mesh.heads();
+    let _faces = s.whole.sides.face_count();
     for attr in 0..decoders.len() {
         let body = decoder_values(
             alloc,
