@@ -33,7 +33,7 @@ quant_says h (Some q) typed minima bits =
     let p = and_parts (leb 1 q.bits) (leb q.bits 30) bits in
     ((typed, grind (arith, minima), leb-true 1 q.bits p.0, leb-true q.bits 30 p.1), grind (arith, typed))
 
-head_passes : (h : Head) → HeadSays h → HeadPasses h
+pub head_passes : (h : Head) → HeadSays h → HeadPasses h
 head_passes h says = record {
   usage = says.usage;
   dtype = (quant_says h h.quant says.typed says.minima says.bits).1;
@@ -41,7 +41,7 @@ head_passes h says = record {
   few = says.few;
 }
 
-head_quant : (h : Head) → HeadSays h → HasQuant h h.quant
+pub head_quant : (h : Head) → HeadSays h → HasQuant h h.quant
 head_quant h says = (quant_says h h.quant says.typed says.minima says.bits).0
 
 -- the decoder passes

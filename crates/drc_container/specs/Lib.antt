@@ -9,6 +9,7 @@ pub mod WrittenOnSurface
 pub mod Chosen
 pub mod Refused
 pub mod Encoded
+pub mod Standings
 pub mod Layout
 pub mod Laws
 pub mod Profiles

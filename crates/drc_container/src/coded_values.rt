@@ -47,7 +47,7 @@ fn column_of(alloc: Global, g: &Geometry, start: usize, comps: usize) -> Result<
 
 /// Appends integers, where there is room.
 #[inline(always)]
-fn put_piece(column: &mut Vec<i32>, piece: &[i32])
+pub fn put_piece(column: &mut Vec<i32>, piece: &[i32])
     requires room { vec_len column.old + length piece.now ≤ vec_capacity column.old }
     ensures items { column.new.items ≡ column.old.items ++ piece.now }
     ensures len { vec_len column.new ≡ vec_len column.old + length piece.now }

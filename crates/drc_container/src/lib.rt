@@ -16,6 +16,7 @@ mod edgebreaker;
 #[cfg(test)]
 mod edgebreaker_tests;
 mod encoding;
+mod glued_meshes;
 mod headers;
 mod laws;
 mod methods;
@@ -24,9 +25,14 @@ mod placing;
 mod points;
 mod refusals;
 mod seen;
+mod standing;
+mod standings;
 mod surface_encoding;
 #[cfg(test)]
 mod surface_encoding_tests;
+mod surface_values;
+mod surface_writing;
+mod traced_meshes;
 mod walking;
 mod writing;
 

@@ -17,7 +17,7 @@ use drc_base::{Fault, Kind};
 use mesh_model::{Geometry, Head};
 
 /// A fault of this kind with this number, where a test doesn't hold.
-fn unless(holds: bool, kind: Kind, at: u64) -> Result<(), Fault>
+pub fn unless(holds: bool, kind: Kind, at: u64) -> Result<(), Fault>
     ensures { Tests (unless holds kind at) result }
 {
     if holds {
@@ -133,7 +133,7 @@ pub fn test_ranges(predict: Predict, values: &[Values]) -> Result<(), Fault>
 }
 
 /// The fault of the first attribute whose values can't be predicted.
-fn test_spans(values: &[Values]) -> Result<(), Fault>
+pub fn test_spans(values: &[Values]) -> Result<(), Fault>
     ensures { Tests (at_place Range (position (λ v. not (can_wrap (range_of v.values))) values.now)) result }
 {
     match first_wide(values) {

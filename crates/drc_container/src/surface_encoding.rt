@@ -1,27 +1,46 @@
 //! Encoding a mesh by Edgebreaker.
 
-ghost use Rattle.std.specs.Prelude.{◌≡◌, ◌<◌, IfOk, length};
+ghost use Rattle.std.specs.Prelude.{◌≡◌, ◌<◌, ℕ, List, length, Some, Err, IfOk};
+ghost use Rattle.drc_base.specs.declared.faults.Fault.{Fault as AnyFault};
+ghost use Rattle.drc_base.specs.declared.faults.Refusal.TheVariants as refusal;
 ghost use Rattle.drc_base.specs.Refusals.{Answers};
-ghost use Rattle.attr_section.specs.declared.predictions.Prediction.{Prediction as AnyPrediction};
+ghost use Rattle.mesh_model.specs.FirstFault.{value_unless};
+ghost use Rattle.mesh_model.specs.Same.{Rows};
+ghost use Rattle.pairing.specs.Degenerate.{degenerate_fault};
+ghost use Rattle.attr_section.specs.declared.predictions.Prediction.{Prediction};
 ghost use Rattle.attr_section.specs.Values.{code_of};
-ghost use Rattle.drc_container.specs.Encoded.{due_on_surface, CanCodeSurface, SurfaceSpelled};
+ghost use Rattle.drc_container.specs.Refused.{coding_fault};
+ghost use Rattle.drc_container.specs.WrittenOnSurface.{traced, edgebreaker_bytes};
+ghost use Rattle.drc_container.specs.Encoded.{CanCodeSurface, SurfaceSpelled};
 
 use crate::codings::Coding;
+use crate::standings::standings_of;
+use crate::surface_values::values_on;
+use crate::surface_writing::surface_stream;
+use crate::traced_meshes::{TracedMesh, traced_mesh};
 use drc_base::{Refusal, Sequence};
 use mesh_model::CornerMesh;
 use std::alloc::Global;
 
-/// The stream of a mesh by Edgebreaker, and the order of decoding.
+/// The stream of a mesh by Edgebreaker, and its faces in the order of decoding, each with its turn. Refusals,
+/// the first that applies: Degenerate at the first face with two equal positions, PointLimit at the number of
+/// vertices, ValueLimit at the number of coded values, Range at the first attribute whose values can't be
+/// predicted. Each part of the stream is read back.
 pub fn encode_surface(
-    _alloc: Global,
-    _mesh: &CornerMesh,
-    _coding: &Coding,
+    alloc: Global,
+    mesh: &CornerMesh,
+    coding: &Coding,
 ) -> Result<(Vec<u8>, Sequence<(u32, u8)>), Refusal>
-    requires some { 0 < length _mesh.now.faces }
-    requires known { (q : AnyPrediction) × (_coding.now.predict ≡ code_of q) }
-    ensures answer { Answers (λ r. (r.0.items, r.1)) (due_on_surface _coding.now _mesh.now) result }
-    ensures can { IfOk result (λ _. CanCodeSurface _coding.now _mesh.now) }
-    ensures spelled { IfOk result (λ _. SurfaceSpelled _coding.now _mesh.now) }
+    requires some { 0 < length mesh.now.faces }
+    requires known { (q : Prediction) × (coding.now.predict ≡ code_of q) }
+    ensures answer { Answers {B = List ℕ × Rows} (λ r. (r.0.items, r.1)) (value_unless (coding_fault coding.now mesh.now) (edgebreaker_bytes coding.now mesh.now, (traced mesh.now).order)) result }
+    ensures degenerate { (f : AnyFault) → degenerate_fault mesh.now ≡ Some f → result ≡ Err (refusal.Fault f) }
+    ensures can { IfOk result (λ _. CanCodeSurface coding.now mesh.now) }
+    ensures spelled { IfOk result (λ _. SurfaceSpelled coding.now mesh.now) }
 {
-    Err(Refusal::Memory)
+    let TracedMesh { trace, decoded } = traced_mesh(alloc, mesh)?;
+    let standings = standings_of(alloc, decoded, coding.degree)?;
+    let values = values_on(alloc, &standings, coding)?;
+    let bytes = surface_stream(alloc, &trace, &standings, coding, values.as_slice())?;
+    Ok((bytes, trace.order))
 }

@@ -1,0 +1,14 @@
+use Rattle.drc_container.proofs.Walks.{over-table}
+use Rattle.drc_container.proofs.surface_writing.values_over.Goals as goal
+
+pub write_decoder-requires-clause-values : goal.write_decoder-requires-clause-values
+write_decoder-requires-clause-values c = c.requires.values
+
+pub write_decoder-requires-clause-walk : goal.write_decoder-requires-clause-walk
+write_decoder-requires-clause-walk c = over-table c.args.standing.now.sides c.args.standing.now.order c.args.standing.now.over
+
+pub returns-clause-bytes : goal.returns-clause-bytes
+returns-clause-bytes c = c.in_ok-out.ensures.bytes
+
+pub returns-clause-again : goal.returns-clause-again
+returns-clause-again c = record { reads = λ spent place rest few. c.in_ok-out.ensures.again c.args.standing.now.few_flags _ spent place rest c.requires.entries few }

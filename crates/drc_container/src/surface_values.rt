@@ -1,0 +1,112 @@
+//! The values of a mesh's attributes, each in the order of its walk.
+
+ghost use Rattle.std.specs.Prelude.{◌≡◌, ◌+◌, ◌<◌, ◌≤◌, ◌*◌, ◌^◌, [], ◌∷◌, map, take, drop, flat_map, length, All, IfOk};
+ghost use Rattle.drc_base.specs.Refusals.{Answers};
+ghost use Rattle.mesh_model.specs.FirstFault.{Tests, first_fault, value_unless};
+ghost use Rattle.mesh_model.specs.Head.{width_of};
+ghost use Rattle.corner_table.specs.Table.{side_of};
+ghost use Rattle.seams.specs.Values.{piece};
+ghost use Rattle.attr_section.specs.Values.{values_in};
+ghost use Rattle.drc_container.specs.Refused.{limit_fault, range_fault};
+ghost use Rattle.drc_container.specs.WrittenOnSurface.{coded_values};
+ghost use Rattle.drc_container.specs.Standings.{glued_on, AreStandings};
+
+use crate::coded_values::put_piece;
+use crate::codings::Coding;
+use crate::refusals::{test_spans, unless};
+use crate::standings::{Standings, standing_at};
+use attr_section::Values;
+use drc_base::{Fault, Kind, MAX_VALUES, Memory, Refusal, Sequence, Side};
+use mesh_model::CornerMesh;
+use std::alloc::Global;
+
+/// The number of no prediction.
+const OFF: i8 = -2;
+
+/// How many values are coded: of each attribute its integers at each entry of its walk.
+fn value_count(s: &Standings, coding: &Coding) -> u64
+    requires { AreStandings coding.now.degree s.now }
+    ensures { result ≡ values_in (coded_values coding.now (glued_on s.now)) }
+{
+    let mut count: u64 = 0;
+    for (attr, head) in s.mesh.heads().iter().enumerate() {
+        let entries = standing_at(s, attr).order.corner_of_entry.len();
+        count += entries as u64 * u64::from(head.comps);
+    }
+    count
+}
+
+/// The integers of attribute `attr`, which are the `comps` from integer `start` of a point on, at each of these corners.
+fn column_at(
+    alloc: Global,
+    mesh: &CornerMesh,
+    corners: &[Side],
+    attr: usize,
+    start: usize,
+    comps: usize,
+) -> Result<Vec<i32>, Memory>
+    requires corners { All (λ c. c.face < length mesh.now.faces) corners.now }
+    requires few { length corners.now < 2 ^ 32 }
+    requires start { start ≡ width_of (take attr mesh.now.heads) }
+    requires comps { comps ≡ width_of (take 1 (drop attr mesh.now.heads)) }
+    requires within { start + comps ≤ width_of mesh.now.heads }
+    ensures { IfOk result (λ v. v.items ≡ flat_map (piece mesh.now attr) (map side_of corners.now)) }
+{
+    // For the proof alone: a row has at most 128 integers.
+    let _width = mesh.width();
+    let mut column = Vec::with_capacity(alloc, corners.len() * comps)?;
+    for corner in corners {
+        let row = mesh.corner(corner.face, corner.k);
+        put_piece(&mut column, &row[start..start + comps]);
+    }
+    Ok(column)
+}
+
+/// The values of each attribute, in the order of its walk.
+fn columns_on(alloc: Global, s: &Standings, coding: &Coding) -> Result<Vec<Values>, Memory>
+    requires { AreStandings coding.now.degree s.now }
+    ensures { IfOk result (λ v. v.items ≡ coded_values coding.now (glued_on s.now)) }
+{
+    let mut values = Vec::new(alloc);
+    let mut start: usize = 0;
+    for (attr, head) in s.mesh.heads().iter().enumerate() {
+        let comps = head.comps as usize;
+        let corners = standing_at(s, attr).order.corner_of_entry.as_slice();
+        let column = column_at(alloc, &s.mesh, corners, attr, start, comps)?;
+        values.push(Values {
+            values: Sequence::from_vec(column),
+            predict: coding.predict,
+            at: 0,
+        })?;
+        start += comps;
+    }
+    Ok(values)
+}
+
+/// The fault of the first attribute whose values can't be predicted, where they are to be.
+fn test_ranges(predict: i8, values: &[Values]) -> Result<(), Fault>
+    ensures { Tests (range_fault predict values.now) result }
+{
+    if predict == OFF {
+        return Ok(());
+    }
+    test_spans(values)
+}
+
+/// The values of each attribute, in the order of its walk. Refusals: ValueLimit at the number of values, before
+/// room is taken for them; Range at the first attribute whose values can't be predicted.
+pub fn values_on(alloc: Global, s: &Standings, coding: &Coding) -> Result<Vec<Values>, Refusal>
+    requires { AreStandings coding.now.degree s.now }
+    ensures { let values = coded_values coding.now (glued_on s.now) in
+        Answers (λ v. v.items) (value_unless (first_fault (limit_fault values ∷ range_fault coding.now.predict values ∷ [])) values) result }
+{
+    let count = value_count(s, coding);
+    unless(
+        count <= u64::from(MAX_VALUES),
+        Kind::ValueLimit,
+        count,
+    )?;
+    let values = columns_on(alloc, s, coding)?;
+    test_ranges(coding.predict, values.as_slice())?;
+    Ok(values)
+}
