@@ -4,14 +4,11 @@ ghost use Rattle.std.specs.Prelude.{◌≡◌, ◌<◌, ℕ, List, length, Some,
 ghost use Rattle.drc_base.specs.declared.faults.Fault.{Fault as AnyFault};
 ghost use Rattle.drc_base.specs.declared.faults.Refusal.TheVariants as refusal;
 ghost use Rattle.drc_base.specs.Refusals.{Answers};
-ghost use Rattle.mesh_model.specs.FirstFault.{value_unless};
 ghost use Rattle.mesh_model.specs.Same.{Rows};
 ghost use Rattle.pairing.specs.Degenerate.{degenerate_fault};
 ghost use Rattle.attr_section.specs.declared.predictions.Prediction.{Prediction};
 ghost use Rattle.attr_section.specs.Values.{code_of};
-ghost use Rattle.drc_container.specs.Refused.{coding_fault};
-ghost use Rattle.drc_container.specs.WrittenOnSurface.{traced, edgebreaker_bytes};
-ghost use Rattle.drc_container.specs.Encoded.{CanCodeSurface, SurfaceSpelled};
+ghost use Rattle.drc_container.specs.Encoded.{due_on_surface, CanCodeSurface, SurfaceSpelled};
 
 use crate::codings::Coding;
 use crate::standings::standings_of;
@@ -33,7 +30,7 @@ pub fn encode_surface(
 ) -> Result<(Vec<u8>, Sequence<(u32, u8)>), Refusal>
     requires some { 0 < length mesh.now.faces }
     requires known { (q : Prediction) × (coding.now.predict ≡ code_of q) }
-    ensures answer { Answers {B = List ℕ × Rows} (λ r. (r.0.items, r.1)) (value_unless (coding_fault coding.now mesh.now) (edgebreaker_bytes coding.now mesh.now, (traced mesh.now).order)) result }
+    ensures answer { Answers {B = List ℕ × Rows} (λ r. (r.0.items, r.1)) (due_on_surface coding.now mesh.now) result }
     ensures degenerate { (f : AnyFault) → degenerate_fault mesh.now ≡ Some f → result ≡ Err (refusal.Fault f) }
     ensures can { IfOk result (λ _. CanCodeSurface coding.now mesh.now) }
     ensures spelled { IfOk result (λ _. SurfaceSpelled coding.now mesh.now) }
