@@ -147,7 +147,7 @@ can_wraps r is =
     record { ordered = grind (arith, ints, p.0); narrow = grind (arith, ints, p.1) }
 
 -- values without a fault of range can wrap
-wraps : (values : List Values) → range_fault (pos 0) values ≡ None → All (λ v. CanWrap (range_of v.values)) values
+pub wraps : (values : List Values) → range_fault (pos 0) values ≡ None → All (λ v. CanWrap (range_of v.values)) values
 wraps values e =
     let test = λ (v : Values). not (can_wrap (range_of v.values)) in
     let d : Values = record { values = []; predict = pos 0; at = 0 } in

@@ -35,6 +35,8 @@ pub fn encode_surface(
     ensures can { IfOk result (λ _. CanCodeSurface coding.now mesh.now) }
     ensures spelled { IfOk result (λ _. SurfaceSpelled coding.now mesh.now) }
 {
+    // For the proof alone: the call tells what holds of every mesh.
+    let _heads = mesh.heads();
     let TracedMesh { trace, decoded } = traced_mesh(alloc, mesh)?;
     let standings = standings_of(alloc, decoded, coding.degree)?;
     let values = values_on(alloc, &standings, coding)?;
