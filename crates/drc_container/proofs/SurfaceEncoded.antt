@@ -171,7 +171,7 @@ bytes-are : (coding : Coding) (m : MeshParts) (t : Traced) (d : Glued) (bytes : 
 unfolding edgebreaker_bytes
 bytes-are coding m t d bytes is told =
     let f : ℕ → Traced → Glued → List ℕ = λ n x g.
-        header_bytes 1 (Mesh m) ++ (connectivity_bytes coding.valence n x (seam_lists g) ++ (decoder_heads_bytes coding g ++ values_bytes_on coding g)) in
+    header_bytes 1 (Mesh m) ++ (connectivity_bytes coding.valence n x (seam_lists g) ++ (decoder_heads_bytes coding g ++ values_bytes_on coding g)) in
     told
     ∙ ap (λ (n : ℕ). f n t d) is.faces
     ∙ ap (λ (x : Traced). f (length m.faces) x d) is.trace

@@ -91,8 +91,8 @@ pub are-standings : (degree : Bool) (s : Standings) (d : Glued) → glued_on s �
     → map (option_map walk_in) s.cut.items ≡ map (cut_walk d) (range_with_len 0 (length d.mesh.heads)) → AreStandings degree s
 are-standings degree s d is whole bits cut =
     let P : Glued → Type 0 = λ (e : Glued).
-        (walk_in s.whole ≡ walked_by degree (length e.mesh.faces) e.pairs)
-        × (map (λ (v : Vec Bool Global). v.items) s.bits.items ≡ seam_lists e)
-        × (map (option_map walk_in) s.cut.items ≡ map (cut_walk e) (range_with_len 0 (length e.mesh.heads))) in
+    (walk_in s.whole ≡ walked_by degree (length e.mesh.faces) e.pairs)
+    × (map (λ (v : Vec Bool Global). v.items) s.bits.items ≡ seam_lists e)
+    × (map (option_map walk_in) s.cut.items ≡ map (cut_walk e) (range_with_len 0 (length e.mesh.heads))) in
     let all : P (glued_on s) = subst P (sym is) (whole, bits, cut) in
     record { whole = all.0; bits = all.1; cut = all.2 }

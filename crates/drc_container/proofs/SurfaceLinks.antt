@@ -74,9 +74,11 @@ links-pass coding d most k front (h ∷ heads) small few free =
       unused = free k (omega arith) low;
       vertex = vertex-id d most k low small;
       depth_first = depth-first (is_cornered d k) coding.degree;
-    } in
-    (now, links-pass coding d most (k + 1) (front ++ link ∷ []) heads small (omega (arith, few)) (λ j more within.
-    any-more (λ l. is_id (data_id_of j) l.data_id) front link (free j (omega (arith, more)) within) (ids-apart most k j small (omega (arith, more)) within)))
+    } in (
+      now,
+      links-pass coding d most (k + 1) (front ++ link ∷ []) heads small (omega (arith, few)) (λ j more within.
+          any-more (λ l. is_id (data_id_of j) l.data_id) front link (free j (omega (arith, more)) within) (ids-apart most k j small (omega (arith, more)) within)),
+    )
 
 -- the links pass beside an attribute data for each attribute but the first
 pub are-linked : (coding : Coding) (d : Glued) → IsMesh d.mesh → LinksPass (length d.mesh.heads - 1) [] (decoders_for coding d)

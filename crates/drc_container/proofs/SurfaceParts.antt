@@ -119,11 +119,11 @@ values-pass coding d is G can k e has =
     let n = length (walk_of coding d k).corners in
     let long : length v.values ≡ n * h.comps = values-long coding d is k e has in
     let entries : 0 < n = subst (λ (order : List Side). 0 < length order) (sym (walk-corners coding d k))
-        (order-some (is_by_degree coding d k) (length d.mesh.faces) _ (cut-gluing d k G) can.some) in
+    (order-some (is_by_degree coding d k) (length d.mesh.faces) _ (cut-gluing d k G) can.some) in
     let some : 0 < n * h.comps = some-values n h.comps entries says.some in
     let here : length v.values ≤ values_in (coded_values coding d) =
-        subst (λ (x : Values). length x.values ≤ values_in (coded_values coding d)) (values-at coding d k v has)
-        (get_or-le-sum_by (λ (x : Values). length x.values) (coded_values coding d) k v (omega (arith, has, values-each coding d))) in
+    subst (λ (x : Values). length x.values ≤ values_in (coded_values coding d)) (values-at coding d k v has)
+    (get_or-le-sum_by (λ (x : Values). length x.values) (coded_values coding d) k v (omega (arith, has, values-each coding d))) in
     record {
       comps = says.some;
       some = omega (arith, long, some);
@@ -259,7 +259,7 @@ pub kept-long : (coding : Coding) (s : Standings) (k : ℕ) (t : Standing) (h : 
     → walk_in t ≡ walk_at s k → h ≡ get_or s.mesh.heads k h → length (coded_by coding (glued_on s) k).values ≡ length t.order.corner_of_entry * h.comps
 kept-long coding s k t h are mesh has is named =
     let entries : length (walk_of coding (glued_on s) k).corners ≡ length t.order.corner_of_entry =
-        ap (λ (w : Walked). length w.corners) (sym (kept-walk coding s k t are has is)) ∙ length-map t.order.corner_of_entry side_of in
+    ap (λ (w : Walked). length w.corners) (sym (kept-walk coding s k t are has is)) ∙ length-map t.order.corner_of_entry side_of in
     values-long coding (glued_on s) mesh k h has
     ∙ ap (λ (n : ℕ). n * (get_or s.mesh.heads k h).comps) entries
     ∙ ap (λ (x : Head). length t.order.corner_of_entry * x.comps) (sym named)
@@ -280,9 +280,9 @@ pub kept-faces : (coding : Coding) (s : Standings) (k : ℕ) (t : Standing) → 
 kept-faces coding s k t are has is =
     let d = glued_on s in
     let entries : length t.order.entry_of_corner ≡ 3 * length s.mesh.faces =
-        ap (λ (w : Walked). length w.entries) (kept-walk coding s k t are has is)
-        ∙ ap length (walk-entries coding d k)
-        ∙ entries-each (length d.mesh.faces) (cut_of d k) (order_for coding d k) in
+    ap (λ (w : Walked). length w.entries) (kept-walk coding s k t are has is)
+    ∙ ap length (walk-entries coding d k)
+    ∙ entries-each (length d.mesh.faces) (cut_of d k) (order_for coding d k) in
     omega (arith, entries, t.over.each_corner)
 
 -- and the corners of its entries are corners of them
@@ -299,9 +299,9 @@ pub kept-values : (coding : Coding) (s : Standings) (k : ℕ) (t : Standing) (co
 kept-values coding s k t corners column are has is same at_corners =
     let make : List ℤ → Values = λ (l : List ℤ). record { values = l; predict = coding.predict; at = 0 } in
     ap make (
-      at_corners
-      ∙ ap (λ (l : List NumberedSide). flat_map (piece s.mesh k) (map side_of l)) same
-      ∙ ap (λ (w : Walked). flat_map (piece s.mesh k) w.corners) (kept-walk coding s k t are has is))
+    at_corners
+    ∙ ap (λ (l : List NumberedSide). flat_map (piece s.mesh k) (map side_of l)) same
+    ∙ ap (λ (w : Walked). flat_map (piece s.mesh k) w.corners) (kept-walk coding s k t are has is))
 
 -- ---- where the integers of an attribute stand in a row
 
@@ -329,7 +329,7 @@ pub lists-few : (s : Standings) → IsMesh s.mesh → map (λ (v : Vec Bool Glob
 lists-few s is bits =
     let say = heads_say s.mesh.heads is.points.heads_pass in
     let many : length s.bits.items ≡ length s.mesh.heads - 1 =
-        sym (length-map s.bits.items (λ (v : Vec Bool Global). v.items)) ∙ ap length bits ∙ length-map-range_with_len (bits_of (glued_on s)) 1 (length s.mesh.heads - 1) in
+    sym (length-map s.bits.items (λ (v : Vec Bool Global). v.items)) ∙ ap length bits ∙ length-map-range_with_len (bits_of (glued_on s)) 1 (length s.mesh.heads - 1) in
     omega (arith, many, say.few)
 
 -- and none has more bits than the surface has sides
@@ -341,7 +341,7 @@ lists-short s is bits = λ k v below.
     let n = length s.mesh.heads - 1 in
     let many : length s.bits.items ≡ n = sym (length-map s.bits.items items) ∙ ap length bits ∙ length-map-range_with_len (bits_of d) 1 n in
     let here : (get_or s.bits.items k v).items ≡ bits_of d (1 + k) =
-        sym (get_or-map items s.bits.items k v [] below) ∙ ap (λ (l : List (List Bool)). get_or l k []) bits ∙ get_or-map-range_with_len (bits_of d) 1 n k (1 + k) [] (omega arith) refl in
+    sym (get_or-map items s.bits.items k v [] below) ∙ ap (λ (l : List (List Bool)). get_or l k []) bits ∙ get_or-map-range_with_len (bits_of d) 1 n k (1 + k) [] (omega arith) refl in
     omega (arith, ap length here, bits-few d (1 + k), is.few_faces)
 
 -- ---- the surface of the mesh
@@ -355,7 +355,7 @@ pub whole-faces : (degree : Bool) (s : Standings) → AreStandings degree s → 
 whole-faces degree s are =
     let d = glued_on s in
     let entries : length s.whole.order.entry_of_corner ≡ 3 * length s.mesh.faces =
-        ap (λ (w : Walked). length w.entries) are.whole ∙ walked-entries degree (length d.mesh.faces) d.pairs in
+    ap (λ (w : Walked). length w.entries) are.whole ∙ walked-entries degree (length d.mesh.faces) d.pairs in
     omega (arith, entries, s.whole.over.each_corner)
 
 -- and is a surface

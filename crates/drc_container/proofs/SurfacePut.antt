@@ -80,9 +80,9 @@ put-again coding d k x part bytes at is again =
     let h = head_at d k in
     let v = coded_by coding d k in
     let own : AreReadAgain coding.plain w (decoder_for coding d k h) (v ∷ []) (attribute_bytes coding d k h) =
-        subst (λ (b : List ℕ). AreReadAgain coding.plain w (decoder_for coding d k h) (v ∷ []) b) (is ∙ put-bytes coding d k x part at)
-        (subst (λ (y : DecoderHead). AreReadAgain coding.plain w y (v ∷ []) bytes) at.decoder
-        (subst (λ (l : List Values). AreReadAgain coding.plain w x l bytes) at.values again)) in
+    subst (λ (b : List ℕ). AreReadAgain coding.plain w (decoder_for coding d k h) (v ∷ []) b) (is ∙ put-bytes coding d k x part at)
+    (subst (λ (y : DecoderHead). AreReadAgain coding.plain w y (v ∷ []) bytes) at.decoder
+    (subst (λ (l : List Values). AreReadAgain coding.plain w x l bytes) at.values again)) in
     record { reads = λ spent place rest few. own.reads spent place rest (omega (arith, few, sum_by-cons (λ (y : Values). length y.values) v [])) }
 
 -- ---- one attribute more

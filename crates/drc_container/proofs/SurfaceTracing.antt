@@ -47,7 +47,7 @@ pub traced-is : (m : MeshParts) (faces : ℕ) (g : Gluing) (r : Traced) → face
 unfolding traced
 traced-is m faces g r many pairs is =
     let told : IsTraceOf (length m.faces) (pairing m) r =
-        subst (λ (n : ℕ). IsTraceOf n (pairing m) r) many (subst (λ (h : Gluing). IsTraceOf faces h r) pairs is) in
+    subst (λ (n : ℕ). IsTraceOf n (pairing m) r) many (subst (λ (h : Gluing). IsTraceOf faces h r) pairs is) in
     same-trace r (traced m) told.symbols told.events told.starts told.order told.vertices
 
 -- the mesh as it is decoded

@@ -31,7 +31,11 @@ fn turned_face(face: [u32; 3], turn: u8) -> [u32; 3]
     ensures { result ≡ turned_face face turn }
 {
     let first = turn as usize;
-    [face[first % 3], face[(1 + first) % 3], face[(2 + first) % 3]]
+    [
+        face[first % 3],
+        face[(1 + first) % 3],
+        face[(2 + first) % 3],
+    ]
 }
 
 /// The faces of a mesh in the order of the rows, each turned as its row says.

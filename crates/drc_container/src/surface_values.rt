@@ -101,11 +101,7 @@ pub fn values_on(alloc: Global, s: &Standings, coding: &Coding) -> Result<Vec<Va
         Answers (λ v. v.items) (value_unless (first_fault (limit_fault values ∷ range_fault coding.now.predict values ∷ [])) values) result }
 {
     let count = value_count(s, coding);
-    unless(
-        count <= u64::from(MAX_VALUES),
-        Kind::ValueLimit,
-        count,
-    )?;
+    unless(count <= u64::from(MAX_VALUES), Kind::ValueLimit, count)?;
     let values = columns_on(alloc, s, coding)?;
     test_ranges(coding.predict, values.as_slice())?;
     Ok(values)

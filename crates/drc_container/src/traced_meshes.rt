@@ -45,7 +45,11 @@ fn traced_on(alloc: Global, mesh: &CornerMesh, sides: &SideTable) -> Result<Trac
 {
     let trace = trace(alloc, sides)?;
     let vertices = trace.vertices;
-    unless(vertices <= MAX_POINTS, Kind::PointLimit, u64::from(vertices))?;
+    unless(
+        vertices <= MAX_POINTS,
+        Kind::PointLimit,
+        u64::from(vertices),
+    )?;
     let decoded = glued_mesh(alloc, mesh, sides, trace.order.as_slice())?;
     Ok(TracedMesh { trace, decoded })
 }
