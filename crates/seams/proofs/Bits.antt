@@ -45,13 +45,13 @@ entry_glued entries n e q = ap (λ k. other_at (get_or entries k free_entry)) (n
 entry_some : (e : ℕ) → e ≢ free_entry → other_at e ≡ Some (side_at e)
 entry_some e h = cond-false (eqb e free_entry) None (Some (side_at e)) (false_from_ne_true (eqb e free_entry) (λ t. h (eqb-true e free_entry t)))
 
-pub later-some : (faces : ℕ) (entries : List ℕ) (n e : ℕ) → faces ≤ 4194304 → IsGluing faces (glued_in entries) → e ≡ get_or entries n free_entry → n < e → e < 3 * faces →
+pub later-some : (faces : ℕ) (entries : List ℕ) (n e : ℕ) → IsGluing faces (glued_in entries) → e ≡ get_or entries n free_entry → n < e → e < free_entry →
     TellsLater faces (glued_in entries) n (Some e)
-later-some faces entries n e few G q before within =
-    let real : e ≢ free_entry = λ k. absurd (omega arith) in
-    let glued : glued_in entries (side_at n) ≡ Some (side_at e) = entry_glued entries n e q ∙ entry_some e real in
+later-some faces entries n e G q before real =
+    let glued : glued_in entries (side_at n) ≡ Some (side_at e) = entry_glued entries n e q ∙ entry_some e (λ k. absurd (omega arith)) in
     let apart : n / 3 ≢ e / 3 = G.apart (side_at n) (side_at e) glued in
-    (bit_of_glued (glued_in entries) (side_at n) (side_at e) glued ∙ lt-ltb (n / 3) (e / 3) (omega arith), glued, before, within)
+    let within : e / 3 < faces = G.within (side_at e) (side_at n) (G.paired (side_at n) (side_at e) glued) in
+    (bit_of_glued (glued_in entries) (side_at n) (side_at e) glued ∙ lt-ltb (n / 3) (e / 3) (omega arith), glued, before, omega arith)
 
 pub later-none : (faces : ℕ) (entries : List ℕ) (n e : ℕ) → IsGluing faces (glued_in entries) → e ≡ get_or entries n free_entry → (n < e → e < 3 * faces → ⊥) →
     TellsLater faces (glued_in entries) n None
@@ -87,6 +87,14 @@ below_part g n (suc j) =
     let last : List Side = cond (has_bit g (side_at (n + j))) (side_at (n + j) ∷ []) [] in
     let e : n + suc j ≡ n + j + 1 = omega arith in
     (r.0 ++ last, ap (λ k. bit_sides_below k g) e ∙ below_more g (n + j) ∙ ap (λ xs. xs ++ last) r.1 ∙ append_assoc (bit_sides_below n g) r.0 last)
+
+pub length-below : (faces n : ℕ) (g : Gluing) → n ≤ 3 * faces → length (bit_sides_below n g) ≤ length (bit_sides faces g)
+length-below faces n g h =
+    let r = below_part g n (3 * faces - n) in
+    let e : n + (3 * faces - n) ≡ 3 * faces = omega arith in
+    let a = ap (λ (xs : List Side). length xs) (bits_are faces g ∙ ap (λ k. bit_sides_below k g) (sym e) ∙ r.1) in
+    let l = length-append (bit_sides_below n g) r.0 in
+    omega arith
 
 below_less : (g : Gluing) (n : ℕ) → All (λ (x : Side). number x < n) (bit_sides_below n g)
 below_less g zero = All-nil (λ (x : Side). number x < 0)

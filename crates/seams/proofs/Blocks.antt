@@ -1,6 +1,7 @@
 -- Bits that were made of flags tell these flags.
-use Rattle.std.proofs.Common.{◌≡◌, ℕ, zero, suc, ◌+◌, ◌*◌, ◌<◌, Bool, true, false, List, [], ◌∷◌, ◌++◌, map, length, get_or, inl, inr, refl, ap, sym, ◌∙◌, arith}
-use Rattle.std.proofs.lemmas.List.{get_or-map, length-append, map-append}
+use Rattle.std.proofs.Common.{◌≡◌, ℕ, zero, suc, ◌+◌, ◌*◌, ◌<◌, Bool, true, false, cond, List, [], ◌∷◌, ◌++◌, map, length, get_or, set, take, inl, inr, refl, ap, sym, ◌∙◌, arith}
+use Rattle.std.proofs.lemmas.Bool.{cases_Bool, cond-true, cond-false}
+use Rattle.std.proofs.lemmas.List.{get_or-map, length-append, map-append, take-set, take_more_set}
 use Rattle.rans_binary.specs.Blocks.{Block, next_bit, after_bit, behind, bit_of, first_bits}
 use Rattle.rans_binary.proofs.BitNumbers.{bit_of-after}
 use Rattle.corner_table.specs.Sides.{Side, side_at, Gluing}
@@ -68,12 +69,32 @@ pub bits_end : (faces n : ℕ) (g : Gluing) → n ≡ 3 * faces → bit_sides_be
 bits_end faces n g e = ap (λ k. bit_sides_below k g) e ∙ sym (bits_are faces g)
 
 -- the bits written so far
-pub bits_more : (g : Gluing) (n : ℕ) (flags bits : List Bool) (flag : Bool) → has_bit g (side_at n) ≡ true → bits ≡ map (flag_at flags) (bit_sides_below n g) → flag ≡ get_or flags n true →
+bits_more : (g : Gluing) (n : ℕ) (flags bits : List Bool) (flag : Bool) → has_bit g (side_at n) ≡ true → bits ≡ map (flag_at flags) (bit_sides_below n g) → flag ≡ get_or flags n true →
     bits ++ flag ∷ [] ≡ map (flag_at flags) (bit_sides_below (n + 1) g)
 bits_more g n flags bits flag t b e =
     let v : flag ≡ flag_at flags (side_at n) = e ∙ ap (λ k. get_or flags k true) (sym (number-side_at n)) in
     ap (λ xs. xs ++ flag ∷ []) b ∙ ap (λ x. map (flag_at flags) (bit_sides_below n g) ++ x ∷ []) v
     ∙ sym (map-append (flag_at flags) (bit_sides_below n g) (side_at n ∷ [])) ∙ ap (map (flag_at flags)) (sym (below_more_yes g n t))
 
-pub bits_over : (g : Gluing) (n : ℕ) (flags bits : List Bool) → has_bit g (side_at n) ≡ false → bits ≡ map (flag_at flags) (bit_sides_below n g) → bits ≡ map (flag_at flags) (bit_sides_below (n + 1) g)
+bits_over : (g : Gluing) (n : ℕ) (flags bits : List Bool) → has_bit g (side_at n) ≡ false → bits ≡ map (flag_at flags) (bit_sides_below n g) → bits ≡ map (flag_at flags) (bit_sides_below (n + 1) g)
 bits_over g n flags bits t b = b ∙ ap (map (flag_at flags)) (sym (below_more_no g n t))
+
+-- bits that are written where the next one belongs
+pub bits_written : (g : Gluing) (n count more : ℕ) (flags bits : List Bool) (flag : Bool) → more ≡ cond (has_bit g (side_at n)) 1 0 → flag ≡ get_or flags n true → count < length bits →
+    count ≡ length (bit_sides_below n g) → take count bits ≡ map (flag_at flags) (bit_sides_below n g) →
+    (count + more ≡ length (bit_sides_below (n + 1) g)) × (take (count + more) (set bits count flag) ≡ map (flag_at flags) (bit_sides_below (n + 1) g))
+bits_written g n count more flags bits flag m e inside long b = elim (cases_Bool (has_bit g (side_at n))) [
+  | inl t ↦ (
+      let one : more ≡ 1 = m ∙ cond-true (has_bit g (side_at n)) 1 0 t in
+      let l = bits_longer g n t in (
+        omega arith,
+        ap (λ k. take (count + k) (set bits count flag)) one ∙ take_more_set bits count flag inside ∙ bits_more g n flags (take count bits) flag t b e,
+      ))
+  | inr f ↦ (
+      let none : more ≡ 0 = m ∙ cond-false (has_bit g (side_at n)) 1 0 f in
+      let same : count + more ≡ count = omega arith in
+      let l = ap (λ (xs : List Side). length xs) (below_more_no g n f) in (
+        omega arith,
+        ap (λ k. take k (set bits count flag)) same ∙ take-set bits count flag ∙ bits_over g n flags (take count bits) f b,
+      ))
+]

@@ -16,6 +16,8 @@ use rans_binary::BitBlock;
 use std::alloc::Global;
 
 /// Takes the flags of all sides from a block, where each is set before. Gives the block behind its bits.
+/// It is never inlined, so that all numbers of its loop have registers, whoever calls it.
+#[inline(never)]
 fn read_block<'a>(
     across: &[u32],
     faces: u32,

@@ -1,9 +1,9 @@
 //! The sides of a table by their numbers.
 
-ghost use Rattle.std.specs.Prelude.{◌≡◌, ◌*◌, ◌<◌, ◌≤◌, length, replicate, true, IfOk, slice_index_or};
+ghost use Rattle.std.specs.Prelude.{◌≡◌, ◌*◌, ◌<◌, ◌≤◌, ◌↔◌, IsTrue, length, replicate, true, IfOk, slice_index_or};
 ghost use Rattle.drc_base.specs.declared.limits.TheConstants.{MAX_FACES as most_faces};
 ghost use Rattle.corner_table.specs.Sides.{IsGluing};
-ghost use Rattle.corner_table.specs.Table.{glued_in};
+ghost use Rattle.corner_table.specs.Table.{glued_in, free_entry};
 ghost use Rattle.seams.specs.Pairs.{TellsLater};
 
 use corner_table::{SideTable, Steps};
@@ -30,6 +30,15 @@ pub(crate) fn sides_across(t: &SideTable) -> &[u32]
     entries_of::<Brand>(t, Blank::new(1))
 }
 
+/// Whether the entry of a side is the number of a later side. One more than the entry of a free side wraps
+/// to 0, so that one comparison tells that the side is glued, and that the other one is later.
+fn is_later(entry: u32, side: u32) -> bool
+    requires { side < free_entry }
+    ensures { IsTrue result ↔ ((side < entry) × (entry < free_entry)) }
+{
+    entry.wrapping_add(1) > side + 1
+}
+
 /// The number of the side across a side, where that side is glued and lies in the lesser face, so that it
 /// has the bit of the pair.
 pub(crate) fn later_side(across: &[u32], faces: u32, side: u32) -> Option<u32>
@@ -40,13 +49,10 @@ pub(crate) fn later_side(across: &[u32], faces: u32, side: u32) -> Option<u32>
     ensures { TellsLater faces (glued_in across.now) side result }
 {
     let other = across[side as usize];
-    if other <= side {
-        return None;
+    if is_later(other, side) {
+        return Some(other);
     }
-    if other >= 3 * faces {
-        return None;
-    }
-    Some(other)
+    None
 }
 
 /// The flag of a side.
