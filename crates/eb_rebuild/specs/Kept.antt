@@ -1,5 +1,6 @@
 -- The lists that a rebuilding keeps, as the machine reads them: the code's own, from no source.
-use Rattle.std.specs.Prelude.{◌≡◌, ◌≢◌, ℕ, zero, suc, ◌-◌, ◌*◌, ◌<◌, false, List, [], ◌∷◌, length, get_or, set, replicate, All, Option, Some, None}
+use Rattle.std.specs.Prelude.{◌≡◌, ◌≢◌, ℕ, zero, suc, ◌-◌, ◌*◌, ◌<◌, false, List, [], ◌∷◌, length, get_or, set, replicate, All, Option}
+use Rattle.std.specs.Prelude.{Some, None}
 use Rattle.std.specs.List.{Contains}
 use Rattle.std.specs.List.Sorted.{IsStrictlyIncreasing}
 use Rattle.corner_table.specs.declared.symbols.Event.{Event}
