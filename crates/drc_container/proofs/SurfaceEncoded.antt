@@ -1,22 +1,22 @@
 -- What is told of an encoding by Edgebreaker, step by step, is told of the mesh.
-use Rattle.std.proofs.Common.{◌≡◌, ◌⊎◌, ℕ, ◌-◌, ◌<◌, ◌≤◌, Bool, true, false, ℤ, pos, List, [], ◌∷◌, ◌++◌, length, map, Option, Some, None, Ok, Err, inl, inr, refl, sym, ap, ◌∙◌, subst, arith}
-use Rattle.std.specs.Prelude.{nat_le, flat_map}
+use Rattle.std.proofs.Common.{◌≡◌, ◌⊎◌, ℕ, ◌-◌, ◌<◌, ◌≤◌, ℤ, List, [], ◌∷◌, ◌++◌, length, map, Option, Some, None, Ok, inl, inr, sym, ap, ◌∙◌, subst, arith}
+use Rattle.std.specs.Prelude.{nat_le}
 use Rattle.std.specs.List.{All, enumerate_from}
 use Rattle.std.specs.Ordering.{int_eq}
 use Rattle.std.proofs.lemmas.Bool.{leb-true, cases_Bool}
 use Rattle.std.proofs.lemmas.Bool.Decides.{Decides-int_eq}
 use Rattle.drc_base.specs.declared.faults.Fault.{Fault}
 use Rattle.drc_base.specs.declared.faults.Refusal.{Refusal}
-use Rattle.drc_base.specs.declared.kinds.Kind.TheVariants.{PointLimit, ValueLimit, Range}
+use Rattle.drc_base.specs.declared.kinds.Kind.TheVariants.{PointLimit, ValueLimit}
 use Rattle.drc_base.specs.declared.limits.TheConstants.{MAX_POINTS, MAX_VALUES}
 use Rattle.drc_base.specs.Refusals.{Refuses}
 use Rattle.drc_bits.specs.Spells.{Spells}
 use Rattle.mesh_model.specs.declared.heads.Head.{Head}
 use Rattle.mesh_model.specs.declared.geometries.Geometry.TheVariants.{Mesh}
-use Rattle.mesh_model.specs.FirstFault.{unless, first_fault, value_unless}
+use Rattle.mesh_model.specs.FirstFault.{first_fault, value_unless}
 use Rattle.mesh_model.specs.Parts.{MeshParts, IsMesh}
 use Rattle.mesh_model.specs.Same.{Rows}
-use Rattle.mesh_model.proofs.FirstFaults.{unless-none, first_fault-none, first_fault-cons}
+use Rattle.mesh_model.proofs.FirstFaults.{unless-none, first_fault-none}
 use Rattle.pairing.specs.Pairing.{pairing}
 use Rattle.pairing.specs.Degenerate.{degenerate_fault}
 use Rattle.eb_trace.specs.declared.tracing.Traced.{Traced}

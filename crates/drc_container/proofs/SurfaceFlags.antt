@@ -1,6 +1,6 @@
 -- The seams of an attribute: its bits, and the surface that is cut at them.
-use Rattle.std.proofs.Common.{◌≡◌, ℕ, zero, suc, ◌+◌, ◌-◌, ◌*◌, ◌<◌, ◌≤◌, Bool, true, false, List, [], ◌∷◌, ◌++◌, length, map, Option, Some, None, refl, sym, ap, ◌∙◌, subst, arith, Vec, Global}
-use Rattle.std.specs.Prelude.{option_map, IfSome, if◌then◌else◌}
+use Rattle.std.proofs.Common.{◌≡◌, ℕ, ◌+◌, ◌-◌, ◌<◌, Bool, true, false, List, [], ◌∷◌, ◌++◌, length, map, Option, Some, None, refl, sym, ap, ◌∙◌, subst, arith, Vec, Global}
+use Rattle.std.specs.Prelude.{option_map, IfSome}
 use Rattle.std.specs.List.{All, range_with_len, list_any}
 use Rattle.std.proofs.lemmas.List.{map-append}
 use Rattle.std.proofs.lemmas.List.FromFn.{map-range_with_len_more}
@@ -9,14 +9,12 @@ use Rattle.corner_table.specs.Sides.{Side, Gluing, IsGluing}
 use Rattle.corner_table.specs.Fans.{corners_of}
 use Rattle.corner_table.specs.Pairs.{has_bit, bit_sides}
 use Rattle.corner_table.specs.Table.{Table, gluing_of}
-use Rattle.mesh_model.specs.Parts.{MeshParts}
 use Rattle.seams.specs.Seams.{flag_at, listed, unseamed}
 use Rattle.seams.specs.SeamBits.{seam_bits}
 use Rattle.seams.specs.Values.{is_seam}
 use Rattle.seams.proofs.Bits.{bit_tells}
 use Rattle.seams.proofs.Chains.{list_cuts_alike}
 use Rattle.seams.proofs.Listing.{flag_at-listed}
-use Rattle.predict.specs.Walked.{Walked}
 use Rattle.drc_container.specs.declared.standings.Standings.{Standings}
 use Rattle.drc_container.specs.OnSurface.{walked_by}
 use Rattle.drc_container.specs.WrittenOnSurface.{Glued, bits_of, seam_lists}

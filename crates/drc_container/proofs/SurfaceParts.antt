@@ -1,16 +1,15 @@
 -- The decoders and the values of a mesh's attributes by Edgebreaker are what the calls that write them ask for.
-use Rattle.std.proofs.Common.{◌≡◌, ◌⊎◌, ℕ, zero, suc, ◌+◌, ◌-◌, ◌*◌, ◌%◌, ◌<◌, ◌≤◌, ◌^◌, ◌≢◌, Bool, true, false, ◌&&◌, ℤ, pos, List, [], ◌∷◌, ◌++◌, length, map, take, drop, get_or, Option, Some, None, inl, inr, refl, sym, ap, ◌∙◌, subst, arith, add-one, drop-cons, append-nil, Vec, Global}
-use Rattle.std.specs.Prelude.{◌||◌, ◌==◌, not, nat_lt, IsTrue, sum_by, flat_map, if◌then◌else◌}
-use Rattle.std.specs.List.{All, range_with_len, enumerate_from, list_any, list_all, zip}
-use Rattle.std.proofs.lemmas.Bool.{lt-ltb, ne_eqb}
+use Rattle.std.proofs.Common.{◌≡◌, ◌⊎◌, ℕ, zero, suc, ◌+◌, ◌-◌, ◌*◌, ◌<◌, ◌≤◌, ◌^◌, Bool, ℤ, List, [], ◌∷◌, ◌++◌, length, map, take, drop, get_or, Some, inl, inr, refl, sym, ap, ◌∙◌, subst, arith, drop-cons, append-nil, Vec, Global}
+use Rattle.std.specs.Prelude.{not, flat_map}
+use Rattle.std.specs.List.{All, range_with_len, enumerate_from}
 use Rattle.std.proofs.lemmas.Grind.{flat_map-append}
 use Rattle.std.proofs.lemmas.List.{length-map, get_or-map, map-append, take_more}
-use Rattle.std.proofs.lemmas.List.Elements.{All-nil, All-cons, All-append, All-get_or, All-from_get_or, All-weaker}
+use Rattle.std.proofs.lemmas.List.Elements.{All-nil, All-cons, All-get_or}
 use Rattle.std.proofs.lemmas.List.FromFn.{length-map-range_with_len, get_or-map-range_with_len, map-range_with_len_more, sum_by-map-range_with_len_more, length-enumerate_from, get_or-enumerate_from}
 use Rattle.std.proofs.lemmas.List.Filters.{length-filter_both}
 use Rattle.std.proofs.lemmas.List.Sums.{get_or-le-sum_by, sum_by-cons}
 use Rattle.std.proofs.Math.Nat.{mul-mod_left, mul-le-mul_left}
-use Rattle.drc_base.specs.declared.limits.TheConstants.{MAX_ATTRIBUTES, MAX_FACES, MAX_VALUES}
+use Rattle.drc_base.specs.declared.limits.TheConstants.{MAX_ATTRIBUTES}
 use Rattle.mesh_model.specs.declared.heads.Head.{Head}
 use Rattle.mesh_model.specs.Head.{width_of}
 use Rattle.mesh_model.specs.Parts.{MeshParts, corner, IsMesh}
@@ -28,17 +27,15 @@ use Rattle.predict.specs.Walked.{Walked}
 use Rattle.attr_section.specs.declared.predictions.Prediction.{Prediction}
 use Rattle.attr_section.specs.declared.predictions.Prediction.TheVariants as prediction
 use Rattle.attr_section.specs.declared.decoder_heads.DecoderHead.{DecoderHead}
-use Rattle.attr_section.specs.declared.links.Link.{Link}
 use Rattle.attr_section.specs.declared.values.Values.{Values}
-use Rattle.attr_section.specs.Heads.{position_id, is_id, is_known_id, is_used_id, attributes_of, link_of, HeadPasses, DecoderPasses, DecodersPass, LinkPasses, LinksPass}
+use Rattle.attr_section.specs.Heads.{attributes_of, HeadPasses, DecoderPasses, DecodersPass}
 use Rattle.attr_section.specs.Values.{no_prediction, code_of, values_in}
 use Rattle.attr_section.specs.Written.{range_of, HasQuant, CanPredict, ValuesPass, DecoderValuesPass, HaveEntries}
 use Rattle.drc_container.specs.declared.codings.Coding.{Coding}
 use Rattle.drc_container.specs.declared.standing.Standing.{Standing}
 use Rattle.drc_container.specs.declared.standings.Standings.{Standings}
-use Rattle.walk_order.specs.OfSurface.{entries_of}
 use Rattle.drc_container.specs.OnSurface.{order_by, walked_by}
-use Rattle.drc_container.specs.WrittenOnSurface.{Glued, bits_of, cut_of, is_cornered, is_by_degree, walk_of, coded_by, coded_values, data_id_of, decoder_for, decoders_for, seam_lists}
+use Rattle.drc_container.specs.WrittenOnSurface.{Glued, bits_of, cut_of, is_by_degree, walk_of, coded_by, coded_values, decoder_for, decoders_for, seam_lists}
 use Rattle.drc_container.specs.Standings.{glued_on, walk_in, walk_at, AreStandings, CanCodeValues}
 use Rattle.drc_container.proofs.Attributed.{head_passes, head_quant}
 use Rattle.drc_container.proofs.SurfacePieces.{width-more, pieces-typed, pieces-long}

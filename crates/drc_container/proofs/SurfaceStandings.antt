@@ -1,15 +1,13 @@
 -- The surfaces that are kept for a mesh's attributes are those on which their values stand.
-use Rattle.std.proofs.Common.{◌≡◌, ℕ, zero, suc, ◌+◌, ◌*◌, ◌<◌, ◌≤◌, ◌^◌, Bool, true, false, ◌&&◌, List, [], ◌∷◌, ◌++◌, length, map, get_or, Option, Some, None, inl, inr, refl, sym, ap, ◌∙◌, subst, arith}
+use Rattle.std.proofs.Common.{◌≡◌, ℕ, ◌<◌, Bool, true, false, ◌&&◌, List, length, get_or, Option, Some, None, refl, sym, ap, ◌∙◌, subst, arith}
 use Rattle.std.specs.Prelude.{option_map, unwrap_or, not, nat_lt, if◌then◌else◌}
 use Rattle.std.specs.Option.{is_some}
-use Rattle.std.specs.List.{All, range_with_len, list_any}
+use Rattle.std.specs.List.{list_any}
 use Rattle.std.proofs.lemmas.Bool.{lt-ltb}
 use Rattle.std.proofs.lemmas.List.{length-map, get_or-map}
 use Rattle.std.proofs.lemmas.List.FromFn.{length-map-range_with_len, get_or-map-range_with_len}
 use Rattle.corner_table.specs.declared.corner_lists.Order.{Order}
-use Rattle.corner_table.specs.Sides.{Side, side_at, Gluing, IsGluing}
-use Rattle.corner_table.specs.Fans.{InFan}
-use Rattle.corner_table.specs.Labels.{label_at}
+use Rattle.corner_table.specs.Sides.{side_at, Gluing, IsGluing}
 use Rattle.corner_table.specs.Table.{Table, gluing_of}
 use Rattle.seams.specs.Seams.{unseamed}
 use Rattle.seams.specs.Values.{is_seam}
@@ -19,7 +17,7 @@ use Rattle.walk_order.specs.Laws.{ListsClasses}
 use Rattle.walk_order.proofs.Covering.{depth_first_lists_classes}
 use Rattle.walk_order.proofs.Rating.{prediction_degree_lists_classes}
 use Rattle.walk_order.proofs.Labels.{surface_is_labelled}
-use Rattle.predict.specs.Walked.{Walked, walked, IsOver, corner_at}
+use Rattle.predict.specs.Walked.{Walked, walked}
 use Rattle.predict.specs.Laws.{AreApart}
 use Rattle.predict.proofs.Rounds.{flags_are_few}
 use Rattle.attr_section.specs.Written.{HasFewFlags}
@@ -28,7 +26,7 @@ use Rattle.drc_container.specs.declared.codings.Coding.{Coding}
 use Rattle.drc_container.specs.declared.standing.Standing.{Standing}
 use Rattle.drc_container.specs.declared.standings.Standings.{Standings}
 use Rattle.drc_container.specs.OnSurface.{order_by, walked_by}
-use Rattle.drc_container.specs.WrittenOnSurface.{Glued, bits_of, is_cornered, cut_of, is_by_degree, walk_of}
+use Rattle.drc_container.specs.WrittenOnSurface.{Glued, bits_of, is_cornered, walk_of}
 use Rattle.drc_container.specs.Standings.{glued_on, seamed, cut_walk, walk_in, walk_at, AreStandings}
 use Rattle.drc_container.proofs.Walks.{over-table}
 use Rattle.drc_container.proofs.SurfaceWalks.{order-on}

@@ -1,5 +1,5 @@
 -- Which geometries and choices are refused, by the first of the tests that fails (this project's choice).
-use Rattle.std.specs.Prelude.{ℕ, ◌==◌, ◌&&◌, ◌||◌, Bool, false, not, ℤ, List, [], ◌∷◌, length, Option, None, Some, position, is_none}
+use Rattle.std.specs.Prelude.{◌==◌, ◌&&◌, ◌||◌, Bool, false, not, ℤ, List, [], ◌∷◌, length, Option, None, Some, position, is_none}
 use Rattle.std.specs.Prelude.{nat_le, nat_lt, if◌then◌else◌}
 use Rattle.std.specs.Ordering.{int_eq}
 use Rattle.drc_base.specs.declared.faults.Fault.{Fault}

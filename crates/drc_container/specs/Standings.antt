@@ -1,6 +1,6 @@
 -- The surfaces that the values of a mesh's attributes stand on, as they are kept: one of the mesh's own, and one for each attribute with
 -- seams, cut at them (Draco Bitstream Specification 2.2, sections "Attributes Decoder" and "Edgebreaker Connectivity").
-use Rattle.std.specs.Prelude.{◌≡◌, ◌⊎◌, ℕ, ◌+◌, ◌*◌, ◌<◌, ◌≤◌, Bool, false, List, ◌++◌, length, map, get_or, Option, None, Some, Ok, All}
+use Rattle.std.specs.Prelude.{◌≡◌, ◌⊎◌, ℕ, ◌+◌, ◌<◌, ◌≤◌, Bool, false, List, ◌++◌, length, map, get_or, Option, None, Some, Ok, All}
 use Rattle.std.specs.Prelude.{option_map, unwrap_or, if◌then◌else◌}
 use Rattle.std.specs.List.{range_with_len, list_any}
 use Rattle.drc_base.specs.declared.limits.TheConstants.{MAX_VALUES}

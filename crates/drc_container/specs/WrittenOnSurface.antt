@@ -1,7 +1,7 @@
 -- What is written of a mesh by Edgebreaker: the trace of its surface, and each attribute in a decoder of its own, its values in the order
 -- of a walk over the surface as it is decoded (Draco Bitstream Specification 2.2, sections "Edgebreaker Connectivity" and "Attributes
 -- Decoder"; the pairs, the order of faces and the seams that are written are this project's choice).
-use Rattle.std.specs.Prelude.{ℕ, ◌-◌, ◌==◌, ◌&&◌, Bool, true, not, nat_lt, ℤ, List, [], ◌∷◌, ◌++◌, length, map, flat_map, reverse, Some}
+use Rattle.std.specs.Prelude.{ℕ, ◌-◌, ◌==◌, ◌&&◌, Bool, true, not, nat_lt, List, [], ◌∷◌, ◌++◌, length, map, flat_map, reverse, Some}
 use Rattle.std.specs.Prelude.{if◌then◌else◌}
 use Rattle.std.specs.List.{range_with_len, enumerate_from, list_any}
 use Rattle.mesh_model.specs.declared.heads.Head.{Head}

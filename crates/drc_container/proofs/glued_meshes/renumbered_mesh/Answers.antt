@@ -1,16 +1,11 @@
 -- A mesh under new numbers of its faces is a mesh, and so it is made of its heads, its cells and its faces.
-use Rattle.std.proofs.Common.{◌≡◌, List, ℕ, ℤ, Ok, refl, sym, ◌∙◌, ap, subst}
-use Rattle.std.specs.Prelude.{Result}
+use Rattle.std.proofs.Common.{◌≡◌, Ok, refl, sym, ◌∙◌, ap, subst}
 use Rattle.std.specs.Result.{IsOk}
-use Rattle.drc_base.specs.declared.faults.Refusal.{Refusal}
-use Rattle.mesh_model.specs.declared.heads.Head.{Head}
 use Rattle.mesh_model.specs.FirstFault.{answer_of}
-use Rattle.mesh_model.specs.Parts.{MeshParts, IsMesh, cells_of, mesh_of}
+use Rattle.mesh_model.specs.Parts.{IsMesh}
 use Rattle.mesh_model.specs.Renumbering.{renumbered}
-use Rattle.mesh_model.specs.Same.{Rows}
 use Rattle.mesh_model.proofs.Made.{AreRows-cells_of, range_fault-cells_of, mesh_of-IsMesh}
 use Rattle.mesh_model.proofs.RenumberedMeshes.{renumbered-mesh}
-use Rattle.corner_table.specs.Carried.{IsRenumbering}
 use Rattle.drc_container.proofs.SurfaceDecoded.{names-apart}
 use Rattle.drc_container.proofs.glued_meshes.renumbered_mesh.Goals.{After-of_typed}
 use Rattle.drc_container.proofs.glued_meshes.renumbered_mesh.Goals as goal

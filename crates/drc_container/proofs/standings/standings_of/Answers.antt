@@ -1,4 +1,4 @@
-use Rattle.std.proofs.Common.{◌≡◌, ℕ, length, ap, sym, ◌∙◌}
+use Rattle.std.proofs.Common.{ℕ, ap, ◌∙◌}
 use Rattle.corner_table.specs.Table.{Table, gluing_of}
 use Rattle.drc_container.specs.OnSurface.{walked_by}
 use Rattle.drc_container.specs.WrittenOnSurface.{Glued}

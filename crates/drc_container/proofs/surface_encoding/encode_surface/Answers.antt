@@ -1,6 +1,4 @@
-use Rattle.std.proofs.Common.{◌≡◌, ap, sym, ◌∙◌, subst, arith}
 use Rattle.std.proofs.lemmas.Result.{err_from_is_err_and}
-use Rattle.corner_table.specs.Table.{gluing_of}
 use Rattle.drc_container.specs.WrittenOnSurface.{traced, edgebreaker_bytes}
 use Rattle.drc_container.specs.Standings.{glued_in, glued_on}
 use Rattle.drc_container.proofs.SurfaceEncoded.{IsTracedTo, traced-to, vertices-few, still-writable, values-refuse, values-can, surface-can, surface-spelled, stream-due}

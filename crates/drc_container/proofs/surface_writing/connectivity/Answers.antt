@@ -1,6 +1,3 @@
-use Rattle.std.proofs.Common.{◌≡◌, ◌<◌, ◌≤◌, length, ap, sym, ◌∙◌, subst, arith}
-use Rattle.mesh_model.proofs.Passing.{heads_say}
-use Rattle.drc_container.specs.Standings.{glued_on}
 use Rattle.drc_container.proofs.SurfaceParts.{lists-few, lists-short}
 use Rattle.drc_container.proofs.surface_writing.connectivity.Goals as goal
 

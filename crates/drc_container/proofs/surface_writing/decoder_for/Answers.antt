@@ -1,4 +1,4 @@
-use Rattle.std.proofs.Common.{◌<◌, length, arith}
+use Rattle.std.proofs.Common.{arith}
 use Rattle.drc_container.proofs.SurfaceStandings.{cut-each}
 use Rattle.drc_container.proofs.surface_writing.decoder_for.Goals as goal
 

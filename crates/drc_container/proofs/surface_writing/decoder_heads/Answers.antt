@@ -1,4 +1,4 @@
-use Rattle.std.proofs.Common.{◌≡◌, ◌-◌, Some, length, refl, sym, subst}
+use Rattle.std.proofs.Common.{◌-◌, Some, length, refl, sym, subst}
 use Rattle.attr_section.specs.Heads.{DecodersPass, AreLinked}
 use Rattle.drc_container.specs.Standings.{glued_on}
 use Rattle.drc_container.proofs.SurfaceParts.{decoders-pass}

@@ -1,4 +1,4 @@
-use Rattle.std.proofs.Common.{◌≡◌, ◌+◌, ◌-◌, ◌<◌, ◌≤◌, length, take, drop, ap, arith}
+use Rattle.std.proofs.Common.{◌+◌, ◌-◌, length, take, drop, ap, arith}
 use Rattle.drc_container.specs.Standings.{glued_on}
 use Rattle.drc_container.proofs.SurfaceParts.{values-each, decoders-each, whole-gluing}
 use Rattle.drc_container.proofs.SurfacePut.{IsAt, is-at, put-pass, put-entries, put-again, put-more, again-more, bytes-end, again-end}

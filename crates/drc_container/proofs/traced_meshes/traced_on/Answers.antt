@@ -1,5 +1,4 @@
 use Rattle.std.proofs.Common.{◌≡◌, ap}
-use Rattle.mesh_model.specs.FirstFault.{value_unless}
 use Rattle.corner_table.specs.Table.{gluing_of}
 use Rattle.drc_container.specs.WrittenOnSurface.{traced, decoded}
 use Rattle.drc_container.specs.Refused.{vertices_fault}
