@@ -74,3 +74,12 @@ distinct-push (x ∷ rows) row =
           ]
           ∙ sym (ap (λ b. cond (b || list_any (same_row row) kept) (x ∷ kept) ((x ∷ kept) ++ row ∷ [])) other)
     ]
+
+-- a row is among the distinct ones exactly where it is among all
+pub any-distinct : (row : List ℤ) (rows : List (List ℤ)) → list_any (same_row row) (distinct rows) ≡ list_any (same_row row) rows
+any-distinct row [] = refl
+any-distinct row (x ∷ rows) = elim (cases_Bool (same_row row x)) [
+  | inl same ↦ ap (λ b. b || list_any (same_row row) (filter (other_than x) (distinct rows))) same ∙ sym (ap (λ b. b || list_any (same_row row) rows) same)
+  | inr other ↦
+      ap (λ b. same_row row x || b) (any-filter x row (distinct rows) (λ e. false≢true (sym other ∙ same_row-refl row x e)) ∙ any-distinct row rows)
+]
