@@ -62,7 +62,7 @@ loop-f-preserved c =
       faces = (
         ((items ++ c.in_ok-first.first ∷ []) ++ c.in_ok-second.second ∷ []) ++ c.in_ok-third.third ∷ [],
         HaveItems-face columns f c.in_ok-first.first c.in_ok-second.second c.in_ok-third.third items (rows_of w c.loop-f.items.cells.items) (rows_of w c.item_of.new.items.cells.items) (rows_of w c.item_of-in-loop-f.new.items.cells.items) (rows_of w last.cells.items)
-          have one.keeps one.item two.keeps two.item three.keeps three.item,
+            have one.keeps one.item two.keeps two.item three.keeps three.item,
         c.push_reserved.ensures.items ∙ faces-more items c.in_ok-first.first c.in_ok-second.second c.in_ok-third.third f c.loop-f.made.items have.each so_far.faces.2,
       );
       many = ap length c.push_reserved.ensures.items ∙ length_push c.loop-f.made.items _ ∙ ap (λ n. n + 1) so_far.many;
