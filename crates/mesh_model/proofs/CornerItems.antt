@@ -10,9 +10,9 @@ use Rattle.std.proofs.lemmas.Nat.{le-div}
 use Rattle.mesh_model.specs.declared.heads.Head.{Head}
 use Rattle.mesh_model.specs.declared.tables.AttrTable.{AttrTable}
 use Rattle.mesh_model.specs.Assembled.{Columns, corner_row, corner_rows, distinct, entry, entry_at, same_row, triple, IsColumn, AreColumns}
-use Rattle.mesh_model.specs.Items.{HaveSameEntries, first_entry, AreFirstEntries, HoldsItems, Keeps, HaveItems}
-use Rattle.mesh_model.specs.RowIndex.{IsPointOf, with_row}
-use Rattle.mesh_model.proofs.DistinctRows.{any-distinct, distinct-push, same_row-refl}
+use Rattle.mesh_model.specs.Items.{HaveSameEntries, first_entry, HoldsItems, Keeps, HaveItems}
+use Rattle.mesh_model.specs.RowIndex.{IsPointOf}
+use Rattle.mesh_model.proofs.DistinctRows.{any-distinct, distinct-push, same_row-refl, with_row}
 
 -- ---- entries
 

@@ -2,13 +2,21 @@
 use Rattle.std.proofs.Common.{◌≡◌, ◌≢◌, ℕ, zero, suc, ◌+◌, ◌-◌, ◌<◌, ◌≤◌, true, false, cond, List, [], ◌∷◌, ◌++◌, length, get_or, set, take, ℤ, refl, sym, ap, ◌∙◌, subst, inl, inr, add-one, arith}
 use Rattle.std.specs.List.{list_any}
 use Rattle.std.proofs.lemmas.Bool.{cases_lt}
-use Rattle.std.proofs.lemmas.List.{length_push, length-take, get_or_push, get_or_append_left, get_or-set_same, get_or-set_other, get_or-take, take_more}
+use Rattle.std.proofs.lemmas.List.{length_push, length-take, get_or-set_same, get_or-set_other, get_or-take, take_more}
 use Rattle.std.proofs.lemmas.List.Elements.{All-from_get_or}
 use Rattle.std.proofs.lemmas.List.Folds.{list_any_at, list_any_none}
 use Rattle.mesh_model.specs.Assembled.{same_row, distinct}
-use Rattle.mesh_model.specs.RowIndex.{with_row, Grows, IsPointOf, IsTwin, AreUnlike, AreNumbered}
+use Rattle.mesh_model.specs.Items.{Keeps}
+use Rattle.mesh_model.specs.RowIndex.{IsPointOf, IsTwin, AreUnlike, AreNumbered}
 use Rattle.mesh_model.proofs.AssembledParts.{All-distinct}
-use Rattle.mesh_model.proofs.DistinctRows.{same_row-refl, same_row-apart, distinct-push}
+use Rattle.mesh_model.proofs.CornerItems.{Keeps-same, Keeps-push, IsPointOf-keeps}
+use Rattle.mesh_model.proofs.DistinctRows.{same_row-refl, same_row-apart, distinct-push, with_row}
+
+-- points with one more, where its row is new
+pub record Grows (before after : List (List ℤ)) (row : List ℤ) : Type 0 where
+  pub points : after ≡ with_row before row
+  pub one_more : length after ≤ length before + 1
+  pub keeps : Keeps before after
 
 -- a row that a point has brings no point
 pub Grows-found : (points : List (List ℤ)) (row : List ℤ) (p : ℕ) → IsPointOf points row p → Grows points points row
@@ -17,8 +25,7 @@ Grows-found points row p at =
     record {
       points = sym (ap (λ b. cond b points (points ++ row ∷ [])) found);
       one_more = omega arith;
-      no_fewer = omega arith;
-      kept = λ q below. refl;
+      keeps = Keeps-same points;
     }
 
 -- a row that no point has brings one
@@ -30,13 +37,8 @@ Grows-new points row apart =
     record {
       points = sym (ap (λ b. cond b points (points ++ row ∷ [])) missing);
       one_more = omega (arith, length_push points row);
-      no_fewer = omega (arith, length_push points row);
-      kept = λ q below. get_or_append_left points (row ∷ []) [] q below;
+      keeps = Keeps-push points row;
     }
-
--- a point that was there still has its row
-pub IsPointOf-kept : (before after : List (List ℤ)) (more row : List ℤ) (p : ℕ) → Grows before after more → IsPointOf before row p → IsPointOf after row p
-IsPointOf-kept before after more row p grows at = (omega (arith, at.0, grows.no_fewer), grows.kept p at.0 ∙ at.1)
 
 -- rows of which no two are equal are distinct
 pub distinct-unlike : (rows : List (List ℤ)) (n : ℕ) → n ≤ length rows → AreUnlike rows n → distinct (take n rows) ≡ take n rows
@@ -71,7 +73,7 @@ AreNumbered-more rows i p numbers before after are inside within grows at = reco
     | inl early ↦
         let other : q ≢ i = omega arith in
         subst (IsPointOf after (get_or rows q [])) (sym (get_or-set_other numbers i q p 0 other))
-        (IsPointOf-kept before after (get_or rows i []) (get_or rows q []) _ grows (are.numbered q early))
+        (IsPointOf-keeps before after (get_or rows q []) _ grows.keeps (are.numbered q early))
     | inr past ↦
         let same : i ≡ q = omega arith in
         subst (λ k. IsPointOf after (get_or rows k []) (get_or (set numbers i p) k 0)) same

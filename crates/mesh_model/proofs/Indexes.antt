@@ -4,7 +4,15 @@ use Rattle.std.specs.List.{All}
 use Rattle.std.proofs.lemmas.Bool.{cases_eq, cases_lt}
 use Rattle.std.proofs.lemmas.List.{length_push, get_or_push, get_or_append_left, get_or-set_same, get_or-set_other}
 use Rattle.mesh_model.specs.Hash.{bucket_of}
-use Rattle.mesh_model.specs.RowIndex.{key_of, AreLinked, AreChains, IsIndex, IsTwin}
+use Rattle.mesh_model.specs.RowIndex.{key_of, AreLinked, AreChains, IsTwin}
+
+-- the first `count` rows are linked, and of each bucket the latest of them is known
+pub record IsIndex (rows : List (List ℤ)) (mask count : ℕ) (tops links : List ℕ) : Type 0 where
+  pub linked : AreLinked rows mask count links
+  pub long : length links ≡ count
+  pub top_in : (b : ℕ) → b ≤ mask → get_or tops b 0 ≤ count
+  pub top_same : (b : ℕ) → b ≤ mask → 0 < get_or tops b 0 → key_of rows mask (get_or tops b 0 - 1) ≡ b
+  pub top_all : (q : ℕ) → q < count → q < get_or tops (key_of rows mask q) 0
 
 -- an index of no rows
 pub IsIndex-none : (rows : List (List ℤ)) (mask : ℕ) (tops : List ℕ) → length tops ≡ mask + 1 → All (λ top. top ≡ 0) tops → IsIndex rows mask 0 tops []

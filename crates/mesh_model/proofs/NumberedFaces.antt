@@ -1,12 +1,12 @@
 -- The points of items are those of their corners.
-use Rattle.std.proofs.Common.{◌≡◌, ℕ, ◌+◌, ◌*◌, ◌<◌, ◌≤◌, List, [], ◌∷◌, length, get_or, map, take, ℤ, refl, sym, ap, ◌∙◌, subst, arith}
+use Rattle.std.proofs.Common.{◌≡◌, ℕ, ◌+◌, ◌*◌, ◌<◌, List, [], ◌∷◌, length, get_or, map, take, ℤ, sym, ap, ◌∙◌, subst, arith}
 use Rattle.std.specs.List.{All, range_with_len}
 use Rattle.std.proofs.lemmas.List.{length-map, get_or-map, get_or_default, same_lists, take_all}
 use Rattle.std.proofs.lemmas.List.Elements.{All-from_get_or, All-nil, All-cons}
 use Rattle.std.proofs.lemmas.List.FromFn.{length-map-range_with_len, get_or-map-range_with_len}
-use Rattle.mesh_model.specs.Assembled.{Columns, corner_row, corner_rows, distinct, triple}
-use Rattle.mesh_model.specs.Items.{HaveItems, AreItemFaces}
-use Rattle.mesh_model.specs.RowIndex.{IsPointOf, AreUnlike, AreNumbered, AreNumberedFaces, IsNumbering}
+use Rattle.mesh_model.specs.Assembled.{Columns, corner_row, distinct, triple}
+use Rattle.mesh_model.specs.Items.{AreItemFaces}
+use Rattle.mesh_model.specs.RowIndex.{IsPointOf, AreUnlike, AreNumbered, AreNumberedFaces}
 use Rattle.mesh_model.proofs.Growing.{distinct-unlike}
 
 -- each face has three items

@@ -20,9 +20,10 @@ first_entry (t ∷ tables) c = slice_index t.of_corner c
 abbrev pub AreFirstEntries : List AttrTable → ℕ → ℕ → Type 0
 AreFirstEntries tables corners entries = (c : ℕ) → c < corners → first_entry tables c < entries
 
--- the rows are those of the items of `count` corners, of each of which the first corner is known; and of each
--- entry of the first table an item that has it is known, plus one, or 0
-pub record HoldsItems (heads : List Head) (tables : List AttrTable) (count : ℕ) (latest firsts : List ℕ) (rows : List (List ℤ)) : Type 0 where
+-- the rows are those of the items of the first `count` corners, and have each row of these; of each item its first
+-- corner is known, and of each entry of the first table an item that has it, plus one, or 0
+pub record HoldsItems (heads : List Head) (tables : List AttrTable) (count : ℕ) (latest firsts : List ℕ)
+    (rows : List (List ℤ)) : Type 0 where
   pub rows_are : rows ≡ map (corner_row (zip heads tables)) firsts
   pub distinct_rows : distinct rows ≡ distinct (corner_rows (zip heads tables) count)
   pub few : length firsts ≤ count
@@ -30,7 +31,7 @@ pub record HoldsItems (heads : List Head) (tables : List AttrTable) (count : ℕ
   pub latest_in : (e : ℕ) → slice_index latest e ≤ length firsts
   pub latest_has : (e : ℕ) → 0 < slice_index latest e → first_entry tables (slice_index firsts (slice_index latest e - 1)) ≡ e
 
--- the rows before are those after, and some may have come behind
+-- the rows before stay in their places, and others may have come behind them
 pub record Keeps (before after : List (List ℤ)) : Type 0 where
   pub no_fewer : length before ≤ length after
   pub kept : (q : ℕ) → q < length before → slice_index_or after q [] ≡ slice_index_or before q []

@@ -1,9 +1,9 @@
 -- Which rows are equal to earlier ones, how they are found, and the points that they are. Rows of one bucket
 -- are linked, each to the latest before it, and 0 ends a chain, so that a link to row p is p + 1 (this
 -- project's choice).
-use Rattle.std.specs.Prelude.{ℕ, ◌≡◌, ◌≢◌, ◌<◌, ◌≤◌, ◌+◌, ◌-◌, ◌*◌, ◌++◌, [], ◌∷◌, ℤ, List, length, map, take, slice_index, slice_index_or, if◌then◌else◌}
-use Rattle.std.specs.List.{list_any, range_with_len}
-use Rattle.mesh_model.specs.Assembled.{Columns, corner_row, corner_rows, same_row, distinct, triple}
+use Rattle.std.specs.Prelude.{ℕ, ◌≡◌, ◌≢◌, ◌<◌, ◌≤◌, ◌+◌, ◌-◌, ◌*◌, [], ℤ, List, length, map, take, slice_index, slice_index_or}
+use Rattle.std.specs.List.{range_with_len}
+use Rattle.mesh_model.specs.Assembled.{Columns, corner_row, corner_rows, distinct, triple}
 use Rattle.mesh_model.specs.Hash.{bucket_of}
 
 -- the bucket of row p
@@ -21,14 +21,6 @@ pub record AreChains (rows : List (List ℤ)) (count : ℕ) (links : List ℕ) :
   pub mask : ℕ
   pub linked : AreLinked rows mask count links
 
--- and of each bucket the latest of these rows is known
-pub record IsIndex (rows : List (List ℤ)) (mask count : ℕ) (tops links : List ℕ) : Type 0 where
-  pub linked : AreLinked rows mask count links
-  pub long : length links ≡ count
-  pub top_in : (b : ℕ) → b ≤ mask → slice_index tops b ≤ count
-  pub top_same : (b : ℕ) → b ≤ mask → 0 < slice_index tops b → key_of rows mask (slice_index tops b - 1) ≡ b
-  pub top_all : (q : ℕ) → q < count → q < slice_index tops (key_of rows mask q)
-
 -- a link from row p to an earlier row that is equal; 0 where there is none
 pub record IsTwin (rows : List (List ℤ)) (p link : ℕ) : Type 0 where
   pub back : link ≤ p
@@ -42,17 +34,6 @@ AreTwins rows count links = (p : ℕ) → p < count → IsTwin rows p (slice_ind
 -- no two of the first `count` rows are equal
 abbrev pub AreUnlike : List (List ℤ) → ℕ → Type 0
 AreUnlike rows count = (p q : ℕ) → p < count → q < p → slice_index_or rows q [] ≢ slice_index_or rows p []
-
--- rows with one more, where it is new
-abbrev pub with_row : List (List ℤ) → List ℤ → List (List ℤ)
-with_row rows row = if list_any (same_row row) rows then rows else rows ++ row ∷ []
-
--- points with one more, where its row is new
-pub record Grows (before after : List (List ℤ)) (row : List ℤ) : Type 0 where
-  pub points : after ≡ with_row before row
-  pub one_more : length after ≤ length before + 1
-  pub no_fewer : length before ≤ length after
-  pub kept : (q : ℕ) → q < length before → slice_index_or after q [] ≡ slice_index_or before q []
 
 -- point p has a row
 abbrev pub IsPointOf : List (List ℤ) → List ℤ → ℕ → Type 0

@@ -8,7 +8,7 @@
 ghost use Rattle.std.specs.Prelude.{◌≡◌, ◌+◌, ◌-◌, ◌*◌, ◌/◌, ◌<◌, ◌≤◌, ◌^◌, ◌↔◌, ◌++◌, ◌∷◌, [], ℕ, All, IfOk, OnOk, IsTrue, None, length, slice_index, slice_set, zip};
 ghost use Rattle.mesh_model.specs.Assembled.{AreColumns, corner_row};
 ghost use Rattle.mesh_model.specs.Head.{heads_fault, width_of};
-ghost use Rattle.mesh_model.specs.Items.{AreFirstEntries, AreItemFaces, HaveSameEntries, HoldsItems, Keeps, first_entry};
+ghost use Rattle.mesh_model.specs.Items.{AreFirstEntries, AreItemFaces, HaveSameEntries, HoldsItems, Keeps};
 ghost use Rattle.mesh_model.specs.Parts.{rows_of};
 ghost use Rattle.mesh_model.specs.RowIndex.{IsPointOf};
 

@@ -1,7 +1,7 @@
 //! The points of a mesh that is given by the rows of its corners: equal rows are one point, and the
 //! points are numbered in the order in which their rows come first.
 
-ghost use Rattle.std.specs.Prelude.{◌≡◌, ◌*◌, ◌<◌, ◌≤◌, ◌^◌, ℕ, [], All, None, length, map, slice_index, slice_index_or, zip, IfOk};
+ghost use Rattle.std.specs.Prelude.{◌≡◌, ◌*◌, ◌<◌, ◌≤◌, ℕ, [], All, None, length, map, slice_index, slice_index_or, zip, IfOk};
 ghost use Rattle.mesh_model.specs.Assembled.{AreColumns, Columns};
 ghost use Rattle.mesh_model.specs.Head.{heads_fault, width_of};
 ghost use Rattle.mesh_model.specs.Items.{AreItemFaces};

@@ -1,9 +1,9 @@
-use Rattle.std.proofs.Common.{◌≡◌, ◌+◌, ◌-◌, ◌*◌, ◌<◌, ◌≤◌, ◌++◌, [], ◌∷◌, ℕ, List, ℤ, length, get_or, set, take, drop, sym, ap, ◌∙◌, subst, arith, rules}
+use Rattle.std.proofs.Common.{◌≡◌, ◌+◌, ◌-◌, ◌*◌, ◌<◌, ◌++◌, [], ◌∷◌, ℕ, List, ℤ, length, get_or, take, drop, sym, ap, ◌∙◌, subst, arith}
 use Rattle.std.specs.List.{zip}
 use Rattle.std.proofs.lemmas.List.{get_or_default, get_or_push, length-append, length_push}
 use Rattle.mesh_model.specs.Assembled.{corner_row}
 use Rattle.mesh_model.specs.Head.{width_of}
-use Rattle.mesh_model.specs.Items.{first_entry, HaveSameEntries, HoldsItems, Keeps}
+use Rattle.mesh_model.specs.Items.{first_entry, HaveSameEntries, Keeps}
 use Rattle.mesh_model.specs.Parts.{rows_of}
 use Rattle.mesh_model.specs.RowIndex.{IsPointOf}
 use Rattle.mesh_model.proofs.Columns.{heads_some, width_of-bounds}

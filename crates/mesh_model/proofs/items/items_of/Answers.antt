@@ -1,12 +1,12 @@
-use Rattle.std.proofs.Common.{◌≡◌, ◌+◌, ◌-◌, ◌*◌, ◌<◌, ◌≤◌, ◌++◌, [], ◌∷◌, ℕ, List, ℤ, length, get_or, map, sym, ap, ◌∙◌, subst, arith, rules}
-use Rattle.std.specs.List.{range_with_len, zip}
+use Rattle.std.proofs.Common.{◌≡◌, ◌+◌, ◌-◌, ◌*◌, ◌<◌, ◌++◌, [], ◌∷◌, ℕ, List, length, sym, ap, ◌∙◌, subst, arith, rules}
+use Rattle.std.specs.List.{zip}
 use Rattle.std.proofs.lemmas.List.{length-map, length_push}
-use Rattle.mesh_model.specs.Assembled.{corner_row, triple}
+use Rattle.mesh_model.specs.Assembled.{corner_row}
 use Rattle.mesh_model.specs.Head.{width_of}
-use Rattle.mesh_model.specs.Items.{first_entry, AreItemFaces, HoldsItems}
+use Rattle.mesh_model.specs.Items.{AreItemFaces, HoldsItems}
 use Rattle.mesh_model.specs.Parts.{rows_of}
 use Rattle.mesh_model.proofs.Columns.{first_comps, heads_some, width_of-bounds}
-use Rattle.mesh_model.proofs.CornerItems.{entries_below, first_entry-at, first_whole, faces-more, HaveItems-face, HaveItems-none, HoldsItems-none}
+use Rattle.mesh_model.proofs.CornerItems.{entries_below, first_entry-at, faces-more, HaveItems-face, HaveItems-none, HoldsItems-none}
 use Rattle.mesh_model.proofs.Pairs.{column_at}
 use Rattle.mesh_model.proofs.Rows.{length-rows}
 use Rattle.mesh_model.proofs.items.items_of.Goals as goal

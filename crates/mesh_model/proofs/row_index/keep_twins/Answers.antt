@@ -1,4 +1,4 @@
-use Rattle.std.proofs.Common.{◌≡◌, ◌≢◌, ◌-◌, ◌<◌, [], get_or, length, sym, subst, inl, inr, arith}
+use Rattle.std.proofs.Common.{◌≢◌, ◌-◌, ◌<◌, [], get_or, length, sym, subst, inl, inr, arith}
 use Rattle.std.proofs.lemmas.Bool.{cases_eq, false≢true}
 use Rattle.mesh_model.specs.Parts.{rows_of}
 use Rattle.mesh_model.proofs.Indexes.{AreChains-before, twins-more}

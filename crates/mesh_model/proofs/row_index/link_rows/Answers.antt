@@ -1,8 +1,8 @@
-use Rattle.std.proofs.Common.{◌≡◌, ◌+◌, ◌≤◌, ◌++◌, [], ◌∷◌, get_or, set, sym, ◌∙◌, ap, subst, arith, rules}
+use Rattle.std.proofs.Common.{◌≡◌, ◌+◌, ◌++◌, [], ◌∷◌, get_or, set, sym, ◌∙◌, ap, subst, arith, rules}
 use Rattle.mesh_model.specs.Hash.{bucket_of}
 use Rattle.mesh_model.specs.Parts.{rows_of}
-use Rattle.mesh_model.specs.RowIndex.{key_of, AreLinked, IsIndex}
-use Rattle.mesh_model.proofs.Indexes.{IsIndex-more}
+use Rattle.mesh_model.specs.RowIndex.{key_of, AreLinked}
+use Rattle.mesh_model.proofs.Indexes.{IsIndex, IsIndex-more}
 use Rattle.mesh_model.proofs.row_index.link_rows.Goals as goal
 
 pub loop-i-preserved : goal.loop-i-preserved

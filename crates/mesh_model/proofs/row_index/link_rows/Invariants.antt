@@ -1,6 +1,6 @@
 use Rattle.std.proofs.Common.{◌≡◌, vec_capacity}
 use Rattle.mesh_model.specs.Parts.{rows_of}
-use Rattle.mesh_model.specs.RowIndex.{IsIndex}
+use Rattle.mesh_model.proofs.Indexes.{IsIndex}
 use Rattle.mesh_model.proofs.row_index.link_rows.Given as goal
 
 -- the rows so far are linked
