@@ -2,8 +2,8 @@ use Rattle.std.proofs.Common.{◌≡◌, get_or, refl, subst}
 use Rattle.std.proofs.lemmas.List.{take_all}
 use Rattle.std.proofs.lemmas.List.Elements.{All-more}
 use Rattle.mesh_model.specs.declared.tables.AttrTable.{AttrTable}
-use Rattle.mesh_model.specs.Links.{HaveSameEntries}
-use Rattle.mesh_model.proofs.links.have_same_entries.Goals as goal
+use Rattle.mesh_model.specs.Items.{HaveSameEntries}
+use Rattle.mesh_model.proofs.items.have_same_entries.Goals as goal
 
 pub loop-table-preserved : goal.loop-table-preserved
 loop-table-preserved c =
