@@ -2,7 +2,7 @@ use Rattle.std.proofs.Common.{◌∷◌, [], ◌∙◌}
 use Rattle.std.specs.Fmt.{decimal}
 use Rattle.ply_mesh.proofs.LineTexts.{onto}
 use Rattle.ply_mesh.proofs.RowTexts.{element_text}
-use Rattle.ply_mesh.proofs.writing.put_element.Goals as goal
+use Rattle.ply_mesh.proofs.header_writer.put_element.Goals as goal
 
 pub returns : goal.returns
 returns c =
