@@ -32,7 +32,7 @@ pub use geometries::Geometry;
 pub use heads::{Head, Quant};
 pub use laws::{distinct_rows_are_few, renumbered_is_a_mesh, same_is_an_equivalence};
 pub use mapping::map_text;
-pub use matching::matches;
+pub use matching::{matches, same_row};
 pub use meshes::CornerMesh;
 pub use renumberings::Renumber;
 pub use tables::AttrTable;
