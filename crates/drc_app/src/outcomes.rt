@@ -14,7 +14,7 @@ ghost use Rattle.drc_app.specs.Outcome.{IsOutcome, IsOutcomeAt};
 
 use crate::commands::{Command, GenMesh, command_of, reads};
 use crate::summaries::summary_due;
-use drc_base::{Fault, Kind, MAX_INPUT_BYTES, ReadEnd, Refusal, Source, read_all};
+use drc_base::{Fault, Kind, MAX_INPUT_BYTES, Memory, ReadEnd, Refusal, Source, read_all};
 use drc_container::{Choice, decode, encode};
 use drc_info::report;
 use mesh_model::{Geometry, map_text};
@@ -98,7 +98,7 @@ fn work(alloc: Global, command: Command, bytes: Vec<u8>) -> Result<Due, Refusal>
         Command::Enc(choice) => stream_due(alloc, &choice, bytes),
         Command::Dec => text_due(alloc, bytes),
         Command::Info => report_due(alloc, &bytes),
-        Command::Gen(asked) => gen_due(alloc, asked),
+        Command::Gen(asked) => Ok(gen_due(alloc, asked)?),
     }
 }
 
@@ -154,9 +154,9 @@ fn report_due(alloc: Global, stream: &[u8]) -> Result<Due, Refusal>
 }
 
 /// The summary of a generated mesh, and no note.
-fn gen_due(alloc: Global, asked: GenMesh) -> Result<Due, Refusal>
+fn gen_due(alloc: Global, asked: GenMesh) -> Result<Due, Memory>
     requires { IsSize asked.size }
-    ensures { Answers (λ d. (d.output.items, d.note.items)) (summary_due asked.kind asked.size asked.seed) result }
+    ensures { IfOk result (λ d. (d.output.items, d.note.items) ≡ summary_due asked.kind asked.size asked.seed) }
 {
     let output = summary_due(alloc, asked)?;
     Ok(Due {
