@@ -1,16 +1,15 @@
 -- Meshes in which nothing is at fault and that are too small to meet a limit are refused by no choice that fits.
-use Rattle.std.proofs.Common.{◌≡◌, ◌≢◌, ℕ, ◌*◌, ◌%◌, ◌<◌, ◌≤◌, Bool, true, false, ltb, leb, ℤ, List, [], ◌∷◌, length, map, take, drop, get_or, Option, Some, None, inl, inr, refl, sym, ap, ◌∙◌, subst, arith}
+use Rattle.std.proofs.Common.{◌≡◌, ℕ, ◌*◌, ◌%◌, ◌<◌, ◌≤◌, Bool, true, false, ltb, leb, ℤ, List, [], ◌∷◌, length, take, drop, get_or, Option, None, inl, inr, refl, sym, ap, ◌∙◌, subst, arith}
 use Rattle.std.specs.Prelude.{◌||◌, not, position, if◌then◌else◌}
 use Rattle.std.specs.List.{All, range_with_len}
 use Rattle.std.specs.Ordering.{int_eq}
-use Rattle.std.proofs.lemmas.Bool.{cases_Bool, le-leb, lt-ltb, or_from, or_right, not_from_true, false≢true}
+use Rattle.std.proofs.lemmas.Bool.{cases_Bool, le-leb, lt-ltb, or_from, or_right, not_from_true}
 use Rattle.std.proofs.lemmas.List.Elements.{All-map, All-weaker, All-get_or, All-take, All-drop}
 use Rattle.drc_base.specs.declared.faults.Fault.{Fault}
 use Rattle.drc_base.specs.declared.kinds.Kind.TheVariants.{Degenerate, Empty, NoPosition, PointLimit, ValueLimit, Range as RangeKind}
 use Rattle.drc_base.specs.declared.limits.TheConstants.{MAX_POINTS, MAX_VALUES}
-use Rattle.mesh_model.specs.declared.heads.Head.{Head}
 use Rattle.mesh_model.specs.declared.geometries.Geometry.TheVariants.{Mesh}
-use Rattle.mesh_model.specs.FirstFault.{unless, first_fault, at_place}
+use Rattle.mesh_model.specs.FirstFault.{at_place}
 use Rattle.mesh_model.specs.Assembled.{same_row}
 use Rattle.mesh_model.specs.Head.{width_of}
 use Rattle.mesh_model.specs.Parts.{MeshParts, IsMesh, corner}
@@ -23,7 +22,6 @@ use Rattle.pairing.specs.Degenerate.{is_degenerate, degenerate_fault}
 use Rattle.pairing.proofs.Least.{least_is_none}
 use Rattle.eb_trace.specs.Trace.{fan_count}
 use Rattle.seams.specs.Values.{piece}
-use Rattle.predict.specs.Wrap.{CanWrap}
 use Rattle.attr_section.specs.declared.values.Values.{Values}
 use Rattle.attr_section.specs.Values.{no_prediction, can_wrap, values_in}
 use Rattle.attr_section.specs.Written.{range_of}

@@ -1,5 +1,5 @@
 -- Values that lie in a range in which corrections wrap, however they are picked from the points.
-use Rattle.std.proofs.Common.{◌≡◌, ℕ, zero, suc, ◌-◌, ◌^◌, Bool, true, ℤ, pos, List, [], ◌∷◌, map, take, drop, get_or, refl, arith}
+use Rattle.std.proofs.Common.{◌≡◌, ℕ, zero, suc, ◌-◌, ◌^◌, true, ℤ, pos, List, [], ◌∷◌, map, take, drop, get_or, refl, arith}
 use Rattle.std.specs.Prelude.{◌-ℤ◌, ◌≤ℤ◌, ◌<ℤ◌, fold, int_le, int_lt}
 use Rattle.std.specs.Int.{int_min, int_max}
 use Rattle.std.specs.List.{All, flat_map}
