@@ -32,7 +32,7 @@ use Rattle.drc_container.specs.Chosen.{coding_of}
 use Rattle.drc_container.specs.Columns.{columns_of}
 use Rattle.drc_container.specs.Written.{values_of}
 use Rattle.drc_container.specs.WrittenOnSurface.{decoded, walk_of, coded_by, coded_values}
-use Rattle.drc_container.specs.Refused.{begins_with_position, choice_fault, empty_fault, position_fault, early_fault, vertices_fault, limit_fault, range_fault, refused, coding_fault}
+use Rattle.drc_container.specs.Refused.{begins_with_position, choice_fault, empty_fault, position_fault, early_fault, vertices_fault, limit_fault, range_fault, coding_fault}
 use Rattle.drc_container.specs.Encodable.{IsProperFace, IsIn, IsEncodable, EncodableIsEncoded}
 use Rattle.drc_container.proofs.FirstRefusals.{refused-later}
 use Rattle.drc_container.proofs.SurfaceDecoded.{decoded-keeps}

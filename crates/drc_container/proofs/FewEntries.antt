@@ -1,5 +1,5 @@
 -- There are no more vertices, and no more entries of an attribute, than corners of faces.
-use Rattle.std.proofs.Common.{◌≡◌, ℕ, zero, suc, ◌+◌, ◌*◌, ◌<◌, ◌≤◌, Bool, true, false, eqb, List, length, map, take, get_or, inl, inr, sym, ap, ◌∙◌, subst, arith, add-one}
+use Rattle.std.proofs.Common.{◌≡◌, ℕ, zero, suc, ◌+◌, ◌*◌, ◌<◌, ◌≤◌, Bool, false, eqb, List, length, map, take, get_or, inl, inr, sym, ap, ◌∙◌, subst, arith, add-one}
 use Rattle.std.specs.Prelude.{not, ◌&&◌, nat_lt}
 use Rattle.std.specs.List.{All, range_with_len, list_any}
 use Rattle.std.proofs.lemmas.Bool.{cases_lt, ne_eqb, false≢true}
