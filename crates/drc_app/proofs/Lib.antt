@@ -1,3 +1,4 @@
 pub mod Choices
 pub mod Numbers
 pub mod Lines
+pub mod Generated

@@ -16,6 +16,7 @@ use Rattle.drc_container.specs.declared.methods.Method.{Method}
 use Rattle.drc_container.specs.declared.methods.Method.TheVariants as method
 use Rattle.drc_container.specs.declared.choices.Choice.{Choice}
 use Rattle.drc_container.specs.Encoded.{due as encoded}
+use Rattle.drc_container.specs.Chosen.{written}
 use Rattle.drc_container.specs.Stream.{meaning_of}
 use Rattle.drc_info.specs.InfoText.{report_of}
 use Rattle.drc_app.specs.Line.{no_choice}
@@ -44,25 +45,29 @@ report_due stream = do
   text ← report_of stream
   Ok (text, [])
 
--- how many bytes a geometry is encoded as by this method, with no other option
-unfoldable pub length_due : Geometry → Method → Result ℕ Fault
-length_due g by = do
-  stream ← encoded g (record no_choice { method = Some by })
-  Ok (length stream.0)
+-- no option but a method
+abbrev pub by_method : Method → Choice
+by_method by = record no_choice { method = Some by }
+
+-- how many bytes are written of a geometry by this method, with no other option
+unfoldable pub length_due : Geometry → Method → ℕ
+length_due g by = length (written g (by_method by)).0
 
 -- what a summary tells of a mesh that was asked for so
-unfoldable pub summary_of : GenMesh → MeshParts → Result Summary Fault
-summary_of asked m = do
-  seq ← length_due (Mesh m) method.Seq
-  eb ← length_due (Mesh m) method.Eb
-  valence ← length_due (Mesh m) method.Valence
-  Ok (record { asked = asked; faces = length m.faces; points = length m.points; seq = seq; eb = eb; valence = valence })
+unfoldable pub summary_of : GenMesh → MeshParts → Summary
+summary_of asked m = record {
+  asked = asked;
+  faces = length m.faces;
+  points = length m.points;
+  seq = length_due (Mesh m) method.Seq;
+  eb = length_due (Mesh m) method.Eb;
+  valence = length_due (Mesh m) method.Valence;
+}
 
--- the summary of the generated mesh of this kind, size and seed; no note
-unfoldable pub summary_due : GenKind → ℕ → ℕ → Result (List ℕ × List ℕ) Fault
-summary_due kind size seed = do
-  summary ← summary_of (record { kind = kind; size = size; seed = seed }) (generated kind size seed)
-  Ok (summary_text summary, [])
+-- the summary of the generated mesh of this kind, size and seed; no note. There is always one, since no such mesh is refused
+unfoldable pub summary_due : GenKind → ℕ → ℕ → List ℕ × List ℕ
+summary_due kind size seed =
+    (summary_text (summary_of (record { kind = kind; size = size; seed = seed }) (generated kind size seed)), [])
 
 -- whether a command reads its input
 abbrev pub reads : Command → Bool
@@ -76,7 +81,7 @@ abbrev pub worked : Command → List ℕ → Result (List ℕ × List ℕ) Fault
 worked (command.Enc choice) bytes = stream_due choice bytes
 worked command.Dec bytes = text_due bytes
 worked command.Info bytes = report_due bytes
-worked (command.Gen mesh) bytes = summary_due mesh.kind mesh.size mesh.seed
+worked (command.Gen mesh) bytes = Ok (summary_due mesh.kind mesh.size mesh.seed)
 
 -- too many bytes of input
 abbrev pub input_limit : Fault

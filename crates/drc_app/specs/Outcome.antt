@@ -10,6 +10,9 @@ use Rattle.drc_app.specs.Notes.{refused_note, bad_word_note, read_failed_note, w
 use Rattle.drc_app.specs.Due.{reads, due}
 use Rattle.drc_app.specs.Kept.{Keeps}
 use Rattle.drc_app.specs.declared.commands.Command.{Command}
+use Rattle.drc_app.specs.declared.outcomes.Output.{Output}
+use Rattle.drc_app.specs.declared.outcomes.Output.TheVariants as output
+use Rattle.drc_app.specs.declared.outcomes.Due.{Due}
 use Rattle.drc_app.specs.declared.outcomes.Outcome.{Outcome}
 use Rattle.drc_app.specs.declared.outcomes.Outcome.TheVariants as outcome
 
@@ -41,6 +44,14 @@ Gives c input answer = IfSome (told_to c input) (λ bytes. due c bytes ≡ answe
 abbrev pub Kept : Command → Taking → List ℕ × List ℕ → Type 0
 Kept c input answer = IfSome (told_to c input) (λ bytes. Keeps c bytes answer)
 
+-- the bytes of an output, and of an output and its note
+abbrev pub output_bytes : Output → List ℕ
+output_bytes (output.Bytes bytes) = bytes.items
+output_bytes (output.Text text) = text
+
+abbrev pub bytes_of : Due → List ℕ × List ℕ
+bytes_of d = (output_bytes d.output, d.note.items)
+
 -- what the line and its input came to
 abbrev pub IsOutcome : Result Command ℕ → Taking → Outcome → Type 0
 IsOutcome line input (outcome.BadWord i) = (line ≡ Err i) × IsUntaken input
@@ -48,7 +59,7 @@ IsOutcome line input outcome.ReadFailed = IsOkAnd line (λ c. IsTrue (reads c)) 
 IsOutcome line input outcome.NoMemory = IsOkAnd line (λ c. IsUnreadBy c input)
 IsOutcome line input (outcome.Refused f) = IsOkAnd line (λ c. WasReadEnough c input × Gives c input (Err f))
 IsOutcome line input (outcome.Done d) = IsOkAnd line (λ c.
-    WasReadWhole c input × Gives c input (Ok (d.output.items, d.note.items)) × Kept c input (d.output.items, d.note.items))
+    WasReadWhole c input × Gives c input (Ok (bytes_of d)) × Kept c input (bytes_of d))
 
 -- what a command came to on all bytes of its input
 abbrev pub IsOutcomeAt : Command → List ℕ → Outcome → Type 0
@@ -56,7 +67,7 @@ IsOutcomeAt c bytes (outcome.BadWord i) = ⊥
 IsOutcomeAt c bytes outcome.ReadFailed = ⊥
 IsOutcomeAt c bytes outcome.NoMemory = Unit {0}
 IsOutcomeAt c bytes (outcome.Refused f) = due c bytes ≡ Err f
-IsOutcomeAt c bytes (outcome.Done d) = (due c bytes ≡ Ok (d.output.items, d.note.items)) × Keeps c bytes (d.output.items, d.note.items)
+IsOutcomeAt c bytes (outcome.Done d) = (due c bytes ≡ Ok (bytes_of d)) × Keeps c bytes (bytes_of d)
 
 -- the writing of an output and then of its note stopped: in the output, and then the note of the failure is tried; or in the note
 abbrev pub IsCutShort : Putting → Putting → List ℕ → List ℕ → Type 0
@@ -75,4 +86,4 @@ Delivers (outcome.BadWord i) output notes status = (status ≡ 1) × IsUntouched
 Delivers (outcome.Refused f) output notes status = (status ≡ 2) × IsUntouched output × IsTried notes (refused_note f)
 Delivers outcome.ReadFailed output notes status = (status ≡ 3) × IsUntouched output × IsTried notes read_failed_note
 Delivers outcome.NoMemory output notes status = (status ≡ 5) × IsUntouched output × IsTried notes memory_note
-Delivers (outcome.Done d) output notes status = IsDelivered output notes d.output.items d.note.items status
+Delivers (outcome.Done d) output notes status = IsDelivered output notes (output_bytes d.output) d.note.items status

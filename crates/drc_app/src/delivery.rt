@@ -1,13 +1,16 @@
 //! Writing what a command came to.
 
-ghost use Rattle.std.specs.Prelude.{◌≡◌, ◌≤◌};
+ghost use Rattle.std.specs.Prelude.{◌≡◌, ◌≤◌, true, OnOk};
+ghost use Rattle.std.specs.Io.KnownBytes.{Appends};
+ghost use Rattle.drc_base.specs.Counters.{HasCause};
+ghost use Rattle.drc_base.specs.Sinks.{AppendsPrefix};
 ghost use Rattle.drc_app.specs.Ends.{puts, IsTried};
 ghost use Rattle.drc_app.specs.Notes.{memory_note};
-ghost use Rattle.drc_app.specs.Outcome.{Delivers, IsDelivered};
+ghost use Rattle.drc_app.specs.Outcome.{output_bytes, Delivers, IsDelivered};
 
 use crate::notes::{bad_word, refused};
-use crate::outcomes::{Due, Outcome};
-use drc_base::{Sink, write_all};
+use crate::outcomes::{Due, Outcome, Output};
+use drc_base::{Failed, Sink, write_all};
 
 /// Writes the outcome and its note, and answers its status: 0 where all that was due was written, 1
 /// for a bad word, 2 for a refusal, 3 where reading failed, 4 where writing failed, 5 for out of
@@ -41,17 +44,30 @@ pub fn out_of_memory<N: Sink>(notes: &mut N) -> u8
 fn deliver_due<O: Sink, N: Sink>(due: &Due, output: &mut O, notes: &mut N) -> u8
     ensures delivered { IsDelivered
         (puts O.held O.faults O.finished output.old output.new) (puts N.held N.faults N.finished notes.old notes.new)
-        due.now.output.items due.now.note.items result }
+        (output_bytes due.now.output) due.now.note.items result }
     ensures output_counts { O.faults output.old ≤ O.faults output.new }
     ensures note_counts { N.faults notes.old ≤ N.faults notes.new }
 {
-    if write_all(output, &due.output).is_err() {
+    if write_output(&due.output, output).is_err() {
         return leave_note(notes, b"write failed\n", 4);
     }
     if write_all(notes, &due.note).is_err() {
         return 4;
     }
     0
+}
+
+/// Appends the whole output to `out` and finishes it, as `write_all` does.
+fn write_output<O: Sink>(output: &Output, out: &mut O) -> Result<(), Failed>
+    ensures all { OnOk result (Appends (O.held out.old) (O.held out.new) (output_bytes output.now)) }
+    ensures finished { OnOk result (O.finished out.new ≡ true) }
+    ensures prefix { AppendsPrefix (O.held out.old) (O.held out.new) (output_bytes output.now) }
+    ensures cause { HasCause (O.faults out.old) (O.faults out.new) result }
+{
+    match output {
+        Output::Bytes(bytes) => write_all(out, bytes),
+        Output::Text(text) => text.print(out),
+    }
 }
 
 /// Tries to write a note, and answers the status given.

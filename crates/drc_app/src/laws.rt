@@ -1,10 +1,17 @@
 //! What holds of the definitions themselves.
 
-ghost use Rattle.drc_app.specs.Laws.{WordsSaySomething, WordsSayOneThing};
+ghost use Rattle.drc_app.specs.Laws.{WordsSaySomething, WordsSayOneThing, GeneratedIsEncoded};
 
 /// Any words are the line of one command, or have one bad word, and reading them word by word finds
 /// it. This is the contract of a call that does nothing.
 pub fn words_say_one_thing()
     ensures found { WordsSaySomething }
     ensures alone { WordsSayOneThing }
+{}
+
+/// Generated meshes are never refused: whatever the kind, the size that a command line may ask for and
+/// the seed, each choice that fits a mesh (`choice_fault` finds nothing) has its stream, unless memory
+/// is wanting. This is the contract of a call that does nothing.
+pub fn generated_meshes_are_encoded()
+    ensures { GeneratedIsEncoded }
 {}

@@ -14,7 +14,7 @@ mod summaries;
 
 pub use commands::{Command, GenMesh};
 pub use delivery::out_of_memory;
-pub use laws::words_say_one_thing;
+pub use laws::{generated_meshes_are_encoded, words_say_one_thing};
 pub use running::run;
 
 #[cfg(test)]

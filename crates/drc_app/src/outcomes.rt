@@ -10,22 +10,31 @@ ghost use Rattle.drc_app.specs.Progress.{line_of};
 ghost use Rattle.drc_app.specs.Ends.{takes};
 ghost use Rattle.drc_app.specs.Due.{input_limit, reads, due, worked, stream_due, text_due, report_due, summary_due};
 ghost use Rattle.drc_app.specs.Kept.{Keeps, KeepsGeometry};
-ghost use Rattle.drc_app.specs.Outcome.{IsOutcome, IsOutcomeAt};
+ghost use Rattle.drc_app.specs.Outcome.{output_bytes, bytes_of, IsOutcome, IsOutcomeAt};
 
 use crate::commands::{Command, GenMesh, command_of, reads};
 use crate::summaries::summary_due;
-use drc_base::{Fault, Kind, MAX_INPUT_BYTES, ReadEnd, Refusal, Source, read_all};
+use drc_base::{Fault, Kind, MAX_INPUT_BYTES, Memory, ReadEnd, Refusal, Source, read_all};
 use drc_container::{Choice, decode, encode};
 use drc_info::report;
 use mesh_model::{Geometry, map_text};
-use ply_mesh::{read_ply, write_ply};
+use ply_mesh::{PlyText, read_ply};
 use std::alloc::Global;
 
-/// An output and its note, both whole.
+/// An output: it stands, or is made as it is written. Neither takes memory from there on.
+#[derive(Debug, Drop)]
+pub enum Output {
+    /// These bytes.
+    Bytes(Vec<u8>),
+    /// The text of a geometry.
+    Text(PlyText),
+}
+
+/// An output and its note.
 #[derive(Debug, Drop)]
 pub struct Due {
-    /// The bytes of the output.
-    pub output: Vec<u8>,
+    /// The output.
+    pub output: Output,
     /// The bytes of the note.
     pub note: Vec<u8>,
 }
@@ -91,27 +100,30 @@ fn outcome_at(alloc: Global, command: Command, bytes: Vec<u8>) -> Outcome
 /// What the command gives from these bytes, which are freed as soon as they are read.
 fn work(alloc: Global, command: Command, bytes: Vec<u8>) -> Result<Due, Refusal>
     requires { IsSized command }
-    ensures answer { Answers (λ d. (d.output.items, d.note.items)) (worked command bytes.items) result }
-    ensures kept { IfOk result (λ d. Keeps command bytes.items (d.output.items, d.note.items)) }
+    ensures answer { Answers bytes_of (worked command bytes.items) result }
+    ensures kept { IfOk result (λ d. Keeps command bytes.items (bytes_of d)) }
 {
     match command {
         Command::Enc(choice) => stream_due(alloc, &choice, bytes),
         Command::Dec => text_due(alloc, bytes),
         Command::Info => report_due(alloc, &bytes),
-        Command::Gen(asked) => gen_due(alloc, asked),
+        Command::Gen(asked) => Ok(gen_due(alloc, asked)?),
     }
 }
 
 /// The stream of the geometry that a text means, coded as chosen, and the map of its faces or points.
 #[tactic(auto, unfolding(crate::specs::Due::stream_due))]
 fn stream_due(alloc: Global, choice: &Choice, text: Vec<u8>) -> Result<Due, Refusal>
-    ensures answer { Answers (λ d. (d.output.items, d.note.items)) (stream_due choice.now text.items) result }
-    ensures kept { IfOk result (λ d. KeepsGeometry choice.now text.items d.output.items d.note.items) }
+    ensures answer { Answers bytes_of (stream_due choice.now text.items) result }
+    ensures kept { IfOk result (λ d. KeepsGeometry choice.now text.items (output_bytes d.output) d.note.items) }
 {
     let geometry = text_read(alloc, text)?;
     let (output, rows) = encode(alloc, &geometry, choice)?;
     let note = map_text(alloc, &geometry, &rows)?;
-    Ok(Due { output, note })
+    Ok(Due {
+        output: Output::Bytes(output),
+        note,
+    })
 }
 
 /// The geometry that a text means. The text is freed.
@@ -124,12 +136,12 @@ fn text_read(alloc: Global, text: Vec<u8>) -> Result<Geometry, Refusal>
 /// The text of the geometry that a stream means, and no note.
 #[tactic(auto, unfolding(crate::specs::Due::text_due))]
 fn text_due(alloc: Global, stream: Vec<u8>) -> Result<Due, Refusal>
-    ensures { Answers (λ d. (d.output.items, d.note.items)) (text_due stream.items) result }
+    ensures { Answers bytes_of (text_due stream.items) result }
 {
     let geometry = stream_read(alloc, stream)?;
-    let output = write_ply(alloc, &geometry)?;
+    let text = PlyText::new(alloc, geometry)?;
     Ok(Due {
-        output,
+        output: Output::Text(text),
         note: Vec::new(alloc),
     })
 }
@@ -144,23 +156,23 @@ fn stream_read(alloc: Global, stream: Vec<u8>) -> Result<Geometry, Refusal>
 /// The report on a stream, and no note.
 #[tactic(auto, unfolding(crate::specs::Due::report_due))]
 fn report_due(alloc: Global, stream: &[u8]) -> Result<Due, Refusal>
-    ensures { Answers (λ d. (d.output.items, d.note.items)) (report_due stream.now) result }
+    ensures { Answers bytes_of (report_due stream.now) result }
 {
     let output = report(alloc, stream)?;
     Ok(Due {
-        output,
+        output: Output::Bytes(output),
         note: Vec::new(alloc),
     })
 }
 
 /// The summary of a generated mesh, and no note.
-fn gen_due(alloc: Global, asked: GenMesh) -> Result<Due, Refusal>
+fn gen_due(alloc: Global, asked: GenMesh) -> Result<Due, Memory>
     requires { IsSize asked.size }
-    ensures { Answers (λ d. (d.output.items, d.note.items)) (summary_due asked.kind asked.size asked.seed) result }
+    ensures { IfOk result (λ d. bytes_of d ≡ summary_due asked.kind asked.size asked.seed) }
 {
     let output = summary_due(alloc, asked)?;
     Ok(Due {
-        output,
+        output: Output::Bytes(output),
         note: Vec::new(alloc),
     })
 }

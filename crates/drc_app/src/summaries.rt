@@ -1,11 +1,12 @@
 //! The summary of a generated mesh.
 
-ghost use Rattle.std.specs.Prelude.{◌≡◌, ◌++◌, ◌∷◌, [], codes, decimal, OnOk, IfOk};
-ghost use Rattle.drc_base.specs.Refusals.{Answers};
+ghost use Rattle.std.specs.Prelude.{◌≡◌, ◌++◌, ◌∷◌, [], None, codes, decimal, OnOk, IfOk};
 ghost use Rattle.mesh_model.specs.declared.geometries.Geometry.TheVariants.{Mesh};
 ghost use Rattle.drc_gen.specs.GeneratedLaws.{IsSize};
+ghost use Rattle.drc_container.specs.Refused.{refused};
+ghost use Rattle.drc_container.specs.declared.methods.Method.{Method as ByMethod};
 ghost use Rattle.drc_app.specs.Summary.{count_line, asked_line, summary_text};
-ghost use Rattle.drc_app.specs.Due.{length_due, summary_of, summary_due};
+ghost use Rattle.drc_app.specs.Due.{by_method, length_due, summary_of, summary_due};
 
 use crate::commands::{GenMesh, no_choice};
 use crate::gen_words::gen_word;
@@ -34,21 +35,22 @@ pub struct Summary {
 }
 
 /// The summary of a generated mesh: what it was asked for by, how many faces and points it has, and how
-/// many bytes each method gives with no other option. It refuses what `encode` refuses.
+/// many bytes each method gives with no other option. It is refused for want of memory alone.
 #[tactic(auto, unfolding(crate::specs::Due::summary_due))]
-pub fn summary_due(alloc: Global, asked: GenMesh) -> Result<Vec<u8>, Refusal>
+pub fn summary_due(alloc: Global, asked: GenMesh) -> Result<Vec<u8>, Memory>
     requires { IsSize asked.size }
-    ensures { Answers (λ text. (text.items, [])) (summary_due asked.kind asked.size asked.seed) result }
+    ensures { IfOk result (λ text. (text.items, []) ≡ summary_due asked.kind asked.size asked.seed) }
 {
     let made = generate(alloc, asked.kind, asked.size, asked.seed)?;
     let summary = summary_of(alloc, asked, made)?;
-    Ok(summary_text(alloc, &summary)?)
+    summary_text(alloc, &summary)
 }
 
-/// What a summary tells of a mesh that was asked for so. The mesh is freed.
+/// What a summary tells of a mesh that was asked for so, which no method refuses. The mesh is freed.
 #[tactic(auto, unfolding(crate::specs::Due::summary_of))]
-fn summary_of(alloc: Global, asked: GenMesh, made: CornerMesh) -> Result<Summary, Refusal>
-    ensures { Answers (λ s. s) (summary_of asked made) result }
+fn summary_of(alloc: Global, asked: GenMesh, made: CornerMesh) -> Result<Summary, Memory>
+    requires { (by : ByMethod) → refused (Mesh made) (by_method by) ≡ None }
+    ensures { IfOk result (λ s. s ≡ summary_of asked made) }
 {
     let (faces, points) = (made.face_count(), made.point_count());
     let geometry = Geometry::Mesh(made);
@@ -65,17 +67,21 @@ fn summary_of(alloc: Global, asked: GenMesh, made: CornerMesh) -> Result<Summary
     })
 }
 
-/// How many bytes a geometry is encoded as by this method, with no other option.
+/// How many bytes a geometry that isn't refused is encoded as by this method, with no other option.
 #[tactic(auto, unfolding(crate::specs::Due::length_due))]
-fn length_due(alloc: Global, geometry: &Geometry, method: Method) -> Result<u64, Refusal>
-    ensures { Answers (λ n. n) (length_due geometry.now method) result }
+fn length_due(alloc: Global, geometry: &Geometry, method: Method) -> Result<u64, Memory>
+    requires { refused geometry.now (by_method method) ≡ None }
+    ensures { IfOk result (λ n. n ≡ length_due geometry.now method) }
 {
     let choice = Choice {
         method: Some(method),
         ..no_choice()
     };
-    let (stream, _rows) = encode(alloc, geometry, &choice)?;
-    Ok(stream.len() as u64)
+    match encode(alloc, geometry, &choice) {
+        Ok((stream, _rows)) => Ok(stream.len() as u64),
+        Err(Refusal::Memory) => Err(Memory),
+        Err(Refusal::Fault(_)) => unreachable!(),
+    }
 }
 
 /// The text of a summary.

@@ -111,7 +111,7 @@ order-on false faces g = (walked-on faces g (fan_labels faces g) (fan_ends faces
 order-on true faces g = (ranked-on faces g (fan_labels faces g) (fans_of faces g) faces (omega arith)).corners
 
 -- the entries of an order are a list of the fans
-order-lists : (degree : Bool) (faces : ℕ) (g : Gluing) → IsGluing faces g → ListsClasses (fan_labels faces g) (fans_of faces g) (order_by degree faces g)
+pub order-lists : (degree : Bool) (faces : ℕ) (g : Gluing) → IsGluing faces g → ListsClasses (fan_labels faces g) (fans_of faces g) (order_by degree faces g)
 order-lists false faces g G = depth_first_lists_classes faces g (fan_labels faces g) (fans_of faces g) (fan_ends faces g) G (surface_is_labelled faces g G)
 order-lists true faces g G = prediction_degree_lists_classes faces g (fan_labels faces g) (fans_of faces g) (fan_ends faces g) G (surface_is_labelled faces g G)
 

@@ -12,4 +12,5 @@ pub mod Encoded
 pub mod Standings
 pub mod Layout
 pub mod Laws
+pub mod Encodable
 pub mod Profiles

@@ -1,6 +1,7 @@
 //! What holds of the definitions themselves.
 
 ghost use Rattle.drc_container.specs.Laws.{MeshesPass, CloudsPass};
+ghost use Rattle.drc_container.specs.Encodable.{EncodableIsEncoded};
 ghost use Rattle.drc_container.specs.Profiles.{WiderMeansTheSame, OldFilesMeanTheSame};
 
 /// What is read of a sequential mesh or a cloud is a geometry: the faces, or the number of points, and the
@@ -21,4 +22,13 @@ pub fn what_is_read_is_a_geometry()
 pub fn old_files_keep_their_meaning()
     ensures wider { WiderMeansTheSame }
     ensures old { OldFilesMeanTheSame }
+{}
+
+/// Where the first attribute of a mesh is a position, there is a face, no face has two corners at one
+/// position, three times the faces are at most `MAX_POINTS`, three times the faces times the components
+/// of all attributes are at most `MAX_VALUES`, and the integers of all points lie in a range whose ends
+/// are less than 2^31 - 1 apart, no choice that fits a mesh refuses it: `encode` answers its stream, or
+/// want of memory. This is the contract of a call that does nothing.
+pub fn encodable_meshes_are_encoded()
+    ensures { EncodableIsEncoded }
 {}

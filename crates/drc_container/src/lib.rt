@@ -39,7 +39,9 @@ mod writing;
 pub use choices::{Choice, Index, Predict, Walk};
 pub use decoding::{decode, decode_whole};
 pub use encoding::encode;
-pub use laws::{old_files_keep_their_meaning, what_is_read_is_a_geometry};
+pub use laws::{
+    encodable_meshes_are_encoded, old_files_keep_their_meaning, what_is_read_is_a_geometry,
+};
 pub use methods::Method;
 pub use seen::{AttrSeen, Decoded, Seen};
 
