@@ -11,13 +11,34 @@ ghost use Rattle.attr_section.specs.Values.{code_of};
 ghost use Rattle.drc_container.specs.Encoded.{due_on_surface, CanCodeSurface, SurfaceSpelled};
 
 use crate::codings::Coding;
+use crate::connected::{Connected, surface_connected};
 use crate::standings::standings_of;
 use crate::surface_values::values_on;
-use crate::surface_writing::surface_stream;
-use crate::traced_meshes::{TracedMesh, traced_mesh};
+use crate::surface_writing::attributes;
+use crate::traced_meshes::traced_mesh;
+use crate::turned_meshes::TurnedMesh;
+use corner_table::SideTable;
 use drc_base::{Refusal, Sequence};
 use mesh_model::CornerMesh;
 use std::alloc::Global;
+
+/// A stream's front with the attributes of its mesh behind it.
+fn with_attributes(
+    alloc: Global,
+    front: Vec<u8>,
+    mesh: TurnedMesh<'_>,
+    sides: SideTable,
+    flags: Vec<Option<Vec<bool>>>,
+    coding: &Coding,
+) -> Result<Vec<u8>, Refusal>
+{
+    let standings = standings_of(alloc, mesh, sides, flags, coding.degree)?;
+    let values = values_on(alloc, &standings, coding)?;
+    let attributes = attributes(alloc, &standings, coding, values.as_slice())?;
+    let mut out = front;
+    out.extend_from_slice(attributes.as_slice())?;
+    Ok(out)
+}
 
 /// The stream of a mesh by Edgebreaker, and its faces in the order of decoding, each with its turn. Refusals,
 /// the first that applies: Degenerate at the first face with two equal positions, PointLimit at the number of
@@ -37,9 +58,14 @@ pub fn encode_surface(
 {
     // For the proof alone: the call tells what holds of every mesh.
     let _heads = mesh.heads();
-    let TracedMesh { trace, decoded } = traced_mesh(alloc, mesh)?;
-    let standings = standings_of(alloc, decoded, coding.degree)?;
-    let values = values_on(alloc, &standings, coding)?;
-    let bytes = surface_stream(alloc, &trace, &standings, coding, values.as_slice())?;
-    Ok((bytes, trace.order))
+    let traced = traced_mesh(alloc, mesh)?;
+    let Connected {
+        front,
+        rows,
+        sides,
+        flags,
+    } = surface_connected(alloc, mesh, traced, coding.valence)?;
+    let decoded = TurnedMesh::new(mesh, rows.as_slice());
+    let bytes = with_attributes(alloc, front, decoded, sides, flags, coding)?;
+    Ok((bytes, rows))
 }
