@@ -6,7 +6,7 @@ use Rattle.std.specs.List.{range_with_len}
 use Rattle.drc_base.specs.declared.limits.TheConstants.{MAX_VALUES}
 use Rattle.drc_base.specs.Profile.{profile_two}
 use Rattle.corner_table.specs.Table.{Table, gluing_of}
-use Rattle.seams.specs.Seams.{listed}
+use Rattle.seams.specs.Seams.{listed, flag_at, unseamed}
 use Rattle.mesh_model.specs.Parts.{MeshParts}
 use Rattle.seams.specs.Values.{is_seam}
 use Rattle.predict.specs.Wrap.{CanWrap}
@@ -46,6 +46,10 @@ cut_walk d k = if is_cornered d k then Some (walked_by false (length d.mesh.face
 -- a surface that is kept with its order, as it is walked
 abbrev pub walk_in : Standing → Walked
 walk_in s = walked s.sides s.order
+
+-- a surface that is cut at these flags, walked depth first
+abbrev pub walk_cut : Table → List Bool → Walked
+walk_cut t flags = walked_by false t.faces (unseamed (flag_at flags) (gluing_of t))
 
 -- the surface that the values of attribute k stand on: its own, or that of the mesh
 abbrev pub walk_at : Standings → ℕ → Walked

@@ -3,14 +3,15 @@
 //! A table has two links beside each entry. While the surface waits, the list of entries alone is kept, a third of
 //! the table.
 
-ghost use Rattle.std.specs.Prelude.{◌≡◌, ◌+◌, ◌*◌, ◌<◌, ◌≤◌, length, IfOk};
+ghost use Rattle.std.specs.Prelude.{◌≡◌, ◌*◌, ◌<◌, ◌≤◌, ◌↔◌, length, IfOk, IfSome, IsTrue};
 ghost use Rattle.std.specs.Option.{option_map};
 ghost use Rattle.drc_base.specs.declared.limits.TheConstants.{MAX_FACES as most_faces};
-ghost use Rattle.mesh_model.specs.Renumbering.{inverted};
 ghost use Rattle.corner_table.specs.Sides.{IsGluing, unglued};
-ghost use Rattle.corner_table.specs.Table.{gluing_of, glued_in, room_of, side_of};
-ghost use Rattle.corner_table.specs.Carried.{IsRenumbering};
-ghost use Rattle.pairing.specs.CarriedPairs.{carried as carried_pairs};
+ghost use Rattle.corner_table.specs.Table.{free_entry, other_at, gluing_of, glued_in, side_of};
+ghost use Rattle.corner_table.specs.Carried.{carry, IsRenumbering};
+ghost use Rattle.pairing.specs.CarriedPairs.{carried as carried_gluing};
+ghost use Rattle.seams.specs.Pairs.{TellsLater};
+ghost use Rattle.drc_container.specs.Renumbered.{AreRowsBelow, LeadBack, TellPairs};
 
 use crate::turned_meshes::carried;
 use corner_table::{SideTable, Steps, number_of, side_with};
@@ -25,7 +26,7 @@ const NONE: u32 = u32::MAX;
 /// The rows that lead back: for each face the row that names it, and the turn back.
 fn inverted(alloc: Global, rows: &[(u32, u8)]) -> Result<Vec<(u32, u8)>, Memory>
     requires { IsRenumbering (length rows.now) rows.now }
-    ensures { IfOk result (λ v. v.items ≡ inverted rows.now) }
+    ensures { IfOk result (λ v. LeadBack rows.now (length rows.now) v.items) }
 {
     let mut back: Vec<(u32, u8)> = vec![in alloc; (0, 0); rows.len()]?;
     for (i, (face, turn)) in rows.iter().enumerate() {
@@ -35,7 +36,12 @@ fn inverted(alloc: Global, rows: &[(u32, u8)]) -> Result<Vec<(u32, u8)>, Memory>
 }
 
 /// The number of the side that a side becomes by these rows, or that of no side.
-fn entry_by(back: &[(u32, u8)], other: Option<Side>) -> u32 {
+fn entry_by(back: &[(u32, u8)], other: Option<Side>) -> u32
+    requires rows { AreRowsBelow (length back.now) back.now }
+    requires few { length back.now ≤ most_faces }
+    requires other { IfSome other (λ s. s.face < length back.now) }
+    ensures { other_at result ≡ option_map (λ s. carry back.now (side_of s)) other }
+{
     match other {
         None => NONE,
         Some(side) => number_of(carried(back, side)),
@@ -48,7 +54,13 @@ fn entries_by<L: Ledger>(
     sides: &SideTable,
     rows: &[(u32, u8)],
     blank: Blank,
-) -> Result<Vec<u32>, Memory> {
+) -> Result<Vec<u32>, Memory>
+    requires rows { IsRenumbering sides.now.faces rows.now }
+    requires name { blank.name ≡ L.name }
+    requires parts { blank.parts ≡ L.parts }
+    requires some { 0 < L.parts }
+    ensures { IfOk result (λ v. TellPairs (carried_gluing (gluing_of sides.now) rows.now) (3 * sides.now.faces) v.items) }
+{
     let back = inverted(alloc, rows)?;
     let count = 3 * sides.face_count();
     let mut steps = Steps::<L>::new(blank);
@@ -67,8 +79,8 @@ pub fn carried_pairs(
     sides: SideTable,
     rows: &[(u32, u8)],
 ) -> Result<Vec<u32>, Memory>
-    requires rows { IsRenumbering sides.faces rows.now }
-    ensures pairs { IfOk result (λ v. glued_in v.items ≡ carried_pairs (gluing_of sides) rows.now) }
+    requires { IsRenumbering sides.faces rows.now }
+    ensures pairs { IfOk result (λ v. glued_in v.items ≡ carried_gluing (gluing_of sides) rows.now) }
     ensures each { IfOk result (λ v. length v.items ≡ 3 * sides.faces) }
 {
     let entries = entries_by::<Brand>(alloc, &sides, rows, Blank::new(1))?;
@@ -92,10 +104,19 @@ fn faces_apart<L: Ledger>(
     Ok(table)
 }
 
-/// Whether the entry of a side is the number of a later side. One more than the entry of a free side wraps to 0, so
-/// that one comparison tells both.
-fn is_later(entry: u32, side: u32) -> bool {
-    entry.wrapping_add(1) > side + 1
+/// The number of the side that a side is glued to, where that is a later one.
+fn later_side(pairs: &[u32], faces: u32, side: u32) -> Option<u32>
+    requires gluing { IsGluing faces (glued_in pairs.now) }
+    requires each { length pairs.now ≡ 3 * faces }
+    requires few { faces ≤ most_faces }
+    requires side { side < 3 * faces }
+    ensures { TellsLater faces (glued_in pairs.now) side result }
+{
+    let other = pairs[side as usize];
+    if side < other && other != NONE {
+        return Some(other);
+    }
+    None
 }
 
 /// The table of these faces with the pairs of a list, glued one after another.
@@ -104,13 +125,22 @@ fn glued_faces<L: Ledger>(
     pairs: &[u32],
     faces: u32,
     blank: Blank,
-) -> Result<SideTable, Memory> {
+) -> Result<SideTable, Memory>
+    requires few { faces ≤ most_faces }
+    requires gluing { IsGluing faces (glued_in pairs.now) }
+    requires each { length pairs.now ≡ 3 * faces }
+    requires name { blank.name ≡ L.name }
+    requires parts { blank.parts ≡ L.parts }
+    requires some { 0 < L.parts }
+    ensures faces { IfOk result (λ t. t.faces ≡ faces) }
+    ensures pairs { IfOk result (λ t. gluing_of t ≡ glued_in pairs.now) }
+{
     let mut steps = Steps::<L>::new(blank);
     let mut table = faces_apart(alloc, faces, &mut steps)?;
     for side in 0..3 * faces {
-        let other = pairs[side as usize];
-        if is_later(other, side) {
-            table.glue(side_with(side), side_with(other), &mut steps);
+        match later_side(pairs, faces, side) {
+            None => {}
+            Some(other) => table.glue(side_with(side), side_with(other), &mut steps),
         }
     }
     Ok(table)

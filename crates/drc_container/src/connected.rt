@@ -3,6 +3,15 @@
 //! The connectivity is written while little else is kept: where there are no seams to look for, before the table of
 //! the surface as it is decoded is made. Behind it the order of decoding is all that stays of the trace.
 
+ghost use Rattle.std.specs.Prelude.{◌≡◌, ◌<◌, ◌≤◌, ◌^◌, length, map, All, IfOk};
+ghost use Rattle.std.specs.Option.{option_map};
+ghost use Rattle.drc_base.specs.declared.limits.TheConstants.{MAX_ATTRIBUTES};
+ghost use Rattle.corner_table.specs.Carried.{IsRenumbering};
+ghost use Rattle.mesh_model.specs.Renumbering.{renumbered};
+ghost use Rattle.drc_container.specs.WrittenOnSurface.{seam_lists};
+ghost use Rattle.drc_container.specs.Standings.{glued_by, flag_lists};
+ghost use Rattle.drc_container.specs.Fronts.{IsTraced, IsConnected};
+
 use crate::carried_pairs::paired_table;
 use crate::seam_lists::{SeamLists, seams_on};
 use crate::surface_writing::surface_front;
@@ -40,9 +49,17 @@ fn seams_in(
     mesh: &CornerMesh,
     rows: &[(u32, u8)],
     sides: &SideTable,
-) -> Result<SeamLists, Memory> {
+) -> Result<SeamLists, Memory>
+    requires rows { IsRenumbering (length mesh.now.faces) rows.now }
+    requires faces { sides.now.faces ≡ length mesh.now.faces }
+    ensures bits { IfOk result (λ s. map (λ v. v.items) s.bits.items ≡ seam_lists (glued_by (renumbered mesh.now rows.now) sides.now)) }
+    ensures flags { IfOk result (λ s. map (option_map (λ v. v.items)) s.flags.items ≡ flag_lists (glued_by (renumbered mesh.now rows.now) sides.now)) }
+    ensures few { IfOk result (λ s. length s.bits.items ≤ MAX_ATTRIBUTES) }
+    ensures short { IfOk result (λ s. All (λ v. length v.items < 2 ^ 31) s.bits.items) }
+{
     let decoded = TurnedMesh::new(mesh, rows).copied(alloc)?;
-    seams_on(alloc, &decoded, sides)
+    let seams = seams_on(alloc, &decoded, sides)?;
+    Ok(seams)
 }
 
 /// The front of a mesh with one attribute, which has no seams.
@@ -51,7 +68,11 @@ fn whole_connected(
     mesh: &CornerMesh,
     traced: TracedMesh,
     valence: bool,
-) -> Result<Connected, Memory> {
+) -> Result<Connected, Memory>
+    requires one { length mesh.now.heads ≡ 1 }
+    requires traced { IsTraced mesh.now traced }
+    ensures { IfOk result (IsConnected valence mesh.now) }
+{
     let TracedMesh { trace, pairs } = traced;
     let faces = mesh.face_count();
     let mut flags = Vec::new(alloc);
@@ -67,13 +88,16 @@ fn whole_connected(
     })
 }
 
-/// The front of a mesh with several attributes.
+/// The front of a mesh with any number of attributes.
 fn parts_connected(
     alloc: Global,
     mesh: &CornerMesh,
     traced: TracedMesh,
     valence: bool,
-) -> Result<Connected, Memory> {
+) -> Result<Connected, Memory>
+    requires { IsTraced mesh.now traced }
+    ensures { IfOk result (IsConnected valence mesh.now) }
+{
     let TracedMesh { trace, pairs } = traced;
     let faces = mesh.face_count();
     let sides = paired_table(alloc, pairs, faces)?;
@@ -88,13 +112,16 @@ fn parts_connected(
     })
 }
 
-/// The front of a traced mesh's stream, and its surface as it is decoded.
+/// The front of a traced mesh's stream, and its surface as it is decoded. The front is read back.
 pub fn surface_connected(
     alloc: Global,
     mesh: &CornerMesh,
     traced: TracedMesh,
     valence: bool,
-) -> Result<Connected, Memory> {
+) -> Result<Connected, Memory>
+    requires { IsTraced mesh.now traced }
+    ensures { IfOk result (IsConnected valence mesh.now) }
+{
     if mesh.heads().len() == 1 {
         return whole_connected(alloc, mesh, traced, valence);
     }

@@ -1,9 +1,9 @@
 //! The seams of a mesh's attributes, as they are written and as surfaces are cut at them.
 
-ghost use Rattle.std.specs.Prelude.{◌≡◌, ◌<◌, map, length, IfOk};
+ghost use Rattle.std.specs.Prelude.{◌≡◌, ◌<◌, ◌≤◌, ◌^◌, map, length, All, IfOk};
 ghost use Rattle.std.specs.Option.{option_map};
-ghost use Rattle.std.specs.List.{range_with_len, list_any};
-ghost use Rattle.corner_table.specs.Table.{gluing_of};
+ghost use Rattle.std.specs.List.{list_any};
+ghost use Rattle.drc_base.specs.declared.limits.TheConstants.{MAX_ATTRIBUTES};
 ghost use Rattle.drc_container.specs.WrittenOnSurface.{bits_of, seam_lists};
 ghost use Rattle.drc_container.specs.Standings.{glued_by, flags_of, flag_lists};
 
@@ -45,6 +45,7 @@ fn seams_at(
     sides: &SideTable,
     attr: u8,
 ) -> Result<Seams, Memory>
+    requires later { 0 < attr }
     requires attribute { attr < length mesh.now.heads }
     requires faces { sides.now.faces ≡ length mesh.now.faces }
     ensures bits { IfOk result (λ s. s.bits.items ≡ bits_of (glued_by mesh.now sides.now) attr) }
@@ -68,6 +69,8 @@ pub fn seams_on(alloc: Global, mesh: &CornerMesh, sides: &SideTable) -> Result<S
     requires { sides.now.faces ≡ length mesh.now.faces }
     ensures bits { IfOk result (λ s. map (λ v. v.items) s.bits.items ≡ seam_lists (glued_by mesh.now sides.now)) }
     ensures flags { IfOk result (λ s. map (option_map (λ v. v.items)) s.flags.items ≡ flag_lists (glued_by mesh.now sides.now)) }
+    ensures few { IfOk result (λ s. length s.bits.items ≤ MAX_ATTRIBUTES) }
+    ensures short { IfOk result (λ s. All (λ v. length v.items < 2 ^ 31) s.bits.items) }
 {
     let mut bits = Vec::new(alloc);
     let mut flags = Vec::new(alloc);

@@ -1,12 +1,13 @@
 //! The surfaces that the values of a mesh's attributes stand on: the mesh's own, walked once, and for each
 //! attribute with seams a surface that is cut at them.
 
-ghost use Rattle.std.specs.Prelude.{◌≡◌, ◌<◌, Bool, false, map, length, option_map, IfOk, IfSome};
-ghost use Rattle.std.specs.List.{range_with_len, list_any};
+ghost use Rattle.std.specs.Prelude.{◌≡◌, ◌<◌, Bool, false, List, map, length, All, IfOk, IfSome};
+ghost use Rattle.std.specs.Option.{option_map};
 ghost use Rattle.corner_table.specs.Table.{gluing_of};
+ghost use Rattle.seams.specs.Seams.{AreFlags, flag_at, unseamed};
 ghost use Rattle.drc_container.specs.OnSurface.{walked_by};
-ghost use Rattle.drc_container.specs.WrittenOnSurface.{bits_of, seam_lists, is_cornered};
-ghost use Rattle.drc_container.specs.Standings.{glued_in, glued_on, seamed, cut_walk, walk_in, walk_at, AreStandings};
+ghost use Rattle.drc_container.specs.WrittenOnSurface.{is_cornered};
+ghost use Rattle.drc_container.specs.Standings.{glued_by, glued_on, flag_lists, walk_in, walk_at, walk_cut, AreStandings};
 
 use crate::standing::Standing;
 use crate::turned_meshes::TurnedMesh;
@@ -44,6 +45,8 @@ fn cut_standing(
     sides: &SideTable,
     flags: Option<Vec<bool>>,
 ) -> Result<Option<Standing>, Memory>
+    requires { IfSome flags (λ v. AreFlags sides.now.faces (gluing_of sides.now) v.items) }
+    ensures { IfOk result (λ o. option_map walk_in o ≡ option_map (walk_cut sides.now) (option_map (λ v. v.items) flags)) }
 {
     match flags {
         None => Ok(None),
@@ -60,6 +63,8 @@ fn cuts_of(
     sides: &SideTable,
     flags: Vec<Option<Vec<bool>>>,
 ) -> Result<Vec<Option<Standing>>, Memory>
+    requires { All (λ o. IfSome o (λ v. AreFlags sides.now.faces (gluing_of sides.now) v.items)) flags.items }
+    ensures { IfOk result (λ v. map (option_map walk_in) v.items ≡ map (option_map (walk_cut sides.now)) (map (option_map (λ v. v.items)) flags.items)) }
 {
     let mut cuts = Vec::new(alloc);
     for flags in flags {
@@ -77,7 +82,8 @@ pub fn standings_of<'m>(
     flags: Vec<Option<Vec<bool>>>,
     degree: bool,
 ) -> Result<Standings<'m>, Memory>
-    requires { sides.faces ≡ length mesh.faces }
+    requires faces { sides.faces ≡ length mesh.faces }
+    requires flags { map (option_map (λ v. v.items)) flags.items ≡ flag_lists (glued_by mesh sides) }
     ensures glued { IfOk result (λ s. glued_on s ≡ glued_by mesh sides) }
     ensures are { IfOk result (λ s. AreStandings degree s) }
 {

@@ -7,7 +7,7 @@ ghost use Rattle.mesh_model.specs.Head.{width_of};
 ghost use Rattle.corner_table.specs.Table.{side_of};
 ghost use Rattle.seams.specs.Values.{piece};
 ghost use Rattle.attr_section.specs.Values.{values_in};
-ghost use Rattle.drc_container.specs.Refused.{limit_fault, range_fault};
+ghost use Rattle.drc_container.specs.Refused.{range_fault, values_fault};
 ghost use Rattle.drc_container.specs.WrittenOnSurface.{coded_values};
 ghost use Rattle.drc_container.specs.Standings.{glued_on, AreStandings};
 
@@ -97,8 +97,7 @@ fn test_ranges(predict: i8, values: &[Values]) -> Result<(), Fault>
 /// room is taken for them; Range at the first attribute whose values can't be predicted.
 pub fn values_on(alloc: Global, s: &Standings<'_>, coding: &Coding) -> Result<Vec<Values>, Refusal>
     requires { AreStandings coding.now.degree s.now }
-    ensures { let values = coded_values coding.now (glued_on s.now) in
-        Answers (λ v. v.items) (value_unless (first_fault (limit_fault values ∷ range_fault coding.now.predict values ∷ [])) values) result }
+    ensures { Answers (λ v. v.items) (value_unless (values_fault coding.now (glued_on s.now)) (coded_values coding.now (glued_on s.now))) result }
 {
     let count = value_count(s, coding);
     unless(count <= u64::from(MAX_VALUES), Kind::ValueLimit, count)?;

@@ -1,8 +1,8 @@
 //! Writing a mesh by Edgebreaker.
 
-ghost use Rattle.std.specs.Prelude.{◌≡◌, ◌<◌, ◌≤◌, ◌+◌, ◌-◌, ◌++◌, [], ◌∷◌, Some, Ok, map, flat_map, length, All, IfOk, OnOk};
+ghost use Rattle.std.specs.Prelude.{◌≡◌, ◌<◌, ◌≤◌, ◌+◌, ◌-◌, ◌^◌, ◌++◌, [], ◌∷◌, Some, Ok, map, flat_map, length, All, IfOk, OnOk};
 ghost use Rattle.std.specs.List.{enumerate_from};
-ghost use Rattle.drc_base.specs.declared.limits.TheConstants.{MAX_POINTS as most_points};
+ghost use Rattle.drc_base.specs.declared.limits.TheConstants.{MAX_ATTRIBUTES, MAX_FACES, MAX_POINTS as most_points};
 ghost use Rattle.drc_bits.specs.Spells.{Spells};
 ghost use Rattle.mesh_model.specs.Parts.{MeshParts};
 ghost use Rattle.mesh_model.specs.declared.geometries.Geometry.TheVariants as geometry;
@@ -12,7 +12,7 @@ ghost use Rattle.eb_section.specs.Written.{connectivity_bytes};
 ghost use Rattle.attr_section.specs.Heads.{bare_decoder, heads_at};
 ghost use Rattle.attr_section.specs.Written.{decoder_values_bytes, DecoderValuesPass, HaveEntries};
 ghost use Rattle.drc_container.specs.Written.{header_bytes};
-ghost use Rattle.drc_container.specs.WrittenOnSurface.{walk_of, coded_by, coded_values, data_id_of, decoder_for, decoders_for, seam_lists, attribute_bytes, values_bytes_on, decoder_heads_bytes};
+ghost use Rattle.drc_container.specs.WrittenOnSurface.{walk_of, coded_by, coded_values, data_id_of, decoder_for, decoders_for, attribute_bytes, values_bytes_on, decoder_heads_bytes};
 ghost use Rattle.drc_container.specs.Encoded.{AttributeSpelled};
 ghost use Rattle.drc_container.specs.Standings.{glued_on, walk_in, AreStandings, CanCodeValues, AreReadAgain};
 
@@ -207,6 +207,13 @@ pub fn surface_front(
     valence: bool,
     bits: &[Vec<bool>],
 ) -> Result<Vec<u8>, Memory>
+    requires writable { IsWritable faces trace.now.vertices trace.now.symbols trace.now.events trace.now.starts }
+    requires faces { faces ≤ MAX_FACES }
+    requires vertices { trace.now.vertices ≤ most_points }
+    requires few { length bits.now ≤ MAX_ATTRIBUTES }
+    requires short { All (λ v. length v.items < 2 ^ 31) bits.now }
+    ensures bytes { IfOk result (λ v. (m : MeshParts) → v.items ≡ header_bytes 1 (geometry.Mesh m) ++ connectivity_bytes valence faces trace.now (map (λ v. v.items) bits.now)) }
+    ensures again { OnOk result (IsReadAgain valence faces trace.now (map (λ v. v.items) bits.now) (connectivity_bytes valence faces trace.now (map (λ v. v.items) bits.now))) }
 {
     let mut out = Vec::new(alloc);
     put_header(&mut out)?;

@@ -1,18 +1,17 @@
 //! The trace of a mesh's surface, with its pairs as they are decoded.
 
-ghost use Rattle.std.specs.Prelude.{◌≡◌, ◌≤◌, length, Some, Err, IfOk};
+ghost use Rattle.std.specs.Prelude.{◌≡◌, ◌*◌, ◌≤◌, length, Some, Err, IfOk};
 ghost use Rattle.drc_base.specs.declared.faults.Fault.{Fault as AnyFault};
 ghost use Rattle.drc_base.specs.declared.faults.Refusal.TheVariants as refusal;
 ghost use Rattle.drc_base.specs.Refusals.{Answers};
 ghost use Rattle.mesh_model.specs.FirstFault.{value_unless};
 ghost use Rattle.corner_table.specs.Fans.{IsProper};
-ghost use Rattle.corner_table.specs.Table.{gluing_of};
+ghost use Rattle.corner_table.specs.Table.{gluing_of, glued_in};
 ghost use Rattle.pairing.specs.Pairing.{pairing};
 ghost use Rattle.pairing.specs.Degenerate.{degenerate_fault};
 ghost use Rattle.eb_trace.specs.Writable.{IsWritable};
 ghost use Rattle.drc_container.specs.Refused.{vertices_fault, tracing_fault};
 ghost use Rattle.drc_container.specs.WrittenOnSurface.{traced, decoded};
-ghost use Rattle.drc_container.specs.Standings.{glued_in};
 
 use crate::carried_pairs::carried_pairs;
 use crate::refusals::unless;

@@ -1,6 +1,6 @@
 //! A mesh with its faces in another order, each turned: not copied, but seen through the rows that tell so.
 
-ghost use Rattle.std.specs.Prelude.{◌≡◌, ◌+◌, ◌<◌, ◌≤◌, length, IfOk, vec_len, vec_capacity};
+ghost use Rattle.std.specs.Prelude.{◌≡◌, ◌+◌, ◌%◌, ◌<◌, ◌≤◌, length, get_or, All, IfOk};
 ghost use Rattle.mesh_model.specs.Parts.{cells_of, corner, IsMesh};
 ghost use Rattle.mesh_model.specs.Head.{width_of};
 ghost use Rattle.mesh_model.specs.Renumbering.{renumbered, turned_face};
@@ -36,10 +36,11 @@ impl<'m> Model for TurnedMesh<'m> {
 
 /// The corner that a corner of a face in the order of the rows is.
 pub fn carried(rows: &[(u32, u8)], corner: Side) -> Side
-    requires rows { IsRenumbering (length rows.now) rows.now }
+    requires rows { All (λ row. row.1 < 3) rows.now }
     requires corner { corner.face < length rows.now }
+    ensures face { result.face ≡ (get_or rows.now corner.face (0, 0)).0 }
+    ensures place { result.k ≡ (corner.k + (get_or rows.now corner.face (0, 0)).1) % 3 }
     ensures corner { side_of result ≡ carry rows.now (side_of corner) }
-    ensures within { result.face < length rows.now }
 {
     let (face, turn) = rows[corner.face as usize];
     Side {
