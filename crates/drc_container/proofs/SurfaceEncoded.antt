@@ -1,5 +1,5 @@
 -- What is told of an encoding by Edgebreaker, step by step, is told of the mesh.
-use Rattle.std.proofs.Common.{◌≡◌, ◌⊎◌, ℕ, Bool, ◌-◌, ◌<◌, ◌≤◌, ℤ, List, [], ◌∷◌, ◌++◌, length, map, Option, Some, None, Ok, inl, inr, sym, ap, ◌∙◌, subst, arith}
+use Rattle.std.proofs.Common.{◌≡◌, ◌⊎◌, ℕ, ◌-◌, ◌<◌, ◌≤◌, ℤ, List, [], ◌∷◌, ◌++◌, length, map, Option, Some, None, Ok, inl, inr, sym, ap, ◌∙◌, subst, arith}
 use Rattle.std.specs.Prelude.{nat_le}
 use Rattle.std.specs.List.{All, enumerate_from}
 use Rattle.std.specs.Ordering.{int_eq}
@@ -20,7 +20,7 @@ use Rattle.mesh_model.specs.Same.{Rows}
 use Rattle.mesh_model.specs.Renumbering.{renumbered}
 use Rattle.mesh_model.proofs.FirstFaults.{unless-none, first_fault-none}
 use Rattle.corner_table.specs.Sides.{Gluing}
-use Rattle.corner_table.specs.Table.{gluing_of}
+use Rattle.corner_table.specs.Table.{Table, gluing_of}
 use Rattle.pairing.specs.Pairing.{pairing}
 use Rattle.pairing.specs.Degenerate.{degenerate_fault}
 use Rattle.eb_trace.specs.declared.tracing.Traced.{Traced}
@@ -37,14 +37,13 @@ use Rattle.drc_container.specs.Written.{header_bytes}
 use Rattle.drc_container.specs.WrittenOnSurface.{traced, Glued, decoded, coded_values, decoders_for, seam_lists, values_bytes_on, decoder_heads_bytes, edgebreaker_bytes}
 use Rattle.drc_container.specs.Refused.{vertices_fault, limit_fault, range_fault, tracing_fault, values_fault, coding_fault}
 use Rattle.drc_container.specs.Encoded.{CanCodeSurface, AttributeSpelled, SurfaceSpelled}
-use Rattle.drc_container.specs.declared.connected.Connected.{Connected}
 use Rattle.drc_container.specs.Standings.{glued_by, CanCodeValues}
-use Rattle.drc_container.specs.Fronts.{connectivity_of, IsConnected}
+use Rattle.drc_container.specs.Fronts.{connectivity_of}
 use Rattle.drc_container.proofs.FirstRefusals.{refuses-alike, value-given, wraps}
 use Rattle.drc_container.proofs.SurfaceDecoded.{decoded-keeps}
 
 -- a value that is given is the one that is due
-value-told : {A : Type 0} (t : Option Fault) (a x : A) → value_unless t a ≡ Ok x → x ≡ a
+pub value-told : {A : Type 0} (t : Option Fault) (a x : A) → value_unless t a ≡ Ok x → x ≡ a
 value-told {A} None a x is = cc
 value-told {A} (Some f) a x is = cc
 
@@ -179,11 +178,10 @@ stream-due coding m t d front bytes rows is told order given =
 
 -- ---- the surface that is kept
 
--- the mesh that is seen through the rows, with the surface that is kept, is the mesh as it is decoded
-pub kept-decoded : (valence : Bool) (m n : MeshParts) (rows : Rows) (c : Connected) → IsConnected valence m c → rows ≡ c.rows → n ≡ renumbered m rows
-    → glued_by n c.sides ≡ decoded m
+-- the mesh that is seen through the rows, with the pairs that are kept, is the mesh as it is decoded
+pub seen-decoded : (m n : MeshParts) (rows : Rows) (t : Table) → n ≡ renumbered m rows → rows ≡ (traced m).order → gluing_of t ≡ (decoded m).pairs → glued_by n t ≡ decoded m
 unfolding decoded
-kept-decoded valence m n rows c is same seen =
-    let with_mesh : MeshParts → Glued = λ (x : MeshParts). record { mesh = x; pairs = gluing_of c.sides } in
+seen-decoded m n rows t seen order pairs =
+    let with_mesh : MeshParts → Glued = λ (x : MeshParts). record { mesh = x; pairs = gluing_of t } in
     let with_pairs : Gluing → Glued = λ (g : Gluing). record { mesh = renumbered m (traced m).order; pairs = g } in
-    ap with_mesh (seen ∙ ap (renumbered m) (same ∙ is.rows)) ∙ ap with_pairs is.pairs
+    ap with_mesh (seen ∙ ap (renumbered m) order) ∙ ap with_pairs pairs

@@ -1,8 +1,9 @@
 -- A mesh that is seen through rows: what holds of it, and its corners.
 use Rattle.std.proofs.Common.{◌≡◌, ℕ, zero, suc, ◌+◌, ◌%◌, ◌<◌, ℤ, List, [], length, get_or, refl, sym, ap, ◌∙◌, arith}
+use Rattle.std.proofs.lemmas.List.{length-map}
 use Rattle.mesh_model.specs.Parts.{MeshParts, corner, IsMesh}
 use Rattle.mesh_model.specs.Same.{Rows}
-use Rattle.mesh_model.specs.Renumbering.{renumbered}
+use Rattle.mesh_model.specs.Renumbering.{turned_face, renumbered}
 use Rattle.mesh_model.proofs.RenumberedMeshes.{renumbered-mesh, renumbered-same}
 use Rattle.corner_table.specs.Sides.{Place, first, second, third, place_number, place_of}
 use Rattle.corner_table.specs.Carried.{turned, IsRenumbering}
@@ -21,6 +22,10 @@ turned-place k t h l = ap place_of (turned_corner k t h l) ∙ place-numbered (t
 -- it is a mesh
 pub turned-sound : (m : MeshParts) (rows : Rows) → IsMesh m → IsRenumbering (length m.faces) rows → IsMesh (renumbered m rows)
 turned-sound m rows is R = renumbered-mesh m rows is (names-apart (length m.faces) rows R)
+
+-- it has as many faces
+pub turned-faces : (m : MeshParts) (rows : Rows) → IsRenumbering (length m.faces) rows → length (renumbered m rows).faces ≡ length m.faces
+turned-faces m rows R = length-map rows (λ (row : ℕ × ℕ). turned_face (get_or m.faces row.0 []) row.1) ∙ R.one_each
 
 -- a corner of it is a corner of the mesh
 pub turned-row : (m : MeshParts) (rows : Rows) (f k face low : ℕ) → IsMesh m → IsRenumbering (length m.faces) rows → f < length (renumbered m rows).faces → k < 3
