@@ -5,13 +5,13 @@ import struct
 
 
 class Shape:
-    """Points as rows of integers, faces as triples of point numbers (None: a cloud), and the property of each column."""
+    """Points as rows of integers, faces as triples of point numbers (None: a cloud), the property of each column, and comments."""
 
-    def __init__(self, name, points, faces, properties=("int x", "int y", "int z")):
-        self.name, self.points, self.faces, self.properties = name, points, faces, properties
+    def __init__(self, name, points, faces, properties=("int x", "int y", "int z"), comments=()):
+        self.name, self.points, self.faces, self.properties, self.comments = name, points, faces, properties, comments
 
     def ply(self):
-        lines = ["ply", "format ascii 1.0", f"element vertex {len(self.points)}"]
+        lines = ["ply", "format ascii 1.0", *(f"comment {it}" for it in self.comments), f"element vertex {len(self.points)}"]
         lines += [f"property {it}" for it in self.properties]
         if self.faces is not None:
             lines += [f"element face {len(self.faces)}", "property list uchar int vertex_indices"]
@@ -91,6 +91,61 @@ def pieces(count):
     return points, [(3 * k, 3 * k + 1, 3 * k + 2) for k in range(count)]
 
 
+def seven():
+    """The torus of seven points, each two of which have an edge."""
+    points = [(k, k * k % 7, 0) for k in range(7)]
+    return points, [(k, (k + 1) % 7, (k + 3) % 7) for k in range(7)] + [(k, (k + 3) % 7, (k + 2) % 7) for k in range(7)]
+
+
+def ring():
+    """The sides of a prism of three sides, which is open above and below."""
+    points = [(k, 2 * k * k, 1) for k in range(6)]
+    return points, [(0, 1, 3), (1, 4, 3), (1, 2, 4), (2, 5, 4), (2, 0, 5), (0, 3, 5)]
+
+
+def plate(side, handles, holes):
+    """The surface of a plate of so many cells each way, with walls through so many cells, and so many more left out above.
+
+    A cell that is cut has odd numbers, and so no point in common with another or with the rim."""
+    number = lambda i, j, z: (z * (side + 1) + j) * (side + 1) + i
+    points = [(i, j, 5 * z + i * j % 3) for z in (0, 1) for j in range(side + 1) for i in range(side + 1)]
+    odd = [(i, j) for j in range(1, side - 1, 2) for i in range(1, side - 1, 2)]
+    through, above = set(odd[:handles]), set(odd[handles:handles + holes])
+    faces = []
+
+    def square(a, b, c, d):
+        faces.extend([(a, b, d), (a, d, c)])
+
+    def wall(i, j, k, m):
+        square(number(i, j, 0), number(k, m, 0), number(i, j, 1), number(k, m, 1))
+
+    for j in range(side):
+        for i in range(side):
+            if (i, j) in through:
+                corners = [(i, j), (i, j + 1), (i + 1, j + 1), (i + 1, j)]
+                for (a, b) in zip(corners, corners[1:] + corners[:1]):
+                    wall(*a, *b)
+                continue
+            square(number(i, j, 0), number(i, j + 1, 0), number(i + 1, j, 0), number(i + 1, j + 1, 0))
+            if (i, j) not in above:
+                square(number(i, j, 1), number(i + 1, j, 1), number(i, j + 1, 1), number(i + 1, j + 1, 1))
+    for k in range(side):
+        wall(k, 0, k + 1, 0)
+        wall(side, k, side, k + 1)
+        wall(k + 1, side, k, side)
+        wall(0, k + 1, 0, k)
+    return points, faces
+
+
+def scan(side, seed):
+    """A height field in which faces are left out, repeated and turned over."""
+    draw = random.Random(seed)
+    points, faces = lattice(side)
+    kept = [face for face in faces if draw.random() < 0.97]
+    repeated = [tuple(draw.sample(face, 3)) for face in kept if draw.random() < 0.05]
+    return points, kept + repeated
+
+
 def with_column(points, value, *properties):
     return [row + value(k) for k, row in enumerate(points)], ("int x", "int y", "int z") + properties
 
@@ -106,12 +161,32 @@ def split_cells(side):
     return points, faces
 
 
+def colours_on_a_scan():
+    """Two faces whose positions are quantised floats, with colours."""
+    rows = [(0, 0, 1023, 255, 0, 0), (2047, 0, 1023, 255, 0, 0), (0, 2047, 1023, 0, 255, 0), (2047, 2047, 1023, 0, 255, 0)]
+    properties = ("int x", "int y", "int z", "uchar red", "uchar green", "uchar blue")
+    comments = ("drc attr 0 0 9 3 0 0", "drc attr 1 2 2 3 1 1", "drc quant 0 11 3f800000 00000000 00000000 bf800000")
+    return Shape("colours on a scan", rows, [(0, 1, 2), (2, 1, 3)], properties, comments)
+
+
+def two_labels():
+    """Two faces with one edge, along which they have two labels."""
+    rows = [(0, 0, 0, 7), (1, 0, 0, 7), (0, 1, 0, 7), (0, 1, 0, 9), (1, 0, 0, 9), (1, 1, 0, 9)]
+    return Shape("two labels", rows, [(0, 1, 2), (3, 4, 5)], ("int x", "int y", "int z", "uchar label"))
+
+
+def many():
+    """Meshes of many parts, holes and handles."""
+    return [Shape("1,000 components", *pieces(1000)), Shape("100 holes and 20 handles", *plate(23, 20, 100)), Shape("scan", *scan(40, 3))]
+
+
 def meshes():
     """The meshes of all tests, small ones first."""
     made = [Shape("triangle", [(0, 0, 0), (10, 0, 0), (0, 10, -1)], [(0, 1, 2)])]
     made.append(Shape("tetrahedron", [(0, 0, 0), (9, 0, 0), (0, 9, 0), (0, 0, 9)], [(0, 2, 1), (0, 1, 3), (1, 2, 3), (2, 0, 3)]))
     made += [Shape(f"book {n}", *book(n)) for n in (2, 3, 7)]
     made += [Shape(f"fan {n}", *fan(n)) for n in (1, 4)]
+    made += [Shape("seven points", *seven()), Shape("ring", *ring()), two_labels()]
     made.append(Shape("strip", *strip(7)))
     made.append(Shape("pieces", *pieces(6)))
     made.append(Shape("grid", *lattice(5)))
@@ -171,12 +246,13 @@ def read_binary(data):
 
 
 def dequantised(comments, rows):
-    """The rows with the first attribute's three columns as floats, where a comment tells its quantisation."""
+    """The rows with the first attribute's three columns as floats of 32 bits, where a comment tells its quantisation."""
+    short = lambda x: struct.unpack(">f", struct.pack(">f", x))[0]
     for line in comments:
         found = re.match(r"comment drc quant 0 (\d+) ([0-9a-f]{8}) ([0-9a-f]{8}) ([0-9a-f]{8}) ([0-9a-f]{8})", line)
         if found:
             real = lambda word: struct.unpack(">f", bytes.fromhex(word))[0]
-            step = real(found[2]) / ((1 << int(found[1])) - 1)
+            step = short(real(found[2]) / ((1 << int(found[1])) - 1))
             low = [real(found[k]) for k in (3, 4, 5)]
-            return [tuple(low[k] + row[k] * step for k in range(3)) + row[3:] for row in rows]
+            return [tuple(short(low[k] + short(row[k] * step)) for k in range(3)) + row[3:] for row in rows]
     return rows

@@ -8,12 +8,24 @@ mod words;
 use crate::words::{NoWords, words_of};
 use drc_app::{out_of_memory, run};
 use drc_base::{StdSink, StdSource};
+use std::alloc::Global;
 use std::process::ExitCode;
 
 /// The status where a word of the command line isn't UTF-8.
 const NOT_TEXT: u8 = 7;
 
+/// The bytes of the largest block that the C library keeps for reuse once such a block was given back.
+const KEPT_BYTES: usize = 0x1ff_0000;
+
+/// Takes a large block and gives it back unused. The C library of Linux hands a freed block to the system, unless one
+/// as large was freed before; pages that are taken anew are cleared anew, a tenth of the time of decoding. Nothing depends
+/// on whether the block is there.
+fn keep_freed_blocks(alloc: Global) {
+    let _ = Vec::<u8>::with_capacity(alloc, KEPT_BYTES);
+}
+
 fn main(rt: HostRuntime) -> ExitCode {
+    keep_freed_blocks(rt.alloc());
     let mut notes = StdSink::new(rt.stderr());
     let words = match words_of(&rt, rt.alloc()) {
         Ok(words) => words,

@@ -60,7 +60,7 @@ few-points Holes n most = omega (arith, square-more n most)
 few-points Fans n most = omega (arith, square n most)
 few-points Seams n most = omega (arith, square n most)
 
-few-faces : (kind : GenKind) (n : ℕ) → n ≤ 512 → length (faces_of kind n) ≤ 524288
+pub few-faces : (kind : GenKind) (n : ℕ) → n ≤ 512 → length (faces_of kind n) ≤ 524288
 few-faces Grid n most = omega (arith, square n most, length-faces Grid n)
 few-faces Torus n most = omega (arith, square n most, length-faces Torus n)
 few-faces Holes n most = omega (arith, square n most, length-faces Holes n)
@@ -76,7 +76,7 @@ heads-pass Holes = refl
 heads-pass Fans = refl
 heads-pass Seams = refl
 
-narrow : (kind : GenKind) → width_of (heads_of kind) ≤ 4
+pub narrow : (kind : GenKind) → width_of (heads_of kind) ≤ 4
 narrow Grid = omega arith
 narrow Torus = omega arith
 narrow Holes = omega arith

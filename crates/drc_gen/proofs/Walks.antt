@@ -36,7 +36,7 @@ wide-of (suc n) k below = omega arith
 pub pair_at-below : (n k : ℕ) → k < n * n → (k % n < n) × (k / n < n)
 pair_at-below n k below = (mod_below k n (wide-of n k below), div_below k n n (wide-of n k below) below)
 
-get_or-pairs : (n k : ℕ) → k < n * n → get_or (pairs n) k (0, 0) ≡ pair_at n k
+pub get_or-pairs : (n k : ℕ) → k < n * n → get_or (pairs n) k (0, 0) ≡ pair_at n k
 unfolding pairs
 get_or-pairs n k below =
     let inside = pair_at-below n k below in

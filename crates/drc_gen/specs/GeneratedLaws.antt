@@ -1,6 +1,7 @@
 -- What holds of generated meshes (this project's choice).
-use Rattle.std.specs.Prelude.{ℕ, ◌≡◌, ◌≤◌, ◌+◌, ◌*◌, length}
-use Rattle.mesh_model.specs.Parts.{IsMesh}
+use Rattle.std.specs.Prelude.{ℕ, ◌≡◌, ◌≢◌, ◌<◌, ◌≤◌, ◌+◌, ◌*◌, ◌^◌, ℤ, pos, ◌≤ℤ◌, ◌<ℤ◌, List, length, take}
+use Rattle.std.specs.List.{All}
+use Rattle.mesh_model.specs.Parts.{MeshParts, IsMesh, corner}
 use Rattle.drc_gen.specs.declared.kinds.GenKind.{GenKind}
 use Rattle.drc_gen.specs.declared.kinds.GenKind.TheVariants.{Grid, Torus, Holes, Fans, Seams}
 use Rattle.drc_gen.specs.declared.sizes.TheConstants.{LEAST_SIZE, MOST_SIZE}
@@ -33,3 +34,30 @@ FacesAreCounted Torus n = length (faces_of Torus n) ≡ 2 * (n * n)
 FacesAreCounted Holes n = length (faces_of Holes n) ≤ 2 * (n * n)
 FacesAreCounted Fans n = length (faces_of Fans n) ≡ n * n
 FacesAreCounted Seams n = length (faces_of Seams n) ≡ 2 * (n * n)
+
+-- each kind has a face
+abbrev pub FacesAreSome : Type 0
+FacesAreSome = (kind : GenKind) (n : ℕ) → IsSize n → 0 < length (faces_of kind n)
+
+-- the position of corner k, modulo 3, of face f: the first three integers of its point
+abbrev pub position_of : MeshParts → ℕ → ℕ → List ℤ
+position_of m f k = take 3 (corner m f k)
+
+-- no two corners of face f have one position
+abbrev pub IsProperFace : MeshParts → ℕ → Type 0
+IsProperFace m f =
+    (position_of m f 0 ≢ position_of m f 1)
+    × (position_of m f 1 ≢ position_of m f 2)
+    × (position_of m f 2 ≢ position_of m f 0)
+
+-- each face of each kind is so
+abbrev pub FacesAreProper : Type 0
+FacesAreProper = (kind : GenKind) (n seed f : ℕ) → IsSize n → f < length (faces_of kind n) → IsProperFace (generated kind n seed) f
+
+-- an integer that has no sign and at most 20 bits
+abbrev pub IsSmall : ℤ → Type 0
+IsSmall v = (pos 0 ≤ℤ v) × (v <ℤ pos (2 ^ 20))
+
+-- each integer of each point is small
+abbrev pub ValuesAreSmall : Type 0
+ValuesAreSmall = (kind : GenKind) (n seed : ℕ) → IsSize n → All (λ row. All IsSmall row) (points_of kind n seed)

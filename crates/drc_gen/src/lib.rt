@@ -17,5 +17,5 @@ mod tests;
 
 pub use generating::generate;
 pub use kinds::GenKind;
-pub use laws::generated_is_a_mesh;
+pub use laws::{generated_is_a_mesh, generated_is_proper};
 pub use sizes::{LEAST_SIZE, MOST_SIZE};

@@ -1,5 +1,5 @@
 -- Lists that are read from a place downwards.
-use Rattle.std.proofs.Common.{◌≡◌, ◌≢◌, ℕ, zero, suc, ◌<◌, ◌≤◌, Some, None, List, [], ◌∷◌, length, get_or, set, take, reverse, sym, refl, ap, ◌∙◌, arith, get_or-set_other, get_or-set_same, add-one}
+use Rattle.std.proofs.Common.{◌≡◌, ◌≢◌, ℕ, zero, suc, ◌<◌, ◌≤◌, Some, None, List, [], ◌∷◌, ◌++◌, length, get_or, set, take, reverse, sym, refl, ap, ◌∙◌, arith, get_or-set_other, get_or-set_same, add-one, length-append}
 use Rattle.std.proofs.lemmas.List.{take_all, take_more, reverse-append}
 use Rattle.eb_rebuild.specs.Kept.{counted_down, first_side}
 
@@ -31,6 +31,13 @@ counted_down_take {A} d xs (suc n) h =
 -- all of a list, read downwards, is the list in reverse
 pub counted_down_reverse : {A : Type 0} (d : A) (xs : List A) → counted_down d (length xs) xs ≡ reverse xs
 counted_down_reverse {A} d xs = counted_down_take d xs (length xs) (omega arith) ∙ ap {A = List A} reverse (take_all (length xs) xs (omega arith))
+
+-- a list and one more, read downwards
+pub counted_down_more : {A : Type 0} (d : A) (n : ℕ) (xs : List A) (v : A) → n ≡ length xs → counted_down d (suc n) (xs ++ v ∷ []) ≡ v ∷ counted_down d n xs
+counted_down_more {A} d n xs v e =
+    let long : suc n ≡ length (xs ++ v ∷ []) = (let a = length-append xs (v ∷ []) in omega arith) in
+    ap (λ (k : ℕ). counted_down d k (xs ++ v ∷ [])) long ∙ counted_down_reverse d (xs ++ v ∷ []) ∙ reverse-append xs (v ∷ [])
+    ∙ ap (λ (l : List A). v ∷ l) (sym (ap (λ (k : ℕ). counted_down d k xs) e ∙ counted_down_reverse d xs))
 
 -- the first of a list, and the rest
 pub first_some : (xs : List ℕ) (a : ℕ) → Some a ≡ first_side xs → (rest : List ℕ) × (xs ≡ a ∷ rest)

@@ -1,25 +1,46 @@
 //! The sides that wait.
 
+ghost use Rattle.std.specs.Prelude.{◌≡◌, suc, ◌+◌, ◌<◌, ◌≤◌, ◌∷◌, max, vec_len, vec_capacity};
+ghost use Rattle.eb_rebuild.specs.Kept.{counted_down};
+
 use drc_base::Memory;
 use std::alloc::Global;
 use std::marker::Model;
 
-/// A stack of sides by their numbers, with room for as many as it is made for.
+/// A stack of sides by their numbers, with room for as many as it is made for. Places above its height keep what stood
+/// there, so that only as much of the room is touched as is used.
 #[derive(Debug, Drop)]
 pub(crate) struct SideStack {
     sides: Vec<u32>,
     height: u32,
+    room: u32,
+}
+
+/// Puts a side above the first `height` ones, for which there is room.
+fn put(sides: &mut Vec<u32>, height: u32, side: u32)
+    requires within { height ≤ vec_len sides.old }
+    requires room { height < vec_capacity sides.old }
+    ensures top { counted_down 0 (suc height) sides.new.items ≡ side ∷ counted_down 0 height sides.old.items }
+    ensures len { vec_len sides.new ≡ max (vec_len sides.old) (height + 1) }
+    ensures capacity { vec_capacity sides.new ≡ vec_capacity sides.old }
+{
+    let at = height as usize;
+    if at < sides.len() {
+        sides[at] = side;
+        return;
+    }
+    sides.push_reserved(side);
 }
 
 impl Model for SideStack {
-    ghost use Rattle.std.specs.Prelude.{◌≤◌, ◌<◌, ◌^◌, vec_len};
+    ghost use Rattle.std.specs.Prelude.{◌≤◌, vec_len, vec_capacity};
     ghost use Rattle.eb_rebuild.specs.Kept.{StackValue, counted_down};
 
     ghost Value = { StackValue };
 
-    ghost view = { λ s. record { sides = counted_down 0 s.height s.sides.items; room = vec_len s.sides } };
+    ghost view = { λ s. record { sides = counted_down 0 s.height s.sides.items; room = s.room } };
 
-    ghost invariant = { λ s. (s.height ≤ vec_len s.sides) × (vec_len s.sides < 2 ^ 32) };
+    ghost invariant = { λ s. (s.height ≤ vec_len s.sides) × (vec_len s.sides ≤ s.room) × (s.room ≤ vec_capacity s.sides) };
 }
 
 impl SideStack {
@@ -32,8 +53,9 @@ impl SideStack {
         ensures room { IfOk result (λ s. s.room ≡ room) }
     {
         Ok(SideStack {
-            sides: vec![in alloc; 0; room as usize]?,
+            sides: Vec::with_capacity(alloc, room as usize)?,
             height: 0,
+            room,
         })
     }
 
@@ -51,7 +73,7 @@ impl SideStack {
         ensures sides { self.new.sides ≡ side ∷ self.old.sides }
         ensures room { self.new.room ≡ self.old.room }
     {
-        self.sides[self.height as usize] = side;
+        put(&mut self.sides, self.height, side);
         self.height += 1;
     }
 
