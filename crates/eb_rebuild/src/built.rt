@@ -1,33 +1,45 @@
 //! A finished rebuilding.
 
-use corner_table::SideTable;
+use corner_table::{Classes, SideTable};
 use std::marker::Model;
 
-/// The table of a finished rebuilding. Only `finish` of a rebuilding makes one. It is linked where the
-/// rebuilding kept the boundary by links.
+/// The table of a finished rebuilding, with the classes of its corners. Only `finish` of a rebuilding makes
+/// one. It is linked where the rebuilding kept the boundary by links.
 #[derive(Debug, Drop)]
 pub struct Built {
     table: SideTable,
+    classes: Classes,
     linked: bool,
 }
 
 impl Model for Built {
+    ghost use Rattle.corner_table.specs.Labels.{IsLabelled};
+    ghost use Rattle.corner_table.specs.Table.{gluing_of};
     ghost use Rattle.eb_rebuild.specs.Rebuilding.{BuiltValue};
 
     ghost Value = { BuiltValue };
 
     ghost view = { λ b. record { table = b.table; linked = b.linked } };
+
+    ghost invariant = { λ b. IsLabelled b.table.faces (gluing_of b.table) b.classes.of_corner b.classes.count b.classes.ends };
 }
 
 impl Built {
     ghost use Rattle.std.specs.Prelude.{◌≡◌};
+    ghost use Rattle.corner_table.specs.Labels.{IsLabelled};
+    ghost use Rattle.corner_table.specs.Table.{gluing_of};
 
-    /// The finished table.
-    pub(crate) fn new(table: SideTable, linked: bool) -> Built
+    /// The finished table, whose corners have these classes.
+    pub(crate) fn new(table: SideTable, classes: Classes, linked: bool) -> Built
+        requires { IsLabelled table.faces (gluing_of table) classes.of_corner classes.count classes.ends }
         ensures table { result.table ≡ table }
         ensures linked { result.linked ≡ linked }
     {
-        Built { table, linked }
+        Built {
+            table,
+            classes,
+            linked,
+        }
     }
 
     /// The table.
@@ -35,6 +47,13 @@ impl Built {
         ensures { result.now ≡ self.now.table }
     {
         &self.table
+    }
+
+    /// The classes of the table's corners, as `label_vertices` of the table numbers them.
+    pub fn classes(&self) -> &Classes
+        ensures { IsLabelled self.now.table.faces (gluing_of self.now.table) result.now.of_corner result.now.count result.now.ends }
+    {
+        &self.classes
     }
 
     /// The table, given back.

@@ -430,7 +430,7 @@ impl Rebuild for LinkRebuild {
         }
         let classes = labels_of::<Brand>(alloc, &self.table, Blank::new(1))?;
         match first_equal(classes.of_corner.as_slice(), built) {
-            None => Ok(Built::new(self.table, true)),
+            None => Ok(Built::new(self.table, classes, true)),
             Some(face) => Err(Refusal::Fault(Fault::new(Kind::Degenerate, u64::from(face)))),
         }
     }

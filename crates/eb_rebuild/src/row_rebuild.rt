@@ -9,6 +9,7 @@ ghost use Rattle.corner_table.specs.Sides.{side_at, same};
 
 use crate::active_rows::Row;
 use crate::built::Built;
+use crate::degenerate::labels_of;
 use crate::link_rebuild::refused;
 use crate::named_table::NamedTable;
 use crate::rebuild::Rebuild;
@@ -17,8 +18,8 @@ use crate::splits::Splits;
 use corner_table::{Event, Steps, Symbol};
 use drc_base::{Fault, Kind, Memory, Refusal};
 use std::alloc::Global;
-use std::marker::Model;
-use std::sync::ledger::Ledger;
+use std::marker::{Brand, Model};
+use std::sync::ledger::{Blank, Ledger};
 
 /// Whether two sides are one, by their numbers.
 fn is_one(a: u32, b: u32) -> bool
@@ -330,7 +331,7 @@ impl Rebuild for RowRebuild {
         }
     }
 
-    fn finish(self, _alloc: Global) -> Result<Built, Refusal> {
+    fn finish(self, alloc: Global) -> Result<Built, Refusal> {
         let built = self.named.face_count();
         if built != self.faces {
             return Err(Refusal::Fault(Fault::new(Kind::FaceCount, u64::from(built))));
@@ -340,7 +341,11 @@ impl Rebuild for RowRebuild {
             return Err(Refusal::Fault(Fault::new(Kind::VertexCount, u64::from(made))));
         }
         match self.named.first_degenerate() {
-            None => Ok(Built::new(self.named.into_table(), false)),
+            None => {
+                let table = self.named.into_table();
+                let classes = labels_of::<Brand>(alloc, &table, Blank::new(1))?;
+                Ok(Built::new(table, classes, false))
+            }
             Some(face) => Err(Refusal::Fault(Fault::new(Kind::Degenerate, u64::from(face)))),
         }
     }

@@ -15,8 +15,7 @@ use Rattle.mesh_model.specs.FirstFault.{value_unless}
 use Rattle.mesh_model.specs.Head.{width_of}
 use Rattle.mesh_model.specs.Parts.{MeshParts, corner, count_fault}
 use Rattle.mesh_model.specs.Assembled.{Columns, corner_row, corner_rows, same_row, distinct, number_of, triple, assembled_parts, assembled}
-use Rattle.mesh_model.specs.RowIndex.{with_row}
-use Rattle.mesh_model.proofs.DistinctRows.{same_row-decides, same_row-refl, distinct-push}
+use Rattle.mesh_model.proofs.DistinctRows.{same_row-decides, same_row-refl, distinct-push, with_row}
 use Rattle.mesh_model.proofs.AssembledParts.{AreApart, apart-distinct}
 
 -- a row that is among rows is among rows with one more, and the one more is too

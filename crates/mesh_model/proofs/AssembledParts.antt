@@ -16,10 +16,10 @@ use Rattle.mesh_model.specs.Head.{width_of}
 use Rattle.mesh_model.specs.Parts.{MeshParts, count_fault, rows_of, RowFits, IsFaceOf, IsMesh}
 use Rattle.mesh_model.specs.Stored.{AreStored}
 use Rattle.mesh_model.specs.Assembled.{Columns, corner_row, corner_rows, same_row, distinct, number_of, triple, assembled, AreTables, AreColumns}
-use Rattle.mesh_model.specs.RowIndex.{with_row, IsPointOf, IsNumbering}
+use Rattle.mesh_model.specs.RowIndex.{IsPointOf, IsNumbering}
 use Rattle.mesh_model.proofs.Columns.{width_of-bounds}
 use Rattle.mesh_model.proofs.CornerRows.{RowFits-corner_row}
-use Rattle.mesh_model.proofs.DistinctRows.{other_than, same_row-refl, same_row-apart, distinct-push}
+use Rattle.mesh_model.proofs.DistinctRows.{other_than, same_row-refl, same_row-apart, distinct-push, with_row}
 use Rattle.mesh_model.proofs.Made.{count_fault-points, count_fault-values}
 use Rattle.mesh_model.proofs.Rows.{length-rows}
 

@@ -7,7 +7,6 @@ use Rattle.std.proofs.lemmas.Bool.Decides.{Decides-int_eq}
 use Rattle.std.proofs.lemmas.List.{append-nil}
 use Rattle.std.proofs.lemmas.Slice.Eq.{slice_eq-Decides}
 use Rattle.mesh_model.specs.Assembled.{same_row, distinct}
-use Rattle.mesh_model.specs.RowIndex.{with_row}
 
 -- the test of rows is their equality
 pub same_row-decides : (a b : List ℤ) → Decides (same_row a b) (a ≡ b)
@@ -18,6 +17,10 @@ same_row-refl a b e = (same_row-decides a b).1 e
 
 pub same_row-apart : (a b : List ℤ) → (a ≡ b → ⊥) → same_row a b ≡ false
 same_row-apart a b apart = false_from_ne_true (same_row a b) (λ t. apart ((same_row-decides a b).0 t))
+
+-- rows with one more, where it is new
+abbrev pub with_row : List (List ℤ) → List ℤ → List (List ℤ)
+with_row rows row = cond (list_any (same_row row) rows) rows (rows ++ row ∷ [])
 
 -- the test that a row is another one
 abbrev pub other_than : List ℤ → List ℤ → Bool
@@ -74,3 +77,12 @@ distinct-push (x ∷ rows) row =
           ]
           ∙ sym (ap (λ b. cond (b || list_any (same_row row) kept) (x ∷ kept) ((x ∷ kept) ++ row ∷ [])) other)
     ]
+
+-- a row is among the distinct ones exactly where it is among all
+pub any-distinct : (row : List ℤ) (rows : List (List ℤ)) → list_any (same_row row) (distinct rows) ≡ list_any (same_row row) rows
+any-distinct row [] = refl
+any-distinct row (x ∷ rows) = elim (cases_Bool (same_row row x)) [
+  | inl same ↦ ap (λ b. b || list_any (same_row row) (filter (other_than x) (distinct rows))) same ∙ sym (ap (λ b. b || list_any (same_row row) rows) same)
+  | inr other ↦
+      ap (λ b. same_row row x || b) (any-filter x row (distinct rows) (λ e. false≢true (sym other ∙ same_row-refl row x e)) ∙ any-distinct row rows)
+]

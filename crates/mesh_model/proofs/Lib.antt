@@ -1,7 +1,7 @@
 pub mod Columns
 pub mod AssembledLaws
 pub mod AssembledParts
-pub mod CornerLinks
+pub mod CornerItems
 pub mod CornerRows
 pub mod Counts
 pub mod DistinctRows
@@ -10,6 +10,7 @@ pub mod Growing
 pub mod Indexes
 pub mod Made
 pub mod Names
+pub mod NumberedFaces
 pub mod Pairs
 pub mod Passing
 pub mod Places

@@ -11,5 +11,5 @@ pub mod MapText
 pub mod Assembled
 pub mod Hash
 pub mod RowIndex
-pub mod Links
+pub mod Items
 pub mod RenumberingLaws

@@ -1,41 +1,49 @@
--- The index by which a row is found among the points so far: points of one bucket are linked, the
--- latest first, and 0 ends a chain, so that a link to point p is p + 1 (this project's choice).
-use Rattle.std.specs.Prelude.{ℕ, ◌≡◌, ◌<◌, ◌≤◌, ◌+◌, ◌-◌, ◌^◌, ◌++◌, [], ◌∷◌, ℤ, List, length, slice_index, slice_index_or, if◌then◌else◌}
-use Rattle.std.specs.List.{list_any}
-use Rattle.mesh_model.specs.Assembled.{Columns, corner_row, corner_rows, same_row, distinct}
+-- Which rows are equal to earlier ones, how they are found, and the points that they are. Rows of one bucket
+-- are linked, each to the latest before it, and 0 ends a chain, so that a link to row p is p + 1 (this
+-- project's choice).
+use Rattle.std.specs.Prelude.{ℕ, ◌≡◌, ◌≢◌, ◌<◌, ◌≤◌, ◌+◌, ◌-◌, ◌*◌, [], ℤ, List, length, map, take, slice_index, slice_index_or}
+use Rattle.std.specs.List.{range_with_len}
+use Rattle.mesh_model.specs.Assembled.{Columns, corner_row, corner_rows, distinct, triple}
 use Rattle.mesh_model.specs.Hash.{bucket_of}
 
--- the bucket of point p
-abbrev pub key_of : List (List ℤ) → List ℕ → ℕ → ℕ
-key_of points tops p = bucket_of (length tops - 1) (slice_index_or points p [])
+-- the bucket of row p
+abbrev pub key_of : List (List ℤ) → ℕ → ℕ → ℕ
+key_of rows mask p = bucket_of mask (slice_index_or rows p [])
 
--- each chain has the points of its bucket
-pub record IsIndex (points : List (List ℤ)) (tops nexts : List ℕ) : Type 0 where
-  pub some : 0 < length tops
-  pub few : length tops ≤ 2 ^ 32
-  pub long : length nexts ≡ length points
-  pub top_in : (b : ℕ) → b < length tops → slice_index tops b ≤ length points
-  pub top_same : (b : ℕ) → b < length tops → 0 < slice_index tops b → key_of points tops (slice_index tops b - 1) ≡ b
-  pub top_all : (q : ℕ) → q < length points → q < slice_index tops (key_of points tops q)
-  pub next_back : (p : ℕ) → p < length points → slice_index nexts p ≤ p
-  pub next_same : (p : ℕ) → p < length points → 0 < slice_index nexts p →
-      key_of points tops (slice_index nexts p - 1) ≡ key_of points tops p
-  pub next_all : (p q : ℕ) → p < length points → q < p → key_of points tops q ≡ key_of points tops p → q < slice_index nexts p
+-- the chain of each of the first `count` rows has every earlier row of its bucket, of mask + 1 buckets
+pub record AreLinked (rows : List (List ℤ)) (mask count : ℕ) (links : List ℕ) : Type 0 where
+  pub back : (p : ℕ) → p < count → slice_index links p ≤ p
+  pub same : (p : ℕ) → p < count → 0 < slice_index links p → key_of rows mask (slice_index links p - 1) ≡ key_of rows mask p
+  pub all : (p q : ℕ) → p < count → q < p → key_of rows mask q ≡ key_of rows mask p → q < slice_index links p
 
--- rows with one more, where it is new
-abbrev pub with_row : List (List ℤ) → List ℤ → List (List ℤ)
-with_row rows row = if list_any (same_row row) rows then rows else rows ++ row ∷ []
+-- the same for some number of buckets
+pub record AreChains (rows : List (List ℤ)) (count : ℕ) (links : List ℕ) : Type 0 where
+  pub mask : ℕ
+  pub linked : AreLinked rows mask count links
 
--- points with one more, where its row is new
-pub record Grows (before after : List (List ℤ)) (row : List ℤ) : Type 0 where
-  pub points : after ≡ with_row before row
-  pub one_more : length after ≤ length before + 1
-  pub no_fewer : length before ≤ length after
-  pub kept : (q : ℕ) → q < length before → slice_index_or after q [] ≡ slice_index_or before q []
+-- a link from row p to an earlier row that is equal; 0 where there is none
+pub record IsTwin (rows : List (List ℤ)) (p link : ℕ) : Type 0 where
+  pub back : link ≤ p
+  pub equal : 0 < link → slice_index_or rows (link - 1) [] ≡ slice_index_or rows p []
+  pub none : link ≡ 0 → (q : ℕ) → q < p → slice_index_or rows q [] ≢ slice_index_or rows p []
+
+-- each of the first `count` rows has such a link
+abbrev pub AreTwins : List (List ℤ) → ℕ → List ℕ → Type 0
+AreTwins rows count links = (p : ℕ) → p < count → IsTwin rows p (slice_index links p)
+
+-- no two of the first `count` rows are equal
+abbrev pub AreUnlike : List (List ℤ) → ℕ → Type 0
+AreUnlike rows count = (p q : ℕ) → p < count → q < p → slice_index_or rows q [] ≢ slice_index_or rows p []
 
 -- point p has a row
 abbrev pub IsPointOf : List (List ℤ) → List ℤ → ℕ → Type 0
 IsPointOf points row p = (p < length points) × (slice_index_or points p [] ≡ row)
+
+-- the points of the first `count` rows, and for each of these rows the number of its point
+pub record AreNumbered (rows : List (List ℤ)) (count : ℕ) (numbers : List ℕ) (points : List (List ℤ)) : Type 0 where
+  pub distinct_rows : points ≡ distinct (take count rows)
+  pub few : length points ≤ count
+  pub numbered : (p : ℕ) → p < count → IsPointOf points (slice_index_or rows p []) (slice_index numbers p)
 
 -- the points of the first `count` corners, and for each corner the number of its point
 pub record IsNumbering (columns : Columns) (count : ℕ) (numbers : List ℕ) (points : List (List ℤ)) : Type 0 where
@@ -43,3 +51,9 @@ pub record IsNumbering (columns : Columns) (count : ℕ) (numbers : List ℕ) (p
   pub few : length points ≤ count
   pub each : length numbers ≡ count
   pub numbered : (c : ℕ) → c < count → IsPointOf points (corner_row columns c) (slice_index numbers c)
+
+-- faces of numbered corners
+pub record AreNumberedFaces (columns : Columns) (count : ℕ) (faces : List (List ℕ)) (points : List (List ℤ)) : Type 0 where
+  pub numbers : List ℕ
+  pub numbering : IsNumbering columns (3 * count) numbers points
+  pub are : faces ≡ map (triple numbers) (range_with_len 0 count)

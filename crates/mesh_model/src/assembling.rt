@@ -1,9 +1,8 @@
 //! A mesh from a table of values for each attribute.
 
-ghost use Rattle.std.specs.Prelude.{◌≡◌, ◌≢◌, ◌+◌, ◌*◌, ◌<◌, ℕ, AllPairs, map, length, zip, IfOk};
-ghost use Rattle.std.specs.List.{range_with_len};
+ghost use Rattle.std.specs.Prelude.{◌≡◌, ◌≢◌, ◌+◌, ◌*◌, ◌<◌, ℕ, AllPairs, zip, IfOk};
 ghost use Rattle.drc_base.specs.Refusals.{Answers};
-ghost use Rattle.mesh_model.specs.Assembled.{AreTables, assembled, corner_row, triple};
+ghost use Rattle.mesh_model.specs.Assembled.{AreTables, assembled, corner_row};
 ghost use Rattle.mesh_model.specs.Parts.{IsMesh, corner, rows_of};
 ghost use Rattle.mesh_model.specs.Stored.{AreStored};
 
@@ -14,18 +13,6 @@ use crate::row_rules::test_counts;
 use crate::tables::AttrTable;
 use drc_base::{Memory, Refusal};
 use std::alloc::Global;
-
-/// The faces of which each has three numbers of points in a row.
-fn triples(alloc: Global, numbers: &[u32], faces: u32) -> Result<Vec<[u32; 3]>, Memory>
-    requires { length numbers.now ≡ 3 * faces }
-    ensures { IfOk result (λ triples. triples.items ≡ map (triple numbers.now) (range_with_len 0 faces)) }
-{
-    let mut triples: Vec<[u32; 3]> = Vec::with_capacity(alloc, faces as usize)?;
-    for f in 0..faces as usize {
-        triples.push([numbers[3 * f], numbers[3 * f + 1], numbers[3 * f + 2]])?;
-    }
-    Ok(triples)
-}
 
 /// What a mesh stores beside its heads.
 #[derive(Drop)]
@@ -49,14 +36,12 @@ fn assemble_stored(
     ensures stored { IfOk result (λ s. AreStored heads.now s.cells.items s.width s.count) }
     ensures sound { IfOk result (λ s. IsMesh (record { heads = heads.now; points = rows_of s.width s.cells.items; faces = s.faces.items })) }
 {
-    let corners = 3 * faces;
     let width = row_width(heads);
-    let numbering = number_corners(alloc, heads, tables, corners, width)?;
+    let numbering = number_corners(alloc, heads, tables, faces, width)?;
     test_counts(numbering.count as u64, width)?;
-    let faces = triples(alloc, numbering.numbers.as_slice(), faces)?;
     Ok(Stored {
         cells: numbering.cells,
-        faces,
+        faces: numbering.faces,
         width,
         count: numbering.count,
     })

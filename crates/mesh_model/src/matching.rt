@@ -58,8 +58,9 @@ fn same_heads(a: &[Head], b: &[Head]) -> bool
     true
 }
 
-/// Whether two rows are equal. Rows are short, and compared in place.
-pub(crate) fn same_row(a: &[i32], b: &[i32]) -> bool
+/// Whether two rows of integers are equal. Rows are short, and compared in place.
+#[inline(always)]
+pub fn same_row(a: &[i32], b: &[i32]) -> bool
     ensures { IsTrue result ↔ (a.now ≡ b.now) }
 {
     if a.len() != b.len() {

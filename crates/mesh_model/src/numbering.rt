@@ -1,89 +1,121 @@
 //! The points of a mesh that is given by the rows of its corners: equal rows are one point, and the
 //! points are numbered in the order in which their rows come first.
 
-ghost use Rattle.std.specs.Prelude.{◌≡◌, ◌+◌, ◌*◌, ◌<◌, ◌≤◌, ◌^◌, None, length, zip, IfOk, OnOk};
-ghost use Rattle.mesh_model.specs.Assembled.{AreColumns};
+ghost use Rattle.std.specs.Prelude.{◌≡◌, ◌*◌, ◌<◌, ◌≤◌, ℕ, [], All, None, length, map, slice_index, slice_index_or, zip, IfOk};
+ghost use Rattle.mesh_model.specs.Assembled.{AreColumns, Columns};
 ghost use Rattle.mesh_model.specs.Head.{heads_fault, width_of};
-ghost use Rattle.mesh_model.specs.Links.{AreLinks};
+ghost use Rattle.mesh_model.specs.Items.{AreItemFaces};
 ghost use Rattle.mesh_model.specs.Parts.{rows_of};
-ghost use Rattle.mesh_model.specs.RowIndex.{Grows, IsIndex, IsNumbering, IsPointOf};
+ghost use Rattle.mesh_model.specs.RowIndex.{AreNumbered, AreNumberedFaces, AreTwins};
 
-use crate::corners::put_corner;
 use crate::heads::Head;
-use crate::links::corner_links;
-use crate::row_index::{RowIndex, row_bucket};
+use crate::items::{ItemFaces, items_of};
+use crate::row_index::{Twins, twins_of};
+use crate::row_rules::stored_row;
 use crate::tables::AttrTable;
 use drc_base::{MAX_FACES, Memory};
 use std::alloc::Global;
 
-/// For each corner the number of its point, and the rows of the points.
+/// The points of a mesh, and its faces by their numbers.
 #[derive(Drop)]
 pub(crate) struct Numbering {
-    /// The number of each corner's point.
-    pub numbers: Vec<u32>,
+    /// The points of each face.
+    pub faces: Vec<[u32; 3]>,
     /// The rows of the points, one after another.
     pub cells: Vec<i32>,
     /// How many points there are.
     pub count: u32,
 }
 
-/// The point of a row of `width` integers: a new one where no point has it.
-fn point_of(index: &mut RowIndex, width: u32, row: &[i32]) -> Result<u32, Memory>
-    requires index { IsIndex (rows_of width index.old.cells.items) index.old.tops.items index.old.nexts.items }
-    requires stored { length index.old.cells.items ≡ length index.old.nexts.items * width }
+/// Points as rows.
+#[derive(Drop)]
+struct Points {
+    cells: Vec<i32>,
+    count: u32,
+}
+
+/// Keeps of equal rows the first one as a point, and puts the number of its point in the place of each row's link to
+/// an earlier one.
+fn merge(
+    alloc: Global,
+    width: u32,
+    count: u32,
+    cells: &[i32],
+    twins: &mut [u32],
+) -> Result<Points, Memory>
+    requires whole { length cells.now ≡ count * width }
     requires wide { 0 < width }
-    requires long { length row.now ≡ width }
-    requires room { length index.old.nexts.items + 1 < 2 ^ 32 }
-    ensures index { OnOk result (IsIndex (rows_of width index.new.cells.items) index.new.tops.items index.new.nexts.items) }
-    ensures stored { OnOk result (length index.new.cells.items ≡ length index.new.nexts.items * width) }
-    ensures grows { OnOk result (Grows (rows_of width index.old.cells.items) (rows_of width index.new.cells.items) row.now) }
-    ensures point { IfOk result (IsPointOf (rows_of width index.new.cells.items) row.now) }
+    requires long { length twins.old ≡ count }
+    requires twins { AreTwins (rows_of width cells.now) count twins.old }
+    ensures points { IfOk result (λ points. AreNumbered (rows_of width cells.now) count twins.new (rows_of width points.cells.items)) }
+    ensures stored { IfOk result (λ points. length points.cells.items ≡ points.count * width) }
 {
-    let mask = (index.tops.len() - 1) as u32;
-    let bucket = row_bucket(mask, row);
-    match index.find(width, bucket, row) {
-        Some(point) => Ok(point),
-        None => {
-            let point = index.nexts.len() as u32;
-            index.insert(bucket, row)?;
-            Ok(point)
+    let mut kept = Vec::with_capacity(alloc, cells.len())?;
+    let mut points: u32 = 0;
+    for i in 0..count {
+        let twin = twins[i as usize];
+        if twin != 0 {
+            twins[i as usize] = twins[twin as usize - 1];
+            continue;
         }
+        twins[i as usize] = points;
+        points += 1;
+        kept.extend_from_slice(stored_row(cells, width, count, i))?;
+    }
+    Ok(Points {
+        cells: kept,
+        count: points,
+    })
+}
+
+/// Puts the number of its point in the place of each item of each face.
+fn renumber(faces: &mut [[u32; 3]], numbers: &[u32])
+    requires { All (λ face. All (λ item. item < length numbers.now) face) faces.old }
+    ensures { (f : ℕ) → f < length faces.old →
+        slice_index_or faces.new f [] ≡ map (λ item. slice_index numbers.now item) (slice_index_or faces.old f []) }
+{
+    for f in 0..faces.len() {
+        let face = faces[f];
+        faces[f] = [
+            numbers[face[0] as usize],
+            numbers[face[1] as usize],
+            numbers[face[2] as usize],
+        ];
     }
 }
 
-/// Puts the number of its point in the place of each corner's link, and answers the points. A corner that
-/// is linked to an earlier one has the point of that one; only for the others a row is looked for.
-fn number_in_place(
+/// The points of items of which some have equal rows.
+fn merge_items(
     alloc: Global,
-    heads: &[Head],
-    tables: &[AttrTable],
-    corners: u32,
     width: u32,
-    numbers: &mut [u32],
-) -> Result<RowIndex, Memory>
-    requires columns { AreColumns corners heads.now tables.now }
-    requires few { corners ≤ 3 * MAX_FACES }
-    requires width { width ≡ width_of heads.now }
+    items: ItemFaces,
+    twins: Twins,
+) -> Result<Numbering, Memory>
+    requires whole { length items.cells.items ≡ items.count * width }
     requires wide { 0 < width }
-    requires links { AreLinks tables.now corners numbers.old }
-    ensures numbering { IfOk result (λ index. IsNumbering (zip heads.now tables.now) corners numbers.new (rows_of width index.cells.items)) }
-    ensures stored { IfOk result (λ index. length index.cells.items ≡ length index.nexts.items * width) }
-    ensures few { IfOk result (λ index. length index.nexts.items ≤ corners) }
+    requires faces { All (λ face. All (λ item. item < items.count) face) items.faces.items }
+    requires long { length twins.links.items ≡ items.count }
+    requires twins { AreTwins (rows_of width items.cells.items) items.count twins.links.items }
+    ensures numbering { IfOk result (λ n. (columns : Columns) (faces : ℕ) →
+        AreItemFaces columns faces items.faces.items (rows_of width items.cells.items) →
+        AreNumberedFaces columns faces n.faces.items (rows_of width n.cells.items)) }
+    ensures stored { IfOk result (λ n. length n.cells.items ≡ n.count * width) }
 {
-    let buckets = (corners / 4 + 1).next_power_of_two();
-    let mut index = RowIndex::empty(alloc, buckets)?;
-    let mut row: Vec<i32> = Vec::with_capacity(alloc, width as usize)?;
-    for corner in 0..corners {
-        let link = numbers[corner as usize];
-        if link != 0 {
-            numbers[corner as usize] = numbers[link as usize - 1];
-            continue;
-        }
-        row.clear();
-        put_corner(&mut row, heads, tables, corners, corner)?;
-        numbers[corner as usize] = point_of(&mut index, width, row.as_slice())?;
-    }
-    Ok(index)
+    let mut numbers = twins.links;
+    let points = merge(
+        alloc,
+        width,
+        items.count,
+        items.cells.as_slice(),
+        numbers.as_mut_slice(),
+    )?;
+    let mut faces = items.faces;
+    renumber(faces.as_mut_slice(), numbers.as_slice());
+    Ok(Numbering {
+        faces,
+        cells: points.cells,
+        count: points.count,
+    })
 }
 
 /// The points of all corners, whose rows have `width` integers.
@@ -91,23 +123,25 @@ pub(crate) fn number_corners(
     alloc: Global,
     heads: &[Head],
     tables: &[AttrTable],
-    corners: u32,
+    faces: u32,
     width: u32,
 ) -> Result<Numbering, Memory>
-    requires columns { AreColumns corners heads.now tables.now }
+    requires columns { AreColumns (3 * faces) heads.now tables.now }
     requires pass { heads_fault heads.now ≡ None }
-    requires few { corners ≤ 3 * MAX_FACES }
+    requires few { faces ≤ MAX_FACES }
     requires width { width ≡ width_of heads.now }
     requires wide { 0 < width }
-    ensures numbering { IfOk result (λ n. IsNumbering (zip heads.now tables.now) corners n.numbers.items (rows_of width n.cells.items)) }
+    ensures numbering { IfOk result (λ n. AreNumberedFaces (zip heads.now tables.now) faces n.faces.items (rows_of width n.cells.items)) }
     ensures stored { IfOk result (λ n. length n.cells.items ≡ n.count * width) }
 {
-    let mut numbers = corner_links(alloc, heads, tables, corners)?;
-    let index = number_in_place(alloc, heads, tables, corners, width, numbers.as_mut_slice())?;
-    let count = index.nexts.len() as u32;
+    let items = items_of(alloc, heads, tables, faces, width)?;
+    let twins = twins_of(alloc, width, items.count, items.cells.as_slice())?;
+    if twins.some {
+        return merge_items(alloc, width, items, twins);
+    }
     Ok(Numbering {
-        numbers,
-        cells: index.cells,
-        count,
+        faces: items.faces,
+        cells: items.cells,
+        count: items.count,
     })
 }

@@ -1,7 +1,9 @@
-//! An index of rows: finds the point of a row in a few steps.
+//! An index of rows: finds which rows are equal to earlier ones, in a few steps a row.
 
-ghost use Rattle.std.specs.Prelude.{◌≡◌, ◌≤◌};
+ghost use Rattle.std.specs.Prelude.{◌≡◌, ◌+◌, ◌*◌, ◌<◌, ◌≤◌, ◌^◌, All, IfOk, false, length};
 ghost use Rattle.mesh_model.specs.Hash.{bucket_of, hash_from, mixed};
+ghost use Rattle.mesh_model.specs.Parts.{rows_of};
+ghost use Rattle.mesh_model.specs.RowIndex.{AreChains, AreTwins, AreUnlike, IsTwin};
 
 use crate::matching::same_row;
 use crate::row_rules::stored_row;
@@ -38,71 +40,101 @@ pub(crate) fn row_bucket(mask: u32, row: &[i32]) -> u32
     (hash ^ (hash >> 15)) & mask
 }
 
-/// The points so far, by the hash of their rows. A link to point p is p + 1, and 0 is none.
-#[derive(Drop)]
-pub(crate) struct RowIndex {
-    /// Of each bucket, a link to its latest point.
-    pub tops: Vec<u32>,
-    /// Of each point, a link to the one before it in its bucket.
-    pub nexts: Vec<u32>,
-    /// The rows of the points, one after another.
-    pub cells: Vec<i32>,
+/// Links each row to the latest one before it in its bucket. No row is compared, so that no step waits for the
+/// one before. `tops`, which is 0 at first, has a place for each bucket.
+fn link_rows(
+    alloc: Global,
+    width: u32,
+    count: u32,
+    cells: &[i32],
+    mask: u32,
+    tops: &mut [u32],
+) -> Result<Vec<u32>, Memory>
+    requires whole { length cells.now ≡ count * width }
+    requires wide { 0 < width }
+    requires few { count + 1 < 2 ^ 32 }
+    requires buckets { length tops.old ≡ mask + 1 }
+    requires none { All (λ top. top ≡ 0) tops.old }
+    ensures chains { IfOk result (λ links. AreChains (rows_of width cells.now) count links.items) }
+    ensures long { IfOk result (λ links. length links.items ≡ count) }
+{
+    let mut links = Vec::with_capacity(alloc, count as usize)?;
+    for i in 0..count {
+        let bucket = row_bucket(mask, stored_row(cells, width, count, i)) as usize;
+        links.push_reserved(tops[bucket]);
+        tops[bucket] = i + 1;
+    }
+    Ok(links)
 }
 
-impl RowIndex {
-    ghost use Rattle.std.specs.Prelude.{◌≡◌, ◌+◌, ◌-◌, ◌*◌, ◌<◌, ◌^◌, ◌≢◌, ℕ, [], ◌∷◌, ◌++◌, length, replicate, slice_index, slice_index_or, slice_set, IfOk, OnOk, MatchOption};
-    ghost use Rattle.mesh_model.specs.Hash.{bucket_of};
-    ghost use Rattle.mesh_model.specs.Parts.{rows_of};
-    ghost use Rattle.mesh_model.specs.RowIndex.{IsIndex, IsPointOf};
-
-    /// An index of no points, with this many buckets.
-    pub fn empty(alloc: Global, buckets: u32) -> Result<RowIndex, Memory>
-        ensures { IfOk result (λ index. (index.tops.items ≡ replicate buckets 0) × (index.nexts.items ≡ []) × (index.cells.items ≡ [])) }
-    {
-        Ok(RowIndex {
-            tops: vec![in alloc; 0; buckets as usize]?,
-            nexts: Vec::new(alloc),
-            cells: Vec::new(alloc),
-        })
-    }
-
-    /// The point that has a row of `width` integers, if there is one.
-    pub fn find(&self, width: u32, bucket: u32, row: &[i32]) -> Option<u32>
-        requires index { IsIndex (rows_of width self.now.cells.items) self.now.tops.items self.now.nexts.items }
-        requires stored { length self.now.cells.items ≡ length self.now.nexts.items * width }
-        requires wide { 0 < width }
-        requires few { length self.now.nexts.items < 2 ^ 32 }
-        requires bucket { bucket ≡ bucket_of (length self.now.tops.items - 1) row.now }
-        requires inside { bucket < length self.now.tops.items }
-        ensures { let points = rows_of width self.now.cells.items in
-            MatchOption result
-            ((q : ℕ) → q < length points → slice_index_or points q [] ≢ row.now)
-            (IsPointOf points row.now) }
-    {
-        let cells = self.cells.as_slice();
-        let count = self.nexts.len() as u32;
-        let mut link = self.tops[bucket as usize];
-        while link != 0 {
-            let point = link - 1;
-            if same_row(stored_row(cells, width, count, point), row) {
-                return Some(point);
-            }
-            link = self.nexts[point as usize];
+/// A link to the latest row before row `i` that equals it, or none.
+fn twin_of(links: &[u32], width: u32, count: u32, cells: &[i32], i: u32) -> u32
+    requires whole { length cells.now ≡ count * width }
+    requires wide { 0 < width }
+    requires below { i < count }
+    requires long { length links.now ≡ count }
+    requires chains { AreChains (rows_of width cells.now) (i + 1) links.now }
+    ensures { IsTwin (rows_of width cells.now) i result }
+{
+    let row = stored_row(cells, width, count, i);
+    let mut link = links[i as usize];
+    while link != 0 {
+        let earlier = link - 1;
+        if same_row(stored_row(cells, width, count, earlier), row) {
+            return link;
         }
-        None
+        link = links[earlier as usize];
     }
+    0
+}
 
-    /// Adds a point with this row to its bucket.
-    pub fn insert(&mut self, bucket: u32, row: &[i32]) -> Result<(), Memory>
-        requires inside { bucket < length self.old.tops.items }
-        requires room { length self.old.nexts.items + 1 < 2 ^ 32 }
-        ensures tops { OnOk result (self.new.tops.items ≡ slice_set self.old.tops.items bucket (length self.old.nexts.items + 1)) }
-        ensures nexts { OnOk result (self.new.nexts.items ≡ self.old.nexts.items ++ slice_index self.old.tops.items bucket ∷ []) }
-        ensures cells { OnOk result (self.new.cells.items ≡ self.old.cells.items ++ row.now) }
-    {
-        self.nexts.push(self.tops[bucket as usize])?;
-        self.cells.extend_from_slice(row)?;
-        self.tops[bucket as usize] = self.nexts.len() as u32;
-        Ok(())
+/// Puts in each link's place a link to the latest row before that is equal, or none, and answers whether there is
+/// such a row. The last rows come first, since a chain leads through the links of the rows before.
+fn keep_twins(links: &mut [u32], width: u32, count: u32, cells: &[i32]) -> bool
+    requires whole { length cells.now ≡ count * width }
+    requires wide { 0 < width }
+    requires long { length links.old ≡ count }
+    requires chains { AreChains (rows_of width cells.now) count links.old }
+    ensures twins { AreTwins (rows_of width cells.now) count links.new }
+    ensures none { result ≡ false → AreUnlike (rows_of width cells.now) count }
+{
+    let mut some = false;
+    for i in (0..count).rev() {
+        let twin = twin_of(links, width, count, cells, i);
+        links[i as usize] = twin;
+        if twin != 0 {
+            some = true;
+        }
     }
+    some
+}
+
+/// Which rows are equal to earlier ones.
+#[derive(Drop)]
+pub(crate) struct Twins {
+    /// Of each row a link to the latest row before that equals it, or none: a link to row r is r + 1, and 0 is none.
+    pub links: Vec<u32>,
+    /// Whether any row has a link.
+    pub some: bool,
+}
+
+/// The twins of `count` rows of `width` integers. Takes two integers a row, and about two for its bucket.
+pub(crate) fn twins_of(
+    alloc: Global,
+    width: u32,
+    count: u32,
+    cells: &[i32],
+) -> Result<Twins, Memory>
+    requires whole { length cells.now ≡ count * width }
+    requires wide { 0 < width }
+    requires few { count < 2 ^ 31 }
+    ensures twins { IfOk result (λ twins. AreTwins (rows_of width cells.now) count twins.links.items) }
+    ensures long { IfOk result (λ twins. length twins.links.items ≡ count) }
+    ensures none { IfOk result (λ twins. twins.some ≡ false → AreUnlike (rows_of width cells.now) count) }
+{
+    let buckets = (count + 1).next_power_of_two();
+    let mut tops = vec![in alloc; 0; buckets as usize]?;
+    let mut links = link_rows(alloc, width, count, cells, buckets - 1, tops.as_mut_slice())?;
+    let some = keep_twins(links.as_mut_slice(), width, count, cells);
+    Ok(Twins { links, some })
 }

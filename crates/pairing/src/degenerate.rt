@@ -2,6 +2,7 @@
 
 ghost use Rattle.std.specs.Prelude.{◌≡◌, ◌<◌, length, take};
 ghost use Rattle.mesh_model.specs.FirstFault.{Tests};
+ghost use Rattle.mesh_model.specs.Assembled.{same_row as one_row};
 ghost use Rattle.corner_table.specs.Sides.{side, first, second, third};
 ghost use Rattle.corner_table.specs.Sides.{place_of};
 ghost use Rattle.pairing.specs.Pairing.{corner_position};
@@ -9,7 +10,7 @@ ghost use Rattle.pairing.specs.Degenerate.{is_degenerate, degenerate_fault};
 
 use crate::positions::first_width;
 use drc_base::{Fault, Kind};
-use mesh_model::CornerMesh;
+use mesh_model::{CornerMesh, same_row};
 
 /// The position of corner `k` of face `f`.
 fn position_at(m: &CornerMesh, f: u32, k: u8) -> &[i32]
@@ -19,6 +20,13 @@ fn position_at(m: &CornerMesh, f: u32, k: u8) -> &[i32]
 {
     let width = first_width(m.heads());
     &m.corner(f, k)[..width as usize]
+}
+
+/// Whether two positions are one.
+fn is_one(p: &[i32], q: &[i32]) -> bool
+    ensures { result ≡ one_row p.now q.now }
+{
+    same_row(p, q)
 }
 
 /// Whether two corners of face `f` have one position.
@@ -31,7 +39,7 @@ fn is_degenerate(m: &CornerMesh, f: u32) -> bool
         position_at(m, f, 1),
         position_at(m, f, 2),
     );
-    p == q || q == r || r == p
+    is_one(p, q) || is_one(q, r) || is_one(r, p)
 }
 
 /// Degenerate at the first face with two equal positions.

@@ -9,6 +9,7 @@ pub mod Finish
 pub mod LineTexts
 pub mod PropertyTexts
 pub mod RowTexts
+pub mod Printing
 pub mod Lexing
 pub mod NumberTexts
 pub mod HeaderSteps

@@ -44,10 +44,8 @@ pub element_text : (out name : List ℕ) (n : ℕ) → (((out ++ codes "element 
 unfolding line_text element_line
 element_text out name n = four out (codes "element ") name (32 ∷ decimal n) (10 ∷ [])
 
-pub point_more : (out : List ℕ) (points : List (List ℤ)) (i : ℕ) → i < length points → (out ++ line_text (map signed_decimal (get_or points i []))) ++ text_of (point_lines (drop (i + 1) points)) ≡ out ++ text_of (point_lines (drop i points))
-point_more out points i lt =
-    append_assoc out (line_text (map signed_decimal (get_or points i []))) (text_of (point_lines (drop (i + 1) points)))
-    ∙ ap (λ (t : List ℕ). out ++ t) (sym (at_drop_more (λ (ps : List (List ℤ)). text_of (point_lines ps)) points i [] lt))
+pub point_more : (points : List (List ℤ)) (i : ℕ) → i < length points → line_text (map signed_decimal (get_or points i [])) ++ text_of (point_lines (drop (i + 1) points)) ≡ text_of (point_lines (drop i points))
+point_more points i lt = sym (at_drop_more (λ (ps : List (List ℤ)). text_of (point_lines ps)) points i [] lt)
 
 pub no_more_points : (out : List ℕ) (points : List (List ℤ)) (i : ℕ) → length points ≤ i → out ++ text_of (point_lines (drop i points)) ≡ out
 no_more_points out points i le = ap (λ (t : List ℕ). out ++ t) (at_drop_all (λ (ps : List (List ℤ)). text_of (point_lines ps)) points i le) ∙ append-nil out
@@ -59,23 +57,19 @@ three_of (x ∷ y ∷ []) e = absurd (omega arith)
 three_of (x ∷ y ∷ z ∷ []) e = refl
 three_of (x ∷ y ∷ z ∷ w ∷ ws) e = absurd (omega arith)
 
-pub face_more : (out : List ℕ) (faces : List (List ℕ)) (f : ℕ) (face : List ℕ) → f < length faces → face ≡ get_or faces f [] → length face ≡ 3
-    → (out ++ line_text (face_line (get_or face 0 0 ∷ get_or face 1 0 ∷ get_or face 2 0 ∷ []))) ++ text_of (face_lines (drop (f + 1) faces)) ≡ out ++ text_of (face_lines (drop f faces))
-face_more out faces f face lt e n =
-    append_assoc out (line_text (face_line (get_or face 0 0 ∷ get_or face 1 0 ∷ get_or face 2 0 ∷ []))) (text_of (face_lines (drop (f + 1) faces)))
-    ∙ ap (λ (x : List ℕ). out ++ (line_text (face_line x) ++ text_of (face_lines (drop (f + 1) faces)))) (three_of face n ∙ e)
-    ∙ ap (λ (t : List ℕ). out ++ t) (sym (at_drop_more (λ (fs : List (List ℕ)). text_of (face_lines fs)) faces f [] lt))
+pub face_more : (faces : List (List ℕ)) (f : ℕ) (face : List ℕ) → f < length faces → face ≡ get_or faces f [] → length face ≡ 3
+    → line_text (face_line (get_or face 0 0 ∷ get_or face 1 0 ∷ get_or face 2 0 ∷ [])) ++ text_of (face_lines (drop (f + 1) faces)) ≡ text_of (face_lines (drop f faces))
+face_more faces f face lt e n =
+    ap (λ (x : List ℕ). line_text (face_line x) ++ text_of (face_lines (drop (f + 1) faces))) (three_of face n ∙ e)
+    ∙ sym (at_drop_more (λ (fs : List (List ℕ)). text_of (face_lines fs)) faces f [] lt)
 
 pub no_more_faces : (out : List ℕ) (faces : List (List ℕ)) (f : ℕ) → length faces ≤ f → out ++ text_of (face_lines (drop f faces)) ≡ out
 no_more_faces out faces f le = ap (λ (t : List ℕ). out ++ t) (at_drop_all (λ (fs : List (List ℕ)). text_of (face_lines fs)) faces f le) ∙ append-nil out
 
 -- ---- the parts of a text
 
+pub two_parts : (a b : List (List (List ℕ))) → text_of a ++ text_of b ≡ text_of (a ++ b)
+two_parts a b = sym (flat_map-append line_text a b)
+
 pub three_parts : (a b c : List (List (List ℕ))) → ((text_of a ++ text_of b) ++ text_of c) ≡ text_of (a ++ b ++ c)
-three_parts a b c = sym (flat_map-append line_text (a ++ b) c ∙ ap (λ (t : List ℕ). t ++ text_of c) (flat_map-append line_text a b))
-
-pub four_parts : (a b c d : List (List (List ℕ))) → (((text_of a ++ text_of b) ++ text_of c) ++ text_of d) ≡ text_of (a ++ b ++ c ++ d)
-four_parts a b c d = sym (flat_map-append line_text (a ++ b ++ c) d ∙ ap (λ (t : List ℕ). t ++ text_of d) (sym (three_parts a b c)))
-
-pub five_parts : (a b c d e : List (List (List ℕ))) → ((((text_of a ++ text_of b) ++ text_of c) ++ text_of d) ++ text_of e) ≡ text_of (a ++ b ++ c ++ d ++ e)
-five_parts a b c d e = sym (flat_map-append line_text (a ++ b ++ c ++ d) e ∙ ap (λ (t : List ℕ). t ++ text_of e) (sym (four_parts a b c d)))
+three_parts a b c = ap (λ (t : List ℕ). t ++ text_of c) (two_parts a b) ∙ two_parts (a ++ b) c

@@ -7,6 +7,7 @@ mod bodies;
 mod face_lines;
 mod faces_ahead;
 mod head_writer;
+mod header_writer;
 mod laws;
 mod numbers;
 mod property_writer;
@@ -15,8 +16,10 @@ mod rows;
 mod rows_ahead;
 #[cfg(test)]
 mod tests;
+mod text_sink;
+mod texts;
 mod writing;
 
 pub use laws::text_is_read_again;
 pub use reading::read_ply;
-pub use writing::write_ply;
+pub use texts::{PlyText, write_ply};

@@ -1,7 +1,7 @@
 //! What no contract can say: that the definitions are the ones meant, on examples worked by hand.
 
 use super::*;
-use drc_base::{Fault, Kind, Refusal};
+use drc_base::{Fault, Kind, MemSink, Refusal};
 use mesh_model::Geometry;
 use std::alloc::Global;
 use std::test::Fail;
@@ -172,5 +172,29 @@ fn tells_where_a_text_ends_too_early(rt: HostRuntime) -> Result<(), Fail> {
         }
     }
     assert_eq!(rt; at, 15);
+    Ok(())
+}
+
+#[test]
+fn prints_a_long_text_in_parts(rt: HostRuntime) -> Result<(), Fail> {
+    let alloc = rt.alloc();
+    let header = "ply\nformat ascii 1.0\ncomment drc attr 0 0 5 3 0 0\nelement vertex 6000\n";
+    let mut text = joined(alloc, &[header, PROPERTIES, "end_header\n"])?;
+    for _ in 0..6000u32 {
+        text.extend_from_slice(b"-2147483648 2147483647 0\n")?;
+    }
+    let printed = PlyText::new(alloc, read_ply(alloc, &text)?)?;
+    // Two chunks of two pieces and an end, and one of a piece and an end.
+    for call in 0..8u64 {
+        let mut fails = Vec::new(alloc);
+        fails.push(call)?;
+        let mut sink = MemSink::new(alloc, 40_000, 200_000, fails)?;
+        assert!(rt; printed.print(&mut sink).is_err());
+        assert!(rt; text.starts_with(sink.held()));
+    }
+    let mut sink = MemSink::new(alloc, 40_000, 200_000, Vec::new(alloc))?;
+    assert!(rt; printed.print(&mut sink).is_ok());
+    assert_eq!(rt; sink.held(), text.as_slice());
+    assert_eq!(rt; again(alloc, &text)?.as_slice(), text.as_slice());
     Ok(())
 }

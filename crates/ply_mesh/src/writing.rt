@@ -1,20 +1,17 @@
-//! PLY text from geometry.
+//! The lines of points and faces, put to a sink by way of a chunk.
 
-ghost use Rattle.std.specs.Prelude.{◌≡◌, ◌+◌, ◌<◌, ◌≤◌, ◌++◌, ◌∷◌, [], All, Ok, length, map, take, codes, OnOk, IfOk};
+ghost use Rattle.std.specs.Prelude.{◌≡◌, ◌+◌, ◌<◌, ◌≤◌, ◌++◌, ◌∷◌, [], length, map, take, IfOk};
 ghost use Rattle.std.specs.Fmt.{signed_decimal, decimal};
-ghost use Rattle.mesh_model.specs.declared.geometries.Geometry.TheVariants as geometry;
-ghost use Rattle.ply_mesh.specs.Fields.{HasFields};
-ghost use Rattle.ply_mesh.specs.Read.{ply_read};
-ghost use Rattle.ply_mesh.specs.Text.{line_text, text_of, element_line, first_lines, points_header, faces_header, last_line, point_lines, list_line, face_line, face_lines, ply_lines, ply_text};
+ghost use Rattle.drc_base.specs.Counters.{HasCause};
+ghost use Rattle.ply_mesh.specs.Text.{line_text, text_of, point_lines, face_line, face_lines};
+ghost use Rattle.ply_mesh.specs.Printing.{body_lines, Prints};
 
-use crate::head_writer::put_heads;
-use crate::property_writer::put_properties;
-use decimal_text::{
-    CHUNK_BYTES, ROOM_BYTES, append_spaced, flushed, put_signed, put_unsigned, with_room,
-};
-use drc_base::Memory;
-use mesh_model::{Cloud, CornerMesh, Geometry, Head};
-use std::alloc::Global;
+use decimal_text::{ROOM_BYTES, put_signed, put_unsigned};
+use drc_base::{Failed, Sink, write_all};
+use mesh_model::{Cloud, CornerMesh, Geometry};
+
+/// The bytes of a chunk, which a sink gets at once when it is nearly full.
+pub(crate) const PIECE_BYTES: usize = 65536;
 
 /// Writes the line of a point from `at` on, and answers the place behind it.
 #[inline(always)]
@@ -57,144 +54,112 @@ fn put_face(a: u32, b: u32, c: u32, buf: &mut [u8], at: usize) -> usize
     put_unsigned(c, b'\n', buf, end)
 }
 
-/// Appends `element NAME N`.
-fn put_element(out: &mut Vec<u8>, name: &[u8], n: u32) -> Result<(), Memory>
-    ensures { OnOk result (out.new.items ≡ out.old.items ++ line_text (element_line name.now n)) }
+/// The fill of a chunk that has room for a line: as it was, or 0 after what it holds was written.
+#[inline(always)]
+fn with_room<O: Sink>(out: &mut O, chunk: &[u8], held: usize) -> Result<usize, Failed>
+    requires long { length chunk.now ≡ PIECE_BYTES }
+    requires held { held ≤ PIECE_BYTES }
+    ensures text { Prints (O.held out.old) (O.held out.new) (take held chunk.now) chunk.now result }
+    ensures room { IfOk result (λ now. now + ROOM_BYTES ≤ PIECE_BYTES) }
+    ensures cause { HasCause (O.faults out.old) (O.faults out.new) result }
 {
-    out.extend_from_slice(b"element ")?;
-    out.extend_from_slice(name)?;
-    append_spaced(out, n as u64)?;
-    out.push(b'\n')?;
-    Ok(())
+    if held + ROOM_BYTES <= PIECE_BYTES {
+        return Ok(held);
+    }
+    write_all(out, &chunk[..held])?;
+    Ok(0)
 }
 
-/// Appends the first two lines.
-#[tactic(auto, unfolding(crate::specs::Text::line_text))]
-fn put_first(out: &mut Vec<u8>) -> Result<(), Memory>
-    ensures { OnOk result (out.new.items ≡ out.old.items ++ text_of first_lines) }
-{
-    out.extend_from_slice(b"ply\nformat ascii 1.0\n")?;
-    Ok(())
-}
-
-/// Appends the header up to the properties of a point.
-fn put_points_header(out: &mut Vec<u8>, heads: &[Head], points: u32) -> Result<(), Memory>
-    requires { length heads.now ≤ 16 }
-    ensures text { OnOk result (out.new.items ≡ out.old.items ++ text_of (points_header heads.now points)) }
-    ensures fields { OnOk result (All HasFields heads.now) }
-{
-    put_first(out)?;
-    put_heads(out, heads)?;
-    put_element(out, b"vertex", points)?;
-    put_properties(out, heads)
-}
-
-/// Appends the property of a face.
-#[tactic(auto, unfolding(crate::specs::Text::line_text))]
-fn put_list(out: &mut Vec<u8>) -> Result<(), Memory>
-    ensures { OnOk result (out.new.items ≡ out.old.items ++ line_text list_line) }
-{
-    out.extend_from_slice(b"property list uchar int vertex_indices\n")?;
-    Ok(())
-}
-
-/// Appends the faces' part of the header.
-fn put_faces_header(out: &mut Vec<u8>, faces: u32) -> Result<(), Memory>
-    ensures { OnOk result (out.new.items ≡ out.old.items ++ text_of (faces_header faces)) }
-{
-    put_element(out, b"face", faces)?;
-    put_list(out)
-}
-
-/// Appends the last line of the header.
-#[tactic(auto, unfolding(crate::specs::Text::line_text))]
-fn put_last(out: &mut Vec<u8>) -> Result<(), Memory>
-    ensures { OnOk result (out.new.items ≡ out.old.items ++ text_of last_line) }
-{
-    out.extend_from_slice(b"end_header\n")?;
-    Ok(())
-}
-
-/// Appends the points of a mesh.
-#[tactic(auto, using(crate::proofs::RowTexts::no_more_points))]
-fn put_mesh_points(out: &mut Vec<u8>, mesh: &CornerMesh) -> Result<(), Memory>
-    ensures { OnOk result (out.new.items ≡ out.old.items ++ text_of (point_lines mesh.now.points)) }
+/// Puts the points of a mesh behind what the chunk holds, and answers how much it holds then.
+fn put_mesh_points<O: Sink>(
+    out: &mut O,
+    mesh: &CornerMesh,
+    chunk: &mut [u8],
+    before: usize,
+) -> Result<usize, Failed>
+    requires long { length chunk.old ≡ PIECE_BYTES }
+    requires before { before ≤ PIECE_BYTES }
+    ensures text { Prints (O.held out.old) (O.held out.new)
+        (take before chunk.old ++ text_of (point_lines mesh.now.points)) chunk.new result }
+    ensures held { IfOk result (λ now. now ≤ PIECE_BYTES) }
+    ensures cause { HasCause (O.faults out.old) (O.faults out.new) result }
 {
     // For the prover alone: a row has 1 to 128 integers.
     let _width = mesh.width();
-    let mut chunk = [0u8; CHUNK_BYTES];
-    let mut held = 0;
+    let mut held = before;
     for i in 0..mesh.point_count() {
-        let from = with_room(out, &chunk, held)?;
-        held = put_row(mesh.point(i), &mut chunk, from);
+        let from = with_room(out, chunk, held)?;
+        held = put_row(mesh.point(i), chunk, from);
     }
-    flushed(out, &chunk, held)
+    Ok(held)
 }
 
-/// Appends the points of a cloud.
-#[tactic(auto, using(crate::proofs::RowTexts::no_more_points))]
-fn put_cloud_points(out: &mut Vec<u8>, cloud: &Cloud) -> Result<(), Memory>
-    ensures { OnOk result (out.new.items ≡ out.old.items ++ text_of (point_lines cloud.now.points)) }
+/// Puts the points of a cloud behind what the chunk holds, and answers how much it holds then.
+fn put_cloud_points<O: Sink>(
+    out: &mut O,
+    cloud: &Cloud,
+    chunk: &mut [u8],
+    before: usize,
+) -> Result<usize, Failed>
+    requires long { length chunk.old ≡ PIECE_BYTES }
+    requires before { before ≤ PIECE_BYTES }
+    ensures text { Prints (O.held out.old) (O.held out.new)
+        (take before chunk.old ++ text_of (point_lines cloud.now.points)) chunk.new result }
+    ensures held { IfOk result (λ now. now ≤ PIECE_BYTES) }
+    ensures cause { HasCause (O.faults out.old) (O.faults out.new) result }
 {
     // For the prover alone: a row has 1 to 128 integers.
     let _width = cloud.width();
-    let mut chunk = [0u8; CHUNK_BYTES];
-    let mut held = 0;
+    let mut held = before;
     for i in 0..cloud.point_count() {
-        let from = with_room(out, &chunk, held)?;
-        held = put_row(cloud.point(i), &mut chunk, from);
+        let from = with_room(out, chunk, held)?;
+        held = put_row(cloud.point(i), chunk, from);
     }
-    flushed(out, &chunk, held)
+    Ok(held)
 }
 
-/// Appends the faces of a mesh.
-#[tactic(auto, using(crate::proofs::RowTexts::no_more_faces))]
-fn put_faces(out: &mut Vec<u8>, mesh: &CornerMesh) -> Result<(), Memory>
-    ensures { OnOk result (out.new.items ≡ out.old.items ++ text_of (face_lines mesh.now.faces)) }
+/// Puts the faces of a mesh behind what the chunk holds, and answers how much it holds then.
+fn put_faces<O: Sink>(
+    out: &mut O,
+    mesh: &CornerMesh,
+    chunk: &mut [u8],
+    before: usize,
+) -> Result<usize, Failed>
+    requires long { length chunk.old ≡ PIECE_BYTES }
+    requires before { before ≤ PIECE_BYTES }
+    ensures text { Prints (O.held out.old) (O.held out.new)
+        (take before chunk.old ++ text_of (face_lines mesh.now.faces)) chunk.new result }
+    ensures held { IfOk result (λ now. now ≤ PIECE_BYTES) }
+    ensures cause { HasCause (O.faults out.old) (O.faults out.new) result }
 {
-    let mut chunk = [0u8; CHUNK_BYTES];
-    let mut held = 0;
+    let mut held = before;
     for f in 0..mesh.face_count() {
-        let from = with_room(out, &chunk, held)?;
+        let from = with_room(out, chunk, held)?;
         let face = mesh.face(f);
-        held = put_face(face[0], face[1], face[2], &mut chunk, from);
+        held = put_face(face[0], face[1], face[2], chunk, from);
     }
-    flushed(out, &chunk, held)
+    Ok(held)
 }
 
-/// The text of a mesh.
-fn write_mesh(alloc: Global, mesh: &CornerMesh) -> Result<Vec<u8>, Memory>
-    ensures text { IfOk result (λ text. text.items ≡ ply_text (geometry.Mesh mesh.now)) }
-    ensures again { IfOk result (λ text. ply_read text.items ≡ Ok (geometry.Mesh mesh.now)) }
-{
-    let mut out = Vec::new(alloc);
-    put_points_header(&mut out, mesh.heads(), mesh.point_count())?;
-    put_faces_header(&mut out, mesh.face_count())?;
-    put_last(&mut out)?;
-    put_mesh_points(&mut out, mesh)?;
-    put_faces(&mut out, mesh)?;
-    Ok(out)
-}
-
-/// The text of a cloud.
-fn write_cloud(alloc: Global, cloud: &Cloud) -> Result<Vec<u8>, Memory>
-    ensures text { IfOk result (λ text. text.items ≡ ply_text (geometry.Cloud cloud.now)) }
-    ensures again { IfOk result (λ text. ply_read text.items ≡ Ok (geometry.Cloud cloud.now)) }
-{
-    let mut out = Vec::new(alloc);
-    put_points_header(&mut out, cloud.heads(), cloud.point_count())?;
-    put_last(&mut out)?;
-    put_cloud_points(&mut out, cloud)?;
-    Ok(out)
-}
-
-/// The text of a geometry: `read_ply` reads it as the same geometry.
-pub fn write_ply(alloc: Global, g: &Geometry) -> Result<Vec<u8>, Memory>
-    ensures text { IfOk result (λ text. text.items ≡ ply_text g.now) }
-    ensures again { IfOk result (λ text. ply_read text.items ≡ Ok g.now) }
+/// Puts all behind the header of a text behind what the chunk holds, and answers how much it holds then.
+pub(crate) fn put_body<O: Sink>(
+    out: &mut O,
+    g: &Geometry,
+    chunk: &mut [u8],
+    before: usize,
+) -> Result<usize, Failed>
+    requires long { length chunk.old ≡ PIECE_BYTES }
+    requires before { before ≤ PIECE_BYTES }
+    ensures text { Prints (O.held out.old) (O.held out.new)
+        (take before chunk.old ++ text_of (body_lines g.now)) chunk.new result }
+    ensures held { IfOk result (λ now. now ≤ PIECE_BYTES) }
+    ensures cause { HasCause (O.faults out.old) (O.faults out.new) result }
 {
     match g {
-        Geometry::Mesh(mesh) => write_mesh(alloc, mesh),
-        Geometry::Cloud(cloud) => write_cloud(alloc, cloud),
+        Geometry::Mesh(mesh) => {
+            let held = put_mesh_points(out, mesh, chunk, before)?;
+            put_faces(out, mesh, chunk, held)
+        }
+        Geometry::Cloud(cloud) => put_cloud_points(out, cloud, chunk, before),
     }
 }

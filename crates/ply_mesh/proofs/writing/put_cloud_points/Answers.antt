@@ -1,15 +1,28 @@
-use Rattle.std.proofs.Common.{◌+◌, ◌<◌, ◌++◌, ◌∙◌, List, ℕ, ℤ, length, map, drop, take, ap, arith}
+use Rattle.std.proofs.Common.{◌+◌, ◌<◌, ◌≤◌, ◌++◌, ◌∙◌, List, ℤ, length, map, drop, take, ap, arith}
 use Rattle.std.specs.Fmt.{signed_decimal}
-use Rattle.decimal_text.proofs.Filling.{chunk_more}
 use Rattle.ply_mesh.specs.Text.{line_text, text_of, point_lines}
-use Rattle.ply_mesh.proofs.RowTexts.{point_more}
+use Rattle.ply_mesh.proofs.RowTexts.{point_more, no_more_points}
+use Rattle.ply_mesh.proofs.Printing.{line_more, line_none, no_line}
 use Rattle.ply_mesh.proofs.writing.put_cloud_points.Goals as goal
 
 pub loop-i-preserved : goal.loop-i-preserved
-loop-i-preserved c =
+loop-i-preserved g c =
     let points = c.args.cloud.now.points in
-    let below : c.loop-i.i < length points = omega (arith, c.point_count-i-end.ensures.value) in
-    let front = c.loop-i.out.items ++ take c.loop-i.held c.loop-i.chunk in
-    let rest = text_of (point_lines (drop (c.loop-i.i + 1) points)) in
-    let now = chunk_more c.loop-i.out.items (take c.loop-i.held c.loop-i.chunk) c.with_room.new.out.items _ _ _ c.in_ok-from.ensures.text c.put_row-held.ensures.text in
-    (ap (λ (t : List ℕ). t ++ rest) now ∙ ap (λ (row : List ℤ). (front ++ line_text (map signed_decimal row)) ++ rest) c.point.ensures.row ∙ point_more front points c.loop-i.i below ∙ c.loop-i.invariant.0, omega (arith, c.in_ok-from.ensures.room, c.put_row-held.ensures.few))
+    let i = c.loop-i.i in
+    let below : i < length points = omega (arith, c.point_count-i-end.ensures.value) in
+    let bytes = take c.args.before c.args.chunk.now ++ text_of (point_lines points) in
+    let rest = text_of (point_lines (drop (i + 1) points)) in
+    let due = ap (λ (row : List ℤ). line_text (map signed_decimal row) ++ rest) c.point.ensures.row ∙ point_more points i below in (
+      line_more _ _ _ bytes _ _ _ _ _ rest c.loop-i.invariant.0 c.in_ok-from.ensures.text c.put_row-held.ensures.text due,
+      omega (arith, c.in_ok-from.ensures.room, c.put_row-held.ensures.few),
+      omega (arith, c.loop-i.invariant.2, c.in_ok-from.ensures.cause.kept),
+    )
+
+pub returns-in_err-from-clause-text : goal.returns-in_err-from-clause-text
+returns-in_err-from-clause-text g c = line_none _ _ _ _ _ _ _ c.from_residual.result c.from_residual.ensures.0 c.loop-i.invariant.0 c.in_err-from.ensures.text
+
+pub returns-clause-text : goal.returns-clause-text
+returns-clause-text g c =
+    let points = c.args.cloud.now.points in
+    let none : length points ≤ c.loop-i.i = omega (arith, c.point_count-i-end.ensures.value) in
+    no_line _ _ (take c.args.before c.args.chunk.now ++ text_of (point_lines points)) _ _ (no_more_points _ points c.loop-i.i none) c.loop-i.invariant.0

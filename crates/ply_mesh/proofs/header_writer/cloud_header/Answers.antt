@@ -1,0 +1,27 @@
+use Rattle.std.proofs.Common.{◌∙◌, length}
+use Rattle.ply_mesh.specs.Text.{text_of, points_header, last_line}
+use Rattle.ply_mesh.proofs.LineTexts.{onto}
+use Rattle.ply_mesh.proofs.RowTexts.{two_parts}
+use Rattle.std.proofs.lemmas.List.Elements.{recursion_from_All}
+use Rattle.mesh_model.specs.declared.geometries.Geometry.TheVariants.{Cloud}
+use Rattle.mesh_model.proofs.Passing.{heads_say}
+use Rattle.ply_mesh.specs.Fields.{HasFields}
+use Rattle.ply_mesh.proofs.RoundTrip.{geometry_again}
+use Rattle.ply_mesh.proofs.header_writer.cloud_header.Goals as goal
+
+pub put_points_header-requires : goal.put_points_header-requires
+put_points_header-requires c = rw c.heads.ensures.value ((heads_say c.args.cloud.now.heads c.heads.ensures.sound.heads_pass).few)
+
+pub returns-clause-text : goal.returns-clause-text
+returns-clause-text c =
+    let m = c.args.cloud.now in
+    let first = rw (c.heads.ensures.value, c.point_count.ensures.value) at c.in_ok-put_points_header.ensures.text in
+    onto (text_of last_line) c.in_ok-put_last.ensures
+    (onto (text_of (points_header m.heads (length m.points))) first c.new-out.ensures.items)
+    ∙ two_parts (points_header m.heads (length m.points)) last_line
+
+pub returns-clause-again : goal.returns-clause-again
+returns-clause-again c =
+    let m = c.args.cloud.now in
+    let fields = rw c.heads.ensures.value at c.in_ok-put_points_header.ensures.fields in
+    geometry_again (Cloud m) c.heads.ensures.sound (recursion_from_All HasFields m.heads fields)
