@@ -1,7 +1,7 @@
 -- The rows that lead back, and the entries of a surface under new numbers of its faces.
 use Rattle.std.proofs.Common.{◌≡◌, ◌≢◌, ◌⊎◌, ℕ, zero, suc, ◌+◌, ◌-◌, ◌*◌, ◌%◌, ◌<◌, ◌≤◌, eqb, nat_lt, List, [], ◌∷◌, ◌++◌, length, get_or, set, Option, Some, None, inl, inr, refl, sym, ap, ◌∙◌, subst, arith, length-append}
 use mathlib.Core.Path.{fun_ext}
-use Rattle.std.specs.Prelude.{option_map, replicate}
+use Rattle.std.specs.Prelude.{option_map, replicate, IfSome}
 use Rattle.std.proofs.lemmas.Bool.{cases_lt, cases_eq, cond-true, cond-false, eq-eqb, lt-ltb, le-ltb}
 use Rattle.std.proofs.lemmas.List.{get_or_past, get_or_default, get_or_push, get_or_append_left, get_or-set_same, get_or-set_other, get_or-replicate, length-set, length-replicate}
 use Rattle.drc_base.specs.declared.sides.Side.{Side as NumberedSide}
@@ -46,7 +46,7 @@ pub back-none : (rows : Rows) → LeadBack rows 0 (replicate (length rows) (0, 0
 back-none rows = record {
   each = length-replicate (length rows) (0, 0);
   within = λ i d below.
-      let inside : i < length rows = (let l = length-replicate (length rows) (0, 0) in omega arith) in
+      let inside : i < length rows = (let l : length (replicate {A = ℕ × ℕ} (length rows) (0, 0)) ≡ length rows = length-replicate (length rows) (0, 0) in omega arith) in
       subst (λ (row : ℕ × ℕ). (row.0 < length rows) × (row.1 < 3)) (sym (get_or-replicate (length rows) i (0, 0) d inside)) (omega arith, omega arith);
   leads = λ x h. absurd (omega arith);
 }
@@ -125,8 +125,9 @@ entry-carried g rows back faces n e other G R B h given is =
         ap (option_map (carry back)) y.1 ∙ ap {A = Side} Some (one ∙ sym two) ∙ sym (ap (option_map (carry (inverted rows))) y.1)
 
 -- what a side is glued to, is a side of a face
-pub glued-below : (g : Gluing) (faces : ℕ) (x : Side) (s : NumberedSide) → IsGluing faces g → Some (side_of s) ≡ g x → s.face < faces
-glued-below g faces x s G is = G.within (side_of s) x (G.paired x (side_of s) (sym is))
+pub glued-below : (g : Gluing) (faces many : ℕ) (x : Side) (o : Option NumberedSide) → IsGluing faces g → many ≡ faces → option_map side_of o ≡ g x → IfSome o (λ s. s.face < many)
+glued-below g faces many x None G same is = tt
+glued-below g faces many x (Some s) G same is = let w : s.face < faces = G.within (side_of s) x (G.paired x (side_of s) (sym is)) in omega arith
 
 -- one entry more
 pub pairs-more : (g : Gluing) (n e : ℕ) (entries : List ℕ) → TellPairs g n entries → other_at e ≡ g (side_at n) → TellPairs g (n + 1) (entries ++ e ∷ [])

@@ -25,7 +25,8 @@ const NONE: u32 = u32::MAX;
 
 /// The rows that lead back: for each face the row that names it, and the turn back.
 fn inverted(alloc: Global, rows: &[(u32, u8)]) -> Result<Vec<(u32, u8)>, Memory>
-    requires { IsRenumbering (length rows.now) rows.now }
+    requires rows { IsRenumbering (length rows.now) rows.now }
+    requires few { length rows.now ≤ most_faces }
     ensures { IfOk result (λ v. LeadBack rows.now (length rows.now) v.items) }
 {
     let mut back: Vec<(u32, u8)> = vec![in alloc; (0, 0); rows.len()]?;
@@ -61,8 +62,8 @@ fn entries_by<L: Ledger>(
     requires some { 0 < L.parts }
     ensures { IfOk result (λ v. TellPairs (carried_gluing (gluing_of sides.now) rows.now) (3 * sides.now.faces) v.items) }
 {
-    let back = inverted(alloc, rows)?;
     let count = 3 * sides.face_count();
+    let back = inverted(alloc, rows)?;
     let mut steps = Steps::<L>::new(blank);
     let mut entries = Vec::with_capacity(alloc, count as usize)?;
     for side in 0..count {
@@ -113,7 +114,7 @@ fn later_side(pairs: &[u32], faces: u32, side: u32) -> Option<u32>
     ensures { TellsLater faces (glued_in pairs.now) side result }
 {
     let other = pairs[side as usize];
-    if side < other && other != NONE {
+    if side < other && other < NONE {
         return Some(other);
     }
     None
