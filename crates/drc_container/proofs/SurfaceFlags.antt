@@ -143,7 +143,7 @@ each-flags d t lists G one is told i o below =
     let many : length lists ≡ length d.mesh.heads = sym (length-map lists items) ∙ ap length told ∙ length-map-range_with_len (flags_of d) 0 (length d.mesh.heads) in
     let here : items (get_or lists i o) ≡ flags_of d i =
     sym (get_or-map items lists i o None below) ∙ ap (λ (l : List (Option (List Bool))). get_or l i None) told
-    ∙ get_or-map-range_with_len (flags_of d) 0 (length d.mesh.heads) i i None (omega arith) refl in
+    ∙ get_or-map-range_with_len (flags_of d) 0 (length d.mesh.heads) i i None (omega arith) (omega arith) in
     at (get_or lists i o) (subst (λ (x : Option (List Bool)). IfSome x (AreFlags t.faces (gluing_of t))) (sym here) (flags-each d t G one is i))
   where
     at : (x : Option (Vec Bool Global)) → IfSome (option_map (λ (v : Vec Bool Global). v.items) x) (AreFlags t.faces (gluing_of t)) → IfSome x (λ v. AreFlags t.faces (gluing_of t) v.items)

@@ -84,9 +84,11 @@ pub fn standings_of<'m>(
 ) -> Result<Standings<'m>, Memory>
     requires faces { sides.faces ≡ length mesh.faces }
     requires flags { map (option_map (λ v. v.items)) flags.items ≡ flag_lists (glued_by mesh sides) }
-    ensures glued { IfOk result (λ s. glued_on s ≡ glued_by mesh sides) }
+    ensures glued { IfOk result (λ s. glued_on s ≡ glued_by mesh.entry sides) }
     ensures are { IfOk result (λ s. AreStandings degree s) }
 {
+    // For the proof alone: the call tells that the table is a surface.
+    let _faces = sides.face_count();
     let cut = cuts_of(alloc, &sides, flags)?;
     let whole = standing_on(alloc, sides, degree)?;
     Ok(Standings { mesh, whole, cut })

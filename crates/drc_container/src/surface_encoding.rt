@@ -43,12 +43,12 @@ fn with_attributes(
     requires flags { map (option_map (λ v. v.items)) flags.items ≡ flag_lists (glued_by mesh sides) }
     requires some { 0 < length mesh.faces }
     requires known { (q : Prediction) × (coding.now.predict ≡ code_of q) }
-    ensures answer { let d = glued_by mesh sides in
+    ensures answer { let d = glued_by mesh.entry sides in
         Answers (λ v. v.items) (value_unless (values_fault coding.now d) (front.items ++ (decoder_heads_bytes coding.now d ++ values_bytes_on coding.now d))) result }
-    ensures can { OnOk result (CanCodeValues coding.now (glued_by mesh sides)) }
-    ensures heads { let d = glued_by mesh sides in
-        OnOk result (Spells (heads_at (Some (length mesh.heads - 1))) (decoder_heads_bytes coding.now d) (map bare_decoder (decoders_for coding.now d))) }
-    ensures again { OnOk result (All (λ (k, h). AttributeSpelled coding.now (glued_by mesh sides) k h) (enumerate_from 0 mesh.heads)) }
+    ensures can { OnOk result (CanCodeValues coding.now (glued_by mesh.entry sides)) }
+    ensures heads { let d = glued_by mesh.entry sides in
+        OnOk result (Spells (heads_at (Some (length mesh.entry.heads - 1))) (decoder_heads_bytes coding.now d) (map bare_decoder (decoders_for coding.now d))) }
+    ensures again { OnOk result (All (λ (k, h). AttributeSpelled coding.now (glued_by mesh.entry sides) k h) (enumerate_from 0 mesh.entry.heads)) }
 {
     let standings = standings_of(alloc, mesh, sides, flags, coding.degree)?;
     let values = values_on(alloc, &standings, coding)?;

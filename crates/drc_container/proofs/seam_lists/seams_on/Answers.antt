@@ -1,4 +1,4 @@
-use Rattle.std.proofs.Common.{◌≡◌, ◌-◌, ◌<◌, ℕ, Bool, List, Option, None, Vec, Global, map, length, refl, ap, sym, ◌∙◌, arith}
+use Rattle.std.proofs.Common.{◌≡◌, ◌-◌, ◌<◌, ◌∷◌, [], ℕ, Bool, List, Option, None, Vec, Global, map, length, refl, ap, sym, ◌∙◌, arith}
 use Rattle.std.specs.Prelude.{option_map}
 use Rattle.std.specs.List.{range_with_len}
 use Rattle.mesh_model.proofs.Passing.{heads_say}
@@ -35,3 +35,29 @@ loop-attr-preserved c =
           c.in_ok-push-3.ensures.items c.loop-attr.invariant.flags c.in_ok-seams.ensures.flags
           ∙ sym (flags-more d k);
     }
+
+-- the bits of all attributes
+bits-told : (c : After-loop-attr) → map (λ (v : Vec Bool Global). v.items) c.loop-attr.bits.items ≡ seam_lists (glued_by c.args.mesh.now c.args.sides.now)
+bits-told c =
+    let d = glued_by c.args.mesh.now c.args.sides.now in
+    let say = heads_say d.mesh.heads c.heads.ensures.sound.points.heads_pass in
+    let end : c.loop-attr.attr ≡ length d.mesh.heads = omega (arith, say.some, ap length c.heads.ensures.value) in
+    c.loop-attr.invariant.bits ∙ ap (λ (n : ℕ). map (bits_of d) (range_with_len 1 (n - 1))) end
+
+pub returns-clause-bits : goal.returns-clause-bits
+returns-clause-bits c = bits-told (goal.at.returns-clause-bits c).After-loop-attr
+
+pub returns-clause-flags : goal.returns-clause-flags
+returns-clause-flags c =
+    let d = glued_by c.args.mesh.now c.args.sides.now in
+    let say = heads_say d.mesh.heads c.heads.ensures.sound.points.heads_pass in
+    let end : c.loop-attr.attr ≡ length d.mesh.heads = omega (arith, say.some, ap length c.heads.ensures.value) in
+    c.loop-attr.invariant.flags ∙ ap (λ (n : ℕ). map (flags_of d) (range_with_len 0 n)) end
+
+pub returns-clause-few : goal.returns-clause-few
+returns-clause-few c =
+    lists-few (glued_by c.args.mesh.now c.args.sides.now) c.loop-attr.bits.items c.heads.ensures.sound (bits-told (goal.at.returns-clause-few c).After-loop-attr)
+
+pub returns-clause-short : goal.returns-clause-short
+returns-clause-short c =
+    lists-short (glued_by c.args.mesh.now c.args.sides.now) c.loop-attr.bits.items c.heads.ensures.sound (bits-told (goal.at.returns-clause-short c).After-loop-attr)
