@@ -1,25 +1,28 @@
--- The seams of an attribute: its bits, and the surface that is cut at them.
-use Rattle.std.proofs.Common.{◌≡◌, ℕ, ◌+◌, ◌-◌, ◌<◌, Bool, true, false, List, [], ◌∷◌, ◌++◌, length, map, Option, Some, None, refl, sym, ap, ◌∙◌, subst, arith, Vec, Global}
-use Rattle.std.specs.Prelude.{option_map, IfSome}
+-- The seams of attributes: bits and flags, and the surfaces that are cut at them.
+use Rattle.std.proofs.Common.{◌≡◌, ℕ, ◌+◌, ◌-◌, ◌<◌, ◌&&◌, Bool, true, false, List, [], ◌∷◌, ◌++◌, length, map, get_or, Option, Some, None, refl, sym, ap, ◌∙◌, subst, arith, Vec, Global}
+use Rattle.std.specs.Prelude.{option_map, IfSome, nat_lt, if◌then◌else◌}
 use Rattle.std.specs.List.{All, range_with_len, list_any}
-use Rattle.std.proofs.lemmas.List.{map-append}
-use Rattle.std.proofs.lemmas.List.FromFn.{map-range_with_len_more}
+use Rattle.std.proofs.lemmas.Bool.{lt-ltb}
+use Rattle.std.proofs.lemmas.List.{map-append, length-map, get_or-map}
+use Rattle.std.proofs.lemmas.Simd.{map-map}
+use Rattle.std.proofs.lemmas.List.FromFn.{map-range_with_len_more, length-map-range_with_len, get_or-map-range_with_len}
 use Rattle.std.proofs.lemmas.List.Elements.{All-head, All-tail, All-weaker, filter_passes}
 use Rattle.corner_table.specs.Sides.{Side, Gluing, IsGluing}
 use Rattle.corner_table.specs.Fans.{corners_of}
 use Rattle.corner_table.specs.Pairs.{has_bit, bit_sides}
 use Rattle.corner_table.specs.Table.{Table, gluing_of}
-use Rattle.seams.specs.Seams.{flag_at, listed, unseamed}
+use Rattle.seams.specs.Seams.{AreFlags, flag_at, listed, unseamed}
 use Rattle.seams.specs.SeamBits.{seam_bits}
 use Rattle.seams.specs.Values.{is_seam}
 use Rattle.seams.proofs.Bits.{bit_tells}
 use Rattle.seams.proofs.Chains.{list_cuts_alike}
 use Rattle.seams.proofs.Listing.{flag_at-listed}
+use Rattle.seams.proofs.Values.{seams_are_flags}
 use Rattle.drc_container.specs.declared.standings.Standings.{Standings}
 use Rattle.drc_container.specs.OnSurface.{walked_by}
-use Rattle.drc_container.specs.WrittenOnSurface.{Glued, bits_of, seam_lists}
-use Rattle.drc_container.specs.Standings.{glued_on, seamed, cut_walk, walk_in, AreStandings}
-use Rattle.drc_container.proofs.SurfaceStandings.{cut-walk-later}
+use Rattle.drc_container.specs.WrittenOnSurface.{Glued, bits_of, is_cornered}
+use Rattle.drc_container.specs.Standings.{glued_on, flags_of, flag_lists, cut_walk, walk_cut, walk_in, AreStandings}
+use Rattle.drc_container.proofs.SurfaceSeams.{map-agree}
 
 map-alike : (f g : Side → Bool) (xs : List Side) → All (λ x. f x ≡ g x) xs → map f xs ≡ map g xs
 map-alike f g [] alike = refl
@@ -43,25 +46,66 @@ bits-are d k faces flags given bits G one is same told =
     ∙ bits-listed faces d.pairs (is_seam d.mesh k d.pairs) G
     ∙ ap (λ (n : ℕ). seam_bits n d.pairs (is_seam d.mesh k d.pairs)) one
 
--- where there is no seam, nothing is cut
-pub seamed-none : (d : Glued) (k : ℕ) → list_any (λ bit. bit) (bits_of d k) ≡ false → None ≡ seamed d k
-seamed-none d k none = rw none refl
-
--- else the surface is cut at the flags
-pub seamed-some : (d : Glued) (k faces : ℕ) (flags given : List Bool) (h : Gluing) → IsGluing faces d.pairs → flags ≡ listed faces (is_seam d.mesh k d.pairs) → given ≡ flags
-    → list_any (λ bit. bit) (bits_of d k) ≡ true → h ≡ unseamed (flag_at given) d.pairs → Some h ≡ seamed d k
-seamed-some d k faces flags given h G is same some cut =
-    rw some (ap Some (cut ∙ ap (λ (l : List Bool). unseamed (flag_at l) d.pairs) (same ∙ is) ∙ list_cuts_alike faces d.pairs (is_seam d.mesh k d.pairs) G))
-
--- a table that is cut so is walked as the attribute's surface
-pub cut-walked : (d : Glued) (k : ℕ) (o : Option Table) → 0 < k → option_map gluing_of o ≡ seamed d k → IfSome o (λ t. t.faces ≡ length d.mesh.faces)
-    → option_map (λ (t : Table). walked_by false t.faces (gluing_of t)) o ≡ cut_walk d k
-cut-walked d k o later is faces = at o faces ∙ ap (option_map (walked_by false (length d.mesh.faces))) is ∙ cut-walk-later d k later
+-- where there is no seam, no flags are kept
+pub flags-none : (d : Glued) (k : ℕ) → list_any (λ bit. bit) (bits_of d k) ≡ false → None ≡ flags_of d k
+unfolding is_cornered
+flags-none d k none = rw none (at (nat_lt 0 k))
   where
-    at : (o : Option Table) → IfSome o (λ t. t.faces ≡ length d.mesh.faces)
-        → option_map (λ (t : Table). walked_by false t.faces (gluing_of t)) o ≡ option_map (walked_by false (length d.mesh.faces)) (option_map gluing_of o)
-    at None has = refl
-    at (Some t) has = ap (λ (n : ℕ). Some (walked_by false n (gluing_of t))) has
+    at : (b : Bool) → None ≡ (if b && false then Some (listed (length d.mesh.faces) (is_seam d.mesh k d.pairs)) else None)
+    at true = refl
+    at false = refl
+
+-- else the flags of the attribute are
+pub flags-some : (d : Glued) (k faces : ℕ) (flags : List Bool) → 0 < k → faces ≡ length d.mesh.faces → flags ≡ listed faces (is_seam d.mesh k d.pairs)
+    → list_any (λ bit. bit) (bits_of d k) ≡ true → Some flags ≡ flags_of d k
+unfolding is_cornered
+flags-some d k faces flags later one is some =
+    let yes : nat_lt 0 k ≡ true = lt-ltb 0 k later in
+    rw (some, yes) (ap Some (is ∙ ap (λ (n : ℕ). listed n (is_seam d.mesh k d.pairs)) one))
+
+-- the first attribute has none
+pub flags-first : (d : Glued) → None ≡ flags_of d 0
+unfolding is_cornered
+flags-first d = refl
+
+-- a surface that is cut at the flags of an attribute is walked as the attribute's surface
+pub cut-walked : (d : Glued) (t : Table) (k : ℕ) → IsGluing t.faces (gluing_of t) → t.faces ≡ length d.mesh.faces → gluing_of t ≡ d.pairs
+    → option_map (walk_cut t) (flags_of d k) ≡ cut_walk d k
+cut-walked d t k G one is = at (is_cornered d k)
+  where
+    faces : ℕ
+    faces = length d.mesh.faces
+
+    seam : Side → Bool
+    seam = is_seam d.mesh k d.pairs
+
+    H : IsGluing faces d.pairs
+    H = subst (λ (n : ℕ). IsGluing n d.pairs) one (subst (IsGluing t.faces) is G)
+
+    cut : walk_cut t (listed faces seam) ≡ walked_by false faces (unseamed seam d.pairs)
+    cut =
+        ap (λ (n : ℕ). walked_by false n (unseamed (flag_at (listed faces seam)) (gluing_of t))) one
+        ∙ ap (λ (g : Gluing). walked_by false faces (unseamed (flag_at (listed faces seam)) g)) is
+        ∙ ap (walked_by false faces) (list_cuts_alike faces d.pairs seam H)
+
+    at : (b : Bool) → option_map (walk_cut t) (if b then Some (listed faces seam) else None)
+        ≡ (if b then Some (walked_by false faces (if b then unseamed seam d.pairs else d.pairs)) else None)
+    at true = ap Some cut
+    at false = refl
+
+-- and these are flags of its sides
+pub flags-each : (d : Glued) (t : Table) → IsGluing t.faces (gluing_of t) → t.faces ≡ length d.mesh.faces → gluing_of t ≡ d.pairs
+    → (k : ℕ) → IfSome (flags_of d k) (AreFlags t.faces (gluing_of t))
+flags-each d t G one is k = at (is_cornered d k)
+  where
+    flags : AreFlags t.faces (gluing_of t) (listed (length d.mesh.faces) (is_seam d.mesh k d.pairs))
+    flags =
+        subst (λ (g : Gluing). AreFlags t.faces (gluing_of t) (listed (length d.mesh.faces) (is_seam d.mesh k g))) is
+        (subst (λ (n : ℕ). AreFlags t.faces (gluing_of t) (listed n (is_seam d.mesh k (gluing_of t)))) one (seams_are_flags t.faces (gluing_of t) d.mesh k G))
+
+    at : (b : Bool) → IfSome (if b then Some (listed (length d.mesh.faces) (is_seam d.mesh k d.pairs)) else None) (AreFlags t.faces (gluing_of t))
+    at true = flags
+    at false = tt
 
 -- ---- attribute after attribute
 
@@ -76,21 +120,43 @@ lists-more d k later =
     let n : k + 1 - 1 ≡ k - 1 + 1 = omega arith in
     ap (λ (m : ℕ). map (bits_of d) (range_with_len 1 m)) n ∙ map-range_with_len_more (bits_of d) 1 (k - 1) k (omega arith)
 
--- the surface of one attribute more
-pub cuts-more : (d : Glued) (k : ℕ) → map (cut_walk d) (range_with_len 0 (k + 1)) ≡ map (cut_walk d) (range_with_len 0 k) ++ cut_walk d k ∷ []
-cuts-more d k = map-range_with_len_more (cut_walk d) 0 k k (omega arith)
+-- the flags of one attribute more
+pub flags-more : (d : Glued) (k : ℕ) → map (flags_of d) (range_with_len 0 (k + 1)) ≡ map (flags_of d) (range_with_len 0 k) ++ flags_of d k ∷ []
+flags-more d k = map-range_with_len_more (flags_of d) 0 k k (omega arith)
 
 -- ---- all together
+
+-- the surfaces that are cut at the flags of each attribute
+pub cuts-walked : (d : Glued) (t : Table) → IsGluing t.faces (gluing_of t) → t.faces ≡ length d.mesh.faces → gluing_of t ≡ d.pairs
+    → map (option_map (walk_cut t)) (flag_lists d) ≡ map (cut_walk d) (range_with_len 0 (length d.mesh.heads))
+cuts-walked d t G one is =
+    let attrs = range_with_len 0 (length d.mesh.heads) in
+    map-map (option_map (walk_cut t)) (flags_of d) attrs
+    ∙ map-agree (λ (k : ℕ). option_map (walk_cut t) (flags_of d k)) (cut_walk d) attrs (λ i k below. cut-walked d t (get_or attrs i k) G one is)
+
+-- each list that is kept is one of flags
+pub each-flags : (d : Glued) (t : Table) (lists : List (Option (Vec Bool Global))) → IsGluing t.faces (gluing_of t) → t.faces ≡ length d.mesh.faces → gluing_of t ≡ d.pairs
+    → map (option_map (λ (v : Vec Bool Global). v.items)) lists ≡ flag_lists d
+    → All (λ (o : Option (Vec Bool Global)). IfSome o (λ v. AreFlags t.faces (gluing_of t) v.items)) lists
+each-flags d t lists G one is told i o below =
+    let items : Option (Vec Bool Global) → Option (List Bool) = option_map (λ (v : Vec Bool Global). v.items) in
+    let many : length lists ≡ length d.mesh.heads = sym (length-map lists items) ∙ ap length told ∙ length-map-range_with_len (flags_of d) 0 (length d.mesh.heads) in
+    let here : items (get_or lists i o) ≡ flags_of d i =
+    sym (get_or-map items lists i o None below) ∙ ap (λ (l : List (Option (List Bool))). get_or l i None) told
+    ∙ get_or-map-range_with_len (flags_of d) 0 (length d.mesh.heads) i i None (omega arith) (omega arith) in
+    at (get_or lists i o) (subst (λ (x : Option (List Bool)). IfSome x (AreFlags t.faces (gluing_of t))) (sym here) (flags-each d t G one is i))
+  where
+    at : (x : Option (Vec Bool Global)) → IfSome (option_map (λ (v : Vec Bool Global). v.items) x) (AreFlags t.faces (gluing_of t)) → IfSome x (λ v. AreFlags t.faces (gluing_of t) v.items)
+    at None has = tt
+    at (Some v) has = has
 
 -- what is kept for a mesh and its pairs
 pub are-standings : (degree : Bool) (s : Standings) (d : Glued) → glued_on s ≡ d
     → walk_in s.whole ≡ walked_by degree (length d.mesh.faces) d.pairs
-    → map (λ (v : Vec Bool Global). v.items) s.bits.items ≡ seam_lists d
     → map (option_map walk_in) s.cut.items ≡ map (cut_walk d) (range_with_len 0 (length d.mesh.heads)) → AreStandings degree s
-are-standings degree s d is whole bits cut =
+are-standings degree s d is whole cut =
     let P : Glued → Type 0 = λ (e : Glued).
     (walk_in s.whole ≡ walked_by degree (length e.mesh.faces) e.pairs)
-    × (map (λ (v : Vec Bool Global). v.items) s.bits.items ≡ seam_lists e)
     × (map (option_map walk_in) s.cut.items ≡ map (cut_walk e) (range_with_len 0 (length e.mesh.heads))) in
-    let all : P (glued_on s) = subst P (sym is) (whole, bits, cut) in
-    record { whole = all.0; bits = all.1; cut = all.2 }
+    let all : P (glued_on s) = subst P (sym is) (whole, cut) in
+    record { whole = all.0; cut = all.1 }

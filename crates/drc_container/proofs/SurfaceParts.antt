@@ -322,23 +322,22 @@ part-within heads k start h has named from = omega (arith, from, one-width heads
 -- ---- the lists of seam bits that are kept
 
 -- there is one for each attribute but the first
-pub lists-few : (s : Standings) → IsMesh s.mesh → map (λ (v : Vec Bool Global). v.items) s.bits.items ≡ seam_lists (glued_on s) → length s.bits.items ≤ MAX_ATTRIBUTES
-lists-few s is bits =
-    let say = heads_say s.mesh.heads is.points.heads_pass in
-    let many : length s.bits.items ≡ length s.mesh.heads - 1 =
-    sym (length-map s.bits.items (λ (v : Vec Bool Global). v.items)) ∙ ap length bits ∙ length-map-range_with_len (bits_of (glued_on s)) 1 (length s.mesh.heads - 1) in
+pub lists-few : (d : Glued) (bits : List (Vec Bool Global)) → IsMesh d.mesh → map (λ (v : Vec Bool Global). v.items) bits ≡ seam_lists d → length bits ≤ MAX_ATTRIBUTES
+lists-few d bits is told =
+    let say = heads_say d.mesh.heads is.points.heads_pass in
+    let many : length bits ≡ length d.mesh.heads - 1 =
+    sym (length-map bits (λ (v : Vec Bool Global). v.items)) ∙ ap length told ∙ length-map-range_with_len (bits_of d) 1 (length d.mesh.heads - 1) in
     omega (arith, many, say.few)
 
 -- and none has more bits than the surface has sides
-pub lists-short : (s : Standings) → IsMesh s.mesh → map (λ (v : Vec Bool Global). v.items) s.bits.items ≡ seam_lists (glued_on s)
-    → All (λ (v : Vec Bool Global). length v.items < 2 ^ 31) s.bits.items
-lists-short s is bits = λ k v below.
-    let d = glued_on s in
+pub lists-short : (d : Glued) (bits : List (Vec Bool Global)) → IsMesh d.mesh → map (λ (v : Vec Bool Global). v.items) bits ≡ seam_lists d
+    → All (λ (v : Vec Bool Global). length v.items < 2 ^ 31) bits
+lists-short d bits is told = λ k v below.
     let items : Vec Bool Global → List Bool = λ (w : Vec Bool Global). w.items in
-    let n = length s.mesh.heads - 1 in
-    let many : length s.bits.items ≡ n = sym (length-map s.bits.items items) ∙ ap length bits ∙ length-map-range_with_len (bits_of d) 1 n in
-    let here : (get_or s.bits.items k v).items ≡ bits_of d (1 + k) =
-    sym (get_or-map items s.bits.items k v [] below) ∙ ap (λ (l : List (List Bool)). get_or l k []) bits ∙ get_or-map-range_with_len (bits_of d) 1 n k (1 + k) [] (omega arith) refl in
+    let n = length d.mesh.heads - 1 in
+    let many : length bits ≡ n = sym (length-map bits items) ∙ ap length told ∙ length-map-range_with_len (bits_of d) 1 n in
+    let here : (get_or bits k v).items ≡ bits_of d (1 + k) =
+    sym (get_or-map items bits k v [] below) ∙ ap (λ (l : List (List Bool)). get_or l k []) told ∙ get_or-map-range_with_len (bits_of d) 1 n k (1 + k) [] (omega arith) refl in
     omega (arith, ap length here, bits-few d (1 + k), is.few_faces)
 
 -- ---- the surface of the mesh

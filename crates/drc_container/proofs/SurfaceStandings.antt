@@ -1,9 +1,7 @@
 -- The surfaces that are kept for a mesh's attributes are those on which their values stand.
 use Rattle.std.proofs.Common.{◌≡◌, ℕ, ◌<◌, Bool, true, false, ◌&&◌, List, length, get_or, Option, Some, None, refl, sym, ap, ◌∙◌, subst, arith}
-use Rattle.std.specs.Prelude.{option_map, unwrap_or, not, nat_lt, if◌then◌else◌}
+use Rattle.std.specs.Prelude.{option_map, unwrap_or, not, if◌then◌else◌}
 use Rattle.std.specs.Option.{is_some}
-use Rattle.std.specs.List.{list_any}
-use Rattle.std.proofs.lemmas.Bool.{lt-ltb}
 use Rattle.std.proofs.lemmas.List.{length-map, get_or-map}
 use Rattle.std.proofs.lemmas.List.FromFn.{length-map-range_with_len, get_or-map-range_with_len}
 use Rattle.corner_table.specs.declared.corner_lists.Order.{Order}
@@ -26,8 +24,8 @@ use Rattle.drc_container.specs.declared.codings.Coding.{Coding}
 use Rattle.drc_container.specs.declared.standing.Standing.{Standing}
 use Rattle.drc_container.specs.declared.standings.Standings.{Standings}
 use Rattle.drc_container.specs.OnSurface.{order_by, walked_by}
-use Rattle.drc_container.specs.WrittenOnSurface.{Glued, bits_of, is_cornered, walk_of}
-use Rattle.drc_container.specs.Standings.{glued_on, seamed, cut_walk, walk_in, walk_at, AreStandings}
+use Rattle.drc_container.specs.WrittenOnSurface.{Glued, is_cornered, walk_of}
+use Rattle.drc_container.specs.Standings.{glued_on, cut_walk, walk_in, walk_at, AreStandings}
 use Rattle.drc_container.proofs.Walks.{over-table}
 use Rattle.drc_container.proofs.SurfaceWalks.{order-on}
 
@@ -56,25 +54,6 @@ few-flags degree t o G over is =
     few_in t.faces w (over-table t o over) (λ k. flags_are_few t.faces w G (over-table t o over) apart k)
 
 -- ---- the surface of an attribute
-
--- an attribute other than the first one is walked depth first over the surface that is cut at its seams, where it has any
-pub cut-walk-later : (d : Glued) (k : ℕ) → 0 < k → option_map (walked_by false (length d.mesh.faces)) (seamed d k) ≡ cut_walk d k
-unfolding is_cornered
-cut-walk-later d k later =
-    let faces = length d.mesh.faces in
-    let yes : nat_lt 0 k ≡ true = lt-ltb 0 k later in
-    at (list_any (λ bit. bit) (bits_of d k)) (nat_lt 0 k) yes faces (unseamed (is_seam d.mesh k d.pairs) d.pairs) d.pairs
-  where
-    at : (b c : Bool) → c ≡ true → (faces : ℕ) (g h : Gluing)
-        → option_map (walked_by false faces) (if b then Some g else None) ≡ (if c && b then Some (walked_by false faces (if c && b then g else h)) else None)
-    at true true is faces g h = refl
-    at false true is faces g h = refl
-    at b false is faces g h = cc
-
--- the first attribute isn't cut
-pub cut-walk-first : (d : Glued) → cut_walk d 0 ≡ None
-unfolding is_cornered
-cut-walk-first d = refl
 
 -- the surface of an attribute is its own or that of the mesh
 pub walk-of-is : (coding : Coding) (d : Glued) (k : ℕ) → unwrap_or (cut_walk d k) (walked_by coding.degree (length d.mesh.faces) d.pairs) ≡ walk_of coding d k

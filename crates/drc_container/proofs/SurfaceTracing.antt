@@ -9,21 +9,17 @@ use Rattle.drc_base.specs.declared.kinds.Kind.TheVariants.{PointLimit}
 use Rattle.drc_base.specs.declared.limits.TheConstants.{MAX_POINTS}
 use Rattle.mesh_model.specs.FirstFault.{unless, first_fault, value_unless}
 use Rattle.mesh_model.specs.Parts.{MeshParts}
-use Rattle.mesh_model.specs.Renumbering.{renumbered}
 use Rattle.mesh_model.proofs.FirstFaults.{unless-none, unless-true}
 use Rattle.corner_table.specs.declared.symbols.Symbol.{Symbol}
 use Rattle.corner_table.specs.declared.symbols.Event.{Event}
 use Rattle.corner_table.specs.Sides.{Gluing}
-use Rattle.corner_table.specs.Table.{gluing_of}
 use Rattle.pairing.specs.Pairing.{pairing}
 use Rattle.pairing.specs.CarriedPairs.{carried}
 use Rattle.pairing.specs.Degenerate.{degenerate_fault}
 use Rattle.eb_trace.specs.declared.tracing.Traced.{Traced}
 use Rattle.eb_trace.specs.Trace.{trace, word_of, order_of, fan_count}
-use Rattle.drc_container.specs.declared.glued_meshes.GluedMesh.{GluedMesh}
 use Rattle.drc_container.specs.Refused.{vertices_fault, tracing_fault}
-use Rattle.drc_container.specs.WrittenOnSurface.{traced, Glued, decoded}
-use Rattle.drc_container.specs.Standings.{glued_in}
+use Rattle.drc_container.specs.WrittenOnSurface.{traced, decoded}
 
 -- what a trace of these faces and pairs is
 pub record IsTraceOf (faces : ℕ) (g : Gluing) (r : Traced) : Type 0 where
@@ -50,15 +46,11 @@ traced-is m faces g r many pairs is =
     subst (λ (n : ℕ). IsTraceOf n (pairing m) r) many (subst (λ (h : Gluing). IsTraceOf faces h r) pairs is) in
     same-trace r (traced m) told.symbols told.events told.starts told.order told.vertices
 
--- the mesh as it is decoded
-pub decoded-is : (m : MeshParts) (d : GluedMesh) (rows given : List (ℕ × ℕ)) (g : Gluing) → g ≡ pairing m → rows ≡ (traced m).order → given ≡ rows
-    → d.mesh ≡ renumbered m given → gluing_of d.sides ≡ carried g given → glued_in d ≡ decoded m
+-- the pairs as they are decoded
+pub decoded-pairs : (m : MeshParts) (rows given : List (ℕ × ℕ)) (g h : Gluing) → g ≡ pairing m → rows ≡ (traced m).order → given ≡ rows → h ≡ carried g given
+    → h ≡ (decoded m).pairs
 unfolding decoded
-decoded-is m d rows given g pairs is same mesh sides =
-    let with_mesh : MeshParts → Glued = λ (n : MeshParts). record { mesh = n; pairs = gluing_of d.sides } in
-    let with_pairs : Gluing → Glued = λ (h : Gluing). record { mesh = renumbered m given; pairs = h } in
-    let with_rows : List (ℕ × ℕ) → Glued = λ (l : List (ℕ × ℕ)). record { mesh = renumbered m l; pairs = carried (pairing m) l } in
-    ap with_mesh mesh ∙ ap with_pairs (sides ∙ ap (λ (h : Gluing). carried h given) pairs) ∙ ap with_rows (same ∙ is)
+decoded-pairs m rows given g h pairs is same told = told ∙ ap (λ (k : Gluing). carried k given) pairs ∙ ap (carried (pairing m)) (same ∙ is)
 
 -- ---- which fault comes first
 

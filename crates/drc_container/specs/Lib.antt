@@ -9,7 +9,9 @@ pub mod WrittenOnSurface
 pub mod Chosen
 pub mod Refused
 pub mod Encoded
+pub mod Renumbered
 pub mod Standings
+pub mod Fronts
 pub mod Layout
 pub mod Laws
 pub mod Encodable

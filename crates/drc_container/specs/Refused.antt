@@ -20,7 +20,7 @@ use Rattle.drc_container.specs.declared.choices.Choice.{Choice}
 use Rattle.drc_container.specs.declared.choices.Predict.{Predict}
 use Rattle.drc_container.specs.Choice.{method_of, is_sequential, is_parallelogram, prediction_of}
 use Rattle.drc_container.specs.Chosen.{mesh_in, values_chosen}
-use Rattle.drc_container.specs.WrittenOnSurface.{decoded, coded_values}
+use Rattle.drc_container.specs.WrittenOnSurface.{Glued, decoded, coded_values}
 use Rattle.drc_container.specs.declared.codings.Coding.{Coding}
 
 -- whether a prediction by parallelograms is chosen
@@ -74,6 +74,10 @@ surface_fault g choice =
     if is_sequential (method_of g choice) then None
     else first_fault (degenerate_fault (mesh_in g) ∷ vertices_fault (mesh_in g) ∷ [])
 
+-- the first face with two corners at one position, where Edgebreaker is to take it
+abbrev pub face_fault : Geometry → Choice → Option Fault
+face_fault g choice = if is_sequential (method_of g choice) then None else degenerate_fault (mesh_in g)
+
 -- too many coded values
 abbrev pub limit_fault : List Values → Option Fault
 limit_fault values = unless (nat_le (values_in values) MAX_VALUES) ValueLimit (values_in values)
@@ -96,6 +100,12 @@ refused g choice = first_fault (
 -- why the surface of a mesh isn't traced: the first of these faults
 abbrev pub tracing_fault : MeshParts → Option Fault
 tracing_fault m = first_fault (degenerate_fault m ∷ vertices_fault m ∷ [])
+
+-- why the values of a mesh as it is decoded aren't coded so: the first of these faults
+abbrev pub values_fault : Coding → Glued → Option Fault
+values_fault coding d =
+    let values = coded_values coding d in
+    first_fault (limit_fault values ∷ range_fault coding.predict values ∷ [])
 
 -- why a mesh isn't coded so by Edgebreaker: the first of these faults
 abbrev pub coding_fault : Coding → MeshParts → Option Fault

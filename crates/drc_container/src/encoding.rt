@@ -8,7 +8,7 @@ ghost use Rattle.mesh_model.specs.FirstFault.{value_unless};
 ghost use Rattle.mesh_model.specs.Renumbering.{plain};
 ghost use Rattle.mesh_model.specs.SameLaws.{count_of};
 ghost use Rattle.drc_container.specs.Choice.{method_of, is_sequential, prediction_of};
-ghost use Rattle.drc_container.specs.Refused.{early_fault, refused};
+ghost use Rattle.drc_container.specs.Refused.{early_fault, face_fault, refused};
 ghost use Rattle.drc_container.specs.Written.{values_of};
 ghost use Rattle.drc_container.specs.Encoded.{due, CanCode, Means};
 ghost use Rattle.drc_container.specs.Layout.{layout_of, layout_chosen};
@@ -43,10 +43,12 @@ use std::alloc::Global;
 /// of the surface where that is above `MAX_POINTS`: Edgebreaker. `ValueLimit` at the number of coded
 /// values where that is above `MAX_VALUES`. `Range` at the number of the first attribute that is
 /// predicted though the greatest of its coded values is 2^31 - 1 or more above the least. Refusing with
-/// `Choice`, `Empty` or `NoPosition` takes no memory.
+/// `Choice`, `Empty`, `NoPosition` or `Degenerate` takes no memory, so that want of memory never stands in
+/// for these.
 pub fn encode(alloc: Global, g: &Geometry, choice: &Choice) -> Result<(Vec<u8>, Renumber), Refusal>
     ensures answer { Answers (λ r. (r.0.items, r.1.rows)) (due g.now choice.now) result }
     ensures early { (f : AnyFault) → early_fault g.now choice.now ≡ Some f → result ≡ Err (refusal.Fault f) }
+    ensures degenerate { (f : AnyFault) → early_fault g.now choice.now ≡ None → face_fault g.now choice.now ≡ Some f → result ≡ Err (refusal.Fault f) }
     ensures means { IfOk result (λ r. Means g.now choice.now r.0.items r.1.rows) }
     ensures layout { IfOk result (λ r. layout_of r.0.items ≡ Ok (layout_chosen g.now choice.now)) }
 {

@@ -6,17 +6,18 @@
 #![tactic(auto)]
 
 mod attributes;
+mod carried_pairs;
 mod choices;
 mod choosing;
 mod coded_values;
 mod codings;
+mod connected;
 mod contents;
 mod decoding;
 mod edgebreaker;
 #[cfg(test)]
 mod edgebreaker_tests;
 mod encoding;
-mod glued_meshes;
 mod headers;
 mod laws;
 mod methods;
@@ -24,6 +25,7 @@ mod placed;
 mod placing;
 mod points;
 mod refusals;
+mod seam_lists;
 mod seen;
 mod standing;
 mod standings;
@@ -33,6 +35,7 @@ mod surface_encoding_tests;
 mod surface_values;
 mod surface_writing;
 mod traced_meshes;
+mod turned_meshes;
 mod walking;
 mod writing;
 

@@ -1,23 +1,62 @@
 //! Encoding a mesh by Edgebreaker.
 
-ghost use Rattle.std.specs.Prelude.{◌≡◌, ◌<◌, ℕ, List, length, Some, Err, IfOk};
+ghost use Rattle.std.specs.Prelude.{◌≡◌, ◌<◌, ◌-◌, ◌++◌, ℕ, List, map, length, Some, Err, All, IfOk, OnOk};
+ghost use Rattle.std.specs.Option.{option_map};
+ghost use Rattle.std.specs.List.{enumerate_from};
 ghost use Rattle.drc_base.specs.declared.faults.Fault.{Fault as AnyFault};
 ghost use Rattle.drc_base.specs.declared.faults.Refusal.TheVariants as refusal;
 ghost use Rattle.drc_base.specs.Refusals.{Answers};
+ghost use Rattle.drc_bits.specs.Spells.{Spells};
+ghost use Rattle.mesh_model.specs.FirstFault.{value_unless};
 ghost use Rattle.mesh_model.specs.Same.{Rows};
 ghost use Rattle.pairing.specs.Degenerate.{degenerate_fault};
 ghost use Rattle.attr_section.specs.declared.predictions.Prediction.{Prediction};
+ghost use Rattle.attr_section.specs.Heads.{bare_decoder, heads_at};
 ghost use Rattle.attr_section.specs.Values.{code_of};
-ghost use Rattle.drc_container.specs.Encoded.{due_on_surface, CanCodeSurface, SurfaceSpelled};
+ghost use Rattle.drc_container.specs.Refused.{values_fault};
+ghost use Rattle.drc_container.specs.WrittenOnSurface.{decoders_for, decoder_heads_bytes, values_bytes_on};
+ghost use Rattle.drc_container.specs.Standings.{glued_by, flag_lists, CanCodeValues};
+ghost use Rattle.drc_container.specs.Encoded.{due_on_surface, CanCodeSurface, AttributeSpelled, SurfaceSpelled};
 
 use crate::codings::Coding;
+use crate::connected::{Connected, surface_connected};
 use crate::standings::standings_of;
 use crate::surface_values::values_on;
-use crate::surface_writing::surface_stream;
-use crate::traced_meshes::{TracedMesh, traced_mesh};
+use crate::surface_writing::attributes;
+use crate::traced_meshes::traced_mesh;
+use crate::turned_meshes::TurnedMesh;
+use corner_table::SideTable;
 use drc_base::{Refusal, Sequence};
 use mesh_model::CornerMesh;
 use std::alloc::Global;
+
+/// A stream's front with the attributes of its mesh behind it.
+fn with_attributes(
+    alloc: Global,
+    front: Vec<u8>,
+    mesh: TurnedMesh<'_>,
+    sides: SideTable,
+    flags: Vec<Option<Vec<bool>>>,
+    coding: &Coding,
+) -> Result<Vec<u8>, Refusal>
+    requires faces { sides.faces ≡ length mesh.faces }
+    requires flags { map (option_map (λ v. v.items)) flags.items ≡ flag_lists (glued_by mesh sides) }
+    requires some { 0 < length mesh.faces }
+    requires known { (q : Prediction) × (coding.now.predict ≡ code_of q) }
+    ensures answer { let d = glued_by mesh.entry sides in
+        Answers (λ v. v.items) (value_unless (values_fault coding.now d) (front.items ++ (decoder_heads_bytes coding.now d ++ values_bytes_on coding.now d))) result }
+    ensures can { OnOk result (CanCodeValues coding.now (glued_by mesh.entry sides)) }
+    ensures heads { let d = glued_by mesh.entry sides in
+        OnOk result (Spells (heads_at (Some (length mesh.entry.heads - 1))) (decoder_heads_bytes coding.now d) (map bare_decoder (decoders_for coding.now d))) }
+    ensures again { OnOk result (All (λ (k, h). AttributeSpelled coding.now (glued_by mesh.entry sides) k h) (enumerate_from 0 mesh.entry.heads)) }
+{
+    let standings = standings_of(alloc, mesh, sides, flags, coding.degree)?;
+    let values = values_on(alloc, &standings, coding)?;
+    let attributes = attributes(alloc, &standings, coding, values.as_slice())?;
+    let mut out = front;
+    out.extend_from_slice(attributes.as_slice())?;
+    Ok(out)
+}
 
 /// The stream of a mesh by Edgebreaker, and its faces in the order of decoding, each with its turn. Refusals,
 /// the first that applies: Degenerate at the first face with two equal positions, PointLimit at the number of
@@ -37,9 +76,14 @@ pub fn encode_surface(
 {
     // For the proof alone: the call tells what holds of every mesh.
     let _heads = mesh.heads();
-    let TracedMesh { trace, decoded } = traced_mesh(alloc, mesh)?;
-    let standings = standings_of(alloc, decoded, coding.degree)?;
-    let values = values_on(alloc, &standings, coding)?;
-    let bytes = surface_stream(alloc, &trace, &standings, coding, values.as_slice())?;
-    Ok((bytes, trace.order))
+    let traced = traced_mesh(alloc, mesh)?;
+    let Connected {
+        front,
+        rows,
+        sides,
+        flags,
+    } = surface_connected(alloc, mesh, traced, coding.valence)?;
+    let decoded = TurnedMesh::new(mesh, rows.as_slice());
+    let bytes = with_attributes(alloc, front, decoded, sides, flags, coding)?;
+    Ok((bytes, rows))
 }

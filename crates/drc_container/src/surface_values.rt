@@ -7,7 +7,7 @@ ghost use Rattle.mesh_model.specs.Head.{width_of};
 ghost use Rattle.corner_table.specs.Table.{side_of};
 ghost use Rattle.seams.specs.Values.{piece};
 ghost use Rattle.attr_section.specs.Values.{values_in};
-ghost use Rattle.drc_container.specs.Refused.{limit_fault, range_fault};
+ghost use Rattle.drc_container.specs.Refused.{range_fault, values_fault};
 ghost use Rattle.drc_container.specs.WrittenOnSurface.{coded_values};
 ghost use Rattle.drc_container.specs.Standings.{glued_on, AreStandings};
 
@@ -15,16 +15,16 @@ use crate::coded_values::put_piece;
 use crate::codings::Coding;
 use crate::refusals::{test_spans, unless};
 use crate::standings::{Standings, standing_at};
+use crate::turned_meshes::TurnedMesh;
 use attr_section::Values;
 use drc_base::{Fault, Kind, MAX_VALUES, Memory, Refusal, Sequence, Side};
-use mesh_model::CornerMesh;
 use std::alloc::Global;
 
 /// The number of no prediction.
 const OFF: i8 = -2;
 
 /// How many values are coded: of each attribute its integers at each entry of its walk.
-fn value_count(s: &Standings, coding: &Coding) -> u64
+fn value_count(s: &Standings<'_>, coding: &Coding) -> u64
     requires { AreStandings coding.now.degree s.now }
     ensures { result ≡ values_in (coded_values coding.now (glued_on s.now)) }
 {
@@ -39,7 +39,7 @@ fn value_count(s: &Standings, coding: &Coding) -> u64
 /// The integers of attribute `attr`, which are the `comps` from integer `start` of a point on, at each of these corners.
 fn column_at(
     alloc: Global,
-    mesh: &CornerMesh,
+    mesh: &TurnedMesh<'_>,
     corners: &[Side],
     attr: usize,
     start: usize,
@@ -56,14 +56,14 @@ fn column_at(
     let _width = mesh.width();
     let mut column = Vec::with_capacity(alloc, corners.len() * comps)?;
     for corner in corners {
-        let row = mesh.corner(corner.face, corner.k);
+        let row = mesh.corner(*corner);
         put_piece(&mut column, &row[start..start + comps]);
     }
     Ok(column)
 }
 
 /// The values of each attribute, in the order of its walk.
-fn columns_on(alloc: Global, s: &Standings, coding: &Coding) -> Result<Vec<Values>, Memory>
+fn columns_on(alloc: Global, s: &Standings<'_>, coding: &Coding) -> Result<Vec<Values>, Memory>
     requires { AreStandings coding.now.degree s.now }
     ensures { IfOk result (λ v. v.items ≡ coded_values coding.now (glued_on s.now)) }
 {
@@ -95,10 +95,9 @@ fn test_ranges(predict: i8, values: &[Values]) -> Result<(), Fault>
 
 /// The values of each attribute, in the order of its walk. Refusals: ValueLimit at the number of values, before
 /// room is taken for them; Range at the first attribute whose values can't be predicted.
-pub fn values_on(alloc: Global, s: &Standings, coding: &Coding) -> Result<Vec<Values>, Refusal>
+pub fn values_on(alloc: Global, s: &Standings<'_>, coding: &Coding) -> Result<Vec<Values>, Refusal>
     requires { AreStandings coding.now.degree s.now }
-    ensures { let values = coded_values coding.now (glued_on s.now) in
-        Answers (λ v. v.items) (value_unless (first_fault (limit_fault values ∷ range_fault coding.now.predict values ∷ [])) values) result }
+    ensures { Answers (λ v. v.items) (value_unless (values_fault coding.now (glued_on s.now)) (coded_values coding.now (glued_on s.now))) result }
 {
     let count = value_count(s, coding);
     unless(count <= u64::from(MAX_VALUES), Kind::ValueLimit, count)?;

@@ -1,8 +1,8 @@
 //! Writing a mesh by Edgebreaker.
 
-ghost use Rattle.std.specs.Prelude.{◌≡◌, ◌<◌, ◌≤◌, ◌+◌, ◌-◌, ◌++◌, [], ◌∷◌, Some, Ok, map, flat_map, length, All, IfOk, OnOk};
+ghost use Rattle.std.specs.Prelude.{◌≡◌, ◌<◌, ◌≤◌, ◌+◌, ◌-◌, ◌^◌, ◌++◌, [], ◌∷◌, Some, Ok, map, flat_map, length, All, IfOk, OnOk};
 ghost use Rattle.std.specs.List.{enumerate_from};
-ghost use Rattle.drc_base.specs.declared.limits.TheConstants.{MAX_POINTS as most_points};
+ghost use Rattle.drc_base.specs.declared.limits.TheConstants.{MAX_ATTRIBUTES, MAX_FACES, MAX_POINTS as most_points};
 ghost use Rattle.drc_bits.specs.Spells.{Spells};
 ghost use Rattle.mesh_model.specs.Parts.{MeshParts};
 ghost use Rattle.mesh_model.specs.declared.geometries.Geometry.TheVariants as geometry;
@@ -12,7 +12,7 @@ ghost use Rattle.eb_section.specs.Written.{connectivity_bytes};
 ghost use Rattle.attr_section.specs.Heads.{bare_decoder, heads_at};
 ghost use Rattle.attr_section.specs.Written.{decoder_values_bytes, DecoderValuesPass, HaveEntries};
 ghost use Rattle.drc_container.specs.Written.{header_bytes};
-ghost use Rattle.drc_container.specs.WrittenOnSurface.{walk_of, coded_by, coded_values, data_id_of, decoder_for, decoders_for, seam_lists, attribute_bytes, values_bytes_on, decoder_heads_bytes};
+ghost use Rattle.drc_container.specs.WrittenOnSurface.{walk_of, coded_by, coded_values, data_id_of, decoder_for, decoders_for, attribute_bytes, values_bytes_on, decoder_heads_bytes};
 ghost use Rattle.drc_container.specs.Encoded.{AttributeSpelled};
 ghost use Rattle.drc_container.specs.Standings.{glued_on, walk_in, AreStandings, CanCodeValues, AreReadAgain};
 
@@ -54,7 +54,7 @@ fn data_id_of(attr: u8) -> u8
 /// The decoder of an attribute, which has this head.
 fn decoder_for(
     alloc: Global,
-    s: &Standings,
+    s: &Standings<'_>,
     coding: &Coding,
     attr: u8,
     head: &Head,
@@ -75,7 +75,7 @@ fn decoder_for(
 }
 
 /// The decoders of the attributes.
-fn decoders_of(alloc: Global, s: &Standings, coding: &Coding) -> Result<Vec<DecoderHead>, Memory>
+fn decoders_of(alloc: Global, s: &Standings<'_>, coding: &Coding) -> Result<Vec<DecoderHead>, Memory>
     requires { AreStandings coding.now.degree s.now }
     ensures { IfOk result (λ v. v.items ≡ decoders_for coding.now (glued_on s.now)) }
 {
@@ -89,7 +89,7 @@ fn decoders_of(alloc: Global, s: &Standings, coding: &Coding) -> Result<Vec<Deco
 /// The heads of the decoders.
 fn decoder_heads(
     alloc: Global,
-    s: &Standings,
+    s: &Standings<'_>,
     coding: &Coding,
     decoders: &[DecoderHead],
 ) -> Result<Vec<u8>, Memory>
@@ -128,7 +128,7 @@ fn values_over(
 /// The values of the decoder of attribute `attr`.
 fn decoder_values(
     alloc: Global,
-    s: &Standings,
+    s: &Standings<'_>,
     coding: &Coding,
     attr: usize,
     decoder: &DecoderHead,
@@ -150,7 +150,7 @@ fn decoder_values(
 fn put_values(
     alloc: Global,
     out: &mut Vec<u8>,
-    s: &Standings,
+    s: &Standings<'_>,
     coding: &Coding,
     decoders: &[DecoderHead],
     values: &[Values],
@@ -180,9 +180,9 @@ fn put_values(
 }
 
 /// The attributes: the heads of their decoders, and then their values.
-fn attributes(
+pub fn attributes(
     alloc: Global,
-    s: &Standings,
+    s: &Standings<'_>,
     coding: &Coding,
     values: &[Values],
 ) -> Result<Vec<u8>, Memory>
@@ -199,49 +199,25 @@ fn attributes(
     Ok(out)
 }
 
-/// The connectivity of a traced mesh.
-fn connectivity(
+/// The header of a mesh's stream and its connectivity, with the seam bits of each attribute but the first.
+pub fn surface_front(
     alloc: Global,
     trace: &Traced,
-    s: &Standings,
+    faces: u32,
     valence: bool,
+    bits: &[Vec<bool>],
 ) -> Result<Vec<u8>, Memory>
-    requires bits { map (λ v. v.items) s.now.bits.items ≡ seam_lists (glued_on s.now) }
-    requires writable { IsWritable (length s.now.mesh.faces) trace.now.vertices trace.now.symbols trace.now.events trace.now.starts }
+    requires writable { IsWritable faces trace.now.vertices trace.now.symbols trace.now.events trace.now.starts }
+    requires faces { faces ≤ MAX_FACES }
     requires vertices { trace.now.vertices ≤ most_points }
-    ensures bytes { IfOk result (λ v. v.items ≡ connectivity_bytes valence (length s.now.mesh.faces) trace.now (seam_lists (glued_on s.now))) }
-    ensures again { IfOk result (λ v. IsReadAgain valence (length s.now.mesh.faces) trace.now (seam_lists (glued_on s.now)) v.items) }
-{
-    let faces = s.mesh.face_count();
-    let out = write_connectivity(alloc, trace, faces, valence, s.bits.as_slice())?;
-    Ok(out)
-}
-
-/// The stream of a traced mesh, with the values of its attributes.
-pub fn surface_stream(
-    alloc: Global,
-    trace: &Traced,
-    s: &Standings,
-    coding: &Coding,
-    values: &[Values],
-) -> Result<Vec<u8>, Memory>
-    requires stands { AreStandings coding.now.degree s.now }
-    requires can { CanCodeValues coding.now (glued_on s.now) }
-    requires values { values.now ≡ coded_values coding.now (glued_on s.now) }
-    requires writable { IsWritable (length s.now.mesh.faces) trace.now.vertices trace.now.symbols trace.now.events trace.now.starts }
-    requires vertices { trace.now.vertices ≤ most_points }
-    ensures bytes { IfOk result (λ v. (m : MeshParts) → v.items ≡ header_bytes 1 (geometry.Mesh m)
-        ++ (connectivity_bytes coding.now.valence (length s.now.mesh.faces) trace.now (seam_lists (glued_on s.now))
-        ++ (decoder_heads_bytes coding.now (glued_on s.now) ++ values_bytes_on coding.now (glued_on s.now)))) }
-    ensures connectivity { OnOk result (IsReadAgain coding.now.valence (length s.now.mesh.faces) trace.now (seam_lists (glued_on s.now)) (connectivity_bytes coding.now.valence (length s.now.mesh.faces) trace.now (seam_lists (glued_on s.now)))) }
-    ensures heads { OnOk result (Spells (heads_at (Some (length s.now.mesh.heads - 1))) (decoder_heads_bytes coding.now (glued_on s.now)) (map bare_decoder (decoders_for coding.now (glued_on s.now)))) }
-    ensures again { OnOk result (All (λ (k, h). AttributeSpelled coding.now (glued_on s.now) k h) (enumerate_from 0 s.now.mesh.heads)) }
+    requires few { length bits.now ≤ MAX_ATTRIBUTES }
+    requires short { All (λ v. length v.items < 2 ^ 31) bits.now }
+    ensures bytes { IfOk result (λ v. (m : MeshParts) → v.items ≡ header_bytes 1 (geometry.Mesh m) ++ connectivity_bytes valence faces trace.now (map (λ v. v.items) bits.now)) }
+    ensures again { OnOk result (IsReadAgain valence faces trace.now (map (λ v. v.items) bits.now) (connectivity_bytes valence faces trace.now (map (λ v. v.items) bits.now))) }
 {
     let mut out = Vec::new(alloc);
     put_header(&mut out)?;
-    let connectivity = connectivity(alloc, trace, s, coding.valence)?;
+    let connectivity = write_connectivity(alloc, trace, faces, valence, bits)?;
     out.extend_from_slice(connectivity.as_slice())?;
-    let attributes = attributes(alloc, s, coding, values)?;
-    out.extend_from_slice(attributes.as_slice())?;
     Ok(out)
 }

@@ -1,20 +1,19 @@
-//! The trace of a mesh's surface, with the mesh as it is decoded.
+//! The trace of a mesh's surface, with its pairs as they are decoded.
 
-ghost use Rattle.std.specs.Prelude.{◌≡◌, ◌≤◌, length, Some, Err, IfOk};
+ghost use Rattle.std.specs.Prelude.{◌≡◌, ◌*◌, ◌≤◌, length, Some, Err, IfOk};
 ghost use Rattle.drc_base.specs.declared.faults.Fault.{Fault as AnyFault};
 ghost use Rattle.drc_base.specs.declared.faults.Refusal.TheVariants as refusal;
 ghost use Rattle.drc_base.specs.Refusals.{Answers};
 ghost use Rattle.mesh_model.specs.FirstFault.{value_unless};
 ghost use Rattle.corner_table.specs.Fans.{IsProper};
-ghost use Rattle.corner_table.specs.Table.{gluing_of};
+ghost use Rattle.corner_table.specs.Table.{gluing_of, glued_in};
 ghost use Rattle.pairing.specs.Pairing.{pairing};
 ghost use Rattle.pairing.specs.Degenerate.{degenerate_fault};
 ghost use Rattle.eb_trace.specs.Writable.{IsWritable};
 ghost use Rattle.drc_container.specs.Refused.{vertices_fault, tracing_fault};
 ghost use Rattle.drc_container.specs.WrittenOnSurface.{traced, decoded};
-ghost use Rattle.drc_container.specs.Standings.{glued_in};
 
-use crate::glued_meshes::{GluedMesh, glued_mesh};
+use crate::carried_pairs::carried_pairs;
 use crate::refusals::unless;
 use corner_table::SideTable;
 use drc_base::{Kind, MAX_POINTS, Refusal};
@@ -23,46 +22,46 @@ use mesh_model::CornerMesh;
 use pairing::pair;
 use std::alloc::Global;
 
-/// The trace of a mesh's surface, and the mesh as it is decoded: its faces in the order of decoding.
+/// The trace of a mesh's surface, and the pairs of the surface as it is decoded: its faces in the order of decoding.
 #[derive(Debug, Drop)]
 pub struct TracedMesh {
     /// The trace.
     pub trace: Traced,
-    /// The mesh as it is decoded, with its surface.
-    pub decoded: GluedMesh,
+    /// For each side of the surface as it is decoded the number of the side that it is glued to, or `u32::MAX`.
+    pub pairs: Vec<u32>,
 }
 
-/// The trace of a mesh over the table of its sides, and the mesh as it is decoded. Refused with PointLimit at the
-/// number of vertices.
-fn traced_on(alloc: Global, mesh: &CornerMesh, sides: &SideTable) -> Result<TracedMesh, Refusal>
-    requires faces { sides.now.faces ≡ length mesh.now.faces }
-    requires pairs { gluing_of sides.now ≡ pairing mesh.now }
-    requires proper { IsProper sides.now.faces (gluing_of sides.now) }
+/// The trace of a mesh over the table of its sides, and its pairs as they are decoded. The table is freed. Refused
+/// with PointLimit at the number of vertices.
+fn traced_on(alloc: Global, mesh: &CornerMesh, sides: SideTable) -> Result<TracedMesh, Refusal>
+    requires faces { sides.faces ≡ length mesh.now.faces }
+    requires pairs { gluing_of sides ≡ pairing mesh.now }
+    requires proper { IsProper sides.faces (gluing_of sides) }
     ensures trace { Answers (λ r. r.trace) (value_unless (vertices_fault mesh.now) (traced mesh.now)) result }
-    ensures decoded { Answers (λ r. glued_in r.decoded) (value_unless (vertices_fault mesh.now) (decoded mesh.now)) result }
-    ensures faces { IfOk result (λ r. r.decoded.sides.faces ≡ length r.decoded.mesh.faces) }
+    ensures pairs { IfOk result (λ r. glued_in r.pairs.items ≡ (decoded mesh.now).pairs) }
+    ensures each { IfOk result (λ r. length r.pairs.items ≡ 3 * length mesh.now.faces) }
     ensures writable { IfOk result (λ r. IsWritable (length mesh.now.faces) r.trace.vertices r.trace.symbols r.trace.events r.trace.starts) }
 {
-    let trace = trace(alloc, sides)?;
+    let trace = trace(alloc, &sides)?;
     let vertices = trace.vertices;
     unless(
         vertices <= MAX_POINTS,
         Kind::PointLimit,
         u64::from(vertices),
     )?;
-    let decoded = glued_mesh(alloc, mesh, sides, trace.order.as_slice())?;
-    Ok(TracedMesh { trace, decoded })
+    let pairs = carried_pairs(alloc, sides, trace.order.as_slice())?;
+    Ok(TracedMesh { trace, pairs })
 }
 
-/// The trace of a mesh, and the mesh as it is decoded. Refusals: Degenerate at the first face with two equal
+/// The trace of a mesh, and its pairs as they are decoded. Refusals: Degenerate at the first face with two equal
 /// positions, also where memory is wanting; PointLimit at the number of vertices.
 pub fn traced_mesh(alloc: Global, mesh: &CornerMesh) -> Result<TracedMesh, Refusal>
     ensures trace { Answers (λ r. r.trace) (value_unless (tracing_fault mesh.now) (traced mesh.now)) result }
-    ensures decoded { Answers (λ r. glued_in r.decoded) (value_unless (tracing_fault mesh.now) (decoded mesh.now)) result }
-    ensures faces { IfOk result (λ r. r.decoded.sides.faces ≡ length r.decoded.mesh.faces) }
+    ensures pairs { IfOk result (λ r. glued_in r.pairs.items ≡ (decoded mesh.now).pairs) }
+    ensures each { IfOk result (λ r. length r.pairs.items ≡ 3 * length mesh.now.faces) }
     ensures writable { IfOk result (λ r. IsWritable (length mesh.now.faces) r.trace.vertices r.trace.symbols r.trace.events r.trace.starts) }
     ensures degenerate { (f : AnyFault) → degenerate_fault mesh.now ≡ Some f → result ≡ Err (refusal.Fault f) }
 {
     let sides = pair(alloc, mesh)?;
-    traced_on(alloc, mesh, &sides)
+    traced_on(alloc, mesh, sides)
 }

@@ -5,8 +5,7 @@ use Rattle.drc_base.specs.Refusals.{Answers}
 use Rattle.mesh_model.specs.FirstFault.{value_unless}
 use Rattle.pairing.specs.Degenerate.{degenerate_fault}
 use Rattle.drc_container.specs.declared.traced_meshes.TracedMesh.{TracedMesh}
-use Rattle.drc_container.specs.WrittenOnSurface.{traced, decoded}
-use Rattle.drc_container.specs.Standings.{glued_in}
+use Rattle.drc_container.specs.WrittenOnSurface.{traced}
 use Rattle.drc_container.proofs.SurfaceTracing.{pair-refuses, no-fault, tracing-is}
 use Rattle.drc_container.proofs.traced_meshes.traced_mesh.Goals.{In_ok-sides}
 use Rattle.drc_container.proofs.traced_meshes.traced_mesh.Goals as goal
@@ -15,11 +14,6 @@ pub returns-in_err-sides-clause-trace : goal.returns-in_err-sides-clause-trace
 returns-in_err-sides-clause-trace c =
     let p = err_from_is_err_and c.from_residual.result c.from_residual.ensures.1 in
     rw (p.1, p.2) (pair-refuses c.args.mesh.now (traced c.args.mesh.now) c.in_err-sides.field-0.0 c.in_err-sides.ensures.degenerate)
-
-pub returns-in_err-sides-clause-decoded : goal.returns-in_err-sides-clause-decoded
-returns-in_err-sides-clause-decoded c =
-    let p = err_from_is_err_and c.from_residual.result c.from_residual.ensures.1 in
-    rw (p.1, p.2) (pair-refuses c.args.mesh.now (decoded c.args.mesh.now) c.in_err-sides.field-0.0 c.in_err-sides.ensures.degenerate)
 
 pub returns-in_err-sides-clause-degenerate : goal.returns-in_err-sides-clause-degenerate
 returns-in_err-sides-clause-degenerate c = λ f is.
@@ -36,12 +30,6 @@ returns-clause-trace c =
     let m = c.args.mesh.now in
     subst (λ (t : Option Fault). Answers (λ (r : TracedMesh). r.trace) (value_unless t (traced m)) c.traced_on.result)
     (sym (tracing-is m (none-is (goal.at.returns-clause-trace c).In_ok-sides))) c.traced_on.ensures.trace
-
-pub returns-clause-decoded : goal.returns-clause-decoded
-returns-clause-decoded c =
-    let m = c.args.mesh.now in
-    subst (λ (t : Option Fault). Answers (λ (r : TracedMesh). glued_in r.decoded) (value_unless t (decoded m)) c.traced_on.result)
-    (sym (tracing-is m (none-is (goal.at.returns-clause-decoded c).In_ok-sides))) c.traced_on.ensures.decoded
 
 pub returns-clause-degenerate : goal.returns-clause-degenerate
 returns-clause-degenerate c = λ f is. let none = none-is (goal.at.returns-clause-degenerate c).In_ok-sides in absurd (let e : None ≡ Some f = sym none ∙ is in cc)

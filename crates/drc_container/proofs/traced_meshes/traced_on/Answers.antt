@@ -1,9 +1,8 @@
 use Rattle.std.proofs.Common.{◌≡◌, ap}
-use Rattle.corner_table.specs.Table.{gluing_of}
-use Rattle.drc_container.specs.WrittenOnSurface.{traced, decoded}
+use Rattle.corner_table.specs.Table.{gluing_of, glued_in}
+use Rattle.drc_container.specs.WrittenOnSurface.{traced}
 use Rattle.drc_container.specs.Refused.{vertices_fault}
-use Rattle.drc_container.specs.Standings.{glued_in}
-use Rattle.drc_container.proofs.SurfaceTracing.{traced-is, decoded-is, vertices-none, value-there}
+use Rattle.drc_container.proofs.SurfaceTracing.{traced-is, decoded-pairs, vertices-none, value-there}
 use Rattle.drc_container.proofs.traced_meshes.traced_on.Goals.{In_ok-trace}
 use Rattle.drc_container.proofs.traced_meshes.traced_on.Goals as goal
 
@@ -11,19 +10,16 @@ use Rattle.drc_container.proofs.traced_meshes.traced_on.Goals as goal
 trace-is : (c : In_ok-trace) → c.in_ok-trace.trace ≡ traced c.args.mesh.now
 trace-is c =
     let e = c.in_ok-trace.ensures in
-    traced-is c.args.mesh.now c.args.sides.now.faces (gluing_of c.args.sides.now) c.in_ok-trace.trace c.requires.faces c.requires.pairs
+    traced-is c.args.mesh.now c.args.sides.faces (gluing_of c.args.sides) c.in_ok-trace.trace c.requires.faces c.requires.pairs
     (record { symbols = e.symbols; events = e.events; starts = e.starts; order = e.order; vertices = e.vertices })
 
 pub returns-clause-trace : goal.returns-clause-trace
 returns-clause-trace c =
     let m = c.args.mesh.now in
-    let none = vertices-none m c.args.sides.now.faces c.in_ok-trace.trace.vertices _ (gluing_of c.args.sides.now) c.requires.faces c.requires.pairs c.in_ok-trace.ensures.vertices c.in_ok-unless.ensures in
+    let none = vertices-none m c.args.sides.faces c.in_ok-trace.trace.vertices _ (gluing_of c.args.sides) c.requires.faces c.requires.pairs c.in_ok-trace.ensures.vertices c.in_ok-unless.ensures in
     value-there (vertices_fault m) (traced m) c.in_ok-trace.trace none (trace-is (goal.at.returns-clause-trace c).In_ok-trace)
 
-pub returns-clause-decoded : goal.returns-clause-decoded
-returns-clause-decoded c =
-    let m = c.args.mesh.now in
-    let none = vertices-none m c.args.sides.now.faces c.in_ok-trace.trace.vertices _ (gluing_of c.args.sides.now) c.requires.faces c.requires.pairs c.in_ok-trace.ensures.vertices c.in_ok-unless.ensures in
-    value-there (vertices_fault m) (decoded m) (glued_in c.in_ok-decoded.decoded) none
-    (decoded-is m c.in_ok-decoded.decoded c.in_ok-trace.trace.order c.as_slice.result.now (gluing_of c.args.sides.now) c.requires.pairs
-    (ap (λ r. r.order) (trace-is (goal.at.returns-clause-decoded c).In_ok-trace)) c.as_slice.ensures.items c.in_ok-decoded.ensures.mesh c.in_ok-decoded.ensures.pairs)
+pub returns-clause-pairs : goal.returns-clause-pairs
+returns-clause-pairs c =
+    decoded-pairs c.args.mesh.now c.in_ok-trace.trace.order c.as_slice.result.now (gluing_of c.args.sides) (glued_in c.in_ok-pairs.pairs.items) c.requires.pairs
+    (ap (λ r. r.order) (trace-is (goal.at.returns-clause-pairs c).In_ok-trace)) c.as_slice.ensures.items c.in_ok-pairs.ensures.pairs

@@ -1,7 +1,7 @@
 use Rattle.std.proofs.Common.{◌≡◌, ◌+◌, ◌-◌, ◌*◌, ◌≤◌, take, vec_len, vec_capacity}
 use Rattle.mesh_model.specs.Head.{width_of}
 use Rattle.mesh_model.specs.Parts.{cells_of}
-use Rattle.drc_container.proofs.glued_meshes.cells_of.Given as goal
+use Rattle.drc_container.proofs.turned_meshes.cells_of.Given as goal
 
 abbrev pub invariant-loop-i : goal.invariant-loop-i
 invariant-loop-i l = record {

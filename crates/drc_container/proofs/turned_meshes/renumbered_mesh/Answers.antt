@@ -7,8 +7,8 @@ use Rattle.mesh_model.specs.Renumbering.{renumbered}
 use Rattle.mesh_model.proofs.Made.{AreRows-cells_of, range_fault-cells_of, mesh_of-IsMesh}
 use Rattle.mesh_model.proofs.RenumberedMeshes.{renumbered-mesh}
 use Rattle.drc_container.proofs.SurfaceDecoded.{names-apart}
-use Rattle.drc_container.proofs.glued_meshes.renumbered_mesh.Goals.{After-of_typed}
-use Rattle.drc_container.proofs.glued_meshes.renumbered_mesh.Goals as goal
+use Rattle.drc_container.proofs.turned_meshes.renumbered_mesh.Goals.{After-of_typed}
+use Rattle.drc_container.proofs.turned_meshes.renumbered_mesh.Goals as goal
 
 pub of_typed-requires-clause-rows : goal.of_typed-requires-clause-rows
 of_typed-requires-clause-rows c =

@@ -1,0 +1,153 @@
+-- The rows that lead back, and the entries of a surface under new numbers of its faces.
+use Rattle.std.proofs.Common.{◌≡◌, ◌≢◌, ◌⊎◌, ℕ, zero, suc, ◌+◌, ◌-◌, ◌*◌, ◌%◌, ◌<◌, ◌≤◌, eqb, nat_lt, List, [], ◌∷◌, ◌++◌, length, get_or, set, Option, Some, None, inl, inr, refl, sym, ap, ◌∙◌, subst, arith, length-append}
+use mathlib.Core.Path.{fun_ext}
+use Rattle.std.specs.Prelude.{option_map, replicate, IfSome}
+use Rattle.std.proofs.lemmas.Bool.{cases_lt, cases_eq, cond-true, cond-false, eq-eqb, lt-ltb, le-ltb}
+use Rattle.std.proofs.lemmas.List.{get_or_past, get_or_default, get_or_push, get_or_append_left, get_or-set_same, get_or-set_other, get_or-replicate, length-set, length-replicate}
+use Rattle.drc_base.specs.declared.sides.Side.{Side as NumberedSide}
+use Rattle.mesh_model.specs.Same.{Rows, named, turn}
+use Rattle.mesh_model.specs.Renumbering.{inverted}
+use Rattle.corner_table.specs.Sides.{Side, Place, first, second, third, side, number, side_at, Gluing, IsGluing}
+use Rattle.corner_table.specs.Table.{free_entry, other_at, glued_in, side_of}
+use Rattle.corner_table.specs.Carried.{turned, carry, IsRenumbering}
+use Rattle.corner_table.proofs.Places.{option_tells}
+use Rattle.corner_table.proofs.Numbers.{number-lt, face-lt, side_at-number}
+use Rattle.corner_table.proofs.Carrying.{carry_onto}
+use Rattle.pairing.specs.CarriedPairs.{carried}
+use Rattle.pairing.proofs.CarriedPairs.{inverted_leads_back}
+use Rattle.drc_container.specs.Renumbered.{AreRowsBelow, LeadBack, TellPairs}
+
+-- ---- the way back
+
+-- a place that is turned, and turned back
+turned_on : (t : ℕ) (p : Place) → t < 3 → turned ((3 - t) % 3) (turned t p) ≡ p
+turned_on zero p h = refl
+turned_on (suc zero) first h = refl
+turned_on (suc zero) second h = refl
+turned_on (suc zero) third h = refl
+turned_on (suc (suc zero)) first h = refl
+turned_on (suc (suc zero)) second h = refl
+turned_on (suc (suc zero)) third h = refl
+turned_on (suc (suc (suc t))) p h = absurd (omega arith)
+
+-- a renumbering of so many faces is one of as many faces as it has rows
+pub by-rows : (faces : ℕ) (rows : Rows) → IsRenumbering faces rows → IsRenumbering (length rows) rows
+by-rows faces rows R = subst (λ (n : ℕ). IsRenumbering n rows) (sym R.one_each) R
+
+-- its turns are below 3
+pub turns-few : (faces : ℕ) (rows : Rows) → IsRenumbering faces rows → AreRowsBelow faces rows
+turns-few faces rows R i d below =
+    let inside : i < faces = (let l = R.one_each in omega arith) in
+    let same : get_or rows i (0, 0) ≡ get_or rows i d = get_or_default rows i (0, 0) d below in
+    subst (λ (row : ℕ × ℕ). (row.0 < faces) × (row.1 < 3)) same (R.within i inside, R.turns i inside)
+
+-- before any row is looked at
+pub back-none : (rows : Rows) → LeadBack rows 0 (replicate (length rows) (0, 0))
+back-none rows = record {
+  each = length-replicate (length rows) (0, 0);
+  within = λ i d below.
+      let inside : i < length rows = (let l : length (replicate {A = ℕ × ℕ} (length rows) (0, 0)) ≡ length rows = length-replicate (length rows) (0, 0) in omega arith) in
+      subst (λ (row : ℕ × ℕ). (row.0 < length rows) × (row.1 < 3)) (sym (get_or-replicate (length rows) i (0, 0) d inside)) (omega arith, omega arith);
+  leads = λ x h. absurd (omega arith);
+}
+
+-- one row more
+pub back-more : (rows back : Rows) (i : ℕ) → IsRenumbering (length rows) rows → i < length rows → LeadBack rows i back
+    → LeadBack rows (i + 1) (set back (named rows i) (i, (3 - turn rows i) % 3))
+back-more rows back i R h B = record {
+  each = length-set back (named rows i) row ∙ B.each;
+  within = within;
+  leads = leads;
+}
+  where
+    row : ℕ × ℕ
+    row = (i, (3 - turn rows i) % 3)
+
+    here : get_or (set back (named rows i) row) (named rows i) (0, 0) ≡ row
+    here = get_or-set_same back (named rows i) row (0, 0) (let w = R.within i h in let l = B.each in omega arith)
+
+    within : AreRowsBelow (length rows) (set back (named rows i) row)
+    within k d below =
+        let inside : k < length back = (let l = length-set back (named rows i) row in omega arith) in
+        elim (cases_eq k (named rows i)) [
+          | inl e ↦
+              subst (λ (r : ℕ × ℕ). (r.0 < length rows) × (r.1 < 3))
+              (sym (ap (λ (n : ℕ). get_or (set back (named rows i) row) n d) e ∙ get_or-set_same back (named rows i) row d (omega arith)))
+              (h, omega arith)
+          | inr ne ↦ subst (λ (r : ℕ × ℕ). (r.0 < length rows) × (r.1 < 3)) (sym (get_or-set_other back (named rows i) k row d ne)) (B.within k d inside)
+        ]
+
+    leads : (x : Side) → x.face < i + 1 → carry (set back (named rows i) row) (carry rows x) ≡ x
+    leads x k =
+        let at : ℕ × ℕ → Side = λ (r : ℕ × ℕ). side r.0 (turned r.1 (carry rows x).place) in
+        elim (cases_eq x.face i) [
+          | inl e ↦
+              ap (λ (n : ℕ). at (get_or (set back (named rows i) row) (get_or rows n (0, 0)).0 (0, 0))) e
+              ∙ ap at here
+              ∙ ap (λ (n : ℕ). side n (turned ((3 - turn rows n) % 3) (turned (turn rows x.face) x.place))) (sym e)
+              ∙ ap (side x.face) (turned_on (turn rows x.face) x.place (R.turns x.face (omega arith)))
+          | inr ne ↦ (
+              let less : x.face < i = omega arith in
+              let other : named rows x.face ≢ named rows i = λ q. ne (R.apart x.face i (omega arith) h q) in
+              ap at (get_or-set_other back (named rows i) (named rows x.face) row (0, 0) other)
+              ∙ B.leads x less)
+        ]
+
+-- ---- the entries
+
+-- the entry of no side tells no pair
+pub no_side : other_at free_entry ≡ None
+no_side = cond-true (eqb free_entry free_entry) None (Some (side_at free_entry)) (eq-eqb free_entry free_entry refl)
+
+-- an entry tells what a carried side is glued to
+pub entry-carried : (g : Gluing) (rows back : Rows) (faces n e : ℕ) (other : Option NumberedSide) → IsGluing faces g → IsRenumbering faces rows → LeadBack rows (length rows) back
+    → n < 3 * faces → option_map side_of other ≡ g (carry rows (side_at n)) → other_at e ≡ option_map (λ (s : NumberedSide). carry back (side_of s)) other
+    → other_at e ≡ carried g rows (side_at n)
+entry-carried g rows back faces n e other G R B h given is =
+    is ∙ mapped other ∙ ap (option_map (carry back)) given ∙ back_is (option_tells (g (carry rows x))) ∙ sym at
+  where
+    x : Side
+    x = side_at n
+
+    mapped : (o : Option NumberedSide) → option_map (λ (s : NumberedSide). carry back (side_of s)) o ≡ option_map (carry back) (option_map side_of o)
+    mapped None = refl
+    mapped (Some s) = refl
+
+    at : carried g rows x ≡ option_map (carry (inverted rows)) (g (carry rows x))
+    at = cond-true (nat_lt x.face (length rows)) _ _ (lt-ltb x.face (length rows) (let l = R.one_each in let f = face-lt n faces h in omega arith))
+
+    back_is : (g (carry rows x) ≡ None) ⊎ ((y : Side) × (g (carry rows x) ≡ Some y)) → option_map (carry back) (g (carry rows x)) ≡ option_map (carry (inverted rows)) (g (carry rows x))
+    back_is (inl none) = ap (option_map (carry back)) none ∙ sym (ap (option_map (carry (inverted rows))) none)
+    back_is (inr y) =
+        let z = carry_onto R y.0 (G.within y.0 (carry rows x) (G.paired (carry rows x) y.0 y.1)) in
+        let one : carry back y.0 ≡ z.0 = ap (carry back) (sym z.2) ∙ B.leads z.0 (let l = R.one_each in let b = z.1 in omega arith) in
+        let two : carry (inverted rows) y.0 ≡ z.0 = ap (carry (inverted rows)) (sym z.2) ∙ inverted_leads_back faces rows R z.0 z.1 in
+        ap (option_map (carry back)) y.1 ∙ ap {A = Side} Some (one ∙ sym two) ∙ sym (ap (option_map (carry (inverted rows))) y.1)
+
+-- what a side is glued to, is a side of a face
+pub glued-below : (g : Gluing) (faces many : ℕ) (x : Side) (o : Option NumberedSide) → IsGluing faces g → many ≡ faces → option_map side_of o ≡ g x → IfSome o (λ s. s.face < many)
+glued-below g faces many x None G same is = tt
+glued-below g faces many x (Some s) G same is = let w : s.face < faces = G.within (side_of s) x (G.paired x (side_of s) (sym is)) in omega arith
+
+-- one entry more
+pub pairs-more : (g : Gluing) (n e : ℕ) (entries : List ℕ) → TellPairs g n entries → other_at e ≡ g (side_at n) → TellPairs g (n + 1) (entries ++ e ∷ [])
+pairs-more g n e entries T is = record {
+  each = length-append entries (e ∷ []) ∙ (let l = T.each in omega arith);
+  pairs = λ k h. elim (cases_eq k n) [
+    | inl q ↦ ap other_at (get_or_push entries e free_entry k (let l = T.each in omega arith)) ∙ is ∙ ap (λ (m : ℕ). g (side_at m)) (sym q)
+    | inr ne ↦ (
+        let less : k < n = omega arith in
+        ap other_at (get_or_append_left entries (e ∷ []) free_entry k (let l = T.each in omega arith)) ∙ T.pairs k less)
+  ];
+}
+
+-- so all of them tell the carried surface
+pub pairs-told : (g : Gluing) (rows : Rows) (faces : ℕ) (entries : List ℕ) → IsRenumbering faces rows → TellPairs (carried g rows) (3 * faces) entries
+    → glued_in entries ≡ carried g rows
+pairs-told g rows faces entries R T = fun_ext (λ x. elim (cases_lt x.face faces) [
+  | inl h ↦ T.pairs (number x) (number-lt x faces h) ∙ ap (carried g rows) (side_at-number x)
+  | inr h ↦
+      ap other_at (get_or_past entries (number x) free_entry (let l = T.each in omega arith))
+      ∙ no_side
+      ∙ sym (cond-false (nat_lt x.face (length rows)) _ _ (le-ltb x.face (length rows) (let l = R.one_each in omega arith)))
+])

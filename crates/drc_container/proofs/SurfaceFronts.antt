@@ -1,0 +1,87 @@
+-- What is told of the front of a mesh's stream and of the surface behind it, is told of the mesh.
+use Rattle.std.proofs.Common.{◌≡◌, ℕ, ◌-◌, ◌*◌, ◌≤◌, ◌++◌, Bool, List, [], ◌∷◌, map, length, Option, None, refl, sym, ap, ◌∙◌, subst, Vec, Global}
+use Rattle.std.specs.Prelude.{option_map}
+use Rattle.std.specs.List.{range_with_len}
+use Rattle.drc_base.specs.declared.limits.TheConstants.{MAX_POINTS}
+use Rattle.mesh_model.specs.declared.geometries.Geometry.TheVariants.{Mesh}
+use Rattle.mesh_model.specs.Parts.{MeshParts, IsMesh}
+use Rattle.mesh_model.specs.Same.{Rows}
+use Rattle.corner_table.specs.Sides.{Gluing, IsGluing}
+use Rattle.corner_table.specs.Table.{gluing_of, glued_in}
+use Rattle.corner_table.specs.Carried.{IsRenumbering}
+use Rattle.pairing.specs.Degenerate.{degenerate_fault}
+use Rattle.eb_trace.specs.declared.tracing.Traced.{Traced}
+use Rattle.eb_section.specs.ReadAgain.{IsReadAgain}
+use Rattle.eb_section.specs.Written.{connectivity_bytes}
+use Rattle.drc_container.specs.declared.traced_meshes.TracedMesh.{TracedMesh}
+use Rattle.drc_container.specs.declared.connected.Connected.{Connected}
+use Rattle.drc_container.specs.Refused.{tracing_fault}
+use Rattle.drc_container.specs.Written.{header_bytes}
+use Rattle.drc_container.specs.WrittenOnSurface.{traced, decoded, bits_of, seam_lists}
+use Rattle.drc_container.specs.Standings.{flags_of, flag_lists}
+use Rattle.drc_container.specs.Fronts.{IsTraced, IsConnected}
+use Rattle.drc_container.proofs.SurfaceTraced.{traced-orders, decoded-proper, decoded-heads}
+use Rattle.drc_container.proofs.SurfaceFlags.{flags-first}
+use Rattle.drc_container.proofs.SurfaceEncoded.{IsTracedTo, traced-to, vertices-few, value-told}
+
+-- ---- a traced mesh
+
+traced-whole : (m : MeshParts) (t : TracedMesh) → IsMesh m → IsTraced m t → IsTracedTo m t.trace (decoded m)
+traced-whole m t is T = traced-to m t.trace (decoded m) is T.trace refl
+
+-- the trace is that of the mesh
+pub trace-is : (m : MeshParts) (t : TracedMesh) → IsTraced m t → t.trace ≡ traced m
+trace-is m t T = value-told (tracing_fault m) (traced m) t.trace T.trace
+
+-- its order lists each face once
+pub order-renumbers : (m : MeshParts) (t : TracedMesh) → IsMesh m → IsTraced m t → IsRenumbering (length m.faces) t.trace.order
+order-renumbers m t is T =
+    subst (λ (x : Traced). IsRenumbering (length m.faces) x.order) (sym (trace-is m t T)) (traced-orders m is (traced-whole m t is T).proper)
+
+-- it has no more vertices than there may be
+pub trace-few : (m : MeshParts) (t : TracedMesh) → IsMesh m → IsTraced m t → t.trace.vertices ≤ MAX_POINTS
+trace-few m t is T = vertices-few m t.trace (decoded m) (traced-whole m t is T)
+
+-- its pairs are a surface
+pub pairs-glue : (m : MeshParts) (t : TracedMesh) → IsMesh m → IsTraced m t → IsGluing (length m.faces) (glued_in t.pairs.items)
+pairs-glue m t is T = subst (IsGluing (length m.faces)) (sym T.pairs) (decoded-proper m is (traced-whole m t is T).proper).gluing
+
+-- ---- one attribute
+
+-- a mesh with one attribute has no lists of seam bits
+pub one-seams : (m : MeshParts) → length m.heads ≡ 1 → seam_lists (decoded m) ≡ []
+one-seams m one =
+    let d = decoded m in
+    let n : length d.mesh.heads ≡ 1 = ap length (decoded-heads m) ∙ one in
+    ap (λ (k : ℕ). map (bits_of d) (range_with_len 1 (k - 1))) n
+
+-- and no flags
+pub one-flags : (m : MeshParts) → length m.heads ≡ 1 → None ∷ [] ≡ flag_lists (decoded m)
+one-flags m one =
+    let d = decoded m in
+    let n : length d.mesh.heads ≡ 1 = ap length (decoded-heads m) ∙ one in
+    ap (λ (o : Option (List Bool)). o ∷ []) (flags-first d) ∙ sym (ap (λ (k : ℕ). map (flags_of d) (range_with_len 0 k)) n)
+
+-- ---- the front
+
+pub is-connected : (valence : Bool) (m : MeshParts) (t : TracedMesh) (lists : List (List Bool)) (c : Connected) → IsTraced m t → lists ≡ seam_lists (decoded m)
+    → c.front.items ≡ header_bytes 1 (Mesh m) ++ connectivity_bytes valence (length m.faces) t.trace lists
+    → IsReadAgain valence (length m.faces) t.trace lists (connectivity_bytes valence (length m.faces) t.trace lists)
+    → c.rows ≡ t.trace.order → c.sides.faces ≡ length m.faces → gluing_of c.sides ≡ glued_in t.pairs.items
+    → map (option_map (λ (v : Vec Bool Global). v.items)) c.flags.items ≡ flag_lists (decoded m) → IsConnected valence m c
+is-connected valence m t lists c T lists_are front again rows faces pairs flags =
+    let is = trace-is m t T in
+    let bytes : Traced → List (List Bool) → List ℕ = λ x l. connectivity_bytes valence (length m.faces) x l in
+    record {
+      front =
+          front
+          ∙ ap (λ (x : Traced). header_bytes 1 (Mesh m) ++ bytes x lists) is
+          ∙ ap (λ (l : List (List Bool)). header_bytes 1 (Mesh m) ++ bytes (traced m) l) lists_are;
+      again =
+          subst (λ (l : List (List Bool)). IsReadAgain valence (length m.faces) (traced m) l (bytes (traced m) l)) lists_are
+          (subst (λ (x : Traced). IsReadAgain valence (length m.faces) x lists (bytes x lists)) is again);
+      rows = rows ∙ ap (λ (x : Traced). x.order) is;
+      faces = faces;
+      pairs = pairs ∙ T.pairs;
+      flags = flags;
+    }
