@@ -39,12 +39,7 @@ fn has_seam(bits: &[bool]) -> bool
 }
 
 /// The seams of an attribute.
-fn seams_at(
-    alloc: Global,
-    mesh: &CornerMesh,
-    sides: &SideTable,
-    attr: u8,
-) -> Result<Seams, Memory>
+fn seams_at(alloc: Global, mesh: &CornerMesh, sides: &SideTable, attr: u8) -> Result<Seams, Memory>
     requires later { 0 < attr }
     requires attribute { attr < length mesh.now.heads }
     requires faces { sides.now.faces ≡ length mesh.now.faces }

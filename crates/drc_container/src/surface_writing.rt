@@ -75,7 +75,11 @@ fn decoder_for(
 }
 
 /// The decoders of the attributes.
-fn decoders_of(alloc: Global, s: &Standings<'_>, coding: &Coding) -> Result<Vec<DecoderHead>, Memory>
+fn decoders_of(
+    alloc: Global,
+    s: &Standings<'_>,
+    coding: &Coding,
+) -> Result<Vec<DecoderHead>, Memory>
     requires { AreStandings coding.now.degree s.now }
     ensures { IfOk result (λ v. v.items ≡ decoders_for coding.now (glued_on s.now)) }
 {
