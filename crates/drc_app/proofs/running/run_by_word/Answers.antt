@@ -1,4 +1,4 @@
-use Rattle.std.proofs.Common.{◌≡◌, ℕ, zero, suc, Option, Some, None, Result, Ok, Err, ◌⊎◌, inl, inr, refl}
+use Rattle.std.proofs.Common.{◌≡◌, ℕ, zero, suc, List, Option, Some, None, Result, Ok, Err, ◌⊎◌, inl, inr, refl}
 use Rattle.std.specs.Prelude.{IfSome}
 use Rattle.drc_base.specs.declared.faults.Fault.{Fault}
 use Rattle.drc_app.specs.declared.commands.Command.{Command}
