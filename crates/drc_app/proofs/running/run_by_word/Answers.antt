@@ -4,7 +4,7 @@ use Rattle.drc_base.specs.declared.faults.Fault.{Fault}
 use Rattle.drc_app.specs.declared.commands.Command.{Command}
 use Rattle.drc_app.specs.declared.outcomes.Outcome.{Outcome}
 use Rattle.drc_app.specs.declared.outcomes.Outcome.TheVariants as outcome
-use Rattle.drc_app.specs.Ends.{Taking, Putting, HasReadFault, HasWriteFault}
+use Rattle.drc_app.specs.Ends.{Taking, Putting, HasWriteFault}
 use Rattle.drc_app.specs.Due.{due}
 use Rattle.drc_app.specs.Outcome.{IsOutcome, IsDelivered, Delivers, told_to}
 use Rattle.drc_app.specs.Run.{IsComplete}
