@@ -41,8 +41,7 @@ whole-outcome c input bytes outcome.NoMemory on whole all at = unasked (IsUntake
 whole-outcome c input bytes (outcome.Refused f) on whole all at =
     (on-true (IsUntaken input) (reads c) on (inl whole), told (reads c) input.left bytes (λ b. due c b ≡ Err f) on all at)
 whole-outcome c input bytes (outcome.Done d) on whole all at =
-    let answer = bytes_of d in
-    (
+    let answer = bytes_of d in (
       on-true (IsUntaken input) (reads c) on whole,
       told (reads c) input.left bytes (λ b. due c b ≡ Ok answer) on all at.0,
       told (reads c) input.left bytes (λ b. Keeps c b answer) on all at.1,
