@@ -1,16 +1,12 @@
 -- Generated meshes are never refused.
-use Rattle.std.proofs.Common.{◌≡◌, ◌≢◌, ℕ, ◌+◌, ◌*◌, ◌^◌, ◌<◌, ◌≤◌, true, ℤ, pos, List, length, take, Option, Some, None, Ok, Err, refl, sym, ap, subst, arith}
+use Rattle.std.proofs.Common.{◌≡◌, ℕ, ◌*◌, ◌^◌, ◌<◌, ◌≤◌, true, ℤ, pos, length, None, refl, arith}
 use Rattle.std.specs.Prelude.{◌≤ℤ◌, ◌<ℤ◌}
 use Rattle.std.specs.List.{All}
 use Rattle.std.proofs.lemmas.Int.{ints}
 use Rattle.std.proofs.lemmas.Nat.{mul-le}
 use Rattle.std.proofs.lemmas.List.Elements.{All-weaker}
-use Rattle.drc_base.specs.declared.faults.Fault.{Fault}
-use Rattle.drc_bits.proofs.Results.{Ok-injective}
 use Rattle.mesh_model.specs.declared.geometries.Geometry.TheVariants.{Mesh}
-use Rattle.mesh_model.specs.FirstFault.{value_unless}
 use Rattle.mesh_model.specs.Head.{width_of}
-use Rattle.mesh_model.specs.Parts.{MeshParts, corner}
 use Rattle.drc_gen.specs.declared.kinds.GenKind.{GenKind}
 use Rattle.drc_gen.specs.declared.kinds.GenKind.TheVariants.{Grid, Torus, Holes, Fans, Seams}
 use Rattle.drc_gen.specs.Generated.{heads_of, points_of, faces_of, generated}
@@ -77,12 +73,3 @@ pub generated-taken : (kind : GenKind) (n seed : ℕ) → IsSize n → (by : Met
 generated-taken kind n seed size method.Seq = generated-encoded kind n seed (by_method method.Seq) size refl
 generated-taken kind n seed size method.Eb = generated-encoded kind n seed (by_method method.Eb) size refl
 generated-taken kind n seed size method.Valence = generated-encoded kind n seed (by_method method.Valence) size refl
-
--- where a geometry isn't refused, the bytes that are answered are those that are written, and no fault is
-pub written-length : {A : Type 0} (refusal : Option Fault) (stream given : List ℕ) (rows kept : A) → refusal ≡ None → value_unless refusal (stream, rows) ≡ Ok (given, kept) → length given ≡ length stream
-written-length None stream given rows kept none is = ap length (sym (ap (λ p. p.0) (Ok-injective is)))
-written-length (Some f) stream given rows kept none is = cc
-
-pub no-fault : {A : Type 0} (refusal : Option Fault) (x : A) (f : Fault) → refusal ≡ None → value_unless refusal x ≡ Err f → ⊥
-no-fault None x f none is = cc
-no-fault (Some g) x f none is = cc

@@ -1,0 +1,62 @@
+use Rattle.std.proofs.Common.{rules, ◌≡◌, ℕ, Bool, true, false, List, [], ◌++◌, Option, Some, None, Ok, Err, inl, sym, ap, ◌∙◌, subst, append-nil}
+use Rattle.std.specs.Prelude.{IfSome, MatchBool, if◌then◌else◌}
+use Rattle.std.specs.Bool.{OnFalse}
+use Rattle.std.specs.Io.KnownBytes.{Consumes, IsAtEnd}
+use Rattle.std.proofs.lemmas.Bool.{false≢true}
+use Rattle.drc_app.specs.declared.commands.Command.{Command}
+use Rattle.drc_app.specs.declared.outcomes.Outcome.{Outcome}
+use Rattle.drc_app.specs.declared.outcomes.Outcome.TheVariants as outcome
+use Rattle.drc_app.specs.Ends.{Taking, IsReadWhole, IsUntaken, takes}
+use Rattle.drc_app.specs.Due.{reads, due}
+use Rattle.drc_app.specs.Kept.{Keeps}
+use Rattle.drc_app.specs.Outcome.{bytes_of, IsOutcome, IsOutcomeAt}
+use Rattle.drc_app.proofs.outcomes.outcome_of.Goals as goal
+
+-- where all was read, the bytes that were left are those that were taken
+all-taken : (left after : Option (List ℕ)) (bytes : List ℕ) → Consumes left after bytes → IsAtEnd after → IfSome left (λ xs. xs ≡ bytes)
+all-taken None after bytes consumed none = tt
+all-taken (Some xs) None bytes consumed none = absurd consumed
+all-taken (Some xs) (Some ys) bytes consumed none = consumed ∙ ap (λ r. bytes ++ r) none ∙ append-nil bytes
+
+told : (b : Bool) (left : Option (List ℕ)) (bytes : List ℕ) (P : List ℕ → Type 0) → b ≡ true → IfSome left (λ xs. xs ≡ bytes) → P bytes
+    → IfSome (if b then left else Some []) P
+told true None bytes P on all holds = tt
+told true (Some xs) bytes P on all holds = subst P (sym all) holds
+told false left bytes P on all holds = absurd (false≢true on)
+
+on-true : {A : Type 0} (B : Type 0) (b : Bool) → b ≡ true → A → MatchBool b A B
+on-true B true on a = a
+on-true B false on a = absurd (false≢true on)
+
+unasked : (B : Type 0) (b : Bool) → b ≡ true → OnFalse b B
+unasked B true on = tt
+unasked B false on = absurd (false≢true on)
+
+-- what a command that reads came to on all bytes of its input is what its line came to
+whole-outcome : (c : Command) (input : Taking) (bytes : List ℕ) (o : Outcome) → reads c ≡ true → IsReadWhole input → IfSome input.left (λ xs. xs ≡ bytes)
+    → IsOutcomeAt c bytes o → IsOutcome (Ok c) input o
+whole-outcome c input bytes (outcome.BadWord i) on whole all at = absurd at
+whole-outcome c input bytes outcome.ReadFailed on whole all at = absurd at
+whole-outcome c input bytes outcome.NoMemory on whole all at = unasked (IsUntaken input) (reads c) on
+whole-outcome c input bytes (outcome.Refused f) on whole all at =
+    (on-true (IsUntaken input) (reads c) on (inl whole), told (reads c) input.left bytes (λ b. due c b ≡ Err f) on all at)
+whole-outcome c input bytes (outcome.Done d) on whole all at =
+    let answer = bytes_of d in (
+      on-true (IsUntaken input) (reads c) on whole,
+      told (reads c) input.left bytes (λ b. due c b ≡ Ok answer) on all at.0,
+      told (reads c) input.left bytes (λ b. Keeps c b answer) on all at.1,
+    )
+
+pub returns-in-Ok-read_all-clause-outcome : goal.returns-in-Ok-read_all-clause-outcome
+returns-in-Ok-read_all-clause-outcome g c =
+    let source = g.I.Source in
+    let input = takes source.left source.given source.faults source.ended c.args.input.now c.read_all.new.input in
+    let gave = c.in-Ok-read_all.ensures.gave in
+    let command = c.in-Ok.command in
+    let on : reads command ≡ true = search rules in
+    let whole : IsReadWhole input = record { ended = c.in-Ok-read_all.ensures.ended; none_left = c.in-Ok-read_all.ensures.none_left } in
+    let taken : IfSome (source.left c.args.input.now) (λ xs. xs ≡ gave.0) =
+    all-taken (source.left c.args.input.now) (source.left c.read_all.new.input) gave.0 gave.1.consumed c.in-Ok-read_all.ensures.none_left in
+    let o = c.outcome_at-in-Ok-read_all.result in
+    subst (λ l. IsOutcome l input o) c.in-Ok.ensures.line (whole-outcome command input gave.0 o on whole taken
+    (subst (λ bytes. IsOutcomeAt command bytes o) gave.2.0 c.outcome_at-in-Ok-read_all.ensures))

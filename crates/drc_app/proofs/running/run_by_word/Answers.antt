@@ -1,0 +1,50 @@
+use Rattle.std.proofs.Common.{◌≡◌, ℕ, zero, suc, List, Option, Some, None, Result, Ok, Err, ◌⊎◌, inl, inr, refl}
+use Rattle.std.specs.Prelude.{IfSome}
+use Rattle.drc_base.specs.declared.faults.Fault.{Fault}
+use Rattle.drc_app.specs.declared.commands.Command.{Command}
+use Rattle.drc_app.specs.declared.outcomes.Outcome.{Outcome}
+use Rattle.drc_app.specs.declared.outcomes.Outcome.TheVariants as outcome
+use Rattle.drc_app.specs.Ends.{Taking, Putting, HasWriteFault}
+use Rattle.drc_app.specs.Due.{due}
+use Rattle.drc_app.specs.Outcome.{IsOutcome, IsDelivered, Delivers, told_to}
+use Rattle.drc_app.specs.Run.{IsComplete}
+use Rattle.drc_app.proofs.running.run_by_word.Goals as goal
+
+always : {A : Type 0} (x : Option A) (Q : A → Type 0) → ((a : A) → Q a) → IfSome x Q
+always None Q each = tt
+always (Some a) Q each = each a
+
+weaker : {A : Type 0} (x : Option A) (P Q : A → Type 0) → ((a : A) → P a → Q a) → IfSome x P → IfSome x Q
+weaker None P Q each holds = tt
+weaker (Some a) P Q each holds = each a holds
+
+-- what is due isn't both an answer and a fault
+apart : {A : Type 0} (d : Result A Fault) (a : A) (f : Fault) → d ≡ Err f → d ≡ Ok a → ⊥
+apart (Ok b) a f bad good = cc
+apart (Err e) a f bad good = cc
+
+-- where no sink failed, what is due was written
+written : (output notes : Putting) (text note : List ℕ) (status : ℕ) → IsDelivered output notes text note status → ¬ HasWriteFault output → ¬ HasWriteFault notes
+    → (status ≡ 0) ⊎ (status ≡ 5)
+written output notes text note zero is whole all = inl refl
+written output notes text note (suc k) is whole all = elim is.1 [
+  | inl cut ↦ absurd (whole cut.0)
+  | inr cut ↦ absurd (all cut.1)
+]
+
+-- a call that came to this and delivered it is complete
+complete : (line : Result Command ℕ) (input : Taking) (output notes : Putting) (o : Outcome) (status : ℕ) → IsOutcome line input o → Delivers o output notes status
+    → IsComplete line input output notes status
+complete (Err i) input output notes o status is given = tt
+complete (Ok c) input output notes (outcome.BadWord i) status is given = absurd (let e = is.0 in cc)
+complete (Ok c) input output notes outcome.ReadFailed status is given =
+    always (told_to c input) _ (λ bytes answer good read whole all. absurd (read is.1))
+complete (Ok c) input output notes outcome.NoMemory status is given =
+    always (told_to c input) _ (λ bytes answer good read whole all. inr given.0)
+complete (Ok c) input output notes (outcome.Refused f) status is given =
+    weaker (told_to c input) (λ bytes. due c bytes ≡ Err f) _ (λ bytes bad answer good read whole all. absurd (apart (due c bytes) answer f bad good)) is.1
+complete (Ok c) input output notes (outcome.Done d) status is given =
+    always (told_to c input) _ (λ bytes answer good read whole all. written output notes _ _ status given whole all)
+
+pub returns-clause-complete : goal.returns-clause-complete
+returns-clause-complete g c = complete _ _ _ _ c.outcome_of-outcome.result c.deliver.result c.outcome_of-outcome.ensures.outcome c.deliver.ensures.delivered
