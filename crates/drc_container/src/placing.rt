@@ -1,35 +1,41 @@
 //! The attributes of an Edgebreaker mesh, decoder after decoder.
 
 ghost use Rattle.drc_base.specs.Profile.{profile_two};
-ghost use Rattle.std.specs.Prelude.{◌≡◌, ◌<◌, ◌≤◌, ◌+◌, ◌*◌, true, IfOk, All, length, Some};
+ghost use Rattle.std.specs.Prelude.{◌≡◌, ◌<◌, ◌≤◌, ◌+◌, ◌*◌, ◌^◌, true, IfOk, All, length, Some};
 ghost use Rattle.drc_base.specs.declared.limits.TheConstants.{MAX_VALUES as most_values, MAX_FACES as most_faces};
 ghost use Rattle.drc_bits.specs.Reading.{Gives};
 ghost use Rattle.corner_table.specs.Table.{gluing_of};
 ghost use Rattle.mesh_model.specs.Assembled.{AreColumns, AreTables};
 ghost use Rattle.attr_section.specs.Heads.{HeadPasses};
+ghost use Rattle.walk_order.specs.Orders.{IsOrderOver};
+ghost use Rattle.predict.specs.Walked.{walked};
 ghost use Rattle.eb_section.specs.Connectivity.{meaning};
 ghost use Rattle.drc_container.specs.OnSurface.{HasSeams, seams_of, walked_by, walked_for, decoder_on, placed_at, none_placed, values_on, attributes_on};
 
 use crate::placed::{Placed, placed_of};
-use crate::walking::{cut_at, order_of};
+use crate::walking::{cut_at, order_of, order_over};
 use attr_section::{DecoderHead, Walked, read_decoder, read_heads};
-use corner_table::SideTable;
+use corner_table::{Order, SideTable};
 use drc_base::{Refusal, Sequence};
 use drc_bits::Cursor;
 use eb_section::EbRead;
 use rans_binary::BitBlock;
 use std::alloc::Global;
 
-/// Reads the attributes of a decoder, whose values stand on a table's surface; `spent` grows by the number
-/// of its values.
+/// Reads the attributes of a decoder, whose values stand on a table's surface that is walked in this order;
+/// `spent` grows by the number of its values.
 #[tactic(auto, unfolding(crate::specs::OnSurface::decoder_on))]
 fn read_on(
     alloc: Global,
     c: &mut Cursor<'_>,
     t: &SideTable,
+    order: Order,
     decoder: DecoderHead,
     spent: &mut u64,
 ) -> Result<Placed, Refusal>
+    requires walked { walked t.now order ≡ walked_by decoder.degree t.now.faces (gluing_of t.now) }
+    requires over { IsOrderOver t.now.faces order }
+    requires few { length order.corner_of_entry < 2 ^ 32 }
     requires heads { All HeadPasses decoder.heads }
     requires spent { spent.old ≤ most_values }
     ensures item { Gives (λ p. p) (decoder_on profile_two (walked_by decoder.degree t.now.faces (gluing_of t.now)) decoder spent.old c.old) c.new result }
@@ -37,7 +43,6 @@ fn read_on(
     ensures few { IfOk result (λ _. spent.new ≤ most_values) }
     ensures columns { IfOk result (λ p. AreColumns (3 * t.now.faces) p.heads p.tables) }
 {
-    let order = order_of(alloc, t, decoder.degree)?;
     let entries = order.corner_of_entry.len() as u32;
     let walk = Walked {
         sides: t,
@@ -79,9 +84,12 @@ fn read_for(
     {
         let block = seams_of(surface.seams.as_slice(), id);
         let cut = cut_at(alloc, surface.sides.table(), block)?;
-        return read_on(alloc, c, &cut, decoder, spent);
+        let order = order_of(alloc, &cut, decoder.degree)?;
+        return read_on(alloc, c, &cut, order, decoder, spent);
     }
-    read_on(alloc, c, surface.sides.table(), decoder, spent)
+    let sides = &surface.sides;
+    let order = order_over(alloc, sides.table(), sides.classes(), decoder.degree)?;
+    read_on(alloc, c, sides.table(), order, decoder, spent)
 }
 
 /// Reads the attributes of these decoders in turn.

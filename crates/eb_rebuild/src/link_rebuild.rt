@@ -388,12 +388,16 @@ impl Rebuild for LinkRebuild {
 
     #[tactic(auto, using(crate::proofs::TableDegrees::moves_of))]
     fn symbol<L: Ledger>(&mut self, symbol: Symbol, steps: &mut Steps<L>) -> Result<(), Refusal> {
-        match symbol {
-            Symbol::C => refused(self.take_tip(steps)),
-            Symbol::S => refused(self.take_split(steps)),
-            Symbol::L => refused(self.take_left(steps)),
-            Symbol::R => refused(self.take_right(steps)),
-            Symbol::E => refused(self.take_end(steps)),
+        let taken = match symbol {
+            Symbol::C => self.take_tip(steps),
+            Symbol::S => self.take_split(steps),
+            Symbol::L => self.take_left(steps),
+            Symbol::R => self.take_right(steps),
+            Symbol::E => self.take_end(steps),
+        };
+        match taken {
+            Ok(()) => Ok(()),
+            Err(fault) => Err(Refusal::Fault(fault)),
         }
     }
 
