@@ -1,15 +1,13 @@
 -- What is told of the front of a mesh's stream and of the surface behind it, is told of the mesh.
-use Rattle.std.proofs.Common.{◌≡◌, ℕ, ◌-◌, ◌*◌, ◌≤◌, ◌++◌, Bool, List, [], ◌∷◌, map, length, Option, None, refl, sym, ap, ◌∙◌, subst, Vec, Global}
+use Rattle.std.proofs.Common.{◌≡◌, ℕ, ◌-◌, ◌≤◌, ◌++◌, Bool, List, [], ◌∷◌, map, length, Option, None, refl, sym, ap, ◌∙◌, subst, Vec, Global}
 use Rattle.std.specs.Prelude.{option_map}
 use Rattle.std.specs.List.{range_with_len}
 use Rattle.drc_base.specs.declared.limits.TheConstants.{MAX_POINTS}
 use Rattle.mesh_model.specs.declared.geometries.Geometry.TheVariants.{Mesh}
 use Rattle.mesh_model.specs.Parts.{MeshParts, IsMesh}
-use Rattle.mesh_model.specs.Same.{Rows}
-use Rattle.corner_table.specs.Sides.{Gluing, IsGluing}
+use Rattle.corner_table.specs.Sides.{IsGluing}
 use Rattle.corner_table.specs.Table.{gluing_of, glued_in}
 use Rattle.corner_table.specs.Carried.{IsRenumbering}
-use Rattle.pairing.specs.Degenerate.{degenerate_fault}
 use Rattle.eb_trace.specs.declared.tracing.Traced.{Traced}
 use Rattle.eb_section.specs.ReadAgain.{IsReadAgain}
 use Rattle.eb_section.specs.Written.{connectivity_bytes}

@@ -1,5 +1,5 @@
 -- A mesh that is seen through rows: what holds of it, and its corners.
-use Rattle.std.proofs.Common.{◌≡◌, ℕ, zero, suc, ◌+◌, ◌%◌, ◌<◌, ℤ, List, [], length, get_or, refl, sym, ap, ◌∙◌, arith}
+use Rattle.std.proofs.Common.{◌≡◌, ℕ, ◌+◌, ◌%◌, ◌<◌, ℤ, List, [], length, get_or, refl, sym, ap, ◌∙◌, arith}
 use Rattle.std.proofs.lemmas.List.{length-map}
 use Rattle.mesh_model.specs.Parts.{MeshParts, corner, IsMesh}
 use Rattle.mesh_model.specs.Same.{Rows}

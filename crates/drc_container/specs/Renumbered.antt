@@ -1,6 +1,6 @@
 -- A mesh and its surface under new numbers of the faces, as they are made step by step. These are the code's own words; what is answered
 -- is told by `renumbered` and `carried`.
-use Rattle.std.specs.Prelude.{◌≡◌, ℕ, ◌*◌, ◌<◌, List, length, get_or, All}
+use Rattle.std.specs.Prelude.{◌≡◌, ℕ, ◌<◌, List, length, get_or, All}
 use Rattle.mesh_model.specs.Same.{Rows}
 use Rattle.corner_table.specs.Sides.{Side, side_at, Gluing}
 use Rattle.corner_table.specs.Table.{free_entry, other_at}

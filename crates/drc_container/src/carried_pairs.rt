@@ -3,11 +3,11 @@
 //! A table has two links beside each entry. While the surface waits, the list of entries alone is kept, a third of
 //! the table.
 
-ghost use Rattle.std.specs.Prelude.{◌≡◌, ◌*◌, ◌<◌, ◌≤◌, ◌↔◌, length, IfOk, IfSome, IsTrue};
+ghost use Rattle.std.specs.Prelude.{◌≡◌, ◌*◌, ◌<◌, ◌≤◌, length, IfOk, IfSome};
 ghost use Rattle.std.specs.Option.{option_map};
 ghost use Rattle.drc_base.specs.declared.limits.TheConstants.{MAX_FACES as most_faces};
 ghost use Rattle.corner_table.specs.Sides.{IsGluing, unglued};
-ghost use Rattle.corner_table.specs.Table.{free_entry, other_at, gluing_of, glued_in, side_of};
+ghost use Rattle.corner_table.specs.Table.{other_at, gluing_of, glued_in, side_of};
 ghost use Rattle.corner_table.specs.Carried.{carry, IsRenumbering};
 ghost use Rattle.pairing.specs.CarriedPairs.{carried as carried_gluing};
 ghost use Rattle.seams.specs.Pairs.{TellsLater};

@@ -1,10 +1,10 @@
 //! The surfaces that the values of a mesh's attributes stand on: the mesh's own, walked once, and for each
 //! attribute with seams a surface that is cut at them.
 
-ghost use Rattle.std.specs.Prelude.{◌≡◌, ◌<◌, Bool, false, List, map, length, All, IfOk, IfSome};
+ghost use Rattle.std.specs.Prelude.{◌≡◌, ◌<◌, Bool, false, map, length, All, IfOk, IfSome};
 ghost use Rattle.std.specs.Option.{option_map};
 ghost use Rattle.corner_table.specs.Table.{gluing_of};
-ghost use Rattle.seams.specs.Seams.{AreFlags, flag_at, unseamed};
+ghost use Rattle.seams.specs.Seams.{AreFlags};
 ghost use Rattle.drc_container.specs.OnSurface.{walked_by};
 ghost use Rattle.drc_container.specs.WrittenOnSurface.{is_cornered};
 ghost use Rattle.drc_container.specs.Standings.{glued_by, glued_on, flag_lists, walk_in, walk_at, walk_cut, AreStandings};

@@ -1,8 +1,8 @@
 //! The values of a mesh's attributes, each in the order of its walk.
 
-ghost use Rattle.std.specs.Prelude.{◌≡◌, ◌+◌, ◌<◌, ◌≤◌, ◌*◌, ◌^◌, [], ◌∷◌, map, take, drop, flat_map, length, All, IfOk};
+ghost use Rattle.std.specs.Prelude.{◌≡◌, ◌+◌, ◌<◌, ◌≤◌, ◌*◌, ◌^◌, map, take, drop, flat_map, length, All, IfOk};
 ghost use Rattle.drc_base.specs.Refusals.{Answers};
-ghost use Rattle.mesh_model.specs.FirstFault.{Tests, first_fault, value_unless};
+ghost use Rattle.mesh_model.specs.FirstFault.{Tests, value_unless};
 ghost use Rattle.mesh_model.specs.Head.{width_of};
 ghost use Rattle.corner_table.specs.Table.{side_of};
 ghost use Rattle.seams.specs.Values.{piece};

@@ -1,6 +1,6 @@
 //! Writing a mesh by Edgebreaker.
 
-ghost use Rattle.std.specs.Prelude.{◌≡◌, ◌<◌, ◌≤◌, ◌+◌, ◌-◌, ◌^◌, ◌++◌, [], ◌∷◌, Some, Ok, map, flat_map, length, All, IfOk, OnOk};
+ghost use Rattle.std.specs.Prelude.{◌≡◌, ◌<◌, ◌≤◌, ◌+◌, ◌-◌, ◌^◌, ◌++◌, Some, Ok, map, length, All, IfOk, OnOk};
 ghost use Rattle.std.specs.List.{enumerate_from};
 ghost use Rattle.drc_base.specs.declared.limits.TheConstants.{MAX_ATTRIBUTES, MAX_FACES, MAX_POINTS as most_points};
 ghost use Rattle.drc_bits.specs.Spells.{Spells};
@@ -12,7 +12,7 @@ ghost use Rattle.eb_section.specs.Written.{connectivity_bytes};
 ghost use Rattle.attr_section.specs.Heads.{bare_decoder, heads_at};
 ghost use Rattle.attr_section.specs.Written.{decoder_values_bytes, DecoderValuesPass, HaveEntries};
 ghost use Rattle.drc_container.specs.Written.{header_bytes};
-ghost use Rattle.drc_container.specs.WrittenOnSurface.{walk_of, coded_by, coded_values, data_id_of, decoder_for, decoders_for, attribute_bytes, values_bytes_on, decoder_heads_bytes};
+ghost use Rattle.drc_container.specs.WrittenOnSurface.{walk_of, coded_values, data_id_of, decoder_for, decoders_for, values_bytes_on, decoder_heads_bytes};
 ghost use Rattle.drc_container.specs.Encoded.{AttributeSpelled};
 ghost use Rattle.drc_container.specs.Standings.{glued_on, walk_in, AreStandings, CanCodeValues, AreReadAgain};
 

@@ -1,4 +1,4 @@
-use Rattle.std.proofs.Common.{◌≡◌, ◌-◌, ◌<◌, ◌∷◌, [], ℕ, Bool, List, Option, None, Vec, Global, map, length, refl, ap, sym, ◌∙◌, arith}
+use Rattle.std.proofs.Common.{◌≡◌, ◌-◌, ◌<◌, ◌∷◌, [], ℕ, Bool, List, Option, Vec, Global, map, length, refl, ap, sym, ◌∙◌, arith}
 use Rattle.std.specs.Prelude.{option_map}
 use Rattle.std.specs.List.{range_with_len}
 use Rattle.mesh_model.proofs.Passing.{heads_say}

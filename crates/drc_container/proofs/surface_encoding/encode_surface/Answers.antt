@@ -1,4 +1,4 @@
-use Rattle.std.proofs.Common.{◌≡◌, ℕ, ◌<◌, ◌++◌, length, refl, sym, ap, ◌∙◌, subst, arith}
+use Rattle.std.proofs.Common.{◌≡◌, ◌++◌, length, refl, sym, ap, ◌∙◌, subst, arith}
 use Rattle.std.proofs.lemmas.Result.{err_from_is_err_and}
 use Rattle.corner_table.specs.Carried.{IsRenumbering}
 use Rattle.drc_container.specs.WrittenOnSurface.{traced, decoded, decoder_heads_bytes, values_bytes_on, edgebreaker_bytes}
