@@ -9,6 +9,9 @@ ghost use Rattle.corner_table.specs.Links.{relinked, new_loop};
 use drc_base::{Memory, Side};
 use std::alloc::Global;
 
+/// The entry of a side that is in no pair.
+pub(crate) const FREE: u32 = u32::MAX;
+
 /// The entry with a number.
 pub(crate) fn entry_at(entries: &Vec<u32>, number: u32) -> u32
     requires { number < vec_len entries.now }
@@ -50,7 +53,7 @@ pub(crate) fn previous_of(c: Side) -> Side
 }
 
 /// Side `y` follows side `x` from now on.
-fn join(after: &mut Vec<u32>, before: &mut Vec<u32>, x: u32, y: u32)
+pub(crate) fn join(after: &mut Vec<u32>, before: &mut Vec<u32>, x: u32, y: u32)
     requires in_after { x < vec_len after.old }
     requires in_before { y < vec_len before.old }
     ensures after_len { vec_len after.new ≡ vec_len after.old }

@@ -3,6 +3,7 @@
 //! of its sides; the fans of corners round each vertex follow from the gluing.
 #![tactic(auto)]
 
+mod boundary_links;
 mod corner_lists;
 mod entries;
 mod labels;

@@ -4,7 +4,10 @@
 //! free side that follows it round the boundary and the one before it, so that the ends of an open
 //! fan are found without a walk.
 
-use crate::entries::{entry_at, entry_or_free, filled, link_face, next_of, previous_of, relink};
+use crate::boundary_links::links_of;
+use crate::entries::{
+    FREE, entry_at, entry_or_free, filled, link_face, next_of, previous_of, relink,
+};
 use crate::renumbering::{carried, carried_links, places_of};
 use crate::side_numbers::{next_number, number_of, previous_number, side_with};
 use crate::steps::Steps;
@@ -12,9 +15,6 @@ use drc_base::{MAX_FACES, Memory, Side};
 use std::alloc::Global;
 use std::marker::Model;
 use std::sync::ledger::Ledger;
-
-/// The entry of a side that is in no pair.
-const FREE: u32 = u32::MAX;
 
 /// Faces and the gluing of their sides in pairs. Contracts see it as the number of its faces and the
 /// list of its entries, which tells the gluing.
@@ -42,7 +42,7 @@ impl SideTable {
     ghost use Rattle.drc_base.specs.declared.limits.TheConstants.{MAX_FACES as most_faces};
     ghost use Rattle.corner_table.specs.Sides.{Side as side_value, Place, side, side_at, unglued, glue, IsGluing};
     ghost use Rattle.corner_table.specs.Fans.{swing_left, swing_right, side_after, side_before, Follows};
-    ghost use Rattle.corner_table.specs.Table.{side_of, gluing_of, room_of, IsFreeIn};
+    ghost use Rattle.corner_table.specs.Table.{side_of, glued_in, gluing_of, room_of, IsFreeIn};
     ghost use Rattle.corner_table.specs.Carried.{IsRenumbering, IsCarried};
 
     /// A table without faces, and room for `faces` of them, which is three lists of a number for each
@@ -61,6 +61,33 @@ impl SideTable {
         Ok(SideTable {
             faces: 0,
             across,
+            after,
+            before,
+        })
+    }
+
+    /// The table of these faces with the pairs of a list: its entry 3f + k is the number of the side that
+    /// side k of face f is glued to, and `u32::MAX` where that side is free. The list becomes the table's;
+    /// two more of its length are made, and want of memory for them is the one refusal. All entries are
+    /// looked at, so the call counts as many steps as `across` does.
+    pub fn with_pairs<L: Ledger>(
+        alloc: Global,
+        faces: u32,
+        pairs: Vec<u32>,
+        steps: &mut Steps<L>,
+    ) -> Result<SideTable, Memory>
+        requires few { faces ≤ most_faces }
+        requires each { length pairs.items ≡ 3 * faces }
+        requires gluing { IsGluing faces (glued_in pairs.items) }
+        ensures faces { IfOk result (λ t. t.faces ≡ faces) }
+        ensures entries { IfOk result (λ t. t.entries ≡ pairs.items) }
+        ensures steps { steps.new ≡ steps.old + 3 * faces }
+    {
+        steps.count(pairs.len() as u64);
+        let (after, before) = links_of(alloc, faces, pairs.as_slice())?;
+        Ok(SideTable {
+            faces,
+            across: pairs,
             after,
             before,
         })

@@ -66,6 +66,29 @@ fn next_of<L: Ledger>(rt: &impl Abort, table: &SideTable, s: Side, steps: &mut S
     next
 }
 
+/// The number of the side that follows one round the boundary, or -1 where that one isn't free.
+fn follower<L: Ledger>(rt: &impl Abort, table: &SideTable, s: Side, steps: &mut Steps<L>) -> i64 {
+    assert!(rt; s.face < table.face_count());
+    match table.other(s, steps) {
+        Some(_) => -1,
+        None => number_of(Some(next_of(rt, table, s, steps))),
+    }
+}
+
+/// The same surface, made of the list of its pairs.
+fn made_again<L: Ledger>(
+    rt: &impl Abort,
+    alloc: Global,
+    table: &SideTable,
+    steps: &mut Steps<L>,
+) -> SideTable {
+    let faces = table.face_count();
+    let entries = table.across(steps);
+    assert!(rt; entries.len() == 3 * faces as usize);
+    let pairs = entries.to_vec(alloc).expect(rt, "pairs");
+    SideTable::with_pairs(alloc, faces, pairs, steps).expect(rt, "a table")
+}
+
 /// The vertices, and what follows each side that is asked for, or -1 where it isn't free.
 fn told<L: Ledger>(
     rt: &impl Abort,
@@ -86,14 +109,11 @@ fn told<L: Ledger>(
     for pair in pairs {
         glue_pair(rt, &mut table, *pair, &mut steps);
     }
+    let again = made_again(rt, alloc, &table, &mut steps);
     let mut follows = Vec::new(alloc);
     for side in asked {
-        let s = numbered(*side);
-        assert!(rt; s.face < table.face_count());
-        let next = match table.other(s, &mut steps) {
-            Some(_) => -1,
-            None => number_of(Some(next_of(rt, &table, s, &mut steps))),
-        };
+        let next = follower(rt, &table, numbered(*side), &mut steps);
+        assert!(rt; follower(rt, &again, numbered(*side), &mut steps) == next);
         follows.push(next).expect(rt, "an answer");
     }
     let classes = table.label_vertices(alloc, &mut steps).expect(rt, "labels");
