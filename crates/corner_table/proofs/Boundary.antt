@@ -14,11 +14,11 @@ leftmost-some : (g : Gluing) (n : ℕ) (c d : Side) → swing_left g c ≡ Some 
 unfolding leftmost
 leftmost-some g n c d h = rw (h, leftmost) refl
 
-pub rightmost-none : (g : Gluing) (n : ℕ) (c : Side) → swing_right g c ≡ None → rightmost g (suc n) c ≡ c
+rightmost-none : (g : Gluing) (n : ℕ) (c : Side) → swing_right g c ≡ None → rightmost g (suc n) c ≡ c
 unfolding rightmost
 rightmost-none g n c h = rw (h, rightmost) refl
 
-pub rightmost-some : (g : Gluing) (n : ℕ) (c d : Side) → swing_right g c ≡ Some d → rightmost g (suc n) c ≡ rightmost g n d
+rightmost-some : (g : Gluing) (n : ℕ) (c d : Side) → swing_right g c ≡ Some d → rightmost g (suc n) c ≡ rightmost g n d
 unfolding rightmost
 rightmost-some g n c d h = rw (h, rightmost) refl
 
@@ -26,7 +26,7 @@ leftmost-zero : (g : Gluing) (c : Side) → leftmost g zero c ≡ c
 unfolding leftmost
 leftmost-zero g c = refl
 
-pub rightmost-zero : (g : Gluing) (c : Side) → rightmost g zero c ≡ c
+rightmost-zero : (g : Gluing) (c : Side) → rightmost g zero c ≡ c
 unfolding rightmost
 rightmost-zero g c = refl
 

@@ -1,30 +1,27 @@
--- The lists of a table under new numbers are those of the carried gluing and its boundary.
+-- The entries of a table under new numbers are those of the carried gluing.
 use Rattle.std.proofs.Common.{◌≡◌, ◌≢◌, ℕ, ◌+◌, ◌*◌, ◌%◌, ◌<◌, ◌≤◌, zero, suc, eqb, List, [], ◌∷◌, ◌++◌, length, get_or, set, Some, None, inl, inr, sym, refl, ap, ◌∙◌, subst, arith, eqb-true, length-append}
 use Rattle.std.proofs.lemmas.Bool.{cases_Bool, cond-true, cond-false, cases_lt, cases_eq, eq-eqb}
-use Rattle.std.proofs.lemmas.List.{get_or_past, get_or_default, get_or_append_left, get_or_push, length-set, get_or-set_same, get_or-set_other}
-use Rattle.corner_table.specs.Sides.{Side, Place, first, second, third, side, number, side_at, place_number, place_of, IsGluing, IsFree}
-use Rattle.corner_table.specs.Fans.{side_after, side_before}
-use Rattle.corner_table.specs.Links.{IsLinked}
+use Rattle.std.proofs.lemmas.List.{get_or_past, get_or_append_left, get_or_push, length-set, get_or-set_same, get_or-set_other}
+use Rattle.corner_table.specs.Sides.{Side, Place, first, second, third, side, number, side_at, place_number, place_of}
 use Rattle.corner_table.specs.Table.{free_entry, other_at, glued_in, IsSideTable}
 use Rattle.corner_table.specs.Carried.{turned, carry, IsRenumbering, IsCarried}
-use Rattle.corner_table.specs.Renumbering.{ArePlaces, placed_face, AreCarried, AreLinks}
+use Rattle.corner_table.specs.Renumbering.{ArePlaces, placed_face, AreCarried}
 use Rattle.corner_table.proofs.Places.{option_tells, Some_injective}
 use Rattle.corner_table.proofs.Numbers.{number-lt, number-side_at, number_injective}
-use Rattle.corner_table.proofs.Boundary.{side_after-follows, side_before-follows}
 use Rattle.corner_table.proofs.TableSteps.{entry_taken}
-use Rattle.corner_table.proofs.Carrying.{carry-within, carry_injective, carry_onto, carried_gluing, free_carried, after_carried, before_carried}
+use Rattle.corner_table.proofs.Carrying.{carry-within, carry_injective, carry_onto, carried_gluing}
 
 -- what a renumbered table is made of
-pub record IsRenumbered (faces : ℕ) (across after before : List ℕ) (rows : List (ℕ × ℕ)) (places now : List ℕ) : Type 0 where
-  pub table : IsSideTable faces across after before
+pub record IsRenumbered (faces : ℕ) (across : List ℕ) (rows : List (ℕ × ℕ)) (places now : List ℕ) : Type 0 where
+  pub table : IsSideTable faces across
   pub rows_are : IsRenumbering faces rows
   pub places_are : ArePlaces faces rows places
   pub across_are : AreCarried faces rows places across now
 
 -- the same, from numbers of faces that are equal
-pub renumbered_from : {faces m k : ℕ} {across after before : List ℕ} {rows : List (ℕ × ℕ)} {places now : List ℕ} →
-    IsSideTable faces across after before → faces ≡ m → k ≡ m → IsRenumbering m rows → ArePlaces k rows places →
-    AreCarried k rows places across now → IsRenumbered faces across after before rows places now
+pub renumbered_from : {faces m k : ℕ} {across : List ℕ} {rows : List (ℕ × ℕ)} {places now : List ℕ} →
+    IsSideTable faces across → faces ≡ m → k ≡ m → IsRenumbering m rows → ArePlaces k rows places →
+    AreCarried k rows places across now → IsRenumbered faces across rows places now
 renumbered_from {across = across} {rows = rows} {places = places} {now = now} T f g R P C = record {
   table = T;
   rows_are = subst (λ (n : ℕ). IsRenumbering n rows) (sym f) R;
@@ -32,7 +29,7 @@ renumbered_from {across = across} {rows = rows} {places = places} {now = now} T 
   across_are = subst (λ (n : ℕ). AreCarried n rows places across now) (g ∙ sym f) C;
 }
 
-module _ {faces : ℕ} {across after before : List ℕ} {rows : List (ℕ × ℕ)} {places now : List ℕ} (T : IsRenumbered faces across after before rows places now) where
+module _ {faces : ℕ} {across : List ℕ} {rows : List (ℕ × ℕ)} {places now : List ℕ} (T : IsRenumbered faces across rows places now) where
   no_side : other_at free_entry ≡ None
   no_side = cond-true (eqb free_entry free_entry) None (Some (side_at free_entry)) (eq-eqb free_entry free_entry refl)
 
@@ -92,58 +89,14 @@ module _ {faces : ℕ} {across after before : List ℕ} {rows : List (ℕ × ℕ
         | inr h ↦ absurd (let no : None ≡ Some y = sym (no_entry x h) ∙ e in cc)
       ]
 
-  -- and the links are those of its boundary
-  link_from : (links linked : List ℕ) (x y : Side) → AreLinks faces rows places now links linked → IsFree faces (glued_in now) x → y.face < faces →
-      length links ≡ length across → get_or links (number (carry rows x)) 0 ≡ number (carry rows y) → get_or linked (number x) 0 ≡ number y
-  link_from links linked x y L X k l e =
-      let f = T.table.fits in
-      let n = number-lt (carry rows x) faces (carry-within T.rows_are x X.within) in
-      let inside : number (carry rows x) < length links = omega arith in
-      L.link x X.within (entry_of_free (get_or now (number x) free_entry) X.free)
-      ∙ ap (λ (n : ℕ). get_or places n free_entry) (get_or_default links (number (carry rows x)) free_entry 0 inside ∙ e)
-      ∙ T.places_are.becomes y k
-    where
-      entry_of_free : (v : ℕ) → other_at v ≡ None → v ≡ free_entry
-      entry_of_free v e = elim (cases_Bool (eqb v free_entry)) [
-        | inl t ↦ eqb-true v free_entry t
-        | inr t ↦ absurd (let no : Some (side_at v) ≡ None = sym (cond-false _ _ _ t) ∙ e in cc)
-      ]
-
-  links_carried : (next_now last_now : List ℕ) → AreLinks faces rows places now after next_now → AreLinks faces rows places now before last_now →
-      IsLinked faces (glued_in now) next_now last_now
-  links_carried next_now last_now A B = record { after_is = after_is; before_is = before_is }
-    where
-      H : IsGluing faces (glued_in now)
-      H = carried_gluing T.table.gluing gluing_carried
-
-      after_is : (x : Side) → IsFree faces (glued_in now) x → get_or next_now (number x) 0 ≡ number (side_after faces (glued_in now) x)
-      after_is x X =
-          link_from after next_now x (side_after faces (glued_in now) x) A X (side_after-follows H x X).free.within T.table.after_room
-          (T.table.linked.after_is (carry rows x) (free_carried T.table.gluing T.rows_are gluing_carried x X) ∙ ap number (sym (after_carried T.table.gluing T.rows_are gluing_carried x X)))
-
-      before_is : (x : Side) → IsFree faces (glued_in now) x → get_or last_now (number x) 0 ≡ number (side_before faces (glued_in now) x)
-      before_is x X =
-          link_from before last_now x (side_before faces (glued_in now) x) B X (side_before-follows H x X).0.within T.table.before_room
-          (T.table.linked.before_is (carry rows x) (free_carried T.table.gluing T.rows_are gluing_carried x X) ∙ ap number (sym (before_carried T.table.gluing T.rows_are gluing_carried x X)))
-
-  -- so the new lists are those of a table
-  pub table_carried : (k : ℕ) (next_now last_now : List ℕ) → k ≡ faces → AreLinks k rows places now after next_now → AreLinks k rows places now before last_now →
-      IsSideTable faces now next_now last_now
-  table_carried k next_now last_now e P Q = record {
+  -- so the new entries are those of a table
+  pub table_carried : IsSideTable faces now
+  table_carried = record {
     limit = (let l = T.across_are.long in let f = T.table.fits in let m = T.table.limit in omega arith);
     whole = (let l = T.across_are.long in omega arith);
     fits = (let l = T.across_are.long in omega arith);
-    after_room = A.long ∙ sym T.across_are.long;
-    before_room = B.long ∙ sym T.across_are.long;
     gluing = carried_gluing T.table.gluing gluing_carried;
-    linked = links_carried next_now last_now A B;
   }
-    where
-      A : AreLinks faces rows places now after next_now
-      A = subst (λ (n : ℕ). AreLinks n rows places now after next_now) e P
-
-      B : AreLinks faces rows places now before last_now
-      B = subst (λ (n : ℕ). AreLinks n rows places now before last_now) e Q
 
 turned_number : (t : ℕ) (p : Place) → t < 3 → place_number (turned t p) ≡ (place_number p + t) % 3
 turned_number zero first h = refl

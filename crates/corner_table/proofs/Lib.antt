@@ -5,7 +5,6 @@ pub mod Boundary
 pub mod Gluings
 pub mod LinkSteps
 pub mod LinkLists
-pub mod Linking
 pub mod TableSteps
 pub mod Labelling
 pub mod LabelAll

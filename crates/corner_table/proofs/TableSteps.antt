@@ -6,7 +6,7 @@ use Rattle.drc_base.specs.declared.limits.TheConstants.{MAX_FACES}
 use Rattle.corner_table.specs.Sides.{Side, Place, first, second, third, side, next, prev, number, side_at, Gluing, unglued, glue, IsGluing, IsFree}
 use Rattle.corner_table.specs.Fans.{InFan, here, side_before, side_after, Follows}
 use Rattle.corner_table.specs.Links.{IsLinked, joined, relinked, new_loop}
-use Rattle.corner_table.specs.Table.{free_entry, other_at, glued_in, IsSideTable}
+use Rattle.corner_table.specs.Table.{free_entry, other_at, glued_in, IsSideTable, IsLinkedTable}
 use Rattle.corner_table.proofs.Places.{face_apart, glue_tells, at_first, at_second, elsewhere}
 use Rattle.corner_table.proofs.Numbers.{number-lt, side_at-number}
 use Rattle.corner_table.proofs.Boundary.{side_after-follows, side_after_only, side_before-follows, side_before_only}
@@ -163,23 +163,24 @@ glued_in-set l a b faces h k ne room most = fun_ext at
     ]
 
 -- what a free side's links lead to lies within the lists
-pub next_within : {faces : ℕ} {across after before : List ℕ} → IsSideTable faces across after before → (x : Side) → IsFree faces (glued_in across) x → get_or after (number x) 0 < 3 * faces
-next_within T x X = let e = T.linked.after_is x X in let n = number-lt (side_after _ _ x) _ (side_after-follows T.gluing x X).free.within in omega arith
+pub next_within : {faces : ℕ} {across after before : List ℕ} → IsLinkedTable faces across after before → (x : Side) → IsFree faces (glued_in across) x → get_or after (number x) 0 < 3 * faces
+next_within T x X = let e = T.linked.after_is x X in let n = number-lt (side_after _ _ x) _ (side_after-follows T.table.gluing x X).free.within in omega arith
 
-pub previous_within : {faces : ℕ} {across after before : List ℕ} → IsSideTable faces across after before → (x : Side) → IsFree faces (glued_in across) x → get_or before (number x) 0 < 3 * faces
-previous_within T x X = let e = T.linked.before_is x X in let n = number-lt (side_before _ _ x) _ (side_before-follows T.gluing x X).0.within in omega arith
+pub previous_within : {faces : ℕ} {across after before : List ℕ} → IsLinkedTable faces across after before → (x : Side) → IsFree faces (glued_in across) x → get_or before (number x) 0 < 3 * faces
+previous_within T x X = let e = T.linked.before_is x X in let n = number-lt (side_before _ _ x) _ (side_before-follows T.table.gluing x X).0.within in omega arith
 
 -- the table with one more face
-pub table_grown : {faces : ℕ} {across after before : List ℕ} → IsSideTable faces across after before → 3 * suc faces ≤ length across →
-    IsSideTable (suc faces) across (new_loop faces (after, before)).0 (new_loop faces (after, before)).1
-table_grown {faces} {across} {after} {before} T h = record {
-  limit = T.limit;
-  whole = T.whole;
-  fits = h;
+pub table_grown : {faces : ℕ} {across : List ℕ} → IsSideTable faces across → 3 * suc faces ≤ length across → IsSideTable (suc faces) across
+table_grown {faces} T h = record { limit = T.limit; whole = T.whole; fits = h; gluing = more_faces (suc faces) (omega arith) T.gluing }
+
+-- and with its links
+pub links_grown : {faces : ℕ} {across after before : List ℕ} → IsLinkedTable faces across after before → 3 * suc faces ≤ length across →
+    IsLinkedTable (suc faces) across (new_loop faces (after, before)).0 (new_loop faces (after, before)).1
+links_grown {faces} {across} {after} {before} T h = record {
+  table = table_grown T.table h;
   after_room = length-set _ _ _ ∙ length-set _ _ _ ∙ length-set _ _ _ ∙ T.after_room;
   before_room = length-set _ _ _ ∙ length-set _ _ _ ∙ length-set _ _ _ ∙ T.before_room;
-  gluing = more_faces (suc faces) (omega arith) T.gluing;
-  linked = new_loop_linked faces (glued_in across) after before T.gluing T.linked (let e = T.after_room in omega arith) (let e = T.before_room in omega arith);
+  linked = new_loop_linked faces (glued_in across) after before T.table.gluing T.linked (let e = T.after_room in omega arith) (let e = T.before_room in omega arith);
 }
 
 abbrev same_lengths : ℕ → List ℕ × List ℕ → Type 0
@@ -198,25 +199,13 @@ relinked-lengths n a b links h =
     both false x y p q = q
 
 -- the table with two sides glued
-pub table_glued : {faces : ℕ} {across after before : List ℕ} (a b : Side) → IsSideTable faces across after before → IsFree faces (glued_in across) a → IsFree faces (glued_in across) b → a.face ≢ b.face →
-    IsSideTable faces (set (set across (number a) (number b)) (number b) (number a)) (relinked (number a) (number b) (after, before)).0 (relinked (number a) (number b) (after, before)).1
-table_glued {faces} {across} {after} {before} a b T A B h = record {
+pub table_glued : {faces : ℕ} {across : List ℕ} (a b : Side) → IsSideTable faces across → IsFree faces (glued_in across) a → IsFree faces (glued_in across) b → a.face ≢ b.face →
+    IsSideTable faces (set (set across (number a) (number b)) (number b) (number a))
+table_glued {faces} {across} a b T A B h = record {
   limit = (let e = longs in let l = T.limit in omega arith);
   whole = (let e = longs in let w = T.whole in omega arith);
   fits = (let e = longs in let l = T.fits in omega arith);
-  after_room = (relinked-lengths (length across) _ _ (after, before) (T.after_room, T.before_room)).0 ∙ sym longs;
-  before_room = (relinked-lengths (length across) _ _ (after, before) (T.after_room, T.before_room)).1 ∙ sym longs;
   gluing = subst (IsGluing faces) (sym same) (glued_is a b T.gluing A B h);
-  linked = subst (λ (g : Gluing). IsLinked faces g (relinked (number a) (number b) (after, before)).0 (relinked (number a) (number b) (after, before)).1) (sym same)
-      (relinked_linked faces (glued_in across) a b after before (record {
-        gluing = T.gluing;
-        first_free = A;
-        second_free = B;
-        apart = h;
-        linked = T.linked;
-        room_after = (let e = T.after_room in let l = T.fits in omega arith);
-        room_before = (let e = T.before_room in let l = T.fits in omega arith);
-      }));
 }
   where
     longs : length (set (set across (number a) (number b)) (number b) (number a)) ≡ length across
@@ -224,6 +213,35 @@ table_glued {faces} {across} {after} {before} a b T A B h = record {
 
     same : glued_in (set (set across (number a) (number b)) (number b) (number a)) ≡ glue a b (glued_in across)
     same = glued_in-set across a b faces A.within B.within (face_apart a b h) T.fits (let l = T.limit in let m = T.fits in omega arith)
+
+-- and with its links, where the entries tell the new gluing
+pub links_glued : {faces : ℕ} {across now after before : List ℕ} (a b : Side) → IsLinkedTable faces across after before → IsFree faces (glued_in across) a → IsFree faces (glued_in across) b → a.face ≢ b.face →
+    length now ≡ length across → glued_in now ≡ glue a b (glued_in across) →
+    IsLinkedTable faces now (relinked (number a) (number b) (after, before)).0 (relinked (number a) (number b) (after, before)).1
+links_glued {faces} {across} {now} {after} {before} a b T A B h long same = record {
+  table = record {
+    limit = (let l = T.table.limit in omega arith);
+    whole = (let w = T.table.whole in omega arith);
+    fits = (let l = T.table.fits in omega arith);
+    gluing = subst (IsGluing faces) (sym same) (glued_is a b T.table.gluing A B h);
+  };
+  after_room = (relinked-lengths (length across) _ _ (after, before) (T.after_room, T.before_room)).0 ∙ sym long;
+  before_room = (relinked-lengths (length across) _ _ (after, before) (T.after_room, T.before_room)).1 ∙ sym long;
+  linked = subst (λ (g : Gluing). IsLinked faces g (relinked (number a) (number b) (after, before)).0 (relinked (number a) (number b) (after, before)).1) (sym same)
+      (relinked_linked faces (glued_in across) a b after before (record {
+        gluing = T.table.gluing;
+        first_free = A;
+        second_free = B;
+        apart = h;
+        linked = T.linked;
+        room_after = (let e = T.after_room in let l = T.table.fits in omega arith);
+        room_before = (let e = T.before_room in let l = T.table.fits in omega arith);
+      }));
+}
+
+-- the entries of a table, from what a table tells of itself
+pub table_told : {faces room : ℕ} {across : List ℕ} → length across ≡ 3 * room → room ≤ MAX_FACES → faces ≤ room → IsGluing faces (glued_in across) → IsSideTable faces across
+table_told e m f G = record { limit = omega arith; whole = omega arith; fits = omega arith; gluing = G }
 
 -- the empty table
 pub get_or-replicate : (n v i : ℕ) → get_or (replicate n v) i v ≡ v
@@ -238,26 +256,32 @@ pub length-replicate : (n v : ℕ) → length (replicate n v) ≡ n
 length-replicate zero v = refl
 length-replicate (suc n) v = ap suc (length-replicate n v)
 
-pub table_empty : (room : ℕ) → room ≤ MAX_FACES → IsSideTable 0 (replicate (3 * room) free_entry) (replicate (3 * room) 0) (replicate (3 * room) 0)
+pub table_empty : (room : ℕ) → room ≤ MAX_FACES → IsSideTable 0 (replicate (3 * room) free_entry)
 table_empty room h = record {
   limit = (let e = length-replicate (3 * room) free_entry in omega arith);
   whole = (let e = length-replicate (3 * room) free_entry in omega arith);
   fits = omega arith;
-  after_room = length-replicate (3 * room) 0 ∙ sym (length-replicate (3 * room) free_entry);
-  before_room = length-replicate (3 * room) 0 ∙ sym (length-replicate (3 * room) free_entry);
   gluing = subst (IsGluing 0) (sym (glued_in-replicate (3 * room))) (unglued_is 0);
+}
+
+-- with links, where it has no faces
+pub links_empty : {faces : ℕ} {across after before : List ℕ} → IsSideTable faces across → faces ≡ 0 → length after ≡ length across → length before ≡ length across → IsLinkedTable faces across after before
+links_empty T none a b = record {
+  table = T;
+  after_room = a;
+  before_room = b;
   linked = record { after_is = λ x X. absurd (let w = X.within in omega arith); before_is = λ x X. absurd (let w = X.within in omega arith) };
 }
 
 -- what the links of a free side tell
-pub next_is : {faces : ℕ} {across after before : List ℕ} → IsSideTable faces across after before → (x : Side) → IsFree faces (glued_in across) x → side_at (get_or after (number x) 0) ≡ side_after faces (glued_in across) x
+pub next_is : {faces : ℕ} {across after before : List ℕ} → IsLinkedTable faces across after before → (x : Side) → IsFree faces (glued_in across) x → side_at (get_or after (number x) 0) ≡ side_after faces (glued_in across) x
 next_is {faces} {across} T x X = ap side_at (T.linked.after_is x X) ∙ side_at-number (side_after faces (glued_in across) x)
 
-pub previous_is : {faces : ℕ} {across after before : List ℕ} → IsSideTable faces across after before → (x : Side) → IsFree faces (glued_in across) x → side_at (get_or before (number x) 0) ≡ side_before faces (glued_in across) x
+pub previous_is : {faces : ℕ} {across after before : List ℕ} → IsLinkedTable faces across after before → (x : Side) → IsFree faces (glued_in across) x → side_at (get_or before (number x) 0) ≡ side_before faces (glued_in across) x
 previous_is {faces} {across} T x X = ap side_at (T.linked.before_is x X) ∙ side_at-number (side_before faces (glued_in across) x)
 
 -- an entry that isn't free is a side of one of the faces
-pub entry_within : {faces : ℕ} {across after before : List ℕ} → IsSideTable faces across after before → (x : Side) (v : ℕ) → v ≡ get_or across (number x) free_entry → v ≢ free_entry → v / 3 < faces
+pub entry_within : {faces : ℕ} {across : List ℕ} → IsSideTable faces across → (x : Side) (v : ℕ) → v ≡ get_or across (number x) free_entry → v ≢ free_entry → v / 3 < faces
 entry_within {faces} {across} T x v e h =
     let is : glued_in across x ≡ Some (side_at v) =
     ap other_at (sym e) ∙ (elim (cases_Bool (eqb v free_entry)) [ inl t ↦ absurd (h (eqb-true v free_entry t)) | inr t ↦ cond-false _ _ _ t ]) in

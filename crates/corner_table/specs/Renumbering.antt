@@ -26,9 +26,3 @@ becomes places entries s = get_or places (get_or entries (number s) free_entry) 
 pub record AreCarried (faces : ℕ) (rows : List (ℕ × ℕ)) (places entries now : List ℕ) : Type 0 where
   pub long : length now ≡ 3 * faces
   pub entry : (x : Side) → x.face < faces → get_or now (number x) free_entry ≡ becomes places entries (carry rows x)
-
--- the links of those new sides that are free
-pub record AreLinks (faces : ℕ) (rows : List (ℕ × ℕ)) (places across links now : List ℕ) : Type 0 where
-  pub long : length now ≡ 3 * faces
-  pub link : (x : Side) → x.face < faces → get_or across (number x) free_entry ≡ free_entry →
-      get_or now (number x) 0 ≡ becomes places links (carry rows x)

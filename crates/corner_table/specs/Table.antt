@@ -38,12 +38,16 @@ room_of t = length t.entries / 3
 abbrev pub IsFreeIn : Table → Side → Type 0
 IsFreeIn t x = IsFree t.faces (gluing_of t) x
 
--- the lists of a table fit together: entries glue sides of its faces, and the links are those of its boundary
-pub record IsSideTable (faces : ℕ) (across after before : List ℕ) : Type 0 where
+-- the entries of a table glue sides of its faces
+pub record IsSideTable (faces : ℕ) (across : List ℕ) : Type 0 where
   pub limit : length across ≤ 3 * MAX_FACES
   pub whole : length across ≡ 3 * (length across / 3)
   pub fits : 3 * faces ≤ length across
+  pub gluing : IsGluing faces (glued_in across)
+
+-- the lists of a table with links fit together: beside the entries the links are those of the boundary
+pub record IsLinkedTable (faces : ℕ) (across after before : List ℕ) : Type 0 where
+  pub table : IsSideTable faces across
   pub after_room : length after ≡ length across
   pub before_room : length before ≡ length across
-  pub gluing : IsGluing faces (glued_in across)
   pub linked : IsLinked faces (glued_in across) after before

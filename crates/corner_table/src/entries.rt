@@ -53,7 +53,7 @@ pub(crate) fn previous_of(c: Side) -> Side
 }
 
 /// Side `y` follows side `x` from now on.
-pub(crate) fn join(after: &mut Vec<u32>, before: &mut Vec<u32>, x: u32, y: u32)
+fn join(after: &mut Vec<u32>, before: &mut Vec<u32>, x: u32, y: u32)
     requires in_after { x < vec_len after.old }
     requires in_before { y < vec_len before.old }
     ensures after_len { vec_len after.new ≡ vec_len after.old }

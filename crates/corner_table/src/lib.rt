@@ -3,11 +3,11 @@
 //! of its sides; the fans of corners round each vertex follow from the gluing.
 #![tactic(auto)]
 
-mod boundary_links;
 mod corner_lists;
 mod entries;
 mod labels;
 mod laws;
+mod linked_table;
 mod renumbering;
 mod side_numbers;
 mod side_table;
@@ -22,6 +22,7 @@ pub use laws::{
     meeting_is_one_fan, pairs_have_one_bit_each, prefixes_have_gaps, renumbering_keeps_fans,
     swings_are_inverse,
 };
+pub use linked_table::LinkedTable;
 pub use side_numbers::{next_number, number_of, previous_number, side_with};
 pub use side_table::SideTable;
 pub use steps::Steps;

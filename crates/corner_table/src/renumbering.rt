@@ -1,14 +1,13 @@
 //! A table under new numbers of its faces, each face turned.
 //!
-//! For each old side stands the side that it becomes; by this list the entries are carried, and the
-//! links of those sides that are free.
+//! For each old side stands the side that it becomes; by this list the entries are carried.
 
 ghost use Rattle.std.specs.Prelude.{◌≡◌, ℕ, ◌+◌, ◌*◌, ◌^◌, ◌<◌, ◌≤◌, IfOk, length, get_or, vec_len};
 ghost use Rattle.drc_base.specs.declared.limits.TheConstants.{MAX_FACES as most_faces};
-ghost use Rattle.corner_table.specs.Sides.{side, place_of, number, side_at};
+ghost use Rattle.corner_table.specs.Sides.{side, place_of, number};
 ghost use Rattle.corner_table.specs.Table.{free_entry};
-ghost use Rattle.corner_table.specs.Carried.{turned, carry, IsRenumbering};
-ghost use Rattle.corner_table.specs.Renumbering.{ArePlaces, placed_face, becomes, AreCarried, AreLinks};
+ghost use Rattle.corner_table.specs.Carried.{turned, IsRenumbering};
+ghost use Rattle.corner_table.specs.Renumbering.{ArePlaces, placed_face, becomes, AreCarried};
 
 use crate::entries::filled;
 use drc_base::Memory;
@@ -96,42 +95,6 @@ pub(crate) fn carried(
         now.push(entry_of(places, entries, *face, 0, *turn))?;
         now.push(entry_of(places, entries, *face, 1, *turn))?;
         now.push(entry_of(places, entries, *face, 2, *turn))?;
-    }
-    Ok(now)
-}
-
-/// The link of a new side.
-fn link_of(faces: u32, rows: &[(u32, u8)], places: &Vec<u32>, links: &Vec<u32>, side: usize) -> u32
-    requires rows { IsRenumbering faces rows.now }
-    requires few { faces ≤ most_faces }
-    requires fits { 3 * faces ≤ vec_len links.now }
-    requires side { side < 3 * faces }
-    ensures { result ≡ becomes places.now.items links.now.items (carry rows.now (side_at side)) }
-{
-    let (face, turn) = rows[side / 3];
-    entry_of(places, links, face, (side % 3) as u8, turn)
-}
-
-/// The links of those new sides that are free.
-pub(crate) fn carried_links(
-    alloc: Global,
-    faces: u32,
-    rows: &[(u32, u8)],
-    places: &Vec<u32>,
-    across: &Vec<u32>,
-    links: &Vec<u32>,
-) -> Result<Vec<u32>, Memory>
-    requires rows { IsRenumbering faces rows.now }
-    requires few { faces ≤ most_faces }
-    requires fits { 3 * faces ≤ vec_len links.now }
-    requires all { vec_len across.now ≡ 3 * faces }
-    ensures { IfOk result (λ v. AreLinks faces rows.now places.now.items across.now.items links.now.items v.items) }
-{
-    let mut now = filled(alloc, 0, across.len())?;
-    for (side, entry) in across.iter().enumerate() {
-        if *entry == NONE {
-            now[side] = link_of(faces, rows, places, links, side);
-        }
     }
     Ok(now)
 }

@@ -1,14 +1,7 @@
-//! The table of glued sides.
-//!
-//! The side across is kept in a list by the number 3f + k. Beside it stands, for each free side, the
-//! free side that follows it round the boundary and the one before it, so that the ends of an open
-//! fan are found without a walk.
+//! The table of glued sides: the side across is kept in a list by the number 3f + k.
 
-use crate::boundary_links::links_of;
-use crate::entries::{
-    FREE, entry_at, entry_or_free, filled, link_face, next_of, previous_of, relink,
-};
-use crate::renumbering::{carried, carried_links, places_of};
+use crate::entries::{FREE, entry_or_free, filled, next_of, previous_of};
+use crate::renumbering::{carried, places_of};
 use crate::side_numbers::{next_number, number_of, previous_number, side_with};
 use crate::steps::Steps;
 use drc_base::{MAX_FACES, Memory, Side};
@@ -22,8 +15,6 @@ use std::sync::ledger::Ledger;
 pub struct SideTable {
     faces: u32,
     across: Vec<u32>,
-    after: Vec<u32>,
-    before: Vec<u32>,
 }
 
 impl Model for SideTable {
@@ -33,7 +24,7 @@ impl Model for SideTable {
 
     ghost view = { λ t. record { faces = t.faces; entries = t.across.items } };
 
-    ghost invariant = { λ t. IsSideTable t.faces t.across.items t.after.items t.before.items };
+    ghost invariant = { λ t. IsSideTable t.faces t.across.items };
 }
 
 impl SideTable {
@@ -41,12 +32,11 @@ impl SideTable {
     ghost use Rattle.std.specs.Option.{option_map};
     ghost use Rattle.drc_base.specs.declared.limits.TheConstants.{MAX_FACES as most_faces};
     ghost use Rattle.corner_table.specs.Sides.{Side as side_value, Place, side, side_at, unglued, glue, IsGluing};
-    ghost use Rattle.corner_table.specs.Fans.{swing_left, swing_right, side_after, side_before, Follows};
+    ghost use Rattle.corner_table.specs.Fans.{swing_left, swing_right};
     ghost use Rattle.corner_table.specs.Table.{side_of, glued_in, gluing_of, room_of, IsFreeIn};
     ghost use Rattle.corner_table.specs.Carried.{IsRenumbering, IsCarried};
 
-    /// A table without faces, and room for `faces` of them, which is three lists of a number for each
-    /// of their sides.
+    /// A table without faces, and room for `faces` of them, which is a number for each of their sides.
     /// Refused for want of memory alone.
     pub fn with_room(alloc: Global, faces: u32) -> Result<SideTable, Memory>
         requires { faces ≤ most_faces }
@@ -54,43 +44,23 @@ impl SideTable {
         ensures room { IfOk result (λ t. room_of t ≡ faces) }
         ensures unglued { IfOk result (λ t. gluing_of t ≡ unglued) }
     {
-        let count = 3 * faces as usize;
-        let across = filled(alloc, FREE, count)?;
-        let after = filled(alloc, 0, count)?;
-        let before = filled(alloc, 0, count)?;
-        Ok(SideTable {
-            faces: 0,
-            across,
-            after,
-            before,
-        })
+        let across = filled(alloc, FREE, 3 * faces as usize)?;
+        Ok(SideTable { faces: 0, across })
     }
 
     /// The table of these faces with the pairs of a list: its entry 3f + k is the number of the side that
-    /// side k of face f is glued to, and `u32::MAX` where that side is free. The list becomes the table's;
-    /// two more of its length are made, and want of memory for them is the one refusal. All entries are
-    /// looked at, so the call counts as many steps as `across` does.
-    pub fn with_pairs<L: Ledger>(
-        alloc: Global,
-        faces: u32,
-        pairs: Vec<u32>,
-        steps: &mut Steps<L>,
-    ) -> Result<SideTable, Memory>
+    /// side k of face f is glued to, and `u32::MAX` where that side is free. The list becomes the table's.
+    pub fn with_pairs(faces: u32, pairs: Vec<u32>) -> SideTable
         requires few { faces ≤ most_faces }
         requires each { length pairs.items ≡ 3 * faces }
         requires gluing { IsGluing faces (glued_in pairs.items) }
-        ensures faces { IfOk result (λ t. t.faces ≡ faces) }
-        ensures entries { IfOk result (λ t. t.entries ≡ pairs.items) }
-        ensures steps { steps.new ≡ steps.old + 3 * faces }
+        ensures faces { result.faces ≡ faces }
+        ensures entries { result.entries ≡ pairs.items }
     {
-        steps.count(pairs.len() as u64);
-        let (after, before) = links_of(alloc, faces, pairs.as_slice())?;
-        Ok(SideTable {
+        SideTable {
             faces,
             across: pairs,
-            after,
-            before,
-        })
+        }
     }
 
     /// How many faces there are.
@@ -115,7 +85,6 @@ impl SideTable {
     {
         steps.tick();
         let face = self.faces;
-        link_face(&mut self.after, &mut self.before, face);
         self.faces = face + 1;
         face
     }
@@ -127,6 +96,7 @@ impl SideTable {
         requires apart { a.face ≢ b.face }
         ensures faces { self.new.faces ≡ self.old.faces }
         ensures room { room_of self.new ≡ room_of self.old }
+        ensures entries { length self.new.entries ≡ length self.old.entries }
         ensures glued { gluing_of self.new ≡ glue (side_of a) (side_of b) (gluing_of self.old) }
         ensures steps { steps.new ≡ steps.old + 1 }
     {
@@ -135,7 +105,6 @@ impl SideTable {
         let _ = &self.faces;
         let first = number_of(a);
         let second = number_of(b);
-        relink(&mut self.after, &mut self.before, first, second);
         self.across[first as usize] = second;
         self.across[second as usize] = first;
     }
@@ -189,41 +158,10 @@ impl SideTable {
         }
     }
 
-    /// The one free side that starts at the fan where the free side `s` ends: the one that follows it
-    /// round the boundary.
-    pub fn next_open<L: Ledger>(&self, s: Side, steps: &mut Steps<L>) -> Side
-        requires { IsFreeIn self.now (side_of s) }
-        ensures next { side_of result ≡ side_after self.now.faces (gluing_of self.now) (side_of s) }
-        ensures follows { Follows self.now.faces (gluing_of self.now) (side_of s) (side_of result) }
-        ensures only { (x : side_value) → Follows self.now.faces (gluing_of self.now) (side_of s) x → x ≡ side_of result }
-        ensures steps { steps.new ≡ steps.old + 1 }
-    {
-        steps.tick();
-        // Read for the prover alone, who knows of the lists from here on that they fit together.
-        let _ = &self.faces;
-        side_with(entry_at(&self.after, number_of(s)))
-    }
-
-    /// The one free side that ends at the fan where the free side `s` starts: the one before it round
-    /// the boundary.
-    pub fn prev_open<L: Ledger>(&self, s: Side, steps: &mut Steps<L>) -> Side
-        requires { IsFreeIn self.now (side_of s) }
-        ensures previous { side_of result ≡ side_before self.now.faces (gluing_of self.now) (side_of s) }
-        ensures free { IsFreeIn self.now (side_of result) }
-        ensures follows { Follows self.now.faces (gluing_of self.now) (side_of result) (side_of s) }
-        ensures only { (x : side_value) → IsFreeIn self.now x → Follows self.now.faces (gluing_of self.now) x (side_of s) → x ≡ side_of result }
-        ensures steps { steps.new ≡ steps.old + 1 }
-    {
-        steps.tick();
-        // Read for the prover alone, who knows of the lists from here on that they fit together.
-        let _ = &self.faces;
-        side_with(entry_at(&self.before, number_of(s)))
-    }
-
     /// The same surface under new numbers: row i says which face the new face i is, and by how much it
     /// is turned, so that its corner k is corner k + turn, modulo 3, of that face. Its pairs are those
-    /// of this table, renumbered, and no others. It has room for just these faces. Three lists of a number
-    /// for each side are made for it, and one more while it is made. Refused for want of memory alone. All
+    /// of this table, renumbered, and no others. It has room for just these faces. A list of a number for
+    /// each side is made for it, and one more while it is made. Refused for want of memory alone. All
     /// entries are looked at, so the call counts as many steps as `across` does.
     pub fn renumbered<L: Ledger>(
         &self,
@@ -241,14 +179,7 @@ impl SideTable {
         let faces = self.face_count();
         let places = places_of(alloc, faces, rows)?;
         let across = carried(alloc, faces, rows, &places, &self.across)?;
-        let after = carried_links(alloc, faces, rows, &places, &across, &self.after)?;
-        let before = carried_links(alloc, faces, rows, &places, &across, &self.before)?;
-        Ok(SideTable {
-            faces,
-            across,
-            after,
-            before,
-        })
+        Ok(SideTable { faces, across })
     }
 
     /// How many entries there are, three for each face for which there is room.

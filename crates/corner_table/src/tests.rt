@@ -5,6 +5,7 @@ ghost use Rattle.drc_base.specs.declared.limits.TheConstants.{MAX_FACES as most_
 ghost use Rattle.corner_table.specs.Table.{room_of, side_of, IsFreeIn};
 
 use crate::corner_lists::Classes;
+use crate::linked_table::LinkedTable;
 use crate::side_table::SideTable;
 use crate::steps::Steps;
 use drc_base::Side;
@@ -30,7 +31,7 @@ fn number_of(side: Option<Side>) -> i64 {
 }
 
 /// Adds all faces that there is room for.
-fn add_faces<L: Ledger>(table: &mut SideTable, faces: u32, steps: &mut Steps<L>)
+fn add_faces<L: Ledger>(table: &mut LinkedTable, faces: u32, steps: &mut Steps<L>)
     requires none { table.old.faces ≡ 0 }
     requires room { room_of table.old ≡ faces }
     ensures { table.new.faces ≡ faces }
@@ -43,7 +44,7 @@ fn add_faces<L: Ledger>(table: &mut SideTable, faces: u32, steps: &mut Steps<L>)
 /// Glues two sides, which have to be free sides of two faces.
 fn glue_pair<L: Ledger>(
     rt: &impl Abort,
-    table: &mut SideTable,
+    table: &mut LinkedTable,
     pair: (u32, u32),
     steps: &mut Steps<L>,
 )
@@ -58,7 +59,7 @@ fn glue_pair<L: Ledger>(
 }
 
 /// The free side that follows a free one, before which that one comes.
-fn next_of<L: Ledger>(rt: &impl Abort, table: &SideTable, s: Side, steps: &mut Steps<L>) -> Side
+fn next_of<L: Ledger>(rt: &impl Abort, table: &LinkedTable, s: Side, steps: &mut Steps<L>) -> Side
     requires { IsFreeIn table.now (side_of s) }
 {
     let next = table.next_open(s, steps);
@@ -67,7 +68,7 @@ fn next_of<L: Ledger>(rt: &impl Abort, table: &SideTable, s: Side, steps: &mut S
 }
 
 /// The number of the side that follows one round the boundary, or -1 where that one isn't free.
-fn follower<L: Ledger>(rt: &impl Abort, table: &SideTable, s: Side, steps: &mut Steps<L>) -> i64 {
+fn follower<L: Ledger>(rt: &impl Abort, table: &LinkedTable, s: Side, steps: &mut Steps<L>) -> i64 {
     assert!(rt; s.face < table.face_count());
     match table.other(s, steps) {
         Some(_) => -1,
@@ -85,8 +86,9 @@ fn made_again<L: Ledger>(
     let faces = table.face_count();
     let entries = table.across(steps);
     assert!(rt; entries.len() == 3 * faces as usize);
-    let pairs = entries.to_vec(alloc).expect(rt, "pairs");
-    SideTable::with_pairs(alloc, faces, pairs, steps).expect(rt, "a table")
+    let again = SideTable::with_pairs(faces, entries.to_vec(alloc).expect(rt, "pairs"));
+    assert!(rt; again.face_count() == faces && again.across(steps) == entries);
+    again
 }
 
 /// The vertices, and what follows each side that is asked for, or -1 where it isn't free.
@@ -104,19 +106,18 @@ fn told<L: Ledger>(
     requires some { 0 < L.parts }
 {
     let mut steps = Steps::<L>::new(blank);
-    let mut table = SideTable::with_room(alloc, faces).expect(rt, "room");
+    let mut table = LinkedTable::with_room(alloc, faces).expect(rt, "room");
     add_faces(&mut table, faces, &mut steps);
     for pair in pairs {
         glue_pair(rt, &mut table, *pair, &mut steps);
     }
-    let again = made_again(rt, alloc, &table, &mut steps);
     let mut follows = Vec::new(alloc);
     for side in asked {
         let next = follower(rt, &table, numbered(*side), &mut steps);
-        assert!(rt; follower(rt, &again, numbered(*side), &mut steps) == next);
         follows.push(next).expect(rt, "an answer");
     }
-    let classes = table.label_vertices(alloc, &mut steps).expect(rt, "labels");
+    let again = made_again(rt, alloc, table.sides(), &mut steps);
+    let classes = again.label_vertices(alloc, &mut steps).expect(rt, "labels");
     (classes, follows)
 }
 
@@ -250,36 +251,33 @@ fn follows_holes_and_cut_vertices(rt: HostRuntime) {
     assert!(&rt; part.1.as_slice() == [2, 10, 5, 12, 8, 18, 23, 1, 4, 7].as_slice());
 }
 
-/// Two faces glued at sides 0 and 5, under new numbers: for each new side the side across, or for a
-/// free one -1 less the side that follows it.
+/// Two faces glued at sides 0 and 5, under new numbers: for each new side the side across, or -1 for a free one.
 fn renumbered_pair<L: Ledger>(rt: &impl Abort, alloc: Global, blank: Blank) -> Vec<i64>
     requires name { blank.name ≡ L.name }
     requires parts { blank.parts ≡ L.parts }
     requires some { 0 < L.parts }
 {
     let mut steps = Steps::<L>::new(blank);
-    let mut table = SideTable::with_room(alloc, 2).expect(rt, "room");
+    let mut table = LinkedTable::with_room(alloc, 2).expect(rt, "room");
     add_faces(&mut table, 2, &mut steps);
     glue_pair(rt, &mut table, (0, 5), &mut steps);
     let rows = [(1, 1), (0, 2)];
     let now = table
+        .into_sides()
         .renumbered(alloc, &rows, &mut steps)
         .expect(rt, "a table");
     let mut told = Vec::new(alloc);
     for side in 0..6 {
         let s = numbered(side);
         assert!(rt; s.face < now.face_count());
-        let number = match now.other(s, &mut steps) {
-            Some(t) => number_of(Some(t)),
-            None => -1 - number_of(Some(now.next_open(s, &mut steps))),
-        };
-        told.push(number).expect(rt, "a number");
+        told.push(number_of(now.other(s, &mut steps)))
+            .expect(rt, "a number");
     }
     told
 }
 
 #[test]
-fn renumbers_pairs_and_links(rt: HostRuntime) {
+fn renumbers_pairs(rt: HostRuntime) {
     let told = renumbered_pair::<Brand>(&rt, rt.alloc(), Blank::new(1));
-    assert!(&rt; told.as_slice() == [-6, 4, -1, -3, 1, -4].as_slice());
+    assert!(&rt; told.as_slice() == [-1, 4, -1, -1, 1, -1].as_slice());
 }

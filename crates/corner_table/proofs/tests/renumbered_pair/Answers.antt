@@ -29,4 +29,4 @@ two_rows = record { one_each = refl; within = within; turns = turns; apart = apa
     apart (suc zero) (suc (suc j)) h k e = absurd (omega arith)
 
 pub renumbered-requires : goal.renumbered-requires
-renumbered-requires g c = rw (c.glue_pair.ensures, c.add_faces.ensures) two_rows
+renumbered-requires g c = rw (c.into_sides.ensures, c.glue_pair.ensures, c.add_faces.ensures) two_rows

@@ -1,36 +1,15 @@
--- Gluing: the neighbours' links are in range, the lists are those of a table, and its gluing has the new pair.
+-- Gluing: the entries are those of a table, and its gluing has the new pair.
 use Rattle.std.proofs.Common.{sym, subst, arith}
 use Rattle.corner_table.specs.Table.{Table, side_of, IsFreeIn}
 use Rattle.corner_table.proofs.Places.{face_apart}
-use Rattle.corner_table.proofs.TableSteps.{table_glued, glued_in-set, next_within, previous_within}
+use Rattle.corner_table.proofs.TableSteps.{table_glued, glued_in-set}
 use Rattle.corner_table.proofs.side_table.SideTable.glue.Goals as goal
-
-pub relink-requires-clause-next_a : goal.relink-requires-clause-next_a
-relink-requires-clause-next_a g c =
-    let free = subst (λ (t : Table). IsFreeIn t (side_of c.args.a)) (sym c.self.view_is) c.requires.first in
-    rw c.number_of-first.ensures.number (let h = next_within c.self.invariant (side_of c.args.a) free in omega arith)
-
-pub relink-requires-clause-next_b : goal.relink-requires-clause-next_b
-relink-requires-clause-next_b g c =
-    let free = subst (λ (t : Table). IsFreeIn t (side_of c.args.b)) (sym c.self.view_is) c.requires.second in
-    rw c.number_of-second.ensures.number (let h = next_within c.self.invariant (side_of c.args.b) free in omega arith)
-
-pub relink-requires-clause-previous_a : goal.relink-requires-clause-previous_a
-relink-requires-clause-previous_a g c =
-    let free = subst (λ (t : Table). IsFreeIn t (side_of c.args.a)) (sym c.self.view_is) c.requires.first in
-    rw c.number_of-first.ensures.number (let h = previous_within c.self.invariant (side_of c.args.a) free in omega arith)
-
-pub relink-requires-clause-previous_b : goal.relink-requires-clause-previous_b
-relink-requires-clause-previous_b g c =
-    let free = subst (λ (t : Table). IsFreeIn t (side_of c.args.b)) (sym c.self.view_is) c.requires.second in
-    rw c.number_of-second.ensures.number (let h = previous_within c.self.invariant (side_of c.args.b) free in omega arith)
 
 pub invariant_of-self : goal.invariant_of-self
 invariant_of-self g c =
     let first = subst (λ (t : Table). IsFreeIn t (side_of c.args.a)) (sym c.self.view_is) c.requires.first in
     let second = subst (λ (t : Table). IsFreeIn t (side_of c.args.b)) (sym c.self.view_is) c.requires.second in
-    rw (c.relink.ensures.after, c.relink.ensures.before, c.number_of-first.ensures.number, c.number_of-second.ensures.number)
-    (table_glued (side_of c.args.a) (side_of c.args.b) c.self.invariant first second c.requires.apart)
+    rw (c.number_of-first.ensures.number, c.number_of-second.ensures.number) (table_glued (side_of c.args.a) (side_of c.args.b) c.self.invariant first second c.requires.apart)
 
 pub returns-clause-glued : goal.returns-clause-glued
 returns-clause-glued g c =

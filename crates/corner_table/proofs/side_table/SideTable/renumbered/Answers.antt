@@ -1,4 +1,4 @@
--- The lists of the new table are the carried ones.
+-- The entries of the new table are the carried ones.
 use Rattle.std.proofs.Common.{sym, ap, ◌∙◌}
 use Rattle.corner_table.specs.Table.{Table}
 use Rattle.corner_table.proofs.CarriedLists.{renumbered_from, table_carried, gluing_carried}
@@ -9,7 +9,7 @@ invariant_of-result g c =
     let now = ap (λ (t : Table). t.faces) c.self.view_is in
     let n = c.face_count-faces.ensures.count in
     let made = renumbered_from c.self.invariant now n c.requires c.in_ok-places.ensures c.in_ok-across.ensures in
-    rw (n ∙ sym now) (table_carried made _ _ _ (n ∙ sym now) c.in_ok-after.ensures c.in_ok-before.ensures)
+    rw (n ∙ sym now) (table_carried made)
 
 pub returns-clause-carried : goal.returns-clause-carried
 returns-clause-carried g c =

@@ -1,0 +1,158 @@
+//! A table that grows, with the links of its boundary.
+//!
+//! Beside the entries stands, for each free side, the free side that follows it round the boundary and the
+//! one before it, so that the ends of an open fan are found without a walk. A table that is finished has no
+//! use for them, and is given back without.
+
+use crate::entries::{entry_at, filled, link_face, relink};
+use crate::side_numbers::{number_of, side_with};
+use crate::side_table::SideTable;
+use crate::steps::Steps;
+use drc_base::{Memory, Side};
+use std::alloc::Global;
+use std::marker::Model;
+use std::sync::ledger::Ledger;
+
+/// A table of glued sides with the links of its boundary. Contracts see it as the table.
+#[derive(Debug, Drop)]
+pub struct LinkedTable {
+    sides: SideTable,
+    after: Vec<u32>,
+    before: Vec<u32>,
+}
+
+impl Model for LinkedTable {
+    ghost use Rattle.corner_table.specs.Table.{Table, IsLinkedTable};
+
+    ghost Value = { Table };
+
+    ghost view = { λ t. t.sides };
+
+    ghost invariant = { λ t. IsLinkedTable t.sides.faces t.sides.entries t.after.items t.before.items };
+}
+
+impl LinkedTable {
+    ghost use Rattle.std.specs.Prelude.{◌≡◌, ◌≢◌, ◌+◌, ◌*◌, ◌<◌, ◌≤◌, IfOk, length};
+    ghost use Rattle.std.specs.Option.{option_map};
+    ghost use Rattle.drc_base.specs.declared.limits.TheConstants.{MAX_FACES as most_faces};
+    ghost use Rattle.corner_table.specs.Sides.{Side as side_value, Place, side, unglued, glue, IsGluing};
+    ghost use Rattle.corner_table.specs.Fans.{side_after, side_before, Follows};
+    ghost use Rattle.corner_table.specs.Table.{side_of, gluing_of, room_of, IsFreeIn};
+
+    /// A table without faces, and room for `faces` of them, which is three lists of a number for each
+    /// of their sides. Refused for want of memory alone.
+    pub fn with_room(alloc: Global, faces: u32) -> Result<LinkedTable, Memory>
+        requires { faces ≤ most_faces }
+        ensures none { IfOk result (λ t. t.faces ≡ 0) }
+        ensures room { IfOk result (λ t. room_of t ≡ faces) }
+        ensures unglued { IfOk result (λ t. gluing_of t ≡ unglued) }
+    {
+        let sides = SideTable::with_room(alloc, faces)?;
+        // Called for the prover alone, who knows from here on how many entries there are.
+        let _ = sides.face_count();
+        let after = filled(alloc, 0, 3 * faces as usize)?;
+        let before = filled(alloc, 0, 3 * faces as usize)?;
+        Ok(LinkedTable {
+            sides,
+            after,
+            before,
+        })
+    }
+
+    /// How many faces there are.
+    pub fn face_count(&self) -> u32
+        ensures count { result ≡ self.now.faces }
+        ensures room { result ≤ room_of self.now }
+        ensures entries { length self.now.entries ≡ 3 * room_of self.now }
+        ensures limit { room_of self.now ≤ most_faces }
+        ensures gluing { IsGluing self.now.faces (gluing_of self.now) }
+    {
+        self.sides.face_count()
+    }
+
+    /// Adds a face, no side of which is glued, and answers its number.
+    pub fn add_face<L: Ledger>(&mut self, steps: &mut Steps<L>) -> u32
+        requires { self.old.faces < room_of self.old }
+        ensures face { result ≡ self.old.faces }
+        ensures faces { self.new.faces ≡ self.old.faces + 1 }
+        ensures entries { self.new.entries ≡ self.old.entries }
+        ensures free { (k : Place) → IsFreeIn self.new (side result k) }
+        ensures steps { steps.new ≡ steps.old + 1 }
+    {
+        let face = self.sides.add_face(steps);
+        link_face(&mut self.after, &mut self.before, face);
+        face
+    }
+
+    /// Glues two free sides of two faces.
+    pub fn glue<L: Ledger>(&mut self, a: Side, b: Side, steps: &mut Steps<L>)
+        requires first { IsFreeIn self.old (side_of a) }
+        requires second { IsFreeIn self.old (side_of b) }
+        requires apart { a.face ≢ b.face }
+        ensures faces { self.new.faces ≡ self.old.faces }
+        ensures room { room_of self.new ≡ room_of self.old }
+        ensures glued { gluing_of self.new ≡ glue (side_of a) (side_of b) (gluing_of self.old) }
+        ensures steps { steps.new ≡ steps.old + 1 }
+    {
+        // Called for the prover alone, who knows of the lists from here on that they fit together.
+        let _ = self.sides.face_count();
+        let first = number_of(a);
+        let second = number_of(b);
+        relink(&mut self.after, &mut self.before, first, second);
+        self.sides.glue(a, b, steps);
+    }
+
+    /// The side that `s` is glued to; None where `s` is free.
+    pub fn other<L: Ledger>(&self, s: Side, steps: &mut Steps<L>) -> Option<Side>
+        requires { s.face < self.now.faces }
+        ensures other { option_map side_of result ≡ gluing_of self.now (side_of s) }
+        ensures steps { steps.new ≡ steps.old + 1 }
+    {
+        self.sides.other(s, steps)
+    }
+
+    /// The one free side that starts at the fan where the free side `s` ends: the one that follows it
+    /// round the boundary.
+    pub fn next_open<L: Ledger>(&self, s: Side, steps: &mut Steps<L>) -> Side
+        requires { IsFreeIn self.now (side_of s) }
+        ensures next { side_of result ≡ side_after self.now.faces (gluing_of self.now) (side_of s) }
+        ensures follows { Follows self.now.faces (gluing_of self.now) (side_of s) (side_of result) }
+        ensures only { (x : side_value) → Follows self.now.faces (gluing_of self.now) (side_of s) x → x ≡ side_of result }
+        ensures steps { steps.new ≡ steps.old + 1 }
+    {
+        steps.tick();
+        // Read for the prover alone, who knows of the lists from here on that they fit together.
+        let _ = &self.sides;
+        side_with(entry_at(&self.after, number_of(s)))
+    }
+
+    /// The one free side that ends at the fan where the free side `s` starts: the one before it round
+    /// the boundary.
+    pub fn prev_open<L: Ledger>(&self, s: Side, steps: &mut Steps<L>) -> Side
+        requires { IsFreeIn self.now (side_of s) }
+        ensures previous { side_of result ≡ side_before self.now.faces (gluing_of self.now) (side_of s) }
+        ensures free { IsFreeIn self.now (side_of result) }
+        ensures follows { Follows self.now.faces (gluing_of self.now) (side_of result) (side_of s) }
+        ensures only { (x : side_value) → IsFreeIn self.now x → Follows self.now.faces (gluing_of self.now) x (side_of s) → x ≡ side_of result }
+        ensures steps { steps.new ≡ steps.old + 1 }
+    {
+        steps.tick();
+        // Read for the prover alone, who knows of the lists from here on that they fit together.
+        let _ = &self.sides;
+        side_with(entry_at(&self.before, number_of(s)))
+    }
+
+    /// The table.
+    pub fn sides(&self) -> &SideTable
+        ensures { result.now ≡ self.now }
+    {
+        &self.sides
+    }
+
+    /// The table without the links, whose lists are freed.
+    pub fn into_sides(self) -> SideTable
+        ensures { result ≡ self }
+    {
+        self.sides
+    }
+}
