@@ -1,22 +1,18 @@
 -- What a side chooses is what the definition gives it.
-use Rattle.std.proofs.Common.{◌≡◌, ℕ, ◌*◌, ◌<◌, ◌≤◌, Bool, true, false, List, length, get_or, set, Option, Some, None, inl, inr, sym, refl, ap, ◌∙◌, subst, arith, length-set, get_or-set_same, get_or-set_other}
+use Rattle.std.proofs.Common.{◌≡◌, ℕ, ◌*◌, ◌<◌, Bool, true, false, List, length, get_or, set, Option, Some, None, inl, inr, sym, refl, ap, ◌∙◌, subst, arith, length-set, get_or-set_same, get_or-set_other}
 use Rattle.std.specs.Option.{is_some}
 use Rattle.std.proofs.lemmas.List.{get_or_read}
 use Rattle.std.proofs.lemmas.Bool.{cases_Bool, cases_eq}
 use Rattle.corner_table.specs.Sides.{Side, side_at, number, Gluing, glue}
 use Rattle.corner_table.proofs.Places.{glue_tells, at_first, at_second, elsewhere}
 use Rattle.corner_table.proofs.Numbers.{number-side_at}
-use Rattle.pairing.specs.Pairing.{is_choice, turn_of, paired}
-use Rattle.pairing.specs.Positions.{position_in, same_in, AreTriangles}
+use Rattle.pairing.specs.Pairing.{is_choice, turn_of}
+use Rattle.pairing.specs.Positions.{position_in, same_in}
 use Rattle.pairing.specs.Classes.{reversed}
 use Rattle.pairing.specs.Choosing.{ArePlaced, IsFreeOther, IsChosen}
 use Rattle.pairing.specs.Turns.{AreSides, IsUpTo}
 use Rattle.pairing.proofs.Least.{least_is, least_is_none}
-use Rattle.pairing.proofs.Turns.{ArePairs, MayTake, choice-tells, tells-choice, turn-none, turn-some, pairs_are}
-
--- the pairs before side y's turn
-pub pairs_now : {faces : ℕ} {thirds : List ℕ} {g : Gluing} {y : ℕ} → AreTriangles faces thirds → y ≤ 3 * faces → g ≡ paired (same_in thirds) y → ArePairs faces thirds y g
-pairs_now {faces} {thirds} {y = y} T h e = subst (ArePairs faces thirds y) (sym e) (pairs_are T y h)
+use Rattle.pairing.proofs.Turns.{MayTake, choice-tells, tells-choice, turn-none, turn-some}
 
 -- what is chosen, by the numbers that the code reads
 pub chosen_here : (classes thirds : List ℕ) (taken : List Bool) (y class third read_class : ℕ) (o : Option ℕ) → y < length classes → y < length thirds → read_class ≡ get_or classes y read_class → class ≡ reversed read_class → third ≡ get_or thirds y third →
@@ -57,7 +53,7 @@ module _ {faces : ℕ} {thirds classes nexts : List ℕ} {count : ℕ} {g : Glui
         other = λ q. R.thirds (third_is x ∙ q ∙ sym (third_is y));
       }
 
-  pub other-may_take : (x : ℕ) → x < y → IsFreeOther classes thirds taken (reversed (get_or classes y 0)) (get_or thirds y 0) x → MayTake faces thirds y x g
+  other-may_take : (x : ℕ) → x < y → IsFreeOther classes thirds taken (reversed (get_or classes y 0)) (get_or thirds y 0) x → MayTake faces thirds y x g
   other-may_take x h O =
       let l = T.sides.triangles.each in
       let k = T.sides.classes_are.each in

@@ -115,7 +115,7 @@ pub record ArePairs (faces : ℕ) (numbers : List ℕ) (n : ℕ) (g : Gluing) : 
   pub reversed : (x y : Side) → g x ≡ Some y → AreReversed numbers x y
 
 -- a side that hasn't had its turn is free
-pub free_still : {faces : ℕ} {numbers : List ℕ} {n : ℕ} {g : Gluing} → ArePairs faces numbers n g → (z : ℕ) → n ≤ z → z < 3 * faces → IsFree faces g (side_at z)
+free_still : {faces : ℕ} {numbers : List ℕ} {n : ℕ} {g : Gluing} → ArePairs faces numbers n g → (z : ℕ) → n ≤ z → z < 3 * faces → IsFree faces g (side_at z)
 free_still {faces} {g = g} P z h k = record {
   within = face-lt z faces k;
   free = elim (option_tells (g (side_at z))) [ inl e ↦ e | inr y ↦ absurd (let t = P.had_turns (side_at z) y.0 y.1 in let q = number-side_at z in omega arith) ];
@@ -131,7 +131,7 @@ pub record MayTake (faces : ℕ) (numbers : List ℕ) (n x : ℕ) (g : Gluing) :
 pub earlier_free : {faces : ℕ} {numbers : List ℕ} {n x : ℕ} {g : Gluing} → MayTake faces numbers n x g → IsFree faces g (side_at x)
 earlier_free {faces} {x = x} M = record { within = face-lt x faces (let e = M.earlier in let w = M.within in omega arith); free = M.free }
 
-pub faces_apart : {faces : ℕ} {numbers : List ℕ} {n x : ℕ} {g : Gluing} → AreTriangles faces numbers → MayTake faces numbers n x g → (side_at x).face ≢ (side_at n).face
+faces_apart : {faces : ℕ} {numbers : List ℕ} {n x : ℕ} {g : Gluing} → AreTriangles faces numbers → MayTake faces numbers n x g → (side_at x).face ≢ (side_at n).face
 faces_apart {faces} {n = n} {x = x} T M =
     reversed_apart T (side_at x) (side_at n) (face-lt x faces (let e = M.earlier in let w = M.within in omega arith)) M.reversed
 

@@ -1,102 +1,104 @@
 //! The surface of a mesh.
 //!
 //! Sides take their turns in order. Each looks among the sides of the class that runs the other way
-//! for the least one that is free and has another third position, and is glued to it.
+//! for the least one that is free and has another third position, and the two are noted as a pair. The
+//! table is made of the pairs alone, once the lists of the turns are freed.
 
-ghost use Rattle.std.specs.Prelude.{◌≡◌, ◌+◌, ◌*◌, ◌<◌, ◌≤◌, ◌↔◌, Ok, Err, Some, None, IfOk, length, replicate, false};
+ghost use Rattle.std.specs.Prelude.{◌≡◌, ◌≢◌, ◌+◌, ◌*◌, ◌<◌, ◌≤◌, ◌↔◌, Ok, Err, Some, None, IfOk, length, replicate, false};
 ghost use Rattle.drc_base.specs.declared.faults.Fault.{Fault as fault_value};
 ghost use Rattle.drc_base.specs.declared.faults.Refusal.TheVariants as refusal;
 ghost use Rattle.drc_base.specs.declared.limits.TheConstants.{MAX_FACES as most_faces};
-ghost use Rattle.corner_table.specs.Sides.{side_at, unglued};
+ghost use Rattle.corner_table.specs.Sides.{side_at, unglued, glue, IsGluing};
 ghost use Rattle.corner_table.specs.Fans.{IsProper};
-ghost use Rattle.corner_table.specs.Table.{gluing_of, room_of, side_of};
+ghost use Rattle.corner_table.specs.Table.{glued_in, gluing_of};
 ghost use Rattle.pairing.specs.Pairing.{paired, pairing, same_position, PairsFit, NoneIsLeft};
 ghost use Rattle.pairing.specs.Degenerate.{degenerate_fault};
 ghost use Rattle.pairing.specs.Positions.{AreCornerNumbers, same_in};
 ghost use Rattle.pairing.specs.Turns.{AreSides, IsUpTo};
 
-use crate::chains::chains_of;
+use crate::chains::{NONE, chains_of};
 use crate::choosing::{Places, Sides, choose};
 use crate::classes::{classes_of, reversed};
 use crate::degenerate::test_faces;
 use crate::positions::corner_numbers;
-use corner_table::{SideTable, Steps, side_with};
-use drc_base::{Memory, Refusal, Side};
+use corner_table::{SideTable, Steps};
+use drc_base::{Memory, Refusal};
 use mesh_model::CornerMesh;
 use std::alloc::Global;
 use std::marker::Brand;
 use std::sync::ledger::{Blank, Ledger};
 
+/// A list of this many sides, none of which is in a pair.
+fn none_paired(alloc: Global, count: usize) -> Result<Vec<u32>, Memory>
+    ensures each { IfOk result (λ pairs. length pairs.items ≡ count) }
+    ensures unglued { IfOk result (λ pairs. glued_in pairs.items ≡ unglued) }
+{
+    Ok(vec![in alloc; NONE; count]?)
+}
+
+/// Notes two sides as a pair.
+fn note_pair(pairs: &mut Vec<u32>, faces: u32, x: u32, y: u32)
+    requires few { faces ≤ most_faces }
+    requires each { length pairs.old.items ≡ 3 * faces }
+    requires first { x < 3 * faces }
+    requires second { y < 3 * faces }
+    requires apart { x ≢ y }
+    ensures each { length pairs.new.items ≡ 3 * faces }
+    ensures glued { glued_in pairs.new.items ≡ glue (side_at x) (side_at y) (glued_in pairs.old.items) }
+{
+    pairs[x as usize] = y;
+    pairs[y as usize] = x;
+}
+
 /// The turn of side `y`: it is glued to the least earlier side that it may take, if there is one.
-fn take_turn<L: Ledger>(
-    table: &mut SideTable,
+fn take_turn(
+    pairs: &mut Vec<u32>,
+    faces: u32,
     sides: &Sides,
     places: &mut Places,
     count: u32,
     y: u32,
-    steps: &mut Steps<L>,
 )
-    requires sides { AreSides table.old.faces sides.now.thirds.items sides.now.classes.items sides.now.nexts.items count }
-    requires turn { y < 3 * table.old.faces }
-    requires pairs { gluing_of table.old ≡ paired (same_in sides.now.thirds.items) y }
-    requires up_to { IsUpTo sides.now.thirds.items sides.now.classes.items count (gluing_of table.old) places.old.taken.items places.old.firsts.items places.old.others.items }
-    ensures faces { table.new.faces ≡ table.old.faces }
-    ensures pairs { gluing_of table.new ≡ paired (same_in sides.now.thirds.items) (y + 1) }
-    ensures up_to { IsUpTo sides.now.thirds.items sides.now.classes.items count (gluing_of table.new) places.new.taken.items places.new.firsts.items places.new.others.items }
+    requires each { length pairs.old.items ≡ 3 * faces }
+    requires sides { AreSides faces sides.now.thirds.items sides.now.classes.items sides.now.nexts.items count }
+    requires turn { y < 3 * faces }
+    requires pairs { glued_in pairs.old.items ≡ paired (same_in sides.now.thirds.items) y }
+    requires up_to { IsUpTo sides.now.thirds.items sides.now.classes.items count (glued_in pairs.old.items) places.old.taken.items places.old.firsts.items places.old.others.items }
+    ensures each { length pairs.new.items ≡ 3 * faces }
+    ensures pairs { glued_in pairs.new.items ≡ paired (same_in sides.now.thirds.items) (y + 1) }
+    ensures up_to { IsUpTo sides.now.thirds.items sides.now.classes.items count (glued_in pairs.new.items) places.new.taken.items places.new.firsts.items places.new.others.items }
 {
     let class = reversed(sides.classes[y as usize]);
     let third = sides.thirds[y as usize];
     match choose(sides, places, count, class, third, y) {
         None => {}
         Some(x) => {
-            table.glue(side_with(x), side_with(y), steps);
+            note_pair(pairs, faces, x, y);
             places.taken[x as usize] = true;
             places.taken[y as usize] = true;
         }
     }
 }
 
-/// A table of this many faces, no side of which is glued.
-fn unglued_table<L: Ledger>(
-    alloc: Global,
-    faces: u32,
-    steps: &mut Steps<L>,
-) -> Result<SideTable, Memory>
-    requires { faces ≤ most_faces }
-    ensures faces { IfOk result (λ t. t.faces ≡ faces) }
-    ensures unglued { IfOk result (λ t. gluing_of t ≡ unglued) }
-{
-    let mut table = SideTable::with_room(alloc, faces)?;
-    for _ in 0..faces {
-        let _ = table.add_face(steps);
-    }
-    Ok(table)
-}
-
-/// The table of these faces once all sides have had their turns.
-fn paired_table<L: Ledger>(
+/// The list of the pairs once all sides have had their turns.
+fn paired_list(
     alloc: Global,
     faces: u32,
     sides: &Sides,
     places: Places,
     count: u32,
-    blank: Blank,
-) -> Result<SideTable, Memory>
+) -> Result<Vec<u32>, Memory>
     requires sides { AreSides faces sides.now.thirds.items sides.now.classes.items sides.now.nexts.items count }
     requires up_to { IsUpTo sides.now.thirds.items sides.now.classes.items count unglued places.taken.items places.firsts.items places.others.items }
-    requires name { blank.name ≡ L.name }
-    requires parts { blank.parts ≡ L.parts }
-    requires some { 0 < L.parts }
-    ensures faces { IfOk result (λ t. t.faces ≡ faces) }
-    ensures pairs { IfOk result (λ t. gluing_of t ≡ paired (same_in sides.now.thirds.items) (3 * faces)) }
+    ensures each { IfOk result (λ pairs. length pairs.items ≡ 3 * faces) }
+    ensures pairs { IfOk result (λ pairs. glued_in pairs.items ≡ paired (same_in sides.now.thirds.items) (3 * faces)) }
 {
-    let mut steps = Steps::<L>::new(blank);
-    let mut table = unglued_table(alloc, faces, &mut steps)?;
+    let mut pairs = none_paired(alloc, 3 * faces as usize)?;
     let mut kept = places;
     for y in 0..3 * faces {
-        take_turn(&mut table, sides, &mut kept, count, y, &mut steps);
+        take_turn(&mut pairs, faces, sides, &mut kept, count, y);
     }
-    Ok(table)
+    Ok(pairs)
 }
 
 /// What is known of the sides of a mesh, and the places at the beginning.
@@ -142,6 +144,45 @@ fn start_of(alloc: Global, m: &CornerMesh) -> Result<Start, Memory>
     })
 }
 
+/// The pairs of a mesh without degenerate faces: for each side the number of the one that it is glued
+/// to, and that of no side where it is free.
+fn pairs_of(alloc: Global, m: &CornerMesh) -> Result<Vec<u32>, Memory>
+    requires { degenerate_fault m.now ≡ None }
+    ensures each { IfOk result (λ pairs. length pairs.items ≡ 3 * length m.now.faces) }
+    ensures pairs { IfOk result (λ pairs. glued_in pairs.items ≡ pairing m.now) }
+    ensures proper { IfOk result (λ pairs. IsProper (length m.now.faces) (glued_in pairs.items)) }
+    ensures fits { IfOk result (λ pairs. PairsFit (same_position m.now) (glued_in pairs.items)) }
+    ensures none_left { IfOk result (λ pairs. NoneIsLeft (length m.now.faces) (same_position m.now) (glued_in pairs.items)) }
+{
+    let Start {
+        sides,
+        places,
+        count,
+    } = start_of(alloc, m)?;
+    let pairs = paired_list(alloc, m.face_count(), &sides, places, count)?;
+    Ok(pairs)
+}
+
+/// The table of these pairs, made under a count of its own.
+fn table_of<L: Ledger>(
+    alloc: Global,
+    faces: u32,
+    pairs: Vec<u32>,
+    blank: Blank,
+) -> Result<SideTable, Memory>
+    requires few { faces ≤ most_faces }
+    requires each { length pairs.items ≡ 3 * faces }
+    requires gluing { IsGluing faces (glued_in pairs.items) }
+    requires name { blank.name ≡ L.name }
+    requires parts { blank.parts ≡ L.parts }
+    requires some { 0 < L.parts }
+    ensures faces { IfOk result (λ t. t.faces ≡ faces) }
+    ensures pairs { IfOk result (λ t. gluing_of t ≡ glued_in pairs.items) }
+{
+    let mut steps = Steps::<L>::new(blank);
+    SideTable::with_pairs(alloc, faces, pairs, &mut steps)
+}
+
 /// The surface of a mesh without degenerate faces.
 fn surface_of(alloc: Global, m: &CornerMesh) -> Result<SideTable, Memory>
     requires { degenerate_fault m.now ≡ None }
@@ -151,13 +192,8 @@ fn surface_of(alloc: Global, m: &CornerMesh) -> Result<SideTable, Memory>
     ensures fits { IfOk result (λ t. PairsFit (same_position m.now) (gluing_of t)) }
     ensures none_left { IfOk result (λ t. NoneIsLeft t.faces (same_position m.now) (gluing_of t)) }
 {
-    let Start {
-        sides,
-        places,
-        count,
-    } = start_of(alloc, m)?;
-    let faces = m.face_count();
-    let table = paired_table::<Brand>(alloc, faces, &sides, places, count, Blank::new(1))?;
+    let pairs = pairs_of(alloc, m)?;
+    let table = table_of::<Brand>(alloc, m.face_count(), pairs, Blank::new(1))?;
     Ok(table)
 }
 
