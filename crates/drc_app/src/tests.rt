@@ -3,7 +3,7 @@ ghost use Rattle.std.specs.Prelude.{◌<◌};
 use super::*;
 use crate::commands::{command_of, no_choice};
 use drc_base::{MemSink, MemSource, Refusal, Sequence, Sink};
-use drc_container::{Choice, Method, Predict, Walk, decode, encode};
+use drc_container::{Choice, Method, Predict, Walk, decode_whole, encode};
 use drc_gen::{GenKind, generate};
 use mesh_model::{Geometry, Renumber, matches};
 use std::alloc::Global;
@@ -249,7 +249,7 @@ fn length_kept(
         ..no_choice()
     };
     let (stream, rows) = encode(alloc, mesh, &choice)?;
-    let decoded = decode(alloc, &stream)?;
+    let decoded = decode_whole(alloc, &stream)?.geometry;
     let same = matches(alloc, mesh, &decoded, &rows)?;
     assert!(rt; same);
     let mut fewer = rows.rows.into_vec();
@@ -316,5 +316,20 @@ fn the_summary_of_a_generated_mesh_tells_the_lengths_of_its_streams(
         assert_eq!(rt; done.output.held(), due.as_bytes());
         assert!(rt; done.notes.held().is_empty());
     }
+    Ok(())
+}
+
+#[test]
+fn a_grid_of_half_a_million_faces_comes_back_by_each_method(rt: HostRuntime) -> Result<(), Fail> {
+    let alloc = rt.alloc();
+    let mesh = Geometry::Mesh(generate(alloc, GenKind::Grid, 512, 0)?);
+    let seq = length_kept(&rt, alloc, &mesh, Method::Seq)?;
+    let eb = length_kept(&rt, alloc, &mesh, Method::Eb)?;
+    let valence = length_kept(&rt, alloc, &mesh, Method::Valence)?;
+    assert!(rt; eb < seq && valence < eb);
+    let done = run_line(alloc, "gen grid 512 0", b"", [0, NEVER, NEVER])?;
+    assert_eq!(rt; done.status, 0);
+    let counts = b"gen grid 512 0\nfaces 524288\npoints 263169\nseq ";
+    assert!(rt; done.output.held().starts_with(counts));
     Ok(())
 }

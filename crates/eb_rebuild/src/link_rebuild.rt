@@ -17,7 +17,7 @@ use crate::kept_degrees::{
 use crate::rebuild::Rebuild;
 use crate::side_stack::SideStack;
 use crate::splits::Splits;
-use corner_table::{Event, SideTable, Steps, Symbol, number_of, side_with};
+use corner_table::{Event, LinkedTable, SideTable, Steps, Symbol, number_of, side_with};
 use drc_base::{Fault, Kind, Memory, Refusal, Side};
 use std::alloc::Global;
 use std::marker::{Brand, Model};
@@ -48,10 +48,17 @@ pub(crate) fn refused(done: Result<(), Fault>) -> Result<(), Refusal>
     }
 }
 
+/// The table of a rebuilding; all else that it keeps is freed.
+fn finished_table(rebuild: LinkRebuild) -> SideTable
+    ensures { result ≡ rebuild.table }
+{
+    rebuild.table.into_sides()
+}
+
 /// A rebuilding that keeps the boundary by links.
 #[derive(Debug, Drop)]
 pub struct LinkRebuild {
-    table: SideTable,
+    table: LinkedTable,
     stack: SideStack,
     splits: Splits,
     degrees: Vec<u32>,
@@ -108,7 +115,7 @@ impl LinkRebuild {
     {
         // Called for the prover alone: the table has three entries for each face for which there is room.
         let _room = self.table.face_count();
-        &self.table
+        self.table.sides()
     }
 
     /// Takes the top side off, which has to be free.
@@ -369,7 +376,7 @@ impl Rebuild for LinkRebuild {
         most: u32,
         events: Vec<Event>,
     ) -> Result<LinkRebuild, Memory> {
-        let table = SideTable::with_room(alloc, most)?;
+        let table = LinkedTable::with_room(alloc, most)?;
         let stack = SideStack::with_room(alloc, symbols.min(most))?;
         let splits = Splits::new(alloc, symbols, events)?;
         let degrees = no_degrees(alloc, most)?;
@@ -432,9 +439,10 @@ impl Rebuild for LinkRebuild {
         if self.created < self.made {
             return Err(Refusal::Fault(Fault::new(Kind::VertexCount, u64::from(self.made))));
         }
-        let classes = labels_of::<Brand>(alloc, &self.table, Blank::new(1))?;
+        let table = finished_table(self);
+        let classes = labels_of::<Brand>(alloc, &table, Blank::new(1))?;
         match first_equal(classes.of_corner.as_slice(), built) {
-            None => Ok(Built::new(self.table, classes, true)),
+            None => Ok(Built::new(table, classes, true)),
             Some(face) => Err(Refusal::Fault(Fault::new(Kind::Degenerate, u64::from(face)))),
         }
     }

@@ -25,8 +25,6 @@ use corner_table::{SideTable, Steps};
 use drc_base::{Memory, Refusal};
 use mesh_model::CornerMesh;
 use std::alloc::Global;
-use std::marker::Brand;
-use std::sync::ledger::{Blank, Ledger};
 
 /// A list of this many sides, none of which is in a pair.
 fn none_paired(alloc: Global, count: usize) -> Result<Vec<u32>, Memory>
@@ -163,26 +161,6 @@ fn pairs_of(alloc: Global, m: &CornerMesh) -> Result<Vec<u32>, Memory>
     Ok(pairs)
 }
 
-/// The table of these pairs, made under a count of its own.
-fn table_of<L: Ledger>(
-    alloc: Global,
-    faces: u32,
-    pairs: Vec<u32>,
-    blank: Blank,
-) -> Result<SideTable, Memory>
-    requires few { faces ≤ most_faces }
-    requires each { length pairs.items ≡ 3 * faces }
-    requires gluing { IsGluing faces (glued_in pairs.items) }
-    requires name { blank.name ≡ L.name }
-    requires parts { blank.parts ≡ L.parts }
-    requires some { 0 < L.parts }
-    ensures faces { IfOk result (λ t. t.faces ≡ faces) }
-    ensures pairs { IfOk result (λ t. gluing_of t ≡ glued_in pairs.items) }
-{
-    let mut steps = Steps::<L>::new(blank);
-    SideTable::with_pairs(alloc, faces, pairs, &mut steps)
-}
-
 /// The surface of a mesh without degenerate faces.
 fn surface_of(alloc: Global, m: &CornerMesh) -> Result<SideTable, Memory>
     requires { degenerate_fault m.now ≡ None }
@@ -193,8 +171,7 @@ fn surface_of(alloc: Global, m: &CornerMesh) -> Result<SideTable, Memory>
     ensures none_left { IfOk result (λ t. NoneIsLeft t.faces (same_position m.now) (gluing_of t)) }
 {
     let pairs = pairs_of(alloc, m)?;
-    let table = table_of::<Brand>(alloc, m.face_count(), pairs, Blank::new(1))?;
-    Ok(table)
+    Ok(SideTable::with_pairs(m.face_count(), pairs))
 }
 
 /// The surface of a mesh: its faces, and its sides glued in pairs. Sides 3f + k take their turns in
