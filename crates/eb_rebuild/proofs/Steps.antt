@@ -4,7 +4,7 @@ use Rattle.drc_base.specs.declared.kinds.Kind.{Kind}
 use Rattle.drc_base.specs.declared.kinds.Kind.TheVariants as kind
 use Rattle.drc_base.specs.declared.faults.Fault.{Fault}
 use Rattle.drc_base.specs.Steps.{◌>>=◌}
-use Rattle.corner_table.specs.declared.symbols.Symbol.TheVariants.{C, S, E}
+use Rattle.corner_table.specs.declared.symbols.Symbol.TheVariants.{C, S, L, R, E}
 use Rattle.corner_table.specs.declared.symbols.Event.{Event}
 use Rattle.corner_table.specs.Sides.{Side, first, second, third, side, same, Gluing, glue}
 use Rattle.corner_table.specs.Fans.{side_before}
@@ -79,6 +79,15 @@ beside_steps b n s a rest events kept t e =
     step_beside b n s
     ∙ then_ok (top s.built s.glued s.stack) (a, rest) (λ x. with_events n s (grown s (glue (side s.built (glued_place b)) x.0 s.glued) x.1 1)) t
     ∙ events_noted n s (grown s (glue (side s.built (glued_place b)) a s.glued) rest 1) events kept e
+
+-- each of them by its own name, for the crates above
+pub right_steps : (n : ℕ) (s : State) (a : Side) (rest : List Side) (events : List Event) (kept : ℕ → Option Side) → top s.built s.glued s.stack ≡ Ok (a, rest) → note_events n s.built s.events s.reserved ≡ Ok (events, kept) →
+    step n R s ≡ Ok (the_state (suc s.built) (glue (side s.built third) a s.glued) (side s.built first ∷ rest) kept events (s.made + 1) s.closes)
+right_steps = beside_steps Right
+
+pub left_steps : (n : ℕ) (s : State) (a : Side) (rest : List Side) (events : List Event) (kept : ℕ → Option Side) → top s.built s.glued s.stack ≡ Ok (a, rest) → note_events n s.built s.events s.reserved ≡ Ok (events, kept) →
+    step n L s ≡ Ok (the_state (suc s.built) (glue (side s.built second) a s.glued) (side s.built first ∷ rest) kept events (s.made + 1) s.closes)
+left_steps = beside_steps Left
 
 pub beside_refused : (b : Beside) (n : ℕ) (s : State) (a : Side) (rest : List Side) (f : Fault) → top s.built s.glued s.stack ≡ Ok (a, rest) → note_events n s.built s.events s.reserved ≡ Err f → step n (symbol_of b) s ≡ Err f
 beside_refused b n s a rest f t e =

@@ -8,6 +8,7 @@ use Rattle.eb_rebuild.specs.declared.beside.Beside.{Beside}
 use Rattle.eb_rebuild.specs.declared.beside.Beside.TheVariants.{Left, Right}
 use Rattle.eb_rebuild.specs.Named.{Triangle}
 
+-- the symbol itself
 abbrev pub symbol_of : Beside → Symbol
 symbol_of Left = L
 symbol_of Right = R
