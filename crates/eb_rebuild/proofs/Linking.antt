@@ -3,7 +3,7 @@ use Rattle.std.proofs.Common.{◌≡◌, ◌≢◌, ℕ, suc, ◌+◌, ◌*◌, 
 use Rattle.drc_base.specs.declared.faults.Fault.{Fault}
 use Rattle.drc_base.specs.declared.limits.TheConstants.{MAX_FACES}
 use Rattle.corner_table.specs.declared.symbols.Event.{Event}
-use Rattle.corner_table.specs.declared.symbols.Symbol.TheVariants.{C, S, L, R}
+use Rattle.corner_table.specs.declared.symbols.Symbol.TheVariants.{C, S}
 use Rattle.corner_table.specs.Sides.{Side, Place, first, second, third, side, side_at, Gluing, glue, same, IsFree}
 use Rattle.corner_table.proofs.Places.{same-true, same-false}
 use Rattle.std.proofs.lemmas.Bool.{and_parts, not-true}
@@ -12,10 +12,13 @@ use Rattle.corner_table.proofs.Gluings.{free_after}
 use Rattle.drc_base.specs.declared.kinds.Kind.TheVariants as kind
 use Rattle.corner_table.specs.Table.{Table, gluing_of, glued_in, room_of}
 use Rattle.corner_table.proofs.Numbers.{side_at-number}
+use Rattle.eb_rebuild.specs.declared.beside.Beside.{Beside}
+use Rattle.eb_rebuild.specs.declared.beside.Beside.TheVariants.{Left, Right}
+use Rattle.eb_rebuild.specs.Beside.{symbol_of, glued_place}
 use Rattle.eb_rebuild.specs.Machine.{State, Plan, close, fill, top, pushed, release, note_events, step, fault}
 use Rattle.eb_rebuild.specs.Kept.{StackValue, SplitsValue, kept_in, AreSidesBelow, AreKeptBelow}
 use Rattle.eb_rebuild.specs.Linked.{LinkValue, IsLinkState, state_of, Does}
-use Rattle.eb_rebuild.proofs.Steps.{close_boundary, close_interior, loop_test, fill_gone, fill_no_loop, fill_full, fill_steps, split_no_second, split_one_side, split_one_point, split_steps, tip_alone, tip_steps, Next, top_free, the_state, same_state, right_steps, right_refused, left_steps, left_refused}
+use Rattle.eb_rebuild.proofs.Steps.{close_boundary, close_interior, loop_test, fill_gone, fill_no_loop, fill_full, fill_steps, split_no_second, split_one_side, split_one_point, split_steps, tip_alone, tip_steps, Next, top_free, the_state, same_state, beside_steps, beside_refused}
 
 -- side 0 of a face
 pub side_at_first : (f : ℕ) → side_at (3 * f) ≡ side f first
@@ -117,27 +120,21 @@ NotedBy value new m i r =
     MatchResult r (λ u. note_events m i value.splits.events (kept_in value.splits.kept) ≡ Ok (new.splits.events, kept_in new.splits.kept))
     (λ x. note_events m i value.splits.events (kept_in value.splits.kept) ≡ Err x)
 
-pub right_does : (old mid value new : LinkValue) (a : ℕ) → Attached old mid value new a third → (m i : ℕ) (r : Result (Unit {0}) Fault) → m ≡ value.plan.symbols → i ≡ value.table.faces → NotedBy value new m i r →
-    Does (step old.plan.symbols R (state_of old)) (state_of new) r
-right_does old mid value new a A m i r p q h =
+pub beside_does : (b : Beside) (old mid value new : LinkValue) (a : ℕ) → Attached old mid value new a (glued_place b) → (m i : ℕ) (r : Result (Unit {0}) Fault) → m ≡ value.plan.symbols → i ≡ value.table.faces → NotedBy value new m i r →
+    Does (step old.plan.symbols (symbol_of b) (state_of old)) (state_of new) r
+beside_does b old mid value new a A m i r p q h =
     let s : State = record (state_of value) { stack = side_at a ∷ map side_at value.stack.sides } in
     let free : gluing_of value.table (side_at a) ≡ None = ap (λ (v : LinkValue). gluing_of v.table (side_at a)) (A.view ∙ A.rest) ∙ A.free in
     let t = top_free value.table.faces (gluing_of value.table) (side_at a) (map side_at value.stack.sides) free in
-    from_taken old mid value a (λ n x. step n R x) (state_of new) r A.rest A.view A.sides
-    (noted_does (step value.plan.symbols R s) (state_of new) value.plan.symbols value.table.faces m i value.splits.events new.splits.events (kept_in value.splits.kept) (kept_in new.splits.kept) r p q h
-    (λ e. right_steps value.plan.symbols s (side_at a) (map side_at value.stack.sides) new.splits.events (kept_in new.splits.kept) t e ∙ ap {A = State} Ok (attached_state old mid value new a third A))
-    (λ x e. right_refused value.plan.symbols s (side_at a) (map side_at value.stack.sides) x t e))
+    from_taken old mid value a (λ n x. step n (symbol_of b) x) (state_of new) r A.rest A.view A.sides
+    (noted_does (step value.plan.symbols (symbol_of b) s) (state_of new) value.plan.symbols value.table.faces m i value.splits.events new.splits.events (kept_in value.splits.kept) (kept_in new.splits.kept) r p q h
+    (λ e. beside_steps b value.plan.symbols s (side_at a) (map side_at value.stack.sides) new.splits.events (kept_in new.splits.kept) t e ∙ ap {A = State} Ok (attached_state old mid value new a (glued_place b) A))
+    (λ x e. beside_refused b value.plan.symbols s (side_at a) (map side_at value.stack.sides) x t e))
 
-pub left_does : (old mid value new : LinkValue) (a : ℕ) → Attached old mid value new a second → (m i : ℕ) (r : Result (Unit {0}) Fault) → m ≡ value.plan.symbols → i ≡ value.table.faces → NotedBy value new m i r →
-    Does (step old.plan.symbols L (state_of old)) (state_of new) r
-left_does old mid value new a A m i r p q h =
-    let s : State = record (state_of value) { stack = side_at a ∷ map side_at value.stack.sides } in
-    let free : gluing_of value.table (side_at a) ≡ None = ap (λ (v : LinkValue). gluing_of v.table (side_at a)) (A.view ∙ A.rest) ∙ A.free in
-    let t = top_free value.table.faces (gluing_of value.table) (side_at a) (map side_at value.stack.sides) free in
-    from_taken old mid value a (λ n x. step n L x) (state_of new) r A.rest A.view A.sides
-    (noted_does (step value.plan.symbols L s) (state_of new) value.plan.symbols value.table.faces m i value.splits.events new.splits.events (kept_in value.splits.kept) (kept_in new.splits.kept) r p q h
-    (λ e. left_steps value.plan.symbols s (side_at a) (map side_at value.stack.sides) new.splits.events (kept_in new.splits.kept) t e ∙ ap {A = State} Ok (attached_state old mid value new a second A))
-    (λ x e. left_refused value.plan.symbols s (side_at a) (map side_at value.stack.sides) x t e))
+-- side 0 isn't the glued one
+pub first_apart : (b : Beside) → first ≢ glued_place b
+first_apart Left e = cc
+first_apart Right e = cc
 
 -- what stays free when two others are glued
 pub still_free : (faces : ℕ) (g : Gluing) (new : Table) (a b x : Side) → new.faces ≡ faces → gluing_of new ≡ glue a b g → IsFree faces g x → x ≢ a → x ≢ b → IsFree new.faces (gluing_of new) x

@@ -8,6 +8,9 @@ use Rattle.corner_table.proofs.Places.{same-true, same_refl}
 use Rattle.corner_table.proofs.Walks.{fan_trans, fan_sym}
 use Rattle.corner_table.proofs.Gluings.{unglued_is, ends_join, starts_join, fan_stays}
 use Rattle.corner_table.proofs.Boundary.{side_before-follows, side_before_only}
+use Rattle.eb_rebuild.specs.declared.beside.Beside.{Beside}
+use Rattle.eb_rebuild.specs.declared.beside.Beside.TheVariants.{Left, Right}
+use Rattle.eb_rebuild.specs.Beside.{glued_place, free_place, new_triangle}
 use Rattle.eb_rebuild.specs.Named.{Triangle, corner, Row, new_row, row_of, row_before, without, renamed, renamed_triangle, renamed_row}
 use Rattle.eb_rebuild.specs.Shown.{name_of, row_named, AreNames}
 use Rattle.eb_rebuild.proofs.RowLists.{found}
@@ -214,6 +217,12 @@ left_names {ts} {rows} {g} {made} N a A = plain_grow ts rows g made (made + 1) t
     below first = let b = N.below (next a) A.within in omega arith
     below second = omega arith
     below third = let b = N.below (prev a) A.within in omega arith
+
+-- L and R as one
+pub beside_names : {ts : List Triangle} {rows : List Row} {g : Gluing} {made : ℕ} (b : Beside) → AreNames ts rows g made → (a : Side) → IsFree (length ts) g a → let t : Triangle = new_triangle b (name_of ts (next a)) (name_of ts (prev a)) made in let f = length ts in
+    AreNames (ts ++ (t ∷ [])) (without a rows ++ (new_row f t first ∷ new_row f t (free_place b) ∷ [])) (glue (side f (glued_place b)) a g) (made + 1)
+beside_names Left N a A = left_names N a A
+beside_names Right N a A = right_names N a A
 
 -- C: the new face has the vertices of the top row and of the row before it
 pub tip_names : {ts : List Triangle} {rows : List Row} {g : Gluing} {made : ℕ} → AreNames ts rows g made → (a b : Side) → IsFree (length ts) g a → IsFree (length ts) g b → b ≢ a → name_of ts (prev b) ≡ name_of ts (next a) →

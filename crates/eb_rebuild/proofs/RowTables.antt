@@ -7,6 +7,8 @@ use Rattle.corner_table.specs.Table.{Table, gluing_of}
 use Rattle.corner_table.proofs.Places.{option_tells, same-true, same_refl}
 use Rattle.corner_table.proofs.Numbers.{number-side_at}
 use Rattle.eb_rebuild.specs.declared.active_rows.Row.{Row as NumberedRow}
+use Rattle.eb_rebuild.specs.declared.beside.Beside.{Beside}
+use Rattle.eb_rebuild.specs.Beside.{glued_place, free_place, new_triangle}
 use Rattle.eb_rebuild.specs.Named.{Triangle, Row, row_of, row_to, row_before, without, new_row, renamed, renamed_triangle, renamed_row, NamedState, first_with_equal}
 use Rattle.eb_rebuild.specs.Shown.{AreNames, name_of, row_named}
 use Rattle.eb_rebuild.specs.Rowed.{listed, all_listed, NamedTable, IsNamedTable, IsRowIn, IsGluedIn}
@@ -14,7 +16,7 @@ use Rattle.eb_rebuild.specs.Machine.{first_degenerate}
 use Rattle.eb_rebuild.proofs.NamedLaw.{Stands, first_is}
 use Rattle.eb_rebuild.specs.OneFaceMore.{Pairs, glue_all, IsOther, IsOtherPlace, AreApart}
 use Rattle.eb_rebuild.proofs.ManyGlued.{new_is_free, old_is_free}
-use Rattle.eb_rebuild.proofs.NamedRules.{row_is, no_row, row_before_is, before_ends, one_point_is, end_names, right_names, left_names, tip_names, split_names, fill_names}
+use Rattle.eb_rebuild.proofs.NamedRules.{row_is, no_row, row_before_is, before_ends, one_point_is, end_names, beside_names, tip_names, split_names, fill_names}
 
 one_truth : (t u : Bool) → (t ≡ true → u ≡ true) → (u ≡ true → t ≡ true) → t ≡ u
 one_truth true u f h = sym (f refl)
@@ -200,29 +202,18 @@ end_table v I table triangles rows W e h =
 triple : {x x' y y' z z' : ℕ} → x ≡ x' → y ≡ y' → z ≡ z' → (let t : Triangle = (x, y, z) in t) ≡ (x', y', z')
 triple p q r = λ i. (p i, q i, r i)
 
-pub right_table : (v : NamedTable) → IsNamedTable v → (a : NumberedRow) → IsRowIn v a → (table : Table) (triangles : List Triangle) (rows : List Row) → Grown v table (v.made + 1) (glue (side v.table.faces third) (side_at a.side) (gluing_of v.table)) →
-    let t : Triangle = (a.to, a.from, v.made) in let f = v.table.faces in
-    triangles ≡ v.triangles ++ (t ∷ []) → rows ≡ without (side_at a.side) v.rows ++ (new_row f t first ∷ new_row f t second ∷ []) → IsNamedTable (record { table = table; triangles = triangles; rows = rows; made = v.made + 1 })
-right_table v I a R table triangles rows W e h =
-    let t : Triangle = (a.to, a.from, v.made) in
-    let q = triple (sym (row_end v a R)) (sym (row_from v a R)) refl in
-    grown_table v I table (v.made + 1) (glue (side v.table.faces third) (side_at a.side) (gluing_of v.table)) triangles rows W (one_longer v.triangles triangles t e)
+pub beside_table : (b : Beside) (v : NamedTable) → IsNamedTable v → (a : NumberedRow) → IsRowIn v a → (table : Table) (triangles : List Triangle) (rows : List Row) → Grown v table (v.made + 1) (glue (side v.table.faces (glued_place b)) (side_at a.side) (gluing_of v.table)) →
+    let t : Triangle = new_triangle b a.from a.to v.made in let f = v.table.faces in
+    triangles ≡ v.triangles ++ (t ∷ []) → rows ≡ without (side_at a.side) v.rows ++ (new_row f t first ∷ new_row f t (free_place b) ∷ []) → IsNamedTable (record { table = table; triangles = triangles; rows = rows; made = v.made + 1 })
+beside_table b v I a R table triangles rows W e h =
+    let t : Triangle = new_triangle b a.from a.to v.made in
+    let q : new_triangle b (name_of v.triangles (next (side_at a.side))) (name_of v.triangles (prev (side_at a.side))) v.made ≡ t =
+    ap (λ (n : ℕ). new_triangle b n (name_of v.triangles (prev (side_at a.side))) v.made) (sym (row_from v a R)) ∙ ap (λ (n : ℕ). new_triangle b a.from n v.made) (sym (row_end v a R)) in
+    grown_table v I table (v.made + 1) (glue (side v.table.faces (glued_place b)) (side_at a.side) (gluing_of v.table)) triangles rows W (one_longer v.triangles triangles t e)
     (names_along (ap (λ (u : Triangle). v.triangles ++ (u ∷ [])) q ∙ sym e)
-    (ap (λ (u : Triangle). without (side_at a.side) v.rows ++ (new_row (length v.triangles) u first ∷ new_row (length v.triangles) u second ∷ [])) q
-    ∙ ap (λ (f : ℕ). without (side_at a.side) v.rows ++ (new_row f t first ∷ new_row f t second ∷ [])) I.long ∙ sym h)
-    (ap (λ (f : ℕ). glue (side f third) (side_at a.side) (gluing_of v.table)) I.long) refl (right_names I.names (side_at a.side) (row_free v I a R)))
-
-pub left_table : (v : NamedTable) → IsNamedTable v → (a : NumberedRow) → IsRowIn v a → (table : Table) (triangles : List Triangle) (rows : List Row) → Grown v table (v.made + 1) (glue (side v.table.faces second) (side_at a.side) (gluing_of v.table)) →
-    let t : Triangle = (a.from, v.made, a.to) in let f = v.table.faces in
-    triangles ≡ v.triangles ++ (t ∷ []) → rows ≡ without (side_at a.side) v.rows ++ (new_row f t first ∷ new_row f t third ∷ []) → IsNamedTable (record { table = table; triangles = triangles; rows = rows; made = v.made + 1 })
-left_table v I a R table triangles rows W e h =
-    let t : Triangle = (a.from, v.made, a.to) in
-    let q = triple (sym (row_from v a R)) refl (sym (row_end v a R)) in
-    grown_table v I table (v.made + 1) (glue (side v.table.faces second) (side_at a.side) (gluing_of v.table)) triangles rows W (one_longer v.triangles triangles t e)
-    (names_along (ap (λ (u : Triangle). v.triangles ++ (u ∷ [])) q ∙ sym e)
-    (ap (λ (u : Triangle). without (side_at a.side) v.rows ++ (new_row (length v.triangles) u first ∷ new_row (length v.triangles) u third ∷ [])) q
-    ∙ ap (λ (f : ℕ). without (side_at a.side) v.rows ++ (new_row f t first ∷ new_row f t third ∷ [])) I.long ∙ sym h)
-    (ap (λ (f : ℕ). glue (side f second) (side_at a.side) (gluing_of v.table)) I.long) refl (left_names I.names (side_at a.side) (row_free v I a R)))
+    (ap (λ (u : Triangle). without (side_at a.side) v.rows ++ (new_row (length v.triangles) u first ∷ new_row (length v.triangles) u (free_place b) ∷ [])) q
+    ∙ ap (λ (f : ℕ). without (side_at a.side) v.rows ++ (new_row f t first ∷ new_row f t (free_place b) ∷ [])) I.long ∙ sym h)
+    (ap (λ (f : ℕ). glue (side f (glued_place b)) (side_at a.side) (gluing_of v.table)) I.long) refl (beside_names b I.names (side_at a.side) (row_free v I a R)))
 
 -- names where one side comes before another
 meet_names : (v : NamedTable) → IsNamedTable v → (a b : NumberedRow) → IsRowIn v a → side_at b.side ≡ side_before v.table.faces (gluing_of v.table) (side_at a.side) → name_of v.triangles (prev (side_at b.side)) ≡ name_of v.triangles (next (side_at a.side))

@@ -9,6 +9,9 @@ use Rattle.corner_table.specs.declared.symbols.Event.{Event}
 use Rattle.corner_table.specs.Sides.{Side, first, second, third, side, same, Gluing, glue}
 use Rattle.corner_table.specs.Fans.{side_before}
 use Rattle.corner_table.proofs.Places.{not_same, same_refl}
+use Rattle.eb_rebuild.specs.declared.beside.Beside.{Beside}
+use Rattle.eb_rebuild.specs.declared.beside.Beside.TheVariants.{Left, Right}
+use Rattle.eb_rebuild.specs.Beside.{symbol_of, glued_place}
 use Rattle.eb_rebuild.specs.Machine.{State, Plan, step, close, close_top, fill, top, pushed, release, must, fault, with_events, grown, note_events}
 
 -- a state from its parts
@@ -64,40 +67,36 @@ pub end_refused : (n : ℕ) (s : State) (f : Fault) → note_events n s.built s.
 unfolding step
 end_refused n s f e = events_refused n s (grown s s.glued s.stack 3) f e
 
--- R and L
+-- L and R
+step_beside : (b : Beside) (n : ℕ) (s : State) → step n (symbol_of b) s ≡ (top s.built s.glued s.stack >>= λ a. with_events n s (grown s (glue (side s.built (glued_place b)) a.0 s.glued) a.1 1))
+unfolding step
+step_beside Left n s = refl
+step_beside Right n s = refl
+
+pub beside_steps : (b : Beside) (n : ℕ) (s : State) (a : Side) (rest : List Side) (events : List Event) (kept : ℕ → Option Side) → top s.built s.glued s.stack ≡ Ok (a, rest) → note_events n s.built s.events s.reserved ≡ Ok (events, kept) →
+    step n (symbol_of b) s ≡ Ok (the_state (suc s.built) (glue (side s.built (glued_place b)) a s.glued) (side s.built first ∷ rest) kept events (s.made + 1) s.closes)
+beside_steps b n s a rest events kept t e =
+    step_beside b n s
+    ∙ then_ok (top s.built s.glued s.stack) (a, rest) (λ x. with_events n s (grown s (glue (side s.built (glued_place b)) x.0 s.glued) x.1 1)) t
+    ∙ events_noted n s (grown s (glue (side s.built (glued_place b)) a s.glued) rest 1) events kept e
+
+-- each of them by its own name, for the crates above
 pub right_steps : (n : ℕ) (s : State) (a : Side) (rest : List Side) (events : List Event) (kept : ℕ → Option Side) → top s.built s.glued s.stack ≡ Ok (a, rest) → note_events n s.built s.events s.reserved ≡ Ok (events, kept) →
     step n R s ≡ Ok (the_state (suc s.built) (glue (side s.built third) a s.glued) (side s.built first ∷ rest) kept events (s.made + 1) s.closes)
-unfolding step
-right_steps n s a rest events kept t e =
-    then_ok (top s.built s.glued s.stack) (a, rest) (λ x. with_events n s (grown s (glue (side s.built third) x.0 s.glued) x.1 1)) t
-    ∙ events_noted n s (grown s (glue (side s.built third) a s.glued) rest 1) events kept e
-
-pub right_refused : (n : ℕ) (s : State) (a : Side) (rest : List Side) (f : Fault) → top s.built s.glued s.stack ≡ Ok (a, rest) → note_events n s.built s.events s.reserved ≡ Err f → step n R s ≡ Err f
-unfolding step
-right_refused n s a rest f t e =
-    then_ok (top s.built s.glued s.stack) (a, rest) (λ x. with_events n s (grown s (glue (side s.built third) x.0 s.glued) x.1 1)) t
-    ∙ events_refused n s (grown s (glue (side s.built third) a s.glued) rest 1) f e
-
-pub right_no_top : (n : ℕ) (s : State) (f : Fault) → top s.built s.glued s.stack ≡ Err f → step n R s ≡ Err f
-unfolding step
-right_no_top n s f t = then_err (top s.built s.glued s.stack) f (λ x. with_events n s (grown s (glue (side s.built third) x.0 s.glued) x.1 1)) t
+right_steps = beside_steps Right
 
 pub left_steps : (n : ℕ) (s : State) (a : Side) (rest : List Side) (events : List Event) (kept : ℕ → Option Side) → top s.built s.glued s.stack ≡ Ok (a, rest) → note_events n s.built s.events s.reserved ≡ Ok (events, kept) →
     step n L s ≡ Ok (the_state (suc s.built) (glue (side s.built second) a s.glued) (side s.built first ∷ rest) kept events (s.made + 1) s.closes)
-unfolding step
-left_steps n s a rest events kept t e =
-    then_ok (top s.built s.glued s.stack) (a, rest) (λ x. with_events n s (grown s (glue (side s.built second) x.0 s.glued) x.1 1)) t
-    ∙ events_noted n s (grown s (glue (side s.built second) a s.glued) rest 1) events kept e
+left_steps = beside_steps Left
 
-pub left_refused : (n : ℕ) (s : State) (a : Side) (rest : List Side) (f : Fault) → top s.built s.glued s.stack ≡ Ok (a, rest) → note_events n s.built s.events s.reserved ≡ Err f → step n L s ≡ Err f
-unfolding step
-left_refused n s a rest f t e =
-    then_ok (top s.built s.glued s.stack) (a, rest) (λ x. with_events n s (grown s (glue (side s.built second) x.0 s.glued) x.1 1)) t
-    ∙ events_refused n s (grown s (glue (side s.built second) a s.glued) rest 1) f e
+pub beside_refused : (b : Beside) (n : ℕ) (s : State) (a : Side) (rest : List Side) (f : Fault) → top s.built s.glued s.stack ≡ Ok (a, rest) → note_events n s.built s.events s.reserved ≡ Err f → step n (symbol_of b) s ≡ Err f
+beside_refused b n s a rest f t e =
+    step_beside b n s
+    ∙ then_ok (top s.built s.glued s.stack) (a, rest) (λ x. with_events n s (grown s (glue (side s.built (glued_place b)) x.0 s.glued) x.1 1)) t
+    ∙ events_refused n s (grown s (glue (side s.built (glued_place b)) a s.glued) rest 1) f e
 
-pub left_no_top : (n : ℕ) (s : State) (f : Fault) → top s.built s.glued s.stack ≡ Err f → step n L s ≡ Err f
-unfolding step
-left_no_top n s f t = then_err (top s.built s.glued s.stack) f (λ x. with_events n s (grown s (glue (side s.built second) x.0 s.glued) x.1 1)) t
+pub beside_no_top : (b : Beside) (n : ℕ) (s : State) (f : Fault) → top s.built s.glued s.stack ≡ Err f → step n (symbol_of b) s ≡ Err f
+beside_no_top b n s f t = step_beside b n s ∙ then_err (top s.built s.glued s.stack) f (λ x. with_events n s (grown s (glue (side s.built (glued_place b)) x.0 s.glued) x.1 1)) t
 
 -- C
 abbrev pub tip_rest : State → Side × List Side → Next

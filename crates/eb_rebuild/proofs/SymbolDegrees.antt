@@ -1,11 +1,14 @@
 -- The degrees after each symbol, counted over names: what the numbers at the free sides become.
-use Rattle.std.proofs.Common.{◌≡◌, ◌≢◌, ℕ, suc, ◌+◌, ◌*◌, ◌<◌, ◌≤◌, Bool, true, false, ◌==◌, cond, List, [], ◌∷◌, ◌++◌, length, get_or, map, set, inl, inr, sym, refl, ap, ◌∙◌, subst, arith, length-append, length-set, get_or-set_other, get_or-set_same}
+use Rattle.std.proofs.Common.{◌≡◌, ◌≢◌, ℕ, suc, ◌+◌, ◌*◌, ◌<◌, ◌≤◌, Bool, true, false, ◌==◌, cond, List, [], ◌∷◌, ◌++◌, length, get_or, map, set, ◌⊎◌, inl, inr, sym, refl, ap, ◌∙◌, subst, arith, length-append, length-set, get_or-set_other, get_or-set_same}
 use Rattle.std.proofs.lemmas.Bool.{cases_Bool, cases_lt, cases_eq, cond-true, cond-false}
 use Rattle.std.proofs.lemmas.List.{length-map}
-use Rattle.corner_table.specs.Sides.{Side, Place, first, second, third, side, number, next, prev, place_after, Gluing, glue, IsFree}
+use Rattle.corner_table.specs.Sides.{Side, Place, first, second, third, side, number, next, prev, place_after, place_before, place_number, Gluing, glue, IsFree}
 use Rattle.corner_table.proofs.Numbers.{number-lt}
+use Rattle.eb_rebuild.specs.declared.beside.Beside.{Beside}
+use Rattle.eb_rebuild.specs.declared.beside.Beside.TheVariants.{Left, Right}
+use Rattle.eb_rebuild.specs.Beside.{glued_place, new_triangle}
 use Rattle.eb_rebuild.specs.Counted.{times_in}
-use Rattle.eb_rebuild.specs.KeptDegrees.{raised, after_end, after_right, after_left, after_tip, after_split}
+use Rattle.eb_rebuild.specs.KeptDegrees.{raised, after_end, after_beside, after_tip, after_split}
 use Rattle.eb_rebuild.specs.Named.{Triangle, Row, corner, no_triangle, renamed, renamed_triangle}
 use Rattle.eb_rebuild.specs.Shown.{name_of, AreNames}
 use Rattle.eb_rebuild.proofs.NamedRules.{renamed_from, renamed_case}
@@ -129,16 +132,46 @@ end_counts {ts} {rows} {g} {made} N ds room K = counts_grow ts t f refl g (after
         let e = bit_other made (made + 2) (λ e. absurd (omega arith)) in
         omega arith
 
--- R
-pub right_counts : {ts : List Triangle} {rows : List Row} {g : Gluing} {made : ℕ} (a na : Side) → IsAround ts rows g made a na → (ds : List ℕ) → 3 * suc (length ts) ≤ length ds → AreCounts ts g ds →
-    AreCounts (ts ++ ((name_of ts (prev a), name_of ts (next a), made) ∷ [])) (glue (side (length ts) third) a g) (after_right (length ts) (number a) (number na) ds)
-right_counts {ts} {rows} {g} {made} a na W ds room K = counts_grow ts t f refl (glue (side f third) a g) (after_right f (number a) (number na) ds) old new
+-- L and R: the glued side of the new face, the one after it and the one before it are all three
+places_round : (k j : Place) → (j ≡ k) ⊎ ((j ≡ place_after k) ⊎ (j ≡ place_before k))
+places_round first first = inl refl
+places_round first second = inr (inl refl)
+places_round first third = inr (inr refl)
+places_round second first = inr (inr refl)
+places_round second second = inl refl
+places_round second third = inr (inl refl)
+places_round third first = inr (inl refl)
+places_round third second = inr (inr refl)
+places_round third third = inl refl
+
+after_apart : (b : Beside) → place_number (place_after (glued_place b)) ≢ place_number (place_before (glued_place b))
+after_apart Left e = absurd (omega arith)
+after_apart Right e = absurd (omega arith)
+
+corner_after : (b : Beside) (from to new : ℕ) → corner (new_triangle b from to new) (place_after (place_after (glued_place b))) ≡ from
+corner_after Left from to new = refl
+corner_after Right from to new = refl
+
+corner_before : (b : Beside) (from to new : ℕ) → corner (new_triangle b from to new) (place_after (place_before (glued_place b))) ≡ new
+corner_before Left from to new = refl
+corner_before Right from to new = refl
+
+times_new : (b : Beside) (v from to new : ℕ) → times_in v (new_triangle b from to new) ≡ bit v from + bit v to + bit v new
+times_new Left v from to new = omega arith
+times_new Right v from to new = omega arith
+
+pub beside_counts : {ts : List Triangle} {rows : List Row} {g : Gluing} {made : ℕ} (b : Beside) (a na : Side) → IsAround ts rows g made a na → (ds : List ℕ) → 3 * suc (length ts) ≤ length ds → AreCounts ts g ds →
+    AreCounts (ts ++ (new_triangle b (name_of ts (next a)) (name_of ts (prev a)) made ∷ [])) (glue (side (length ts) (glued_place b)) a g) (after_beside b (length ts) (number a) (number na) ds)
+beside_counts {ts} {rows} {g} {made} b a na W ds room K = counts_grow ts t f refl (glue (side f k) a g) (after_beside b f (number a) (number na) ds) old new
   where
     N : AreNames ts rows g made
     N = W.names
 
     f : ℕ
     f = length ts
+
+    k : Place
+    k = glued_place b
 
     p : ℕ
     p = name_of ts (prev a)
@@ -147,10 +180,10 @@ right_counts {ts} {rows} {g} {made} a na W ds room K = counts_grow ts t f refl (
     q = name_of ts (next a)
 
     t : Triangle
-    t = (p, q, made)
+    t = new_triangle b q p made
 
     ps : Pairs
-    ps = (third, a) ∷ []
+    ps = (k, a) ∷ []
 
     apart : AreApart f g ps
     apart = (W.free, tt, tt, tt)
@@ -159,7 +192,7 @@ right_counts {ts} {rows} {g} {made} a na W ds room K = counts_grow ts t f refl (
     more = raised (number na) 1 ds
 
     one : List ℕ
-    one = set more (3 * f) (get_or more (number a) 0 + 1)
+    one = set more (number (side f (place_after k))) (get_or more (number a) 0 + 1)
 
     reads : (s : Side) → IsFree f g s → get_or more (number s) 0 ≡ suc (count (name_of ts (next s)) ts) + bit (name_of ts (next s)) p
     reads s S =
@@ -168,116 +201,61 @@ right_counts {ts} {rows} {g} {made} a na W ds room K = counts_grow ts t f refl (
         let k = K s S in
         omega arith
 
-    old : (s : Side) → s.face < f → IsFree (suc f) (glue (side f third) a g) s → get_or (after_right f (number a) (number na) ds) (number s) 0 ≡ suc (count (name_of ts (next s)) ts + times_in (name_of ts (next s)) t)
+    old : (s : Side) → s.face < f → IsFree (suc f) (glue (side f k) a g) s → get_or (after_beside b f (number a) (number na) ds) (number s) 0 ≡ suc (count (name_of ts (next s)) ts + times_in (name_of ts (next s)) t)
     old s l S =
         let O = was_free N ps apart s l S in
         let u = name_of ts (next s) in
         let low = number-lt s f l in
-        let b = N.below (next s) l in
-        let x = read_by one (3 * f + 1) (number s) 2 (λ e. absurd (omega arith)) in
-        let y = read_by more (3 * f) (number s) (get_or more (number a) 0 + 1) (λ e. absurd (omega arith)) in
+        let h = N.below (next s) l in
+        let x = read_by one (number (side f (place_before k))) (number s) 2 (λ e. absurd (omega arith)) in
+        let y = read_by more (number (side f (place_after k))) (number s) (get_or more (number a) 0 + 1) (λ e. absurd (omega arith)) in
         let z = reads s O.0 in
         let c = bit_other u q (λ e. O.1.0 (one_start N s a O.0 W.free e)) in
         let d = bit_other u made (λ e. absurd (omega arith)) in
+        let i = times_new b u q p made in
         omega arith
 
-    new : (k : Place) → IsFree (suc f) (glue (side f third) a g) (side f k) → get_or (after_right f (number a) (number na) ds) (number (side f k)) 0 ≡ suc (count (corner t (place_after k)) ts + times_in (corner t (place_after k)) t)
-    new first S =
+    -- the number at a side of the new face, where the corner at which it starts has a name
+    Reads : Place → ℕ → Type 0
+    Reads j v = get_or (after_beside b f (number a) (number na) ds) (number (side f j)) 0 ≡ suc (count v ts + times_in v t)
+
+    at_after : Reads (place_after k) q
+    at_after =
         let l = length-raised (number na) 1 ds in
-        let b = N.below (next a) W.free.within in
-        let x = read_by one (3 * f + 1) (number (side f first)) 2 (λ e. absurd (omega arith)) in
-        let y = read_at more (3 * f) (number (side f first)) (get_or more (number a) 0 + 1) (omega arith) (omega arith) in
+        let h = N.below (next a) W.free.within in
+        let m = number-lt (side f (place_after k)) (suc f) (omega arith) in
+        let n = after_apart b in
+        let x = read_by one (number (side f (place_before k))) (number (side f (place_after k))) 2 (λ e. n (omega arith)) in
+        let y = read_at more (number (side f (place_after k))) (number (side f (place_after k))) (get_or more (number a) 0 + 1) refl (omega arith) in
         let z = reads a W.free in
         let c = bit_same q q refl in
         let d = bit_other q made (λ e. absurd (omega arith)) in
+        let i = times_new b q q p made in
         omega arith
-    new second S =
+
+    at_before : Reads (place_before k) made
+    at_before =
         let l = length-raised (number na) 1 ds in
-        let m : length one ≡ length more = length-set more (3 * f) (get_or more (number a) 0 + 1) in
-        let x = read_at one (3 * f + 1) (number (side f second)) 2 (omega arith) (omega arith) in
+        let m : length one ≡ length more = length-set more (number (side f (place_after k))) (get_or more (number a) 0 + 1) in
+        let o = number-lt (side f (place_before k)) (suc f) (omega arith) in
+        let x = read_at one (number (side f (place_before k))) (number (side f (place_before k))) 2 refl (omega arith) in
         let n = count_none made ts (λ c l e. (let b = N.below c l in absurd (omega arith))) in
-        let i = N.below (next a) W.free.within in
+        let h = N.below (next a) W.free.within in
         let j = N.below (prev a) W.free.within in
         let c = bit_other made p (λ e. absurd (omega arith)) in
         let d = bit_other made q (λ e. absurd (omega arith)) in
         let e = bit_same made made refl in
-        omega arith
-    new third S = absurd ((is_left N ps apart third S).0 refl)
-
--- L
-pub left_counts : {ts : List Triangle} {rows : List Row} {g : Gluing} {made : ℕ} (a na : Side) → IsAround ts rows g made a na → (ds : List ℕ) → 3 * suc (length ts) ≤ length ds → AreCounts ts g ds →
-    AreCounts (ts ++ ((name_of ts (next a), made, name_of ts (prev a)) ∷ [])) (glue (side (length ts) second) a g) (after_left (length ts) (number a) (number na) ds)
-left_counts {ts} {rows} {g} {made} a na W ds room K = counts_grow ts t f refl (glue (side f second) a g) (after_left f (number a) (number na) ds) old new
-  where
-    N : AreNames ts rows g made
-    N = W.names
-
-    f : ℕ
-    f = length ts
-
-    p : ℕ
-    p = name_of ts (prev a)
-
-    q : ℕ
-    q = name_of ts (next a)
-
-    t : Triangle
-    t = (q, made, p)
-
-    ps : Pairs
-    ps = (second, a) ∷ []
-
-    apart : AreApart f g ps
-    apart = (W.free, tt, tt, tt)
-
-    more : List ℕ
-    more = raised (number na) 1 ds
-
-    one : List ℕ
-    one = set more (3 * f + 2) (get_or more (number a) 0 + 1)
-
-    reads : (s : Side) → IsFree f g s → get_or more (number s) 0 ≡ suc (count (name_of ts (next s)) ts) + bit (name_of ts (next s)) p
-    reads s S =
-        let l = number-lt na f W.after_free.within in
-        let x = raised_is N a na s W.after_free W.meets S 1 ds (omega arith) in
-        let k = K s S in
+        let i = times_new b made q p made in
         omega arith
 
-    old : (s : Side) → s.face < f → IsFree (suc f) (glue (side f second) a g) s → get_or (after_left f (number a) (number na) ds) (number s) 0 ≡ suc (count (name_of ts (next s)) ts + times_in (name_of ts (next s)) t)
-    old s l S =
-        let O = was_free N ps apart s l S in
-        let u = name_of ts (next s) in
-        let low = number-lt s f l in
-        let b = N.below (next s) l in
-        let x = read_by one (3 * f) (number s) 2 (λ e. absurd (omega arith)) in
-        let y = read_by more (3 * f + 2) (number s) (get_or more (number a) 0 + 1) (λ e. absurd (omega arith)) in
-        let z = reads s O.0 in
-        let c = bit_other u q (λ e. O.1.0 (one_start N s a O.0 W.free e)) in
-        let d = bit_other u made (λ e. absurd (omega arith)) in
-        omega arith
-
-    new : (k : Place) → IsFree (suc f) (glue (side f second) a g) (side f k) → get_or (after_left f (number a) (number na) ds) (number (side f k)) 0 ≡ suc (count (corner t (place_after k)) ts + times_in (corner t (place_after k)) t)
-    new first S =
-        let l = length-raised (number na) 1 ds in
-        let m : length one ≡ length more = length-set more (3 * f + 2) (get_or more (number a) 0 + 1) in
-        let x = read_at one (3 * f) (number (side f first)) 2 (omega arith) (omega arith) in
-        let n = count_none made ts (λ c l e. (let b = N.below c l in absurd (omega arith))) in
-        let i = N.below (next a) W.free.within in
-        let j = N.below (prev a) W.free.within in
-        let c = bit_other made p (λ e. absurd (omega arith)) in
-        let d = bit_other made q (λ e. absurd (omega arith)) in
-        let e = bit_same made made refl in
-        omega arith
-    new second S = absurd ((is_left N ps apart second S).0 refl)
-    new third S =
-        let l = length-raised (number na) 1 ds in
-        let b = N.below (next a) W.free.within in
-        let x = read_by one (3 * f) (number (side f third)) 2 (λ e. absurd (omega arith)) in
-        let y = read_at more (3 * f + 2) (number (side f third)) (get_or more (number a) 0 + 1) (omega arith) (omega arith) in
-        let z = reads a W.free in
-        let c = bit_same q q refl in
-        let d = bit_other q made (λ e. absurd (omega arith)) in
-        omega arith
+    new : (j : Place) → IsFree (suc f) (glue (side f k) a g) (side f j) → Reads j (corner t (place_after j))
+    new j S = elim (places_round k j) [
+      | inl e ↦ absurd ((is_left N ps apart j S).0 e)
+      | inr o ↦ elim o [
+        | inl e ↦ subst (λ (i : Place). Reads i (corner t (place_after i))) (sym e) (subst (Reads (place_after k)) (sym (corner_after b q p made)) at_after)
+        | inr e ↦ subst (λ (i : Place). Reads i (corner t (place_after i))) (sym e) (subst (Reads (place_before k)) (sym (corner_before b q p made)) at_before)
+      ]
+    ]
 
 -- C
 pub tip_counts : {ts : List Triangle} {rows : List Row} {g : Gluing} {made : ℕ} (a b na : Side) → IsAround ts rows g made a na → IsFree (length ts) g b → b ≢ a → (ds : List ℕ) → 3 * suc (length ts) ≤ length ds → AreCounts ts g ds →

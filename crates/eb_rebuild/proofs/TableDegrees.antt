@@ -13,9 +13,11 @@ use Rattle.corner_table.specs.Table.{Table, gluing_of, room_of, IsFreeIn, free_e
 use Rattle.corner_table.proofs.Numbers.{number-side_at, face-lt}
 use Rattle.corner_table.proofs.Places.{option_tells}
 use Rattle.corner_table.proofs.TableSteps.{get_or-replicate}
+use Rattle.eb_rebuild.specs.declared.beside.Beside.{Beside}
+use Rattle.eb_rebuild.specs.Beside.{glued_place, new_triangle}
 use Rattle.eb_rebuild.specs.Degree.{degree, top_degree}
 use Rattle.eb_rebuild.specs.Kept.{StackValue, SplitsValue, kept_in, AreSidesBelow, first_side}
-use Rattle.eb_rebuild.specs.KeptDegrees.{KeepsDegrees, after_end, after_right, after_left, after_tip, after_split}
+use Rattle.eb_rebuild.specs.KeptDegrees.{KeepsDegrees, after_end, after_beside, after_tip, after_split}
 use Rattle.eb_rebuild.specs.Linked.{LinkValue, IsLinkState, state_of, is_top_free, is_live, Does, refused_by}
 use Rattle.eb_rebuild.specs.Machine.{State, Plan, start}
 use Rattle.eb_rebuild.specs.Named.{Triangle, Row, renamed, renamed_triangle}
@@ -26,9 +28,9 @@ use Rattle.eb_rebuild.proofs.Degrees.{among_any, degree_is}
 use Rattle.eb_rebuild.proofs.Linking.{side_at_first}
 use Rattle.eb_rebuild.proofs.Lists.{first_some}
 use Rattle.eb_rebuild.proofs.Steps.{same_state}
-use Rattle.eb_rebuild.proofs.NamedRules.{names_start, end_names, right_names, left_names, tip_names, split_names}
+use Rattle.eb_rebuild.proofs.NamedRules.{names_start, end_names, beside_names, tip_names, split_names}
 use Rattle.eb_rebuild.proofs.NameDegrees.{count, count_small}
-use Rattle.eb_rebuild.proofs.SymbolDegrees.{AreCounts, IsAround, end_counts, right_counts, left_counts, tip_counts, split_counts}
+use Rattle.eb_rebuild.proofs.SymbolDegrees.{AreCounts, IsAround, end_counts, beside_counts, tip_counts, split_counts}
 
 -- where a free side starts, the degree is the corners and one
 degree_at_free : (v : NamedTable) → IsNamedTable v → (s : Side) → IsFreeIn v.table s → degree v.table.faces (gluing_of v.table) (next s) ≡ suc (count (name_of v.triangles (next s)) v.triangles)
@@ -100,31 +102,18 @@ keeps_end old new made ds W few e h room =
     (keeps_of new (made + 3) (after_end (length ts) ds) (ts ++ (t ∷ [])) _ (gluing_of old) h (one_longer ts t old.faces new.faces l e) (end_names W.names) (omega arith)
     (end_counts W.names ds (omega arith) (counts_of W few)))
 
-pub keeps_right : (old new : Table) (made : ℕ) (ds : List ℕ) (a : ℕ) (na : Side) → KeepsDegrees old made ds → made ≤ 3 * old.faces → new.faces ≡ suc old.faces → gluing_of new ≡ glue (side old.faces third) (side_at a) (gluing_of old) →
-    IsFreeIn old (side_at a) → Follows old.faces (gluing_of old) (side_at a) na → 3 * suc old.faces ≤ length ds → KeepsDegrees new (made + 1) (after_right old.faces a (number na) ds)
-keeps_right old new made ds a na W few e h A F room =
+pub keeps_beside : (b : Beside) (old new : Table) (made : ℕ) (ds : List ℕ) (a : ℕ) (na : Side) → KeepsDegrees old made ds → made ≤ 3 * old.faces → new.faces ≡ suc old.faces → gluing_of new ≡ glue (side old.faces (glued_place b)) (side_at a) (gluing_of old) →
+    IsFreeIn old (side_at a) → Follows old.faces (gluing_of old) (side_at a) na → 3 * suc old.faces ≤ length ds → KeepsDegrees new (made + 1) (after_beside b old.faces a (number na) ds)
+keeps_beside b old new made ds a na W few e h A F room =
     let ts = W.triangles in
     let l = W.long in
     let R = around W (side_at a) na A F in
-    let t : Triangle = (name_of ts (prev (side_at a)), name_of ts (next (side_at a)), made) in
-    subst (λ (b : ℕ). KeepsDegrees new (made + 1) (after_right old.faces b (number na) ds)) (number-side_at a)
-    (subst (λ (n : ℕ). KeepsDegrees new (made + 1) (after_right n (number (side_at a)) (number na) ds)) W.long
-    (keeps_of new (made + 1) (after_right (length ts) (number (side_at a)) (number na) ds) (ts ++ (t ∷ [])) _ (glue (side (length ts) third) (side_at a) (gluing_of old))
-    (h ∙ ap (λ (n : ℕ). glue (side n third) (side_at a) (gluing_of old)) (sym l)) (one_longer ts t old.faces new.faces l e) (right_names W.names (side_at a) R.free) (omega arith)
-    (right_counts (side_at a) na R ds (omega arith) (counts_of W few))))
-
-pub keeps_left : (old new : Table) (made : ℕ) (ds : List ℕ) (a : ℕ) (na : Side) → KeepsDegrees old made ds → made ≤ 3 * old.faces → new.faces ≡ suc old.faces → gluing_of new ≡ glue (side old.faces second) (side_at a) (gluing_of old) →
-    IsFreeIn old (side_at a) → Follows old.faces (gluing_of old) (side_at a) na → 3 * suc old.faces ≤ length ds → KeepsDegrees new (made + 1) (after_left old.faces a (number na) ds)
-keeps_left old new made ds a na W few e h A F room =
-    let ts = W.triangles in
-    let l = W.long in
-    let R = around W (side_at a) na A F in
-    let t : Triangle = (name_of ts (next (side_at a)), made, name_of ts (prev (side_at a))) in
-    subst (λ (b : ℕ). KeepsDegrees new (made + 1) (after_left old.faces b (number na) ds)) (number-side_at a)
-    (subst (λ (n : ℕ). KeepsDegrees new (made + 1) (after_left n (number (side_at a)) (number na) ds)) W.long
-    (keeps_of new (made + 1) (after_left (length ts) (number (side_at a)) (number na) ds) (ts ++ (t ∷ [])) _ (glue (side (length ts) second) (side_at a) (gluing_of old))
-    (h ∙ ap (λ (n : ℕ). glue (side n second) (side_at a) (gluing_of old)) (sym l)) (one_longer ts t old.faces new.faces l e) (left_names W.names (side_at a) R.free) (omega arith)
-    (left_counts (side_at a) na R ds (omega arith) (counts_of W few))))
+    let t : Triangle = new_triangle b (name_of ts (next (side_at a))) (name_of ts (prev (side_at a))) made in
+    subst (λ (m : ℕ). KeepsDegrees new (made + 1) (after_beside b old.faces m (number na) ds)) (number-side_at a)
+    (subst (λ (n : ℕ). KeepsDegrees new (made + 1) (after_beside b n (number (side_at a)) (number na) ds)) W.long
+    (keeps_of new (made + 1) (after_beside b (length ts) (number (side_at a)) (number na) ds) (ts ++ (t ∷ [])) _ (glue (side (length ts) (glued_place b)) (side_at a) (gluing_of old))
+    (h ∙ ap (λ (n : ℕ). glue (side n (glued_place b)) (side_at a) (gluing_of old)) (sym l)) (one_longer ts t old.faces new.faces l e) (beside_names b W.names (side_at a) R.free) (omega arith)
+    (beside_counts b (side_at a) na R ds (omega arith) (counts_of W few))))
 
 pub keeps_tip : (old new : Table) (made : ℕ) (ds : List ℕ) (a b na : Side) → KeepsDegrees old made ds → made ≤ 3 * old.faces → new.faces ≡ suc old.faces →
     gluing_of new ≡ glue (side old.faces third) b (glue (side old.faces second) a (gluing_of old)) → IsFreeIn old a → IsFreeIn old b → b ≢ a → Follows old.faces (gluing_of old) b a → Follows old.faces (gluing_of old) a na → 3 * suc old.faces ≤ length ds →

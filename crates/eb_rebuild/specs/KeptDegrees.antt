@@ -1,8 +1,10 @@
 -- The degrees that a rebuilding by links keeps: a number for each free side, the degree of the vertex at which it starts, and what each
 -- symbol changes. Sides are told by their numbers. These are the code's own tables, from no source; what a degree is stands in Degree.
 use Rattle.std.specs.Prelude.{◌≡◌, ℕ, ◌+◌, ◌*◌, List, length, get_or, set}
-use Rattle.corner_table.specs.Sides.{Side, next, number}
+use Rattle.corner_table.specs.Sides.{Side, side, next, prev, number}
 use Rattle.corner_table.specs.Table.{Table, gluing_of, IsFreeIn}
+use Rattle.eb_rebuild.specs.declared.beside.Beside.{Beside}
+use Rattle.eb_rebuild.specs.Beside.{glued_place}
 use Rattle.eb_rebuild.specs.Degree.{degree}
 use Rattle.eb_rebuild.specs.Named.{Triangle, Row}
 use Rattle.eb_rebuild.specs.Shown.{AreNames}
@@ -15,17 +17,13 @@ raised side more degrees = set degrees side (get_or degrees side 0 + more)
 abbrev pub after_end : ℕ → List ℕ → List ℕ
 after_end f degrees = set (set (set degrees (3 * f) 2) (3 * f + 1) 2) (3 * f + 2) 2
 
--- R: face f is glued to side a, which side na follows round the boundary; side 1 starts at the new vertex
-abbrev pub after_right : ℕ → ℕ → ℕ → List ℕ → List ℕ
-after_right f a na degrees =
+-- L and R: face f is glued to side a, which side na follows round the boundary. The side after the glued one starts where a does, the side
+-- before it at the new vertex
+abbrev pub after_beside : Beside → ℕ → ℕ → ℕ → List ℕ → List ℕ
+after_beside b f a na degrees =
     let more = raised na 1 degrees in
-    set (set more (3 * f) (get_or more a 0 + 1)) (3 * f + 1) 2
-
--- L: the same, but that side 0 starts at the new vertex
-abbrev pub after_left : ℕ → ℕ → ℕ → List ℕ → List ℕ
-after_left f a na degrees =
-    let more = raised na 1 degrees in
-    set (set more (3 * f + 2) (get_or more a 0 + 1)) (3 * f) 2
+    let glued = side f (glued_place b) in
+    set (set more (number (next glued)) (get_or more a 0 + 1)) (number (prev glued)) 2
 
 -- C: face f is glued to a side that side na follows and to side t, which comes before that one
 abbrev pub after_tip : ℕ → ℕ → ℕ → List ℕ → List ℕ

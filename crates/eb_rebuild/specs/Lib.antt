@@ -10,4 +10,5 @@ pub mod Shown
 pub mod OneFaceMore
 pub mod Rowed
 pub mod Counted
+pub mod Beside
 pub mod KeptDegrees

@@ -9,8 +9,9 @@
 
 ghost use Rattle.std.specs.Prelude.{◌≡◌, ℕ, ◌+◌, ◌*◌, ◌^◌, ◌<◌, ◌≤◌, get_or, set, vec_len, IfOk};
 ghost use Rattle.drc_base.specs.declared.limits.TheConstants.{MAX_FACES as most_faces};
-ghost use Rattle.eb_rebuild.specs.KeptDegrees.{raised, after_end, after_right, after_left, after_tip, after_split};
+ghost use Rattle.eb_rebuild.specs.KeptDegrees.{raised, after_end, after_beside, after_tip, after_split};
 
+use crate::beside::Beside;
 use drc_base::Memory;
 use std::alloc::Global;
 
@@ -65,8 +66,10 @@ pub(crate) fn end_degrees(degrees: &mut Vec<u32>, face: u32)
     keep(degrees, 3 * face + 2, OF_ONE);
 }
 
-/// R: face `face` is glued to side a, which side `next` follows. Side 1 starts at the new vertex.
-pub(crate) fn right_degrees(degrees: &mut Vec<u32>, face: u32, a: u32, next: u32)
+/// L and R: face `face` is glued to side a, which side `next` follows. The side after the glued one
+/// starts where a does, the side before it at the new vertex.
+#[inline(always)]
+pub(crate) fn beside_degrees(degrees: &mut Vec<u32>, beside: Beside, face: u32, a: u32, next: u32)
     requires limit { face < most_faces }
     requires room { 3 * face + 3 ≤ vec_len degrees.old }
     requires first { a < 3 * face }
@@ -74,29 +77,12 @@ pub(crate) fn right_degrees(degrees: &mut Vec<u32>, face: u32, a: u32, next: u32
     requires small { get_or degrees.old.items a 0 < 2 ^ 24 }
     requires small_next { get_or degrees.old.items next 0 < 2 ^ 24 }
     ensures len { vec_len degrees.new ≡ vec_len degrees.old }
-    ensures items { degrees.new.items ≡ after_right face a next degrees.old.items }
+    ensures items { degrees.new.items ≡ after_beside beside face a next degrees.old.items }
 {
     raise(degrees, next, 1);
     let start = degree_at(degrees, a) + 1;
-    keep(degrees, 3 * face, start);
-    keep(degrees, 3 * face + 1, OF_ONE);
-}
-
-/// L: the same, but that side 0 starts at the new vertex.
-pub(crate) fn left_degrees(degrees: &mut Vec<u32>, face: u32, a: u32, next: u32)
-    requires limit { face < most_faces }
-    requires room { 3 * face + 3 ≤ vec_len degrees.old }
-    requires first { a < 3 * face }
-    requires second { next < 3 * face }
-    requires small { get_or degrees.old.items a 0 < 2 ^ 24 }
-    requires small_next { get_or degrees.old.items next 0 < 2 ^ 24 }
-    ensures len { vec_len degrees.new ≡ vec_len degrees.old }
-    ensures items { degrees.new.items ≡ after_left face a next degrees.old.items }
-{
-    raise(degrees, next, 1);
-    let start = degree_at(degrees, a) + 1;
-    keep(degrees, 3 * face + 2, start);
-    keep(degrees, 3 * face, OF_ONE);
+    keep(degrees, beside.side_after(face), start);
+    keep(degrees, beside.side_before(face), OF_ONE);
 }
 
 /// C: face `face` is glued to a side that side `next` follows, and to side t, which comes before it.

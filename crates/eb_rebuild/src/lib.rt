@@ -4,6 +4,7 @@
 #![tactic(auto)]
 
 mod active_rows;
+mod beside;
 mod built;
 mod degenerate;
 mod kept_degrees;

@@ -9,10 +9,11 @@ ghost use Rattle.corner_table.specs.Sides.{same};
 ghost use Rattle.corner_table.specs.Table.{side_of};
 ghost use Rattle.eb_rebuild.specs.Linked.{refused_by};
 
+use crate::beside::Beside;
 use crate::built::Built;
 use crate::degenerate::{first_equal, labels_of};
 use crate::kept_degrees::{
-    degree_at, end_degrees, left_degrees, no_degrees, right_degrees, split_degrees, tip_degrees,
+    beside_degrees, degree_at, end_degrees, no_degrees, split_degrees, tip_degrees,
 };
 use crate::rebuild::Rebuild;
 use crate::side_stack::SideStack;
@@ -102,6 +103,7 @@ impl LinkRebuild {
     ghost use Rattle.corner_table.specs.Sides.{side_at};
     ghost use Rattle.corner_table.specs.Table.{gluing_of, room_of};
     ghost use Rattle.eb_rebuild.specs.Machine.{top, step, close, pushed, release};
+    ghost use Rattle.eb_rebuild.specs.Beside.{symbol_of};
     ghost use Rattle.eb_rebuild.specs.Kept.{kept_in};
     ghost use Rattle.eb_rebuild.specs.Linked.{state_of, is_live, Does};
     ghost use Rattle.eb_rebuild.specs.Rebuilding.{Holds};
@@ -152,12 +154,13 @@ impl LinkRebuild {
         self.splits.note(face)
     }
 
-    /// R: side 2 of the new face is glued to the top side.
-    fn take_right<L: Ledger>(&mut self, steps: &mut Steps<L>) -> Result<(), Fault>
+    /// L and R: side 1 or side 2 of the new face is glued to the top side.
+    #[inline(always)]
+    fn take_beside<L: Ledger>(&mut self, beside: Beside, steps: &mut Steps<L>) -> Result<(), Fault>
         requires more { self.old.table.faces < self.old.plan.symbols }
         requires room { self.old.table.faces < room_of self.old.table }
         requires unclosed { self.old.closes ≡ 0 }
-        ensures does { Does (step self.old.plan.symbols kinds.R (state_of self.old)) (state_of self.new) result }
+        ensures does { Does (step self.old.plan.symbols (symbol_of beside) (state_of self.old)) (state_of self.new) result }
         ensures plan { self.new.plan ≡ self.old.plan }
         ensures room { OnOk result (room_of self.new.table ≡ room_of self.old.table) }
         ensures live { OnOk result (IsTrue (is_live self.new)) }
@@ -170,33 +173,9 @@ impl LinkRebuild {
         let top = side_with(a);
         let next = self.table.next_open(top, steps);
         let face = self.table.add_face(steps);
-        self.table.glue(Side { face, k: 2 }, top, steps);
-        right_degrees(&mut self.degrees, face, a, number_of(next));
-        self.stack.push(3 * face);
-        self.made += 1;
-        self.splits.note(face)
-    }
-
-    /// L: side 1 of the new face is glued to the top side.
-    fn take_left<L: Ledger>(&mut self, steps: &mut Steps<L>) -> Result<(), Fault>
-        requires more { self.old.table.faces < self.old.plan.symbols }
-        requires room { self.old.table.faces < room_of self.old.table }
-        requires unclosed { self.old.closes ≡ 0 }
-        ensures does { Does (step self.old.plan.symbols kinds.L (state_of self.old)) (state_of self.new) result }
-        ensures plan { self.new.plan ≡ self.old.plan }
-        ensures room { OnOk result (room_of self.new.table ≡ room_of self.old.table) }
-        ensures live { OnOk result (IsTrue (is_live self.new)) }
-        ensures cost { steps.new ≤ steps.old + 4 }
-    {
-        let a = match self.take_side(steps) {
-            Ok(a) => a,
-            Err(fault) => return Err(fault),
-        };
-        let top = side_with(a);
-        let next = self.table.next_open(top, steps);
-        let face = self.table.add_face(steps);
-        self.table.glue(Side { face, k: 1 }, top, steps);
-        left_degrees(&mut self.degrees, face, a, number_of(next));
+        let k = beside.glued();
+        self.table.glue(Side { face, k }, top, steps);
+        beside_degrees(&mut self.degrees, beside, face, a, number_of(next));
         self.stack.push(3 * face);
         self.made += 1;
         self.splits.note(face)
@@ -398,8 +377,8 @@ impl Rebuild for LinkRebuild {
         let taken = match symbol {
             Symbol::C => self.take_tip(steps),
             Symbol::S => self.take_split(steps),
-            Symbol::L => self.take_left(steps),
-            Symbol::R => self.take_right(steps),
+            Symbol::L => self.take_beside(Beside::Left, steps),
+            Symbol::R => self.take_beside(Beside::Right, steps),
             Symbol::E => self.take_end(steps),
         };
         match taken {

@@ -9,12 +9,16 @@ ghost use Rattle.std.specs.Prelude.{◌≡◌, ◌+◌, ◌*◌, ◌<◌};
 ghost use Rattle.drc_base.specs.declared.limits.TheConstants.{MAX_FACES as most_faces};
 ghost use Rattle.corner_table.specs.Sides.{side_at, number};
 ghost use Rattle.corner_table.specs.Table.{side_of};
+ghost use Rattle.eb_rebuild.specs.Beside.{glued_place, free_place, new_triangle};
+ghost use Rattle.eb_rebuild.specs.Named.{new_row};
+ghost use Rattle.eb_rebuild.specs.Rowed.{listed};
 
 use crate::active_rows::{
     Row, all_rows, corners_named, first_row, first_with_equal, one_if, renamed_rows,
     renamed_triangles, row_of, row_to, second_row, start_name, starts_row, third_row,
     triangle_renamed, with_row, with_triangle, without,
 };
+use crate::beside::Beside;
 use corner_table::{SideTable, Steps, side_with};
 use drc_base::{Memory, Side};
 use std::alloc::Global;
@@ -39,6 +43,27 @@ impl Model for NamedTable {
     ghost view = { λ n. record { table = n.table; triangles = n.triangles.items; rows = all_listed n.rows.items; made = n.made } };
 
     ghost invariant = { λ n. IsNamedTable (record { table = n.table; triangles = n.triangles.items; rows = all_listed n.rows.items; made = n.made }) };
+}
+
+/// The names of the corners of a new face, which is glued to a row and has a new vertex.
+fn new_triangle(beside: Beside, a: Row, vertex: u32) -> (u32, u32, u32)
+    ensures { result ≡ new_triangle beside a.from a.to vertex }
+{
+    match beside {
+        Beside::Left => (a.from, vertex, a.to),
+        Beside::Right => (a.to, a.from, vertex),
+    }
+}
+
+/// The row of the side that is free besides side 0, of a face with one side glued.
+fn free_row(beside: Beside, face: u32, t: (u32, u32, u32)) -> Row
+    requires { face < most_faces }
+    ensures { listed result ≡ new_row face t (free_place beside) }
+{
+    match beside {
+        Beside::Left => third_row(face, t),
+        Beside::Right => second_row(face, t),
+    }
 }
 
 impl NamedTable {
@@ -178,9 +203,10 @@ impl NamedTable {
         Ok(())
     }
 
-    /// A face whose side 2 is glued to a row, with a new vertex.
-    pub(crate) fn add_right<L: Ledger>(
+    /// A face whose side 1 or side 2 is glued to a row, with a new vertex.
+    pub(crate) fn add_beside<L: Ledger>(
         &mut self,
+        beside: Beside,
         a: Row,
         steps: &mut Steps<L>,
     ) -> Result<(), Memory>
@@ -188,44 +214,19 @@ impl NamedTable {
         requires row { IsRowIn self.old a }
         ensures faces { OnOk result (self.new.table.faces ≡ suc self.old.table.faces) }
         ensures room { OnOk result (room_of self.new.table ≡ room_of self.old.table) }
-        ensures glued { OnOk result (gluing_of self.new.table ≡ glue (side self.old.table.faces third) (side_at a.side) (gluing_of self.old.table)) }
+        ensures glued { OnOk result (gluing_of self.new.table ≡ glue (side self.old.table.faces (glued_place beside)) (side_at a.side) (gluing_of self.old.table)) }
         ensures made { OnOk result (self.new.made ≡ self.old.made + 1) }
         ensures err { OnErr result (self.new ≡ self.old) }
     {
         let face = self.table.face_count();
-        let t = (a.to, a.from, self.made);
+        let t = new_triangle(beside, a, self.made);
         let triangles = with_triangle(self.alloc, self.triangles.as_slice(), t)?;
         let kept = without(self.alloc, self.rows.as_slice(), a.side)?;
         let one = with_row(kept, first_row(face, t))?;
-        let rows = with_row(one, second_row(face, t))?;
+        let rows = with_row(one, free_row(beside, face, t))?;
         let face = self.table.add_face(steps);
-        self.table
-            .glue(Side { face, k: 2 }, side_with(a.side), steps);
-        self.triangles = triangles;
-        self.rows = rows;
-        self.made += 1;
-        Ok(())
-    }
-
-    /// A face whose side 1 is glued to a row, with a new vertex.
-    pub(crate) fn add_left<L: Ledger>(&mut self, a: Row, steps: &mut Steps<L>) -> Result<(), Memory>
-        requires room { self.old.table.faces < room_of self.old.table }
-        requires row { IsRowIn self.old a }
-        ensures faces { OnOk result (self.new.table.faces ≡ suc self.old.table.faces) }
-        ensures room { OnOk result (room_of self.new.table ≡ room_of self.old.table) }
-        ensures glued { OnOk result (gluing_of self.new.table ≡ glue (side self.old.table.faces second) (side_at a.side) (gluing_of self.old.table)) }
-        ensures made { OnOk result (self.new.made ≡ self.old.made + 1) }
-        ensures err { OnErr result (self.new ≡ self.old) }
-    {
-        let face = self.table.face_count();
-        let t = (a.from, self.made, a.to);
-        let triangles = with_triangle(self.alloc, self.triangles.as_slice(), t)?;
-        let kept = without(self.alloc, self.rows.as_slice(), a.side)?;
-        let one = with_row(kept, first_row(face, t))?;
-        let rows = with_row(one, third_row(face, t))?;
-        let face = self.table.add_face(steps);
-        self.table
-            .glue(Side { face, k: 1 }, side_with(a.side), steps);
+        let k = beside.glued();
+        self.table.glue(Side { face, k }, side_with(a.side), steps);
         self.triangles = triangles;
         self.rows = rows;
         self.made += 1;

@@ -8,6 +8,7 @@ ghost use Rattle.std.specs.Prelude.{◌≡◌, not, ◌&&◌, Bool};
 ghost use Rattle.corner_table.specs.Sides.{side_at, same};
 
 use crate::active_rows::Row;
+use crate::beside::Beside;
 use crate::built::Built;
 use crate::degenerate::labels_of;
 use crate::link_rebuild::refused;
@@ -75,6 +76,7 @@ impl RowRebuild {
     ghost use Rattle.corner_table.specs.declared.symbols.Symbol.TheVariants as kinds;
     ghost use Rattle.corner_table.specs.Table.{gluing_of, room_of};
     ghost use Rattle.eb_rebuild.specs.Machine.{top, step, close, pushed, release};
+    ghost use Rattle.eb_rebuild.specs.Beside.{symbol_of};
     ghost use Rattle.eb_rebuild.specs.Kept.{kept_in};
     ghost use Rattle.eb_rebuild.specs.Linked.{state_of};
     ghost use Rattle.eb_rebuild.specs.Rowed.{plain_of, Tries, IsRowIn};
@@ -129,11 +131,15 @@ impl RowRebuild {
         refused(self.splits.note(face))
     }
 
-    /// R: a new vertex at the right of the top side.
-    fn take_right<L: Ledger>(&mut self, steps: &mut Steps<L>) -> Result<(), Refusal>
+    /// L and R: a new vertex at the left or at the right of the top side.
+    fn take_beside<L: Ledger>(
+        &mut self,
+        beside: Beside,
+        steps: &mut Steps<L>,
+    ) -> Result<(), Refusal>
         requires more { self.old.named.table.faces < self.old.plan.symbols }
         requires room { self.old.named.table.faces < room_of self.old.named.table }
-        ensures does { Tries (step self.old.plan.symbols kinds.R (state_of (plain_of self.old))) (state_of (plain_of self.new)) result }
+        ensures does { Tries (step self.old.plan.symbols (symbol_of beside) (state_of (plain_of self.old))) (state_of (plain_of self.new)) result }
         ensures plan { self.new.plan ≡ self.old.plan }
         ensures room { OnOk result (room_of self.new.named.table ≡ room_of self.old.named.table) }
     {
@@ -142,25 +148,7 @@ impl RowRebuild {
             Err(fault) => return Err(Refusal::Fault(fault)),
         };
         let face = self.named.face_count();
-        self.named.add_right(a, steps)?;
-        self.stack.push(3 * face);
-        refused(self.splits.note(face))
-    }
-
-    /// L: a new vertex at the left of the top side.
-    fn take_left<L: Ledger>(&mut self, steps: &mut Steps<L>) -> Result<(), Refusal>
-        requires more { self.old.named.table.faces < self.old.plan.symbols }
-        requires room { self.old.named.table.faces < room_of self.old.named.table }
-        ensures does { Tries (step self.old.plan.symbols kinds.L (state_of (plain_of self.old))) (state_of (plain_of self.new)) result }
-        ensures plan { self.new.plan ≡ self.old.plan }
-        ensures room { OnOk result (room_of self.new.named.table ≡ room_of self.old.named.table) }
-    {
-        let a = match self.take_row() {
-            Ok(a) => a,
-            Err(fault) => return Err(Refusal::Fault(fault)),
-        };
-        let face = self.named.face_count();
-        self.named.add_left(a, steps)?;
+        self.named.add_beside(beside, a, steps)?;
         self.stack.push(3 * face);
         refused(self.splits.note(face))
     }
@@ -305,8 +293,8 @@ impl Rebuild for RowRebuild {
         match symbol {
             Symbol::C => self.take_tip(steps),
             Symbol::S => self.take_split(steps),
-            Symbol::L => self.take_left(steps),
-            Symbol::R => self.take_right(steps),
+            Symbol::L => self.take_beside(Beside::Left, steps),
+            Symbol::R => self.take_beside(Beside::Right, steps),
             Symbol::E => self.take_end(steps),
         }
     }

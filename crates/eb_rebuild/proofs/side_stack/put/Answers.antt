@@ -1,6 +1,5 @@
 -- The side stands above the others, in a place that was there or in a new one.
-use Rattle.std.proofs.Common.{arith, ap, ◌∙◌, List, ℕ}
-use Rattle.eb_rebuild.specs.Kept.{counted_down}
+use Rattle.std.proofs.Common.{arith}
 use Rattle.eb_rebuild.proofs.Lists.{counted_down_push, counted_down_more}
 use Rattle.eb_rebuild.proofs.side_stack.put.Goals as goal
 

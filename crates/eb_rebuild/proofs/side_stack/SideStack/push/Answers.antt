@@ -1,5 +1,5 @@
 -- There is room, and the side is on top.
-use Rattle.std.proofs.Common.{◌<◌, ◌≤◌, ◌∷◌, length, max, sym, ap, subst, ◌∙◌, arith, add-one}
+use Rattle.std.proofs.Common.{◌<◌, ◌∷◌, length, sym, ap, subst, ◌∙◌, arith, add-one}
 use Rattle.eb_rebuild.specs.Kept.{StackValue}
 use Rattle.eb_rebuild.proofs.Lists.{length-counted_down}
 use Rattle.eb_rebuild.proofs.side_stack.SideStack.push.Goals as goal
