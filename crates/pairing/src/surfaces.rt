@@ -21,7 +21,7 @@ use crate::choosing::{Places, Sides, choose};
 use crate::classes::{classes_of, reversed};
 use crate::degenerate::test_faces;
 use crate::positions::corner_numbers;
-use corner_table::{SideTable, Steps};
+use corner_table::SideTable;
 use drc_base::{Memory, Refusal};
 use mesh_model::CornerMesh;
 use std::alloc::Global;
