@@ -1,15 +1,15 @@
 -- The pairs of a surface, glued side after side.
-use Rattle.std.proofs.Common.{◌≡◌, ◌≢◌, ℕ, suc, ◌+◌, ◌*◌, ◌/◌, ◌<◌, ◌≤◌, ◌||◌, ◌⊎◌, Bool, true, false, cond, nat_lt, Option, Some, None, inl, inr, refl, ap, sym, ◌∙◌, subst, List, get_or, arith, lt-ltb, le-ltb}
+use Rattle.std.proofs.Common.{◌≡◌, ◌≢◌, ℕ, ◌+◌, ◌*◌, ◌/◌, ◌<◌, ◌≤◌, ◌||◌, ◌⊎◌, Bool, true, false, cond, nat_lt, Option, Some, None, inl, inr, refl, ap, sym, ◌∙◌, subst, arith, lt-ltb, le-ltb}
 use mathlib.Core.Path.{fun_ext}
 use Rattle.std.proofs.lemmas.Bool.{cases_lt, cond-true, cond-false, or_from}
 use Rattle.corner_table.specs.Sides.{Side, number, side_at, Gluing, IsGluing, unglued, glue, IsFree}
 use Rattle.corner_table.proofs.Numbers.{side_at-number, number-side_at, number-lt}
 use Rattle.corner_table.proofs.Places.{option_tells, Some_injective, same_tells, glue_first, glue_second, glue_other}
-use Rattle.seams.specs.Seams.{AreFlags, flag_at, unseamed}
+use Rattle.seams.specs.Seams.{unseamed}
 use Rattle.corner_table.specs.Pairs.{has_bit}
-use Rattle.seams.specs.Pairs.{pairs_to, TellsLater, TellsKept}
+use Rattle.seams.specs.Pairs.{pairs_to}
 use Rattle.seams.proofs.Bits.{bit_of_glued}
-use Rattle.seams.proofs.Chains.{cut, uncut, cut_tells, cut_is_gluing}
+use Rattle.seams.proofs.Chains.{cut_tells}
 
 pairs_none : (n : ℕ) (h : Gluing) (x : Side) → h x ≡ None → pairs_to n h x ≡ None
 pairs_none n h x e = ap (λ (o : Option Side). elim o [ None ↦ None | Some y ↦ cond (nat_lt (number x) n || nat_lt (number y) n) (Some y) None ]) e
@@ -110,7 +110,7 @@ pair_free faces n o h H e after =
       record { within = H.within (side_at o) (side_at n) back; free = pairs_out n h (side_at o) (side_at n) back (omega arith) (omega arith) },
     )
 
--- a side that has no bit, or is a seam, adds no pair
+-- a side that has no bit adds no pair
 pub bare_over : (faces n : ℕ) (flags : Side → Bool) (g : Gluing) → IsGluing faces g → IsGluing faces (unseamed flags g) → has_bit g (side_at n) ≡ false → pairs_to (n + 1) (unseamed flags g) ≡ pairs_to n (unseamed flags g)
 bare_over faces n flags g G H bare = pairs_over faces n (unseamed flags g) H (λ y e. (
     let f = (cut_tells flags g (side_at n) y e).1 in
@@ -125,31 +125,9 @@ bare_over faces n flags g G H bare = pairs_over faces n (unseamed flags g) H (λ
       | inr l ↦ (let w = number-lt y (n / 3) (omega arith) in omega arith)
     ]
 
-pub seam_over : (faces n : ℕ) (flags : Side → Bool) (g : Gluing) → IsGluing faces (unseamed flags g) → flags (side_at n) ≡ true → pairs_to (n + 1) (unseamed flags g) ≡ pairs_to n (unseamed flags g)
-seam_over faces n flags g H t = pairs_over faces n (unseamed flags g) H (λ y e. (let z : None ≡ Some y = sym (cut flags g (side_at n) t) ∙ e in absurd (cc)))
-
--- the same by a flag in a list
-flag_number : (flags : List Bool) (n : ℕ) (b : Bool) → get_or flags n true ≡ b → flag_at flags (side_at n) ≡ b
-flag_number flags n b e = ap (λ k. get_or flags k true) (number-side_at n) ∙ e
-
-pub kept_none : (faces n : ℕ) (flags : List Bool) (g : Gluing) → IsGluing faces g → AreFlags faces g flags → has_bit g (side_at n) ≡ false → pairs_to (suc n) (unseamed (flag_at flags) g) ≡ pairs_to n (unseamed (flag_at flags) g)
-kept_none faces n flags g G A h =
-    (let e : suc n ≡ n + 1 = omega arith in ap (λ k. pairs_to k (unseamed (flag_at flags) g)) e) ∙ bare_over faces n (flag_at flags) g G (cut_is_gluing faces g (flag_at flags) G A.alike) h
-
-pub kept_seam : (faces n : ℕ) (flags : List Bool) (g : Gluing) → IsGluing faces g → AreFlags faces g flags → get_or flags n true ≡ true → pairs_to (suc n) (unseamed (flag_at flags) g) ≡ pairs_to n (unseamed (flag_at flags) g)
-kept_seam faces n flags g G A h =
-    (let e : suc n ≡ n + 1 = omega arith in ap (λ k. pairs_to k (unseamed (flag_at flags) g)) e) ∙ seam_over faces n (flag_at flags) g (cut_is_gluing faces g (flag_at flags) G A.alike) (flag_number flags n true h)
-
-pub kept_some : (n o : ℕ) (flags : List Bool) (g : Gluing) → g (side_at n) ≡ Some (side_at o) → get_or flags n true ≡ false → unseamed (flag_at flags) g (side_at n) ≡ Some (side_at o)
-kept_some n o flags g e h = uncut (flag_at flags) g (side_at n) (flag_number flags n false h) ∙ e
-
 -- free sides and a gluing, under other names
 pub free_as : (faces faces' : ℕ) (g g' : Gluing) (x x' : Side) → faces' ≡ faces → g' ≡ g → x' ≡ x → IsFree faces g x → IsFree faces' g' x'
 free_as faces faces' g g' x x' e f h F = subst (λ n. IsFree n g' x') (sym e) (subst (λ (k : Gluing). IsFree faces k x') (sym f) (subst (λ (y : Side). IsFree faces g y) (sym h) F))
 
 pub glued_as : (g g' p : Gluing) (a a' b b' : Side) → g' ≡ glue a' b' g → a' ≡ a → b' ≡ b → g ≡ p → g' ≡ glue a b p
 glued_as g g' p a a' b b' e h k f = e ∙ ap (λ x. glue x b' g) h ∙ ap (λ x. glue a x g) k ∙ ap (glue a b) f
-
-pub kept_unless : (faces n : ℕ) (flags : List Bool) (g : Gluing) (o : Option ℕ) → IsGluing faces g → AreFlags faces g flags → get_or flags n true ≡ false → TellsLater faces g n o → TellsKept (unseamed (flag_at flags) g) n o
-kept_unless faces n flags g None G A h t = kept_none faces n flags g G A t
-kept_unless faces n flags g (Some o) G A h t = (kept_some n o flags g t.1 h, t.2)

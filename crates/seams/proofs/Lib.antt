@@ -5,5 +5,6 @@ pub mod Chains
 pub mod Values
 pub mod Blocks
 pub mod Gluing
+pub mod Kept
 pub mod Filling
 mod Examples
