@@ -23,10 +23,6 @@ pub record AreToldTo (faces : ℕ) (g : Gluing) (told : Side → Bool) (n : ℕ)
   pub one : (x y : Side) → g x ≡ Some y → has_bit g x ≡ true → number x < n → flag_at flags x ≡ told x
   pub other : (x y : Side) → g x ≡ Some y → has_bit g x ≡ true → number x < n → flag_at flags y ≡ told x
 
--- the pairs of which one side has a number below n
-abbrev pub pairs_to : ℕ → Gluing → Gluing
-pairs_to n g x = elim (g x) [ None ↦ None | Some y ↦ cond (nat_lt (number x) n || nat_lt (number y) n) (Some y) None ]
-
 -- the entries of the sides below a number tell their pairs
 pub record TellPairs (g : Gluing) (n : ℕ) (entries : List ℕ) : Type 0 where
   pub each : length entries ≡ n
