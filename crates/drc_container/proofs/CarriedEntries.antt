@@ -12,10 +12,12 @@ use Rattle.corner_table.specs.Table.{free_entry, other_at, glued_in, side_of}
 use Rattle.corner_table.specs.Carried.{turned, carry, IsRenumbering}
 use Rattle.corner_table.proofs.Places.{option_tells}
 use Rattle.corner_table.proofs.Numbers.{number-lt, face-lt, side_at-number}
-use Rattle.corner_table.proofs.Carrying.{carry_onto}
+use Rattle.corner_table.proofs.Carrying.{carry_onto, carried_gluing}
 use Rattle.pairing.specs.CarriedPairs.{carried}
-use Rattle.pairing.proofs.CarriedPairs.{inverted_leads_back}
-use Rattle.drc_container.specs.Renumbered.{AreRowsBelow, LeadBack, TellPairs}
+use Rattle.pairing.proofs.CarriedPairs.{inverted_leads_back, carried_is_the_one}
+use Rattle.seams.specs.Pairs.{TellPairs}
+use Rattle.seams.proofs.Kept.{tell_all}
+use Rattle.drc_container.specs.Renumbered.{AreRowsBelow, LeadBack}
 
 -- ---- the way back
 
@@ -95,10 +97,6 @@ back-more rows back i R h B = record {
 
 -- ---- the entries
 
--- the entry of no side tells no pair
-pub no_side : other_at free_entry ≡ None
-no_side = cond-true (eqb free_entry free_entry) None (Some (side_at free_entry)) (eq-eqb free_entry free_entry refl)
-
 -- an entry tells what a carried side is glued to
 pub entry-carried : (g : Gluing) (rows back : Rows) (faces n e : ℕ) (other : Option NumberedSide) → IsGluing faces g → IsRenumbering faces rows → LeadBack rows (length rows) back
     → n < 3 * faces → option_map side_of other ≡ g (carry rows (side_at n)) → other_at e ≡ option_map (λ (s : NumberedSide). carry back (side_of s)) other
@@ -129,25 +127,7 @@ pub glued-below : (g : Gluing) (faces many : ℕ) (x : Side) (o : Option Numbere
 glued-below g faces many x None G same is = tt
 glued-below g faces many x (Some s) G same is = let w : s.face < faces = G.within (side_of s) x (G.paired x (side_of s) (sym is)) in omega arith
 
--- one entry more
-pub pairs-more : (g : Gluing) (n e : ℕ) (entries : List ℕ) → TellPairs g n entries → other_at e ≡ g (side_at n) → TellPairs g (n + 1) (entries ++ e ∷ [])
-pairs-more g n e entries T is = record {
-  each = length-append entries (e ∷ []) ∙ (let l = T.each in omega arith);
-  pairs = λ k h. elim (cases_eq k n) [
-    | inl q ↦ ap other_at (get_or_push entries e free_entry k (let l = T.each in omega arith)) ∙ is ∙ ap (λ (m : ℕ). g (side_at m)) (sym q)
-    | inr ne ↦ (
-        let less : k < n = omega arith in
-        ap other_at (get_or_append_left entries (e ∷ []) free_entry k (let l = T.each in omega arith)) ∙ T.pairs k less)
-  ];
-}
-
--- so all of them tell the carried surface
-pub pairs-told : (g : Gluing) (rows : Rows) (faces : ℕ) (entries : List ℕ) → IsRenumbering faces rows → TellPairs (carried g rows) (3 * faces) entries
+-- all entries tell the carried surface
+pub pairs-told : (faces : ℕ) (g : Gluing) (rows : Rows) (entries : List ℕ) → IsGluing faces g → IsRenumbering faces rows → TellPairs (carried g rows) (3 * faces) entries
     → glued_in entries ≡ carried g rows
-pairs-told g rows faces entries R T = fun_ext (λ x. elim (cases_lt x.face faces) [
-  | inl h ↦ T.pairs (number x) (number-lt x faces h) ∙ ap (carried g rows) (side_at-number x)
-  | inr h ↦
-      ap other_at (get_or_past entries (number x) free_entry (let l = T.each in omega arith))
-      ∙ no_side
-      ∙ sym (cond-false (nat_lt x.face (length rows)) _ _ (le-ltb x.face (length rows) (let l = R.one_each in omega arith)))
-])
+pairs-told faces g rows entries G R T = tell_all faces (carried g rows) entries (carried_gluing G (carried_is_the_one faces g rows G R).0) T

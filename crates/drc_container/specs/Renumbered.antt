@@ -1,9 +1,8 @@
 -- A mesh and its surface under new numbers of the faces, as they are made step by step. These are the code's own words; what is answered
 -- is told by `renumbered` and `carried`.
-use Rattle.std.specs.Prelude.{◌≡◌, ℕ, ◌<◌, List, length, get_or, All}
+use Rattle.std.specs.Prelude.{◌≡◌, ℕ, ◌<◌, length, All}
 use Rattle.mesh_model.specs.Same.{Rows}
-use Rattle.corner_table.specs.Sides.{Side, side_at, Gluing}
-use Rattle.corner_table.specs.Table.{free_entry, other_at}
+use Rattle.corner_table.specs.Sides.{Side}
 use Rattle.corner_table.specs.Carried.{carry}
 
 -- rows below a number of faces, with turns below 3
@@ -15,8 +14,3 @@ pub record LeadBack (rows : Rows) (many : ℕ) (back : Rows) : Type 0 where
   pub each : length back ≡ length rows
   pub within : AreRowsBelow (length rows) back
   pub leads : (x : Side) → x.face < many → carry back (carry rows x) ≡ x
-
--- the entries of the first sides tell their pairs
-pub record TellPairs (g : Gluing) (many : ℕ) (entries : List ℕ) : Type 0 where
-  pub each : length entries ≡ many
-  pub pairs : (n : ℕ) → n < many → other_at (get_or entries n free_entry) ≡ g (side_at n)

@@ -6,12 +6,11 @@
 ghost use Rattle.std.specs.Prelude.{◌≡◌, ◌*◌, ◌<◌, ◌≤◌, length, IfOk, IfSome};
 ghost use Rattle.std.specs.Option.{option_map};
 ghost use Rattle.drc_base.specs.declared.limits.TheConstants.{MAX_FACES as most_faces};
-ghost use Rattle.corner_table.specs.Sides.{IsGluing, unglued};
+ghost use Rattle.corner_table.specs.Sides.{IsGluing};
 ghost use Rattle.corner_table.specs.Table.{other_at, gluing_of, glued_in, side_of};
 ghost use Rattle.corner_table.specs.Carried.{carry, IsRenumbering};
 ghost use Rattle.pairing.specs.CarriedPairs.{carried as carried_gluing};
-ghost use Rattle.seams.specs.Pairs.{TellsLater};
-ghost use Rattle.drc_container.specs.Renumbered.{AreRowsBelow, LeadBack, TellPairs};
+ghost use Rattle.drc_container.specs.Renumbered.{AreRowsBelow, LeadBack};
 
 use crate::turned_meshes::carried;
 use corner_table::{SideTable, Steps, number_of, side_with};
@@ -60,7 +59,8 @@ fn entries_by<L: Ledger>(
     requires name { blank.name ≡ L.name }
     requires parts { blank.parts ≡ L.parts }
     requires some { 0 < L.parts }
-    ensures { IfOk result (λ v. TellPairs (carried_gluing (gluing_of sides.now) rows.now) (3 * sides.now.faces) v.items) }
+    ensures pairs { IfOk result (λ v. glued_in v.items ≡ carried_gluing (gluing_of sides.now) rows.now) }
+    ensures each { IfOk result (λ v. length v.items ≡ 3 * sides.now.faces) }
 {
     let count = 3 * sides.face_count();
     let back = inverted(alloc, rows)?;
@@ -88,66 +88,27 @@ pub fn carried_pairs(
     Ok(entries)
 }
 
-/// A table of this many faces, no side of which is glued.
-fn faces_apart<L: Ledger>(
+/// The table of these faces with the pairs of a list, under a count of calls that nothing else takes part in.
+fn table_of<L: Ledger>(
     alloc: Global,
-    faces: u32,
-    steps: &mut Steps<L>,
-) -> Result<SideTable, Memory>
-    requires { faces ≤ most_faces }
-    ensures faces { IfOk result (λ t. t.faces ≡ faces) }
-    ensures unglued { IfOk result (λ t. gluing_of t ≡ unglued) }
-{
-    let mut table = SideTable::with_room(alloc, faces)?;
-    for _ in 0..faces {
-        let _ = table.add_face(steps);
-    }
-    Ok(table)
-}
-
-/// The number of the side that a side is glued to, where that is a later one.
-fn later_side(pairs: &[u32], faces: u32, side: u32) -> Option<u32>
-    requires gluing { IsGluing faces (glued_in pairs.now) }
-    requires each { length pairs.now ≡ 3 * faces }
-    requires few { faces ≤ most_faces }
-    requires side { side < 3 * faces }
-    ensures { TellsLater faces (glued_in pairs.now) side result }
-{
-    let other = pairs[side as usize];
-    if side < other && other < NONE {
-        return Some(other);
-    }
-    None
-}
-
-/// The table of these faces with the pairs of a list, glued one after another.
-fn glued_faces<L: Ledger>(
-    alloc: Global,
-    pairs: &[u32],
+    pairs: Vec<u32>,
     faces: u32,
     blank: Blank,
 ) -> Result<SideTable, Memory>
     requires few { faces ≤ most_faces }
-    requires gluing { IsGluing faces (glued_in pairs.now) }
-    requires each { length pairs.now ≡ 3 * faces }
+    requires gluing { IsGluing faces (glued_in pairs.items) }
+    requires each { length pairs.items ≡ 3 * faces }
     requires name { blank.name ≡ L.name }
     requires parts { blank.parts ≡ L.parts }
     requires some { 0 < L.parts }
     ensures faces { IfOk result (λ t. t.faces ≡ faces) }
-    ensures pairs { IfOk result (λ t. gluing_of t ≡ glued_in pairs.now) }
+    ensures entries { IfOk result (λ t. t.entries ≡ pairs.items) }
 {
     let mut steps = Steps::<L>::new(blank);
-    let mut table = faces_apart(alloc, faces, &mut steps)?;
-    for side in 0..3 * faces {
-        match later_side(pairs, faces, side) {
-            None => {}
-            Some(other) => table.glue(side_with(side), side_with(other), &mut steps),
-        }
-    }
-    Ok(table)
+    SideTable::with_pairs(alloc, faces, pairs, &mut steps)
 }
 
-/// The table of these faces with the pairs of a list. The list is freed.
+/// The table of these faces with the pairs of a list, which becomes the table's.
 pub fn paired_table(alloc: Global, pairs: Vec<u32>, faces: u32) -> Result<SideTable, Memory>
     requires few { faces ≤ most_faces }
     requires gluing { IsGluing faces (glued_in pairs.items) }
@@ -155,6 +116,6 @@ pub fn paired_table(alloc: Global, pairs: Vec<u32>, faces: u32) -> Result<SideTa
     ensures faces { IfOk result (λ t. t.faces ≡ faces) }
     ensures pairs { IfOk result (λ t. gluing_of t ≡ glued_in pairs.items) }
 {
-    let table = glued_faces::<Brand>(alloc, pairs.as_slice(), faces, Blank::new(1))?;
+    let table = table_of::<Brand>(alloc, pairs, faces, Blank::new(1))?;
     Ok(table)
 }

@@ -3,14 +3,16 @@
 //! The connectivity is written while little else is kept: where there are no seams to look for, before the table of
 //! the surface as it is decoded is made. Behind it the order of decoding is all that stays of the trace.
 
-ghost use Rattle.std.specs.Prelude.{◌≡◌, ◌<◌, ◌≤◌, ◌^◌, length, map, All, IfOk};
+ghost use Rattle.std.specs.Prelude.{◌≡◌, ◌<◌, ◌≤◌, ◌^◌, [], ◌∷◌, None, length, map, All, IfOk};
 ghost use Rattle.std.specs.Option.{option_map};
-ghost use Rattle.drc_base.specs.declared.limits.TheConstants.{MAX_ATTRIBUTES};
+ghost use Rattle.drc_base.specs.declared.limits.TheConstants.{MAX_ATTRIBUTES, MAX_FACES};
+ghost use Rattle.corner_table.specs.Sides.{IsGluing};
+ghost use Rattle.corner_table.specs.Table.{gluing_of};
 ghost use Rattle.corner_table.specs.Carried.{IsRenumbering};
 ghost use Rattle.mesh_model.specs.Renumbering.{renumbered};
-ghost use Rattle.drc_container.specs.WrittenOnSurface.{seam_lists};
+ghost use Rattle.drc_container.specs.WrittenOnSurface.{decoded, seam_lists};
 ghost use Rattle.drc_container.specs.Standings.{glued_by, flag_lists};
-ghost use Rattle.drc_container.specs.Fronts.{IsTraced, IsConnected};
+ghost use Rattle.drc_container.specs.Fronts.{IsTraced, pairs_of, HasFaces, IsConnected};
 
 use crate::carried_pairs::paired_table;
 use crate::seam_lists::{SeamLists, seams_on};
@@ -34,6 +36,22 @@ pub struct Connected {
     pub sides: SideTable,
     /// For each attribute of each side whether it is a seam, where any pair is one.
     pub flags: Vec<Option<Vec<bool>>>,
+}
+
+/// The surface as it is decoded, while the connectivity is written.
+#[derive(Debug, Drop)]
+enum Waiting {
+    /// The list of its pairs, of which no table is made yet.
+    Pairs(Vec<u32>),
+    /// Its table, on which seams were looked for.
+    Table(SideTable),
+}
+
+/// The seams of a mesh, and its surface while the connectivity is written.
+#[derive(Debug, Drop)]
+struct Seamed {
+    seams: SeamLists,
+    surface: Waiting,
 }
 
 /// The order of decoding; the rest of the trace is freed.
@@ -62,54 +80,60 @@ fn seams_in(
     Ok(seams)
 }
 
-/// The front of a mesh with one attribute, which has no seams.
-fn whole_connected(
-    alloc: Global,
-    mesh: &CornerMesh,
-    traced: TracedMesh,
-    valence: bool,
-) -> Result<Connected, Memory>
-    requires one { length mesh.now.heads ≡ 1 }
-    requires traced { IsTraced mesh.now traced }
-    ensures { IfOk result (IsConnected valence mesh.now) }
+/// The seams of a mesh with one attribute, which has none.
+fn no_seams(alloc: Global) -> Result<SeamLists, Memory>
+    ensures bits { IfOk result (λ s. s.bits.items ≡ []) }
+    ensures flags { IfOk result (λ s. s.flags.items ≡ None ∷ []) }
 {
-    let TracedMesh { trace, pairs } = traced;
-    let faces = mesh.face_count();
     let mut flags = Vec::new(alloc);
     flags.push(None)?;
-    let front = surface_front(alloc, &trace, faces, valence, &[])?;
-    let rows = rows_of(trace);
-    let sides = paired_table(alloc, pairs, faces)?;
-    Ok(Connected {
-        front,
-        rows,
-        sides,
+    Ok(SeamLists {
+        bits: Vec::new(alloc),
         flags,
     })
 }
 
-/// The front of a mesh with any number of attributes.
-fn parts_connected(
+/// The seams of a traced mesh, and its surface as it is decoded: a table is made of its pairs where seams are
+/// looked for, that is where there is more than one attribute.
+fn seamed(
     alloc: Global,
     mesh: &CornerMesh,
-    traced: TracedMesh,
-    valence: bool,
-) -> Result<Connected, Memory>
-    requires { IsTraced mesh.now traced }
-    ensures { IfOk result (IsConnected valence mesh.now) }
+    trace: &Traced,
+    pairs: Vec<u32>,
+) -> Result<Seamed, Memory>
+    requires { IsTraced mesh.now (record { trace = trace.now; pairs = pairs }) }
+    ensures bits { IfOk result (λ s. map (λ v. v.items) s.seams.bits.items ≡ seam_lists (decoded mesh.now)) }
+    ensures flags { IfOk result (λ s. map (option_map (λ v. v.items)) s.seams.flags.items ≡ flag_lists (decoded mesh.now)) }
+    ensures few { IfOk result (λ s. length s.seams.bits.items ≤ MAX_ATTRIBUTES) }
+    ensures short { IfOk result (λ s. All (λ v. length v.items < 2 ^ 31) s.seams.bits.items) }
+    ensures pairs { IfOk result (λ s. pairs_of s.surface ≡ (decoded mesh.now).pairs) }
+    ensures faces { IfOk result (λ s. HasFaces (length mesh.now.faces) s.surface) }
 {
-    let TracedMesh { trace, pairs } = traced;
-    let faces = mesh.face_count();
-    let sides = paired_table(alloc, pairs, faces)?;
-    let SeamLists { bits, flags } = seams_in(alloc, mesh, trace.order.as_slice(), &sides)?;
-    let front = surface_front(alloc, &trace, faces, valence, bits.as_slice())?;
-    let rows = rows_of(trace);
-    Ok(Connected {
-        front,
-        rows,
-        sides,
-        flags,
+    if mesh.heads().len() == 1 {
+        return Ok(Seamed {
+            seams: no_seams(alloc)?,
+            surface: Waiting::Pairs(pairs),
+        });
+    }
+    let sides = paired_table(alloc, pairs, mesh.face_count())?;
+    Ok(Seamed {
+        seams: seams_in(alloc, mesh, trace.order.as_slice(), &sides)?,
+        surface: Waiting::Table(sides),
     })
+}
+
+/// The table of a surface that waits.
+fn table_of(alloc: Global, surface: Waiting, faces: u32) -> Result<SideTable, Memory>
+    requires few { faces ≤ MAX_FACES }
+    requires gluing { IsGluing faces (pairs_of surface) }
+    requires faces { HasFaces faces surface }
+    ensures faces { IfOk result (λ t. t.faces ≡ faces) }
+    ensures pairs { IfOk result (λ t. gluing_of t ≡ pairs_of surface) }
+{
+    match surface {
+        Waiting::Pairs(pairs) => paired_table(alloc, pairs, faces),
+        Waiting::Table(sides) => Ok(sides),
+    }
 }
 
 /// The front of a traced mesh's stream, and its surface as it is decoded. The front is read back.
@@ -122,8 +146,17 @@ pub fn surface_connected(
     requires { IsTraced mesh.now traced }
     ensures { IfOk result (IsConnected valence mesh.now) }
 {
-    if mesh.heads().len() == 1 {
-        return whole_connected(alloc, mesh, traced, valence);
-    }
-    parts_connected(alloc, mesh, traced, valence)
+    let TracedMesh { trace, pairs } = traced;
+    let Seamed { seams, surface } = seamed(alloc, mesh, &trace, pairs)?;
+    let SeamLists { bits, flags } = seams;
+    let faces = mesh.face_count();
+    let front = surface_front(alloc, &trace, faces, valence, bits.as_slice())?;
+    let rows = rows_of(trace);
+    let sides = table_of(alloc, surface, faces)?;
+    Ok(Connected {
+        front,
+        rows,
+        sides,
+        flags,
+    })
 }

@@ -99,9 +99,8 @@ fn coded_values(alloc: Global, g: &Geometry, choice: &Choice) -> Result<Vec<Valu
 {
     // For the proof alone: the call tells what holds of every geometry.
     let _count = point_count(g);
-    let predict = predict_of(g, choice);
-    let number = number_of_predict(predict);
-    let values = values_of(alloc, g, number)?;
+    let predict = number_of_predict(predict_of(g, choice));
+    let values = values_of(alloc, g, predict)?;
     test_ranges(predict, values.as_slice())?;
     Ok(values)
 }

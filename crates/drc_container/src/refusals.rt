@@ -6,7 +6,6 @@ ghost use Rattle.mesh_model.specs.FirstFault.{Tests, unless, at_place};
 ghost use Rattle.mesh_model.specs.Contents.{heads_in};
 ghost use Rattle.attr_section.specs.Values.{can_wrap};
 ghost use Rattle.attr_section.specs.Written.{range_of};
-ghost use Rattle.drc_container.specs.Choice.{number_of_predict};
 ghost use Rattle.drc_container.specs.Refused.{choice_fault, empty_fault, position_fault, early_fault, chooses_parallelogram, begins_with_position, range_fault};
 
 use crate::choices::{Choice, Predict};
@@ -15,6 +14,9 @@ use crate::contents::{face_count, heads_in, is_mesh, point_count};
 use attr_section::{Values, range_of};
 use drc_base::{Fault, Kind};
 use mesh_model::{Geometry, Head};
+
+/// The number of no prediction.
+const OFF: i8 = -2;
 
 /// A fault of this kind with this number, where a test doesn't hold.
 pub fn unless(holds: bool, kind: Kind, at: u64) -> Result<(), Fault>
@@ -122,22 +124,23 @@ fn first_wide(values: &[Values]) -> Option<usize>
     values.iter().position(|v| !can_wrap(v.values.as_slice()))
 }
 
-/// The fault of the first attribute whose values can't be predicted, where they are to be.
-pub fn test_ranges(predict: Predict, values: &[Values]) -> Result<(), Fault>
-    ensures { Tests (range_fault (number_of_predict predict) values.now) result }
-{
-    match predict {
-        Predict::Off => Ok(()),
-        Predict::Diff | Predict::Para | Predict::Multi => test_spans(values),
-    }
-}
-
 /// The fault of the first attribute whose values can't be predicted.
-pub fn test_spans(values: &[Values]) -> Result<(), Fault>
+fn test_spans(values: &[Values]) -> Result<(), Fault>
     ensures { Tests (at_place Range (position (λ v. not (can_wrap (range_of v.values))) values.now)) result }
 {
     match first_wide(values) {
         None => Ok(()),
         Some(at) => Err(Fault::new(Kind::Range, at as u64)),
     }
+}
+
+/// The fault of the first attribute whose values can't be predicted, where the number of the prediction says that
+/// they are to be.
+pub fn test_ranges(predict: i8, values: &[Values]) -> Result<(), Fault>
+    ensures { Tests (range_fault predict values.now) result }
+{
+    if predict == OFF {
+        return Ok(());
+    }
+    test_spans(values)
 }

@@ -2,26 +2,23 @@
 
 ghost use Rattle.std.specs.Prelude.{◌≡◌, ◌+◌, ◌<◌, ◌≤◌, ◌*◌, ◌^◌, map, take, drop, flat_map, length, All, IfOk};
 ghost use Rattle.drc_base.specs.Refusals.{Answers};
-ghost use Rattle.mesh_model.specs.FirstFault.{Tests, value_unless};
+ghost use Rattle.mesh_model.specs.FirstFault.{value_unless};
 ghost use Rattle.mesh_model.specs.Head.{width_of};
 ghost use Rattle.corner_table.specs.Table.{side_of};
 ghost use Rattle.seams.specs.Values.{piece};
 ghost use Rattle.attr_section.specs.Values.{values_in};
-ghost use Rattle.drc_container.specs.Refused.{range_fault, values_fault};
+ghost use Rattle.drc_container.specs.Refused.{values_fault};
 ghost use Rattle.drc_container.specs.WrittenOnSurface.{coded_values};
 ghost use Rattle.drc_container.specs.Standings.{glued_on, AreStandings};
 
 use crate::coded_values::put_piece;
 use crate::codings::Coding;
-use crate::refusals::{test_spans, unless};
+use crate::refusals::{test_ranges, unless};
 use crate::standings::{Standings, standing_at};
 use crate::turned_meshes::TurnedMesh;
 use attr_section::Values;
-use drc_base::{Fault, Kind, MAX_VALUES, Memory, Refusal, Sequence, Side};
+use drc_base::{Kind, MAX_VALUES, Memory, Refusal, Sequence, Side};
 use std::alloc::Global;
-
-/// The number of no prediction.
-const OFF: i8 = -2;
 
 /// How many values are coded: of each attribute its integers at each entry of its walk.
 fn value_count(s: &Standings<'_>, coding: &Coding) -> u64
@@ -81,16 +78,6 @@ fn columns_on(alloc: Global, s: &Standings<'_>, coding: &Coding) -> Result<Vec<V
         start += comps;
     }
     Ok(values)
-}
-
-/// The fault of the first attribute whose values can't be predicted, where they are to be.
-fn test_ranges(predict: i8, values: &[Values]) -> Result<(), Fault>
-    ensures { Tests (range_fault predict values.now) result }
-{
-    if predict == OFF {
-        return Ok(());
-    }
-    test_spans(values)
 }
 
 /// The values of each attribute, in the order of its walk. Refusals: ValueLimit at the number of values, before

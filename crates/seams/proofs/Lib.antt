@@ -4,6 +4,6 @@ pub mod Telling
 pub mod Chains
 pub mod Values
 pub mod Blocks
-pub mod Gluing
+pub mod Kept
 pub mod Filling
 mod Examples

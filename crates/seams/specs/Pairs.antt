@@ -1,8 +1,9 @@
 -- Pairs and flags while they are being written, side after side. These are the code's own words, for the steps of the loops; what the
 -- calls answer is told in `Seams` and `SeamBits`.
-use Rattle.std.specs.Prelude.{◌≡◌, ℕ, suc, ◌*◌, ◌<◌, ◌||◌, Bool, true, false, cond, nat_lt, List, map, filter, length, Option, Some, None}
+use Rattle.std.specs.Prelude.{◌≡◌, ℕ, ◌*◌, ◌<◌, ◌||◌, Bool, true, false, cond, nat_lt, List, map, filter, length, get_or, Option, Some, None}
 use Rattle.std.specs.List.{range_with_len}
 use Rattle.corner_table.specs.Sides.{Side, number, side_at, Gluing}
+use Rattle.corner_table.specs.Table.{free_entry, other_at}
 use Rattle.seams.specs.Seams.{flag_at}
 use Rattle.corner_table.specs.Pairs.{has_bit}
 
@@ -22,11 +23,7 @@ pub record AreToldTo (faces : ℕ) (g : Gluing) (told : Side → Bool) (n : ℕ)
   pub one : (x y : Side) → g x ≡ Some y → has_bit g x ≡ true → number x < n → flag_at flags x ≡ told x
   pub other : (x y : Side) → g x ≡ Some y → has_bit g x ≡ true → number x < n → flag_at flags y ≡ told x
 
--- the pairs of which one side has a number below n
-abbrev pub pairs_to : ℕ → Gluing → Gluing
-pairs_to n g x = elim (g x) [ None ↦ None | Some y ↦ cond (nat_lt (number x) n || nat_lt (number y) n) (Some y) None ]
-
--- the pair that a side adds to those before, of the other side's number, if it adds one
-abbrev pub TellsKept : Gluing → ℕ → Option ℕ → Type 0
-TellsKept h n None = pairs_to (suc n) h ≡ pairs_to n h
-TellsKept h n (Some o) = (h (side_at n) ≡ Some (side_at o)) × (n < o)
+-- the entries of the sides below a number tell their pairs
+pub record TellPairs (g : Gluing) (n : ℕ) (entries : List ℕ) : Type 0 where
+  pub each : length entries ≡ n
+  pub pairs : (k : ℕ) → k < n → other_at (get_or entries k free_entry) ≡ g (side_at k)

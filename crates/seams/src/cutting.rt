@@ -1,80 +1,71 @@
 //! A surface cut at its seams, and its classes of corners.
 
-ghost use Rattle.std.specs.Prelude.{◌≡◌, ◌*◌, ◌<◌, ◌≤◌, length, IfOk, Some};
+ghost use Rattle.std.specs.Prelude.{◌≡◌, ◌*◌, ◌<◌, ◌≤◌, length, IfOk};
 ghost use Rattle.std.specs.Option.{option_map};
 ghost use Rattle.drc_base.specs.declared.limits.TheConstants.{MAX_FACES as most_faces};
-ghost use Rattle.corner_table.specs.Sides.{IsGluing, unglued as no_pairs};
-ghost use Rattle.corner_table.specs.Table.{gluing_of, glued_in, room_of};
+ghost use Rattle.corner_table.specs.Sides.{IsGluing, side_at};
+ghost use Rattle.corner_table.specs.Table.{gluing_of, glued_in, other_at};
 ghost use Rattle.corner_table.specs.Labels.{IsLabelled};
-ghost use Rattle.seams.specs.Pairs.{TellsKept};
 ghost use Rattle.seams.specs.Seams.{AreFlags, MayBeFlags, flag_at, unseamed, unseamed_by};
 
-use crate::sides::{flag_of, later_side, sides_across};
-use corner_table::{Classes, SideTable, Steps, side_with};
+use crate::sides::{flag_of, sides_across};
+use corner_table::{Classes, SideTable, Steps};
 use drc_base::Memory;
 use std::alloc::Global;
 use std::marker::Brand;
 use std::sync::ledger::{Blank, Ledger};
 
-/// A table of this many faces, no side of which is glued.
-pub(crate) fn faces_apart<L: Ledger>(
-    alloc: Global,
-    faces: u32,
-    steps: &mut Steps<L>,
-) -> Result<SideTable, Memory>
-    requires { faces ≤ most_faces }
-    ensures faces { IfOk result (λ t. t.faces ≡ faces) }
-    ensures unglued { IfOk result (λ t. gluing_of t ≡ no_pairs) }
+/// The number of no side.
+const NONE: u32 = u32::MAX;
+
+/// The entry that a side has once the surface is cut: that of before, or the number of no side at a seam. Both
+/// are at hand before the flag is asked for, so that one of them is chosen without a branch.
+#[tactic(auto, using(crate::proofs::Kept::kept_some))]
+fn kept_entry(across: &[u32], seam: &[bool], side: u32) -> u32
+    requires entry { side < length across.now }
+    requires flag { side < length seam.now }
+    ensures { other_at result ≡ unseamed (flag_at seam.now) (glued_in across.now) (side_at side) }
 {
-    let mut table = SideTable::with_room(alloc, faces)?;
-    for _ in 0..faces {
-        let _ = table.add_face(steps);
-    }
-    Ok(table)
+    let other = across[side as usize];
+    if flag_of(seam, side) { NONE } else { other }
 }
 
-/// The number of the side across a side, where that side has the bit of its pair, and the pair is no seam.
-fn kept_pair(across: &[u32], faces: u32, seam: &[bool], side: u32) -> Option<u32>
+/// The entries that the sides of these faces have once the surface is cut.
+fn kept_pairs(alloc: Global, across: &[u32], faces: u32, seam: &[bool]) -> Result<Vec<u32>, Memory>
     requires few { faces ≤ most_faces }
     requires gluing { IsGluing faces (glued_in across.now) }
     requires room { 3 * faces ≤ length across.now }
     requires flags { AreFlags faces (glued_in across.now) seam.now }
-    requires side { side < 3 * faces }
-    ensures { TellsKept (unseamed (flag_at seam.now) (glued_in across.now)) side result }
+    ensures each { IfOk result (λ v. length v.items ≡ 3 * faces) }
+    ensures pairs { IfOk result (λ v. glued_in v.items ≡ unseamed (flag_at seam.now) (glued_in across.now)) }
+    ensures gluing { IfOk result (λ v. IsGluing faces (glued_in v.items)) }
 {
-    if flag_of(seam, side) {
-        return None;
+    let count = 3 * faces;
+    let mut pairs = Vec::with_capacity(alloc, count as usize)?;
+    for side in 0..count {
+        pairs.push_reserved(kept_entry(across, seam, side));
     }
-    later_side(across, faces, side)
+    Ok(pairs)
 }
 
-/// The table of these faces with the pairs that are no seam, glued one after another.
-fn glued_apart<L: Ledger>(
+/// The table of these faces with the pairs of a list, under a count of calls that nothing else takes part in.
+fn table_of<L: Ledger>(
     alloc: Global,
-    across: &[u32],
     faces: u32,
-    seam: &[bool],
+    pairs: Vec<u32>,
     blank: Blank,
 ) -> Result<SideTable, Memory>
     requires few { faces ≤ most_faces }
-    requires gluing { IsGluing faces (glued_in across.now) }
-    requires room { 3 * faces ≤ length across.now }
-    requires flags { AreFlags faces (glued_in across.now) seam.now }
+    requires each { length pairs.items ≡ 3 * faces }
+    requires gluing { IsGluing faces (glued_in pairs.items) }
     requires name { blank.name ≡ L.name }
     requires parts { blank.parts ≡ L.parts }
     requires some { 0 < L.parts }
     ensures faces { IfOk result (λ t. t.faces ≡ faces) }
-    ensures pairs { IfOk result (λ t. gluing_of t ≡ unseamed (flag_at seam.now) (glued_in across.now)) }
+    ensures entries { IfOk result (λ t. t.entries ≡ pairs.items) }
 {
     let mut steps = Steps::<L>::new(blank);
-    let mut table = faces_apart(alloc, faces, &mut steps)?;
-    for side in 0..3 * faces {
-        match kept_pair(across, faces, seam, side) {
-            None => {}
-            Some(other) => table.glue(side_with(side), side_with(other), &mut steps),
-        }
-    }
-    Ok(table)
+    SideTable::with_pairs(alloc, faces, pairs, &mut steps)
 }
 
 /// The surface cut at its seams: a table with as many faces whose pairs are those that are no seam. Its
@@ -85,7 +76,8 @@ pub fn unglued(alloc: Global, t: &SideTable, seam: &[bool]) -> Result<SideTable,
     ensures pairs { IfOk result (λ u. gluing_of u ≡ unseamed (flag_at seam.now) (gluing_of t.now)) }
 {
     let faces = t.face_count();
-    let table = glued_apart::<Brand>(alloc, sides_across(t), faces, seam, Blank::new(1))?;
+    let pairs = kept_pairs(alloc, sides_across(t), faces, seam)?;
+    let table = table_of::<Brand>(alloc, faces, pairs, Blank::new(1))?;
     Ok(table)
 }
 

@@ -2,10 +2,9 @@
 //! plain program that joins corners one by one.
 
 ghost use Rattle.std.specs.Prelude.{◌≡◌, ◌<◌, length, IfOk};
-ghost use Rattle.corner_table.specs.Table.{gluing_of};
+ghost use Rattle.corner_table.specs.Table.{gluing_of, room_of};
 ghost use Rattle.seams.specs.Seams.{AreFlags};
 
-use crate::cutting::faces_apart;
 use crate::sides::sides_across;
 use crate::{classes, read_seams, seam_bits, seams_of, unglued};
 use corner_table::{SideTable, Steps, side_with};
@@ -60,6 +59,16 @@ fn mesh(rt: &impl Abort, alloc: Global, labels: &[[u32; 3]]) -> Result<CornerMes
     CornerMesh::new(heads, points, labels.to_vec(alloc)?)
 }
 
+/// Adds all faces that there is room for.
+fn add_faces<L: Ledger>(table: &mut SideTable, faces: u32, steps: &mut Steps<L>)
+    requires none { table.old.faces ≡ 0 }
+    requires room { room_of table.old ≡ faces }
+{
+    for _ in 0..faces {
+        let _ = table.add_face(steps);
+    }
+}
+
 /// Glues two sides, which have to be free sides of two faces.
 fn glue_pair<L: Ledger>(
     rt: &impl Abort,
@@ -89,7 +98,8 @@ fn table<L: Ledger>(
 {
     assert!(rt; faces <= MAX_FACES);
     let mut steps = Steps::<L>::new(blank);
-    let mut table = faces_apart(alloc, faces, &mut steps)?;
+    let mut table = SideTable::with_room(alloc, faces)?;
+    add_faces(&mut table, faces, &mut steps);
     for pair in pairs {
         glue_pair(rt, &mut table, *pair, &mut steps);
     }

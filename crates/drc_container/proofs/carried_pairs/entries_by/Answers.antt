@@ -1,4 +1,4 @@
-use Rattle.std.proofs.Common.{◌≡◌, ◌+◌, length, ap, ◌∙◌, subst, sym, arith}
+use Rattle.std.proofs.Common.{◌≡◌, ℕ, ◌+◌, ◌*◌, length, ap, ◌∙◌, subst, sym, arith}
 use Rattle.std.specs.Prelude.{option_map}
 use Rattle.drc_base.specs.declared.sides.Side.{Side as NumberedSide}
 use Rattle.mesh_model.specs.Same.{Rows}
@@ -6,8 +6,9 @@ use Rattle.corner_table.specs.Sides.{side_at}
 use Rattle.corner_table.specs.Table.{gluing_of, side_of}
 use Rattle.corner_table.specs.Carried.{carry}
 use Rattle.pairing.specs.CarriedPairs.{carried}
-use Rattle.drc_container.specs.Renumbered.{TellPairs}
-use Rattle.drc_container.proofs.CarriedEntries.{entry-carried, glued-below, pairs-more}
+use Rattle.seams.specs.Pairs.{TellPairs}
+use Rattle.seams.proofs.Kept.{tell_more}
+use Rattle.drc_container.proofs.CarriedEntries.{entry-carried, glued-below, pairs-told}
 use Rattle.drc_container.proofs.carried_pairs.entries_by.Given.{Over}
 use Rattle.drc_container.proofs.carried_pairs.entries_by.Goals.{After-other-other}
 use Rattle.drc_container.proofs.carried_pairs.entries_by.Goals as goal
@@ -31,4 +32,16 @@ loop-side-preserved g c =
     entry-carried h rows c.in_ok-back.back.items c.args.sides.now.faces c.loop-side.side c.entry_by.result c.other-other.result c.face_count-count.ensures.gluing c.requires.rows
     c.in_ok-back.ensures (omega (arith, c.loop-side-test.true, c.face_count-count.ensures.count)) (glued-to g (goal.at.loop-side-preserved g c).After-other-other)
     (c.entry_by.ensures ∙ ap (λ (b : Rows). option_map (of_back b) c.other-other.result) c.as_slice.ensures.value) in
-    subst (TellPairs (carried h rows) (c.loop-side.side + 1)) (sym c.in_ok-push.ensures.items) (pairs-more (carried h rows) c.loop-side.side c.entry_by.result c.loop-side.entries.items c.loop-side.invariant is)
+    subst (TellPairs (carried h rows) (c.loop-side.side + 1)) (sym c.in_ok-push.ensures.items) (tell_more (carried h rows) c.loop-side.side c.entry_by.result c.loop-side.entries.items c.loop-side.invariant is)
+
+pub returns : goal.returns
+returns g c =
+    let faces = c.args.sides.now.faces in
+    let h = gluing_of c.args.sides.now in
+    let entries = c.loop-side.entries.items in
+    let n = c.loop-side-test.false in
+    let e = c.loop-side.auto.side-end in
+    let f = c.face_count-count.ensures.count in
+    let all : c.loop-side.side ≡ 3 * faces = omega arith in
+    let T = subst (λ (k : ℕ). TellPairs (carried h c.args.rows.now) k entries) all c.loop-side.invariant in
+    record { pairs = pairs-told faces h c.args.rows.now entries c.face_count-count.ensures.gluing c.requires.rows T; each = T.each }

@@ -1,7 +1,7 @@
 -- The entries of the sides so far tell their pairs.
 use Rattle.corner_table.specs.Table.{gluing_of}
 use Rattle.pairing.specs.CarriedPairs.{carried}
-use Rattle.drc_container.specs.Renumbered.{TellPairs}
+use Rattle.seams.specs.Pairs.{TellPairs}
 use Rattle.drc_container.proofs.carried_pairs.entries_by.Given as goal
 
 abbrev pub invariant-loop-side : goal.invariant-loop-side
