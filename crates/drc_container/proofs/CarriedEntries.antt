@@ -127,7 +127,11 @@ pub glued-below : (g : Gluing) (faces many : ℕ) (x : Side) (o : Option Numbere
 glued-below g faces many x None G same is = tt
 glued-below g faces many x (Some s) G same is = let w : s.face < faces = G.within (side_of s) x (G.paired x (side_of s) (sym is)) in omega arith
 
+-- a carried surface is one
+pub carried-glues : (faces : ℕ) (g : Gluing) (rows : Rows) → IsGluing faces g → IsRenumbering faces rows → IsGluing faces (carried g rows)
+carried-glues faces g rows G R = carried_gluing G (carried_is_the_one faces g rows G R).0
+
 -- all entries tell the carried surface
 pub pairs-told : (faces : ℕ) (g : Gluing) (rows : Rows) (entries : List ℕ) → IsGluing faces g → IsRenumbering faces rows → TellPairs (carried g rows) (3 * faces) entries
     → glued_in entries ≡ carried g rows
-pairs-told faces g rows entries G R T = tell_all faces (carried g rows) entries (carried_gluing G (carried_is_the_one faces g rows G R).0) T
+pairs-told faces g rows entries G R T = tell_all faces (carried g rows) entries (carried-glues faces g rows G R) T

@@ -5,8 +5,7 @@ use Rattle.std.specs.List.{range_with_len}
 use Rattle.drc_base.specs.declared.limits.TheConstants.{MAX_POINTS}
 use Rattle.mesh_model.specs.declared.geometries.Geometry.TheVariants.{Mesh}
 use Rattle.mesh_model.specs.Parts.{MeshParts, IsMesh}
-use Rattle.corner_table.specs.Sides.{IsGluing}
-use Rattle.corner_table.specs.Table.{gluing_of, glued_in}
+use Rattle.corner_table.specs.Table.{gluing_of}
 use Rattle.corner_table.specs.Carried.{IsRenumbering}
 use Rattle.eb_trace.specs.declared.tracing.Traced.{Traced}
 use Rattle.eb_section.specs.ReadAgain.{IsReadAgain}
@@ -15,10 +14,10 @@ use Rattle.drc_container.specs.declared.traced_meshes.TracedMesh.{TracedMesh}
 use Rattle.drc_container.specs.declared.connected.Connected.{Connected}
 use Rattle.drc_container.specs.Refused.{tracing_fault}
 use Rattle.drc_container.specs.Written.{header_bytes}
-use Rattle.drc_container.specs.WrittenOnSurface.{traced, decoded, bits_of, seam_lists}
+use Rattle.drc_container.specs.WrittenOnSurface.{Glued, traced, decoded, bits_of, seam_lists}
 use Rattle.drc_container.specs.Standings.{flags_of, flag_lists}
 use Rattle.drc_container.specs.Fronts.{IsTraced, IsConnected}
-use Rattle.drc_container.proofs.SurfaceTraced.{traced-orders, decoded-proper, decoded-heads}
+use Rattle.drc_container.proofs.SurfaceTraced.{traced-orders}
 use Rattle.drc_container.proofs.SurfaceFlags.{flags-first}
 use Rattle.drc_container.proofs.SurfaceEncoded.{IsTracedTo, traced-to, vertices-few, value-told}
 
@@ -40,32 +39,22 @@ order-renumbers m t is T =
 pub trace-few : (m : MeshParts) (t : TracedMesh) → IsMesh m → IsTraced m t → t.trace.vertices ≤ MAX_POINTS
 trace-few m t is T = vertices-few m t.trace (decoded m) (traced-whole m t is T)
 
--- its pairs are a surface
-pub pairs-glue : (m : MeshParts) (t : TracedMesh) → IsMesh m → IsTraced m t → IsGluing (length m.faces) (glued_in t.pairs.items)
-pairs-glue m t is T = subst (IsGluing (length m.faces)) (sym T.pairs) (decoded-proper m is (traced-whole m t is T).proper).gluing
-
 -- ---- one attribute
 
 -- a mesh with one attribute has no lists of seam bits
-pub one-seams : (m : MeshParts) → length m.heads ≡ 1 → seam_lists (decoded m) ≡ []
-one-seams m one =
-    let d = decoded m in
-    let n : length d.mesh.heads ≡ 1 = ap length (decoded-heads m) ∙ one in
-    ap (λ (k : ℕ). map (bits_of d) (range_with_len 1 (k - 1))) n
+pub one-seams : (d : Glued) → length d.mesh.heads ≡ 1 → seam_lists d ≡ []
+one-seams d one = ap (λ (k : ℕ). map (bits_of d) (range_with_len 1 (k - 1))) one
 
 -- and no flags
-pub one-flags : (m : MeshParts) → length m.heads ≡ 1 → None ∷ [] ≡ flag_lists (decoded m)
-one-flags m one =
-    let d = decoded m in
-    let n : length d.mesh.heads ≡ 1 = ap length (decoded-heads m) ∙ one in
-    ap (λ (o : Option (List Bool)). o ∷ []) (flags-first d) ∙ sym (ap (λ (k : ℕ). map (flags_of d) (range_with_len 0 k)) n)
+pub one-flags : (d : Glued) → length d.mesh.heads ≡ 1 → None ∷ [] ≡ flag_lists d
+one-flags d one = ap (λ (o : Option (List Bool)). o ∷ []) (flags-first d) ∙ sym (ap (λ (k : ℕ). map (flags_of d) (range_with_len 0 k)) one)
 
 -- ---- the front
 
 pub is-connected : (valence : Bool) (m : MeshParts) (t : TracedMesh) (lists : List (List Bool)) (c : Connected) → IsTraced m t → lists ≡ seam_lists (decoded m)
     → c.front.items ≡ header_bytes 1 (Mesh m) ++ connectivity_bytes valence (length m.faces) t.trace lists
     → IsReadAgain valence (length m.faces) t.trace lists (connectivity_bytes valence (length m.faces) t.trace lists)
-    → c.rows ≡ t.trace.order → c.sides.faces ≡ length m.faces → gluing_of c.sides ≡ glued_in t.pairs.items
+    → c.rows ≡ t.trace.order → c.sides.faces ≡ length m.faces → gluing_of c.sides ≡ gluing_of t.sides
     → map (option_map (λ (v : Vec Bool Global). v.items)) c.flags.items ≡ flag_lists (decoded m) → IsConnected valence m c
 is-connected valence m t lists c T lists_are front again rows faces pairs flags =
     let is = trace-is m t T in

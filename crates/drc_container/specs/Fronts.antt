@@ -1,40 +1,27 @@
 -- The front of a mesh's stream by Edgebreaker, header and connectivity, and the surface that is kept for the values behind it (Draco
 -- Bitstream Specification 2.2, section "Edgebreaker Connectivity").
-use Rattle.std.specs.Prelude.{◌≡◌, ℕ, ◌*◌, ◌++◌, Bool, List, map, length, Ok}
+use Rattle.std.specs.Prelude.{◌≡◌, ℕ, ◌++◌, Bool, List, map, length, Ok}
 use Rattle.std.specs.Option.{option_map}
 use Rattle.mesh_model.specs.declared.geometries.Geometry.TheVariants.{Mesh}
 use Rattle.mesh_model.specs.FirstFault.{value_unless}
 use Rattle.mesh_model.specs.Parts.{MeshParts}
-use Rattle.corner_table.specs.Sides.{Gluing}
-use Rattle.corner_table.specs.Table.{gluing_of, glued_in}
+use Rattle.corner_table.specs.Table.{gluing_of}
 use Rattle.eb_trace.specs.Writable.{IsWritable}
 use Rattle.eb_section.specs.ReadAgain.{IsReadAgain}
 use Rattle.eb_section.specs.Written.{connectivity_bytes}
 use Rattle.drc_container.specs.declared.traced_meshes.TracedMesh.{TracedMesh}
 use Rattle.drc_container.specs.declared.connected.Connected.{Connected}
-use Rattle.drc_container.specs.declared.connected.Waiting.{Waiting}
-use Rattle.drc_container.specs.declared.connected.Waiting.TheVariants.{Pairs, Table}
 use Rattle.drc_container.specs.Refused.{tracing_fault}
 use Rattle.drc_container.specs.Written.{header_bytes}
 use Rattle.drc_container.specs.WrittenOnSurface.{traced, decoded, seam_lists}
 use Rattle.drc_container.specs.Standings.{flag_lists}
 
--- a mesh whose surface is traced: its trace, and the pairs as they are decoded
+-- a mesh whose surface is traced: its trace, and the surface as it is decoded
 pub record IsTraced (m : MeshParts) (t : TracedMesh) : Type 0 where
   pub trace : value_unless (tracing_fault m) (traced m) ≡ Ok t.trace
-  pub pairs : glued_in t.pairs.items ≡ (decoded m).pairs
-  pub each : length t.pairs.items ≡ 3 * length m.faces
+  pub pairs : gluing_of t.sides ≡ (decoded m).pairs
+  pub faces : t.sides.faces ≡ length m.faces
   pub writable : IsWritable (length m.faces) t.trace.vertices t.trace.symbols t.trace.events t.trace.starts
-
--- the pairs of a surface that waits until its connectivity is written
-abbrev pub pairs_of : Waiting → Gluing
-pairs_of (Pairs v) = glued_in v.items
-pairs_of (Table t) = gluing_of t
-
--- it has so many faces
-abbrev pub HasFaces : ℕ → Waiting → Type 0
-HasFaces faces (Pairs v) = length v.items ≡ 3 * faces
-HasFaces faces (Table t) = t.faces ≡ faces
 
 -- the connectivity of a mesh
 abbrev pub connectivity_of : Bool → MeshParts → List ℕ

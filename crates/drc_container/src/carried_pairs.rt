@@ -1,7 +1,4 @@
-//! The pairs of a surface under new numbers of its faces, as a list, and the table that is made of them.
-//!
-//! A table has two links beside each entry. While the surface waits, the list of entries alone is kept, a third of
-//! the table.
+//! A surface under new numbers of its faces.
 
 ghost use Rattle.std.specs.Prelude.{◌≡◌, ◌*◌, ◌<◌, ◌≤◌, length, IfOk, IfSome};
 ghost use Rattle.std.specs.Option.{option_map};
@@ -60,6 +57,7 @@ fn entries_by<L: Ledger>(
     requires parts { blank.parts ≡ L.parts }
     requires some { 0 < L.parts }
     ensures pairs { IfOk result (λ v. glued_in v.items ≡ carried_gluing (gluing_of sides.now) rows.now) }
+    ensures gluing { IfOk result (λ v. IsGluing sides.now.faces (glued_in v.items)) }
     ensures each { IfOk result (λ v. length v.items ≡ 3 * sides.now.faces) }
 {
     let count = 3 * sides.face_count();
@@ -73,49 +71,17 @@ fn entries_by<L: Ledger>(
     Ok(entries)
 }
 
-/// The pairs of a surface under new numbers of its faces: for each new side the number of the side that it is glued
-/// to, or `u32::MAX`. The table is freed.
-pub fn carried_pairs(
+/// A surface under new numbers of its faces. The one that was is freed.
+pub fn carried_surface(
     alloc: Global,
     sides: SideTable,
     rows: &[(u32, u8)],
-) -> Result<Vec<u32>, Memory>
-    requires { IsRenumbering sides.faces rows.now }
-    ensures pairs { IfOk result (λ v. glued_in v.items ≡ carried_gluing (gluing_of sides) rows.now) }
-    ensures each { IfOk result (λ v. length v.items ≡ 3 * sides.faces) }
-{
-    let entries = entries_by::<Brand>(alloc, &sides, rows, Blank::new(1))?;
-    Ok(entries)
-}
-
-/// The table of these faces with the pairs of a list, under a count of calls that nothing else takes part in.
-fn table_of<L: Ledger>(
-    alloc: Global,
-    pairs: Vec<u32>,
-    faces: u32,
-    blank: Blank,
 ) -> Result<SideTable, Memory>
-    requires few { faces ≤ most_faces }
-    requires gluing { IsGluing faces (glued_in pairs.items) }
-    requires each { length pairs.items ≡ 3 * faces }
-    requires name { blank.name ≡ L.name }
-    requires parts { blank.parts ≡ L.parts }
-    requires some { 0 < L.parts }
-    ensures faces { IfOk result (λ t. t.faces ≡ faces) }
-    ensures entries { IfOk result (λ t. t.entries ≡ pairs.items) }
+    requires { IsRenumbering sides.faces rows.now }
+    ensures faces { IfOk result (λ t. t.faces ≡ sides.faces) }
+    ensures pairs { IfOk result (λ t. gluing_of t ≡ carried_gluing (gluing_of sides) rows.now) }
 {
-    let mut steps = Steps::<L>::new(blank);
-    SideTable::with_pairs(alloc, faces, pairs, &mut steps)
-}
-
-/// The table of these faces with the pairs of a list, which becomes the table's.
-pub fn paired_table(alloc: Global, pairs: Vec<u32>, faces: u32) -> Result<SideTable, Memory>
-    requires few { faces ≤ most_faces }
-    requires gluing { IsGluing faces (glued_in pairs.items) }
-    requires each { length pairs.items ≡ 3 * faces }
-    ensures faces { IfOk result (λ t. t.faces ≡ faces) }
-    ensures pairs { IfOk result (λ t. gluing_of t ≡ glued_in pairs.items) }
-{
-    let table = table_of::<Brand>(alloc, pairs, faces, Blank::new(1))?;
-    Ok(table)
+    let faces = sides.face_count();
+    let pairs = entries_by::<Brand>(alloc, &sides, rows, Blank::new(1))?;
+    Ok(SideTable::with_pairs(faces, pairs))
 }

@@ -1,20 +1,16 @@
 //! The front of a mesh's stream, and the surface that the values behind it stand on.
 //!
-//! The connectivity is written while little else is kept: where there are no seams to look for, before the table of
-//! the surface as it is decoded is made. Behind it the order of decoding is all that stays of the trace.
+//! Behind the connectivity the order of decoding is all that stays of the trace.
 
 ghost use Rattle.std.specs.Prelude.{◌≡◌, ◌<◌, ◌≤◌, ◌^◌, [], ◌∷◌, None, length, map, All, IfOk};
 ghost use Rattle.std.specs.Option.{option_map};
-ghost use Rattle.drc_base.specs.declared.limits.TheConstants.{MAX_ATTRIBUTES, MAX_FACES};
-ghost use Rattle.corner_table.specs.Sides.{IsGluing};
-ghost use Rattle.corner_table.specs.Table.{gluing_of};
+ghost use Rattle.drc_base.specs.declared.limits.TheConstants.{MAX_ATTRIBUTES};
 ghost use Rattle.corner_table.specs.Carried.{IsRenumbering};
 ghost use Rattle.mesh_model.specs.Renumbering.{renumbered};
-ghost use Rattle.drc_container.specs.WrittenOnSurface.{decoded, seam_lists};
+ghost use Rattle.drc_container.specs.WrittenOnSurface.{seam_lists};
 ghost use Rattle.drc_container.specs.Standings.{glued_by, flag_lists};
-ghost use Rattle.drc_container.specs.Fronts.{IsTraced, pairs_of, HasFaces, IsConnected};
+ghost use Rattle.drc_container.specs.Fronts.{IsTraced, IsConnected};
 
-use crate::carried_pairs::paired_table;
 use crate::seam_lists::{SeamLists, seams_on};
 use crate::surface_writing::surface_front;
 use crate::traced_meshes::TracedMesh;
@@ -38,46 +34,11 @@ pub struct Connected {
     pub flags: Vec<Option<Vec<bool>>>,
 }
 
-/// The surface as it is decoded, while the connectivity is written.
-#[derive(Debug, Drop)]
-enum Waiting {
-    /// The list of its pairs, of which no table is made yet.
-    Pairs(Vec<u32>),
-    /// Its table, on which seams were looked for.
-    Table(SideTable),
-}
-
-/// The seams of a mesh, and its surface while the connectivity is written.
-#[derive(Debug, Drop)]
-struct Seamed {
-    seams: SeamLists,
-    surface: Waiting,
-}
-
 /// The order of decoding; the rest of the trace is freed.
 fn rows_of(trace: Traced) -> Sequence<(u32, u8)>
     ensures { result ≡ trace.order }
 {
     trace.order
-}
-
-/// The seams of a mesh on its surface, as it is decoded. The mesh in this order is made for them alone.
-fn seams_in(
-    alloc: Global,
-    mesh: &CornerMesh,
-    rows: &[(u32, u8)],
-    sides: &SideTable,
-) -> Result<SeamLists, Memory>
-    requires rows { IsRenumbering (length mesh.now.faces) rows.now }
-    requires faces { sides.now.faces ≡ length mesh.now.faces }
-    ensures bits { IfOk result (λ s. map (λ v. v.items) s.bits.items ≡ seam_lists (glued_by (renumbered mesh.now rows.now) sides.now)) }
-    ensures flags { IfOk result (λ s. map (option_map (λ v. v.items)) s.flags.items ≡ flag_lists (glued_by (renumbered mesh.now rows.now) sides.now)) }
-    ensures few { IfOk result (λ s. length s.bits.items ≤ MAX_ATTRIBUTES) }
-    ensures short { IfOk result (λ s. All (λ v. length v.items < 2 ^ 31) s.bits.items) }
-{
-    let decoded = TurnedMesh::new(mesh, rows).copied(alloc)?;
-    let seams = seams_on(alloc, &decoded, sides)?;
-    Ok(seams)
 }
 
 /// The seams of a mesh with one attribute, which has none.
@@ -93,47 +54,27 @@ fn no_seams(alloc: Global) -> Result<SeamLists, Memory>
     })
 }
 
-/// The seams of a traced mesh, and its surface as it is decoded: a table is made of its pairs where seams are
-/// looked for, that is where there is more than one attribute.
-fn seamed(
+/// The seams of a mesh on its surface, as it is decoded. Where there is more than one attribute, the mesh in this
+/// order is made for them alone.
+fn seams_in(
     alloc: Global,
     mesh: &CornerMesh,
-    trace: &Traced,
-    pairs: Vec<u32>,
-) -> Result<Seamed, Memory>
-    requires { IsTraced mesh.now (record { trace = trace.now; pairs = pairs }) }
-    ensures bits { IfOk result (λ s. map (λ v. v.items) s.seams.bits.items ≡ seam_lists (decoded mesh.now)) }
-    ensures flags { IfOk result (λ s. map (option_map (λ v. v.items)) s.seams.flags.items ≡ flag_lists (decoded mesh.now)) }
-    ensures few { IfOk result (λ s. length s.seams.bits.items ≤ MAX_ATTRIBUTES) }
-    ensures short { IfOk result (λ s. All (λ v. length v.items < 2 ^ 31) s.seams.bits.items) }
-    ensures pairs { IfOk result (λ s. pairs_of s.surface ≡ (decoded mesh.now).pairs) }
-    ensures faces { IfOk result (λ s. HasFaces (length mesh.now.faces) s.surface) }
+    rows: &[(u32, u8)],
+    sides: &SideTable,
+) -> Result<SeamLists, Memory>
+    requires rows { IsRenumbering (length mesh.now.faces) rows.now }
+    requires faces { sides.now.faces ≡ length mesh.now.faces }
+    ensures bits { IfOk result (λ s. map (λ v. v.items) s.bits.items ≡ seam_lists (glued_by (renumbered mesh.now rows.now) sides.now)) }
+    ensures flags { IfOk result (λ s. map (option_map (λ v. v.items)) s.flags.items ≡ flag_lists (glued_by (renumbered mesh.now rows.now) sides.now)) }
+    ensures few { IfOk result (λ s. length s.bits.items ≤ MAX_ATTRIBUTES) }
+    ensures short { IfOk result (λ s. All (λ v. length v.items < 2 ^ 31) s.bits.items) }
 {
     if mesh.heads().len() == 1 {
-        return Ok(Seamed {
-            seams: no_seams(alloc)?,
-            surface: Waiting::Pairs(pairs),
-        });
+        return no_seams(alloc);
     }
-    let sides = paired_table(alloc, pairs, mesh.face_count())?;
-    Ok(Seamed {
-        seams: seams_in(alloc, mesh, trace.order.as_slice(), &sides)?,
-        surface: Waiting::Table(sides),
-    })
-}
-
-/// The table of a surface that waits.
-fn table_of(alloc: Global, surface: Waiting, faces: u32) -> Result<SideTable, Memory>
-    requires few { faces ≤ MAX_FACES }
-    requires gluing { IsGluing faces (pairs_of surface) }
-    requires faces { HasFaces faces surface }
-    ensures faces { IfOk result (λ t. t.faces ≡ faces) }
-    ensures pairs { IfOk result (λ t. gluing_of t ≡ pairs_of surface) }
-{
-    match surface {
-        Waiting::Pairs(pairs) => paired_table(alloc, pairs, faces),
-        Waiting::Table(sides) => Ok(sides),
-    }
+    let decoded = TurnedMesh::new(mesh, rows).copied(alloc)?;
+    let seams = seams_on(alloc, &decoded, sides)?;
+    Ok(seams)
 }
 
 /// The front of a traced mesh's stream, and its surface as it is decoded. The front is read back.
@@ -146,13 +87,11 @@ pub fn surface_connected(
     requires { IsTraced mesh.now traced }
     ensures { IfOk result (IsConnected valence mesh.now) }
 {
-    let TracedMesh { trace, pairs } = traced;
-    let Seamed { seams, surface } = seamed(alloc, mesh, &trace, pairs)?;
-    let SeamLists { bits, flags } = seams;
+    let TracedMesh { trace, sides } = traced;
     let faces = mesh.face_count();
+    let SeamLists { bits, flags } = seams_in(alloc, mesh, trace.order.as_slice(), &sides)?;
     let front = surface_front(alloc, &trace, faces, valence, bits.as_slice())?;
     let rows = rows_of(trace);
-    let sides = table_of(alloc, surface, faces)?;
     Ok(Connected {
         front,
         rows,

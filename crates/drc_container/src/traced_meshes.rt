@@ -1,19 +1,19 @@
-//! The trace of a mesh's surface, with its pairs as they are decoded.
+//! The trace of a mesh's surface, and the surface as it is decoded.
 
-ghost use Rattle.std.specs.Prelude.{◌≡◌, ◌*◌, length, Some, Err, IfOk};
+ghost use Rattle.std.specs.Prelude.{◌≡◌, length, Some, Err, IfOk};
 ghost use Rattle.drc_base.specs.declared.faults.Fault.{Fault as AnyFault};
 ghost use Rattle.drc_base.specs.declared.faults.Refusal.TheVariants as refusal;
 ghost use Rattle.drc_base.specs.Refusals.{Answers};
 ghost use Rattle.mesh_model.specs.FirstFault.{value_unless};
 ghost use Rattle.corner_table.specs.Fans.{IsProper};
-ghost use Rattle.corner_table.specs.Table.{gluing_of, glued_in};
+ghost use Rattle.corner_table.specs.Table.{gluing_of};
 ghost use Rattle.pairing.specs.Pairing.{pairing};
 ghost use Rattle.pairing.specs.Degenerate.{degenerate_fault};
 ghost use Rattle.eb_trace.specs.Writable.{IsWritable};
 ghost use Rattle.drc_container.specs.Refused.{vertices_fault, tracing_fault};
 ghost use Rattle.drc_container.specs.WrittenOnSurface.{traced, decoded};
 
-use crate::carried_pairs::carried_pairs;
+use crate::carried_pairs::carried_surface;
 use crate::refusals::unless;
 use corner_table::SideTable;
 use drc_base::{Kind, MAX_POINTS, Refusal};
@@ -22,24 +22,24 @@ use mesh_model::CornerMesh;
 use pairing::pair;
 use std::alloc::Global;
 
-/// The trace of a mesh's surface, and the pairs of the surface as it is decoded: its faces in the order of decoding.
+/// The trace of a mesh's surface, and the surface as it is decoded: its faces in the order of decoding.
 #[derive(Debug, Drop)]
 pub struct TracedMesh {
     /// The trace.
     pub trace: Traced,
-    /// For each side of the surface as it is decoded the number of the side that it is glued to, or `u32::MAX`.
-    pub pairs: Vec<u32>,
+    /// The surface as it is decoded.
+    pub sides: SideTable,
 }
 
-/// The trace of a mesh over the table of its sides, and its pairs as they are decoded. The table is freed. Refused
+/// The trace of a mesh over the table of its sides, and its surface as it is decoded. The table is freed. Refused
 /// with PointLimit at the number of vertices.
 fn traced_on(alloc: Global, mesh: &CornerMesh, sides: SideTable) -> Result<TracedMesh, Refusal>
     requires faces { sides.faces ≡ length mesh.now.faces }
     requires pairs { gluing_of sides ≡ pairing mesh.now }
     requires proper { IsProper sides.faces (gluing_of sides) }
     ensures trace { Answers (λ r. r.trace) (value_unless (vertices_fault mesh.now) (traced mesh.now)) result }
-    ensures pairs { IfOk result (λ r. glued_in r.pairs.items ≡ (decoded mesh.now).pairs) }
-    ensures each { IfOk result (λ r. length r.pairs.items ≡ 3 * length mesh.now.faces) }
+    ensures pairs { IfOk result (λ r. gluing_of r.sides ≡ (decoded mesh.now).pairs) }
+    ensures faces { IfOk result (λ r. r.sides.faces ≡ length mesh.now.faces) }
     ensures writable { IfOk result (λ r. IsWritable (length mesh.now.faces) r.trace.vertices r.trace.symbols r.trace.events r.trace.starts) }
 {
     let trace = trace(alloc, &sides)?;
@@ -49,16 +49,16 @@ fn traced_on(alloc: Global, mesh: &CornerMesh, sides: SideTable) -> Result<Trace
         Kind::PointLimit,
         u64::from(vertices),
     )?;
-    let pairs = carried_pairs(alloc, sides, trace.order.as_slice())?;
-    Ok(TracedMesh { trace, pairs })
+    let sides = carried_surface(alloc, sides, trace.order.as_slice())?;
+    Ok(TracedMesh { trace, sides })
 }
 
-/// The trace of a mesh, and its pairs as they are decoded. Refusals: Degenerate at the first face with two equal
+/// The trace of a mesh, and its surface as it is decoded. Refusals: Degenerate at the first face with two equal
 /// positions, also where memory is wanting; PointLimit at the number of vertices.
 pub fn traced_mesh(alloc: Global, mesh: &CornerMesh) -> Result<TracedMesh, Refusal>
     ensures trace { Answers (λ r. r.trace) (value_unless (tracing_fault mesh.now) (traced mesh.now)) result }
-    ensures pairs { IfOk result (λ r. glued_in r.pairs.items ≡ (decoded mesh.now).pairs) }
-    ensures each { IfOk result (λ r. length r.pairs.items ≡ 3 * length mesh.now.faces) }
+    ensures pairs { IfOk result (λ r. gluing_of r.sides ≡ (decoded mesh.now).pairs) }
+    ensures faces { IfOk result (λ r. r.sides.faces ≡ length mesh.now.faces) }
     ensures writable { IfOk result (λ r. IsWritable (length mesh.now.faces) r.trace.vertices r.trace.symbols r.trace.events r.trace.starts) }
     ensures degenerate { (f : AnyFault) → degenerate_fault mesh.now ≡ Some f → result ≡ Err (refusal.Fault f) }
 {

@@ -48,26 +48,6 @@ fn kept_pairs(alloc: Global, across: &[u32], faces: u32, seam: &[bool]) -> Resul
     Ok(pairs)
 }
 
-/// The table of these faces with the pairs of a list, under a count of calls that nothing else takes part in.
-fn table_of<L: Ledger>(
-    alloc: Global,
-    faces: u32,
-    pairs: Vec<u32>,
-    blank: Blank,
-) -> Result<SideTable, Memory>
-    requires few { faces ≤ most_faces }
-    requires each { length pairs.items ≡ 3 * faces }
-    requires gluing { IsGluing faces (glued_in pairs.items) }
-    requires name { blank.name ≡ L.name }
-    requires parts { blank.parts ≡ L.parts }
-    requires some { 0 < L.parts }
-    ensures faces { IfOk result (λ t. t.faces ≡ faces) }
-    ensures entries { IfOk result (λ t. t.entries ≡ pairs.items) }
-{
-    let mut steps = Steps::<L>::new(blank);
-    SideTable::with_pairs(alloc, faces, pairs, &mut steps)
-}
-
 /// The surface cut at its seams: a table with as many faces whose pairs are those that are no seam. Its
 /// boundary has the sides of the seams. Refused for want of memory alone (this project's choice).
 pub fn unglued(alloc: Global, t: &SideTable, seam: &[bool]) -> Result<SideTable, Memory>
@@ -77,8 +57,7 @@ pub fn unglued(alloc: Global, t: &SideTable, seam: &[bool]) -> Result<SideTable,
 {
     let faces = t.face_count();
     let pairs = kept_pairs(alloc, sides_across(t), faces, seam)?;
-    let table = table_of::<Brand>(alloc, faces, pairs, Blank::new(1))?;
-    Ok(table)
+    Ok(SideTable::with_pairs(faces, pairs))
 }
 
 /// The labels of a table's vertices, under a count of calls that nothing else takes part in.

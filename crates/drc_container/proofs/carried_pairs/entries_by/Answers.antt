@@ -2,13 +2,13 @@ use Rattle.std.proofs.Common.{◌≡◌, ℕ, ◌+◌, ◌*◌, length, ap, ◌�
 use Rattle.std.specs.Prelude.{option_map}
 use Rattle.drc_base.specs.declared.sides.Side.{Side as NumberedSide}
 use Rattle.mesh_model.specs.Same.{Rows}
-use Rattle.corner_table.specs.Sides.{side_at}
+use Rattle.corner_table.specs.Sides.{side_at, IsGluing}
 use Rattle.corner_table.specs.Table.{gluing_of, side_of}
 use Rattle.corner_table.specs.Carried.{carry}
 use Rattle.pairing.specs.CarriedPairs.{carried}
 use Rattle.seams.specs.Pairs.{TellPairs}
 use Rattle.seams.proofs.Kept.{tell_more}
-use Rattle.drc_container.proofs.CarriedEntries.{entry-carried, glued-below, pairs-told}
+use Rattle.drc_container.proofs.CarriedEntries.{entry-carried, glued-below, pairs-told, carried-glues}
 use Rattle.drc_container.proofs.carried_pairs.entries_by.Given.{Over}
 use Rattle.drc_container.proofs.carried_pairs.entries_by.Goals.{After-other-other}
 use Rattle.drc_container.proofs.carried_pairs.entries_by.Goals as goal
@@ -44,4 +44,9 @@ returns g c =
     let f = c.face_count-count.ensures.count in
     let all : c.loop-side.side ≡ 3 * faces = omega arith in
     let T = subst (λ (k : ℕ). TellPairs (carried h c.args.rows.now) k entries) all c.loop-side.invariant in
-    record { pairs = pairs-told faces h c.args.rows.now entries c.face_count-count.ensures.gluing c.requires.rows T; each = T.each }
+    let told = pairs-told faces h c.args.rows.now entries c.face_count-count.ensures.gluing c.requires.rows T in
+    record {
+      pairs = told;
+      gluing = subst (IsGluing faces) (sym told) (carried-glues faces h c.args.rows.now c.face_count-count.ensures.gluing c.requires.rows);
+      each = T.each;
+    }
