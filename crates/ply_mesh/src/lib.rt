@@ -10,6 +10,7 @@ mod head_writer;
 mod header_writer;
 mod laws;
 mod numbers;
+mod points;
 mod property_writer;
 mod reading;
 mod rows;

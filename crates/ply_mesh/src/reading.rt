@@ -1,9 +1,10 @@
 //! Geometry from PLY text.
 
-ghost use Rattle.std.specs.Prelude.{◌≡◌, ◌+◌, ◌<◌, ◌-◌, ◌^◌, ◌≤◌, None, Some, length, map, IfOk};
-ghost use Rattle.drc_base.specs.Refusals.{Answers};
+ghost use Rattle.std.specs.Prelude.{◌≡◌, ◌+◌, ◌<◌, ◌-◌, ◌^◌, ◌≤◌, None, Some, length, map, IfOk, MatchResult};
+ghost use Rattle.drc_base.specs.Refusals.{Answers, Refuses};
 ghost use Rattle.ply_text.specs.Tokens.{tokens_of};
 ghost use Rattle.ply_text.specs.IsHeader.{IsHeader};
+ghost use Rattle.ply_mesh.specs.Body.{row_of, items_from, AreRowsRead};
 ghost use Rattle.ply_mesh.specs.Read.{quant_of, head_of, body_of, ply_read};
 
 use crate::bodies::{read_end, read_faces, read_rows, skip_lines};
@@ -56,6 +57,34 @@ fn heads_of(alloc: Global, heads: &[PlyHead]) -> Result<Vec<Head>, Memory>
     Ok(made)
 }
 
+/// Room for `width` items of each of `count` lines, but for no more than `most`.
+fn room_of(count: u32, width: usize, most: usize) -> usize
+    ensures { result ≤ most }
+{
+    if width == 0 || count as usize > most / width {
+        most
+    } else {
+        count as usize * width
+    }
+}
+
+/// The numbers of the points of a body in a text of `size` bytes, row after row.
+fn read_points(
+    alloc: Global,
+    header: &Header,
+    lines: &mut Lines<'_>,
+    size: usize,
+) -> Result<Vec<i32>, Refusal>
+    requires { header.now.body_line + length lines.old < 2 ^ 63 + 8 }
+    ensures fewer { length lines.new ≤ length lines.old }
+    ensures rows { let due = items_from (row_of header.now.types) header.now.vertices header.now.body_line (map tokens_of lines.old) in
+        MatchResult result (λ cells. AreRowsRead due cells.items (map tokens_of lines.new)) (λ e. Refuses due e) }
+{
+    let types = header.types.as_slice();
+    let room = room_of(header.vertices, types.len(), size / NUMBER_BYTES);
+    read_rows(alloc, lines, types, header.vertices, header.body_line, room)
+}
+
 /// The cloud of a body.
 fn read_cloud(
     alloc: Global,
@@ -68,11 +97,8 @@ fn read_cloud(
     requires room { header.now.body_line + length lines.old < 2 ^ 63 + 8 }
     ensures { Answers (λ g. g) (body_of header.now (map tokens_of lines.old)) result }
 {
-    let at = header.body_line;
-    let types = header.types.as_slice();
-    let room = room_of(header.vertices, types.len(), size / NUMBER_BYTES);
-    let cells = read_rows(alloc, lines, types, header.vertices, at, room)?;
-    read_end(lines, at + header.vertices as u64)?;
+    let cells = read_points(alloc, header, lines, size)?;
+    read_end(lines, header.body_line + header.vertices as u64)?;
     let heads = heads_of(alloc, header.heads.as_slice())?;
     let cloud = Cloud::new(heads, cells)?;
     Ok(Geometry::Cloud(cloud))
@@ -91,29 +117,15 @@ fn read_mesh(
     requires room { header.now.body_line + length lines.old < 2 ^ 63 + 8 }
     ensures { Answers (λ g. g) (body_of header.now (map tokens_of lines.old)) result }
 {
-    let at = header.body_line;
-    let types = header.types.as_slice();
-    let room = room_of(header.vertices, types.len(), size / NUMBER_BYTES);
-    let cells = read_rows(alloc, lines, types, header.vertices, at, room)?;
+    let cells = read_points(alloc, header, lines, size)?;
+    let at = header.body_line + header.vertices as u64;
     let list = header.list.unwrap_or((0, 0));
-    let at = at + header.vertices as u64;
     let room = room_of(count, 1, size / FACE_BYTES);
     let faces = read_faces(alloc, lines, list, header.vertices, count, at, room)?;
     read_end(lines, at + count as u64)?;
     let heads = heads_of(alloc, header.heads.as_slice())?;
     let mesh = CornerMesh::new(heads, cells, faces)?;
     Ok(Geometry::Mesh(mesh))
-}
-
-/// Room for `width` items of each of `count` lines, but for no more than `most`.
-fn room_of(count: u32, width: usize, most: usize) -> usize
-    ensures { result ≤ most }
-{
-    if width == 0 || count as usize > most / width {
-        most
-    } else {
-        count as usize * width
-    }
 }
 
 /// The geometry of a body.

@@ -6,9 +6,10 @@ ghost use Rattle.drc_base.specs.Counters.{HasCause};
 ghost use Rattle.ply_mesh.specs.Text.{line_text, text_of, point_lines, face_line, face_lines};
 ghost use Rattle.ply_mesh.specs.Printing.{body_lines, Prints};
 
+use crate::points::Points;
 use decimal_text::{ROOM_BYTES, put_signed, put_unsigned};
 use drc_base::{Failed, Sink, write_all};
-use mesh_model::{Cloud, CornerMesh, Geometry};
+use mesh_model::{CornerMesh, Geometry};
 
 /// The bytes of a chunk, which a sink gets at once when it is nearly full.
 pub(crate) const PIECE_BYTES: usize = 65536;
@@ -70,50 +71,24 @@ fn with_room<O: Sink>(out: &mut O, chunk: &[u8], held: usize) -> Result<usize, F
     Ok(0)
 }
 
-/// Puts the points of a mesh behind what the chunk holds, and answers how much it holds then.
-fn put_mesh_points<O: Sink>(
+/// Puts the lines of points behind what the chunk holds, and answers how much it holds then.
+fn put_points<O: Sink, P: Points>(
     out: &mut O,
-    mesh: &CornerMesh,
+    points: &P,
     chunk: &mut [u8],
     before: usize,
 ) -> Result<usize, Failed>
     requires long { length chunk.old ≡ PIECE_BYTES }
     requires before { before ≤ PIECE_BYTES }
     ensures text { Prints (O.held out.old) (O.held out.new)
-        (take before chunk.old ++ text_of (point_lines mesh.now.points)) chunk.new result }
+        (take before chunk.old ++ text_of (point_lines (P.rows points.now))) chunk.new result }
     ensures held { IfOk result (λ now. now ≤ PIECE_BYTES) }
     ensures cause { HasCause (O.faults out.old) (O.faults out.new) result }
 {
-    // For the prover alone: a row has 1 to 128 integers.
-    let _width = mesh.width();
     let mut held = before;
-    for i in 0..mesh.point_count() {
+    for i in 0..points.count() {
         let from = with_room(out, chunk, held)?;
-        held = put_row(mesh.point(i), chunk, from);
-    }
-    Ok(held)
-}
-
-/// Puts the points of a cloud behind what the chunk holds, and answers how much it holds then.
-fn put_cloud_points<O: Sink>(
-    out: &mut O,
-    cloud: &Cloud,
-    chunk: &mut [u8],
-    before: usize,
-) -> Result<usize, Failed>
-    requires long { length chunk.old ≡ PIECE_BYTES }
-    requires before { before ≤ PIECE_BYTES }
-    ensures text { Prints (O.held out.old) (O.held out.new)
-        (take before chunk.old ++ text_of (point_lines cloud.now.points)) chunk.new result }
-    ensures held { IfOk result (λ now. now ≤ PIECE_BYTES) }
-    ensures cause { HasCause (O.faults out.old) (O.faults out.new) result }
-{
-    // For the prover alone: a row has 1 to 128 integers.
-    let _width = cloud.width();
-    let mut held = before;
-    for i in 0..cloud.point_count() {
-        let from = with_room(out, chunk, held)?;
-        held = put_row(cloud.point(i), chunk, from);
+        held = put_row(points.row(i), chunk, from);
     }
     Ok(held)
 }
@@ -157,9 +132,9 @@ pub(crate) fn put_body<O: Sink>(
 {
     match g {
         Geometry::Mesh(mesh) => {
-            let held = put_mesh_points(out, mesh, chunk, before)?;
+            let held = put_points(out, mesh, chunk, before)?;
             put_faces(out, mesh, chunk, held)
         }
-        Geometry::Cloud(cloud) => put_cloud_points(out, cloud, chunk, before),
+        Geometry::Cloud(cloud) => put_points(out, cloud, chunk, before),
     }
 }

@@ -10,42 +10,41 @@ use Rattle.ply_mesh.proofs.reading.read_mesh.Goals as goal
 pub returns-in_err-cells : goal.returns-in_err-cells
 returns-in_err-cells c =
     let p = err_from_is_err_and c.from_residual.result c.from_residual.ensures.1 in
-    let r = rw c.as_slice-types.ensures.items at c.in_err-cells.ensures.rows in
-    rw (p.1, p.2) (rows_fault c.args.header.now (map tokens_of c.args.lines.now) _ r)
+    rw (p.1, p.2) (rows_fault c.args.header.now (map tokens_of c.args.lines.now) _ c.in_err-cells.ensures.rows)
 
 pub returns-in_err-faces : goal.returns-in_err-faces
 returns-in_err-faces c =
     let p = err_from_is_err_and c.from_residual-in_err-faces.result c.from_residual-in_err-faces.ensures.1 in
-    let r = rw c.as_slice-types.ensures.items at c.in_ok-cells.ensures.rows in
+    let r = c.in_ok-cells.ensures.rows in
     let f = rw c.unwrap_or-list.ensures at c.in_err-faces.ensures.faces in
-    rw (p.1, p.2) (faces_fault c.args.header.now (map tokens_of c.args.lines.now) (map tokens_of c.read_rows.new.lines) r.0 c.args.count _ c.requires.faces r.1 f)
+    rw (p.1, p.2) (faces_fault c.args.header.now (map tokens_of c.args.lines.now) (map tokens_of c.read_points.new.lines) r.0 c.args.count _ c.requires.faces r.1 f)
 
 pub returns-in_err-read_end : goal.returns-in_err-read_end
 returns-in_err-read_end c =
     let h = c.args.header.now in
     let p = err_from_is_err_and c.from_residual-in_err-read_end.result c.from_residual-in_err-read_end.ensures.1 in
-    let r = rw c.as_slice-types.ensures.items at c.in_ok-cells.ensures.rows in
+    let r = c.in_ok-cells.ensures.rows in
     let f = rw c.unwrap_or-list.ensures at c.in_ok-faces.ensures.faces in
-    let e = mesh_ends h (map tokens_of c.args.lines.now) (map tokens_of c.read_rows.new.lines) (map tokens_of c.read_faces.new.lines) r.0 c.in_ok-faces.faces.items c.args.count c.requires.faces r.1 f in
+    let e = mesh_ends h (map tokens_of c.args.lines.now) (map tokens_of c.read_points.new.lines) (map tokens_of c.read_faces.new.lines) r.0 c.in_ok-faces.faces.items c.args.count c.requires.faces r.1 f in
     rw (p.1, p.2, e) (c.in_err-read_end.ensures (Mesh (record { heads = map head_of h.heads; points = r.0; faces = c.in_ok-faces.faces.items })))
 
 pub new-requires : goal.new-requires
 new-requires c =
-    let r = rw c.as_slice-types.ensures.items at c.in_ok-cells.ensures.rows in
+    let r = c.in_ok-cells.ensures.rows in
     let f = rw c.unwrap_or-list.ensures at c.in_ok-faces.ensures.faces in
     let he = c.in_ok-heads.ensures ∙ ap (map head_of) c.as_slice.ensures.items in
-    mesh_rows c.args.header.now c.requires.header (map tokens_of c.args.lines.now) (map tokens_of c.read_rows.new.lines) c.in_ok-heads.heads.items c.in_ok-cells.cells.items he r c.args.count c.in_ok-faces.faces.items (map tokens_of c.read_faces.new.lines) c.requires.faces f
+    mesh_rows c.args.header.now c.requires.header (map tokens_of c.args.lines.now) (map tokens_of c.read_points.new.lines) c.in_ok-heads.heads.items c.in_ok-cells.cells.items he r c.args.count c.in_ok-faces.faces.items (map tokens_of c.read_faces.new.lines) c.requires.faces f
 
 pub returns-in_err-mesh : goal.returns-in_err-mesh
 returns-in_err-mesh c =
-    let r = rw c.as_slice-types.ensures.items at c.in_ok-cells.ensures.rows in
+    let r = c.in_ok-cells.ensures.rows in
     let f = rw c.unwrap_or-list.ensures at c.in_ok-faces.ensures.faces in
     let he = c.in_ok-heads.ensures ∙ ap (map head_of) c.as_slice.ensures.items in
-    absurd (mesh_never c.args.header.now c.requires.header (map tokens_of c.args.lines.now) (map tokens_of c.read_rows.new.lines) c.in_ok-heads.heads.items c.in_ok-cells.cells.items he r c.args.count c.in_ok-faces.faces.items (map tokens_of c.read_faces.new.lines) c.requires.faces f c.new.result _ c.new.ensures c.in_err-mesh.was)
+    absurd (mesh_never c.args.header.now c.requires.header (map tokens_of c.args.lines.now) (map tokens_of c.read_points.new.lines) c.in_ok-heads.heads.items c.in_ok-cells.cells.items he r c.args.count c.in_ok-faces.faces.items (map tokens_of c.read_faces.new.lines) c.requires.faces f c.new.result _ c.new.ensures c.in_err-mesh.was)
 
 pub returns : goal.returns
 returns c =
-    let r = rw c.as_slice-types.ensures.items at c.in_ok-cells.ensures.rows in
+    let r = c.in_ok-cells.ensures.rows in
     let f = rw c.unwrap_or-list.ensures at c.in_ok-faces.ensures.faces in
     let he = c.in_ok-heads.ensures ∙ ap (map head_of) c.as_slice.ensures.items in
-    mesh_is c.args.header.now c.requires.header (map tokens_of c.args.lines.now) (map tokens_of c.read_rows.new.lines) c.in_ok-heads.heads.items c.in_ok-cells.cells.items he r c.args.count c.in_ok-faces.faces.items (map tokens_of c.read_faces.new.lines) c.requires.faces f c.new.result c.in_ok-mesh.mesh c.in_ok-read_end.ensures c.new.ensures c.in_ok-mesh.was
+    mesh_is c.args.header.now c.requires.header (map tokens_of c.args.lines.now) (map tokens_of c.read_points.new.lines) c.in_ok-heads.heads.items c.in_ok-cells.cells.items he r c.args.count c.in_ok-faces.faces.items (map tokens_of c.read_faces.new.lines) c.requires.faces f c.new.result c.in_ok-mesh.mesh c.in_ok-read_end.ensures c.new.ensures c.in_ok-mesh.was
