@@ -6,7 +6,7 @@
 #![tactic(auto)]
 
 mod attributes;
-mod carried_pairs;
+mod carried_surfaces;
 mod choices;
 mod choosing;
 mod coded_values;

@@ -13,7 +13,7 @@ ghost use Rattle.eb_trace.specs.Writable.{IsWritable};
 ghost use Rattle.drc_container.specs.Refused.{vertices_fault, tracing_fault};
 ghost use Rattle.drc_container.specs.WrittenOnSurface.{traced, decoded};
 
-use crate::carried_pairs::carried_surface;
+use crate::carried_surfaces::carried_surface;
 use crate::refusals::unless;
 use corner_table::SideTable;
 use drc_base::{Kind, MAX_POINTS, Refusal};

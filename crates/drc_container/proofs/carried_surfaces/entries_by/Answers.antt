@@ -9,9 +9,9 @@ use Rattle.pairing.specs.CarriedPairs.{carried}
 use Rattle.seams.specs.Pairs.{TellPairs}
 use Rattle.seams.proofs.Kept.{tell_more}
 use Rattle.drc_container.proofs.CarriedEntries.{entry-carried, glued-below, pairs-told, carried-glues}
-use Rattle.drc_container.proofs.carried_pairs.entries_by.Given.{Over}
-use Rattle.drc_container.proofs.carried_pairs.entries_by.Goals.{After-other-other}
-use Rattle.drc_container.proofs.carried_pairs.entries_by.Goals as goal
+use Rattle.drc_container.proofs.carried_surfaces.entries_by.Given.{Over}
+use Rattle.drc_container.proofs.carried_surfaces.entries_by.Goals.{After-other-other}
+use Rattle.drc_container.proofs.carried_surfaces.entries_by.Goals as goal
 
 -- what the old side is glued to
 glued-to : (g : Over) (c : After-other-other g) → option_map side_of c.other-other.result ≡ gluing_of c.args.sides.now (carry c.args.rows.now (side_at c.loop-side.side))
