@@ -166,52 +166,9 @@ fn read_seams(across: &[u32], block: &mut Block) -> Vec<bool> {
     flags
 }
 
-struct Table {
-    across: Vec<u32>,
-    after: Vec<u32>,
-    before: Vec<u32>,
-}
-
-impl Table {
-    fn link(&mut self, x: u32, y: u32) {
-        self.after[x as usize] = y;
-        self.before[y as usize] = x;
-    }
-
-    fn glue(&mut self, a: u32, b: u32) {
-        let (next_a, next_b) = (self.after[a as usize], self.after[b as usize]);
-        let (previous_a, previous_b) = (self.before[a as usize], self.before[b as usize]);
-        if next_a == a {
-            if next_b != b {
-                self.link(previous_b, next_b);
-            }
-        } else if next_b == b {
-            self.link(previous_a, next_a);
-        } else {
-            self.link(previous_a, next_b);
-            self.link(previous_b, next_a);
-        }
-        self.across[a as usize] = b;
-        self.across[b as usize] = a;
-    }
-}
-
-/// The surface without the pairs that are seams, with the links of its boundary.
-fn unglued(across: &[u32], flags: &[bool]) -> Table {
-    let count = across.len();
-    let mut table = Table { across: vec![NONE; count], after: vec![0; count], before: vec![0; count] };
-    for first in (0..count as u32).step_by(3) {
-        table.link(first, first + 1);
-        table.link(first + 1, first + 2);
-        table.link(first + 2, first);
-    }
-    for x in 0..count as u32 {
-        let y = across[x as usize];
-        if x < y && y != NONE && !flags[x as usize] {
-            table.glue(x, y);
-        }
-    }
-    table
+/// The surface without the pairs that are seams.
+fn unglued(across: &[u32], flags: &[bool]) -> Vec<u32> {
+    across.iter().zip(flags).map(|(other, seam)| if *seam { NONE } else { *other }).collect()
 }
 
 /// The vertex of each corner, and of each vertex whether it meets a boundary.
@@ -280,9 +237,9 @@ fn main() {
         show("read_seams", 3 * FACES, start, set_in(&again));
         let start = Instant::now();
         let cut = unglued(&across, &flags);
-        show("unglued", 3 * FACES, start, cut.after.len().min(cut.before.len()) as u64 / 3);
+        show("unglued", 3 * FACES, start, cut.len() as u64 / 3);
         let start = Instant::now();
-        let (_, ends) = label(&unglued(&across, &flags).across);
+        let (_, ends) = label(&unglued(&across, &flags));
         show("classes", 3 * FACES, start, ends.len() as u64);
         let start = Instant::now();
         let (_, ends) = label(&round);

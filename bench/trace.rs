@@ -264,35 +264,10 @@ fn trace(across: &[u32]) -> Traced {
     Traced { symbols: walk.symbols, events: walk.events, starts: walk.starts, order, vertices }
 }
 
-/// For each side the side across, and of each free side the one after it and the one before it round the boundary.
-struct Table {
-    across: Vec<u32>,
-    after: Vec<u32>,
-    before: Vec<u32>,
-}
-
-/// The links of the free sides, by walks round their ends.
-fn linked(across: &[u32]) -> Table {
-    let mut after = vec![0; across.len()];
-    let mut before = vec![0; across.len()];
-    for side in 0..across.len() as u32 {
-        if across[side as usize] == NONE {
-            let mut found = next(side);
-            while across[found as usize] != NONE {
-                found = next(across[found as usize]);
-            }
-            after[side as usize] = found;
-            before[found as usize] = side;
-        }
-    }
-    Table { across: across.to_vec(), after, before }
-}
-
 /// The same surface, where row i says which face becomes face i, and by how much it is turned.
-fn renumbered(table: &Table, rows: &[(u32, u8)]) -> Table {
-    let count = table.across.len();
-    let mut places = vec![0; count];
-    let mut sources = Vec::with_capacity(count);
+fn renumbered(across: &[u32], rows: &[(u32, u8)]) -> Vec<u32> {
+    let mut places = vec![0; across.len()];
+    let mut sources = Vec::with_capacity(across.len());
     for (i, (face, turn)) in rows.iter().enumerate() {
         for k in 0..3 {
             let side = 3 * face + (k + u32::from(*turn)) % 3;
@@ -301,16 +276,7 @@ fn renumbered(table: &Table, rows: &[(u32, u8)]) -> Table {
         }
     }
     let becomes = |side: u32| if side == NONE { NONE } else { places[side as usize] };
-    let across = sources.iter().map(|side| becomes(table.across[*side as usize])).collect::<Vec<_>>();
-    let mut after = vec![0; count];
-    let mut before = vec![0; count];
-    for side in 0..count {
-        if across[side] == NONE {
-            after[side] = places[table.after[sources[side] as usize] as usize];
-            before[side] = places[table.before[sources[side] as usize] as usize];
-        }
-    }
-    Table { across, after, before }
+    sources.iter().map(|side| becomes(across[*side as usize])).collect()
 }
 
 /// A number that tells lists apart, by every thousandth of the first numbers.
@@ -325,10 +291,9 @@ fn show(name: String, items: u32, start: Instant, sum: u32) {
 }
 
 fn main() {
-    let surfaces = [("grid", linked(&glued(&faces(false)))), ("torus", linked(&glued(&faces(true))))];
+    let surfaces = [("grid", glued(&faces(false))), ("torus", glued(&faces(true)))];
     for _ in 0..7 {
-        for (name, table) in &surfaces {
-            let across = &table.across;
+        for (name, across) in &surfaces {
             let start = Instant::now();
             let (labels, _) = label(across);
             show(format!("{name}_labels"), 3 * FACES, start, sum(labels.into_iter()));
@@ -337,9 +302,8 @@ fn main() {
             let faces = traced.order.iter().map(|row| row.0);
             show(format!("{name}_trace"), FACES, start, sum(faces));
             let start = Instant::now();
-            let again = renumbered(table, &traced.order);
-            let links = again.after.len().max(again.before.len());
-            show(format!("{name}_renumbered"), FACES, start, links.max(again.across.len()) as u32 / 3);
+            let again = renumbered(across, &traced.order);
+            show(format!("{name}_renumbered"), FACES, start, again.len() as u32 / 3);
         }
     }
 }
