@@ -1,6 +1,8 @@
 -- What is told of the front of a mesh's stream and of the surface behind it, is told of the mesh.
 use Rattle.std.proofs.Common.{◌≡◌, ℕ, ◌-◌, ◌≤◌, ◌++◌, Bool, List, [], ◌∷◌, map, length, Option, None, refl, sym, ap, ◌∙◌, subst, Vec, Global}
-use Rattle.std.specs.Prelude.{option_map}
+use Rattle.std.specs.Prelude.{option_map, Result, Ok, Err, IfOk}
+use Rattle.drc_base.specs.declared.faults.Memory.{Memory}
+use Rattle.drc_container.specs.declared.seam_lists.SeamLists.{SeamLists}
 use Rattle.std.specs.List.{range_with_len}
 use Rattle.drc_base.specs.declared.limits.TheConstants.{MAX_POINTS}
 use Rattle.mesh_model.specs.declared.geometries.Geometry.TheVariants.{Mesh}
@@ -48,6 +50,12 @@ one-seams d one = ap (λ (k : ℕ). map (bits_of d) (range_with_len 1 (k - 1))) 
 -- and no flags
 pub one-flags : (d : Glued) → length d.mesh.heads ≡ 1 → None ∷ [] ≡ flag_lists d
 one-flags d one = ap (λ (o : Option (List Bool)). o ∷ []) (flags-first d) ∙ sym (ap (λ (k : ℕ). map (flags_of d) (range_with_len 0 k)) one)
+
+-- the flags of an answer, as lists
+pub no-flags : (d : Glued) (answer : Result SeamLists Memory) → length d.mesh.heads ≡ 1 → IfOk answer (λ s. s.flags.items ≡ None ∷ [])
+    → IfOk answer (λ s. map (option_map (λ (v : Vec Bool Global). v.items)) s.flags.items ≡ flag_lists d)
+no-flags d (Ok s) one is = ap (map (option_map (λ (v : Vec Bool Global). v.items))) is ∙ one-flags d one
+no-flags d (Err e) one is = tt
 
 -- ---- the front
 

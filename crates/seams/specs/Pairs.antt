@@ -1,6 +1,6 @@
 -- Pairs and flags while they are being written, side after side. These are the code's own words, for the steps of the loops; what the
 -- calls answer is told in `Seams` and `SeamBits`.
-use Rattle.std.specs.Prelude.{◌≡◌, ℕ, ◌*◌, ◌<◌, ◌||◌, Bool, true, false, cond, nat_lt, List, map, filter, length, get_or, Option, Some, None}
+use Rattle.std.specs.Prelude.{◌≡◌, ℕ, ◌*◌, ◌<◌, Bool, true, false, List, map, filter, length, get_or, Option, Some, None}
 use Rattle.std.specs.List.{range_with_len}
 use Rattle.corner_table.specs.Sides.{Side, number, side_at, Gluing}
 use Rattle.corner_table.specs.Table.{free_entry, other_at}

@@ -1,7 +1,11 @@
 -- A mesh with one attribute has no seams.
-use Rattle.std.proofs.Common.{Bool, List, Option, Vec, Global, map, sym, ap, ◌∙◌}
-use Rattle.std.specs.Prelude.{option_map}
+use Rattle.std.proofs.Common.{length, sym, ap, ◌∙◌}
 use Rattle.mesh_model.specs.Renumbering.{renumbered}
 use Rattle.drc_container.specs.Standings.{glued_by}
-use Rattle.drc_container.proofs.SurfaceFronts.{one-seams, one-flags}
+use Rattle.drc_container.proofs.SurfaceFronts.{no-flags}
 use Rattle.drc_container.proofs.connected.seams_in.Goals as goal
+
+pub returns-then-heads-eq1-clause-flags : goal.returns-then-heads-eq1-clause-flags
+returns-then-heads-eq1-clause-flags c =
+    no-flags (glued_by (renumbered c.args.mesh.now c.args.rows.now) c.args.sides.now) c.no_seams.result
+    (sym (ap length c.heads.ensures.value) ∙ c.if-heads-eq1.true) c.no_seams.ensures.flags

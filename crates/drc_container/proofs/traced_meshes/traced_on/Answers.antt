@@ -1,5 +1,5 @@
 use Rattle.std.proofs.Common.{◌≡◌, ap}
-use Rattle.corner_table.specs.Table.{gluing_of, glued_in}
+use Rattle.corner_table.specs.Table.{gluing_of}
 use Rattle.drc_container.specs.WrittenOnSurface.{traced}
 use Rattle.drc_container.specs.Refused.{vertices_fault}
 use Rattle.drc_container.proofs.SurfaceTracing.{traced-is, decoded-pairs, vertices-none, value-there}
@@ -21,5 +21,5 @@ returns-clause-trace c =
 
 pub returns-clause-pairs : goal.returns-clause-pairs
 returns-clause-pairs c =
-    decoded-pairs c.args.mesh.now c.in_ok-trace.trace.order c.as_slice.result.now (gluing_of c.args.sides) (glued_in c.in_ok-pairs.pairs.items) c.requires.pairs
-    (ap (λ r. r.order) (trace-is (goal.at.returns-clause-pairs c).In_ok-trace)) c.as_slice.ensures.items c.in_ok-pairs.ensures.pairs
+    decoded-pairs c.args.mesh.now c.in_ok-trace.trace.order c.as_slice.result.now (gluing_of c.args.sides) (gluing_of c.in_ok-sides.sides) c.requires.pairs
+    (ap (λ r. r.order) (trace-is (goal.at.returns-clause-pairs c).In_ok-trace)) c.as_slice.ensures.items c.in_ok-sides.ensures.pairs
