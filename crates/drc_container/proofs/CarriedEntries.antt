@@ -1,17 +1,16 @@
 -- The rows that lead back, and the entries of a surface under new numbers of its faces.
-use Rattle.std.proofs.Common.{◌≡◌, ◌≢◌, ◌⊎◌, ℕ, zero, suc, ◌+◌, ◌-◌, ◌*◌, ◌%◌, ◌<◌, eqb, nat_lt, List, [], ◌∷◌, ◌++◌, length, get_or, set, Option, Some, None, inl, inr, refl, sym, ap, ◌∙◌, subst, arith, length-append}
-use mathlib.Core.Path.{fun_ext}
-use Rattle.std.specs.Prelude.{option_map, replicate, IfSome}
-use Rattle.std.proofs.lemmas.Bool.{cases_lt, cases_eq, cond-true, cond-false, eq-eqb, lt-ltb, le-ltb}
-use Rattle.std.proofs.lemmas.List.{get_or_past, get_or_default, get_or_push, get_or_append_left, get_or-set_same, get_or-set_other, get_or-replicate, length-set, length-replicate}
+use Rattle.std.proofs.Common.{◌≡◌, ◌≢◌, ◌⊎◌, ℕ, zero, suc, ◌+◌, ◌-◌, ◌*◌, ◌%◌, ◌<◌, nat_lt, List, length, get_or, set, Option, Some, None, inl, inr, refl, sym, ap, ◌∙◌, subst, arith}
+use Rattle.std.specs.Prelude.{option_map, IfSome}
+use Rattle.std.proofs.lemmas.Bool.{cases_eq, cond-true, lt-ltb}
+use Rattle.std.proofs.lemmas.List.{get_or-set_same, get_or-set_other, length-set}
 use Rattle.drc_base.specs.declared.sides.Side.{Side as NumberedSide}
 use Rattle.mesh_model.specs.Same.{Rows, named, turn}
 use Rattle.mesh_model.specs.Renumbering.{inverted}
-use Rattle.corner_table.specs.Sides.{Side, Place, first, second, third, side, number, side_at, Gluing, IsGluing}
-use Rattle.corner_table.specs.Table.{free_entry, other_at, glued_in, side_of}
+use Rattle.corner_table.specs.Sides.{Side, Place, first, second, third, side, side_at, Gluing, IsGluing}
+use Rattle.corner_table.specs.Table.{other_at, glued_in, side_of}
 use Rattle.corner_table.specs.Carried.{turned, carry, IsRenumbering}
 use Rattle.corner_table.proofs.Places.{option_tells}
-use Rattle.corner_table.proofs.Numbers.{number-lt, face-lt, side_at-number}
+use Rattle.corner_table.proofs.Numbers.{face-lt}
 use Rattle.corner_table.proofs.Carrying.{carry_onto, carried_gluing}
 use Rattle.pairing.specs.CarriedPairs.{carried}
 use Rattle.pairing.proofs.CarriedPairs.{inverted_leads_back, carried_is_the_one}
@@ -31,27 +30,6 @@ turned_on (suc (suc zero)) first h = refl
 turned_on (suc (suc zero)) second h = refl
 turned_on (suc (suc zero)) third h = refl
 turned_on (suc (suc (suc t))) p h = absurd (omega arith)
-
--- a renumbering of so many faces is one of as many faces as it has rows
-pub by-rows : (faces : ℕ) (rows : Rows) → IsRenumbering faces rows → IsRenumbering (length rows) rows
-by-rows faces rows R = subst (λ (n : ℕ). IsRenumbering n rows) (sym R.one_each) R
-
--- its turns are below 3
-pub turns-few : (faces : ℕ) (rows : Rows) → IsRenumbering faces rows → AreRowsBelow faces rows
-turns-few faces rows R i d below =
-    let inside : i < faces = (let l = R.one_each in omega arith) in
-    let same : get_or rows i (0, 0) ≡ get_or rows i d = get_or_default rows i (0, 0) d below in
-    subst (λ (row : ℕ × ℕ). (row.0 < faces) × (row.1 < 3)) same (R.within i inside, R.turns i inside)
-
--- before any row is looked at
-pub back-none : (rows : Rows) → LeadBack rows 0 (replicate (length rows) (0, 0))
-back-none rows = record {
-  each = length-replicate (length rows) (0, 0);
-  within = λ i d below.
-      let inside : i < length rows = (let l : length (replicate {A = ℕ × ℕ} (length rows) (0, 0)) ≡ length rows = length-replicate (length rows) (0, 0) in omega arith) in
-      subst (λ (row : ℕ × ℕ). (row.0 < length rows) × (row.1 < 3)) (sym (get_or-replicate (length rows) i (0, 0) d inside)) (omega arith, omega arith);
-  leads = λ x h. absurd (omega arith);
-}
 
 -- one row more
 pub back-more : (rows back : Rows) (i : ℕ) → IsRenumbering (length rows) rows → i < length rows → LeadBack rows i back

@@ -1,5 +1,5 @@
 -- What is told of the front of a mesh's stream and of the surface behind it, is told of the mesh.
-use Rattle.std.proofs.Common.{◌≡◌, ℕ, ◌-◌, ◌≤◌, ◌++◌, Bool, List, [], ◌∷◌, map, length, Option, None, refl, sym, ap, ◌∙◌, subst, Vec, Global}
+use Rattle.std.proofs.Common.{◌≡◌, ℕ, ◌≤◌, ◌++◌, Bool, List, [], ◌∷◌, map, length, Option, None, refl, sym, ap, ◌∙◌, subst, Vec, Global}
 use Rattle.std.specs.Prelude.{option_map, Result, Ok, Err, IfOk}
 use Rattle.drc_base.specs.declared.faults.Memory.{Memory}
 use Rattle.drc_container.specs.declared.seam_lists.SeamLists.{SeamLists}
@@ -16,7 +16,7 @@ use Rattle.drc_container.specs.declared.traced_meshes.TracedMesh.{TracedMesh}
 use Rattle.drc_container.specs.declared.connected.Connected.{Connected}
 use Rattle.drc_container.specs.Refused.{tracing_fault}
 use Rattle.drc_container.specs.Written.{header_bytes}
-use Rattle.drc_container.specs.WrittenOnSurface.{Glued, traced, decoded, bits_of, seam_lists}
+use Rattle.drc_container.specs.WrittenOnSurface.{Glued, traced, decoded, seam_lists}
 use Rattle.drc_container.specs.Standings.{flags_of, flag_lists}
 use Rattle.drc_container.specs.Fronts.{IsTraced, IsConnected}
 use Rattle.drc_container.proofs.SurfaceTraced.{traced-orders}
@@ -43,11 +43,7 @@ trace-few m t is T = vertices-few m t.trace (decoded m) (traced-whole m t is T)
 
 -- ---- one attribute
 
--- a mesh with one attribute has no lists of seam bits
-pub one-seams : (d : Glued) → length d.mesh.heads ≡ 1 → seam_lists d ≡ []
-one-seams d one = ap (λ (k : ℕ). map (bits_of d) (range_with_len 1 (k - 1))) one
-
--- and no flags
+-- a mesh with one attribute has no flags
 pub one-flags : (d : Glued) → length d.mesh.heads ≡ 1 → None ∷ [] ≡ flag_lists d
 one-flags d one = ap (λ (o : Option (List Bool)). o ∷ []) (flags-first d) ∙ sym (ap (λ (k : ℕ). map (flags_of d) (range_with_len 0 k)) one)
 
