@@ -9,8 +9,8 @@ ghost use Rattle.corner_table.specs.Links.{relinked, new_loop};
 use drc_base::{Memory, Side};
 use std::alloc::Global;
 
-/// The entry of a side that is in no pair.
-pub(crate) const FREE: u32 = u32::MAX;
+/// The entry of a side that is in no pair, in the list that a table is.
+pub const FREE: u32 = u32::MAX;
 
 /// The entry with a number.
 pub(crate) fn entry_at(entries: &Vec<u32>, number: u32) -> u32

@@ -17,6 +17,7 @@ mod symbols;
 mod tests;
 
 pub use corner_lists::{Classes, Order};
+pub use entries::FREE;
 pub use laws::{
     a_fan_is_one_walk, fans_end_once, gluing_joins_fans, links_are_a_permutation,
     meeting_is_one_fan, pairs_have_one_bit_each, prefixes_have_gaps, renumbering_keeps_fans,

@@ -9,12 +9,9 @@ ghost use Rattle.corner_table.specs.Table.{free_entry};
 ghost use Rattle.corner_table.specs.Carried.{turned, IsRenumbering};
 ghost use Rattle.corner_table.specs.Renumbering.{ArePlaces, placed_face, becomes, AreCarried};
 
-use crate::entries::filled;
+use crate::entries::{FREE, filled};
 use drc_base::Memory;
 use std::alloc::Global;
-
-/// The entry of no side.
-const NONE: u32 = u32::MAX;
 
 /// The number of the corner that the corner `k` of a new face was.
 #[tactic(auto, using(crate::proofs::CarriedLists::turned_corner))]
@@ -63,7 +60,7 @@ fn entry_now(places: &Vec<u32>, entry: u32) -> u32
     if (entry as usize) < places.len() {
         places[entry as usize]
     } else {
-        NONE
+        FREE
     }
 }
 

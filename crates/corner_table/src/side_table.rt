@@ -49,7 +49,7 @@ impl SideTable {
     }
 
     /// The table of these faces with the pairs of a list: its entry 3f + k is the number of the side that
-    /// side k of face f is glued to, and `u32::MAX` where that side is free. The list becomes the table's.
+    /// side k of face f is glued to, and `FREE` where that side is in no pair. The list becomes the table's.
     pub fn with_pairs(faces: u32, pairs: Vec<u32>) -> SideTable
         requires few { faces ≤ most_faces }
         requires each { length pairs.items ≡ 3 * faces }
@@ -109,8 +109,8 @@ impl SideTable {
         self.across[second as usize] = first;
     }
 
-    /// For each side, by its number 3f + k, the number of the side that it is glued to, and `u32::MAX`
-    /// where it is free. Sides of faces for which there is room alone are free. The call counts as one
+    /// For each side, by its number 3f + k, the number of the side that it is glued to, and `FREE`
+    /// where it is in no pair. Sides of faces for which there is room alone are free. The call counts as one
     /// for each entry, that is three for each face for which there is room.
     pub fn across<L: Ledger>(&self, steps: &mut Steps<L>) -> &[u32]
         ensures entries { result.now ≡ self.now.entries }

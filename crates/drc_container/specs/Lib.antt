@@ -9,7 +9,6 @@ pub mod WrittenOnSurface
 pub mod Chosen
 pub mod Refused
 pub mod Encoded
-pub mod Renumbered
 pub mod Standings
 pub mod Fronts
 pub mod Layout

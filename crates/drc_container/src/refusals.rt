@@ -9,14 +9,11 @@ ghost use Rattle.attr_section.specs.Written.{range_of};
 ghost use Rattle.drc_container.specs.Refused.{choice_fault, empty_fault, position_fault, early_fault, chooses_parallelogram, begins_with_position, range_fault};
 
 use crate::choices::{Choice, Predict};
-use crate::choosing::is_sequential;
+use crate::choosing::{is_sequential, number_of_predict};
 use crate::contents::{face_count, heads_in, is_mesh, point_count};
 use attr_section::{Values, range_of};
 use drc_base::{Fault, Kind};
 use mesh_model::{Geometry, Head};
-
-/// The number of no prediction.
-const OFF: i8 = -2;
 
 /// A fault of this kind with this number, where a test doesn't hold.
 pub fn unless(holds: bool, kind: Kind, at: u64) -> Result<(), Fault>
@@ -139,7 +136,7 @@ fn test_spans(values: &[Values]) -> Result<(), Fault>
 pub fn test_ranges(predict: i8, values: &[Values]) -> Result<(), Fault>
     ensures { Tests (range_fault predict values.now) result }
 {
-    if predict == OFF {
+    if predict == number_of_predict(Predict::Off) {
         return Ok(());
     }
     test_spans(values)

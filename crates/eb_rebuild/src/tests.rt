@@ -8,7 +8,7 @@ use crate::built::Built;
 use crate::link_rebuild::LinkRebuild;
 use crate::rebuild::Rebuild;
 use crate::row_rebuild::RowRebuild;
-use corner_table::{Event, SideTable, Steps, Symbol};
+use corner_table::{Event, FREE, SideTable, Steps, Symbol};
 use drc_base::{Fault, Kind, MAX_FACES, Refusal};
 use std::alloc::Global;
 use std::marker::Brand;
@@ -89,9 +89,6 @@ fn rebuilt<R: Rebuild, L: Ledger>(
     close_all(&mut machine, bits, &mut steps)?;
     machine.finish(alloc)
 }
-
-/// The number across a side that is free.
-const FREE: u32 = u32::MAX;
 
 /// The table has these entries.
 fn has_entries<L: Ledger>(rt: &impl Abort, table: &SideTable, entries: &[u32], blank: Blank)

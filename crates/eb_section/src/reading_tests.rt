@@ -5,7 +5,7 @@
 ghost use Rattle.std.specs.Prelude.{◌≡◌, ◌<◌};
 
 use crate::reading::read_connectivity;
-use corner_table::Steps;
+use corner_table::{FREE, Steps};
 use drc_base::{Fault, Kind, Refusal};
 use drc_bits::Cursor;
 use std::alloc::Global;
@@ -13,9 +13,6 @@ use std::marker::Brand;
 use std::process::Abort;
 use std::sync::ledger::{Blank, Ledger};
 use std::test::Fail;
-
-/// A free side.
-const FREE: u32 = u32::MAX;
 
 /// A tetrahedron, its symbols E R C in bits, and an interior start face.
 const TETRAHEDRON: [u8; 12] = [0, 4, 4, 0, 3, 0, 0, 1, 0x2f, 1, 1, 0x10];

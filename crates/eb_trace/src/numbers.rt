@@ -3,7 +3,7 @@
 ghost use Rattle.std.specs.Prelude.{◌≡◌, ◌<◌, length, get_or};
 ghost use Rattle.corner_table.specs.Table.{free_entry};
 
-/// No side, or no number.
+/// The entry of a face that has no number to be kept.
 pub(crate) const NONE: u32 = u32::MAX;
 
 /// The entry of a side or corner.

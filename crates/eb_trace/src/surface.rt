@@ -10,8 +10,8 @@ ghost use Rattle.corner_table.specs.Table.{gluing_of};
 ghost use Rattle.eb_trace.specs.Stored.{gluing_in, IsSurface};
 ghost use Rattle.eb_trace.specs.Trace.{start_by, start_corner};
 
-use crate::numbers::{NONE, entry_at};
-use corner_table::{SideTable, Steps, previous_number};
+use crate::numbers::entry_at;
+use corner_table::{FREE, SideTable, Steps, previous_number};
 use drc_base::Memory;
 use std::alloc::Global;
 use std::marker::Brand;
@@ -71,7 +71,7 @@ impl Surface<'_> {
         ensures within { IfSome result (λ n. n < 3 * self.now.faces) }
     {
         let found = entry_at(self.across, side);
-        if found == NONE { None } else { Some(found) }
+        if found == FREE { None } else { Some(found) }
     }
 
     /// The label of a corner's vertex.

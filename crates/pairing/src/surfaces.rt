@@ -16,12 +16,12 @@ ghost use Rattle.pairing.specs.Degenerate.{degenerate_fault};
 ghost use Rattle.pairing.specs.Positions.{AreCornerNumbers, same_in};
 ghost use Rattle.pairing.specs.Turns.{AreSides, IsUpTo};
 
-use crate::chains::{NONE, chains_of};
+use crate::chains::chains_of;
 use crate::choosing::{Places, Sides, choose};
 use crate::classes::{classes_of, reversed};
 use crate::degenerate::test_faces;
 use crate::positions::corner_numbers;
-use corner_table::SideTable;
+use corner_table::{FREE, SideTable};
 use drc_base::{Memory, Refusal};
 use mesh_model::CornerMesh;
 use std::alloc::Global;
@@ -31,7 +31,7 @@ fn none_paired(alloc: Global, count: usize) -> Result<Vec<u32>, Memory>
     ensures each { IfOk result (λ pairs. length pairs.items ≡ count) }
     ensures unglued { IfOk result (λ pairs. glued_in pairs.items ≡ unglued) }
 {
-    Ok(vec![in alloc; NONE; count]?)
+    Ok(vec![in alloc; FREE; count]?)
 }
 
 /// Notes two sides as a pair.

@@ -3,7 +3,7 @@
 ghost use Rattle.std.specs.Prelude.{◌≡◌, ◌<◌};
 
 use crate::pair;
-use corner_table::{SideTable, Steps};
+use corner_table::{FREE, SideTable, Steps};
 use drc_base::{Fault, Kind, Memory, Refusal};
 use mesh_model::{CornerMesh, Head};
 use std::alloc::Global;
@@ -11,9 +11,6 @@ use std::marker::Brand;
 use std::process::Abort;
 use std::sync::ledger::{Blank, Ledger};
 use std::test::Fail;
-
-/// What the table has across a free side.
-const FREE: u32 = u32::MAX;
 
 /// A mesh of these faces, whose point i has the position (p, p * p, 0) for the number p at i. The
 /// numbers are small.

@@ -8,13 +8,10 @@ ghost use Rattle.corner_table.specs.Table.{gluing_of, free_entry};
 ghost use Rattle.predict.specs.Walked.{IsOver, IsBelow, walked, corner_at, face_at, only_below, at_corner};
 ghost use Rattle.predict.specs.Stored.{IsSurface, walked_in};
 
-use corner_table::{Order, SideTable, Steps, next_number, number_of, previous_number};
+use corner_table::{FREE, Order, SideTable, Steps, next_number, number_of, previous_number};
 use drc_base::Side;
 use std::marker::Brand;
 use std::sync::ledger::{Blank, Ledger};
-
-/// What stands for the side across where there is none.
-const FREE: u32 = u32::MAX;
 
 /// The entries of a face across a side: that of its corner opposite to the side, and those of the
 /// corners after and before it.

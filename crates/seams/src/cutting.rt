@@ -9,16 +9,13 @@ ghost use Rattle.corner_table.specs.Labels.{IsLabelled};
 ghost use Rattle.seams.specs.Seams.{AreFlags, MayBeFlags, flag_at, unseamed, unseamed_by};
 
 use crate::sides::{flag_of, sides_across};
-use corner_table::{Classes, SideTable, Steps};
+use corner_table::{Classes, FREE, SideTable, Steps};
 use drc_base::Memory;
 use std::alloc::Global;
 use std::marker::Brand;
 use std::sync::ledger::{Blank, Ledger};
 
-/// The number of no side.
-const NONE: u32 = u32::MAX;
-
-/// The entry that a side has once the surface is cut: that of before, or the number of no side at a seam. Both
+/// The entry that a side has once the surface is cut: that of before, or `FREE` at a seam. Both
 /// are at hand before the flag is asked for, so that one of them is chosen without a branch.
 #[tactic(auto, using(crate::proofs::Kept::kept_some))]
 fn kept_entry(across: &[u32], seam: &[bool], side: u32) -> u32
@@ -27,7 +24,7 @@ fn kept_entry(across: &[u32], seam: &[bool], side: u32) -> u32
     ensures { other_at result ≡ unseamed (flag_at seam.now) (glued_in across.now) (side_at side) }
 {
     let other = across[side as usize];
-    if flag_of(seam, side) { NONE } else { other }
+    if flag_of(seam, side) { FREE } else { other }
 }
 
 /// The entries that the sides of these faces have once the surface is cut.

@@ -8,12 +8,9 @@ ghost use Rattle.corner_table.specs.Labels.{IsLabelled, label_at};
 ghost use Rattle.corner_table.specs.Table.{free_entry, gluing_of};
 ghost use Rattle.walk_order.specs.Stored.{gluing_in, IsSurface};
 
-use corner_table::{Classes, SideTable, Steps};
+use corner_table::{Classes, FREE, SideTable, Steps};
 use std::marker::Brand;
 use std::sync::ledger::{Blank, Ledger};
-
-/// No side.
-const NONE: u32 = u32::MAX;
 
 /// A surface by lists that go by the numbers of its sides, its corners and its classes.
 #[derive(Clone, Copy)]
@@ -69,7 +66,7 @@ impl Surface<'_> {
         ensures within { IfSome result (λ n. n < 3 * self.now.faces) }
     {
         let found = entry_at(self.across, side);
-        if found == NONE { None } else { Some(found) }
+        if found == FREE { None } else { Some(found) }
     }
 
     /// The class of a corner.
