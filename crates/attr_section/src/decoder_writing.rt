@@ -68,10 +68,10 @@ fn written_decoder(
 /// values of an Edgebreaker stream stand on, in the order of the decoder's walk; None stands for a
 /// sequential stream. Attributes may be predicted by parallelograms, by one or by the mean of several,
 /// where there is a walk, and then have values for each of its entries. They are read back over that
-/// surface, wherever they begin and whatever follows them, and take just their length, for the number of
+/// surface, wherever they begin and whatever follows them, and take exactly their length, for the number of
 /// entries that the values have, where the values of all decoders are within their limit, and no list of
 /// flags over the surface has more of them than there are corners (`flags_are_few`). It is refused for
-/// want of memory alone.
+/// only when out of memory.
 pub fn write_decoder(
     alloc: Global,
     h: &DecoderHead,
@@ -84,6 +84,7 @@ pub fn write_decoder(
     ensures bytes { IfOk result (λ o. o.items ≡ decoder_values_bytes plain (surface_of (option_map (λ t. t.now) walk.entry)) h.now.heads v.now) }
     ensures again { IfOk result (λ o. MayHaveFewFlags (surface_of (option_map (λ t. t.now) walk.entry)) → (entries spent place : ℕ) (rest : List ℕ) → HaveEntries entries h.now.heads v.now → spent + values_in v.now ≤ MAX_VALUES → decoder_values_at profile_two (surface_of (option_map (λ t. t.now) walk.entry)) (bare_decoder h.now) entries spent (record { place = place; rest = o.items ++ rest }) ≡ Ok ((placed plain (surface_of (option_map (λ t. t.now) walk.entry)) place h.now.heads v.now, h.now), record { place = place + length o.items; rest = rest })) }
 {
+    // For the prover alone, who shows the clauses of the value that the call gave.
     let out = written_decoder(alloc, walk, h.heads.as_slice(), v, plain)?;
     Ok(out)
 }

@@ -128,6 +128,7 @@ pub fn write_heads(alloc: Global, d: &[DecoderHead], eb: bool) -> Result<Vec<u8>
     ensures bytes { IfOk result (λ v. v.items ≡ heads_bytes eb d.now) }
     ensures again { IfOk result (λ v. (attr_data : Option ℕ) → is_some attr_data ≡ eb → AreLinked attr_data d.now → Spells (heads_at attr_data) v.items (map bare_decoder d.now)) }
 {
+    // For the prover alone, who shows the clauses of the value that the call gave.
     let out = written_heads(alloc, d, eb)?;
     Ok(out)
 }

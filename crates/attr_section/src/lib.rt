@@ -1,6 +1,6 @@
 //! Attributes of a stream: the heads of their decoders and their values. The contract above it: what
 //! is read is the attribute part of its definition at the cursor's place, or its first fault, and
-//! what is written is read back with just its length. The values of an Edgebreaker stream stand on the
+//! what is written is read back with exactly its length. The values of an Edgebreaker stream stand on the
 //! surface of a walk. After the Draco Bitstream Specification 2.2, sections "Attributes Decoder",
 //! "Sequential Attributes" and "Prediction Decoder".
 #![tactic(auto)]

@@ -1,4 +1,4 @@
--- Labelling one fan: a walk to the left and one to the right reach just the corners of the fan.
+-- Labelling one fan: a walk to the left and one to the right reach exactly the corners of the fan.
 use Rattle.std.proofs.Common.{◌≡◌, ◌≢◌, ℕ, ◌<◌, true, false, cond, List, length, get_or, set, Some, None, ◌⊎◌, inl, inr, sym, refl, ap, ◌∙◌, subst, arith, length-set, get_or-set_other, get_or-set_same, option_map, eqb, eqb-true, sum_by}
 use Rattle.std.proofs.lemmas.Bool.{cases_Bool, cond-false}
 use Rattle.std.proofs.lemmas.List.Sums.{sum_by-set}

@@ -1,4 +1,4 @@
--- The test of one fan finds just the corners of the fan.
+-- The test of one fan finds exactly the corners of the fan.
 use Rattle.std.proofs.Common.{◌≡◌, ℕ, zero, suc, ◌+◌, ◌*◌, ◌<◌, ◌≤◌, Bool, true, false, cond, ◌||◌, Option, Some, None, ◌⊎◌, inl, inr, sym, refl, ap, ◌∙◌, subst, arith}
 use Rattle.std.proofs.lemmas.Bool.{cases_Bool, cases_eq, cases_lt, cases_order, or_cases}
 use Rattle.corner_table.specs.Sides.{Side, number, same, Gluing, IsGluing}

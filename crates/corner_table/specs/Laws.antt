@@ -16,7 +16,7 @@ abbrev pub FansAreClasses : Type 0
 FansAreClasses = (faces : ℕ) (g : Gluing) → IsGluing faces g →
     ((c d : Side) → InFan g c d → InFan g d c) × ((c d e : Side) → InFan g c d → InFan g d e → InFan g c e)
 
--- two corners are in one fan just where swings to the left lead from one of them to the other
+-- two corners are in one fan exactly where swings to the left lead from one of them to the other
 abbrev pub FanIsOneWalk : Type 0
 FanIsOneWalk = (faces : ℕ) (g : Gluing) → IsGluing faces g → (c d : Side) →
     InFan g c d ↔ ((n : ℕ) × ((left_by g n c ≡ Some d) ⊎ (left_by g n d ≡ Some c)))
@@ -100,7 +100,7 @@ PrefixIsGluing = (faces : ℕ) (g : Gluing) (m : ℕ) → IsGluing faces g → I
 abbrev pub IsPairOf : ℕ → Gluing → Side → Side → Type 0
 IsPairOf m g x y = (g x ≡ Some y) × (((x.face ≡ m) × (y.face < m)) ⊎ ((y.face ≡ m) × (x.face < m)))
 
--- one face more brings just its pairs with the faces below it
+-- one face more brings exactly its pairs with the faces below it
 abbrev pub OneFaceMore : Type 0
 OneFaceMore = (faces : ℕ) (g : Gluing) (m : ℕ) → IsGluing faces g → (x y : Side) →
     (prefix (suc m) g x ≡ Some y) ↔ ((prefix m g x ≡ Some y) ⊎ IsPairOf m g x y)
@@ -115,12 +115,12 @@ pub record AreOneSurface (faces : ℕ) (g : Gluing) (rows : List (ℕ × ℕ)) (
 abbrev pub GluingIsCarried : Type 0
 GluingIsCarried = (faces : ℕ) (g h : Gluing) (rows : List (ℕ × ℕ)) → IsGluing faces g → IsCarried faces g rows h → IsGluing faces h
 
--- two corners are one fan under new numbers just where they were
+-- two corners are one fan under new numbers exactly where they were
 abbrev pub FansAreCarried : Type 0
 FansAreCarried = (faces : ℕ) (g h : Gluing) (rows : List (ℕ × ℕ)) → AreOneSurface faces g rows h →
     (c d : Side) → c.face < faces → d.face < faces → InFan h c d ↔ InFan g (carry rows c) (carry rows d)
 
--- a side is free just where it was
+-- a side is free exactly where it was
 abbrev pub FreeIsCarried : Type 0
 FreeIsCarried = (faces : ℕ) (g h : Gluing) (rows : List (ℕ × ℕ)) → AreOneSurface faces g rows h →
     (x : Side) → x.face < faces → IsFree faces h x ↔ IsFree faces g (carry rows x)
@@ -141,12 +141,12 @@ abbrev pub ProperIsCarried : Type 0
 ProperIsCarried = (faces : ℕ) (g h : Gluing) (rows : List (ℕ × ℕ)) → IsRenumbering faces rows → IsCarried faces g rows h →
     IsProper faces g → IsProper faces h
 
--- just one free side follows a free one
+-- exactly one free side follows a free one
 abbrev pub OneFollows : Type 0
 OneFollows = (faces : ℕ) (g : Gluing) → IsGluing faces g → (a : Side) → IsFree faces g a →
     Follows faces g a (side_after faces g a) × ((b : Side) → Follows faces g a b → b ≡ side_after faces g a)
 
--- and it follows just one
+-- and it follows exactly one
 abbrev pub OneComesBefore : Type 0
 OneComesBefore = (faces : ℕ) (g : Gluing) → IsGluing faces g → (a : Side) → IsFree faces g a →
     IsFree faces g (side_before faces g a) × Follows faces g (side_before faces g a) a

@@ -21,7 +21,7 @@ pair_count faces g = length (bit_sides faces g)
 abbrev pub free_count : ℕ → Gluing → ℕ
 free_count faces g = count_by (λ (x : Side). is_none (g x)) (corners_of faces)
 
--- of the two sides of a pair just one has a bit
+-- of the two sides of a pair exactly one has a bit
 abbrev pub OneBitEach : Type 0
 OneBitEach = (faces : ℕ) (g : Gluing) → IsGluing faces g → (x y : Side) → g x ≡ Some y → has_bit g y ≡ not (has_bit g x)
 

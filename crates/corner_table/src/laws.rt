@@ -47,7 +47,7 @@ pub fn gluing_joins_fans()
 /// The faces below a number, with the pairs among them, are a surface of their own. A corner of a later
 /// face that they surround fills a gap between two of their free sides, one of which starts where the
 /// other ends, and so comes after it round their boundary; a corner between two such sides is surrounded;
-/// and one face more adds just its own pairs with the faces below it. This is the contract of a call that
+/// and one face more adds exactly its own pairs with the faces below it. This is the contract of a call that
 /// does nothing.
 pub fn prefixes_have_gaps()
     ensures gluing { PrefixIsGluing }
@@ -85,14 +85,14 @@ pub fn links_are_a_permutation()
     ensures gluing_linked { TakenOutIsLinked }
 {}
 
-/// The test whether two corners meet, which walks both ways, finds just the corners of one fan. This is
+/// The test whether two corners meet, which walks both ways, finds exactly the corners of one fan. This is
 /// the contract of a call that does nothing.
 pub fn meeting_is_one_fan()
     ensures found { TestFindsFan }
     ensures only { TestFindsNoOther }
 {}
 
-/// The pairs of a surface, each told at the one of its two sides whose face comes first: of a pair just
+/// The pairs of a surface, each told at the one of its two sides whose face comes first: of a pair exactly
 /// one side has a bit; the list of those sides has each of them once, by rising numbers, and no others;
 /// and twice the pairs and the free sides together are three for each face. This is the contract of a
 /// call that does nothing.

@@ -40,7 +40,7 @@ impl LinkedTable {
     ghost use Rattle.corner_table.specs.Table.{side_of, gluing_of, room_of, IsFreeIn};
 
     /// A table without faces, and room for `faces` of them, which is three lists of a number for each
-    /// of their sides. Refused for want of memory alone.
+    /// of their sides. Refused only when out of memory.
     pub fn with_room(alloc: Global, faces: u32) -> Result<LinkedTable, Memory>
         requires { faces ≤ most_faces }
         ensures none { IfOk result (λ t. t.faces ≡ 0) }
@@ -48,7 +48,7 @@ impl LinkedTable {
         ensures unglued { IfOk result (λ t. gluing_of t ≡ unglued) }
     {
         let sides = SideTable::with_room(alloc, faces)?;
-        // Called for the prover alone, who knows from here on how many entries there are.
+        // For the prover alone, who knows from here on how many entries there are.
         let _ = sides.face_count();
         let after = filled(alloc, 0, 3 * faces as usize)?;
         let before = filled(alloc, 0, 3 * faces as usize)?;
@@ -94,7 +94,7 @@ impl LinkedTable {
         ensures glued { gluing_of self.new ≡ glue (side_of a) (side_of b) (gluing_of self.old) }
         ensures steps { steps.new ≡ steps.old + 1 }
     {
-        // Called for the prover alone, who knows of the lists from here on that they fit together.
+        // For the prover alone, who knows of the lists from here on that they fit together.
         let _ = self.sides.face_count();
         let first = number_of(a);
         let second = number_of(b);
@@ -121,7 +121,7 @@ impl LinkedTable {
         ensures steps { steps.new ≡ steps.old + 1 }
     {
         steps.tick();
-        // Read for the prover alone, who knows of the lists from here on that they fit together.
+        // For the prover alone, who knows of the lists from here on that they fit together.
         let _ = &self.sides;
         side_with(entry_at(&self.after, number_of(s)))
     }
@@ -137,7 +137,7 @@ impl LinkedTable {
         ensures steps { steps.new ≡ steps.old + 1 }
     {
         steps.tick();
-        // Read for the prover alone, who knows of the lists from here on that they fit together.
+        // For the prover alone, who knows of the lists from here on that they fit together.
         let _ = &self.sides;
         side_with(entry_at(&self.before, number_of(s)))
     }

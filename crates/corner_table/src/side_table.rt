@@ -37,7 +37,7 @@ impl SideTable {
     ghost use Rattle.corner_table.specs.Carried.{IsRenumbering, IsCarried};
 
     /// A table without faces, and room for `faces` of them, which is a number for each of their sides.
-    /// Refused for want of memory alone.
+    /// Refused only when out of memory.
     pub fn with_room(alloc: Global, faces: u32) -> Result<SideTable, Memory>
         requires { faces ≤ most_faces }
         ensures none { IfOk result (λ t. t.faces ≡ 0) }
@@ -101,7 +101,7 @@ impl SideTable {
         ensures steps { steps.new ≡ steps.old + 1 }
     {
         steps.tick();
-        // Read for the prover alone, who knows of the lists from here on that they fit together.
+        // For the prover alone, who knows of the lists from here on that they fit together.
         let _ = &self.faces;
         let first = number_of(a);
         let second = number_of(b);
@@ -160,8 +160,8 @@ impl SideTable {
 
     /// The same surface under new numbers: row i says which face the new face i is, and by how much it
     /// is turned, so that its corner k is corner k + turn, modulo 3, of that face. Its pairs are those
-    /// of this table, renumbered, and no others. It has room for just these faces. A list of a number for
-    /// each side is made for it, and one more while it is made. Refused for want of memory alone. All
+    /// of this table, renumbered, and no others. It has room for exactly these faces. A list of a number for
+    /// each side is made for it, and one more while it is made. Refused only when out of memory. All
     /// entries are looked at, so the call counts as many steps as `across` does.
     pub fn renumbered<L: Ledger>(
         &self,
@@ -194,7 +194,7 @@ impl SideTable {
         requires { s.face < self.now.faces }
         ensures { option_map side_of result ≡ gluing_of self.now (side_of s) }
     {
-        // Read for the prover alone, who knows of the lists from here on that they fit together.
+        // For the prover alone, who knows of the lists from here on that they fit together.
         let _ = &self.faces;
         let entry = self.across[number_of(s) as usize];
         if entry == FREE {
@@ -210,7 +210,7 @@ impl SideTable {
         ensures corner { option_map side_at result ≡ swing_left (gluing_of self.now) (side_at corner) }
         ensures within { IfSome result (λ n. n < 3 * self.now.faces) }
     {
-        // Read for the prover alone, who knows of the lists from here on that they fit together.
+        // For the prover alone, who knows of the lists from here on that they fit together.
         let _ = &self.faces;
         let side = entry_or_free(&self.across, next_number(corner));
         if side == FREE {
@@ -226,7 +226,7 @@ impl SideTable {
         ensures corner { option_map side_at result ≡ swing_right (gluing_of self.now) (side_at corner) }
         ensures within { IfSome result (λ n. n < 3 * self.now.faces) }
     {
-        // Read for the prover alone, who knows of the lists from here on that they fit together.
+        // For the prover alone, who knows of the lists from here on that they fit together.
         let _ = &self.faces;
         let side = entry_or_free(&self.across, previous_number(corner));
         if side == FREE {

@@ -11,7 +11,7 @@ use Rattle.drc_app.specs.declared.commands.Command.{Command}
 use Rattle.drc_app.specs.declared.commands.Command.TheVariants as command
 
 -- the text that was read is a geometry's, the stream means the same one by these rows and is coded as chosen, and the note is
--- the map of just these rows
+-- the map of exactly these rows
 pub record KeepsGeometry (choice : Choice) (text stream note : List ℕ) : Type 0 where
   pub geometry : Geometry
   pub rows : Rows

@@ -10,8 +10,8 @@ pub fn words_say_one_thing()
 {}
 
 /// Generated meshes are never refused: whatever the kind, the size that a command line may ask for and
-/// the seed, each choice that fits a mesh (`choice_fault` finds nothing) has its stream, unless memory
-/// is wanting. This is the contract of a call that does nothing.
+/// the seed, each choice that fits a mesh (`choice_fault` finds nothing) has its stream, unless it runs
+/// out of memory. This is the contract of a call that does nothing.
 pub fn generated_meshes_are_encoded()
     ensures { GeneratedIsEncoded }
 {}

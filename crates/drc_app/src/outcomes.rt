@@ -78,10 +78,7 @@ pub fn outcome_of<I: Source>(alloc: Global, words: &[String], input: &mut I) -> 
 fn input_limit() -> Fault
     ensures { result ≡ input_limit }
 {
-    Fault {
-        kind: Kind::InputLimit,
-        at: MAX_INPUT_BYTES,
-    }
+    Fault::new(Kind::InputLimit, MAX_INPUT_BYTES)
 }
 
 /// What the command comes to on all bytes of its input.

@@ -35,7 +35,7 @@ pub struct Summary {
 }
 
 /// The summary of a generated mesh: what it was asked for by, how many faces and points it has, and how
-/// many bytes each method gives with no other option. It is refused for want of memory alone.
+/// many bytes each method gives with no other option. It is refused only when out of memory.
 #[tactic(auto, unfolding(crate::specs::Due::summary_due))]
 pub fn summary_due(alloc: Global, asked: GenMesh) -> Result<Vec<u8>, Memory>
     requires { IsSize asked.size }

@@ -236,7 +236,7 @@ fn predictions_and_walks_are_named(rt: HostRuntime) -> Result<(), Fail> {
     Ok(())
 }
 
-/// How many bytes a mesh is encoded as by a method. It asserts that they mean the mesh by just the rows
+/// How many bytes a mesh is encoded as by a method. It asserts that they mean the mesh by exactly the rows
 /// that are told.
 fn length_kept(
     rt: &impl Abort,

@@ -15,7 +15,7 @@ abbrev pub given_after : {E : Type 0} → ℕ → Result ℕ E → ℕ
 given_after given (Ok n) = counted given n
 given_after given (Err e) = given
 
--- a source whose bytes left and count of bytes given were `left` and `given` gave just these bytes since
+-- a source whose bytes left and count of bytes given were `left` and `given` gave exactly these bytes since
 pub record Gave (left left' : Option (List ℕ)) (given given' : ℕ) (bytes : List ℕ) : Type 0 where
   pub consumed : Consumes left left' bytes
   pub at_least : counted given (length bytes) ≤ given'

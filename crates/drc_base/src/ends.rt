@@ -11,7 +11,7 @@ pub enum ReadEnd {
     /// The source has more bytes than may be read.
     #[error("too many bytes")]
     TooLong,
-    /// Memory was wanting.
+    /// Out of memory.
     #[error("memory wanting")]
     Memory,
 }

@@ -1,4 +1,4 @@
-//! Why a call answers no value: memory was wanting, a source or sink failed, or the input has a
+//! Why a call answers no value: it is out of memory, a source or sink failed, or the input has a
 //! fault.
 
 ghost use Rattle.std.specs.Prelude.{◌≡◌};
@@ -8,7 +8,7 @@ use crate::kinds::Kind;
 use std::alloc::{AllocError, AllocFailed};
 use thiserror::Error;
 
-/// Memory was wanting.
+/// Out of memory.
 #[derive(Clone, Copy, Debug, PartialEq, Eq, Error)]
 #[error("memory wanting")]
 pub struct Memory;
@@ -42,7 +42,7 @@ impl Fault {
 pub enum Refusal {
     /// The input has this fault.
     Fault(Fault),
-    /// Memory was wanting.
+    /// Out of memory.
     Memory,
 }
 

@@ -61,7 +61,7 @@ impl<T> Sequence<T> {
 impl<T: Copy> Sequence<T> {
     ghost use Rattle.std.specs.Prelude.{◌≡◌, ◌++◌, IfOk, OnErr};
 
-    /// Adds items behind the others; they stay as they are where memory is wanting.
+    /// Adds items behind the others; they stay as they are when out of memory.
     pub fn append(&mut self, items: &[T]) -> Result<(), Memory>
         ensures added { IfOk result (λ _. self.new ≡ self.old ++ items.now) }
         ensures same { OnErr result (self.new ≡ self.old) }

@@ -101,7 +101,7 @@ pub length-packed : (bits : List ℕ) → length (packed bits) ≡ bytes_for (le
 unfolding packed
 length-packed bits = length-packed_in (bytes_for (length bits)) bits
 
--- packed bits are read as just these, with just their bytes
+-- packed bits are read as exactly these, with just their bytes
 pub Spells-bits : (bits : List ℕ) → AreBits bits → Spells (bits_at (length bits)) (packed bits) bits
 Spells-bits bits are =
     let n : ℕ = length bits in

@@ -56,7 +56,7 @@ abbrev pub Reads : {A B : Type 0} → (A → B) → Item B → Reading → Resul
 Reads view item new (Ok x) = item ≡ Ok (view x, new)
 Reads view item new (Err f) = item ≡ Err f
 
--- a part of a stream that takes memory gave this item; want of memory is free
+-- a part of a stream that takes memory gave this item; running out of memory is free
 abbrev pub Gives : {A B : Type 0} → (A → B) → Item B → Reading → Result A Refusal → Type 0
 Gives view item new (Ok x) = item ≡ Ok (view x, new)
 Gives view item new (Err e) = Refuses item e

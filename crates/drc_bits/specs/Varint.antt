@@ -25,11 +25,11 @@ abbrev pub fitting : ℕ → Result (List ℕ) Kind → Result (ℕ × ℕ) Kind
 fitting limit (Ok groups) = if nat_lt (value_of groups) limit then Ok (value_of groups, length groups) else Err kind.Long
 fitting limit (Err k) = Err k
 
--- the varint at the front of these bytes: its value below the limit, and how many bytes it takes
+-- the varint at the beginning of these bytes: its value below the limit, and how many bytes it takes
 unfoldable pub varint : ℕ → ℕ → List ℕ → Result (ℕ × ℕ) Kind
 varint most limit bytes = fitting limit (groups_of most bytes)
 
--- what a varint at the front is as an item; its faults stand where it begins
+-- what a varint at the beginning is as an item; its faults stand where it begins
 abbrev pub as_item : Reading → Result (ℕ × ℕ) Kind → Item ℕ
 as_item c (Ok x) = Ok (x.0, advanced x.1 c)
 as_item c (Err k) = fault_at k c

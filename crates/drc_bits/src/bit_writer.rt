@@ -134,7 +134,7 @@ impl BitWriter {
     }
 
     /// The bytes of the bits that were put; the last one is filled with bits 0. Wherever they stand and
-    /// whatever follows, they are read as just these bits. It takes no memory.
+    /// whatever follows, they are read as exactly these bits. It takes no memory.
     pub fn finish(self) -> Vec<u8>
         ensures bytes { result.items ≡ packed self }
         ensures bits { bits_of result.items ≡ self ++ replicate (8 * bytes_for (length self) - length self) 0 }

@@ -6,7 +6,7 @@ ghost use Rattle.drc_bits.specs.Varint.{varint, spelling};
 use arrayvec::ArrayVec;
 use drc_base::Kind;
 
-/// The varint of 32 bits at the front of `bytes` and how many bytes it takes, or `Short` or `Long`.
+/// The varint of 32 bits at the beginning of `bytes` and how many bytes it takes, or `Short` or `Long`.
 pub fn var32_front(bytes: &[u8]) -> Result<(u32, usize), Kind>
     ensures value { MatchResult result (λ x. varint 5 (2 ^ 32) bytes.now ≡ Ok (x.0, x.1)) (λ k. varint 5 (2 ^ 32) bytes.now ≡ Err k) }
     ensures len { IfOk result (λ x. x.1 ≤ length bytes.now) }
@@ -31,7 +31,7 @@ pub fn var32_front(bytes: &[u8]) -> Result<(u32, usize), Kind>
     Err(Kind::Long)
 }
 
-/// The varint of 64 bits at the front of `bytes` and how many bytes it takes, or `Short` or `Long`.
+/// The varint of 64 bits at the beginning of `bytes` and how many bytes it takes, or `Short` or `Long`.
 pub fn var64_front(bytes: &[u8]) -> Result<(u64, usize), Kind>
     ensures value { MatchResult result (λ x. varint 10 (2 ^ 64) bytes.now ≡ Ok (x.0, x.1)) (λ k. varint 10 (2 ^ 64) bytes.now ≡ Err k) }
     ensures len { IfOk result (λ x. x.1 ≤ length bytes.now) }

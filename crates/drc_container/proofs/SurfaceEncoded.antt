@@ -38,7 +38,7 @@ use Rattle.drc_container.specs.WrittenOnSurface.{traced, Glued, decoded, coded_v
 use Rattle.drc_container.specs.Refused.{vertices_fault, limit_fault, range_fault, tracing_fault, values_fault, coding_fault}
 use Rattle.drc_container.specs.Encoded.{CanCodeSurface, AttributeSpelled, SurfaceSpelled}
 use Rattle.drc_container.specs.Standings.{glued_by, CanCodeValues}
-use Rattle.drc_container.specs.Fronts.{connectivity_of}
+use Rattle.drc_container.specs.Preludes.{connectivity_of}
 use Rattle.drc_container.proofs.FirstRefusals.{refuses-alike, value-given, wraps}
 use Rattle.drc_container.proofs.SurfaceDecoded.{decoded-keeps}
 
@@ -153,24 +153,24 @@ surface-spelled coding m t d is again spelled =
     }
 
 -- the bytes are those of the mesh
-bytes-are : (coding : Coding) (m : MeshParts) (d : Glued) (front : List ℕ) → d ≡ decoded m → front ≡ header_bytes 1 (Mesh m) ++ connectivity_of coding.valence m
-    → front ++ (decoder_heads_bytes coding d ++ values_bytes_on coding d) ≡ edgebreaker_bytes coding m
+bytes-are : (coding : Coding) (m : MeshParts) (d : Glued) (prelude : List ℕ) → d ≡ decoded m → prelude ≡ header_bytes 1 (Mesh m) ++ connectivity_of coding.valence m
+    → prelude ++ (decoder_heads_bytes coding d ++ values_bytes_on coding d) ≡ edgebreaker_bytes coding m
 unfolding edgebreaker_bytes
-bytes-are coding m d front is told =
+bytes-are coding m d prelude is told =
     let behind : Glued → List ℕ = λ g. decoder_heads_bytes coding g ++ values_bytes_on coding g in
     ap (λ (l : List ℕ). l ++ behind d) told
     ∙ append_assoc (header_bytes 1 (Mesh m)) (connectivity_of coding.valence m) (behind d)
     ∙ ap (λ (g : Glued). header_bytes 1 (Mesh m) ++ (connectivity_of coding.valence m ++ behind g)) is
 
 -- so they are due
-pub stream-due : (coding : Coding) (m : MeshParts) (t : Traced) (d : Glued) (front bytes : List ℕ) (rows : Rows) → IsTracedTo m t d
-    → front ≡ header_bytes 1 (Mesh m) ++ connectivity_of coding.valence m → rows ≡ (traced m).order
-    → value_unless (values_fault coding d) (front ++ (decoder_heads_bytes coding d ++ values_bytes_on coding d)) ≡ Ok bytes
+pub stream-due : (coding : Coding) (m : MeshParts) (t : Traced) (d : Glued) (prelude bytes : List ℕ) (rows : Rows) → IsTracedTo m t d
+    → prelude ≡ header_bytes 1 (Mesh m) ++ connectivity_of coding.valence m → rows ≡ (traced m).order
+    → value_unless (values_fault coding d) (prelude ++ (decoder_heads_bytes coding d ++ values_bytes_on coding d)) ≡ Ok bytes
     → value_unless {A = List ℕ × Rows} (coding_fault coding m) (edgebreaker_bytes coding m, (traced m).order) ≡ Ok (bytes, rows)
-stream-due coding m t d front bytes rows is told order given =
-    let whole = front ++ (decoder_heads_bytes coding d ++ values_bytes_on coding d) in
+stream-due coding m t d prelude bytes rows is told order given =
+    let whole = prelude ++ (decoder_heads_bytes coding d ++ values_bytes_on coding d) in
     let none : coding_fault coding m ≡ None = fault-is coding m t d is ∙ value-given (values_fault coding d) whole bytes given in
-    let bytes_is : bytes ≡ edgebreaker_bytes coding m = value-told (values_fault coding d) whole bytes given ∙ bytes-are coding m d front is.decoded told in
+    let bytes_is : bytes ≡ edgebreaker_bytes coding m = value-told (values_fault coding d) whole bytes given ∙ bytes-are coding m d prelude is.decoded told in
     let own : List ℕ × Rows = (edgebreaker_bytes coding m, (traced m).order) in
     let left : List ℕ → List ℕ × Rows = λ b. (b, (traced m).order) in
     let right : Rows → List ℕ × Rows = λ r. (bytes, r) in

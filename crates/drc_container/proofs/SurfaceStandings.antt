@@ -90,7 +90,7 @@ walk-at coding s k are has =
     ∙ ap (unwrap_or (cut_walk (glued_on s) k)) are.whole
     ∙ walk-of-is coding (glued_on s) k
 
--- it is cut just where the values belong to corners
+-- it is cut exactly where the values belong to corners
 pub is-cut : (degree : Bool) (s : Standings) (k : ℕ) → AreStandings degree s → k < length s.mesh.heads → is_some (get_or s.cut.items k None) ≡ is_cornered (glued_on s) k
 is-cut degree s k are has =
     sym (some-mapped (get_or s.cut.items k None)) ∙ ap is_some (cut-at degree s k are has) ∙ at (is_cornered (glued_on s) k) _

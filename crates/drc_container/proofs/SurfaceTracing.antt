@@ -67,7 +67,7 @@ pub no-fault : {A : Type 0} (t : Option Fault) (r : Result A Refusal) (x : A) �
 no-fault {A} None r x is tells = refl
 no-fault {A} (Some f) r x is tells = let e = (tells f).1 refl in cc
 
--- a surface that isn't paired has a degenerate face, or memory is wanting
+-- a surface that isn't paired has a degenerate face, or memory is out
 pub pair-refuses : {T A : Type 0} (m : MeshParts) (x : A) (e : Refusal)
     → ((f : Fault) → (◌≡◌ {A = Result T Refusal} (Err e) (Err (refusal.Fault f))) ↔ (degenerate_fault m ≡ Some f)) → Refuses (value_unless (tracing_fault m) x) e
 pair-refuses {T} {A} m x refusal.Memory tells = tt

@@ -10,7 +10,7 @@ pub mod Chosen
 pub mod Refused
 pub mod Encoded
 pub mod Standings
-pub mod Fronts
+pub mod Preludes
 pub mod Layout
 pub mod Laws
 pub mod Encodable

@@ -10,7 +10,7 @@ use Rattle.mesh_model.specs.declared.geometries.Geometry.TheVariants as geometry
 use Rattle.mesh_model.specs.Parts.{mesh_of, cloud_of}
 use Rattle.seq_section.specs.declared.reading.SeqRead.{SeqRead}
 use Rattle.seq_section.specs.Indices.{opening_at, indices_at}
-use Rattle.eb_section.specs.Connectivity.{Connectivity, connectivity_at, front_at as edgebreaker_front_at}
+use Rattle.eb_section.specs.Connectivity.{Connectivity, connectivity_at, declared_at as edgebreaker_declared_at}
 use Rattle.attr_section.specs.declared.decoder_heads.DecoderHead.{DecoderHead}
 use Rattle.attr_section.specs.Heads.{heads_at}
 use Rattle.attr_section.specs.Values.{decoder_values_at, values_in}
@@ -107,12 +107,12 @@ stream bytes = stream_in profile_two bytes
 abbrev pub meaning_of : List ℕ → Result Geometry Fault
 meaning_of bytes = stream bytes >>= λ d. Ok d.geometry
 
--- the front of a stream, whose faults come before memory is taken: the header, then a cloud's number of points, or the two
+-- what a stream declares, whose faults come before memory is taken: the header, then a cloud's number of points, or the two
 -- numbers and the method of sequential connectivity, or the numbers that Edgebreaker connectivity declares
-abbrev pub front_at : Form → Reading → Result ℕ Fault
-front_at form.SequentialMesh c = opening_at profile_two c >>= λ x. Ok x.1.place
-front_at form.EdgebreakerMesh c = edgebreaker_front_at profile_two c >>= λ x. Ok x.1.place
-front_at form.Cloud c = cloud_points_at profile_two c >>= λ x. Ok x.1.place
+abbrev pub declared_at : Form → Reading → Result ℕ Fault
+declared_at form.SequentialMesh c = opening_at profile_two c >>= λ x. Ok x.1.place
+declared_at form.EdgebreakerMesh c = edgebreaker_declared_at profile_two c >>= λ x. Ok x.1.place
+declared_at form.Cloud c = cloud_points_at profile_two c >>= λ x. Ok x.1.place
 
-unfoldable pub front_of : List ℕ → Result ℕ Fault
-front_of bytes = header_at (start_of bytes) >>= λ h. front_at h.0 h.1
+unfoldable pub declared_of : List ℕ → Result ℕ Fault
+declared_of bytes = header_at (start_of bytes) >>= λ h. declared_at h.0 h.1

@@ -1,4 +1,4 @@
-//! The front of a mesh's stream, and the surface that the values behind it stand on.
+//! The prelude of a mesh's stream, and the surface that the values behind it stand on.
 //!
 //! Behind the connectivity the order of decoding is all that stays of the trace.
 
@@ -9,10 +9,10 @@ ghost use Rattle.corner_table.specs.Carried.{IsRenumbering};
 ghost use Rattle.mesh_model.specs.Renumbering.{renumbered};
 ghost use Rattle.drc_container.specs.WrittenOnSurface.{seam_lists};
 ghost use Rattle.drc_container.specs.Standings.{glued_by, flag_lists};
-ghost use Rattle.drc_container.specs.Fronts.{IsTraced, IsConnected};
+ghost use Rattle.drc_container.specs.Preludes.{IsTraced, IsConnected};
 
 use crate::seam_lists::{SeamLists, seams_on};
-use crate::surface_writing::surface_front;
+use crate::surface_writing::surface_prelude;
 use crate::traced_meshes::TracedMesh;
 use crate::turned_meshes::TurnedMesh;
 use corner_table::SideTable;
@@ -21,11 +21,11 @@ use eb_trace::Traced;
 use mesh_model::CornerMesh;
 use std::alloc::Global;
 
-/// The front of a stream, and the surface of the mesh as it is decoded.
+/// The prelude of a stream, that is its header and connectivity, and the surface of the mesh as it is decoded.
 #[derive(Debug, Drop)]
 pub struct Connected {
     /// The bytes of the header and the connectivity.
-    pub front: Vec<u8>,
+    pub prelude: Vec<u8>,
     /// The faces in the order of decoding, each with its turn.
     pub rows: Sequence<(u32, u8)>,
     /// The surface.
@@ -77,7 +77,7 @@ fn seams_in(
     Ok(seams)
 }
 
-/// The front of a traced mesh's stream, and its surface as it is decoded. The front is read back.
+/// The prelude of a traced mesh's stream, and its surface as it is decoded. The prelude is read back.
 pub fn surface_connected(
     alloc: Global,
     mesh: &CornerMesh,
@@ -90,10 +90,10 @@ pub fn surface_connected(
     let TracedMesh { trace, sides } = traced;
     let faces = mesh.face_count();
     let SeamLists { bits, flags } = seams_in(alloc, mesh, trace.order.as_slice(), &sides)?;
-    let front = surface_front(alloc, &trace, faces, valence, bits.as_slice())?;
+    let prelude = surface_prelude(alloc, &trace, faces, valence, bits.as_slice())?;
     let rows = rows_of(trace);
     Ok(Connected {
-        front,
+        prelude,
         rows,
         sides,
         flags,

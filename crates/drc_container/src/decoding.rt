@@ -6,7 +6,7 @@ ghost use Rattle.drc_base.specs.declared.faults.Fault.{Fault as AnyFault};
 ghost use Rattle.drc_base.specs.declared.faults.Refusal.TheVariants as refusal;
 ghost use Rattle.drc_base.specs.Refusals.{Answers};
 ghost use Rattle.drc_container.specs.Meaning.{told_by};
-ghost use Rattle.drc_container.specs.Stream.{stream, meaning_of, mesh_at, mesh_behind, cloud_at, cloud_behind, front_of, points_of};
+ghost use Rattle.drc_container.specs.Stream.{stream, meaning_of, mesh_at, mesh_behind, cloud_at, cloud_behind, declared_of, points_of};
 ghost use Rattle.attr_section.specs.Values.{AreColumns};
 ghost use Rattle.mesh_model.specs.Parts.{mesh_of, cloud_of, range_fault};
 ghost use Rattle.drc_container.specs.Header.{cloud_points_at};
@@ -29,7 +29,7 @@ use std::alloc::Global;
 /// come before memory is taken.
 pub fn decode(alloc: Global, bytes: &[u8]) -> Result<Geometry, Refusal>
     ensures meaning { Answers (λ g. g) (meaning_of bytes.now) result }
-    ensures early { (f : AnyFault) → front_of bytes.now ≡ Err f → result ≡ Err (refusal.Fault f) }
+    ensures early { (f : AnyFault) → declared_of bytes.now ≡ Err f → result ≡ Err (refusal.Fault f) }
 {
     let Decoded {
         geometry,
@@ -44,7 +44,7 @@ pub fn decode(alloc: Global, bytes: &[u8]) -> Result<Geometry, Refusal>
 #[tactic(auto, unfolding(crate::specs::Stream::stream_in))]
 pub fn decode_whole(alloc: Global, bytes: &[u8]) -> Result<Decoded, Refusal>
     ensures stream { Answers told_by (stream bytes.now) result }
-    ensures early { (f : AnyFault) → front_of bytes.now ≡ Err f → result ≡ Err (refusal.Fault f) }
+    ensures early { (f : AnyFault) → declared_of bytes.now ≡ Err f → result ≡ Err (refusal.Fault f) }
     ensures linked { IfOk result (λ d. IfSome d.sides (λ b. IsTrue b.linked)) }
 {
     let mut c = Cursor::new(bytes);

@@ -8,7 +8,7 @@ ghost use Rattle.drc_base.specs.declared.limits.TheConstants.{MAX_FACES as most_
 ghost use Rattle.drc_base.specs.Refusals.{Answers};
 ghost use Rattle.drc_bits.specs.Reading.{Gives};
 ghost use Rattle.mesh_model.specs.Assembled.{AreTables, assembled};
-ghost use Rattle.eb_section.specs.Connectivity.{connectivity_at, front_at, meaning};
+ghost use Rattle.eb_section.specs.Connectivity.{connectivity_at, declared_at, meaning};
 ghost use Rattle.drc_container.specs.Meaning.{told_by, seen_on};
 ghost use Rattle.drc_container.specs.OnSurface.{at_end};
 ghost use Rattle.drc_container.specs.Stream.{edgebreaker_at, surface_behind};
@@ -29,7 +29,7 @@ use std::sync::ledger::{Blank, Ledger};
 #[tactic(auto, unfolding(crate::specs::Stream::edgebreaker_at))]
 pub fn read_edgebreaker(alloc: Global, c: &mut Cursor<'_>) -> Result<Decoded, Refusal>
     ensures mesh { Answers told_by (edgebreaker_at profile_two c.old) result }
-    ensures early { (f : AnyFault) → front_at profile_two c.old ≡ Err f → result ≡ Err (refusal.Fault f) }
+    ensures early { (f : AnyFault) → declared_at profile_two c.old ≡ Err f → result ≡ Err (refusal.Fault f) }
     ensures linked { IfOk result (λ d. IfSome d.sides (λ b. IsTrue b.linked)) }
 {
     let from = c.place();
@@ -47,7 +47,7 @@ fn read_surface<'a, L: Ledger>(
     requires parts { blank.parts ≡ L.parts }
     requires some { 0 < L.parts }
     ensures section { Gives meaning (connectivity_at profile_two c.old) c.new result }
-    ensures early { (f : AnyFault) → front_at profile_two c.old ≡ Err f → result ≡ Err (refusal.Fault f) }
+    ensures early { (f : AnyFault) → declared_at profile_two c.old ≡ Err f → result ≡ Err (refusal.Fault f) }
     ensures linked { IfOk result (λ r. IsTrue r.sides.linked) }
     ensures faces { IfOk result (λ r. r.sides.table.faces ≤ most_faces) }
     ensures seams { IfOk result (λ r. length r.seams ≡ r.attr_data) }

@@ -43,7 +43,7 @@ use std::alloc::Global;
 /// of the surface where that is above `MAX_POINTS`: Edgebreaker. `ValueLimit` at the number of coded
 /// values where that is above `MAX_VALUES`. `Range` at the number of the first attribute that is
 /// predicted though the greatest of its coded values is 2^31 - 1 or more above the least. Refusing with
-/// `Choice`, `Empty`, `NoPosition` or `Degenerate` takes no memory, so that want of memory never stands in
+/// `Choice`, `Empty`, `NoPosition` or `Degenerate` takes no memory, so that running out of memory never stands in
 /// for these.
 pub fn encode(alloc: Global, g: &Geometry, choice: &Choice) -> Result<(Vec<u8>, Renumber), Refusal>
     ensures answer { Answers (λ r. (r.0.items, r.1.rows)) (due g.now choice.now) result }
@@ -58,7 +58,7 @@ pub fn encode(alloc: Global, g: &Geometry, choice: &Choice) -> Result<(Vec<u8>, 
     }
     match g {
         Geometry::Mesh(mesh) => {
-            // For the proof alone: the call tells what holds of every mesh.
+            // For the prover alone: the call tells what holds of every mesh.
             let _faces = mesh.face_count();
             let (bytes, rows) = encode_surface(alloc, mesh, &coding_of(g, choice))?;
             Ok((bytes, Renumber { rows }))
@@ -97,7 +97,7 @@ fn coded_values(alloc: Global, g: &Geometry, choice: &Choice) -> Result<Vec<Valu
     ensures answer { Answers (λ v. v.items) (value_unless (refused g.now choice.now) (values_of g.now (prediction_of g.now choice.now))) result }
     ensures can { IfOk result (λ _. CanCode g.now choice.now) }
 {
-    // For the proof alone: the call tells what holds of every geometry.
+    // For the prover alone: the call tells what holds of every geometry.
     let _count = point_count(g);
     let predict = number_of_predict(predict_of(g, choice));
     let values = values_of(alloc, g, predict)?;

@@ -28,7 +28,7 @@ pub fn old_files_keep_their_meaning()
 /// position, three times the faces are at most `MAX_POINTS`, three times the faces times the components
 /// of all attributes are at most `MAX_VALUES`, and the integers of all points lie in a range whose ends
 /// are less than 2^31 - 1 apart, no choice that fits a mesh refuses it: `encode` answers its stream, or
-/// want of memory. This is the contract of a call that does nothing.
+/// out of memory. This is the contract of a call that does nothing.
 pub fn encodable_meshes_are_encoded()
     ensures { EncodableIsEncoded }
 {}

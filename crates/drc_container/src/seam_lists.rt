@@ -46,7 +46,7 @@ fn seams_at(alloc: Global, mesh: &CornerMesh, sides: &SideTable, attr: u8) -> Re
     ensures bits { IfOk result (λ s. s.bits.items ≡ bits_of (glued_by mesh.now sides.now) attr) }
     ensures flags { IfOk result (λ s. option_map (λ v. v.items) s.flags ≡ flags_of (glued_by mesh.now sides.now) attr) }
 {
-    // For the proof alone: the call tells that the table is a surface.
+    // For the prover alone: the call tells that the table is a surface.
     let _faces = sides.face_count();
     let flags = seams_of(alloc, mesh, sides, attr)?;
     let bits = seam_bits(alloc, sides, flags.as_slice())?;

@@ -33,7 +33,7 @@ fn standing_on(alloc: Global, sides: SideTable, degree: bool) -> Result<Standing
     ensures sides { IfOk result (λ s. s.sides ≡ sides) }
     ensures walk { IfOk result (λ s. walk_in s ≡ walked_by degree sides.faces (gluing_of sides)) }
 {
-    // For the proof alone: the call tells that the table is a surface.
+    // For the prover alone: the call tells that the table is a surface.
     let _faces = sides.face_count();
     let order = order_of(alloc, &sides, degree)?;
     Ok(Standing { sides, order })
@@ -87,7 +87,7 @@ pub fn standings_of<'m>(
     ensures glued { IfOk result (λ s. glued_on s ≡ glued_by mesh.entry sides) }
     ensures are { IfOk result (λ s. AreStandings degree s) }
 {
-    // For the proof alone: the call tells that the table is a surface.
+    // For the prover alone: the call tells that the table is a surface.
     let _faces = sides.face_count();
     let cut = cuts_of(alloc, &sides, flags)?;
     let whole = standing_on(alloc, sides, degree)?;

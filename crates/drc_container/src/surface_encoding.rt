@@ -30,10 +30,10 @@ use drc_base::{Refusal, Sequence};
 use mesh_model::CornerMesh;
 use std::alloc::Global;
 
-/// A stream's front with the attributes of its mesh behind it.
+/// A stream's prelude with the attributes of its mesh behind it.
 fn with_attributes(
     alloc: Global,
-    front: Vec<u8>,
+    prelude: Vec<u8>,
     mesh: TurnedMesh<'_>,
     sides: SideTable,
     flags: Vec<Option<Vec<bool>>>,
@@ -44,7 +44,7 @@ fn with_attributes(
     requires some { 0 < length mesh.faces }
     requires known { (q : Prediction) × (coding.now.predict ≡ code_of q) }
     ensures answer { let d = glued_by mesh.entry sides in
-        Answers (λ v. v.items) (value_unless (values_fault coding.now d) (front.items ++ (decoder_heads_bytes coding.now d ++ values_bytes_on coding.now d))) result }
+        Answers (λ v. v.items) (value_unless (values_fault coding.now d) (prelude.items ++ (decoder_heads_bytes coding.now d ++ values_bytes_on coding.now d))) result }
     ensures can { OnOk result (CanCodeValues coding.now (glued_by mesh.entry sides)) }
     ensures heads { let d = glued_by mesh.entry sides in
         OnOk result (Spells (heads_at (Some (length mesh.entry.heads - 1))) (decoder_heads_bytes coding.now d) (map bare_decoder (decoders_for coding.now d))) }
@@ -53,7 +53,7 @@ fn with_attributes(
     let standings = standings_of(alloc, mesh, sides, flags, coding.degree)?;
     let values = values_on(alloc, &standings, coding)?;
     let attributes = attributes(alloc, &standings, coding, values.as_slice())?;
-    let mut out = front;
+    let mut out = prelude;
     out.extend_from_slice(attributes.as_slice())?;
     Ok(out)
 }
@@ -74,16 +74,16 @@ pub fn encode_surface(
     ensures can { IfOk result (λ _. CanCodeSurface coding.now mesh.now) }
     ensures spelled { IfOk result (λ _. SurfaceSpelled coding.now mesh.now) }
 {
-    // For the proof alone: the call tells what holds of every mesh.
+    // For the prover alone: the call tells what holds of every mesh.
     let _heads = mesh.heads();
     let traced = traced_mesh(alloc, mesh)?;
     let Connected {
-        front,
+        prelude,
         rows,
         sides,
         flags,
     } = surface_connected(alloc, mesh, traced, coding.valence)?;
     let decoded = TurnedMesh::new(mesh, rows.as_slice());
-    let bytes = with_attributes(alloc, front, decoded, sides, flags, coding)?;
+    let bytes = with_attributes(alloc, prelude, decoded, sides, flags, coding)?;
     Ok((bytes, rows))
 }

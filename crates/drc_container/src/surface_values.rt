@@ -49,7 +49,7 @@ fn column_at(
     requires within { start + comps ≤ width_of mesh.now.heads }
     ensures { IfOk result (λ v. v.items ≡ flat_map (piece mesh.now attr) (map side_of corners.now)) }
 {
-    // For the proof alone: a row has at most 128 integers.
+    // For the prover alone: a row has at most 128 integers.
     let _width = mesh.width();
     let mut column = Vec::with_capacity(alloc, corners.len() * comps)?;
     for corner in corners {

@@ -102,7 +102,7 @@ fn decoder_heads(
     ensures bytes { IfOk result (λ v. v.items ≡ decoder_heads_bytes coding.now (glued_on s.now)) }
     ensures again { IfOk result (λ v. Spells (heads_at (Some (length s.now.mesh.heads - 1))) v.items (map bare_decoder decoders.now)) }
 {
-    // For the proof alone: the call tells what holds of every mesh.
+    // For the prover alone: the call tells what holds of every mesh.
     let _heads = s.mesh.heads();
     let out = write_heads(alloc, decoders, true)?;
     Ok(out)
@@ -166,7 +166,7 @@ fn put_values(
     ensures bytes { OnOk result (out.new.items ≡ out.old.items ++ values_bytes_on coding.now (glued_on s.now)) }
     ensures again { OnOk result (All (λ (k, h). AttributeSpelled coding.now (glued_on s.now) k h) (enumerate_from 0 s.now.mesh.heads)) }
 {
-    // For the proof alone: the calls tell what holds of every mesh, and that the table is a surface.
+    // For the prover alone: the calls tell what holds of every mesh, and that the table is a surface.
     let _heads = s.mesh.heads();
     let _faces = s.whole.sides.face_count();
     for attr in 0..decoders.len() {
@@ -204,7 +204,7 @@ pub fn attributes(
 }
 
 /// The header of a mesh's stream and its connectivity, with the seam bits of each attribute but the first.
-pub fn surface_front(
+pub fn surface_prelude(
     alloc: Global,
     trace: &Traced,
     faces: u32,

@@ -54,7 +54,7 @@ fn traced_on(alloc: Global, mesh: &CornerMesh, sides: SideTable) -> Result<Trace
 }
 
 /// The trace of a mesh, and its surface as it is decoded. Refusals: Degenerate at the first face with two equal
-/// positions, also where memory is wanting; PointLimit at the number of vertices.
+/// positions, also when out of memory; PointLimit at the number of vertices.
 pub fn traced_mesh(alloc: Global, mesh: &CornerMesh) -> Result<TracedMesh, Refusal>
     ensures trace { Answers (λ r. r.trace) (value_unless (tracing_fault mesh.now) (traced mesh.now)) result }
     ensures pairs { IfOk result (λ r. gluing_of r.sides ≡ (decoded mesh.now).pairs) }

@@ -111,7 +111,7 @@ impl<'m> TurnedMesh<'m> {
         requires { IsRenumbering (length mesh.now.faces) rows.now }
         ensures { result ≡ renumbered mesh.now rows.now }
     {
-        // For the proof alone: the call tells what holds of every mesh.
+        // For the prover alone: the call tells what holds of every mesh.
         let _faces = mesh.face_count();
         TurnedMesh { mesh, rows }
     }
@@ -154,6 +154,7 @@ impl<'m> TurnedMesh<'m> {
     pub fn copied(&self, alloc: Global) -> Result<CornerMesh, Memory>
         ensures { IfOk result (λ m. m ≡ self.now) }
     {
+        // For the prover alone, who shows the clauses of the value that the call gave.
         let mesh = renumbered_mesh(alloc, self.mesh, self.rows)?;
         Ok(mesh)
     }

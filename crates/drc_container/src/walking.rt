@@ -49,7 +49,7 @@ fn depth_order(alloc: Global, t: &SideTable, labels: &Classes) -> Result<Order, 
     ensures over { IfOk result (λ o. IsOrderOver t.now.faces o) }
     ensures few { IfOk result (λ o. length o.corner_of_entry < 2 ^ 32) }
 {
-    // For the proof alone: the call tells that the table is a surface, and the count that classes are few.
+    // For the prover alone: the call tells that the table is a surface, and the count that classes are few.
     let _faces = t.face_count();
     let _count = labels.count;
     let order = depth_first(alloc, t, labels)?;
@@ -63,7 +63,7 @@ fn degree_order(alloc: Global, t: &SideTable, labels: &Classes) -> Result<Order,
     ensures over { IfOk result (λ o. IsOrderOver t.now.faces o) }
     ensures few { IfOk result (λ o. length o.corner_of_entry < 2 ^ 32) }
 {
-    // For the proof alone: the call tells that the table is a surface, and the count that classes are few.
+    // For the prover alone: the call tells that the table is a surface, and the count that classes are few.
     let _faces = t.face_count();
     let _count = labels.count;
     let order = prediction_degree(alloc, t, labels)?;

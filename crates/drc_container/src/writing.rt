@@ -154,7 +154,7 @@ pub fn write_stream(
     ensures means { IfOk result (λ v. Means g.now choice.now v.items (plain (count_of g.now))) }
     ensures layout { IfOk result (λ v. layout_of v.items ≡ Ok (layout_chosen g.now choice.now)) }
 {
-    // For the proof alone: the call tells what holds of every geometry.
+    // For the prover alone: the call tells what holds of every geometry.
     let _count = point_count(g);
     let out = written_stream(alloc, g, choice, values)?;
     Ok(out)

@@ -6,7 +6,7 @@ ghost use Rattle.drc_base.specs.declared.faults.Fault.{Fault as AnyFault};
 ghost use Rattle.drc_base.specs.declared.faults.Refusal.TheVariants as refusal;
 ghost use Rattle.drc_base.specs.Refusals.{Answers};
 ghost use Rattle.drc_container.specs.Meaning.{told_by};
-ghost use Rattle.drc_container.specs.Stream.{front_of};
+ghost use Rattle.drc_container.specs.Stream.{declared_of};
 ghost use Rattle.drc_info.specs.InfoText.{field, line, mesh_words, form_words, face_count, point_count, declared_line, attr_line, attr_lines, first_lines, count_lines, end_line, info_text, report_of};
 
 use crate::lines::put_field;
@@ -23,7 +23,7 @@ use std::alloc::Global;
 /// the same first fault.
 pub fn report(alloc: Global, bytes: &[u8]) -> Result<Vec<u8>, Refusal>
     ensures text { Answers (λ v. v.items) (report_of bytes.now) result }
-    ensures early { (f : AnyFault) → front_of bytes.now ≡ Err f → result ≡ Err (refusal.Fault f) }
+    ensures early { (f : AnyFault) → declared_of bytes.now ≡ Err f → result ≡ Err (refusal.Fault f) }
 {
     let decoded = decode_whole(alloc, bytes)?;
     Ok(info_text(alloc, &decoded)?)

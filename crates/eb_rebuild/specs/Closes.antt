@@ -11,7 +11,7 @@ abbrev pub SymbolsCloseNone : Type 0
 SymbolsCloseNone = (n : ℕ) (symbols : List Symbol) (s t : State) → take_symbols n symbols s ≡ Ok t →
     (t.built ≡ s.built + length symbols) × (t.closes ≡ s.closes)
 
--- a close takes just the top side off, and counts it
+-- a close takes only the top side off, and counts it
 abbrev pub CloseTakesOne : Type 0
 CloseTakesOne = (p : Plan) (interior : Bool) (s t : State) (top : Side) (rest : List Side) → s.stack ≡ top ∷ rest →
     close p interior s ≡ Ok t →
@@ -32,7 +32,7 @@ pub record WaitsBetween (symbols : List Symbol) (n : ℕ) (events : List Event) 
   pub symbols_taken : take_symbols n symbols (start events) ≡ Ok between
   pub waiting : length between.stack ≡ last.closes
 
--- so a whole run closes just the sides that wait after its symbols
+-- so a whole run closes exactly the sides that wait after its symbols
 abbrev pub RunClosesAll : Type 0
 RunClosesAll = (p : Plan) (symbols : List Symbol) (events : List Event) (bits : ℕ → Bool) (t : State) →
     rebuild p symbols events bits ≡ Ok t →

@@ -108,7 +108,7 @@ step n S s =
     Ok (record (grown s (glue (side s.built second) b.0 (glue (side s.built third) a.0 s.glued)) a.1 0)
     { reserved = release s.built s.reserved })
 
--- a face fills the loop of side a, which has to be of just three active sides; that it has to is this project's choice
+-- a face fills the loop of side a, which has to be of exactly three active sides; that it has to is this project's choice
 abbrev pub fill : ℕ → Plan → Side → List Side → State → Result State Fault
 fill n p a rest s =
     let b = side_before s.built s.glued a in

@@ -75,7 +75,7 @@ pub record Grows (ts : List Triangle) (rows : List Row) (g : Gluing) (made made'
   -- names that become one are those of corners that come into one fan
   pub merged : (c d : Side) → c.face < length ts → d.face < length ts → rename (name_of ts c) ≡ rename (name_of ts d) →
       InFan (glue_all (length ts) ps g) c d
-  -- the places that are left are just those that aren't glued
+  -- the places that are left are exactly those that aren't glued
   pub left : (k : Place) → IsOtherPlace k ps → HasPlace k ks
   pub left_only : (k : Place) → HasPlace k ks → IsOtherPlace k ps
   -- names stay below the number of those made

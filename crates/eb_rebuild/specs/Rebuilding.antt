@@ -7,7 +7,7 @@ use Rattle.corner_table.specs.declared.symbols.Event.{Event}
 use Rattle.corner_table.specs.Table.{Table, gluing_of}
 use Rattle.eb_rebuild.specs.Machine.{State, Plan, finish}
 
--- a call that steps the machine answers the next state, or the fault of its rule; want of memory is free
+-- a call that steps the machine answers the next state, or the fault of its rule; running out of memory is free
 abbrev pub Moves : Result State Fault → State → Bool → Result (Unit {0}) Refusal → Type 0
 Moves next new live (Ok done) = (next ≡ Ok new) × IsTrue live
 Moves next new live (Err (refusal.Fault f)) = next ≡ Err f
@@ -23,7 +23,7 @@ pub record Holds (state : State) (table : Table) : Type 0 where
   pub faces : table.faces ≡ state.built
   pub glued : gluing_of table ≡ state.glued
 
--- the end answers the table of the last state, or the first fault of the tests; want of memory is free
+-- the end answers the table of the last state, or the first fault of the tests; running out of memory is free
 abbrev pub Ends : Plan → State → Result BuiltValue Refusal → Type 0
 Ends plan state (Ok built) = (finish plan state ≡ Ok state) × Holds state built.table
 Ends plan state (Err (refusal.Fault f)) = finish plan state ≡ Err f

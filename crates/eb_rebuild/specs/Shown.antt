@@ -27,7 +27,7 @@ abbrev pub Among : Row → List Row → Type 0
 Among r [] = ⊥
 Among r (x ∷ rows) = (x ≡ r) ⊎ Among r rows
 
--- the rows are just the free sides, with the names of their ends, and two corners have one name exactly where they are in one fan
+-- the rows are exactly the free sides, with the names of their ends, and two corners have one name exactly where they are in one fan
 pub record AreNames (triangles : List Triangle) (rows : List Row) (g : Gluing) (made : ℕ) : Type 0 where
   pub gluing : IsGluing (length triangles) g
   pub rows_are : (r : Row) → Among r rows → IsFree (length triangles) g r.side × (r ≡ row_named triangles r.side)

@@ -39,9 +39,9 @@ pub fn made_are_names_and_splits()
     ensures { MadeAreNamesAndSplits }
 {}
 
-/// How symbols and closes count: a symbol builds one face and closes no side; a close takes just the top
+/// How symbols and closes count: a symbol builds one face and closes no side; a close takes only the top
 /// side off and counts it; where as many sides are closed as wait, none waits after that; the tests at
-/// the end change nothing. So a whole run that meets no fault closes just the sides that wait after its
+/// the end change nothing. So a whole run that meets no fault closes exactly the sides that wait after its
 /// symbols. This is the contract of a call that does nothing.
 pub fn closes_take_one_side_each()
     ensures symbols { SymbolsCloseNone }

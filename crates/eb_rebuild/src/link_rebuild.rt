@@ -32,7 +32,7 @@ fn is_same(a: Side, b: Side) -> bool
 }
 
 /// Whether b and c, which come before a round the boundary, are two more sides, and d, which comes
-/// before these, is a again: a loop of just three.
+/// before these, is a again: a loop of exactly three.
 fn is_loop(a: Side, b: Side, c: Side, d: Side) -> bool
     ensures { result ≡ (not (same (side_of b) (side_of a)) && not (same (side_of c) (side_of a)) && same (side_of d) (side_of a)) }
 {
@@ -108,14 +108,14 @@ impl LinkRebuild {
     ghost use Rattle.eb_rebuild.specs.Linked.{state_of, is_live, Does};
     ghost use Rattle.eb_rebuild.specs.Rebuilding.{Holds};
 
-    /// The table of the faces built and the pairs glued so far, with entries for just the faces that there
+    /// The table of the faces built and the pairs glued so far, with entries for exactly the faces that there
     /// is room for, which are no more than are declared.
     pub fn sides(&self) -> &SideTable
         ensures holds { Holds (state_of self.now) result.now }
         ensures room { length result.now.entries ≡ 3 * room_of self.now.table }
         ensures within { length result.now.entries ≤ 3 * self.now.plan.faces }
     {
-        // Called for the prover alone: the table has three entries for each face for which there is room.
+        // For the prover alone: the table has three entries for each face for which there is room.
         let _room = self.table.face_count();
         self.table.sides()
     }
@@ -166,6 +166,7 @@ impl LinkRebuild {
         ensures live { OnOk result (IsTrue (is_live self.new)) }
         ensures cost { steps.new ≤ steps.old + 4 }
     {
+        // Not by `?` for the prover alone, who would have to follow how it converts the error.
         let a = match self.take_side(steps) {
             Ok(a) => a,
             Err(fault) => return Err(fault),
@@ -194,6 +195,7 @@ impl LinkRebuild {
         ensures cost { steps.new ≤ steps.old + 6 }
         ensures refused { OnErr result (steps.new ≤ steps.old + 4) }
     {
+        // Not by `?` for the prover alone, who would have to follow how it converts the error.
         let a = match self.take_side(steps) {
             Ok(a) => a,
             Err(fault) => return Err(fault),
@@ -247,10 +249,12 @@ impl LinkRebuild {
         ensures cost { steps.new ≤ steps.old + 8 }
         ensures refused { OnErr result (steps.new ≤ steps.old + 4) }
     {
+        // Not by `?` for the prover alone, who would have to follow how it converts the error.
         let b = match self.take_side(steps) {
             Ok(b) => b,
             Err(fault) => return Err(fault),
         };
+        // Not by `?` for the prover alone, who would have to follow how it converts the error.
         let a = match self.take_second(steps) {
             Ok(a) => a,
             Err(fault) => return Err(fault),
@@ -388,7 +392,7 @@ impl Rebuild for LinkRebuild {
     }
 
     fn degree(&self) -> u32 {
-        // Called for the prover alone: there are few faces.
+        // For the prover alone: there are few faces.
         let _room = self.table.face_count();
         match self.stack.top() {
             None => 0,

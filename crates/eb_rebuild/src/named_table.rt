@@ -2,7 +2,7 @@
 //!
 //! A new face brings its own row for each side that isn't glued, and takes away those of the sides
 //! that it is glued to. Where two vertices become one, one of the names is written over in all
-//! triangles and rows. What allocates comes before what changes the table, so that for want of memory
+//! triangles and rows. What allocates comes before what changes the table, so that when out of memory
 //! all is as before.
 
 ghost use Rattle.std.specs.Prelude.{◌≡◌, ◌+◌, ◌*◌, ◌<◌};
@@ -125,7 +125,7 @@ impl NamedTable {
         ensures row { IfSome result (λ r. IsRowIn self.now r) }
         ensures none { IfNone result (IsGluedIn self.now.table (side_at side)) }
     {
-        // Read for the prover alone, who knows from here on that names are fans.
+        // For the prover alone, who knows from here on that names are fans.
         let _ = &self.made;
         match row_of(self.rows.as_slice(), side) {
             Some(row) => Some(row),
@@ -139,7 +139,7 @@ impl NamedTable {
         ensures row { IsRowIn self.now result }
         ensures before { side_at result.side ≡ side_before self.now.table.faces (gluing_of self.now.table) (side_at row.side) }
     {
-        // Read for the prover alone, who knows from here on that names are fans.
+        // For the prover alone, who knows from here on that names are fans.
         let _ = &self.made;
         match row_to(self.rows.as_slice(), row.from) {
             Some(found) => found,
@@ -161,7 +161,7 @@ impl NamedTable {
         requires second { IsRowIn self.now a }
         ensures { result ≡ same (side_before self.now.table.faces (gluing_of self.now.table) (side_at b.side)) (side_at a.side) }
     {
-        // Read for the prover alone, who knows from here on that names are fans.
+        // For the prover alone, who knows from here on that names are fans.
         let _ = &self.made;
         b.from == a.to
     }
@@ -172,7 +172,7 @@ impl NamedTable {
         requires { side < 3 * self.now.table.faces }
         ensures { result ≡ degree self.now.table.faces (gluing_of self.now.table) (next (side_at side)) }
     {
-        // Called for the prover alone: there are few faces.
+        // For the prover alone: there are few faces.
         let _room = self.table.face_count();
         let vertex = start_name(self.triangles.as_slice(), side);
         let corners = corners_named(self.triangles.as_slice(), vertex);

@@ -35,7 +35,7 @@ pub trait Rebuild: Sized + Drop {
 
     /// Nothing rebuilt yet, of `faces` declared faces, at most `created` vertices made (the declared
     /// vertices and splits together) and `symbols` symbols, with events in the encoder's order. Room is
-    /// taken for just `most` faces and for the sides that the events keep, however much is declared.
+    /// taken for `most` faces only and for the sides that the events keep, however much is declared.
     /// Memory where there is none.
     fn new(
         alloc: Global,
@@ -90,7 +90,7 @@ pub trait Rebuild: Sized + Drop {
 
     /// Closes the top side by its start bit: it stays a boundary, or an interior face fills its loop of
     /// three. An interior face is refused with Gone where the side is glued, and with Loop where its
-    /// loop isn't of just three sides, at the number of symbols and closes before; then with FaceCount
+    /// loop isn't of exactly three sides, at the number of symbols and closes before; then with FaceCount
     /// where all declared faces are built, at their number. Memory, of a rebuilding that isn't linked:
     /// no room for the face. There has to be room for one more of the declared faces, if any are left. That
     /// the loop has to be exact is this project's choice.

@@ -143,6 +143,7 @@ impl RowRebuild {
         ensures plan { self.new.plan ≡ self.old.plan }
         ensures room { OnOk result (room_of self.new.named.table ≡ room_of self.old.named.table) }
     {
+        // Not by `?` for the prover alone, who would have to follow how it converts the error.
         let a = match self.take_row() {
             Ok(a) => a,
             Err(fault) => return Err(Refusal::Fault(fault)),
@@ -161,6 +162,7 @@ impl RowRebuild {
         ensures plan { self.new.plan ≡ self.old.plan }
         ensures room { OnOk result (room_of self.new.named.table ≡ room_of self.old.named.table) }
     {
+        // Not by `?` for the prover alone, who would have to follow how it converts the error.
         let a = match self.take_row() {
             Ok(a) => a,
             Err(fault) => return Err(Refusal::Fault(fault)),
@@ -183,10 +185,12 @@ impl RowRebuild {
         ensures plan { self.new.plan ≡ self.old.plan }
         ensures room { OnOk result (room_of self.new.named.table ≡ room_of self.old.named.table) }
     {
+        // Not by `?` for the prover alone, who would have to follow how it converts the error.
         let b = match self.take_row() {
             Ok(b) => b,
             Err(fault) => return Err(Refusal::Fault(fault)),
         };
+        // Not by `?` for the prover alone, who would have to follow how it converts the error.
         let a = match self.take_second() {
             Ok(a) => a,
             Err(fault) => return Err(Refusal::Fault(fault)),

@@ -278,7 +278,7 @@ fn refuses_ends<R: Rebuild>(rt: &impl Abort, alloc: Global) {
 }
 
 /// The degree of the vertex at which the top side starts, after some symbols. As many faces and symbols
-/// are declared as may be, and there is room for just those that come.
+/// are declared as may be, and there is room for only those that come.
 fn degree_after<R: Rebuild, L: Ledger>(
     alloc: Global,
     symbols: &[Symbol],

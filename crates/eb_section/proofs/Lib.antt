@@ -2,7 +2,7 @@ pub mod EventLists
 pub mod Runs
 pub mod Examples
 pub mod WrittenSymbols
-pub mod WrittenFront
+pub mod WrittenOpening
 pub mod WrittenEvents
 pub mod WrittenBlocks
 pub mod WrittenLoops

@@ -34,7 +34,7 @@ use Rattle.eb_section.specs.Written.{opening_of, opening_bytes, events_bytes, st
 use Rattle.eb_section.specs.ReadAgain.{IsReadAgain}
 use Rattle.eb_section.specs.CodedBlocks.{IsSymbolBlock, AreCoded}
 use Rattle.eb_section.proofs.WrittenSymbols.{AreBits-symbols, length-symbols, fed-standard, fed-contexts, rebuilt-again}
-use Rattle.eb_section.proofs.WrittenFront.{IsWithin, Spells-opening}
+use Rattle.eb_section.proofs.WrittenOpening.{IsWithin, Spells-opening}
 use Rattle.eb_section.proofs.WrittenEvents.{Spells-events}
 use Rattle.eb_section.proofs.WrittenBlocks.{AreRead, blocks-again, Spells-lists, short-lists}
 
@@ -162,7 +162,7 @@ valence-again o t seams p attr plan many few back starts read lists =
 abbrev behind_of : Opening → List Event → Reading → Item Connectivity
 behind_of o events c = if o.valence then valence_behind o events c else standard_behind o events c
 
--- a front, events, and what lies behind them
+-- an opening, events, and what lies behind them
 Spells-parts : (o : Opening) (events : List Event) (front text behind : List ℕ) (value : Connectivity)
     → Spells (opening_at profile_two) front o → Spells (events_at o) text events → Spells (behind_of o events) behind value
     → Spells (connectivity_at profile_two) ((front ++ text) ++ behind) value

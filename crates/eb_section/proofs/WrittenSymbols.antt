@@ -68,7 +68,7 @@ length-symbols (x ∷ symbols) = omega (arith, length-append (reversed_bits symb
 
 -- ---- symbols as they are fed
 
--- where the bits of a word come next, the machine takes just the word, also to a fault
+-- where the bits of a word come next, the machine takes exactly the word, also to a fault
 fed-word : (n : ℕ) (word : List Symbol) (source : Standard) (s : State) (rest : List ℕ)
     → source.place.begun ≡ false → bits_left source.place.place ≡ flat_map symbol_bits word ++ rest
     → fed standard n (length word) source s ≡ take_symbols n word s

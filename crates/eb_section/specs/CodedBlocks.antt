@@ -11,7 +11,7 @@ use Rattle.eb_trace.specs.declared.tracing.Traced.{Traced}
 abbrev pub AreBlocks : List (List Bool) → Type 0
 AreBlocks lists = All (λ bits. IsBlockOf bits (block bits)) lists
 
--- the block of numbers is read as just these
+-- the block of numbers is read as exactly these
 abbrev pub IsSymbolBlock : List ℕ → Type 0
 IsSymbolBlock numbers = Spells (symbols_at (length numbers) 1) (block_bytes numbers 1) numbers
 

@@ -96,15 +96,15 @@ valence_behind o events c = do
   s ← rebuilt symbol_at (plan_of o) lists.0 starts.0 (start (reverse events))
   Ok (told o events seams.0 s, lists.1)
 
--- the section behind its front
+-- the section behind its opening
 unfoldable pub behind_at : Opening → Reading → Item Connectivity
 behind_at o c = do
   events ← events_at o c
   if o.valence then valence_behind o events.0 events.1 else standard_behind o events.0 events.1
 
--- the front of the section and the number of its events: what is read before any memory is taken
-unfoldable pub front_at : Profile → Reading → Item ℕ
-front_at p c = do
+-- the opening of the section and the number of its events: what is read before any memory is taken
+unfoldable pub declared_at : Profile → Reading → Item ℕ
+declared_at p c = do
   o ← opening_at p c
   event_count_at o.0.faces o.1
 

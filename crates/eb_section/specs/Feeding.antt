@@ -32,7 +32,7 @@ rebuilt next p source starts s =
     close_all p (bit_of starts) (length t.stack) t >>=
     finish p
 
--- a rebuilding answers the table of the state in which it ends, or its first fault; want of memory is free
+-- a rebuilding answers the table of the state in which it ends, or its first fault; running out of memory is free
 abbrev pub EndsAs : Result State Fault → Result BuiltValue Refusal → Type 0
 EndsAs run (Ok built) = (s : State) × (run ≡ Ok s) × Holds s built.table
 EndsAs run (Err e) = Refuses run e

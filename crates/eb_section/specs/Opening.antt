@@ -1,4 +1,4 @@
--- The numbers at the front of Edgebreaker connectivity (Draco Bitstream Specification 2.2, section "Edgebreaker Connectivity"; the limits
+-- The numbers that open Edgebreaker connectivity (Draco Bitstream Specification 2.2, section "Edgebreaker Connectivity"; the limits
 -- and what is refused are this project's choice).
 use Rattle.std.specs.Prelude.{ℕ, ◌+◌, ◌*◌, ◌==◌, ◌||◌, Ok, Err, nat_le, cond}
 use Rattle.drc_base.specs.declared.kinds.Kind.TheVariants as kind
@@ -15,7 +15,7 @@ use Rattle.eb_section.specs.declared.opening.Opening.{Opening}
 abbrev pub traversal_at : Reading → Item ℕ
 traversal_at c = must kind.Traversal (λ t. t == 0 || t == 2) (number_at 1) c
 
--- the front of the section in a profile: the traversal; declared vertices, faces and attribute data; declared symbols, and how many of them
+-- the opening of the section in a profile: the traversal; declared vertices, faces and attribute data; declared symbols, and how many of them
 -- are splits
 unfoldable pub opening_at : Profile → Reading → Item Opening
 opening_at p c = do
@@ -42,7 +42,7 @@ opening_at p c = do
 abbrev pub plan_of : Opening → Plan
 plan_of o = record { faces = o.faces; created = o.vertices + o.splits; symbols = o.symbols }
 
--- how many faces the front declares, and none where it has a fault
+-- how many faces the opening declares, and none where it has a fault
 abbrev pub declared_faces : Item Opening → ℕ
 declared_faces (Ok o) = o.0.faces
 declared_faces (Err f) = 0

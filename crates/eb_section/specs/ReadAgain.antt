@@ -21,7 +21,7 @@ BeginWith [] (b ∷ blocks) = ⊥
 BeginWith (bits ∷ lists) [] = ⊥
 BeginWith (bits ∷ lists) (b ∷ blocks) = BeginsWith bits b × BeginWith lists blocks
 
--- these bytes, wherever they stand and whatever follows them, are read with just their length: as what the machine builds of the trace's
+-- these bytes, wherever they stand and whatever follows them, are read with exactly their length: as what the machine builds of the trace's
 -- symbols, the last first, its events and its start bits, with a block of seam bits for each list
 pub record IsReadAgain (valence : Bool) (faces : ℕ) (t : Traced) (seams : List (List Bool)) (bytes : List ℕ) : Type 0 where
   pub last : State

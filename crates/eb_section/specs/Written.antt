@@ -24,7 +24,7 @@ opening_of valence faces attr_data t = record {
   splits = count_by is_split t.symbols;
 }
 
--- the front
+-- the opening
 unfoldable pub opening_bytes : Opening → List ℕ
 opening_bytes o =
     (if o.valence then 2 else 0) ∷ spelling 5 o.vertices ++ spelling 5 o.faces

@@ -1,4 +1,4 @@
-//! The numbers at the front of the section.
+//! The numbers that open the section.
 
 ghost use Rattle.std.specs.Prelude.{◌≡◌, ◌≤◌, IfOk, nat_le};
 ghost use Rattle.drc_base.specs.Profile.{profile_two};
@@ -16,7 +16,7 @@ pub(crate) const STANDARD: u8 = 0;
 /// The traversal whose symbols are coded by the degrees of vertices.
 pub(crate) const VALENCE: u8 = 2;
 
-/// What the front of the section declares.
+/// What the opening of the section declares.
 #[derive(Clone, Copy, Debug)]
 pub(crate) struct Opening {
     /// Whether symbols are coded by the degrees of vertices, and not by themselves.
@@ -71,7 +71,7 @@ fn read_traversal(c: &mut Cursor<'_>) -> Result<u8, Fault>
     Err(unknown)
 }
 
-/// Reads the front of the section, or its first fault: `Traversal`, `PointLimit`, `FaceLimit`,
+/// Reads the opening of the section, or its first fault: `Traversal`, `PointLimit`, `FaceLimit`,
 /// `AttrLimit`, and `Count` where there are more symbols than faces or more splits than symbols. It takes
 /// no memory.
 #[tactic(auto, unfolding(crate::specs::Opening::opening_at))]

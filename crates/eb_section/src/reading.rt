@@ -9,7 +9,7 @@ ghost use Rattle.drc_bits.specs.Reading.{Gives};
 ghost use Rattle.eb_rebuild.specs.Rebuilding.{IsEventOf};
 ghost use Rattle.eb_section.specs.Opening.{declared_faces, most_calls, opening_at};
 ghost use Rattle.eb_section.specs.Events.{event_count_at};
-ghost use Rattle.eb_section.specs.Connectivity.{behind_at, connectivity_at, front_at, meaning, standard_behind, valence_behind};
+ghost use Rattle.eb_section.specs.Connectivity.{behind_at, connectivity_at, declared_at, meaning, standard_behind, valence_behind};
 
 use crate::blocks::read_blocks;
 use crate::contexts::read_contexts;
@@ -123,7 +123,7 @@ fn read_valence<'a, L: Ledger>(
     Ok(read_of(sides, opening, seams, count))
 }
 
-/// Reads what is behind the front: the events, and the rest of the traversal.
+/// Reads what is behind the opening: the events, and the rest of the traversal.
 #[tactic(auto, unfolding(crate::specs::Connectivity::behind_at))]
 fn read_behind<'a, L: Ledger>(
     alloc: Global,
@@ -152,7 +152,7 @@ fn read_behind<'a, L: Ledger>(
 }
 
 /// Reads the connectivity of an Edgebreaker mesh and rebuilds its surface by links, or refuses with the
-/// first fault. Those of the front, each at its place: `Traversal`, `PointLimit`, `FaceLimit`,
+/// first fault. Those of the opening, each at its place: `Traversal`, `PointLimit`, `FaceLimit`,
 /// `AttrLimit`, and `Count` of symbols, splits and events; they come before memory is taken. Then, at
 /// their places, `EventDelta`, `Short` and `Long`, those of a block of bits (`BadProb`, `BadStart`) and of
 /// the lists of contexts (`Count`, and those of a symbol block). Then those of rebuilding: `Short` at the
@@ -161,7 +161,7 @@ fn read_behind<'a, L: Ledger>(
 /// `FaceCount`, `VertexCount` and `Degenerate`. Symbols, events, bits and coded bytes that are left over
 /// are passed. It makes at most 12 table calls for each declared face and 4 more, and none for no face.
 /// After a refusal the cursor is where it was.
-#[tactic(auto, unfolding(crate::specs::Connectivity::connectivity_at, crate::specs::Connectivity::front_at))]
+#[tactic(auto, unfolding(crate::specs::Connectivity::connectivity_at, crate::specs::Connectivity::declared_at))]
 pub fn read_connectivity<'a, L: Ledger>(
     alloc: Global,
     c: &mut Cursor<'a>,
@@ -169,7 +169,7 @@ pub fn read_connectivity<'a, L: Ledger>(
 ) -> Result<EbRead<'a>, Refusal>
     ensures section { Gives meaning (connectivity_at profile_two c.old) c.new result }
     ensures early { (f : AnyFault) → opening_at profile_two c.old ≡ Err f → result ≡ Err (refusal.Fault f) }
-    ensures early_count { (f : AnyFault) → front_at profile_two c.old ≡ Err f → result ≡ Err (refusal.Fault f) }
+    ensures early_count { (f : AnyFault) → declared_at profile_two c.old ≡ Err f → result ≡ Err (refusal.Fault f) }
     ensures unchanged { OnErr result (c.new ≡ c.old) }
     ensures linked { IfOk result (λ r. IsTrue r.sides.linked) }
     ensures cost { steps.new ≤ steps.old + most_calls (declared_faces (opening_at profile_two c.old)) }

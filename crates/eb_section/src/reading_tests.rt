@@ -312,7 +312,7 @@ fn refuses_faults(rt: HostRuntime) {
     }
 }
 
-/// Each shorter front of a section is `Short` where it ends, or, where it ends in the bytes of the symbols,
+/// Each shorter prefix of a section is `Short` where it ends, or, where it ends in the bytes of the symbols,
 /// where these begin.
 #[test]
 fn refuses_cuts(rt: HostRuntime) {

@@ -118,7 +118,7 @@ fn rebuild<R: Rebuild, F: SymbolSource, L: Ledger>(
     closed.finish(alloc)
 }
 
-/// Rebuilds by links the surface that the front of the section, its events, a source of symbols and a
+/// Rebuilds by links the surface that the opening of the section, its events, a source of symbols and a
 /// block of start bits tell. Room is taken for no more faces than the symbols that can come may build.
 pub(crate) fn rebuild_linked<F: SymbolSource, L: Ledger>(
     alloc: Global,

@@ -22,7 +22,7 @@ use std::alloc::Global;
 
 /// The bytes of the section (Draco Bitstream Specification 2.2, section "Edgebreaker Connectivity") of a
 /// trace of so many faces, with the seam bits of each attribute data: symbols standard, or by valence.
-/// Wherever these bytes stand and whatever follows them, they are read with just their length, as the surface
+/// Wherever these bytes stand and whatever follows them, they are read with exactly their length, as the surface
 /// that reverse decoding builds of the trace, with a block of seam bits for each list. Refused for want of
 /// memory alone.
 pub fn write_connectivity(
@@ -40,6 +40,7 @@ pub fn write_connectivity(
     ensures bytes { IfOk result (λ v. v.items ≡ connectivity_bytes valence faces t.now (map (λ s. s.items) seams.now)) }
     ensures again { IfOk result (λ v. IsReadAgain valence faces t.now (map (λ s. s.items) seams.now) v.items) }
 {
+    // For the prover alone, who shows the clauses of the value that the call gave.
     let out = written(alloc, t, faces, valence, seams)?;
     Ok(out)
 }
@@ -100,7 +101,7 @@ fn is_split(symbol: Symbol) -> bool
     }
 }
 
-/// What the front declares of a trace.
+/// What the opening declares of a trace.
 fn opening_for(t: &Traced, faces: u32, valence: bool, attr_data: usize) -> Opening
     requires symbols { length t.now.symbols ≤ MAX_FACES }
     requires few { attr_data ≤ MAX_ATTRIBUTES }
@@ -118,7 +119,7 @@ fn opening_for(t: &Traced, faces: u32, valence: bool, attr_data: usize) -> Openi
     }
 }
 
-/// Appends the front.
+/// Appends the opening.
 #[tactic(auto, unfolding(crate::specs::Written::opening_bytes))]
 fn put_opening(out: &mut Vec<u8>, o: Opening) -> Result<(), Memory>
     ensures { OnOk result (out.new.items ≡ out.old.items ++ opening_bytes o) }

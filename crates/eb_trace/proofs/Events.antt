@@ -1,4 +1,4 @@
--- The events of one face: the machine notes just them, and keeps just the sides that wait.
+-- The events of one face: the machine notes exactly them, and keeps exactly the sides that wait.
 use Rattle.std.proofs.Common.{◌≡◌, ◌≢◌, ℕ, zero, suc, ◌-◌, ◌<◌, ◌≤◌, Bool, true, false, List, [], ◌∷◌, ◌++◌, Option, Some, None, Ok, ◌⊎◌, inl, inr, sym, refl, ap, ◌∙◌, subst, arith, ◌==◌, eq-eqb, ne_eqb}
 use Rattle.std.proofs.lemmas.Bool.{cases_lt, cases_eq, cond-true, cond-false, cases_Bool}
 use mathlib.Core.Path.{fun_ext}

@@ -5,7 +5,7 @@ use Rattle.corner_table.specs.Sides.{Side, same}
 use Rattle.corner_table.proofs.Places.{same_refl, not_same, same_tells}
 use Rattle.corner_table.proofs.Numbers.{no_room}
 
--- f names the corners of D by the numbers below k, two by one number just where they are related
+-- f names the corners of D by the numbers below k, two by one number exactly where they are related
 pub record IsNaming (R : Side → Side → Type 0) (D : Side → Type 0) (k : ℕ) (f : Side → ℕ) : Type 0 where
   pub bounded : (c : Side) → D c → f c < k
   pub used : (j : ℕ) → j < k → (c : Side) × D c × (f c ≡ j)

@@ -73,7 +73,7 @@ impl Marks {
         requires side { IfSome side (λ n. n < 3 * s.now.faces) }
         ensures { (w : Walk) → AreMarksOf s.now self.now w → result ≡ is_visited_across w (option_map side_at side) }
     {
-        // Read for the prover alone, who knows the range of what is read.
+        // For the prover alone, who knows the range of what is read.
         let _ = &s.faces;
         match side {
             None => true,
@@ -122,7 +122,7 @@ impl Marks {
         requires side { IfSome side (λ n. n < 3 * s.now.faces) }
         ensures { (w : Walk) → AreMarksOf s.now self.now w → split_told result ≡ split_across w.entries (option_map side_at side) }
     {
-        // Read for the prover alone, who knows the range of what is read.
+        // For the prover alone, who knows the range of what is read.
         let _ = &s.faces;
         match side {
             None => NONE,

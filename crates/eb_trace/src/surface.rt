@@ -58,6 +58,7 @@ pub(crate) fn surface_of<'t>(alloc: Global, t: &'t SideTable) -> Result<Surface<
     ensures faces { IfOk result (λ s. s.faces ≡ t.now.faces) }
     ensures gluing { IfOk result (λ s. gluing_in s ≡ gluing_of t.now) }
 {
+    // For the prover alone, who shows the clauses of the value that the call gave.
     let surface = counted_surface::<Brand>(alloc, t, Blank::new(1))?;
     Ok(surface)
 }

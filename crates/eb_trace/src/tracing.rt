@@ -78,6 +78,7 @@ fn rows_of(
 fn rows_in_order(alloc: Global, notes: &Notes) -> Result<Vec<(u32, u8)>, AllocError>
     ensures { IfOk result (λ v. v.items ≡ order_of (walk_of notes.now)) }
 {
+    // For the prover alone, who shows the clauses of the value that the call gave.
     let rows = rows_of(alloc, notes.entries.as_slice(), notes.interior.as_slice())?;
     Ok(rows)
 }
@@ -92,7 +93,7 @@ fn rows_in_order(alloc: Global, notes: &Notes) -> Result<Vec<(u32, u8)>, AllocEr
 /// and tells the start bits. The machine of reverse decoding that is made for all faces and for no
 /// fewer vertices than there are vertices and S together, and is fed what is answered, meets no fault
 /// and builds that surface; after the symbols as many sides wait as there are start bits. So does the machine that names vertices, and in the end as many distinct
-/// names stand in its triangles. Refused for want of memory alone.
+/// names stand in its triangles. Refused only when out of memory.
 pub fn trace(alloc: Global, t: &SideTable) -> Result<Traced, Memory>
     requires proper { IsProper t.now.faces (gluing_of t.now) }
     ensures symbols { IfOk result (λ r. r.symbols ≡ reverse (word_of (trace t.now.faces (gluing_of t.now)))) }

@@ -18,7 +18,7 @@ use Rattle.eb_rebuild.specs.Degree.{top_degree}
 use Rattle.eb_rebuild.proofs.Counts.{step_counts}
 use Rattle.eb_valence.specs.declared.context_lists.TheConstants.{CONTEXTS}
 use Rattle.eb_valence.specs.Numbers.{symbol_number, symbol_numbered, context_of}
-use Rattle.eb_valence.specs.Reading.{last_of, front_of, taken_from, taken_at}
+use Rattle.eb_valence.specs.Reading.{last_of, all_but_last, taken_from, taken_at}
 use Rattle.eb_valence.specs.Contexts.{Coded, coded, coded_at, list_of, lists_of, symbol_at, fed, EachReadsBack, WordsReadBack}
 
 -- the last item of a list is the one that was put behind it
@@ -32,8 +32,8 @@ one_more xs n = let e = length-append xs (n ∷ []) in grind (arith, e)
 pub last_is : (xs : List ℕ) (n : ℕ) → last_of (xs ++ n ∷ []) ≡ Some n
 last_is xs n = ap (slice_get (xs ++ n ∷ [])) (one_more xs n) ∙ slice_last xs n
 
-pub front_is : (xs : List ℕ) (n : ℕ) → front_of (xs ++ n ∷ []) ≡ xs
-front_is xs n = ap (λ k. take k (xs ++ n ∷ [])) (one_more xs n) ∙ take-append_seam xs (n ∷ [])
+pub all_but_last_is : (xs : List ℕ) (n : ℕ) → all_but_last (xs ++ n ∷ []) ≡ xs
+all_but_last_is xs n = ap (λ k. take k (xs ++ n ∷ [])) (one_more xs n) ∙ take-append_seam xs (n ∷ [])
 
 -- what one code adds to the list of a context
 abbrev in_context : ℕ → Coded → List ℕ
@@ -75,10 +75,10 @@ taken_is codes k n x h s =
     let elsewhere : (j : ℕ) → (j ≡ k → ⊥) → list_of (c ∷ codes) j ≡ list_of codes j = λ j other.
     let not : (k == j) ≡ false = ne_eqb k j (λ (e : k ≡ j). other (sym e)) in
     list_more codes c j ∙ ap (λ (b : Bool). list_of codes j ++ cond b (n ∷ []) []) not ∙ append-nil (list_of codes j) in
-    let left : set lists k (front_of (get_or lists k [])) ≡ lists_of codes =
-    set_is (list_of (c ∷ codes)) (list_of codes) (front_of (get_or lists k [])) k h (sym (ap front_of items ∙ front_is (list_of codes k) n)) elsewhere in
+    let left : set lists k (all_but_last (get_or lists k [])) ≡ lists_of codes =
+    set_is (list_of (c ∷ codes)) (list_of codes) (all_but_last (get_or lists k [])) k h (sym (ap all_but_last items ∙ all_but_last_is (list_of codes k) n)) elsewhere in
     let read : Option Symbol → List (List ℕ) → Result (Symbol × List (List ℕ)) Kind = λ o rest. elim o [ None ↦ Err kind.BadSymbol | Some y ↦ Ok (y, rest) ] in
-    let rest : List (List ℕ) = set lists k (front_of (get_or lists k [])) in
+    let rest : List (List ℕ) = set lists k (all_but_last (get_or lists k [])) in
     let found : Option ℕ → Result (Symbol × List (List ℕ)) Kind = λ o. elim o [ None ↦ Err kind.ContextEmpty | Some m ↦ read (symbol_numbered m) rest ] in
     ap found (ap last_of items ∙ last_is (list_of codes k) n) ∙ ap (λ o. read o rest) s ∙ ap (read (Some x)) left
 

@@ -61,7 +61,7 @@ abbrev pub EachReadsBack : Type 0
 EachReadsBack = (n : ℕ) (x : Symbol) (word : List Symbol) (s t : State) → (s.built ≡ 0 → s.stack ≡ []) → step n x s ≡ Ok t →
     symbol_at (lists_of (coded n (x ∷ word) s)) s ≡ Ok (x, lists_of (coded n word t))
 
--- a word: where the machine takes it without a fault, reading from its lists gives just its symbols to the machine
+-- a word: where the machine takes it without a fault, reading from its lists gives exactly its symbols to the machine
 abbrev pub WordsReadBack : Type 0
 WordsReadBack = (n : ℕ) (word : List Symbol) (s t : State) → (s.built ≡ 0 → s.stack ≡ []) → take_symbols n word s ≡ Ok t →
     fed n (length word) (lists_of (coded n word s)) s ≡ Ok t

@@ -12,8 +12,8 @@ abbrev pub last_of : List ℕ → Option ℕ
 last_of xs = slice_get xs (length xs - 1)
 
 -- a list without its last item
-abbrev pub front_of : List ℕ → List ℕ
-front_of xs = take (length xs - 1) xs
+abbrev pub all_but_last : List ℕ → List ℕ
+all_but_last xs = take (length xs - 1) xs
 
 -- the symbol of the last item of list k, and the lists without it
 abbrev pub taken_from : ℕ → List (List ℕ) → Result (Symbol × List (List ℕ)) Kind
@@ -21,7 +21,7 @@ taken_from k lists =
     let items = get_or lists k [] in
     elim (last_of items) [
       | None ↦ Err kind.ContextEmpty
-      | Some n ↦ elim (symbol_numbered n) [ None ↦ Err kind.BadSymbol | Some x ↦ Ok (x, set lists k (front_of items)) ]
+      | Some n ↦ elim (symbol_numbered n) [ None ↦ Err kind.BadSymbol | Some x ↦ Ok (x, set lists k (all_but_last items)) ]
     ]
 
 -- the next symbol at a vertex of this degree; without a degree it is E, and nothing is taken

@@ -26,7 +26,7 @@ impl Model for ContextLists {
 
 impl ContextLists {
     ghost use Rattle.std.specs.Prelude.{◌≡◌, ◌<◌, ◌++◌, ◌∷◌, [], ℕ, List, map, get_or, set, length, sum_by, reverse, replicate, OnOk};
-    ghost use Rattle.eb_valence.specs.Reading.{last_of, front_of};
+    ghost use Rattle.eb_valence.specs.Reading.{last_of, all_but_last};
 
     /// These lists. It takes no memory.
     pub fn new(lists: [Vec<u32>; CONTEXTS]) -> ContextLists
@@ -97,7 +97,7 @@ impl ContextLists {
     /// Takes the last number off the list of a context.
     pub(crate) fn take_last(&mut self, context: usize)
         requires { context < CONTEXTS }
-        ensures { self.new ≡ set self.old context (front_of (get_or self.old context [])) }
+        ensures { self.new ≡ set self.old context (all_but_last (get_or self.old context [])) }
     {
         let _last = self.lists[context].pop();
     }

@@ -94,7 +94,7 @@ fn lists_by<L: Ledger>(
 /// degree of the vertex at which the machine's top side starts before it. Symbols and events are in the
 /// order of the encoder; there are no more symbols than a mesh may have faces, and the machine of reverse
 /// decoding, fed the last symbol first, meets no fault on them. The machine makes at most 12 table calls for
-/// each symbol. Refused for want of memory alone.
+/// each symbol. Refused only when out of memory.
 pub fn contexts_of(
     alloc: Global,
     symbols: &[Symbol],

@@ -108,28 +108,16 @@ fn test_head(k: usize, head: &Head) -> Result<(), Fault>
 {
     let at = k as u64;
     if head.usage > 4 {
-        return Err(Fault {
-            kind: Kind::AttrType,
-            at,
-        });
+        return Err(Fault::new(Kind::AttrType, at));
     }
     if !head.has_type() {
-        return Err(Fault {
-            kind: Kind::DataType,
-            at,
-        });
+        return Err(Fault::new(Kind::DataType, at));
     }
     if head.comps < 1 || head.comps as u32 > MAX_COMPONENTS || !head.has_minima() {
-        return Err(Fault {
-            kind: Kind::Components,
-            at,
-        });
+        return Err(Fault::new(Kind::Components, at));
     }
     if !head.has_bits() {
-        return Err(Fault {
-            kind: Kind::QuantBits,
-            at,
-        });
+        return Err(Fault::new(Kind::QuantBits, at));
     }
     Ok(())
 }
@@ -172,16 +160,10 @@ pub(crate) fn test_heads(heads: &[Head]) -> Result<u32, Fault>
 {
     let at = heads.len() as u64;
     if heads.is_empty() {
-        return Err(Fault {
-            kind: Kind::NoAttribute,
-            at,
-        });
+        return Err(Fault::new(Kind::NoAttribute, at));
     }
     if at > MAX_ATTRIBUTES as u64 {
-        return Err(Fault {
-            kind: Kind::AttrLimit,
-            at,
-        });
+        return Err(Fault::new(Kind::AttrLimit, at));
     }
     test_each_head(heads)
 }

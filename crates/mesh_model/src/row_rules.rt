@@ -32,17 +32,11 @@ pub(crate) fn test_counts(points: u64, width: u32) -> Result<(), Fault>
     ensures { Tests (count_fault points width) result }
 {
     if points > MAX_POINTS as u64 {
-        return Err(Fault {
-            kind: Kind::PointLimit,
-            at: points,
-        });
+        return Err(Fault::new(Kind::PointLimit, points));
     }
     let values = points * width as u64;
     if values > MAX_VALUES as u64 {
-        return Err(Fault {
-            kind: Kind::ValueLimit,
-            at: values,
-        });
+        return Err(Fault::new(Kind::ValueLimit, values));
     }
     Ok(())
 }
@@ -53,10 +47,7 @@ pub(crate) fn test_face_count(faces: &[[u32; 3]]) -> Result<(), Fault>
     ensures three { All (λ face. length face ≡ 3) faces.now }
 {
     if faces.len() > MAX_FACES as usize {
-        return Err(Fault {
-            kind: Kind::FaceLimit,
-            at: faces.len() as u64,
-        });
+        return Err(Fault::new(Kind::FaceLimit, faces.len() as u64));
     }
     Ok(())
 }
@@ -82,10 +73,7 @@ pub(crate) fn test_indices(points: u32, faces: &[[u32; 3]]) -> Result<(), Fault>
 {
     match first_outside(points, faces) {
         None => Ok(()),
-        Some(at) => Err(Fault {
-            kind: Kind::IndexRange,
-            at: at as u64,
-        }),
+        Some(at) => Err(Fault::new(Kind::IndexRange, at as u64)),
     }
 }
 
@@ -115,10 +103,7 @@ fn test_values(heads: &[Head], width: u32, cells: &[i32]) -> Result<(), Fault>
     let mut column: usize = 0;
     for (i, value) in cells.iter().enumerate() {
         if !in_type(types[column], *value) {
-            return Err(Fault {
-                kind: Kind::ValueRange,
-                at: i as u64,
-            });
+            return Err(Fault::new(Kind::ValueRange, i as u64));
         }
         column += 1;
         if column == width as usize {

@@ -47,6 +47,7 @@ fn face_in_place(list: (u8, u8), points: u32, line: &[u8]) -> Option<[u32; 3]>
     if !is_at_end(line, c.1) {
         return None;
     }
+    // For the prover alone, who shows the clauses of what was found.
     match points_of(points, a.0, b.0, c.0) {
         None => None,
         Some(face) => Some(face),

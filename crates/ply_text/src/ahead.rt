@@ -46,6 +46,7 @@ pub fn natural_ahead(text: &[u8], place: usize) -> Option<(u32, usize)>
     ensures number { IfSome result (λ r. IsNumberAt text.now place r.1 (pos r.0)) }
     ensures more { IfSome result (λ r. r.1 < length text.now) }
 {
+    // For the prover alone, who shows the clauses of what was found.
     match digits_ahead(text, place) {
         None => None,
         Some(found) => Some(found),

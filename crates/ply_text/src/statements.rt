@@ -53,7 +53,7 @@ pub(crate) fn keyword_at(line: &[u8]) -> Keyword
     }
 }
 
-/// Whether the line has just one token.
+/// Whether the line has exactly one token.
 pub(crate) fn is_alone(line: &[u8]) -> bool
     ensures { result ≡ is_alone (tokens_of line.now) }
 {

@@ -68,7 +68,7 @@ pub gathered_is : (w : Walked) (e : ℕ) (found : List FaceAcross) → found ≡
 unfolding gathered
 gathered_is w e found is = is
 
--- two corners are one just where their numbers are
+-- two corners are one exactly where their numbers are
 pub same_numbers : (a b : ℕ) → a ≡ b → same (side_at a) (side_at b) ≡ true
 same_numbers a b e = ap (λ (n : ℕ). same (side_at n) (side_at b)) e ∙ same_refl (side_at b)
 

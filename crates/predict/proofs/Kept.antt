@@ -140,7 +140,7 @@ marked_front w comps v k e (suc n) h = elim (cases_eq e (suc n)) [
       ]
 ]
 
--- of the written lists, an entry takes just its own marks
+-- of the written lists, an entry takes only its own marks
 pub flags_are : (w : Walked) (comps : ℕ) (v : List ℤ) (lists : List (List Bool)) (e n : ℕ) → AreMarked w comps v lists n → e < n → flags_for w lists e ≡ marks w comps v e
 flags_are w comps v lists e n marked_lists h = at (length (gathered w e)) refl
   where

@@ -56,7 +56,7 @@ abbrev pub block_from : ℕ → Reading → Reading → Option State → Item Bl
 block_from none begin end (Some s) = Ok (record { ones = 256 - none; state = s }, end)
 block_from none begin end None = fault_at kind.BadStart begin
 
--- a block at the front: how many slots are zeros, the size of its bytes, and the bytes
+-- a block at the beginning: how many slots are zeros, the size of its bytes, and the bytes
 unfoldable pub block_at : Reading → Item Block
 block_at c = do
   zeros ← must kind.BadProb (λ n. nat_lt 0 n) (number_at 1) c
@@ -76,7 +76,7 @@ coded_bits zeros bits = all_spelled 16 256 (map (interval_of (256 - zeros)) bits
 unfoldable pub block : List Bool → List ℕ
 block bits = let coded = coded_bits (zeros_for bits) bits in zeros_for bits ∷ spelling 5 (length coded) ++ coded
 
--- these bytes, wherever they stand and whatever follows them, are read with just their length as one block, whose
+-- these bytes, wherever they stand and whatever follows them, are read with exactly their length as one block, whose
 -- first bits are these
 pub record IsBlockOf (bits : List Bool) (bytes : List ℕ) : Type 0 where
   pub start : Block

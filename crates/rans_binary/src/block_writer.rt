@@ -135,7 +135,7 @@ fn code_bits(alloc: Global, bits: &[bool], zeros: u32) -> Result<Vec<u8>, Memory
 }
 
 /// The block of the bits: its probability of a zero, the size of the coded bytes, and these. Wherever it
-/// stands and whatever bytes follow, it is read with just its length as one block, whose first bits are
+/// stands and whatever bytes follow, it is read with exactly its length as one block, whose first bits are
 /// these.
 #[tactic(auto, unfolding(crate::specs::Blocks::block))]
 pub fn write_block(alloc: Global, bits: &[bool]) -> Result<Vec<u8>, Memory>

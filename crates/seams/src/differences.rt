@@ -144,7 +144,7 @@ fn marked(alloc: Global, m: &CornerMesh, t: &SideTable, attr: u8) -> Result<Vec<
 
 /// Of each side 3f + k of a mesh's surface, whether it is a seam of attribute `attr`: boundaries are, and a
 /// pair is one where at either of its ends the two corners that meet there differ in the attribute (this
-/// project's choice). Refused for want of memory alone.
+/// project's choice). Refused only when out of memory.
 pub fn seams_of(alloc: Global, m: &CornerMesh, t: &SideTable, attr: u8) -> Result<Vec<bool>, Memory>
     requires attribute { attr < length m.now.heads }
     requires faces { t.now.faces ≡ length m.now.faces }

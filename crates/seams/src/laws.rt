@@ -4,7 +4,7 @@ ghost use Rattle.seams.specs.Laws.{ClassIsFan, ClassEnds, ClassInFan, UncutIsFan
 ghost use Rattle.seams.specs.Laws.{ListCutsAlike, ToldAreFlags, BitsTellFlags, BlockTellsFlags};
 
 /// A class, which chains of swings over glued sides that are no seam connect, is a fan of the surface cut
-/// at its seams, and lies in a fan of the surface; a boundary or seam meets it just where that fan meets a
+/// at its seams, and lies in a fan of the surface; a boundary or seam meets it exactly where that fan meets a
 /// boundary; without seams it is a fan. The surface cut at flags that are alike on both sides of each pair
 /// is a surface. This is the contract of a call that does nothing.
 pub fn classes_are_chains()

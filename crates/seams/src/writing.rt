@@ -49,7 +49,7 @@ fn put_bits(across: &[u32], faces: u32, seam: &[bool], bits: &mut [bool]) -> usi
 
 /// The seam bits of flags: for each pair of sides, in the order of the sides 3f + k of the lesser faces,
 /// whether it is a seam. A block that has these bits first, whatever follows them, tells the flags again.
-/// Refused for want of memory alone (Draco Bitstream Specification 2.2, section Edgebreaker Connectivity,
+/// Refused only when out of memory (Draco Bitstream Specification 2.2, section Edgebreaker Connectivity,
 /// attribute seams).
 pub fn seam_bits(alloc: Global, t: &SideTable, seam: &[bool]) -> Result<Vec<bool>, Memory>
     requires { AreFlags t.now.faces (gluing_of t.now) seam.now }

@@ -6,7 +6,7 @@ ghost use Rattle.drc_bits.specs.Reading.{Reading, advanced};
 ghost use Rattle.drc_bits.specs.Varint.{varint};
 ghost use Rattle.seq_section.specs.Indices.{index_width, number_of_width, index_at, face_at};
 
-/// The varint at the front of bytes and how many it takes, where these are at most three.
+/// The varint at the beginning of bytes and how many it takes, where these are at most three.
 #[inline(always)]
 fn short_varint(bytes: &[u8]) -> Option<(u32, usize)>
     requires { 3 ≤ length bytes.now }
@@ -28,7 +28,7 @@ fn short_varint(bytes: &[u8]) -> Option<(u32, usize)>
     None
 }
 
-/// The number at the front of bytes, of the width that indices below `points` have, and how many bytes
+/// The number at the beginning of bytes, of the width that indices below `points` have, and how many bytes
 /// it takes.
 #[inline(always)]
 fn quick_number(bytes: &[u8], points: u32) -> Option<(u32, usize)>
@@ -50,7 +50,7 @@ fn quick_number(bytes: &[u8], points: u32) -> Option<(u32, usize)>
     None
 }
 
-/// The index at the front of bytes, and how many bytes it takes.
+/// The index at the beginning of bytes, and how many bytes it takes.
 #[inline(always)]
 fn quick_index(bytes: &[u8], points: u32) -> Option<(u32, usize)>
     ensures index { IfSome result (λ r. (c : Reading) → c.rest ≡ bytes.now → index_at points c ≡ Ok (r.0, advanced r.1 c)) }
@@ -85,7 +85,7 @@ pub struct Quick {
     pub size: usize,
 }
 
-/// The face at the front of bytes.
+/// The face at the beginning of bytes.
 #[inline(always)]
 pub fn quick_face(bytes: &[u8], points: u32) -> Option<Quick>
     ensures face { IfSome result (λ q. (c : Reading) → c.rest ≡ bytes.now → face_at points c ≡ Ok (q.first ∷ q.second ∷ q.third ∷ [], advanced q.size c)) }

@@ -24,7 +24,7 @@ pub struct SeqRead {
     pub points: u32,
 }
 
-/// The two numbers and the method at the front of the section.
+/// The two numbers and the method at the opening of the section.
 #[derive(Clone, Copy, Debug, PartialEq, Eq)]
 pub struct Opening {
     /// The number of faces, at most `MAX_FACES`.
@@ -56,7 +56,7 @@ pub fn read_indices(alloc: Global, c: &mut Cursor<'_>) -> Result<SeqRead, Refusa
     })
 }
 
-/// Reads the faces behind the front of the section.
+/// Reads the faces behind the opening of the section.
 fn read_behind(
     alloc: Global,
     c: &mut Cursor<'_>,
@@ -72,7 +72,7 @@ fn read_behind(
     read_faces(alloc, c, opening.faces, opening.points)
 }
 
-/// Reads the front of the section.
+/// Reads the opening of the section.
 #[tactic(auto, unfolding(crate::specs::Indices::opening_at))]
 fn read_opening(c: &mut Cursor<'_>) -> Result<Opening, Fault>
     ensures opening { Reads (λ o. o) (opening_at profile_two c.old) c.new result }

@@ -14,7 +14,7 @@ use drc_bits::put_var32;
 use std::alloc::Global;
 
 /// The section of these faces beside `points` points, with packed indices or with each by itself. Read
-/// at its front, whatever bytes follow, it gives the faces and the number of points.
+/// at its beginning, whatever bytes follow, it gives the faces and the number of points.
 pub fn write_indices(
     alloc: Global,
     faces: &[[u32; 3]],
@@ -27,6 +27,7 @@ pub fn write_indices(
     ensures bytes { IfOk result (λ v. v.items ≡ indices_bytes packed faces.now points) }
     ensures again { IfOk result (λ v. Spells (indices_at profile_two) v.items (record { faces = faces.now; points = points })) }
 {
+    // For the prover alone, who shows the clauses of the value that the call gave.
     let out = written_indices(alloc, faces, points, packed)?;
     Ok(out)
 }

@@ -45,7 +45,7 @@ abbrev pub coded_from : Reading → Reading → Option State → Item Coded
 coded_from first end (Some s) = Ok (record { place = first.place; state = s }, end)
 coded_from first end None = fault_at kind.BadStart first
 
--- coded symbols at the front: the number of their bytes, and the bytes
+-- coded symbols at the beginning: the number of their bytes, and the bytes
 unfoldable pub coded_at : ℕ → Reading → Item Coded
 coded_at bits c = do
   size ← var64_at c

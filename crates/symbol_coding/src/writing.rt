@@ -155,7 +155,7 @@ fn raw_counts(
 }
 
 /// The block of values in groups of `comps` components, of which there is a whole number: the scheme
-/// that costs less, symbols where both cost the same. Read at its front, whatever bytes follow, it gives
+/// that costs less, symbols where both cost the same. Read at its beginning, whatever bytes follow, it gives
 /// the values.
 #[tactic(auto, unfolding(crate::specs::Block::block_bytes))]
 pub fn write_symbols(alloc: Global, values: &[u32], comps: u32) -> Result<Vec<u8>, Memory>

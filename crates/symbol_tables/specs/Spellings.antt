@@ -40,7 +40,7 @@ abbrev pub AreEntries : List Entry → Type 0
 AreEntries [] = Unit {0}
 AreEntries (e ∷ entries) = IsEntry e × AreEntries entries
 
--- between two places stand the bytes of entries with just these probabilities, one for each of n symbols
+-- between two places stand the bytes of entries with exactly these probabilities, one for each of n symbols
 pub record HasSpelling (n : ℕ) (begin : Reading) (probs : List ℕ) (end : Reading) : Type 0 where
   pub entries : List Entry
   pub are : AreEntries entries

@@ -52,7 +52,7 @@ count_at c = must kind.EmptyTable (λ n. nat_lt 0 n) (must kind.TableLimit (λ n
 abbrev pub summing : ℕ → Reading → List ℕ × Reading → Item (List ℕ)
 summing bits c probs = if sum probs.0 == 2 ^ bits then Ok probs else fault_at kind.Sum c
 
--- the table at the front
+-- the table at the beginning
 unfoldable pub table_at : ℕ → Reading → Item (List ℕ)
 table_at bits c = do
   count ← count_at c

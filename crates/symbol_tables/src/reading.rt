@@ -99,7 +99,7 @@ fn total_of(probs: &[u32]) -> u64
 
 impl Table {
     /// Reads a table with 2 to the power `bits` slots: `Short` and `Long` of its items, `TableLimit` and
-    /// `EmptyTable` of its number of symbols, which are never answered by want of memory, `Run` at a byte
+    /// `EmptyTable` of its number of symbols, which are never answered when out of memory, `Run` at a byte
     /// whose run passes the end, and `Sum` at the number of symbols where the probabilities don't fill
     /// the slots. After a refusal the cursor is where it was.
     #[tactic(auto, unfolding(crate::specs::Tables::table_at))]

@@ -1,6 +1,6 @@
 //! Orders of entries: which class of corners of a surface is coded when (Draco Bitstream Specification
 //! 2.2, attribute traversal). The contract above it: both walks, depth first and by prediction degree,
-//! give each class just one entry, in the order of their definitions.
+//! give each class exactly one entry, in the order of their definitions.
 #![tactic(auto)]
 
 mod degree_walk;

@@ -2,7 +2,7 @@
 use Rattle.std.proofs.Common.{length, sym, ap, ◌∙◌}
 use Rattle.mesh_model.specs.Renumbering.{renumbered}
 use Rattle.drc_container.specs.Standings.{glued_by}
-use Rattle.drc_container.proofs.SurfaceFronts.{no-flags}
+use Rattle.drc_container.proofs.SurfacePreludes.{no-flags}
 use Rattle.drc_container.proofs.connected.seams_in.Goals as goal
 
 pub returns-then-heads-eq1-clause-flags : goal.returns-then-heads-eq1-clause-flags

@@ -1,5 +1,5 @@
 use Rattle.drc_container.proofs.Lengths.{cells_at-whole}
-use Rattle.drc_container.proofs.Fronts.{Answers-answer_of}
+use Rattle.drc_container.proofs.Declared.{Answers-answer_of}
 use Rattle.drc_container.proofs.decoding.cloud_of.Goals as goal
 
 pub of_typed-requires-clause-rows : goal.of_typed-requires-clause-rows

@@ -16,7 +16,7 @@ returns-in_err-values-clause-answer c =
     let d = glued_by c.args.mesh c.args.sides in
     let p = err_from_is_err_and c.from_residual-in_err-values.result c.from_residual-in_err-values.ensures.1 in
     rw (p.1, p.2)
-    (refuses-alike (values_fault coding d) (coded_values coding d) (c.args.front.items ++ (decoder_heads_bytes coding d ++ values_bytes_on coding d)) c.in_err-values.field-0.0
+    (refuses-alike (values_fault coding d) (coded_values coding d) (c.args.prelude.items ++ (decoder_heads_bytes coding d ++ values_bytes_on coding d)) c.in_err-values.field-0.0
     (subst (λ (g : Glued). Refuses (value_unless (values_fault coding g) (coded_values coding g)) c.in_err-values.field-0.0) c.in_ok-standings.ensures.glued c.in_err-values.ensures))
 
 -- the values can be coded

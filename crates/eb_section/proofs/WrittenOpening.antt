@@ -18,7 +18,7 @@ limited : (least most : ℕ) (kind' : _) → least ≤ most → most < 2 ^ 32 �
 limited least most kind' within small =
     Spells-must kind' (λ n. nat_le n most) var32_at (spelling 5 least) least (le-leb least most within) (Spells-var32 least (omega (arith, within, small)))
 
--- the numbers of a front are within what is tested
+-- the numbers of an opening are within what is tested
 pub record IsWithin (o : Opening) : Type 0 where
   pub vertices : o.vertices ≤ MAX_POINTS
   pub faces : o.faces ≤ MAX_FACES
@@ -26,7 +26,7 @@ pub record IsWithin (o : Opening) : Type 0 where
   pub symbols : o.symbols ≤ o.faces
   pub splits : o.splits ≤ o.symbols
 
--- the front as its traversal's number says it
+-- the opening as its traversal's number says it
 told_by : ℕ → Opening → Opening
 told_by t o = record { valence = (t == 2); vertices = o.vertices; faces = o.faces; attr_data = o.attr_data; symbols = o.symbols; splits = o.splits }
 
@@ -72,7 +72,7 @@ Spells-numbers t o known within =
     (limited o.splits o.symbols kind.Count within.splits (omega (arith, within.symbols, within.faces)))
     (Spells-none (told_by t o)))))))
 
--- the written front
+-- the written opening
 by_groups : (t a : ℕ) (v f s p : List ℕ) → (t ∷ []) ++ (v ++ (f ++ ((a ∷ []) ++ (s ++ (p ++ []))))) ≡ t ∷ v ++ f ++ a ∷ s ++ p
 by_groups t a v f s p = simp (append_assoc, append-nil)
 
@@ -80,9 +80,9 @@ known : (valence : Bool) → ((if valence then 2 else 0) == 0 || (if valence the
 known true = refl
 known false = refl
 
-same-front : (o : Opening) → told_by (if o.valence then 2 else 0) o ≡ o
+same-opening : (o : Opening) → told_by (if o.valence then 2 else 0) o ≡ o
 unfolding told_by
-same-front o = ap (λ (v : Bool). let x : Opening = record { valence = v; vertices = o.vertices; faces = o.faces; attr_data = o.attr_data; symbols = o.symbols; splits = o.splits } in x) (is o.valence)
+same-opening o = ap (λ (v : Bool). let x : Opening = record { valence = v; vertices = o.vertices; faces = o.faces; attr_data = o.attr_data; symbols = o.symbols; splits = o.splits } in x) (is o.valence)
   where
     is : (v : Bool) → ((if v then 2 else 0) == 2) ≡ v
     is true = refl
@@ -92,6 +92,6 @@ pub Spells-opening : (o : Opening) → IsWithin o → Spells (opening_at profile
 unfolding opening_bytes
 Spells-opening o within =
     let t : ℕ = if o.valence then 2 else 0 in
-    subst (λ x. Spells (opening_at profile_two) (opening_bytes o) x) (same-front o)
+    subst (λ x. Spells (opening_at profile_two) (opening_bytes o) x) (same-opening o)
     (subst (λ bytes. Spells (opening_at profile_two) bytes (told_by t o)) (by_groups t o.attr_data (spelling 5 o.vertices) (spelling 5 o.faces) (spelling 5 o.symbols) (spelling 5 o.splits))
     (Spells-numbers t o (known o.valence) within))

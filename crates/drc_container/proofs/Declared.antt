@@ -1,4 +1,4 @@
--- Answers of calls that take no memory, and faults of the front of a stream.
+-- Answers of calls that take no memory, and faults of what a stream declares.
 use Rattle.drc_base.specs.Profile.{profile_two}
 use Rattle.std.proofs.Common.{◌≡◌, ℕ, List, Result, Ok, Err, refl, sym, ◌∙◌, ap}
 use Rattle.drc_base.specs.declared.faults.Fault.{Fault}
@@ -9,7 +9,7 @@ use Rattle.drc_bits.proofs.Results.{err≢ok, Err-injective}
 use Rattle.mesh_model.specs.FirstFault.{answer_of}
 use Rattle.drc_container.specs.declared.headers.Form.{Form}
 use Rattle.drc_container.specs.Header.{header_at}
-use Rattle.drc_container.specs.Stream.{front_of, front_at}
+use Rattle.drc_container.specs.Stream.{declared_of, declared_at}
 use Rattle.seq_section.specs.declared.reading.SeqRead.{SeqRead}
 use Rattle.seq_section.specs.Indices.{opening_at, indices_at}
 
@@ -27,13 +27,13 @@ pub opening-passed : (c d : Reading) (r : SeqRead) (f : Fault) → indices_at pr
 unfolding indices_at
 opening-passed c d r f read fault = err≢ok {e = f} (sym (rw fault refl) ∙ read)
 
--- a header's fault is the fault of the front
-pub front-header : (bytes : List ℕ) (c : Reading) (e f : Fault) → c ≡ start_of bytes → header_at c ≡ Err e → front_of bytes ≡ Err f → e ≡ f
-unfolding front_of
-front-header bytes c e f at is front = Err-injective (sym (rw (← at, is) refl) ∙ front)
+-- a header's fault is that of what is declared
+pub declared-header : (bytes : List ℕ) (c : Reading) (e f : Fault) → c ≡ start_of bytes → header_at c ≡ Err e → declared_of bytes ≡ Err f → e ≡ f
+unfolding declared_of
+declared-header bytes c e f at is front = Err-injective (sym (rw (← at, is) refl) ∙ front)
 
--- behind a header that was read the front goes on
-pub front-behind : (bytes : List ℕ) (c d : Reading) (form said : Form) (f : Fault) → c ≡ start_of bytes → header_at c ≡ Ok (form, d) → form ≡ said
-    → front_of bytes ≡ Err f → front_at said d ≡ Err f
-unfolding front_of
-front-behind bytes c d form said f at is says front = rw (← says) (sym (rw (← at, is) refl) ∙ front)
+-- behind a header that was read, what is declared goes on
+pub declared-behind : (bytes : List ℕ) (c d : Reading) (form said : Form) (f : Fault) → c ≡ start_of bytes → header_at c ≡ Ok (form, d) → form ≡ said
+    → declared_of bytes ≡ Err f → declared_at said d ≡ Err f
+unfolding declared_of
+declared-behind bytes c d form said f at is says front = rw (← says) (sym (rw (← at, is) refl) ∙ front)

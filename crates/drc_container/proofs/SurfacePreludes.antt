@@ -1,4 +1,4 @@
--- What is told of the front of a mesh's stream and of the surface behind it, is told of the mesh.
+-- What is told of the prelude of a mesh's stream and of the surface behind it, is told of the mesh.
 use Rattle.std.proofs.Common.{◌≡◌, ℕ, ◌≤◌, ◌++◌, Bool, List, [], ◌∷◌, map, length, Option, None, refl, sym, ap, ◌∙◌, subst, Vec, Global}
 use Rattle.std.specs.Prelude.{option_map, Result, Ok, Err, IfOk}
 use Rattle.drc_base.specs.declared.faults.Memory.{Memory}
@@ -18,7 +18,7 @@ use Rattle.drc_container.specs.Refused.{tracing_fault}
 use Rattle.drc_container.specs.Written.{header_bytes}
 use Rattle.drc_container.specs.WrittenOnSurface.{Glued, traced, decoded, seam_lists}
 use Rattle.drc_container.specs.Standings.{flags_of, flag_lists}
-use Rattle.drc_container.specs.Fronts.{IsTraced, IsConnected}
+use Rattle.drc_container.specs.Preludes.{IsTraced, IsConnected}
 use Rattle.drc_container.proofs.SurfaceTraced.{traced-orders}
 use Rattle.drc_container.proofs.SurfaceFlags.{flags-first}
 use Rattle.drc_container.proofs.SurfaceEncoded.{IsTracedTo, traced-to, vertices-few, value-told}
@@ -53,19 +53,19 @@ pub no-flags : (d : Glued) (answer : Result SeamLists Memory) → length d.mesh.
 no-flags d (Ok s) one is = ap (map (option_map (λ (v : Vec Bool Global). v.items))) is ∙ one-flags d one
 no-flags d (Err e) one is = tt
 
--- ---- the front
+-- ---- the prelude
 
 pub is-connected : (valence : Bool) (m : MeshParts) (t : TracedMesh) (lists : List (List Bool)) (c : Connected) → IsTraced m t → lists ≡ seam_lists (decoded m)
-    → c.front.items ≡ header_bytes 1 (Mesh m) ++ connectivity_bytes valence (length m.faces) t.trace lists
+    → c.prelude.items ≡ header_bytes 1 (Mesh m) ++ connectivity_bytes valence (length m.faces) t.trace lists
     → IsReadAgain valence (length m.faces) t.trace lists (connectivity_bytes valence (length m.faces) t.trace lists)
     → c.rows ≡ t.trace.order → c.sides.faces ≡ length m.faces → gluing_of c.sides ≡ gluing_of t.sides
     → map (option_map (λ (v : Vec Bool Global). v.items)) c.flags.items ≡ flag_lists (decoded m) → IsConnected valence m c
-is-connected valence m t lists c T lists_are front again rows faces pairs flags =
+is-connected valence m t lists c T lists_are prelude again rows faces pairs flags =
     let is = trace-is m t T in
     let bytes : Traced → List (List Bool) → List ℕ = λ x l. connectivity_bytes valence (length m.faces) x l in
     record {
-      front =
-          front
+      prelude =
+          prelude
           ∙ ap (λ (x : Traced). header_bytes 1 (Mesh m) ++ bytes x lists) is
           ∙ ap (λ (l : List (List Bool)). header_bytes 1 (Mesh m) ++ bytes (traced m) l) lists_are;
       again =

@@ -1,4 +1,4 @@
--- The front of a mesh's stream by Edgebreaker, header and connectivity, and the surface that is kept for the values behind it (Draco
+-- The prelude of a mesh's stream by Edgebreaker, header and connectivity, and the surface that is kept for the values behind it (Draco
 -- Bitstream Specification 2.2, section "Edgebreaker Connectivity").
 use Rattle.std.specs.Prelude.{◌≡◌, ℕ, ◌++◌, Bool, List, map, length, Ok}
 use Rattle.std.specs.Option.{option_map}
@@ -27,9 +27,9 @@ pub record IsTraced (m : MeshParts) (t : TracedMesh) : Type 0 where
 abbrev pub connectivity_of : Bool → MeshParts → List ℕ
 connectivity_of valence m = connectivity_bytes valence (length m.faces) (traced m) (seam_lists (decoded m))
 
--- the front of its stream, the connectivity of which is read back, and its surface as it is decoded, with the seams
+-- the prelude of its stream, the connectivity of which is read back, and its surface as it is decoded, with the seams
 pub record IsConnected (valence : Bool) (m : MeshParts) (c : Connected) : Type 0 where
-  pub front : c.front.items ≡ header_bytes 1 (Mesh m) ++ connectivity_of valence m
+  pub prelude : c.prelude.items ≡ header_bytes 1 (Mesh m) ++ connectivity_of valence m
   pub again : IsReadAgain valence (length m.faces) (traced m) (seam_lists (decoded m)) (connectivity_of valence m)
   pub rows : c.rows ≡ (traced m).order
   pub faces : c.sides.faces ≡ length m.faces
