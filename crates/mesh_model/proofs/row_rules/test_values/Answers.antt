@@ -17,7 +17,7 @@ returns-then-not-in_type c =
     let here : fits_at heads cells i ≡ c.in_type.result =
     fits_at-column heads cells types i c.loop-i.invariant.2.0 c.loop-i.column c.column_types-types.ensures (rw (← c.requires.width) c.loop-i.invariant.2.1) (omega arith)
     ∙ ap (in_type (get_or types c.loop-i.column 0)) (sym (to_z-of_z w32 _ kept)) ∙ sym c.in_type.ensures in
-    range_fault-at heads cells i c.loop-i-test.true c.loop-i.invariant.0 (here ∙ c.if-not-in_type.true)
+    rw c.new.ensures (range_fault-at heads cells i c.loop-i-test.true c.loop-i.invariant.0 (here ∙ c.if-not-in_type.true))
 
 pub loop-i-preserved : goal.loop-i-preserved
 loop-i-preserved c =
