@@ -25,6 +25,8 @@ fn counted_surface<L: Ledger>(
     ensures faces { IfOk result (λ t. t.faces ≡ sides.now.faces) }
     ensures pairs { IfOk result (λ t. gluing_of t ≡ carried_gluing (gluing_of sides.now) rows.now) }
 {
+    // For the prover alone: the call tells that the table is a surface.
+    let _faces = sides.face_count();
     let mut steps = Steps::<L>::new(blank);
     sides.renumbered(alloc, rows, &mut steps)
 }
@@ -39,6 +41,5 @@ pub fn carried_surface(
     ensures faces { IfOk result (λ t. t.faces ≡ sides.faces) }
     ensures pairs { IfOk result (λ t. gluing_of t ≡ carried_gluing (gluing_of sides) rows.now) }
 {
-    let carried = counted_surface::<Brand>(alloc, &sides, rows, Blank::new(1))?;
-    Ok(carried)
+    counted_surface::<Brand>(alloc, &sides, rows, Blank::new(1))
 }
