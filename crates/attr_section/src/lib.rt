@@ -35,6 +35,7 @@ pub use decoder_writing::write_decoder;
 pub use head_reading::read_heads;
 pub use head_writing::write_heads;
 pub use laws::{flags_are_few, flags_are_tested, predictions_are_accepted, predictions_have_bytes};
+pub use predictions::Prediction;
 pub use ranges::range_of;
 pub use value_reading::read_decoder;
 pub use values::Values;

@@ -3,16 +3,18 @@
 ghost use Rattle.std.specs.Prelude.{◌≡◌, ◌⊎◌, pos};
 ghost use Rattle.attr_section.specs.Values.{no_prediction, code_of, byte_of};
 
-/// How values are predicted.
-#[derive(Clone, Copy)]
+/// How values are predicted, each with the number that `Values` tells (Draco Bitstream Specification 2.2,
+/// section "Prediction Decoder").
+#[derive(Clone, Copy, Debug, PartialEq, Eq)]
 pub enum Prediction {
-    /// Not at all.
+    /// Not at all: -2.
     Off,
-    /// By the entry before.
+    /// By the difference to the entry before: 0.
     Difference,
-    /// By the parallelogram across a side, over the surface of a walk.
+    /// By the parallelogram across a side, over the surface of a walk: 1.
     Parallelogram,
-    /// By the mean of parallelograms round a vertex that flags choose, over the surface of a walk.
+    /// By the mean of parallelograms round a vertex that flags choose, over the surface of a walk: 4,
+    /// constrained multi-parallelogram prediction.
     Multi,
 }
 

@@ -1,5 +1,5 @@
 -- A geometry's one decoder and its values are what the calls that write them ask for.
-use Rattle.std.proofs.Common.{◌≡◌, ℕ, ◌+◌, ◌≤◌, true, leb, [], ◌∷◌, ◌++◌, map, length, Option, None, Some, ap, ◌∙◌, add-one, arith}
+use Rattle.std.proofs.Common.{◌≡◌, ℕ, ◌+◌, ◌≤◌, true, leb, [], ◌∷◌, ◌++◌, map, length, Option, None, Some, inl, inr, ap, ◌∙◌, add-one, arith}
 use Rattle.std.specs.List.{range_with_len}
 use Rattle.std.proofs.lemmas.Bool.{leb-true, and_parts}
 use Rattle.std.proofs.lemmas.List.{map-append}
@@ -16,7 +16,7 @@ use Rattle.mesh_model.proofs.Passing.{HeadSays, heads_say}
 use Rattle.attr_section.specs.Heads.{is_type, attributes_of, HeadPasses, DecoderPasses, DecodersPass}
 use Rattle.attr_section.specs.Written.{HasQuant, DecoderValuesPass}
 use Rattle.drc_container.specs.declared.choices.Choice.{Choice}
-use Rattle.drc_container.specs.Choice.{prediction_of}
+use Rattle.drc_container.specs.Choice.{number_of_predict, prediction_of}
 use Rattle.drc_container.specs.Written.{decoder_of, values_of}
 use Rattle.drc_container.specs.Encoded.{CanCode}
 use Rattle.drc_container.proofs.Codable.{ColumnsPass, columns_pass}
@@ -62,7 +62,8 @@ decoder_passes g are =
 pub columns_of_geometry : (g : Geometry) (choice : Choice) → CanCode g choice → ArePoints (heads_in g) (points_in g)
     → ColumnsPass (length (points_in g)) (heads_in g) (values_of g (prediction_of g choice))
 columns_of_geometry g choice can are =
-    columns_pass (prediction_of g choice) (heads_in g) (points_in g) (heads_say (heads_in g) are.heads_pass).each are.rows_fit can.some are.few_values can.predicted
+    columns_pass (prediction_of g choice) (heads_in g) (points_in g) (heads_say (heads_in g) are.heads_pass).each are.rows_fit can.some are.few_values
+    (elim can.predicted [ inl off ↦ inl (ap number_of_predict off) | inr on ↦ inr (ap number_of_predict on.0, on.1) ])
 
 pub decoder_values_pass : (g : Geometry) (choice : Choice) → CanCode g choice → ArePoints (heads_in g) (points_in g)
     → DecoderValuesPass None (heads_in g) (values_of g (prediction_of g choice))

@@ -1,11 +1,9 @@
 -- Meshes in which nothing is at fault and that are too small to meet a limit are refused by no choice that fits.
-use Rattle.std.proofs.Common.{◌≡◌, ℕ, ◌*◌, ◌%◌, ◌<◌, ◌≤◌, Bool, true, false, ltb, leb, ℤ, List, [], ◌∷◌, length, take, drop, get_or, Option, None, inl, inr, refl, sym, ap, ◌∙◌, subst, arith}
+use Rattle.std.proofs.Common.{◌≡◌, ℕ, ◌*◌, ◌%◌, ◌<◌, ◌≤◌, Bool, true, false, ltb, leb, ℤ, List, [], ◌∷◌, length, take, drop, get_or, None, inl, inr, refl, sym, ap, ◌∙◌, subst, arith}
 use Rattle.std.specs.Prelude.{◌||◌, not, position, if◌then◌else◌}
 use Rattle.std.specs.List.{All, range_with_len}
-use Rattle.std.specs.Ordering.{int_eq}
 use Rattle.std.proofs.lemmas.Bool.{cases_Bool, le-leb, lt-ltb, or_from, or_right, not_from_true}
 use Rattle.std.proofs.lemmas.List.Elements.{All-map, All-weaker, All-get_or, All-take, All-drop}
-use Rattle.drc_base.specs.declared.faults.Fault.{Fault}
 use Rattle.drc_base.specs.declared.kinds.Kind.TheVariants.{Degenerate, Empty, NoPosition, PointLimit, ValueLimit, Range as RangeKind}
 use Rattle.drc_base.specs.declared.limits.TheConstants.{MAX_POINTS, MAX_VALUES}
 use Rattle.mesh_model.specs.declared.geometries.Geometry.TheVariants.{Mesh}
@@ -26,13 +24,15 @@ use Rattle.attr_section.specs.declared.values.Values.{Values}
 use Rattle.attr_section.specs.Values.{no_prediction, can_wrap, values_in}
 use Rattle.attr_section.specs.Written.{range_of}
 use Rattle.drc_container.specs.declared.codings.Coding.{Coding}
+use Rattle.drc_container.specs.declared.choices.Predict.{Predict}
+use Rattle.drc_container.specs.declared.choices.Predict.TheVariants as predict
 use Rattle.drc_container.specs.declared.choices.Choice.{Choice}
-use Rattle.drc_container.specs.Choice.{method_of, is_sequential, prediction_of}
+use Rattle.drc_container.specs.Choice.{method_of, is_sequential, predict_chosen, prediction_of}
 use Rattle.drc_container.specs.Chosen.{coding_of}
 use Rattle.drc_container.specs.Columns.{columns_of}
 use Rattle.drc_container.specs.Written.{values_of}
 use Rattle.drc_container.specs.WrittenOnSurface.{decoded, walk_of, coded_by, coded_values}
-use Rattle.drc_container.specs.Refused.{begins_with_position, choice_fault, empty_fault, position_fault, early_fault, vertices_fault, limit_fault, range_fault, coding_fault}
+use Rattle.drc_container.specs.Refused.{begins_with_position, choice_fault, empty_fault, position_fault, early_fault, vertices_fault, limit_fault, spans_fault, range_fault, coding_fault}
 use Rattle.drc_container.specs.Encodable.{IsProperFace, IsIn, IsEncodable, EncodableIsEncoded}
 use Rattle.drc_container.proofs.FirstRefusals.{refused-later}
 use Rattle.drc_container.proofs.SurfaceDecoded.{decoded-keeps}
@@ -88,17 +88,19 @@ vertices-none m few =
 
 -- ---- the values
 
-off-or : (b : Bool) (t : Option Fault) → t ≡ None → (if b then None else t) ≡ None
-off-or true t e = refl
-off-or false t e = e
-
-range-none : (predict : ℤ) (values : List Values) → All (λ v. can_wrap (range_of v.values) ≡ true) values → range_fault predict values ≡ None
-range-none predict values wrap =
+spans-none : (values : List Values) → All (λ v. can_wrap (range_of v.values) ≡ true) values → spans_fault values ≡ None
+spans-none values wrap =
     let far : Values → Bool = λ v. not (can_wrap (range_of v.values)) in
-    let d : Values = record { values = []; predict = predict; at = 0 } in
+    let d : Values = record { values = []; predict = no_prediction; at = 0 } in
     let nowhere : position far values ≡ None = position-none far values d (λ k below.
     not_from_true (can_wrap (range_of (get_or values k d).values)) (All-get_or (λ (v : Values). can_wrap (range_of v.values) ≡ true) values k d below wrap)) in
-    off-or (int_eq predict no_prediction) (at_place RangeKind (position far values)) (ap (at_place RangeKind) nowhere)
+    ap (at_place RangeKind) nowhere
+
+range-none : (p : Predict) (values : List Values) → All (λ v. can_wrap (range_of v.values) ≡ true) values → range_fault p values ≡ None
+range-none predict.Off values wrap = refl
+range-none predict.Diff values wrap = spans-none values wrap
+range-none predict.Para values wrap = spans-none values wrap
+range-none predict.Multi values wrap = spans-none values wrap
 
 -- the values of the points in order
 points-near : (m : MeshParts) (predict : ℤ) → IsEncodable m → All (λ v. can_wrap (range_of v.values) ≡ true) (values_of (Mesh m) predict)
@@ -156,8 +158,8 @@ coding-none m coding is =
 pub encodable-encoded : EncodableIsEncoded
 encodable-encoded m choice is fits =
     let early = early-none m choice is fits in
-    let predict = prediction_of (Mesh m) choice in
+    let number = prediction_of (Mesh m) choice in
     elim (cases_Bool (is_sequential (method_of (Mesh m) choice))) [
-      | inl on ↦ refused-later (Mesh m) choice is.mesh.points early on ∙ range-none predict (values_of (Mesh m) predict) (points-near m predict is)
+      | inl on ↦ refused-later (Mesh m) choice is.mesh.points early on ∙ range-none (predict_chosen (Mesh m) choice) (values_of (Mesh m) number) (points-near m number is)
       | inr off ↦ refused-on_surface m choice early off ∙ coding-none m (coding_of (Mesh m) choice) is
     ]

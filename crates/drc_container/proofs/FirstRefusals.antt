@@ -22,15 +22,15 @@ use Rattle.mesh_model.proofs.FirstFaults.{unless-none, unless-true, at_place-non
 use Rattle.mesh_model.proofs.Places.{position-none_back}
 use Rattle.predict.specs.Wrap.{Range as WrapRange, CanWrap}
 use Rattle.attr_section.specs.declared.values.Values.{Values}
-use Rattle.attr_section.specs.Values.{no_prediction, can_wrap, values_in}
+use Rattle.attr_section.specs.Values.{can_wrap, values_in}
 use Rattle.attr_section.specs.Written.{range_of}
 use Rattle.drc_container.specs.declared.methods.Method.{Method}
 use Rattle.drc_container.specs.declared.methods.Method.TheVariants as method
 use Rattle.drc_container.specs.declared.choices.Predict.{Predict}
 use Rattle.drc_container.specs.declared.choices.Predict.TheVariants as predict
 use Rattle.drc_container.specs.declared.choices.Choice.{Choice}
-use Rattle.drc_container.specs.Choice.{method_of, is_sequential, prediction_of}
-use Rattle.drc_container.specs.Refused.{chooses_parallelogram, choice_fault, empty_fault, position_fault, early_fault, surface_fault, limit_fault, range_fault, refused}
+use Rattle.drc_container.specs.Choice.{method_of, is_sequential, predict_chosen, number_of_predict, prediction_of}
+use Rattle.drc_container.specs.Refused.{chooses_parallelogram, choice_fault, empty_fault, position_fault, early_fault, surface_fault, limit_fault, spans_fault, range_fault, refused}
 use Rattle.drc_container.specs.Written.{values_of, stream_bytes}
 use Rattle.drc_container.specs.Chosen.{values_chosen}
 use Rattle.drc_container.specs.Encoded.{due, CanCode}
@@ -67,16 +67,17 @@ surface-none g choice on = rw on refl
 
 -- where there is no early fault, the values alone can be refused by the sequential method
 pub refused-later : (g : Geometry) (choice : Choice) → ArePoints (heads_in g) (points_in g) → early_fault g choice ≡ None
-    → is_sequential (method_of g choice) ≡ true → refused g choice ≡ range_fault (prediction_of g choice) (values_of g (prediction_of g choice))
+    → is_sequential (method_of g choice) ≡ true → refused g choice ≡ range_fault (predict_chosen g choice) (values_of g (prediction_of g choice))
 unfolding refused
 refused-later g choice are none on =
-    let predict = prediction_of g choice in
-    let vs = values_of g predict in
-    ap (λ x. first_fault (x ∷ surface_fault g choice ∷ limit_fault (values_chosen g choice) ∷ range_fault predict (values_chosen g choice) ∷ [])) none
-    ∙ ap (λ x. first_fault (x ∷ limit_fault (values_chosen g choice) ∷ range_fault predict (values_chosen g choice) ∷ [])) (surface-none g choice on)
-    ∙ ap (λ values. first_fault (limit_fault values ∷ range_fault predict values ∷ [])) (values-in_order g choice on)
-    ∙ ap (λ x. first_fault (x ∷ range_fault predict vs ∷ [])) (limit-none g predict are)
-    ∙ first_fault-one (range_fault predict vs)
+    let p = predict_chosen g choice in
+    let number = prediction_of g choice in
+    let vs = values_of g number in
+    ap (λ x. first_fault (x ∷ surface_fault g choice ∷ limit_fault (values_chosen g choice) ∷ range_fault p (values_chosen g choice) ∷ [])) none
+    ∙ ap (λ x. first_fault (x ∷ limit_fault (values_chosen g choice) ∷ range_fault p (values_chosen g choice) ∷ [])) (surface-none g choice on)
+    ∙ ap (λ values. first_fault (limit_fault values ∷ range_fault p values ∷ [])) (values-in_order g choice on)
+    ∙ ap (λ x. first_fault (x ∷ range_fault p vs ∷ [])) (limit-none g number are)
+    ∙ first_fault-one (range_fault p vs)
 
 -- a refusal doesn't depend on the value that isn't given
 pub refuses-alike : {A B : Type 0} (r : Option Fault) (a : A) (b : B) (e : Refusal) → Refuses (value_unless r a) e → Refuses (value_unless r b) e
@@ -131,10 +132,10 @@ due-in_order g choice on = rw on refl
 
 -- without a parallelogram the prediction is none or difference
 prediction-is : (g : Geometry) (choice : Choice) → method_of g choice ≡ method.Seq → chooses_parallelogram choice.predict ≡ false
-    → (prediction_of g choice ≡ no_prediction) ⊎ (prediction_of g choice ≡ pos 0)
+    → (predict_chosen g choice ≡ predict.Off) ⊎ (predict_chosen g choice ≡ predict.Diff)
 prediction-is g choice sequential none = go choice.predict refl none
   where
-    go : (p : Option Predict) → choice.predict ≡ p → chooses_parallelogram p ≡ false → (prediction_of g choice ≡ no_prediction) ⊎ (prediction_of g choice ≡ pos 0)
+    go : (p : Option Predict) → choice.predict ≡ p → chooses_parallelogram p ≡ false → (predict_chosen g choice ≡ predict.Off) ⊎ (predict_chosen g choice ≡ predict.Diff)
     go None is none = inr (rw (is, sequential) refl)
     go (Some predict.Off) is none = inl (rw is refl)
     go (Some predict.Diff) is none = inr (rw is refl)
@@ -147,7 +148,7 @@ can_wraps r is =
     record { ordered = grind (arith, ints, p.0); narrow = grind (arith, ints, p.1) }
 
 -- values without a fault of range can wrap
-pub wraps : (values : List Values) → range_fault (pos 0) values ≡ None → All (λ v. CanWrap (range_of v.values)) values
+pub wraps : (values : List Values) → spans_fault values ≡ None → All (λ v. CanWrap (range_of v.values)) values
 wraps values e =
     let test = λ (v : Values). not (can_wrap (range_of v.values)) in
     let d : Values = record { values = []; predict = pos 0; at = 0 } in
@@ -157,7 +158,7 @@ wraps values e =
 
 -- a geometry that isn't refused can be coded
 pub can-code : (g : Geometry) (choice : Choice) → early_fault g choice ≡ None → is_sequential (method_of g choice) ≡ true
-    → range_fault (prediction_of g choice) (values_of g (prediction_of g choice)) ≡ None → CanCode g choice
+    → range_fault (predict_chosen g choice) (values_of g (prediction_of g choice)) ≡ None → CanCode g choice
 can-code g choice early on none =
     let p = early_passes g choice early in
     let sequential = sequential-is (method_of g choice) on in
@@ -166,7 +167,7 @@ can-code g choice early on none =
       some = subst (λ b. 0 < (if b then length (points_in g) else length (faces_in g))) on p.some;
       predicted = elim (prediction-is g choice sequential (neither (chooses_parallelogram choice.predict) (is_sequential (method_of g choice)) p.no_parallelogram on)) [
         | inl off ↦ inl off
-        | inr by ↦ inr (by, wraps (values_of g (prediction_of g choice)) (subst (λ q. range_fault q (values_of g (prediction_of g choice)) ≡ None) by none))
+        | inr by ↦ inr (by, wraps (values_of g (prediction_of g choice)) (subst (λ (p : Predict). range_fault p (values_of g (prediction_of g choice)) ≡ None) by none))
       ];
     }
   where
@@ -176,30 +177,30 @@ can-code g choice early on none =
     neither false b kept is = refl
 
 -- values with a fault of range are refused
-pub later-refuses : (g : Geometry) (choice : Choice) (p : ℤ) (values : List Values) (f : Fault) → ArePoints (heads_in g) (points_in g) → early_fault g choice ≡ None
-    → is_sequential (method_of g choice) ≡ true → p ≡ prediction_of g choice → values ≡ values_of g p → range_fault p values ≡ Some f
+pub later-refuses : (g : Geometry) (choice : Choice) (p : Predict) (values : List Values) (f : Fault) → ArePoints (heads_in g) (points_in g) → early_fault g choice ≡ None
+    → is_sequential (method_of g choice) ≡ true → p ≡ predict_chosen g choice → values ≡ values_of g (number_of_predict p) → range_fault p values ≡ Some f
     → value_unless (refused g choice) (values_of g (prediction_of g choice)) ≡ Err f
 later-refuses g choice p values f are early on is_p is_values fault =
     let own : List Values = values_of g (prediction_of g choice) in
-    let same : range_fault (prediction_of g choice) own ≡ Some f =
-    sym (ap (λ q. range_fault q (values_of g q)) is_p) ∙ sym (ap (range_fault p) is_values) ∙ fault in
+    let same : range_fault (predict_chosen g choice) own ≡ Some f =
+    sym (ap (λ (q : Predict). range_fault q (values_of g (number_of_predict q))) is_p) ∙ sym (ap (range_fault p) is_values) ∙ fault in
     ap (λ r. value_unless r own) (refused-later g choice are early on ∙ same)
 
-none-there : (g : Geometry) (choice : Choice) (p : ℤ) (values : List Values) → p ≡ prediction_of g choice → values ≡ values_of g p → range_fault p values ≡ None
-    → range_fault (prediction_of g choice) (values_of g (prediction_of g choice)) ≡ None
+none-there : (g : Geometry) (choice : Choice) (p : Predict) (values : List Values) → p ≡ predict_chosen g choice → values ≡ values_of g (number_of_predict p) → range_fault p values ≡ None
+    → range_fault (predict_chosen g choice) (values_of g (prediction_of g choice)) ≡ None
 none-there g choice p values is_p is_values none =
-    sym (ap (λ q. range_fault q (values_of g q)) is_p) ∙ sym (ap (range_fault p) is_values) ∙ none
+    sym (ap (λ (q : Predict). range_fault q (values_of g (number_of_predict q))) is_p) ∙ sym (ap (range_fault p) is_values) ∙ none
 
 -- other values are given
-pub later-gives : (g : Geometry) (choice : Choice) (p : ℤ) (values : List Values) → ArePoints (heads_in g) (points_in g) → early_fault g choice ≡ None
-    → is_sequential (method_of g choice) ≡ true → p ≡ prediction_of g choice → values ≡ values_of g p → range_fault p values ≡ None
+pub later-gives : (g : Geometry) (choice : Choice) (p : Predict) (values : List Values) → ArePoints (heads_in g) (points_in g) → early_fault g choice ≡ None
+    → is_sequential (method_of g choice) ≡ true → p ≡ predict_chosen g choice → values ≡ values_of g (number_of_predict p) → range_fault p values ≡ None
     → value_unless (refused g choice) (values_of g (prediction_of g choice)) ≡ Ok values
 later-gives g choice p values are early on is_p is_values none =
     let own : List Values = values_of g (prediction_of g choice) in
     ap (λ r. value_unless r own) (refused-later g choice are early on ∙ none-there g choice p values is_p is_values none)
-    ∙ ap Ok (sym (is_values ∙ ap (values_of g) is_p))
+    ∙ ap Ok (sym (is_values ∙ ap (λ (q : Predict). values_of g (number_of_predict q)) is_p))
 
 -- and their geometry can be coded
-pub later-can : (g : Geometry) (choice : Choice) (p : ℤ) (values : List Values) → early_fault g choice ≡ None → is_sequential (method_of g choice) ≡ true
-    → p ≡ prediction_of g choice → values ≡ values_of g p → range_fault p values ≡ None → CanCode g choice
+pub later-can : (g : Geometry) (choice : Choice) (p : Predict) (values : List Values) → early_fault g choice ≡ None → is_sequential (method_of g choice) ≡ true
+    → p ≡ predict_chosen g choice → values ≡ values_of g (number_of_predict p) → range_fault p values ≡ None → CanCode g choice
 later-can g choice p values early on is_p is_values none = can-code g choice early on (none-there g choice p values is_p is_values none)

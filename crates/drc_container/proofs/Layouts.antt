@@ -29,7 +29,7 @@ use Rattle.attr_section.specs.Written.{range_of, range_bytes, integers_bytes, di
 use Rattle.drc_container.specs.declared.methods.Method.TheVariants as method
 use Rattle.drc_container.specs.declared.choices.Choice.{Choice}
 use Rattle.drc_container.specs.Columns.{columns_of}
-use Rattle.drc_container.specs.Choice.{method_of, prediction_of, index_of, is_packed}
+use Rattle.drc_container.specs.Choice.{method_of, number_of_predict, prediction_of, index_of, is_packed}
 use Rattle.drc_container.specs.Meaning.{attrs_seen}
 use Rattle.drc_container.specs.Written.{header_bytes, connectivity_bytes, decoder_of, attribute_heads_bytes, attributes_bytes, values_of, stream_bytes}
 use Rattle.drc_container.specs.Encoded.{CanCode, ConnectivitySpelled, AttributesSpelled}
@@ -154,7 +154,7 @@ index-chosen (Mesh m) choice sequential = rw sequential refl
 index-chosen (Cloud c) choice sequential = refl
 
 predicted-of : (g : Geometry) (choice : Choice) → CanCode g choice → IsPredicted (prediction_of g choice)
-predicted-of g choice can = elim can.predicted [ inl off ↦ inl off | inr on ↦ inr on.0 ]
+predicted-of g choice can = elim can.predicted [ inl off ↦ inl (ap number_of_predict off) | inr on ↦ inr (ap number_of_predict on.0) ]
 
 -- how the attributes are coded by the sequential method
 attributes-in_order : (g : Geometry) (choice : Choice) → method_of g choice ≡ method.Seq → attributes_chosen g choice ≡ map (λ _. attr_coded g choice 0 0) (heads_in g)

@@ -11,7 +11,7 @@ use Rattle.mesh_model.specs.FirstFault.{first_fault, value_unless}
 use Rattle.pairing.specs.Degenerate.{degenerate_fault}
 use Rattle.drc_container.specs.declared.codings.Coding.{Coding}
 use Rattle.drc_container.specs.declared.choices.Choice.{Choice}
-use Rattle.drc_container.specs.Choice.{method_of, is_sequential, prediction_of}
+use Rattle.drc_container.specs.Choice.{method_of, is_sequential, predict_chosen, prediction_of}
 use Rattle.drc_container.specs.Written.{values_of, stream_bytes}
 use Rattle.drc_container.specs.WrittenOnSurface.{traced, decoded, coded_values, edgebreaker_bytes}
 use Rattle.drc_container.specs.Chosen.{coding_of, values_chosen, written}
@@ -59,13 +59,13 @@ pub refused-on_surface : (m : MeshParts) (choice : Choice) → early_fault (Mesh
     → refused (Mesh m) choice ≡ coding_fault (coding_of (Mesh m) choice) m
 unfolding refused
 refused-on_surface m choice none off =
-    let predict = prediction_of (Mesh m) choice in
+    let p = predict_chosen (Mesh m) choice in
     let chosen = values_chosen (Mesh m) choice in
     let vs = coded_values (coding_of (Mesh m) choice) (decoded m) in
-    ap (λ x. first_fault (x ∷ surface_fault (Mesh m) choice ∷ limit_fault chosen ∷ range_fault predict chosen ∷ [])) none
-    ∙ ap (λ x. first_fault (x ∷ limit_fault chosen ∷ range_fault predict chosen ∷ [])) (fault-on_surface m choice off)
-    ∙ ap (λ values. first_fault (tracing_fault m ∷ limit_fault values ∷ range_fault predict values ∷ [])) (values-on_surface m choice off)
-    ∙ first_fault-join (degenerate_fault m) (vertices_fault m) (limit_fault vs ∷ range_fault predict vs ∷ [])
+    ap (λ x. first_fault (x ∷ surface_fault (Mesh m) choice ∷ limit_fault chosen ∷ range_fault p chosen ∷ [])) none
+    ∙ ap (λ x. first_fault (x ∷ limit_fault chosen ∷ range_fault p chosen ∷ [])) (fault-on_surface m choice off)
+    ∙ ap (λ values. first_fault (tracing_fault m ∷ limit_fault values ∷ range_fault p values ∷ [])) (values-on_surface m choice off)
+    ∙ first_fault-join (degenerate_fault m) (vertices_fault m) (limit_fault vs ∷ range_fault p vs ∷ [])
 
 -- what is due of it
 pub is-due-on_surface : (m : MeshParts) (choice : Choice) → early_fault (Mesh m) choice ≡ None → is_sequential (method_of (Mesh m) choice) ≡ false

@@ -1,10 +1,8 @@
 -- What is told of an encoding by Edgebreaker, step by step, is told of the mesh.
-use Rattle.std.proofs.Common.{◌≡◌, ◌⊎◌, ℕ, ◌-◌, ◌<◌, ◌≤◌, ℤ, List, [], ◌∷◌, ◌++◌, length, map, Option, Some, None, Ok, inl, inr, sym, ap, ◌∙◌, subst, arith}
+use Rattle.std.proofs.Common.{◌≡◌, ◌⊎◌, ℕ, ◌-◌, ◌<◌, ◌≤◌, List, [], ◌∷◌, ◌++◌, length, map, Option, Some, None, Ok, inl, inr, refl, sym, ap, ◌∙◌, subst, arith}
 use Rattle.std.specs.Prelude.{nat_le}
 use Rattle.std.specs.List.{All, enumerate_from}
-use Rattle.std.specs.Ordering.{int_eq}
-use Rattle.std.proofs.lemmas.Bool.{leb-true, cases_Bool}
-use Rattle.std.proofs.lemmas.Bool.Decides.{Decides-int_eq}
+use Rattle.std.proofs.lemmas.Bool.{leb-true}
 use Rattle.std.proofs.lemmas.List.{append_assoc}
 use Rattle.drc_base.specs.declared.faults.Fault.{Fault}
 use Rattle.drc_base.specs.declared.faults.Refusal.{Refusal}
@@ -27,11 +25,12 @@ use Rattle.eb_trace.specs.declared.tracing.Traced.{Traced}
 use Rattle.eb_trace.specs.Trace.{fan_count}
 use Rattle.eb_section.specs.ReadAgain.{IsReadAgain}
 use Rattle.predict.specs.Wrap.{CanWrap}
-use Rattle.attr_section.specs.declared.predictions.Prediction.{Prediction}
 use Rattle.attr_section.specs.declared.values.Values.{Values}
 use Rattle.attr_section.specs.Heads.{bare_decoder, heads_at}
-use Rattle.attr_section.specs.Values.{no_prediction, code_of, values_in}
+use Rattle.attr_section.specs.Values.{values_in}
 use Rattle.attr_section.specs.Written.{range_of}
+use Rattle.drc_container.specs.declared.choices.Predict.{Predict}
+use Rattle.drc_container.specs.declared.choices.Predict.TheVariants as predict
 use Rattle.drc_container.specs.declared.codings.Coding.{Coding}
 use Rattle.drc_container.specs.Written.{header_bytes}
 use Rattle.drc_container.specs.WrittenOnSurface.{traced, Glued, decoded, coded_values, decoders_for, seam_lists, values_bytes_on, decoder_heads_bytes, edgebreaker_bytes}
@@ -101,15 +100,15 @@ values-refuse {A} {B} coding m t d x y e is refuses =
     subst (λ (f : Option Fault). Refuses (value_unless f x) e) (sym (fault-is coding m t d is)) (refuses-alike (values_fault coding d) y x e refuses)
 
 -- values that are predicted lie near enough
-may-wrap : (predict : ℤ) (values : List Values) → range_fault predict values ≡ None → (predict ≡ no_prediction) ⊎ All (λ v. CanWrap (range_of v.values)) values
-may-wrap predict values none = elim (cases_Bool (int_eq predict no_prediction)) [
-  | inl off ↦ inl ((Decides-int_eq predict no_prediction).0 off)
-  | inr on ↦ inr (wraps values (rw on at none))
-]
+may-wrap : (p : Predict) (values : List Values) → range_fault p values ≡ None → (p ≡ predict.Off) ⊎ All (λ v. CanWrap (range_of v.values)) values
+may-wrap predict.Off values none = inl refl
+may-wrap predict.Diff values none = inr (wraps values none)
+may-wrap predict.Para values none = inr (wraps values none)
+may-wrap predict.Multi values none = inr (wraps values none)
 
-pub values-can : (coding : Coding) (d : Glued) (values : List Values) → 0 < length d.mesh.faces → (q : Prediction) × (coding.predict ≡ code_of q)
+pub values-can : (coding : Coding) (d : Glued) (values : List Values) → 0 < length d.mesh.faces
     → value_unless (values_fault coding d) (coded_values coding d) ≡ Ok values → CanCodeValues coding d
-values-can coding d values some known given =
+values-can coding d values some given =
     let vs = coded_values coding d in
     let none : values_fault coding d ≡ None = value-given (values_fault coding d) vs values given in
     let first = first_fault-none (limit_fault vs) (range_fault coding.predict vs ∷ []) none in
@@ -117,7 +116,6 @@ values-can coding d values some known given =
     record {
       some = some;
       few = leb-true (values_in vs) MAX_VALUES (unless-none (nat_le (values_in vs) MAX_VALUES) ValueLimit (values_in vs) first.0);
-      known = known;
       predicted = may-wrap coding.predict vs second.0;
     }
 
@@ -129,7 +127,6 @@ surface-can coding m t d is some can =
       proper = is.proper;
       few_vertices = fans-few m is.few;
       few_values = own.few;
-      known = own.known;
       predicted = own.predicted;
     }
 

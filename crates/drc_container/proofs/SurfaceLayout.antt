@@ -26,7 +26,7 @@ use Rattle.drc_container.specs.declared.codings.Coding.{Coding}
 use Rattle.drc_container.specs.declared.methods.Method.{Method}
 use Rattle.drc_container.specs.declared.methods.Method.TheVariants as method
 use Rattle.drc_container.specs.declared.choices.Choice.{Choice}
-use Rattle.drc_container.specs.Choice.{method_of, is_sequential, is_valence}
+use Rattle.drc_container.specs.Choice.{method_of, is_sequential, is_valence, prediction_named, number_of_predict}
 use Rattle.drc_container.specs.Stream.{stream}
 use Rattle.drc_container.specs.Written.{header_bytes}
 use Rattle.drc_container.specs.WrittenOnSurface.{Glued, decoded, is_cornered, is_by_degree, walk_of, coded_by, decoder_for, decoders_for, attribute_bytes, values_bytes_on, decoder_heads_bytes, surface_bytes, edgebreaker_bytes}
@@ -80,10 +80,10 @@ column-first plain w h values predict q rest is =
     ap (λ l. (l ++ quants) ++ rest) (append-nil this) ∙ append_assoc this quants rest in
     rw is (ap (λ l. get_or l (skipped (code_of q)) 0) parted ∙ values-first plain w h.comps values q (quants ++ rest))
 
-attribute-first : (coding : Coding) (d : Glued) (k : ℕ) (h : Head) (q : Prediction) (rest : List ℕ) → coding.predict ≡ code_of q
-    → get_or (attribute_bytes coding d k h ++ rest) (skipped coding.predict) 0 ≡ compressed_byte coding.plain
-attribute-first coding d k h q rest is =
-    column-first coding.plain (walk_of coding d k) h (coded_by coding d k).values coding.predict q rest is
+attribute-first : (coding : Coding) (d : Glued) (k : ℕ) (h : Head) (rest : List ℕ)
+    → get_or (attribute_bytes coding d k h ++ rest) (skipped (number_of_predict coding.predict)) 0 ≡ compressed_byte coding.plain
+attribute-first coding d k h rest =
+    column-first coding.plain (walk_of coding d k) h (coded_by coding d k).values (number_of_predict coding.predict) (prediction_named coding.predict) rest refl
 
 -- the element type and the walk of attribute k
 abbrev linked : Coding → Glued → ℕ → ℕ × ℕ
@@ -92,7 +92,7 @@ linked coding d k = (bit_of (is_cornered d k), bit_of (is_by_degree coding d k))
 -- how attribute k is coded, with this byte
 abbrev coded_with : Coding → Glued → ℕ → ℕ → AttrLayout
 coded_with coding d k compressed =
-    record { element = bit_of (is_cornered d k); walk = bit_of (is_by_degree coding d k); predict = coding.predict; compressed = compressed }
+    record { element = bit_of (is_cornered d k); walk = bit_of (is_by_degree coding d k); predict = number_of_predict coding.predict; compressed = compressed }
 
 abbrev coded : Coding → Glued → ℕ → AttrLayout
 coded coding d k = coded_with coding d k (compressed_byte coding.plain)
@@ -102,22 +102,21 @@ abbrev values_from : Coding → Glued → ℕ → List Head → List ℕ
 values_from coding d k heads = flat_map (λ (j, h). attribute_bytes coding d j h) (enumerate_from k heads)
 
 -- the attributes that are seen in these bytes are coded so
-layouts : (coding : Coding) (d : Glued) (q : Prediction) → coding.predict ≡ code_of q
-    → (bytes front : List ℕ) (place k : ℕ) (heads : List Head) → place ≡ length front → bytes ≡ front ++ values_from coding d k heads
+layouts : (coding : Coding) (d : Glued) (bytes front : List ℕ) (place k : ℕ) (heads : List Head) → place ≡ length front → bytes ≡ front ++ values_from coding d k heads
     → attr_layouts bytes (map (linked coding d) (range_with_len k (length heads))) (attrs_written coding d place (enumerate_from k heads))
     ≡ map (coded coding d) (range_with_len k (length heads))
-layouts coding d q known bytes front place k [] at is = refl
-layouts coding d q known bytes front place k (h ∷ heads) at is =
+layouts coding d bytes front place k [] at is = refl
+layouts coding d bytes front place k (h ∷ heads) at is =
     let this = attribute_bytes coding d k h in
     let others = values_from coding d (k + 1) heads in
     let links = map (linked coding d) (range_with_len (k + 1) (length heads)) in
-    let skip = skipped coding.predict in
+    let skip = skipped (number_of_predict coding.predict) in
     let byte : get_or bytes (place + skip) 0 ≡ compressed_byte coding.plain =
     ap (λ l. get_or l (place + skip) 0) is
     ∙ ap (λ p. get_or (front ++ (this ++ others)) (p + skip) 0) at
     ∙ get_or-append-add front (this ++ others) skip 0
-    ∙ attribute-first coding d k h q others known in
-    let again = layouts coding d q known bytes (front ++ this) (place + length this) (k + 1) heads
+    ∙ attribute-first coding d k h others in
+    let again = layouts coding d bytes (front ++ this) (place + length this) (k + 1) heads
     (omega (arith, at, length-append front this)) (is ∙ sym (append_assoc front this others)) in
     ap (λ b. coded_with coding d k b ∷ attr_layouts bytes links (attrs_written coding d (place + length this) (enumerate_from (k + 1) heads))) byte
     ∙ ap (λ l. coded coding d k ∷ l) again
@@ -192,7 +191,7 @@ attributes-there coding m can =
     let s = surface_bytes coding m in
     let heads = decoder_heads_bytes coding (decoded m) in
     let front = (h ++ s) ++ heads in
-    layouts coding (decoded m) can.known.0 can.known.1 (edgebreaker_bytes coding m) front (values_place coding m) 0 m.heads
+    layouts coding (decoded m) (edgebreaker_bytes coding m) front (values_place coding m) 0 m.heads
     (omega (arith, header-length m, length-append h s, length-append (h ++ s) heads))
     (stream-parts coding m ∙ ap (λ values. (h ++ s) ++ (heads ++ values)) (values-of coding m) ∙ sym (append_assoc (h ++ s) heads (values_from coding (decoded m) 0 m.heads)))
 

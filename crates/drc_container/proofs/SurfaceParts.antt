@@ -25,13 +25,15 @@ use Rattle.seams.proofs.Values.{width_part}
 use Rattle.predict.specs.Wrap.{CanWrap}
 use Rattle.predict.specs.Walked.{Walked}
 use Rattle.attr_section.specs.declared.predictions.Prediction.{Prediction}
-use Rattle.attr_section.specs.declared.predictions.Prediction.TheVariants as prediction
 use Rattle.attr_section.specs.declared.decoder_heads.DecoderHead.{DecoderHead}
 use Rattle.attr_section.specs.declared.values.Values.{Values}
 use Rattle.attr_section.specs.Heads.{attributes_of, HeadPasses, DecoderPasses, DecodersPass}
-use Rattle.attr_section.specs.Values.{no_prediction, code_of, values_in}
+use Rattle.attr_section.specs.Values.{code_of, values_in}
 use Rattle.attr_section.specs.Written.{range_of, HasQuant, CanPredict, ValuesPass, DecoderValuesPass, HaveEntries}
+use Rattle.drc_container.specs.declared.choices.Predict.{Predict}
+use Rattle.drc_container.specs.declared.choices.Predict.TheVariants as predict
 use Rattle.drc_container.specs.declared.codings.Coding.{Coding}
+use Rattle.drc_container.specs.Choice.{prediction_named, number_of_predict}
 use Rattle.drc_container.specs.declared.standing.Standing.{Standing}
 use Rattle.drc_container.specs.declared.standings.Standings.{Standings}
 use Rattle.drc_container.specs.OnSurface.{order_by, walked_by}
@@ -87,8 +89,8 @@ some-values n comps some one = let more : n * 1 ≤ n * comps = mul-le-mul_left 
 -- values that lie near enough may be predicted
 may-predict : (coding : Coding) (d : Glued) (k comps : ℕ) → CanCodeValues coding d → k < length d.mesh.heads
     → length (coded_by coding d k).values ≡ length (walk_of coding d k).corners * comps
-    → (q : Prediction) × (coding.predict ≡ code_of q) × CanPredict (Some (walk_of coding d k)) comps (coded_by coding d k).values q
-may-predict coding d k comps can has long = go can.known.0 can.known.1 can.predicted
+    → (q : Prediction) × (number_of_predict coding.predict ≡ code_of q) × CanPredict (Some (walk_of coding d k)) comps (coded_by coding d k).values q
+may-predict coding d k comps can has long = (prediction_named coding.predict, refl, go coding.predict can.predicted)
   where
     wraps : All (λ v. CanWrap (range_of v.values)) (coded_values coding d) → CanWrap (range_of (coded_by coding d k).values)
     wraps all =
@@ -96,15 +98,15 @@ may-predict coding d k comps can has long = go can.known.0 can.known.1 can.predi
         let P : Values → Type 0 = λ (x : Values). CanWrap (range_of x.values) in
         subst P (values-at coding d k v has) (All-get_or P (coded_values coding d) k v (omega (arith, has, values-each coding d)) all)
 
-    go : (q : Prediction) → coding.predict ≡ code_of q → (coding.predict ≡ no_prediction) ⊎ All (λ v. CanWrap (range_of v.values)) (coded_values coding d)
-        → (q : Prediction) × (coding.predict ≡ code_of q) × CanPredict (Some (walk_of coding d k)) comps (coded_by coding d k).values q
-    go prediction.Off is predicted = (prediction.Off, is, tt)
-    go prediction.Difference is (inl off) = cc
-    go prediction.Difference is (inr all) = (prediction.Difference, is, wraps all)
-    go prediction.Parallelogram is (inl off) = cc
-    go prediction.Parallelogram is (inr all) = (prediction.Parallelogram, is, (wraps all, long))
-    go prediction.Multi is (inl off) = cc
-    go prediction.Multi is (inr all) = (prediction.Multi, is, (wraps all, long))
+    go : (p : Predict) → (p ≡ predict.Off) ⊎ All (λ v. CanWrap (range_of v.values)) (coded_values coding d)
+        → CanPredict (Some (walk_of coding d k)) comps (coded_by coding d k).values (prediction_named p)
+    go predict.Off predicted = tt
+    go predict.Diff (inl off) = cc
+    go predict.Diff (inr all) = wraps all
+    go predict.Para (inl off) = cc
+    go predict.Para (inr all) = (wraps all, long)
+    go predict.Multi (inl off) = cc
+    go predict.Multi (inr all) = (wraps all, long)
 
 -- the values of an attribute pass
 values-pass : (coding : Coding) (d : Glued) → IsMesh d.mesh → IsGluing (length d.mesh.faces) d.pairs → CanCodeValues coding d
@@ -292,9 +294,9 @@ kept-corners coding s k t corners are has is same =
 -- the values at them are those of the attribute
 pub kept-values : (coding : Coding) (s : Standings) (k : ℕ) (t : Standing) (corners : List NumberedSide) (column : List ℤ) → AreStandings coding.degree s → k < length s.mesh.heads
     → walk_in t ≡ walk_at s k → corners ≡ t.order.corner_of_entry → column ≡ flat_map (piece s.mesh k) (map side_of corners)
-    → record { values = column; predict = coding.predict; at = 0 } ≡ coded_by coding (glued_on s) k
+    → record { values = column; predict = number_of_predict coding.predict; at = 0 } ≡ coded_by coding (glued_on s) k
 kept-values coding s k t corners column are has is same at_corners =
-    let make : List ℤ → Values = λ (l : List ℤ). record { values = l; predict = coding.predict; at = 0 } in
+    let make : List ℤ → Values = λ (l : List ℤ). record { values = l; predict = number_of_predict coding.predict; at = 0 } in
     ap make (
     at_corners
     ∙ ap (λ (l : List NumberedSide). flat_map (piece s.mesh k) (map side_of l)) same

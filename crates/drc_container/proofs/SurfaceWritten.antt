@@ -12,6 +12,7 @@ use Rattle.drc_container.specs.declared.codings.Coding.{Coding}
 use Rattle.drc_container.specs.declared.methods.Method.TheVariants as method
 use Rattle.drc_container.specs.declared.seen.AttrSeen.{AttrSeen}
 use Rattle.drc_container.specs.declared.seen.Seen.{Seen}
+use Rattle.drc_container.specs.Choice.{number_of_predict}
 use Rattle.drc_container.specs.Meaning.{Meaning}
 use Rattle.drc_container.specs.WrittenOnSurface.{traced, Glued, decoded, walk_of, coded_by, attribute_bytes, decoder_heads_bytes, surface_bytes, edgebreaker_bytes}
 
@@ -23,7 +24,7 @@ surface_place = 11
 abbrev pub attrs_written : Coding → Glued → ℕ → List (ℕ × Head) → List AttrSeen
 attrs_written coding d place [] = []
 attrs_written coding d place (x ∷ more) =
-    record { head = x.1; predict = coding.predict; entries = length (walk_of coding d x.0).corners; at = place }
+    record { head = x.1; predict = number_of_predict coding.predict; entries = length (walk_of coding d x.0).corners; at = place }
     ∷ attrs_written coding d (place + length (attribute_bytes coding d x.0 x.1)) more
 
 -- the values of an attribute, with the entries of the corners

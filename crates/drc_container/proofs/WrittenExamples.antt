@@ -175,11 +175,11 @@ abbrev column : List ℤ → Values
 column values = record { values = values; predict = pos 0; at = 0 }
 
 -- the widest range that is predicted, and one more
-widest : range_fault (pos 0) (column (negsuc 1073741823 ∷ pos 1073741822 ∷ []) ∷ []) ≡ None
+widest : range_fault predict.Diff (column (negsuc 1073741823 ∷ pos 1073741822 ∷ []) ∷ []) ≡ None
 widest = refl
 
-too_wide : range_fault (pos 0) (column (pos 0 ∷ []) ∷ column (negsuc 1073741823 ∷ pos 1073741823 ∷ []) ∷ []) ≡ Some (record { kind = kind.Range; at = 1 })
+too_wide : range_fault predict.Diff (column (pos 0 ∷ []) ∷ column (negsuc 1073741823 ∷ pos 1073741823 ∷ []) ∷ []) ≡ Some (record { kind = kind.Range; at = 1 })
 too_wide = refl
 
-not_predicted : range_fault (negsuc 1) (column (negsuc 1073741823 ∷ pos 1073741823 ∷ []) ∷ []) ≡ None
+not_predicted : range_fault predict.Off (column (negsuc 1073741823 ∷ pos 1073741823 ∷ []) ∷ []) ≡ None
 not_predicted = refl

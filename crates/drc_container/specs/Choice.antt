@@ -1,7 +1,10 @@
 -- What a choice says of an encoding, with what is written where nothing is chosen (this project's choice).
-use Rattle.std.specs.Prelude.{ℤ, pos, negsuc, Bool, true, false, Option, None, Some, unwrap_or, if◌then◌else◌}
+use Rattle.std.specs.Prelude.{ℤ, Bool, true, false, Option, None, Some, unwrap_or, if◌then◌else◌}
 use Rattle.mesh_model.specs.declared.geometries.Geometry.{Geometry}
 use Rattle.mesh_model.specs.Contents.{is_mesh}
+use Rattle.attr_section.specs.declared.predictions.Prediction.{Prediction}
+use Rattle.attr_section.specs.declared.predictions.Prediction.TheVariants as prediction
+use Rattle.attr_section.specs.Values.{code_of}
 use Rattle.drc_container.specs.declared.methods.Method.{Method}
 use Rattle.drc_container.specs.declared.methods.Method.TheVariants as method
 use Rattle.drc_container.specs.declared.choices.Index.{Index}
@@ -55,13 +58,21 @@ index_of choice = unwrap_or choice.index indexed.Plain
 abbrev pub predict_of : Method → Choice → Predict
 predict_of m choice = unwrap_or choice.predict (if is_sequential m then predict.Diff else predict.Para)
 
--- the number of a prediction: -2 none, 0 difference, 1 parallelogram, 4 constrained multi-parallelogram
+-- how a geometry's values are predicted
+abbrev pub predict_chosen : Geometry → Choice → Predict
+predict_chosen g choice = predict_of (method_of g choice) choice
+
+-- the prediction of attributes' values that a choice names so
+abbrev pub prediction_named : Predict → Prediction
+prediction_named predict.Off = prediction.Off
+prediction_named predict.Diff = prediction.Difference
+prediction_named predict.Para = prediction.Parallelogram
+prediction_named predict.Multi = prediction.Multi
+
+-- the number of a prediction
 abbrev pub number_of_predict : Predict → ℤ
-number_of_predict predict.Off = negsuc 1
-number_of_predict predict.Diff = pos 0
-number_of_predict predict.Para = pos 1
-number_of_predict predict.Multi = pos 4
+number_of_predict p = code_of (prediction_named p)
 
 -- the number of the prediction of a geometry's values
 abbrev pub prediction_of : Geometry → Choice → ℤ
-prediction_of g choice = number_of_predict (predict_of (method_of g choice) choice)
+prediction_of g choice = number_of_predict (predict_chosen g choice)

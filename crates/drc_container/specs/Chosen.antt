@@ -9,7 +9,7 @@ use Rattle.mesh_model.specs.SameLaws.{count_of}
 use Rattle.attr_section.specs.declared.values.Values.{Values}
 use Rattle.drc_container.specs.declared.codings.Coding.{Coding}
 use Rattle.drc_container.specs.declared.choices.Choice.{Choice}
-use Rattle.drc_container.specs.Choice.{method_of, is_sequential, is_valence, is_degree, prediction_of}
+use Rattle.drc_container.specs.Choice.{method_of, is_sequential, is_valence, is_degree, predict_chosen, prediction_of}
 use Rattle.drc_container.specs.Written.{values_of, stream_bytes}
 use Rattle.drc_container.specs.WrittenOnSurface.{traced, decoded, coded_values, edgebreaker_bytes}
 
@@ -23,7 +23,7 @@ abbrev pub coding_of : Geometry → Choice → Coding
 coding_of g choice = record {
   valence = is_valence (method_of g choice);
   degree = is_degree choice.walk;
-  predict = prediction_of g choice;
+  predict = predict_chosen g choice;
   plain = choice.plain_values;
 }
 

@@ -1,6 +1,6 @@
 -- What an encoding answers, and what its bytes mean (this project's choice).
 use Rattle.drc_base.specs.Profile.{profile_two}
-use Rattle.std.specs.Prelude.{◌≡◌, ◌<◌, ◌≤◌, ◌⊎◌, ℕ, ◌+◌, ◌-◌, ℤ, pos, Bool, true, false, List, [], ◌∷◌, ◌++◌, map, length}
+use Rattle.std.specs.Prelude.{◌≡◌, ◌<◌, ◌≤◌, ◌⊎◌, ℕ, ◌+◌, ◌-◌, ℤ, Bool, true, false, List, [], ◌∷◌, ◌++◌, map, length}
 use Rattle.std.specs.Prelude.{Option, None, Some, Result, Ok, All}
 use Rattle.std.specs.List.{enumerate_from}
 use Rattle.drc_base.specs.declared.faults.Fault.{Fault}
@@ -20,17 +20,17 @@ use Rattle.eb_trace.specs.Trace.{fan_count}
 use Rattle.eb_section.specs.ReadAgain.{IsReadAgain}
 use Rattle.predict.specs.Wrap.{CanWrap}
 use Rattle.seq_section.specs.Indices.{indices_at}
-use Rattle.attr_section.specs.declared.predictions.Prediction.{Prediction}
 use Rattle.attr_section.specs.Heads.{bare_decoder, heads_at}
-use Rattle.attr_section.specs.Values.{no_prediction, code_of, values_in, decoder_values_at}
+use Rattle.attr_section.specs.Values.{values_in, decoder_values_at}
 use Rattle.attr_section.specs.Written.{range_of, placed}
 use Rattle.drc_container.specs.declared.codings.Coding.{Coding}
 use Rattle.drc_container.specs.declared.choices.Choice.{Choice}
+use Rattle.drc_container.specs.declared.choices.Predict.TheVariants as predict
 use Rattle.drc_container.specs.declared.methods.Method.TheVariants as method
 use Rattle.drc_container.specs.declared.attributes.Attributes.{Attributes}
 use Rattle.drc_container.specs.Meaning.{Surface, Meaning}
 use Rattle.drc_container.specs.Header.{cloud_points_at}
-use Rattle.drc_container.specs.Choice.{method_of, is_sequential, prediction_of}
+use Rattle.drc_container.specs.Choice.{method_of, is_sequential, predict_chosen, prediction_of}
 use Rattle.drc_container.specs.Stream.{stream, attributes_at}
 use Rattle.drc_container.specs.Refused.{refused, coding_fault}
 use Rattle.drc_container.specs.Written.{connectivity_bytes, decoder_of, attribute_heads_bytes, attributes_bytes, values_of}
@@ -70,8 +70,8 @@ pub record Means (g : Geometry) (choice : Choice) (bytes : List ℕ) (rows : Row
 pub record CanCode (g : Geometry) (choice : Choice) : Type 0 where
   pub sequential : method_of g choice ≡ method.Seq
   pub some : 0 < length (points_in g)
-  pub predicted : (prediction_of g choice ≡ no_prediction)
-      ⊎ ((prediction_of g choice ≡ pos 0) × All (λ v. CanWrap (range_of v.values)) (values_of g (prediction_of g choice)))
+  pub predicted : (predict_chosen g choice ≡ predict.Off)
+      ⊎ ((predict_chosen g choice ≡ predict.Diff) × All (λ v. CanWrap (range_of v.values)) (values_of g (prediction_of g choice)))
 
 -- the connectivity is read back: the faces of a mesh and its number of points, or the number of points of a cloud
 abbrev pub ConnectivitySpelled : Bool → Geometry → Type 0
@@ -100,8 +100,7 @@ pub record CanCodeSurface (coding : Coding) (m : MeshParts) : Type 0 where
   pub proper : degenerate_fault m ≡ None
   pub few_vertices : fan_count (length m.faces) (pairing m) ≤ MAX_POINTS
   pub few_values : values_in (coded_values coding (decoded m)) ≤ MAX_VALUES
-  pub known : (q : Prediction) × (coding.predict ≡ code_of q)
-  pub predicted : (coding.predict ≡ no_prediction) ⊎ All (λ v. CanWrap (range_of v.values)) (coded_values coding (decoded m))
+  pub predicted : (coding.predict ≡ predict.Off) ⊎ All (λ v. CanWrap (range_of v.values)) (coded_values coding (decoded m))
 
 -- the values of attribute k, which has this head, are read back, wherever they stand and whatever follows them
 pub record AttributeSpelled (coding : Coding) (d : Glued) (k : ℕ) (h : Head) : Type 0 where

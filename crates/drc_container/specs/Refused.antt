@@ -1,7 +1,6 @@
 -- Which geometries and choices are refused, by the first of the tests that fails (this project's choice).
-use Rattle.std.specs.Prelude.{◌==◌, ◌&&◌, ◌||◌, Bool, false, not, ℤ, List, [], ◌∷◌, length, Option, None, Some, position, is_none}
+use Rattle.std.specs.Prelude.{◌==◌, ◌&&◌, ◌||◌, Bool, false, not, List, [], ◌∷◌, length, Option, None, Some, position, is_none}
 use Rattle.std.specs.Prelude.{nat_le, nat_lt, if◌then◌else◌}
-use Rattle.std.specs.Ordering.{int_eq}
 use Rattle.drc_base.specs.declared.faults.Fault.{Fault}
 use Rattle.drc_base.specs.declared.kinds.Kind.TheVariants.{Choice as ChoiceKind, Empty, NoPosition, PointLimit, ValueLimit, Range}
 use Rattle.drc_base.specs.declared.limits.TheConstants.{MAX_POINTS, MAX_VALUES}
@@ -14,11 +13,12 @@ use Rattle.pairing.specs.Degenerate.{degenerate_fault}
 use Rattle.pairing.specs.Pairing.{pairing}
 use Rattle.eb_trace.specs.Trace.{fan_count}
 use Rattle.attr_section.specs.declared.values.Values.{Values}
-use Rattle.attr_section.specs.Values.{no_prediction, can_wrap, values_in}
+use Rattle.attr_section.specs.Values.{can_wrap, values_in}
 use Rattle.attr_section.specs.Written.{range_of}
 use Rattle.drc_container.specs.declared.choices.Choice.{Choice}
 use Rattle.drc_container.specs.declared.choices.Predict.{Predict}
-use Rattle.drc_container.specs.Choice.{method_of, is_sequential, is_parallelogram, prediction_of}
+use Rattle.drc_container.specs.declared.choices.Predict.TheVariants as predict
+use Rattle.drc_container.specs.Choice.{method_of, is_sequential, is_parallelogram, predict_chosen}
 use Rattle.drc_container.specs.Chosen.{mesh_in, values_chosen}
 use Rattle.drc_container.specs.WrittenOnSurface.{Glued, decoded, coded_values}
 use Rattle.drc_container.specs.declared.codings.Coding.{Coding}
@@ -83,10 +83,15 @@ abbrev pub limit_fault : List Values → Option Fault
 limit_fault values = unless (nat_le (values_in values) MAX_VALUES) ValueLimit (values_in values)
 
 -- the first attribute whose coded values lie too far apart to be predicted: the greatest is 2^31 - 1 or more above the least
-abbrev pub range_fault : ℤ → List Values → Option Fault
-range_fault predict values =
-    if int_eq predict no_prediction then None
-    else at_place Range (position (λ v. not (can_wrap (range_of v.values))) values)
+abbrev pub spans_fault : List Values → Option Fault
+spans_fault values = at_place Range (position (λ v. not (can_wrap (range_of v.values))) values)
+
+-- the same, where values are predicted
+abbrev pub range_fault : Predict → List Values → Option Fault
+range_fault predict.Off values = None
+range_fault predict.Diff values = spans_fault values
+range_fault predict.Para values = spans_fault values
+range_fault predict.Multi values = spans_fault values
 
 -- why a geometry isn't encoded as chosen: the first of these faults
 unfoldable pub refused : Geometry → Choice → Option Fault
@@ -94,7 +99,7 @@ refused g choice = first_fault (
     early_fault g choice
     ∷ surface_fault g choice
     ∷ limit_fault (values_chosen g choice)
-    ∷ range_fault (prediction_of g choice) (values_chosen g choice)
+    ∷ range_fault (predict_chosen g choice) (values_chosen g choice)
     ∷ [])
 
 -- why the surface of a mesh isn't traced: the first of these faults

@@ -11,12 +11,12 @@ use Rattle.mesh_model.specs.Parts.{MeshParts}
 use Rattle.seams.specs.Values.{is_seam}
 use Rattle.predict.specs.Wrap.{CanWrap}
 use Rattle.predict.specs.Walked.{Walked, walked}
-use Rattle.attr_section.specs.declared.predictions.Prediction.{Prediction}
 use Rattle.attr_section.specs.declared.decoder_heads.DecoderHead.{DecoderHead}
 use Rattle.attr_section.specs.declared.values.Values.{Values}
 use Rattle.attr_section.specs.Heads.{bare_decoder}
-use Rattle.attr_section.specs.Values.{no_prediction, code_of, values_in, decoder_values_at}
+use Rattle.attr_section.specs.Values.{values_in, decoder_values_at}
 use Rattle.attr_section.specs.Written.{range_of, placed}
+use Rattle.drc_container.specs.declared.choices.Predict.TheVariants as predict
 use Rattle.drc_container.specs.declared.codings.Coding.{Coding}
 use Rattle.drc_container.specs.declared.standing.Standing.{Standing}
 use Rattle.drc_container.specs.declared.standings.Standings.{Standings}
@@ -64,8 +64,7 @@ pub record AreStandings (degree : Bool) (s : Standings) : Type 0 where
 pub record CanCodeValues (coding : Coding) (d : Glued) : Type 0 where
   pub some : 0 < length d.mesh.faces
   pub few : values_in (coded_values coding d) ≤ MAX_VALUES
-  pub known : (q : Prediction) × (coding.predict ≡ code_of q)
-  pub predicted : (coding.predict ≡ no_prediction) ⊎ All (λ v. CanWrap (range_of v.values)) (coded_values coding d)
+  pub predicted : (coding.predict ≡ predict.Off) ⊎ All (λ v. CanWrap (range_of v.values)) (coded_values coding d)
 
 -- the values of a decoder on a surface that is walked so are read back, wherever they stand and whatever follows them
 pub record AreReadAgain (plain : Bool) (w : Walked) (d : DecoderHead) (values : List Values) (bytes : List ℕ) : Type 0 where

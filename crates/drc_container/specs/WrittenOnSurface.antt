@@ -23,6 +23,7 @@ use Rattle.attr_section.specs.declared.values.Values.{Values}
 use Rattle.attr_section.specs.Heads.{position_id, heads_bytes}
 use Rattle.attr_section.specs.Written.{decoder_values_bytes}
 use Rattle.drc_container.specs.declared.codings.Coding.{Coding}
+use Rattle.drc_container.specs.Choice.{number_of_predict}
 use Rattle.drc_container.specs.OnSurface.{walked_by}
 use Rattle.drc_container.specs.Written.{header_bytes}
 
@@ -69,7 +70,8 @@ walk_of coding d k = walked_by (is_by_degree coding d k) (length d.mesh.faces) (
 
 -- the values of attribute k: of each entry, in the order of the walk
 abbrev pub coded_by : Coding → Glued → ℕ → Values
-coded_by coding d k = record { values = flat_map (piece d.mesh k) (walk_of coding d k).corners; predict = coding.predict; at = 0 }
+coded_by coding d k =
+    record { values = flat_map (piece d.mesh k) (walk_of coding d k).corners; predict = number_of_predict coding.predict; at = 0 }
 
 -- the values of each attribute
 unfoldable pub coded_values : Coding → Glued → List Values

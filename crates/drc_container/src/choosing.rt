@@ -1,13 +1,14 @@
 //! What a choice says of an encoding.
 
 ghost use Rattle.std.specs.Prelude.{◌≡◌};
-ghost use Rattle.drc_container.specs.Choice.{method_of, is_sequential, is_valence, is_degree, index_of, is_packed, predict_of, number_of_predict};
+ghost use Rattle.drc_container.specs.Choice.{method_of, is_sequential, is_valence, is_degree, index_of, is_packed, predict_of, predict_chosen, prediction_named, number_of_predict};
 ghost use Rattle.drc_container.specs.Chosen.{coding_of};
 
 use crate::choices::{Choice, Index, Predict, Walk};
 use crate::codings::Coding;
 use crate::contents::is_mesh;
 use crate::methods::Method;
+use attr_section::Prediction;
 use mesh_model::Geometry;
 
 /// The method: Edgebreaker with standard symbols for a mesh and sequential for a cloud, where none is
@@ -63,7 +64,7 @@ pub fn packs(choice: &Choice) -> bool
 
 /// How values are predicted.
 pub fn predict_of(g: &Geometry, choice: &Choice) -> Predict
-    ensures { result ≡ predict_of (method_of g.now choice.now) choice.now }
+    ensures { result ≡ predict_chosen g.now choice.now }
 {
     match choice.predict {
         Some(predict) => predict,
@@ -77,17 +78,23 @@ pub fn predict_of(g: &Geometry, choice: &Choice) -> Predict
     }
 }
 
-/// The number of a prediction: -2 none, 0 difference, 1 parallelogram, 4 constrained
-/// multi-parallelogram.
+/// The prediction of attributes' values that a choice names so.
+fn prediction_named(predict: Predict) -> Prediction
+    ensures { result ≡ prediction_named predict }
+{
+    match predict {
+        Predict::Off => Prediction::Off,
+        Predict::Diff => Prediction::Difference,
+        Predict::Para => Prediction::Parallelogram,
+        Predict::Multi => Prediction::Multi,
+    }
+}
+
+/// The number of a prediction, as `Values` tells it.
 pub fn number_of_predict(predict: Predict) -> i8
     ensures { result ≡ number_of_predict predict }
 {
-    match predict {
-        Predict::Off => -2,
-        Predict::Diff => 0,
-        Predict::Para => 1,
-        Predict::Multi => 4,
-    }
+    prediction_named(predict).code()
 }
 
 /// How a geometry is coded by Edgebreaker.
@@ -97,7 +104,7 @@ pub fn coding_of(g: &Geometry, choice: &Choice) -> Coding
     Coding {
         valence: is_valence(g, choice),
         degree: is_degree(choice),
-        predict: number_of_predict(predict_of(g, choice)),
+        predict: predict_of(g, choice),
         plain: choice.plain_values,
     }
 }

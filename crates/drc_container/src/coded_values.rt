@@ -4,8 +4,11 @@ ghost use Rattle.std.specs.Prelude.{◌≡◌, ◌+◌, ◌++◌, ◌≤◌, ℤ
 ghost use Rattle.std.specs.List.{flat_map};
 ghost use Rattle.mesh_model.specs.Head.{width_of};
 ghost use Rattle.mesh_model.specs.Contents.{heads_in, points_in};
+ghost use Rattle.drc_container.specs.Choice.{number_of_predict};
 ghost use Rattle.drc_container.specs.Written.{values_of};
 
+use crate::choices::Predict;
+use crate::choosing::number_of_predict;
 use crate::contents::{heads_in, point, point_count};
 use attr_section::Values;
 use drc_base::{Memory, Sequence};
@@ -13,22 +16,29 @@ use mesh_model::Geometry;
 use std::alloc::Global;
 
 /// The coded values of each attribute with this prediction: its integers, point after point.
-pub fn values_of(alloc: Global, g: &Geometry, predict: i8) -> Result<Vec<Values>, Memory>
-    ensures { IfOk result (λ v. v.items ≡ values_of g.now predict) }
+pub fn values_of(alloc: Global, g: &Geometry, predict: Predict) -> Result<Vec<Values>, Memory>
+    ensures { IfOk result (λ v. v.items ≡ values_of g.now (number_of_predict predict)) }
 {
     let mut values = Vec::new(alloc);
     let mut start: usize = 0;
     for head in heads_in(g) {
         let comps = head.comps as usize;
         let column = column_of(alloc, g, start, comps)?;
-        values.push(Values {
-            values: Sequence::from_vec(column),
-            predict,
-            at: 0,
-        })?;
+        values.push(predicted_column(predict, column))?;
         start += comps;
     }
     Ok(values)
+}
+
+/// The coded values of an attribute with this prediction, from its integers.
+pub fn predicted_column(predict: Predict, column: Vec<i32>) -> Values
+    ensures { result ≡ record { values = column.items; predict = number_of_predict predict; at = 0 } }
+{
+    Values {
+        values: Sequence::from_vec(column),
+        predict: number_of_predict(predict),
+        at: 0,
+    }
 }
 
 /// The `comps` integers of each point from integer `start` on, point after point.

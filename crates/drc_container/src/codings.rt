@@ -1,5 +1,7 @@
 //! How a mesh is coded by Edgebreaker.
 
+use crate::choices::Predict;
+
 /// How a mesh is coded by Edgebreaker.
 #[derive(Clone, Copy, Debug, PartialEq, Eq)]
 pub struct Coding {
@@ -7,9 +9,8 @@ pub struct Coding {
     pub valence: bool,
     /// Whether entries of vertices are walked by prediction degree, and not depth first.
     pub degree: bool,
-    /// The number of the prediction of values: -2 none, 0 difference, 1 parallelogram, 4 constrained
-    /// multi-parallelogram.
-    pub predict: i8,
+    /// How values are predicted.
+    pub predict: Predict,
     /// Whether values are written as they are, and not in symbol blocks.
     pub plain: bool,
 }

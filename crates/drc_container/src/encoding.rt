@@ -14,7 +14,7 @@ ghost use Rattle.drc_container.specs.Encoded.{due, CanCode, Means};
 ghost use Rattle.drc_container.specs.Layout.{layout_of, layout_chosen};
 
 use crate::choices::Choice;
-use crate::choosing::{coding_of, is_sequential, number_of_predict, predict_of};
+use crate::choosing::{coding_of, is_sequential, predict_of};
 use crate::coded_values::values_of;
 use crate::contents::point_count;
 use crate::refusals::{test_early, test_ranges};
@@ -99,7 +99,7 @@ fn coded_values(alloc: Global, g: &Geometry, choice: &Choice) -> Result<Vec<Valu
 {
     // For the prover alone: the call tells what holds of every geometry.
     let _count = point_count(g);
-    let predict = number_of_predict(predict_of(g, choice));
+    let predict = predict_of(g, choice);
     let values = values_of(alloc, g, predict)?;
     test_ranges(predict, values.as_slice())?;
     Ok(values)

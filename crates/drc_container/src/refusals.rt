@@ -1,15 +1,14 @@
 //! Which geometries and choices are refused.
 
 ghost use Rattle.std.specs.Prelude.{◌≡◌, position, not};
-ghost use Rattle.drc_base.specs.declared.kinds.Kind.TheVariants.{Range};
-ghost use Rattle.mesh_model.specs.FirstFault.{Tests, unless, at_place};
+ghost use Rattle.mesh_model.specs.FirstFault.{Tests, unless};
 ghost use Rattle.mesh_model.specs.Contents.{heads_in};
 ghost use Rattle.attr_section.specs.Values.{can_wrap};
 ghost use Rattle.attr_section.specs.Written.{range_of};
-ghost use Rattle.drc_container.specs.Refused.{choice_fault, empty_fault, position_fault, early_fault, chooses_parallelogram, begins_with_position, range_fault};
+ghost use Rattle.drc_container.specs.Refused.{choice_fault, empty_fault, position_fault, early_fault, chooses_parallelogram, begins_with_position, spans_fault, range_fault};
 
 use crate::choices::{Choice, Predict};
-use crate::choosing::{is_sequential, number_of_predict};
+use crate::choosing::is_sequential;
 use crate::contents::{face_count, heads_in, is_mesh, point_count};
 use attr_section::{Values, range_of};
 use drc_base::{Fault, Kind};
@@ -123,7 +122,7 @@ fn first_wide(values: &[Values]) -> Option<usize>
 
 /// The fault of the first attribute whose values can't be predicted.
 fn test_spans(values: &[Values]) -> Result<(), Fault>
-    ensures { Tests (at_place Range (position (λ v. not (can_wrap (range_of v.values))) values.now)) result }
+    ensures { Tests (spans_fault values.now) result }
 {
     match first_wide(values) {
         None => Ok(()),
@@ -131,13 +130,12 @@ fn test_spans(values: &[Values]) -> Result<(), Fault>
     }
 }
 
-/// The fault of the first attribute whose values can't be predicted, where the number of the prediction says that
-/// they are to be.
-pub fn test_ranges(predict: i8, values: &[Values]) -> Result<(), Fault>
+/// The fault of the first attribute whose values can't be predicted, where they are to be.
+pub fn test_ranges(predict: Predict, values: &[Values]) -> Result<(), Fault>
     ensures { Tests (range_fault predict values.now) result }
 {
-    if predict == number_of_predict(Predict::Off) {
-        return Ok(());
+    match predict {
+        Predict::Off => Ok(()),
+        Predict::Diff | Predict::Para | Predict::Multi => test_spans(values),
     }
-    test_spans(values)
 }

@@ -10,9 +10,7 @@ ghost use Rattle.drc_bits.specs.Spells.{Spells};
 ghost use Rattle.mesh_model.specs.FirstFault.{value_unless};
 ghost use Rattle.mesh_model.specs.Same.{Rows};
 ghost use Rattle.pairing.specs.Degenerate.{degenerate_fault};
-ghost use Rattle.attr_section.specs.declared.predictions.Prediction.{Prediction};
 ghost use Rattle.attr_section.specs.Heads.{bare_decoder, heads_at};
-ghost use Rattle.attr_section.specs.Values.{code_of};
 ghost use Rattle.drc_container.specs.Refused.{values_fault};
 ghost use Rattle.drc_container.specs.WrittenOnSurface.{decoders_for, decoder_heads_bytes, values_bytes_on};
 ghost use Rattle.drc_container.specs.Standings.{glued_by, flag_lists, CanCodeValues};
@@ -42,7 +40,6 @@ fn with_attributes(
     requires faces { sides.faces ≡ length mesh.faces }
     requires flags { map (option_map (λ v. v.items)) flags.items ≡ flag_lists (glued_by mesh sides) }
     requires some { 0 < length mesh.faces }
-    requires known { (q : Prediction) × (coding.now.predict ≡ code_of q) }
     ensures answer { let d = glued_by mesh.entry sides in
         Answers (λ v. v.items) (value_unless (values_fault coding.now d) (prelude.items ++ (decoder_heads_bytes coding.now d ++ values_bytes_on coding.now d))) result }
     ensures can { OnOk result (CanCodeValues coding.now (glued_by mesh.entry sides)) }
@@ -68,7 +65,6 @@ pub fn encode_surface(
     coding: &Coding,
 ) -> Result<(Vec<u8>, Sequence<(u32, u8)>), Refusal>
     requires some { 0 < length mesh.now.faces }
-    requires known { (q : Prediction) × (coding.now.predict ≡ code_of q) }
     ensures answer { Answers {B = List ℕ × Rows} (λ r. (r.0.items, r.1)) (due_on_surface coding.now mesh.now) result }
     ensures degenerate { (f : AnyFault) → degenerate_fault mesh.now ≡ Some f → result ≡ Err (refusal.Fault f) }
     ensures can { IfOk result (λ _. CanCodeSurface coding.now mesh.now) }

@@ -11,13 +11,13 @@ ghost use Rattle.drc_container.specs.Refused.{values_fault};
 ghost use Rattle.drc_container.specs.WrittenOnSurface.{coded_values};
 ghost use Rattle.drc_container.specs.Standings.{glued_on, AreStandings};
 
-use crate::coded_values::put_piece;
+use crate::coded_values::{predicted_column, put_piece};
 use crate::codings::Coding;
 use crate::refusals::{test_ranges, unless};
 use crate::standings::{Standings, standing_at};
 use crate::turned_meshes::TurnedMesh;
 use attr_section::Values;
-use drc_base::{Kind, MAX_VALUES, Memory, Refusal, Sequence, Side};
+use drc_base::{Kind, MAX_VALUES, Memory, Refusal, Side};
 use std::alloc::Global;
 
 /// How many values are coded: of each attribute its integers at each entry of its walk.
@@ -70,11 +70,7 @@ fn columns_on(alloc: Global, s: &Standings<'_>, coding: &Coding) -> Result<Vec<V
         let comps = head.comps as usize;
         let corners = standing_at(s, attr).order.corner_of_entry.as_slice();
         let column = column_at(alloc, &s.mesh, corners, attr, start, comps)?;
-        values.push(Values {
-            values: Sequence::from_vec(column),
-            predict: coding.predict,
-            at: 0,
-        })?;
+        values.push(predicted_column(coding.predict, column))?;
         start += comps;
     }
     Ok(values)

@@ -15,11 +15,11 @@ returns-in_err-test_early-clause-answer c =
     let p = err_from_is_err_and c.from_residual.result c.from_residual.ensures.1 in
     rw (p.1, p.2) (ap (λ r. value_unless r (written g choice)) (refused-early g choice c.in_err-test_early.field-0.0 c.in_err-test_early.ensures))
 
-pub encode_surface-requires-clause-some : goal.encode_surface-requires-clause-some
-encode_surface-requires-clause-some c =
+pub encode_surface-requires : goal.encode_surface-requires
+encode_surface-requires c =
     let for : IsForSurface c.args.g.now c.args.choice.now c.in-Mesh.mesh =
     record { mesh = c.in-Mesh.is; early = c.in_ok-test_early.ensures; off = sym c.is_sequential.ensures ∙ c.if-is_sequential.false } in
-    some-face c.args.g.now c.args.choice.now c.in-Mesh.mesh for
+    record { some = some-face c.args.g.now c.args.choice.now c.in-Mesh.mesh for }
 
 pub returns-in_err-bytes-in-Mesh-clause-answer : goal.returns-in_err-bytes-in-Mesh-clause-answer
 returns-in_err-bytes-in-Mesh-clause-answer c =

@@ -25,7 +25,7 @@ can c =
     let s = c.in_ok-standings.standings in
     let faces = ap (λ (g : Glued). length g.mesh.faces) c.in_ok-standings.ensures.glued in
     let some : 0 < length s.mesh.faces = omega (arith, c.requires.some, faces) in
-    values-can c.args.coding.now (glued_on s) c.in_ok-values.values.items some c.requires.known c.in_ok-values.ensures
+    values-can c.args.coding.now (glued_on s) c.in_ok-values.values.items some c.in_ok-values.ensures
 
 pub attributes-requires-clause-can : goal.attributes-requires-clause-can
 attributes-requires-clause-can c = can (goal.at.attributes-requires-clause-can c).In_ok-values

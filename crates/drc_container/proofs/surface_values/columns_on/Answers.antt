@@ -1,6 +1,5 @@
-use Rattle.std.proofs.Common.{rules, FitsSigned, w8, ◌≡◌, ◌<◌, ◌≤◌, ◌++◌, ◌∷◌, [], ℕ, ℤ, List, length, map, get_or, ap, sym, ◌∙◌, arith}
+use Rattle.std.proofs.Common.{◌≡◌, ◌<◌, ◌≤◌, ◌++◌, ◌∷◌, [], ℕ, List, length, map, get_or, ap, sym, ◌∙◌, arith}
 use Rattle.std.specs.List.{range_with_len}
-use Rattle.std.proofs.lemmas.Int.{to_z-of_z}
 use Rattle.mesh_model.specs.declared.heads.Head.{Head}
 use Rattle.mesh_model.specs.Head.{width_of}
 use Rattle.mesh_model.proofs.Columns.{width_of-bounds}
@@ -54,25 +53,18 @@ overflow_add-start c =
     let within = part-within heads c.loop-attr.attr c.loop-attr.start c.head-item.result n.has n.named c.loop-attr.invariant.start in
     omega (arith, narrow, within)
 
-same-values : (a b : List ℤ) (p q : ℤ) → a ≡ b → p ≡ q → ◌≡◌ {A = Values} (record { values = a; predict = p; at = 0 }) (record { values = b; predict = q; at = 0 })
-same-values a b p q is same =
-    let f : List ℤ → Values = λ l. record { values = l; predict = p; at = 0 } in
-    let g : ℤ → Values = λ x. record { values = b; predict = x; at = 0 } in
-    ap f is ∙ ap g same
-
 pub loop-attr-preserved : goal.loop-attr-preserved
 loop-attr-preserved c =
     let coding = c.args.coding.now in
     let s = c.args.s.now in
     let k = c.loop-attr.attr in
     let n = at_head (goal.at.loop-attr-preserved c).After-as_slice-corners in
-    let fits : FitsSigned w8 coding.predict = search rules in
     let values = kept-values coding s k c.standing_at.result.now c.as_slice-corners.result.now c.in_ok-column.column.items c.requires n.has c.standing_at.ensures c.as_slice-corners.ensures.items c.in_ok-column.ensures in
     let more = columns-more coding (glued_on s) k in
     record {
       values =
           c.in_ok-push.ensures.items
-          ∙ ap (λ (v : Values). c.loop-attr.values.items ++ v ∷ []) (same-values c.from_vec.result c.in_ok-column.column.items _ coding.predict c.from_vec.ensures (simp to_z-of_z) ∙ values)
+          ∙ ap (λ (v : Values). c.loop-attr.values.items ++ v ∷ []) (c.predicted_column.ensures ∙ values)
           ∙ ap (λ (vs : List Values). vs ++ coded_by coding (glued_on s) k ∷ []) c.loop-attr.invariant.values
           ∙ sym more;
       start = next-start s.mesh.heads k c.loop-attr.start c.head-item.result n.has n.named c.loop-attr.invariant.start;
