@@ -1,13 +1,12 @@
 -- Which predictions values are read by.
-use Rattle.std.proofs.Common.{◌≡◌, ◌⊎◌, ℕ, ◌+◌, ◌*◌, ◌==◌, ◌&&◌, ◌||◌, Bool, true, false, ℤ, pos, List, Option, None, Result, Ok, Err, refl, sym, ◌∙◌, ap, subst, inl, inr}
+use Rattle.std.proofs.Common.{◌≡◌, ◌⊎◌, ℕ, ◌+◌, ◌*◌, Bool, true, false, ℤ, pos, List, Option, None, Some, Result, Ok, Err, refl, sym, ◌∙◌, ap, subst, inl, inr}
 use Rattle.std.specs.Prelude.{if◌then◌else◌, nat_le}
 use Rattle.std.specs.List.{list_all}
 use Rattle.std.proofs.lemmas.Bool.{false≢true}
 use Rattle.drc_base.specs.declared.faults.Fault.{Fault}
-use Rattle.drc_base.specs.declared.kinds.Kind.TheVariants as kind
 use Rattle.drc_base.specs.Profile.{Profile}
 use Rattle.drc_base.specs.Steps.{◌>>=◌}
-use Rattle.drc_bits.specs.Reading.{Reading, Item, must, fault_at}
+use Rattle.drc_bits.specs.Reading.{Reading, Item}
 use Rattle.drc_bits.specs.Numbers.{number_at}
 use Rattle.drc_bits.proofs.Results.{Ok-injective, err≢ok}
 use Rattle.mesh_model.specs.declared.heads.Head.{Head}
@@ -16,7 +15,7 @@ use Rattle.predict.specs.Walked.{Walked}
 use Rattle.attr_section.specs.declared.predictions.Prediction.{Prediction}
 use Rattle.attr_section.specs.declared.predictions.Prediction.TheVariants as prediction
 use Rattle.attr_section.specs.declared.values.Values.{Values}
-use Rattle.attr_section.specs.Values.{no_prediction, code_of, prediction_of, is_prediction, prediction_at, predicted_at, typed_values_at, values_at}
+use Rattle.attr_section.specs.Values.{no_prediction, code_of, prediction_of, has_prediction, tested_prediction, prediction_at, predicted_at, typed_values_at, values_at}
 use Rattle.attr_section.specs.ValueLaws.{PredictionsAreAccepted}
 
 -- the first of two parts, and the other behind it
@@ -32,39 +31,41 @@ passed false f r y is = absurd (err≢ok is)
 
 -- what the values of an attribute were read from: a prediction that the profile has, and values by it
 record Read (p : Profile) (w : Option Walked) (v : Values) : Type 0 where
-  byte : ℕ
-  known : is_prediction p byte ≡ true
-  code : code_of (prediction_of byte) ≡ v.predict
+  prediction : Prediction
+  known : has_prediction p prediction ≡ true
+  code : code_of prediction ≡ v.predict
   at : ℕ
   comps : ℕ
   count : ℕ
   from : Reading
   to : List ℤ × Reading
-  values : predicted_at at w (prediction_of byte) comps count from ≡ Ok to
+  values : predicted_at at w prediction comps count from ≡ Ok to
+
+-- the profile has the prediction that is read
+read_is_known : (p : Profile) (c after : Reading) (q : Option Prediction) (y : Prediction × Reading) → tested_prediction p c q after ≡ Ok y → has_prediction p y.0 ≡ true
+read_is_known p c after None y is = absurd (err≢ok is)
+read_is_known p c after (Some q) y is =
+    let t = passed (has_prediction p q) _ _ y is in
+    ap (λ (z : Prediction × Reading). has_prediction p z.0) (sym (Ok-injective t.1)) ∙ t.0
 
 typed_read : (p : Profile) (w : Option Walked) (h : Head) (n : ℕ) (c : Reading) (y : Values × Reading) → typed_values_at p w h n c ≡ Ok y → Read p w y.0
 unfolding typed_values_at prediction_at
 typed_read p w h n c y is =
     let a = parts (prediction_at p c) _ y is in
-    let b = parts (must kind.Prediction (is_prediction p) (number_at 1) c) (λ x. Ok (prediction_of x.0, x.1)) a.0 a.1 in
-    let tested : ℕ × Reading → Item ℕ = λ x. if is_prediction p x.0 then Ok x else fault_at kind.Prediction c in
-    let d = parts (number_at 1 c) tested b.0 b.1 in
-    let t = passed (is_prediction p d.0.0) _ _ b.0 d.2 in
-    let same : d.0.0 ≡ b.0.0 = ap (λ (z : ℕ × Reading). z.0) (Ok-injective t.1) in
-    let said : prediction_of b.0.0 ≡ a.0.0 = ap (λ (z : Prediction × Reading). z.0) (Ok-injective b.2) in
+    let tested : ℕ × Reading → Item Prediction = λ b. tested_prediction p c (prediction_of b.0) b.1 in
+    let b = parts (number_at 1 c) tested a.0 a.1 in
     let v = parts (predicted_at c.place w a.0.0 h.comps n a.0.1) _ y a.2 in
     let l = passed (list_all (in_type h.dtype) v.0.0) _ _ y v.2 in
-    let code : code_of a.0.0 ≡ y.0.predict = ap (λ (z : Values × Reading). z.0.predict) (Ok-injective l.1) in
     record {
-      byte = b.0.0;
-      known = ap (is_prediction p) (sym same) ∙ t.0;
-      code = ap code_of said ∙ code;
+      prediction = a.0.0;
+      known = read_is_known p c b.0.1 (prediction_of b.0.0) a.0 b.2;
+      code = ap (λ (z : Values × Reading). z.0.predict) (Ok-injective l.1);
       at = c.place;
       comps = h.comps;
       count = n;
       from = a.0.1;
       to = v.0;
-      values = ap (λ q. predicted_at c.place w q h.comps n a.0.1) said ∙ v.1;
+      values = v.1;
     }
 
 read : (p : Profile) (w : Option Walked) (h : Head) (entries spent : ℕ) (c : Reading) (y : Values × Reading) → values_at p w h entries spent c ≡ Ok y → Read p w y.0
@@ -82,20 +83,18 @@ without_walk prediction.Parallelogram at comps n c y is = absurd (err≢ok is)
 without_walk prediction.Multi at comps n c y is = absurd (err≢ok is)
 
 -- without constrained multi-parallelogram prediction
-without_multi : (off difference one several multi : Bool) → multi ≡ false → (off || difference || one || (several && multi)) ≡ true
-    → ¬ (code_of (if off then prediction.Off else if difference then prediction.Difference else if one then prediction.Parallelogram else prediction.Multi) ≡ pos 4)
-without_multi true difference one several multi none known is = cc
-without_multi false true one several multi none known is = cc
-without_multi false false true several multi none known is = cc
-without_multi false false false true multi none known is = false≢true (sym none ∙ known)
-without_multi false false false false multi none known is = false≢true known
+without_multi : (p : Profile) (q : Prediction) → p.multi ≡ false → has_prediction p q ≡ true → ¬ (code_of q ≡ pos 4)
+without_multi p prediction.Off none known is = cc
+without_multi p prediction.Difference none known is = cc
+without_multi p prediction.Parallelogram none known is = cc
+without_multi p prediction.Multi none known is = false≢true (sym none ∙ known)
 
 pub accepted : PredictionsAreAccepted
 accepted = record {
   sequential = λ p h entries spent c y is.
       let r = read p None h entries spent c y is in
-      subst (λ q. (q ≡ no_prediction) ⊎ (q ≡ pos 0)) r.code (without_walk (prediction_of r.byte) r.at r.comps r.count r.from r.to r.values);
+      subst (λ q. (q ≡ no_prediction) ⊎ (q ≡ pos 0)) r.code (without_walk r.prediction r.at r.comps r.count r.from r.to r.values);
   profile = λ p w h entries spent c y none is four.
       let r = read p w h entries spent c y is in
-      without_multi (r.byte == 254) (r.byte == 0) (r.byte == 1) (r.byte == 4) p.multi none r.known (r.code ∙ four);
+      without_multi p r.prediction none r.known (r.code ∙ four);
 }

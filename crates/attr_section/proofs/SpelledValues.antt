@@ -1,6 +1,6 @@
 -- Values of attributes that are read back from their bytes.
 use Rattle.drc_base.specs.Profile.{profile_two}
-use Rattle.std.proofs.Common.{◌≡◌, ℕ, ◌+◌, ◌*◌, ◌^◌, ◌<◌, ◌≤◌, ◌&&◌, Bool, true, ℤ, pos, List, [], ◌∷◌, ◌++◌, length, map, flat_map, nat_le, Option, None, Some, Ok, refl, sym, ◌∙◌, ap, subst, append_assoc, append-nil, length-append, arith, ◌==◌, ◌||◌, to_z, of_z, w8}
+use Rattle.std.proofs.Common.{◌≡◌, ℕ, ◌+◌, ◌*◌, ◌^◌, ◌<◌, ◌≤◌, ◌&&◌, Bool, true, ℤ, List, [], ◌∷◌, ◌++◌, length, map, flat_map, nat_le, Option, None, Some, Ok, refl, sym, ◌∙◌, ap, subst, append_assoc, append-nil, length-append, arith, to_z, of_z, w8}
 use Rattle.std.specs.List.{All, list_all, zip}
 use Rattle.std.proofs.lemmas.Grind.{common_steps}
 use Rattle.std.proofs.lemmas.List.Elements.{All-head, All-tail, All-weaker}
@@ -8,7 +8,7 @@ use Rattle.std.proofs.lemmas.List.{map-id}
 use Rattle.drc_base.specs.declared.kinds.Kind.TheVariants as kind
 use Rattle.drc_base.specs.declared.limits.TheConstants.{MAX_VALUES}
 use Rattle.drc_base.specs.Steps.{◌>>=◌}
-use Rattle.drc_bits.specs.Reading.{Reading, must, many_at}
+use Rattle.drc_bits.specs.Reading.{Reading, many_at}
 use Rattle.drc_bits.specs.Numbers.{number_at}
 use Rattle.drc_bits.specs.Spells.{Spells}
 use Rattle.drc_bits.proofs.Spelled.{Spells-none, Spells-then, Spells-must, Spells-byte}
@@ -23,8 +23,8 @@ use Rattle.attr_section.specs.Heads.{bare_head, bare_decoder}
 use Rattle.attr_section.specs.declared.predictions.Prediction.{Prediction}
 use Rattle.attr_section.specs.declared.predictions.Prediction.TheVariants as prediction
 use Rattle.predict.specs.Walked.{Walked}
-use Rattle.attr_section.specs.Values.{code_of, byte_of, is_prediction, prediction_of, prediction_at, predicted_at, typed_values_at, values_at, quant_bits_at, quant_at, quant_of_at, quantised_at, values_in, attributes_at, quants_at, decoder_values_at}
-use Rattle.attr_section.specs.Written.{predicted_bytes, prediction_coded, values_bytes, quant_bytes, attributes_bytes, quants_bytes, decoder_values_bytes, HasQuant, QuantFits, placed, HaveEntries, MayHaveFewFlags, PredictedSpelled, ValuesSpelled}
+use Rattle.attr_section.specs.Values.{code_of, byte_of, prediction_of, tested_prediction, prediction_at, predicted_at, typed_values_at, values_at, quant_bits_at, quant_at, quant_of_at, quantised_at, values_in, attributes_at, quants_at, decoder_values_at}
+use Rattle.attr_section.specs.Written.{predicted_bytes, prediction_coded, coded_bytes, values_bytes, quant_bytes, attributes_bytes, quants_bytes, decoder_values_bytes, HasQuant, QuantFits, placed, HaveEntries, MayHaveFewFlags, PredictedSpelled, ValuesSpelled}
 use Rattle.attr_section.proofs.Spelling.{Spells-map}
 use Rattle.attr_section.proofs.SpelledIntegers.{Spells-low_bytes, Spells-all}
 
@@ -32,40 +32,49 @@ use Rattle.attr_section.proofs.SpelledIntegers.{Spells-low_bytes, Spells-all}
 abbrev behind : ℕ → ℕ → List ℕ → Reading
 behind place n rest = record { place = place + n; rest = rest }
 
-Spells-prediction : (b : ℕ) → is_prediction profile_two b ≡ true → Spells (prediction_at profile_two) (b ∷ []) (prediction_of b)
-unfolding prediction_at
-Spells-prediction b known =
-    Spells-map prediction_of (must kind.Prediction (is_prediction profile_two) (number_at 1)) (b ∷ []) b
-    (Spells-must kind.Prediction (is_prediction profile_two) (number_at 1) (b ∷ []) b known (Spells-byte b))
+-- the prediction of its byte
+of_byte : (q : Prediction) (c after : Reading) → tested_prediction profile_two c (prediction_of (byte_of q)) after ≡ Ok (q, after)
+of_byte prediction.Off c after = refl
+of_byte prediction.Difference c after = refl
+of_byte prediction.Parallelogram c after = refl
+of_byte prediction.Multi c after = refl
 
--- values of a prediction byte
-typed_values : (w : Option Walked) (h : Head) (n b : ℕ) (bytes : List ℕ) (values : List ℤ) → is_prediction profile_two b ≡ true
-    → ((at : ℕ) → Spells (predicted_at at w (prediction_of b) h.comps n) bytes values) → list_all (in_type h.dtype) values ≡ true
-    → (place : ℕ) (rest : List ℕ) → typed_values_at profile_two w h n (record { place = place; rest = (b ∷ bytes) ++ rest })
-    ≡ Ok (record { values = values; predict = code_of (prediction_of b); at = place }, behind place (length (b ∷ bytes)) rest)
+Spells-prediction : (q : Prediction) → Spells (prediction_at profile_two) (byte_of q ∷ []) q
+unfolding prediction_at
+Spells-prediction q = record {
+  reads = λ place rest.
+      rw ((Spells-byte (byte_of q)).reads place rest)
+      (of_byte q (record { place = place; rest = byte_of q ∷ rest }) (behind place 1 rest));
+}
+
+-- values of a prediction, behind its byte
+typed_values : (w : Option Walked) (h : Head) (n : ℕ) (q : Prediction) (bytes : List ℕ) (values : List ℤ)
+    → ((at : ℕ) → Spells (predicted_at at w q h.comps n) bytes values) → list_all (in_type h.dtype) values ≡ true
+    → (place : ℕ) (rest : List ℕ) → typed_values_at profile_two w h n (record { place = place; rest = (byte_of q ∷ bytes) ++ rest })
+    ≡ Ok (record { values = values; predict = code_of q; at = place }, behind place (length (byte_of q ∷ bytes)) rest)
 unfolding typed_values_at
-typed_values w h n b bytes values known spells typed place rest =
-    let first = (Spells-prediction b known).reads place (bytes ++ rest) in
+typed_values w h n q bytes values spells typed place rest =
+    let first = (Spells-prediction q).reads place (bytes ++ rest) in
     let second = (spells place).reads (place + 1) rest in
-    let after : place + 1 + length bytes ≡ place + length (b ∷ bytes) = omega arith in
+    let after : place + 1 + length bytes ≡ place + length (byte_of q ∷ bytes) = omega arith in
     rw (first, second, typed, after) refl
 
--- values of a prediction byte are those of an attribute
-spelled_by : (plain : Bool) (w : Option Walked) (h : Head) (v : Values) (b : ℕ) (bytes : List ℕ) → is_prediction profile_two b ≡ true → code_of (prediction_of b) ≡ v.predict
-    → values_bytes plain w h.comps v ≡ b ∷ bytes
-    → (MayHaveFewFlags w → (at : ℕ) → Spells (predicted_at at w (prediction_of b) h.comps (length v.values)) bytes v.values)
+-- they are those of an attribute
+spelled_by : (plain : Bool) (w : Option Walked) (h : Head) (v : Values) (q : Prediction) (bytes : List ℕ) → code_of q ≡ v.predict
+    → values_bytes plain w h.comps v ≡ byte_of q ∷ bytes
+    → (MayHaveFewFlags w → (at : ℕ) → Spells (predicted_at at w q h.comps (length v.values)) bytes v.values)
     → list_all (in_type h.dtype) v.values ≡ true → ValuesSpelled plain w h v
 unfolding values_at
-spelled_by plain w h v b bytes known predict is spells typed = record {
+spelled_by plain w h v q bytes predict is spells typed = record {
   reads = λ flags entries spent place rest count few.
       let within : nat_le (spent + entries * h.comps) MAX_VALUES ≡ true = rw (← count) (grind (arith, few)) in
       rw (is, within, ← count) (
-      subst (λ p. typed_values_at profile_two w (bare_head h) (length v.values) (record { place = place; rest = (b ∷ bytes) ++ rest }) ≡ Ok (record { values = v.values; predict = p; at = place }, behind place (length (b ∷ bytes)) rest)) predict
-      (typed_values w (bare_head h) (length v.values) b bytes v.values known (spells flags) typed place rest));
+      subst (λ p. typed_values_at profile_two w (bare_head h) (length v.values) (record { place = place; rest = (byte_of q ∷ bytes) ++ rest }) ≡ Ok (record { values = v.values; predict = p; at = place }, behind place (length (byte_of q ∷ bytes)) rest)) predict
+      (typed_values w (bare_head h) (length v.values) q bytes v.values (spells flags) typed place rest));
 }
 
 -- a prediction is that of its number
-coded : (q : Prediction) → prediction_coded (code_of q) ≡ q
+coded : (q : Prediction) → prediction_coded (code_of q) ≡ Some q
 coded prediction.Off = refl
 coded prediction.Difference = refl
 coded prediction.Parallelogram = refl
@@ -83,22 +92,19 @@ pub code_told : (q : Prediction) (code told : ℤ) → told ≡ to_z w8 (of_z w8
 code_told q code told is of = is ∙ ap (λ (x : ℤ). to_z w8 (of_z w8 x)) of ∙ code_fits q ∙ sym of
 
 -- the prediction of a number is the one that has it
-pub coded_is : (q : Prediction) (code : ℤ) → code_of q ≡ code → prediction_coded code ≡ q
+pub coded_is : (q : Prediction) (code : ℤ) → code_of q ≡ code → prediction_coded code ≡ Some q
 coded_is q code is = ap prediction_coded (sym is) ∙ coded q
 
 -- the bytes of an attribute's values: the byte of their prediction, and what it says
 pub values_are : (plain : Bool) (w : Option Walked) (comps : ℕ) (v : Values) (q : Prediction) → code_of q ≡ v.predict
     → values_bytes plain w comps v ≡ byte_of q ∷ predicted_bytes plain w q comps v.values
 unfolding values_bytes
-values_are plain w comps v q is = ap (λ (p : Prediction). byte_of p ∷ predicted_bytes plain w p comps v.values) (coded_is q v.predict is)
+values_are plain w comps v q is = ap (λ (p : Option Prediction). coded_bytes plain w p comps v.values) (coded_is q v.predict is)
 
 -- values of a prediction, each in the data type
 pub predicted_spelled : (plain : Bool) (w : Option Walked) (h : Head) (v : Values) (q : Prediction) → code_of q ≡ v.predict
     → PredictedSpelled plain w q h.comps v.values → list_all (in_type h.dtype) v.values ≡ true → ValuesSpelled plain w h v
-predicted_spelled plain w h v prediction.Off is spelled typed = spelled_by plain w h v 254 (predicted_bytes plain w prediction.Off h.comps v.values) refl is (values_are plain w h.comps v prediction.Off is) spelled.again typed
-predicted_spelled plain w h v prediction.Difference is spelled typed = spelled_by plain w h v 0 (predicted_bytes plain w prediction.Difference h.comps v.values) refl is (values_are plain w h.comps v prediction.Difference is) spelled.again typed
-predicted_spelled plain w h v prediction.Parallelogram is spelled typed = spelled_by plain w h v 1 (predicted_bytes plain w prediction.Parallelogram h.comps v.values) refl is (values_are plain w h.comps v prediction.Parallelogram is) spelled.again typed
-predicted_spelled plain w h v prediction.Multi is spelled typed = spelled_by plain w h v 4 (predicted_bytes plain w prediction.Multi h.comps v.values) refl is (values_are plain w h.comps v prediction.Multi is) spelled.again typed
+predicted_spelled plain w h v q is spelled typed = spelled_by plain w h v q (predicted_bytes plain w q h.comps v.values) is (values_are plain w h.comps v q is) spelled.again typed
 
 -- the values of attributes behind others
 attributes_spelled : (plain : Bool) (w : Option Walked) → MayHaveFewFlags w → (entries spent : ℕ) (front : List Values) (heads : List Head) (vs : List Values) → length vs ≡ length heads

@@ -2,7 +2,7 @@
 -- Parallelogram Prediction", "Mesh Constrained Multi Parallelogram Prediction" and "Quantization"; the limits and what is
 -- refused are this project's choice). The values of a stream's decoder stand on the surface of its walk, where there is one:
 -- there is none in a sequential stream.
-use Rattle.std.specs.Prelude.{◌≡◌, ℕ, suc, ◌+◌, ◌-◌, ◌*◌, ◌/◌, ◌%◌, ◌^◌, ◌==◌, ◌&&◌, ◌||◌, Bool, ℤ, pos, negsuc, ◌-ℤ◌, List, [], ◌∷◌}
+use Rattle.std.specs.Prelude.{◌≡◌, ℕ, suc, ◌+◌, ◌-◌, ◌*◌, ◌/◌, ◌%◌, ◌^◌, ◌==◌, ◌&&◌, Bool, true, ℤ, pos, negsuc, ◌-ℤ◌, List, [], ◌∷◌}
 use Rattle.std.specs.Prelude.{length, get_or, map, Option, None, Some, Ok, Err, sum_by, nat_le, int_le, int_lt, if◌then◌else◌}
 use Rattle.std.specs.List.{list_all}
 use Rattle.drc_base.specs.declared.kinds.Kind.TheVariants as kind
@@ -45,20 +45,27 @@ byte_of prediction.Difference = 0
 byte_of prediction.Parallelogram = 1
 byte_of prediction.Multi = 4
 
--- the prediction of a byte
-abbrev pub prediction_of : ℕ → Prediction
+-- the prediction of a byte, where it is the byte of one
+abbrev pub prediction_of : ℕ → Option Prediction
 prediction_of b =
-    if b == 254 then prediction.Off else if b == 0 then prediction.Difference
-    else if b == 1 then prediction.Parallelogram else prediction.Multi
+    if b == 254 then Some prediction.Off else if b == 0 then Some prediction.Difference
+    else if b == 1 then Some prediction.Parallelogram else if b == 4 then Some prediction.Multi else None
 
--- whether a byte is a prediction of a profile: constrained multi-parallelogram prediction is one where the profile says so, the others
--- are in every profile
-abbrev pub is_prediction : Profile → ℕ → Bool
-is_prediction p b = b == 254 || b == 0 || b == 1 || (b == 4 && p.multi)
+-- whether a profile has a prediction: constrained multi-parallelogram prediction where it says so, the others always
+abbrev pub has_prediction : Profile → Prediction → Bool
+has_prediction p prediction.Off = true
+has_prediction p prediction.Difference = true
+has_prediction p prediction.Parallelogram = true
+has_prediction p prediction.Multi = p.multi
+
+-- a prediction that a profile has; any other is refused at its byte
+abbrev pub tested_prediction : Profile → Reading → Option Prediction → Reading → Item Prediction
+tested_prediction p c None after = fault_at kind.Prediction c
+tested_prediction p c (Some q) after = if has_prediction p q then Ok (q, after) else fault_at kind.Prediction c
 
 -- the prediction of an attribute in a profile
 unfoldable pub prediction_at : Profile → Reading → Item Prediction
-prediction_at p c = must kind.Prediction (is_prediction p) (number_at 1) c >>= λ x. Ok (prediction_of x.0, x.1)
+prediction_at p c = number_at 1 c >>= λ b. tested_prediction p c (prediction_of b.0) b.1
 
 -- the integer of a zigzag symbol: 0, -1, 1, -2 and so on
 abbrev pub signed_of : ℕ → ℤ

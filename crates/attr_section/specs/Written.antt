@@ -110,16 +110,20 @@ predicted_bytes plain w prediction.Difference comps values = differences_bytes p
 predicted_bytes plain w prediction.Parallelogram comps values = surface_bytes w (λ s. parallelograms_bytes plain s comps values)
 predicted_bytes plain w prediction.Multi comps values = surface_bytes w (λ s. means_bytes plain s comps values)
 
--- the prediction of a number
-abbrev pub prediction_coded : ℤ → Prediction
+-- the prediction of a number, where it is the number of one
+abbrev pub prediction_coded : ℤ → Option Prediction
 prediction_coded code =
-    if int_eq code no_prediction then prediction.Off else if int_eq code (pos 0) then prediction.Difference
-    else if int_eq code (pos 1) then prediction.Parallelogram else prediction.Multi
+    if int_eq code no_prediction then Some prediction.Off else if int_eq code (pos 0) then Some prediction.Difference
+    else if int_eq code (pos 1) then Some prediction.Parallelogram else if int_eq code (pos 4) then Some prediction.Multi else None
+
+-- values of a prediction, where there is one: its byte, and what it says
+abbrev pub coded_bytes : Bool → Option Walked → Option Prediction → ℕ → List ℤ → List ℕ
+coded_bytes plain w None comps values = []
+coded_bytes plain w (Some q) comps values = byte_of q ∷ predicted_bytes plain w q comps values
 
 -- the values of an attribute of so many components: the byte of the prediction, and what it says
 unfoldable pub values_bytes : Bool → Option Walked → ℕ → Values → List ℕ
-values_bytes plain w comps v =
-    byte_of (prediction_coded v.predict) ∷ predicted_bytes plain w (prediction_coded v.predict) comps v.values
+values_bytes plain w comps v = coded_bytes plain w (prediction_coded v.predict) comps v.values
 
 -- a quantisation: the minima, the range, the bits
 abbrev pub quant_bytes : Option Quant → List ℕ

@@ -1,7 +1,8 @@
 //! How values are predicted, told by name.
 
-ghost use Rattle.std.specs.Prelude.{◌≡◌, ◌⊎◌, pos};
-ghost use Rattle.attr_section.specs.Values.{no_prediction, code_of, byte_of};
+ghost use Rattle.std.specs.Prelude.{◌≡◌};
+ghost use Rattle.attr_section.specs.declared.predictions.Prediction.{Prediction};
+ghost use Rattle.attr_section.specs.Values.{code_of, byte_of};
 
 /// How values are predicted, each with the number that `Values` tells (Draco Bitstream Specification 2.2,
 /// section "Prediction Decoder").
@@ -32,7 +33,7 @@ impl Prediction {
     }
 
     /// The byte of the prediction in a stream.
-    pub fn byte(self) -> u8
+    pub(crate) fn byte(self) -> u8
         ensures { result ≡ byte_of self }
     {
         match self {
@@ -44,8 +45,8 @@ impl Prediction {
     }
 
     /// The prediction of this number.
-    pub fn of_code(code: i8) -> Prediction
-        requires { (code ≡ no_prediction) ⊎ (code ≡ pos 0) ⊎ (code ≡ pos 1) ⊎ (code ≡ pos 4) }
+    pub(crate) fn of_code(code: i8) -> Prediction
+        requires { (q : Prediction) × (code ≡ code_of q) }
         ensures { code_of result ≡ code }
     {
         match code {

@@ -2,7 +2,6 @@
 use Rattle.drc_base.specs.Profile.{profile_two}
 use Rattle.std.proofs.Common.{◌≡◌, ◌⊎◌, ℕ, ◌+◌, ◌≤◌, true, false, Bool, List, [], ◌∷◌, ◌++◌, ◌-◌, map, length, drop, replicate, append-nil, get_or, Option, None, Some, Ok, refl, sym, ◌∙◌, ap, subst, inl, inr, arith, append_assoc, length-append, nat_le, if◌then◌else◌}
 use Rattle.std.specs.Prelude.{ℤ, pos, slice_index}
-use Rattle.std.specs.Ordering.{int_eq}
 use Rattle.std.proofs.lemmas.List.{get_or-append-add, length-map}
 use Rattle.std.proofs.Math.Seq.{drop-append_seam}
 use Rattle.drc_base.specs.declared.kinds.Kind.TheVariants as kind
@@ -25,7 +24,7 @@ use Rattle.predict.specs.Restored.{corrections, entry_before}
 use Rattle.attr_section.specs.declared.values.Values.{Values}
 use Rattle.attr_section.specs.Heads.{bare_head, bare_decoder, heads_at}
 use Rattle.attr_section.specs.Values.{no_prediction}
-use Rattle.attr_section.specs.Written.{range_of, range_bytes, integers_bytes, differences_bytes, values_bytes, attributes_bytes as columns_bytes, quants_bytes, decoder_values_bytes, placed}
+use Rattle.attr_section.specs.Written.{prediction_coded, range_of, range_bytes, integers_bytes, differences_bytes, values_bytes, attributes_bytes as columns_bytes, quants_bytes, decoder_values_bytes, placed}
 use Rattle.drc_container.specs.declared.methods.Method.TheVariants as method
 use Rattle.drc_container.specs.declared.choices.Choice.{Choice}
 use Rattle.drc_container.specs.Columns.{columns_of}
@@ -33,7 +32,7 @@ use Rattle.drc_container.specs.Choice.{method_of, number_of_predict, prediction_
 use Rattle.drc_container.specs.Meaning.{attrs_seen}
 use Rattle.drc_container.specs.Written.{header_bytes, connectivity_bytes, decoder_of, attribute_heads_bytes, attributes_bytes, values_of, stream_bytes}
 use Rattle.drc_container.specs.Encoded.{CanCode, ConnectivitySpelled, AttributesSpelled}
-use Rattle.drc_container.specs.Layout.{AttrLayout, Layout, attr_layouts, links_of, attr_data_of, links_layout, traversal_layout, traversal_of, index_layout, opening_method, layout_seen, layout_of, method_byte, attr_coded, attributes_chosen, layout_chosen}
+use Rattle.drc_container.specs.Layout.{compressed_behind, AttrLayout, Layout, attr_layouts, links_of, attr_data_of, links_layout, traversal_layout, traversal_of, index_layout, opening_method, layout_seen, layout_of, method_byte, attr_coded, attributes_chosen, layout_chosen}
 use Rattle.drc_container.proofs.Meanings.{connectivity_place, attributes_place, seen_written, stream-written}
 
 -- whether values are compressed, as a byte
@@ -52,7 +51,7 @@ IsPredicted predict = (predict ≡ no_prediction) ⊎ (predict ≡ pos 0)
 
 -- where that byte stands in the values of an attribute
 compressed-at : (plain : Bool) (comps : ℕ) (values : List ℤ) (predict : ℤ) (rest : List ℕ) → IsPredicted predict
-    → get_or (values_bytes plain None comps (record { values = values; predict = predict; at = 0 }) ++ rest) (if int_eq predict no_prediction then 1 else 2) 0 ≡ compressed_byte plain
+    → get_or (values_bytes plain None comps (record { values = values; predict = predict; at = 0 }) ++ rest) (compressed_behind (prediction_coded predict)) 0 ≡ compressed_byte plain
 unfolding values_bytes differences_bytes
 compressed-at plain comps values predict rest (inl off) = rw off (integers-first plain comps values rest)
 compressed-at plain comps values predict rest (inr on) =
@@ -80,7 +79,7 @@ layouts plain n bytes front rest place predict (h ∷ heads) (column ∷ columns
     let made = λ (column : List ℤ). let v : Values = record { values = column; predict = predict; at = 0 } in v in
     let this = values_bytes plain None h.comps (made column) in
     let others = columns_bytes plain None heads (map made columns) in
-    let skip : ℕ = if int_eq predict no_prediction then 1 else 2 in
+    let skip : ℕ = compressed_behind (prediction_coded predict) in
     let parted : bytes ≡ front ++ (this ++ (others ++ rest)) = is ∙ ap (λ l. front ++ l) (append_assoc this others rest) in
     let byte : get_or bytes (place + skip) 0 ≡ compressed_byte plain =
     ap (λ l. get_or l (place + skip) 0) parted

@@ -2,7 +2,6 @@
 use Rattle.std.proofs.Common.{◌≡◌, ℕ, ◌+◌, ◌-◌, true, false, Bool, List, [], ◌∷◌, ◌++◌, map, length, drop, get_or, Option, None, Some, Ok, refl, sym, ◌∙◌, ap, arith, append_assoc, append-nil, length-append, if◌then◌else◌}
 use Rattle.std.specs.Prelude.{ℤ, slice_index}
 use Rattle.std.specs.List.{flat_map, range_with_len, enumerate_from}
-use Rattle.std.specs.Ordering.{int_eq}
 use Rattle.std.proofs.lemmas.List.{get_or-append-add}
 use Rattle.std.proofs.Math.Seq.{drop-append_seam}
 use Rattle.drc_base.specs.Steps.{◌>>=◌}
@@ -20,8 +19,8 @@ use Rattle.attr_section.specs.declared.predictions.Prediction.{Prediction}
 use Rattle.attr_section.specs.declared.predictions.Prediction.TheVariants as prediction
 use Rattle.attr_section.specs.declared.values.Values.{Values}
 use Rattle.attr_section.specs.Heads.{position_id, bare_decoder, heads_at}
-use Rattle.attr_section.specs.Values.{no_prediction, code_of}
-use Rattle.attr_section.specs.Written.{range_of, range_bytes, integers_bytes, corrected_bytes, differences_bytes, parallelograms_bytes, flag_lists_of, flags_bytes, flagged_bytes, values_bytes, quants_bytes, decoder_values_bytes}
+use Rattle.attr_section.specs.Values.{code_of}
+use Rattle.attr_section.specs.Written.{prediction_coded, range_of, range_bytes, integers_bytes, corrected_bytes, differences_bytes, parallelograms_bytes, flag_lists_of, flags_bytes, flagged_bytes, values_bytes, quants_bytes, decoder_values_bytes}
 use Rattle.drc_container.specs.declared.codings.Coding.{Coding}
 use Rattle.drc_container.specs.declared.methods.Method.{Method}
 use Rattle.drc_container.specs.declared.methods.Method.TheVariants as method
@@ -32,7 +31,7 @@ use Rattle.drc_container.specs.Written.{header_bytes}
 use Rattle.drc_container.specs.WrittenOnSurface.{Glued, decoded, is_cornered, is_by_degree, walk_of, coded_by, decoder_for, decoders_for, attribute_bytes, values_bytes_on, decoder_heads_bytes, surface_bytes, edgebreaker_bytes}
 use Rattle.drc_container.specs.Chosen.{coding_of}
 use Rattle.drc_container.specs.Encoded.{CanCodeSurface, SurfaceSpelled}
-use Rattle.drc_container.specs.Layout.{AttrLayout, Layout, attr_layouts, links_of, attr_data_of, links_layout, traversal_layout, traversal_of, index_layout, layout_seen, layout_of, method_byte, bit_of, attr_coded, attr_on_surface, layout_chosen}
+use Rattle.drc_container.specs.Layout.{compressed_behind, AttrLayout, Layout, attr_layouts, links_of, attr_data_of, links_layout, traversal_layout, traversal_of, index_layout, layout_seen, layout_of, method_byte, bit_of, attr_coded, attr_on_surface, layout_chosen}
 use Rattle.drc_container.proofs.HeadsBeside.{heads-more}
 use Rattle.drc_container.proofs.SurfaceWritten.{surface_place, heads_place, values_place, attrs_written, seen_written, meaning_written}
 
@@ -42,7 +41,7 @@ compressed_byte plain = if plain then 0 else 1
 
 -- how far that byte stands behind the byte of a prediction
 abbrev skipped : ℤ → ℕ
-skipped predict = if int_eq predict no_prediction then 1 else 2
+skipped predict = compressed_behind (prediction_coded predict)
 
 -- integers begin with that byte
 integers-first : (plain : Bool) (comps : ℕ) (values : List ℤ) (rest : List ℕ) → get_or (integers_bytes plain comps values ++ rest) 0 0 ≡ compressed_byte plain

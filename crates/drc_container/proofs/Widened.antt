@@ -1,5 +1,5 @@
 -- A stream that is a geometry in a profile is the same one in each wider profile.
-use Rattle.std.proofs.Common.{◌≡◌, ℕ, ◌+◌, ◌*◌, ◌≤◌, ◌==◌, ◌&&◌, ◌||◌, Bool, true, false, Option, List, [], ◌∷◌, ◌++◌, length, None, Some, refl, arith, lit≤}
+use Rattle.std.proofs.Common.{◌≡◌, ℕ, ◌+◌, ◌*◌, ◌≤◌, true, Option, List, [], ◌∷◌, ◌++◌, length, None, Some, refl, arith, lit≤}
 use Rattle.std.specs.Prelude.{nat_le}
 use Rattle.std.proofs.lemmas.Bool.{leb-true, le-leb}
 use Rattle.drc_base.specs.declared.kinds.Kind.TheVariants as kind
@@ -15,7 +15,9 @@ use Rattle.eb_section.specs.Opening.{traversal_at, opening_at as edgebreaker_ope
 use Rattle.eb_section.specs.Connectivity.{Connectivity, connectivity_at}
 use Rattle.attr_section.specs.declared.decoder_heads.DecoderHead.{DecoderHead}
 use Rattle.attr_section.specs.Heads.{heads_at}
-use Rattle.attr_section.specs.Values.{is_prediction, prediction_at, typed_values_at, values_at, values_in, attributes_at as columns_at, decoder_values_at}
+use Rattle.attr_section.specs.declared.predictions.Prediction.{Prediction}
+use Rattle.attr_section.specs.declared.predictions.Prediction.TheVariants as prediction
+use Rattle.attr_section.specs.Values.{prediction_of, has_prediction, tested_prediction, prediction_at, typed_values_at, values_at, values_in, attributes_at as columns_at, decoder_values_at}
 use Rattle.drc_container.specs.declared.headers.Form.{Form}
 use Rattle.drc_container.specs.declared.headers.Form.TheVariants as form
 use Rattle.drc_container.specs.declared.attributes.Attributes.{Attributes}
@@ -54,27 +56,30 @@ cloud_points p q wider c y is =
     (λ n. within n p.points q.points wider.points) (λ y same. same) y is
 
 -- a prediction of a profile is one of each wider profile
-weaker-last : (a b m n : Bool) → (m ≡ true → n ≡ true) → (a || (b && m)) ≡ true → (a || (b && n)) ≡ true
-weaker-last true b m n more is = refl
-weaker-last false true m n more is = more is
-weaker-last false false m n more is = is
+known : (p q : Profile) → IsWider p q → (x : Prediction) → has_prediction p x ≡ true → has_prediction q x ≡ true
+known p q wider prediction.Off is = refl
+known p q wider prediction.Difference is = refl
+known p q wider prediction.Parallelogram is = refl
+known p q wider prediction.Multi is = wider.multi is
 
-known : (p q : Profile) → IsWider p q → (b : ℕ) → is_prediction p b ≡ true → is_prediction q b ≡ true
-known p q wider b is = weaker-last (b == 254 || b == 0 || b == 1) (b == 4) p.multi q.multi wider.multi is
+tested : (p q : Profile) → IsWider p q → (c after : Reading) (x : Option Prediction) → Keeps (tested_prediction p c x after) (tested_prediction q c x after)
+tested p q wider c after None y is = is
+tested p q wider c after (Some x) y is =
+    let t = passed (has_prediction p x) _ _ y is in
+    rw (known p q wider x t.0) t.1
 
-prediction : (p q : Profile) → IsWider p q → (c : Reading) → Keeps (prediction_at p c) (prediction_at q c)
+prediction_read : (p q : Profile) → IsWider p q → (c : Reading) → Keeps (prediction_at p c) (prediction_at q c)
 unfolding prediction_at
-prediction p q wider c y is =
-    let a = parts (must kind.Prediction (is_prediction p) (number_at 1) c) _ y is in
-    let byte = keeps-must kind.Prediction (is_prediction p) (is_prediction q) (number_at 1) (number_at 1) c (known p q wider) (λ y same. same) a.0 a.1 in
-    rw byte a.2
+prediction_read p q wider c y is =
+    let a = parts (number_at 1 c) (λ b. tested_prediction p c (prediction_of b.0) b.1) y is in
+    rw a.1 (tested p q wider c a.0.1 (prediction_of a.0.0) y a.2)
 
 typed_values : (p q : Profile) → IsWider p q → (w : Option Walked) (h : Head) (n : ℕ) (c : Reading)
     → Keeps (typed_values_at p w h n c) (typed_values_at q w h n c)
 unfolding typed_values_at
 typed_values p q wider w h n c y is =
     let a = parts (prediction_at p c) _ y is in
-    rw (prediction p q wider c a.0 a.1) a.2
+    rw (prediction_read p q wider c a.0 a.1) a.2
 
 values : (p q : Profile) → IsWider p q → (w : Option Walked) (h : Head) (entries spent : ℕ) (c : Reading)
     → Keeps (values_at p w h entries spent c) (values_at q w h entries spent c)

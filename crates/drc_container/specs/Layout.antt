@@ -4,7 +4,6 @@ use Rattle.drc_base.specs.Profile.{profile_two}
 use Rattle.std.specs.Prelude.{ℕ, ◌+◌, ◌==◌, ◌&&◌, Bool, ℤ, List, [], ◌∷◌, map, flat_map, replicate, length, slice_index, drop}
 use Rattle.std.specs.Prelude.{Option, None, Some, Result, Ok, Err, if◌then◌else◌}
 use Rattle.std.specs.List.{range_with_len}
-use Rattle.std.specs.Ordering.{int_eq}
 use Rattle.drc_base.specs.declared.faults.Fault.{Fault}
 use Rattle.drc_base.specs.Steps.{◌>>=◌}
 use Rattle.drc_bits.specs.Reading.{Item}
@@ -14,7 +13,9 @@ use Rattle.seq_section.specs.declared.reading.Opening.{Opening}
 use Rattle.seq_section.specs.Indices.{opening_at}
 use Rattle.attr_section.specs.declared.decoder_heads.DecoderHead.{DecoderHead}
 use Rattle.attr_section.specs.Heads.{position_id, heads_at}
-use Rattle.attr_section.specs.Values.{no_prediction}
+use Rattle.attr_section.specs.declared.predictions.Prediction.{Prediction}
+use Rattle.attr_section.specs.declared.predictions.Prediction.TheVariants as prediction
+use Rattle.attr_section.specs.Written.{prediction_coded}
 use Rattle.drc_container.specs.declared.methods.Method.{Method}
 use Rattle.drc_container.specs.declared.methods.Method.TheVariants as method
 use Rattle.drc_container.specs.declared.choices.Choice.{Choice}
@@ -42,9 +43,17 @@ pub record Layout : Type 0 where
   pub traversal : Option ℕ
   pub attributes : List AttrLayout
 
--- the byte that says whether values are compressed stands behind the prediction and, where there is one, its transform
+-- how far behind the byte of a prediction stands the one that says whether values are compressed: behind the transform, where there is one
+abbrev pub compressed_behind : Option Prediction → ℕ
+compressed_behind None = 0
+compressed_behind (Some prediction.Off) = 1
+compressed_behind (Some prediction.Difference) = 2
+compressed_behind (Some prediction.Parallelogram) = 2
+compressed_behind (Some prediction.Multi) = 2
+
+-- where it stands for an attribute that was seen
 abbrev pub compressed_place : AttrSeen → ℕ
-compressed_place a = a.at + (if int_eq a.predict no_prediction then 1 else 2)
+compressed_place a = a.at + compressed_behind (prediction_coded a.predict)
 
 -- how an attribute that was seen in these bytes is coded, beside its element type and walk
 abbrev pub attr_layout : List ℕ → ℕ × ℕ → AttrSeen → AttrLayout
