@@ -21,12 +21,13 @@ use Rattle.drc_container.specs.declared.headers.Form.{Form}
 use Rattle.drc_container.specs.declared.headers.Form.TheVariants as form
 use Rattle.drc_container.specs.declared.placed.Placed.{Placed}
 use Rattle.drc_container.specs.Header.{magic, magic_at, minor_of, form_said, header_at}
-use Rattle.drc_container.specs.OnSurface.{at_end, assembled_at, attributes_on}
+use Rattle.drc_container.specs.OnSurface.{at_end, assembled_in, assembled_at, attributes_on}
 use Rattle.drc_container.specs.Stream.{stream, stream_in, body_at, edgebreaker_at, surface_behind}
 use Rattle.drc_container.specs.Meaning.{Meaning, seen_on}
 use Rattle.drc_container.specs.Written.{geometry_type, header_bytes}
 use Rattle.drc_container.specs.WrittenOnSurface.{decoded, surface_bytes, decoder_heads_bytes, values_bytes_on, edgebreaker_bytes}
 use Rattle.drc_container.specs.Encoded.{CanCodeSurface, SurfaceSpelled}
+use Rattle.drc_container.proofs.ProfileCounts.{assembled-two}
 use Rattle.drc_container.proofs.SurfaceWritten.{surface_place, heads_place, values_place, tables_written, mesh_written, seen_written, meaning_written}
 use Rattle.drc_container.proofs.SurfaceConnectivity.{connectivity_written, connectivity-read}
 use Rattle.drc_container.proofs.SurfaceDecoders.{attributes_written, attributes-read}
@@ -98,7 +99,7 @@ surface-read coding m is can parts made =
     let a : Placed = attributes_written coding (decoded m) (values_place coding m) (enumerate_from 0 m.heads) in
     let end : ℕ = values_place coding m + length values in
     let last : Reading = record { place = end; rest = [] } in
-    let next : Placed × Reading → Result Meaning Fault = λ a. assembled_at a.1.place s.faces a.0 >>= λ mesh. Ok (record {
+    let next : Placed × Reading → Result Meaning Fault = λ a. assembled_at profile_two a.1.place s.faces a.0 >>= λ mesh. Ok (record {
       geometry = Mesh mesh;
       surface = Some (record { faces = s.faces; glued = s.glued });
       seen = seen_on surface_place to s a.0.seen a.1;
@@ -111,8 +112,8 @@ surface-read coding m is can parts made =
     let long : to - surface_place ≡ length (surface_bytes coding m) = omega arith in
     ap (λ (rest : List ℕ). attributes_on profile_two s (record { place = to; rest = heads ++ rest }) >>= next) (sym (append-nil values))
     ∙ ap (λ y. y >>= next) (attributes-read coding m is can parts to [])
-    ∙ ap (λ (l : List Head). at_end end (assembled l (tables_written coding m) (length m.faces)) >>= of_mesh) (heads-numbered 0 m.heads)
-    ∙ ap (λ (r : Result MeshParts Fault). at_end end r >>= of_mesh) made
+    ∙ ap (λ (l : List Head). at_end end (assembled_in profile_two l (tables_written coding m) (length m.faces)) >>= of_mesh) (heads-numbered 0 m.heads)
+    ∙ ap (λ (r : Result MeshParts Fault). at_end end r >>= of_mesh) (assembled-two m.heads (tables_written coding m) (length m.faces) ∙ made)
     ∙ ap (λ (n : ℕ). seen_to coding m n end) long
     ∙ ap (λ (n : ℕ). seen_to coding m (length (surface_bytes coding m)) n) (end-is coding m)
 

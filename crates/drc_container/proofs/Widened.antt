@@ -1,7 +1,6 @@
 -- A stream that is a geometry in a profile is the same one in each wider profile.
 use Rattle.std.proofs.Common.{◌≡◌, ℕ, ◌+◌, ◌*◌, ◌≤◌, true, Option, List, [], ◌∷◌, ◌++◌, length, None, Some, refl, arith, lit≤}
 use Rattle.std.specs.Prelude.{nat_le}
-use Rattle.std.proofs.lemmas.Bool.{leb-true, le-leb}
 use Rattle.drc_base.specs.declared.kinds.Kind.TheVariants as kind
 use Rattle.drc_base.specs.Profile.{Profile, profile_one, profile_two}
 use Rattle.drc_bits.specs.Reading.{Reading, must, start_of}
@@ -24,14 +23,11 @@ use Rattle.drc_container.specs.declared.attributes.Attributes.{Attributes}
 use Rattle.drc_container.specs.Header.{header_at, cloud_points_at}
 use Rattle.drc_container.specs.Stream.{decoders_at, attributes_at, mesh_behind, mesh_at, cloud_behind, cloud_at, surface_behind, edgebreaker_at, body_at, stream_in}
 use Rattle.drc_container.specs.declared.placed.Placed.{Placed}
-use Rattle.drc_container.specs.OnSurface.{walked_for, joined, values_on, none_placed, decoder_on, placed_at, attributes_on}
+use Rattle.drc_container.specs.OnSurface.{walked_for, joined, values_on, none_placed, decoder_on, placed_at, attributes_on, assembled_at}
 use Rattle.drc_container.specs.Profiles.{IsWider, WiderMeansTheSame, OldFilesMeanTheSame}
 use Rattle.drc_container.proofs.Parted.{parts, passed}
 use Rattle.drc_container.proofs.Keeping.{Keeps, keeps-must, keeps-each}
-
--- what is within a limit is within a greater one
-within : (n m k : ℕ) → m ≤ k → nat_le n m ≡ true → nat_le n k ≡ true
-within n m k wider is = le-leb n k (omega (arith, wider, leb-true n m is))
+use Rattle.drc_container.proofs.ProfileCounts.{within, assembled-wider}
 
 opening : (p q : Profile) → IsWider p q → (c : Reading) → Keeps (opening_at p c) (opening_at q c)
 unfolding opening_at
@@ -188,7 +184,8 @@ surface_values : (p q : Profile) → IsWider p q → (from : ℕ) (s : Connectiv
 unfolding surface_behind
 surface_values p q wider from s c y is =
     let a = parts (attributes_on p s c) _ y is in
-    rw (on_surface p q wider s c a.0 a.1) a.2
+    let b = parts (assembled_at p a.0.1.place s.faces a.0.0) _ y a.2 in
+    rw (on_surface p q wider s c a.0 a.1, assembled-wider p q wider a.0.1.place s.faces a.0.0 b.0 b.1) b.2
 
 edgebreaker : (p q : Profile) → IsWider p q → (c : Reading) → Keeps (edgebreaker_at p c) (edgebreaker_at q c)
 unfolding edgebreaker_at

@@ -1,12 +1,16 @@
 -- The attributes of an Edgebreaker mesh, whose values stand on its surface (Draco Bitstream Specification 2.2, sections "Attributes
 -- Decoder" and "Edgebreaker Connectivity"; that equal rows of corners become one point is this project's choice).
-use Rattle.std.specs.Prelude.{◌≡◌, ℕ, ◌<◌, Bool, List, [], ◌∷◌, ◌++◌, length, map, get_or, sum_by, Option, None, Some}
+use Rattle.std.specs.Prelude.{◌≡◌, ℕ, ◌<◌, ◌*◌, nat_le, Bool, List, [], ◌∷◌, ◌++◌, length, map, get_or, sum_by, Option, None, Some}
 use Rattle.std.specs.Prelude.{Result, Ok, Err, if◌then◌else◌}
 use Rattle.drc_base.specs.declared.faults.Fault.{Fault}
+use Rattle.drc_base.specs.declared.kinds.Kind.TheVariants.{PointLimit, ValueLimit}
 use Rattle.drc_base.specs.Profile.{Profile}
 use Rattle.drc_base.specs.Steps.{◌>>=◌}
 use Rattle.drc_bits.specs.Reading.{Reading, Item}
+use Rattle.mesh_model.specs.declared.heads.Head.{Head}
 use Rattle.mesh_model.specs.declared.tables.AttrTable.{AttrTable}
+use Rattle.mesh_model.specs.FirstFault.{unless, first_fault, value_unless}
+use Rattle.mesh_model.specs.Head.{width_of}
 use Rattle.mesh_model.specs.Parts.{MeshParts}
 use Rattle.mesh_model.specs.Assembled.{assembled}
 use Rattle.corner_table.specs.Sides.{Side, Gluing}
@@ -107,6 +111,21 @@ abbrev pub at_end : {A : Type 0} → ℕ → Result A Fault → Result A Fault
 at_end end (Ok x) = Ok x
 at_end end (Err f) = Err (record { kind = f.kind; at = end })
 
+-- the fault of a mesh of more points or of more values, that is points times width, than a profile accepts
+abbrev pub counts_in : Profile → MeshParts → Option Fault
+counts_in p m =
+    let points = length m.points in
+    let values = points * width_of m.heads in
+    first_fault (unless (nat_le points p.points) PointLimit points ∷ unless (nat_le values p.values) ValueLimit values ∷ [])
+
+-- a mesh, where a profile accepts its counts
+abbrev pub accepted : Profile → MeshParts → Result MeshParts Fault
+accepted p m = value_unless (counts_in p m) m
+
+-- the mesh of tables on a surface of so many faces, where a profile accepts its counts
+unfoldable pub assembled_in : Profile → List Head → List AttrTable → ℕ → Result MeshParts Fault
+assembled_in p heads tables faces = assembled heads tables faces >>= accepted p
+
 -- the mesh of attributes on a surface of so many faces, at the end of the stream, which stands at this place
-abbrev pub assembled_at : ℕ → ℕ → Placed → Result MeshParts Fault
-assembled_at end faces a = at_end end (assembled a.heads a.tables faces)
+abbrev pub assembled_at : Profile → ℕ → ℕ → Placed → Result MeshParts Fault
+assembled_at p end faces a = at_end end (assembled_in p a.heads a.tables faces)

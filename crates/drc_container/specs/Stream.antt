@@ -73,7 +73,7 @@ cloud_at p c = do
 unfoldable pub surface_behind : Profile → ℕ → Connectivity → Reading → Result Meaning Fault
 surface_behind p from s c = do
   attributes ← attributes_on p s c
-  mesh ← assembled_at attributes.1.place s.faces attributes.0
+  mesh ← assembled_at p attributes.1.place s.faces attributes.0
   Ok (record {
     geometry = geometry.Mesh mesh;
     surface = Some (record { faces = s.faces; glued = s.glued });

@@ -7,10 +7,10 @@ ghost use Rattle.drc_base.specs.declared.faults.Refusal.TheVariants as refusal;
 ghost use Rattle.drc_base.specs.declared.limits.TheConstants.{MAX_FACES as most_faces};
 ghost use Rattle.drc_base.specs.Refusals.{Answers};
 ghost use Rattle.drc_bits.specs.Reading.{Gives};
-ghost use Rattle.mesh_model.specs.Assembled.{AreTables, assembled};
+ghost use Rattle.mesh_model.specs.Assembled.{AreTables};
 ghost use Rattle.eb_section.specs.Connectivity.{connectivity_at, declared_at, meaning};
 ghost use Rattle.drc_container.specs.Meaning.{told_by, seen_on};
-ghost use Rattle.drc_container.specs.OnSurface.{at_end};
+ghost use Rattle.drc_container.specs.OnSurface.{at_end, assembled_in};
 ghost use Rattle.drc_container.specs.Stream.{edgebreaker_at, surface_behind};
 
 use crate::placed::Placed;
@@ -92,7 +92,7 @@ fn assemble_at(
     faces: u32,
 ) -> Result<CornerMesh, Refusal>
     requires { AreTables heads.items tables.items faces }
-    ensures { Answers (λ m. m) (at_end end (assembled heads.items tables.items faces)) result }
+    ensures { Answers (λ m. m) (at_end end (assembled_in profile_two heads.items tables.items faces)) result }
 {
     match assemble(alloc, heads, tables, faces) {
         Ok(mesh) => Ok(mesh),
