@@ -1,8 +1,9 @@
 -- Answers of calls that take no memory, and faults of what a stream declares.
 use Rattle.drc_base.specs.Profile.{profile_two}
-use Rattle.std.proofs.Common.{◌≡◌, ℕ, List, Result, Ok, Err, refl, sym, ◌∙◌, ap}
+use Rattle.std.proofs.Common.{◌≡◌, ℕ, List, Result, Ok, Err, refl, sym, ◌∙◌, ap, subst}
 use Rattle.drc_base.specs.declared.faults.Fault.{Fault}
-use Rattle.drc_base.specs.Refusals.{Answers}
+use Rattle.drc_base.specs.declared.faults.Refusal.{Refusal}
+use Rattle.drc_base.specs.Refusals.{Answers, Refuses}
 use Rattle.drc_base.specs.Steps.{◌>>=◌}
 use Rattle.drc_bits.specs.Reading.{Reading, Item, start_of}
 use Rattle.drc_bits.proofs.Results.{err≢ok, Err-injective}
@@ -16,6 +17,12 @@ use Rattle.seq_section.specs.Indices.{opening_at, indices_at}
 pub Answers-answer_of : {A : Type 0} (r : Result A Fault) → Answers (λ x. x) r (answer_of r)
 Answers-answer_of (Ok x) = refl
 Answers-answer_of (Err f) = refl
+
+-- what such a call refuses is refused by what it begins
+pub Answers-refused : {A B C : Type 0} (view : C → B) (due : Result A Fault) (next : A → Result B Fault) (e : Refusal)
+    → ◌≡◌ {A = Result A Refusal} (Err e) (answer_of due) → Answers view (due >>= next) (Err e)
+Answers-refused view (Ok x) next e is = absurd (err≢ok is)
+Answers-refused view (Err f) next e is = subst (Refuses (Err f)) (sym (Err-injective is)) refl
 
 -- the place behind an item is a fault where the item is
 pub place-fault : {A : Type 0} (item : Item A) (f : Fault) → (item >>= λ x. Ok x.1.place) ≡ Err f → item ≡ Err f

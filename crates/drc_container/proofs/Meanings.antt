@@ -1,8 +1,9 @@
 -- A written stream means the geometry that was written.
 use Rattle.drc_base.specs.Profile.{profile_two}
-use Rattle.std.proofs.Common.{◌≡◌, ℕ, ◌+◌, List, [], ◌∷◌, ◌++◌, map, length, None, Ok, refl, sym, ◌∙◌, ap, subst, arith, append-nil, length-append}
+use Rattle.std.proofs.Common.{◌≡◌, ℕ, ◌+◌, List, [], ◌∷◌, ◌++◌, map, length, None, Result, Ok, refl, sym, ◌∙◌, ap, subst, arith, append-nil, length-append}
 use Rattle.std.specs.Prelude.{ℤ, Bool}
 use Rattle.std.specs.List.{All}
+use Rattle.drc_base.specs.declared.faults.Fault.{Fault}
 use Rattle.drc_base.specs.Steps.{◌>>=◌}
 use Rattle.drc_bits.specs.Reading.{Reading}
 use Rattle.mesh_model.specs.declared.heads.Head.{Head}
@@ -19,11 +20,13 @@ use Rattle.mesh_model.proofs.Made.{mesh_of-IsMesh, cloud_of-IsCloud}
 use Rattle.attr_section.specs.declared.values.Values.{Values}
 use Rattle.attr_section.specs.Written.{placed, values_bytes}
 use Rattle.drc_container.specs.declared.choices.Choice.{Choice}
+use Rattle.drc_container.specs.declared.attributes.Attributes.{Attributes}
+use Rattle.drc_container.specs.declared.decoding.PointsRead.{PointsRead}
 use Rattle.drc_container.specs.declared.seen.Seen.{Seen}
 use Rattle.drc_container.specs.Columns.{columns_of, cells_at}
 use Rattle.drc_container.specs.declared.methods.Method.TheVariants as method
 use Rattle.drc_container.specs.Choice.{method_of, is_sequential, prediction_of, index_of, is_packed}
-use Rattle.drc_container.specs.Stream.{stream, stream_in, body_at, mesh_at, mesh_behind, cloud_at, cloud_behind, attributes_at, points_of}
+use Rattle.drc_container.specs.Stream.{stream, stream_in, body_at, points_behind, mesh_at, mesh_behind, cloud_at, cloud_behind, attributes_at, points_of}
 use Rattle.drc_container.specs.Meaning.{Meaning, seen_of}
 use Rattle.drc_container.specs.Written.{header_bytes, connectivity_bytes, attributes_bytes, attribute_heads_bytes, values_of, stream_bytes}
 use Rattle.drc_container.specs.Encoded.{ConnectivitySpelled, AttributesSpelled, attributes_again, KeepsBeside, Means}
@@ -84,24 +87,40 @@ behind_header g choice = record {
   rest = connectivity_bytes (is_packed (index_of choice)) g ++ attributes_bytes choice.plain_values g (prediction_of g choice);
 }
 
+-- the points that are read of what was written
+points-again : (g : Geometry) (choice : Choice) → All (RowFits (heads_in g)) (points_in g)
+    → AttributesSpelled choice.plain_values g (prediction_of g choice)
+    → length (values_of g (prediction_of g choice)) ≡ length (heads_in g)
+    → points_behind profile_two (connectivity_place g) (length (points_in g))
+    (record { place = attributes_place g choice; rest = attributes_bytes choice.plain_values g (prediction_of g choice) })
+    ≡ Ok (record { heads = heads_in g; cells = cells_of (points_in g); seen = seen_written g choice })
+unfolding points_behind
+points-again g choice fit attributes same =
+    let predict = prediction_of g choice in
+    let bytes = attributes_bytes choice.plain_values g predict in
+    let p = connectivity_place g in
+    let q = attributes_place g choice in
+    let n = length (points_in g) in
+    let read : Attributes × Reading → Result PointsRead Fault =
+    λ a. Ok (record { heads = a.0.heads; cells = points_of n a.0; seen = seen_of p q n a.0 a.1 }) in
+    let told : List ℤ → Result PointsRead Fault = λ cells. Ok (record { heads = heads_in g; cells = cells; seen = seen_written g choice }) in
+    ap (λ rest. attributes_at profile_two n (record { place = q; rest = rest }) >>= read) (sym (append-nil bytes))
+    ∙ ap (λ x. x >>= read) (attributes.reads q [])
+    ∙ ap told (cells-again choice.plain_values (q + length (attribute_heads_bytes g)) predict (heads_in g) (points_in g) fit same)
+
 body-mesh : (m : MeshParts) (choice : Choice) → IsMesh m → ConnectivitySpelled (is_packed (index_of choice)) (Mesh m)
     → AttributesSpelled choice.plain_values (Mesh m) (prediction_of (Mesh m) choice)
     → length (values_of (Mesh m) (prediction_of (Mesh m) choice)) ≡ length m.heads
     → mesh_at profile_two (behind_header (Mesh m) choice) ≡ Ok (decoded_written (Mesh m) choice)
 unfolding mesh_at mesh_behind
 body-mesh m choice is connectivity attributes same =
-    let predict = prediction_of (Mesh m) choice in
-    let bytes = attributes_bytes choice.plain_values (Mesh m) predict in
     let p = connectivity_place (Mesh m) in
-    let q = attributes_place (Mesh m) choice in
-    let n = length m.points in
-    let a = attributes_again choice.plain_values (Mesh m) predict q in
-    let end : Reading = record { place = end_place (Mesh m) choice; rest = [] } in
+    let bytes = attributes_bytes choice.plain_values (Mesh m) (prediction_of (Mesh m) choice) in
+    let of_mesh : Seen → MeshParts → Result Meaning Fault = λ seen mesh. Ok (record { geometry = Mesh mesh; surface = None; seen = seen }) in
+    let built : PointsRead → Result Meaning Fault = λ read. mesh_of read.heads read.cells m.faces >>= of_mesh read.seen in
     ap (λ x. x >>= λ indices. mesh_behind profile_two p indices.0 indices.1) (connectivity.reads p bytes)
-    ∙ ap (λ rest. attributes_at profile_two n (record { place = q; rest = rest }) >>= λ a. mesh_of a.0.heads (points_of n a.0) m.faces >>= λ mesh. Ok (record { geometry = Mesh mesh; surface = None; seen = seen_of p q n a.0 a.1 })) (sym (append-nil bytes))
-    ∙ ap (λ x. x >>= λ a. mesh_of a.0.heads (points_of n a.0) m.faces >>= λ mesh. Ok (record { geometry = Mesh mesh; surface = None; seen = seen_of p q n a.0 a.1 })) (attributes.reads q [])
-    ∙ ap (λ x. x >>= λ mesh. Ok (record { geometry = Mesh mesh; surface = None; seen = seen_of p q n a end }))
-    (ap (λ cells. mesh_of m.heads cells m.faces) (cells-again choice.plain_values (q + length (attribute_heads_bytes (Mesh m))) predict m.heads m.points is.points.rows_fit same) ∙ mesh_of-IsMesh m is)
+    ∙ ap (λ x. x >>= built) (points-again (Mesh m) choice is.points.rows_fit attributes same)
+    ∙ ap (λ x. x >>= of_mesh (seen_written (Mesh m) choice)) (mesh_of-IsMesh m is)
 
 body-cloud : (m : CloudParts) (choice : Choice) → IsCloud m → ConnectivitySpelled (is_packed (index_of choice)) (Cloud m)
     → AttributesSpelled choice.plain_values (Cloud m) (prediction_of (Cloud m) choice)
@@ -109,18 +128,13 @@ body-cloud : (m : CloudParts) (choice : Choice) → IsCloud m → ConnectivitySp
     → cloud_at profile_two (behind_header (Cloud m) choice) ≡ Ok (decoded_written (Cloud m) choice)
 unfolding cloud_at cloud_behind
 body-cloud m choice is connectivity attributes same =
-    let predict = prediction_of (Cloud m) choice in
-    let bytes = attributes_bytes choice.plain_values (Cloud m) predict in
     let p = connectivity_place (Cloud m) in
-    let q = attributes_place (Cloud m) choice in
-    let n = length m.points in
-    let a = attributes_again choice.plain_values (Cloud m) predict q in
-    let end : Reading = record { place = end_place (Cloud m) choice; rest = [] } in
+    let bytes = attributes_bytes choice.plain_values (Cloud m) (prediction_of (Cloud m) choice) in
+    let of_cloud : Seen → CloudParts → Result Meaning Fault = λ seen cloud. Ok (record { geometry = Cloud cloud; surface = None; seen = seen }) in
+    let built : PointsRead → Result Meaning Fault = λ read. cloud_of read.heads read.cells >>= of_cloud read.seen in
     ap (λ x. x >>= λ points. cloud_behind profile_two p points.0 points.1) (connectivity.reads p bytes)
-    ∙ ap (λ rest. attributes_at profile_two n (record { place = q; rest = rest }) >>= λ a. cloud_of a.0.heads (points_of n a.0) >>= λ cloud. Ok (record { geometry = Cloud cloud; surface = None; seen = seen_of p q n a.0 a.1 })) (sym (append-nil bytes))
-    ∙ ap (λ x. x >>= λ a. cloud_of a.0.heads (points_of n a.0) >>= λ cloud. Ok (record { geometry = Cloud cloud; surface = None; seen = seen_of p q n a.0 a.1 })) (attributes.reads q [])
-    ∙ ap (λ x. x >>= λ cloud. Ok (record { geometry = Cloud cloud; surface = None; seen = seen_of p q n a end }))
-    (ap (λ cells. cloud_of m.heads cells) (cells-again choice.plain_values (q + length (attribute_heads_bytes (Cloud m))) predict m.heads m.points is.rows_fit same) ∙ cloud_of-IsCloud m is)
+    ∙ ap (λ x. x >>= built) (points-again (Cloud m) choice is.rows_fit attributes same)
+    ∙ ap (λ x. x >>= of_cloud (seen_written (Cloud m) choice)) (cloud_of-IsCloud m is)
 
 body-written : (g : Geometry) (choice : Choice) → IsGeometry g → ConnectivitySpelled (is_packed (index_of choice)) g
     → AttributesSpelled choice.plain_values g (prediction_of g choice) → length (values_of g (prediction_of g choice)) ≡ length (heads_in g)

@@ -21,7 +21,7 @@ use Rattle.drc_container.specs.declared.headers.Form.{Form}
 use Rattle.drc_container.specs.declared.headers.Form.TheVariants as form
 use Rattle.drc_container.specs.declared.attributes.Attributes.{Attributes}
 use Rattle.drc_container.specs.Header.{header_at, cloud_points_at}
-use Rattle.drc_container.specs.Stream.{decoders_at, attributes_at, mesh_behind, mesh_at, cloud_behind, cloud_at, surface_behind, edgebreaker_at, body_at, stream_in}
+use Rattle.drc_container.specs.Stream.{decoders_at, attributes_at, points_behind, mesh_behind, mesh_at, cloud_behind, cloud_at, surface_behind, edgebreaker_at, body_at, stream_in}
 use Rattle.drc_container.specs.declared.placed.Placed.{Placed}
 use Rattle.drc_container.specs.OnSurface.{walked_for, joined, values_on, none_placed, decoder_on, placed_at, attributes_on, assembled_at}
 use Rattle.drc_container.specs.Profiles.{IsWider, WiderMeansTheSame, OldFilesMeanTheSame}
@@ -115,11 +115,17 @@ attributes p q wider entries c y is =
     let a = parts (heads_at None c) (λ d. decoders_at p entries none d.0 d.1) y is in
     rw a.1 (decoders p q wider entries a.0.0 none a.0.1 y a.2)
 
+points_read : (p q : Profile) → IsWider p q → (from points : ℕ) (c : Reading) → Keeps (points_behind p from points c) (points_behind q from points c)
+unfolding points_behind
+points_read p q wider from points c y is =
+    let a = parts (attributes_at p points c) _ y is in
+    rw (attributes p q wider points c a.0 a.1) a.2
+
 mesh_values : (p q : Profile) → IsWider p q → (from : ℕ) (r : SeqRead) (c : Reading) → Keeps (mesh_behind p from r c) (mesh_behind q from r c)
 unfolding mesh_behind
 mesh_values p q wider from r c y is =
-    let a = parts (attributes_at p r.points c) _ y is in
-    rw (attributes p q wider r.points c a.0 a.1) a.2
+    let a = parts (points_behind p from r.points c) _ y is in
+    rw (points_read p q wider from r.points c a.0 a.1) a.2
 
 mesh : (p q : Profile) → IsWider p q → (c : Reading) → Keeps (mesh_at p c) (mesh_at q c)
 unfolding mesh_at
@@ -130,8 +136,8 @@ mesh p q wider c y is =
 cloud_values : (p q : Profile) → IsWider p q → (from points : ℕ) (c : Reading) → Keeps (cloud_behind p from points c) (cloud_behind q from points c)
 unfolding cloud_behind
 cloud_values p q wider from points c y is =
-    let a = parts (attributes_at p points c) _ y is in
-    rw (attributes p q wider points c a.0 a.1) a.2
+    let a = parts (points_behind p from points c) _ y is in
+    rw (points_read p q wider from points c a.0 a.1) a.2
 
 cloud : (p q : Profile) → IsWider p q → (c : Reading) → Keeps (cloud_at p c) (cloud_at q c)
 unfolding cloud_at

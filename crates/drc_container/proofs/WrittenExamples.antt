@@ -27,7 +27,7 @@ use Rattle.drc_container.specs.declared.choices.Walk.{Walk}
 use Rattle.drc_container.specs.declared.choices.Walk.TheVariants as walk
 use Rattle.drc_container.specs.declared.choices.Choice.{Choice}
 use Rattle.drc_container.specs.Header.{form_said, header_at}
-use Rattle.drc_container.specs.Stream.{decoders_at, attributes_at, mesh_behind, mesh_at, stream_in}
+use Rattle.drc_container.specs.Stream.{decoders_at, attributes_at, points_behind, mesh_behind, mesh_at, stream_in}
 use Rattle.drc_container.specs.Refused.{early_fault, range_fault}
 use Rattle.drc_container.specs.Written.{header_bytes, attributes_bytes, stream_bytes}
 use Rattle.drc_container.specs.Layout.{layout_of}
@@ -110,7 +110,7 @@ triangle_layout : layout_of (
     68 ∷ 82 ∷ 65 ∷ 67 ∷ 79 ∷ 2 ∷ 2 ∷ 1 ∷ 0 ∷ 0 ∷ 0 ∷ 1 ∷ 3 ∷ 1 ∷ 0 ∷ 1 ∷ 2 ∷ 1 ∷ 1 ∷ 0 ∷ 5 ∷ 3 ∷ 0 ∷ 0 ∷ 1 ∷ 254 ∷ 0 ∷ 1
     ∷ 0 ∷ 0 ∷ 0 ∷ 20 ∷ 0 ∷ 0 ∷ 0 ∷ 20 ∷ 1 ∷ [])
     ≡ Ok (record { method = 0; index = Some 1; traversal = None; attributes = record { element = 0; walk = 0; predict = negsuc 1; compressed = 0 } ∷ [] })
-unfolding stream_in header_at form_said mesh_at mesh_behind indices_at opening_at many_at face_at attributes_at heads_at decoder_count_at links_at heads_of_decoders_at each_at decoder_at head_at coding_at decoders_at decoder_values_at columns_at values_at typed_values_at prediction_at integers_at plain_values_at byte_width_at plain_value_at varint in_type heads_fault index_fault cells_fault quants_at quantised_at quant_of_at
+unfolding stream_in header_at form_said mesh_at mesh_behind points_behind indices_at opening_at many_at face_at attributes_at heads_at decoder_count_at links_at heads_of_decoders_at each_at decoder_at head_at coding_at decoders_at decoder_values_at columns_at values_at typed_values_at prediction_at integers_at plain_values_at byte_width_at plain_value_at varint in_type heads_fault index_fault cells_fault quants_at quantised_at quant_of_at
 triangle_layout = refl
 
 -- one face more than profile 1 takes

@@ -19,6 +19,7 @@ use Rattle.drc_container.specs.Columns.{row_at, cells_at}
 use Rattle.drc_container.specs.declared.headers.Form.{Form}
 use Rattle.drc_container.specs.declared.headers.Form.TheVariants as form
 use Rattle.drc_container.specs.declared.attributes.Attributes.{Attributes}
+use Rattle.drc_container.specs.declared.decoding.PointsRead.{PointsRead}
 use Rattle.drc_container.specs.Meaning.{Meaning, seen_of, seen_on}
 use Rattle.drc_container.specs.OnSurface.{attributes_on, assembled_at}
 
@@ -43,12 +44,22 @@ row_of a i = row_at a.heads (map (λ v. v.values) a.values) i
 abbrev pub points_of : ℕ → Attributes → List ℤ
 points_of points a = cells_at a.heads (map (λ v. v.values) a.values) points
 
+-- so many points of a sequential stream behind its connectivity, which begins at this place, and what is seen beside them
+unfoldable pub points_behind : Profile → ℕ → ℕ → Reading → Result PointsRead Fault
+points_behind p from points c = do
+  attributes ← attributes_at p points c
+  Ok (record {
+    heads = attributes.0.heads;
+    cells = points_of points attributes.0;
+    seen = seen_of from c.place points attributes.0 attributes.1;
+  })
+
 -- a sequential mesh behind its indices; its connectivity begins at this place
 unfoldable pub mesh_behind : Profile → ℕ → SeqRead → Reading → Result Meaning Fault
 mesh_behind p from indices c = do
-  attributes ← attributes_at p indices.points c
-  mesh ← mesh_of attributes.0.heads (points_of indices.points attributes.0) indices.faces
-  Ok (record { geometry = geometry.Mesh mesh; surface = None; seen = seen_of from c.place indices.points attributes.0 attributes.1 })
+  read ← points_behind p from indices.points c
+  mesh ← mesh_of read.heads read.cells indices.faces
+  Ok (record { geometry = geometry.Mesh mesh; surface = None; seen = read.seen })
 
 -- a sequential mesh behind its header
 unfoldable pub mesh_at : Profile → Reading → Result Meaning Fault
@@ -59,9 +70,9 @@ mesh_at p c = do
 -- a cloud behind its number of points, which stands at this place
 unfoldable pub cloud_behind : Profile → ℕ → ℕ → Reading → Result Meaning Fault
 cloud_behind p from points c = do
-  attributes ← attributes_at p points c
-  cloud ← cloud_of attributes.0.heads (points_of points attributes.0)
-  Ok (record { geometry = geometry.Cloud cloud; surface = None; seen = seen_of from c.place points attributes.0 attributes.1 })
+  read ← points_behind p from points c
+  cloud ← cloud_of read.heads read.cells
+  Ok (record { geometry = geometry.Cloud cloud; surface = None; seen = read.seen })
 
 -- a cloud behind its header
 unfoldable pub cloud_at : Profile → Reading → Result Meaning Fault

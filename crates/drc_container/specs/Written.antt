@@ -19,9 +19,13 @@ use Rattle.drc_container.specs.Choice.{prediction_of, index_of, is_packed}
 abbrev pub geometry_type : Geometry → ℕ
 geometry_type g = if is_mesh g then 1 else 0
 
--- the header: magic, version, geometry type, this method and no flags
+-- the header of a geometry type and a method: magic, version, the type, the method and no flags
+abbrev pub header_of : ℕ → ℕ → List ℕ
+header_of geometry method = magic ++ (2 ∷ minor_of geometry ∷ geometry ∷ method ∷ 0 ∷ 0 ∷ [])
+
+-- the header of a geometry, with this method
 unfoldable pub header_bytes : ℕ → Geometry → List ℕ
-header_bytes method g = magic ++ (2 ∷ minor_of (geometry_type g) ∷ geometry_type g ∷ method ∷ 0 ∷ 0 ∷ [])
+header_bytes method g = header_of (geometry_type g) method
 
 -- the connectivity: the indices of a mesh, the number of points of a cloud
 abbrev pub connectivity_bytes : Bool → Geometry → List ℕ

@@ -6,9 +6,8 @@ ghost use Rattle.drc_base.specs.declared.faults.Fault.{Fault as AnyFault};
 ghost use Rattle.drc_base.specs.declared.faults.Refusal.TheVariants as refusal;
 ghost use Rattle.drc_base.specs.Refusals.{Answers};
 ghost use Rattle.drc_container.specs.Meaning.{told_by};
-ghost use Rattle.drc_container.specs.Stream.{stream, meaning_of, mesh_at, mesh_behind, cloud_at, cloud_behind, declared_of, points_of};
-ghost use Rattle.attr_section.specs.Values.{AreColumns};
-ghost use Rattle.mesh_model.specs.Parts.{mesh_of, cloud_of, range_fault};
+ghost use Rattle.drc_container.specs.Stream.{stream, meaning_of, points_behind, mesh_at, cloud_at, declared_of};
+ghost use Rattle.mesh_model.specs.Parts.{AreRows, range_fault};
 ghost use Rattle.drc_container.specs.Header.{cloud_points_at};
 ghost use Rattle.seq_section.specs.Indices.{opening_at};
 
@@ -16,11 +15,11 @@ use crate::attributes::{Attributes, read_attributes};
 use crate::edgebreaker::read_edgebreaker;
 use crate::headers::{Form, read_cloud_points, read_header};
 use crate::points::points_of;
-use crate::seen::{Decoded, seen_of};
-use drc_base::Refusal;
+use crate::seen::{Decoded, Seen, seen_of};
+use drc_base::{Refusal, Sequence};
 use drc_bits::Cursor;
-use mesh_model::{Cloud, CornerMesh, Geometry};
-use seq_section::{SeqRead, read_indices};
+use mesh_model::{Cloud, CornerMesh, Geometry, Head};
+use seq_section::read_indices;
 use std::alloc::Global;
 
 /// The geometry that a stream means, or its first fault, whose `at` is a place but for the kinds that
@@ -55,8 +54,43 @@ pub fn decode_whole(alloc: Global, bytes: &[u8]) -> Result<Decoded, Refusal>
     }
 }
 
+/// What is read of a sequential stream behind its connectivity.
+#[derive(Drop)]
+struct PointsRead {
+    /// What each attribute is.
+    heads: Sequence<Head>,
+    /// The integers of all points, point after point.
+    cells: Sequence<i32>,
+    /// What was seen beside them.
+    seen: Seen,
+}
+
+/// Reads so many points of a sequential stream behind its connectivity, which begins at `from`.
+#[tactic(auto, unfolding(crate::specs::Stream::points_behind))]
+fn read_points(
+    alloc: Global,
+    c: &mut Cursor<'_>,
+    from: u64,
+    points: u32,
+) -> Result<PointsRead, Refusal>
+    ensures points { Answers (λ r. r) (points_behind profile_two from points c.old) result }
+    ensures rows { IfOk result (λ r. AreRows r.heads r.cells) }
+    ensures typed { IfOk result (λ r. range_fault r.heads r.cells ≡ None) }
+{
+    let to = c.place();
+    let attributes = read_attributes(alloc, c, points)?;
+    let seen = seen_of(alloc, c, from, to, points, &attributes)?;
+    let Attributes { heads, values } = attributes;
+    let cells = points_of(alloc, points, heads.as_slice(), values.into_vec())?;
+    Ok(PointsRead {
+        heads,
+        cells: Sequence::from_vec(cells),
+        seen,
+    })
+}
+
 /// Reads a sequential mesh behind its header.
-#[tactic(auto, unfolding(crate::specs::Stream::mesh_at))]
+#[tactic(auto, unfolding(crate::specs::Stream::mesh_at, crate::specs::Stream::mesh_behind))]
 fn read_mesh(alloc: Global, c: &mut Cursor<'_>) -> Result<Decoded, Refusal>
     ensures mesh { Answers told_by (mesh_at profile_two c.old) result }
     ensures sides { IfOk result (λ d. d.sides ≡ None) }
@@ -64,25 +98,9 @@ fn read_mesh(alloc: Global, c: &mut Cursor<'_>) -> Result<Decoded, Refusal>
 {
     let from = c.place();
     let indices = read_indices(alloc, c)?;
-    read_mesh_values(alloc, c, from, indices)
-}
-
-/// Reads the attributes of a sequential mesh behind its indices; its connectivity begins at `from`.
-#[tactic(auto, unfolding(crate::specs::Stream::mesh_behind))]
-fn read_mesh_values(
-    alloc: Global,
-    c: &mut Cursor<'_>,
-    from: u64,
-    indices: SeqRead,
-) -> Result<Decoded, Refusal>
-    ensures mesh { Answers told_by (mesh_behind profile_two from indices c.old) result }
-    ensures sides { IfOk result (λ d. d.sides ≡ None) }
-{
-    let to = c.place();
-    let points = indices.points;
-    let attributes = read_attributes(alloc, c, points)?;
-    let seen = seen_of(alloc, c, from, to, points, &attributes)?;
-    let mesh = mesh_of(alloc, points, attributes, indices.faces.into_vec())?;
+    let PointsRead { heads, cells, seen } = read_points(alloc, c, from, indices.points)?;
+    let faces = indices.faces.into_vec();
+    let mesh = CornerMesh::of_typed(heads.into_vec(), cells.into_vec(), faces)?;
     Ok(Decoded {
         geometry: Geometry::Mesh(mesh),
         sides: None,
@@ -90,24 +108,8 @@ fn read_mesh_values(
     })
 }
 
-/// The mesh of so many points with these attributes, and of these faces.
-fn mesh_of(
-    alloc: Global,
-    points: u32,
-    attributes: Attributes,
-    faces: Vec<[u32; 3]>,
-) -> Result<CornerMesh, Refusal>
-    requires columns { AreColumns points attributes.heads attributes.values }
-    requires typed { range_fault attributes.heads (points_of points attributes) ≡ None }
-    ensures { Answers (λ m. m) (mesh_of attributes.heads (points_of points attributes) faces.items) result }
-{
-    let Attributes { heads, values } = attributes;
-    let cells = points_of(alloc, points, heads.as_slice(), values.into_vec())?;
-    CornerMesh::of_typed(heads.into_vec(), cells, faces)
-}
-
 /// Reads a cloud behind its header.
-#[tactic(auto, unfolding(crate::specs::Stream::cloud_at))]
+#[tactic(auto, unfolding(crate::specs::Stream::cloud_at, crate::specs::Stream::cloud_behind))]
 fn read_cloud(alloc: Global, c: &mut Cursor<'_>) -> Result<Decoded, Refusal>
     ensures cloud { Answers told_by (cloud_at profile_two c.old) result }
     ensures sides { IfOk result (λ d. d.sides ≡ None) }
@@ -115,38 +117,11 @@ fn read_cloud(alloc: Global, c: &mut Cursor<'_>) -> Result<Decoded, Refusal>
 {
     let from = c.place();
     let points = read_cloud_points(c)?;
-    read_cloud_values(alloc, c, from, points)
-}
-
-/// Reads the attributes of a cloud behind its number of points, which stands at `from`.
-#[tactic(auto, unfolding(crate::specs::Stream::cloud_behind))]
-fn read_cloud_values(
-    alloc: Global,
-    c: &mut Cursor<'_>,
-    from: u64,
-    points: u32,
-) -> Result<Decoded, Refusal>
-    ensures cloud { Answers told_by (cloud_behind profile_two from points c.old) result }
-    ensures sides { IfOk result (λ d. d.sides ≡ None) }
-{
-    let to = c.place();
-    let attributes = read_attributes(alloc, c, points)?;
-    let seen = seen_of(alloc, c, from, to, points, &attributes)?;
-    let cloud = cloud_of(alloc, points, attributes)?;
+    let PointsRead { heads, cells, seen } = read_points(alloc, c, from, points)?;
+    let cloud = Cloud::of_typed(heads.into_vec(), cells.into_vec())?;
     Ok(Decoded {
         geometry: Geometry::Cloud(cloud),
         sides: None,
         seen,
     })
-}
-
-/// The cloud of so many points with these attributes.
-fn cloud_of(alloc: Global, points: u32, attributes: Attributes) -> Result<Cloud, Refusal>
-    requires columns { AreColumns points attributes.heads attributes.values }
-    requires typed { range_fault attributes.heads (points_of points attributes) ≡ None }
-    ensures { Answers (λ m. m) (cloud_of attributes.heads (points_of points attributes)) result }
-{
-    let Attributes { heads, values } = attributes;
-    let cells = points_of(alloc, points, heads.as_slice(), values.into_vec())?;
-    Cloud::of_typed(heads.into_vec(), cells)
 }

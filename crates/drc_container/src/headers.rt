@@ -1,11 +1,12 @@
 //! The header of a stream.
 
 ghost use Rattle.drc_base.specs.Profile.{profile_two};
-ghost use Rattle.std.specs.Prelude.{◌≡◌, Err};
+ghost use Rattle.std.specs.Prelude.{◌≡◌, ◌++◌, Err, OnOk};
 ghost use Rattle.drc_bits.specs.Reading.{Reads};
 ghost use Rattle.drc_container.specs.Header.{magic, magic_at, header_at, form_said, minor_of, greatest_method, form_of, cloud_points_at};
+ghost use Rattle.drc_container.specs.Written.{header_of};
 
-use drc_base::{Fault, Kind, MAX_POINTS};
+use drc_base::{Fault, Kind, MAX_POINTS, Memory};
 use drc_bits::Cursor;
 
 /// The forms of streams that a header tells apart.
@@ -20,7 +21,16 @@ pub enum Form {
 }
 
 /// The first five bytes of every stream.
-pub const MAGIC: &[u8; 5] = b"DRACO";
+const MAGIC: &[u8; 5] = b"DRACO";
+
+/// The major version of every stream.
+const MAJOR: u8 = 2;
+
+/// The minor version of clouds.
+const CLOUD_MINOR: u8 = 3;
+
+/// The minor version of meshes.
+const MESH_MINOR: u8 = 2;
 
 /// The geometry type of clouds.
 pub const CLOUD: u8 = 0;
@@ -28,8 +38,11 @@ pub const CLOUD: u8 = 0;
 /// The geometry type of meshes.
 pub const MESH: u8 = 1;
 
-/// The major version of every stream.
-pub const MAJOR: u8 = 2;
+/// The method of sequential streams.
+pub const SEQUENTIAL: u8 = 0;
+
+/// The method of meshes by Edgebreaker.
+pub const EDGEBREAKER: u8 = 1;
 
 /// The method of clouds as kd-trees.
 const KD_TREE: u8 = 1;
@@ -95,17 +108,25 @@ fn refused(kind: Kind, at: u64) -> Result<Form, Fault>
 }
 
 /// The minor version of a geometry type.
-pub fn minor_of(geometry: u8) -> u8
+fn minor_of(geometry: u8) -> u8
     ensures { result ≡ minor_of geometry }
 {
-    if geometry == CLOUD { 3 } else { 2 }
+    if geometry == CLOUD {
+        CLOUD_MINOR
+    } else {
+        MESH_MINOR
+    }
 }
 
 /// The greatest method of a geometry type.
 fn greatest_method(geometry: u8) -> u8
     ensures { result ≡ greatest_method geometry }
 {
-    if geometry == CLOUD { 0 } else { 1 }
+    if geometry == CLOUD {
+        SEQUENTIAL
+    } else {
+        EDGEBREAKER
+    }
 }
 
 /// The form of a geometry type and a method.
@@ -114,11 +135,20 @@ fn form_of(geometry: u8, method: u8) -> Form
 {
     if geometry == CLOUD {
         Form::Cloud
-    } else if method == 0 {
+    } else if method == SEQUENTIAL {
         Form::SequentialMesh
     } else {
         Form::EdgebreakerMesh
     }
+}
+
+/// Appends the header of a geometry type and a method, without flags.
+pub fn put_header(out: &mut Vec<u8>, geometry: u8, method: u8) -> Result<(), Memory>
+    ensures { OnOk result (out.new.items ≡ out.old.items ++ header_of geometry method) }
+{
+    out.extend_from_slice(MAGIC)?;
+    out.extend_from_slice(&[MAJOR, minor_of(geometry), geometry, method, 0, 0])?;
+    Ok(())
 }
 
 /// Reads the number of points of a cloud.

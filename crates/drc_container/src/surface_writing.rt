@@ -17,7 +17,7 @@ ghost use Rattle.drc_container.specs.Encoded.{AttributeSpelled};
 ghost use Rattle.drc_container.specs.Standings.{glued_on, walk_in, AreStandings, CanCodeValues, AreReadAgain};
 
 use crate::codings::Coding;
-use crate::headers::{MAGIC, MAJOR, MESH, minor_of};
+use crate::headers::{EDGEBREAKER, MESH, put_header};
 use crate::standing::Standing;
 use crate::standings::{Standings, is_cut_at, standing_at};
 use attr_section::{DecoderHead, Values, Walked, write_decoder, write_heads};
@@ -27,21 +27,8 @@ use eb_trace::Traced;
 use mesh_model::Head;
 use std::alloc::Global;
 
-/// The method of Edgebreaker streams.
-const EDGEBREAKER: u8 = 1;
-
 /// The data id of the surface itself.
 const POSITIONS: u8 = 255;
-
-/// Appends the header of a mesh by Edgebreaker.
-#[tactic(auto, unfolding(crate::specs::Written::header_bytes))]
-fn put_header(out: &mut Vec<u8>) -> Result<(), Memory>
-    ensures { OnOk result ((m : MeshParts) → out.new.items ≡ out.old.items ++ header_bytes 1 (geometry.Mesh m)) }
-{
-    out.extend_from_slice(MAGIC)?;
-    out.extend_from_slice(&[MAJOR, minor_of(MESH), MESH, EDGEBREAKER, 0, 0])?;
-    Ok(())
-}
 
 /// The data id of an attribute: the first one has the surface itself, each other one an attribute data of
 /// its own.
@@ -204,6 +191,7 @@ pub fn attributes(
 }
 
 /// The header of a mesh's stream and its connectivity, with the seam bits of each attribute but the first.
+#[tactic(auto, unfolding(crate::specs::Written::header_bytes))]
 pub fn surface_prelude(
     alloc: Global,
     trace: &Traced,
@@ -220,7 +208,7 @@ pub fn surface_prelude(
     ensures again { OnOk result (IsReadAgain valence faces trace.now (map (λ v. v.items) bits.now) (connectivity_bytes valence faces trace.now (map (λ v. v.items) bits.now))) }
 {
     let mut out = Vec::new(alloc);
-    put_header(&mut out)?;
+    put_header(&mut out, MESH, EDGEBREAKER)?;
     let connectivity = write_connectivity(alloc, trace, faces, valence, bits)?;
     out.extend_from_slice(connectivity.as_slice())?;
     Ok(out)

@@ -1,7 +1,7 @@
 //! Writing a sequential stream.
 
 ghost use Rattle.drc_base.specs.Profile.{profile_two};
-ghost use Rattle.std.specs.Prelude.{◌≡◌, ◌≤◌, ◌<◌, ◌++◌, Ok, IfOk, OnOk, length};
+ghost use Rattle.std.specs.Prelude.{◌≡◌, ◌≤◌, ◌<◌, Ok, IfOk, OnOk, length};
 ghost use Rattle.drc_bits.specs.Bits.{low_bytes};
 ghost use Rattle.drc_bits.specs.Spells.{Spells};
 ghost use Rattle.drc_base.specs.declared.limits.TheConstants.{MAX_POINTS};
@@ -13,32 +13,25 @@ ghost use Rattle.mesh_model.specs.Contents.{heads_in, points_in};
 ghost use Rattle.seq_section.specs.Indices.{indices_at};
 ghost use Rattle.drc_container.specs.Choice.{prediction_of, index_of, is_packed};
 ghost use Rattle.drc_container.specs.Header.{cloud_points_at};
-ghost use Rattle.drc_container.specs.Written.{header_bytes, connectivity_bytes, attributes_bytes, decoder_of, values_of, stream_bytes};
+ghost use Rattle.drc_container.specs.Written.{geometry_type, connectivity_bytes, attributes_bytes, decoder_of, values_of, stream_bytes};
 ghost use Rattle.drc_container.specs.Encoded.{CanCode, ConnectivitySpelled, AttributesSpelled, Means};
 ghost use Rattle.drc_container.specs.Layout.{layout_of, layout_chosen};
 
 use crate::choices::Choice;
 use crate::choosing::packs;
 use crate::contents::{heads_in, is_mesh, point_count};
-use crate::headers::{CLOUD, MAGIC, MAJOR, MESH, minor_of};
+use crate::headers::{CLOUD, MESH, SEQUENTIAL, put_header};
 use attr_section::{DecoderHead, Values, write_decoder, write_heads};
 use drc_base::{MAX_POINTS, Memory, Sequence};
 use mesh_model::{CornerMesh, Geometry, Head};
 use seq_section::write_indices;
 use std::alloc::Global;
 
-/// The method of sequential streams.
-const SEQUENTIAL: u8 = 0;
-
-/// Appends the header, with this method.
-#[tactic(auto, unfolding(crate::specs::Written::header_bytes))]
-pub fn put_header(out: &mut Vec<u8>, g: &Geometry, method: u8) -> Result<(), Memory>
-    ensures { OnOk result (out.new.items ≡ out.old.items ++ header_bytes method g.now) }
+/// The geometry type of a geometry.
+fn geometry_type(g: &Geometry) -> u8
+    ensures { result ≡ geometry_type g.now }
 {
-    let geometry = if is_mesh(g) { MESH } else { CLOUD };
-    out.extend_from_slice(MAGIC)?;
-    out.extend_from_slice(&[MAJOR, minor_of(geometry), geometry, method, 0, 0])?;
-    Ok(())
+    if is_mesh(g) { MESH } else { CLOUD }
 }
 
 /// The indices of a mesh.
@@ -117,7 +110,7 @@ fn attributes(
 }
 
 /// The bytes of the stream, each part of which is read back.
-#[tactic(auto, unfolding(crate::specs::Written::stream_bytes))]
+#[tactic(auto, unfolding(crate::specs::Written::stream_bytes, crate::specs::Written::header_bytes))]
 fn written_stream(
     alloc: Global,
     g: &Geometry,
@@ -132,7 +125,7 @@ fn written_stream(
     ensures attributes { OnOk result (AttributesSpelled choice.now.plain_values g.now (prediction_of g.now choice.now)) }
 {
     let mut out = Vec::new(alloc);
-    put_header(&mut out, g, SEQUENTIAL)?;
+    put_header(&mut out, geometry_type(g), SEQUENTIAL)?;
     let connectivity = connectivity(alloc, g, packs(choice))?;
     out.extend_from_slice(connectivity.as_slice())?;
     let attributes = attributes(alloc, g, choice, values)?;
