@@ -44,11 +44,11 @@ pub fn gluing_joins_fans()
     ensures only { NoOthersJoin }
 {}
 
-/// The faces below a number, with the pairs among them, are a surface of their own. A corner of a later
-/// face that they surround fills a gap between two of their free sides, one of which starts where the
-/// other ends, and so comes after it round their boundary; a corner between two such sides is surrounded;
-/// and one face more adds exactly its own pairs with the faces below it. This is the contract of a call that
-/// does nothing.
+/// A prefix of a surface, its faces below a number with the pairs among them, is a surface of its own. A
+/// corner of a later face that they surround fills a gap between two of their free sides, one of which
+/// starts where the other ends, and so comes after it round their boundary; a corner between two such sides
+/// is surrounded; and one face more adds exactly its own pairs with the faces below it. This is the contract
+/// of a call that does nothing.
 pub fn prefixes_have_gaps()
     ensures gluing { PrefixIsGluing }
     ensures gap { SurroundedFillsGap }

@@ -92,8 +92,9 @@ fn rows_in_order(alloc: Global, notes: &Notes) -> Result<Vec<(u32, u8)>, AllocEr
 /// first, and no S has two. There is one surface in the order of decoding; it has as many vertices,
 /// and tells the start bits. The machine of reverse decoding that is made for all faces and for no
 /// fewer vertices than there are vertices and S together, and is fed what is answered, meets no fault
-/// and builds that surface; after the symbols as many sides wait as there are start bits. So does the machine that names vertices, and in the end as many distinct
-/// names stand in its triangles. Refused only when out of memory.
+/// and builds that surface. So does the machine that names vertices, and in the end as many distinct
+/// names stand in its triangles as there are vertices. After the symbols as many sides wait as there
+/// are start bits. Refused only when out of memory.
 pub fn trace(alloc: Global, t: &SideTable) -> Result<Traced, Memory>
     requires proper { IsProper t.now.faces (gluing_of t.now) }
     ensures symbols { IfOk result (λ r. r.symbols ≡ reverse (word_of (trace t.now.faces (gluing_of t.now)))) }
