@@ -1,5 +1,5 @@
 -- Examples, worked by hand: what is written of small geometries, how it is coded, and what is refused.
-use Rattle.std.proofs.Common.{◌≡◌, true, List, [], ◌∷◌, Option, None, Some, Ok, Err, refl}
+use Rattle.std.proofs.Common.{◌≡◌, true, false, List, [], ◌∷◌, Option, None, Some, Ok, Err, refl}
 use Rattle.std.specs.Prelude.{ℤ, pos, negsuc}
 use Rattle.drc_base.specs.declared.kinds.Kind.TheVariants as kind
 use Rattle.drc_base.specs.Profile.{profile_one, profile_two}
@@ -9,7 +9,7 @@ use Rattle.mesh_model.specs.declared.heads.Head.{Head}
 use Rattle.mesh_model.specs.declared.geometries.Geometry.{Geometry}
 use Rattle.mesh_model.specs.declared.geometries.Geometry.TheVariants.{Mesh, Cloud}
 use Rattle.mesh_model.specs.Head.{in_type, heads_fault}
-use Rattle.mesh_model.specs.Parts.{index_fault, range_fault as cells_fault}
+use Rattle.mesh_model.specs.Parts.{MeshParts, index_fault, range_fault as cells_fault}
 use Rattle.seq_section.specs.Indices.{opening_at, face_at, indices_at, indices_bytes}
 use Rattle.predict.specs.Restored.{corrections_behind}
 use Rattle.attr_section.specs.declared.values.Values.{Values}
@@ -27,6 +27,7 @@ use Rattle.drc_container.specs.declared.choices.Walk.{Walk}
 use Rattle.drc_container.specs.declared.choices.Walk.TheVariants as walk
 use Rattle.drc_container.specs.declared.choices.Choice.{Choice}
 use Rattle.drc_container.specs.Header.{form_said, header_at}
+use Rattle.drc_container.specs.OnSurface.{counts_in}
 use Rattle.drc_container.specs.Stream.{decoders_at, attributes_at, points_behind, mesh_behind, mesh_at, stream_in}
 use Rattle.drc_container.specs.Refused.{early_fault, range_fault}
 use Rattle.drc_container.specs.Written.{header_bytes, attributes_bytes, stream_bytes}
@@ -40,12 +41,15 @@ abbrev point : ℤ → ℤ → ℤ → List ℤ
 point x y z = x ∷ y ∷ z ∷ []
 
 -- a triangle
-abbrev triangle : Geometry
-triangle = Mesh (record {
+abbrev triangle_parts : MeshParts
+triangle_parts = record {
   heads = position ∷ [];
   points = point (pos 0) (pos 0) (pos 0) ∷ point (pos 10) (pos 0) (pos 0) ∷ point (pos 0) (pos 10) (negsuc 0) ∷ [];
   faces = (0 ∷ 1 ∷ 2 ∷ []) ∷ [];
-})
+}
+
+abbrev triangle : Geometry
+triangle = Mesh triangle_parts
 
 -- a face of two points
 abbrev repeated : Geometry
@@ -121,6 +125,16 @@ few_faces = refl
 more_faces : opening_at profile_two (start_of (129 ∷ 128 ∷ 64 ∷ 3 ∷ 1 ∷ [])) ≡ Ok (record { faces = 1048577; points = 3; method = 1 }, record { place = 5; rest = [] })
 unfolding opening_at varint
 more_faces = refl
+
+-- the triangle in profiles that take so many points and values, and one of them fewer
+enough_counts : counts_in (record { faces = 1; points = 3; values = 9; multi = false }) triangle_parts ≡ None
+enough_counts = refl
+
+few_points : counts_in (record { faces = 1; points = 2; values = 9; multi = false }) triangle_parts ≡ Some (record { kind = kind.PointLimit; at = 3 })
+few_points = refl
+
+few_values : counts_in (record { faces = 1; points = 3; values = 8; multi = false }) triangle_parts ≡ Some (record { kind = kind.ValueLimit; at = 9 })
+few_values = refl
 
 -- choices that don't fit, the least number first
 cloud_by_edgebreaker : early_fault cloud (chosen (Some method.Eb) (Some indexed.Plain) None None) ≡ Some (record { kind = kind.Choice; at = 0 })
