@@ -1,2 +1,3 @@
 pub mod Packed
 pub mod Indices
+pub mod Short
