@@ -162,7 +162,7 @@ named_rule n i S x =
 abbrev pub named_step : ℕ → Symbol → NamedState → Result NamedState Fault
 named_step n symbol x = named_rule n (length x.triangles) symbol x
 
--- a face fills the loop of row a, which has to be of exactly three rows: a, b and c, where b ends at the start of a, c ends at the start of b,
+-- a face fills the loop of row a, if it is of exactly three rows: a, b and c, where b ends at the start of a, c ends at the start of b,
 -- and c starts at the end of a
 abbrev pub named_fill : ℕ → Plan → Row → List Side → NamedState → Result NamedState Fault
 named_fill n p a rest x =

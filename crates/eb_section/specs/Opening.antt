@@ -15,7 +15,7 @@ use Rattle.eb_section.specs.declared.opening.Opening.{Opening}
 abbrev pub traversal_at : Reading → Item ℕ
 traversal_at c = must kind.Traversal (λ t. t == 0 || t == 2) (number_at 1) c
 
--- the opening of the section in a profile: the traversal; declared vertices, faces and attribute data; declared symbols, and how many of them
+-- the section's opening in a profile: the traversal; declared vertices, faces and attribute data; declared symbols, and how many of them
 -- are splits
 unfoldable pub opening_at : Profile → Reading → Item Opening
 opening_at p c = do
