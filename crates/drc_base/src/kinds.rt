@@ -152,6 +152,26 @@ pub enum Kind {
     NoPosition,
     /// Values too far apart for a prediction.
     Range,
+    /// A line of a map's text that isn't one.
+    MapForm,
+    /// A map of points for a mesh, or of faces for a cloud.
+    MapKind,
+    /// A map of another number of rows than the geometry has.
+    MapCount,
+    /// A row of a map that can't be turned back.
+    BadMap,
+    /// The first five bytes of a kd-tree file aren't `KDPTS`.
+    KdMagic,
+    /// The version of a kd-tree file isn't 1.
+    KdVersion,
+    /// Too many values of a kd-tree file.
+    KdLimit,
+    /// A component of more than 32 bits.
+    KdBits,
+    /// More points in a lower box than its box has.
+    KdSplit,
+    /// A mesh where a cloud is wanted.
+    KdMesh,
 }
 
 impl Kind {
@@ -234,6 +254,16 @@ impl Kind {
             Kind::Empty => "Empty",
             Kind::NoPosition => "NoPosition",
             Kind::Range => "Range",
+            Kind::MapForm => "MapForm",
+            Kind::MapKind => "MapKind",
+            Kind::MapCount => "MapCount",
+            Kind::BadMap => "BadMap",
+            Kind::KdMagic => "KdMagic",
+            Kind::KdVersion => "KdVersion",
+            Kind::KdLimit => "KdLimit",
+            Kind::KdBits => "KdBits",
+            Kind::KdSplit => "KdSplit",
+            Kind::KdMesh => "KdMesh",
         }
     }
 }

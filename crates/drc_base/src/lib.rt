@@ -24,8 +24,8 @@ pub use ends::ReadEnd;
 pub use faults::{Failed, Fault, Memory, Refusal};
 pub use kinds::Kind;
 pub use limits::{
-    MAX_ATTRIBUTES, MAX_COMPONENTS, MAX_FACES, MAX_INPUT_BYTES, MAX_POINTS, MAX_TABLE_SYMBOLS,
-    MAX_VALUES,
+    MAX_ATTRIBUTES, MAX_COMPONENTS, MAX_FACES, MAX_INPUT_BYTES, MAX_KD_POINTS, MAX_KD_VALUES,
+    MAX_POINTS, MAX_TABLE_SYMBOLS, MAX_VALUES,
 };
 pub use mem_sink::MemSink;
 pub use mem_source::MemSource;

@@ -23,3 +23,9 @@ pub const MAX_VALUES: u32 = 0x400_0000;
 
 /// The most symbols of one probability table.
 pub const MAX_TABLE_SYMBOLS: u32 = 0x10_0000;
+
+/// The most points of a cloud that is coded as a kd-tree.
+pub const MAX_KD_POINTS: u32 = 0x10_0000;
+
+/// The most values of a cloud that is coded as a kd-tree: points times the sum of all components.
+pub const MAX_KD_VALUES: u32 = 0x40_0000;

@@ -39,6 +39,7 @@ mod turned_meshes;
 mod walking;
 mod writing;
 
+pub use carried_surfaces::carried_surface;
 pub use choices::{Choice, Index, Predict, Walk};
 pub use decoding::{decode, decode_whole};
 pub use encoding::encode;
@@ -47,6 +48,7 @@ pub use laws::{
 };
 pub use methods::Method;
 pub use seen::{AttrSeen, Decoded, Seen};
+pub use turned_meshes::renumbered_mesh;
 
 #[cfg(test)]
 mod tests;

@@ -90,8 +90,9 @@ fn cells_of(alloc: Global, mesh: &CornerMesh) -> Result<Vec<i32>, Memory>
     Ok(cells)
 }
 
-/// The mesh with its faces in the order of the rows, each turned as its row says.
-fn renumbered_mesh(
+/// The mesh with its faces in the order of the rows, each turned as its row says: its face i is the face
+/// that row i names, whose corner k + turn, modulo 3, is its corner k. Points and heads are copied.
+pub fn renumbered_mesh(
     alloc: Global,
     mesh: &CornerMesh,
     rows: &[(u32, u8)],

@@ -20,3 +20,7 @@ pub mod SameLaws
 pub mod MapTexts
 pub mod Pigeonholes
 pub mod RenumberedMeshes
+pub mod NumberTexts
+pub mod MapReads
+pub mod MapTextLaws
+pub mod MapTextsRead

@@ -1,11 +1,11 @@
 -- Rows and the flat list that stores them.
-use Rattle.std.proofs.Common.{◌≡◌, ℕ, zero, suc, ◌+◌, ◌-◌, ◌*◌, ◌/◌, ◌<◌, ◌≤◌, List, [], ◌∷◌, ◌++◌, length, get_or, take, drop, ℤ, refl, sym, ap, ◌∙◌, inl, inr, arith}
+use Rattle.std.proofs.Common.{◌≡◌, ℕ, zero, suc, ◌+◌, ◌-◌, ◌*◌, ◌/◌, ◌%◌, ◌<◌, ◌≤◌, List, [], ◌∷◌, ◌++◌, length, get_or, take, drop, ℤ, refl, sym, ap, ◌∙◌, inl, inr, arith}
 use Rattle.std.specs.List.{All}
 use Rattle.std.proofs.lemmas.Bool.{cases_lt}
 use Rattle.std.proofs.lemmas.List.{length-append, length_push, length-take, length-drop, take_at, take_all, take-append-le, drop_at, drop-append-le, drop-drop, get_or-take, get_or-drop, get_or_append_left, get_or_push, same_lists, drop_more}
 use Rattle.std.proofs.lemmas.List.FromFn.{length-map-range_with_len, get_or-map-range_with_len}
 use Rattle.std.proofs.lemmas.List.Elements.{All-head, All-tail}
-use Rattle.std.proofs.lemmas.Nat.{mul-le}
+use Rattle.std.proofs.lemmas.Nat.{mul-le, div-add-mod', mod_below, div_below}
 use Rattle.std.proofs.Math.Nat.{mul-div_cancel}
 use Rattle.mesh_model.specs.Parts.{rows_of, cells_of}
 
@@ -80,6 +80,27 @@ rows_of-cells_of width points wide long =
     get_or-rows_of width (cells_of points) k d fewer
     ∙ ap (take width) (drop-cells_of width points k long ∙ ap cells_of (drop_more points k d inside))
     ∙ take_at (get_or points k d) (cells_of (drop (k + 1) points)) width here)
+
+-- the flat list of the rows of whole rows is that list
+pub cells_back : (width count : ℕ) (cells : List ℤ) → 0 < width → length cells ≡ count * width → cells_of (rows_of width cells) ≡ cells
+cells_back width count cells wide whole =
+    let many : length (rows_of width cells) ≡ count = length-rows width count cells wide whole in
+    let long : All (λ row. length row ≡ width) (rows_of width cells) = λ i d b.
+    ap length (get_or-rows_of width cells i d (omega (arith, b, length-rows_of width cells)))
+    ∙ length-stored_row width count cells i whole (omega (arith, b, many)) in
+    let all : length (cells_of (rows_of width cells)) ≡ length cells = length-cells_of width (rows_of width cells) long ∙ ap (λ n. n * width) many ∙ sym whole in
+    same_lists (cells_of (rows_of width cells)) cells all
+    (λ k d below.
+    let i = k / width in
+    let j = k % width in
+    let narrow : j < width = mod_below k width wide in
+    let inside : i < count = div_below k width count wide (omega (arith, below, all, whole)) in
+    let place : i * width + j ≡ k = div-add-mod' k width in
+    ap (λ n. get_or (cells_of (rows_of width cells)) n d) (sym place)
+    ∙ get_or-cells_of width (rows_of width cells) i j d long (omega (arith, inside, many)) narrow
+    ∙ ap (λ row. get_or row j d) (get_or-rows_of width cells i [] (omega (arith, inside, many, length-rows_of width cells)))
+    ∙ get_or-stored_row width cells i j d narrow
+    ∙ ap (λ n. get_or cells n d) place)
 
 -- the rows of whole rows and one more
 pub rows_of-push : (width count : ℕ) (cells row : List ℤ) → 0 < width → length cells ≡ count * width → length row ≡ width → rows_of width (cells ++ row) ≡ rows_of width cells ++ row ∷ []

@@ -13,3 +13,6 @@ pub mod Hash
 pub mod RowIndex
 pub mod Items
 pub mod RenumberingLaws
+pub mod NumberText
+pub mod MapRead
+pub mod MapTextLaws

@@ -32,7 +32,7 @@ impl Cloud {
     ghost use Rattle.std.specs.Prelude.{◌≡◌, ◌<◌, ◌≤◌, [], IsTrue, None, length, slice_index_or};
     ghost use Rattle.mesh_model.specs.FirstFault.{answer_of};
     ghost use Rattle.mesh_model.specs.Head.{width_of};
-    ghost use Rattle.mesh_model.specs.Parts.{AreRows, IsCloud, cloud_of, range_fault};
+    ghost use Rattle.mesh_model.specs.Parts.{AreRows, IsCloud, cells_of, cloud_of, range_fault};
 
     /// The cloud of these heads and points (row after row). It takes no memory. Refusals, the first
     /// that applies: NoAttribute and AttrLimit at the number of heads; AttrType, DataType,
@@ -96,6 +96,15 @@ impl Cloud {
         ensures sound { IsCloud self.now }
     {
         self.count
+    }
+
+    /// The integers of all points, row after row.
+    #[tactic(auto, using(crate::proofs::Rows::cells_back))]
+    pub fn cells(&self) -> &[i32]
+        ensures value { result.now ≡ cells_of self.now.points }
+        ensures sound { IsCloud self.now }
+    {
+        self.cells.as_slice()
     }
 
     /// The integers of point `i`.

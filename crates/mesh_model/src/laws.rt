@@ -1,5 +1,6 @@
 //! What holds of the definitions themselves.
 
+ghost use Rattle.mesh_model.specs.MapTextLaws.{MapReadIsMapText, MapTextIsReadAgain};
 ghost use Rattle.mesh_model.specs.RenumberingLaws.{ApartNamesEachOnce, RenumberedIsMesh, RenumberedIsSame, DistinctAreFew};
 ghost use Rattle.mesh_model.specs.SameLaws.{SameIsReflexive, SameIsSymmetric, SameIsTransitive};
 
@@ -25,4 +26,12 @@ pub fn renumbered_is_a_mesh()
 /// the contract of a call that does nothing.
 pub fn distinct_rows_are_few()
     ensures { DistinctAreFew }
+{}
+
+/// The text of a renumbering, with whatever bytes behind it, is read as its rows, up to its end: where its
+/// numbers are below 2^32, its turns at most 2, and there are no more rows than a geometry may have. And what
+/// is read, up to its end, is the text of such a renumbering. This is the contract of a call that does nothing.
+pub fn map_text_is_read_again()
+    ensures again { MapTextIsReadAgain }
+    ensures written { MapReadIsMapText }
 {}

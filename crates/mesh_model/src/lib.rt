@@ -14,9 +14,11 @@ mod geometries;
 mod heads;
 mod items;
 mod laws;
+mod map_reading;
 mod mapping;
 mod matching;
 mod meshes;
+mod number_reading;
 mod numbering;
 mod renumberings;
 mod row_index;
@@ -30,9 +32,13 @@ pub use clouds::Cloud;
 pub use data_types::{greatest_of, least_of};
 pub use geometries::Geometry;
 pub use heads::{Head, Quant};
-pub use laws::{distinct_rows_are_few, renumbered_is_a_mesh, same_is_an_equivalence};
+pub use laws::{
+    distinct_rows_are_few, map_text_is_read_again, renumbered_is_a_mesh, same_is_an_equivalence,
+};
+pub use map_reading::{MapRead, read_map};
 pub use mapping::map_text;
-pub use matching::{matches, same_row};
+pub use matching::{matches, same_face, same_heads, same_point, same_row};
 pub use meshes::CornerMesh;
+pub use number_reading::read_number;
 pub use renumberings::Renumber;
 pub use tables::AttrTable;

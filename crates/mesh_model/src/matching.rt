@@ -44,7 +44,7 @@ fn same_head(a: &Head, b: &Head) -> bool
 }
 
 /// Whether two lists of heads are equal.
-fn same_heads(a: &[Head], b: &[Head]) -> bool
+pub fn same_heads(a: &[Head], b: &[Head]) -> bool
     ensures { IsTrue result ↔ (a.now ≡ b.now) }
 {
     if a.len() != b.len() {
@@ -110,7 +110,7 @@ fn same_corner(m: &CornerMesh, n: &CornerMesh, i: u32, named: u32, turn: u8, k: 
 }
 
 /// Whether face `i` of `n` is face `named` of `m`, turned.
-fn same_face(m: &CornerMesh, n: &CornerMesh, i: u32, named: u32, turn: u8) -> bool
+pub fn same_face(m: &CornerMesh, n: &CornerMesh, i: u32, named: u32, turn: u8) -> bool
     requires face { i < length n.now.faces }
     requires named { named < length m.now.faces }
     ensures { IsTrue result ↔ SameFace m.now n.now i named turn }
@@ -159,7 +159,7 @@ fn same_meshes(
 }
 
 /// Whether point `i` of `n` is point `named` of `m`, with no turn.
-fn same_point(m: &Cloud, n: &Cloud, i: u32, named: u32, turn: u8) -> bool
+pub fn same_point(m: &Cloud, n: &Cloud, i: u32, named: u32, turn: u8) -> bool
     requires point { i < length n.now.points }
     requires named { named < length m.now.points }
     ensures { IsTrue result ↔ SamePoint m.now n.now i named turn }

@@ -33,7 +33,7 @@ impl CornerMesh {
     ghost use Rattle.std.specs.Prelude.{◌≡◌, ◌<◌, ◌≤◌, [], All, IsTrue, None, length, slice_index_or};
     ghost use Rattle.mesh_model.specs.FirstFault.{answer_of};
     ghost use Rattle.mesh_model.specs.Head.{width_of};
-    ghost use Rattle.mesh_model.specs.Parts.{AreRows, IsMesh, corner, mesh_of, range_fault, rows_of};
+    ghost use Rattle.mesh_model.specs.Parts.{AreRows, IsMesh, cells_of, corner, mesh_of, range_fault, rows_of};
     ghost use Rattle.mesh_model.specs.Stored.{AreStored};
 
     /// The mesh of these heads, points (row after row) and faces. It takes no memory. Refusals, the
@@ -136,6 +136,15 @@ impl CornerMesh {
         ensures sound { IsMesh self.now }
     {
         self.count
+    }
+
+    /// The integers of all points, row after row.
+    #[tactic(auto, using(crate::proofs::Rows::cells_back))]
+    pub fn cells(&self) -> &[i32]
+        ensures value { result.now ≡ cells_of self.now.points }
+        ensures sound { IsMesh self.now }
+    {
+        self.cells.as_slice()
     }
 
     /// The integers of point `i`.

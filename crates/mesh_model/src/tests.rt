@@ -192,11 +192,70 @@ fn refuses_the_first_fault(rt: HostRuntime) -> Result<(), Fail> {
 }
 
 #[test]
-fn writes_the_rows_of_a_map(rt: HostRuntime) -> Result<(), Fail> {
+fn writes_and_reads_the_rows_of_a_map(rt: HostRuntime) -> Result<(), Fail> {
     let alloc = rt.alloc();
     let g = Geometry::Mesh(mesh(alloc, 5, &SQUARE, &[[0, 1, 2], [0, 2, 3]])?);
     let text = map_text(alloc, &g, &rows(alloc, &[(10, 0), (0, 2)])?)?;
     assert_eq!(rt; text.as_slice(), b"map mesh 2\n10 0\n0 2\n".as_slice());
+    let read = read_map(alloc, text.as_slice())?;
+    assert_eq!(rt; read.rows.rows.as_slice(), [(10, 0), (0, 2)].as_slice());
+    Ok(())
+}
+
+/// Texts that begin with a map: whether it is one of clouds, its only row, and its end.
+fn maps() -> [(&'static [u8], bool, (u32, u8), u64); 3] {
+    [
+        (b"map mesh 1\n10 0\n0 2\n", false, (10, 0), 16),
+        (
+            b"map cloud 1\n4294967295 2\n\xff",
+            true,
+            (0xffff_ffff, 2),
+            25,
+        ),
+        (b"map mesh 1\n0 1\n", false, (0, 1), 15),
+    ]
+}
+
+#[test]
+fn reads_the_row_of_a_map(rt: HostRuntime) -> Result<(), Fail> {
+    let alloc = rt.alloc();
+    for (text, cloud, row, end) in maps() {
+        let read = read_map(alloc, text)?;
+        assert_eq!(rt; (read.cloud, read.end), (cloud, end));
+        assert_eq!(rt; read.rows.rows.as_slice(), [row].as_slice());
+    }
+    Ok(())
+}
+
+/// Texts that begin with no map, and their faults.
+fn faulty_maps() -> [(&'static [u8], Kind, u64); 16] {
+    [
+        (b"", Kind::MapForm, 1),
+        (b"map  mesh 1\n0 0\n", Kind::MapForm, 1),
+        (b"map mesh \n", Kind::MapForm, 1),
+        (b"map mesh 0", Kind::MapForm, 1),
+        (b"map mesh 01\n0 0\n", Kind::MapForm, 1),
+        (b"map mesh 1\r\n0 0\r\n", Kind::MapForm, 1),
+        (b"map mesh 4294967296\n", Kind::MapForm, 1),
+        (b"map mesh 4194305\n", Kind::FaceLimit, 1),
+        (b"map cloud 4194305\n0 3\n", Kind::PointLimit, 1),
+        (b"map mesh 4194304\n", Kind::MapForm, 2),
+        (b"map mesh 1\n0 3\n", Kind::MapForm, 2),
+        (b"map mesh 1\n0  0\n", Kind::MapForm, 2),
+        (b"map cloud 1\n4294967296 0\n", Kind::MapForm, 2),
+        (b"map mesh 2\n0 0\n00 0\n", Kind::MapForm, 3),
+        (b"map mesh 2\n0 0\n1 0", Kind::MapForm, 3),
+        (b"map mesh 2\n0 0\n", Kind::MapForm, 3),
+    ]
+}
+
+#[test]
+fn refuses_a_map_at_its_first_faulty_line(rt: HostRuntime) -> Result<(), Fail> {
+    let alloc = rt.alloc();
+    for (text, kind, at) in faulty_maps() {
+        let answer = read_map(alloc, text);
+        assert_eq!(rt; answer.err(), Some(Refusal::Fault(Fault { kind, at })));
+    }
     Ok(())
 }
 
