@@ -1,0 +1,107 @@
+-- Heads that were read have no fault.
+use Rattle.std.proofs.Common.{◌≡◌, ℕ, ◌+◌, ◌≤◌, Bool, true, false, List, [], ◌∷◌, length, Option, None, Some, Ok, refl, sym, ◌∙◌, ap, subst, arith}
+use Rattle.std.specs.Prelude.{◌==◌, ◌&&◌, ◌||◌, nat_lt, nat_le}
+use Rattle.std.specs.List.{All}
+use Rattle.std.proofs.lemmas.Bool.{leb-true, ltb-true, le-leb, eq-eqb, and_from}
+use Rattle.std.proofs.Math.Bool.{or-false}
+use Rattle.std.proofs.lemmas.List.Elements.{All-head, All-tail}
+use Rattle.drc_base.specs.declared.kinds.Kind.TheVariants as kind
+use Rattle.drc_base.specs.declared.limits.TheConstants.{MAX_ATTRIBUTES, MAX_COMPONENTS}
+use Rattle.drc_base.specs.Steps.{◌>>=◌}
+use Rattle.drc_bits.specs.Reading.{Reading, must, many_at}
+use Rattle.drc_bits.specs.Numbers.{number_at}
+use Rattle.drc_bits.specs.Varint.{var32_at}
+use Rattle.drc_bits.proofs.Results.{Ok-injective}
+use Rattle.mesh_model.specs.declared.heads.Head.{Head}
+use Rattle.mesh_model.specs.declared.heads.Quant.{Quant}
+use Rattle.mesh_model.specs.Head.{has_type, has_minima, has_bits, head_fault, each_fault, heads_fault}
+use Rattle.mesh_model.proofs.FirstFaults.{unless-true, first_fault-cons}
+use Rattle.mesh_model.proofs.Passing.{heads_say}
+use Rattle.kd_points.specs.Header.{is_type, quant_at, quant_of_at, head_at, heads_at, attribute_count_at}
+use Rattle.kd_points.proofs.Parted.{given, parts, either, must-passed, many-passed}
+
+-- a quantisation that fits a type and so many components
+record QuantFits (dtype comps : ℕ) (q : Option Quant) : Type 0 where
+  type_fits : has_type dtype q ≡ true
+  minima : has_minima comps q ≡ true
+  bits : has_bits q ≡ true
+
+integer_type : (dtype : ℕ) → is_type dtype ≡ true → (dtype == 9) ≡ false → (nat_le 1 dtype && nat_le dtype 6) ≡ true
+integer_type dtype is not =
+    let integer = nat_le 1 dtype && nat_le dtype 6 in
+    sym (or-false integer) ∙ ap (λ b. integer || b) (sym not) ∙ is
+
+quant-passed : (dtype comps : ℕ) → is_type dtype ≡ true → (c : Reading) (y : Option Quant × Reading) → quant_of_at dtype comps c ≡ Ok y → QuantFits dtype comps y.0
+unfolding quant_of_at quant_at
+quant-passed dtype comps is_type c y is =
+    either (QuantFits dtype comps y.0) (dtype == 9) (quant_at comps c >>= λ q. Ok (Some q.0, q.1)) (Ok (None, c)) y is
+    (λ float read.
+    let has_bits : ℕ → Bool = λ b. nat_le 1 b && nat_le b 30 in
+    let p = parts (quant_at comps c) (λ q. Ok (Some q.0, q.1)) y read in
+    let q = parts (must kind.QuantBits has_bits (number_at 1) c) _ p.0 p.1 in
+    let r = parts (number_at 4 q.0.1) _ p.0 q.2 in
+    let s = parts (many_at (number_at 4) comps r.0.1) _ p.0 r.2 in
+    let bits = must-passed kind.QuantBits has_bits (number_at 1) c q.0 q.1 in
+    let minima = (many-passed (λ _. Unit {0}) (number_at 4) (λ _ _ _. tt) comps r.0.1 s.0 s.1).0 in
+    let quant : Quant = record { bits = q.0.0; range = r.0.0; min = s.0.0 } in
+    let found : QuantFits dtype comps (Some quant) =
+    record { type_fits = float; minima = eq-eqb (length s.0.0) comps minima; bits = bits.0 } in
+    given (λ (z : Option Quant × Reading). QuantFits dtype comps z.0) (Some p.0.0, p.0.1) y p.2
+    (given (λ (z : Quant × Reading). QuantFits dtype comps (Some z.0)) (quant, s.0.1) p.0 s.2 found))
+    (λ integer read.
+    subst (λ (z : Option Quant × Reading). QuantFits dtype comps z.0) (Ok-injective read)
+    (record { type_fits = integer_type dtype is_type integer; minima = refl; bits = refl }))
+
+-- a head without a fault, at whatever place it stands
+abbrev IsHead : Head → Type 0
+IsHead h = (k : ℕ) → head_fault k h ≡ None
+
+head-passed : (c : Reading) (y : Head × Reading) → head_at c ≡ Ok y → IsHead y.0
+unfolding head_at
+head-passed c y is =
+    let has_comps : ℕ → Bool = λ n. nat_le 1 n && nat_le n MAX_COMPONENTS in
+    let p = parts (must kind.AttrType (λ n. nat_le n 4) (number_at 1) c) _ y is in
+    let q = parts (must kind.DataType is_type (number_at 1) p.0.1) _ y p.2 in
+    let r = parts (must kind.Components has_comps (number_at 1) q.0.1) _ y q.2 in
+    let s = parts (number_at 1 r.0.1) _ y r.2 in
+    let t = parts (var32_at s.0.1) _ y s.2 in
+    let u = parts (quant_of_at q.0.0 r.0.0 t.0.1) _ y t.2 in
+    let usage = must-passed kind.AttrType (λ n. nat_le n 4) (number_at 1) c p.0 p.1 in
+    let dtype = must-passed kind.DataType is_type (number_at 1) p.0.1 q.0 q.1 in
+    let comps = must-passed kind.Components has_comps (number_at 1) q.0.1 r.0 r.1 in
+    let fits = quant-passed q.0.0 r.0.0 dtype.0 t.0.1 u.0 u.1 in
+    let h : Head = record { usage = p.0.0; dtype = q.0.0; comps = r.0.0; normalized = s.0.0; id = t.0.0; quant = u.0.0 } in
+    let all = and_from (has_comps r.0.0) (has_minima r.0.0 u.0.0) comps.0 fits.minima in
+    given (λ (z : Head × Reading). IsHead z.0) (h, u.0.1) y u.2 (λ k.
+    first_fault-cons _ _ (unless-true _ kind.AttrType k usage.0)
+    (first_fault-cons _ _ (unless-true _ kind.DataType k fits.type_fits)
+    (first_fault-cons _ _ (unless-true _ kind.Components k all)
+    (first_fault-cons _ [] (unless-true _ kind.QuantBits k fits.bits) refl))))
+
+each-none : (k : ℕ) (heads : List Head) → All IsHead heads → each_fault k heads ≡ None
+each-none k [] are = refl
+each-none k (h ∷ heads) are = first_fault-cons (head_fault k h) _ (All-head IsHead h heads are k) (each-none (k + 1) heads (All-tail IsHead h heads are))
+
+-- heads that were read pass their tests
+pub heads_passed : (c : Reading) (y : List Head × Reading) → heads_at c ≡ Ok y → heads_fault y.0 ≡ None
+unfolding heads_at heads_fault attribute_count_at
+heads_passed c y is =
+    let few : ℕ → Bool = λ n. nat_le n MAX_ATTRIBUTES in
+    let some : ℕ → Bool = λ n. nat_lt 0 n in
+    let p = parts (attribute_count_at c) _ y is in
+    let most = must-passed kind.AttrLimit few (λ c. must kind.NoAttribute some var32_at c) c p.0 p.1 in
+    let least = must-passed kind.NoAttribute some var32_at c p.0 most.1 in
+    let heads = many-passed IsHead head_at head-passed p.0.0 p.0.1 y p.2 in
+    let some_heads : 1 ≤ length y.0 = omega (arith, heads.0, ltb-true 0 p.0.0 least.0) in
+    let few_heads : length y.0 ≤ MAX_ATTRIBUTES = omega (arith, heads.0, leb-true p.0.0 MAX_ATTRIBUTES most.0) in
+    first_fault-cons _ _ (unless-true _ kind.NoAttribute (length y.0) (le-leb 1 (length y.0) some_heads))
+    (first_fault-cons _ _ (unless-true _ kind.AttrLimit (length y.0) (le-leb (length y.0) MAX_ATTRIBUTES few_heads))
+    (first_fault-cons _ [] (each-none 0 y.0 heads.1) refl))
+
+-- heads that pass are few
+pub heads_few : (heads : List Head) → heads_fault heads ≡ None → length heads ≤ 16
+heads_few heads pass = (heads_say heads pass).few
+
+-- a head of heads that pass has at most eight components
+pub comps_few : (heads : List Head) → heads_fault heads ≡ None → All (λ h. h.comps ≤ 8) heads
+comps_few heads pass = λ k d inside. ((heads_say heads pass).each k d inside).few

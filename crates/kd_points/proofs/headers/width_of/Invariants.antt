@@ -1,0 +1,7 @@
+use Rattle.std.proofs.Common.{◌≡◌, ◌≤◌, ◌*◌, take}
+use Rattle.mesh_model.specs.Head.{width_of}
+use Rattle.kd_points.proofs.headers.width_of.Given as goal
+
+-- the width of the heads so far
+abbrev pub invariant-loop-head : goal.invariant-loop-head
+invariant-loop-head l = (l.width ≡ width_of (take l.head-index l.heads)) × (l.width ≤ 8 * l.head-index)

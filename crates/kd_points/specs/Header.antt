@@ -1,0 +1,88 @@
+-- What stands in front of the tree in a kd-tree file of points (this project's choice; heads after the Draco Bitstream
+-- Specification 2.2, section "Attributes Decoder").
+use Rattle.std.specs.Prelude.{ℕ, ◌*◌, ◌==◌, ◌&&◌, ◌||◌, Bool, List, [], ◌∷◌, Option, None, Some, Ok, nat_le, nat_lt, nat_eq, if◌then◌else◌}
+use Rattle.std.specs.Cmp.Lexicographic.{pointwise}
+use Rattle.drc_base.specs.declared.kinds.Kind.TheVariants as kind
+use Rattle.drc_base.specs.declared.limits.TheConstants.{MAX_ATTRIBUTES, MAX_COMPONENTS, MAX_KD_POINTS, MAX_KD_VALUES}
+use Rattle.drc_base.specs.Steps.{◌>>=◌}
+use Rattle.drc_bits.specs.Reading.{Reading, Item, must, many_at, bytes_at}
+use Rattle.drc_bits.specs.Numbers.{number_at, signed_at}
+use Rattle.drc_bits.specs.Varint.{var32_at}
+use Rattle.mesh_model.specs.declared.heads.Head.{Head}
+use Rattle.mesh_model.specs.declared.heads.Quant.{Quant}
+use Rattle.mesh_model.specs.Head.{width_of}
+use Rattle.kd_points.specs.declared.extents.Extent.{Extent}
+use Rattle.kd_points.specs.declared.headers.Header.{Header}
+
+-- the first bytes of a file: KDPTS
+abbrev pub magic : List ℕ
+magic = 75 ∷ 68 ∷ 80 ∷ 84 ∷ 83 ∷ []
+
+-- the version that is read
+abbrev pub version : ℕ
+version = 1
+
+-- the first bytes, and the version
+unfoldable pub opening_at : Reading → Item ℕ
+opening_at c = do
+  first ← must kind.KdMagic (λ bytes. pointwise nat_eq bytes magic) (bytes_at 5) c
+  must kind.KdVersion (λ n. n == version) (number_at 1) first.1
+
+-- how many attributes there are
+unfoldable pub attribute_count_at : Reading → Item ℕ
+attribute_count_at c = must kind.AttrLimit (λ n. nat_le n MAX_ATTRIBUTES) (must kind.NoAttribute (λ n. nat_lt 0 n) var32_at) c
+
+-- whether a data type is accepted: 1 to 6 are integers, and 9 is a float32 that is quantised
+abbrev pub is_type : ℕ → Bool
+is_type dtype = (nat_le 1 dtype && nat_le dtype 6) || dtype == 9
+
+-- the quantisation of so many components: bits, range, minima
+unfoldable pub quant_at : ℕ → Reading → Item Quant
+quant_at comps c = do
+  bits ← must kind.QuantBits (λ n. nat_le 1 n && nat_le n 30) (number_at 1) c
+  range ← number_at 4 bits.1
+  minima ← many_at (number_at 4) comps range.1
+  Ok (record { bits = bits.0; range = range.0; min = minima.0 }, minima.1)
+
+-- the quantisation of an attribute of this type; integers have none
+unfoldable pub quant_of_at : ℕ → ℕ → Reading → Item (Option Quant)
+quant_of_at dtype comps c = if dtype == 9 then (quant_at comps c >>= λ q. Ok (Some q.0, q.1)) else Ok (None, c)
+
+-- the head of an attribute
+unfoldable pub head_at : Reading → Item Head
+head_at c = do
+  usage ← must kind.AttrType (λ n. nat_le n 4) (number_at 1) c
+  dtype ← must kind.DataType is_type (number_at 1) usage.1
+  comps ← must kind.Components (λ n. nat_le 1 n && nat_le n MAX_COMPONENTS) (number_at 1) dtype.1
+  normalized ← number_at 1 comps.1
+  id ← var32_at normalized.1
+  quant ← quant_of_at dtype.0 comps.0 id.1
+  Ok (record { usage = usage.0; dtype = dtype.0; comps = comps.0; normalized = normalized.0; id = id.0; quant = quant.0 }, quant.1)
+
+-- the heads of all attributes
+unfoldable pub heads_at : Reading → Item (List Head)
+heads_at c = do
+  n ← attribute_count_at c
+  many_at head_at n.0 n.1
+
+-- how many points of so many integers there are
+unfoldable pub point_count_at : ℕ → Reading → Item ℕ
+point_count_at width c =
+    must kind.Empty (λ n. nat_lt 0 n)
+    (must kind.KdLimit (λ n. nat_le (n * width) MAX_KD_VALUES) (must kind.PointLimit (λ n. nat_le n MAX_KD_POINTS) var32_at)) c
+
+-- the extent of a component
+unfoldable pub extent_at : Reading → Item Extent
+extent_at c = do
+  least ← signed_at c
+  bits ← must kind.KdBits (λ n. nat_le n 32) (number_at 1) least.1
+  Ok (record { least = least.0; bits = bits.0 }, bits.1)
+
+-- all that stands in front of the tree, and where the extents begin
+unfoldable pub header_at : Reading → Item Header
+header_at c = do
+  opening ← opening_at c
+  heads ← heads_at opening.1
+  count ← point_count_at (width_of heads.0) heads.1
+  extents ← many_at extent_at (width_of heads.0) count.1
+  Ok (record { heads = heads.0; count = count.0; extents = extents.0; at = count.1.place }, extents.1)

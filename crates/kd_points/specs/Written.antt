@@ -1,0 +1,82 @@
+-- The file of a cloud, and the order of its points (this project's choice).
+use Rattle.std.specs.Prelude.{◌≡◌, ℕ, ◌*◌, Bool, not, nat_lt, nat_le, List, [], ◌∷◌, ◌++◌, length, map, flat_map, Option, None, Some, Result}
+use Rattle.std.specs.Int.{w32, cast_unsigned}
+use Rattle.drc_base.specs.declared.faults.Fault.{Fault}
+use Rattle.drc_base.specs.declared.kinds.Kind.TheVariants as kind
+use Rattle.drc_base.specs.declared.limits.TheConstants.{MAX_KD_POINTS, MAX_KD_VALUES}
+use Rattle.drc_bits.specs.Bits.{low_bytes}
+use Rattle.drc_bits.specs.Varint.{spelling}
+use Rattle.rans_binary.specs.Blocks.{block}
+use Rattle.mesh_model.specs.declared.heads.Head.{Head}
+use Rattle.mesh_model.specs.declared.heads.Quant.{Quant}
+use Rattle.mesh_model.specs.declared.geometries.Geometry.{Geometry}
+use Rattle.mesh_model.specs.FirstFault.{unless, first_fault, value_unless}
+use Rattle.mesh_model.specs.Contents.{heads_in, points_in, is_mesh}
+use Rattle.mesh_model.specs.Head.{width_of}
+use Rattle.mesh_model.specs.Parts.{CloudParts}
+use Rattle.mesh_model.specs.Same.{Rows}
+use Rattle.kd_tree.specs.Trees.{split_bits, rest_bits, split_count, rest_count}
+use Rattle.kd_tree.specs.Order.{IsKdOrder}
+use Rattle.kd_points.specs.declared.extents.Extent.{Extent}
+use Rattle.kd_points.specs.Extents.{extents_of, keys_of, depth_of}
+use Rattle.kd_points.specs.Header.{magic, version}
+
+-- why a geometry isn't written: it is a mesh, it has no points, too many, or too many integers
+unfoldable pub kd_fault : Geometry → Option Fault
+kd_fault g = first_fault (
+    unless (not (is_mesh g)) kind.KdMesh 0
+    ∷ unless (nat_lt 0 (length (points_in g))) kind.Empty 0
+    ∷ unless (nat_le (length (points_in g)) MAX_KD_POINTS) kind.PointLimit (length (points_in g))
+    ∷ unless (nat_le (length (points_in g) * width_of (heads_in g)) MAX_KD_VALUES) kind.KdLimit (length (points_in g) * width_of (heads_in g))
+    ∷ [])
+
+-- the cloud of a geometry; of a mesh its points
+abbrev pub cloud_in : Geometry → CloudParts
+cloud_in g = record { heads = heads_in g; points = points_in g }
+
+-- the bytes of a quantisation: bits, range, minima
+abbrev pub quant_bytes : Option Quant → List ℕ
+quant_bytes None = []
+quant_bytes (Some q) = q.bits ∷ low_bytes 4 q.range ++ flat_map (low_bytes 4) q.min
+
+-- the bytes of a head
+abbrev pub head_bytes : Head → List ℕ
+head_bytes h = h.usage ∷ h.dtype ∷ h.comps ∷ h.normalized ∷ spelling 5 h.id ++ quant_bytes h.quant
+
+-- the bytes of an extent
+abbrev pub extent_bytes : Extent → List ℕ
+extent_bytes e = low_bytes 4 (cast_unsigned w32 e.least) ++ e.bits ∷ []
+
+-- the bytes in front of the tree
+unfoldable pub header_bytes : CloudParts → List ℕ
+header_bytes c =
+    magic ++ version ∷ spelling 5 (length c.heads) ++ (flat_map head_bytes c.heads
+    ++ (spelling 5 (length c.points) ++ flat_map extent_bytes (extents_of c)))
+
+-- the split bits and the rest bits of the tree of a cloud
+abbrev pub split_of : CloudParts → List Bool
+split_of c = split_bits (depth_of (extents_of c)) 0 (keys_of c)
+
+abbrev pub rest_of : CloudParts → List Bool
+rest_of c = rest_bits (depth_of (extents_of c)) 0 (keys_of c)
+
+-- the file of a cloud
+unfoldable pub kd_written : CloudParts → List ℕ
+kd_written c = header_bytes c ++ (block (split_of c) ++ block (rest_of c))
+
+-- the rows name the points by key, then by number, and have no turns
+pub record KdOrder (c : CloudParts) (rows : Rows) : Type 0 where
+  pub order : List ℕ
+  pub rows_are : rows ≡ map (λ p. (p, 0)) order
+  pub ordered : IsKdOrder (keys_of c) order
+
+-- what is due of a geometry: its file, or why it isn't written
+abbrev pub kd_due : Geometry → Result (List ℕ) Fault
+kd_due g = value_unless (kd_fault g) (kd_written (cloud_in g))
+
+-- how many split bits and rest bits the file of a geometry has, or why it isn't written: the digits of the number of points of
+-- each box that is divided, and the bits of the key that are left below each box of one point
+abbrev pub kd_counts : Geometry → Result (ℕ × ℕ) Fault
+kd_counts g =
+    let c = cloud_in g in let depth = depth_of (extents_of c) in
+    value_unless (kd_fault g) (split_count depth 0 (keys_of c), rest_count depth 0 (keys_of c))

@@ -1,0 +1,87 @@
+//! Writing a cloud.
+
+ghost use Rattle.std.specs.Prelude.{◌≡◌, ◌<◌, ◌^◌, All, map, IfOk, OnOk, length};
+ghost use Rattle.drc_base.specs.Refusals.{Answers};
+ghost use Rattle.rans_binary.specs.Blocks.{IsBlockOf, block};
+ghost use Rattle.mesh_model.specs.Contents.{heads_in};
+ghost use Rattle.kd_points.specs.Extents.{extents_of};
+ghost use Rattle.kd_points.specs.Laws.{HeadFits};
+ghost use Rattle.kd_points.specs.Written.{KdOrder, cloud_in, kd_due, kd_counts, kd_written, rest_of, split_of};
+
+use crate::head_writing::write_header;
+use crate::refusals::cloud_to_write;
+use crate::trees::{Tree, tree_of};
+use drc_base::{Memory, Refusal, Sequence};
+use kd_tree::bits_are_counted;
+use mesh_model::{Cloud, Geometry, Renumber};
+use rans_binary::write_block;
+use std::alloc::Global;
+
+/// A row without a turn for each number of a point.
+fn rows_of(alloc: Global, order: &[u32]) -> Result<Vec<(u32, u8)>, Memory>
+    ensures { IfOk result (λ v. v.items ≡ map (λ p. (p, 0)) order.now) }
+{
+    let mut rows = Vec::with_capacity(alloc, order.len())?;
+    for point in order {
+        rows.push((*point, 0))?;
+    }
+    Ok(rows)
+}
+
+/// The file of a cloud whose tree this is.
+#[tactic(auto, unfolding(crate::specs::Written::kd_written))]
+fn write_file(alloc: Global, cloud: &Cloud, tree: &Tree) -> Result<Vec<u8>, Memory>
+    requires extents { tree.now.extents ≡ extents_of cloud.now }
+    requires split { tree.now.split ≡ split_of cloud.now }
+    requires rest { tree.now.rest ≡ rest_of cloud.now }
+    requires short { (length tree.now.split < 2 ^ 31) × (length tree.now.rest < 2 ^ 31) }
+    ensures file { IfOk result (λ v. v.items ≡ kd_written cloud.now) }
+    ensures fields { OnOk result (All HeadFits cloud.now.heads) }
+    ensures again { OnOk result (IsBlockOf (split_of cloud.now) (block (split_of cloud.now)) × IsBlockOf (rest_of cloud.now) (block (rest_of cloud.now))) }
+{
+    let mut out = write_header(alloc, cloud, tree.extents.as_slice())?;
+    let split = write_block(alloc, tree.split.as_slice())?;
+    out.extend_from_slice(&split)?;
+    let rest = write_block(alloc, tree.rest.as_slice())?;
+    out.extend_from_slice(&rest)?;
+    Ok(out)
+}
+
+/// The file of a cloud as a kd-tree, and by which rows the cloud that it means is the one that is written:
+/// row i is (p, 0) where p is the number of the file's point i, and the points stand by key, then by number.
+/// The key of a point is the bits of its integers above the least ones, those of the widest components
+/// first.
+///
+/// Refusals, the first that applies: `KdMesh` at 0 where the geometry is a mesh; `Empty` at 0 where it has
+/// no points; `PointLimit` at the number of points where that is above `MAX_KD_POINTS`; `KdLimit` at points
+/// times integers of a point where that is above `MAX_KD_VALUES`. The ids, ranges and minima of the heads that
+/// are written fit their four bytes.
+pub fn kd_encode(alloc: Global, g: &Geometry) -> Result<(Vec<u8>, Renumber), Refusal>
+    ensures answer { Answers (λ r. r.0.items) (kd_due g.now) result }
+    ensures order { IfOk result (λ r. KdOrder (cloud_in g.now) r.1.rows) }
+    ensures fields { OnOk result (All HeadFits (heads_in g.now)) }
+{
+    let cloud = cloud_to_write(g)?;
+    let tree = tree_of(alloc, cloud)?;
+    let bytes = write_file(alloc, cloud, &tree)?;
+    let rows = rows_of(alloc, tree.order.as_slice())?;
+    Ok((
+        bytes,
+        Renumber {
+            rows: Sequence::from_vec(rows),
+        },
+    ))
+}
+
+/// How many split bits and how many rest bits the file of a cloud has: for each box of two points or more
+/// that is divided, the binary digits of its number of points; for each point that is alone in its box, the
+/// bits of its key that are left. Refused as by `kd_encode`.
+pub fn kd_bits(alloc: Global, g: &Geometry) -> Result<(u64, u64), Refusal>
+    ensures { Answers (λ n. n) (kd_counts g.now) result }
+{
+    let cloud = cloud_to_write(g)?;
+    let tree = tree_of(alloc, cloud)?;
+    // For the prover alone: the call tells how many bits a tree has.
+    bits_are_counted();
+    Ok((tree.split.len() as u64, tree.rest.len() as u64))
+}

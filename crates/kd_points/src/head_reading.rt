@@ -1,0 +1,144 @@
+//! Reading the heads of attributes.
+
+ghost use Rattle.std.specs.Prelude.{◌≡◌, IfOk, None};
+ghost use Rattle.mesh_model.specs.Head.{heads_fault};
+ghost use Rattle.drc_bits.specs.Reading.{Reads, Gives, many_at};
+ghost use Rattle.drc_bits.specs.Numbers.{number_at};
+ghost use Rattle.kd_points.specs.Header.{is_type, quant_at, quant_of_at, head_at, heads_at, attribute_count_at};
+
+use drc_base::{Fault, Kind, MAX_ATTRIBUTES, MAX_COMPONENTS, Refusal, Sequence};
+use drc_bits::Cursor;
+use mesh_model::{Head, Quant};
+use std::alloc::Global;
+
+/// A quantised float32.
+const FLOAT32: u8 = 9;
+
+/// Whether a data type is accepted.
+fn is_type(dtype: u8) -> bool
+    ensures { result ≡ is_type dtype }
+{
+    (1 <= dtype && dtype <= 6) || dtype == FLOAT32
+}
+
+/// How many attributes there are.
+#[tactic(auto, unfolding(crate::specs::Header::attribute_count_at))]
+fn read_attribute_count(c: &mut Cursor<'_>) -> Result<u32, Fault>
+    ensures { Reads (λ n. n) (attribute_count_at c.old) c.new result }
+{
+    let at = c.place();
+    let n = c.var32()?;
+    if n == 0 {
+        return Err(Fault::new(Kind::NoAttribute, at));
+    }
+    if n > MAX_ATTRIBUTES {
+        return Err(Fault::new(Kind::AttrLimit, at));
+    }
+    Ok(n)
+}
+
+/// The minima of `comps` components.
+fn read_minima(alloc: Global, c: &mut Cursor<'_>, comps: u8) -> Result<Vec<u32>, Refusal>
+    ensures { Gives (λ v. v.items) (many_at (number_at 4) comps c.old) c.new result }
+{
+    let mut minima = Vec::new(alloc);
+    for _number in 0..comps {
+        let minimum = c.get_u32()?;
+        minima.push(minimum)?;
+    }
+    Ok(minima)
+}
+
+/// The quantisation of `comps` components: bits, range, minima.
+#[tactic(auto, unfolding(crate::specs::Header::quant_at))]
+fn read_quant(alloc: Global, c: &mut Cursor<'_>, comps: u8) -> Result<Quant, Refusal>
+    ensures { Gives (λ q. q) (quant_at comps c.old) c.new result }
+{
+    let at = c.place();
+    let bits = c.get_u8()?;
+    if bits < 1 || bits > 30 {
+        return Err(Refusal::Fault(Fault::new(Kind::QuantBits, at)));
+    }
+    let range = c.get_u32()?;
+    let minima = read_minima(alloc, c, comps)?;
+    Ok(Quant {
+        bits,
+        range,
+        min: Sequence::from_vec(minima),
+    })
+}
+
+/// The quantisation of an attribute of this type; integers have none.
+#[tactic(auto, unfolding(crate::specs::Header::quant_of_at))]
+fn read_quant_of(
+    alloc: Global,
+    c: &mut Cursor<'_>,
+    dtype: u8,
+    comps: u8,
+) -> Result<Option<Quant>, Refusal>
+    ensures { Gives (λ q. q) (quant_of_at dtype comps c.old) c.new result }
+{
+    if dtype == FLOAT32 {
+        let quant = read_quant(alloc, c, comps)?;
+        Ok(Some(quant))
+    } else {
+        Ok(None)
+    }
+}
+
+/// The head of an attribute.
+#[tactic(auto, unfolding(crate::specs::Header::head_at))]
+fn read_head(alloc: Global, c: &mut Cursor<'_>) -> Result<Head, Refusal>
+    ensures { Gives (λ h. h) (head_at c.old) c.new result }
+{
+    let at = c.place();
+    let usage = c.get_u8()?;
+    if usage > 4 {
+        return Err(Refusal::Fault(Fault::new(Kind::AttrType, at)));
+    }
+    let at = c.place();
+    let dtype = c.get_u8()?;
+    if !is_type(dtype) {
+        return Err(Refusal::Fault(Fault::new(Kind::DataType, at)));
+    }
+    let at = c.place();
+    let comps = c.get_u8()?;
+    if comps < 1 || comps as u32 > MAX_COMPONENTS {
+        return Err(Refusal::Fault(Fault::new(Kind::Components, at)));
+    }
+    let normalized = c.get_u8()?;
+    let id = c.var32()?;
+    let quant = read_quant_of(alloc, c, dtype, comps)?;
+    Ok(Head {
+        usage,
+        dtype,
+        comps,
+        normalized,
+        id,
+        quant,
+    })
+}
+
+/// The heads of `n` attributes.
+fn read_attributes(alloc: Global, c: &mut Cursor<'_>, n: u32) -> Result<Vec<Head>, Refusal>
+    ensures { Gives (λ v. v.items) (many_at head_at n c.old) c.new result }
+{
+    let mut heads = Vec::new(alloc);
+    for _number in 0..n {
+        let head = read_head(alloc, c)?;
+        heads.push(head)?;
+    }
+    Ok(heads)
+}
+
+/// The heads of all attributes. The first fault: `NoAttribute` and `AttrLimit` at their number; then in
+/// each `AttrType`, `DataType`, `Components` and `QuantBits` at the item's place; and `Short` and `Long`.
+#[tactic(auto, unfolding(crate::specs::Header::heads_at))]
+pub fn read_heads(alloc: Global, c: &mut Cursor<'_>) -> Result<Vec<Head>, Refusal>
+    ensures item { Gives (λ v. v.items) (heads_at c.old) c.new result }
+    ensures pass { IfOk result (λ v. heads_fault v.items ≡ None) }
+{
+    let n = read_attribute_count(c)?;
+    let heads = read_attributes(alloc, c, n)?;
+    Ok(heads)
+}

@@ -1,0 +1,68 @@
+//! The keys of points.
+
+ghost use Rattle.std.specs.Prelude.{◌≡◌, ◌<◌, ◌≤◌, ◌≤ℤ◌, ℕ, pos, IfOk, OnOk, All, length, slice_index_or};
+ghost use Rattle.mesh_model.specs.Head.{width_of};
+ghost use Rattle.kd_points.specs.Keys.{has_bit, key_of};
+ghost use Rattle.kd_points.specs.Extents.{axes_over, depth_of, extents_of, keys_of, no_extent, offset_of};
+
+use crate::axes::Axis;
+use crate::extents::{Extent, distance};
+use drc_base::Memory;
+use kd_tree::Keys;
+use mesh_model::Cloud;
+use std::alloc::Global;
+
+/// The bit of a point along an axis.
+fn bit_along(axis: Axis, extents: &[Extent], row: &[i32]) -> bool
+    requires row { axis.component < length row.now }
+    requires extents { axis.component < length extents.now }
+    requires bit { axis.bit < 32 }
+    requires above { (slice_index_or extents.now axis.component no_extent).least ≤ℤ slice_index_or row.now axis.component (pos 0) }
+    ensures { result ≡ has_bit axis.bit (offset_of extents.now row.now axis.component) }
+{
+    let component = axis.component as usize;
+    (distance(extents[component].least, row[component]) >> axis.bit) % 2 == 1
+}
+
+/// Puts the key of a point in the place of the one before.
+fn fill_key(
+    key: &mut Vec<bool>,
+    axes: &[Axis],
+    extents: &[Extent],
+    row: &[i32],
+) -> Result<(), Memory>
+    requires len { length extents.now ≡ length row.now }
+    requires lie { All (λ axis. (axis.component < length extents.now) × (axis.bit < 32)) axes.now }
+    requires above { (j : ℕ) → j < length row.now → (slice_index_or extents.now j no_extent).least ≤ℤ slice_index_or row.now j (pos 0) }
+    ensures { OnOk result (key.new.items ≡ key_of axes.now (offset_of extents.now row.now)) }
+{
+    key.clear();
+    for axis in axes {
+        key.push(bit_along(*axis, extents, row))?;
+    }
+    Ok(())
+}
+
+/// The keys of the points of a cloud.
+pub fn keys_of(
+    alloc: Global,
+    cloud: &Cloud,
+    extents: &[Extent],
+    axes: &[Axis],
+    depth: u32,
+) -> Result<Keys, Memory>
+    requires extents { extents.now ≡ extents_of cloud.now }
+    requires small { All (λ e. e.bits ≤ 32) extents.now }
+    requires axes { axes.now ≡ axes_over extents.now }
+    requires depth { depth ≡ depth_of extents.now }
+    requires len { length axes.now ≡ depth }
+    ensures { IfOk result (λ k. k ≡ record { depth = depth; rows = keys_of cloud.now }) }
+{
+    let mut keys = Keys::new(alloc, depth);
+    let mut key = Vec::with_capacity(alloc, axes.len())?;
+    for p in 0..cloud.point_count() {
+        fill_key(&mut key, axes, extents, cloud.point(p))?;
+        keys.push(&key)?;
+    }
+    Ok(keys)
+}

@@ -1,0 +1,16 @@
+//! What holds of the definitions themselves.
+
+ghost use Rattle.kd_points.specs.Laws.{FilesAreReadAgain, KeysTellPoints};
+
+/// The key of each point of a cloud gives all integers of the point back, so that points with equal keys are
+/// equal. This is the contract of a call that does nothing.
+pub fn keys_tell_points()
+    ensures { KeysTellPoints }
+{}
+
+/// The file of a cloud without a fault, whose numbers in the heads have 32 bits, is read, whatever bytes follow it,
+/// as a cloud that is the same by the rows of the order: its point i is the point that row i names. This is the
+/// contract of a call that does nothing.
+pub fn files_are_read_again()
+    ensures { FilesAreReadAgain }
+{}

@@ -1,0 +1,12 @@
+pub mod Bits
+pub mod Packed
+pub mod Digits
+pub mod Boxes
+pub mod Walks
+pub mod Counts
+pub mod Turns
+pub mod Again
+pub mod Unordered
+pub mod Settling
+pub mod Orders
+pub mod Sorted

@@ -1,0 +1,42 @@
+-- Keys packed into words of 64 bits (this project's choice): whole words first, and then one word of the bits that are left,
+-- which may be none. A word of fewer bits has them at its low end.
+use Rattle.std.specs.Prelude.{ℕ, zero, suc, ◌+◌, ◌*◌, ◌/◌, ◌%◌, ◌^◌, ◌<◌, List, [], ◌∷◌, ◌++◌, take, drop, slice_index}
+use Rattle.std.specs.Ordering.{nat_cmp, ordering_then}
+use Rattle.std.specs.declared.cmp.Ordering.{Ordering}
+use Rattle.std.specs.Cmp.Lexicographic.{slice_cmp}
+use Rattle.kd_tree.specs.Keys.{Key}
+use Rattle.kd_tree.specs.Trees.{high_bits}
+
+-- how many words a key of this many bits takes
+abbrev pub words_for : ℕ → ℕ
+words_for depth = depth / 64 + 1
+
+-- the bits of so many whole words and of a last one
+unfoldable pub key_from : ℕ → ℕ → List ℕ → Key
+key_from zero part words = high_bits part (slice_index words 0)
+key_from (suc whole) part words = high_bits 64 (slice_index words 0) ++ key_from whole part (drop 1 words)
+
+-- the key of this many bits at the front of words
+abbrev pub front_key : ℕ → List ℕ → Key
+front_key depth words = key_from (depth / 64) (depth % 64) words
+
+-- n keys of this many bits, one behind another
+unfoldable pub keys_in : ℕ → ℕ → List ℕ → List Key
+keys_in depth zero words = []
+keys_in depth (suc n) words = front_key depth words ∷ keys_in depth n (drop (words_for depth) words)
+
+-- no last word has more bits than are left for it
+abbrev pub AreClean : ℕ → ℕ → List ℕ → Type 0
+AreClean depth n words = (i : ℕ) → i < n → slice_index words (i * words_for depth + depth / 64) < 2 ^ (depth % 64)
+
+-- two numbers of words: by the word, then by the number
+abbrev pub word_cmp : List ℕ → ℕ → ℕ → Ordering
+word_cmp words i j = ordering_then (nat_cmp (slice_index words i) (slice_index words j)) (nat_cmp i j)
+
+-- the row with this number, of so many words each
+abbrev pub row_at : ℕ → List ℕ → ℕ → List ℕ
+row_at width words i = take width (drop (i * width) words)
+
+-- two numbers of rows: by the row's words, then by the number
+abbrev pub row_cmp : ℕ → List ℕ → ℕ → ℕ → Ordering
+row_cmp width words i j = ordering_then (slice_cmp nat_cmp (row_at width words i) (row_at width words j)) (nat_cmp i j)
