@@ -3,9 +3,11 @@ use Rattle.std.proofs.Common.{◌≡◌, true, false, List, [], ◌∷◌, refl,
 use Rattle.std.specs.Prelude.{◌≢◌}
 use Rattle.std.proofs.lemmas.Bool.{false≢true}
 use Rattle.drc_container.specs.declared.choices.Choice.{Choice}
-use Rattle.drc_app.specs.declared.commands.OptionWord.{OptionWord}
-use Rattle.drc_app.specs.declared.commands.OptionWord.TheVariants as option
-use Rattle.drc_app.specs.Line.{Setting, MethodIs, IndexIs, PredictIs, WalkIs, ValuesArePlain, option_of, with_setting, SetsNone, SetsOnce, no_choice}
+use Rattle.drc_app.specs.declared.options.OptionWord.{OptionWord}
+use Rattle.drc_app.specs.declared.options.OptionWord.TheVariants as option
+use Rattle.drc_app.specs.declared.options.Setting.{Setting}
+use Rattle.drc_app.specs.declared.options.Setting.TheVariants as setting
+use Rattle.drc_app.specs.Options.{option_of, with_setting, SetsNone, SetsOnce, no_choice}
 use Rattle.drc_app.specs.Progress.{is_given}
 
 -- no setting's option was given before it
@@ -20,35 +22,35 @@ AreFree c (s ∷ ss) = (is_given c (option_of s) ≡ false) × AreFree c ss
 
 -- a setting gives its own option alone
 given_it : (c : Choice) (s : Setting) → is_given (with_setting c s) (option_of s) ≡ true
-given_it c (MethodIs m) = refl
-given_it c (IndexIs i) = refl
-given_it c (PredictIs p) = refl
-given_it c (WalkIs w) = refl
-given_it c ValuesArePlain = refl
+given_it c (setting.Method m) = refl
+given_it c (setting.Index i) = refl
+given_it c (setting.Predict p) = refl
+given_it c (setting.Walk w) = refl
+given_it c setting.PlainValues = refl
 
 given-other : (c : Choice) (s : Setting) (o : OptionWord) → o ≢ option_of s → is_given c o ≡ false → is_given (with_setting c s) o ≡ false
-given-other c (MethodIs m) option.Method n e = absurd (n refl)
-given-other c (MethodIs m) o n e = e
-given-other c (IndexIs i) option.Index n e = absurd (n refl)
-given-other c (IndexIs i) o n e = e
-given-other c (PredictIs p) option.Predict n e = absurd (n refl)
-given-other c (PredictIs p) o n e = e
-given-other c (WalkIs w) option.Walk n e = absurd (n refl)
-given-other c (WalkIs w) o n e = e
-given-other c ValuesArePlain option.PlainValues n e = absurd (n refl)
-given-other c ValuesArePlain o n e = e
+given-other c (setting.Method m) option.Method n e = absurd (n refl)
+given-other c (setting.Method m) o n e = e
+given-other c (setting.Index i) option.Index n e = absurd (n refl)
+given-other c (setting.Index i) o n e = e
+given-other c (setting.Predict p) option.Predict n e = absurd (n refl)
+given-other c (setting.Predict p) o n e = e
+given-other c (setting.Walk w) option.Walk n e = absurd (n refl)
+given-other c (setting.Walk w) o n e = e
+given-other c setting.PlainValues option.PlainValues n e = absurd (n refl)
+given-other c setting.PlainValues o n e = e
 
 other-given : (c : Choice) (s : Setting) (o : OptionWord) → is_given (with_setting c s) o ≡ false → is_given c o ≡ false
-other-given c (MethodIs m) option.Method e = absurd (false≢true (sym e))
-other-given c (MethodIs m) o e = e
-other-given c (IndexIs i) option.Index e = absurd (false≢true (sym e))
-other-given c (IndexIs i) o e = e
-other-given c (PredictIs p) option.Predict e = absurd (false≢true (sym e))
-other-given c (PredictIs p) o e = e
-other-given c (WalkIs w) option.Walk e = absurd (false≢true (sym e))
-other-given c (WalkIs w) o e = e
-other-given c ValuesArePlain option.PlainValues e = absurd (false≢true (sym e))
-other-given c ValuesArePlain o e = e
+other-given c (setting.Method m) option.Method e = absurd (false≢true (sym e))
+other-given c (setting.Method m) o e = e
+other-given c (setting.Index i) option.Index e = absurd (false≢true (sym e))
+other-given c (setting.Index i) o e = e
+other-given c (setting.Predict p) option.Predict e = absurd (false≢true (sym e))
+other-given c (setting.Predict p) o e = e
+other-given c (setting.Walk w) option.Walk e = absurd (false≢true (sym e))
+other-given c (setting.Walk w) o e = e
+other-given c setting.PlainValues option.PlainValues e = absurd (false≢true (sym e))
+other-given c setting.PlainValues o e = e
 
 -- settings of other options stay free
 free-more : (c : Choice) (s : Setting) (ss : List Setting) → SetsNone (option_of s) ss → AreFree c ss → AreFree (with_setting c s) ss
@@ -77,13 +79,16 @@ pub new-once : (c : Choice) (ss : List Setting) → AreNew c ss → SetsOnce ss
 new-once c [] new = tt
 new-once c (s ∷ ss) new = (more-none c s ss (new-free (with_setting c s) ss new.1), new-once (with_setting c s) ss new.1)
 
+none_set : (o : OptionWord) → is_given no_choice o ≡ false
+none_set option.Method = refl
+none_set option.Index = refl
+none_set option.Predict = refl
+none_set option.Walk = refl
+none_set option.PlainValues = refl
+
 none_given : (ss : List Setting) → AreFree no_choice ss
 none_given [] = tt
-none_given (MethodIs m ∷ ss) = (refl, none_given ss)
-none_given (IndexIs i ∷ ss) = (refl, none_given ss)
-none_given (PredictIs p ∷ ss) = (refl, none_given ss)
-none_given (WalkIs w ∷ ss) = (refl, none_given ss)
-none_given (ValuesArePlain ∷ ss) = (refl, none_given ss)
+none_given (s ∷ ss) = (none_set (option_of s), none_given ss)
 
 pub once-new_choice : (ss : List Setting) → SetsOnce ss → AreNew no_choice ss
 once-new_choice ss once = once-new no_choice ss once (none_given ss)

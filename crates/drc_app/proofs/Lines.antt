@@ -1,38 +1,32 @@
 -- How far a line has come tells which words make it a command line.
-use Rattle.std.proofs.Common.{◌≡◌, ℕ, zero, suc, ◌+◌, ◌^◌, ◌<◌, Bool, true, false, List, [], ◌∷◌, ◌++◌, length, take, drop, Option, Some, None, Result, Ok, Err, ◌⊎◌, inl, inr, refl, sym, ap, ◌∙◌, subst, option_map, arith}
-use Rattle.std.specs.Prelude.{codes, decimal, IfOk, ◌≢◌, if◌then◌else◌}
-use Rattle.std.specs.Str.{bytes_eq}
+use Rattle.std.proofs.Common.{◌≡◌, ℕ, zero, suc, ◌+◌, ◌^◌, ◌<◌, ◌≤◌, Bool, true, false, List, [], ◌∷◌, ◌++◌, length, take, drop, Option, Some, None, Result, Ok, Err, ◌⊎◌, inl, inr, refl, sym, ap, ◌∙◌, subst, option_map, arith}
+use Rattle.std.specs.Prelude.{codes, decimal, IfOk, Contains, ◌≢◌, if◌then◌else◌, option_and_then}
+use Rattle.std.specs.Option.{option_or}
 use Rattle.std.proofs.lemmas.Option.{none-some}
 use Rattle.std.proofs.lemmas.List.{take-append-drop}
-use Rattle.std.proofs.lemmas.Slice.Eq.{bytes_eq-Decides}
 use Rattle.drc_container.specs.declared.choices.Choice.{Choice}
-use Rattle.drc_container.specs.declared.methods.Method.{Method}
-use Rattle.drc_container.specs.declared.methods.Method.TheVariants as method
-use Rattle.drc_container.specs.declared.choices.Index.{Index}
-use Rattle.drc_container.specs.declared.choices.Index.TheVariants as index
-use Rattle.drc_container.specs.declared.choices.Predict.{Predict}
-use Rattle.drc_container.specs.declared.choices.Predict.TheVariants as predict
-use Rattle.drc_container.specs.declared.choices.Walk.{Walk}
-use Rattle.drc_container.specs.declared.choices.Walk.TheVariants as walk
 use Rattle.drc_gen.specs.declared.kinds.GenKind.{GenKind}
-use Rattle.drc_gen.specs.declared.kinds.GenKind.TheVariants.{Grid, Torus, Holes, Fans, Seams}
+use Rattle.drc_gen.specs.declared.kinds.GenKind.TheVariants.{Grid}
 use Rattle.drc_gen.specs.GeneratedLaws.{IsSize}
 use Rattle.drc_app.specs.declared.commands.Command.{Command}
 use Rattle.drc_app.specs.declared.commands.Command.TheVariants as command
-use Rattle.drc_app.specs.declared.commands.OptionWord.{OptionWord}
-use Rattle.drc_app.specs.declared.commands.OptionWord.TheVariants as option
-use Rattle.drc_app.specs.declared.commands.Progress.{Progress}
-use Rattle.drc_app.specs.declared.commands.Progress.TheVariants as progress
-use Rattle.drc_app.specs.Line.{Setting, MethodIs, IndexIs, PredictIs, WalkIs, ValuesArePlain, method_word, index_word, predict_word, walk_word, option_word, option_of, value_words, words_of, with_setting, with_settings, no_choice, gen_word, IsLine, dec, info, enc, gen, IsSized, Begins, IsBadWord, WordsSay}
-use Rattle.drc_app.specs.Progress.{method_named, index_named, predict_named, walk_named, gen_named, number_named, size_named, option_named, is_given, with_value, without_value, with_option, after_word, whole_line, continued, line_from, line_of}
+use Rattle.drc_app.specs.declared.commands.Encoder.{Encoder}
+use Rattle.drc_app.specs.declared.commands.Encoder.TheVariants as encoder
+use Rattle.drc_app.specs.declared.options.OptionWord.{OptionWord}
+use Rattle.drc_app.specs.declared.options.OptionWord.TheVariants as option
+use Rattle.drc_app.specs.declared.options.Setting.{Setting}
+use Rattle.drc_app.specs.declared.options.Setting.TheVariants as setting
+use Rattle.drc_app.specs.declared.command_lines.CommandWord.{CommandWord}
+use Rattle.drc_app.specs.declared.command_lines.CommandWord.TheVariants.{Enc, Dec, Info, Gen, Recode, Verify}
+use Rattle.drc_app.specs.declared.command_lines.Progress.{Progress}
+use Rattle.drc_app.specs.declared.command_lines.Progress.TheVariants as progress
+use Rattle.drc_app.specs.Options.{option_word, option_of, setting_words, words_of, with_setting, with_settings, no_choice}
+use Rattle.drc_app.specs.Line.{command_word, plain_lines, encoder_word, encoding, gen_word, IsLine, plain, encode, gen, IsSized, Begins, IsBadWord, WordsSay}
+use Rattle.drc_app.specs.Progress.{command_words, command_named, plain_named, option_named, setting_named, gen_kinds, gen_named, number_named, size_named, is_given, behind_option, with_option, first_argument, behind_command, after_word, encoding_alone, named_alone, or_count, whole_line, continued, line_from, line_of}
 use Rattle.drc_app.specs.Laws.{WordsSaySomething, WordsSayOneThing}
 use Rattle.drc_app.proofs.Choices.{AreNew, new-once, once-new_choice}
 use Rattle.drc_app.proofs.Numbers.{number_is, number_back, size_is, size_back}
-
--- ---- words and what they name
-
-Some_is : {A : Type 0} (x y : A) → ◌≡◌ {A = Option A} (Some x) (Some y) → x ≡ y
-Some_is x y e = cc
+use Rattle.drc_app.proofs.Spelled.{Some_is, head_is, tail_is, mapped, one_is, each-contains, command_back, option_back, gen_back, option_is, IsValue, value_is, value_back, value_option, some_value, plain_is, plain_back, plain_short, option_unplain}
 
 Ok_is : {A E : Type 0} (x y : A) → ◌≡◌ {A = Result A E} (Ok x) (Ok y) → x ≡ y
 Ok_is x y e = cc
@@ -40,173 +34,26 @@ Ok_is x y e = cc
 Err_is : {A E : Type 0} (x y : E) → ◌≡◌ {A = Result A E} (Err x) (Err y) → x ≡ y
 Err_is x y e = cc
 
-chosen : {A : Type 0} (w v : List ℕ) (x : A) (other : Option A) (y : A)
-    → ◌≡◌ {A = Option A} (if bytes_eq w v then Some x else other) (Some y) → ((w ≡ v) × (x ≡ y)) ⊎ (other ≡ Some y)
-chosen {A} w v x other y e = pick (bytes_eq w v) (bytes_eq-Decides w v).0 e
-  where
-    pick : (b : Bool) → (b ≡ true → w ≡ v) → ◌≡◌ {A = Option A} (if b then Some x else other) (Some y) → ((w ≡ v) × (x ≡ y)) ⊎ (other ≡ Some y)
-    pick true is h = inl (is refl, Some_is x y h)
-    pick false is h = inr h
-
-method_is : (w : List ℕ) (m : Method) → method_named w ≡ Some m → method_word m ≡ w
-method_is w m e = elim (chosen w (codes "seq") method.Seq _ m e) [
-  | inl h ↦ sym (h.0 ∙ ap method_word h.1)
-  | inr e1 ↦ elim (chosen w (codes "eb") method.Eb _ m e1) [
-    | inl h ↦ sym (h.0 ∙ ap method_word h.1)
-    | inr e2 ↦ elim (chosen w (codes "valence") method.Valence _ m e2) [
-      | inl h ↦ sym (h.0 ∙ ap method_word h.1)
-      | inr e3 ↦ absurd (none-some m e3)
-    ]
-  ]
-]
-
-index_is : (w : List ℕ) (i : Index) → index_named w ≡ Some i → index_word i ≡ w
-index_is w i e = elim (chosen w (codes "plain") index.Plain _ i e) [
-  | inl h ↦ sym (h.0 ∙ ap index_word h.1)
-  | inr e1 ↦ elim (chosen w (codes "packed") index.Packed _ i e1) [
-    | inl h ↦ sym (h.0 ∙ ap index_word h.1)
-    | inr e2 ↦ absurd (none-some i e2)
-  ]
-]
-
-predict_is : (w : List ℕ) (p : Predict) → predict_named w ≡ Some p → predict_word p ≡ w
-predict_is w p e = elim (chosen w (codes "none") predict.Off _ p e) [
-  | inl h ↦ sym (h.0 ∙ ap predict_word h.1)
-  | inr e1 ↦ elim (chosen w (codes "diff") predict.Diff _ p e1) [
-    | inl h ↦ sym (h.0 ∙ ap predict_word h.1)
-    | inr e2 ↦ elim (chosen w (codes "para") predict.Para _ p e2) [
-      | inl h ↦ sym (h.0 ∙ ap predict_word h.1)
-      | inr e3 ↦ elim (chosen w (codes "multi") predict.Multi _ p e3) [
-        | inl h ↦ sym (h.0 ∙ ap predict_word h.1)
-        | inr e4 ↦ absurd (none-some p e4)
-      ]
-    ]
-  ]
-]
-
-walk_is : (w : List ℕ) (k : Walk) → walk_named w ≡ Some k → walk_word k ≡ w
-walk_is w k e = elim (chosen w (codes "depth") walk.Depth _ k e) [
-  | inl h ↦ sym (h.0 ∙ ap walk_word h.1)
-  | inr e1 ↦ elim (chosen w (codes "degree") walk.Degree _ k e1) [
-    | inl h ↦ sym (h.0 ∙ ap walk_word h.1)
-    | inr e2 ↦ absurd (none-some k e2)
-  ]
-]
-
-gen_is : (w : List ℕ) (k : GenKind) → gen_named w ≡ Some k → gen_word k ≡ w
-gen_is w k e = elim (chosen w (codes "grid") Grid _ k e) [
-  | inl h ↦ sym (h.0 ∙ ap gen_word h.1)
-  | inr e1 ↦ elim (chosen w (codes "torus") Torus _ k e1) [
-    | inl h ↦ sym (h.0 ∙ ap gen_word h.1)
-    | inr e2 ↦ elim (chosen w (codes "holes") Holes _ k e2) [
-      | inl h ↦ sym (h.0 ∙ ap gen_word h.1)
-      | inr e3 ↦ elim (chosen w (codes "fans") Fans _ k e3) [
-        | inl h ↦ sym (h.0 ∙ ap gen_word h.1)
-        | inr e4 ↦ elim (chosen w (codes "seams") Seams _ k e4) [
-          | inl h ↦ sym (h.0 ∙ ap gen_word h.1)
-          | inr e5 ↦ absurd (none-some k e5)
-        ]
-      ]
-    ]
-  ]
-]
-
-option_is : (w : List ℕ) (o : OptionWord) → option_named w ≡ Some o → option_word o ≡ w
-option_is w o e = elim (chosen w (codes "--method") option.Method _ o e) [
-  | inl h ↦ sym (h.0 ∙ ap option_word h.1)
-  | inr e1 ↦ elim (chosen w (codes "--index") option.Index _ o e1) [
-    | inl h ↦ sym (h.0 ∙ ap option_word h.1)
-    | inr e2 ↦ elim (chosen w (codes "--predict") option.Predict _ o e2) [
-      | inl h ↦ sym (h.0 ∙ ap option_word h.1)
-      | inr e3 ↦ elim (chosen w (codes "--walk") option.Walk _ o e3) [
-        | inl h ↦ sym (h.0 ∙ ap option_word h.1)
-        | inr e4 ↦ elim (chosen w (codes "--plain-values") option.PlainValues _ o e4) [
-          | inl h ↦ sym (h.0 ∙ ap option_word h.1)
-          | inr e5 ↦ absurd (none-some o e5)
-        ]
-      ]
-    ]
-  ]
-]
-
-method_back : (m : Method) → method_named (method_word m) ≡ Some m
-method_back method.Seq = refl
-method_back method.Eb = refl
-method_back method.Valence = refl
-
-index_back : (i : Index) → index_named (index_word i) ≡ Some i
-index_back index.Plain = refl
-index_back index.Packed = refl
-
-predict_back : (p : Predict) → predict_named (predict_word p) ≡ Some p
-predict_back predict.Off = refl
-predict_back predict.Diff = refl
-predict_back predict.Para = refl
-predict_back predict.Multi = refl
-
-walk_back : (k : Walk) → walk_named (walk_word k) ≡ Some k
-walk_back walk.Depth = refl
-walk_back walk.Degree = refl
-
-gen_back : (k : GenKind) → gen_named (gen_word k) ≡ Some k
-gen_back Grid = refl
-gen_back Torus = refl
-gen_back Holes = refl
-gen_back Fans = refl
-gen_back Seams = refl
-
-option_back : (o : OptionWord) → option_named (option_word o) ≡ Some o
-option_back option.Method = refl
-option_back option.Index = refl
-option_back option.Predict = refl
-option_back option.Walk = refl
-option_back option.PlainValues = refl
-
--- ---- one setting
-
-mapped : {A B : Type 0} (f : A → B) (x : Option A) (y : B) → option_map f x ≡ Some y → (z : A) × (x ≡ Some z) × (f z ≡ y)
-mapped f None y e = absurd (none-some y e)
-mapped f (Some z) y e = (z, refl, Some_is (f z) y e)
-
--- the setting of an option and its value
-record SettingOf (c : Choice) (o : OptionWord) (v : List ℕ) (after : Choice) : Type 0 where
-  setting : Setting
-  of : option_of setting ≡ o
-  value : value_words setting ≡ v ∷ []
-  made : with_setting c setting ≡ after
-
-setting_of : (c : Choice) (o : OptionWord) (v : List ℕ) (after : Choice) → with_value c o v ≡ Some after → SettingOf c o v after
-setting_of c option.Method v after e =
-    let x = mapped (λ m. record c { method = Some m }) (method_named v) after e in
-    record { setting = MethodIs x.0; of = refl; value = ap (λ w. w ∷ []) (method_is v x.0 x.1); made = x.2 }
-setting_of c option.Index v after e =
-    let x = mapped (λ m. record c { index = Some m }) (index_named v) after e in
-    record { setting = IndexIs x.0; of = refl; value = ap (λ w. w ∷ []) (index_is v x.0 x.1); made = x.2 }
-setting_of c option.Predict v after e =
-    let x = mapped (λ m. record c { predict = Some m }) (predict_named v) after e in
-    record { setting = PredictIs x.0; of = refl; value = ap (λ w. w ∷ []) (predict_is v x.0 x.1); made = x.2 }
-setting_of c option.Walk v after e =
-    let x = mapped (λ m. record c { walk = Some m }) (walk_named v) after e in
-    record { setting = WalkIs x.0; of = refl; value = ap (λ w. w ∷ []) (walk_is v x.0 x.1); made = x.2 }
-setting_of c option.PlainValues v after e = absurd (none-some after e)
+no_words : {A : Type 0} {P : Type 0} (x : A) (xs : List A) → [] ≡ x ∷ xs → P
+no_words x xs e = cc
 
 -- ---- what makes a line whole
 
 -- these words are settings of other options than the choice's, and make this command
-record Sets (ch : Choice) (ws : List (List ℕ)) (c : Command) : Type 0 where
+record Sets (by : Encoder) (ch : Choice) (ws : List (List ℕ)) (c : Command) : Type 0 where
   settings : List Setting
   spelled : ws ≡ words_of settings
   new : AreNew ch settings
-  made : c ≡ command.Enc (with_settings ch settings)
+  made : c ≡ encoding by (with_settings ch settings)
 
 -- these words are a value of the option, and such settings behind it
-record SetsValue (ch : Choice) (o : OptionWord) (ws : List (List ℕ)) (c : Command) : Type 0 where
+record SetsValue (by : Encoder) (ch : Choice) (o : OptionWord) (ws : List (List ℕ)) (c : Command) : Type 0 where
   value : List ℕ
   rest : List (List ℕ)
-  after : Choice
+  setting : Setting
   spelled : ws ≡ value ∷ rest
-  is : with_value ch o value ≡ Some after
-  sets : Sets after rest c
+  is : IsValue o value setting
+  sets : Sets by (with_setting ch setting) rest c
 
 -- these words are a seed behind a kind and a size
 record SeedFollows (kind : GenKind) (size : ℕ) (ws : List (List ℕ)) (c : Command) : Type 0 where
@@ -230,94 +77,113 @@ record KindFollows (ws : List (List ℕ)) (c : Command) : Type 0 where
   spelled : ws ≡ gen_word kind ∷ rest
   sized : SizeFollows kind rest c
 
+-- these words are options, or a kind with its numbers, behind the first word of a command that takes them
+Follows : CommandWord → List (List ℕ) → Command → Type 0
+Follows Enc ws c = Sets encoder.Enc no_choice ws c
+Follows Recode ws c = Sets encoder.Recode no_choice ws c
+Follows Gen ws c = KindFollows ws c
+Follows k ws c = ⊥
+
 -- with these words more the line is a command's
 Completes : Progress → List (List ℕ) → Command → Type 0
 Completes progress.Nothing ws c = IsLine ws c
-Completes (progress.Options ch) ws c = Sets ch ws c
-Completes (progress.Value ch o) ws c = SetsValue ch o ws c
-Completes progress.KindDue ws c = KindFollows ws c
+Completes (progress.Named k) ws c = Contains plain_lines (command_word k ∷ ws, c) ⊎ Follows k ws c
+Completes (progress.Options by ch) ws c = Sets by ch ws c
+Completes (progress.Value by ch o) ws c = SetsValue by ch o ws c
 Completes (progress.SizeDue kind) ws c = SizeFollows kind ws c
 Completes (progress.SeedDue kind size) ws c = SeedFollows kind size ws c
 Completes (progress.Whole d) ws c = (ws ≡ []) × (c ≡ d)
 
 -- ---- a word read, and back
 
-valued : (ch : Choice) (o : OptionWord) (ws : List (List ℕ)) (c : Command) → is_given ch o ≡ false → SetsValue ch o ws c → Sets ch (option_word o ∷ ws) c
-valued ch o ws c free x =
-    let s = setting_of ch o x.value x.after x.is in
-    record {
-      settings = s.setting ∷ x.sets.settings;
-      spelled = rw s.of (rw s.value (ap (λ r. option_word o ∷ r) (x.spelled ∙ ap (λ r. x.value ∷ r) x.sets.spelled)));
-      new = (rw s.of free, subst (λ after. AreNew after x.sets.settings) (sym s.made) x.sets.new);
-      made = x.sets.made ∙ ap (λ after. command.Enc (with_settings after x.sets.settings)) (sym s.made);
-    }
+-- an option and its value in front of settings
+valued : (by : Encoder) (ch : Choice) (o : OptionWord) (ws : List (List ℕ)) (c : Command)
+    → is_given ch o ≡ false → SetsValue by ch o ws c → Sets by ch (option_word o ∷ ws) c
+valued by ch o ws c free x = record {
+  settings = x.setting ∷ x.sets.settings;
+  spelled = ap (λ r. option_word o ∷ r) x.spelled ∙ ap (λ r. r ++ x.rest) x.is ∙ ap (λ r. setting_words x.setting ++ r) x.sets.spelled;
+  new = (subst (λ p. is_given ch p ≡ false) (sym (value_option o x.value x.setting x.is)) free, x.sets.new);
+  made = x.sets.made;
+}
 
-optioned : (ch : Choice) (o : OptionWord) (q : Progress) (ws : List (List ℕ)) (c : Command)
-    → without_value ch o ≡ Some q → is_given ch o ≡ false → Completes q ws c → Sets ch (option_word o ∷ ws) c
+-- an option in front of what may stand behind it
+optioned : (by : Encoder) (ch : Choice) (o : OptionWord) (ws : List (List ℕ)) (c : Command)
+    → is_given ch o ≡ false → Completes (behind_option by ch o) ws c → Sets by ch (option_word o ∷ ws) c
 unfolding Completes
-optioned ch option.Method q ws c e free x = valued ch option.Method ws c free (subst (λ q. Completes q ws c) (sym (Some_is _ _ e)) x)
-optioned ch option.Index q ws c e free x = valued ch option.Index ws c free (subst (λ q. Completes q ws c) (sym (Some_is _ _ e)) x)
-optioned ch option.Predict q ws c e free x = valued ch option.Predict ws c free (subst (λ q. Completes q ws c) (sym (Some_is _ _ e)) x)
-optioned ch option.Walk q ws c e free x = valued ch option.Walk ws c free (subst (λ q. Completes q ws c) (sym (Some_is _ _ e)) x)
-optioned ch option.PlainValues q ws c e free x =
-    let sets : Sets (record ch { plain_values = true }) ws c = subst (λ q. Completes q ws c) (sym (Some_is _ _ e)) x in
-    record {
-      settings = ValuesArePlain ∷ sets.settings;
-      spelled = ap (λ r. codes "--plain-values" ∷ r) sets.spelled;
-      new = (free, sets.new);
-      made = sets.made;
-    }
+optioned by ch option.PlainValues ws c free x = record {
+  settings = setting.PlainValues ∷ x.settings;
+  spelled = ap (λ r. codes "--plain-values" ∷ r) x.spelled;
+  new = (free, x.new);
+  made = x.made;
+}
+optioned by ch o ws c free x = valued by ch o ws c free x
 
 -- an option that was taken
-record Taken (ch : Choice) (o : Option OptionWord) (q : Progress) : Type 0 where
-  named : OptionWord
-  is : o ≡ Some named
-  free : is_given ch named ≡ false
-  gives : without_value ch named ≡ Some q
+record Taken (by : Encoder) (ch : Choice) (w : List ℕ) (q : Progress) : Type 0 where
+  option : OptionWord
+  is : w ≡ option_word option
+  free : is_given ch option ≡ false
+  gives : behind_option by ch option ≡ q
 
-taken : (ch : Choice) (o : Option OptionWord) (q : Progress) → with_option ch o ≡ Some q → Taken ch o q
-taken ch None q e = absurd (none-some q e)
-taken ch (Some o) q e = pick (is_given ch o) refl e
+taken : (by : Encoder) (ch : Choice) (w : List ℕ) (q : Progress) → with_option by ch w ≡ Some q → Taken by ch w q
+taken by ch w q e = named_so (option_named w) refl e
   where
-    pick : (b : Bool) → is_given ch o ≡ b → ◌≡◌ {A = Option Progress} (if b then None else without_value ch o) (Some q) → Taken ch (Some o) q
-    pick true is h = absurd (none-some q h)
-    pick false is h = record { named = o; is = refl; free = is; gives = h }
+    once : (o : OptionWord) (b : Bool) → option_named w ≡ Some o → is_given ch o ≡ b
+        → ◌≡◌ {A = Option Progress} (if b then None else Some (behind_option by ch o)) (Some q) → Taken by ch w q
+    once o true is given h = absurd (none-some q h)
+    once o false is given h = record { option = o; is = option_is w o is; free = given; gives = Some_is _ _ h }
 
--- `gen` in front of a kind, a size and a seed
-asked : (w : List ℕ) (ws : List (List ℕ)) (c : Command) → w ≡ codes "gen" → KindFollows ws c → IsLine (w ∷ ws) c
-asked w ws c e x = gen x.kind x.sized.size x.sized.seeded.seed x.sized.may x.sized.seeded.small
-    (ap (λ v. v ∷ ws) e
-    ∙ ap (λ r. codes "gen" ∷ r) (x.spelled ∙ ap (λ r. gen_word x.kind ∷ r) (x.sized.spelled ∙ ap (λ r. decimal x.sized.size ∷ r) x.sized.seeded.spelled)))
+    named_so : (o : Option OptionWord) → option_named w ≡ o
+        → option_and_then (λ p. if is_given ch p then None else Some (behind_option by ch p)) o ≡ Some q → Taken by ch w q
+    named_so None is h = absurd (none-some q h)
+    named_so (Some o) is h = once o (is_given ch o) is refl h
+
+option_read_back : (by : Encoder) (ch : Choice) (w : List ℕ) (ws : List (List ℕ)) (c : Command) (q : Progress)
+    → with_option by ch w ≡ Some q → Completes q ws c → Sets by ch (w ∷ ws) c
+option_read_back by ch w ws c q e x =
+    let t = taken by ch w q e in
+    subst (λ v. Sets by ch (v ∷ ws) c) (sym t.is) (optioned by ch t.option ws c t.free (subst (λ q. Completes q ws c) (sym t.gives) x))
+
+follows_back : (k : CommandWord) (w : List ℕ) (ws : List (List ℕ)) (c : Command) (q : Progress) → first_argument k w ≡ Some q → Completes q ws c → Follows k (w ∷ ws) c
+unfolding Follows Completes
+follows_back Enc w ws c q e x = option_read_back encoder.Enc no_choice w ws c q e x
+follows_back Recode w ws c q e x = option_read_back encoder.Recode no_choice w ws c q e x
+follows_back Gen w ws c q e x =
+    let m = mapped progress.SizeDue (gen_named w) q e in
+    record { kind = m.0; rest = ws; spelled = ap (λ v. v ∷ ws) (one_is gen_word gen_kinds w m.0 m.1); sized = subst (λ q. Completes q ws c) (sym m.2) x }
+follows_back k w ws c q e x = absurd (none-some q e)
+
+-- a command's first word in front of what follows it
+follows_line : (k : CommandWord) (ws : List (List ℕ)) (c : Command) → Follows k ws c → IsLine (command_word k ∷ ws) c
+unfolding Follows
+follows_line Enc ws c x = encode encoder.Enc x.settings (new-once no_choice x.settings x.new) (ap (λ r. command_word Enc ∷ r) x.spelled) x.made
+follows_line Recode ws c x = encode encoder.Recode x.settings (new-once no_choice x.settings x.new) (ap (λ r. command_word Recode ∷ r) x.spelled) x.made
+follows_line Gen ws c x = gen x.kind x.sized.size x.sized.seeded.seed x.sized.may x.sized.seeded.small
+    (ap (λ r. command_word Gen ∷ r) (x.spelled
+    ∙ ap (λ r. gen_word x.kind ∷ r) (x.sized.spelled ∙ ap (λ r. decimal x.sized.size ∷ r) x.sized.seeded.spelled)))
     x.sized.seeded.made
+follows_line k ws c x = absurd x
 
 -- a line that is complete behind a word is complete with it
 back : (p : Progress) (w : List ℕ) (ws : List (List ℕ)) (c : Command) (q : Progress) → after_word p w ≡ Some q → Completes q ws c → Completes p (w ∷ ws) c
 unfolding Completes
-back progress.Nothing w ws c q e x = elim (chosen w (codes "enc") (progress.Options no_choice) _ q e) [
-  | inl h ↦ (let sets : Sets no_choice ws c = subst (λ q. Completes q ws c) (sym h.1) x in
-      enc sets.settings (new-once no_choice sets.settings sets.new) (ap (λ v. v ∷ ws) h.0 ∙ ap (λ r. codes "enc" ∷ r) sets.spelled) sets.made)
-  | inr e1 ↦ elim (chosen w (codes "dec") (progress.Whole command.Dec) _ q e1) [
-    | inl h ↦ (let end : (ws ≡ []) × (c ≡ command.Dec) = subst (λ q. Completes q ws c) (sym h.1) x in
-        dec (ap (λ v. v ∷ ws) h.0 ∙ ap (λ r. codes "dec" ∷ r) end.0) end.1)
-    | inr e2 ↦ elim (chosen w (codes "info") (progress.Whole command.Info) _ q e2) [
-      | inl h ↦ (let end : (ws ≡ []) × (c ≡ command.Info) = subst (λ q. Completes q ws c) (sym h.1) x in
-          info (ap (λ v. v ∷ ws) h.0 ∙ ap (λ r. codes "info" ∷ r) end.0) end.1)
-      | inr e3 ↦ elim (chosen w (codes "gen") progress.KindDue _ q e3) [
-        | inl h ↦ asked w ws c h.0 (subst (λ q. Completes q ws c) (sym h.1) x)
-        | inr e4 ↦ absurd (none-some q e4)
-      ]
-    ]
-  ]
-]
-back (progress.Options ch) w ws c q e x =
-    let t = taken ch (option_named w) q e in
-    subst (λ v. Sets ch (v ∷ ws) c) (option_is w t.named t.is) (optioned ch t.named q ws c t.gives t.free x)
-back (progress.Value ch o) w ws c q e x =
-    let m = mapped progress.Options (with_value ch o w) q e in
-    record { value = w; rest = ws; after = m.0; spelled = refl; is = m.1; sets = subst (λ q. Completes q ws c) (sym m.2) x }
-back progress.KindDue w ws c q e x =
-    let m = mapped progress.SizeDue (gen_named w) q e in
-    record { kind = m.0; rest = ws; spelled = ap (λ v. v ∷ ws) (sym (gen_is w m.0 m.1)); sized = subst (λ q. Completes q ws c) (sym m.2) x }
+back progress.Nothing w ws c q e x =
+    let m = mapped progress.Named (command_named w) q e in
+    let behind : Contains plain_lines (command_word m.0 ∷ ws, c) ⊎ Follows m.0 ws c = subst (λ q. Completes q ws c) (sym m.2) x in
+    let line : IsLine (command_word m.0 ∷ ws) c = elim behind [ inl is ↦ plain is | inr follows ↦ follows_line m.0 ws c follows ] in
+    subst (λ v. IsLine (v ∷ ws) c) (sym (one_is command_word command_words w m.0 m.1)) line
+back (progress.Named k) w ws c q e x = behind (plain_named (command_word k ∷ w ∷ [])) refl e
+  where
+    behind : (o : Option Command) → plain_named (command_word k ∷ w ∷ []) ≡ o → option_or (option_map progress.Whole o) (first_argument k w) ≡ Some q
+        → Contains plain_lines (command_word k ∷ w ∷ ws, c) ⊎ Follows k (w ∷ ws) c
+    behind None is h = inr (follows_back k w ws c q h x)
+    behind (Some d) is h =
+        let end : (ws ≡ []) × (c ≡ d) = subst (λ q. Completes q ws c) (sym (Some_is _ _ h)) x in
+        inl (subst (Contains plain_lines) (λ i. (command_word k ∷ w ∷ sym end.0 i, sym end.1 i)) (plain_is (command_word k ∷ w ∷ []) d is))
+back (progress.Options by ch) w ws c q e x = option_read_back by ch w ws c q e x
+back (progress.Value by ch o) w ws c q e x =
+    let m = mapped (λ s. progress.Options by (with_setting ch s)) (setting_named o w) q e in
+    record { value = w; rest = ws; setting = m.0; spelled = refl; is = value_is o w m.0 m.1; sets = subst (λ q. Completes q ws c) (sym m.2) x }
 back (progress.SizeDue kind) w ws c q e x =
     let m = mapped (progress.SeedDue kind) (size_named w) q e in
     let is = size_is w m.0 m.1 in
@@ -330,111 +196,99 @@ back (progress.SeedDue kind size) w ws c q e x =
 back (progress.Whole d) w ws c q e x = absurd (none-some q e)
 
 -- a line that a word completes, and what it is behind the word
-record Read (p : Progress) (w : List ℕ) (ws : List (List ℕ)) (c : Command) : Type 0 where
+record Read (o : Option Progress) (ws : List (List ℕ)) (c : Command) : Type 0 where
   next : Progress
-  is : after_word p w ≡ Some next
+  is : o ≡ Some next
   completes : Completes next ws c
 
-entered : (ch : Choice) (o : OptionWord) (w : List ℕ) → w ≡ option_word o → is_given ch o ≡ false → after_word (progress.Options ch) w ≡ without_value ch o
-entered ch o w e free =
-    ap (λ v. with_option ch (option_named v)) e
-    ∙ ap (with_option ch) (option_back o)
-    ∙ ap (λ b. if b then None else without_value ch o) free
+entered : (by : Encoder) (ch : Choice) (o : OptionWord) (w : List ℕ) → w ≡ option_word o → is_given ch o ≡ false
+    → with_option by ch w ≡ Some (behind_option by ch o)
+entered by ch o w e free =
+    ap (λ v. with_option by ch v) e
+    ∙ ap (option_and_then (λ p. if is_given ch p then None else Some (behind_option by ch p))) (option_back o)
+    ∙ ap (λ b. if b then None else Some (behind_option by ch o)) free
 
-set_read : (ch : Choice) (s : Setting) (ss : List Setting) (w : List ℕ) (ws : List (List ℕ)) (c : Command)
-    → w ≡ option_word (option_of s) → ws ≡ value_words s ++ words_of ss → is_given ch (option_of s) ≡ false
-    → Sets (with_setting ch s) (words_of ss) c → Read (progress.Options ch) w ws c
+-- what stands behind an option in front of settings
+behind_set : (by : Encoder) (ch : Choice) (s : Setting) (ss : List Setting) (w : List ℕ) (ws : List (List ℕ)) (c : Command)
+    → w ∷ ws ≡ setting_words s ++ words_of ss → Sets by (with_setting ch s) (words_of ss) c → Completes (behind_option by ch (option_of s)) ws c
 unfolding Completes
-set_read ch (MethodIs m) ss w ws c e r free sets = record {
-  next = progress.Value ch option.Method;
-  is = entered ch option.Method w e free;
-  completes = record {
-    value = method_word m;
-    rest = words_of ss;
-    after = with_setting ch (MethodIs m);
-    spelled = r;
-    is = ap (option_map (λ m. record ch { method = Some m })) (method_back m);
-    sets = sets;
-  };
-}
-set_read ch (IndexIs m) ss w ws c e r free sets = record {
-  next = progress.Value ch option.Index;
-  is = entered ch option.Index w e free;
-  completes = record {
-    value = index_word m;
-    rest = words_of ss;
-    after = with_setting ch (IndexIs m);
-    spelled = r;
-    is = ap (option_map (λ m. record ch { index = Some m })) (index_back m);
-    sets = sets;
-  };
-}
-set_read ch (PredictIs m) ss w ws c e r free sets = record {
-  next = progress.Value ch option.Predict;
-  is = entered ch option.Predict w e free;
-  completes = record {
-    value = predict_word m;
-    rest = words_of ss;
-    after = with_setting ch (PredictIs m);
-    spelled = r;
-    is = ap (option_map (λ m. record ch { predict = Some m })) (predict_back m);
-    sets = sets;
-  };
-}
-set_read ch (WalkIs m) ss w ws c e r free sets = record {
-  next = progress.Value ch option.Walk;
-  is = entered ch option.Walk w e free;
-  completes = record {
-    value = walk_word m;
-    rest = words_of ss;
-    after = with_setting ch (WalkIs m);
-    spelled = r;
-    is = ap (option_map (λ m. record ch { walk = Some m })) (walk_back m);
-    sets = sets;
-  };
-}
-set_read ch ValuesArePlain ss w ws c e r free sets = record {
-  next = progress.Options (record ch { plain_values = true });
-  is = entered ch option.PlainValues w e free;
-  completes = subst (λ ws. Sets (record ch { plain_values = true }) ws c) (sym r) sets;
-}
+behind_set by ch setting.PlainValues ss w ws c e sets = subst (λ r. Sets by (with_setting ch setting.PlainValues) r c) (sym (tail_is _ _ _ _ e)) sets
+behind_set by ch s ss w ws c e sets =
+    record { value = _; rest = words_of ss; setting = s; spelled = tail_is _ _ _ _ e; is = refl; sets = sets }
 
-head_is : {A : Type 0} (x y : A) (xs ys : List A) → x ∷ xs ≡ y ∷ ys → x ≡ y
-head_is x y xs ys e = cc
+option_read : (by : Encoder) (ch : Choice) (w : List ℕ) (ws : List (List ℕ)) (c : Command) → Sets by ch (w ∷ ws) c → Read (with_option by ch w) ws c
+option_read by ch w ws c x = first x.settings x.spelled x.new x.made
+  where
+    first : (settings : List Setting) → w ∷ ws ≡ words_of settings → AreNew ch settings → c ≡ encoding by (with_settings ch settings)
+        → Read (with_option by ch w) ws c
+    first [] e new made = no_words w ws (sym e)
+    first (s ∷ ss) e new made = record {
+      next = behind_option by ch (option_of s);
+      is = entered by ch (option_of s) w (head_is _ _ _ _ e) new.0;
+      completes = behind_set by ch s ss w ws c e (record { settings = ss; spelled = refl; new = new.1; made = made });
+    }
 
-tail_is : {A : Type 0} (x y : A) (xs ys : List A) → x ∷ xs ≡ y ∷ ys → xs ≡ ys
-tail_is x y xs ys e = cc
+-- the first of the words of settings is an option
+first_option : (by : Encoder) (ch : Choice) (w : List ℕ) (ws : List (List ℕ)) (c : Command) → Sets by ch (w ∷ ws) c → (o : OptionWord) × (w ≡ option_word o)
+first_option by ch w ws c x = first x.settings x.spelled
+  where
+    first : (settings : List Setting) → w ∷ ws ≡ words_of settings → (o : OptionWord) × (w ≡ option_word o)
+    first [] e = no_words w ws (sym e)
+    first (s ∷ ss) e = (option_of s, head_is _ _ _ _ e)
 
-no_words : {A : Type 0} {P : Type 0} (x : A) (xs : List A) → [] ≡ x ∷ xs → P
-no_words x xs e = cc
+follows_read : (k : CommandWord) (w : List ℕ) (ws : List (List ℕ)) (c : Command) → Follows k (w ∷ ws) c → Read (behind_command k w) ws c
+unfolding Follows Completes
+follows_read Enc w ws c x = option_read encoder.Enc no_choice w ws c x
+follows_read Recode w ws c x =
+    let r = option_read encoder.Recode no_choice w ws c x in
+    let o = first_option encoder.Recode no_choice w ws c x in
+    let none : plain_named (command_word Recode ∷ w ∷ []) ≡ None = ap (λ v. plain_named (command_word Recode ∷ v ∷ [])) o.1 ∙ option_unplain o.0 in
+    record { next = r.next; is = ap (λ p. option_or (option_map progress.Whole p) (first_argument Recode w)) none ∙ r.is; completes = r.completes }
+follows_read Gen w ws c x = record {
+  next = progress.SizeDue x.kind;
+  is = ap (λ v. option_map progress.SizeDue (gen_named v)) (head_is _ _ _ _ x.spelled) ∙ ap (option_map progress.SizeDue) (gen_back x.kind);
+  completes = subst (λ r. SizeFollows x.kind r c) (sym (tail_is _ _ _ _ x.spelled)) x.sized;
+}
+follows_read k w ws c x = absurd x
 
-sets_read : (ch : Choice) (settings : List Setting) (w : List ℕ) (ws : List (List ℕ)) (c : Command)
-    → w ∷ ws ≡ words_of settings → AreNew ch settings → c ≡ command.Enc (with_settings ch settings) → Read (progress.Options ch) w ws c
-sets_read ch [] w ws c e new made = no_words w ws (sym e)
-sets_read ch (s ∷ ss) w ws c e new made =
-    set_read ch s ss w ws c (head_is _ _ _ _ e) (tail_is _ _ _ _ e) new.0 (record { settings = ss; spelled = refl; new = new.1; made = made })
-
-read : (p : Progress) (w : List ℕ) (ws : List (List ℕ)) (c : Command) → Completes p (w ∷ ws) c → Read p w ws c
+plain_read : (k : CommandWord) (w : List ℕ) (ws : List (List ℕ)) (c : Command) → Contains plain_lines (command_word k ∷ w ∷ ws, c) → Read (behind_command k w) ws c
 unfolding Completes
-read progress.Nothing w ws c (dec e is) = record {
-  next = progress.Whole command.Dec;
-  is = ap (after_word progress.Nothing) (head_is _ _ _ _ e);
-  completes = (tail_is _ _ _ _ e, is);
+plain_read k w ws c is =
+    let s = plain_short (command_word k ∷ w ∷ ws) c is in
+    let none : ws ≡ [] = nothing ws (omega (arith, s.few, ap length s.spelled)) in
+    record {
+      next = progress.Whole c;
+      is = ap (λ o. option_or (option_map progress.Whole o) (first_argument k w))
+          (plain_back (command_word k ∷ w ∷ []) c (subst (λ r. Contains plain_lines (command_word k ∷ w ∷ r, c)) none is));
+      completes = (none, refl);
+    }
+  where
+    nothing : (xs : List (List ℕ)) → length xs ≤ 0 → xs ≡ []
+    nothing [] few = refl
+    nothing (x ∷ xs) few = absurd (omega (arith, few))
+
+read : (p : Progress) (w : List ℕ) (ws : List (List ℕ)) (c : Command) → Completes p (w ∷ ws) c → Read (after_word p w) ws c
+unfolding Completes Follows
+read progress.Nothing w ws c (plain is) =
+    let s = plain_short (w ∷ ws) c is in
+    record {
+      next = progress.Named s.command;
+      is = ap (after_word progress.Nothing) (head_is _ _ _ _ s.spelled) ∙ ap (option_map progress.Named) (command_back s.command);
+      completes = inl (subst (λ v. Contains plain_lines (v ∷ ws, c)) (head_is _ _ _ _ s.spelled) is);
+    }
+read progress.Nothing w ws c (encode by settings once e is) = record {
+  next = progress.Named (encoder_word by);
+  is = ap (after_word progress.Nothing) (head_is _ _ _ _ e) ∙ ap (option_map progress.Named) (command_back (encoder_word by));
+  completes = inr (encodes by (record { settings = settings; spelled = tail_is _ _ _ _ e; new = once-new_choice settings once; made = is }));
 }
-read progress.Nothing w ws c (info e is) = record {
-  next = progress.Whole command.Info;
-  is = ap (after_word progress.Nothing) (head_is _ _ _ _ e);
-  completes = (tail_is _ _ _ _ e, is);
-}
-read progress.Nothing w ws c (enc settings once e is) = record {
-  next = progress.Options no_choice;
-  is = ap (after_word progress.Nothing) (head_is _ _ _ _ e);
-  completes = record { settings = settings; spelled = tail_is _ _ _ _ e; new = once-new_choice settings once; made = is };
-}
+  where
+    encodes : (by : Encoder) → Sets by no_choice ws c → Follows (encoder_word by) ws c
+    encodes encoder.Enc x = x
+    encodes encoder.Recode x = x
 read progress.Nothing w ws c (gen kind size seed may small e is) = record {
-  next = progress.KindDue;
+  next = progress.Named Gen;
   is = ap (after_word progress.Nothing) (head_is _ _ _ _ e);
-  completes = record {
+  completes = inr (record {
     kind = kind;
     rest = decimal size ∷ decimal seed ∷ [];
     spelled = tail_is _ _ _ _ e;
@@ -445,19 +299,18 @@ read progress.Nothing w ws c (gen kind size seed may small e is) = record {
       spelled = refl;
       seeded = record { seed = seed; small = small; spelled = refl; made = is };
     };
-  };
+  });
 }
-read (progress.Options ch) w ws c x = sets_read ch x.settings w ws c x.spelled x.new x.made
-read (progress.Value ch o) w ws c x = record {
-  next = progress.Options x.after;
-  is = ap (λ v. option_map progress.Options (with_value ch o v)) (head_is _ _ _ _ x.spelled) ∙ ap (option_map progress.Options) x.is;
-  completes = subst (λ r. Sets x.after r c) (sym (tail_is _ _ _ _ x.spelled)) x.sets;
-}
-read progress.KindDue w ws c x = record {
-  next = progress.SizeDue x.kind;
-  is = ap (λ v. option_map progress.SizeDue (gen_named v)) (head_is _ _ _ _ x.spelled) ∙ ap (option_map progress.SizeDue) (gen_back x.kind);
-  completes = subst (λ r. SizeFollows x.kind r c) (sym (tail_is _ _ _ _ x.spelled)) x.sized;
-}
+read (progress.Named k) w ws c (inl is) = plain_read k w ws c is
+read (progress.Named k) w ws c (inr x) = follows_read k w ws c x
+read (progress.Options by ch) w ws c x = option_read by ch w ws c x
+read (progress.Value by ch o) w ws c x =
+    let options : Setting → Progress = λ s. progress.Options by (with_setting ch s) in
+    record {
+      next = options x.setting;
+      is = ap (λ v. option_map options (setting_named o v)) (head_is _ _ _ _ x.spelled) ∙ ap (option_map options) (value_back o x.value x.setting x.is);
+      completes = subst (λ r. Sets by (with_setting ch x.setting) r c) (sym (tail_is _ _ _ _ x.spelled)) x.sets;
+    }
 read (progress.SizeDue kind) w ws c x = record {
   next = progress.SeedDue kind x.size;
   is = ap (λ v. option_map (progress.SeedDue kind) (size_named v)) (head_is _ _ _ _ x.spelled)
@@ -477,13 +330,8 @@ read (progress.Whole d) w ws c x = no_words w ws (sym x.0)
 
 -- a line comes to an option's value only where the option has one
 Reached : Progress → Type 0
-Reached progress.Nothing = Unit {0}
-Reached (progress.Options ch) = Unit {0}
-Reached (progress.Value ch o) = o ≢ option.PlainValues
-Reached progress.KindDue = Unit {0}
-Reached (progress.SizeDue kind) = Unit {0}
-Reached (progress.SeedDue kind size) = Unit {0}
-Reached (progress.Whole d) = Unit {0}
+Reached (progress.Value by ch o) = o ≢ option.PlainValues
+Reached p = Unit {0}
 
 -- words that complete a line, with the words so far
 record BeginsAt (p : Progress) (ws : List (List ℕ)) : Type 0 where
@@ -491,8 +339,8 @@ record BeginsAt (p : Progress) (ws : List (List ℕ)) : Type 0 where
   command : Command
   completes : Completes p (ws ++ rest) command
 
-set_none : (ch : Choice) → Sets ch [] (command.Enc ch)
-set_none ch = record { settings = []; spelled = refl; new = tt; made = refl }
+set_none : (by : Encoder) (ch : Choice) → Sets by ch [] (encoding by ch)
+set_none by ch = record { settings = []; spelled = refl; new = tt; made = refl }
 
 -- a seed, a size and a kind that a line can end with
 some_seed : (kind : GenKind) (size : ℕ) → SeedFollows kind size (decimal 0 ∷ []) (command.Gen (record { kind = kind; size = size; seed = 0 }))
@@ -504,62 +352,59 @@ some_size kind = record { size = 3; rest = decimal 0 ∷ []; may = (omega arith,
 some_kind : KindFollows (codes "grid" ∷ decimal 3 ∷ decimal 0 ∷ []) (command.Gen (record { kind = Grid; size = 3; seed = 0 }))
 some_kind = record { kind = Grid; rest = decimal 3 ∷ decimal 0 ∷ []; spelled = refl; sized = some_size Grid }
 
+-- every command's first word begins a line
+named_end : (k : CommandWord) → BeginsAt (progress.Named k) []
+unfolding Completes Follows
+named_end Enc = record { rest = []; command = _; completes = inr (set_none encoder.Enc no_choice) }
+named_end Dec = record { rest = []; command = command.Dec; completes = inl (0, omega arith, refl) }
+named_end Info = record { rest = []; command = command.Info; completes = inl (1, omega arith, refl) }
+named_end Gen = record { rest = codes "grid" ∷ decimal 3 ∷ decimal 0 ∷ []; command = _; completes = inr some_kind }
+named_end Recode = record { rest = []; command = _; completes = inr (set_none encoder.Recode no_choice) }
+named_end Verify = record { rest = []; command = command.Verify false; completes = inl (3, omega arith, refl) }
+
 can_end : (p : Progress) → Reached p → BeginsAt p []
 unfolding Reached Completes
-can_end progress.Nothing reached = record { rest = codes "dec" ∷ []; command = command.Dec; completes = dec refl refl }
-can_end (progress.Options ch) reached = record { rest = []; command = command.Enc ch; completes = set_none ch }
-can_end (progress.Value ch option.Method) reached = record {
-  rest = codes "seq" ∷ [];
-  command = command.Enc (record ch { method = Some method.Seq });
-  completes = record { value = codes "seq"; rest = []; after = record ch { method = Some method.Seq }; spelled = refl; is = refl; sets = set_none _ };
-}
-can_end (progress.Value ch option.Index) reached = record {
-  rest = codes "plain" ∷ [];
-  command = command.Enc (record ch { index = Some index.Plain });
-  completes = record { value = codes "plain"; rest = []; after = record ch { index = Some index.Plain }; spelled = refl; is = refl; sets = set_none _ };
-}
-can_end (progress.Value ch option.Predict) reached = record {
-  rest = codes "none" ∷ [];
-  command = command.Enc (record ch { predict = Some predict.Off });
-  completes = record { value = codes "none"; rest = []; after = record ch { predict = Some predict.Off }; spelled = refl; is = refl; sets = set_none _ };
-}
-can_end (progress.Value ch option.Walk) reached = record {
-  rest = codes "depth" ∷ [];
-  command = command.Enc (record ch { walk = Some walk.Depth });
-  completes = record { value = codes "depth"; rest = []; after = record ch { walk = Some walk.Depth }; spelled = refl; is = refl; sets = set_none _ };
-}
-can_end (progress.Value ch option.PlainValues) reached = absurd (reached refl)
-can_end progress.KindDue reached = record { rest = codes "grid" ∷ decimal 3 ∷ decimal 0 ∷ []; command = _; completes = some_kind }
+can_end progress.Nothing reached = record { rest = codes "dec" ∷ []; command = command.Dec; completes = plain (0, omega arith, refl) }
+can_end (progress.Named k) reached = named_end k
+can_end (progress.Options by ch) reached = record { rest = []; command = encoding by ch; completes = set_none by ch }
+can_end (progress.Value by ch o) reached =
+    let v = some_value o reached in
+    record {
+      rest = v.0 ∷ [];
+      command = encoding by (with_setting ch v.1);
+      completes = record { value = v.0; rest = []; setting = v.1; spelled = refl; is = v.2; sets = set_none by (with_setting ch v.1) };
+    }
 can_end (progress.SizeDue kind) reached = record { rest = decimal 3 ∷ decimal 0 ∷ []; command = _; completes = some_size kind }
 can_end (progress.SeedDue kind size) reached = record { rest = decimal 0 ∷ []; command = _; completes = some_seed kind size }
 can_end (progress.Whole d) reached = record { rest = []; command = d; completes = (refl, refl) }
 
-reached_option : (ch : Choice) (o : OptionWord) (q : Progress) → without_value ch o ≡ Some q → Reached q
+option_reached : (by : Encoder) (ch : Choice) (o : OptionWord) → Reached (behind_option by ch o)
 unfolding Reached
-reached_option ch option.Method q e = subst Reached (Some_is _ _ e) (λ same. cc)
-reached_option ch option.Index q e = subst Reached (Some_is _ _ e) (λ same. cc)
-reached_option ch option.Predict q e = subst Reached (Some_is _ _ e) (λ same. cc)
-reached_option ch option.Walk q e = subst Reached (Some_is _ _ e) (λ same. cc)
-reached_option ch option.PlainValues q e = subst Reached (Some_is _ _ e) tt
+option_reached by ch option.PlainValues = tt
+option_reached by ch o = λ same. cc
+
+options_reached : (by : Encoder) (ch : Choice) (w : List ℕ) (q : Progress) → with_option by ch w ≡ Some q → Reached q
+options_reached by ch w q e = let t = taken by ch w q e in subst Reached t.gives (option_reached by ch t.option)
+
+argument_reached : (k : CommandWord) (w : List ℕ) (q : Progress) → first_argument k w ≡ Some q → Reached q
+unfolding Reached
+argument_reached Enc w q e = options_reached encoder.Enc no_choice w q e
+argument_reached Recode w q e = options_reached encoder.Recode no_choice w q e
+argument_reached Gen w q e = let m = mapped progress.SizeDue (gen_named w) q e in subst Reached m.2 tt
+argument_reached k w q e = absurd (none-some q e)
 
 reached : (p : Progress) (w : List ℕ) (q : Progress) → after_word p w ≡ Some q → Reached q
 unfolding Reached
-reached progress.Nothing w q e = elim (chosen w (codes "enc") (progress.Options no_choice) _ q e) [
-  | inl h ↦ subst Reached h.1 tt
-  | inr e1 ↦ elim (chosen w (codes "dec") (progress.Whole command.Dec) _ q e1) [
-    | inl h ↦ subst Reached h.1 tt
-    | inr e2 ↦ elim (chosen w (codes "info") (progress.Whole command.Info) _ q e2) [
-      | inl h ↦ subst Reached h.1 tt
-      | inr e3 ↦ elim (chosen w (codes "gen") progress.KindDue _ q e3) [
-        | inl h ↦ subst Reached h.1 tt
-        | inr e4 ↦ absurd (none-some q e4)
-      ]
-    ]
-  ]
-]
-reached (progress.Options ch) w q e = let t = taken ch (option_named w) q e in reached_option ch t.named q t.gives
-reached (progress.Value ch o) w q e = let m = mapped progress.Options (with_value ch o w) q e in subst Reached m.2 tt
-reached progress.KindDue w q e = let m = mapped progress.SizeDue (gen_named w) q e in subst Reached m.2 tt
+reached progress.Nothing w q e = let m = mapped progress.Named (command_named w) q e in subst Reached m.2 tt
+reached (progress.Named k) w q e = behind (plain_named (command_word k ∷ w ∷ [])) e
+  where
+    behind : (o : Option Command) → option_or (option_map progress.Whole o) (first_argument k w) ≡ Some q → Reached q
+    behind None h = argument_reached k w q h
+    behind (Some d) h = subst Reached (Some_is _ _ h) tt
+reached (progress.Options by ch) w q e = options_reached by ch w q e
+reached (progress.Value by ch o) w q e =
+    let m = mapped (λ s. progress.Options by (with_setting ch s)) (setting_named o w) q e in
+    subst Reached m.2 tt
 reached (progress.SizeDue kind) w q e = let m = mapped (progress.SeedDue kind) (size_named w) q e in subst Reached m.2 tt
 reached (progress.SeedDue kind size) w q e =
     let m = mapped (λ seed. progress.Whole (command.Gen (record { kind = kind; size = size; seed = seed }))) (number_named w) q e in
@@ -568,42 +413,62 @@ reached (progress.Whole d) w q e = absurd (none-some q e)
 
 -- ---- the ends of lines
 
+counted : (i : ℕ) (o : Option Command) (c : Command) → or_count i o ≡ Ok c → o ≡ Some c
+counted i None c e = cc
+counted i (Some d) c e = ap Some (Ok_is _ _ e)
+
+encoding_ends : (k : CommandWord) (c : Command) → encoding_alone k ≡ Some c → Follows k [] c
+unfolding Follows
+encoding_ends Enc c e = subst (Sets encoder.Enc no_choice []) (Some_is _ _ e) (set_none encoder.Enc no_choice)
+encoding_ends Recode c e = subst (Sets encoder.Recode no_choice []) (Some_is _ _ e) (set_none encoder.Recode no_choice)
+encoding_ends k c e = absurd (none-some c e)
+
 whole_completes : (i : ℕ) (p : Progress) (c : Command) → whole_line i p ≡ Ok c → Completes p [] c
 unfolding Completes
-whole_completes i progress.Nothing c e = cc
-whole_completes i (progress.Options ch) c e = record { settings = []; spelled = refl; new = tt; made = sym (Ok_is _ _ e) }
-whole_completes i (progress.Value ch o) c e = cc
-whole_completes i progress.KindDue c e = cc
-whole_completes i (progress.SizeDue kind) c e = cc
-whole_completes i (progress.SeedDue kind size) c e = cc
+whole_completes i (progress.Named k) c e = alone (plain_named (command_word k ∷ [])) refl (counted i (named_alone k) c e)
+  where
+    alone : (o : Option Command) → plain_named (command_word k ∷ []) ≡ o → option_or o (encoding_alone k) ≡ Some c
+        → Contains plain_lines (command_word k ∷ [], c) ⊎ Follows k [] c
+    alone None is h = inr (encoding_ends k c h)
+    alone (Some d) is h = inl (plain_is (command_word k ∷ []) c (is ∙ h))
+whole_completes i (progress.Options by ch) c e = subst (Sets by ch []) (Ok_is _ _ e) (set_none by ch)
 whole_completes i (progress.Whole d) c e = (refl, sym (Ok_is _ _ e))
+whole_completes i p c e = cc
+
+sets_end : (by : Encoder) (ch : Choice) (c : Command) → Sets by ch [] c → encoding by ch ≡ c
+sets_end by ch c x = none x.settings x.spelled x.made
+  where
+    none : (settings : List Setting) → [] ≡ words_of settings → c ≡ encoding by (with_settings ch settings) → encoding by ch ≡ c
+    none [] e made = sym made
+    none (s ∷ ss) e made = no_words _ _ e
+
+follows_end : (k : CommandWord) (c : Command) → Follows k [] c → named_alone k ≡ Some c
+unfolding Follows
+follows_end Enc c x = ap Some (sets_end encoder.Enc no_choice c x)
+follows_end Recode c x = ap Some (sets_end encoder.Recode no_choice c x)
+follows_end Gen c x = no_words _ _ x.spelled
+follows_end k c x = absurd x
 
 completes_whole : (i : ℕ) (p : Progress) (c : Command) → Completes p [] c → whole_line i p ≡ Ok c
 unfolding Completes
-completes_whole i progress.Nothing c (dec e is) = no_words _ _ e
-completes_whole i progress.Nothing c (info e is) = no_words _ _ e
-completes_whole i progress.Nothing c (enc settings once e is) = no_words _ _ e
+completes_whole i progress.Nothing c (plain is) = no_words _ _ (plain_short [] c is).spelled
+completes_whole i progress.Nothing c (encode by settings once e is) = no_words _ _ e
 completes_whole i progress.Nothing c (gen kind size seed may small e is) = no_words _ _ e
-completes_whole i (progress.Options ch) c x = no_settings ch x.settings c x.spelled x.made
-  where
-    no_settings : (ch : Choice) (ss : List Setting) (c : Command) → [] ≡ words_of ss → c ≡ command.Enc (with_settings ch ss)
-        → ◌≡◌ {A = Result Command ℕ} (Ok (command.Enc ch)) (Ok c)
-    no_settings ch [] c e made = ap Ok (sym made)
-    no_settings ch (s ∷ ss) c e made = no_words _ _ e
-completes_whole i (progress.Value ch o) c x = no_words _ _ x.spelled
-completes_whole i progress.KindDue c x = no_words _ _ x.spelled
+completes_whole i (progress.Named k) c (inl is) = ap (λ o. or_count i (option_or o (encoding_alone k))) (plain_back (command_word k ∷ []) c is)
+completes_whole i (progress.Named k) c (inr x) = ap (or_count i) (follows_end k c x)
+completes_whole i (progress.Options by ch) c x = ap Ok (sets_end by ch c x)
+completes_whole i (progress.Value by ch o) c x = no_words _ _ x.spelled
 completes_whole i (progress.SizeDue kind) c x = no_words _ _ x.spelled
 completes_whole i (progress.SeedDue kind size) c x = no_words _ _ x.spelled
 completes_whole i (progress.Whole d) c x = ap Ok (sym x.1)
 
+uncounted : (i : ℕ) (o : Option Command) (j : ℕ) → or_count i o ≡ Err j → j ≡ i
+uncounted i None j e = cc
+uncounted i (Some d) j e = cc
+
 unwhole : (i : ℕ) (p : Progress) (j : ℕ) → whole_line i p ≡ Err j → j ≡ i
-unwhole i progress.Nothing j e = cc
-unwhole i (progress.Options ch) j e = cc
-unwhole i (progress.Value ch o) j e = cc
-unwhole i progress.KindDue j e = cc
-unwhole i (progress.SizeDue kind) j e = cc
-unwhole i (progress.SeedDue kind size) j e = cc
-unwhole i (progress.Whole d) j e = cc
+unwhole i (progress.Named k) j e = uncounted i (named_alone k) j e
+unwhole i p j e = cc
 
 -- ---- whole lines
 
@@ -753,9 +618,12 @@ say_one_thing words (Err i) b = said (line_of words) refl
 -- ---- sizes
 
 sized_line : (words : List (List ℕ)) (c : Command) → IsLine words c → IsSized c
-sized_line words c (dec e is) = subst IsSized (sym is) tt
-sized_line words c (info e is) = subst IsSized (sym is) tt
-sized_line words c (enc settings once e is) = subst IsSized (sym is) tt
+sized_line words c (plain is) = each-contains (λ line. IsSized line.1) plain_lines (words, c) (tt, (tt, (tt, (tt, (tt, tt))))) is
+sized_line words c (encode by settings once e is) = subst IsSized (sym is) (unsized by (with_settings no_choice settings))
+  where
+    unsized : (by : Encoder) (ch : Choice) → IsSized (encoding by ch)
+    unsized encoder.Enc ch = tt
+    unsized encoder.Recode ch = tt
 sized_line words c (gen kind size seed may small e is) = subst IsSized (sym is) may
 
 -- a command that words say is of a size that a mesh may have

@@ -1,5 +1,5 @@
--- What a command gives from the bytes of its input: an output and a note, or the first fault (this project's choice).
-use Rattle.std.specs.Prelude.{ℕ, ◌&&◌, Bool, true, false, List, [], length, Some, Result, Ok, Err, nat_lt, if◌then◌else◌}
+-- What a command gives from the bytes of its input: an output and a note, a verdict, or the first fault (this project's choice).
+use Rattle.std.specs.Prelude.{ℕ, ◌&&◌, Bool, true, false, List, [], length, drop, Some, Result, Ok, Err, nat_lt, if◌then◌else◌}
 use Rattle.drc_base.specs.declared.faults.Fault.{Fault}
 use Rattle.drc_base.specs.declared.kinds.Kind.TheVariants as kind
 use Rattle.drc_base.specs.declared.limits.TheConstants.{MAX_INPUT_BYTES}
@@ -8,6 +8,7 @@ use Rattle.ply_mesh.specs.Text.{ply_text}
 use Rattle.mesh_model.specs.declared.geometries.Geometry.{Geometry}
 use Rattle.mesh_model.specs.declared.geometries.Geometry.TheVariants.{Mesh}
 use Rattle.mesh_model.specs.Parts.{MeshParts}
+use Rattle.mesh_model.specs.MapRead.{map_read}
 use Rattle.mesh_model.specs.MapText.{map_text_of}
 use Rattle.drc_gen.specs.declared.kinds.GenKind.{GenKind}
 use Rattle.drc_gen.specs.Generated.{generated}
@@ -16,22 +17,39 @@ use Rattle.drc_container.specs.declared.methods.Method.{Method}
 use Rattle.drc_container.specs.declared.methods.Method.TheVariants as method
 use Rattle.drc_container.specs.declared.choices.Choice.{Choice}
 use Rattle.drc_container.specs.Encoded.{due as encoded}
-use Rattle.drc_container.specs.Chosen.{written}
+use Rattle.drc_container.specs.Chosen.{written as written_by}
 use Rattle.drc_container.specs.Stream.{meaning_of}
 use Rattle.drc_info.specs.InfoText.{report_of}
-use Rattle.drc_app.specs.Line.{no_choice}
+use Rattle.drc_recode.specs.Restored.{restored}
+use Rattle.drc_app.specs.Given.{Given, Written}
+use Rattle.drc_app.specs.Verified.{verified}
+use Rattle.drc_app.specs.Options.{no_choice}
 use Rattle.drc_app.specs.Summary.{summary_text}
 use Rattle.drc_app.specs.declared.commands.Command.{Command}
 use Rattle.drc_app.specs.declared.commands.Command.TheVariants as command
 use Rattle.drc_app.specs.declared.commands.GenMesh.{GenMesh}
 use Rattle.drc_app.specs.declared.summaries.Summary.{Summary}
 
--- the stream of the geometry that a text means, coded as chosen, and the map of its faces or points
-unfoldable pub stream_due : Choice → List ℕ → Result (List ℕ × List ℕ) Fault
-stream_due choice text = do
-  g ← ply_read text
+-- the stream of a geometry, coded as chosen, and the map of its faces or points
+unfoldable pub coded_due : Choice → Geometry → Result (List ℕ × List ℕ) Fault
+coded_due choice g = do
   stream ← encoded g choice
   Ok (stream.0, map_text_of g stream.1)
+
+-- the same of the geometry that a text means
+abbrev pub stream_due : Choice → List ℕ → Result (List ℕ × List ℕ) Fault
+stream_due choice text = ply_read text >>= λ g. coded_due choice g
+
+-- the same of the geometry that a stream means
+abbrev pub recoded_due : Choice → List ℕ → Result (List ℕ × List ℕ) Fault
+recoded_due choice stream = meaning_of stream >>= λ g. coded_due choice g
+
+-- the stream behind a map in the order before its rows; no note
+unfoldable pub restored_due : List ℕ → Result (List ℕ × List ℕ) Fault
+restored_due input = do
+  map ← map_read input
+  stream ← restored map.cloud map.rows.rows (drop map.end input)
+  Ok (stream, [])
 
 -- the text of the geometry that a stream means; no note
 unfoldable pub text_due : List ℕ → Result (List ℕ × List ℕ) Fault
@@ -51,7 +69,7 @@ by_method by = record no_choice { method = Some by }
 
 -- how many bytes are written of a geometry by this method, with no other option
 unfoldable pub length_due : Geometry → Method → ℕ
-length_due g by = length (written g (by_method by)).0
+length_due g by = length (written_by g (by_method by)).0
 
 -- what a summary tells of a mesh that was asked for so
 unfoldable pub summary_of : GenMesh → MeshParts → Summary
@@ -71,22 +89,27 @@ summary_due kind size seed =
 
 -- whether a command reads its input
 abbrev pub reads : Command → Bool
-reads (command.Enc choice) = true
-reads command.Dec = true
-reads command.Info = true
 reads (command.Gen mesh) = false
+reads c = true
+
+-- an output and its note, where there are any
+abbrev pub written : Result (List ℕ × List ℕ) Fault → Result Given Fault
+written answer = answer >>= λ a. Ok (Written a)
 
 -- what the command gives from bytes within the limit, where it reads them
-abbrev pub worked : Command → List ℕ → Result (List ℕ × List ℕ) Fault
-worked (command.Enc choice) bytes = stream_due choice bytes
-worked command.Dec bytes = text_due bytes
-worked command.Info bytes = report_due bytes
-worked (command.Gen mesh) bytes = Ok (summary_due mesh.kind mesh.size mesh.seed)
+abbrev pub worked : Command → List ℕ → Result Given Fault
+worked (command.Enc choice) bytes = written (stream_due choice bytes)
+worked command.Dec bytes = written (text_due bytes)
+worked command.Info bytes = written (report_due bytes)
+worked (command.Gen mesh) bytes = Ok (Written (summary_due mesh.kind mesh.size mesh.seed))
+worked (command.Recode choice) bytes = written (recoded_due choice bytes)
+worked command.Restore bytes = written (restored_due bytes)
+worked (command.Verify surface) bytes = verified surface bytes
 
 -- too many bytes of input
 abbrev pub input_limit : Fault
 input_limit = record { kind = kind.InputLimit; at = MAX_INPUT_BYTES }
 
 -- what the command gives from all bytes of its input: too many of them are a fault, where it reads them
-abbrev pub due : Command → List ℕ → Result (List ℕ × List ℕ) Fault
+abbrev pub due : Command → List ℕ → Result Given Fault
 due c bytes = if reads c && nat_lt MAX_INPUT_BYTES (length bytes) then Err input_limit else worked c bytes

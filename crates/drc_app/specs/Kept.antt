@@ -1,28 +1,50 @@
 -- What encoding keeps: the stream that was written means the geometry that was read (this project's choice).
-use Rattle.std.specs.Prelude.{◌≡◌, ℕ, List, Ok}
+use Rattle.std.specs.Prelude.{◌≡◌, ◌↔◌, ℕ, Bool, List, drop, Ok, IsOkAnd}
 use Rattle.mesh_model.specs.declared.geometries.Geometry.{Geometry}
-use Rattle.mesh_model.specs.Same.{Rows}
+use Rattle.mesh_model.specs.Same.{Rows, Same}
+use Rattle.mesh_model.specs.MapRead.{map_read}
 use Rattle.mesh_model.specs.MapText.{map_text_of}
 use Rattle.ply_mesh.specs.Read.{ply_read}
 use Rattle.drc_container.specs.declared.choices.Choice.{Choice}
 use Rattle.drc_container.specs.Encoded.{Means}
 use Rattle.drc_container.specs.Layout.{layout_of, layout_chosen}
+use Rattle.drc_container.specs.Meaning.{Meaning}
+use Rattle.drc_container.specs.Stream.{stream, meaning_of}
+use Rattle.drc_recode.specs.Restored.{MeansInOrder}
+use Rattle.drc_verify.specs.Checked.{IsSame}
+use Rattle.drc_app.specs.Given.{Given, Written, Differs}
+use Rattle.drc_app.specs.Verified.{parts_of}
 use Rattle.drc_app.specs.declared.commands.Command.{Command}
 use Rattle.drc_app.specs.declared.commands.Command.TheVariants as command
 
--- the text that was read is a geometry's, the stream means the same one by these rows and is coded as chosen, and the note is
--- the map of exactly these rows
-pub record KeepsGeometry (choice : Choice) (text stream note : List ℕ) : Type 0 where
-  pub geometry : Geometry
+-- the stream means a geometry by some rows and is coded as chosen, and the note is the map of exactly these rows
+pub record IsCoded (choice : Choice) (bytes note : List ℕ) (g : Geometry) : Type 0 where
   pub rows : Rows
-  pub read : ply_read text ≡ Ok geometry
-  pub means : Means geometry choice stream rows
-  pub coded : layout_of stream ≡ Ok (layout_chosen geometry choice)
-  pub map : note ≡ map_text_of geometry rows
+  pub means : Means g choice bytes rows
+  pub coded : layout_of bytes ≡ Ok (layout_chosen g choice)
+  pub map : note ≡ map_text_of g rows
 
--- what a command keeps of its input: encoding keeps the geometry
-abbrev pub Keeps : Command → List ℕ → List ℕ × List ℕ → Type 0
-Keeps (command.Enc choice) input answer = KeepsGeometry choice input answer.0 answer.1
-Keeps command.Dec input answer = Unit {0}
-Keeps command.Info input answer = Unit {0}
-Keeps (command.Gen mesh) input answer = Unit {0}
+-- the stream means each geometry in its own order, of which the input's stream is the one by the rows of the input's map
+abbrev pub IsInOrder : List ℕ → List ℕ → Type 0
+IsInOrder input stream = IsOkAnd (map_read input) (λ map. (g n : Geometry)
+    → meaning_of (drop map.end input) ≡ Ok n → Same g n map.rows.rows → MeansInOrder g stream)
+
+-- what is given is a yes, and no verdict
+abbrev pub IsYes : Given → Type 0
+IsYes (Written answer) = Unit {0}
+IsYes (Differs v) = ⊥
+
+-- a yes is given exactly where the input's stream means the geometry of its text by the rows of its map, and with surfaces is glued as it
+abbrev pub SaysWhetherSame : Bool → List ℕ → Given → Type 0
+SaysWhetherSame surface input given = IsOkAnd (parts_of input) (λ parts. (g : Geometry) (n : Meaning)
+    → ply_read parts.text ≡ Ok g → stream parts.stream ≡ Ok n
+    → IsYes given ↔ IsSame surface parts.map.cloud parts.map.rows.rows g n)
+
+-- what a command keeps of its input: encoding keeps the geometry that the text, or the stream, means; restoring gives the first order back;
+-- and verifying says whether all is the same
+abbrev pub Keeps : Command → List ℕ → Given → Type 0
+Keeps (command.Enc choice) input (Written answer) = IsOkAnd (ply_read input) (IsCoded choice answer.0 answer.1)
+Keeps (command.Recode choice) input (Written answer) = IsOkAnd (meaning_of input) (IsCoded choice answer.0 answer.1)
+Keeps command.Restore input (Written answer) = IsInOrder input answer.0
+Keeps (command.Verify surface) input given = SaysWhetherSame surface input given
+Keeps c input given = Unit {0}

@@ -1,8 +1,11 @@
+pub mod Options
 pub mod Line
 pub mod Progress
 pub mod Notes
 pub mod Ends
 pub mod Summary
+pub mod Given
+pub mod Verified
 pub mod Due
 pub mod Kept
 pub mod Outcome

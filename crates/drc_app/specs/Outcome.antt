@@ -1,15 +1,21 @@
 -- What a command line came to before anything is written, and what was then written (this project's choice).
-use Rattle.std.specs.Prelude.{◌≡◌, ℕ, zero, suc, ◌⊎◌, List, [], Option, Some, Result, Ok, Err, IfSome, IsOkAnd, IsTrue, MatchBool}
+use Rattle.std.specs.Prelude.{◌≡◌, ◌≢◌, ℕ, zero, suc, ◌⊎◌, List, [], Option, Some, Result, Ok, Err, IfSome, IsOkAnd, IsTrue, MatchBool}
 use Rattle.std.specs.Prelude.{if◌then◌else◌}
 use Rattle.std.specs.Bool.{OnFalse}
 use Rattle.drc_base.specs.Sinks.{AppendsPrefix}
 use Rattle.drc_base.specs.declared.faults.Fault.{Fault}
 use Rattle.drc_app.specs.Ends.{Taking, HasReadFault, IsReadWhole, IsPastMost, IsUntaken}
 use Rattle.drc_app.specs.Ends.{Putting, HasWriteFault, IsUntouched, IsWritten, IsTried}
-use Rattle.drc_app.specs.Notes.{refused_note, bad_word_note, read_failed_note, write_failed_note, memory_note}
+use Rattle.drc_verify.specs.declared.verdicts.Verdict.{Verdict}
+use Rattle.drc_verify.specs.declared.verdicts.Verdict.TheVariants as verdict
+use Rattle.drc_app.specs.Given.{Given, Written, Differs}
+use Rattle.drc_app.specs.Notes.{refused_note, bad_word_note, verdict_note, read_failed_note, write_failed_note, memory_note}
 use Rattle.drc_app.specs.Due.{reads, due}
 use Rattle.drc_app.specs.Kept.{Keeps}
 use Rattle.drc_app.specs.declared.commands.Command.{Command}
+use Rattle.drc_app.specs.declared.commands.Command.TheVariants as command
+use Rattle.drc_app.specs.declared.outcomes.Answer.{Answer}
+use Rattle.drc_app.specs.declared.outcomes.Answer.TheVariants as answer
 use Rattle.drc_app.specs.declared.outcomes.Output.{Output}
 use Rattle.drc_app.specs.declared.outcomes.Output.TheVariants as output
 use Rattle.drc_app.specs.declared.outcomes.Due.{Due}
@@ -37,12 +43,12 @@ abbrev pub told_to : Command → Taking → Option (List ℕ)
 told_to c input = if reads c then input.left else Some []
 
 -- where its bytes are told, this is what the command gives from them
-abbrev pub Gives : Command → Taking → Result (List ℕ × List ℕ) Fault → Type 0
-Gives c input answer = IfSome (told_to c input) (λ bytes. due c bytes ≡ answer)
+abbrev pub Gives : Command → Taking → Result Given Fault → Type 0
+Gives c input given = IfSome (told_to c input) (λ bytes. due c bytes ≡ given)
 
 -- where its bytes are told, the command keeps of them what it has to
-abbrev pub Kept : Command → Taking → List ℕ × List ℕ → Type 0
-Kept c input answer = IfSome (told_to c input) (λ bytes. Keeps c bytes answer)
+abbrev pub Kept : Command → Taking → Given → Type 0
+Kept c input given = IfSome (told_to c input) (λ bytes. Keeps c bytes given)
 
 -- the bytes of an output, and of an output and its note
 abbrev pub output_bytes : Output → List ℕ
@@ -52,6 +58,20 @@ output_bytes (output.Text text) = text
 abbrev pub bytes_of : Due → List ℕ × List ℕ
 bytes_of d = (output_bytes d.output, d.note.items)
 
+-- what an answer gives
+abbrev pub seen : Answer → Given
+seen (answer.Due d) = Written (bytes_of d)
+seen (answer.Differs v) = Differs v
+
+-- a command gives a verdict alone only where it verifies, and no yes
+abbrev pub MayDiffer : Command → Verdict → Type 0
+MayDiffer (command.Verify surface) v = v ≢ verdict.Same
+MayDiffer c v = ⊥
+
+abbrev pub MayAnswer : Command → Answer → Type 0
+MayAnswer c (answer.Due d) = Unit {0}
+MayAnswer c (answer.Differs v) = MayDiffer c v
+
 -- what the line and its input came to
 abbrev pub IsOutcome : Result Command ℕ → Taking → Outcome → Type 0
 IsOutcome line input (outcome.BadWord i) = (line ≡ Err i) × IsUntaken input
@@ -59,7 +79,9 @@ IsOutcome line input outcome.ReadFailed = IsOkAnd line (λ c. IsTrue (reads c)) 
 IsOutcome line input outcome.NoMemory = IsOkAnd line (λ c. IsUnreadBy c input)
 IsOutcome line input (outcome.Refused f) = IsOkAnd line (λ c. WasReadEnough c input × Gives c input (Err f))
 IsOutcome line input (outcome.Done d) = IsOkAnd line (λ c.
-    WasReadWhole c input × Gives c input (Ok (bytes_of d)) × Kept c input (bytes_of d))
+    WasReadWhole c input × Gives c input (Ok (Written (bytes_of d))) × Kept c input (Written (bytes_of d)))
+IsOutcome line input (outcome.Differs v) = IsOkAnd line (λ c.
+    MayDiffer c v × WasReadWhole c input × Gives c input (Ok (Differs v)) × Kept c input (Differs v))
 
 -- what a command came to on all bytes of its input
 abbrev pub IsOutcomeAt : Command → List ℕ → Outcome → Type 0
@@ -67,7 +89,8 @@ IsOutcomeAt c bytes (outcome.BadWord i) = ⊥
 IsOutcomeAt c bytes outcome.ReadFailed = ⊥
 IsOutcomeAt c bytes outcome.NoMemory = Unit {0}
 IsOutcomeAt c bytes (outcome.Refused f) = due c bytes ≡ Err f
-IsOutcomeAt c bytes (outcome.Done d) = (due c bytes ≡ Ok (bytes_of d)) × Keeps c bytes (bytes_of d)
+IsOutcomeAt c bytes (outcome.Done d) = (due c bytes ≡ Ok (Written (bytes_of d))) × Keeps c bytes (Written (bytes_of d))
+IsOutcomeAt c bytes (outcome.Differs v) = MayDiffer c v × (due c bytes ≡ Ok (Differs v)) × Keeps c bytes (Differs v)
 
 -- the writing of an output and then of its note stopped: in the output, and then the note of the failure is tried; or in the note
 abbrev pub IsCutShort : Putting → Putting → List ℕ → List ℕ → Type 0
@@ -84,6 +107,7 @@ IsDelivered output notes text note (suc k) = (k ≡ 3) × IsCutShort output note
 abbrev pub Delivers : Outcome → Putting → Putting → ℕ → Type 0
 Delivers (outcome.BadWord i) output notes status = (status ≡ 1) × IsUntouched output × IsTried notes (bad_word_note i)
 Delivers (outcome.Refused f) output notes status = (status ≡ 2) × IsUntouched output × IsTried notes (refused_note f)
+Delivers (outcome.Differs v) output notes status = (status ≡ 6) × IsUntouched output × IsTried notes (verdict_note v)
 Delivers outcome.ReadFailed output notes status = (status ≡ 3) × IsUntouched output × IsTried notes read_failed_note
 Delivers outcome.NoMemory output notes status = (status ≡ 5) × IsUntouched output × IsTried notes memory_note
 Delivers (outcome.Done d) output notes status = IsDelivered output notes (output_bytes d.output) d.note.items status

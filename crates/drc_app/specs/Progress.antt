@@ -1,69 +1,73 @@
 -- A command line read word by word: how far it has come (this project's choice). It finds what the words say.
-use Rattle.std.specs.Prelude.{ℕ, ◌+◌, ◌^◌, ◌&&◌, nat_lt, nat_le, Bool, true, List, [], ◌∷◌, codes, decimal, if◌then◌else◌}
+use Rattle.std.specs.Prelude.{ℕ, ◌+◌, ◌^◌, ◌&&◌, nat_lt, nat_le, Bool, List, [], ◌∷◌, decimal, find, if◌then◌else◌}
 use Rattle.std.specs.Prelude.{Option, Some, None, Result, Ok, Err, is_some, option_and_then}
-use Rattle.std.specs.Option.{option_map}
+use Rattle.std.specs.Option.{option_map, option_or}
+use Rattle.std.specs.Cmp.Lexicographic.{pointwise}
 use Rattle.std.specs.Str.{bytes_eq}
 use Rattle.std.specs.Str.Parse.{digits_value}
 use Rattle.drc_gen.specs.declared.kinds.GenKind.{GenKind}
 use Rattle.drc_gen.specs.declared.kinds.GenKind.TheVariants.{Grid, Torus, Holes, Fans, Seams}
 use Rattle.drc_gen.specs.declared.sizes.TheConstants.{LEAST_SIZE, MOST_SIZE}
 use Rattle.drc_container.specs.declared.choices.Choice.{Choice}
-use Rattle.drc_container.specs.declared.methods.Method.{Method}
 use Rattle.drc_container.specs.declared.methods.Method.TheVariants as method
-use Rattle.drc_container.specs.declared.choices.Index.{Index}
 use Rattle.drc_container.specs.declared.choices.Index.TheVariants as index
-use Rattle.drc_container.specs.declared.choices.Predict.{Predict}
 use Rattle.drc_container.specs.declared.choices.Predict.TheVariants as predict
-use Rattle.drc_container.specs.declared.choices.Walk.{Walk}
 use Rattle.drc_container.specs.declared.choices.Walk.TheVariants as walk
-use Rattle.drc_app.specs.Line.{no_choice}
+use Rattle.drc_app.specs.Options.{option_word, setting_words, with_setting, no_choice}
+use Rattle.drc_app.specs.Line.{command_word, plain_lines, encoding, gen_word}
 use Rattle.drc_app.specs.declared.commands.Command.{Command}
 use Rattle.drc_app.specs.declared.commands.Command.TheVariants as command
-use Rattle.drc_app.specs.declared.commands.OptionWord.{OptionWord}
-use Rattle.drc_app.specs.declared.commands.OptionWord.TheVariants as option
-use Rattle.drc_app.specs.declared.commands.Progress.{Progress}
-use Rattle.drc_app.specs.declared.commands.Progress.TheVariants as progress
+use Rattle.drc_app.specs.declared.commands.Encoder.{Encoder}
+use Rattle.drc_app.specs.declared.commands.Encoder.TheVariants as encoder
+use Rattle.drc_app.specs.declared.options.OptionWord.{OptionWord}
+use Rattle.drc_app.specs.declared.options.OptionWord.TheVariants as option
+use Rattle.drc_app.specs.declared.options.Setting.{Setting}
+use Rattle.drc_app.specs.declared.options.Setting.TheVariants as setting
+use Rattle.drc_app.specs.declared.command_lines.CommandWord.{CommandWord}
+use Rattle.drc_app.specs.declared.command_lines.CommandWord.TheVariants.{Enc, Dec, Info, Gen, Recode, Verify}
+use Rattle.drc_app.specs.declared.command_lines.Progress.{Progress}
+use Rattle.drc_app.specs.declared.command_lines.Progress.TheVariants as progress
 
--- the method, the index coding, the prediction, the walk and the option of a word
-abbrev pub method_named : List ℕ → Option Method
-method_named w =
-    if bytes_eq w (codes "seq") then Some method.Seq
-    else if bytes_eq w (codes "eb") then Some method.Eb
-    else if bytes_eq w (codes "valence") then Some method.Valence else None
+-- the first value of a list whose words these are
+abbrev pub named : {A : Type 0} → (A → List (List ℕ)) → List A → List (List ℕ) → Option A
+named words all ws = find (λ x. pointwise bytes_eq ws (words x)) all
 
-abbrev pub index_named : List ℕ → Option Index
-index_named w =
-    if bytes_eq w (codes "plain") then Some index.Plain
-    else if bytes_eq w (codes "packed") then Some index.Packed else None
+-- all first words of command lines, and the one that is this word
+abbrev pub command_words : List CommandWord
+command_words = Enc ∷ Dec ∷ Info ∷ Gen ∷ Recode ∷ Verify ∷ []
 
-abbrev pub predict_named : List ℕ → Option Predict
-predict_named w =
-    if bytes_eq w (codes "none") then Some predict.Off
-    else if bytes_eq w (codes "diff") then Some predict.Diff
-    else if bytes_eq w (codes "para") then Some predict.Para
-    else if bytes_eq w (codes "multi") then Some predict.Multi else None
+abbrev pub command_named : List ℕ → Option CommandWord
+command_named w = named (λ k. command_word k ∷ []) command_words (w ∷ [])
 
-abbrev pub walk_named : List ℕ → Option Walk
-walk_named w =
-    if bytes_eq w (codes "depth") then Some walk.Depth
-    else if bytes_eq w (codes "degree") then Some walk.Degree else None
+-- the command of a line of the list
+abbrev pub plain_named : List (List ℕ) → Option Command
+plain_named ws = option_map (λ line. line.1) (named (λ line. line.0) plain_lines ws)
+
+-- all options, and the one of a word
+abbrev pub options : List OptionWord
+options = option.Method ∷ option.Index ∷ option.Predict ∷ option.Walk ∷ option.PlainValues ∷ []
 
 abbrev pub option_named : List ℕ → Option OptionWord
-option_named w =
-    if bytes_eq w (codes "--method") then Some option.Method
-    else if bytes_eq w (codes "--index") then Some option.Index
-    else if bytes_eq w (codes "--predict") then Some option.Predict
-    else if bytes_eq w (codes "--walk") then Some option.Walk
-    else if bytes_eq w (codes "--plain-values") then Some option.PlainValues else None
+option_named w = named (λ o. option_word o ∷ []) options (w ∷ [])
 
--- the kind of generated mesh of a word
+-- all settings, and that of an option whose value a word is
+abbrev pub settings : List Setting
+settings =
+    setting.Method method.Seq ∷ setting.Method method.Eb ∷ setting.Method method.Valence
+    ∷ setting.Index index.Plain ∷ setting.Index index.Packed
+    ∷ setting.Predict predict.Off ∷ setting.Predict predict.Diff ∷ setting.Predict predict.Para ∷ setting.Predict predict.Multi
+    ∷ setting.Walk walk.Depth ∷ setting.Walk walk.Degree
+    ∷ setting.PlainValues ∷ []
+
+abbrev pub setting_named : OptionWord → List ℕ → Option Setting
+setting_named o w = named setting_words settings (option_word o ∷ w ∷ [])
+
+-- all kinds of generated meshes, and the one of a word
+abbrev pub gen_kinds : List GenKind
+gen_kinds = Grid ∷ Torus ∷ Holes ∷ Fans ∷ Seams ∷ []
+
 abbrev pub gen_named : List ℕ → Option GenKind
-gen_named w =
-    if bytes_eq w (codes "grid") then Some Grid
-    else if bytes_eq w (codes "torus") then Some Torus
-    else if bytes_eq w (codes "holes") then Some Holes
-    else if bytes_eq w (codes "fans") then Some Fans
-    else if bytes_eq w (codes "seams") then Some Seams else None
+gen_named w = named (λ k. gen_word k ∷ []) gen_kinds (w ∷ [])
 
 -- the number below 2^64 whose decimal text the word is
 abbrev pub number_named : List ℕ → Option ℕ
@@ -86,52 +90,58 @@ is_given c option.Predict = is_some c.predict
 is_given c option.Walk = is_some c.walk
 is_given c option.PlainValues = c.plain_values
 
--- the choice with this value of the option
-abbrev pub with_value : Choice → OptionWord → List ℕ → Option Choice
-with_value c option.Method w = option_map (λ m. record c { method = Some m }) (method_named w)
-with_value c option.Index w = option_map (λ m. record c { index = Some m }) (index_named w)
-with_value c option.Predict w = option_map (λ m. record c { predict = Some m }) (predict_named w)
-with_value c option.Walk w = option_map (λ m. record c { walk = Some m }) (walk_named w)
-with_value c option.PlainValues w = None
+-- a line with this option more: its value is due, but for the option that has none
+abbrev pub behind_option : Encoder → Choice → OptionWord → Progress
+behind_option by c option.PlainValues = progress.Options by (with_setting c setting.PlainValues)
+behind_option by c o = progress.Value by c o
 
--- the choice with the option that has no value, or the line whose next word is the option's value
-abbrev pub without_value : Choice → OptionWord → Option Progress
-without_value c option.Method = Some (progress.Value c option.Method)
-without_value c option.Index = Some (progress.Value c option.Index)
-without_value c option.Predict = Some (progress.Value c option.Predict)
-without_value c option.Walk = Some (progress.Value c option.Walk)
-without_value c option.PlainValues = Some (progress.Options (record c { plain_values = true }))
+-- a line with the option of this word more, which wasn't given before
+abbrev pub with_option : Encoder → Choice → List ℕ → Option Progress
+with_option by c w = option_and_then (λ o. if is_given c o then None else Some (behind_option by c o)) (option_named w)
 
--- a line with one option more, which wasn't given before: its value is due, but for the option that has none
-abbrev pub with_option : Choice → Option OptionWord → Option Progress
-with_option c None = None
-with_option c (Some o) =
-    if is_given c o then None else without_value c o
+-- a command's first word and the first of its options, or its kind
+abbrev pub first_argument : CommandWord → List ℕ → Option Progress
+first_argument Enc w = with_option encoder.Enc no_choice w
+first_argument Recode w = with_option encoder.Recode no_choice w
+first_argument Gen w = option_map progress.SizeDue (gen_named w)
+first_argument k w = None
+
+-- a command's first word and one word more
+abbrev pub behind_command : CommandWord → List ℕ → Option Progress
+behind_command k w = option_or (option_map progress.Whole (plain_named (command_word k ∷ w ∷ []))) (first_argument k w)
 
 -- a line with one word more, where such a line begins a command line
 abbrev pub after_word : Progress → List ℕ → Option Progress
-after_word progress.Nothing w =
-    if bytes_eq w (codes "enc") then Some (progress.Options no_choice)
-    else if bytes_eq w (codes "dec") then Some (progress.Whole command.Dec)
-    else if bytes_eq w (codes "info") then Some (progress.Whole command.Info)
-    else if bytes_eq w (codes "gen") then Some progress.KindDue else None
-after_word (progress.Options c) w = with_option c (option_named w)
-after_word (progress.Value c o) w = option_map progress.Options (with_value c o w)
-after_word progress.KindDue w = option_map progress.SizeDue (gen_named w)
+after_word progress.Nothing w = option_map progress.Named (command_named w)
+after_word (progress.Named k) w = behind_command k w
+after_word (progress.Options by c) w = with_option by c w
+after_word (progress.Value by c o) w = option_map (λ s. progress.Options by (with_setting c s)) (setting_named o w)
 after_word (progress.SizeDue kind) w = option_map (progress.SeedDue kind) (size_named w)
 after_word (progress.SeedDue kind size) w =
     option_map (λ seed. progress.Whole (command.Gen (record { kind = kind; size = size; seed = seed }))) (number_named w)
 after_word (progress.Whole c) w = None
 
+-- the command that encodes with no option, of its first word
+abbrev pub encoding_alone : CommandWord → Option Command
+encoding_alone Enc = Some (command.Enc no_choice)
+encoding_alone Recode = Some (command.Recode no_choice)
+encoding_alone k = None
+
+-- the command of its first word alone, where it needs no other
+abbrev pub named_alone : CommandWord → Option Command
+named_alone k = option_or (plain_named (command_word k ∷ [])) (encoding_alone k)
+
+-- the command, or else the number of the words
+abbrev pub or_count : ℕ → Option Command → Result Command ℕ
+or_count i None = Err i
+or_count i (Some c) = Ok c
+
 -- the command of a whole line; else the number of its words, i
 abbrev pub whole_line : ℕ → Progress → Result Command ℕ
-whole_line i progress.Nothing = Err i
-whole_line i (progress.Options c) = Ok (command.Enc c)
-whole_line i (progress.Value c o) = Err i
-whole_line i progress.KindDue = Err i
-whole_line i (progress.SizeDue kind) = Err i
-whole_line i (progress.SeedDue kind size) = Err i
+whole_line i (progress.Named k) = or_count i (named_alone k)
+whole_line i (progress.Options by c) = Ok (encoding by c)
 whole_line i (progress.Whole c) = Ok c
+whole_line i p = Err i
 
 -- what follows the word of number i, where it begins a command line
 abbrev pub continued : ℕ → Option Progress → (Progress → Result Command ℕ) → Result Command ℕ

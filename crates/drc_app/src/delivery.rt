@@ -8,13 +8,13 @@ ghost use Rattle.drc_app.specs.Ends.{puts, IsTried};
 ghost use Rattle.drc_app.specs.Notes.{memory_note};
 ghost use Rattle.drc_app.specs.Outcome.{output_bytes, Delivers, IsDelivered};
 
-use crate::notes::{bad_word, refused};
+use crate::notes::{bad_word, refused, unlike};
 use crate::outcomes::{Due, Outcome, Output};
 use drc_base::{Failed, Sink, write_all};
 
 /// Writes the outcome and its note, and answers its status: 0 where all that was due was written, 1
 /// for a bad word, 2 for a refusal, 3 where reading failed, 4 where writing failed, 5 for out of
-/// memory. It takes no memory.
+/// memory, 6 for a verdict that isn't yes. It takes no memory.
 pub fn deliver<O: Sink, N: Sink>(outcome: &Outcome, output: &mut O, notes: &mut N) -> u8
     ensures delivered { Delivers outcome.now
         (puts O.held O.faults O.finished output.old output.new) (puts N.held N.faults N.finished notes.old notes.new) result }
@@ -23,6 +23,7 @@ pub fn deliver<O: Sink, N: Sink>(outcome: &Outcome, output: &mut O, notes: &mut 
 {
     match outcome {
         Outcome::Done(due) => deliver_due(due, output, notes),
+        Outcome::Differs(verdict) => leave_note(notes, unlike(*verdict).as_bytes(), 6),
         Outcome::Refused(fault) => leave_note(notes, refused(*fault).as_bytes(), 2),
         Outcome::BadWord(index) => leave_note(notes, bad_word(*index).as_bytes(), 1),
         Outcome::ReadFailed => leave_note(notes, b"read failed\n", 3),

@@ -24,22 +24,14 @@ pub fn gen_word(kind: GenKind) -> &'static str
 pub fn gen_named(word: &str) -> Option<GenKind>
     ensures { result ≡ gen_named word.now }
 {
-    if word == "grid" {
-        return Some(GenKind::Grid);
+    match word {
+        "grid" => Some(GenKind::Grid),
+        "torus" => Some(GenKind::Torus),
+        "holes" => Some(GenKind::Holes),
+        "fans" => Some(GenKind::Fans),
+        "seams" => Some(GenKind::Seams),
+        _ => None,
     }
-    if word == "torus" {
-        return Some(GenKind::Torus);
-    }
-    if word == "holes" {
-        return Some(GenKind::Holes);
-    }
-    if word == "fans" {
-        return Some(GenKind::Fans);
-    }
-    if word == "seams" {
-        return Some(GenKind::Seams);
-    }
-    None
 }
 
 /// The number below 2^64 whose decimal text this word is: no sign, and no leading zero but in `0`

@@ -1,16 +1,22 @@
 //! The commands, over any source and sinks. The contract above it, on `run`: every call returns;
-//! decoding writes exactly what the bytes mean or names their first fault; each status and note has
-//! its cause. The command lines, statuses and notes are this project's choice.
+//! decoding writes exactly what the bytes mean or names their first fault; `verify` says yes exactly
+//! where a stream means its text by its map; each status and note has its cause. The command lines,
+//! statuses and notes are this project's choice.
 #![tactic(auto)]
 
+mod command_lines;
 mod commands;
 mod delivery;
 mod gen_words;
 mod laws;
+mod map_inputs;
 mod notes;
+mod options;
 mod outcomes;
+mod restoring;
 mod running;
 mod summaries;
+mod verifying;
 
 pub use commands::{Command, GenMesh};
 pub use delivery::out_of_memory;

@@ -1,6 +1,6 @@
 //! What a command line and its input come to, before anything is written.
 
-ghost use Rattle.std.specs.Prelude.{◌≡◌, ◌≤◌, map, string_bytes, length, IfOk, IsTrue};
+ghost use Rattle.std.specs.Prelude.{◌≡◌, ◌≤◌, map, string_bytes, length, IfOk, IsOkAnd, IsTrue};
 ghost use Rattle.drc_base.specs.Refusals.{Answers};
 ghost use Rattle.ply_mesh.specs.Read.{ply_read};
 ghost use Rattle.drc_gen.specs.GeneratedLaws.{IsSize};
@@ -8,15 +8,19 @@ ghost use Rattle.drc_container.specs.Stream.{meaning_of};
 ghost use Rattle.drc_app.specs.Line.{IsSized};
 ghost use Rattle.drc_app.specs.Progress.{line_of};
 ghost use Rattle.drc_app.specs.Ends.{takes};
-ghost use Rattle.drc_app.specs.Due.{input_limit, reads, due, worked, stream_due, text_due, report_due, summary_due};
-ghost use Rattle.drc_app.specs.Kept.{Keeps, KeepsGeometry};
-ghost use Rattle.drc_app.specs.Outcome.{output_bytes, bytes_of, IsOutcome, IsOutcomeAt};
+ghost use Rattle.drc_app.specs.Due.{input_limit, reads, due, worked, coded_due, stream_due, recoded_due, text_due, report_due, summary_due};
+ghost use Rattle.drc_app.specs.Kept.{Keeps, IsCoded};
+ghost use Rattle.drc_app.specs.Outcome.{output_bytes, bytes_of, seen, MayAnswer, IsOutcome, IsOutcomeAt};
 
-use crate::commands::{Command, GenMesh, command_of, reads};
+use crate::command_lines::command_of;
+use crate::commands::{Command, GenMesh, reads};
+use crate::restoring::restored_due;
 use crate::summaries::summary_due;
+use crate::verifying::verified;
 use drc_base::{Fault, Kind, MAX_INPUT_BYTES, Memory, ReadEnd, Refusal, Source, read_all};
 use drc_container::{Choice, decode, encode};
 use drc_info::report;
+use drc_verify::Verdict;
 use mesh_model::{Geometry, map_text};
 use ply_mesh::{PlyText, read_ply};
 use std::alloc::Global;
@@ -39,11 +43,22 @@ pub struct Due {
     pub note: Vec<u8>,
 }
 
+/// What a command gives.
+#[derive(Debug, Drop)]
+pub enum Answer {
+    /// An output and its note.
+    Due(Due),
+    /// A verdict that isn't yes.
+    Differs(Verdict),
+}
+
 /// What a command line and its input come to.
 #[derive(Debug, Drop)]
 pub enum Outcome {
     /// An output and a note are due.
     Done(Due),
+    /// What was verified isn't the same.
+    Differs(Verdict),
     /// The input has this fault.
     Refused(Fault),
     /// The word of this number begins no command line.
@@ -88,35 +103,57 @@ fn outcome_at(alloc: Global, command: Command, bytes: Vec<u8>) -> Outcome
     ensures { IsOutcomeAt command bytes.items result }
 {
     match work(alloc, command, bytes) {
-        Ok(due) => Outcome::Done(due),
+        Ok(Answer::Due(due)) => Outcome::Done(due),
+        Ok(Answer::Differs(verdict)) => Outcome::Differs(verdict),
         Err(Refusal::Fault(fault)) => Outcome::Refused(fault),
         Err(Refusal::Memory) => Outcome::NoMemory,
     }
 }
 
 /// What the command gives from these bytes, which are freed as soon as they are read.
-fn work(alloc: Global, command: Command, bytes: Vec<u8>) -> Result<Due, Refusal>
+fn work(alloc: Global, command: Command, bytes: Vec<u8>) -> Result<Answer, Refusal>
     requires { IsSized command }
-    ensures answer { Answers bytes_of (worked command bytes.items) result }
-    ensures kept { IfOk result (λ d. Keeps command bytes.items (bytes_of d)) }
+    ensures answer { Answers seen (worked command bytes.items) result }
+    ensures kept { IfOk result (λ a. Keeps command bytes.items (seen a)) }
+    ensures differs { IfOk result (λ a. MayAnswer command a) }
 {
     match command {
-        Command::Enc(choice) => stream_due(alloc, &choice, bytes),
-        Command::Dec => text_due(alloc, bytes),
-        Command::Info => report_due(alloc, &bytes),
-        Command::Gen(asked) => Ok(gen_due(alloc, asked)?),
+        Command::Enc(choice) => Ok(Answer::Due(stream_due(alloc, &choice, bytes)?)),
+        Command::Dec => Ok(Answer::Due(text_due(alloc, bytes)?)),
+        Command::Info => Ok(Answer::Due(report_due(alloc, &bytes)?)),
+        Command::Gen(asked) => Ok(Answer::Due(gen_due(alloc, asked)?)),
+        Command::Recode(choice) => Ok(Answer::Due(recoded_due(alloc, &choice, bytes)?)),
+        Command::Restore => Ok(Answer::Due(restored_due(alloc, &bytes)?)),
+        Command::Verify(surface) => verified(alloc, surface, &bytes),
     }
 }
 
 /// The stream of the geometry that a text means, coded as chosen, and the map of its faces or points.
-#[tactic(auto, unfolding(crate::specs::Due::stream_due))]
 fn stream_due(alloc: Global, choice: &Choice, text: Vec<u8>) -> Result<Due, Refusal>
     ensures answer { Answers bytes_of (stream_due choice.now text.items) result }
-    ensures kept { IfOk result (λ d. KeepsGeometry choice.now text.items (output_bytes d.output) d.note.items) }
+    ensures kept { IfOk result (λ d. IsOkAnd (ply_read text.items) (IsCoded choice.now (output_bytes d.output) d.note.items)) }
 {
     let geometry = text_read(alloc, text)?;
-    let (output, rows) = encode(alloc, &geometry, choice)?;
-    let note = map_text(alloc, &geometry, &rows)?;
+    coded_due(alloc, choice, &geometry)
+}
+
+/// The stream of the geometry that a stream means, coded as chosen, and the map of its faces or points.
+fn recoded_due(alloc: Global, choice: &Choice, stream: Vec<u8>) -> Result<Due, Refusal>
+    ensures answer { Answers bytes_of (recoded_due choice.now stream.items) result }
+    ensures kept { IfOk result (λ d. IsOkAnd (meaning_of stream.items) (IsCoded choice.now (output_bytes d.output) d.note.items)) }
+{
+    let geometry = stream_read(alloc, stream)?;
+    coded_due(alloc, choice, &geometry)
+}
+
+/// The stream of a geometry, coded as chosen, and the map of its faces or points.
+#[tactic(auto, unfolding(crate::specs::Due::coded_due))]
+fn coded_due(alloc: Global, choice: &Choice, geometry: &Geometry) -> Result<Due, Refusal>
+    ensures answer { Answers bytes_of (coded_due choice.now geometry.now) result }
+    ensures kept { IfOk result (λ d. IsCoded choice.now (output_bytes d.output) d.note.items geometry.now) }
+{
+    let (output, rows) = encode(alloc, geometry, choice)?;
+    let note = map_text(alloc, geometry, &rows)?;
     Ok(Due {
         output: Output::Bytes(output),
         note,

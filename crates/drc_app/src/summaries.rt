@@ -8,8 +8,9 @@ ghost use Rattle.drc_container.specs.declared.methods.Method.{Method as ByMethod
 ghost use Rattle.drc_app.specs.Summary.{count_line, asked_line, summary_text};
 ghost use Rattle.drc_app.specs.Due.{by_method, length_due, summary_of, summary_due};
 
-use crate::commands::{GenMesh, no_choice};
+use crate::commands::GenMesh;
 use crate::gen_words::gen_word;
+use crate::options::no_choice;
 use decimal_text::append_spaced;
 use drc_base::{Memory, Refusal};
 use drc_container::{Choice, Method, encode};

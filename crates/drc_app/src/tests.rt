@@ -1,7 +1,8 @@
 ghost use Rattle.std.specs.Prelude.{◌<◌};
 
 use super::*;
-use crate::commands::{command_of, no_choice};
+use crate::command_lines::command_of;
+use crate::options::no_choice;
 use drc_base::{MemSink, MemSource, Refusal, Sequence, Sink};
 use drc_container::{Choice, Method, Predict, Walk, decode_whole, encode};
 use drc_gen::{GenKind, generate};
@@ -27,6 +28,12 @@ const NARROW: [u8; 37] = [
     0, 0, 20, 0, 0, 0, 20, 1,
 ];
 
+/// The triangle's stream by Edgebreaker, with plain values.
+const SURFACE: [u8; 55] = [
+    68, 82, 65, 67, 79, 2, 2, 1, 1, 0, 0, 0, 3, 1, 0, 1, 0, 0, 1, 7, 255, 1, 17, 1, 255, 0, 0, 1,
+    0, 5, 3, 0, 0, 1, 1, 1, 0, 1, 3, 0, 0, 4, 3, 1, 0, 4, 2, 255, 255, 255, 255, 10, 0, 0, 0,
+];
+
 /// The text of a cloud.
 const CLOUD_TEXT: &str =
     "ply\nformat ascii 1.0\nelement vertex 3\nproperty int x\nproperty int y\nproperty int z\nend_header\n5 5 5\n5 5 5\n5 5 6\n";
@@ -37,6 +44,33 @@ const CLOUD: [u8; 44] = [
     0, 0, 0, 0, 0, 1, 5, 0, 0, 0, 6, 0, 0, 0,
 ];
 
+/// The text of a tetrahedron.
+const TETRAHEDRON_TEXT: &str =
+    "ply\nformat ascii 1.0\nelement vertex 4\nproperty int x\nproperty int y\nproperty int z\nelement face 4\nproperty list uchar int vertex_indices\nend_header\n0 0 0\n1 0 0\n0 1 0\n0 0 1\n3 0 2 1\n3 0 1 3\n3 1 2 3\n3 0 3 2\n";
+
+/// Its stream by Edgebreaker, with plain values.
+const TETRAHEDRON: [u8; 58] = [
+    68, 82, 65, 67, 79, 2, 2, 1, 1, 0, 0, 0, 4, 4, 0, 3, 0, 0, 1, 47, 1, 1, 16, 1, 255, 0, 0, 1, 0,
+    5, 3, 0, 0, 1, 1, 1, 0, 1, 0, 0, 1, 0, 1, 1, 0, 1, 0, 1, 1, 0, 0, 0, 0, 0, 1, 0, 0, 0,
+];
+
+/// The map of its faces.
+const TETRAHEDRON_MAP: &str = "map mesh 4\n3 0\n2 1\n1 2\n0 1\n";
+
+/// The tetrahedron with its faces in the order of its text, and its points in that of the stream.
+const RESTORED_TEXT: &str =
+    "ply\nformat ascii 1.0\ncomment drc attr 0 0 5 3 0 0\nelement vertex 4\nproperty int x\nproperty int y\nproperty int z\nelement face 4\nproperty list uchar int vertex_indices\nend_header\n0 0 0\n0 0 1\n0 1 0\n1 0 0\n3 0 2 3\n3 0 3 1\n3 3 2 1\n3 0 1 2\n";
+
+/// The text of two triangles of a square.
+const SQUARE_TEXT: &str =
+    "ply\nformat ascii 1.0\nelement vertex 4\nproperty int x\nproperty int y\nproperty int z\nelement face 2\nproperty list uchar int vertex_indices\nend_header\n0 0 0\n2 0 0\n0 2 0\n2 2 0\n3 0 1 2\n3 1 3 2\n";
+
+/// A stream of the same two triangles, which it doesn't glue.
+const CUT_SQUARE: [u8; 55] = [
+    68, 82, 65, 67, 79, 2, 2, 1, 1, 0, 0, 0, 6, 2, 0, 2, 0, 0, 1, 63, 255, 1, 34, 1, 255, 0, 0, 1,
+    0, 5, 3, 0, 0, 1, 254, 0, 1, 4, 0, 0, 0, 4, 0, 0, 0, 0, 4, 4, 0, 0, 4, 0, 4, 0, 0,
+];
+
 /// The report on the triangle's stream.
 const REPORT: &str =
     "drc 2.2 mesh seq\nconnectivity 11 6\nfaces 1\npoints 3\nattr 0 0 5 3 0 0 predict -2 entries 3 at 25\nend 64 rest 0\n";
@@ -45,7 +79,7 @@ const REPORT: &str =
 type Case = (&'static str, &'static [u8], &'static [u8], &'static str);
 
 /// What each command is due.
-fn cases() -> [Case; 4] {
+fn cases() -> [Case; 5] {
     [
         ("dec", &TRIANGLE, TEXT.as_bytes(), ""),
         (
@@ -61,6 +95,12 @@ fn cases() -> [Case; 4] {
             "map cloud 3\n0 0\n1 0\n2 0\n",
         ),
         ("info", &TRIANGLE, REPORT.as_bytes(), ""),
+        (
+            "recode --plain-values",
+            &TRIANGLE,
+            &SURFACE,
+            "map mesh 1\n0 0\n",
+        ),
     ]
 }
 
@@ -119,6 +159,13 @@ fn run_line(alloc: Global, line: &str, bytes: &[u8], fails: [u64; 3]) -> Result<
     })
 }
 
+/// A text, and these bytes behind it.
+fn joined(alloc: Global, text: &str, bytes: &[u8]) -> Result<Vec<u8>, Fail> {
+    let mut all = Vec::from_slice(alloc, text.as_bytes())?;
+    all.extend_from_slice(bytes)?;
+    Ok(all)
+}
+
 #[test]
 fn each_command_gives_what_is_due(rt: HostRuntime) -> Result<(), Fail> {
     for (line, input, output, note) in cases() {
@@ -175,6 +222,8 @@ fn notes_that_fail_keep_a_prefix(rt: HostRuntime) -> Result<(), Fail> {
             2,
             "refused Choice 0\n",
         ),
+        ("recode --method eb", &CLOUD[..], 2, "refused Choice 0\n"),
+        ("recode", &TRIANGLE[..20], 2, "refused Short 20\n"),
     ] {
         for call in 0..4u64 {
             let done = run_line(rt.alloc(), line, input, [NEVER, NEVER, call])?;
@@ -182,6 +231,181 @@ fn notes_that_fail_keep_a_prefix(rt: HostRuntime) -> Result<(), Fail> {
             assert!(rt; done.output.held().is_empty());
             assert_eq!(rt; done.notes.held(), prefix(note.as_bytes(), call, 4)?);
         }
+    }
+    Ok(())
+}
+
+#[test]
+fn the_order_before_a_map_comes_back(rt: HostRuntime) -> Result<(), Fail> {
+    let alloc = rt.alloc();
+    let input = joined(alloc, TETRAHEDRON_MAP, &TETRAHEDRON)?;
+    let done = run_line(alloc, "recode --restore", &input, [NEVER, NEVER, NEVER])?;
+    assert_eq!(rt; done.status, 0);
+    assert!(rt; done.notes.held().is_empty());
+    let read = run_line(alloc, "dec", done.output.held(), [NEVER, NEVER, NEVER])?;
+    assert_eq!(rt; read.status, 0);
+    assert_eq!(rt; read.output.held(), RESTORED_TEXT.as_bytes());
+    for (map, note) in [
+        ("map mesh 1\n0 0\n", "refused MapCount 1\n"),
+        ("map mesh 1\n0 3\n", "refused MapForm 2\n"),
+        ("map cloud 1\n0 0\n", "refused MapKind 0\n"),
+        ("map mesh 4\n3 0\n2 1\n1 2\n3 1\n", "refused BadMap 3\n"),
+        ("map mesh 4\n3 0\n2 1\n1 2\n", "refused MapForm 5\n"),
+        ("", "refused MapForm 1\n"),
+    ] {
+        let input = joined(alloc, map, &TETRAHEDRON)?;
+        let done = run_line(alloc, "recode --restore", &input, [NEVER, NEVER, NEVER])?;
+        assert_eq!(rt; done.status, 2, "{map}");
+        assert!(rt; done.output.held().is_empty());
+        assert_eq!(rt; done.notes.held(), note.as_bytes());
+    }
+    Ok(())
+}
+
+/// What `verify` reads.
+fn verify_input(
+    alloc: Global,
+    map: &str,
+    count: usize,
+    text: &str,
+    stream: &[u8],
+) -> Result<Vec<u8>, Fail> {
+    let line = format!(in alloc; "ply {count}\n")?;
+    let mut input = joined(alloc, map, line.as_bytes())?;
+    input.extend_from_slice(text.as_bytes())?;
+    input.extend_from_slice(stream)?;
+    Ok(input)
+}
+
+#[test]
+fn what_is_verified_is_the_same_or_differs(rt: HostRuntime) -> Result<(), Fail> {
+    let alloc = rt.alloc();
+    let other_row = "map mesh 4\n3 0\n2 0\n1 2\n0 1\n";
+    let of_cloud = "map cloud 4\n3 0\n2 1\n1 2\n0 1\n";
+    let one = "map mesh 1\n0 0\n";
+    let two = "map mesh 2\n0 0\n1 0\n";
+    for (line, map, text, stream, status, output, note) in [
+        (
+            "verify",
+            TETRAHEDRON_MAP,
+            TETRAHEDRON_TEXT,
+            &TETRAHEDRON[..],
+            0,
+            "same 4\n",
+            "",
+        ),
+        (
+            "verify --surface",
+            TETRAHEDRON_MAP,
+            TETRAHEDRON_TEXT,
+            &TETRAHEDRON[..],
+            0,
+            "same 4\n",
+            "",
+        ),
+        (
+            "verify",
+            other_row,
+            TETRAHEDRON_TEXT,
+            &TETRAHEDRON[..],
+            6,
+            "",
+            "not same row 1\n",
+        ),
+        (
+            "verify",
+            of_cloud,
+            TETRAHEDRON_TEXT,
+            &TETRAHEDRON[..],
+            6,
+            "",
+            "not same heads 0\n",
+        ),
+        (
+            "verify",
+            one,
+            TETRAHEDRON_TEXT,
+            &TETRAHEDRON[..],
+            6,
+            "",
+            "not same rows 1\n",
+        ),
+        (
+            "verify",
+            two,
+            SQUARE_TEXT,
+            &CUT_SQUARE[..],
+            0,
+            "same 2\n",
+            "",
+        ),
+        (
+            "verify --surface",
+            two,
+            SQUARE_TEXT,
+            &CUT_SQUARE[..],
+            6,
+            "",
+            "not same pair 0\n",
+        ),
+        ("verify", one, TEXT, &TRIANGLE[..], 0, "same 1\n", ""),
+        (
+            "verify --surface",
+            one,
+            TEXT,
+            &TRIANGLE[..],
+            2,
+            "",
+            "refused Choice 0\n",
+        ),
+        (
+            "verify",
+            one,
+            TEXT,
+            &TRIANGLE[..20],
+            2,
+            "",
+            "refused Short 20\n",
+        ),
+        (
+            "verify",
+            one,
+            "play",
+            &TRIANGLE[..],
+            2,
+            "",
+            "refused PlyMagic 1\n",
+        ),
+    ] {
+        let input = verify_input(alloc, map, text.len(), text, stream)?;
+        let done = run_line(alloc, line, &input, [NEVER, NEVER, NEVER])?;
+        assert_eq!(rt; done.status, status, "{line} {note}");
+        assert_eq!(rt; done.output.held(), output.as_bytes());
+        assert_eq!(rt; done.notes.held(), note.as_bytes());
+        let unread = run_line(alloc, line, &input, [0, NEVER, NEVER])?;
+        assert_eq!(rt; unread.status, 3);
+        if status == 0 {
+            let stopped = run_line(alloc, line, &input, [NEVER, 0, NEVER])?;
+            assert_eq!(rt; stopped.status, 4);
+            assert_eq!(rt; stopped.notes.held(), b"write failed\n".as_slice());
+            let unfinished = run_line(alloc, line, &input, [NEVER, NEVER, 0])?;
+            assert_eq!(rt; unfinished.status, 4);
+            assert_eq!(rt; unfinished.output.held(), output.as_bytes());
+        } else {
+            for call in 0..4u64 {
+                let cut = run_line(alloc, line, &input, [NEVER, 0, call])?;
+                assert_eq!(rt; cut.status, status);
+                assert!(rt; cut.output.held().is_empty());
+                assert_eq!(rt; cut.notes.held(), prefix(note.as_bytes(), call, 4)?);
+            }
+        }
+    }
+    // The line of the text stands behind the map's two lines.
+    for (count, stream) in [(NEVER as usize, &TRIANGLE[..]), (TEXT.len() + 1, &b""[..])] {
+        let input = verify_input(alloc, one, count, TEXT, stream)?;
+        let done = run_line(alloc, "verify", &input, [NEVER, NEVER, NEVER])?;
+        assert_eq!(rt; done.status, 2);
+        assert_eq!(rt; done.notes.held(), b"refused MapForm 3\n".as_slice());
     }
     Ok(())
 }
@@ -225,14 +449,39 @@ fn the_words_of_a_generated_mesh_are_exact(rt: HostRuntime) -> Result<(), Fail> 
 }
 
 #[test]
-fn predictions_and_walks_are_named(rt: HostRuntime) -> Result<(), Fail> {
-    let words = words_of(rt.alloc(), "enc --walk degree --predict multi")?;
+fn words_behind_a_command_are_named(rt: HostRuntime) -> Result<(), Fail> {
     let choice = Choice {
         predict: Some(Predict::Multi),
         walk: Some(Walk::Degree),
         ..no_choice()
     };
-    assert_eq!(rt; command_of(&words), Ok(Command::Enc(choice)));
+    for (line, said) in [
+        (
+            "enc --walk degree --predict multi",
+            Ok(Command::Enc(choice)),
+        ),
+        (
+            "recode --predict multi --walk degree",
+            Ok(Command::Recode(choice)),
+        ),
+        ("recode", Ok(Command::Recode(no_choice()))),
+        ("recode --walk", Err(2)),
+        ("recode --walk depth --walk depth", Err(3)),
+        ("recode --index eb", Err(2)),
+        ("recode enc", Err(1)),
+        ("recode --restore", Ok(Command::Restore)),
+        ("recode --restore --method", Err(2)),
+        ("recode --method seq --restore", Err(3)),
+        ("enc --restore", Err(1)),
+        ("verify", Ok(Command::Verify(false))),
+        ("verify --surface", Ok(Command::Verify(true))),
+        ("verify x", Err(1)),
+        ("verify --surface x", Err(2)),
+        ("verify --surface --surface", Err(2)),
+    ] {
+        let words = words_of(rt.alloc(), line)?;
+        assert_eq!(rt; command_of(&words), said);
+    }
     Ok(())
 }
 

@@ -7,6 +7,7 @@ use Rattle.drc_app.specs.declared.commands.Command.{Command}
 use Rattle.drc_app.specs.declared.outcomes.Outcome.{Outcome}
 use Rattle.drc_app.specs.declared.outcomes.Outcome.TheVariants as outcome
 use Rattle.drc_app.specs.Ends.{Taking, IsReadWhole, IsUntaken, takes}
+use Rattle.drc_app.specs.Given.{Written, Differs}
 use Rattle.drc_app.specs.Due.{reads, due}
 use Rattle.drc_app.specs.Kept.{Keeps}
 use Rattle.drc_app.specs.Outcome.{bytes_of, IsOutcome, IsOutcomeAt}
@@ -41,11 +42,17 @@ whole-outcome c input bytes outcome.NoMemory on whole all at = unasked (IsUntake
 whole-outcome c input bytes (outcome.Refused f) on whole all at =
     (on-true (IsUntaken input) (reads c) on (inl whole), told (reads c) input.left bytes (λ b. due c b ≡ Err f) on all at)
 whole-outcome c input bytes (outcome.Done d) on whole all at =
-    let answer = bytes_of d in (
+    let given = Written (bytes_of d) in (
       on-true (IsUntaken input) (reads c) on whole,
-      told (reads c) input.left bytes (λ b. due c b ≡ Ok answer) on all at.0,
-      told (reads c) input.left bytes (λ b. Keeps c b answer) on all at.1,
+      told (reads c) input.left bytes (λ b. due c b ≡ Ok given) on all at.0,
+      told (reads c) input.left bytes (λ b. Keeps c b given) on all at.1,
     )
+whole-outcome c input bytes (outcome.Differs v) on whole all at = (
+  at.0,
+  on-true (IsUntaken input) (reads c) on whole,
+  told (reads c) input.left bytes (λ b. due c b ≡ Ok (Differs v)) on all at.1,
+  told (reads c) input.left bytes (λ b. Keeps c b (Differs v)) on all at.2,
+)
 
 pub returns-in-Ok-read_all-clause-outcome : goal.returns-in-Ok-read_all-clause-outcome
 returns-in-Ok-read_all-clause-outcome g c =

@@ -11,3 +11,6 @@ returns-clause-complete g c = (line_of (map string_bytes c.args.words.now), word
 
 pub returns-clause-named : goal.returns-clause-named
 returns-clause-named g c = (line_of (map string_bytes c.args.words.now), words_say (map string_bytes c.args.words.now), c.run_by_word.ensures.named)
+
+pub returns-clause-noted : goal.returns-clause-noted
+returns-clause-noted g c = (line_of (map string_bytes c.args.words.now), words_say (map string_bytes c.args.words.now), c.run_by_word.ensures.noted)

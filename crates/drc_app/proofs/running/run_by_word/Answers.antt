@@ -5,6 +5,8 @@ use Rattle.drc_app.specs.declared.commands.Command.{Command}
 use Rattle.drc_app.specs.declared.outcomes.Outcome.{Outcome}
 use Rattle.drc_app.specs.declared.outcomes.Outcome.TheVariants as outcome
 use Rattle.drc_app.specs.Ends.{Taking, Putting, HasWriteFault}
+use Rattle.drc_verify.specs.declared.verdicts.Verdict.{Verdict}
+use Rattle.drc_app.specs.Given.{Given, Written, Differs}
 use Rattle.drc_app.specs.Due.{due}
 use Rattle.drc_app.specs.Outcome.{IsOutcome, IsDelivered, Delivers, told_to}
 use Rattle.drc_app.specs.Run.{IsComplete}
@@ -18,10 +20,14 @@ weaker : {A : Type 0} (x : Option A) (P Q : A → Type 0) → ((a : A) → P a �
 weaker None P Q each holds = tt
 weaker (Some a) P Q each holds = each a holds
 
--- what is due isn't both an answer and a fault
-apart : {A : Type 0} (d : Result A Fault) (a : A) (f : Fault) → d ≡ Err f → d ≡ Ok a → ⊥
+-- what is due isn't both given and a fault, or both an output and a verdict
+apart : (d : Result Given Fault) (a : Given) (f : Fault) → d ≡ Err f → d ≡ Ok a → ⊥
 apart (Ok b) a f bad good = cc
 apart (Err e) a f bad good = cc
+
+other : (d : Result Given Fault) (a : List ℕ × List ℕ) (v : Verdict) → d ≡ Ok (Differs v) → d ≡ Ok (Written a) → ⊥
+other (Ok b) a v unlike done = cc
+other (Err e) a v unlike done = cc
 
 -- where no sink failed, what is due was written
 written : (output notes : Putting) (text note : List ℕ) (status : ℕ) → IsDelivered output notes text note status → ¬ HasWriteFault output → ¬ HasWriteFault notes
@@ -42,7 +48,9 @@ complete (Ok c) input output notes outcome.ReadFailed status is given =
 complete (Ok c) input output notes outcome.NoMemory status is given =
     always (told_to c input) _ (λ bytes answer good read whole all. inr given.0)
 complete (Ok c) input output notes (outcome.Refused f) status is given =
-    weaker (told_to c input) (λ bytes. due c bytes ≡ Err f) _ (λ bytes bad answer good read whole all. absurd (apart (due c bytes) answer f bad good)) is.1
+    weaker (told_to c input) (λ bytes. due c bytes ≡ Err f) _ (λ bytes bad answer good read whole all. absurd (apart (due c bytes) (Written answer) f bad good)) is.1
+complete (Ok c) input output notes (outcome.Differs v) status is given =
+    weaker (told_to c input) (λ bytes. due c bytes ≡ Ok (Differs v)) _ (λ bytes unlike answer good read whole all. absurd (other (due c bytes) answer v unlike good)) is.2
 complete (Ok c) input output notes (outcome.Done d) status is given =
     always (told_to c input) _ (λ bytes answer good read whole all. written output notes _ _ status given whole all)
 

@@ -1,0 +1,28 @@
+//! The stream behind a map, in the order before the map's rows.
+
+ghost use Rattle.std.specs.Prelude.{◌≡◌, IfOk};
+ghost use Rattle.drc_base.specs.Refusals.{Answers};
+ghost use Rattle.drc_app.specs.Due.{restored_due};
+ghost use Rattle.drc_app.specs.Kept.{IsInOrder};
+ghost use Rattle.drc_app.specs.Outcome.{output_bytes, bytes_of};
+
+use crate::map_inputs::behind_map;
+use crate::outcomes::{Due, Output};
+use drc_base::Refusal;
+use drc_recode::restore;
+use mesh_model::read_map;
+use std::alloc::Global;
+
+/// The stream behind the map at the front of `input`, in the order before the map's rows, and no note.
+#[tactic(auto, unfolding(crate::specs::Due::restored_due))]
+pub fn restored_due(alloc: Global, input: &[u8]) -> Result<Due, Refusal>
+    ensures answer { Answers bytes_of (restored_due input.now) result }
+    ensures kept { IfOk result (λ d. IsInOrder input.now (output_bytes d.output)) }
+{
+    let map = read_map(alloc, input)?;
+    let output = restore(alloc, &map, behind_map(&map, input))?;
+    Ok(Due {
+        output: Output::Bytes(output),
+        note: Vec::new(alloc),
+    })
+}

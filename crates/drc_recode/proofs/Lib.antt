@@ -1,0 +1,3 @@
+pub mod BackRows
+pub mod FirstOrders
+pub mod Restorings

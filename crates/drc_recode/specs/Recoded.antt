@@ -1,0 +1,12 @@
+-- A stream written in another way (this project's choice).
+use Rattle.std.specs.Prelude.{ℕ, List, Result}
+use Rattle.drc_base.specs.declared.faults.Fault.{Fault}
+use Rattle.drc_base.specs.Steps.{◌>>=◌}
+use Rattle.mesh_model.specs.Same.{Rows}
+use Rattle.drc_container.specs.declared.choices.Choice.{Choice}
+use Rattle.drc_container.specs.Encoded.{due}
+use Rattle.drc_container.specs.Stream.{meaning_of}
+
+-- the bytes and rows that are due of the geometry that bytes mean; or the first fault of these bytes, or why it isn't encoded as chosen
+abbrev pub recoded : List ℕ → Choice → Result (List ℕ × Rows) Fault
+recoded bytes choice = meaning_of bytes >>= λ g. due g choice

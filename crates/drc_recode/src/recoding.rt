@@ -1,0 +1,33 @@
+//! A stream written in another way.
+
+ghost use Rattle.std.specs.Prelude.{◌≡◌, Ok, Err, IfOk, IsOkAnd};
+ghost use Rattle.drc_base.specs.declared.faults.Fault.{Fault as AnyFault};
+ghost use Rattle.drc_base.specs.declared.faults.Refusal.TheVariants as refusal;
+ghost use Rattle.drc_base.specs.Refusals.{Answers};
+ghost use Rattle.drc_container.specs.Encoded.{Means};
+ghost use Rattle.drc_container.specs.Layout.{layout_of, layout_chosen};
+ghost use Rattle.drc_container.specs.Stream.{meaning_of, declared_of};
+ghost use Rattle.drc_recode.specs.Recoded.{recoded};
+
+use drc_base::Refusal;
+use drc_container::{Choice, decode, encode};
+use mesh_model::Renumber;
+use std::alloc::Global;
+
+/// The stream of the geometry that these bytes mean, coded as chosen, and the rows by which the new stream's
+/// geometry is that one: with the same heads and the same integers. Row i names the face that face i of the
+/// new stream's mesh is, and by how much its corners are turned; by the sequential method row i is (i, 0).
+/// Bytes after the stream's end are ignored.
+///
+/// Refused with the first fault of the stream, whose `at` is a place in it but for the kinds that say
+/// otherwise; else with the first reason not to encode its geometry as chosen, as `drc_container::encode`.
+/// Faults of the header and of the numbers that connectivity declares come before memory is taken.
+pub fn recode(alloc: Global, bytes: &[u8], choice: &Choice) -> Result<(Vec<u8>, Renumber), Refusal>
+    ensures answer { Answers (λ r. (r.0.items, r.1.rows)) (recoded bytes.now choice.now) result }
+    ensures early { (f : AnyFault) → declared_of bytes.now ≡ Err f → result ≡ Err (refusal.Fault f) }
+    ensures means { IfOk result (λ r. IsOkAnd (meaning_of bytes.now) (λ g. Means g choice.now r.0.items r.1.rows)) }
+    ensures layout { IfOk result (λ r. IsOkAnd (meaning_of bytes.now) (λ g. layout_of r.0.items ≡ Ok (layout_chosen g choice.now))) }
+{
+    let geometry = decode(alloc, bytes)?;
+    encode(alloc, &geometry, choice)
+}

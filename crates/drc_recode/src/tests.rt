@@ -1,0 +1,197 @@
+//! What no contract can say: that the calls succeed, and that the definitions are the ones meant, on rows and
+//! streams worked by hand.
+
+use super::*;
+use drc_base::{Fault, Kind, Refusal, Sequence};
+use drc_container::{Choice, Method, decode};
+use mesh_model::{Geometry, MapRead, Renumber};
+use std::alloc::{AllocError, Global};
+use std::test::Fail;
+
+/// A sequential mesh of one triangle.
+const TRIANGLE: [u8; 64] = [
+    68, 82, 65, 67, 79, 2, 2, 1, 0, 0, 0, 1, 3, 1, 0, 1, 2, 1, 1, 0, 5, 3, 0, 0, 1, 254, 0, 4, 0,
+    0, 0, 0, 0, 0, 0, 0, 0, 0, 0, 0, 20, 0, 0, 0, 0, 0, 0, 0, 0, 0, 0, 0, 0, 0, 0, 0, 20, 0, 0, 0,
+    1, 0, 0, 0,
+];
+
+/// The same by Edgebreaker, with values as they are.
+const FACE: [u8; 55] = [
+    68, 82, 65, 67, 79, 2, 2, 1, 1, 0, 0, 0, 3, 1, 0, 1, 0, 0, 1, 7, 255, 1, 17, 1, 255, 0, 0, 1,
+    0, 5, 3, 0, 0, 1, 1, 1, 0, 1, 3, 0, 0, 4, 3, 1, 0, 4, 2, 255, 255, 255, 255, 10, 0, 0, 0,
+];
+
+/// A tetrahedron by Edgebreaker.
+const TETRAHEDRON: [u8; 58] = [
+    68, 82, 65, 67, 79, 2, 2, 1, 1, 0, 0, 0, 4, 4, 0, 3, 0, 0, 1, 47, 1, 1, 16, 1, 255, 0, 0, 1, 0,
+    5, 3, 0, 0, 1, 1, 1, 0, 1, 0, 0, 1, 0, 1, 1, 0, 1, 0, 1, 1, 0, 0, 0, 0, 0, 1, 0, 0, 0,
+];
+
+/// Where its faces stood when it was encoded.
+const TETRAHEDRON_ROWS: [(u32, u8); 4] = [(3, 0), (2, 1), (1, 2), (0, 1)];
+
+/// A cloud of the points 5 5 5, 5 5 5 and 5 5 6.
+const CLOUD: [u8; 44] = [
+    68, 82, 65, 67, 79, 2, 3, 0, 0, 0, 0, 3, 0, 0, 0, 1, 1, 0, 5, 3, 0, 0, 1, 0, 1, 0, 1, 0, 0, 0,
+    0, 0, 0, 0, 0, 1, 5, 0, 0, 0, 6, 0, 0, 0,
+];
+
+/// A cloud of no points.
+const NO_POINTS: [u8; 26] = [
+    68, 82, 65, 67, 79, 2, 3, 0, 0, 0, 0, 0, 0, 0, 0, 1, 1, 0, 5, 3, 0, 0, 1, 254, 0, 1,
+];
+
+/// Edgebreaker with values as they are, where the geometry is a mesh.
+const PLAIN: Choice = Choice {
+    method: None,
+    index: None,
+    predict: None,
+    walk: None,
+    plain_values: true,
+};
+
+/// A renumbering of these rows.
+fn renumber(alloc: Global, rows: &[(u32, u8)]) -> Result<Renumber, AllocError> {
+    let rows = rows.to_vec(alloc)?;
+    Ok(Renumber {
+        rows: Sequence::from_vec(rows),
+    })
+}
+
+/// What was read of a map of these rows.
+fn map(alloc: Global, cloud: bool, rows: &[(u32, u8)]) -> Result<MapRead, AllocError> {
+    let rows = renumber(alloc, rows)?;
+    Ok(MapRead {
+        cloud,
+        rows,
+        end: 0,
+    })
+}
+
+/// The fault of a kind at a place.
+fn fault(kind: Kind, at: u64) -> Option<Refusal> {
+    Some(Refusal::Fault(Fault { kind, at }))
+}
+
+#[test]
+fn one_renumbering_after_another(rt: HostRuntime) -> Result<(), Fail> {
+    let alloc = rt.alloc();
+    let a = renumber(alloc, &[(0, 1), (1, 2)])?;
+    let b = renumber(alloc, &[(1, 2), (0, 0)])?;
+    assert_eq!(rt;
+        compose(alloc, &a, &b)?.rows.as_slice(),
+        [(1, 1), (0, 1)].as_slice()
+    );
+    Ok(())
+}
+
+#[test]
+fn a_renumbering_turned_back(rt: HostRuntime) -> Result<(), Fail> {
+    let alloc = rt.alloc();
+    let back = invert(alloc, &renumber(alloc, &[(2, 1), (0, 0), (1, 2)])?)?;
+    assert_eq!(rt; back.rows.as_slice(), [(1, 0), (2, 1), (0, 2)].as_slice());
+    assert!(rt; invert(alloc, &renumber(alloc, &[])?)?.rows.is_empty());
+    Ok(())
+}
+
+#[test]
+fn rows_that_have_no_way_back(rt: HostRuntime) -> Result<(), Fail> {
+    let alloc = rt.alloc();
+    let cases: [(&[(u32, u8)], u64); 4] = [
+        (&[(0, 0), (2, 0)], 1),
+        (&[(0, 1), (0, 2)], 1),
+        (&[(1, 2), (0, 3)], 1),
+        (&[(1, 3), (1, 0)], 0),
+    ];
+    for (rows, at) in cases {
+        assert_eq!(rt;
+            invert(alloc, &renumber(alloc, rows)?).err(),
+            fault(Kind::BadMap, at)
+        );
+    }
+    Ok(())
+}
+
+#[test]
+fn a_stream_written_in_another_way(rt: HostRuntime) -> Result<(), Fail> {
+    let (bytes, rows) = recode(rt.alloc(), &TRIANGLE, &PLAIN)?;
+    assert_eq!(rt; bytes.as_slice(), FACE.as_slice());
+    assert_eq!(rt; rows.rows.as_slice(), [(0, 0)].as_slice());
+    Ok(())
+}
+
+#[test]
+fn streams_that_are_not_written_in_another_way(rt: HostRuntime) -> Result<(), Fail> {
+    let alloc = rt.alloc();
+    let by_edgebreaker = Choice {
+        method: Some(Method::Eb),
+        ..PLAIN
+    };
+    let cases: [(&[u8], Choice, Kind, u64); 3] = [
+        (&CLOUD, by_edgebreaker, Kind::Choice, 0),
+        (&NO_POINTS, PLAIN, Kind::Empty, 0),
+        (&CLOUD[..40], by_edgebreaker, Kind::Short, 40),
+    ];
+    for (bytes, choice, kind, at) in cases {
+        assert_eq!(rt; recode(alloc, bytes, &choice).err(), fault(kind, at));
+    }
+    Ok(())
+}
+
+#[test]
+fn a_mesh_in_its_first_order(rt: HostRuntime) -> Result<(), Fail> {
+    let alloc = rt.alloc();
+    let bytes = restore(alloc, &map(alloc, false, &TETRAHEDRON_ROWS)?, &TETRAHEDRON)?;
+    let read = decode(alloc, bytes.as_slice())?;
+    let points = [0, 0, 0, 0, 0, 1, 0, 1, 0, 1, 0, 0];
+    let faces: [[u32; 3]; 4] = [[0, 2, 3], [0, 3, 1], [3, 2, 1], [0, 1, 2]];
+    assert!(rt;
+        matches!(&read, Geometry::Mesh(m) if m.cells() == points.as_slice() && m.faces() == faces.as_slice())
+    );
+    Ok(())
+}
+
+#[test]
+fn a_cloud_in_its_first_order(rt: HostRuntime) -> Result<(), Fail> {
+    let alloc = rt.alloc();
+    let bytes = restore(alloc, &map(alloc, true, &[(2, 0), (0, 0), (1, 0)])?, &CLOUD)?;
+    let read = decode(alloc, bytes.as_slice())?;
+    let points = [5, 5, 5, 5, 5, 6, 5, 5, 5];
+    assert!(rt; matches!(&read, Geometry::Cloud(c) if c.cells() == points.as_slice()));
+    Ok(())
+}
+
+#[test]
+fn streams_that_are_not_put_back(rt: HostRuntime) -> Result<(), Fail> {
+    let alloc = rt.alloc();
+    let cases: [(bool, &[(u32, u8)], &[u8], Kind, u64); 9] = [
+        (true, &[(0, 3)], &CLOUD[..40], Kind::Short, 40),
+        (true, &[(0, 0)], &TETRAHEDRON, Kind::MapKind, 0),
+        (false, &[(0, 0), (1, 0), (2, 0)], &CLOUD, Kind::MapKind, 0),
+        (false, &[(0, 0)], &TETRAHEDRON, Kind::MapCount, 1),
+        (true, &[(0, 3), (0, 3)], &CLOUD, Kind::MapCount, 2),
+        (
+            false,
+            &[(3, 0), (2, 1), (3, 2), (0, 1)],
+            &TETRAHEDRON,
+            Kind::BadMap,
+            2,
+        ),
+        (
+            false,
+            &[(3, 0), (2, 1), (1, 3), (4, 1)],
+            &TETRAHEDRON,
+            Kind::BadMap,
+            2,
+        ),
+        (true, &[(2, 0), (0, 1), (1, 0)], &CLOUD, Kind::BadMap, 1),
+        (true, &[], &NO_POINTS, Kind::Empty, 0),
+    ];
+    for (cloud, rows, stream, kind, at) in cases {
+        assert_eq!(rt;
+            restore(alloc, &map(alloc, cloud, rows)?, stream).err(),
+            fault(kind, at)
+        );
+    }
+    Ok(())
+}

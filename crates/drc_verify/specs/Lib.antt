@@ -1,0 +1,7 @@
+pub mod HeadTests
+pub mod Firsts
+pub mod RowTests
+pub mod SideTests
+pub mod Judged
+pub mod Laws
+pub mod Checked

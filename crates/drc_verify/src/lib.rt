@@ -1,0 +1,21 @@
+//! Whether a stream is a PLY text's geometry by the rows of a map, and if not, where it first differs.
+//! The contract above it: the verdict is a function of the map, the geometry of the text and what the
+//! stream means; it is `Same` exactly where the one is the other by the rows and, where surfaces are
+//! asked for, the stream's glued pairs are those of the geometry under the new numbers. It knows of
+//! reading alone: nothing here rests on how a geometry is encoded. What is checked is this project's
+//! choice.
+#![tactic(auto)]
+
+mod judging;
+mod laws;
+mod rows;
+mod sides;
+mod surfaces;
+#[cfg(test)]
+mod tests;
+mod verdicts;
+mod verifying;
+
+pub use laws::a_yes_is_the_same;
+pub use verdicts::Verdict;
+pub use verifying::verify;

@@ -1,0 +1,135 @@
+//! The verdict on rows and glued pairs.
+
+ghost use Rattle.std.specs.Prelude.{◌≡◌, ◌*◌, ◌↔◌, true, length, IfOk};
+ghost use Rattle.std.specs.Option.{option_map};
+ghost use Rattle.drc_base.specs.Refusals.{Answers};
+ghost use Rattle.corner_table.specs.Carried.{IsRenumbering};
+ghost use Rattle.corner_table.specs.Sides.{IsGluing};
+ghost use Rattle.corner_table.specs.Table.{gluing_of};
+ghost use Rattle.pairing.specs.CarriedPairs.{carried};
+ghost use Rattle.drc_container.specs.Meaning.{surface_in, told_by};
+ghost use Rattle.drc_verify.specs.Checked.{surface_asked, surface_of, has_position, mesh_asked, pairs_asked, with_pairs, glued_verdict, surface_verdict, IsSame, HasFaces};
+ghost use Rattle.drc_verify.specs.SideTests.{first_other};
+ghost use Rattle.drc_verify.specs.declared.verdicts.Verdict.TheVariants as verdict;
+
+use crate::judging::judge_mesh;
+use crate::sides::other_side;
+use crate::verdicts::Verdict;
+use corner_table::SideTable;
+use drc_base::{Fault, Kind, Memory, Refusal};
+use drc_container::{Decoded, carried_surface};
+use eb_rebuild::Built;
+use mesh_model::{CornerMesh, Geometry, Head};
+use pairing::pair;
+use std::alloc::Global;
+
+/// The table of a stream's surface; Choice where it has none.
+fn table_asked(sides: Option<Built>) -> Result<SideTable, Refusal>
+    ensures table { Answers surface_of (surface_asked (option_map surface_in sides)) result }
+    ensures gluing { IfOk result (λ t. IsGluing t.faces (gluing_of t)) }
+{
+    match sides {
+        None => Err(Refusal::Fault(Fault::new(Kind::Choice, 0))),
+        Some(built) => {
+            let table = built.into_table();
+            // For the prover alone: the call says that the table is a surface.
+            let _faces = table.face_count();
+            Ok(table)
+        }
+    }
+}
+
+/// Whether the first attribute is a position.
+fn has_position(heads: &[Head]) -> bool
+    ensures { result ≡ has_position heads.now }
+{
+    match heads {
+        [] => false,
+        [head, ..] => head.usage == 0,
+    }
+}
+
+/// The mesh of a text; NoPosition where it is a cloud, or its first attribute is no position.
+fn mesh_asked(g: &Geometry) -> Result<&CornerMesh, Refusal>
+    ensures { Answers (λ m. m.now) (mesh_asked g.now) result }
+{
+    if let Geometry::Mesh(mesh) = g
+        && has_position(mesh.heads())
+    {
+        return Ok(mesh);
+    }
+    Err(Refusal::Fault(Fault::new(Kind::NoPosition, 0)))
+}
+
+/// The pairs of a mesh; Degenerate at the first face with two corners at one position.
+fn pairs_asked(alloc: Global, m: &CornerMesh) -> Result<SideTable, Refusal>
+    ensures pairs { Answers gluing_of (pairs_asked m.now) result }
+    ensures faces { IfOk result (λ t. t.faces ≡ length m.now.faces) }
+{
+    pair(alloc, m)
+}
+
+/// The verdict on pairs, where the rows are right. The old numbers' table is freed.
+fn judge_pairs(
+    alloc: Global,
+    pairs: SideTable,
+    rows: &[(u32, u8)],
+    sides: &SideTable,
+) -> Result<Verdict, Memory>
+    requires { IsRenumbering pairs.faces rows.now }
+    ensures { IfOk result (λ v. v ≡ with_pairs verdict.Same
+        (first_other (3 * sides.now.faces) (gluing_of sides.now) (carried (gluing_of pairs) rows.now))) }
+{
+    let due = carried_surface(alloc, pairs, rows)?;
+    match other_side(sides, &due) {
+        None => Ok(Verdict::Same),
+        Some(side) => Ok(Verdict::Pair(side)),
+    }
+}
+
+/// The verdict on rows, and on pairs where all rows are right: only then do they give new numbers.
+fn judge_glued(
+    alloc: Global,
+    cloud: bool,
+    rows: &[(u32, u8)],
+    m: &CornerMesh,
+    n: &Geometry,
+    pairs: SideTable,
+    sides: &SideTable,
+) -> Result<Verdict, Memory>
+    requires { pairs.faces ≡ length m.now.faces }
+    ensures { IfOk result (λ v. v ≡ glued_verdict cloud m.now n.now rows.now (gluing_of pairs) (surface_of sides.now)) }
+{
+    match judge_mesh(alloc, cloud, rows, m, n)? {
+        Verdict::Same => judge_pairs(alloc, pairs, rows, sides),
+        Verdict::Heads => Ok(Verdict::Heads),
+        Verdict::Rows(count) => Ok(Verdict::Rows(count)),
+        Verdict::Row(row) => Ok(Verdict::Row(row)),
+        Verdict::Pair(side) => Ok(Verdict::Pair(side)),
+    }
+}
+
+/// The verdict on rows and pairs, or what is missing: Choice at 0 where the stream has no surface,
+/// NoPosition at 0 where the text is no mesh with positions, and the fault of the mesh's pairs.
+#[tactic(auto, unfolding(crate::specs::Checked::surface_verdict))]
+pub(crate) fn judge_surface(
+    alloc: Global,
+    cloud: bool,
+    rows: &[(u32, u8)],
+    g: &Geometry,
+    n: Decoded,
+) -> Result<Verdict, Refusal>
+    ensures verdict { Answers (λ v. v) (surface_verdict cloud rows.now g.now (told_by n)) result }
+    ensures same { HasFaces (told_by n) → IfOk result (λ v. (v ≡ verdict.Same) ↔ IsSame true cloud rows.now g.now (told_by n)) }
+{
+    let Decoded {
+        geometry,
+        sides,
+        seen: _,
+    } = n;
+    let sides = table_asked(sides)?;
+    let mesh = mesh_asked(g)?;
+    let pairs = pairs_asked(alloc, mesh)?;
+    let verdict = judge_glued(alloc, cloud, rows, mesh, &geometry, pairs, &sides)?;
+    Ok(verdict)
+}

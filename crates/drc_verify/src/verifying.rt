@@ -1,0 +1,69 @@
+//! The check of a stream against a text and a map.
+
+ghost use Rattle.std.specs.Prelude.{◌≡◌, ◌↔◌, Ok, IfOk};
+ghost use Rattle.drc_base.specs.Refusals.{Answers};
+ghost use Rattle.mesh_model.specs.declared.geometries.Geometry.{Geometry as AnyGeometry};
+ghost use Rattle.ply_mesh.specs.Read.{ply_read};
+ghost use Rattle.drc_container.specs.Meaning.{Meaning, told_by};
+ghost use Rattle.drc_container.specs.Stream.{stream as meaning_of_stream};
+ghost use Rattle.drc_verify.specs.Checked.{due, verdict_asked, IsSame, HasFaces};
+ghost use Rattle.drc_verify.specs.declared.verdicts.Verdict.TheVariants as verdict;
+
+use crate::judging::judge;
+use crate::laws::{a_surface_has_the_faces, a_yes_is_the_same};
+use crate::surfaces::judge_surface;
+use crate::verdicts::Verdict;
+use drc_base::Refusal;
+use drc_container::{Decoded, decode_whole};
+use mesh_model::{Geometry, MapRead};
+use ply_mesh::read_ply;
+use std::alloc::Global;
+
+/// The verdict, with surfaces or without.
+fn judge_asked(
+    alloc: Global,
+    surface: bool,
+    cloud: bool,
+    rows: &[(u32, u8)],
+    g: &Geometry,
+    n: Decoded,
+) -> Result<Verdict, Refusal>
+    ensures verdict { Answers (λ v. v) (verdict_asked surface cloud rows.now g.now (told_by n)) result }
+    ensures same { HasFaces (told_by n) → IfOk result (λ v. (v ≡ verdict.Same) ↔ IsSame surface cloud rows.now g.now (told_by n)) }
+{
+    if surface {
+        judge_surface(alloc, cloud, rows, g, n)
+    } else {
+        a_yes_is_the_same();
+        let verdict = judge(alloc, cloud, rows, g, &n.geometry)?;
+        Ok(verdict)
+    }
+}
+
+/// Whether `stream` means the geometry of the PLY text `ply` by the rows of `map`, and with `surface` whether
+/// its glued pairs are besides those of the text's mesh under the new numbers that the rows give to its faces.
+/// Without `surface` the verdict is `Same` exactly where map, text and stream are all of meshes or all of
+/// clouds, and the stream's geometry is the text's by the rows; with it exactly where the pairs are the same
+/// too. Every other verdict says what differs first. Refusals, the first that applies: the text's first fault;
+/// the stream's first fault; and with `surface` Choice at 0 where the stream isn't Edgebreaker, NoPosition at
+/// 0 where the text is a cloud or its first attribute is no position, Degenerate at the text's first face with
+/// two corners at one position.
+#[tactic(auto, unfolding(crate::specs::Checked::due))]
+pub fn verify(
+    alloc: Global,
+    map: &MapRead,
+    ply: &[u8],
+    stream: &[u8],
+    surface: bool,
+) -> Result<Verdict, Refusal>
+    ensures verdict { Answers (λ v. v) (due surface map.now.cloud map.now.rows.rows ply.now stream.now) result }
+    ensures same { (g : AnyGeometry) (n : Meaning) → ply_read ply.now ≡ Ok g → meaning_of_stream stream.now ≡ Ok n
+        → IfOk result (λ v. (v ≡ verdict.Same) ↔ IsSame surface map.now.cloud map.now.rows.rows g n) }
+{
+    a_surface_has_the_faces();
+    // The stream is decoded first, while the text's geometry takes no memory yet; the text's fault comes first all the same.
+    let decoded = decode_whole(alloc, stream);
+    let g = read_ply(alloc, ply)?;
+    let n = decoded?;
+    judge_asked(alloc, surface, map.cloud, map.rows.rows.as_slice(), &g, n)
+}
