@@ -1,0 +1,11 @@
+pub mod Kinds
+pub mod KindLaws
+pub mod Faults
+pub mod Arrays
+pub mod Heads
+pub mod HeadLaws
+pub mod Shapes
+pub mod Options
+pub mod Streams
+pub mod Inputs
+pub mod Encoded

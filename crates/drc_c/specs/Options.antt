@@ -1,0 +1,49 @@
+-- What options of C choose of an encoding (this project's choice).
+use Rattle.std.specs.Prelude.{ℕ, ◌==◌, Bool, true, false, Option, None, Some, option_and_then, if◌then◌else◌}
+use Rattle.drc_container.specs.declared.methods.Method.{Method}
+use Rattle.drc_container.specs.declared.methods.Method.TheVariants as method
+use Rattle.drc_container.specs.declared.choices.Index.{Index}
+use Rattle.drc_container.specs.declared.choices.Index.TheVariants as indexed
+use Rattle.drc_container.specs.declared.choices.Predict.{Predict}
+use Rattle.drc_container.specs.declared.choices.Predict.TheVariants as predict
+use Rattle.drc_container.specs.declared.choices.Walk.{Walk}
+use Rattle.drc_container.specs.declared.choices.Walk.TheVariants as walk
+use Rattle.drc_container.specs.declared.choices.Choice.{Choice}
+use Rattle.drc_c.specs.declared.options.DrcOptions.{DrcOptions}
+
+-- the method of a number: 0 none is chosen, 1 sequential, 2 Edgebreaker, 3 Edgebreaker by valence
+abbrev pub method_numbered : ℕ → Option (Option Method)
+method_numbered n =
+    if n == 0 then Some None
+    else (if n == 1 then Some (Some method.Seq)
+    else (if n == 2 then Some (Some method.Eb) else (if n == 3 then Some (Some method.Valence) else None)))
+
+-- the index method of a number: 0 none is chosen, 1 plain, 2 packed
+abbrev pub index_numbered : ℕ → Option (Option Index)
+index_numbered n =
+    if n == 0 then Some None else (if n == 1 then Some (Some indexed.Plain) else (if n == 2 then Some (Some indexed.Packed) else None))
+
+-- the prediction of a number: 0 none is chosen, 1 not at all, 2 by the entry before, 3 by a parallelogram, 4 by several
+abbrev pub predict_numbered : ℕ → Option (Option Predict)
+predict_numbered n =
+    if n == 0 then Some None
+    else (if n == 1 then Some (Some predict.Off)
+    else (if n == 2 then Some (Some predict.Diff)
+    else (if n == 3 then Some (Some predict.Para) else (if n == 4 then Some (Some predict.Multi) else None))))
+
+-- the walk of a number: 0 none is chosen, 1 depth first, 2 by prediction degree
+abbrev pub walk_numbered : ℕ → Option (Option Walk)
+walk_numbered n =
+    if n == 0 then Some None else (if n == 1 then Some (Some walk.Depth) else (if n == 2 then Some (Some walk.Degree) else None))
+
+-- the truth value of a number
+abbrev pub flag_numbered : ℕ → Option Bool
+flag_numbered n = if n == 0 then Some false else (if n == 1 then Some true else None)
+
+-- the choice that options mean, where each number names something
+unfoldable pub choice_meant : DrcOptions → Option Choice
+choice_meant o =
+    option_and_then (λ m. option_and_then (λ i. option_and_then (λ p. option_and_then (λ w. option_and_then (λ f.
+    Some (record { method = m; index = i; predict = p; walk = w; plain_values = f }))
+    (flag_numbered o.plain_values)) (walk_numbered o.walk)) (predict_numbered o.predict)) (index_numbered o.index))
+    (method_numbered o.method)

@@ -1,0 +1,144 @@
+//! Decoding: bytes to arrays.
+
+ghost use Rattle.std.specs.Prelude.{◌≡◌, ◌⊎◌, [], ◌∷◌, Contains, true, false, Ok, Err, length};
+ghost use Rattle.drc_base.specs.declared.faults.Fault.{Fault as AnyFault};
+ghost use Rattle.mesh_model.specs.declared.geometries.Geometry.{Geometry as AnyGeometry};
+ghost use Rattle.mesh_model.specs.Contents.{faces_in};
+ghost use Rattle.drc_container.specs.Stream.{meaning_of, declared_of};
+ghost use Rattle.drc_c.specs.Arrays.{filled};
+ghost use Rattle.drc_c.specs.Faults.{fault_told};
+ghost use Rattle.drc_c.specs.Shapes.{shape_of, integers_of, LacksRoom};
+
+use crate::arrays::fill;
+use crate::copies::{Copies, copies_of, handed_corners, handed_values};
+use crate::faults::{DrcFault, refuse};
+use crate::shapes::{DrcShape, faces_in, integers_of, shape_of};
+use crate::statuses::{DONE, NO_MEMORY, NO_ROOM, REFUSED};
+use drc_base::Memory;
+use drc_container::decode;
+use mesh_model::Geometry;
+use std::alloc::Global;
+
+/// A decoded geometry, whose arrays C frees.
+#[repr(C)]
+#[derive(Drop)]
+pub struct DrcGeometry {
+    /// What it is.
+    pub shape: DrcShape,
+    /// The numbers of the three points of each face; null where there is no face.
+    pub corners: *mut [u32; 3],
+    /// The integers of all points, point after point; null where there is none.
+    pub values: *mut i32,
+}
+
+// As the header has it.
+const _: () = prove!(size_of::<DrcGeometry>() == 808);
+
+/// Writes the faces and integers of a geometry to the front of arrays, where both have room.
+fn place(g: &Geometry, corners: &mut [[u32; 3]], values: &mut [i32]) -> bool
+    ensures placed { result ≡ true → (corners.new ≡ filled (faces_in g.now) corners.old) × (values.new ≡ filled (integers_of g.now) values.old) }
+    ensures lacking { result ≡ false → LacksRoom g.now (length corners.old) (length values.old) × (corners.new ≡ corners.old) × (values.new ≡ values.old) }
+{
+    let faces = faces_in(g);
+    let integers = integers_of(g);
+    if faces.len() > corners.len() || integers.len() > values.len() {
+        return false;
+    }
+    fill(corners, faces);
+    fill(values, integers);
+    true
+}
+
+/// Writes a geometry's shape, and its faces and integers where both arrays have room.
+fn deliver(g: &Geometry, corners: &mut [[u32; 3]], values: &mut [i32], shape: &mut DrcShape) -> u32
+    ensures statuses { (result ≡ DONE) ⊎ (result ≡ NO_ROOM) }
+    ensures shape { shape.new ≡ shape_of g.now }
+    ensures done { result ≡ DONE → (corners.new ≡ filled (faces_in g.now) corners.old) × (values.new ≡ filled (integers_of g.now) values.old) }
+    ensures no_room { result ≡ NO_ROOM → LacksRoom g.now (length corners.old) (length values.old) × (corners.new ≡ corners.old) × (values.new ≡ values.old) }
+{
+    *shape = shape_of(g);
+    if place(g, corners, values) {
+        return DONE;
+    }
+    NO_ROOM
+}
+
+/// Decodes a stream into arrays of the caller: the numbers of the three points of each face, and the integers
+/// of all points, point after point. Bytes after the stream's end are ignored.
+///
+/// `DONE`: the arrays begin with the faces and the integers, and the shape is that of the geometry. `NO_ROOM`:
+/// one of the arrays is too short for a stream that means a geometry; the shape says what is needed, and the
+/// arrays are as before. `REFUSED`: the stream has this first fault, and all else is as before. `NO_MEMORY`: nothing
+/// is written. Faults of the header and of the declared numbers come before memory is taken.
+#[unsafe(no_mangle)]
+pub extern "C" fn drc_decode_into(
+    alloc: Global,
+    bytes: &[u8],
+    corners: &mut [[u32; 3]],
+    values: &mut [i32],
+    shape: &mut DrcShape,
+    fault: &mut DrcFault,
+) -> u32
+    ensures statuses { Contains (DONE ∷ REFUSED ∷ NO_MEMORY ∷ NO_ROOM ∷ []) result }
+    ensures done { result ≡ DONE → (g : AnyGeometry) × (meaning_of bytes.now ≡ Ok g) × (shape.new ≡ shape_of g)
+        × (corners.new ≡ filled (faces_in g) corners.old) × (values.new ≡ filled (integers_of g) values.old) }
+    ensures no_room { result ≡ NO_ROOM → (g : AnyGeometry) × (meaning_of bytes.now ≡ Ok g) × (shape.new ≡ shape_of g)
+        × LacksRoom g (length corners.old) (length values.old) }
+    ensures refused { result ≡ REFUSED → (f : AnyFault) × (meaning_of bytes.now ≡ Err f) × (fault.new ≡ fault_told f) }
+    ensures early { (f : AnyFault) → declared_of bytes.now ≡ Err f → (result ≡ REFUSED) × (fault.new ≡ fault_told f) }
+
+    // What isn't told is as before.
+    ensures arrays_same { (result ≡ DONE) ⊎ ((corners.new ≡ corners.old) × (values.new ≡ values.old)) }
+    ensures shape_same { (result ≡ DONE) ⊎ (result ≡ NO_ROOM) ⊎ (shape.new ≡ shape.old) }
+    ensures fault_same { (result ≡ REFUSED) ⊎ (fault.new ≡ fault.old) }
+{
+    match decode(alloc, bytes) {
+        Ok(g) => deliver(&g, corners, values, shape),
+        Err(refusal) => refuse(refusal, fault),
+    }
+}
+
+/// Hands a geometry out in arrays of its own.
+fn hand_out(alloc: Global, g: &Geometry, out: &mut DrcGeometry) -> u32
+    ensures statuses { (result ≡ DONE) ⊎ (result ≡ NO_MEMORY) }
+    ensures done { result ≡ DONE → out.new.shape ≡ shape_of g.now }
+    ensures same { result ≡ NO_MEMORY → out.new ≡ out.old }
+{
+    match copies_of(alloc, g) {
+        Ok(Copies { corners, values }) => {
+            out.shape = shape_of(g);
+            out.corners = handed_corners(corners);
+            out.values = handed_values(values);
+            DONE
+        }
+        Err(Memory) => NO_MEMORY,
+    }
+}
+
+/// Decodes a stream into arrays of its own, which C's `free` frees: the numbers of the three points of each
+/// face, and the integers of all points, point after point. Bytes after the stream's end are ignored.
+///
+/// `DONE`: the geometry is what the stream means. `REFUSED`: the stream has this first fault. `NO_MEMORY`: nothing is
+/// written. The geometry is as before unless it is done. Faults of the header and of the declared numbers come
+/// before memory is taken.
+#[unsafe(no_mangle)]
+pub extern "C" fn drc_decode(
+    alloc: Global,
+    bytes: &[u8],
+    out: &mut DrcGeometry,
+    fault: &mut DrcFault,
+) -> u32
+    ensures statuses { Contains (DONE ∷ REFUSED ∷ NO_MEMORY ∷ []) result }
+    ensures done { result ≡ DONE → (g : AnyGeometry) × (meaning_of bytes.now ≡ Ok g) × (out.new.shape ≡ shape_of g) }
+    ensures refused { result ≡ REFUSED → (f : AnyFault) × (meaning_of bytes.now ≡ Err f) × (fault.new ≡ fault_told f) }
+    ensures early { (f : AnyFault) → declared_of bytes.now ≡ Err f → (result ≡ REFUSED) × (fault.new ≡ fault_told f) }
+
+    // What isn't told is as before.
+    ensures geometry_same { (result ≡ DONE) ⊎ (out.new ≡ out.old) }
+    ensures fault_same { (result ≡ REFUSED) ⊎ (fault.new ≡ fault.old) }
+{
+    match decode(alloc, bytes) {
+        Ok(g) => hand_out(alloc, &g, out),
+        Err(refusal) => refuse(refusal, fault),
+    }
+}

@@ -1,0 +1,195 @@
+//! Encoding: arrays to bytes.
+
+ghost use Rattle.std.specs.Prelude.{◌≡◌, ◌<◌, ◌⊎◌, ℕ, List, [], ◌∷◌, Contains, true, Err, Some, None, IfOk, length};
+ghost use Rattle.drc_base.specs.declared.faults.Fault.{Fault as AnyFault};
+ghost use Rattle.drc_base.specs.Refusals.{Answers};
+ghost use Rattle.drc_container.specs.declared.choices.Choice.{Choice as AnyChoice};
+ghost use Rattle.drc_c.specs.Arrays.{filled};
+ghost use Rattle.drc_c.specs.Faults.{fault_told};
+ghost use Rattle.drc_c.specs.Inputs.{do_fit};
+ghost use Rattle.drc_c.specs.declared.streams.DrcRow.{DrcRow as AnyRow};
+ghost use Rattle.drc_c.specs.Encoded.{encoded, IsEncoding, Takes};
+
+use crate::arrays::fill;
+use crate::copies::{handed_bytes, handed_rows};
+use crate::faults::{DrcFault, refuse};
+use crate::heads::DrcHead;
+use crate::inputs::{do_fit, geometry_meant};
+use crate::options::{DrcOptions, choice_meant};
+use crate::statuses::{BAD_ARGUMENT, DONE, NO_MEMORY, NO_ROOM, REFUSED};
+use crate::streams::{DrcLengths, DrcRow, DrcStream, rows_told};
+use drc_base::Refusal;
+use drc_container::{Choice, encode};
+use std::alloc::Global;
+
+/// A stream and its map.
+#[derive(Drop)]
+struct Encoded {
+    /// The bytes of the stream.
+    bytes: Vec<u8>,
+    /// The rows of the map.
+    rows: Vec<DrcRow>,
+}
+
+/// The stream of the geometry that arrays mean, coded as chosen, and its map; or the first fault of the arrays, then
+/// of the encoding.
+#[tactic(auto, unfolding(crate::specs::Encoded::encoded))]
+fn encode_arrays(
+    alloc: Global,
+    mesh: u32,
+    heads: &[DrcHead],
+    corners: &[[u32; 3]],
+    values: &[i32],
+    choice: &Choice,
+) -> Result<Encoded, Refusal>
+    requires { do_fit mesh heads.now corners.now values.now ≡ true }
+    ensures answer { Answers (λ e. (e.bytes.items, e.rows.items)) (encoded mesh heads.now corners.now values.now choice.now) result }
+    ensures means { IfOk result (λ e. IsEncoding mesh heads.now corners.now values.now choice.now e.bytes.items e.rows.items) }
+{
+    let g = geometry_meant(alloc, mesh, heads, corners, values)?;
+    let (bytes, renumber) = encode(alloc, &g, choice)?;
+    let rows = rows_told(alloc, &renumber)?;
+    Ok(Encoded { bytes, rows })
+}
+
+/// What options choose for arrays that fit each other.
+fn choice_for(
+    mesh: u32,
+    heads: &[DrcHead],
+    corners: &[[u32; 3]],
+    values: &[i32],
+    options: &DrcOptions,
+) -> Option<Choice>
+    ensures { Takes mesh heads.now corners.now values.now options.now result }
+{
+    if !do_fit(mesh, heads, corners, values) {
+        return None;
+    }
+    choice_meant(options)
+}
+
+/// Writes a stream and its map to the front of arrays, where both have room, and how much there is of both.
+fn place(encoded: &Encoded, bytes: &mut [u8], rows: &mut [DrcRow], lengths: &mut DrcLengths) -> u32
+    ensures statuses { (result ≡ DONE) ⊎ (result ≡ NO_ROOM) }
+    ensures lengths { lengths.new ≡ record { bytes = length encoded.now.bytes.items; rows = length encoded.now.rows.items } }
+    ensures done { result ≡ DONE → (bytes.new ≡ filled encoded.now.bytes.items bytes.old) × (rows.new ≡ filled encoded.now.rows.items rows.old) }
+    ensures no_room { result ≡ NO_ROOM → ((length bytes.old < length encoded.now.bytes.items) ⊎ (length rows.old < length encoded.now.rows.items))
+        × (bytes.new ≡ bytes.old) × (rows.new ≡ rows.old) }
+{
+    lengths.bytes = encoded.bytes.len();
+    lengths.rows = encoded.rows.len();
+    if encoded.bytes.len() > bytes.len() || encoded.rows.len() > rows.len() {
+        return NO_ROOM;
+    }
+    fill(bytes, &encoded.bytes);
+    fill(rows, &encoded.rows);
+    DONE
+}
+
+/// Hands out a stream and its map.
+fn handed(encoded: Encoded) -> DrcStream
+    ensures { result.lengths ≡ record { bytes = length encoded.bytes.items; rows = length encoded.rows.items } }
+{
+    let lengths = DrcLengths {
+        bytes: encoded.bytes.len(),
+        rows: encoded.rows.len(),
+    };
+    DrcStream {
+        lengths,
+        bytes: handed_bytes(encoded.bytes),
+        rows: handed_rows(encoded.rows),
+    }
+}
+
+/// Encodes arrays into arrays of the caller: a mesh (1) or a cloud (0) of these heads, faces of three numbers of
+/// points, and integers, point after point.
+///
+/// `DONE`: the arrays begin with the stream and its map, by which the stream means the geometry that was passed.
+/// `BAD_ARGUMENT`: the arrays don't fit each other, or an option's number names nothing. `REFUSED`: the first fault of the
+/// arrays, then of the encoding. `NO_ROOM`: one of the arrays is too short; the lengths say what is needed. `NO_MEMORY`:
+/// nothing is written.
+#[unsafe(no_mangle)]
+pub extern "C" fn drc_encode_into(
+    alloc: Global,
+    mesh: u32,
+    heads: &[DrcHead],
+    corners: &[[u32; 3]],
+    values: &[i32],
+    options: &DrcOptions,
+    bytes: &mut [u8],
+    rows: &mut [DrcRow],
+    lengths: &mut DrcLengths,
+    fault: &mut DrcFault,
+) -> u32
+    ensures statuses { Contains (DONE ∷ BAD_ARGUMENT ∷ REFUSED ∷ NO_MEMORY ∷ NO_ROOM ∷ []) result }
+    ensures done { result ≡ DONE → (choice : AnyChoice) × (stream : List ℕ) × (told : List AnyRow)
+        × Takes mesh heads.now corners.now values.now options.now (Some choice)
+        × IsEncoding mesh heads.now corners.now values.now choice stream told
+        × (lengths.new ≡ record { bytes = length stream; rows = length told })
+        × (bytes.new ≡ filled stream bytes.old) × (rows.new ≡ filled told rows.old) }
+    ensures bad { result ≡ BAD_ARGUMENT → Takes mesh heads.now corners.now values.now options.now None }
+    ensures refused { result ≡ REFUSED → (choice : AnyChoice) × (f : AnyFault)
+        × Takes mesh heads.now corners.now values.now options.now (Some choice)
+        × (encoded mesh heads.now corners.now values.now choice ≡ Err f) × (fault.new ≡ fault_told f) }
+    ensures no_room { result ≡ NO_ROOM → (choice : AnyChoice) × (stream : List ℕ) × (told : List AnyRow)
+        × Takes mesh heads.now corners.now values.now options.now (Some choice)
+        × IsEncoding mesh heads.now corners.now values.now choice stream told
+        × (lengths.new ≡ record { bytes = length stream; rows = length told })
+        × ((length bytes.old < length stream) ⊎ (length rows.old < length told)) }
+
+    // What isn't told is as before.
+    ensures arrays_same { (result ≡ DONE) ⊎ ((bytes.new ≡ bytes.old) × (rows.new ≡ rows.old)) }
+    ensures lengths_same { (result ≡ DONE) ⊎ (result ≡ NO_ROOM) ⊎ (lengths.new ≡ lengths.old) }
+    ensures fault_same { (result ≡ REFUSED) ⊎ (fault.new ≡ fault.old) }
+{
+    let choice = match choice_for(mesh, heads, corners, values, options) {
+        None => return BAD_ARGUMENT,
+        Some(choice) => choice,
+    };
+    match encode_arrays(alloc, mesh, heads, corners, values, &choice) {
+        Ok(encoded) => place(&encoded, bytes, rows, lengths),
+        Err(refusal) => refuse(refusal, fault),
+    }
+}
+
+/// Encodes arrays, as `drc_encode_into`, into a stream and a map of their own, which C's `free` frees.
+///
+/// `DONE`: the stream means the geometry that was passed, by its map. `BAD_ARGUMENT`, `REFUSED`, `NO_MEMORY`: as there, and the
+/// stream is as before.
+#[unsafe(no_mangle)]
+pub extern "C" fn drc_encode(
+    alloc: Global,
+    mesh: u32,
+    heads: &[DrcHead],
+    corners: &[[u32; 3]],
+    values: &[i32],
+    options: &DrcOptions,
+    stream: &mut DrcStream,
+    fault: &mut DrcFault,
+) -> u32
+    ensures statuses { Contains (DONE ∷ BAD_ARGUMENT ∷ REFUSED ∷ NO_MEMORY ∷ []) result }
+    ensures done { result ≡ DONE → (choice : AnyChoice) × (bytes : List ℕ) × (told : List AnyRow)
+        × Takes mesh heads.now corners.now values.now options.now (Some choice)
+        × IsEncoding mesh heads.now corners.now values.now choice bytes told
+        × (stream.new.lengths ≡ record { bytes = length bytes; rows = length told }) }
+    ensures bad { result ≡ BAD_ARGUMENT → Takes mesh heads.now corners.now values.now options.now None }
+    ensures refused { result ≡ REFUSED → (choice : AnyChoice) × (f : AnyFault)
+        × Takes mesh heads.now corners.now values.now options.now (Some choice)
+        × (encoded mesh heads.now corners.now values.now choice ≡ Err f) × (fault.new ≡ fault_told f) }
+
+    // What isn't told is as before.
+    ensures stream_same { (result ≡ DONE) ⊎ (stream.new ≡ stream.old) }
+    ensures fault_same { (result ≡ REFUSED) ⊎ (fault.new ≡ fault.old) }
+{
+    let choice = match choice_for(mesh, heads, corners, values, options) {
+        None => return BAD_ARGUMENT,
+        Some(choice) => choice,
+    };
+    match encode_arrays(alloc, mesh, heads, corners, values, &choice) {
+        Ok(encoded) => {
+            *stream = handed(encoded);
+            DONE
+        }
+        Err(refusal) => refuse(refusal, fault),
+    }
+}

@@ -1,0 +1,20 @@
+//! The C library: `libdrc`. The contract above it: the caller's arrays are exactly what the bytes mean, or
+//! the status and the fault say why not; and the bytes of arrays mean these arrays. No call has conditions
+//! beyond its types, no call writes anything but what it is passed, and nothing is kept between calls. The
+//! header include/drc.h has the same structs and calls for C and C++; this project's choice.
+#![tactic(auto)]
+
+mod arrays;
+mod copies;
+mod decoding;
+mod encoding;
+mod faults;
+mod heads;
+mod inputs;
+mod kinds;
+mod laws;
+mod names;
+mod options;
+mod shapes;
+mod statuses;
+mod streams;

@@ -1,0 +1,484 @@
+/* Tests the library as C and C++ see it, for tests/library: structs, statuses, arrays that are too short, requests for memory that fail,
+   threads. usage: library FILE.., each a stream of a mesh or a cloud that is decoded. Linked with malloc, realloc and free wrapped. */
+#include <drc.h>
+#include <pthread.h>
+#include <stddef.h>
+#include <stdio.h>
+#include <string.h>
+
+#ifdef __cplusplus
+extern "C" {
+#endif
+void *__real_malloc(size_t size);
+void *__real_realloc(void *old, size_t size);
+void __real_free(void *block);
+void *__wrap_malloc(size_t size);
+void *__wrap_realloc(void *old, size_t size);
+void __wrap_free(void *block);
+#ifdef __cplusplus
+}
+#endif
+
+/* Counts are kept while there is one thread alone. */
+static int counting;
+static long blocks, requests, failing;
+
+static int comes(void) {
+    return counting && ++requests == failing;
+}
+
+void *__wrap_malloc(size_t size) {
+    void *block = comes() ? NULL : __real_malloc(size);
+    if (counting && block != NULL) blocks++;
+    return block;
+}
+
+void *__wrap_realloc(void *old, size_t size) {
+    void *block = comes() ? NULL : __real_realloc(old, size);
+    if (counting && old == NULL && block != NULL) blocks++;
+    return block;
+}
+
+void __wrap_free(void *block) {
+    if (counting && block != NULL) blocks--;
+    __real_free(block);
+}
+
+static unsigned long passed, failed;
+
+static void tell(int holds, const char *what, int line, const char *of) {
+    if (holds) {
+        passed++;
+        return;
+    }
+    failed++;
+    printf("FAILED: %s (line %d, %s)\n", what, line, of);
+}
+
+static const char *subject = "no stream";
+#define TELL(holds) tell((holds) != 0, #holds, __LINE__, subject)
+
+#define MARK_CORNER 0xabcdef01u
+#define MARK_VALUE (-1234567)
+#define MARK_FAULT 0xfeedu
+
+static drc_fault marked(void) {
+    drc_fault fault;
+    memset(&fault, 0, sizeof fault);
+    fault.kind = MARK_FAULT;
+    fault.at = MARK_FAULT;
+    return fault;
+}
+
+static int is_marked(const drc_fault *fault) {
+    return fault->kind == MARK_FAULT && fault->at == MARK_FAULT;
+}
+
+static int is_fault(const drc_fault *fault, uint32_t kind, uint64_t at) {
+    return fault->kind == kind && fault->at == at;
+}
+
+static void test_structs(void) {
+    TELL(sizeof(drc_fault) == 16 && offsetof(drc_fault, kind) == 0 && offsetof(drc_fault, at) == 8);
+    TELL(sizeof(drc_head) == 48 && offsetof(drc_head, usage) == 0 && offsetof(drc_head, dtype) == 1);
+    TELL(offsetof(drc_head, comps) == 2 && offsetof(drc_head, normalized) == 3 && offsetof(drc_head, id) == 4);
+    TELL(offsetof(drc_head, bits) == 8 && offsetof(drc_head, range) == 12 && offsetof(drc_head, min) == 16);
+    TELL(sizeof(drc_shape) == 788 && offsetof(drc_shape, mesh) == 0 && offsetof(drc_shape, faces) == 4);
+    TELL(offsetof(drc_shape, points) == 8 && offsetof(drc_shape, width) == 12 && offsetof(drc_shape, attributes) == 16);
+    TELL(offsetof(drc_shape, heads) == 20);
+    TELL(sizeof(drc_geometry) == 808 && offsetof(drc_geometry, shape) == 0 && offsetof(drc_geometry, corners) == 792);
+    TELL(offsetof(drc_geometry, values) == 800);
+    TELL(sizeof(drc_options) == 20 && offsetof(drc_options, method) == 0 && offsetof(drc_options, index) == 4);
+    TELL(offsetof(drc_options, predict) == 8 && offsetof(drc_options, walk) == 12 && offsetof(drc_options, plain_values) == 16);
+    TELL(sizeof(drc_row) == 8 && offsetof(drc_row, number) == 0 && offsetof(drc_row, turn) == 4);
+    TELL(sizeof(drc_lengths) == 16 && offsetof(drc_lengths, bytes) == 0 && offsetof(drc_lengths, rows) == 8);
+    TELL(sizeof(drc_stream) == 32 && offsetof(drc_stream, lengths) == 0 && offsetof(drc_stream, bytes) == 16);
+    TELL(offsetof(drc_stream, rows) == 24);
+}
+
+static void test_names(void) {
+    char name[DRC_NAME_ROOM + 1];
+    TELL(drc_version() == DRC_VERSION);
+    for (uint32_t kind = 0; kind <= DRC_FAULT_KdMesh; kind++) {
+        memset(name, '#', sizeof name);
+        TELL(drc_fault_name(kind, name, DRC_NAME_ROOM) == DRC_DONE);
+        size_t length = strlen(name);
+        TELL(length >= 1 && length < DRC_NAME_ROOM && name[DRC_NAME_ROOM] == '#');
+        memset(name, '#', sizeof name);
+        TELL(drc_fault_name(kind, name, length) == DRC_NO_ROOM && name[0] == '#');
+        TELL(drc_fault_name(kind, name, length + 1) == DRC_DONE && strlen(name) == length && name[length + 1] == '#');
+    }
+    memset(name, '#', sizeof name);
+    TELL(drc_fault_name(DRC_FAULT_KdMesh + 1, name, sizeof name) == DRC_BAD_ARGUMENT && name[0] == '#');
+    TELL(drc_fault_name(UINT32_MAX, name, sizeof name) == DRC_BAD_ARGUMENT && name[0] == '#');
+    TELL(drc_fault_name(0, NULL, 0) == DRC_NO_ROOM);
+    TELL(drc_fault_name(DRC_FAULT_Short, name, sizeof name) == DRC_DONE && strcmp(name, "Short") == 0);
+}
+
+/* A triangle of int32 positions, for what is refused. */
+typedef struct arrays {
+    uint32_t mesh;
+    drc_head heads[17];
+    size_t attributes;
+    uint32_t corners[6];
+    size_t faces;
+    int32_t values[9];
+    size_t count;
+    drc_options options;
+} arrays;
+
+static arrays triangle(void) {
+    static const int32_t values[9] = {0, 0, 0, 10, 0, 0, 0, 10, -1};
+    arrays all;
+    memset(&all, 0, sizeof all);
+    all.mesh = 1;
+    all.attributes = 1;
+    for (int k = 0; k < 17; k++) {
+        all.heads[k].usage = k == 0 ? 0 : 4;
+        all.heads[k].dtype = 5;
+        all.heads[k].comps = k == 0 ? 3 : 1;
+    }
+    for (uint32_t k = 0; k < 3; k++) all.corners[k] = k;
+    all.faces = 1;
+    memcpy(all.values, values, sizeof values);
+    all.count = 9;
+    return all;
+}
+
+static uint32_t encode(const arrays *all, drc_stream *stream, drc_fault *fault) {
+    return drc_encode(all->mesh, all->heads, all->attributes, all->corners, all->faces, all->values, all->count, &all->options, stream, fault);
+}
+
+static int is_answered(const arrays *all, uint32_t status, uint32_t kind, uint64_t at) {
+    drc_stream stream;
+    drc_lengths lengths = {77, 78};
+    drc_fault fault = marked(), again = marked();
+    uint8_t bytes[1] = {9};
+    drc_row rows[1] = {{8, 7}};
+    memset(&stream, 0x5a, sizeof stream);
+    drc_stream before = stream;
+    int same = encode(all, &stream, &fault) == status && memcmp(&stream, &before, sizeof stream) == 0;
+    same = same && drc_encode_into(all->mesh, all->heads, all->attributes, all->corners, all->faces, all->values, all->count, &all->options, bytes,
+                                   1, rows, 1, &lengths, &again) == status;
+    same = same && bytes[0] == 9 && rows[0].number == 8 && rows[0].turn == 7 && lengths.bytes == 77 && lengths.rows == 78;
+    if (status != DRC_REFUSED) return same && is_marked(&fault) && is_marked(&again);
+    return same && is_fault(&fault, kind, at) && is_fault(&again, kind, at);
+}
+
+static void test_refusals(void) {
+    arrays it = triangle();
+    drc_fault fault = marked();
+    drc_stream stream;
+    drc_geometry geometry;
+    drc_shape shape;
+    memset(&geometry, 0x5a, sizeof geometry);
+    memset(&shape, 0x5a, sizeof shape);
+    drc_geometry before = geometry;
+    TELL(drc_decode(NULL, 0, &geometry, &fault) == DRC_REFUSED && is_fault(&fault, DRC_FAULT_Short, 0));
+    TELL(memcmp(&geometry, &before, sizeof geometry) == 0);
+    fault = marked();
+    TELL(drc_decode_into(NULL, 0, NULL, 0, NULL, 0, &shape, &fault) == DRC_REFUSED && is_fault(&fault, DRC_FAULT_Short, 0));
+    TELL(memcmp(&shape, &before, sizeof shape) == 0);
+
+    fault = marked();
+    TELL(encode(&it, &stream, &fault) == DRC_DONE && is_marked(&fault) && stream.lengths.rows == 1 && stream.rows[0].number == 0);
+    drc_free_stream(&stream);
+
+    it = triangle(), it.mesh = 2;
+    TELL(is_answered(&it, DRC_BAD_ARGUMENT, 0, 0));
+    it = triangle(), it.mesh = 0;
+    TELL(is_answered(&it, DRC_BAD_ARGUMENT, 0, 0));
+    it = triangle(), it.count = 8;
+    TELL(is_answered(&it, DRC_BAD_ARGUMENT, 0, 0));
+    it = triangle(), it.count = 7;
+    TELL(is_answered(&it, DRC_BAD_ARGUMENT, 0, 0));
+    it = triangle(), it.options.method = 4;
+    TELL(is_answered(&it, DRC_BAD_ARGUMENT, 0, 0));
+    it = triangle(), it.options.index = 3;
+    TELL(is_answered(&it, DRC_BAD_ARGUMENT, 0, 0));
+    it = triangle(), it.options.predict = 5;
+    TELL(is_answered(&it, DRC_BAD_ARGUMENT, 0, 0));
+    it = triangle(), it.options.walk = UINT32_MAX;
+    TELL(is_answered(&it, DRC_BAD_ARGUMENT, 0, 0));
+    it = triangle(), it.options.plain_values = 2;
+    TELL(is_answered(&it, DRC_BAD_ARGUMENT, 0, 0));
+
+    it = triangle(), it.corners[1] = 3;
+    TELL(is_answered(&it, DRC_REFUSED, DRC_FAULT_IndexRange, 0));
+    it = triangle(), it.faces = 2, it.corners[5] = UINT32_MAX;
+    TELL(is_answered(&it, DRC_REFUSED, DRC_FAULT_IndexRange, 1));
+    it = triangle(), it.attributes = 17;
+    TELL(is_answered(&it, DRC_REFUSED, DRC_FAULT_AttrLimit, 17));
+    it = triangle(), it.attributes = 0;
+    TELL(is_answered(&it, DRC_REFUSED, DRC_FAULT_NoAttribute, 0));
+    it = triangle(), it.heads[0].usage = 5;
+    TELL(is_answered(&it, DRC_REFUSED, DRC_FAULT_AttrType, 0));
+    it = triangle(), it.heads[0].dtype = 7;
+    TELL(is_answered(&it, DRC_REFUSED, DRC_FAULT_DataType, 0));
+    it = triangle(), it.heads[0].comps = 9;
+    TELL(is_answered(&it, DRC_REFUSED, DRC_FAULT_Components, 0));
+    it = triangle(), it.heads[0].comps = 0;
+    TELL(is_answered(&it, DRC_REFUSED, DRC_FAULT_Components, 0));
+    it = triangle(), it.heads[0].dtype = 9;
+    TELL(is_answered(&it, DRC_REFUSED, DRC_FAULT_QuantBits, 0));
+    it = triangle(), it.heads[0].dtype = 9, it.heads[0].bits = 31;
+    TELL(is_answered(&it, DRC_REFUSED, DRC_FAULT_QuantBits, 0));
+    it = triangle(), it.heads[0].dtype = 2;
+    TELL(is_answered(&it, DRC_REFUSED, DRC_FAULT_ValueRange, 8));
+    it = triangle(), it.heads[0].usage = 4;
+    TELL(is_answered(&it, DRC_REFUSED, DRC_FAULT_NoPosition, 0));
+    it = triangle(), it.corners[2] = 0;
+    TELL(is_answered(&it, DRC_REFUSED, DRC_FAULT_Degenerate, 0));
+    it = triangle(), it.faces = 0;
+    TELL(is_answered(&it, DRC_REFUSED, DRC_FAULT_Empty, 0));
+    it = triangle(), it.mesh = 0, it.faces = 0, it.options.method = DRC_METHOD_EDGEBREAKER;
+    TELL(is_answered(&it, DRC_REFUSED, DRC_FAULT_Choice, 0));
+    it = triangle(), it.options.index = DRC_INDEX_PLAIN;
+    TELL(is_answered(&it, DRC_REFUSED, DRC_FAULT_Choice, 1));
+    it = triangle(), it.options.method = DRC_METHOD_SEQUENTIAL, it.options.predict = DRC_PREDICT_MULTI;
+    TELL(is_answered(&it, DRC_REFUSED, DRC_FAULT_Choice, 2));
+    it = triangle(), it.options.method = DRC_METHOD_SEQUENTIAL, it.options.walk = DRC_WALK_DEPTH;
+    TELL(is_answered(&it, DRC_REFUSED, DRC_FAULT_Choice, 3));
+    fault = marked();
+    TELL(drc_encode(0, NULL, 0, NULL, 0, NULL, 0, &it.options, &stream, &fault) == DRC_REFUSED && is_fault(&fault, DRC_FAULT_NoAttribute, 0));
+}
+
+typedef struct file {
+    uint8_t *bytes;
+    size_t length;
+} file;
+
+static file read_file(const char *path) {
+    file it = {NULL, 0};
+    FILE *from = fopen(path, "rb");
+    if (from == NULL) return it;
+    fseek(from, 0, SEEK_END);
+    long length = ftell(from);
+    rewind(from);
+    it.bytes = (uint8_t *)__real_malloc((size_t)length + 1);
+    it.length = fread(it.bytes, 1, (size_t)length, from);
+    fclose(from);
+    return it;
+}
+
+/* Arrays of the caller with so much room, in which each place is marked. */
+typedef struct room {
+    uint32_t *corners;
+    size_t faces;
+    int32_t *values;
+    size_t count;
+} room;
+
+static room make_room(size_t faces, size_t count) {
+    room it = {(uint32_t *)__real_malloc(12 * faces + 1), faces, (int32_t *)__real_malloc(4 * count + 1), count};
+    for (size_t k = 0; k < 3 * faces; k++) it.corners[k] = MARK_CORNER;
+    for (size_t k = 0; k < count; k++) it.values[k] = MARK_VALUE;
+    return it;
+}
+
+static void free_room(room *it) {
+    __real_free(it->corners);
+    __real_free(it->values);
+}
+
+/* Whether the places from so many faces and values on are still marked. */
+static int is_kept(const room *it, size_t faces, size_t count) {
+    int kept = 1;
+    for (size_t k = 3 * faces; k < 3 * it->faces; k++) kept = kept && it->corners[k] == MARK_CORNER;
+    for (size_t k = count; k < it->count; k++) kept = kept && it->values[k] == MARK_VALUE;
+    return kept;
+}
+
+static int is_same(const drc_geometry *geometry, const uint32_t *corners, const int32_t *values) {
+    size_t faces = geometry->shape.faces, count = (size_t)geometry->shape.points * geometry->shape.width;
+    return (faces == 0 || memcmp(geometry->corners, corners, 12 * faces) == 0) && (count == 0 || memcmp(geometry->values, values, 4 * count) == 0);
+}
+
+static void test_rooms(const file *it, const drc_geometry *geometry) {
+    size_t faces = geometry->shape.faces, count = (size_t)geometry->shape.points * geometry->shape.width;
+    for (int more = 0; more <= 3; more += 3) {
+        room at = make_room(faces + more, count + more);
+        drc_shape shape;
+        drc_fault fault = marked();
+        memset(&shape, 0x5a, sizeof shape);
+        TELL(drc_decode_into(it->bytes, it->length, at.corners, at.faces, at.values, at.count, &shape, &fault) == DRC_DONE);
+        TELL(is_marked(&fault) && memcmp(&shape, &geometry->shape, sizeof(uint32_t) * 5) == 0 && is_same(geometry, at.corners, at.values));
+        TELL(is_kept(&at, faces, count));
+        free_room(&at);
+    }
+    for (int which = 0; which < 3; which++) {
+        if (which == 0 && faces == 0) continue;
+        room at = make_room(which == 0 ? faces - 1 : faces, which == 1 ? count - 1 : count);
+        drc_shape shape;
+        drc_fault fault = marked();
+        memset(&shape, 0x5a, sizeof shape);
+        uint32_t status = which == 2 ? drc_decode_into(it->bytes, it->length, NULL, 0, NULL, 0, &shape, &fault)
+                                     : drc_decode_into(it->bytes, it->length, at.corners, at.faces, at.values, at.count, &shape, &fault);
+        TELL(status == DRC_NO_ROOM && is_marked(&fault) && is_kept(&at, 0, 0));
+        TELL(shape.faces == faces && (size_t)shape.points * shape.width == count && shape.attributes == geometry->shape.attributes);
+        free_room(&at);
+    }
+}
+
+/* The heads of two shapes are the same, whatever lies between their fields. */
+static int are_same_heads(const drc_shape *a, const drc_shape *b) {
+    int same = a->attributes == b->attributes;
+    for (int k = 0; k < DRC_MAX_ATTRIBUTES; k++) {
+        const drc_head *p = &a->heads[k], *q = &b->heads[k];
+        same = same && p->usage == q->usage && p->dtype == q->dtype && p->comps == q->comps && p->normalized == q->normalized && p->id == q->id;
+        same = same && p->bits == q->bits && p->range == q->range && memcmp(p->min, q->min, sizeof p->min) == 0;
+    }
+    return same;
+}
+
+static void test_again(const drc_geometry *geometry, const drc_options *options) {
+    const drc_shape *shape = &geometry->shape;
+    size_t count = (size_t)shape->points * shape->width;
+    drc_stream stream;
+    drc_fault fault = marked();
+    uint32_t status = drc_encode(shape->mesh, shape->heads, shape->attributes, geometry->corners, shape->faces, geometry->values, count, options,
+                                 &stream, &fault);
+    TELL(status == DRC_DONE || status == DRC_REFUSED);
+    if (status != DRC_DONE) return;
+    TELL(is_marked(&fault));
+    drc_geometry again;
+    TELL(drc_decode(stream.bytes, stream.lengths.bytes, &again, &fault) == DRC_DONE);
+    TELL(again.shape.mesh == shape->mesh && again.shape.faces == shape->faces && again.shape.width == shape->width);
+    TELL(are_same_heads(&again.shape, shape));
+    TELL(stream.lengths.rows == (shape->mesh ? shape->faces : shape->points));
+    for (size_t f = 0; f < again.shape.faces; f++) {
+        for (uint32_t k = 0; k < 3; k++) {
+            size_t mine = again.corners[3 * f + k], its = geometry->corners[3 * stream.rows[f].number + (k + stream.rows[f].turn) % 3];
+            TELL(memcmp(again.values + mine * shape->width, geometry->values + its * shape->width, 4 * shape->width) == 0);
+        }
+    }
+    drc_free(&again);
+
+    size_t length = stream.lengths.bytes, rows = stream.lengths.rows;
+    for (int which = 0; which < 3; which++) {
+        if (which == 1 && rows == 0) continue;
+        size_t room = which == 0 ? length - 1 : length, row_room = which == 1 ? rows - 1 : rows;
+        uint8_t *bytes = (uint8_t *)__real_malloc(length + 1);
+        drc_row *map = (drc_row *)__real_malloc(8 * rows + 1);
+        drc_lengths lengths = {1, 2};
+        memset(bytes, 0xcc, length);
+        memset(map, 0xcc, 8 * rows);
+        fault = marked();
+        status = drc_encode_into(shape->mesh, shape->heads, shape->attributes, geometry->corners, shape->faces, geometry->values, count, options,
+                                 bytes, room, map, row_room, &lengths, &fault);
+        TELL(is_marked(&fault) && lengths.bytes == length && lengths.rows == rows);
+        if (which == 2) {
+            TELL(status == DRC_DONE && memcmp(bytes, stream.bytes, length) == 0 && (rows == 0 || memcmp(map, stream.rows, 8 * rows) == 0));
+        } else {
+            int kept = status == DRC_NO_ROOM;
+            for (size_t k = 0; k < length; k++) kept = kept && bytes[k] == 0xcc;
+            for (size_t k = 0; k < 8 * rows; k++) kept = kept && ((uint8_t *)map)[k] == 0xcc;
+            TELL(kept);
+        }
+        __real_free(bytes);
+        __real_free(map);
+    }
+    drc_free_stream(&stream);
+}
+
+/* Each front of a stream is refused, or means something as well. */
+static void test_cuts(const file *it) {
+    for (size_t length = 0; length < it->length && length < 400; length++) {
+        uint8_t *bytes = (uint8_t *)__real_malloc(length + 1);
+        drc_geometry geometry;
+        drc_fault fault = marked();
+        memcpy(bytes, it->bytes, length);
+        uint32_t status = drc_decode(bytes, length, &geometry, &fault);
+        TELL(status == DRC_DONE ? is_marked(&fault) : status == DRC_REFUSED && fault.kind <= DRC_FAULT_KdMesh);
+        if (status == DRC_DONE) drc_free(&geometry);
+        __real_free(bytes);
+    }
+}
+
+/* Has each request for memory fail in turn: the answer is out of memory, or done where one can do without. */
+static void test_failing(const file *it, const drc_geometry *geometry) {
+    const drc_shape *shape = &geometry->shape;
+    drc_options options;
+    long number;
+    memset(&options, 0, sizeof options);
+    for (int encodes = 0; encodes < 2; encodes++) {
+        for (number = 1; number < 20000; number++) {
+            drc_geometry found;
+            drc_stream stream;
+            drc_fault fault = marked();
+            counting = 1, requests = 0, blocks = 0, failing = number;
+            uint32_t status = encodes ? drc_encode(shape->mesh, shape->heads, shape->attributes, geometry->corners, shape->faces, geometry->values,
+                                                   (size_t)shape->points * shape->width, &options, &stream, &fault)
+                                      : drc_decode(it->bytes, it->length, &found, &fault);
+            if (status == DRC_DONE && encodes) drc_free_stream(&stream);
+            if (status == DRC_DONE && !encodes) drc_free(&found);
+            counting = 0;
+            TELL(blocks == 0 && (status == DRC_DONE || status == DRC_NO_MEMORY || (encodes && status == DRC_REFUSED)));
+            TELL(is_marked(&fault) || status == DRC_REFUSED);
+            if (requests < number) break;
+        }
+        TELL(number > 1 && number < 20000);
+    }
+}
+
+typedef struct task {
+    const file *stream;
+    const drc_geometry *geometry;
+    unsigned long right;
+} task;
+
+static void *decode_often(void *words) {
+    task *it = (task *)words;
+    for (int k = 0; k < 50; k++) {
+        drc_geometry geometry;
+        drc_fault fault;
+        if (drc_decode(it->stream->bytes, it->stream->length, &geometry, &fault) != DRC_DONE) continue;
+        it->right += geometry.shape.faces == it->geometry->shape.faces && is_same(it->geometry, geometry.corners, geometry.values);
+        drc_free(&geometry);
+    }
+    return NULL;
+}
+
+static void test_threads(const file *it, const drc_geometry *geometry) {
+    pthread_t threads[8];
+    task tasks[8];
+    for (int k = 0; k < 8; k++) {
+        tasks[k].stream = it, tasks[k].geometry = geometry, tasks[k].right = 0;
+        TELL(pthread_create(&threads[k], NULL, decode_often, &tasks[k]) == 0);
+    }
+    for (int k = 0; k < 8; k++) {
+        pthread_join(threads[k], NULL);
+        TELL(tasks[k].right == 50);
+    }
+}
+
+static void test_stream(const char *path) {
+    subject = path;
+    file it = read_file(path);
+    drc_geometry geometry;
+    drc_fault fault = marked();
+    TELL(it.bytes != NULL && drc_decode(it.bytes, it.length, &geometry, &fault) == DRC_DONE && is_marked(&fault));
+    if (it.bytes == NULL || !is_marked(&fault)) return;
+    TELL((geometry.corners == NULL) == (geometry.shape.faces == 0));
+    test_rooms(&it, &geometry);
+    for (uint32_t method = 0; method <= 3; method++) {
+        for (uint32_t predict = 0; predict <= 4; predict++) {
+            drc_options options = {method, 0, predict, 0, method & 1};
+            test_again(&geometry, &options);
+        }
+    }
+    test_cuts(&it);
+    test_failing(&it, &geometry);
+    test_threads(&it, &geometry);
+    drc_free(&geometry);
+    __real_free(it.bytes);
+}
+
+int main(int count, char **words) {
+    test_structs();
+    test_names();
+    test_refusals();
+    for (int k = 1; k < count; k++) test_stream(words[k]);
+    printf("%lu passed, %lu failed\n", passed, failed);
+    return failed != 0;
+}
