@@ -1,0 +1,81 @@
+"""Finding `drc` and running it."""
+import os
+import pathlib
+import re
+import shutil
+import subprocess
+from typing import NamedTuple
+
+from .faults import in_words
+from .trouble import MEMORY, MISSING, READING, REFUSED, WRITING, Refused, Trouble
+
+OWN = pathlib.Path(__file__).resolve().parents[2] / "crates" / "drc" / "out" / "drc"
+
+
+def find(given=None):
+    """The program `drc`: the one given, that of the variable DRC, the one that this repository built, or that of the PATH, in this order."""
+    named = given or os.environ.get("DRC")
+    if named:
+        found = shutil.which(named)
+        if not found:
+            raise Trouble(f"{named} isn't a program that can be run; --drc and the variable DRC name the built `drc`", MISSING)
+        return found
+    if os.access(OWN, os.X_OK):
+        return str(OWN)
+    found = shutil.which("drc")
+    if not found:
+        raise Trouble("the program `drc` isn't there: build it by ./drc in the repository, or name it by --drc or the variable DRC", MISSING)
+    return found
+
+
+class Ran(NamedTuple):
+    status: int
+    out: bytes
+    note: str
+
+
+class Drc:
+    """The program `drc`, by its path. Each call raises Refused where the input is refused, and Trouble where the program fails."""
+
+    def __init__(self, path):
+        self.path = path
+
+    def run(self, words, data):
+        """One command, whatever its status."""
+        try:
+            ran = subprocess.run([self.path, *words], input=data, stdout=subprocess.PIPE, stderr=subprocess.PIPE, check=False)
+        except OSError as why:
+            raise Trouble(f"{self.path} can't be run: {why.strerror}", MISSING) from why
+        return Ran(ran.returncode, ran.stdout, ran.stderr.decode("utf-8", "replace"))
+
+    def done(self, words, data, accepted=(0,)):
+        """One command that has to end with an accepted status, by default 0; else the trouble in words."""
+        ran = self.run(words, data)
+        if ran.status in accepted:
+            return ran
+        note = ran.note.strip().splitlines()
+        note = note[-1] if note else ""
+        found = re.fullmatch(r"refused (\w+) (\d+)", note)
+        if ran.status == REFUSED and found:
+            raise Refused(found[1], int(found[2]), in_words(found[1], found[2]))
+        what = f"drc {' '.join(words)}"
+        if ran.status == MEMORY:
+            raise Trouble(f"{what}: out of memory", MEMORY)
+        if ran.status < 0:
+            raise Trouble(f"{what} was ended by signal {-ran.status}", MISSING)
+        if "bad word" in note:
+            raise Trouble(f"{what}: this program has no such command or option ({note})", MISSING)
+        raise Trouble(f"{what}: status {ran.status} {note}", ran.status if ran.status in (READING, WRITING) else MISSING)
+
+    def enc(self, text, options=()):
+        """A PLY text to a stream, and the map's text."""
+        ran = self.done(["enc", *options], text)
+        return ran.out, ran.note
+
+    def dec(self, stream):
+        """A stream to a PLY text."""
+        return self.done(["dec"], stream).out
+
+    def info(self, stream):
+        """The report of a stream."""
+        return self.done(["info"], stream).out.decode()
