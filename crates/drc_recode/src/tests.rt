@@ -8,6 +8,7 @@ use drc_base::{Fault, Kind, Refusal, Sequence};
 use drc_container::{Choice, Method, decode};
 use mesh_model::{Geometry, MapRead, Renumber};
 use std::alloc::{AllocError, Global};
+use std::process::Abort;
 use std::test::Fail;
 
 /// A sequential mesh of one triangle.
@@ -78,10 +79,10 @@ fn fault(kind: Kind, at: u64) -> Option<Refusal> {
 }
 
 /// A few rows turned back.
-fn back_of(rt: HostRuntime, rows: &[(u32, u8)]) -> Result<Renumber, Refusal> {
+fn back_of(rt: &impl Abort, alloc: Global, rows: &[(u32, u8)]) -> Result<Renumber, Refusal> {
     assert!(rt; rows.len() < 10);
-    let c = renumber(rt.alloc(), rows)?;
-    invert(rt.alloc(), &c)
+    let c = renumber(alloc, rows)?;
+    invert(alloc, &c)
 }
 
 #[test]
@@ -98,14 +99,16 @@ fn one_renumbering_after_another(rt: HostRuntime) -> Result<(), Fail> {
 
 #[test]
 fn a_renumbering_turned_back(rt: HostRuntime) -> Result<(), Fail> {
-    let back = back_of(rt, &[(2, 1), (0, 0), (1, 2)])?;
+    let alloc = rt.alloc();
+    let back = back_of(&rt, alloc, &[(2, 1), (0, 0), (1, 2)])?;
     assert_eq!(rt; back.rows.as_slice(), [(1, 0), (2, 1), (0, 2)].as_slice());
-    assert!(rt; back_of(rt, &[])?.rows.is_empty());
+    assert!(rt; back_of(&rt, alloc, &[])?.rows.is_empty());
     Ok(())
 }
 
 #[test]
 fn rows_that_have_no_way_back(rt: HostRuntime) -> Result<(), Fail> {
+    let alloc = rt.alloc();
     let cases: [(&[(u32, u8)], u64); 4] = [
         (&[(0, 0), (2, 0)], 1),
         (&[(0, 1), (0, 2)], 1),
@@ -113,7 +116,7 @@ fn rows_that_have_no_way_back(rt: HostRuntime) -> Result<(), Fail> {
         (&[(1, 3), (1, 0)], 0),
     ];
     for (rows, at) in cases {
-        assert_eq!(rt; back_of(rt, rows).err(), fault(Kind::BadMap, at));
+        assert_eq!(rt; back_of(&rt, alloc, rows).err(), fault(Kind::BadMap, at));
     }
     Ok(())
 }
