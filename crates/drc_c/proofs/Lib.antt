@@ -2,4 +2,5 @@ pub mod FewHeads
 pub mod Filling
 pub mod NumberedKinds
 pub mod WholeRows
+pub mod VerifiedArrays
 pub mod ToldHeads

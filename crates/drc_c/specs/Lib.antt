@@ -9,3 +9,5 @@ pub mod Options
 pub mod Streams
 pub mod Inputs
 pub mod Encoded
+pub mod Recoded
+pub mod Verified

@@ -10,26 +10,16 @@ ghost use Rattle.drc_c.specs.Inputs.{do_fit};
 ghost use Rattle.drc_c.specs.declared.streams.DrcRow.{DrcRow as AnyRow};
 ghost use Rattle.drc_c.specs.Encoded.{encoded, IsEncoding, Takes};
 
-use crate::arrays::fill;
-use crate::copies::{handed_bytes, handed_rows};
 use crate::faults::{DrcFault, refuse};
 use crate::heads::DrcHead;
 use crate::inputs::{do_fit, geometry_meant};
 use crate::options::{DrcOptions, choice_meant};
 use crate::statuses::{BAD_ARGUMENT, DONE, NO_MEMORY, NO_ROOM, REFUSED};
 use crate::streams::{DrcLengths, DrcRow, DrcStream, rows_told};
+use crate::written::{Encoded, handed, place};
 use drc_base::Refusal;
 use drc_container::{Choice, encode};
 use std::alloc::Global;
-
-/// A stream and its map.
-#[derive(Drop)]
-struct Encoded {
-    /// The bytes of the stream.
-    bytes: Vec<u8>,
-    /// The rows of the map.
-    rows: Vec<DrcRow>,
-}
 
 /// The stream of the geometry that arrays mean, coded as chosen, and its map; or the first fault of the arrays, then
 /// of the encoding.
@@ -66,39 +56,6 @@ fn choice_for(
         return None;
     }
     choice_meant(options)
-}
-
-/// Writes a stream and its map to the front of arrays, where both have room, and how much there is of both.
-fn place(encoded: &Encoded, bytes: &mut [u8], rows: &mut [DrcRow], lengths: &mut DrcLengths) -> u32
-    ensures statuses { (result ≡ DONE) ⊎ (result ≡ NO_ROOM) }
-    ensures lengths { lengths.new ≡ record { bytes = length encoded.now.bytes.items; rows = length encoded.now.rows.items } }
-    ensures done { result ≡ DONE → (bytes.new ≡ filled encoded.now.bytes.items bytes.old) × (rows.new ≡ filled encoded.now.rows.items rows.old) }
-    ensures no_room { result ≡ NO_ROOM → ((length bytes.old < length encoded.now.bytes.items) ⊎ (length rows.old < length encoded.now.rows.items))
-        × (bytes.new ≡ bytes.old) × (rows.new ≡ rows.old) }
-{
-    lengths.bytes = encoded.bytes.len();
-    lengths.rows = encoded.rows.len();
-    if encoded.bytes.len() > bytes.len() || encoded.rows.len() > rows.len() {
-        return NO_ROOM;
-    }
-    fill(bytes, &encoded.bytes);
-    fill(rows, &encoded.rows);
-    DONE
-}
-
-/// Hands out a stream and its map.
-fn handed(encoded: Encoded) -> DrcStream
-    ensures { result.lengths ≡ record { bytes = length encoded.bytes.items; rows = length encoded.rows.items } }
-{
-    let lengths = DrcLengths {
-        bytes: encoded.bytes.len(),
-        rows: encoded.rows.len(),
-    };
-    DrcStream {
-        lengths,
-        bytes: handed_bytes(encoded.bytes),
-        rows: handed_rows(encoded.rows),
-    }
 }
 
 /// Encodes arrays into arrays of the caller: a mesh (1) or a cloud (0) of these heads, faces of three numbers of

@@ -12,7 +12,7 @@ use mesh_model::{Cloud, CornerMesh, Geometry, Head};
 use std::alloc::Global;
 
 /// The number of a cloud.
-const CLOUD: u32 = 0;
+pub const CLOUD: u32 = 0;
 
 /// The number of a mesh.
 const MESH: u32 = 1;

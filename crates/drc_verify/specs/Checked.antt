@@ -86,6 +86,13 @@ due surface cloud rows text bytes = do
   n ← stream bytes
   verdict_asked surface cloud rows g n
 
+-- what is due of the rows of a map of a cloud or of a mesh, a geometry and a stream: the verdict on the geometry and what the stream
+-- means, or the stream's first fault
+unfoldable pub read_due : Bool → Bool → Rows → Geometry → List ℕ → Result Verdict Fault
+read_due surface cloud rows g bytes = do
+  n ← stream bytes
+  verdict_asked surface cloud rows g n
+
 -- ---- what a yes means
 
 -- the glued pairs of a stream's surface are those of the mesh, carried by the rows

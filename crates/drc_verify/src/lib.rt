@@ -18,4 +18,4 @@ mod verifying;
 
 pub use laws::a_yes_is_the_same;
 pub use verdicts::Verdict;
-pub use verifying::verify;
+pub use verifying::{verify, verify_read};

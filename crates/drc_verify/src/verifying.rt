@@ -6,7 +6,7 @@ ghost use Rattle.mesh_model.specs.declared.geometries.Geometry.{Geometry as AnyG
 ghost use Rattle.ply_mesh.specs.Read.{ply_read};
 ghost use Rattle.drc_container.specs.Meaning.{Meaning, told_by};
 ghost use Rattle.drc_container.specs.Stream.{stream as meaning_of_stream};
-ghost use Rattle.drc_verify.specs.Checked.{due, verdict_asked, IsSame, HasFaces};
+ghost use Rattle.drc_verify.specs.Checked.{due, read_due, verdict_asked, IsSame, HasFaces};
 ghost use Rattle.drc_verify.specs.declared.verdicts.Verdict.TheVariants as verdict;
 
 use crate::judging::judge;
@@ -65,5 +65,24 @@ pub fn verify(
     let decoded = decode_whole(alloc, stream);
     let g = read_ply(alloc, ply)?;
     let n = decoded?;
+    judge_asked(alloc, surface, map.cloud, map.rows.rows.as_slice(), &g, n)
+}
+
+/// The verdict that `verify` gives on a text that means the geometry `g`, which is freed. Refusals are those of
+/// `verify` behind the text's.
+#[tactic(auto, unfolding(crate::specs::Checked::read_due))]
+pub fn verify_read(
+    alloc: Global,
+    map: &MapRead,
+    g: Geometry,
+    stream: &[u8],
+    surface: bool,
+) -> Result<Verdict, Refusal>
+    ensures verdict { Answers (λ v. v) (read_due surface map.now.cloud map.now.rows.rows g stream.now) result }
+    ensures same { (n : Meaning) → meaning_of_stream stream.now ≡ Ok n
+        → IfOk result (λ v. (v ≡ verdict.Same) ↔ IsSame surface map.now.cloud map.now.rows.rows g n) }
+{
+    a_surface_has_the_faces();
+    let n = decode_whole(alloc, stream)?;
     judge_asked(alloc, surface, map.cloud, map.rows.rows.as_slice(), &g, n)
 }
