@@ -402,6 +402,50 @@ static void test_verifying(void) {
     drc_free_stream(&plain);
 }
 
+/* Faults of heads, of numbers and of what a stream declares come before memory is asked for: with none there they are the same. */
+static void test_early(void) {
+    enum { MOST = 1 << 22 };
+    uint32_t *corners = (uint32_t *)__real_malloc(12 * (size_t)(MOST + 1));
+    int32_t *values = (int32_t *)__real_malloc(4 * (size_t)(MOST + 1));
+    drc_stream stream;
+    drc_verdict verdict;
+    memset(corners, 0, 12 * (size_t)(MOST + 1));
+    memset(values, 0, 4 * (size_t)(MOST + 1));
+    for (int which = 0; which < 8; which++) {
+        static const uint32_t kinds[] = {DRC_FAULT_NoAttribute, DRC_FAULT_AttrLimit,  DRC_FAULT_AttrType,   DRC_FAULT_DataType,
+                                         DRC_FAULT_Components,  DRC_FAULT_QuantBits, DRC_FAULT_PointLimit, DRC_FAULT_FaceLimit};
+        static const uint64_t places[] = {0, 17, 1, 1, 1, 1, MOST + 1, MOST + 1};
+        arrays it = triangle();
+        size_t faces = which == 7 ? MOST + 1 : 1, count = which == 6 ? MOST + 1 : which == 0 || which == 1 ? 9 : 12;
+        it.attributes = which == 0 ? 0 : which == 1 ? 17 : which >= 6 ? 1 : 2;
+        if (which == 2) it.heads[1].usage = 5;
+        if (which == 3) it.heads[1].dtype = 8;
+        if (which == 4) it.heads[1].comps = 9;
+        if (which == 5) it.heads[1].dtype = 9, it.heads[1].bits = 31;
+        if (which == 6) it.heads[0].comps = 1;
+        for (int call = 0; call < 2; call++) {
+            drc_fault fault = marked();
+            counting = 1, requests = 0, blocks = 0, failing = 1;
+            uint32_t status = call ? drc_verify(1, it.heads, it.attributes, corners, faces, values, count, NULL, 0, NULL, 0, 0, &verdict, &fault)
+                                   : drc_encode(1, it.heads, it.attributes, corners, faces, values, count, &it.options, &stream, &fault);
+            counting = 0;
+            TELL(status == DRC_REFUSED && is_fault(&fault, kinds[which], places[which]) && requests == 0);
+        }
+    }
+    static const uint8_t header[] = {68, 82, 65, 67, 79, 2, 1, 1, 0, 0, 0};
+    drc_options options = {0, 0, 0, 0, 0};
+    drc_geometry geometry;
+    for (int call = 0; call < 2; call++) {
+        drc_fault fault = marked();
+        counting = 1, requests = 0, failing = 1;
+        uint32_t status = call ? drc_recode(header, sizeof header, &options, &stream, &fault) : drc_decode(header, sizeof header, &geometry, &fault);
+        counting = 0;
+        TELL(status == DRC_REFUSED && is_fault(&fault, DRC_FAULT_Version, 5) && requests == 0);
+    }
+    __real_free(corners);
+    __real_free(values);
+}
+
 typedef struct file {
     uint8_t *bytes;
     size_t length;
@@ -751,6 +795,7 @@ int main(int count, char **words) {
     test_recoding();
     test_restoring();
     test_verifying();
+    test_early();
     for (int k = 1; k < count; k++) test_stream(words[k]);
     printf("%lu passed, %lu failed\n", passed, failed);
     return failed != 0;

@@ -2,9 +2,11 @@
 
 ghost use Rattle.std.specs.Prelude.{◌≡◌, ◌<◌, ◌⊎◌, ℕ, List, [], ◌∷◌, Contains, true, Err, Some, None, IfOk, length};
 ghost use Rattle.drc_base.specs.declared.faults.Fault.{Fault as AnyFault};
+ghost use Rattle.drc_base.specs.declared.faults.Refusal.TheVariants as refusal;
 ghost use Rattle.drc_base.specs.Refusals.{Answers};
 ghost use Rattle.drc_container.specs.declared.choices.Choice.{Choice as AnyChoice};
 ghost use Rattle.drc_c.specs.Arrays.{filled};
+ghost use Rattle.drc_c.specs.Early.{early_fault};
 ghost use Rattle.drc_c.specs.Faults.{fault_told};
 ghost use Rattle.drc_c.specs.Inputs.{do_fit};
 ghost use Rattle.drc_c.specs.declared.streams.DrcRow.{DrcRow as AnyRow};
@@ -34,6 +36,7 @@ fn encode_arrays(
 ) -> Result<Encoded, Refusal>
     requires { do_fit mesh heads.now corners.now values.now ≡ true }
     ensures answer { Answers (λ e. (e.bytes.items, e.rows.items)) (encoded mesh heads.now corners.now values.now choice.now) result }
+    ensures early { (f : AnyFault) → early_fault mesh heads.now corners.now values.now ≡ Some f → result ≡ Err (refusal.Fault f) }
     ensures means { IfOk result (λ e. IsEncoding mesh heads.now corners.now values.now choice.now e.bytes.items e.rows.items) }
 {
     let g = geometry_meant(alloc, mesh, heads, corners, values)?;
@@ -64,7 +67,7 @@ fn choice_for(
 /// `DONE`: the arrays begin with the stream and its map, by which the stream means the geometry that was passed.
 /// `BAD_ARGUMENT`: the arrays don't fit each other, or an option's number names nothing. `REFUSED`: the first fault of the
 /// arrays, then of the encoding. `NO_ROOM`: one of the arrays is too short; the lengths say what is needed. `NO_MEMORY`:
-/// nothing is written.
+/// nothing is written. Faults of the heads, and of the numbers of points, values and faces, come before memory is taken.
 #[unsafe(no_mangle)]
 pub extern "C" fn drc_encode_into(
     alloc: Global,
@@ -88,6 +91,8 @@ pub extern "C" fn drc_encode_into(
     ensures refused { result ≡ REFUSED → (choice : AnyChoice) × (f : AnyFault)
         × Takes mesh heads.now corners.now values.now options.now (Some choice)
         × (encoded mesh heads.now corners.now values.now choice ≡ Err f) × (fault.new ≡ fault_told f) }
+    ensures early { (choice : AnyChoice) (f : AnyFault) → Takes mesh heads.now corners.now values.now options.now (Some choice)
+        → early_fault mesh heads.now corners.now values.now ≡ Some f → (result ≡ REFUSED) × (fault.new ≡ fault_told f) }
     ensures no_room { result ≡ NO_ROOM → (choice : AnyChoice) × (stream : List ℕ) × (told : List AnyRow)
         × Takes mesh heads.now corners.now values.now options.now (Some choice)
         × IsEncoding mesh heads.now corners.now values.now choice stream told
@@ -112,7 +117,7 @@ pub extern "C" fn drc_encode_into(
 /// Encodes arrays, as `drc_encode_into`, into a stream and a map of their own, which C's `free` frees.
 ///
 /// `DONE`: the stream means the geometry that was passed, by its map. `BAD_ARGUMENT`, `REFUSED`, `NO_MEMORY`: as there, and the
-/// stream is as before.
+/// stream is as before. The same faults as there come before memory is taken.
 #[unsafe(no_mangle)]
 pub extern "C" fn drc_encode(
     alloc: Global,
@@ -133,6 +138,8 @@ pub extern "C" fn drc_encode(
     ensures refused { result ≡ REFUSED → (choice : AnyChoice) × (f : AnyFault)
         × Takes mesh heads.now corners.now values.now options.now (Some choice)
         × (encoded mesh heads.now corners.now values.now choice ≡ Err f) × (fault.new ≡ fault_told f) }
+    ensures early { (choice : AnyChoice) (f : AnyFault) → Takes mesh heads.now corners.now values.now options.now (Some choice)
+        → early_fault mesh heads.now corners.now values.now ≡ Some f → (result ≡ REFUSED) × (fault.new ≡ fault_told f) }
 
     // What isn't told is as before.
     ensures stream_same { (result ≡ DONE) ⊎ (stream.new ≡ stream.old) }

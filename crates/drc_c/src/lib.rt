@@ -7,6 +7,7 @@
 mod arrays;
 mod copies;
 mod decoding;
+mod early;
 mod encoding;
 mod faults;
 mod heads;

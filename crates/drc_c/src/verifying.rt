@@ -2,9 +2,11 @@
 
 ghost use Rattle.std.specs.Prelude.{◌≡◌, ◌⊎◌, Bool, true, [], ◌∷◌, Contains, Err, Some, None, IfOk};
 ghost use Rattle.drc_base.specs.declared.faults.Fault.{Fault as AnyFault};
+ghost use Rattle.drc_base.specs.declared.faults.Refusal.TheVariants as refusal;
 ghost use Rattle.drc_base.specs.Refusals.{Answers};
 ghost use Rattle.drc_verify.specs.declared.verdicts.Verdict.{Verdict as AnyVerdict};
 ghost use Rattle.drc_verify.specs.declared.verdicts.Verdict.TheVariants as verdict;
+ghost use Rattle.drc_c.specs.Early.{early_fault};
 ghost use Rattle.drc_c.specs.Faults.{fault_told};
 ghost use Rattle.drc_c.specs.Inputs.{do_fit};
 ghost use Rattle.drc_c.specs.Verified.{verdict_told, verified, Asks, IsVerified};
@@ -35,6 +37,7 @@ fn verify_arrays(
 ) -> Result<Verdict, Refusal>
     requires { do_fit mesh heads.now corners.now values.now ≡ true }
     ensures answer { Answers (λ v. v) (verified surface mesh heads.now corners.now values.now rows.now bytes.now) result }
+    ensures early { (f : AnyFault) → early_fault mesh heads.now corners.now values.now ≡ Some f → result ≡ Err (refusal.Fault f) }
     ensures verified { IfOk result (λ v. IsVerified surface mesh heads.now corners.now values.now rows.now bytes.now v) }
 {
     let g = geometry_meant(alloc, mesh, heads, corners, values)?;
@@ -63,7 +66,8 @@ fn surface_for(
 ///
 /// `DONE`: it is. `NOT_SAME`: it isn't. In both cases the verdict says so, and what differs first. `BAD_ARGUMENT`: the arrays
 /// don't fit each other, or `surface` is neither 0 nor 1. `REFUSED`: the first fault of the arrays, then of the stream,
-/// then with `surface` why there is no surface to compare. `NO_MEMORY`: nothing is written.
+/// then with `surface` why there is no surface to compare. `NO_MEMORY`: nothing is written. Faults of the heads, and of the
+/// numbers of points, values and faces, come before memory is taken.
 #[unsafe(no_mangle)]
 pub extern "C" fn drc_verify(
     alloc: Global,
@@ -87,6 +91,8 @@ pub extern "C" fn drc_verify(
     ensures bad { result ≡ BAD_ARGUMENT → Asks mesh heads.now corners.now values.now surface None }
     ensures refused { result ≡ REFUSED → (asked : Bool) × (f : AnyFault) × Asks mesh heads.now corners.now values.now surface (Some asked)
         × (verified asked mesh heads.now corners.now values.now rows.now bytes.now ≡ Err f) × (fault.new ≡ fault_told f) }
+    ensures early { (asked : Bool) (f : AnyFault) → Asks mesh heads.now corners.now values.now surface (Some asked)
+        → early_fault mesh heads.now corners.now values.now ≡ Some f → (result ≡ REFUSED) × (fault.new ≡ fault_told f) }
 
     // What isn't told is as before.
     ensures verdict_same { (result ≡ DONE) ⊎ (result ≡ NOT_SAME) ⊎ (out.new ≡ out.old) }
