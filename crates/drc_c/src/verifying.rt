@@ -42,7 +42,7 @@ fn verify_arrays(
 {
     let g = geometry_meant(alloc, mesh, heads, corners, values)?;
     let map = map_meant(alloc, mesh == CLOUD, rows)?;
-    verify_read(alloc, &map, g, bytes, surface)
+    verify_read(alloc, &map, &g, bytes, surface)
 }
 
 /// Whether surfaces are asked for, of arrays that fit each other.

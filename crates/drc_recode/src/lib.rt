@@ -7,6 +7,7 @@
 mod composing;
 mod inverting;
 mod laws;
+mod packing;
 mod putting_back;
 mod recoding;
 mod reordering;
@@ -15,6 +16,7 @@ mod restoring;
 pub use composing::compose;
 pub use inverting::invert;
 pub use laws::the_first_order_comes_back;
+pub use packing::decode_packed;
 pub use recoding::recode;
 pub use restoring::restore;
 

@@ -10,7 +10,7 @@ use mesh_model::{Cloud, Head};
 use std::alloc::Global;
 
 /// Equal heads.
-fn copies_of(alloc: Global, heads: &[Head]) -> Result<Vec<Head>, Memory>
+pub fn copies_of(alloc: Global, heads: &[Head]) -> Result<Vec<Head>, Memory>
     ensures { IfOk result (λ v. v.items ≡ heads.now) }
 {
     let mut copies = Vec::with_capacity(alloc, heads.len())?;

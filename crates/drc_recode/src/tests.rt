@@ -139,6 +139,25 @@ fn streams_that_are_not_written_in_another_way(rt: HostRuntime) -> Result<(), Fa
 }
 
 #[test]
+fn a_stream_read_for_encoding(rt: HostRuntime) -> Result<(), Fail> {
+    let alloc = rt.alloc();
+    let mesh = decode_packed(alloc, &TETRAHEDRON)?;
+    let points = [0, 0, 0, 0, 0, 1, 0, 1, 0, 1, 0, 0];
+    let faces: [[u32; 3]; 4] = [[0, 1, 2], [2, 1, 3], [1, 0, 3], [2, 3, 0]];
+    assert!(rt;
+        matches!(&mesh, Geometry::Mesh(m) if m.cells() == points.as_slice() && m.faces() == faces.as_slice())
+    );
+    let cloud = decode_packed(alloc, &CLOUD)?;
+    let points = [5, 5, 5, 5, 5, 5, 5, 5, 6];
+    assert!(rt; matches!(&cloud, Geometry::Cloud(c) if c.cells() == points.as_slice()));
+    assert_eq!(rt;
+        decode_packed(alloc, &CLOUD[..40]).err(),
+        fault(Kind::Short, 40)
+    );
+    Ok(())
+}
+
+#[test]
 fn a_mesh_in_its_first_order(rt: HostRuntime) -> Result<(), Fail> {
     let alloc = rt.alloc();
     let bytes = restore(alloc, &map(alloc, false, &TETRAHEDRON_ROWS)?, &TETRAHEDRON)?;

@@ -48,6 +48,10 @@ mesh_asked (Cloud c) = Err (record { kind = NoPosition; at = 0 })
 abbrev pub pairs_asked : MeshParts → Result Gluing Fault
 pairs_asked m = value_unless (degenerate_fault m) (pairing m)
 
+-- the same of a text that means a geometry
+abbrev pub text_pairs : Geometry → Result Gluing Fault
+text_pairs g = mesh_asked g >>= λ m. pairs_asked m
+
 -- ---- the verdict
 
 -- where the rows are right, by the first side that has another partner
@@ -78,20 +82,16 @@ abbrev pub verdict_asked : Bool → Bool → Rows → Geometry → Meaning → R
 verdict_asked false cloud rows g n = Ok (rows_verdict cloud g n.geometry rows)
 verdict_asked true cloud rows g n = surface_verdict cloud rows g n
 
--- what is due of the rows of a map of a cloud or of a mesh, a text and a stream: the verdict on the geometries that they mean, or their
--- first fault
+-- what is due of the rows of a map of a cloud or of a mesh, the geometry of a text, and a stream: the verdict on the geometry that this
+-- means, or its first fault
+abbrev pub read_due : Bool → Bool → Rows → Geometry → List ℕ → Result Verdict Fault
+read_due surface cloud rows g bytes = stream bytes >>= λ n. verdict_asked surface cloud rows g n
+
+-- what is due of a text in place of its geometry: the verdict, or the first fault of both
 unfoldable pub due : Bool → Bool → Rows → List ℕ → List ℕ → Result Verdict Fault
 due surface cloud rows text bytes = do
   g ← ply_read text
-  n ← stream bytes
-  verdict_asked surface cloud rows g n
-
--- what is due of the rows of a map of a cloud or of a mesh, a geometry and a stream: the verdict on the geometry and what the stream
--- means, or the stream's first fault
-unfoldable pub read_due : Bool → Bool → Rows → Geometry → List ℕ → Result Verdict Fault
-read_due surface cloud rows g bytes = do
-  n ← stream bytes
-  verdict_asked surface cloud rows g n
+  read_due surface cloud rows g bytes
 
 -- ---- what a yes means
 

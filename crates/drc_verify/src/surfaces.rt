@@ -1,6 +1,6 @@
 //! The verdict on rows and glued pairs.
 
-ghost use Rattle.std.specs.Prelude.{◌≡◌, ◌*◌, ◌↔◌, true, length, IfOk};
+ghost use Rattle.std.specs.Prelude.{◌≡◌, ◌*◌, ◌<◌, ◌↔◌, true, length, IfOk};
 ghost use Rattle.std.specs.Option.{option_map};
 ghost use Rattle.drc_base.specs.Refusals.{Answers};
 ghost use Rattle.corner_table.specs.Carried.{IsRenumbering};
@@ -8,20 +8,22 @@ ghost use Rattle.corner_table.specs.Sides.{IsGluing};
 ghost use Rattle.corner_table.specs.Table.{gluing_of};
 ghost use Rattle.pairing.specs.CarriedPairs.{carried};
 ghost use Rattle.drc_container.specs.Meaning.{surface_in, told_by};
-ghost use Rattle.drc_verify.specs.Checked.{surface_asked, surface_of, has_position, mesh_asked, pairs_asked, with_pairs, glued_verdict, surface_verdict, IsSame, HasFaces};
+ghost use Rattle.drc_verify.specs.Checked.{surface_asked, surface_of, has_position, mesh_asked, pairs_asked, text_pairs, with_pairs, glued_verdict, surface_verdict, IsSame, HasFaces};
 ghost use Rattle.drc_verify.specs.SideTests.{first_other};
 ghost use Rattle.drc_verify.specs.declared.verdicts.Verdict.TheVariants as verdict;
 
 use crate::judging::judge_mesh;
 use crate::sides::other_side;
 use crate::verdicts::Verdict;
-use corner_table::SideTable;
+use corner_table::{SideTable, Steps};
 use drc_base::{Fault, Kind, Memory, Refusal};
 use drc_container::{Decoded, carried_surface};
 use eb_rebuild::Built;
 use mesh_model::{CornerMesh, Geometry, Head};
 use pairing::pair;
 use std::alloc::Global;
+use std::marker::Brand;
+use std::sync::ledger::{Blank, Ledger};
 
 /// The table of a stream's surface; Choice where it has none.
 fn table_asked(sides: Option<Built>) -> Result<SideTable, Refusal>
@@ -69,6 +71,48 @@ fn pairs_asked(alloc: Global, m: &CornerMesh) -> Result<SideTable, Refusal>
     pair(alloc, m)
 }
 
+/// An equal surface under a count of calls that nothing else takes part in. Where there is room for more faces,
+/// it is the one that was.
+fn counted_copy<L: Ledger>(
+    alloc: Global,
+    pairs: SideTable,
+    blank: Blank,
+) -> Result<SideTable, Memory>
+    requires name { blank.name ≡ L.name }
+    requires parts { blank.parts ≡ L.parts }
+    requires some { 0 < L.parts }
+    ensures { IfOk result (λ t. t ≡ pairs) }
+{
+    let faces = pairs.face_count();
+    let mut steps = Steps::<L>::new(blank);
+    let entries = pairs.across(&mut steps);
+    if entries.len() != 3 * faces as usize {
+        return Ok(pairs);
+    }
+    let copy = Vec::from_slice(alloc, entries)?;
+    Ok(SideTable::with_pairs(faces, copy))
+}
+
+/// An equal surface. What finding the pairs makes last lies behind all that it held, and would part the room there;
+/// the copy lies in front, so that decoding finds one piece of room.
+fn packed(alloc: Global, pairs: SideTable) -> Result<SideTable, Memory>
+    ensures { IfOk result (λ t. t ≡ pairs) }
+{
+    counted_copy::<Brand>(alloc, pairs, Blank::new(1))
+}
+
+/// The pairs of a text's mesh, or the fault of what is missing for them: NoPosition at 0 where the text is no mesh
+/// with positions, and the mesh's own fault.
+pub(crate) fn text_pairs(alloc: Global, g: &Geometry) -> Result<SideTable, Refusal>
+    ensures pairs { Answers gluing_of (text_pairs g.now) result }
+    ensures faces { IfOk result (λ t. IfOk (mesh_asked g.now) (λ m. t.faces ≡ length m.faces)) }
+{
+    let given = mesh_asked(g)?;
+    let pairs = pairs_asked(alloc, given)?;
+    let pairs = packed(alloc, pairs)?;
+    Ok(pairs)
+}
+
 /// The verdict on pairs, where the rows are right. The old numbers' table is freed.
 fn judge_pairs(
     alloc: Global,
@@ -109,16 +153,19 @@ fn judge_glued(
     }
 }
 
-/// The verdict on rows and pairs, or what is missing: Choice at 0 where the stream has no surface,
-/// NoPosition at 0 where the text is no mesh with positions, and the fault of the mesh's pairs.
+/// The verdict on rows and pairs, or what is missing: Choice at 0 where the stream has no surface, and then
+/// what is missing for the pairs of the text's mesh.
 #[tactic(auto, unfolding(crate::specs::Checked::surface_verdict))]
 pub(crate) fn judge_surface(
     alloc: Global,
     cloud: bool,
     rows: &[(u32, u8)],
     g: &Geometry,
+    pairs: Result<SideTable, Refusal>,
     n: Decoded,
 ) -> Result<Verdict, Refusal>
+    requires pairs { Answers gluing_of (text_pairs g.now) pairs }
+    requires faces { IfOk pairs (λ t. IfOk (mesh_asked g.now) (λ m. t.faces ≡ length m.faces)) }
     ensures verdict { Answers (λ v. v) (surface_verdict cloud rows.now g.now (told_by n)) result }
     ensures same { HasFaces (told_by n) → IfOk result (λ v. (v ≡ verdict.Same) ↔ IsSame true cloud rows.now g.now (told_by n)) }
 {
@@ -129,7 +176,7 @@ pub(crate) fn judge_surface(
     } = n;
     let sides = table_asked(sides)?;
     let mesh = mesh_asked(g)?;
-    let pairs = pairs_asked(alloc, mesh)?;
+    let pairs = pairs?;
     let verdict = judge_glued(alloc, cloud, rows, mesh, &geometry, pairs, &sides)?;
     Ok(verdict)
 }

@@ -4,7 +4,8 @@
 use super::*;
 use drc_base::{Fault, Kind, Refusal, Sequence};
 use mesh_model::{MapRead, Renumber};
-use std::alloc::Global;
+use ply_mesh::read_ply;
+use std::alloc::{AllocError, Global};
 use std::test::Fail;
 
 /// A tetrahedron.
@@ -166,6 +167,17 @@ const POINTS_STREAM: [u8; 44] = [
     0, 0, 0, 0, 0, 1, 5, 0, 0, 0, 6, 0, 0, 0,
 ];
 
+/// What was read of a map of these rows.
+fn map_of(alloc: Global, cloud: bool, rows: &[(u32, u8)]) -> Result<MapRead, AllocError> {
+    Ok(MapRead {
+        cloud,
+        rows: Renumber {
+            rows: Sequence::from_vec(rows.to_vec(alloc)?),
+        },
+        end: 0,
+    })
+}
+
 /// What the check of these answers.
 fn check(
     alloc: Global,
@@ -175,13 +187,7 @@ fn check(
     stream: &[u8],
     surface: bool,
 ) -> Result<Verdict, Refusal> {
-    let map = MapRead {
-        cloud,
-        rows: Renumber {
-            rows: Sequence::from_vec(rows.to_vec(alloc)?),
-        },
-        end: 0,
-    };
+    let map = map_of(alloc, cloud, rows)?;
     verify(alloc, &map, text.as_bytes(), stream, surface)
 }
 
@@ -300,6 +306,18 @@ fn judges_the_pairs(rt: HostRuntime) -> Result<(), Fail> {
         check(alloc, false, plain, SQUARE, &APART_STREAM, true).ok(),
         Some(Verdict::Pair(0))
     );
+    Ok(())
+}
+
+#[test]
+fn judges_a_text_that_was_read(rt: HostRuntime) -> Result<(), Fail> {
+    let alloc = rt.alloc();
+    let map = map_of(alloc, false, &[(0, 0), (1, 0)])?;
+    let geometry = read_ply(alloc, SQUARE.as_bytes())?;
+    for (surface, due) in [(false, Verdict::Same), (true, Verdict::Pair(0))] {
+        let verdict = verify_read(alloc, &map, &geometry, &APART_STREAM, surface);
+        assert_eq!(rt; verdict.ok(), Some(due));
+    }
     Ok(())
 }
 

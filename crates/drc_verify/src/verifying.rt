@@ -1,42 +1,71 @@
 //! The check of a stream against a text and a map.
 
-ghost use Rattle.std.specs.Prelude.{◌≡◌, ◌↔◌, Ok, IfOk};
+ghost use Rattle.std.specs.Prelude.{◌≡◌, ◌↔◌, true, false, Ok, IfOk};
 ghost use Rattle.drc_base.specs.Refusals.{Answers};
 ghost use Rattle.mesh_model.specs.declared.geometries.Geometry.{Geometry as AnyGeometry};
 ghost use Rattle.ply_mesh.specs.Read.{ply_read};
-ghost use Rattle.drc_container.specs.Meaning.{Meaning, told_by};
+ghost use Rattle.drc_container.specs.Meaning.{Meaning};
 ghost use Rattle.drc_container.specs.Stream.{stream as meaning_of_stream};
-ghost use Rattle.drc_verify.specs.Checked.{due, read_due, verdict_asked, IsSame, HasFaces};
+ghost use Rattle.drc_verify.specs.Checked.{due, read_due, IsSame};
 ghost use Rattle.drc_verify.specs.declared.verdicts.Verdict.TheVariants as verdict;
 
 use crate::judging::judge;
 use crate::laws::{a_surface_has_the_faces, a_yes_is_the_same};
-use crate::surfaces::judge_surface;
+use crate::surfaces::{judge_surface, text_pairs};
 use crate::verdicts::Verdict;
 use drc_base::Refusal;
-use drc_container::{Decoded, decode_whole};
+use drc_container::decode_whole;
 use mesh_model::{Geometry, MapRead};
 use ply_mesh::read_ply;
 use std::alloc::Global;
 
-/// The verdict, with surfaces or without.
-fn judge_asked(
+/// The verdict on the geometry `g` of a text and on a stream by the rows alone.
+fn check_rows(alloc: Global, map: &MapRead, g: &Geometry, stream: &[u8]) -> Result<Verdict, Refusal>
+    ensures verdict { Answers (λ v. v) (read_due false map.now.cloud map.now.rows.rows g.now stream.now) result }
+    ensures same { (n : Meaning) → meaning_of_stream stream.now ≡ Ok n
+        → IfOk result (λ v. (v ≡ verdict.Same) ↔ IsSame false map.now.cloud map.now.rows.rows g.now n) }
+{
+    a_yes_is_the_same();
+    let n = decode_whole(alloc, stream)?;
+    let verdict = judge(alloc, map.cloud, map.rows.rows.as_slice(), g, &n.geometry)?;
+    Ok(verdict)
+}
+
+/// The verdict on the geometry `g` of a text and on a stream by the rows and the pairs. The text's pairs are found
+/// first, while the stream's geometry takes no memory yet; the stream's fault comes first all the same.
+fn check_surface(
     alloc: Global,
-    surface: bool,
-    cloud: bool,
-    rows: &[(u32, u8)],
+    map: &MapRead,
     g: &Geometry,
-    n: Decoded,
+    stream: &[u8],
 ) -> Result<Verdict, Refusal>
-    ensures verdict { Answers (λ v. v) (verdict_asked surface cloud rows.now g.now (told_by n)) result }
-    ensures same { HasFaces (told_by n) → IfOk result (λ v. (v ≡ verdict.Same) ↔ IsSame surface cloud rows.now g.now (told_by n)) }
+    ensures verdict { Answers (λ v. v) (read_due true map.now.cloud map.now.rows.rows g.now stream.now) result }
+    ensures same { (n : Meaning) → meaning_of_stream stream.now ≡ Ok n
+        → IfOk result (λ v. (v ≡ verdict.Same) ↔ IsSame true map.now.cloud map.now.rows.rows g.now n) }
+{
+    a_surface_has_the_faces();
+    let pairs = text_pairs(alloc, g);
+    let n = decode_whole(alloc, stream)?;
+    judge_surface(alloc, map.cloud, map.rows.rows.as_slice(), g, pairs, n)
+}
+
+/// The verdict that `verify` gives on a PLY text that means the geometry `g`, for a caller who has no more need of the
+/// text. Refusals are those of `verify` behind the text's first fault.
+pub fn verify_read(
+    alloc: Global,
+    map: &MapRead,
+    g: &Geometry,
+    stream: &[u8],
+    surface: bool,
+) -> Result<Verdict, Refusal>
+    ensures verdict { Answers (λ v. v) (read_due surface map.now.cloud map.now.rows.rows g.now stream.now) result }
+    ensures same { (n : Meaning) → meaning_of_stream stream.now ≡ Ok n
+        → IfOk result (λ v. (v ≡ verdict.Same) ↔ IsSame surface map.now.cloud map.now.rows.rows g.now n) }
 {
     if surface {
-        judge_surface(alloc, cloud, rows, g, n)
+        check_surface(alloc, map, g, stream)
     } else {
-        a_yes_is_the_same();
-        let verdict = judge(alloc, cloud, rows, g, &n.geometry)?;
-        Ok(verdict)
+        check_rows(alloc, map, g, stream)
     }
 }
 
@@ -60,29 +89,6 @@ pub fn verify(
     ensures same { (g : AnyGeometry) (n : Meaning) → ply_read ply.now ≡ Ok g → meaning_of_stream stream.now ≡ Ok n
         → IfOk result (λ v. (v ≡ verdict.Same) ↔ IsSame surface map.now.cloud map.now.rows.rows g n) }
 {
-    a_surface_has_the_faces();
-    // The stream is decoded first, while the text's geometry takes no memory yet; the text's fault comes first all the same.
-    let decoded = decode_whole(alloc, stream);
     let g = read_ply(alloc, ply)?;
-    let n = decoded?;
-    judge_asked(alloc, surface, map.cloud, map.rows.rows.as_slice(), &g, n)
-}
-
-/// The verdict that `verify` gives on a text that means the geometry `g`, which is freed. Refusals are those of
-/// `verify` behind the text's.
-#[tactic(auto, unfolding(crate::specs::Checked::read_due))]
-pub fn verify_read(
-    alloc: Global,
-    map: &MapRead,
-    g: Geometry,
-    stream: &[u8],
-    surface: bool,
-) -> Result<Verdict, Refusal>
-    ensures verdict { Answers (λ v. v) (read_due surface map.now.cloud map.now.rows.rows g stream.now) result }
-    ensures same { (n : Meaning) → meaning_of_stream stream.now ≡ Ok n
-        → IfOk result (λ v. (v ≡ verdict.Same) ↔ IsSame surface map.now.cloud map.now.rows.rows g n) }
-{
-    a_surface_has_the_faces();
-    let n = decode_whole(alloc, stream)?;
-    judge_asked(alloc, surface, map.cloud, map.rows.rows.as_slice(), &g, n)
+    verify_read(alloc, map, &g, stream, surface)
 }
