@@ -21,7 +21,6 @@ pub verified : (surface : Bool) (mesh : ℕ) (heads : List DrcHead) (corners : L
     Answers (λ v. v) (read_due surface (eqb mesh 0) (map row_meant told) g bytes) r →
     ((n : Meaning) → stream bytes ≡ Ok n → IfOk r (λ v. (v ≡ verdict.Same) ↔ IsSame surface (eqb mesh 0) (map row_meant told) g n)) →
     IfOk r (λ v. IsVerified surface mesh heads corners values told bytes v)
-unfolding read_due
 verified surface mesh heads corners values told bytes g (Ok v) meant due same =
     let n = parts (stream bytes) _ v due in
     record { geometry = g; geometry_is = meant; meaning = n.0; read = n.1; asked = n.2; same = same n.0 n.1 }
