@@ -281,6 +281,9 @@ static void test_recoding(void) {
     options.plain_values = 0;
     TELL(is_recoded(NULL, 0, &options, DRC_REFUSED, DRC_FAULT_Short, 0));
     TELL(is_recoded(bytes, 20, &options, DRC_REFUSED, DRC_FAULT_Short, 20));
+    drc_lengths lengths = {77, 78};
+    TELL(drc_recode_into(bytes, length, &options, NULL, 0, NULL, 0, &lengths, &fault) == DRC_NO_ROOM && is_marked(&fault));
+    TELL(lengths.bytes == length && lengths.rows == 1);
     options.index = DRC_INDEX_PACKED;
     TELL(is_recoded(bytes, 20, &options, DRC_REFUSED, DRC_FAULT_Short, 20));
     TELL(is_recoded(bytes, length, &options, DRC_REFUSED, DRC_FAULT_Choice, 1));
@@ -373,6 +376,11 @@ static void test_verifying(void) {
     }
     it = triangle();
     TELL(is_verified(&it, rows, 1, bytes, length, 2, DRC_BAD_ARGUMENT, 0, 0));
+    drc_verdict unwritten = {MARK_FAULT, MARK_FAULT};
+    fault = marked();
+    TELL(drc_verify(0, NULL, 0, NULL, 0, NULL, 0, NULL, 0, NULL, 0, 1, &unwritten, &fault) == DRC_REFUSED);
+    TELL(is_fault(&fault, DRC_FAULT_NoAttribute, 0) && unwritten.kind == MARK_FAULT && unwritten.at == MARK_FAULT);
+    fault = marked();
     TELL(is_verified(&it, rows, 1, bytes, length, UINT32_MAX, DRC_BAD_ARGUMENT, 0, 0));
     TELL(is_verified(&it, rows, 1, plain.bytes, plain.lengths.bytes, 0, DRC_DONE, DRC_VERDICT_SAME, 0));
     TELL(is_verified(&it, rows, 1, plain.bytes, plain.lengths.bytes, 1, DRC_REFUSED, DRC_FAULT_Choice, 0));
