@@ -172,6 +172,10 @@ uint32_t drc_recode_into(const uint8_t *bytes, size_t length, const drc_options 
 uint32_t drc_restore(uint32_t mesh, const drc_row *rows, size_t row_count, const uint8_t *bytes, size_t length,
                      drc_stream *stream, drc_fault *fault);
 
+/* The same into an array of the caller; DRC_NO_ROOM where it is too short, and the lengths say what is needed. */
+uint32_t drc_restore_into(uint32_t mesh, const drc_row *rows, size_t row_count, const uint8_t *bytes, size_t length,
+                          uint8_t *written, size_t room, drc_lengths *lengths, drc_fault *fault);
+
 /* Whether a stream means a geometry, given by arrays as for `drc_encode`, by the rows of a map: with `surface` 1 besides whether
    it is glued as that mesh is. Nothing of it rests on how a geometry is encoded. DRC_DONE where it is; DRC_NOT_SAME where it
    isn't; the verdict says which in both cases. DRC_BAD_ARGUMENT where `mesh` or `surface` is neither 0 nor 1, a cloud has faces, or

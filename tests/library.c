@@ -296,9 +296,15 @@ static int is_restored(uint32_t mesh, const drc_row *rows, size_t count, const d
     drc_fault fault = marked();
     memset(&stream, 0x5a, sizeof stream);
     drc_stream before = stream;
+    drc_lengths lengths = {77, 78};
+    drc_fault again = marked();
+    uint8_t written[1] = {9};
     int same = drc_restore(mesh, rows, count, old->bytes, old->lengths.bytes, &stream, &fault) == status;
     same = same && memcmp(&stream, &before, sizeof stream) == 0;
-    return same && (status == DRC_REFUSED ? is_fault(&fault, kind, at) : is_marked(&fault));
+    same = same && drc_restore_into(mesh, rows, count, old->bytes, old->lengths.bytes, written, 1, &lengths, &again) == status;
+    same = same && written[0] == 9 && lengths.bytes == 77 && lengths.rows == 78;
+    if (status != DRC_REFUSED) return same && is_marked(&fault) && is_marked(&again);
+    return same && is_fault(&fault, kind, at) && is_fault(&again, kind, at);
 }
 
 static void test_restoring(void) {
@@ -582,6 +588,19 @@ static void test_restored(const drc_stream *stream, const drc_geometry *geometry
     size_t count = (size_t)shape->points * shape->width;
     if (!shape->mesh) TELL(first.shape.points == shape->points && memcmp(first.values, geometry->values, 4 * count) == 0);
     drc_free(&first);
+    size_t length = restored.lengths.bytes;
+    for (int more = -1; more <= 1; more++) {
+        uint8_t *bytes = (uint8_t *)__real_malloc(length + 1);
+        drc_lengths lengths = {1, 2};
+        memset(bytes, 0xcc, length + 1);
+        uint32_t status = drc_restore_into(shape->mesh, stream->rows, stream->lengths.rows, stream->bytes, stream->lengths.bytes, bytes,
+                                           length + (size_t)more, &lengths, &fault);
+        TELL(status == (more < 0 ? DRC_NO_ROOM : DRC_DONE) && lengths.bytes == length && lengths.rows == 0 && is_marked(&fault));
+        int kept = bytes[length] == 0xcc;
+        for (size_t k = 0; more < 0 && k < length; k++) kept = kept && bytes[k] == 0xcc;
+        TELL(kept && (more < 0 || memcmp(bytes, restored.bytes, length) == 0));
+        __real_free(bytes);
+    }
     drc_free_stream(&restored);
 }
 

@@ -19,8 +19,9 @@ use Rattle.drc_c.specs.Streams.{row_told, row_meant}
 unfoldable pub recoded_told : List ℕ → Choice → Result (List ℕ × List DrcRow) Fault
 recoded_told bytes choice = recoded bytes choice >>= λ e. Ok (told e)
 
--- a stream means the geometry of another one, by this map, and is coded as chosen
+-- this stream and this map are those of the recoding: the stream means the geometry of the old one, by the map, and is coded as chosen
 pub record IsRecoding (bytes : List ℕ) (choice : Choice) (written : List ℕ) (map_rows : List DrcRow) : Type 0 where
+  pub exact : recoded_told bytes choice ≡ Ok (written, map_rows)
   pub geometry : Geometry
   pub read : meaning_of bytes ≡ Ok geometry
   pub rows : Rows
