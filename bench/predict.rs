@@ -280,7 +280,7 @@ fn values(entries: usize) -> Vec<i32> {
         .collect()
 }
 
-/// A number that tells lists apart, by every thousandth of the first numbers.
+/// A number that distinguishes lists, by every thousandth of the first numbers.
 fn sum(numbers: &[i32]) -> u32 {
     let some = numbers.iter().step_by(1000).take(500);
     some.fold(0, |sum, number| sum.wrapping_mul(31).wrapping_add(*number as u32))

@@ -152,7 +152,7 @@ impl<'a> Block<'a> {
     }
 }
 
-/// The flags that a block tells.
+/// The flags that a block gives.
 fn read_seams(across: &[u32], block: &mut Block) -> Vec<bool> {
     let mut flags = vec![true; across.len()];
     for x in 0..across.len() {

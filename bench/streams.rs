@@ -1,5 +1,5 @@
 //! Sequential streams in good safe Rust: meshes and clouds of any attributes of integers, with the limits and the
-//! tests of the format, and refusals that tell the place.
+//! tests of the format, and refusals that name the place.
 use crate::blocks;
 
 const MAX_FACES: usize = 1 << 22;

@@ -279,7 +279,7 @@ fn renumbered(across: &[u32], rows: &[(u32, u8)]) -> Vec<u32> {
     sources.iter().map(|side| becomes(across[*side as usize])).collect()
 }
 
-/// A number that tells lists apart, by every thousandth of the first numbers.
+/// A number that distinguishes lists, by every thousandth of the first numbers.
 fn sum(numbers: impl Iterator<Item = u32>) -> u32 {
     let some = numbers.step_by(1000).take(500);
     some.fold(0, |sum, number| sum.wrapping_mul(31).wrapping_add(number))

@@ -39,7 +39,7 @@ fn fed(mut lists: [Vec<u32>; 6], count: usize, events: &[Event]) -> Option<u32> 
     Some(machine.faces)
 }
 
-/// A number that tells lists apart, by every thousandth of the first numbers.
+/// A number that distinguishes lists, by every thousandth of the first numbers.
 fn sum(numbers: impl Iterator<Item = u32>) -> u32 {
     let some = numbers.step_by(1000).take(500);
     some.fold(0, |sum, number| sum.wrapping_mul(31).wrapping_add(number))

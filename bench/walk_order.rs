@@ -271,7 +271,7 @@ fn prediction_degree(across: &[u32], labels: &[u32], ends: &[bool]) -> Order {
     ranks.marks.order()
 }
 
-/// A number that tells orders apart, by some of their corners and entries.
+/// A number that distinguishes orders, by some of their corners and entries.
 fn sum(order: &Order) -> u32 {
     let mut sum = 0u32;
     for i in 0..500 {

@@ -246,7 +246,7 @@ def read_binary(data):
 
 
 def dequantised(comments, rows):
-    """The rows with the first attribute's three columns as floats of 32 bits, where a comment tells its quantisation."""
+    """The rows with the first attribute's three columns as floats of 32 bits, where a comment gives its quantisation."""
     short = lambda x: struct.unpack(">f", struct.pack(">f", x))[0]
     for line in comments:
         found = re.match(r"comment drc quant 0 (\d+) ([0-9a-f]{8}) ([0-9a-f]{8}) ([0-9a-f]{8}) ([0-9a-f]{8})", line)

@@ -1,4 +1,4 @@
-"""Reading files; writing beside the wanted place and renaming, so that nothing half done is ever left there."""
+"""Reading files; writing beside the place of the output and renaming, so that nothing half done is ever left there."""
 import os
 import pathlib
 import tempfile

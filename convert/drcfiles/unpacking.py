@@ -1,4 +1,4 @@
-"""From a stream to a mesh of floats: `drc dec`, floats by range and bits, and a file of the wanted format."""
+"""From a stream to a mesh of floats: `drc dec`, floats by range and bits, and a file of the format that is asked for."""
 import pathlib
 
 from . import files, plytext, writing

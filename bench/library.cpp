@@ -1,0 +1,336 @@
+// Times libdrc beside the usual library, libdraco, on the same meshes in one process. bench/library builds and runs it.
+//
+// usage: library TURNS SIDE SMALL
+//
+// The meshes are those of `drc gen`: a grid, a torus, a mesh with a seam round each cell and one with holes, of SIDE cells each way (the one
+// with holes of more, so that each has about as many faces), and SMALL meshes of these kinds, of about 500 faces each. Positions are
+// declared as quantised floats. For each mesh and method a line: the mesh, the method, its faces, and then nanoseconds of processor
+// time a face, each the least of TURNS turns in which the libraries take turns:
+//   decoding   by libdrc; by libdraco, which leaves out the transform from integers to floats; by libdrc without room for the
+//              arrays, which is all of it but their copies
+//   encoding   by libdrc from arrays; by libdraco from a mesh of its own, whose equal values and points are numbered alike
+//              before, as its encoder wants them
+// and the bytes of both streams. Each stream is decoded by both libraries before, and has to have the triangles that went in.
+#include <drc.h>
+#include <draco/compression/decode.h>
+#include <draco/compression/encode.h>
+#include <time.h>
+
+#include <algorithm>
+#include <cstdio>
+#include <cstring>
+#include <functional>
+#include <memory>
+#include <string>
+#include <vector>
+
+using std::vector;
+
+[[noreturn]] static void fail(const std::string &why) {
+    fprintf(stderr, "bench/library: %s\n", why.c_str());
+    exit(1);
+}
+
+// A mesh as arrays: heads, the points of faces, and integers point after point.
+struct Arrays {
+    vector<drc_head> heads;
+    vector<uint32_t> corners;
+    vector<int32_t> values;
+    size_t width = 0;
+    size_t faces() const { return corners.size() / 3; }
+    size_t points() const { return values.size() / width; }
+};
+
+// The meshes.
+
+// Draws of ten bits from a seed, as `drc gen` has them.
+struct Draws {
+    uint64_t state;
+    uint32_t next() { return (state = state * 6364136223846793005u + 1442695040888963407u) >> 54; }
+};
+
+static drc_head position_head() {
+    drc_head head = {};
+    head.dtype = 9;
+    head.comps = 3;
+    head.bits = 11;
+    const float range = 2047;
+    memcpy(&head.range, &range, sizeof range);
+    return head;
+}
+
+static drc_head label_head() {
+    drc_head head = {};
+    head.usage = 4;
+    head.dtype = 2;
+    head.comps = 1;
+    head.id = 1;
+    return head;
+}
+
+static void add_cell(Arrays &mesh, uint32_t a, uint32_t b, uint32_t c, uint32_t d) {
+    for (uint32_t corner : {a, b, d, a, d, c}) mesh.corners.push_back(corner);
+}
+
+// The cells of a lattice of `wide` points each way, whose numbers are taken modulo `wide`; with holes, cells of two odd numbers are
+// left out.
+static Arrays lattice(uint32_t side, uint32_t wide, bool has_holes, uint64_t seed) {
+    Arrays mesh;
+    Draws draws = {seed};
+    mesh.heads = {position_head()};
+    mesh.width = 3;
+    for (uint32_t j = 0; j < wide; j++)
+        for (uint32_t i = 0; i < wide; i++)
+            for (uint32_t value : {i, j, draws.next()}) mesh.values.push_back(value);
+    auto number = [wide](uint32_t i, uint32_t j) { return j % wide * wide + i % wide; };
+    for (uint32_t j = 0; j < side; j++)
+        for (uint32_t i = 0; i < side; i++) {
+            bool is_hole = has_holes && i % 2 == 1 && j % 2 == 1 && i + 1 < side && j + 1 < side;
+            if (!is_hole) add_cell(mesh, number(i, j), number(i + 1, j), number(i, j + 1), number(i + 1, j + 1));
+        }
+    return mesh;
+}
+
+// Cells that each have four points for themselves, with a label.
+static Arrays seams(uint32_t side, uint64_t seed) {
+    Arrays mesh;
+    Draws draws = {seed};
+    mesh.heads = {position_head(), label_head()};
+    mesh.width = 4;
+    for (uint32_t k = 0; k < side * side; k++) {
+        uint32_t i = k % side, j = k / side, label = draws.next() % 256;
+        for (uint32_t corner = 0; corner < 4; corner++)
+            for (uint32_t value : {i + corner % 2, j + corner / 2, 0u, label}) mesh.values.push_back(value);
+        add_cell(mesh, 4 * k, 4 * k + 1, 4 * k + 2, 4 * k + 3);
+    }
+    return mesh;
+}
+
+static const char *const KINDS[] = {"grid", "torus", "seams", "holes"};
+
+static Arrays mesh_of(int kind, uint32_t side, uint64_t seed) {
+    switch (kind) {
+        case 0: return lattice(side, side + 1, false, seed);
+        case 1: return lattice(side, side, false, seed);
+        case 2: return seams(side, seed);
+        default: return lattice(side * 15 / 13, side * 15 / 13 + 1, true, seed);
+    }
+}
+
+// The triangles of a mesh, whatever the order of its faces and however they are turned, as a sum.
+template <class Row>
+static uint64_t triangles(size_t faces, size_t width, Row row) {
+    uint64_t sum = 0;
+    for (size_t f = 0; f < faces; f++) {
+        uint64_t corners[3];
+        for (int k = 0; k < 3; k++) {
+            const int32_t *values = row(f, k);
+            corners[k] = 1469598103934665603u;
+            for (size_t j = 0; j < width; j++) corners[k] = (corners[k] ^ (uint32_t)values[j]) * 1099511628211u;
+        }
+        for (int k = 0; k < 3; k++) sum += (corners[k] * 31 + corners[(k + 1) % 3]) * 31 + corners[(k + 2) % 3] * corners[k];
+    }
+    return sum;
+}
+
+static uint64_t triangles_of(const Arrays &mesh) {
+    return triangles(mesh.faces(), mesh.width, [&](size_t f, int k) { return &mesh.values[mesh.corners[3 * f + k] * mesh.width]; });
+}
+
+static uint64_t triangles_of(const drc_geometry &mesh) {
+    uint32_t width = mesh.shape.width;
+    return triangles(mesh.shape.faces, width, [&](size_t f, int k) { return mesh.values + mesh.corners[3 * f + k] * (size_t)width; });
+}
+
+static uint64_t triangles_of(const draco::Mesh &mesh, size_t width) {
+    vector<int32_t> row(width);
+    return triangles(mesh.num_faces(), width, [&](size_t f, int k) {
+        draco::PointIndex point = mesh.face(draco::FaceIndex(f))[k];
+        size_t at = 0;
+        for (int id = 0; id < mesh.num_attributes(); at += mesh.attribute(id)->num_components(), id++)
+            if (!mesh.attribute(id)->ConvertValue<int32_t>(mesh.attribute(id)->mapped_index(point), &row[at])) fail("no integers");
+        return row.data();
+    });
+}
+
+// libdrc.
+
+static drc_geometry decoded(const char *bytes, size_t length) {
+    drc_geometry mesh;
+    drc_fault fault;
+    if (drc_decode((const uint8_t *)bytes, length, &mesh, &fault) != DRC_DONE) fail("libdrc doesn't decode");
+    return mesh;
+}
+
+// Decodes without room for arrays, so that none is copied.
+static void decoded_alone(const char *bytes, size_t length) {
+    drc_shape shape;
+    drc_fault fault;
+    if (drc_decode_into((const uint8_t *)bytes, length, NULL, 0, NULL, 0, &shape, &fault) != DRC_NO_ROOM) fail("libdrc had room");
+}
+
+static drc_stream encoded(const Arrays &mesh, uint32_t method) {
+    drc_options options = {};
+    options.method = method;
+    drc_stream stream;
+    drc_fault fault;
+    const uint32_t status = drc_encode(1, mesh.heads.data(), mesh.heads.size(), mesh.corners.data(), mesh.faces(),
+                                       mesh.values.data(), mesh.values.size(), &options, &stream, &fault);
+    if (status != DRC_DONE) fail("libdrc doesn't encode");
+    return stream;
+}
+
+// libdraco.
+
+static std::unique_ptr<draco::Mesh> decoded_there(const char *bytes, size_t length) {
+    draco::Decoder decoder;
+    decoder.SetSkipAttributeTransform(draco::GeometryAttribute::POSITION);
+    draco::DecoderBuffer buffer;
+    buffer.Init(bytes, length);
+    auto mesh = decoder.DecodeMeshFromBuffer(&buffer);
+    if (!mesh.ok()) fail("libdraco doesn't decode: " + mesh.status().error_msg_string());
+    return std::move(mesh).value();
+}
+
+// One attribute of a mesh, with a value for each point.
+static void add_attribute(draco::Mesh &mesh, const Arrays &arrays, const drc_head &head, size_t at) {
+    const bool is_byte = head.dtype == 2;
+    const draco::DataType type = is_byte ? draco::DT_UINT8 : draco::DT_INT32;
+    draco::GeometryAttribute attribute;
+    attribute.Init((draco::GeometryAttribute::Type)head.usage, nullptr, head.comps, type, false, head.comps * (is_byte ? 1 : 4), 0);
+    draco::PointAttribute *made = mesh.attribute(mesh.AddAttribute(attribute, true, arrays.points()));
+    for (size_t p = 0; p < arrays.points(); p++) {
+        const int32_t *value = &arrays.values[p * arrays.width + at];
+        const uint8_t byte = *value;
+        made->SetAttributeValue(draco::AttributeValueIndex(p), is_byte ? (const void *)&byte : (const void *)value);
+    }
+}
+
+// The mesh as the encoder wants it: equal values of an attribute have one number, and equal points.
+static std::unique_ptr<draco::Mesh> numbered(const Arrays &arrays) {
+    std::unique_ptr<draco::Mesh> mesh(new draco::Mesh());
+    mesh->set_num_points(arrays.points());
+    mesh->SetNumFaces(arrays.faces());
+    for (size_t f = 0; f < arrays.faces(); f++) {
+        const uint32_t *corners = &arrays.corners[3 * f];
+        mesh->SetFace(draco::FaceIndex(f), {draco::PointIndex(corners[0]), draco::PointIndex(corners[1]), draco::PointIndex(corners[2])});
+    }
+    size_t at = 0;
+    for (const drc_head &head : arrays.heads) {
+        add_attribute(*mesh, arrays, head, at);
+        at += head.comps;
+    }
+    if (!mesh->DeduplicateAttributeValues()) fail("values aren't numbered");
+    mesh->DeduplicatePointIds();
+    return mesh;
+}
+
+// Encodes by the method, at the speed at which `draco_encoder` writes it, and the prediction that goes with it.
+static void encode_there(const draco::Mesh &mesh, uint32_t method, draco::EncoderBuffer &buffer) {
+    const bool is_valence = method == DRC_METHOD_VALENCE, is_sequential = method == DRC_METHOD_SEQUENTIAL;
+    draco::Encoder encoder;
+    encoder.SetEncodingMethod(is_sequential ? draco::MESH_SEQUENTIAL_ENCODING : draco::MESH_EDGEBREAKER_ENCODING);
+    const int speed = is_sequential ? 10 : is_valence ? 3 : 5;
+    encoder.SetSpeedOptions(speed, speed);
+    encoder.options().SetGlobalInt("edgebreaker_method",
+                                   is_valence ? draco::MESH_EDGEBREAKER_VALENCE_ENCODING : draco::MESH_EDGEBREAKER_STANDARD_ENCODING);
+    if (!encoder.EncodeMeshToBuffer(mesh, &buffer).ok()) fail("libdraco doesn't encode");
+}
+
+// Times.
+
+static double processor_seconds() {
+    timespec now;
+    clock_gettime(CLOCK_PROCESS_CPUTIME_ID, &now);
+    return now.tv_sec + 1e-9 * now.tv_nsec;
+}
+
+// The least time of each work, in nanoseconds a face, of several turns in which they take turns.
+static vector<double> least(int turns, size_t faces, const vector<std::function<void()>> &works) {
+    vector<double> times(works.size(), 1e30);
+    for (int turn = 0; turn < turns; turn++)
+        for (size_t k = 0; k < works.size(); k++) {
+            const double begin = processor_seconds();
+            works[k]();
+            times[k] = std::min(times[k], (processor_seconds() - begin) * 1e9 / faces);
+        }
+    return times;
+}
+
+// One mesh for both libraries, and its streams by one method.
+struct Entry {
+    Arrays arrays;
+    std::unique_ptr<draco::Mesh> there;
+    drc_stream stream;
+    draco::EncoderBuffer stream_there;
+};
+
+static void check(const Entry &entry) {
+    const uint64_t due = triangles_of(entry.arrays);
+    for (bool is_ours : {true, false}) {
+        const char *bytes = is_ours ? (const char *)entry.stream.bytes : entry.stream_there.data();
+        const size_t length = is_ours ? entry.stream.lengths.bytes : entry.stream_there.size();
+        drc_geometry mesh = decoded(bytes, length);
+        if (triangles_of(mesh) != due) fail("libdrc gives other triangles");
+        drc_free(&mesh);
+        if (triangles_of(*decoded_there(bytes, length), entry.arrays.width) != due) fail("libdraco gives other triangles");
+    }
+}
+
+// Encodes meshes by a method, and writes the line of their times.
+static void time_meshes(const char *name, int turns, const char *method_name, uint32_t method, vector<Entry> &entries) {
+    size_t faces = 0, bytes = 0, bytes_there = 0;
+    for (Entry &it : entries) {
+        it.stream = encoded(it.arrays, method);
+        it.stream_there.Clear();
+        encode_there(*it.there, method, it.stream_there);
+        check(it);
+        faces += it.arrays.faces();
+        bytes += it.stream.lengths.bytes;
+        bytes_there += it.stream_there.size();
+    }
+    auto each = [&entries](std::function<void(Entry &)> work) { return [&entries, work] { for (Entry &it : entries) work(it); }; };
+    const vector<double> times = least(turns, faces, {
+        each([](Entry &it) {
+            drc_geometry mesh = decoded((const char *)it.stream.bytes, it.stream.lengths.bytes);
+            drc_free(&mesh);
+        }),
+        each([](Entry &it) { decoded_there((const char *)it.stream.bytes, it.stream.lengths.bytes); }),
+        each([](Entry &it) { decoded_alone((const char *)it.stream.bytes, it.stream.lengths.bytes); }),
+        each([method](Entry &it) {
+            drc_stream stream = encoded(it.arrays, method);
+            drc_free_stream(&stream);
+        }),
+        each([method](Entry &it) {
+            draco::EncoderBuffer buffer;
+            encode_there(*it.there, method, buffer);
+        }),
+    });
+    printf("%s %s %zu", name, method_name, faces);
+    for (double time : times) printf(" %.2f", time);
+    printf(" %zu %zu\n", bytes, bytes_there);
+    fflush(stdout);
+    for (Entry &it : entries) drc_free_stream(&it.stream);
+}
+
+static void add(vector<Entry> &entries, Arrays arrays) {
+    entries.emplace_back();
+    entries.back().there = numbered(arrays);
+    entries.back().arrays = std::move(arrays);
+}
+
+int main(int count, char **words) {
+    if (count != 4) fail("usage: library TURNS SIDE SMALL");
+    const int turns = atoi(words[1]), side = atoi(words[2]), small = atoi(words[3]);
+    const struct {
+        const char *name;
+        uint32_t number;
+    } methods[] = {{"seq", DRC_METHOD_SEQUENTIAL}, {"eb", DRC_METHOD_EDGEBREAKER}, {"valence", DRC_METHOD_VALENCE}};
+    for (int kind = 0; kind <= 4; kind++) {
+        vector<Entry> entries;
+        if (kind < 4) add(entries, mesh_of(kind, side, 1));
+        for (int seed = 0; kind == 4 && seed < small; seed++) add(entries, mesh_of(seed % 4, 16, seed));
+        for (const auto &method : methods) time_meshes(kind < 4 ? KINDS[kind] : "small", turns, method.name, method.number, entries);
+    }
+    return 0;
+}

@@ -1,0 +1,600 @@
+"""The codec for .drc files, compressed triangle meshes and point clouds (Draco Bitstream Specification 2.2),
+by the C library libdrc.
+
+    import drc
+
+    mesh = drc.decode(open("bunny.drc", "rb").read())
+    mesh.faces                       # (F, 3) uint32: the points of each face; None for a cloud
+    mesh.attributes[0].values        # (N, C): the integers of each point, as the stream has them
+    mesh.attribute("position")       # the attribute of this usage
+    mesh.attributes[0].floats()      # (N, C) float32: what the integers stand for
+    stream, renumbering = drc.encode(mesh, method="valence")
+
+decode        bytes to a Geometry
+encode        a Geometry to bytes, and the Renumbering of its faces or points
+recode        a stream coded in another way
+restore       a stream with its faces in the order that they had before they were encoded
+verify        whether a stream is a Geometry by a Renumbering, as a Verdict
+version       the version of the library's interface
+Geometry      faces and attributes
+Attribute     the integers of each point, and what they are; Attribute.quantised makes one of floats
+Quantisation  how integers stand for floats
+Renumbering   which face of what was encoded each face of a stream is
+Verdict       what verify answers
+Refused       what is raised where bytes or arrays have a fault: its kind and its place
+
+All arrays are numpy's and own their memory. Calls may be made on any number of threads: nothing is kept
+between them, and other threads run while the library works. What a call reads may not be changed meanwhile.
+
+The library is looked for at the first call: the file that the environment variable DRC_LIBRARY names; else
+libdrc.so beside this file; else what ./build-library put into the folder out/ of the repository; else where
+the system's loader looks for libdrc.so.1. ImportError is raised where it isn't found.
+
+Beside Refused a call may raise MemoryError, TypeError or ValueError for arguments that are none, and NotImplementedError
+where the library is of an earlier version, without the call.
+"""
+import ctypes
+import functools
+import operator
+import os
+import pathlib
+import re
+from dataclasses import dataclass
+from typing import List, Optional
+
+import numpy as np
+
+__all__ = ["decode", "encode", "recode", "restore", "verify", "version"]
+__all__ += ["Attribute", "Geometry", "Quantisation", "Refused", "Renumbering", "Verdict"]
+__all__ += ["POSITION", "NORMAL", "COLOUR", "TEXTURE", "GENERIC"]
+
+POSITION, NORMAL, COLOUR, TEXTURE, GENERIC = range(5)
+_USAGES = ("position", "normal", "colour", "texture", "generic")
+
+
+class Refused(ValueError):
+    """What is raised where a stream, or arrays to be encoded, have a fault. It is the first one.
+
+    kind    its word, such as 'Short'; docs/FAULTS.md tells of each what it means and what helps
+    at      where it is: for a stream a number of bytes, for arrays the number of a face or value or attribute,
+            or what else the kind says
+    """
+
+    def __init__(self, kind, at):
+        super().__init__(kind, at)
+        self.kind, self.at = kind, at
+
+    def __str__(self):
+        return f"refused {self.kind} {self.at}"
+
+
+@dataclass(eq=False)
+class Quantisation:
+    """How integers stand for floats: integer i of component j stands for minima[j] + i * range / (2^bits - 1).
+
+    bits      1 to 30
+    range     a float32
+    minima    (C,) float32, one for each component
+    """
+
+    bits: int
+    range: np.float32
+    minima: np.ndarray
+
+
+@dataclass(eq=False)
+class Attribute:
+    """What each point has of one kind: a position, a colour, a label.
+
+    values          (N, C) integers: int8, uint8, int16, uint16, int32 or uint32 (up to 2^31 - 1), and int32 where
+                    they are quantised; C is 1 to 8
+    usage           POSITION, NORMAL, COLOUR, TEXTURE or GENERIC
+    id              the attribute's own number, carried as it is
+    normalized      carried as it is; 1 says that integers stand for fractions of the greatest of their type
+    quantisation    a Quantisation where the integers stand for floats on a grid, else None
+    """
+
+    values: np.ndarray
+    usage: int = POSITION
+    id: int = 0
+    normalized: int = 0
+    quantisation: Optional[Quantisation] = None
+
+    @property
+    def name(self):
+        """The word of the usage: 'position', 'normal', 'colour', 'texture' or 'generic'; of another number the number."""
+        return _USAGES[self.usage] if self.usage in range(len(_USAGES)) else str(self.usage)
+
+    @property
+    def components(self):
+        """How many integers a point has."""
+        return self.values.shape[1]
+
+    @property
+    def type(self):
+        """The word of the data type that the stream declares: that of the values, 'float32' where they are quantised."""
+        return "float32" if self.quantisation else self.values.dtype.name
+
+    def floats(self):
+        """What the integers stand for, (N, C) float32.
+
+        Where they are quantised: steps of their grid, computed in 32 bits as `draco_decoder` does. Others stand for themselves, and
+        divided by the greatest of their type where they are normalized."""
+        floats = self.values.astype(np.float32)
+        if self.quantisation:
+            with np.errstate(all="ignore"):
+                return floats * _step(self.quantisation) + np.asarray(self.quantisation.minima, np.float32)
+        return floats / np.float32(np.iinfo(self.values.dtype).max) if self.normalized else floats
+
+    @classmethod
+    def quantised(cls, floats, bits, usage=POSITION, id=0):
+        """An attribute of floats, (N, C), on a grid of 2^bits numbers, as `draco_encoder` makes it: from the least of each
+        component on, and as wide as the widest component. Each float is taken to the nearest number, so it moves by
+        half of range / (2^bits - 1) at most, and by what floats of 32 bits round.
+
+        ValueError where bits aren't 1 to 30, or a float or their extent isn't finite."""
+        floats = _table(floats, np.float32)
+        grid = _grid(floats, bits)
+        inverse = np.float32((1 << bits) - 1) / grid.range
+        numbers = np.floor((floats - grid.minima) * inverse + np.float32(0.5))
+        return cls(numbers.astype(np.int64).astype(np.int32), usage, id, 0, grid)
+
+    def __repr__(self):
+        bits = f" in {self.quantisation.bits} bits" if self.quantisation else ""
+        return f"<Attribute {self.name}: {len(self.values)} points of {self.components} {self.type}{bits}, id {self.id}>"
+
+
+@dataclass(eq=False)
+class Geometry:
+    """A mesh or a cloud of points.
+
+    faces         (F, 3) uint32, the numbers of the points of each face; None for a cloud
+    attributes    a list of Attribute, each with a row for each point
+    """
+
+    faces: Optional[np.ndarray]
+    attributes: List[Attribute]
+
+    @property
+    def points(self):
+        """How many points there are."""
+        return len(self.attributes[0].values) if self.attributes else 0
+
+    def attribute(self, name):
+        """The first attribute of a usage: 'position', 'normal', 'colour', 'texture' or 'generic'. KeyError where there is none."""
+        for it in self.attributes:
+            if it.name == name:
+                return it
+        raise KeyError(name)
+
+    def __repr__(self):
+        what = "cloud of" if self.faces is None else f"mesh of {len(self.faces)} faces and"
+        return f"<Geometry: {what} {self.points} points with {', '.join(it.name for it in self.attributes)}>"
+
+
+@dataclass(eq=False)
+class Renumbering:
+    """Which face of what was encoded each face of the stream is, and how it is turned; for a cloud the same of points.
+
+    of_mesh    True for a mesh, False for a cloud
+    rows       (R, 2) uint32. Of a mesh: corner k of face i of the stream is corner k + rows[i, 1], modulo 3, of
+               face rows[i, 0] of what was encoded. Of a cloud: point i is point rows[i, 0], and rows[i, 1] is 0
+
+    What is kept for each face beside a mesh comes into the order of the stream by `kept[renumbering.rows[:, 0]]`.
+    """
+
+    of_mesh: bool
+    rows: np.ndarray
+
+    def corners(self):
+        """Of a mesh: (R, 3) int64, which corner of what was encoded each corner of the stream is, where corner k of face f has
+        the number 3 * f + k. So `mesh.faces.ravel()[renumbering.corners()]` has the faces that were encoded, in the order
+        of the stream, and with the numbers of points that they had."""
+        rows = self.rows.astype(np.int64)
+        return 3 * rows[:, :1] + (rows[:, 1:] + np.arange(3)) % 3
+
+    def text(self):
+        """The bytes that `drc enc` notes of it, which `drc verify` and `drc recode --restore` read."""
+        head = f"map {'mesh' if self.of_mesh else 'cloud'} {len(self.rows)}\n"
+        return (head + "".join(f"{number} {turn}\n" for number, turn in self.rows.tolist())).encode()
+
+    @classmethod
+    def of_text(cls, text):
+        """The renumbering that such bytes tell. ValueError where they are none."""
+        found = re.fullmatch(rb"map (mesh|cloud) (\d+)\n((?:\d+ \d+\n)*)", text)
+        if not found or found[3].count(b"\n") != int(found[2]):
+            raise ValueError("these bytes aren't the text of a renumbering")
+        rows = [int(it) for it in found[3].split()]
+        if any(it >> 32 for it in rows):
+            raise ValueError("a number of the renumbering has more than 32 bits")
+        return cls(found[1] == b"mesh", np.array(rows, np.uint32).reshape(-1, 2))
+
+
+@dataclass(frozen=True)
+class Verdict:
+    """What verify answers. It is true, as in `if drc.verify(..)`, where the stream is the geometry.
+
+    kind    'same'; else the first that applies of
+            'heads': the attributes differ in what they are, or stream, geometry and renumbering aren't all of meshes or all of clouds
+            'rows': stream, geometry and renumbering haven't as many faces (points of clouds)
+            'row': a row of the renumbering is wrong: it names no face or one that an earlier row names, its turn can't be, or a corner
+            has other integers
+            'pair': a side is glued otherwise, or is free in one of the two alone
+    at      for 'rows' how many the renumbering has; for 'row' the first wrong row; for 'pair' the first side, 3 * face + k, of the
+            stream; else 0
+    """
+
+    kind: str
+    at: int
+
+    def __bool__(self):
+        return self.kind == "same"
+
+    def __str__(self):
+        return "same" if self else f"not same {self.kind} {self.at}"
+
+
+def version():
+    """The version of the library's interface."""
+    return _library().drc_version()
+
+
+def decode(data):
+    """The Geometry that the bytes of a stream mean: exactly that, or Refused with their first fault, as `drc dec` says it.
+
+    `data` is anything that has a buffer of bytes: bytes, bytearray, memoryview, mmap, an array of uint8. Bytes after the
+    stream's end are ignored. Points, faces and attributes have the order of `drc dec`."""
+    library, geometry, fault = _library(), _Geometry(), _Fault()
+    data = np.frombuffer(data, np.uint8)
+    status = library.drc_decode(data.ctypes.data, data.size, ctypes.byref(geometry), ctypes.byref(fault))
+    _check(status, fault)
+    try:
+        return _geometry_of(geometry)
+    finally:
+        library.free(geometry.corners)
+        library.free(geometry.values)
+
+
+def encode(geometry, *, method=None, index=None, predict=None, walk=None, plain_values=False):
+    """The stream of a Geometry, as bytes, and its Renumbering; or Refused with the first fault of the arrays, then of the
+    encoding, as `drc enc` says it.
+
+    The options are those of `drc enc`, and what isn't chosen is as there:
+
+    method          'seq', 'eb' or 'valence'; a mesh is coded by 'eb' where nothing is chosen, a cloud by 'seq'
+    index           'plain' or 'packed' indices, of a mesh by 'seq' alone
+    predict         'none', 'diff', 'para' or 'multi': how values are predicted
+    walk            'depth' or 'degree': the order of values, not by 'seq'
+    plain_values    True: values as they are, and not in symbol blocks
+
+    Faces may be of any type of integers; a number that is no point is refused, `IndexRange` at its face. TypeError where values
+    aren't of the types that Attribute names."""
+    options = _options(method, index, predict, walk, plain_values)
+    heads, values, corners = _heads(geometry.attributes), _values(geometry.attributes), _corners(geometry)
+    library, stream, fault, of_mesh = _library(), _Stream(), _Fault(), geometry.faces is not None
+    parts = (heads, len(heads), corners.ctypes.data, len(corners), values.ctypes.data, values.size)
+    status = library.drc_encode(of_mesh, *parts, ctypes.byref(options), ctypes.byref(stream), ctypes.byref(fault))
+    _check(status, fault)
+    return _taken(library, stream, of_mesh)
+
+
+def recode(data, *, method=None, index=None, predict=None, walk=None, plain_values=False):
+    """The bytes of a stream that means the geometry of the stream `data`, coded as chosen by the options of encode, and the
+    Renumbering from the new stream to the old one; or Refused with the first fault of the old stream, else of the encoding."""
+    options = _options(method, index, predict, walk, plain_values)
+    call, stream, fault, data = _later("drc_recode"), _Stream(), _Fault(), np.frombuffer(data, np.uint8)
+    status = call(data.ctypes.data, data.size, ctypes.byref(options), ctypes.byref(stream), ctypes.byref(fault))
+    _check(status, fault)
+    return _taken(_library(), stream, bool(data[_KIND_PLACE] == _MESH))
+
+
+def restore(data, renumbering):
+    """The bytes of a sequential stream that has the faces (of a cloud the points) of the stream `data` in the order that they had
+    before they were encoded, each face beginning with its first corner; the renumbering is the one that came with `data`.
+
+    Refused has the first fault of the stream, then of the renumbering (`MapKind`, `MapCount`, `BadMap` at its row), then of the
+    encoding. The points of a mesh keep the numbers that they have in `data`."""
+    call, stream, fault, data = _later("drc_restore"), _Stream(), _Fault(), np.frombuffer(data, np.uint8)
+    rows = _numbers("rows", renumbering.rows, 2)
+    parts = (rows.ctypes.data, len(rows), data.ctypes.data, data.size)
+    status = call(bool(renumbering.of_mesh), *parts, ctypes.byref(stream), ctypes.byref(fault))
+    _check(status, fault)
+    return _taken(_library(), stream, renumbering.of_mesh)[0]
+
+
+def verify(data, geometry, renumbering, *, surface=False):
+    """A Verdict: whether the stream `data` means a Geometry by a Renumbering, with the same integers in the same corners and the same
+    attributes; with `surface` also whether sides are glued in it as in that mesh. Nothing of it rests on how a geometry is encoded.
+
+    Refused has the first fault of the arrays, then of the stream, then with `surface` why there is no surface to compare."""
+    call, verdict, fault, data = _later("drc_verify"), _Verdict(), _Fault(), np.frombuffer(data, np.uint8)
+    heads, values, corners = _heads(geometry.attributes), _values(geometry.attributes), _corners(geometry)
+    rows, of_mesh = _numbers("rows", renumbering.rows, 2), geometry.faces is not None
+    arrays = (heads, len(heads), corners.ctypes.data, len(corners), values.ctypes.data, values.size, rows.ctypes.data, len(rows))
+    outs = (ctypes.byref(verdict), ctypes.byref(fault))
+    status = call(of_mesh, *arrays, data.ctypes.data, data.size, bool(surface), *outs)
+    if status != _NOT_SAME:
+        _check(status, fault)
+    return Verdict(_VERDICTS[verdict.kind], verdict.at) if bool(renumbering.of_mesh) == of_mesh else Verdict("heads", 0)
+
+
+# The calls and structs of include/drc.h.
+
+
+class _Head(ctypes.Structure):
+    _fields_ = [
+        ("usage", ctypes.c_uint8),
+        ("dtype", ctypes.c_uint8),
+        ("comps", ctypes.c_uint8),
+        ("normalized", ctypes.c_uint8),
+        ("id", ctypes.c_uint32),
+        ("bits", ctypes.c_uint8),
+        ("range", ctypes.c_uint32),
+        ("min", ctypes.c_uint32 * 8),
+    ]
+
+
+class _Shape(ctypes.Structure):
+    _fields_ = [(name, ctypes.c_uint32) for name in ("mesh", "faces", "points", "width", "attributes")] + [("heads", _Head * 16)]
+
+
+class _Geometry(ctypes.Structure):
+    _fields_ = [("shape", _Shape), ("corners", ctypes.c_void_p), ("values", ctypes.c_void_p)]
+
+
+class _Fault(ctypes.Structure):
+    _fields_ = [("kind", ctypes.c_uint32), ("at", ctypes.c_uint64)]
+
+
+class _Options(ctypes.Structure):
+    _fields_ = [(name, ctypes.c_uint32) for name in ("method", "index", "predict", "walk", "plain_values")]
+
+
+class _Lengths(ctypes.Structure):
+    _fields_ = [("bytes", ctypes.c_size_t), ("rows", ctypes.c_size_t)]
+
+
+class _Stream(ctypes.Structure):
+    _fields_ = [("lengths", _Lengths), ("bytes", ctypes.c_void_p), ("rows", ctypes.c_void_p)]
+
+
+class _Verdict(ctypes.Structure):
+    _fields_ = [("kind", ctypes.c_uint32), ("at", ctypes.c_uint64)]
+
+
+_SIZE, _POINTER, _NUMBER = ctypes.c_size_t, ctypes.c_void_p, ctypes.c_uint32
+_ARRAY = [_POINTER, _SIZE]
+_CALLS = {
+    "drc_version": [],
+    "drc_fault_name": [_NUMBER, ctypes.c_char_p, _SIZE],
+    "drc_decode": [*_ARRAY, _POINTER, _POINTER],
+    "drc_encode": [_NUMBER, *_ARRAY, *_ARRAY, *_ARRAY, _POINTER, _POINTER, _POINTER],
+}
+_LATER_CALLS = {  # of version 2
+    "drc_recode": [*_ARRAY, _POINTER, _POINTER, _POINTER],
+    "drc_restore": [_NUMBER, *_ARRAY, *_ARRAY, _POINTER, _POINTER],
+    "drc_verify": [_NUMBER, *_ARRAY, *_ARRAY, *_ARRAY, *_ARRAY, *_ARRAY, _NUMBER, _POINTER, _POINTER],
+}
+_VERSION = 1
+_NAME_ROOM = 13
+_DONE, _REFUSED, _NO_MEMORY, _NOT_SAME = 0, 2, 5, 6
+_KIND_PLACE, _MESH = 7, 1  # the byte of a stream that says what it is, and that of a mesh
+_VERDICTS = ("same", "heads", "rows", "row", "pair")
+_WORDS = {
+    "method": {"seq": 1, "eb": 2, "valence": 3},
+    "index": {"plain": 1, "packed": 2},
+    "predict": {"none": 1, "diff": 2, "para": 3, "multi": 4},
+    "walk": {"depth": 1, "degree": 2},
+}
+_QUANTISED = 9
+_TYPES = {1: np.int8, 2: np.uint8, 3: np.int16, 4: np.uint16, 5: np.int32, 6: np.uint32, _QUANTISED: np.int32}
+_TYPE_NUMBERS = {np.dtype(kind): number for number, kind in _TYPES.items() if number != _QUANTISED}
+
+
+def _place():
+    """The file of the library, or the name by which the system's loader finds it."""
+    named = os.environ.get("DRC_LIBRARY")
+    if named:
+        return named
+    here = pathlib.Path(__file__).resolve().parent
+    files = [folder / name for folder in (here, here.parent / "out/lib") for name in ("libdrc.so", "libdrc.so.1")]
+    return next((str(it) for it in files if it.exists()), "libdrc.so.1")
+
+
+@functools.lru_cache(maxsize=None)
+def _library():
+    """The library, with the types of its calls, and with `free`."""
+    place = _place()
+    try:
+        library = ctypes.CDLL(place)
+        for name, types in {**_CALLS, **_LATER_CALLS}.items():
+            if name in _CALLS or hasattr(library, name):
+                call = getattr(library, name)
+                call.argtypes, call.restype = types, _NUMBER
+    except (OSError, AttributeError) as why:
+        raise ImportError(f"{why}: ./build-library makes libdrc.so, and the environment variable DRC_LIBRARY may name it") from why
+    if library.drc_version() < _VERSION:
+        raise ImportError(f"{place} has version {library.drc_version()} of the interface: version {_VERSION} is wanted")
+    library.free = ctypes.CDLL(None).free
+    library.free.argtypes, library.free.restype = [_POINTER], None
+    return library
+
+
+def _later(name):
+    """A call that only a later version has."""
+    call = getattr(_library(), name, None)
+    if call is None:
+        raise NotImplementedError(f"libdrc of version {version()} has no {name}")
+    return call
+
+
+def _check(status, fault):
+    """Raises what a status says, unless it says that all is done."""
+    if status == _REFUSED:
+        name = ctypes.create_string_buffer(_NAME_ROOM)
+        _library().drc_fault_name(fault.kind, name, _NAME_ROOM)
+        raise Refused(name.value.decode(), fault.at)
+    if status == _NO_MEMORY:
+        raise MemoryError("libdrc is out of memory")
+    if status != _DONE:
+        raise ValueError(f"libdrc answers status {status}: the arguments don't fit each other")
+
+
+# From the library's memory, all of which is copied and freed.
+
+
+class _Memory:
+    """A table in memory, which numpy reads by its array interface."""
+
+    def __init__(self, address, shape, kind):
+        self.__array_interface__ = {"version": 3, "data": (address, True), "shape": shape, "typestr": kind}
+
+
+def _seen(address, shape, kind):
+    """The table that lies there; NULL is one without items."""
+    return np.asarray(_Memory(address, shape, kind)) if address else np.zeros(shape, kind)
+
+
+def _geometry_of(geometry):
+    shape = geometry.shape
+    faces = _seen(geometry.corners, (shape.faces, 3), "<u4").copy() if shape.mesh else None
+    table = _seen(geometry.values, (shape.points, shape.width), "<i4")
+    attributes, begin = [], 0
+    for head in shape.heads[: shape.attributes]:
+        values = table[:, begin : begin + head.comps].astype(_TYPES[head.dtype], order="C")
+        attributes.append(Attribute(values, head.usage, head.id, head.normalized, _quantisation_of(head)))
+        begin += head.comps
+    return Geometry(faces, attributes)
+
+
+def _quantisation_of(head):
+    if head.dtype != _QUANTISED:
+        return None
+    floats = np.array([head.range, *head.min[: head.comps]], np.uint32).view(np.float32)
+    return Quantisation(head.bits, floats[0], floats[1:].copy())
+
+
+def _taken(library, stream, of_mesh):
+    """The bytes and the renumbering of a stream, which is freed."""
+    try:
+        rows = _seen(stream.rows, (stream.lengths.rows, 2), "<u4").copy()
+        return ctypes.string_at(stream.bytes, stream.lengths.bytes), Renumbering(of_mesh, rows)
+    finally:
+        library.free(stream.bytes)
+        library.free(stream.rows)
+
+
+# To the library.
+
+
+def _options(method, index, predict, walk, plain_values):
+    chosen = {"method": method, "index": index, "predict": predict, "walk": walk}
+    for option, word in chosen.items():
+        if word is not None and word not in _WORDS[option]:
+            raise ValueError(f"{option} is {word!r}: one of {', '.join(_WORDS[option])} is wanted")
+    return _Options(*(_WORDS[option].get(word, 0) for option, word in chosen.items()), bool(plain_values))
+
+
+def _table(values, kind=None):
+    """An attribute's values as a table."""
+    table = np.asarray(values, kind)
+    if table.ndim != 2:
+        raise ValueError(f"values have the shape {table.shape}: a row for each point is wanted")
+    return table
+
+
+def _fits(what, number, bits):
+    """A number of so many bits."""
+    if not 0 <= operator.index(number) < 1 << bits:
+        raise ValueError(f"{what} is {number}: it has to be below 2^{bits}")
+    return operator.index(number)
+
+
+def _heads(attributes):
+    """What attributes are."""
+    heads = (_Head * len(attributes))()
+    for head, it in zip(heads, attributes):
+        table = _table(it.values)
+        head.dtype = _type_number(table.dtype.newbyteorder("="), it.quantisation)
+        head.usage, head.comps = _fits("usage", it.usage, 8), _fits("the number of components", table.shape[1], 8)
+        head.normalized, head.id = _fits("normalized", it.normalized, 8), _fits("id", it.id, 32)
+        if it.quantisation:
+            _put_quantisation(head, it.quantisation)
+    return heads
+
+
+def _type_number(kind, quantisation):
+    number = _TYPE_NUMBERS.get(kind)
+    if number is None or quantisation and kind != np.int32:
+        wanted = "int32" if quantisation else ", ".join(it.name for it in _TYPE_NUMBERS)
+        raise TypeError(f"values are of {kind}: {wanted} is wanted")
+    return _QUANTISED if quantisation else number
+
+
+def _put_quantisation(head, quantisation):
+    minima = np.asarray(quantisation.minima, np.float32).ravel()
+    if len(minima) != head.comps:
+        raise ValueError(f"there are {len(minima)} minima of {head.comps} components")
+    head.bits = _fits("bits", quantisation.bits, 8)
+    head.range = int(np.asarray(quantisation.range, np.float32).view(np.uint32))
+    for j, pattern in enumerate(minima.view(np.uint32)[: len(head.min)].tolist()):
+        head.min[j] = pattern
+
+
+def _values(attributes):
+    """The integers of all points, point after point. What is 2^31 and more becomes negative, which uint32 has none of."""
+    tables = [_table(it.values).astype(np.int32) for it in attributes]
+    if len({len(it) for it in tables}) > 1:
+        raise ValueError(f"attributes have {', '.join(str(len(it)) for it in tables)} rows: each has to have one for each point")
+    return np.ascontiguousarray(np.concatenate(tables, axis=1)) if tables else np.zeros((0, 0), np.int32)
+
+
+def _corners(geometry):
+    """The numbers of the points of each face; a cloud has none."""
+    return np.zeros((0, 3), np.uint32) if geometry.faces is None else _numbers("faces", geometry.faces, 3)
+
+
+def _numbers(what, table, columns):
+    """A table of numbers of points or faces. What 32 bits don't hold becomes the greatest that they hold, which is none."""
+    table = np.asarray(table)
+    if table.ndim != 2 or table.shape[1] != columns:
+        raise ValueError(f"{what} have the shape {table.shape}: {columns} numbers each are wanted")
+    if table.dtype.kind not in "iu":
+        raise TypeError(f"{what} are of {table.dtype}: integers are wanted")
+    greatest = np.iinfo(np.uint32).max
+    return np.where((table < 0) | (table > greatest), greatest, table).astype(np.uint32, order="C")
+
+
+# Floats and grids, in 32 bits.
+
+
+def _step(grid):
+    """The distance of two neighbours on a grid."""
+    return np.float32(grid.range) / np.float32((1 << grid.bits) - 1)
+
+
+def _grid(floats, bits):
+    """The grid of a table of floats."""
+    if not 1 <= bits <= 30:
+        raise ValueError(f"bits are {bits}: 1 to 30 are wanted")
+    if not np.isfinite(floats).all():
+        raise ValueError("a float isn't finite")
+    if not len(floats):
+        return Quantisation(bits, np.float32(1), np.zeros(floats.shape[1], np.float32))
+    minima = floats.min(axis=0)
+    with np.errstate(over="ignore"):
+        extent = (floats.max(axis=0) - minima).max()
+    if not np.isfinite(extent):
+        raise ValueError("the extent of the floats is no finite float")
+    return Quantisation(bits, _range(extent, np.float32((1 << bits) - 1)), minima)
+
+
+def _range(extent, most):
+    """The range of a grid of so many steps: the extent of its floats, and 1 where that is 0. Where the number of steps in a unit would be
+    too great for a float, it is the least range where it isn't."""
+    if extent == 0:
+        return np.float32(1)
+    with np.errstate(over="ignore"):
+        while not np.isfinite(most / extent):
+            extent = np.nextafter(max(extent, most / np.finfo(np.float32).max), np.float32(np.inf))
+    return extent
