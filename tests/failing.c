@@ -1,8 +1,10 @@
 /* Has one call of a program fail, for tests/ends: the one of number FAIL_ALLOC that asks for memory, FAIL_READ that reads standard input,
-   or FAIL_WRITE that writes; numbers begin with 1. With SHORT each read and write passes one byte at most. */
+   or FAIL_WRITE that writes; numbers begin with 1. When it comes, the file CAME is made. With SHORT each read and write passes one
+   byte at most. */
 #define _GNU_SOURCE
 #include <dlfcn.h>
 #include <errno.h>
+#include <fcntl.h>
 #include <stdlib.h>
 #include <unistd.h>
 
@@ -13,7 +15,11 @@ static long number(const char *name) {
 
 static int comes(const char *name, long *count) {
     *count += 1;
-    return *count == number(name);
+    if (*count != number(name)) return 0;
+    const char *came = getenv("CAME");
+    int file = came ? open(came, O_CREAT | O_WRONLY, 0600) : -1;
+    if (file >= 0) close(file);
+    return 1;
 }
 
 static long allocations, readings, writings;

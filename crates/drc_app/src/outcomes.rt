@@ -20,6 +20,7 @@ use crate::verifying::verified;
 use drc_base::{Fault, Kind, MAX_INPUT_BYTES, Memory, ReadEnd, Refusal, Source, read_all};
 use drc_container::{Choice, decode, encode};
 use drc_info::report;
+use drc_recode::decode_packed;
 use drc_verify::Verdict;
 use mesh_model::{Geometry, map_text};
 use ply_mesh::{PlyText, read_ply};
@@ -124,7 +125,7 @@ fn work(alloc: Global, command: Command, bytes: Vec<u8>) -> Result<Answer, Refus
         Command::Gen(asked) => Ok(Answer::Due(gen_due(alloc, asked)?)),
         Command::Recode(choice) => Ok(Answer::Due(recoded_due(alloc, &choice, bytes)?)),
         Command::Restore => Ok(Answer::Due(restored_due(alloc, &bytes)?)),
-        Command::Verify(surface) => verified(alloc, surface, &bytes),
+        Command::Verify(surface) => verified(alloc, surface, bytes),
     }
 }
 
@@ -142,7 +143,7 @@ fn recoded_due(alloc: Global, choice: &Choice, stream: Vec<u8>) -> Result<Due, R
     ensures answer { Answers bytes_of (recoded_due choice.now stream.items) result }
     ensures kept { IfOk result (λ d. IsOkAnd (meaning_of stream.items) (IsCoded choice.now (output_bytes d.output) d.note.items)) }
 {
-    let geometry = stream_read(alloc, stream)?;
+    let geometry = stream_packed(alloc, stream)?;
     coded_due(alloc, choice, &geometry)
 }
 
@@ -185,6 +186,13 @@ fn stream_read(alloc: Global, stream: Vec<u8>) -> Result<Geometry, Refusal>
     ensures { Answers (λ g. g) (meaning_of stream.items) result }
 {
     decode(alloc, &stream)
+}
+
+/// The geometry that a stream means, for encoding it again. The stream is freed.
+fn stream_packed(alloc: Global, stream: Vec<u8>) -> Result<Geometry, Refusal>
+    ensures { Answers (λ g. g) (meaning_of stream.items) result }
+{
+    decode_packed(alloc, &stream)
 }
 
 /// The report on a stream, and no note.

@@ -11,8 +11,9 @@ use crate::map_inputs::behind_map;
 use crate::outcomes::{Answer, Due, Output};
 use decimal_text::append_number;
 use drc_base::{Fault, Kind, Memory, Refusal};
-use drc_verify::{Verdict, verify};
+use drc_verify::{Verdict, verify_read};
 use mesh_model::{read_map, read_number};
+use ply_mesh::read_ply;
 use std::alloc::Global;
 
 /// The text that a line `ply <n>` at the front counts, and the stream behind it.
@@ -57,18 +58,22 @@ fn given_by(alloc: Global, count: u64, verdict: Verdict) -> Result<Answer, Memor
 
 /// Whether the stream in an input is the geometry of the text in it by the rows of the map in it, and with
 /// `surface` whether it is glued as that: the line of a yes and no note, or the verdict.
-#[tactic(auto, unfolding(crate::specs::Verified::parts_of, crate::specs::Verified::verified))]
-pub fn verified(alloc: Global, surface: bool, input: &[u8]) -> Result<Answer, Refusal>
-    ensures answer { Answers seen (verified surface input.now) result }
-    ensures says { IfOk result (λ a. SaysWhetherSame surface input.now (seen a)) }
+#[tactic(auto, unfolding(crate::specs::Verified::parts_of, crate::specs::Verified::verified, drc_verify::specs::Checked::due))]
+pub fn verified(alloc: Global, surface: bool, input: Vec<u8>) -> Result<Answer, Refusal>
+    ensures answer { Answers seen (verified surface input.items) result }
+    ensures says { IfOk result (λ a. SaysWhetherSame surface input.items (seen a)) }
     ensures differs { IfOk result (λ a. MayAnswer (Command.Verify surface) a) }
 {
-    let map = read_map(alloc, input)?;
+    let map = read_map(alloc, &input)?;
     let count = map.rows.rows.len() as u64;
-    let (text, stream) = match text_and_stream(behind_map(&map, input)) {
+    let (text, stream) = match text_and_stream(behind_map(&map, &input)) {
         Some(parts) => parts,
         None => return Err(Refusal::Fault(Fault::new(Kind::MapForm, count + 2))),
     };
-    let verdict = verify(alloc, &map, text, stream, surface)?;
+    let geometry = read_ply(alloc, text)?;
+    let stream = Vec::from_slice(alloc, stream)?;
+    // The text is the largest part, and nothing needs it any more.
+    drop(input);
+    let verdict = verify_read(alloc, &map, &geometry, &stream, surface)?;
     Ok(given_by(alloc, count, verdict)?)
 }
