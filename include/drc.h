@@ -18,8 +18,9 @@
 extern "C" {
 #endif
 
-/* The version of the interface: a later one has all that an earlier one had. */
-#define DRC_VERSION 1
+/* The version of the interface: a later one has all that an earlier one had. Version 2 added recoding, restoring and
+   verifying. */
+#define DRC_VERSION 2
 
 /* The most attributes of a geometry, the most components of one, and room for the name of any fault with its zero. */
 #define DRC_MAX_ATTRIBUTES 16
@@ -32,6 +33,7 @@ enum {
     DRC_BAD_ARGUMENT = 1, /* arguments that don't fit each other, or a number that names nothing */
     DRC_REFUSED = 2,      /* the input is refused: the fault says why */
     DRC_NO_MEMORY = 5,
+    DRC_NOT_SAME = 6,     /* of `drc_verify` alone: the verdict says what differs first */
     DRC_NO_ROOM = 8       /* an array is too short: the counts say what is needed */
 };
 
@@ -89,8 +91,8 @@ enum { DRC_INDEX_PLAIN = 1, DRC_INDEX_PACKED = 2 };
 enum { DRC_PREDICT_NONE = 1, DRC_PREDICT_DIFFERENCE = 2, DRC_PREDICT_PARALLELOGRAM = 3, DRC_PREDICT_MULTI = 4 };
 enum { DRC_WALK_DEPTH = 1, DRC_WALK_DEGREE = 2 };
 
-/* A row of the map of an encoding, one for each face of the stream: corner k of that face is corner k + turn, modulo 3, of
-   face `number` of what was encoded. For a cloud one for each point: the point, and turn 0. */
+/* A row of a map, one for each face of a stream: corner k of that face is corner k + turn, modulo 3, of face `number` of
+   what was encoded. For a cloud one for each point: the point, and turn 0. */
 typedef struct drc_row {
     uint32_t number;
     uint32_t turn;
@@ -108,6 +110,22 @@ typedef struct drc_stream {
     uint8_t *bytes;
     drc_row *rows; /* NULL where there is no row */
 } drc_stream;
+
+/* Whether a stream is a geometry by a map: the first of the numbers below, DRC_VERDICT_, that applies. */
+typedef struct drc_verdict {
+    uint32_t kind;
+    uint64_t at; /* what it says it of, counted from 0 */
+} drc_verdict;
+
+enum {
+    DRC_VERDICT_SAME = 0,  /* it is; `at` is 0 */
+    DRC_VERDICT_HEADS = 1, /* the heads of attributes differ, or one is a mesh and the other a cloud; `at` is 0 */
+    DRC_VERDICT_ROWS = 2,  /* the map has `at` rows, and not both have as many faces (points of clouds) */
+    DRC_VERDICT_ROW = 3,   /* row `at` is the first that is wrong: it names no face (point), or one that an earlier row names, its turn
+                              is above 2 (above 0 for a cloud), or a corner (the point) has other integers */
+    DRC_VERDICT_PAIR = 4   /* with surfaces: side `at` = 3 * face + k of the stream is the first that is glued otherwise, or is free in
+                              one of the two alone */
+};
 
 /* The version of the interface that the library has. */
 uint32_t drc_version(void);
@@ -138,6 +156,35 @@ uint32_t drc_encode_into(uint32_t mesh, const drc_head *heads, size_t attributes
                          const int32_t *values, size_t count, const drc_options *options, uint8_t *bytes, size_t room,
                          drc_row *rows, size_t row_room, drc_lengths *lengths, drc_fault *fault);
 
+/* Codes a stream in another way: the new stream means the geometry of the old one, by its map, whose rows name faces
+   (points) of the old one. Both are freed by `drc_free_stream`. DRC_DONE; DRC_BAD_ARGUMENT where an option has no such number;
+   DRC_REFUSED with the first fault of the old stream, else of the encoding; DRC_NO_MEMORY. */
+uint32_t drc_recode(const uint8_t *bytes, size_t length, const drc_options *options, drc_stream *stream, drc_fault *fault);
+
+/* The same into arrays of the caller; DRC_NO_ROOM where one of them is too short, and the lengths say what is needed. */
+uint32_t drc_recode_into(const uint8_t *bytes, size_t length, const drc_options *options, uint8_t *written, size_t room,
+                         drc_row *rows, size_t row_room, drc_lengths *lengths, drc_fault *fault);
+
+/* Writes a stream in the order before a map, of a mesh (1) or a cloud (0), that was given with it: a sequential stream with the
+   faces (points) of what was encoded, in their order, each beginning with its first corner. It is freed by `drc_free_stream` and
+   has no map: its rows are NULL, and their number 0. DRC_DONE; DRC_BAD_ARGUMENT where `mesh` is another number; DRC_REFUSED with
+   the first fault of the stream, of the map, then of the encoding; DRC_NO_MEMORY. */
+uint32_t drc_restore(uint32_t mesh, const drc_row *rows, size_t row_count, const uint8_t *bytes, size_t length,
+                     drc_stream *stream, drc_fault *fault);
+
+/* The same into an array of the caller; DRC_NO_ROOM where it is too short, and the lengths say what is needed. */
+uint32_t drc_restore_into(uint32_t mesh, const drc_row *rows, size_t row_count, const uint8_t *bytes, size_t length,
+                          uint8_t *written, size_t room, drc_lengths *lengths, drc_fault *fault);
+
+/* Whether a stream means a geometry, given by arrays as for `drc_encode`, by the rows of a map: with `surface` 1 besides whether
+   it is glued as that mesh is. Nothing of it rests on how a geometry is encoded. DRC_DONE where it is; DRC_NOT_SAME where it
+   isn't; the verdict says which in both cases. DRC_BAD_ARGUMENT where `mesh` or `surface` is neither 0 nor 1, a cloud has faces, or
+   the values aren't whole rows; DRC_REFUSED with the first fault of the arrays, then of the stream, then with `surface` 1 why there
+   is no surface to compare; DRC_NO_MEMORY. */
+uint32_t drc_verify(uint32_t mesh, const drc_head *heads, size_t attributes, const uint32_t *corners, size_t faces,
+                    const int32_t *values, size_t count, const drc_row *rows, size_t row_count, const uint8_t *bytes,
+                    size_t length, uint32_t surface, drc_verdict *verdict, drc_fault *fault);
+
 /* Frees the arrays of a geometry that `drc_decode` wrote. */
 static inline void drc_free(drc_geometry *geometry) {
     free(geometry->corners);
@@ -146,7 +193,7 @@ static inline void drc_free(drc_geometry *geometry) {
     geometry->values = NULL;
 }
 
-/* Frees the bytes and rows that `drc_encode` wrote. */
+/* Frees the bytes and rows that `drc_encode`, `drc_recode` or `drc_restore` wrote. */
 static inline void drc_free_stream(drc_stream *stream) {
     free(stream->bytes);
     free(stream->rows);

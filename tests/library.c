@@ -94,6 +94,7 @@ static void test_structs(void) {
     TELL(sizeof(drc_lengths) == 16 && offsetof(drc_lengths, bytes) == 0 && offsetof(drc_lengths, rows) == 8);
     TELL(sizeof(drc_stream) == 32 && offsetof(drc_stream, lengths) == 0 && offsetof(drc_stream, bytes) == 16);
     TELL(offsetof(drc_stream, rows) == 24);
+    TELL(sizeof(drc_verdict) == 16 && offsetof(drc_verdict, kind) == 0 && offsetof(drc_verdict, at) == 8);
 }
 
 static void test_names(void) {
@@ -243,6 +244,222 @@ static void test_refusals(void) {
     TELL(drc_encode(0, NULL, 0, NULL, 0, NULL, 0, &it.options, &stream, &fault) == DRC_REFUSED && is_fault(&fault, DRC_FAULT_NoAttribute, 0));
 }
 
+/* Whether recoding answers this in both ways and, as it isn't done, writes nothing but the fault of a refusal. */
+static int is_recoded(const uint8_t *bytes, size_t length, const drc_options *options, uint32_t status, uint32_t kind, uint64_t at) {
+    drc_stream stream;
+    drc_lengths lengths = {77, 78};
+    drc_fault fault = marked(), again = marked();
+    uint8_t written[1] = {9};
+    drc_row rows[1] = {{8, 7}};
+    memset(&stream, 0x5a, sizeof stream);
+    drc_stream before = stream;
+    int same = drc_recode(bytes, length, options, &stream, &fault) == status && memcmp(&stream, &before, sizeof stream) == 0;
+    same = same && drc_recode_into(bytes, length, options, written, 1, rows, 1, &lengths, &again) == status;
+    same = same && written[0] == 9 && rows[0].number == 8 && rows[0].turn == 7 && lengths.bytes == 77 && lengths.rows == 78;
+    if (status != DRC_REFUSED) return same && is_marked(&fault) && is_marked(&again);
+    return same && is_fault(&fault, kind, at) && is_fault(&again, kind, at);
+}
+
+static void test_recoding(void) {
+    arrays it = triangle();
+    drc_stream stream;
+    drc_fault fault = marked();
+    TELL(encode(&it, &stream, &fault) == DRC_DONE);
+    const uint8_t *bytes = stream.bytes;
+    size_t length = stream.lengths.bytes;
+    drc_options options = {4, 0, 0, 0, 0};
+    TELL(is_recoded(bytes, length, &options, DRC_BAD_ARGUMENT, 0, 0));
+    TELL(is_recoded(NULL, 0, &options, DRC_BAD_ARGUMENT, 0, 0));
+    options.method = 0, options.index = 3;
+    TELL(is_recoded(bytes, length, &options, DRC_BAD_ARGUMENT, 0, 0));
+    options.index = 0, options.predict = 5;
+    TELL(is_recoded(bytes, length, &options, DRC_BAD_ARGUMENT, 0, 0));
+    options.predict = 0, options.walk = 3;
+    TELL(is_recoded(bytes, length, &options, DRC_BAD_ARGUMENT, 0, 0));
+    options.walk = 0, options.plain_values = UINT32_MAX;
+    TELL(is_recoded(bytes, length, &options, DRC_BAD_ARGUMENT, 0, 0));
+    options.plain_values = 0;
+    TELL(is_recoded(NULL, 0, &options, DRC_REFUSED, DRC_FAULT_Short, 0));
+    TELL(is_recoded(bytes, 20, &options, DRC_REFUSED, DRC_FAULT_Short, 20));
+    drc_lengths lengths = {77, 78};
+    TELL(drc_recode_into(bytes, length, &options, NULL, 0, NULL, 0, &lengths, &fault) == DRC_NO_ROOM && is_marked(&fault));
+    TELL(lengths.bytes == length && lengths.rows == 1);
+    options.index = DRC_INDEX_PACKED;
+    TELL(is_recoded(bytes, 20, &options, DRC_REFUSED, DRC_FAULT_Short, 20));
+    TELL(is_recoded(bytes, length, &options, DRC_REFUSED, DRC_FAULT_Choice, 1));
+    drc_free_stream(&stream);
+}
+
+/* Whether restoring answers this and, as it isn't done, writes nothing but the fault of a refusal. */
+static int is_restored(uint32_t mesh, const drc_row *rows, size_t count, const drc_stream *old, uint32_t status, uint32_t kind, uint64_t at) {
+    drc_stream stream;
+    drc_fault fault = marked();
+    memset(&stream, 0x5a, sizeof stream);
+    drc_stream before = stream;
+    drc_lengths lengths = {77, 78};
+    drc_fault again = marked();
+    uint8_t written[1] = {9};
+    int same = drc_restore(mesh, rows, count, old->bytes, old->lengths.bytes, &stream, &fault) == status;
+    same = same && memcmp(&stream, &before, sizeof stream) == 0;
+    same = same && drc_restore_into(mesh, rows, count, old->bytes, old->lengths.bytes, written, 1, &lengths, &again) == status;
+    same = same && written[0] == 9 && lengths.bytes == 77 && lengths.rows == 78;
+    if (status != DRC_REFUSED) return same && is_marked(&fault) && is_marked(&again);
+    return same && is_fault(&fault, kind, at) && is_fault(&again, kind, at);
+}
+
+static void test_restoring(void) {
+    arrays it = triangle();
+    drc_stream stream, restored, none;
+    drc_fault fault = marked();
+    drc_row rows[2] = {{0, 0}, {0, 0}};
+    memset(&none, 0, sizeof none);
+    TELL(encode(&it, &stream, &fault) == DRC_DONE);
+    TELL(drc_restore(1, rows, 1, stream.bytes, stream.lengths.bytes, &restored, &fault) == DRC_DONE && is_marked(&fault));
+    TELL(restored.lengths.rows == 0 && restored.rows == NULL && restored.bytes[8] == 0);
+    drc_free_stream(&restored);
+    TELL(is_restored(2, rows, 1, &stream, DRC_BAD_ARGUMENT, 0, 0));
+    TELL(is_restored(UINT32_MAX, NULL, 0, &none, DRC_BAD_ARGUMENT, 0, 0));
+    TELL(is_restored(0, NULL, 0, &none, DRC_REFUSED, DRC_FAULT_Short, 0));
+    TELL(is_restored(0, rows, 1, &stream, DRC_REFUSED, DRC_FAULT_MapKind, 0));
+    TELL(is_restored(1, NULL, 0, &stream, DRC_REFUSED, DRC_FAULT_MapCount, 0));
+    TELL(is_restored(1, rows, 2, &stream, DRC_REFUSED, DRC_FAULT_MapCount, 2));
+    static const drc_row bad[] = {{1, 0}, {UINT32_MAX, 0}, {0, 3}, {0, 255}, {0, 256}, {0, UINT32_MAX}};
+    for (size_t k = 0; k < sizeof bad / sizeof bad[0]; k++) {
+        TELL(is_restored(1, &bad[k], 1, &stream, DRC_REFUSED, DRC_FAULT_BadMap, 0));
+    }
+    drc_free_stream(&stream);
+}
+
+/* Whether verifying answers this: a verdict where it is or isn't the same, a fault where it is refused, and nothing else is written. */
+static int is_verified(const arrays *all, const drc_row *rows, size_t count, const uint8_t *bytes, size_t length, uint32_t surface,
+                       uint32_t status, uint32_t kind, uint64_t at) {
+    drc_fault fault = marked();
+    drc_verdict verdict;
+    memset(&verdict, 0, sizeof verdict);
+    verdict.kind = MARK_FAULT, verdict.at = MARK_FAULT;
+    uint32_t answer = drc_verify(all->mesh, all->heads, all->attributes, all->corners, all->faces, all->values, all->count, rows, count, bytes,
+                                 length, surface, &verdict, &fault);
+    int told = status == DRC_DONE || status == DRC_NOT_SAME;
+    int right = told ? verdict.kind == kind && verdict.at == at : verdict.kind == MARK_FAULT && verdict.at == MARK_FAULT;
+    return answer == status && right && (status == DRC_REFUSED ? is_fault(&fault, kind, at) : is_marked(&fault));
+}
+
+static void test_verifying(void) {
+    arrays it = triangle();
+    drc_stream stream, plain;
+    drc_fault fault = marked();
+    drc_row rows[2] = {{0, 0}, {1, 0}};
+    TELL(encode(&it, &stream, &fault) == DRC_DONE);
+    it.options.method = DRC_METHOD_SEQUENTIAL;
+    TELL(encode(&it, &plain, &fault) == DRC_DONE);
+    const uint8_t *bytes = stream.bytes;
+    size_t length = stream.lengths.bytes;
+    for (uint32_t surface = 0; surface < 2; surface++) {
+        it = triangle();
+        TELL(is_verified(&it, rows, 1, bytes, length, surface, DRC_DONE, DRC_VERDICT_SAME, 0));
+        static const drc_row bad[] = {{0, 1}, {0, 2}, {0, 3}, {0, 256}, {0, UINT32_MAX}, {1, 0}, {UINT32_MAX, 0}};
+        for (size_t k = 0; k < sizeof bad / sizeof bad[0]; k++) {
+            TELL(is_verified(&it, &bad[k], 1, bytes, length, surface, DRC_NOT_SAME, DRC_VERDICT_ROW, 0));
+        }
+        TELL(is_verified(&it, NULL, 0, bytes, length, surface, DRC_NOT_SAME, DRC_VERDICT_ROWS, 0));
+        TELL(is_verified(&it, rows, 2, bytes, length, surface, DRC_NOT_SAME, DRC_VERDICT_ROWS, 2));
+        it.values[4] = 1;
+        TELL(is_verified(&it, rows, 1, bytes, length, surface, DRC_NOT_SAME, DRC_VERDICT_ROW, 0));
+        it.heads[0].id = 1;
+        TELL(is_verified(&it, rows, 1, bytes, length, surface, DRC_NOT_SAME, DRC_VERDICT_HEADS, 0));
+        it = triangle(), it.mesh = 2;
+        TELL(is_verified(&it, rows, 1, bytes, length, surface, DRC_BAD_ARGUMENT, 0, 0));
+        it.mesh = 0;
+        TELL(is_verified(&it, rows, 1, bytes, length, surface, DRC_BAD_ARGUMENT, 0, 0));
+        it = triangle(), it.count = 8;
+        TELL(is_verified(&it, rows, 1, NULL, 0, surface, DRC_BAD_ARGUMENT, 0, 0));
+        it = triangle();
+        TELL(is_verified(&it, rows, 1, NULL, 0, surface, DRC_REFUSED, DRC_FAULT_Short, 0));
+        it.corners[1] = 3;
+        TELL(is_verified(&it, rows, 1, NULL, 0, surface, DRC_REFUSED, DRC_FAULT_IndexRange, 0));
+        it = triangle(), it.attributes = 17;
+        TELL(is_verified(&it, rows, 1, bytes, length, surface, DRC_REFUSED, DRC_FAULT_AttrLimit, 17));
+    }
+    it = triangle();
+    TELL(is_verified(&it, rows, 1, bytes, length, 2, DRC_BAD_ARGUMENT, 0, 0));
+    drc_verdict unwritten = {MARK_FAULT, MARK_FAULT};
+    fault = marked();
+    TELL(drc_verify(0, NULL, 0, NULL, 0, NULL, 0, NULL, 0, NULL, 0, 1, &unwritten, &fault) == DRC_REFUSED);
+    TELL(is_fault(&fault, DRC_FAULT_NoAttribute, 0) && unwritten.kind == MARK_FAULT && unwritten.at == MARK_FAULT);
+    fault = marked();
+    TELL(is_verified(&it, rows, 1, bytes, length, UINT32_MAX, DRC_BAD_ARGUMENT, 0, 0));
+    TELL(is_verified(&it, rows, 1, plain.bytes, plain.lengths.bytes, 0, DRC_DONE, DRC_VERDICT_SAME, 0));
+    TELL(is_verified(&it, rows, 1, plain.bytes, plain.lengths.bytes, 1, DRC_REFUSED, DRC_FAULT_Choice, 0));
+    it.corners[1] = 0;
+    TELL(is_verified(&it, rows, 1, bytes, length, 0, DRC_NOT_SAME, DRC_VERDICT_ROW, 0));
+    TELL(is_verified(&it, rows, 1, bytes, length, 1, DRC_REFUSED, DRC_FAULT_Degenerate, 0));
+    it = triangle(), it.heads[0].usage = 1;
+    TELL(is_verified(&it, rows, 1, bytes, length, 0, DRC_NOT_SAME, DRC_VERDICT_HEADS, 0));
+    TELL(is_verified(&it, rows, 1, bytes, length, 1, DRC_REFUSED, DRC_FAULT_NoPosition, 0));
+    it = triangle(), it.mesh = 0, it.faces = 0;
+    TELL(is_verified(&it, rows, 1, bytes, length, 0, DRC_NOT_SAME, DRC_VERDICT_HEADS, 0));
+    TELL(is_verified(&it, rows, 1, bytes, length, 1, DRC_REFUSED, DRC_FAULT_NoPosition, 0));
+
+    /* A square of two triangles that share a side, and a stream whose two triangles aren't glued. */
+    static const uint8_t apart[] = {68, 82, 65, 67, 79, 2, 2, 1, 1, 0, 0, 0, 6, 2, 0, 2, 0, 0, 1, 63, 255, 1, 34, 1, 255, 0, 0, 1,
+                                    0, 5, 3, 0, 0, 1, 254, 0, 1, 4, 0, 0, 0, 4, 0, 0, 0, 0, 4, 4, 0, 0, 4, 0, 4, 0, 0};
+    static const int32_t values[12] = {0, 0, 0, 2, 0, 0, 0, 2, 0, 2, 2, 0};
+    static const uint32_t corners[6] = {0, 1, 2, 1, 3, 2};
+    drc_verdict verdict = {MARK_FAULT, MARK_FAULT};
+    it = triangle();
+    for (uint32_t surface = 0; surface < 2; surface++) {
+        uint32_t status = drc_verify(1, it.heads, 1, corners, 2, values, 12, rows, 2, apart, sizeof apart, surface, &verdict, &fault);
+        TELL(status == (surface ? DRC_NOT_SAME : DRC_DONE) && verdict.kind == (surface ? DRC_VERDICT_PAIR : DRC_VERDICT_SAME) && verdict.at == 0);
+    }
+    TELL(is_marked(&fault));
+    drc_free_stream(&stream);
+    drc_free_stream(&plain);
+}
+
+/* Faults of heads, of numbers and of what a stream declares come before memory is asked for: with none there they are the same. */
+static void test_early(void) {
+    enum { MOST = 1 << 22 };
+    uint32_t *corners = (uint32_t *)__real_malloc(12 * (size_t)(MOST + 1));
+    int32_t *values = (int32_t *)__real_malloc(4 * (size_t)(MOST + 1));
+    drc_stream stream;
+    drc_verdict verdict;
+    memset(corners, 0, 12 * (size_t)(MOST + 1));
+    memset(values, 0, 4 * (size_t)(MOST + 1));
+    for (int which = 0; which < 8; which++) {
+        static const uint32_t kinds[] = {DRC_FAULT_NoAttribute, DRC_FAULT_AttrLimit,  DRC_FAULT_AttrType,   DRC_FAULT_DataType,
+                                         DRC_FAULT_Components,  DRC_FAULT_QuantBits, DRC_FAULT_PointLimit, DRC_FAULT_FaceLimit};
+        static const uint64_t places[] = {0, 17, 1, 1, 1, 1, MOST + 1, MOST + 1};
+        arrays it = triangle();
+        size_t faces = which == 7 ? MOST + 1 : 1, count = which == 6 ? MOST + 1 : which == 0 || which == 1 ? 9 : 12;
+        it.attributes = which == 0 ? 0 : which == 1 ? 17 : which >= 6 ? 1 : 2;
+        if (which == 2) it.heads[1].usage = 5;
+        if (which == 3) it.heads[1].dtype = 8;
+        if (which == 4) it.heads[1].comps = 9;
+        if (which == 5) it.heads[1].dtype = 9, it.heads[1].bits = 31;
+        if (which == 6) it.heads[0].comps = 1;
+        for (int call = 0; call < 2; call++) {
+            drc_fault fault = marked();
+            counting = 1, requests = 0, blocks = 0, failing = 1;
+            uint32_t status = call ? drc_verify(1, it.heads, it.attributes, corners, faces, values, count, NULL, 0, NULL, 0, 0, &verdict, &fault)
+                                   : drc_encode(1, it.heads, it.attributes, corners, faces, values, count, &it.options, &stream, &fault);
+            counting = 0;
+            TELL(status == DRC_REFUSED && is_fault(&fault, kinds[which], places[which]) && requests == 0);
+        }
+    }
+    static const uint8_t header[] = {68, 82, 65, 67, 79, 2, 1, 1, 0, 0, 0};
+    drc_options options = {0, 0, 0, 0, 0};
+    drc_geometry geometry;
+    for (int call = 0; call < 2; call++) {
+        drc_fault fault = marked();
+        counting = 1, requests = 0, failing = 1;
+        uint32_t status = call ? drc_recode(header, sizeof header, &options, &stream, &fault) : drc_decode(header, sizeof header, &geometry, &fault);
+        counting = 0;
+        TELL(status == DRC_REFUSED && is_fault(&fault, DRC_FAULT_Version, 5) && requests == 0);
+    }
+    __real_free(corners);
+    __real_free(values);
+}
+
 typedef struct file {
     uint8_t *bytes;
     size_t length;
@@ -331,6 +548,98 @@ static int are_same_heads(const drc_shape *a, const drc_shape *b) {
     return same;
 }
 
+static uint32_t verify(const drc_geometry *geometry, const drc_stream *stream, uint32_t surface, drc_verdict *verdict, drc_fault *fault) {
+    const drc_shape *shape = &geometry->shape;
+    return drc_verify(shape->mesh, shape->heads, shape->attributes, geometry->corners, shape->faces, geometry->values,
+                      (size_t)shape->points * shape->width, stream->rows, stream->lengths.rows, stream->bytes, stream->lengths.bytes, surface,
+                      verdict, fault);
+}
+
+/* A stream is the geometry by its map, and glued as it where it is Edgebreaker's; and it isn't by a map with one other turn. */
+static void test_checked(drc_stream *stream, const drc_geometry *geometry) {
+    drc_verdict verdict = {MARK_FAULT, MARK_FAULT};
+    drc_fault fault = marked();
+    TELL(verify(geometry, stream, 0, &verdict, &fault) == DRC_DONE && verdict.kind == DRC_VERDICT_SAME && verdict.at == 0);
+    uint32_t status = verify(geometry, stream, 1, &verdict, &fault);
+    TELL(stream->bytes[8] == 1 ? status == DRC_DONE && verdict.kind == DRC_VERDICT_SAME : status == DRC_REFUSED);
+    TELL(stream->bytes[8] == 1 ? is_marked(&fault) : is_fault(&fault, DRC_FAULT_Choice, 0));
+    size_t last = stream->lengths.rows - 1;
+    uint32_t turn = stream->rows[last].turn;
+    stream->rows[last].turn = geometry->shape.mesh ? (turn + 1) % 3 : 1;
+    TELL(verify(geometry, stream, 0, &verdict, &fault) == DRC_NOT_SAME && verdict.kind == DRC_VERDICT_ROW && verdict.at == last);
+    stream->rows[last].turn = turn;
+}
+
+/* A stream in the order before its map has the faces of the geometry, or its points where it is a cloud, in their order. */
+static void test_restored(const drc_stream *stream, const drc_geometry *geometry) {
+    const drc_shape *shape = &geometry->shape;
+    drc_stream restored;
+    drc_geometry first;
+    drc_fault fault = marked();
+    TELL(drc_restore(shape->mesh, stream->rows, stream->lengths.rows, stream->bytes, stream->lengths.bytes, &restored, &fault) == DRC_DONE);
+    TELL(is_marked(&fault) && restored.lengths.rows == 0 && restored.rows == NULL);
+    if (!is_marked(&fault)) return;
+    TELL(drc_decode(restored.bytes, restored.lengths.bytes, &first, &fault) == DRC_DONE);
+    TELL(first.shape.faces == shape->faces && are_same_heads(&first.shape, shape));
+    for (size_t k = 0; k < 3 * (size_t)shape->faces; k++) {
+        size_t mine = first.corners[k], its = geometry->corners[k];
+        TELL(memcmp(first.values + mine * shape->width, geometry->values + its * shape->width, 4 * shape->width) == 0);
+    }
+    size_t count = (size_t)shape->points * shape->width;
+    if (!shape->mesh) TELL(first.shape.points == shape->points && memcmp(first.values, geometry->values, 4 * count) == 0);
+    drc_free(&first);
+    size_t length = restored.lengths.bytes;
+    for (int more = -1; more <= 1; more++) {
+        uint8_t *bytes = (uint8_t *)__real_malloc(length + 1);
+        drc_lengths lengths = {1, 2};
+        memset(bytes, 0xcc, length + 1);
+        uint32_t status = drc_restore_into(shape->mesh, stream->rows, stream->lengths.rows, stream->bytes, stream->lengths.bytes, bytes,
+                                           length + (size_t)more, &lengths, &fault);
+        TELL(status == (more < 0 ? DRC_NO_ROOM : DRC_DONE) && lengths.bytes == length && lengths.rows == 0 && is_marked(&fault));
+        int kept = bytes[length] == 0xcc;
+        for (size_t k = 0; more < 0 && k < length; k++) kept = kept && bytes[k] == 0xcc;
+        TELL(kept && (more < 0 || memcmp(bytes, restored.bytes, length) == 0));
+        __real_free(bytes);
+    }
+    drc_free_stream(&restored);
+}
+
+/* A stream is recoded to what its arrays are encoded to, bytes and map, or refused by the same fault. */
+static void test_recoded(const file *it, const drc_geometry *geometry, const drc_options *options) {
+    const drc_shape *shape = &geometry->shape;
+    drc_stream due, stream;
+    drc_fault fault = marked(), again = marked();
+    uint32_t status = drc_encode(shape->mesh, shape->heads, shape->attributes, geometry->corners, shape->faces, geometry->values,
+                                 (size_t)shape->points * shape->width, options, &due, &fault);
+    TELL(drc_recode(it->bytes, it->length, options, &stream, &again) == status && fault.kind == again.kind && fault.at == again.at);
+    if (status != DRC_DONE) return;
+    size_t length = due.lengths.bytes, rows = due.lengths.rows;
+    TELL(stream.lengths.bytes == length && stream.lengths.rows == rows);
+    TELL(memcmp(stream.bytes, due.bytes, length) == 0 && memcmp(stream.rows, due.rows, 8 * rows) == 0);
+    for (int which = 0; which < 3; which++) {
+        size_t room = which == 0 ? length - 1 : length, row_room = which == 1 ? rows - 1 : rows;
+        uint8_t *bytes = (uint8_t *)__real_malloc(length + 1);
+        drc_row *map = (drc_row *)__real_malloc(8 * rows + 1);
+        drc_lengths lengths = {1, 2};
+        memset(bytes, 0xcc, length + 1);
+        memset(map, 0xcc, 8 * rows);
+        status = drc_recode_into(it->bytes, it->length, options, bytes, room, map, row_room, &lengths, &again);
+        TELL(lengths.bytes == length && lengths.rows == rows && is_marked(&again) && bytes[length] == 0xcc);
+        if (which == 2) {
+            TELL(status == DRC_DONE && memcmp(bytes, due.bytes, length) == 0 && memcmp(map, due.rows, 8 * rows) == 0);
+        } else {
+            int kept = status == DRC_NO_ROOM;
+            for (size_t k = 0; k < length; k++) kept = kept && bytes[k] == 0xcc;
+            for (size_t k = 0; k < 8 * rows; k++) kept = kept && ((uint8_t *)map)[k] == 0xcc;
+            TELL(kept);
+        }
+        __real_free(bytes);
+        __real_free(map);
+    }
+    drc_free_stream(&due);
+    drc_free_stream(&stream);
+}
+
 static void test_again(const drc_geometry *geometry, const drc_options *options) {
     const drc_shape *shape = &geometry->shape;
     size_t count = (size_t)shape->points * shape->width;
@@ -353,6 +662,8 @@ static void test_again(const drc_geometry *geometry, const drc_options *options)
         }
     }
     drc_free(&again);
+    test_checked(&stream, geometry);
+    test_restored(&stream, geometry);
 
     size_t length = stream.lengths.bytes, rows = stream.lengths.rows;
     for (int which = 0; which < 3; which++) {
@@ -395,30 +706,59 @@ static void test_cuts(const file *it) {
     }
 }
 
-/* Has each request for memory fail in turn: the answer is out of memory, or done where one can do without. */
-static void test_failing(const file *it, const drc_geometry *geometry) {
+enum { DECODES, ENCODES, RECODES, RESTORES, VERIFIES, CALLS };
+
+/* Makes one call on a stream with its geometry, and frees what it gives. `made` is the stream of that geometry with its map. */
+static uint32_t called(int call, const file *it, const drc_geometry *geometry, const drc_stream *made, drc_fault *fault) {
     const drc_shape *shape = &geometry->shape;
     drc_options options;
-    long number;
+    drc_geometry found;
+    drc_stream stream;
+    drc_verdict verdict;
     memset(&options, 0, sizeof options);
-    for (int encodes = 0; encodes < 2; encodes++) {
+    uint32_t status = DRC_DONE;
+    switch (call) {
+    case DECODES:
+        status = drc_decode(it->bytes, it->length, &found, fault);
+        if (status == DRC_DONE) drc_free(&found);
+        return status;
+    case ENCODES:
+        status = drc_encode(shape->mesh, shape->heads, shape->attributes, geometry->corners, shape->faces, geometry->values,
+                            (size_t)shape->points * shape->width, &options, &stream, fault);
+        break;
+    case RECODES: status = drc_recode(it->bytes, it->length, &options, &stream, fault); break;
+    case RESTORES:
+        status = drc_restore(shape->mesh, made->rows, made->lengths.rows, made->bytes, made->lengths.bytes, &stream, fault);
+        break;
+    default: return verify(geometry, made, made->bytes[8], &verdict, fault);
+    }
+    if (status == DRC_DONE) drc_free_stream(&stream);
+    return status;
+}
+
+/* Has each request for memory fail in turn: the answer is out of memory, or done where one can do without. */
+static void test_failing(const file *it, const drc_geometry *geometry) {
+    drc_options options;
+    drc_stream made;
+    drc_fault fault = marked();
+    memset(&options, 0, sizeof options);
+    int done = drc_recode(it->bytes, it->length, &options, &made, &fault) == DRC_DONE;
+    TELL(done);
+    if (!done) return;
+    for (int call = DECODES; call < CALLS; call++) {
+        long number, wanting = 0;
         for (number = 1; number < 20000; number++) {
-            drc_geometry found;
-            drc_stream stream;
-            drc_fault fault = marked();
+            fault = marked();
             counting = 1, requests = 0, blocks = 0, failing = number;
-            uint32_t status = encodes ? drc_encode(shape->mesh, shape->heads, shape->attributes, geometry->corners, shape->faces, geometry->values,
-                                                   (size_t)shape->points * shape->width, &options, &stream, &fault)
-                                      : drc_decode(it->bytes, it->length, &found, &fault);
-            if (status == DRC_DONE && encodes) drc_free_stream(&stream);
-            if (status == DRC_DONE && !encodes) drc_free(&found);
+            uint32_t status = called(call, it, geometry, &made, &fault);
             counting = 0;
-            TELL(blocks == 0 && (status == DRC_DONE || status == DRC_NO_MEMORY || (encodes && status == DRC_REFUSED)));
-            TELL(is_marked(&fault) || status == DRC_REFUSED);
+            TELL(blocks == 0 && is_marked(&fault) && (status == DRC_DONE || status == DRC_NO_MEMORY));
+            wanting += status == DRC_NO_MEMORY;
             if (requests < number) break;
         }
-        TELL(number > 1 && number < 20000);
+        TELL(number > 1 && number < 20000 && wanting > 0);
     }
+    drc_free_stream(&made);
 }
 
 typedef struct task {
@@ -465,6 +805,7 @@ static void test_stream(const char *path) {
         for (uint32_t predict = 0; predict <= 4; predict++) {
             drc_options options = {method, 0, predict, 0, method & 1};
             test_again(&geometry, &options);
+            test_recoded(&it, &geometry, &options);
         }
     }
     test_cuts(&it);
@@ -478,6 +819,10 @@ int main(int count, char **words) {
     test_structs();
     test_names();
     test_refusals();
+    test_recoding();
+    test_restoring();
+    test_verifying();
+    test_early();
     for (int k = 1; k < count; k++) test_stream(words[k]);
     printf("%lu passed, %lu failed\n", passed, failed);
     return failed != 0;

@@ -2,4 +2,6 @@ pub mod FewHeads
 pub mod Filling
 pub mod NumberedKinds
 pub mod WholeRows
+pub mod EarlyFaults
+pub mod VerifiedArrays
 pub mod ToldHeads

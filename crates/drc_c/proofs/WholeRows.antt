@@ -18,7 +18,7 @@ use Rattle.drc_c.specs.Inputs.{width_told, do_fit}
 use Rattle.drc_c.proofs.FewHeads.{heads_few}
 
 -- the width of the heads that are meant
-width_of-meant : (heads : List DrcHead) → width_of (map head_meant heads) ≡ width_told heads
+pub width_of-meant : (heads : List DrcHead) → width_of (map head_meant heads) ≡ width_told heads
 width_of-meant [] = refl
 width_of-meant (h ∷ heads) =
     sum_by-cons (λ (g : Head). g.comps) (head_meant h) (map head_meant heads)

@@ -23,9 +23,10 @@ unfoldable pub encoded : ℕ → List DrcHead → List (List ℕ) → List ℤ �
 encoded mesh heads corners values choice =
     geometry_meant mesh heads corners values >>= λ g. due g choice >>= λ e. Ok (told e)
 
--- these bytes mean the geometry that the arrays are, by this map, and are coded as chosen
+-- these bytes and this map are those of the encoding: the bytes mean the geometry that the arrays are, by the map, and are coded as chosen
 pub record IsEncoding (mesh : ℕ) (heads : List DrcHead) (corners : List (List ℕ)) (values : List ℤ) (choice : Choice)
     (bytes : List ℕ) (map_rows : List DrcRow) : Type 0 where
+  pub exact : encoded mesh heads corners values choice ≡ Ok (bytes, map_rows)
   pub geometry : Geometry
   pub geometry_is : geometry_meant mesh heads corners values ≡ Ok geometry
   pub rows : Rows

@@ -8,4 +8,7 @@ pub mod Shapes
 pub mod Options
 pub mod Streams
 pub mod Inputs
+pub mod Early
 pub mod Encoded
+pub mod Recoded
+pub mod Verified

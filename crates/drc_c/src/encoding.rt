@@ -2,34 +2,26 @@
 
 ghost use Rattle.std.specs.Prelude.{◌≡◌, ◌<◌, ◌⊎◌, ℕ, List, [], ◌∷◌, Contains, true, Err, Some, None, IfOk, length};
 ghost use Rattle.drc_base.specs.declared.faults.Fault.{Fault as AnyFault};
+ghost use Rattle.drc_base.specs.declared.faults.Refusal.TheVariants as refusal;
 ghost use Rattle.drc_base.specs.Refusals.{Answers};
 ghost use Rattle.drc_container.specs.declared.choices.Choice.{Choice as AnyChoice};
 ghost use Rattle.drc_c.specs.Arrays.{filled};
+ghost use Rattle.drc_c.specs.Early.{early_fault};
 ghost use Rattle.drc_c.specs.Faults.{fault_told};
 ghost use Rattle.drc_c.specs.Inputs.{do_fit};
 ghost use Rattle.drc_c.specs.declared.streams.DrcRow.{DrcRow as AnyRow};
 ghost use Rattle.drc_c.specs.Encoded.{encoded, IsEncoding, Takes};
 
-use crate::arrays::fill;
-use crate::copies::{handed_bytes, handed_rows};
 use crate::faults::{DrcFault, refuse};
 use crate::heads::DrcHead;
 use crate::inputs::{do_fit, geometry_meant};
 use crate::options::{DrcOptions, choice_meant};
 use crate::statuses::{BAD_ARGUMENT, DONE, NO_MEMORY, NO_ROOM, REFUSED};
 use crate::streams::{DrcLengths, DrcRow, DrcStream, rows_told};
+use crate::written::{Encoded, handed, place};
 use drc_base::Refusal;
 use drc_container::{Choice, encode};
 use std::alloc::Global;
-
-/// A stream and its map.
-#[derive(Drop)]
-struct Encoded {
-    /// The bytes of the stream.
-    bytes: Vec<u8>,
-    /// The rows of the map.
-    rows: Vec<DrcRow>,
-}
 
 /// The stream of the geometry that arrays mean, coded as chosen, and its map; or the first fault of the arrays, then
 /// of the encoding.
@@ -44,6 +36,7 @@ fn encode_arrays(
 ) -> Result<Encoded, Refusal>
     requires { do_fit mesh heads.now corners.now values.now ≡ true }
     ensures answer { Answers (λ e. (e.bytes.items, e.rows.items)) (encoded mesh heads.now corners.now values.now choice.now) result }
+    ensures early { (f : AnyFault) → early_fault mesh heads.now corners.now values.now ≡ Some f → result ≡ Err (refusal.Fault f) }
     ensures means { IfOk result (λ e. IsEncoding mesh heads.now corners.now values.now choice.now e.bytes.items e.rows.items) }
 {
     let g = geometry_meant(alloc, mesh, heads, corners, values)?;
@@ -68,46 +61,13 @@ fn choice_for(
     choice_meant(options)
 }
 
-/// Writes a stream and its map to the front of arrays, where both have room, and how much there is of both.
-fn place(encoded: &Encoded, bytes: &mut [u8], rows: &mut [DrcRow], lengths: &mut DrcLengths) -> u32
-    ensures statuses { (result ≡ DONE) ⊎ (result ≡ NO_ROOM) }
-    ensures lengths { lengths.new ≡ record { bytes = length encoded.now.bytes.items; rows = length encoded.now.rows.items } }
-    ensures done { result ≡ DONE → (bytes.new ≡ filled encoded.now.bytes.items bytes.old) × (rows.new ≡ filled encoded.now.rows.items rows.old) }
-    ensures no_room { result ≡ NO_ROOM → ((length bytes.old < length encoded.now.bytes.items) ⊎ (length rows.old < length encoded.now.rows.items))
-        × (bytes.new ≡ bytes.old) × (rows.new ≡ rows.old) }
-{
-    lengths.bytes = encoded.bytes.len();
-    lengths.rows = encoded.rows.len();
-    if encoded.bytes.len() > bytes.len() || encoded.rows.len() > rows.len() {
-        return NO_ROOM;
-    }
-    fill(bytes, &encoded.bytes);
-    fill(rows, &encoded.rows);
-    DONE
-}
-
-/// Hands out a stream and its map.
-fn handed(encoded: Encoded) -> DrcStream
-    ensures { result.lengths ≡ record { bytes = length encoded.bytes.items; rows = length encoded.rows.items } }
-{
-    let lengths = DrcLengths {
-        bytes: encoded.bytes.len(),
-        rows: encoded.rows.len(),
-    };
-    DrcStream {
-        lengths,
-        bytes: handed_bytes(encoded.bytes),
-        rows: handed_rows(encoded.rows),
-    }
-}
-
 /// Encodes arrays into arrays of the caller: a mesh (1) or a cloud (0) of these heads, faces of three numbers of
 /// points, and integers, point after point.
 ///
 /// `DONE`: the arrays begin with the stream and its map, by which the stream means the geometry that was passed.
 /// `BAD_ARGUMENT`: the arrays don't fit each other, or an option's number names nothing. `REFUSED`: the first fault of the
 /// arrays, then of the encoding. `NO_ROOM`: one of the arrays is too short; the lengths say what is needed. `NO_MEMORY`:
-/// nothing is written.
+/// nothing is written. Faults of the heads, and of the numbers of points, values and faces, come before memory is taken.
 #[unsafe(no_mangle)]
 pub extern "C" fn drc_encode_into(
     alloc: Global,
@@ -131,6 +91,8 @@ pub extern "C" fn drc_encode_into(
     ensures refused { result ≡ REFUSED → (choice : AnyChoice) × (f : AnyFault)
         × Takes mesh heads.now corners.now values.now options.now (Some choice)
         × (encoded mesh heads.now corners.now values.now choice ≡ Err f) × (fault.new ≡ fault_told f) }
+    ensures early { (choice : AnyChoice) (f : AnyFault) → Takes mesh heads.now corners.now values.now options.now (Some choice)
+        → early_fault mesh heads.now corners.now values.now ≡ Some f → (result ≡ REFUSED) × (fault.new ≡ fault_told f) }
     ensures no_room { result ≡ NO_ROOM → (choice : AnyChoice) × (stream : List ℕ) × (told : List AnyRow)
         × Takes mesh heads.now corners.now values.now options.now (Some choice)
         × IsEncoding mesh heads.now corners.now values.now choice stream told
@@ -155,7 +117,7 @@ pub extern "C" fn drc_encode_into(
 /// Encodes arrays, as `drc_encode_into`, into a stream and a map of their own, which C's `free` frees.
 ///
 /// `DONE`: the stream means the geometry that was passed, by its map. `BAD_ARGUMENT`, `REFUSED`, `NO_MEMORY`: as there, and the
-/// stream is as before.
+/// stream is as before. The same faults as there come before memory is taken.
 #[unsafe(no_mangle)]
 pub extern "C" fn drc_encode(
     alloc: Global,
@@ -176,6 +138,8 @@ pub extern "C" fn drc_encode(
     ensures refused { result ≡ REFUSED → (choice : AnyChoice) × (f : AnyFault)
         × Takes mesh heads.now corners.now values.now options.now (Some choice)
         × (encoded mesh heads.now corners.now values.now choice ≡ Err f) × (fault.new ≡ fault_told f) }
+    ensures early { (choice : AnyChoice) (f : AnyFault) → Takes mesh heads.now corners.now values.now options.now (Some choice)
+        → early_fault mesh heads.now corners.now values.now ≡ Some f → (result ≡ REFUSED) × (fault.new ≡ fault_told f) }
 
     // What isn't told is as before.
     ensures stream_same { (result ≡ DONE) ⊎ (stream.new ≡ stream.old) }

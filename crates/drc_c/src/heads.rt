@@ -15,7 +15,7 @@ const COMPONENT_ROOM: usize = 8;
 const HEAD_ROOM: usize = 16;
 
 /// The data type of quantised floats.
-const QUANTISED: u8 = 9;
+pub const QUANTISED: u8 = 9;
 
 /// What an attribute is, with its quantisation inline. Where the data type isn't 9, quantised floats, it has
 /// none: `bits`, `range` and `min` are 0 in what is decoded, and are ignored in what is encoded. Minima beyond

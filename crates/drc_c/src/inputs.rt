@@ -1,24 +1,28 @@
 //! Geometries from arrays of the caller.
 
-ghost use Rattle.std.specs.Prelude.{◌≡◌, ◌≤◌, true, length};
+ghost use Rattle.std.specs.Prelude.{◌≡◌, ◌≤◌, true, Err, Some, length};
+ghost use Rattle.drc_base.specs.declared.faults.Fault.{Fault as AnyFault};
+ghost use Rattle.drc_base.specs.declared.faults.Refusal.TheVariants as refusal;
 ghost use Rattle.drc_base.specs.Refusals.{Answers};
 ghost use Rattle.mesh_model.specs.FirstFault.{answer_of};
 ghost use Rattle.mesh_model.specs.Parts.{AreRows};
+ghost use Rattle.drc_c.specs.Early.{early_fault};
 ghost use Rattle.drc_c.specs.Inputs.{width_told, are_whole, do_fit, geometry_made, geometry_meant};
 
+use crate::early::test_early;
 use crate::heads::{DrcHead, heads_meant};
 use drc_base::{MAX_ATTRIBUTES, Refusal};
 use mesh_model::{Cloud, CornerMesh, Geometry, Head};
 use std::alloc::Global;
 
 /// The number of a cloud.
-const CLOUD: u32 = 0;
+pub const CLOUD: u32 = 0;
 
 /// The number of a mesh.
-const MESH: u32 = 1;
+pub const MESH: u32 = 1;
 
 /// How many integers a point has.
-fn width_told(heads: &[DrcHead]) -> u32
+pub fn width_told(heads: &[DrcHead]) -> u32
     requires { length heads.now ≤ 16 }
     ensures { result ≡ width_told heads.now }
 {
@@ -65,7 +69,9 @@ fn geometry_made(
     }
 }
 
-/// The geometry that arrays mean, or its first fault.
+/// The geometry that arrays mean, or its first fault. Faults of the heads, and of the numbers of points, values and faces,
+/// come before memory is taken.
+#[tactic(auto, using(crate::proofs::EarlyFaults::early_refused))]
 pub fn geometry_meant(
     alloc: Global,
     mesh: u32,
@@ -74,8 +80,10 @@ pub fn geometry_meant(
     values: &[i32],
 ) -> Result<Geometry, Refusal>
     requires { do_fit mesh heads.now corners.now values.now ≡ true }
-    ensures { Answers (λ g. g) (geometry_meant mesh heads.now corners.now values.now) result }
+    ensures answer { Answers (λ g. g) (geometry_meant mesh heads.now corners.now values.now) result }
+    ensures early { (f : AnyFault) → early_fault mesh heads.now corners.now values.now ≡ Some f → result ≡ Err (refusal.Fault f) }
 {
+    test_early(mesh, heads, corners, values)?;
     let heads = heads_meant(alloc, heads)?;
     let faces = Vec::from_slice(alloc, corners)?;
     let cells = Vec::from_slice(alloc, values)?;

@@ -10,7 +10,7 @@ use crate::kinds::{KINDS, kind_numbered};
 use crate::statuses::{BAD_ARGUMENT, DONE, NO_ROOM};
 
 /// The version of the interface.
-const VERSION: u32 = 1;
+const VERSION: u32 = 2;
 
 /// The version of the interface: a later one has all that an earlier one had.
 #[unsafe(no_mangle)]

@@ -78,7 +78,7 @@ fn walk_numbered(number: u32) -> Option<Option<Walk>>
 }
 
 /// The truth value of a number.
-fn flag_numbered(number: u32) -> Option<bool>
+pub fn flag_numbered(number: u32) -> Option<bool>
     ensures { result ≡ flag_numbered number }
 {
     match number {

@@ -12,5 +12,8 @@ pub const REFUSED: u32 = 2;
 /// Out of memory.
 pub const NO_MEMORY: u32 = 5;
 
+/// The stream isn't the geometry: the verdict says what differs first.
+pub const NOT_SAME: u32 = 6;
+
 /// An array is too short: the counts say what is needed.
 pub const NO_ROOM: u32 = 8;

@@ -1,10 +1,10 @@
 //! Streams and maps as C has them.
 
 ghost use Rattle.std.specs.Prelude.{◌≡◌, map, IfOk};
-ghost use Rattle.drc_c.specs.Streams.{row_told};
+ghost use Rattle.drc_c.specs.Streams.{row_told, row_meant};
 
-use drc_base::Memory;
-use mesh_model::Renumber;
+use drc_base::{Memory, Sequence};
+use mesh_model::{MapRead, Renumber};
 use std::alloc::Global;
 
 /// A row of the map of an encoding: the face that a face of the stream is and its turn, or the point and 0.
@@ -68,4 +68,37 @@ pub fn rows_told(alloc: Global, renumber: &Renumber) -> Result<Vec<DrcRow>, Memo
         told.push(row_told(*row))?;
     }
     Ok(told)
+}
+
+/// The row that a row of C means: turns above 255 are all alike, since none above 2 is one.
+fn row_meant(row: DrcRow) -> (u32, u8)
+    ensures { result ≡ row_meant row }
+{
+    (row.number, row.turn.min(255) as u8)
+}
+
+/// The rows that rows of C mean.
+fn rows_meant(alloc: Global, told: &[DrcRow]) -> Result<Vec<(u32, u8)>, Memory>
+    ensures { IfOk result (λ v. v.items ≡ map row_meant told.now) }
+{
+    let mut rows = Vec::with_capacity(alloc, told.len())?;
+    for row in told {
+        rows.push(row_meant(*row))?;
+    }
+    Ok(rows)
+}
+
+/// The map, of a cloud or of a mesh, that rows of C mean.
+pub fn map_meant(alloc: Global, cloud: bool, told: &[DrcRow]) -> Result<MapRead, Memory>
+    ensures kind { IfOk result (λ m. m.cloud ≡ cloud) }
+    ensures rows { IfOk result (λ m. m.rows.rows ≡ map row_meant told.now) }
+{
+    let rows = rows_meant(alloc, told)?;
+    Ok(MapRead {
+        cloud,
+        rows: Renumber {
+            rows: Sequence::from_vec(rows),
+        },
+        end: 0,
+    })
 }

@@ -8,7 +8,7 @@ geometry_made-requires c =
     rw (c.in_ok-heads.ensures, c.in_ok-cells.ensures.items)
     (rows_whole c.args.mesh c.args.heads.now c.args.corners.now c.args.values.now c.requires)
 
-pub returns : goal.returns
-returns c =
+pub returns-clause-answer : goal.returns-clause-answer
+returns-clause-answer c =
     answers-exact (geometry_meant c.args.mesh c.args.heads.now c.args.corners.now c.args.values.now) c.geometry_made.result
     (rw (c.in_ok-heads.ensures, c.in_ok-faces.ensures.items, c.in_ok-cells.ensures.items) at c.geometry_made.ensures)

@@ -1,0 +1,56 @@
+//! Streams and maps that are written, and how C gets them.
+
+ghost use Rattle.std.specs.Prelude.{◌≡◌, ◌<◌, ◌⊎◌, length};
+ghost use Rattle.drc_c.specs.Arrays.{filled};
+
+use crate::arrays::fill;
+use crate::copies::{handed_bytes, handed_rows};
+use crate::statuses::{DONE, NO_ROOM};
+use crate::streams::{DrcLengths, DrcRow, DrcStream};
+
+/// A stream and its map.
+#[derive(Drop)]
+pub struct Encoded {
+    /// The bytes of the stream.
+    pub bytes: Vec<u8>,
+    /// The rows of the map.
+    pub rows: Vec<DrcRow>,
+}
+
+/// Writes a stream and its map to the front of arrays, where both have room, and how much there is of both.
+pub fn place(
+    encoded: &Encoded,
+    bytes: &mut [u8],
+    rows: &mut [DrcRow],
+    lengths: &mut DrcLengths,
+) -> u32
+    ensures statuses { (result ≡ DONE) ⊎ (result ≡ NO_ROOM) }
+    ensures lengths { lengths.new ≡ record { bytes = length encoded.now.bytes.items; rows = length encoded.now.rows.items } }
+    ensures done { result ≡ DONE → (bytes.new ≡ filled encoded.now.bytes.items bytes.old) × (rows.new ≡ filled encoded.now.rows.items rows.old) }
+    ensures no_room { result ≡ NO_ROOM → ((length bytes.old < length encoded.now.bytes.items) ⊎ (length rows.old < length encoded.now.rows.items))
+        × (bytes.new ≡ bytes.old) × (rows.new ≡ rows.old) }
+{
+    lengths.bytes = encoded.bytes.len();
+    lengths.rows = encoded.rows.len();
+    if encoded.bytes.len() > bytes.len() || encoded.rows.len() > rows.len() {
+        return NO_ROOM;
+    }
+    fill(bytes, &encoded.bytes);
+    fill(rows, &encoded.rows);
+    DONE
+}
+
+/// Hands out a stream and its map.
+pub fn handed(encoded: Encoded) -> DrcStream
+    ensures { result.lengths ≡ record { bytes = length encoded.bytes.items; rows = length encoded.rows.items } }
+{
+    let lengths = DrcLengths {
+        bytes: encoded.bytes.len(),
+        rows: encoded.rows.len(),
+    };
+    DrcStream {
+        lengths,
+        bytes: handed_bytes(encoded.bytes),
+        rows: handed_rows(encoded.rows),
+    }
+}
