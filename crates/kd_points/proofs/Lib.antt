@@ -18,3 +18,6 @@ pub mod Spelling
 pub mod Blocked
 pub mod ReadPoints
 pub mod ReadAgain
+pub mod Ranks
+pub mod OneOrder
+pub mod WrittenMeans
