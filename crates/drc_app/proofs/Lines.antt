@@ -17,7 +17,7 @@ use Rattle.drc_app.specs.declared.options.OptionWord.TheVariants as option
 use Rattle.drc_app.specs.declared.options.Setting.{Setting}
 use Rattle.drc_app.specs.declared.options.Setting.TheVariants as setting
 use Rattle.drc_app.specs.declared.command_lines.CommandWord.{CommandWord}
-use Rattle.drc_app.specs.declared.command_lines.CommandWord.TheVariants.{Enc, Dec, Info, Gen, Recode, Verify}
+use Rattle.drc_app.specs.declared.command_lines.CommandWord.TheVariants.{Enc, Dec, Info, Gen, Recode, Verify, Kd}
 use Rattle.drc_app.specs.declared.command_lines.Progress.{Progress}
 use Rattle.drc_app.specs.declared.command_lines.Progress.TheVariants as progress
 use Rattle.drc_app.specs.Options.{option_word, option_of, setting_words, words_of, with_setting, with_settings, no_choice}
@@ -361,6 +361,7 @@ named_end Info = record { rest = []; command = command.Info; completes = inl (1,
 named_end Gen = record { rest = codes "grid" ∷ decimal 3 ∷ decimal 0 ∷ []; command = _; completes = inr some_kind }
 named_end Recode = record { rest = []; command = _; completes = inr (set_none encoder.Recode no_choice) }
 named_end Verify = record { rest = []; command = command.Verify false; completes = inl (3, omega arith, refl) }
+named_end Kd = record { rest = codes "enc" ∷ []; command = command.KdEnc; completes = inl (5, omega arith, refl) }
 
 can_end : (p : Progress) → Reached p → BeginsAt p []
 unfolding Reached Completes
@@ -618,7 +619,7 @@ say_one_thing words (Err i) b = said (line_of words) refl
 -- ---- sizes
 
 sized_line : (words : List (List ℕ)) (c : Command) → IsLine words c → IsSized c
-sized_line words c (plain is) = each-contains (λ line. IsSized line.1) plain_lines (words, c) (tt, (tt, (tt, (tt, (tt, tt))))) is
+sized_line words c (plain is) = each-contains (λ line. IsSized line.1) plain_lines (words, c) (tt, (tt, (tt, (tt, (tt, (tt, (tt, tt))))))) is
 sized_line words c (encode by settings once e is) = subst IsSized (sym is) (unsized by (with_settings no_choice settings))
   where
     unsized : (by : Encoder) (ch : Choice) → IsSized (encoding by ch)

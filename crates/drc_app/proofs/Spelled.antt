@@ -17,7 +17,7 @@ use Rattle.drc_app.specs.declared.options.OptionWord.TheVariants as option
 use Rattle.drc_app.specs.declared.options.Setting.{Setting}
 use Rattle.drc_app.specs.declared.options.Setting.TheVariants as setting
 use Rattle.drc_app.specs.declared.command_lines.CommandWord.{CommandWord}
-use Rattle.drc_app.specs.declared.command_lines.CommandWord.TheVariants.{Enc, Dec, Info, Gen, Recode, Verify}
+use Rattle.drc_app.specs.declared.command_lines.CommandWord.TheVariants.{Enc, Dec, Info, Gen, Recode, Verify, Kd}
 use Rattle.drc_app.specs.Options.{option_word, option_of, value_words, setting_words}
 use Rattle.drc_app.specs.Line.{command_word, plain_lines, gen_word}
 use Rattle.drc_app.specs.Progress.{named, command_named, plain_named, options, option_named, settings, setting_named, gen_named}
@@ -69,6 +69,7 @@ command_back Info = refl
 command_back Gen = refl
 command_back Recode = refl
 command_back Verify = refl
+command_back Kd = refl
 
 pub option_back : (o : OptionWord) → option_named (option_word o) ≡ Some o
 option_back option.Method = refl
@@ -140,7 +141,7 @@ plain_is ws c e =
 
 pub plain_back : (ws : List (List ℕ)) (c : Command) → Contains plain_lines (ws, c) → plain_named ws ≡ Some c
 plain_back ws c is =
-    each-contains (λ line. plain_named line.0 ≡ Some line.1) plain_lines (ws, c) (refl, (refl, (refl, (refl, (refl, tt))))) is
+    each-contains (λ line. plain_named line.0 ≡ Some line.1) plain_lines (ws, c) (refl, (refl, (refl, (refl, (refl, (refl, (refl, tt))))))) is
 
 -- the first word of such a line, and at most one more
 pub record IsShort (ws : List (List ℕ)) : Type 0 where
@@ -159,7 +160,7 @@ plain_short ws c is = each-contains (λ line. IsShort line.0) plain_lines (ws, c
     short Info [] (omega arith),
     (
       short Recode _ (omega arith),
-      (short Verify [] (omega arith), (short Verify _ (omega arith), tt)),
+      (short Verify [] (omega arith), (short Verify _ (omega arith), (short Kd _ (omega arith), (short Kd _ (omega arith), tt)))),
     ),
   ),
 ) is

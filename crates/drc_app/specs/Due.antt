@@ -21,6 +21,10 @@ use Rattle.drc_container.specs.Chosen.{written as written_by}
 use Rattle.drc_container.specs.Stream.{meaning_of}
 use Rattle.drc_info.specs.InfoText.{report_of}
 use Rattle.drc_recode.specs.Restored.{restored}
+use Rattle.kd_points.specs.Meaning.{kd_meaning}
+use Rattle.kd_points.specs.Rows.{kd_rows}
+use Rattle.kd_points.specs.Written.{cloud_in}
+use Rattle.kd_points.specs.Written.{kd_due as kd_file}
 use Rattle.drc_app.specs.Given.{Given, Written}
 use Rattle.drc_app.specs.Verified.{verified}
 use Rattle.drc_app.specs.Options.{no_choice}
@@ -55,6 +59,22 @@ restored_due input = do
 unfoldable pub text_due : List ℕ → Result (List ℕ × List ℕ) Fault
 text_due stream = do
   g ← meaning_of stream
+  Ok (ply_text g, [])
+
+-- the kd-tree file of a geometry, and the map of its points
+unfoldable pub kd_coded_due : Geometry → Result (List ℕ × List ℕ) Fault
+kd_coded_due g = do
+  file ← kd_file g
+  Ok (file, map_text_of g (kd_rows (cloud_in g)))
+
+-- the same of the geometry that a text means
+abbrev pub kd_due : List ℕ → Result (List ℕ × List ℕ) Fault
+kd_due text = ply_read text >>= λ g. kd_coded_due g
+
+-- the text of the cloud that a kd-tree file means; no note
+unfoldable pub kd_text_due : List ℕ → Result (List ℕ × List ℕ) Fault
+kd_text_due file = do
+  g ← kd_meaning file
   Ok (ply_text g, [])
 
 -- the report on a stream; no note
@@ -105,6 +125,8 @@ worked (command.Gen mesh) bytes = Ok (Written (summary_due mesh.kind mesh.size m
 worked (command.Recode choice) bytes = written (recoded_due choice bytes)
 worked command.Restore bytes = written (restored_due bytes)
 worked (command.Verify surface) bytes = verified surface bytes
+worked command.KdEnc bytes = written (kd_due bytes)
+worked command.KdDec bytes = written (kd_text_due bytes)
 
 -- too many bytes of input
 abbrev pub input_limit : Fault

@@ -1,5 +1,5 @@
 -- What encoding keeps: the stream that was written means the geometry that was read (this project's choice).
-use Rattle.std.specs.Prelude.{◌≡◌, ◌↔◌, ℕ, Bool, List, drop, Ok, IsOkAnd}
+use Rattle.std.specs.Prelude.{◌≡◌, ◌↔◌, ◌++◌, ℕ, Bool, List, drop, Ok, IsOkAnd}
 use Rattle.mesh_model.specs.declared.geometries.Geometry.{Geometry}
 use Rattle.mesh_model.specs.Same.{Rows, Same}
 use Rattle.mesh_model.specs.MapRead.{map_read}
@@ -11,6 +11,7 @@ use Rattle.drc_container.specs.Layout.{layout_of, layout_chosen}
 use Rattle.drc_container.specs.Meaning.{Meaning}
 use Rattle.drc_container.specs.Stream.{stream, meaning_of}
 use Rattle.drc_recode.specs.Restored.{MeansInOrder}
+use Rattle.kd_points.specs.Rows.{KdMeans}
 use Rattle.drc_verify.specs.Checked.{IsSame}
 use Rattle.drc_app.specs.Given.{Given, Written, Differs}
 use Rattle.drc_app.specs.Verified.{parts_of}
@@ -29,6 +30,13 @@ abbrev pub IsInOrder : List ℕ → List ℕ → Type 0
 IsInOrder input stream = IsOkAnd (map_read input) (λ map. (g n : Geometry)
     → meaning_of (drop map.end input) ≡ Ok n → Same g n map.rows.rows → MeansInOrder g stream)
 
+-- the bytes are a kd-tree file that means the geometry by some rows, whatever stands behind it, and the note is the map of exactly
+-- these rows
+pub record IsKdCoded (bytes note : List ℕ) (g : Geometry) : Type 0 where
+  pub rows : Rows
+  pub means : (more : List ℕ) → KdMeans g (bytes ++ more) rows
+  pub map : note ≡ map_text_of g rows
+
 -- what is given is a yes, and no verdict
 abbrev pub IsYes : Given → Type 0
 IsYes (Written answer) = Unit {0}
@@ -41,10 +49,11 @@ SaysWhetherSame surface input given = IsOkAnd (parts_of input) (λ parts. (g : G
     → IsYes given ↔ IsSame surface parts.map.cloud parts.map.rows.rows g n)
 
 -- what a command keeps of its input: encoding keeps the geometry that the text, or the stream, means; restoring gives the first order back;
--- and verifying says whether all is the same
+-- verifying says whether all is the same; and a kd-tree file keeps the cloud that the text means
 abbrev pub Keeps : Command → List ℕ → Given → Type 0
 Keeps (command.Enc choice) input (Written answer) = IsOkAnd (ply_read input) (IsCoded choice answer.0 answer.1)
 Keeps (command.Recode choice) input (Written answer) = IsOkAnd (meaning_of input) (IsCoded choice answer.0 answer.1)
 Keeps command.Restore input (Written answer) = IsInOrder input answer.0
 Keeps (command.Verify surface) input given = SaysWhetherSame surface input given
+Keeps command.KdEnc input (Written answer) = IsOkAnd (ply_read input) (IsKdCoded answer.0 answer.1)
 Keeps c input given = Unit {0}

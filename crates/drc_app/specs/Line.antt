@@ -12,7 +12,7 @@ use Rattle.drc_app.specs.declared.commands.Encoder.{Encoder}
 use Rattle.drc_app.specs.declared.commands.Encoder.TheVariants as encoder
 use Rattle.drc_app.specs.declared.options.Setting.{Setting}
 use Rattle.drc_app.specs.declared.command_lines.CommandWord.{CommandWord}
-use Rattle.drc_app.specs.declared.command_lines.CommandWord.TheVariants.{Enc, Dec, Info, Gen, Recode, Verify}
+use Rattle.drc_app.specs.declared.command_lines.CommandWord.TheVariants.{Enc, Dec, Info, Gen, Recode, Verify, Kd}
 
 -- the first words of command lines
 abbrev pub command_word : CommandWord → List ℕ
@@ -22,6 +22,7 @@ command_word Info = codes "info"
 command_word Gen = codes "gen"
 command_word Recode = codes "recode"
 command_word Verify = codes "verify"
+command_word Kd = codes "kd"
 
 -- the lines that have neither options with values nor numbers, and their commands
 abbrev pub plain_lines : List (List (List ℕ) × Command)
@@ -31,6 +32,8 @@ plain_lines =
     ∷ (command_word Recode ∷ codes "--restore" ∷ [], command.Restore)
     ∷ (command_word Verify ∷ [], command.Verify false)
     ∷ (command_word Verify ∷ codes "--surface" ∷ [], command.Verify true)
+    ∷ (command_word Kd ∷ codes "enc" ∷ [], command.KdEnc)
+    ∷ (command_word Kd ∷ codes "dec" ∷ [], command.KdDec)
     ∷ []
 
 -- the first word of a command that encodes, and the command, coding as chosen

@@ -24,7 +24,7 @@ use Rattle.drc_app.specs.declared.options.OptionWord.TheVariants as option
 use Rattle.drc_app.specs.declared.options.Setting.{Setting}
 use Rattle.drc_app.specs.declared.options.Setting.TheVariants as setting
 use Rattle.drc_app.specs.declared.command_lines.CommandWord.{CommandWord}
-use Rattle.drc_app.specs.declared.command_lines.CommandWord.TheVariants.{Enc, Dec, Info, Gen, Recode, Verify}
+use Rattle.drc_app.specs.declared.command_lines.CommandWord.TheVariants.{Enc, Dec, Info, Gen, Recode, Verify, Kd}
 use Rattle.drc_app.specs.declared.command_lines.Progress.{Progress}
 use Rattle.drc_app.specs.declared.command_lines.Progress.TheVariants as progress
 
@@ -34,7 +34,7 @@ named words all ws = find (λ x. pointwise bytes_eq ws (words x)) all
 
 -- all first words of command lines, and the one that is this word
 abbrev pub command_words : List CommandWord
-command_words = Enc ∷ Dec ∷ Info ∷ Gen ∷ Recode ∷ Verify ∷ []
+command_words = Enc ∷ Dec ∷ Info ∷ Gen ∷ Recode ∷ Verify ∷ Kd ∷ []
 
 abbrev pub command_named : List ℕ → Option CommandWord
 command_named w = named (λ k. command_word k ∷ []) command_words (w ∷ [])

@@ -27,6 +27,8 @@ pub enum CommandWord {
     Recode,
     /// `verify`
     Verify,
+    /// `kd`, which needs a second word
+    Kd,
 }
 
 /// How far a command line has come.
@@ -90,6 +92,7 @@ fn named_alone(command: CommandWord) -> Option<Command>
         CommandWord::Gen => None,
         CommandWord::Recode => Some(Command::Recode(no_choice())),
         CommandWord::Verify => Some(Command::Verify(false)),
+        CommandWord::Kd => None,
     }
 }
 
@@ -125,6 +128,7 @@ fn command_named(word: &str) -> Option<CommandWord>
         "gen" => Some(CommandWord::Gen),
         "recode" => Some(CommandWord::Recode),
         "verify" => Some(CommandWord::Verify),
+        "kd" => Some(CommandWord::Kd),
         _ => None,
     }
 }
@@ -144,6 +148,11 @@ fn behind_command(command: CommandWord, word: &str) -> Option<Progress>
         },
         CommandWord::Verify => match word {
             "--surface" => Some(Progress::Whole(Command::Verify(true))),
+            _ => None,
+        },
+        CommandWord::Kd => match word {
+            "enc" => Some(Progress::Whole(Command::KdEnc)),
+            "dec" => Some(Progress::Whole(Command::KdDec)),
             _ => None,
         },
     }

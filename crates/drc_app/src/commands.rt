@@ -37,6 +37,10 @@ pub enum Command {
     /// A map, PLY text and a stream to a yes, or to where they differ. With true, what is glued in the
     /// stream is tested too.
     Verify(bool),
+    /// PLY text of a cloud to a kd-tree file.
+    KdEnc,
+    /// A kd-tree file to PLY text.
+    KdDec,
 }
 
 /// A command that encodes, and so takes options.

@@ -1,13 +1,15 @@
 //! The commands, over any source and sinks. The contract above it, on `run`: every call returns;
-//! decoding writes exactly what the bytes mean or names their first fault; `verify` says yes exactly
-//! where a stream means its text by its map; each status and note has its cause. The command lines,
-//! statuses and notes are this project's choice.
+//! decoding, of streams and of kd-tree files, writes exactly what the bytes mean or names their first
+//! fault; what encoding writes means what was read; `verify` says yes exactly where a stream means its
+//! text by its map; each status and note has its cause. The command lines, statuses and notes are this
+//! project's choice.
 #![tactic(auto)]
 
 mod command_lines;
 mod commands;
 mod delivery;
 mod gen_words;
+mod kd_files;
 mod laws;
 mod map_inputs;
 mod notes;

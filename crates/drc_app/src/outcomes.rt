@@ -14,6 +14,7 @@ ghost use Rattle.drc_app.specs.Outcome.{output_bytes, bytes_of, seen, MayAnswer,
 
 use crate::command_lines::command_of;
 use crate::commands::{Command, GenMesh, reads};
+use crate::kd_files::{kd_due, kd_text_due};
 use crate::restoring::restored_due;
 use crate::summaries::summary_due;
 use crate::verifying::verified;
@@ -126,6 +127,8 @@ fn work(alloc: Global, command: Command, bytes: Vec<u8>) -> Result<Answer, Refus
         Command::Recode(choice) => Ok(Answer::Due(recoded_due(alloc, &choice, bytes)?)),
         Command::Restore => Ok(Answer::Due(restored_due(alloc, &bytes)?)),
         Command::Verify(surface) => verified(alloc, surface, bytes),
+        Command::KdEnc => Ok(Answer::Due(kd_due(alloc, bytes)?)),
+        Command::KdDec => Ok(Answer::Due(kd_text_due(alloc, bytes)?)),
     }
 }
 
@@ -162,7 +165,7 @@ fn coded_due(alloc: Global, choice: &Choice, geometry: &Geometry) -> Result<Due,
 }
 
 /// The geometry that a text means. The text is freed.
-fn text_read(alloc: Global, text: Vec<u8>) -> Result<Geometry, Refusal>
+pub fn text_read(alloc: Global, text: Vec<u8>) -> Result<Geometry, Refusal>
     ensures { Answers (λ g. g) (ply_read text.items) result }
 {
     read_ply(alloc, &text)

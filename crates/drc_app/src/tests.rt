@@ -44,6 +44,16 @@ const CLOUD: [u8; 44] = [
     0, 0, 0, 0, 0, 1, 5, 0, 0, 0, 6, 0, 0, 0,
 ];
 
+/// The same cloud as a kd-tree file.
+const KD_CLOUD: [u8; 35] = [
+    75, 68, 80, 84, 83, 1, 1, 0, 5, 3, 0, 0, 3, 5, 0, 0, 0, 0, 5, 0, 0, 0, 0, 5, 0, 0, 0, 1, 128,
+    2, 0, 113, 1, 1, 0,
+];
+
+/// The text of that file.
+const KD_TEXT: &str =
+    "ply\nformat ascii 1.0\ncomment drc attr 0 0 5 3 0 0\nelement vertex 3\nproperty int x\nproperty int y\nproperty int z\nend_header\n5 5 5\n5 5 5\n5 5 6\n";
+
 /// The text of a tetrahedron.
 const TETRAHEDRON_TEXT: &str =
     "ply\nformat ascii 1.0\nelement vertex 4\nproperty int x\nproperty int y\nproperty int z\nelement face 4\nproperty list uchar int vertex_indices\nend_header\n0 0 0\n1 0 0\n0 1 0\n0 0 1\n3 0 2 1\n3 0 1 3\n3 1 2 3\n3 0 3 2\n";
@@ -79,7 +89,7 @@ const REPORT: &str =
 type Case = (&'static str, &'static [u8], &'static [u8], &'static str);
 
 /// What each command is due.
-fn cases() -> [Case; 5] {
+fn cases() -> [Case; 7] {
     [
         ("dec", &TRIANGLE, TEXT.as_bytes(), ""),
         (
@@ -101,6 +111,13 @@ fn cases() -> [Case; 5] {
             &SURFACE,
             "map mesh 1\n0 0\n",
         ),
+        (
+            "kd enc",
+            CLOUD_TEXT.as_bytes(),
+            &KD_CLOUD,
+            "map cloud 3\n0 0\n1 0\n2 0\n",
+        ),
+        ("kd dec", &KD_CLOUD, KD_TEXT.as_bytes(), ""),
     ]
 }
 
@@ -224,6 +241,10 @@ fn notes_that_fail_keep_a_prefix(rt: HostRuntime) -> Result<(), Fail> {
         ),
         ("recode --method eb", &CLOUD[..], 2, "refused Choice 0\n"),
         ("recode", &TRIANGLE[..20], 2, "refused Short 20\n"),
+        ("kd enc", TEXT.as_bytes(), 2, "refused KdMesh 0\n"),
+        ("kd enc", &TRIANGLE[..], 2, "refused PlyMagic 1\n"),
+        ("kd dec", &KD_CLOUD[..30], 2, "refused Short 30\n"),
+        ("kd dec", &TRIANGLE[..], 2, "refused KdMagic 0\n"),
     ] {
         for call in 0..4u64 {
             let done = run_line(rt.alloc(), line, input, [NEVER, NEVER, call])?;
@@ -478,6 +499,14 @@ fn words_behind_a_command_are_named(rt: HostRuntime) -> Result<(), Fail> {
         ("verify x", Err(1)),
         ("verify --surface x", Err(2)),
         ("verify --surface --surface", Err(2)),
+        ("kd enc", Ok(Command::KdEnc)),
+        ("kd dec", Ok(Command::KdDec)),
+        ("kd", Err(1)),
+        ("kd info", Err(1)),
+        ("kd kd", Err(1)),
+        ("kd enc x", Err(2)),
+        ("kd dec --method", Err(2)),
+        ("enc kd", Err(1)),
     ] {
         let words = words_of(rt.alloc(), line)?;
         assert_eq!(rt; command_of(&words), said);

@@ -18,3 +18,7 @@ pub mod Spelling
 pub mod Blocked
 pub mod ReadPoints
 pub mod ReadAgain
+pub mod Ranks
+pub mod OneOrder
+pub mod WrittenMeans
+pub mod Examples

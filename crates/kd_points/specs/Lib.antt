@@ -5,3 +5,4 @@ pub mod Header
 pub mod Meaning
 pub mod Written
 pub mod Laws
+pub mod Rows

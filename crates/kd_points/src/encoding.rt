@@ -1,11 +1,12 @@
 //! Writing a cloud.
 
-ghost use Rattle.std.specs.Prelude.{◌≡◌, ◌<◌, ◌^◌, All, map, IfOk, OnOk, length};
+ghost use Rattle.std.specs.Prelude.{◌≡◌, ◌<◌, ◌^◌, ◌++◌, ℕ, List, All, map, IfOk, OnOk, length};
 ghost use Rattle.drc_base.specs.Refusals.{Answers};
 ghost use Rattle.rans_binary.specs.Blocks.{IsBlockOf, block};
 ghost use Rattle.mesh_model.specs.Contents.{heads_in};
 ghost use Rattle.kd_points.specs.Extents.{extents_of};
 ghost use Rattle.kd_points.specs.Laws.{HeadFits};
+ghost use Rattle.kd_points.specs.Rows.{KdMeans, kd_rows};
 ghost use Rattle.kd_points.specs.Written.{KdOrder, cloud_in, kd_due, kd_counts, kd_written, rest_of, split_of};
 
 use crate::head_writing::write_header;
@@ -48,9 +49,10 @@ fn write_file(alloc: Global, cloud: &Cloud, tree: &Tree) -> Result<Vec<u8>, Memo
 }
 
 /// The file of a cloud as a kd-tree, and by which rows the cloud that it means is the one that is written:
-/// row i is (p, 0) where p is the number of the file's point i, and the points stand by key, then by number.
-/// The key of a point is the bits of its integers above the least ones, those of the widest components
-/// first.
+/// row i is (p, 0) where p is the number of the file's point i, and the points stand by key, then by number,
+/// so that row i names the point before which i points come. The key of a point is the bits of its integers
+/// above the least ones, those of the widest components first. The file means the cloud by these rows,
+/// whatever bytes follow it.
 ///
 /// Refusals, the first that applies: `KdMesh` at 0 where the geometry is a mesh; `Empty` at 0 where it has
 /// no points; `PointLimit` at the number of points where that is above `MAX_KD_POINTS`; `KdLimit` at points
@@ -59,6 +61,8 @@ fn write_file(alloc: Global, cloud: &Cloud, tree: &Tree) -> Result<Vec<u8>, Memo
 pub fn kd_encode(alloc: Global, g: &Geometry) -> Result<(Vec<u8>, Renumber), Refusal>
     ensures answer { Answers (λ r. r.0.items) (kd_due g.now) result }
     ensures order { IfOk result (λ r. KdOrder (cloud_in g.now) r.1.rows) }
+    ensures rows { IfOk result (λ r. r.1.rows ≡ kd_rows (cloud_in g.now)) }
+    ensures again { IfOk result (λ r. (more : List ℕ) → KdMeans g.now (r.0.items ++ more) r.1.rows) }
     ensures fields { OnOk result (All HeadFits (heads_in g.now)) }
 {
     let cloud = cloud_to_write(g)?;

@@ -1,6 +1,7 @@
 //! What holds of the definitions themselves.
 
 ghost use Rattle.kd_points.specs.Laws.{FilesAreReadAgain, KeysTellPoints};
+ghost use Rattle.kd_points.specs.Rows.{OrderIsOne};
 
 /// The key of each point of a cloud gives all integers of the point back, so that points with equal keys are
 /// equal. This is the contract of a call that does nothing.
@@ -13,4 +14,10 @@ pub fn keys_tell_points()
 /// contract of a call that does nothing.
 pub fn files_are_read_again()
     ensures { FilesAreReadAgain }
+{}
+
+/// There is one order of the points of a cloud, by key and then by number: its row k names the point before
+/// which k points come. This is the contract of a call that does nothing.
+pub fn order_is_one()
+    ensures { OrderIsOne }
 {}

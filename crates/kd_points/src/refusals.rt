@@ -3,6 +3,7 @@
 ghost use Rattle.std.specs.Prelude.{◌≡◌, ◌<◌, ◌≤◌, ◌*◌, ◌^◌, None, Some, IfOk, OnOk, length, MatchResult};
 ghost use Rattle.mesh_model.specs.declared.geometries.Geometry.TheVariants.{Cloud as cloud};
 ghost use Rattle.mesh_model.specs.Head.{width_of};
+ghost use Rattle.mesh_model.specs.Parts.{IsCloud};
 ghost use Rattle.kd_points.specs.Written.{kd_fault};
 
 use drc_base::{Fault, Kind, MAX_KD_POINTS, MAX_KD_VALUES};
@@ -15,6 +16,7 @@ fn test_counts(c: &Cloud) -> Result<(), Fault>
     ensures some { OnOk result (0 < length c.now.points) }
     ensures few { OnOk result (length c.now.points ≤ 2 ^ 20) }
     ensures values { OnOk result (length c.now.points * width_of c.now.heads ≤ 2 ^ 22) }
+    ensures sound { OnOk result (IsCloud c.now) }
 {
     let points = c.point_count();
     if points == 0 {
@@ -37,6 +39,7 @@ pub fn cloud_to_write(g: &Geometry) -> Result<&Cloud, Fault>
     ensures some { IfOk result (λ c. 0 < length c.now.points) }
     ensures few { IfOk result (λ c. length c.now.points ≤ 2 ^ 20) }
     ensures values { IfOk result (λ c. length c.now.points * width_of c.now.heads ≤ 2 ^ 22) }
+    ensures sound { IfOk result (λ c. IsCloud c.now) }
 {
     match g {
         Geometry::Mesh(_) => Err(Fault::new(Kind::KdMesh, 0)),
