@@ -234,3 +234,10 @@ word-rest depth n words v point d word e few is h read =
     let at : word ≡ get_or words point 0 = get_or_read words point word (word-there depth n point (length words) few is below) read 0 in
     let key : key_at v.rows point ≡ high_bits depth (get_or words point 0) = ap (λ (x : KeyRows). key_at x.rows point) (sym e) ∙ key-word depth n words point few below in
     ap (high_bits (depth - d)) at ∙ sym (ap (drop d) key ∙ drop-high_bits d depth (get_or words point 0))
+
+pub word-key : (depth n : ℕ) (words : List ℕ) (v : KeyRows) (point word : ℕ) → record { depth = depth; rows = keys_in depth n words } ≡ v → depth < 64 → length words ≡ n * words_for depth →
+    point < length v.rows → word ≡ get_or words point word → key_at v.rows point ≡ high_bits v.depth word
+word-key depth n words v point word e few is h read =
+    let below : point < n = (let c = count-is depth n words v e in omega (arith, c, h)) in
+    let at : word ≡ get_or words point 0 = get_or_read words point word (word-there depth n point (length words) few is below) read 0 in
+    ap (λ (x : KeyRows). key_at x.rows point) (sym e) ∙ key-word depth n words point few below ∙ ap (high_bits depth) (sym at) ∙ ap (λ (x : KeyRows). high_bits x.depth word) e

@@ -41,7 +41,7 @@ pub(crate) fn with_bit(number: u64, bit: bool) -> u64
 }
 
 /// The number of bits, the high one first.
-fn number_of(bits: &[bool]) -> u64
+pub(crate) fn number_of(bits: &[bool]) -> u64
     requires { length bits.now ≤ 64 }
     ensures { result ≡ number_behind 0 bits.now }
 {
@@ -85,7 +85,7 @@ pub(crate) fn row_of(words: &[u64], width: usize, point: usize) -> &[u64]
 }
 
 /// A bit of a number of this many bits, the high one first.
-fn bit_in(number: u64, bits: u32, place: u32) -> bool
+pub fn bit_in(number: u64, bits: u32, place: u32) -> bool
     requires bits { bits ≤ 64 }
     requires place { place < bits }
     ensures { result ≡ bit_at place (high_bits bits number) }
@@ -151,6 +151,26 @@ impl Keys {
             return bit_in(word, 64, depth % 64);
         }
         bit_in(word, self.depth % 64, depth % 64)
+    }
+
+    /// The number of a key of fewer than 64 bits: its bits, the high one first.
+    pub fn number(&self, point: usize) -> u64
+        requires point { point < length self.now.rows }
+        requires few { self.now.depth < 64 }
+        ensures { key_at self.now.rows point ≡ high_bits self.now.depth result }
+    {
+        self.words[point]
+    }
+
+    /// Adds the key of fewer than 64 bits with this number behind the others.
+    pub(crate) fn push_number(&mut self, number: u64) -> Result<(), Memory>
+        requires few { self.old.depth < 64 }
+        requires number { number < 2 ^ self.old.depth }
+        ensures { IfOk result (λ _. self.new ≡ record { depth = self.old.depth; rows = self.old.rows ++ high_bits self.old.depth number ∷ [] }) }
+    {
+        self.words.push(number)?;
+        self.count += 1;
+        Ok(())
     }
 
     /// The words of the keys.

@@ -1,4 +1,4 @@
-use Rattle.std.proofs.Common.{arith, sym, subst, inl, inr, ◌∙◌, ap, ◌≡◌, ◌<◌, ◌+◌, get_or, length}
+use Rattle.std.proofs.Common.{arith, sym, subst, inl, inr, ◌∙◌, ap, ◌≡◌, ◌<◌, get_or, length}
 use Rattle.std.proofs.lemmas.Bool.{cases_lt}
 use Rattle.std.proofs.lemmas.List.{get_or_default}
 use Rattle.kd_points.specs.Laws.{HeadFits}
