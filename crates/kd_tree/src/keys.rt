@@ -157,7 +157,8 @@ impl Keys {
     pub fn number(&self, point: usize) -> u64
         requires point { point < length self.now.rows }
         requires few { self.now.depth < 64 }
-        ensures { key_at self.now.rows point ≡ high_bits self.now.depth result }
+        ensures bits { key_at self.now.rows point ≡ high_bits self.now.depth result }
+        ensures small { result < 2 ^ self.now.depth }
     {
         self.words[point]
     }

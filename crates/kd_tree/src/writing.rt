@@ -144,9 +144,11 @@ pub fn write_tree(alloc: Global, keys: &Keys) -> Result<TreeBits, Memory>
     ensures rest { IfOk result (λ t. t.rest.items ≡ rest_bits keys.now.depth 0 keys.now.rows) }
     ensures few { IfOk result (λ t. (length t.split.items ≤ length keys.now.rows * keys.now.depth) × (length t.rest.items ≤ length keys.now.rows * keys.now.depth)) }
 {
+    // As many rest bits as there may be: where the list grew, both it and the longer one would be held at once.
+    let most = keys.len().saturating_mul(keys.depth() as usize);
     let mut bits = TreeBits {
         split: Vec::new(alloc),
-        rest: Vec::new(alloc),
+        rest: Vec::with_capacity(alloc, most)?,
     };
     let mut stack = Vec::new(alloc);
     stack.push(Due {
