@@ -18,3 +18,4 @@ pub mod Spelling
 pub mod Blocked
 pub mod ReadPoints
 pub mod ReadAgain
+pub mod Numbered

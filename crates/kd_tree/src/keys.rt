@@ -33,7 +33,7 @@ impl Model for Keys {
 }
 
 /// A number with one more bit behind its own.
-pub(crate) fn with_bit(number: u64, bit: bool) -> u64
+pub fn with_bit(number: u64, bit: bool) -> u64
     requires { number < 2 ^ 63 }
     ensures { result ≡ number_behind number (bit ∷ []) }
 {
@@ -163,11 +163,13 @@ impl Keys {
         self.words[point]
     }
 
-    /// Adds the key of fewer than 64 bits with this number behind the others.
-    pub(crate) fn push_number(&mut self, number: u64) -> Result<(), Memory>
+    /// Adds the key of fewer than 64 bits with this number behind the others; they stay as they are when out of
+    /// memory.
+    pub fn push_number(&mut self, number: u64) -> Result<(), Memory>
         requires few { self.old.depth < 64 }
         requires number { number < 2 ^ self.old.depth }
-        ensures { IfOk result (λ _. self.new ≡ record { depth = self.old.depth; rows = self.old.rows ++ high_bits self.old.depth number ∷ [] }) }
+        ensures added { IfOk result (λ _. self.new ≡ record { depth = self.old.depth; rows = self.old.rows ++ high_bits self.old.depth number ∷ [] }) }
+        ensures same { OnErr result (self.new ≡ self.old) }
     {
         self.words.push(number)?;
         self.count += 1;

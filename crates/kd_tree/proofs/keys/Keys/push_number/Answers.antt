@@ -13,8 +13,8 @@ invariant_of-self-2 c =
           small c.self.invariant.1,
     )
 
-pub returns : goal.returns
-returns c =
+pub returns-clause-added : goal.returns-clause-added
+returns-clause-added c =
     let depth : c.self.inside.depth ≡ c.args.self.now.depth = ap (λ (x : KeyRows). x.depth) c.self.view_is in
     table-number c.self.inside.depth c.self.inside.count c.args.number c.self.inside.words.items c.push.new.self.items c.args.self.now c.self.view_is c.self.invariant.0
     (omega (arith, depth, c.requires.few)) c.in_ok-push.ensures.items
