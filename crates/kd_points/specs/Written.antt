@@ -29,7 +29,7 @@ kd_fault g = first_fault (
     ∷ unless (nat_lt 0 (length (points_in g))) kind.Empty 0
     ∷ unless (nat_le (length (points_in g)) MAX_KD_POINTS) kind.PointLimit (length (points_in g))
     ∷ unless (nat_le (length (points_in g) * width_of (heads_in g)) MAX_KD_VALUES) kind.KdLimit
-        (length (points_in g) * width_of (heads_in g))
+    (length (points_in g) * width_of (heads_in g))
     ∷ [])
 
 -- the cloud of a geometry; of a mesh its points

@@ -97,7 +97,7 @@ pub fn keys_of(
     requires len { length axes.now ≡ depth }
     ensures { IfOk result (λ k. k ≡ record { depth = depth; rows = keys_of cloud.now }) }
 {
-    let mut keys = Keys::new(alloc, depth);
+    let mut keys = Keys::with_capacity(alloc, depth, cloud.point_count() as usize)?;
     let mut room = Vec::new(alloc);
     for p in 0..cloud.point_count() {
         push_key(&mut keys, &mut room, axes, extents, cloud.point(p))?;

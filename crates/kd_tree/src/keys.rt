@@ -105,6 +105,18 @@ impl Keys {
         }
     }
 
+    /// No keys yet, of this many bits, with room for so many.
+    pub fn with_capacity(alloc: Global, depth: u32, count: usize) -> Result<Keys, Memory>
+        ensures { IfOk result (λ k. k ≡ record { depth = depth; rows = [] }) }
+    {
+        let words = Vec::with_capacity(alloc, count.saturating_mul(words_of(depth)))?;
+        Ok(Keys {
+            words,
+            depth,
+            count: 0,
+        })
+    }
+
     /// How many bits each key has.
     pub fn depth(&self) -> u32
         ensures { result ≡ self.now.depth }

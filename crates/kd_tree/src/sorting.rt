@@ -48,7 +48,7 @@ fn word_keys(alloc: Global, depth: u32, pairs: &[(u64, u32)]) -> Result<Keys, Me
     requires small { All (λ (p : ℕ × ℕ). p.0 < 2 ^ depth) pairs.now }
     ensures { IfOk result (λ k. k ≡ record { depth = depth; rows = map (λ (p : ℕ × ℕ). high_bits depth p.0) pairs.now }) }
 {
-    let mut keys = Keys::new(alloc, depth);
+    let mut keys = Keys::with_capacity(alloc, depth, pairs.len())?;
     for pair in pairs {
         keys.push_number(pair.0)?;
     }
@@ -127,7 +127,7 @@ fn gather(alloc: Global, keys: &Keys, order: &[u32]) -> Result<Keys, Memory>
     requires { All (λ i. i < length keys.now.rows) order.now }
     ensures { IfOk result (λ k. k ≡ record { depth = keys.now.depth; rows = map (key_at keys.now.rows) order.now }) }
 {
-    let mut sorted = Keys::new(alloc, keys.depth());
+    let mut sorted = Keys::with_capacity(alloc, keys.depth(), order.len())?;
     for number in order {
         sorted.push_from(keys, *number as usize)?;
     }
