@@ -55,17 +55,20 @@ fn word_keys(alloc: Global, depth: u32, pairs: &[(u64, u32)]) -> Result<Keys, Me
     Ok(keys)
 }
 
-/// Keys of fewer than 64 bits by key, then by number. They are sorted as numbers, and move with their own numbers.
-fn sort_words(alloc: Global, keys: &Keys) -> Result<SortedKeys, Memory>
-    requires few { keys.now.depth < 64 }
-    requires count { length keys.now.rows < 2 ^ 32 }
-    ensures order { IfOk result (λ s. IsKdOrder keys.now.rows s.order) }
-    ensures keys { IfOk result (λ s. s.keys ≡ record { depth = keys.now.depth; rows = map (key_at keys.now.rows) s.order }) }
+/// Keys of fewer than 64 bits by key, then by number. They are sorted as numbers, and move with their own numbers; the
+/// given ones are dropped as soon as they are copied.
+fn sort_words(alloc: Global, keys: Keys) -> Result<SortedKeys, Memory>
+    requires few { keys.depth < 64 }
+    requires count { length keys.rows < 2 ^ 32 }
+    ensures order { IfOk result (λ s. IsKdOrder keys.rows s.order) }
+    ensures keys { IfOk result (λ s. s.keys ≡ record { depth = keys.depth; rows = map (key_at keys.rows) s.order }) }
 {
-    let mut pairs = word_pairs(alloc, keys)?;
+    let depth = keys.depth();
+    let mut pairs = word_pairs(alloc, &keys)?;
+    drop(keys);
     pairs.sort_unstable();
     let order = word_numbers(alloc, pairs.as_slice())?;
-    let sorted = word_keys(alloc, keys.depth(), pairs.as_slice())?;
+    let sorted = word_keys(alloc, depth, pairs.as_slice())?;
     Ok(SortedKeys {
         keys: sorted,
         order: Sequence::from_vec(order),
@@ -135,13 +138,13 @@ fn gather(alloc: Global, keys: &Keys, order: &[u32]) -> Result<Keys, Memory>
 }
 
 /// Keys of any number of bits by key, then by number.
-fn sort_long(alloc: Global, keys: &Keys) -> Result<SortedKeys, Memory>
-    requires { length keys.now.rows < 2 ^ 32 }
-    ensures order { IfOk result (λ s. IsKdOrder keys.now.rows s.order) }
-    ensures keys { IfOk result (λ s. s.keys ≡ record { depth = keys.now.depth; rows = map (key_at keys.now.rows) s.order }) }
+fn sort_long(alloc: Global, keys: Keys) -> Result<SortedKeys, Memory>
+    requires { length keys.rows < 2 ^ 32 }
+    ensures order { IfOk result (λ s. IsKdOrder keys.rows s.order) }
+    ensures keys { IfOk result (λ s. s.keys ≡ record { depth = keys.depth; rows = map (key_at keys.rows) s.order }) }
 {
     let order = order_of(alloc, keys.words(), keys.depth(), keys.len())?;
-    let sorted = gather(alloc, keys, order.as_slice())?;
+    let sorted = gather(alloc, &keys, order.as_slice())?;
     Ok(SortedKeys {
         keys: sorted,
         order: Sequence::from_vec(order),
@@ -149,10 +152,10 @@ fn sort_long(alloc: Global, keys: &Keys) -> Result<SortedKeys, Memory>
 }
 
 /// Keys by key, then by number.
-fn sort(alloc: Global, keys: &Keys) -> Result<SortedKeys, Memory>
-    requires { length keys.now.rows < 2 ^ 32 }
-    ensures order { IfOk result (λ s. IsKdOrder keys.now.rows s.order) }
-    ensures keys { IfOk result (λ s. s.keys ≡ record { depth = keys.now.depth; rows = map (key_at keys.now.rows) s.order }) }
+fn sort(alloc: Global, keys: Keys) -> Result<SortedKeys, Memory>
+    requires { length keys.rows < 2 ^ 32 }
+    ensures order { IfOk result (λ s. IsKdOrder keys.rows s.order) }
+    ensures keys { IfOk result (λ s. s.keys ≡ record { depth = keys.depth; rows = map (key_at keys.rows) s.order }) }
 {
     if keys.depth() < 64 {
         return sort_words(alloc, keys);
@@ -161,13 +164,13 @@ fn sort(alloc: Global, keys: &Keys) -> Result<SortedKeys, Memory>
 }
 
 /// The keys by key, then by number. The bits of their tree are those of the keys as they stand.
-pub fn sort_keys(alloc: Global, keys: &Keys) -> Result<SortedKeys, Memory>
-    requires { length keys.now.rows < 2 ^ 32 }
-    ensures order { IfOk result (λ s. IsKdOrder keys.now.rows s.order) }
-    ensures keys { IfOk result (λ s. s.keys ≡ record { depth = keys.now.depth; rows = map (key_at keys.now.rows) s.order }) }
-    ensures settled { IfOk result (λ s. IsSettled keys.now.depth 0 s.keys.rows) }
-    ensures split { IfOk result (λ s. split_bits keys.now.depth 0 s.keys.rows ≡ split_bits keys.now.depth 0 keys.now.rows) }
-    ensures rest { IfOk result (λ s. rest_bits keys.now.depth 0 s.keys.rows ≡ rest_bits keys.now.depth 0 keys.now.rows) }
+pub fn sort_keys(alloc: Global, keys: Keys) -> Result<SortedKeys, Memory>
+    requires { length keys.rows < 2 ^ 32 }
+    ensures order { IfOk result (λ s. IsKdOrder keys.rows s.order) }
+    ensures keys { IfOk result (λ s. s.keys ≡ record { depth = keys.depth; rows = map (key_at keys.rows) s.order }) }
+    ensures settled { IfOk result (λ s. IsSettled keys.depth 0 s.keys.rows) }
+    ensures split { IfOk result (λ s. split_bits keys.depth 0 s.keys.rows ≡ split_bits keys.depth 0 keys.rows) }
+    ensures rest { IfOk result (λ s. rest_bits keys.depth 0 s.keys.rows ≡ rest_bits keys.depth 0 keys.rows) }
 {
     // For the prover alone: each key has its number of bits.
     let _count = keys.len();

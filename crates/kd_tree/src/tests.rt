@@ -59,7 +59,7 @@ fn round(
 ) -> Result<(), Fail> {
     let table = table_of(rt, depth, keys)?;
     assert!(rt; table.len() < 100);
-    let sorted = sort_keys(rt.alloc(), &table)?;
+    let sorted = sort_keys(rt.alloc(), table)?;
     assert_eq!(rt; sorted.order.as_slice(), order);
     assert!(rt; sorted.keys.len() < 100);
     let bits = write_tree(rt.alloc(), &sorted.keys)?;
@@ -151,7 +151,9 @@ fn many_keys_are_sorted(rt: HostRuntime) -> Result<(), Fail> {
     for depth in [0u32, 1, 5, 63, 64, 130] {
         let table = many_keys(&rt, depth)?;
         assert!(&rt; table.len() == 60);
-        let sorted = sort_keys(rt.alloc(), &table)?;
+        let given = many_keys(&rt, depth)?;
+        assert!(&rt; given.len() == 60);
+        let sorted = sort_keys(rt.alloc(), given)?;
         let order = sorted.order.as_slice();
         assert!(&rt; order.len() == 60);
         assert!(&rt; sorted.keys.len() == 60);

@@ -7,6 +7,6 @@ use Rattle.kd_tree.proofs.sorting.sort_long.Goals as goal
 
 pub gather-requires : goal.gather-requires
 gather-requires c =
-    let order : IsKdOrder c.args.keys.now.rows c.in_ok-order.order.items =
-    order-of-rows c.args.keys.now c.depth.result c.len.result c.words.result.now c.in_ok-order.order.items c.depth.ensures c.len.ensures.len c.words.ensures.rows c.in_ok-order.ensures in
-    subst (All (λ i. i < length c.args.keys.now.rows)) (sym c.as_slice.ensures.value) (order-below (point_cmp c.args.keys.now.rows) (length c.args.keys.now.rows) c.in_ok-order.order.items order)
+    let order : IsKdOrder c.args.keys.rows c.in_ok-order.order.items =
+    order-of-rows c.args.keys c.depth.result c.len.result c.words.result.now c.in_ok-order.order.items c.depth.ensures c.len.ensures.len c.words.ensures.rows c.in_ok-order.ensures in
+    subst (All (λ i. i < length c.args.keys.rows)) (sym c.as_slice.ensures.value) (order-below (point_cmp c.args.keys.rows) (length c.args.keys.rows) c.in_ok-order.order.items order)
