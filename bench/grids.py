@@ -1,4 +1,5 @@
 """Grids and clouds as PLY texts."""
+import random
 
 
 def lines(side, points, faces):
@@ -20,3 +21,14 @@ def write_grid(path, side):
     """A grid of so many points each way."""
     with path.open("w") as text:
         text.writelines(lines(side, side * side, 2 * (side - 1) ** 2))
+
+
+def write_points(path, shape, count, bits):
+    """A cloud of so many points with components of so many bits: "uniform", or of a "surface"."""
+    numbers = random.Random(count + bits)
+    with path.open("w") as text:
+        text.write(f"ply\nformat ascii 1.0\ncomment drc attr 0 0 5 3 0 0\nelement vertex {count}\n")
+        text.write("property int x\nproperty int y\nproperty int z\nend_header\n")
+        for _ in range(count):
+            x, y, z = (numbers.getrandbits(bits) for _ in range(3))
+            text.write(f"{x} {y} {z if shape == 'uniform' else x * x + y * y >> bits + 1}\n")

@@ -7,7 +7,7 @@ pub fn position() -> Vec<Head> {
     vec![Head { usage: 0, dtype: 5, comps: 3, normalized: 0, id: 0 }]
 }
 
-fn put(out: &mut Vec<u8>, v: i64) {
+pub fn put(out: &mut Vec<u8>, v: i64) {
     let mut digits = [0u8; 20];
     let mut at = 20;
     let mut rest = v.unsigned_abs();

@@ -4,6 +4,7 @@ pub mod Refusing
 pub mod Appending
 pub mod Fullest
 pub mod Digits
+pub mod Numbered
 pub mod Axed
 pub mod Extended
 pub mod Lying

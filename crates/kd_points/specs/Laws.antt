@@ -32,4 +32,5 @@ pub record IsFileOf (c : CloudParts) (bytes : List ℕ) (rows : Rows) : Type 0 w
 
 -- the file of a cloud without a fault is read, whatever bytes follow it, as the same cloud with its points in the order of the tree
 abbrev pub FilesAreReadAgain : Type 0
-FilesAreReadAgain = (c : CloudParts) (rows : Rows) (more : List ℕ) → IsCloud c → kd_fault (Cloud c) ≡ None → All HeadFits c.heads → KdOrder c rows → IsFileOf c (kd_written c ++ more) rows
+FilesAreReadAgain = (c : CloudParts) (rows : Rows) (more : List ℕ) → IsCloud c → kd_fault (Cloud c) ≡ None → All HeadFits c.heads
+    → KdOrder c rows → IsFileOf c (kd_written c ++ more) rows

@@ -1,5 +1,6 @@
 -- What a kd-tree file of points means (this project's choice): its points in the order of the tree.
-use Rattle.std.specs.Prelude.{◌≡◌, ℕ, ◌+◌, ◌*◌, ◌<◌, ◌≤◌, ℤ, pos, not, Bool, true, false, List, [], length, map, slice_index, slice_index_or, Option, Result, Ok, option_map, position}
+use Rattle.std.specs.Prelude.{◌≡◌, ℕ, ◌+◌, ◌*◌, ◌<◌, ◌≤◌, ℤ, pos, not, Bool, true, false}
+use Rattle.std.specs.Prelude.{List, [], length, map, slice_index, slice_index_or, Option, Result, Ok, option_map, position}
 use Rattle.std.specs.List.{range_with_len, list_all}
 use Rattle.drc_base.specs.declared.faults.Fault.{Fault}
 use Rattle.drc_base.specs.declared.kinds.Kind.TheVariants as kind
@@ -32,13 +33,16 @@ tree_at depth count c = do
 
 -- whether all points have an integer of its data type in a component
 abbrev pub is_typed : List Head → List (List ℤ) → ℕ → Bool
-is_typed heads points component = list_all (λ row. in_type (slice_index (types_of heads) component) (slice_index_or row component (pos 0))) points
+is_typed heads points component =
+    list_all (λ row. in_type (slice_index (types_of heads) component) (slice_index_or row component (pos 0))) points
 
 -- component r is the first with an integer outside its data type; the number of components stands for none
 pub record FirstOutside (types : List ℕ) (points : List (List ℤ)) (r : ℕ) : Type 0 where
   pub within : r ≤ length types
-  pub before : (i j : ℕ) → i < length points → j < r → in_type (slice_index types j) (slice_index_or (slice_index_or points i []) j (pos 0)) ≡ true
-  pub here : r < length types → (i : ℕ) × (i < length points) × (in_type (slice_index types r) (slice_index_or (slice_index_or points i []) r (pos 0)) ≡ false)
+  pub before : (i j : ℕ) → i < length points → j < r
+      → in_type (slice_index types j) (slice_index_or (slice_index_or points i []) j (pos 0)) ≡ true
+  pub here : r < length types
+      → (i : ℕ) × (i < length points) × (in_type (slice_index types r) (slice_index_or (slice_index_or points i []) r (pos 0)) ≡ false)
 
 -- the fault of the first component with an integer outside its data type, at its extent
 unfoldable pub typed_fault : List Head → ℕ → List (List ℤ) → Option Fault

@@ -1,5 +1,6 @@
 -- The file of a cloud, and the order of its points (this project's choice).
-use Rattle.std.specs.Prelude.{◌≡◌, ℕ, ◌*◌, Bool, not, nat_lt, nat_le, List, [], ◌∷◌, ◌++◌, length, map, flat_map, Option, None, Some, Result}
+use Rattle.std.specs.Prelude.{◌≡◌, ℕ, ◌*◌, Bool, not, nat_lt, nat_le, Option, None, Some, Result}
+use Rattle.std.specs.Prelude.{List, [], ◌∷◌, ◌++◌, length, map, flat_map}
 use Rattle.std.specs.Int.{w32, cast_unsigned}
 use Rattle.drc_base.specs.declared.faults.Fault.{Fault}
 use Rattle.drc_base.specs.declared.kinds.Kind.TheVariants as kind
@@ -27,7 +28,8 @@ kd_fault g = first_fault (
     unless (not (is_mesh g)) kind.KdMesh 0
     ∷ unless (nat_lt 0 (length (points_in g))) kind.Empty 0
     ∷ unless (nat_le (length (points_in g)) MAX_KD_POINTS) kind.PointLimit (length (points_in g))
-    ∷ unless (nat_le (length (points_in g) * width_of (heads_in g)) MAX_KD_VALUES) kind.KdLimit (length (points_in g) * width_of (heads_in g))
+    ∷ unless (nat_le (length (points_in g) * width_of (heads_in g)) MAX_KD_VALUES) kind.KdLimit
+    (length (points_in g) * width_of (heads_in g))
     ∷ [])
 
 -- the cloud of a geometry; of a mesh its points

@@ -1,14 +1,15 @@
 //! The keys of points.
 
-ghost use Rattle.std.specs.Prelude.{◌≡◌, ◌<◌, ◌≤◌, ◌≤ℤ◌, ℕ, pos, IfOk, OnOk, All, length, slice_index_or};
+ghost use Rattle.std.specs.Prelude.{◌≡◌, ◌<◌, ◌≤◌, ◌≤ℤ◌, ◌++◌, ◌∷◌, [], ℕ, pos, IfOk, OnOk, All, length, slice_index_or};
 ghost use Rattle.mesh_model.specs.Head.{width_of};
+ghost use Rattle.kd_tree.specs.Reading.{number_behind};
 ghost use Rattle.kd_points.specs.Keys.{has_bit, key_of};
 ghost use Rattle.kd_points.specs.Extents.{axes_over, depth_of, extents_of, keys_of, no_extent, offset_of};
 
 use crate::axes::Axis;
 use crate::extents::{Extent, distance};
 use drc_base::Memory;
-use kd_tree::Keys;
+use kd_tree::{Keys, with_bit};
 use mesh_model::Cloud;
 use std::alloc::Global;
 
@@ -43,6 +44,44 @@ fn fill_key(
     Ok(())
 }
 
+/// The key of a point, of fewer than 64 bits, as a number.
+fn key_number(axes: &[Axis], extents: &[Extent], row: &[i32]) -> u64
+    requires few { length axes.now < 64 }
+    requires len { length extents.now ≡ length row.now }
+    requires lie { All (λ axis. (axis.component < length extents.now) × (axis.bit < 32)) axes.now }
+    requires above { (j : ℕ) → j < length row.now → (slice_index_or extents.now j no_extent).least ≤ℤ slice_index_or row.now j (pos 0) }
+    ensures { result ≡ number_behind 0 (key_of axes.now (offset_of extents.now row.now)) }
+{
+    let mut number = 0;
+    for axis in axes {
+        number = with_bit(number, bit_along(*axis, extents, row));
+    }
+    number
+}
+
+/// Adds the key of a point to those before. A key of 64 bits or more is put together in the room of another one.
+fn push_key(
+    keys: &mut Keys,
+    room: &mut Vec<bool>,
+    axes: &[Axis],
+    extents: &[Extent],
+    row: &[i32],
+) -> Result<(), Memory>
+    requires depth { length axes.now ≡ keys.old.depth }
+    requires len { length extents.now ≡ length row.now }
+    requires lie { All (λ axis. (axis.component < length extents.now) × (axis.bit < 32)) axes.now }
+    requires above { (j : ℕ) → j < length row.now → (slice_index_or extents.now j no_extent).least ≤ℤ slice_index_or row.now j (pos 0) }
+    ensures { OnOk result (keys.new ≡ record { depth = keys.old.depth; rows = keys.old.rows ++ key_of axes.now (offset_of extents.now row.now) ∷ [] }) }
+{
+    if axes.len() < 64 {
+        keys.push_number(key_number(axes, extents, row))?;
+        return Ok(());
+    }
+    fill_key(room, axes, extents, row)?;
+    keys.push(room)?;
+    Ok(())
+}
+
 /// The keys of the points of a cloud.
 pub fn keys_of(
     alloc: Global,
@@ -58,11 +97,10 @@ pub fn keys_of(
     requires len { length axes.now ≡ depth }
     ensures { IfOk result (λ k. k ≡ record { depth = depth; rows = keys_of cloud.now }) }
 {
-    let mut keys = Keys::new(alloc, depth);
-    let mut key = Vec::with_capacity(alloc, axes.len())?;
+    let mut keys = Keys::with_capacity(alloc, depth, cloud.point_count() as usize)?;
+    let mut room = Vec::new(alloc);
     for p in 0..cloud.point_count() {
-        fill_key(&mut key, axes, extents, cloud.point(p))?;
-        keys.push(&key)?;
+        push_key(&mut keys, &mut room, axes, extents, cloud.point(p))?;
     }
     Ok(keys)
 }

@@ -6,6 +6,7 @@ ghost use Rattle.drc_base.specs.Refusals.{Answers};
 ghost use Rattle.mesh_model.specs.Head.{heads_fault, in_type, types_of, width_of};
 ghost use Rattle.mesh_model.specs.Parts.{cells_of};
 ghost use Rattle.kd_tree.specs.Keys.{key_at};
+ghost use Rattle.kd_tree.specs.Trees.{high_bits};
 ghost use Rattle.kd_points.specs.Extents.{axes_over, depth_of, integer_at, row_within};
 ghost use Rattle.kd_points.specs.Keys.{offset_in};
 ghost use Rattle.kd_points.specs.Meaning.{cloud_of_keys, FirstOutside};
@@ -14,7 +15,7 @@ use crate::axes::Axis;
 use crate::extents::Extent;
 use crate::headers::Header;
 use drc_base::{Fault, Kind, Memory, Refusal};
-use kd_tree::Keys;
+use kd_tree::{Keys, bit_in};
 use mesh_model::{Cloud, Head, greatest_of, least_of};
 use std::alloc::Global;
 
@@ -59,8 +60,38 @@ fn add_bit(offsets: &mut [u32], axis: Axis, bit: bool)
     ensures low { bit ≡ false → offsets.new ≡ offsets.old }
     ensures high { bit ≡ true → offsets.new ≡ slice_set offsets.old axis.component (slice_index offsets.old axis.component + 2 ^ axis.bit) }
 {
-    if bit {
-        offsets[axis.component as usize] += 1 << axis.bit;
+    offsets[axis.component as usize] += if bit { 1 << axis.bit } else { 0 };
+}
+
+/// Adds what a key of fewer than 64 bits gives to offsets of 0: the key with this number.
+fn add_number(offsets: &mut [u32], axes: &[Axis], number: u64)
+    requires few { length axes.now < 64 }
+    requires lie { All (λ axis. (axis.component < length offsets.old) × (axis.bit < 32)) axes.now }
+    requires fit { (j : ℕ) → offset_in axes.now (high_bits (length axes.now) number) j < 2 ^ 32 }
+    requires none { (j : ℕ) → j < length offsets.old → slice_index offsets.old j ≡ 0 }
+    ensures { (j : ℕ) → j < length offsets.new → slice_index offsets.new j ≡ offset_in axes.now (high_bits (length axes.now) number) j }
+{
+    for d in 0..axes.len() {
+        add_bit(
+            offsets,
+            axes[d],
+            bit_in(number, axes.len() as u32, d as u32),
+        );
+    }
+}
+
+/// Adds what a key of any number of bits gives to offsets of 0.
+fn add_key(offsets: &mut [u32], axes: &[Axis], keys: &Keys, point: usize)
+    requires point { point < length keys.now.rows }
+    requires long { length (key_at keys.now.rows point) ≡ keys.now.depth }
+    requires depth { length axes.now ≡ keys.now.depth }
+    requires lie { All (λ axis. (axis.component < length offsets.old) × (axis.bit < 32)) axes.now }
+    requires fit { (j : ℕ) → offset_in axes.now (key_at keys.now.rows point) j < 2 ^ 32 }
+    requires none { (j : ℕ) → j < length offsets.old → slice_index offsets.old j ≡ 0 }
+    ensures { (j : ℕ) → j < length offsets.new → slice_index offsets.new j ≡ offset_in axes.now (key_at keys.now.rows point) j }
+{
+    for d in 0..keys.depth() {
+        add_bit(offsets, axes[d as usize], keys.bit(point, d));
     }
 }
 
@@ -74,9 +105,11 @@ fn fill_offsets(offsets: &mut [u32], axes: &[Axis], keys: &Keys, point: usize)
     ensures { (j : ℕ) → j < length offsets.new → slice_index offsets.new j ≡ offset_in axes.now (key_at keys.now.rows point) j }
 {
     clear(offsets);
-    for d in 0..keys.depth() {
-        add_bit(offsets, axes[d as usize], keys.bit(point, d));
+    if keys.depth() < 64 {
+        add_number(offsets, axes, keys.number(point));
+        return;
     }
+    add_key(offsets, axes, keys, point);
 }
 
 /// Whether a number is in the range of a data type.

@@ -42,7 +42,7 @@ pub fn tree_of(alloc: Global, cloud: &Cloud) -> Result<Tree, Memory>
     let depth = depth_of(&extents);
     let axes = axes_over(alloc, &extents)?;
     let keys = keys_of(alloc, cloud, &extents, &axes, depth)?;
-    let sorted = sort_keys(alloc, &keys)?;
+    let sorted = sort_keys(alloc, keys)?;
     let bits = write_tree(alloc, &sorted.keys)?;
     Ok(Tree {
         extents: Sequence::from_vec(extents),

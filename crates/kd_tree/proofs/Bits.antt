@@ -1,12 +1,12 @@
 -- Numbers and their bits, the high one first.
-use Rattle.std.proofs.Common.{◌≡◌, ℕ, zero, suc, ◌+◌, ◌-◌, ◌*◌, ◌/◌, ◌%◌, ◌^◌, ◌<◌, ◌≤◌, Bool, true, false, List, [], ◌∷◌, ◌++◌, length, take, drop, get_or, sym, refl, ap, ◌∙◌, arith, pow-suc, pow_mono, mul_assoc, append_assoc}
+use Rattle.std.proofs.Common.{◌≡◌, ℕ, zero, suc, ◌+◌, ◌-◌, ◌*◌, ◌/◌, ◌%◌, ◌^◌, ◌<◌, ◌≤◌, Bool, true, false, List, [], ◌∷◌, ◌++◌, length, take, drop, get_or, length-append, sym, refl, ap, ◌∙◌, arith, pow-suc, pow_mono, mul_assoc, append_assoc}
 use Rattle.std.specs.Prelude.{◌==◌, if◌then◌else◌}
 use Rattle.std.proofs.lemmas.Nat.{mod-pow-add, div-mul-add}
 use Rattle.std.proofs.lemmas.Grind.{common_steps}
 use Rattle.kd_tree.specs.Trees.{high_bits}
 use Rattle.std.proofs.lemmas.List.{append-nil, take_more}
 use Rattle.rans_binary.specs.Blocks.{Block, after_bit, behind, first_bits, next_bit}
-use Rattle.rans_binary.proofs.BitNumbers.{first_bits-add}
+use Rattle.rans_binary.proofs.BitNumbers.{first_bits-add, length-first_bits}
 use Rattle.kd_tree.specs.Reading.{number_behind}
 
 pub length-high_bits : (n v : ℕ) → length (high_bits n v) ≡ n
@@ -110,9 +110,6 @@ number-more bits i h = ap (number_behind 0) (take_more bits i false h) ∙ numbe
 pub first_bits-more : (n : ℕ) (b : Block) → first_bits (n + 1) b ≡ first_bits n b ++ next_bit (behind n b) ∷ []
 first_bits-more n b = first_bits-add n 1 b
 
-pub block_number-more : (n : ℕ) (b : Block) → number_behind 0 (first_bits (n + 1) b) ≡ number_behind (number_behind 0 (first_bits n b)) (next_bit (behind n b) ∷ [])
-block_number-more n b = ap (number_behind 0) (first_bits-more n b) ∙ number_behind-append 0 (first_bits n b) (next_bit (behind n b) ∷ [])
-
 -- a loop over bits: the number of one more of them
 pub number-step : (bits : List Bool) (i n m : ℕ) → i < length bits → n ≡ number_behind 0 (take i bits) → m ≡ number_behind n (get_or bits i false ∷ []) → m ≡ number_behind 0 (take (i + 1) bits)
 number-step bits i n m h e f = f ∙ ap (λ k. number_behind k (get_or bits i false ∷ [])) e ∙ sym (number-more bits i h)
@@ -132,14 +129,16 @@ unfolding high_bits
 append-end bits k v out r h e = sym (append-nil out) ∙ ap (λ m. out ++ high_bits m v) (let g : 0 ≡ bits - k = omega arith in g) ∙ e
 
 -- a loop over a block: the number of one more bit, one more bit, and the block behind it
-pub block_number-step : (i : ℕ) (b now : Block) (n m : ℕ) (bit : Bool) → n ≡ number_behind 0 (first_bits i b) → now ≡ behind i b → bit ≡ next_bit now → m ≡ number_behind n (bit ∷ []) → m ≡ number_behind 0 (first_bits (i + 1) b)
-block_number-step i b now n m bit e at is f =
-    f ∙ ap (λ k. number_behind k (bit ∷ [])) e ∙ ap (λ k. number_behind (number_behind 0 (first_bits i b)) (k ∷ [])) (is ∙ ap next_bit at) ∙ sym (block_number-more i b)
-
 pub block_bits-step : (i : ℕ) (b now : Block) (old out new : List Bool) (bit : Bool) → out ≡ old ++ first_bits i b → now ≡ behind i b → bit ≡ next_bit now → new ≡ out ++ bit ∷ [] → new ≡ old ++ first_bits (i + 1) b
 block_bits-step i b now old out new bit e at is f =
     f ∙ ap (λ xs. xs ++ bit ∷ []) e ∙ append_assoc old (first_bits i b) (bit ∷ []) ∙ ap (λ k. old ++ (first_bits i b ++ k ∷ [])) (is ∙ ap next_bit at) ∙ ap (λ xs. old ++ xs) (sym (first_bits-more i b))
 
+pub block_number-step : (i : ℕ) (front : List Bool) (b now : Block) (n m : ℕ) (bit : Bool) → n ≡ number_behind 0 (front ++ first_bits i b) → now ≡ behind i b → bit ≡ next_bit now → m ≡ number_behind n (bit ∷ []) →
+    m ≡ number_behind 0 (front ++ first_bits (i + 1) b)
+block_number-step i front b now n m bit e at is f =
+    f ∙ ap (λ k. number_behind k (bit ∷ [])) e ∙ sym (number_behind-append 0 (front ++ first_bits i b) (bit ∷ [])) ∙ ap (number_behind 0) (block_bits-step i b now front (front ++ first_bits i b) _ bit refl at is refl)
+
+-- a loop over a block: the number of one more bit, one more bit, and the block behind it
 pub block-step : (i : ℕ) (b now next : Block) → now ≡ behind i b → next ≡ after_bit now → next ≡ behind (i + 1) b
 block-step i b now next at is = is ∙ ap after_bit at ∙ ap (λ k. behind k b) (let e : suc i ≡ i + 1 = omega arith in e)
 
@@ -149,3 +148,16 @@ unfolding high_bits
 drop-high_bits zero n v = ap (λ k. high_bits k v) (let e : n ≡ n - 0 = omega arith in e)
 drop-high_bits (suc d) zero v = ap (λ k. high_bits k v) (let e : 0 ≡ 0 - suc d = omega arith in e)
 drop-high_bits (suc d) (suc n) v = drop-high_bits d n v ∙ ap (λ k. high_bits k v) (let e : n - d ≡ suc n - suc d = omega arith in e)
+
+-- a key of a path and the next bits of a block, put together as a number
+pub joined-number : (depth n number : ℕ) (path front : List Bool) (b : Block) → length path ≤ depth → front ≡ path → n ≡ depth - length path → number ≡ number_behind 0 (front ++ first_bits n b) →
+    (number < 2 ^ depth) × (high_bits depth number ≡ path ++ first_bits (depth - length path) b)
+joined-number depth n number path front b deep same left is =
+    let key : List Bool = path ++ first_bits (depth - length path) b in
+    let long : length key ≡ depth = length-append path (first_bits (depth - length path) b) ∙ omega (arith, length-first_bits (depth - length path) b, deep) in
+    let at : number ≡ number_behind 0 key = is ∙ ap (λ k. number_behind 0 (k ++ first_bits n b)) same ∙ ap (λ k. number_behind 0 (path ++ first_bits k b)) left in
+    let small = number-below key in
+    let most : 2 ^ length key ≡ 2 ^ depth = ap (λ k. 2 ^ k) long in (
+      omega (arith, at, small, most),
+      ap (high_bits depth) at ∙ ap (λ k. high_bits k (number_behind 0 key)) (sym long) ∙ bits-number 0 key,
+    )

@@ -15,7 +15,7 @@ use Rattle.std.proofs.lemmas.List.Sorted.{All-permutation, IsPermutation-map}
 use Rattle.kd_tree.specs.Keys.{Key, KeyRows, key_at}
 use Rattle.kd_tree.specs.Order.{IsOrderBy, key_cmp, point_cmp}
 use Rattle.kd_tree.specs.Trees.{high_bits}
-use Rattle.kd_tree.specs.Packing.{AreClean, front_key, key_from, keys_in, row_at, row_cmp, word_cmp, words_for}
+use Rattle.kd_tree.specs.Packing.{AreClean, front_key, key_from, keys_in, row_at, row_cmp, IsWordOf, words_for}
 use Rattle.kd_tree.proofs.Bits.{drop-high_bits, length-high_bits}
 use Rattle.kd_tree.proofs.Packed.{count-is, front-row, key-keys_in, length-keys_in, row-in}
 
@@ -165,20 +165,20 @@ word-clean depth n words i few h clean =
     let whole : depth % 64 ≡ depth = omega arith in
     subst (λ k. get_or words i 0 < 2 ^ k) whole (subst (λ k. get_or words k 0 < 2 ^ (depth % 64)) place c)
 
-pub word-order : (depth n : ℕ) (words order : List ℕ) → depth < 64 → length words ≡ n * words_for depth → AreClean depth n words →
-    IsOrderBy (word_cmp words) (length words) order → IsOrderBy (point_cmp (keys_in depth n words)) (length (keys_in depth n words)) order
-word-order depth n words order few is clean h =
-    let rows : List Key = keys_in depth n words in
-    let long : length words ≡ n = is ∙ ap (λ k. n * (k + 1)) (let e : depth / 64 ≡ 0 = omega arith in e) ∙ (let e : n * (0 + 1) ≡ n = omega arith in e) in
-    let same : length words ≡ length rows = long ∙ sym (length-keys_in depth n words) in
-    let each : (i j : ℕ) → i < length words → j < length words → word_cmp words i j ≡ point_cmp rows i j = λ i j a b.
-    let p : i < n = omega (arith, a, long) in
-    let q : j < n = omega (arith, b, long) in
+-- keys as numbers are in the order of the keys
+pub word-order : (v : KeyRows) (i j word other : ℕ) → IsWordOf v i word → IsWordOf v j other → ordering_then (nat_cmp word other) (nat_cmp i j) ≡ point_cmp v.rows i j
+word-order v i j word other one two =
     ap (λ o. ordering_then o (nat_cmp i j)) (sym (
-    ap (λ k. key_cmp k (key_at rows j)) (key-word depth n words i few p) ∙ ap (key_cmp (high_bits depth (get_or words i 0))) (key-word depth n words j few q)
-    ∙ high_bits-order depth (get_or words i 0) (get_or words j 0)
-    ∙ ap (λ k. nat_cmp k (get_or words j 0 % 2 ^ depth)) (mod-eq_of_lt (word-clean depth n words i few p clean)) ∙ ap (nat_cmp (get_or words i 0)) (mod-eq_of_lt (word-clean depth n words j few q clean)))) in
-    subst (λ k. IsOrderBy (point_cmp rows) k order) same (order-same (word_cmp words) (point_cmp rows) (length words) order each h)
+    ap (λ k. key_cmp k (key_at v.rows j)) one.1 ∙ ap (key_cmp (high_bits v.depth word)) two.1
+    ∙ high_bits-order v.depth word other
+    ∙ ap (λ k. nat_cmp k (other % 2 ^ v.depth)) (mod-eq_of_lt one.0) ∙ ap (nat_cmp word) (mod-eq_of_lt two.0)))
+
+-- keys of numbers are the keys with those numbers
+pub word-rows : (v : KeyRows) (pairs : List (ℕ × ℕ)) → All (λ (p : ℕ × ℕ). IsWordOf v p.1 p.0) pairs → map (λ (p : ℕ × ℕ). high_bits v.depth p.0) pairs ≡ map (key_at v.rows) (map (λ (p : ℕ × ℕ). p.1) pairs)
+word-rows v [] all = refl
+word-rows v (p ∷ pairs) all =
+    ap (λ k. k ∷ map (λ (q : ℕ × ℕ). high_bits v.depth q.0) pairs) (sym ((all 0 p (omega arith)).1))
+    ∙ ap (λ ks. key_at v.rows p.1 ∷ ks) (word-rows v pairs (λ k d h. all (suc k) d (omega arith)))
 
 -- a row of a table: its length, its words, and its key
 module _ (depth n : ℕ) (words : List ℕ) (is : length words ≡ n * words_for depth) (clean : AreClean depth n words) (fit : AreFit words) (i : ℕ) (h : i < n) where
@@ -234,3 +234,19 @@ word-rest depth n words v point d word e few is h read =
     let at : word ≡ get_or words point 0 = get_or_read words point word (word-there depth n point (length words) few is below) read 0 in
     let key : key_at v.rows point ≡ high_bits depth (get_or words point 0) = ap (λ (x : KeyRows). key_at x.rows point) (sym e) ∙ key-word depth n words point few below in
     ap (high_bits (depth - d)) at ∙ sym (ap (drop d) key ∙ drop-high_bits d depth (get_or words point 0))
+
+pub word-key : (depth n : ℕ) (words : List ℕ) (v : KeyRows) (point word : ℕ) → record { depth = depth; rows = keys_in depth n words } ≡ v → depth < 64 → length words ≡ n * words_for depth →
+    point < length v.rows → word ≡ get_or words point word → key_at v.rows point ≡ high_bits v.depth word
+word-key depth n words v point word e few is h read =
+    let below : point < n = (let c = count-is depth n words v e in omega (arith, c, h)) in
+    let at : word ≡ get_or words point 0 = get_or_read words point word (word-there depth n point (length words) few is below) read 0 in
+    ap (λ (x : KeyRows). key_at x.rows point) (sym e) ∙ key-word depth n words point few below ∙ ap (high_bits depth) (sym at) ∙ ap (λ (x : KeyRows). high_bits x.depth word) e
+
+pub word-small : (depth n : ℕ) (words : List ℕ) (v : KeyRows) (point word : ℕ) → record { depth = depth; rows = keys_in depth n words } ≡ v → depth < 64 → length words ≡ n * words_for depth → AreClean depth n words →
+    point < length v.rows → word ≡ get_or words point word → word < 2 ^ v.depth
+word-small depth n words v point word e few is clean h read =
+    let below : point < n = (let c = count-is depth n words v e in omega (arith, c, h)) in
+    let at : word ≡ get_or words point 0 = get_or_read words point word (word-there depth n point (length words) few is below) read 0 in
+    let small = word-clean depth n words point few below clean in
+    let most : 2 ^ depth ≡ 2 ^ v.depth = ap (λ (x : KeyRows). 2 ^ x.depth) e in
+    omega (arith, at, small, most)

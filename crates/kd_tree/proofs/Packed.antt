@@ -308,3 +308,31 @@ module _ (depth n count : ℕ) (words more others : List ℕ) (v o : KeyRows) (p
   length-from =
       let l : length (row_at (words_for depth) others point) ≡ words_for depth = length-take-le (words_for depth) (drop (point * words_for depth) others) room in
       ap length all ∙ length-append words (row_at (words_for depth) others point) ∙ omega (arith, l, is)
+
+-- a table with the key of one word more
+module _ (depth n number : ℕ) (words more : List ℕ) (v : KeyRows)
+    (e : ◌≡◌ {A = KeyRows} (record { depth = depth; rows = keys_in depth n words }) v) (is : length words ≡ n * words_for depth)
+    (few : depth < 64) (all : more ≡ words ++ number ∷ []) where
+  pub number-kept : take (length words) more ≡ words
+  number-kept = ap (take (length words)) all ∙ take_at words (number ∷ []) (length words) refl
+
+  number-key : front_key depth (number ∷ []) ≡ high_bits depth number
+  unfolding key_from
+  number-key = ap (λ k. key_from k (depth % 64) (number ∷ [])) (let g : depth / 64 ≡ 0 = omega arith in g) ∙ ap (λ k. high_bits k number) (let g : depth % 64 ≡ depth = omega arith in g)
+
+  pub table-number : ◌≡◌ {A = KeyRows} (record { depth = depth; rows = keys_in depth (n + 1) more }) (record { depth = v.depth; rows = v.rows ++ high_bits v.depth number ∷ [] })
+  table-number =
+      table-push depth n words more (high_bits depth number) v e is number-kept (ap (λ xs. front_key depth (drop (length words) xs)) all ∙ ap (front_key depth) (drop_at words (number ∷ []) (length words) refl) ∙ number-key)
+      ∙ ap (λ (x : KeyRows). record { depth = v.depth; rows = v.rows ++ high_bits x.depth number ∷ [] }) e
+
+  pub clean-number : number < 2 ^ depth → AreClean depth n words → AreClean depth (n + 1) more
+  clean-number small clean =
+      let at : get_or more (length words + depth / 64) 0 ≡ number =
+      ap (λ xs. get_or xs (length words + depth / 64) 0) all ∙ get_or_push words number 0 (length words + depth / 64) (omega arith) in
+      let most : 2 ^ (depth % 64) ≡ 2 ^ depth = ap (λ k. 2 ^ k) (let g : depth % 64 ≡ depth = omega arith in g) in
+      clean-push depth n words more is number-kept clean (omega (arith, at, most, small))
+
+  pub length-number : length more ≡ (n + 1) * words_for depth
+  length-number =
+      let one : words_for depth ≡ 1 = omega arith in
+      ap length all ∙ length-append words (number ∷ []) ∙ (let f : (n + 1) * words_for depth ≡ n * words_for depth + words_for depth = omega arith in omega (arith, f, one, is))

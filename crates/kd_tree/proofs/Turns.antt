@@ -135,16 +135,10 @@ begins fault depth n s = ap (λ m. boxes_of fault m n [] s) (let e : depth ≡ d
   same (Err e) = refl
 
 -- a box of one key, or of equal ones, and then those that wait
-pub single-ends : (fault : Fault) (depth : ℕ) (path : Key) (stack : List Pending) (keys : List Key) (s : Streams) (after : Key) → length path ≤ depth → AreNested (length path) stack →
-    after ≡ path ++ first_bits (depth - length path) s.rest →
-    going fault depth 1 path stack keys s ≡ waiting fault depth after stack (keys ++ after ∷ []) (after_rest (depth - length path) s)
-single-ends fault depth path stack keys s after deep nested is =
-    let t : Streams = after_rest (depth - length path) s in
-    let front : take (length path) path ≡ take (length path) after =
-    take_all (length path) path (omega arith) ∙ sym (ap (take (length path)) is ∙ take_at path (first_bits (depth - length path) s.rest) (length path) refl) in
+pub single-ends : (fault : Fault) (depth : ℕ) (path : Key) (stack : List Pending) (keys : List Key) (s : Streams) →
+    going fault depth 1 path stack keys s ≡ waiting fault depth path stack (keys ++ (path ++ first_bits (depth - length path) s.rest) ∷ []) (after_rest (depth - length path) s)
+single-ends fault depth path stack keys s =
     ap (λ r. r >>= (λ x. waiting fault depth path stack (keys ++ x.0) x.1)) (boxes-one fault (depth - length path) path s)
-    ∙ ap (λ k. waiting fault depth path stack (keys ++ k ∷ []) t) (sym is)
-    ∙ same-waiting fault depth (length path) path after stack (keys ++ after ∷ []) t nested front
 
 pub copies-end : (fault : Fault) (depth n : ℕ) (path : Key) (stack : List Pending) (keys : List Key) (s : Streams) → length path ≤ depth → (2 ≤ n → length path ≡ depth) → (n ≡ 1 → ⊥) →
     going fault depth n path stack keys s ≡ waiting fault depth path stack (keys ++ replicate n path) s

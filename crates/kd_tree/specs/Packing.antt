@@ -1,10 +1,10 @@
 -- Keys packed into words of 64 bits (this project's choice): whole words first, and then one word of the bits that are left,
 -- which may be none. A word of fewer bits has them at its low end.
-use Rattle.std.specs.Prelude.{ℕ, zero, suc, ◌+◌, ◌*◌, ◌/◌, ◌%◌, ◌^◌, ◌<◌, List, [], ◌∷◌, ◌++◌, take, drop, slice_index}
+use Rattle.std.specs.Prelude.{◌≡◌, ℕ, zero, suc, ◌+◌, ◌*◌, ◌/◌, ◌%◌, ◌^◌, ◌<◌, List, [], ◌∷◌, ◌++◌, take, drop, slice_index}
 use Rattle.std.specs.Ordering.{nat_cmp, ordering_then}
 use Rattle.std.specs.declared.cmp.Ordering.{Ordering}
 use Rattle.std.specs.Cmp.Lexicographic.{slice_cmp}
-use Rattle.kd_tree.specs.Keys.{Key}
+use Rattle.kd_tree.specs.Keys.{Key, KeyRows, key_at}
 use Rattle.kd_tree.specs.Trees.{high_bits}
 
 -- how many words a key of this many bits takes
@@ -29,9 +29,9 @@ keys_in depth (suc n) words = front_key depth words ∷ keys_in depth n (drop (w
 abbrev pub AreClean : ℕ → ℕ → List ℕ → Type 0
 AreClean depth n words = (i : ℕ) → i < n → slice_index words (i * words_for depth + depth / 64) < 2 ^ (depth % 64)
 
--- two numbers of words: by the word, then by the number
-abbrev pub word_cmp : List ℕ → ℕ → ℕ → Ordering
-word_cmp words i j = ordering_then (nat_cmp (slice_index words i) (slice_index words j)) (nat_cmp i j)
+-- a number whose bits are the key with this number
+abbrev pub IsWordOf : KeyRows → ℕ → ℕ → Type 0
+IsWordOf keys i word = (word < 2 ^ keys.depth) × (key_at keys.rows i ≡ high_bits keys.depth word)
 
 -- the row with this number, of so many words each
 abbrev pub row_at : ℕ → List ℕ → ℕ → List ℕ

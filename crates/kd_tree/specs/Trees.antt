@@ -32,7 +32,8 @@ unfoldable pub split_bits : ℕ → ℕ → List Key → List Bool
 split_bits zero d box = []
 split_bits (suc left) d box =
     if nat_lt (length box) 2 then [] else
-    high_bits (digits (length box)) (length (lower d box)) ++ (split_bits left (d + 1) (lower d box) ++ split_bits left (d + 1) (upper d box))
+    high_bits (digits (length box)) (length (lower d box))
+    ++ (split_bits left (d + 1) (lower d box) ++ split_bits left (d + 1) (upper d box))
 
 -- its rest bits: the bits that are left of each key that is alone in its box
 unfoldable pub rest_bits : ℕ → ℕ → List Key → List Bool

@@ -1,5 +1,6 @@
 -- The walk of reading: the box in hand, and upper boxes that wait (this project's choice).
-use Rattle.std.specs.Prelude.{◌≡◌, ℕ, ◌+◌, ◌-◌, ◌<◌, ◌≤◌, true, false, List, [], ◌∷◌, ◌++◌, length, take, Option, Some, None, Result, Ok, Err}
+use Rattle.std.specs.Prelude.{◌≡◌, ℕ, ◌+◌, ◌-◌, ◌<◌, ◌≤◌, true, false, List, [], ◌∷◌, ◌++◌, length, take}
+use Rattle.std.specs.Prelude.{Option, Some, None, Result, Ok, Err}
 use Rattle.drc_base.specs.declared.faults.Fault.{Fault}
 use Rattle.drc_base.specs.declared.faults.Refusal.{Refusal}
 use Rattle.drc_base.specs.declared.faults.Refusal.TheVariants as refusal
@@ -16,11 +17,13 @@ use Rattle.kd_tree.specs.declared.reading.Pending.{Pending}
 abbrev pub waiting : Fault → ℕ → Key → List Pending → List Key → Streams → Result (List Key × Streams) Fault
 waiting fault depth path [] keys s = Ok (keys, s)
 waiting fault depth path (p ∷ rest) keys s =
-    boxes_of fault (depth - (p.depth + 1)) p.count (take p.depth path ++ true ∷ []) s >>= λ x. waiting fault depth path rest (keys ++ x.0) x.1
+    boxes_of fault (depth - (p.depth + 1)) p.count (take p.depth path ++ true ∷ []) s >>= λ x.
+    waiting fault depth path rest (keys ++ x.0) x.1
 
 -- the keys so far, those of the box in hand, and those of the boxes that wait
 abbrev pub going : Fault → ℕ → ℕ → Key → List Pending → List Key → Streams → Result (List Key × Streams) Fault
-going fault depth n path stack keys s = boxes_of fault (depth - length path) n path s >>= λ x. waiting fault depth path stack (keys ++ x.0) x.1
+going fault depth n path stack keys s =
+    boxes_of fault (depth - length path) n path s >>= λ x. waiting fault depth path stack (keys ++ x.0) x.1
 
 -- each box that waits is less deep than those above it
 abbrev pub AreNested : ℕ → List Pending → Type 0
@@ -29,11 +32,13 @@ AreNested deep (p ∷ rest) = (p.depth < deep) × AreNested p.depth rest
 
 -- what is due after a turn: that of the box that comes next, if there is one, or the keys
 abbrev pub IsNext : Fault → ℕ → Result (List Key × Streams) Fault → Key → List Pending → List Key → Streams → Option ℕ → Type 0
-IsNext fault depth due path stack keys s (Some n) = (due ≡ going fault depth n path stack keys s) × (length path ≤ depth) × AreNested (length path) stack
+IsNext fault depth due path stack keys s (Some n) =
+    (due ≡ going fault depth n path stack keys s) × (length path ≤ depth) × AreNested (length path) stack
 IsNext fault depth due path stack keys s None = due ≡ Ok (keys, s)
 
 -- a turn keeps what is due, or gives the fault that is due
-abbrev pub IsTurned : Fault → ℕ → Result (List Key × Streams) Fault → Key → List Pending → List Key → Streams → Result (Option ℕ) Refusal → Type 0
+abbrev pub IsTurned : Fault → ℕ → Result (List Key × Streams) Fault → Key → List Pending → List Key → Streams
+    → Result (Option ℕ) Refusal → Type 0
 IsTurned fault depth due path stack keys s (Ok next) = IsNext fault depth due path stack keys s next
 IsTurned fault depth due path stack keys s (Err e) = Refuses due e
 

@@ -11,12 +11,14 @@ part begin end keys = take (end - begin) (drop begin keys)
 -- the split bits of boxes that are due, the first of which begins at `begin`, each other one where the one before it ends
 abbrev pub splits_due : ℕ → List Key → ℕ → List Due → List Bool
 splits_due depth keys begin [] = []
-splits_due depth keys begin (due ∷ rest) = split_bits (depth - due.depth) due.depth (part begin due.end keys) ++ splits_due depth keys due.end rest
+splits_due depth keys begin (due ∷ rest) =
+    split_bits (depth - due.depth) due.depth (part begin due.end keys) ++ splits_due depth keys due.end rest
 
 -- their rest bits
 abbrev pub rests_due : ℕ → List Key → ℕ → List Due → List Bool
 rests_due depth keys begin [] = []
-rests_due depth keys begin (due ∷ rest) = rest_bits (depth - due.depth) due.depth (part begin due.end keys) ++ rests_due depth keys due.end rest
+rests_due depth keys begin (due ∷ rest) =
+    rest_bits (depth - due.depth) due.depth (part begin due.end keys) ++ rests_due depth keys due.end rest
 
 -- they are settled boxes of the keys, one behind another
 abbrev pub AreDue : ℕ → List Key → ℕ → List Due → Type 0

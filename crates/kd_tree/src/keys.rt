@@ -33,7 +33,7 @@ impl Model for Keys {
 }
 
 /// A number with one more bit behind its own.
-pub(crate) fn with_bit(number: u64, bit: bool) -> u64
+pub fn with_bit(number: u64, bit: bool) -> u64
     requires { number < 2 ^ 63 }
     ensures { result ≡ number_behind number (bit ∷ []) }
 {
@@ -41,7 +41,7 @@ pub(crate) fn with_bit(number: u64, bit: bool) -> u64
 }
 
 /// The number of bits, the high one first.
-fn number_of(bits: &[bool]) -> u64
+pub(crate) fn number_of(bits: &[bool]) -> u64
     requires { length bits.now ≤ 64 }
     ensures { result ≡ number_behind 0 bits.now }
 {
@@ -85,7 +85,7 @@ pub(crate) fn row_of(words: &[u64], width: usize, point: usize) -> &[u64]
 }
 
 /// A bit of a number of this many bits, the high one first.
-fn bit_in(number: u64, bits: u32, place: u32) -> bool
+pub fn bit_in(number: u64, bits: u32, place: u32) -> bool
     requires bits { bits ≤ 64 }
     requires place { place < bits }
     ensures { result ≡ bit_at place (high_bits bits number) }
@@ -103,6 +103,18 @@ impl Keys {
             depth,
             count: 0,
         }
+    }
+
+    /// No keys yet, of this many bits, with room for so many.
+    pub fn with_capacity(alloc: Global, depth: u32, count: usize) -> Result<Keys, Memory>
+        ensures { IfOk result (λ k. k ≡ record { depth = depth; rows = [] }) }
+    {
+        let words = Vec::with_capacity(alloc, count.saturating_mul(words_of(depth)))?;
+        Ok(Keys {
+            words,
+            depth,
+            count: 0,
+        })
     }
 
     /// How many bits each key has.
@@ -151,6 +163,29 @@ impl Keys {
             return bit_in(word, 64, depth % 64);
         }
         bit_in(word, self.depth % 64, depth % 64)
+    }
+
+    /// The number of a key of fewer than 64 bits: its bits, the high one first.
+    pub fn number(&self, point: usize) -> u64
+        requires point { point < length self.now.rows }
+        requires few { self.now.depth < 64 }
+        ensures bits { key_at self.now.rows point ≡ high_bits self.now.depth result }
+        ensures small { result < 2 ^ self.now.depth }
+    {
+        self.words[point]
+    }
+
+    /// Adds the key of fewer than 64 bits with this number behind the others; they stay as they are when out of
+    /// memory.
+    pub fn push_number(&mut self, number: u64) -> Result<(), Memory>
+        requires few { self.old.depth < 64 }
+        requires number { number < 2 ^ self.old.depth }
+        ensures added { IfOk result (λ _. self.new ≡ record { depth = self.old.depth; rows = self.old.rows ++ high_bits self.old.depth number ∷ [] }) }
+        ensures same { OnErr result (self.new ≡ self.old) }
+    {
+        self.words.push(number)?;
+        self.count += 1;
+        Ok(())
     }
 
     /// The words of the keys.

@@ -12,7 +12,7 @@ mod sorting;
 mod tests;
 mod writing;
 
-pub use keys::Keys;
+pub use keys::{Keys, bit_in, with_bit};
 pub use laws::{bits_are_counted, order_does_not_matter, trees_are_read_again};
 pub use reading::read_tree;
 pub use sorting::{SortedKeys, sort_keys};

@@ -7,7 +7,7 @@ ghost use Rattle.kd_tree.specs.Turns.{AreNested, IsDescended, IsFewer, IsNext, I
 ghost use Rattle.kd_tree.specs.Walk.{nodes};
 ghost use Rattle.rans_binary.specs.Blocks.{Block, behind, first_bits};
 
-use crate::keys::{Keys, with_bit};
+use crate::keys::{Keys, number_of, with_bit};
 use crate::writing::digits_of;
 use drc_base::{Fault, Memory, Refusal};
 use rans_binary::BitBlock;
@@ -21,18 +21,30 @@ struct Pending {
     depth: u32,
 }
 
+/// The number of bits and of the next ones of a block behind them, the high one first. The block is copied
+/// and written back: the loop then works on a local of its own.
+fn number_after(block: &mut BitBlock<'_>, front: &[bool], bits: u32) -> u64
+    requires { length front.now + bits ≤ 64 }
+    ensures number { result ≡ number_behind 0 (front.now ++ first_bits bits block.old) }
+    ensures after { block.new ≡ behind bits block.old }
+{
+    let mut ahead = block.copy();
+    let mut number = number_of(front);
+    for _ in 0..bits {
+        let bit = ahead.next();
+        number = with_bit(number, bit);
+    }
+    *block = ahead;
+    number
+}
+
 /// The number of the next bits, the high one first.
 fn next_number(block: &mut BitBlock<'_>, bits: u32) -> u32
     requires { bits ≤ 32 }
     ensures number { result ≡ number_behind 0 (first_bits bits block.old) }
     ensures after { block.new ≡ behind bits block.old }
 {
-    let mut number = 0;
-    for _ in 0..bits {
-        let bit = block.next();
-        number = with_bit(number, bit);
-    }
-    number as u32
+    number_after(block, &[], bits) as u32
 }
 
 /// Appends the next bits.
@@ -47,20 +59,47 @@ fn append_bits(out: &mut Vec<bool>, block: &mut BitBlock<'_>, bits: u32) -> Resu
     Ok(())
 }
 
-/// Appends the key of a box of one key: the path to it, and the bits that are left. The path is then that key.
+/// Appends the key of a box of one key, of any number of bits: the path to it, and the bits that are left. They
+/// are put on the path and taken from it again.
+fn append_long(out: &mut Keys, rest: &mut BitBlock<'_>, path: &mut Vec<bool>) -> Result<(), Memory>
+    requires { length path.old.items ≤ out.old.depth }
+    ensures path { IfOk result (λ _. path.new.items ≡ path.old.items) }
+    ensures rest { IfOk result (λ _. rest.new ≡ behind (out.old.depth - length path.old.items) rest.old) }
+    ensures out { IfOk result (λ _. out.new ≡ record {
+      depth = out.old.depth;
+      rows = out.old.rows ++ (path.old.items ++ first_bits (out.old.depth - length path.old.items) rest.old) ∷ [];
+    }) }
+{
+    let deep = path.len();
+    append_bits(path, rest, out.depth() - deep as u32)?;
+    out.push(path.as_slice())?;
+    path.truncate(deep);
+    Ok(())
+}
+
+/// Appends the key of a box of one key: the path to it, and the bits that are left. A key of fewer than 64 bits
+/// is put together as a number.
 fn append_single(
     out: &mut Keys,
     rest: &mut BitBlock<'_>,
     path: &mut Vec<bool>,
 ) -> Result<(), Memory>
     requires { length path.old.items ≤ out.old.depth }
-    ensures path { IfOk result (λ _. path.new.items ≡ path.old.items ++ first_bits (out.old.depth - length path.old.items) rest.old) }
+    ensures path { IfOk result (λ _. path.new.items ≡ path.old.items) }
     ensures rest { IfOk result (λ _. rest.new ≡ behind (out.old.depth - length path.old.items) rest.old) }
-    ensures out { IfOk result (λ _. out.new ≡ record { depth = out.old.depth; rows = out.old.rows ++ path.new.items ∷ [] }) }
+    ensures out { IfOk result (λ _. out.new ≡ record {
+      depth = out.old.depth;
+      rows = out.old.rows ++ (path.old.items ++ first_bits (out.old.depth - length path.old.items) rest.old) ∷ [];
+    }) }
 {
-    let left = out.depth() - path.len() as u32;
-    append_bits(path, rest, left)?;
-    out.push(path.as_slice())
+    let depth = out.depth();
+    if depth < 64 {
+        let number = number_after(rest, path.as_slice(), depth - path.len() as u32);
+        out.push_number(number)?;
+        return Ok(());
+    }
+    append_long(out, rest, path)?;
+    Ok(())
 }
 
 /// Appends equal keys.
@@ -122,7 +161,7 @@ fn append_leaf(
     ensures keys { IfOk result (λ _. (fault : Fault) (stack : List Pending) (split : Block) → AreNested (length path.old.items) stack
         → going fault out.old.depth count path.old.items stack out.old.rows (record { split = split; rest = rest.old })
         ≡ waiting fault out.old.depth path.new.items stack out.new.rows (record { split = split; rest = rest.new })) }
-    ensures path { IfOk result (λ _. length path.old.items ≤ length path.new.items) }
+    ensures path { IfOk result (λ _. path.new.items ≡ path.old.items) }
     ensures depth { IfOk result (λ _. out.new.depth ≡ out.old.depth) }
 {
     if count == 1 {

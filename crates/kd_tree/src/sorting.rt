@@ -1,11 +1,11 @@
 //! Keys in order: by key, then by number.
 
-ghost use Rattle.std.specs.Prelude.{◌≡◌, ℕ, ◌*◌, ◌<◌, ◌^◌, List, length, map, All, IfOk, slice_index};
+ghost use Rattle.std.specs.Prelude.{◌≡◌, ℕ, ◌*◌, ◌<◌, ◌^◌, List, length, map, All, IfOk};
 ghost use Rattle.std.specs.List.{range_with_len};
 ghost use Rattle.kd_tree.specs.Keys.{Key, KeyRows, key_at};
-ghost use Rattle.kd_tree.specs.Packing.{AreClean, keys_in, row_at, row_cmp, word_cmp, words_for};
+ghost use Rattle.kd_tree.specs.Packing.{AreClean, IsWordOf, keys_in, row_at, row_cmp, words_for};
 ghost use Rattle.kd_tree.specs.Order.{IsKdOrder, IsOrderBy};
-ghost use Rattle.kd_tree.specs.Trees.{IsSettled, rest_bits, split_bits};
+ghost use Rattle.kd_tree.specs.Trees.{IsSettled, high_bits, rest_bits, split_bits};
 
 use crate::keys::{Keys, row_of, words_of};
 use drc_base::{Memory, Sequence};
@@ -20,15 +20,16 @@ pub struct SortedKeys {
     pub order: Sequence<u32>,
 }
 
-/// Each word beside its number.
-fn word_pairs(alloc: Global, words: &[u64]) -> Result<Vec<(u64, u32)>, Memory>
-    requires { length words.now < 2 ^ 32 }
-    ensures numbers { IfOk result (λ v. map (λ (p : ℕ × ℕ). p.1) v.items ≡ range_with_len 0 (length words.now)) }
-    ensures words { IfOk result (λ v. All (λ (p : ℕ × ℕ). p.0 ≡ slice_index words.now p.1) v.items) }
+/// Each key of fewer than 64 bits, as a number of so many bits, beside its own number.
+fn word_pairs(alloc: Global, keys: &Keys) -> Result<Vec<(u64, u32)>, Memory>
+    requires few { keys.now.depth < 64 }
+    requires count { length keys.now.rows < 2 ^ 32 }
+    ensures numbers { IfOk result (λ v. map (λ (p : ℕ × ℕ). p.1) v.items ≡ range_with_len 0 (length keys.now.rows)) }
+    ensures words { IfOk result (λ v. All (λ (p : ℕ × ℕ). IsWordOf keys.now p.1 p.0) v.items) }
 {
-    let mut pairs = Vec::with_capacity(alloc, words.len())?;
-    for k in 0..words.len() {
-        pairs.push((words[k], k as u32))?;
+    let mut pairs = Vec::with_capacity(alloc, keys.len())?;
+    for k in 0..keys.len() {
+        pairs.push((keys.number(k), k as u32))?;
     }
     Ok(pairs)
 }
@@ -41,15 +42,37 @@ fn word_numbers(alloc: Global, pairs: &[(u64, u32)]) -> Result<Vec<u32>, Memory>
     Ok(numbers)
 }
 
-/// The numbers of words by the words, then by number.
-fn sort_words(alloc: Global, words: &[u64]) -> Result<Vec<u32>, Memory>
-    requires { length words.now < 2 ^ 32 }
-    ensures { IfOk result (λ v. IsOrderBy (word_cmp words.now) (length words.now) v.items) }
+/// The keys of pairs.
+fn word_keys(alloc: Global, depth: u32, pairs: &[(u64, u32)]) -> Result<Keys, Memory>
+    requires few { depth < 64 }
+    requires small { All (λ (p : ℕ × ℕ). p.0 < 2 ^ depth) pairs.now }
+    ensures { IfOk result (λ k. k ≡ record { depth = depth; rows = map (λ (p : ℕ × ℕ). high_bits depth p.0) pairs.now }) }
 {
-    let mut pairs = word_pairs(alloc, words)?;
+    let mut keys = Keys::with_capacity(alloc, depth, pairs.len())?;
+    for pair in pairs {
+        keys.push_number(pair.0)?;
+    }
+    Ok(keys)
+}
+
+/// Keys of fewer than 64 bits by key, then by number. They are sorted as numbers, and move with their own numbers; the
+/// given ones are dropped as soon as they are copied.
+fn sort_words(alloc: Global, keys: Keys) -> Result<SortedKeys, Memory>
+    requires few { keys.depth < 64 }
+    requires count { length keys.rows < 2 ^ 32 }
+    ensures order { IfOk result (λ s. IsKdOrder keys.rows s.order) }
+    ensures keys { IfOk result (λ s. s.keys ≡ record { depth = keys.depth; rows = map (key_at keys.rows) s.order }) }
+{
+    let depth = keys.depth();
+    let mut pairs = word_pairs(alloc, &keys)?;
+    drop(keys);
     pairs.sort_unstable();
     let order = word_numbers(alloc, pairs.as_slice())?;
-    Ok(order)
+    let sorted = word_keys(alloc, depth, pairs.as_slice())?;
+    Ok(SortedKeys {
+        keys: sorted,
+        order: Sequence::from_vec(order),
+    })
 }
 
 /// The words of each row beside its number.
@@ -91,17 +114,13 @@ fn sort_rows(alloc: Global, words: &[u64], width: usize, count: usize) -> Result
     Ok(order)
 }
 
-/// The numbers of packed keys by key, then by number. Keys of one word are compared as numbers.
+/// The numbers of packed keys by key, then by number.
 fn order_of(alloc: Global, words: &[u64], depth: u32, count: usize) -> Result<Vec<u32>, Memory>
     requires count { count < 2 ^ 32 }
     requires length { length words.now ≡ count * words_for depth }
     requires clean { AreClean depth count words.now }
     ensures { IfOk result (λ v. IsKdOrder (keys_in depth count words.now) v.items) }
 {
-    if depth < 64 {
-        let order = sort_words(alloc, words)?;
-        return Ok(order);
-    }
     let order = sort_rows(alloc, words, words_of(depth), count)?;
     Ok(order)
 }
@@ -111,26 +130,50 @@ fn gather(alloc: Global, keys: &Keys, order: &[u32]) -> Result<Keys, Memory>
     requires { All (λ i. i < length keys.now.rows) order.now }
     ensures { IfOk result (λ k. k ≡ record { depth = keys.now.depth; rows = map (key_at keys.now.rows) order.now }) }
 {
-    let mut sorted = Keys::new(alloc, keys.depth());
+    let mut sorted = Keys::with_capacity(alloc, keys.depth(), order.len())?;
     for number in order {
         sorted.push_from(keys, *number as usize)?;
     }
     Ok(sorted)
 }
 
-/// The keys by key, then by number. The bits of their tree are those of the keys as they stand.
-pub fn sort_keys(alloc: Global, keys: &Keys) -> Result<SortedKeys, Memory>
-    requires { length keys.now.rows < 2 ^ 32 }
-    ensures order { IfOk result (λ s. IsKdOrder keys.now.rows s.order) }
-    ensures keys { IfOk result (λ s. s.keys ≡ record { depth = keys.now.depth; rows = map (key_at keys.now.rows) s.order }) }
-    ensures settled { IfOk result (λ s. IsSettled keys.now.depth 0 s.keys.rows) }
-    ensures split { IfOk result (λ s. split_bits keys.now.depth 0 s.keys.rows ≡ split_bits keys.now.depth 0 keys.now.rows) }
-    ensures rest { IfOk result (λ s. rest_bits keys.now.depth 0 s.keys.rows ≡ rest_bits keys.now.depth 0 keys.now.rows) }
+/// Keys of any number of bits by key, then by number.
+fn sort_long(alloc: Global, keys: Keys) -> Result<SortedKeys, Memory>
+    requires { length keys.rows < 2 ^ 32 }
+    ensures order { IfOk result (λ s. IsKdOrder keys.rows s.order) }
+    ensures keys { IfOk result (λ s. s.keys ≡ record { depth = keys.depth; rows = map (key_at keys.rows) s.order }) }
 {
     let order = order_of(alloc, keys.words(), keys.depth(), keys.len())?;
-    let sorted = gather(alloc, keys, order.as_slice())?;
+    let sorted = gather(alloc, &keys, order.as_slice())?;
     Ok(SortedKeys {
         keys: sorted,
         order: Sequence::from_vec(order),
     })
+}
+
+/// Keys by key, then by number.
+fn sort(alloc: Global, keys: Keys) -> Result<SortedKeys, Memory>
+    requires { length keys.rows < 2 ^ 32 }
+    ensures order { IfOk result (λ s. IsKdOrder keys.rows s.order) }
+    ensures keys { IfOk result (λ s. s.keys ≡ record { depth = keys.depth; rows = map (key_at keys.rows) s.order }) }
+{
+    if keys.depth() < 64 {
+        return sort_words(alloc, keys);
+    }
+    sort_long(alloc, keys)
+}
+
+/// The keys by key, then by number. The bits of their tree are those of the keys as they stand.
+pub fn sort_keys(alloc: Global, keys: Keys) -> Result<SortedKeys, Memory>
+    requires { length keys.rows < 2 ^ 32 }
+    ensures order { IfOk result (λ s. IsKdOrder keys.rows s.order) }
+    ensures keys { IfOk result (λ s. s.keys ≡ record { depth = keys.depth; rows = map (key_at keys.rows) s.order }) }
+    ensures settled { IfOk result (λ s. IsSettled keys.depth 0 s.keys.rows) }
+    ensures split { IfOk result (λ s. split_bits keys.depth 0 s.keys.rows ≡ split_bits keys.depth 0 keys.rows) }
+    ensures rest { IfOk result (λ s. rest_bits keys.depth 0 s.keys.rows ≡ rest_bits keys.depth 0 keys.rows) }
+{
+    // For the prover alone: each key has its number of bits.
+    let _count = keys.len();
+    let sorted = sort(alloc, keys)?;
+    Ok(sorted)
 }

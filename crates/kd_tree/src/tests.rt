@@ -1,5 +1,7 @@
 //! The trees of worked keys, with ample memory, and back. Their bits are worked out by hand.
 
+ghost use Rattle.std.specs.Prelude.{◌<◌, length};
+
 use crate::{Keys, read_tree, sort_keys, write_tree};
 use drc_base::{Fault, Kind, Refusal};
 use drc_bits::Cursor;
@@ -57,7 +59,7 @@ fn round(
 ) -> Result<(), Fail> {
     let table = table_of(rt, depth, keys)?;
     assert!(rt; table.len() < 100);
-    let sorted = sort_keys(rt.alloc(), &table)?;
+    let sorted = sort_keys(rt.alloc(), table)?;
     assert_eq!(rt; sorted.order.as_slice(), order);
     assert!(rt; sorted.keys.len() < 100);
     let bits = write_tree(rt.alloc(), &sorted.keys)?;
@@ -102,6 +104,74 @@ fn trees_of_keys_of_two_words(rt: HostRuntime) -> Result<(), Fail> {
     let split = format!(in rt.alloc(); "{zeros}{zeros}1001")?;
     let keys = [first.as_str(), second.as_str()];
     round(&rt, 66, &keys, &[1, 0], split.as_str(), "")?;
+    Ok(())
+}
+
+/// Keys of a linear congruential generator, each of which is there twice.
+fn many_keys(rt: &(impl Abort + AllocGlobal), depth: u32) -> Result<Keys, Fail> {
+    let mut table = Keys::new(rt.alloc(), depth);
+    let mut x = 1u64;
+    for k in 0..60u32 {
+        let mut key = Vec::new(rt.alloc());
+        x = if k == 30 {
+            1
+        } else {
+            x.wrapping_mul(6364136223846793005)
+                .wrapping_add(1442695040888963407)
+        };
+        let mut y = x;
+        for _ in 0..table.depth() {
+            y = y
+                .wrapping_mul(6364136223846793005)
+                .wrapping_add(1442695040888963407);
+            key.push(y >> 62 == 0)?;
+        }
+        assert!(rt; key.len() == table.depth() as usize);
+        table.push(key.as_slice())?;
+    }
+    Ok(table)
+}
+
+/// Whether a key stands before another one: at the first bit in which they differ it has 0, or they are equal and its
+/// number is less.
+fn stands_before(table: &Keys, one: u32, other: u32) -> bool
+    requires one { one < length table.now.rows }
+    requires other { other < length table.now.rows }
+{
+    for d in 0..table.depth() {
+        if table.bit(one as usize, d) != table.bit(other as usize, d) {
+            return table.bit(other as usize, d);
+        }
+    }
+    one < other
+}
+
+#[test]
+fn many_keys_are_sorted(rt: HostRuntime) -> Result<(), Fail> {
+    for depth in [0u32, 1, 5, 63, 64, 130] {
+        let table = many_keys(&rt, depth)?;
+        assert!(&rt; table.len() == 60);
+        let given = many_keys(&rt, depth)?;
+        assert!(&rt; given.len() == 60);
+        let sorted = sort_keys(rt.alloc(), given)?;
+        let order = sorted.order.as_slice();
+        assert!(&rt; order.len() == 60);
+        assert!(&rt; sorted.keys.len() == 60);
+        for k in 0..60usize {
+            let number = order[k] as usize;
+            assert!(&rt; number < table.len());
+            for d in 0..depth {
+                assert!(&rt; d < table.depth());
+                assert!(&rt; d < sorted.keys.depth());
+                assert_eq!(&rt; sorted.keys.bit(k, d), table.bit(number, d));
+            }
+            if k > 0 {
+                let before = order[k - 1];
+                assert!(&rt; (before as usize) < table.len());
+                assert!(&rt; stands_before(&table, before, number as u32));
+            }
+        }
+    }
     Ok(())
 }
 

@@ -144,9 +144,12 @@ pub fn write_tree(alloc: Global, keys: &Keys) -> Result<TreeBits, Memory>
     ensures rest { IfOk result (λ t. t.rest.items ≡ rest_bits keys.now.depth 0 keys.now.rows) }
     ensures few { IfOk result (λ t. (length t.split.items ≤ length keys.now.rows * keys.now.depth) × (length t.rest.items ≤ length keys.now.rows * keys.now.depth)) }
 {
+    // Room for about as many rest bits as keys have that lie evenly.
+    let left = keys.depth().saturating_sub(digits_of(keys.len() as u32));
+    let room = keys.len().saturating_mul(left as usize);
     let mut bits = TreeBits {
         split: Vec::new(alloc),
-        rest: Vec::new(alloc),
+        rest: Vec::with_capacity(alloc, room)?,
     };
     let mut stack = Vec::new(alloc);
     stack.push(Due {

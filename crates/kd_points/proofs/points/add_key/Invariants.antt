@@ -1,7 +1,7 @@
 use Rattle.std.proofs.Common.{◌≡◌, ℕ, ◌+◌, ◌<◌, length, get_or, drop}
 use Rattle.kd_tree.specs.Keys.{key_at}
 use Rattle.kd_points.specs.Keys.{offset_in}
-use Rattle.kd_points.proofs.points.fill_offsets.Given as goal
+use Rattle.kd_points.proofs.points.add_key.Given as goal
 
 abbrev pub invariant-loop-d : goal.invariant-loop-d
 invariant-loop-d l =

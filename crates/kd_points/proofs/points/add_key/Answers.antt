@@ -5,7 +5,7 @@ use Rattle.kd_tree.specs.Keys.{Key, key_at}
 use Rattle.kd_points.specs.declared.axes.Axis.{Axis}
 use Rattle.kd_points.specs.Keys.{offset_in}
 use Rattle.kd_points.proofs.Offsets.{low-bit, high-bit, high-most}
-use Rattle.kd_points.proofs.points.fill_offsets.Goals as goal
+use Rattle.kd_points.proofs.points.add_key.Goals as goal
 
 none : Axis
 none = record { component = 0; bit = 0 }
