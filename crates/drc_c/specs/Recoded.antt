@@ -10,7 +10,7 @@ use Rattle.drc_container.specs.Layout.{layout_of, layout_chosen}
 use Rattle.drc_container.specs.Stream.{meaning_of}
 use Rattle.drc_recode.specs.FirstOrder.{first_order, StandsAgain}
 use Rattle.drc_recode.specs.Recoded.{recoded}
-use Rattle.drc_recode.specs.Restored.{restored, MeansInOrder}
+use Rattle.drc_recode.specs.Restored.{in_order, restored, MeansInOrder}
 use Rattle.drc_c.specs.declared.streams.DrcRow.{DrcRow}
 use Rattle.drc_c.specs.Encoded.{told}
 use Rattle.drc_c.specs.Streams.{row_told, row_meant}
@@ -34,10 +34,11 @@ pub record IsRecoding (bytes : List ℕ) (choice : Choice) (written : List ℕ) 
 abbrev pub restored_told : Bool → List DrcRow → List ℕ → Result (List ℕ) Fault
 restored_told cloud told bytes = restored cloud (map row_meant told) bytes
 
--- a stream is another one in the order before these rows: of each geometry that the other one is by the rows, it has the faces or the
--- points in their order
+-- a stream is another one in the order before these rows, coded by the sequential method: of each geometry that the other one is by the
+-- rows, it has the faces or the points in their order
 pub record IsRestoring (told : List DrcRow) (bytes written : List ℕ) : Type 0 where
   pub geometry : Geometry
   pub read : meaning_of bytes ≡ Ok geometry
   pub stands : StandsAgain geometry (first_order geometry (map row_meant told)) (map row_meant told)
   pub order : (g : Geometry) → Same g geometry (map row_meant told) → MeansInOrder g written
+  pub layout : layout_of written ≡ Ok (layout_chosen (first_order geometry (map row_meant told)) in_order)

@@ -1,5 +1,6 @@
 //! The C library: `libdrc`. The contract above it: the caller's arrays are exactly what the bytes mean, or
-//! the status and the fault say why not; and the bytes of arrays mean these arrays. No call has conditions
+//! the status and the fault say why not; the bytes of arrays mean these arrays, and what is coded again
+//! means the same; a yes is given exactly where a stream is the arrays by a map. No call has conditions
 //! beyond its types, no call writes anything but what it is passed, and nothing is kept between calls. The
 //! header include/drc.h has the same structs and calls for C and C++; this project's choice.
 #![tactic(auto)]
