@@ -2,6 +2,7 @@
 
 ghost use Rattle.std.specs.Prelude.{◌≡◌, IfOk, IsOkAnd};
 ghost use Rattle.drc_base.specs.Refusals.{Answers};
+ghost use Rattle.mesh_model.specs.MapText.{map_words};
 ghost use Rattle.ply_mesh.specs.Read.{ply_read};
 ghost use Rattle.kd_points.specs.Meaning.{kd_meaning};
 ghost use Rattle.drc_app.specs.Due.{kd_coded_due, kd_due, kd_text_due};
@@ -9,11 +10,21 @@ ghost use Rattle.drc_app.specs.Kept.{IsKdCoded};
 ghost use Rattle.drc_app.specs.Outcome.{output_bytes, bytes_of};
 
 use crate::outcomes::{Due, Output, text_read};
-use drc_base::Refusal;
+use drc_base::{Memory, Refusal};
 use kd_points::{kd_decode, kd_encode};
-use mesh_model::{Geometry, map_text};
+use mesh_model::{Cloud, Geometry, Head, map_text};
 use ply_mesh::PlyText;
 use std::alloc::Global;
+
+/// An attribute of one integer a point.
+const LABEL: Head = Head {
+    usage: 4,
+    dtype: 5,
+    comps: 1,
+    normalized: 0,
+    id: 0,
+    quant: None,
+};
 
 /// The kd-tree file of the cloud that a text means, and the map of its points. Refused by the text's first
 /// fault, and then as by `kd_encode`.
@@ -22,17 +33,32 @@ pub fn kd_due(alloc: Global, text: Vec<u8>) -> Result<Due, Refusal>
     ensures kept { IfOk result (λ d. IsOkAnd (ply_read text.items) (IsKdCoded (output_bytes d.output) d.note.items)) }
 {
     let geometry = text_read(alloc, text)?;
-    kd_coded_due(alloc, &geometry)
+    kd_coded_due(alloc, geometry)
 }
 
-/// The kd-tree file of a geometry, and the map of its points.
-#[tactic(auto, unfolding(crate::specs::Due::kd_coded_due))]
-fn kd_coded_due(alloc: Global, geometry: &Geometry) -> Result<Due, Refusal>
-    ensures answer { Answers bytes_of (kd_coded_due geometry.now) result }
-    ensures kept { IfOk result (λ d. IsKdCoded (output_bytes d.output) d.note.items geometry.now) }
+/// A geometry that a map begins with the same words for: of a cloud one without points, so that its points are
+/// freed.
+fn of_the_kind(alloc: Global, geometry: Geometry) -> Result<Geometry, Memory>
+    ensures { IfOk result (λ k. map_words k ≡ map_words geometry) }
 {
-    let (output, rows) = kd_encode(alloc, geometry)?;
-    let note = map_text(alloc, geometry, &rows)?;
+    match geometry {
+        Geometry::Cloud(_) => {
+            let heads = vec![in alloc; LABEL]?;
+            Ok(Geometry::Cloud(Cloud::new(heads, Vec::new(alloc)).unwrap()))
+        }
+        Geometry::Mesh(mesh) => Ok(Geometry::Mesh(mesh)),
+    }
+}
+
+/// The kd-tree file of a geometry, and the map of its points. The points are freed before the map is made.
+#[tactic(auto, unfolding(crate::specs::Due::kd_coded_due))]
+fn kd_coded_due(alloc: Global, geometry: Geometry) -> Result<Due, Refusal>
+    ensures answer { Answers bytes_of (kd_coded_due geometry) result }
+    ensures kept { IfOk result (λ d. IsKdCoded (output_bytes d.output) d.note.items geometry) }
+{
+    let (output, rows) = kd_encode(alloc, &geometry)?;
+    let kind = of_the_kind(alloc, geometry)?;
+    let note = map_text(alloc, &kind, &rows)?;
     Ok(Due {
         output: Output::Bytes(output),
         note,
