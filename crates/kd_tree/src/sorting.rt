@@ -1,6 +1,6 @@
 //! Keys in order: by key, then by number.
 
-ghost use Rattle.std.specs.Prelude.{◌≡◌, ℕ, ◌*◌, ◌<◌, ◌^◌, List, length, map, All, IfOk};
+ghost use Rattle.std.specs.Prelude.{◌≡◌, ℕ, ◌*◌, ◌<◌, ◌^◌, List, [], length, map, All, IfOk};
 ghost use Rattle.std.specs.List.{range_with_len};
 ghost use Rattle.kd_tree.specs.Keys.{Key, KeyRows, key_at};
 ghost use Rattle.kd_tree.specs.Packing.{AreClean, IsWordOf, keys_in, row_at, row_cmp, words_for};
@@ -42,13 +42,14 @@ fn word_numbers(alloc: Global, pairs: &[(u64, u32)]) -> Result<Vec<u32>, Memory>
     Ok(numbers)
 }
 
-/// The keys of pairs.
-fn word_keys(alloc: Global, depth: u32, pairs: &[(u64, u32)]) -> Result<Keys, Memory>
-    requires few { depth < 64 }
-    requires small { All (λ (p : ℕ × ℕ). p.0 < 2 ^ depth) pairs.now }
-    ensures { IfOk result (λ k. k ≡ record { depth = depth; rows = map (λ (p : ℕ × ℕ). high_bits depth p.0) pairs.now }) }
+/// The keys of pairs, in the room of keys that holds none yet.
+fn word_keys(room: Keys, pairs: &[(u64, u32)]) -> Result<Keys, Memory>
+    requires few { room.depth < 64 }
+    requires none { room.rows ≡ [] }
+    requires small { All (λ (p : ℕ × ℕ). p.0 < 2 ^ room.depth) pairs.now }
+    ensures { IfOk result (λ k. k ≡ record { depth = room.depth; rows = map (λ (p : ℕ × ℕ). high_bits room.depth p.0) pairs.now }) }
 {
-    let mut keys = Keys::with_capacity(alloc, depth, pairs.len())?;
+    let mut keys = room;
     for pair in pairs {
         keys.push_number(pair.0)?;
     }
@@ -63,12 +64,13 @@ fn sort_words(alloc: Global, keys: Keys) -> Result<SortedKeys, Memory>
     ensures order { IfOk result (λ s. IsKdOrder keys.rows s.order) }
     ensures keys { IfOk result (λ s. s.keys ≡ record { depth = keys.depth; rows = map (key_at keys.rows) s.order }) }
 {
-    let depth = keys.depth();
+    // The pairs come behind the room for what is kept, so that one piece is free when they are dropped.
+    let room = Keys::with_capacity(alloc, keys.depth(), keys.len())?;
     let mut pairs = word_pairs(alloc, &keys)?;
     drop(keys);
     pairs.sort_unstable();
     let order = word_numbers(alloc, pairs.as_slice())?;
-    let sorted = word_keys(alloc, depth, pairs.as_slice())?;
+    let sorted = word_keys(room, pairs.as_slice())?;
     Ok(SortedKeys {
         keys: sorted,
         order: Sequence::from_vec(order),

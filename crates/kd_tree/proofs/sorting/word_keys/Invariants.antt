@@ -5,4 +5,4 @@ use Rattle.kd_tree.specs.Trees.{high_bits}
 use Rattle.kd_tree.proofs.sorting.word_keys.Given as goal
 
 abbrev pub invariant-loop-pair : goal.invariant-loop-pair
-invariant-loop-pair l = ◌≡◌ {A = KeyRows} l.keys (record { depth = l.depth; rows = map (λ (p : ℕ × ℕ). high_bits l.depth p.0) (take l.pair-index l.pairs) })
+invariant-loop-pair l = ◌≡◌ {A = KeyRows} l.keys (record { depth = l.fn.room.depth; rows = map (λ (p : ℕ × ℕ). high_bits l.fn.room.depth p.0) (take l.pair-index l.pairs) })
