@@ -29,14 +29,15 @@ fn rows_of(alloc: Global, order: &[u32]) -> Result<Vec<(u32, u8)>, Memory>
     Ok(rows)
 }
 
-/// The file of a cloud whose tree this is.
+/// The file of a cloud whose tree this is, and the order of its points. The bits are freed.
 #[tactic(auto, unfolding(crate::specs::Written::kd_written))]
-fn write_file(alloc: Global, cloud: &Cloud, tree: &Tree) -> Result<Vec<u8>, Memory>
-    requires extents { tree.now.extents ≡ extents_of cloud.now }
-    requires split { tree.now.split ≡ split_of cloud.now }
-    requires rest { tree.now.rest ≡ rest_of cloud.now }
-    requires short { (length tree.now.split < 2 ^ 31) × (length tree.now.rest < 2 ^ 31) }
-    ensures file { IfOk result (λ v. v.items ≡ kd_written cloud.now) }
+fn write_file(alloc: Global, cloud: &Cloud, tree: Tree) -> Result<(Vec<u8>, Sequence<u32>), Memory>
+    requires extents { tree.extents ≡ extents_of cloud.now }
+    requires split { tree.split ≡ split_of cloud.now }
+    requires rest { tree.rest ≡ rest_of cloud.now }
+    requires short { (length tree.split < 2 ^ 31) × (length tree.rest < 2 ^ 31) }
+    ensures file { IfOk result (λ v. v.0.items ≡ kd_written cloud.now) }
+    ensures order { IfOk result (λ v. v.1 ≡ tree.order) }
     ensures fields { OnOk result (All HeadFits cloud.now.heads) }
     ensures again { OnOk result (IsBlockOf (split_of cloud.now) (block (split_of cloud.now)) × IsBlockOf (rest_of cloud.now) (block (rest_of cloud.now))) }
 {
@@ -45,7 +46,7 @@ fn write_file(alloc: Global, cloud: &Cloud, tree: &Tree) -> Result<Vec<u8>, Memo
     out.extend_from_slice(&split)?;
     let rest = write_block(alloc, tree.rest.as_slice())?;
     out.extend_from_slice(&rest)?;
-    Ok(out)
+    Ok((out, tree.order))
 }
 
 /// The file of a cloud as a kd-tree, and by which rows the cloud that it means is the one that is written:
@@ -67,10 +68,10 @@ pub fn kd_encode(alloc: Global, g: &Geometry) -> Result<(Vec<u8>, Renumber), Ref
 {
     let cloud = cloud_to_write(g)?;
     let tree = tree_of(alloc, cloud)?;
-    let bytes = write_file(alloc, cloud, &tree)?;
-    let rows = rows_of(alloc, tree.order.as_slice())?;
+    let file = write_file(alloc, cloud, tree)?;
+    let rows = rows_of(alloc, file.1.as_slice())?;
     Ok((
-        bytes,
+        file.0,
         Renumber {
             rows: Sequence::from_vec(rows),
         },
