@@ -60,8 +60,16 @@ class Tests:
     def run(self, *words):
         return subprocess.run([sys.executable, *map(str, words)], stdout=subprocess.PIPE, stderr=subprocess.PIPE, env=self.environment, check=False, cwd="/")
 
-    def start(self, *words, **more):
-        return subprocess.Popen([sys.executable, *map(str, words)], env=self.environment, cwd="/", stdout=subprocess.PIPE, stderr=subprocess.PIPE, **more)
+    def start(self, *words, environment=None, **more):
+        environment = environment or self.environment
+        return subprocess.Popen([sys.executable, *map(str, words)], env=environment, cwd="/", stdout=subprocess.PIPE, stderr=subprocess.PIPE, **more)
+
+    def slowed(self, seconds):
+        """The environment with a program that takes so long before it begins, so that a run of many files can be ended midway."""
+        slow = self.folder / f"slow{seconds}"
+        slow.write_text(f'#!/bin/sh\nsleep {seconds}\nexec "{os.path.abspath(self.program)}" "$@"\n')
+        slow.chmod(0o755)
+        return {**self.environment, "DRC": str(slow)}
 
     def has(self, command):
         ran = subprocess.run([self.program, command], input=b"", stdout=subprocess.PIPE, stderr=subprocess.PIPE, check=False)
@@ -141,7 +149,7 @@ def wait_for_rows(path, count, running, seconds=120):
 def broken_off(tests, meshes, alone, more, title, sign):
     """A run that is ended goes on where it stopped: what was done isn't done again."""
     out = tests.folder / title.replace(" ", "-")
-    running = tests.start(MANY, "pack", meshes, "-o", out, *more, "--maps")
+    running = tests.start(MANY, "pack", meshes, "-o", out, *more, "--maps", environment=tests.slowed(0.5))
     there = wait_for_rows(out / "drc-many-pack.csv", 4, running)
     running.send_signal(sign)
     running.communicate()
@@ -284,11 +292,8 @@ def verified(tests, meshes, alone):
 def bar(tests, meshes):
     """On a terminal a bar says how many files are done, and is taken away. The program is slowed down, since short work shows none."""
     first, second = pty.openpty()
-    slow = tests.folder / "slow"
-    slow.write_text(f'#!/bin/sh\nsleep 0.2\nexec "{os.path.abspath(tests.program)}" "$@"\n')
-    slow.chmod(0o755)
     running = subprocess.Popen([sys.executable, MANY, "pack", str(meshes), "-o", str(tests.folder / "bar"), "--one-by-one"],
-                               env={**tests.environment, "DRC": str(slow)}, stdout=subprocess.DEVNULL, stderr=second)
+                               env=tests.slowed(0.2), stdout=subprocess.DEVNULL, stderr=second)
     os.close(second)
     said = b""
     while True:
