@@ -175,6 +175,19 @@ impl Keys {
         self.words[point]
     }
 
+    /// No keys, of as many bits, in the same room.
+    pub fn cleared(self) -> Keys
+        ensures { result ≡ record { depth = self.depth; rows = [] } }
+    {
+        let mut words = self.words;
+        words.clear();
+        Keys {
+            words,
+            depth: self.depth,
+            count: 0,
+        }
+    }
+
     /// Adds the key of fewer than 64 bits with this number behind the others; they stay as they are when out of
     /// memory.
     pub fn push_number(&mut self, number: u64) -> Result<(), Memory>

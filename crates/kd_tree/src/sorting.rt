@@ -56,21 +56,18 @@ fn word_keys(room: Keys, pairs: &[(u64, u32)]) -> Result<Keys, Memory>
     Ok(keys)
 }
 
-/// Keys of fewer than 64 bits by key, then by number. They are sorted as numbers, and move with their own numbers; the
-/// given ones are dropped as soon as they are copied.
+/// Keys of fewer than 64 bits by key, then by number. They are sorted as numbers, and move with their own numbers; those in
+/// order stand in the room of the given ones.
 fn sort_words(alloc: Global, keys: Keys) -> Result<SortedKeys, Memory>
     requires few { keys.depth < 64 }
     requires count { length keys.rows < 2 ^ 32 }
     ensures order { IfOk result (λ s. IsKdOrder keys.rows s.order) }
     ensures keys { IfOk result (λ s. s.keys ≡ record { depth = keys.depth; rows = map (key_at keys.rows) s.order }) }
 {
-    // The pairs come behind the room for what is kept, so that one piece is free when they are dropped.
-    let room = Keys::with_capacity(alloc, keys.depth(), keys.len())?;
     let mut pairs = word_pairs(alloc, &keys)?;
-    drop(keys);
     pairs.sort_unstable();
     let order = word_numbers(alloc, pairs.as_slice())?;
-    let sorted = word_keys(room, pairs.as_slice())?;
+    let sorted = word_keys(keys.cleared(), pairs.as_slice())?;
     Ok(SortedKeys {
         keys: sorted,
         order: Sequence::from_vec(order),

@@ -20,7 +20,7 @@ word_keys-requires-clause-small c = λ k d h.
     let inside = ap length same in
     let one = (all k d (omega (arith, inside, h))).0 in
     let at : (get_or c.as_slice-2.result.now k d).0 ≡ (get_or c.sort_unstable.new.self.items k d).0 = ap (λ (xs : List (ℕ × ℕ)). (get_or xs k d).0) same in
-    let deep : 2 ^ c.in_ok-room.room.depth ≡ 2 ^ c.args.keys.depth = ap (λ n. 2 ^ n) (ap (λ (k : KeyRows). k.depth) c.in_ok-room.ensures ∙ c.depth.ensures) in
+    let deep : 2 ^ c.cleared.result.depth ≡ 2 ^ c.args.keys.depth = ap (λ n. 2 ^ n) (ap (λ (k : KeyRows). k.depth) c.cleared.ensures) in
     omega (arith, one, at, deep)
 
 pub returns-clause-order : goal.returns-clause-order
@@ -38,6 +38,6 @@ returns-clause-keys c =
     let all = words keys c.in_ok-pairs.pairs.items pairs c.sort_unstable.ensures.permutation c.in_ok-pairs.ensures.words in
     let order : c.from_vec.result ≡ map (λ (p : ℕ × ℕ). p.1) pairs = c.from_vec.ensures ∙ c.in_ok-order.ensures ∙ ap (map (λ (p : ℕ × ℕ). p.1)) c.as_slice.ensures.value in
     c.in_ok-sorted.ensures
-    ∙ ap (λ n. record { depth = n; rows = map (λ (p : ℕ × ℕ). high_bits n p.0) c.as_slice-2.result.now }) (ap (λ (k : KeyRows). k.depth) c.in_ok-room.ensures ∙ c.depth.ensures)
+    ∙ ap (λ n. record { depth = n; rows = map (λ (p : ℕ × ℕ). high_bits n p.0) c.as_slice-2.result.now }) (ap (λ (k : KeyRows). k.depth) c.cleared.ensures)
     ∙ ap (λ (xs : List (ℕ × ℕ)). record { depth = keys.depth; rows = map (λ (p : ℕ × ℕ). high_bits keys.depth p.0) xs }) c.as_slice-2.ensures.value
     ∙ ap (λ (rows : List Key). record { depth = keys.depth; rows = rows }) (word-rows keys pairs all ∙ ap (map (key_at keys.rows)) (sym order))
