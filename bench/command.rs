@@ -2,6 +2,7 @@
 //! output, and the map to standard error. `bench/commands` times it beside the proved program; the bytes are the same.
 #![allow(dead_code)]
 mod blocks;
+mod limits;
 mod streams;
 mod texts;
 

@@ -5,13 +5,16 @@
 mod bit_blocks;
 #[allow(dead_code)]
 mod blocks;
+mod limits;
 mod machine;
 
 use bit_blocks::{Block, write_block};
 use blocks::{get, get_varint, read_symbols, varint, write_symbols};
+use limits::limit;
 use machine::{Event, FACES, Machine, Symbol, Traced, faces, glued, label, trace};
 use std::time::Instant;
 
+const MAX_FACES: usize = limit("MAX_FACES");
 const SYMBOLS: [Symbol; 5] = [Symbol::C, Symbol::S, Symbol::L, Symbol::R, Symbol::E];
 
 /// The bits of a symbol, and how many there are.
@@ -166,7 +169,7 @@ fn read(bytes: &[u8]) -> Option<Vec<u32>> {
         *number = get_varint(bytes, &mut at)? as usize;
     }
     let [_, faces, _, symbols, _] = numbers;
-    if faces > 1 << 22 || symbols > faces {
+    if faces > MAX_FACES || symbols > faces {
         return None;
     }
     let events = read_events(bytes, &mut at, faces, symbols as u32)?;

@@ -2,9 +2,10 @@
 //! Keys are numbers of 128 bits, and std sorts them.
 use crate::bit_blocks::{Block, write_block};
 use crate::blocks::{get, get_varint, varint};
+use crate::limits::limit;
 
 /// The most points of a file.
-const MAX_POINTS: u64 = 1 << 20;
+const MAX_POINTS: u64 = limit("MAX_KD_POINTS") as u64;
 
 /// The least value of a component, and how many bits its offsets have.
 #[derive(Clone, Copy)]

@@ -4,6 +4,7 @@ mod bit_blocks;
 #[allow(dead_code)]
 mod blocks;
 mod kd;
+mod limits;
 #[allow(dead_code)]
 mod streams;
 #[allow(dead_code)]

@@ -3,6 +3,7 @@ mod bit_blocks;
 #[allow(dead_code)]
 mod blocks;
 mod kd;
+mod limits;
 
 use std::time::Instant;
 

@@ -7,9 +7,10 @@
 // declared as quantised floats. For each mesh and method a line: the mesh, the method, its faces, and then nanoseconds of processor
 // time a face, each the least of TURNS turns in which the libraries take turns:
 //   decoding   by libdrc; by libdraco, which leaves out the transform from integers to floats; by libdrc without room for the
-//              arrays, which is all of it but their copies
+//              arrays, which is all of it but handing them out
 //   encoding   by libdrc from arrays; by libdraco from a mesh of its own, whose equal values and points are numbered alike
-//              before, as its encoder wants them
+//              before, as its encoder takes them; by libdrc from arrays whose first face is refused, which is the copies of the
+//              arrays and little else
 // and the bytes of both streams. Each stream is decoded by both libraries before, and has to have the triangles that went in.
 #include <drc.h>
 #include <draco/compression/decode.h>
@@ -162,22 +163,38 @@ static drc_geometry decoded(const char *bytes, size_t length) {
     return mesh;
 }
 
-// Decodes without room for arrays, so that none is copied.
+// Decodes without room for arrays, so that none is handed out.
 static void decoded_alone(const char *bytes, size_t length) {
     drc_shape shape;
     drc_fault fault;
     if (drc_decode_into((const uint8_t *)bytes, length, NULL, 0, NULL, 0, &shape, &fault) != DRC_NO_ROOM) fail("libdrc had room");
 }
 
-static drc_stream encoded(const Arrays &mesh, uint32_t method) {
+static uint32_t encode(const Arrays &mesh, const vector<uint32_t> &corners, uint32_t method, drc_stream &stream) {
     drc_options options = {};
     options.method = method;
-    drc_stream stream;
     drc_fault fault;
-    const uint32_t status = drc_encode(1, mesh.heads.data(), mesh.heads.size(), mesh.corners.data(), mesh.faces(),
-                                       mesh.values.data(), mesh.values.size(), &options, &stream, &fault);
-    if (status != DRC_DONE) fail("libdrc doesn't encode");
+    return drc_encode(1, mesh.heads.data(), mesh.heads.size(), corners.data(), mesh.faces(), mesh.values.data(), mesh.values.size(),
+                      &options, &stream, &fault);
+}
+
+static drc_stream encoded(const Arrays &mesh, uint32_t method) {
+    drc_stream stream;
+    if (encode(mesh, mesh.corners, method, stream) != DRC_DONE) fail("libdrc doesn't encode");
     return stream;
+}
+
+// The faces of a mesh, the first of which has a point that isn't there.
+static vector<uint32_t> broken(const Arrays &mesh) {
+    vector<uint32_t> corners = mesh.corners;
+    corners[0] = mesh.points();
+    return corners;
+}
+
+// Has such faces refused, which are looked at when the arrays are copied.
+static void refused(const Arrays &mesh, const vector<uint32_t> &corners, uint32_t method) {
+    drc_stream stream;
+    if (encode(mesh, corners, method, stream) != DRC_REFUSED) fail("libdrc encodes a point that isn't there");
 }
 
 // libdraco.
@@ -206,7 +223,7 @@ static void add_attribute(draco::Mesh &mesh, const Arrays &arrays, const drc_hea
     }
 }
 
-// The mesh as the encoder wants it: equal values of an attribute have one number, and equal points.
+// The mesh as the encoder takes it: equal values of an attribute have one number, and equal points.
 static std::unique_ptr<draco::Mesh> numbered(const Arrays &arrays) {
     std::unique_ptr<draco::Mesh> mesh(new draco::Mesh());
     mesh->set_num_points(arrays.points());
@@ -260,6 +277,7 @@ static vector<double> least(int turns, size_t faces, const vector<std::function<
 // One mesh for both libraries, and its streams by one method.
 struct Entry {
     Arrays arrays;
+    vector<uint32_t> broken_corners;
     std::unique_ptr<draco::Mesh> there;
     drc_stream stream;
     draco::EncoderBuffer stream_there;
@@ -305,6 +323,7 @@ static void time_meshes(const char *name, int turns, const char *method_name, ui
             draco::EncoderBuffer buffer;
             encode_there(*it.there, method, buffer);
         }),
+        each([method](Entry &it) { refused(it.arrays, it.broken_corners, method); }),
     });
     printf("%s %s %zu", name, method_name, faces);
     for (double time : times) printf(" %.2f", time);
@@ -316,6 +335,7 @@ static void time_meshes(const char *name, int turns, const char *method_name, ui
 static void add(vector<Entry> &entries, Arrays arrays) {
     entries.emplace_back();
     entries.back().there = numbered(arrays);
+    entries.back().broken_corners = broken(arrays);
     entries.back().arrays = std::move(arrays);
 }
 

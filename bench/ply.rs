@@ -3,6 +3,7 @@
 #![allow(dead_code)]
 mod blocks;
 mod grids;
+mod limits;
 mod streams;
 mod texts;
 

@@ -3,6 +3,7 @@
 //! and `cloud.ply` for both.
 mod blocks;
 mod grids;
+mod limits;
 mod streams;
 
 use std::time::Instant;

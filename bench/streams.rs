@@ -1,12 +1,13 @@
 //! Sequential streams in good safe Rust: meshes and clouds of any attributes of integers, with the limits and the
 //! tests of the format, and refusals that name the place.
 use crate::blocks;
+use crate::limits::limit;
 
-const MAX_FACES: usize = 1 << 22;
-const MAX_POINTS: usize = 1 << 22;
-const MAX_VALUES: usize = 1 << 26;
-const MAX_ATTRIBUTES: usize = 16;
-const MAX_COMPONENTS: u8 = 8;
+const MAX_FACES: usize = limit("MAX_FACES");
+const MAX_POINTS: usize = limit("MAX_POINTS");
+const MAX_VALUES: usize = limit("MAX_VALUES");
+const MAX_ATTRIBUTES: usize = limit("MAX_ATTRIBUTES");
+const MAX_COMPONENTS: u8 = limit("MAX_COMPONENTS") as u8;
 
 /// What is wrong with bytes and where, or with a geometry.
 #[derive(Debug)]

@@ -256,7 +256,7 @@ enum {
     DRC_FAULT_ByteWidth = 50,    /* A number of bytes per value out of range */
     DRC_FAULT_FlagCount = 51,    /* Too many flags of a prediction */
     DRC_FAULT_WrapRange = 52,    /* A range that corrections can't wrap in */
-    DRC_FAULT_FlagsShort = 53,   /* A prediction wants a flag where none is left */
+    DRC_FAULT_FlagsShort = 53,   /* A prediction needs a flag where none is left */
     DRC_FAULT_ValueRange = 54,   /* A value outside its data type */
     DRC_FAULT_QuantBits = 55,    /* A number of quantisation bits out of range */
     DRC_FAULT_PlyMagic = 56,     /* The first line isn't `ply` */
@@ -284,7 +284,7 @@ enum {
     DRC_FAULT_KdLimit = 78,      /* Too many values of a kd-tree file */
     DRC_FAULT_KdBits = 79,       /* A component of more than 32 bits */
     DRC_FAULT_KdSplit = 80,      /* More points in a lower box than its box has */
-    DRC_FAULT_KdMesh = 81,       /* A mesh where a cloud is wanted */
+    DRC_FAULT_KdMesh = 81,       /* A mesh where a cloud is expected */
 };
 
 #ifdef __cplusplus

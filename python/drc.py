@@ -55,7 +55,7 @@ _USAGES = ("position", "normal", "colour", "texture", "generic")
 class Refused(ValueError):
     """What is raised where a stream, or arrays to be encoded, have a fault. It is the first one.
 
-    kind    its word, such as 'Short'; docs/FAULTS.md tells of each what it means and what helps
+    kind    its word, such as 'Short'; docs/FAULTS.md says of each what it means and what helps
     at      where it is: for a stream a number of bytes, for arrays the number of a face or value or attribute,
             or what else the kind says
     """
@@ -200,7 +200,7 @@ class Renumbering:
 
     @classmethod
     def of_text(cls, text):
-        """The renumbering that such bytes tell. ValueError where they are none."""
+        """The renumbering that such bytes state. ValueError where they are none."""
         found = re.fullmatch(rb"map (mesh|cloud) (\d+)\n((?:\d+ \d+\n)*)", text)
         if not found or found[3].count(b"\n") != int(found[2]):
             raise ValueError("these bytes aren't the text of a renumbering")

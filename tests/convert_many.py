@@ -149,7 +149,7 @@ def wait_for_rows(path, count, running, seconds=120):
 def broken_off(tests, meshes, alone, more, title, sign):
     """A run that is ended goes on where it stopped: what was done isn't done again."""
     out = tests.folder / title.replace(" ", "-")
-    running = tests.start(MANY, "pack", meshes, "-o", out, *more, "--maps", environment=tests.slowed(0.5))
+    running = tests.start(MANY, "pack", meshes, "-o", out, *more, "--maps", environment=tests.slowed(2))
     there = wait_for_rows(out / "drc-many-pack.csv", 4, running)
     running.send_signal(sign)
     running.communicate()

@@ -1,5 +1,6 @@
 /* Tests the library as C and C++ see it, for tests/library: structs, statuses, arrays that are too short, requests for memory that fail,
-   threads. usage: library FILE.., each a stream of a mesh or a cloud that is decoded. Linked with malloc, realloc and free wrapped. */
+   threads. usage: library FILE.., each a stream of a mesh or a cloud that is decoded. Compiled with -DMAX_FACES and -DMAX_POINTS, the limits;
+   linked with malloc, realloc and free wrapped. */
 #include <drc.h>
 #include <pthread.h>
 #include <stddef.h>
@@ -418,19 +419,18 @@ static void test_verifying(void) {
 
 /* Faults of heads, of numbers and of what a stream declares come before memory is asked for: with none there they are the same. */
 static void test_early(void) {
-    enum { MOST = 1 << 22 };
-    uint32_t *corners = (uint32_t *)__real_malloc(12 * (size_t)(MOST + 1));
-    int32_t *values = (int32_t *)__real_malloc(4 * (size_t)(MOST + 1));
+    uint32_t *corners = (uint32_t *)__real_malloc(12 * (size_t)(MAX_FACES + 1));
+    int32_t *values = (int32_t *)__real_malloc(4 * (size_t)(MAX_POINTS + 1));
     drc_stream stream;
     drc_verdict verdict;
-    memset(corners, 0, 12 * (size_t)(MOST + 1));
-    memset(values, 0, 4 * (size_t)(MOST + 1));
+    memset(corners, 0, 12 * (size_t)(MAX_FACES + 1));
+    memset(values, 0, 4 * (size_t)(MAX_POINTS + 1));
     for (int which = 0; which < 8; which++) {
         static const uint32_t kinds[] = {DRC_FAULT_NoAttribute, DRC_FAULT_AttrLimit,  DRC_FAULT_AttrType,   DRC_FAULT_DataType,
                                          DRC_FAULT_Components,  DRC_FAULT_QuantBits, DRC_FAULT_PointLimit, DRC_FAULT_FaceLimit};
-        static const uint64_t places[] = {0, 17, 1, 1, 1, 1, MOST + 1, MOST + 1};
+        static const uint64_t places[] = {0, 17, 1, 1, 1, 1, MAX_POINTS + 1, MAX_FACES + 1};
         arrays it = triangle();
-        size_t faces = which == 7 ? MOST + 1 : 1, count = which == 6 ? MOST + 1 : which == 0 || which == 1 ? 9 : 12;
+        size_t faces = which == 7 ? MAX_FACES + 1 : 1, count = which == 6 ? MAX_POINTS + 1 : which == 0 || which == 1 ? 9 : 12;
         it.attributes = which == 0 ? 0 : which == 1 ? 17 : which >= 6 ? 1 : 2;
         if (which == 2) it.heads[1].usage = 5;
         if (which == 3) it.heads[1].dtype = 8;

@@ -1,10 +1,10 @@
 -- Which predictions values are read by.
-use Rattle.std.proofs.Common.{◌≡◌, ◌⊎◌, ℕ, ◌+◌, ◌*◌, Bool, true, false, ℤ, pos, List, Option, None, Some, Result, Ok, Err, refl, sym, ◌∙◌, ap, subst, inl, inr}
+use Rattle.std.proofs.Common.{◌≡◌, ◌<◌, ◌≤◌, ℕ, ◌+◌, ◌*◌, Bool, true, false, ℤ, List, Option, None, Some, Result, Ok, Err, refl, sym, ◌∙◌, ap, inl, inr, arith}
 use Rattle.std.specs.Prelude.{if◌then◌else◌, nat_le}
 use Rattle.std.specs.List.{list_all}
-use Rattle.std.proofs.lemmas.Bool.{false≢true}
+use Rattle.std.proofs.lemmas.Bool.{leb-true, cases_Bool}
 use Rattle.drc_base.specs.declared.faults.Fault.{Fault}
-use Rattle.drc_base.specs.Profile.{Profile}
+use Rattle.drc_base.specs.Profile.{Profile, profile}
 use Rattle.drc_base.specs.Steps.{◌>>=◌}
 use Rattle.drc_bits.specs.Reading.{Reading, Item}
 use Rattle.drc_bits.specs.Numbers.{number_at}
@@ -12,10 +12,13 @@ use Rattle.drc_bits.proofs.Results.{Ok-injective, err≢ok}
 use Rattle.mesh_model.specs.declared.heads.Head.{Head}
 use Rattle.mesh_model.specs.Head.{in_type}
 use Rattle.predict.specs.Walked.{Walked}
-use Rattle.attr_section.specs.declared.predictions.Prediction.{Prediction}
-use Rattle.attr_section.specs.declared.predictions.Prediction.TheVariants as prediction
+use Rattle.predict.specs.declared.schemes.Prediction.{Prediction}
+use Rattle.predict.specs.declared.schemes.Prediction.TheVariants as prediction
+use Rattle.predict.specs.Schemes.{facts, code_of, prediction_of, prediction_coded}
+use Rattle.predict.proofs.Named.{by_number}
+use Rattle.predict.proofs.Foretold.{surfaces_correct}
 use Rattle.attr_section.specs.declared.values.Values.{Values}
-use Rattle.attr_section.specs.Values.{no_prediction, code_of, prediction_of, has_prediction, tested_prediction, prediction_at, predicted_at, typed_values_at, values_at}
+use Rattle.attr_section.specs.Values.{tested_prediction, prediction_at, predicted_at, typed_values_at, values_at}
 use Rattle.attr_section.specs.ValueLaws.{PredictionsAreAccepted}
 
 -- the first of two parts, and the other behind it
@@ -32,7 +35,7 @@ passed false f r y is = absurd (err≢ok is)
 -- what the values of an attribute were read from: a prediction that the profile has, and values by it
 record Read (p : Profile) (w : Option Walked) (v : Values) : Type 0 where
   prediction : Prediction
-  known : has_prediction p prediction ≡ true
+  known : nat_le (facts prediction).since p.number ≡ true
   code : code_of prediction ≡ v.predict
   at : ℕ
   comps : ℕ
@@ -42,11 +45,11 @@ record Read (p : Profile) (w : Option Walked) (v : Values) : Type 0 where
   values : predicted_at at w prediction comps count from ≡ Ok to
 
 -- the profile has the prediction that is read
-read_is_known : (p : Profile) (c after : Reading) (q : Option Prediction) (y : Prediction × Reading) → tested_prediction p c q after ≡ Ok y → has_prediction p y.0 ≡ true
+read_is_known : (p : Profile) (c after : Reading) (q : Option Prediction) (y : Prediction × Reading) → tested_prediction p c q after ≡ Ok y → nat_le (facts y.0).since p.number ≡ true
 read_is_known p c after None y is = absurd (err≢ok is)
 read_is_known p c after (Some q) y is =
-    let t = passed (has_prediction p q) _ _ y is in
-    ap (λ (z : Prediction × Reading). has_prediction p z.0) (sym (Ok-injective t.1)) ∙ t.0
+    let t = passed (nat_le (facts q).since p.number) _ _ y is in
+    ap (λ (z : Prediction × Reading). nat_le (facts z.0).since p.number) (sym (Ok-injective t.1)) ∙ t.0
 
 typed_read : (p : Profile) (w : Option Walked) (h : Head) (n : ℕ) (c : Reading) (y : Values × Reading) → typed_values_at p w h n c ≡ Ok y → Read p w y.0
 unfolding typed_values_at prediction_at
@@ -74,27 +77,43 @@ read p w h entries spent c y is =
     let t = passed (nat_le (spent + entries * h.comps) p.values) _ _ y is in
     typed_read p w h (entries * h.comps) c y t.1
 
--- without a walk
+-- what was read without a walk needs no surface
 without_walk : (q : Prediction) (at comps n : ℕ) (c : Reading) (y : List ℤ × Reading) → predicted_at at None q comps n c ≡ Ok y
-    → (code_of q ≡ no_prediction) ⊎ (code_of q ≡ pos 0)
-without_walk prediction.Off at comps n c y is = inl refl
-without_walk prediction.Difference at comps n c y is = inr refl
-without_walk prediction.Parallelogram at comps n c y is = absurd (err≢ok is)
-without_walk prediction.Multi at comps n c y is = absurd (err≢ok is)
+    → (facts q).needs_surface ≡ false
+unfolding predicted_at
+without_walk q at comps n c y is = elim (cases_Bool (facts q).corrects) [
+  | inl corrects ↦ elim (cases_Bool (facts q).needs_surface) [
+    | inl needs ↦ absurd (err≢ok (rw (corrects, needs) at is))
+    | inr none ↦ none
+  ]
+  | inr none ↦ surfaces_correct q none
+]
 
--- without constrained multi-parallelogram prediction
-without_multi : (p : Profile) (q : Prediction) → p.multi ≡ false → has_prediction p q ≡ true → ¬ (code_of q ≡ pos 4)
-without_multi p prediction.Off none known is = cc
-without_multi p prediction.Difference none known is = cc
-without_multi p prediction.Parallelogram none known is = cc
-without_multi p prediction.Multi none known is = false≢true (sym none ∙ known)
+-- predictions of one number are one
+pub same_code : (q r : Prediction) → code_of q ≡ code_of r → q ≡ r
+same_code q r is = Some-injective (sym (by_number q) ∙ ap prediction_coded is ∙ by_number r)
+  where
+    Some-injective : {x y : Prediction} → ◌≡◌ {A = Option Prediction} (Some x) (Some y) → x ≡ y
+    Some-injective is = cc
+
+-- a prediction that came later than the profile isn't the one that the profile has
+not_later : (p : Profile) (q r : Prediction) → p.number < (facts q).since → nat_le (facts r).since p.number ≡ true → ¬ (code_of r ≡ code_of q)
+not_later p q r later known is =
+    let early : (facts r).since ≤ p.number = leb-true (facts r).since p.number known in
+    let same : (facts r).since ≡ (facts q).since = ap (λ (x : Prediction). (facts x).since) (same_code r q is) in
+    omega arith
+
+-- decoding answers by a profile that has each prediction
+pub is_known : (q : Prediction) → nat_le (facts q).since profile.number ≡ true
+is_known prediction.Off = refl
+is_known _ = refl
 
 pub accepted : PredictionsAreAccepted
 accepted = record {
   sequential = λ p h entries spent c y is.
       let r = read p None h entries spent c y is in
-      subst (λ q. (q ≡ no_prediction) ⊎ (q ≡ pos 0)) r.code (without_walk r.prediction r.at r.comps r.count r.from r.to r.values);
-  profile = λ p w h entries spent c y none is four.
+      (r.prediction, sym r.code, without_walk r.prediction r.at r.comps r.count r.from r.to r.values);
+  later = λ p w h entries spent c y q came is at.
       let r = read p w h entries spent c y is in
-      without_multi p r.prediction none r.known (r.code ∙ four);
+      not_later p q r.prediction came r.known (r.code ∙ at);
 }

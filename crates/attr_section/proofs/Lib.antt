@@ -1,13 +1,12 @@
 pub mod Accepted
 pub mod FlagBits
-pub mod Corrections
 pub mod Columned
 pub mod Each
 pub mod Loops
 pub mod PlainValues
 pub mod SpelledIntegers
 pub mod SpelledFlags
-pub mod SpelledSurface
+pub mod SpelledCorrections
 pub mod SpelledValues
 pub mod Spelling
 pub mod Examples

@@ -1,10 +1,9 @@
--- Flags of constrained multi-parallelogram prediction that are read back from their bytes, and how many there are.
-use Rattle.std.proofs.Common.{◌≡◌, ◌≢◌, ℕ, zero, suc, ◌+◌, ◌*◌, ◌^◌, ◌<◌, ◌≤◌, ◌==◌, nat_le, lit<, Bool, true, false, ℤ, List, [], ◌∷◌, ◌++◌, length, map, flat_map, get_or, if◌then◌else◌, inl, inr, Ok, rules, refl, sym, ◌∙◌, ap, subst, arith}
-use Rattle.std.specs.List.{All}
-use Rattle.std.proofs.lemmas.Bool.{cases_eq}
-use Rattle.std.proofs.Math.Nat.{mul-suc, mul-le-mul_left}
-use Rattle.std.proofs.lemmas.List.{ext_get_or, map-id}
-use Rattle.std.proofs.lemmas.List.Elements.{All-cons, All-nil, All-weaker}
+-- Flags of predictions that are read back from their bytes, and how many there are.
+use Rattle.std.proofs.Common.{◌≡◌, ◌≢◌, ℕ, zero, suc, ◌+◌, ◌*◌, ◌^◌, ◌<◌, ◌≤◌, ◌==◌, nat_le, Bool, true, false, ◌&&◌, ℤ, List, [], ◌∷◌, ◌++◌, length, flat_map, get_or, if◌then◌else◌, inl, inr, Option, None, Some, Ok, rules, refl, sym, ◌∙◌, ap, subst, arith}
+use Rattle.std.specs.List.{All, list_all, range_with_len}
+use Rattle.std.proofs.lemmas.Bool.{cases_eq, cases_Bool, leb-true, false≢true}
+use Rattle.std.proofs.Math.Nat.{mul-le-mul_left}
+use Rattle.std.proofs.lemmas.List.{get_or_default, map-id}
 use Rattle.drc_base.specs.declared.kinds.Kind.TheVariants as kind
 use Rattle.drc_base.specs.declared.limits.TheConstants.{MAX_VALUES}
 use Rattle.drc_base.specs.Steps.{◌>>=◌}
@@ -12,13 +11,16 @@ use Rattle.drc_bits.specs.Reading.{Reading, many_at}
 use Rattle.drc_bits.specs.Spells.{Spells}
 use Rattle.drc_bits.specs.Varint.{var32_at, spelling}
 use Rattle.drc_bits.proofs.Spelled.{Spells-none, Spells-then, Spells-same, Spells-must, Spells-var32}
-use Rattle.rans_binary.specs.Blocks.{Block, first_bits, block, IsBlockOf, block_at as bit_block_at}
+use Rattle.rans_binary.specs.Blocks.{Block, first_bits, block, IsBlockOf, bit_block_at}
+use Rattle.predict.specs.declared.schemes.Prediction.{Prediction}
+use Rattle.predict.specs.Schemes.{facts}
 use Rattle.predict.specs.Walked.{Walked, IsOver}
-use Rattle.predict.specs.Gathered.{gathered}
-use Rattle.predict.specs.Multi.{wanted, marked, AreMarked, HasFlags}
-use Rattle.predict.proofs.Kept.{wanted_here, wanted_there, wanted_none, length-marked}
+use Rattle.predict.specs.Surfaces.{surface_or, CanStand}
+use Rattle.predict.specs.Multi.{wanted}
+use Rattle.predict.specs.Foretold.{marks_of, wanted_of, HasWanted, LacksWanted}
+use Rattle.predict.proofs.Foretold.{length-marks, length-mark, wanted_most, wanted_in, wanted_nowhere, flags_stand}
 use Rattle.attr_section.specs.Values.{flag_bits_at, flag_count_at, flags_at, flag_lists_at, has_flags}
-use Rattle.attr_section.specs.Written.{flag_lists_of, flag_bits_bytes, flags_bytes, HasFewFlags, FlagsSpelled}
+use Rattle.attr_section.specs.Written.{flag_bits_bytes, flags_bytes, HasFewFlags, MayHaveFewFlags, FlagsSpelled}
 use Rattle.attr_section.proofs.Spelling.{Spells-map}
 use Rattle.attr_section.proofs.SpelledIntegers.{Spells-all}
 
@@ -53,82 +55,102 @@ Spells-flags flags short bits = record {
       (Spells-must kind.FlagCount (λ n. nat_le n corners) var32_at (spelling 5 (length flags)) (length flags) within (Spells-var32 (length flags) (omega arith))) bits;
 }
 
--- four lists of flags over a surface
-pub Spells-flag_lists : (w : Walked) (lists : List (List Bool)) → length lists ≡ 4 → All FlagsSpelled lists → All (λ flags. length flags ≤ length w.entries) lists
-    → Spells (flag_lists_at w) (flat_map flags_bytes lists) lists
+-- so many lists of flags over a surface
+pub Spells-flag_lists : (count : ℕ) (w : Walked) (lists : List (List Bool)) → length lists ≡ count → All FlagsSpelled lists
+    → All (λ flags. length flags ≤ length w.entries) lists → Spells (flag_lists_at count w) (flat_map flags_bytes lists) lists
 unfolding flag_lists_at
-Spells-flag_lists w lists four spelled few =
-    subst (λ n. Spells (many_at (flags_at (length w.entries)) n) (flat_map flags_bytes lists) lists) four
+Spells-flag_lists count w lists same spelled few =
+    subst (λ n. Spells (many_at (flags_at (length w.entries)) n) (flat_map flags_bytes lists) lists) same
     (subst (λ l. Spells (many_at (flags_at (length w.entries)) (length lists)) (flat_map flags_bytes lists) l) (map-id lists)
     (Spells-all (flags_at (length w.entries)) flags_bytes (λ flags. flags) lists (λ k d h. (spelled k d h).over (length w.entries) (few k d h))))
 
--- so many flags are wanted at most
-pub wanted_most : (w : Walked) (k n : ℕ) → wanted w k n ≤ k * n
-wanted_most w k zero = let none = wanted_none w k in omega arith
-wanted_most w k (suc n) =
-    let before = wanted_most w k n in
-    let more : k * suc n ≡ k * n + k = mul-suc k n in
-    elim (cases_eq (length (gathered w n)) k) [
-      | inl is ↦ let next = wanted_here w k n is in omega arith
-      | inr other ↦ let next = wanted_there w k n other in omega arith
-    ]
-
--- what holds of four lists holds of those that are written
-each_list : (P : List Bool → Type 0) (w : Walked) (comps : ℕ) (v : List ℤ) → ((k : ℕ) → k < 4 → P (marked w comps v (suc k) (length w.corners))) → All P (flag_lists_of w comps v)
-each_list P w comps v each =
-    let list = λ (k : ℕ). marked w comps v (suc k) (length w.corners) in
-    All-cons P (list 0) (list 1 ∷ list 2 ∷ list 3 ∷ []) (each 0 (lit< tt))
-    (All-cons P (list 1) (list 2 ∷ list 3 ∷ []) (each 1 (lit< tt))
-    (All-cons P (list 2) (list 3 ∷ []) (each 2 (lit< tt))
-    (All-cons P (list 3) [] (each 3 (lit< tt)) (All-nil P))))
-
--- the written lists have fewer than 2^31 flags
-pub lists_short : (w : Walked) (comps : ℕ) (v : List ℤ) → length w.corners ≤ MAX_VALUES → All (λ flags. length flags < 2 ^ 31) (flag_lists_of w comps v)
-lists_short w comps v few = each_list (λ flags. length flags < 2 ^ 31) w comps v (λ k low.
-    let count = length-marked w comps v (suc k) (length w.corners) in
-    let most = wanted_most w (suc k) (length w.corners) in
-    let product : suc k * length w.corners ≤ 4 * length w.corners = grind arith in
-    omega arith)
-
--- and, where few flags are wanted, no more than there are corners
-pub lists_few : (w : Walked) (comps : ℕ) (v : List ℤ) → HasFewFlags w → All (λ flags. length flags ≤ length w.entries) (flag_lists_of w comps v)
-lists_few w comps v few = each_list (λ flags. length flags ≤ length w.entries) w comps v (λ k low.
-    let count = length-marked w comps v (suc k) (length w.corners) in
-    let wants = few.few k low in
-    omega arith)
-
--- lists that are marked are those that are written
-pub lists_are : (w : Walked) (comps : ℕ) (v : List ℤ) (lists : List (List Bool)) → length lists ≡ 4 → AreMarked w comps v lists (length w.corners) → lists ≡ flag_lists_of w comps v
-lists_are w comps v lists four marked_lists = ext_get_or [] lists (flag_lists_of w comps v) four
-    (λ k low. let below : k < 4 = omega (arith, four) in marked_lists k below ∙ sym (at k below))
-  where
-    at : (k : ℕ) → k < 4 → get_or (flag_lists_of w comps v) k [] ≡ marked w comps v (suc k) (length w.corners)
-    at zero low = refl
-    at (suc zero) low = refl
-    at (suc (suc zero)) low = refl
-    at (suc (suc (suc zero))) low = refl
-    at (suc (suc (suc (suc k)))) low = absurd (omega arith)
-
--- lists that have the wanted flags pass their test
-pub flags_pass : (w : Walked) (lists : List (List Bool)) → HasFlags w lists → has_flags w lists ≡ true
-flags_pass w lists has =
-    let first = has 0 (lit< tt) in
-    let second = has 1 (lit< tt) in
-    let third = has 2 (lit< tt) in
-    let fourth = has 3 (lit< tt) in
-    grind arith
-
 -- entries of which each has a component at least are no more than values
-pub fewer_entries : (comps entries : ℕ) (values : List ℤ) → 0 < comps → length values ≡ entries * comps → length values ≤ MAX_VALUES → entries ≤ MAX_VALUES
-fewer_entries comps entries values some count few =
+fewer_entries : (comps entries n : ℕ) → 0 < comps → n ≡ entries * comps → n ≤ MAX_VALUES → entries ≤ MAX_VALUES
+fewer_entries comps entries n some count few =
     let least : entries * 1 ≤ entries * comps = mul-le-mul_left entries (omega arith) in
     omega arith
+
+-- where a prediction needs a surface, its entries are no more than values
+corners_few : (q : Prediction) (w : Option Walked) (comps n : ℕ) → 0 < comps → n ≤ MAX_VALUES → CanStand q w comps n → (facts q).needs_surface ≡ true
+    → length (surface_or w).corners ≤ MAX_VALUES
+corners_few q None comps n some few stand needs = absurd (stand.stand needs)
+corners_few q (Some w) comps n some few stand needs = fewer_entries comps (length w.corners) n some (stand.stand needs) few
+
+-- a written list, and how many flags it has
+mark_is : (q : Prediction) (w : Walked) (comps : ℕ) (v : List ℤ) (k : ℕ) (d : List Bool) → k < length (marks_of q w comps v)
+    → (k < (facts q).flag_lists) × (length (get_or (marks_of q w comps v) k d) ≡ wanted_of q w k)
+mark_is q w comps v k d low =
+    let here : k < (facts q).flag_lists = omega (arith, length-marks q w comps v) in
+    (here, ap (λ (l : List Bool). length l) (get_or_default (marks_of q w comps v) k d [] low) ∙ length-mark q w comps v k here)
+
+-- the written lists have fewer than 2^31 flags
+pub lists_short : (q : Prediction) (w : Option Walked) (comps : ℕ) (v : List ℤ) → 0 < comps → length v ≤ MAX_VALUES → CanStand q w comps (length v)
+    → All (λ flags. length flags < 2 ^ 31) (marks_of q (surface_or w) comps v)
+lists_short q w comps v some few stand = λ k d low.
+    let is = mark_is q (surface_or w) comps v k d low in
+    let first : 0 < (facts q).flag_lists = omega (arith, is.0) in
+    let corners = corners_few q w comps (length v) some few stand (flags_stand q first) in
+    let most = wanted_most q (surface_or w) k is.0 in
+    omega (arith, is.1)
+
+-- and, where few flags are wanted, no more than there are corners
+pub lists_few : (q : Prediction) (w : Walked) (comps : ℕ) (v : List ℤ) → HasFewFlags w → All (λ flags. length flags ≤ length w.entries) (marks_of q w comps v)
+lists_few q w comps v few = λ k d low.
+    let is = mark_is q w comps v k d low in
+    let wants = few.few q k is.0 in
+    omega (arith, is.1)
+
+-- a test of each number from a on
+all_pass : (p : ℕ → Bool) (a n : ℕ) → ((k : ℕ) → a ≤ k → k < a + n → p k ≡ true) → list_all p (range_with_len a n) ≡ true
+all_pass p a zero each = refl
+all_pass p a (suc n) each =
+    let here = each a (omega arith) (omega arith) in
+    let others = all_pass p (a + 1) n (λ k from to. each k (omega arith) (omega arith)) in
+    rw here others
+
+each_passes : (p : ℕ → Bool) (a n : ℕ) → list_all p (range_with_len a n) ≡ true → (k : ℕ) → a ≤ k → k < a + n → p k ≡ true
+each_passes p a zero all k from to = absurd (omega arith)
+each_passes p a (suc n) all k from to =
+    let both = both_pass (p a) (list_all p (range_with_len (a + 1) n)) all in
+    elim (cases_eq k a) [
+      | inl is ↦ ap p is ∙ both.0
+      | inr other ↦ each_passes p (a + 1) n both.1 k (omega arith) (omega arith)
+    ]
+  where
+    both_pass : (x y : Bool) → (x && y) ≡ true → (x ≡ true) × (y ≡ true)
+    both_pass true y is = (refl, is)
+    both_pass false y is = absurd (false≢true is)
+
+le_passes : (a b : ℕ) → a ≤ b → nat_le a b ≡ true
+le_passes a b below = grind arith
+
+-- lists that have the wanted flags pass their test, and others don't
+pub flags_pass : (q : Prediction) (w : Walked) (lists : List (List Bool)) → HasWanted q w lists → has_flags q w lists ≡ true
+flags_pass q w lists has =
+    all_pass (λ k. nat_le (wanted_of q w k) (length (get_or lists k []))) 0 (facts q).flag_lists
+    (λ k from to. le_passes (wanted_of q w k) (length (get_or lists k [])) (has k (omega arith)))
+
+pub flags_passed : (q : Prediction) (w : Walked) (lists : List (List Bool)) → has_flags q w lists ≡ true → HasWanted q w lists
+flags_passed q w lists passes = λ k low.
+    leb-true (wanted_of q w k) (length (get_or lists k []))
+    (each_passes (λ k. nat_le (wanted_of q w k) (length (get_or lists k []))) 0 (facts q).flag_lists passes k (omega arith) (omega arith))
+
+pub flags_fail : (q : Prediction) (w : Walked) (lists : List (List Bool)) → LacksWanted q w lists → has_flags q w lists ≡ false
+flags_fail q w lists (k, low, lacks) = elim (cases_Bool (has_flags q w lists)) [
+  | inl passes ↦ let has = flags_passed q w lists passes k low in absurd (omega arith)
+  | inr fails ↦ fails
+]
 
 -- no more flags are wanted than there are corners of faces
 pub few_in : (faces : ℕ) (w : Walked) → IsOver faces w → ((k : ℕ) → wanted w k (length w.corners) ≤ 3 * faces) → HasFewFlags w
 few_in faces w over few = record {
-  few = λ k low.
-      let wants = few (suc k) in
+  few = λ q k low.
+      let wants = wanted_in faces q w few k in
       let corners = over.each_corner in
       omega arith;
 }
+
+-- none are wanted where there is no surface
+pub few_or : (w : Option Walked) → MayHaveFewFlags w → HasFewFlags (surface_or w)
+few_or None few = record { few = λ q k low. let none = wanted_nowhere q k in omega arith }
+few_or (Some w) few = few

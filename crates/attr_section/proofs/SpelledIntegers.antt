@@ -14,15 +14,16 @@ use Rattle.drc_bits.specs.Bits.{low_bytes}
 use Rattle.drc_bits.specs.Spells.{Spells}
 use Rattle.drc_bits.proofs.Spelled.{Spells-none, Spells-then, Spells-must, Spells-number, Spells-byte}
 use Rattle.predict.specs.Wrap.{Range, CanWrap}
-use Rattle.predict.specs.Restored.{restored, corrections, entry_before}
+use Rattle.predict.specs.Restored.{corrections}
 use Rattle.predict.proofs.Restoring.{length-corrections}
 use Rattle.symbol_coding.specs.Block.{block_at, block_bytes}
-use Rattle.attr_section.specs.Values.{signed_of, plain_value_at, byte_width_at, plain_values_at, compressed_values_at, integers_at, can_wrap, range_at, transform_at, differences_at}
-use Rattle.attr_section.specs.Written.{symbol_of, greatest_symbol, byte_width, plain_bytes, symbols_bytes, integers_bytes, range_of, signed_bytes, range_bytes, corrected_bytes, differences_bytes}
+use Rattle.attr_section.specs.Values.{signed_of, plain_value_at, byte_width_at, plain_values_at, compressed_values_at, integers_at, can_wrap, range_at}
+use Rattle.predict.specs.Symbols.{zigzag_of}
+use Rattle.attr_section.specs.Written.{greatest_symbol, byte_width, plain_bytes, symbols_bytes, integers_bytes, range_of, signed_bytes, range_bytes}
 use Rattle.attr_section.proofs.Spelling.{Spells-map}
 
 -- a symbol gives its integer back
-pub signed_of-symbol_of : (x : ℤ) → signed_of (symbol_of x) ≡ x
+pub signed_of-symbol_of : (x : ℤ) → signed_of (zigzag_of x) ≡ x
 signed_of-symbol_of (pos n) =
     let even : (2 * n) % 2 ≡ 0 = omega arith in
     let half : (2 * n) / 2 ≡ n = omega arith in
@@ -32,22 +33,7 @@ signed_of-symbol_of (negsuc n) =
     let half : (2 * n + 1) / 2 ≡ n = omega arith in
     rw (odd, half) refl
 
--- the symbol of a negative integer, and of another
-pub symbol_of-negative : (x : ℤ) → int_lt x (pos 0) ≡ true → unsigned_abs (negsuc 0 -ℤ x) * 2 + 1 ≡ symbol_of x
-symbol_of-negative (pos n) below = absurd (no_less n below)
-  where
-    no_less : (n : ℕ) → nat_lt n 0 ≡ true → ⊥
-    no_less n below = grind arith
-symbol_of-negative (negsuc n) below = let rest : negsuc 0 -ℤ negsuc n ≡ pos n = omega (arith, ints) in rw rest (omega arith)
-
-pub symbol_of-other : (x : ℤ) → int_lt x (pos 0) ≡ false → unsigned_abs x * 2 ≡ symbol_of x
-symbol_of-other (pos n) above = omega arith
-symbol_of-other (negsuc n) above = cc
-
-pub complement_fits : (x : ℤ) → FitsSigned w32 x → FitsSigned w32 (negsuc 0 -ℤ x)
-complement_fits x fits = search (arith, ints)
-
-pub signed_of-symbols : (values : List ℤ) → map signed_of (map symbol_of values) ≡ values
+pub signed_of-symbols : (values : List ℤ) → map signed_of (map zigzag_of values) ≡ values
 signed_of-symbols [] = refl
 signed_of-symbols (x ∷ values) = rw (signed_of-symbol_of x, signed_of-symbols values) refl
 
@@ -142,12 +128,12 @@ Spells-compressed_symbols comps symbols block =
 
 -- the symbols of integers are read back as the integers
 pub Spells-integers : (plain : Bool) (comps : ℕ) (values : List ℤ)
-    → Spells (integers_at comps (length (map symbol_of values))) (symbols_bytes plain comps (map symbol_of values)) (map signed_of (map symbol_of values))
+    → Spells (integers_at comps (length (map zigzag_of values))) (symbols_bytes plain comps (map zigzag_of values)) (map signed_of (map zigzag_of values))
     → Spells (integers_at comps (length values)) (integers_bytes plain comps values) values
 unfolding integers_bytes
 Spells-integers plain comps values spells =
-    subst (λ n. Spells (integers_at comps n) (symbols_bytes plain comps (map symbol_of values)) values) (length-map values symbol_of)
-    (subst (λ vs. Spells (integers_at comps (length (map symbol_of values))) (symbols_bytes plain comps (map symbol_of values)) vs) (signed_of-symbols values) spells)
+    subst (λ n. Spells (integers_at comps n) (symbols_bytes plain comps (map zigzag_of values)) values) (length-map values zigzag_of)
+    (subst (λ vs. Spells (integers_at comps (length (map zigzag_of values))) (symbols_bytes plain comps (map zigzag_of values)) vs) (signed_of-symbols values) spells)
 
 -- a signed number of 32 bits
 pub Spells-signed : (x : ℤ) → FitsSigned w32 x → Spells signed_at (signed_bytes x) x
@@ -187,34 +173,6 @@ pub Spells-corrections : (plain : Bool) (comps : ℕ) (f : List ℤ → ℤ) (va
 Spells-corrections plain comps f values integers =
     let r = range_of values in
     subst (λ n. Spells (integers_at comps n) (integers_bytes plain comps (corrections f r values)) (corrections f r values)) (length-corrections f r values) integers
-
--- values that are restored from corrections by a prediction
-pub Spells-corrected : (plain : Bool) (comps : ℕ) (f : List ℤ → ℤ) (values : List ℤ)
-    → Spells (integers_at comps (length (corrections f (range_of values) values))) (integers_bytes plain comps (corrections f (range_of values) values)) (corrections f (range_of values) values)
-    → Spells range_at (range_bytes (range_of values)) (range_of values)
-    → restored f (range_of values) (corrections f (range_of values) values) ≡ values
-    → Spells (λ c. transform_at c >>= λ t. integers_at comps (length values) t.1 >>= λ x. range_at x.1 >>= λ y. Ok (restored f y.0 x.0, y.1))
-    (corrected_bytes plain comps f [] values) values
-Spells-corrected plain comps f values integers range back =
-    let r = range_of values in
-    let cs = corrections f r values in
-    Spells-then transform_at (λ _ c. integers_at comps (length values) c >>= λ x. range_at x.1 >>= λ y. Ok (restored f y.0 x.0, y.1))
-    (1 ∷ []) (integers_bytes plain comps cs ++ range_bytes r) 1 values
-    (Spells-must kind.Transform (λ t. t == 1) (number_at 1) (1 ∷ []) 1 refl (Spells-byte 1))
-    (Spells-then (integers_at comps (length values)) (λ x c. range_at c >>= λ y. Ok (restored f y.0 x, y.1))
-    (integers_bytes plain comps cs) (range_bytes r) cs values
-    (Spells-corrections plain comps f values integers)
-    (subst (λ vs. Spells (λ c. range_at c >>= λ y. Ok (restored f y.0 cs, y.1)) (range_bytes r) vs) back
-    (Spells-map (λ y. restored f y cs) range_at (range_bytes r) r range)))
-
--- values that are restored from corrections by difference
-pub Spells-differences : (plain : Bool) (comps : ℕ) (values : List ℤ)
-    → Spells (integers_at comps (length (corrections (entry_before comps) (range_of values) values))) (integers_bytes plain comps (corrections (entry_before comps) (range_of values) values)) (corrections (entry_before comps) (range_of values) values)
-    → Spells range_at (range_bytes (range_of values)) (range_of values)
-    → restored (entry_before comps) (range_of values) (corrections (entry_before comps) (range_of values) values) ≡ values
-    → Spells (differences_at comps (length values)) (differences_bytes plain comps values) values
-unfolding differences_at differences_bytes
-Spells-differences plain comps values integers range back = Spells-corrected plain comps (entry_before comps) values integers range back
 
 -- values lie in their range
 pub range_of-bounds : (values : List ℤ) → All (λ x. ((range_of values).low ≤ℤ x) × (x ≤ℤ (range_of values).high)) values

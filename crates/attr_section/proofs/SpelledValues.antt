@@ -1,5 +1,5 @@
 -- Values of attributes that are read back from their bytes.
-use Rattle.drc_base.specs.Profile.{profile_two}
+use Rattle.drc_base.specs.Profile.{profile}
 use Rattle.std.proofs.Common.{◌≡◌, ℕ, ◌+◌, ◌*◌, ◌^◌, ◌<◌, ◌≤◌, ◌&&◌, Bool, true, ℤ, List, [], ◌∷◌, ◌++◌, length, map, flat_map, nat_le, Option, None, Some, Ok, refl, sym, ◌∙◌, ap, subst, append_assoc, append-nil, length-append, arith, to_z, of_z, w8}
 use Rattle.std.specs.List.{All, list_all, zip}
 use Rattle.std.proofs.lemmas.Grind.{common_steps}
@@ -20,11 +20,14 @@ use Rattle.mesh_model.specs.Head.{in_type}
 use Rattle.attr_section.specs.declared.values.Values.{Values}
 use Rattle.attr_section.specs.Each.{each_at}
 use Rattle.attr_section.specs.Heads.{bare_head, bare_decoder}
-use Rattle.attr_section.specs.declared.predictions.Prediction.{Prediction}
-use Rattle.attr_section.specs.declared.predictions.Prediction.TheVariants as prediction
+use Rattle.predict.specs.declared.schemes.Prediction.{Prediction}
+use Rattle.predict.specs.declared.schemes.Prediction.TheVariants as prediction
+use Rattle.predict.specs.Schemes.{code_of, byte_of, prediction_of, prediction_coded}
 use Rattle.predict.specs.Walked.{Walked}
-use Rattle.attr_section.specs.Values.{code_of, byte_of, prediction_of, tested_prediction, prediction_at, predicted_at, typed_values_at, values_at, quant_bits_at, quant_at, quant_of_at, quantised_at, values_in, attributes_at, quants_at, decoder_values_at}
-use Rattle.attr_section.specs.Written.{predicted_bytes, prediction_coded, coded_bytes, values_bytes, quant_bytes, attributes_bytes, quants_bytes, decoder_values_bytes, HasQuant, QuantFits, placed, HaveEntries, MayHaveFewFlags, PredictedSpelled, ValuesSpelled}
+use Rattle.predict.proofs.Named.{by_byte, by_number}
+use Rattle.attr_section.specs.Values.{tested_prediction, prediction_at, predicted_at, typed_values_at, values_at, quant_bits_at, quant_at, quant_of_at, quantised_at, values_in, attributes_at, quants_at, decoder_values_at}
+use Rattle.attr_section.specs.Written.{predicted_bytes, prediction_bytes, values_bytes, quant_bytes, attributes_bytes, quants_bytes, decoder_values_bytes, HasQuant, QuantFits, values_placed, HaveEntries, MayHaveFewFlags, PredictedSpelled, ValuesSpelled}
+use Rattle.attr_section.proofs.Accepted.{is_known}
 use Rattle.attr_section.proofs.Spelling.{Spells-map}
 use Rattle.attr_section.proofs.SpelledIntegers.{Spells-low_bytes, Spells-all}
 
@@ -33,13 +36,10 @@ abbrev behind : ℕ → ℕ → List ℕ → Reading
 behind place n rest = record { place = place + n; rest = rest }
 
 -- the prediction of its byte
-of_byte : (q : Prediction) (c after : Reading) → tested_prediction profile_two c (prediction_of (byte_of q)) after ≡ Ok (q, after)
-of_byte prediction.Off c after = refl
-of_byte prediction.Difference c after = refl
-of_byte prediction.Parallelogram c after = refl
-of_byte prediction.Multi c after = refl
+of_byte : (q : Prediction) (c after : Reading) → tested_prediction profile c (prediction_of (byte_of q)) after ≡ Ok (q, after)
+of_byte q c after = rw (by_byte q, is_known q) refl
 
-Spells-prediction : (q : Prediction) → Spells (prediction_at profile_two) (byte_of q ∷ []) q
+Spells-prediction : (q : Prediction) → Spells (prediction_at profile) (byte_of q ∷ []) q
 unfolding prediction_at
 Spells-prediction q = record {
   reads = λ place rest.
@@ -50,7 +50,7 @@ Spells-prediction q = record {
 -- values of a prediction, behind its byte
 typed_values : (w : Option Walked) (h : Head) (n : ℕ) (q : Prediction) (bytes : List ℕ) (values : List ℤ)
     → ((at : ℕ) → Spells (predicted_at at w q h.comps n) bytes values) → list_all (in_type h.dtype) values ≡ true
-    → (place : ℕ) (rest : List ℕ) → typed_values_at profile_two w h n (record { place = place; rest = (byte_of q ∷ bytes) ++ rest })
+    → (place : ℕ) (rest : List ℕ) → typed_values_at profile w h n (record { place = place; rest = (byte_of q ∷ bytes) ++ rest })
     ≡ Ok (record { values = values; predict = code_of q; at = place }, behind place (length (byte_of q ∷ bytes)) rest)
 unfolding typed_values_at
 typed_values w h n q bytes values spells typed place rest =
@@ -69,37 +69,28 @@ spelled_by plain w h v q bytes predict is spells typed = record {
   reads = λ flags entries spent place rest count few.
       let within : nat_le (spent + entries * h.comps) MAX_VALUES ≡ true = rw (← count) (grind (arith, few)) in
       rw (is, within, ← count) (
-      subst (λ p. typed_values_at profile_two w (bare_head h) (length v.values) (record { place = place; rest = (byte_of q ∷ bytes) ++ rest }) ≡ Ok (record { values = v.values; predict = p; at = place }, behind place (length (byte_of q ∷ bytes)) rest)) predict
+      subst (λ p. typed_values_at profile w (bare_head h) (length v.values) (record { place = place; rest = (byte_of q ∷ bytes) ++ rest }) ≡ Ok (record { values = v.values; predict = p; at = place }, behind place (length (byte_of q ∷ bytes)) rest)) predict
       (typed_values w (bare_head h) (length v.values) q bytes v.values (spells flags) typed place rest));
 }
-
--- a prediction is that of its number
-coded : (q : Prediction) → prediction_coded (code_of q) ≡ Some q
-coded prediction.Off = refl
-coded prediction.Difference = refl
-coded prediction.Parallelogram = refl
-coded prediction.Multi = refl
 
 -- the number of a prediction has eight bits
 code_fits : (q : Prediction) → to_z w8 (of_z w8 (code_of q)) ≡ code_of q
 code_fits prediction.Off = refl
-code_fits prediction.Difference = refl
-code_fits prediction.Parallelogram = refl
-code_fits prediction.Multi = refl
+code_fits _ = refl
 
--- so it is what eight bits tell
+-- so it is what eight bits give
 pub code_told : (q : Prediction) (code told : ℤ) → told ≡ to_z w8 (of_z w8 code) → code ≡ code_of q → told ≡ code
 code_told q code told is of = is ∙ ap (λ (x : ℤ). to_z w8 (of_z w8 x)) of ∙ code_fits q ∙ sym of
 
 -- the prediction of a number is the one that has it
 pub coded_is : (q : Prediction) (code : ℤ) → code_of q ≡ code → prediction_coded code ≡ Some q
-coded_is q code is = ap prediction_coded (sym is) ∙ coded q
+coded_is q code is = ap prediction_coded (sym is) ∙ by_number q
 
 -- the bytes of an attribute's values: the byte of their prediction, and what it says
 pub values_are : (plain : Bool) (w : Option Walked) (comps : ℕ) (v : Values) (q : Prediction) → code_of q ≡ v.predict
     → values_bytes plain w comps v ≡ byte_of q ∷ predicted_bytes plain w q comps v.values
 unfolding values_bytes
-values_are plain w comps v q is = ap (λ (p : Option Prediction). coded_bytes plain w p comps v.values) (coded_is q v.predict is)
+values_are plain w comps v q is = ap (λ (p : Option Prediction). prediction_bytes plain w p comps v.values) (coded_is q v.predict is)
 
 -- values of a prediction, each in the data type
 pub predicted_spelled : (plain : Bool) (w : Option Walked) (h : Head) (v : Values) (q : Prediction) → code_of q ≡ v.predict
@@ -109,8 +100,8 @@ predicted_spelled plain w h v q is spelled typed = spelled_by plain w h v q (pre
 -- the values of attributes behind others
 attributes_spelled : (plain : Bool) (w : Option Walked) → MayHaveFewFlags w → (entries spent : ℕ) (front : List Values) (heads : List Head) (vs : List Values) → length vs ≡ length heads
     → All (λ (h, v). ValuesSpelled plain w h v) (zip heads vs) → HaveEntries entries heads vs → spent + values_in front + values_in vs ≤ MAX_VALUES → (place : ℕ) (rest : List ℕ)
-    → each_at (λ before h. values_at profile_two w h entries (spent + values_in before)) front (map bare_head heads) (record { place = place; rest = attributes_bytes plain w heads vs ++ rest })
-    ≡ Ok (front ++ placed plain w place heads vs, behind place (length (attributes_bytes plain w heads vs)) rest)
+    → each_at (λ before h. values_at profile w h entries (spent + values_in before)) front (map bare_head heads) (record { place = place; rest = attributes_bytes plain w heads vs ++ rest })
+    ≡ Ok (front ++ values_placed plain w place heads vs, behind place (length (attributes_bytes plain w heads vs)) rest)
 unfolding each_at
 attributes_spelled plain w flags entries spent front [] [] same each counts few place rest =
     let here : place ≡ place + 0 = omega arith in
@@ -129,12 +120,12 @@ attributes_spelled plain w flags entries spent front (h ∷ heads) (v ∷ vs) sa
     (All-tail (λ (h, v). ValuesSpelled plain w h v) (h, v) (zip heads vs) each) (All-tail (λ (h, v). length v.values ≡ entries * h.comps) (h, v) (zip heads vs) counts)
     (omega (arith, few, total, more)) (place + length bytes) rest in
     let after : place + length bytes + length others ≡ place + length (bytes ++ others) = omega (arith, length-append bytes others) in
-    ap (λ bs. values_at profile_two w (bare_head h) entries (spent + values_in front) (record { place = place; rest = bs }) >>= λ x. each_at (λ before h. values_at profile_two w h entries (spent + values_in before)) (front ++ x.0 ∷ []) (map bare_head heads) x.1)
+    ap (λ bs. values_at profile w (bare_head h) entries (spent + values_in front) (record { place = place; rest = bs }) >>= λ x. each_at (λ before h. values_at profile w h entries (spent + values_in before)) (front ++ x.0 ∷ []) (map bare_head heads) x.1)
     (append_assoc bytes others rest)
-    ∙ ap (λ r. r >>= λ x. each_at (λ before h. values_at profile_two w h entries (spent + values_in before)) (front ++ x.0 ∷ []) (map bare_head heads) x.1) first
+    ∙ ap (λ r. r >>= λ x. each_at (λ before h. values_at profile w h entries (spent + values_in before)) (front ++ x.0 ∷ []) (map bare_head heads) x.1) first
     ∙ next
-    ∙ ap (λ l. Ok (l, record { place = place + length bytes + length others; rest = rest })) (append_assoc front (record v { at = place } ∷ []) (placed plain w (place + length bytes) heads vs))
-    ∙ ap (λ n. Ok (front ++ placed plain w place (h ∷ heads) (v ∷ vs), record { place = n; rest = rest })) after
+    ∙ ap (λ l. Ok (l, record { place = place + length bytes + length others; rest = rest })) (append_assoc front (record v { at = place } ∷ []) (values_placed plain w (place + length bytes) heads vs))
+    ∙ ap (λ n. Ok (front ++ values_placed plain w place (h ∷ heads) (v ∷ vs), record { place = n; rest = rest })) after
   where
     values_in-more : (front : List Values) (v : Values) (place : ℕ) → values_in (front ++ record v { at = place } ∷ []) ≡ values_in front + length v.values
     values_in-more front v place = grind (arith, common_steps)
@@ -189,13 +180,13 @@ quants_spelled front (h ∷ heads) each =
 pub decoder_spelled : (plain : Bool) (w : Option Walked) → MayHaveFewFlags w → (entries spent : ℕ) (d : DecoderHead) (vs : List Values) → length vs ≡ length d.heads
     → All (λ (h, v). ValuesSpelled plain w h v) (zip d.heads vs) → All (λ h. Spells (quantised_at (bare_head h)) (quant_bytes h.quant) h) d.heads
     → HaveEntries entries d.heads vs → spent + values_in vs ≤ MAX_VALUES → (place : ℕ) (rest : List ℕ)
-    → decoder_values_at profile_two w (bare_decoder d) entries spent (record { place = place; rest = decoder_values_bytes plain w d.heads vs ++ rest })
-    ≡ Ok ((placed plain w place d.heads vs, d), record { place = place + length (decoder_values_bytes plain w d.heads vs); rest = rest })
+    → decoder_values_at profile w (bare_decoder d) entries spent (record { place = place; rest = decoder_values_bytes plain w d.heads vs ++ rest })
+    ≡ Ok ((values_placed plain w place d.heads vs, d), record { place = place + length (decoder_values_bytes plain w d.heads vs); rest = rest })
 unfolding decoder_values_at decoder_values_bytes attributes_at quants_at
 decoder_spelled plain w flags entries spent d vs same each quants counts few place rest =
     let values = attributes_bytes plain w d.heads vs in
     let first = attributes_spelled plain w flags entries spent [] d.heads vs same each counts (omega (arith, few)) place (quants_bytes d.heads ++ rest) in
     let second = (quants_spelled [] d.heads quants).reads (place + length values) rest in
     let after : place + length values + length (quants_bytes d.heads) ≡ place + length (values ++ quants_bytes d.heads) = omega (arith, length-append values (quants_bytes d.heads)) in
-    ap (λ bs. decoder_values_at profile_two w (bare_decoder d) entries spent (record { place = place; rest = bs })) (append_assoc values (quants_bytes d.heads) rest)
+    ap (λ bs. decoder_values_at profile w (bare_decoder d) entries spent (record { place = place; rest = bs })) (append_assoc values (quants_bytes d.heads) rest)
     ∙ rw (first, second, after) refl

@@ -17,31 +17,31 @@ use Rattle.mesh_model.specs.declared.heads.Head.{Head}
 use Rattle.attr_section.specs.declared.decoder_heads.DecoderHead.{DecoderHead}
 use Rattle.attr_section.specs.declared.links.Link.{Link}
 use Rattle.attr_section.specs.Each.{each_at}
-use Rattle.attr_section.specs.Heads.{position_id, no_link, decoder_count_at, is_known_id, is_used_id, most_element, most_walk, link_at, linked_at, links_at, is_type, head_at, coding_of, coding_at, codings_at, attributes_of, attribute_count_at, decoder_at, decoders_at, heads_at, id_byte, link_bytes, head_bytes, decoder_bytes, links_bytes, heads_bytes, bare_head, bare_decoder, link_of, HeadPasses, DecoderPasses, DecodersPass, LinkPasses, LinksPass, AreLinked, DecoderSpelled}
+use Rattle.attr_section.specs.Heads.{position_id, no_link, decoder_count_at, is_known_id, is_used_id, most_element, most_walk, link_at, linked_at, links_at, is_type, head_at, type_coding, coding_at, codings_at, attributes_of, attribute_count_at, decoder_at, decoders_at, heads_at, id_byte, link_bytes, head_bytes, decoder_bytes, links_bytes, heads_bytes, bare_head, bare_decoder, link_of, HeadPasses, DecoderPasses, DecodersPass, LinkPasses, LinksPass, AreAcceptedLinks, DecoderSpelled}
 
 -- a value that is changed after it is read
 pub Spells-map : {A B : Type 0} (f : A → B) (item : Reading → Item A) (bytes : List ℕ) (x : A) → Spells item bytes x → Spells (λ c. item c >>= λ r. Ok (f r.0, r.1)) bytes (f x)
 Spells-map f item bytes x spells = record { reads = λ place rest. rw (spells.reads place rest) refl }
 
 -- the coding of a data type
-Spells-coding : (dtype : ℕ) → Spells (coding_at dtype) (coding_of dtype ∷ []) (coding_of dtype)
+Spells-coding : (dtype : ℕ) → Spells (coding_at dtype) (type_coding dtype ∷ []) (type_coding dtype)
 unfolding coding_at
 Spells-coding dtype =
-    Spells-must kind.Coding (λ k. k == coding_of dtype) (must kind.Octahedral (λ k. not (k == 3)) (must kind.Generic (λ k. not (k == 0)) (number_at 1))) (coding_of dtype ∷ []) (coding_of dtype) (grind arith)
-    (Spells-must kind.Octahedral (λ k. not (k == 3)) (must kind.Generic (λ k. not (k == 0)) (number_at 1)) (coding_of dtype ∷ []) (coding_of dtype) (grind arith)
-    (Spells-must kind.Generic (λ k. not (k == 0)) (number_at 1) (coding_of dtype ∷ []) (coding_of dtype) (grind arith) (Spells-byte (coding_of dtype))))
+    Spells-must kind.Coding (λ k. k == type_coding dtype) (must kind.Octahedral (λ k. not (k == 3)) (must kind.Generic (λ k. not (k == 0)) (number_at 1))) (type_coding dtype ∷ []) (type_coding dtype) (grind arith)
+    (Spells-must kind.Octahedral (λ k. not (k == 3)) (must kind.Generic (λ k. not (k == 0)) (number_at 1)) (type_coding dtype ∷ []) (type_coding dtype) (grind arith)
+    (Spells-must kind.Generic (λ k. not (k == 0)) (number_at 1) (type_coding dtype ∷ []) (type_coding dtype) (grind arith) (Spells-byte (type_coding dtype))))
 
 -- the codings behind those read before
 Spells-codings_behind : (front : List ℕ) (heads : List Head)
-    → Spells (each_at (λ _ h. coding_at h.dtype) front (map bare_head heads)) (map (λ h. coding_of h.dtype) heads) (front ++ map (λ h. coding_of h.dtype) heads)
+    → Spells (each_at (λ _ h. coding_at h.dtype) front (map bare_head heads)) (map (λ h. type_coding h.dtype) heads) (front ++ map (λ h. type_coding h.dtype) heads)
 unfolding each_at
 Spells-codings_behind front [] = subst (λ l. Spells (λ c. Ok (front, c)) [] l) (sym (append-nil front)) (Spells-none front)
 Spells-codings_behind front (h ∷ heads) =
     Spells-then (coding_at h.dtype) (λ x c. each_at (λ _ g. coding_at g.dtype) (front ++ x ∷ []) (map bare_head heads) c)
-    (coding_of h.dtype ∷ []) (map (λ g. coding_of g.dtype) heads) (coding_of h.dtype) (front ++ map (λ g. coding_of g.dtype) (h ∷ heads))
+    (type_coding h.dtype ∷ []) (map (λ g. type_coding g.dtype) heads) (type_coding h.dtype) (front ++ map (λ g. type_coding g.dtype) (h ∷ heads))
     (Spells-coding h.dtype)
-    (subst (λ l. Spells (each_at (λ _ g. coding_at g.dtype) (front ++ coding_of h.dtype ∷ []) (map bare_head heads)) (map (λ g. coding_of g.dtype) heads) l)
-    (append_assoc front (coding_of h.dtype ∷ []) (map (λ g. coding_of g.dtype) heads)) (Spells-codings_behind (front ++ coding_of h.dtype ∷ []) heads))
+    (subst (λ l. Spells (each_at (λ _ g. coding_at g.dtype) (front ++ type_coding h.dtype ∷ []) (map bare_head heads)) (map (λ g. type_coding g.dtype) heads) l)
+    (append_assoc front (type_coding h.dtype ∷ []) (map (λ g. type_coding g.dtype) heads)) (Spells-codings_behind (front ++ type_coding h.dtype ∷ []) heads))
 
 -- a head whose id has 32 bits
 pub Spells-head : (h : Head) → HeadPasses h → h.id < 2 ^ 32 → Spells head_at (head_bytes h) (bare_head h)
@@ -80,12 +80,12 @@ decoder_spelled d passes each = record {
       let within : nat_le (before + length d.heads) MAX_ATTRIBUTES ≡ true = grind (arith, few) in
       let link = link_of d in
       Spells-then (attribute_count_at before) (λ n c. many_at head_at n c >>= λ hs. codings_at hs.0 hs.1 >>= λ ks. Ok (record { data_id = link.data_id; corner = link.corner; degree = link.degree; heads = hs.0 }, ks.1))
-      (spelling 5 (length d.heads)) (flat_map head_bytes d.heads ++ map (λ h. coding_of h.dtype) d.heads) (length d.heads) (bare_decoder d)
+      (spelling 5 (length d.heads)) (flat_map head_bytes d.heads ++ map (λ h. type_coding h.dtype) d.heads) (length d.heads) (bare_decoder d)
       (Spells-must kind.AttrLimit (λ n. nat_le (before + n) MAX_ATTRIBUTES) (must kind.NoAttribute (λ n. nat_lt 0 n) var32_at) (spelling 5 (length d.heads)) (length d.heads) within
       (Spells-must kind.NoAttribute (λ n. nat_lt 0 n) var32_at (spelling 5 (length d.heads)) (length d.heads) some (Spells-var32 (length d.heads) (omega (arith, few)))))
       (Spells-then (many_at head_at (length d.heads)) (λ hs c. codings_at hs c >>= λ ks. Ok (record { data_id = link.data_id; corner = link.corner; degree = link.degree; heads = hs }, ks.1))
-      (flat_map head_bytes d.heads) (map (λ h. coding_of h.dtype) d.heads) (map bare_head d.heads) (bare_decoder d) (Spells-heads d.heads each)
-      (Spells-map (λ ks. record { data_id = link.data_id; corner = link.corner; degree = link.degree; heads = map bare_head d.heads }) (codings_at (map bare_head d.heads)) (map (λ h. coding_of h.dtype) d.heads) (map (λ h. coding_of h.dtype) d.heads) (Spells-codings_behind [] d.heads)));
+      (flat_map head_bytes d.heads) (map (λ h. type_coding h.dtype) d.heads) (map bare_head d.heads) (bare_decoder d) (Spells-heads d.heads each)
+      (Spells-map (λ ks. record { data_id = link.data_id; corner = link.corner; degree = link.degree; heads = map bare_head d.heads }) (codings_at (map bare_head d.heads)) (map (λ h. type_coding h.dtype) d.heads) (map (λ h. type_coding h.dtype) d.heads) (Spells-codings_behind [] d.heads)));
 }
 
 -- decoders behind others, each of which is read back
@@ -158,7 +158,7 @@ Spells-links attr_data start front (d ∷ ds) pass =
     (Spells-links attr_data (start + 1) (front ++ link_of d ∷ []) ds pass.1))
 
 -- the links of all decoders
-Spells-linked : (attr_data : Option ℕ) (ds : List DecoderHead) → AreLinked attr_data ds
+Spells-linked : (attr_data : Option ℕ) (ds : List DecoderHead) → AreAcceptedLinks attr_data ds
     → Spells (links_at attr_data (length ds)) (links_bytes (is_some attr_data) ds) (map link_of ds)
 unfolding links_at linked_at
 Spells-linked None ds linked = subst (λ l. Spells (λ c. Ok (replicate (length ds) no_link, c)) [] l) (sym linked) (Spells-none (replicate (length ds) no_link))
@@ -174,7 +174,7 @@ attributes_of-some (d ∷ ds) each =
     omega (arith, all, first, rest)
 
 -- the heads of all decoders
-pub heads_spelled : (attr_data : Option ℕ) (ds : List DecoderHead) → DecodersPass ds → AreLinked attr_data ds → All DecoderSpelled ds
+pub heads_spelled : (attr_data : Option ℕ) (ds : List DecoderHead) → DecodersPass ds → AreAcceptedLinks attr_data ds → All DecoderSpelled ds
     → Spells (heads_at attr_data) (heads_bytes (is_some attr_data) ds) (map bare_decoder ds)
 unfolding heads_at heads_bytes decoder_count_at decoders_at
 heads_spelled attr_data ds pass linked each =

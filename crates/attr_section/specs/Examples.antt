@@ -5,8 +5,8 @@ use Rattle.attr_section.specs.declared.decoder_heads.DecoderHead.{DecoderHead}
 use Rattle.attr_section.specs.declared.values.Values.{Values}
 
 -- integer positions
-abbrev pub position_head : Head
-position_head = record { usage = 0; dtype = 5; comps = 3; normalized = 0; id = 0; quant = None }
+abbrev pub example_head : Head
+example_head = record { usage = 0; dtype = 5; comps = 3; normalized = 0; id = 0; quant = None }
 
 -- texture coordinates of eight bits
 abbrev pub texture_head : Head
@@ -28,8 +28,8 @@ abbrev pub texture_values : List ℤ
 texture_values = pos 1 ∷ pos 2 ∷ pos 3 ∷ pos 255 ∷ []
 
 -- the difference, or no prediction
-abbrev pub prediction_of : Bool → ℤ
-prediction_of difference = if difference then pos 0 else negsuc 1
+abbrev pub example_prediction : Bool → ℤ
+example_prediction difference = if difference then pos 0 else negsuc 1
 
 -- positions of the four entries of two triangles with a side in common, and of a tetrahedron
 abbrev pub surface_values : Bool → List ℤ
@@ -47,4 +47,4 @@ surface_positions closed many = record { values = surface_values closed; predict
 
 -- a decoder of these positions
 abbrev pub surface_decoder : DecoderHead
-surface_decoder = record { data_id = Some 255; corner = false; degree = false; heads = position_head ∷ [] }
+surface_decoder = record { data_id = Some 255; corner = false; degree = false; heads = example_head ∷ [] }

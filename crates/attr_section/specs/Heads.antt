@@ -80,13 +80,13 @@ head_at c = do
   Ok (record { usage = usage.0; dtype = dtype.0; comps = comps.0; normalized = normalized.0; id = id.0; quant = None }, id.1)
 
 -- the coding of a data type: 1 integers, 2 quantised floats
-abbrev pub coding_of : ℕ → ℕ
-coding_of dtype = if dtype == 9 then 2 else 1
+abbrev pub type_coding : ℕ → ℕ
+type_coding dtype = if dtype == 9 then 2 else 1
 
 -- the coding of an attribute of this type; 0 is that of floats as they are, 3 that of octahedral normals
 unfoldable pub coding_at : ℕ → Reading → Item ℕ
 coding_at dtype c =
-    must kind.Coding (λ k. k == coding_of dtype)
+    must kind.Coding (λ k. k == type_coding dtype)
     (must kind.Octahedral (λ k. not (k == 3)) (must kind.Generic (λ k. not (k == 0)) (number_at 1))) c
 
 -- the codings of attributes
@@ -136,7 +136,7 @@ head_bytes h = h.usage ∷ h.dtype ∷ h.comps ∷ h.normalized ∷ spelling 5 h
 
 -- the bytes of a decoder's heads: their number, the heads, their codings
 abbrev pub decoder_bytes : DecoderHead → List ℕ
-decoder_bytes d = spelling 5 (length d.heads) ++ (flat_map head_bytes d.heads ++ map (λ h. coding_of h.dtype) d.heads)
+decoder_bytes d = spelling 5 (length d.heads) ++ (flat_map head_bytes d.heads ++ map (λ h. type_coding h.dtype) d.heads)
 
 -- the bytes of the links, which stand under Edgebreaker alone
 abbrev pub links_bytes : Bool → List DecoderHead → List ℕ
@@ -190,9 +190,9 @@ LinksPass attr_data before [] = Unit {0}
 LinksPass attr_data before (d ∷ decoders) = LinkPasses attr_data before d × LinksPass attr_data (before ++ link_of d ∷ []) decoders
 
 -- the links are those of a sequential stream, or are accepted beside so many attribute data
-abbrev pub AreLinked : Option ℕ → List DecoderHead → Type 0
-AreLinked None decoders = map link_of decoders ≡ replicate (length decoders) no_link
-AreLinked (Some attr_data) decoders = LinksPass attr_data [] decoders
+abbrev pub AreAcceptedLinks : Option ℕ → List DecoderHead → Type 0
+AreAcceptedLinks None decoders = map link_of decoders ≡ replicate (length decoders) no_link
+AreAcceptedLinks (Some attr_data) decoders = LinksPass attr_data [] decoders
 
 -- a decoder is read back behind others
 pub record DecoderSpelled (d : DecoderHead) : Type 0 where

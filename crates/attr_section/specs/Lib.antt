@@ -1,6 +1,5 @@
 pub mod Each
 pub mod Heads
-pub mod Surfaces
 pub mod Values
 pub mod ValueLaws
 pub mod Written

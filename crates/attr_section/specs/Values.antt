@@ -2,66 +2,35 @@
 -- Parallelogram Prediction", "Mesh Constrained Multi Parallelogram Prediction" and "Quantization"; the limits and what is
 -- refused are this project's choice). The values of a stream's decoder stand on the surface of its walk, where there is one:
 -- there is none in a sequential stream.
-use Rattle.std.specs.Prelude.{◌≡◌, ℕ, suc, ◌+◌, ◌-◌, ◌*◌, ◌/◌, ◌%◌, ◌^◌, ◌==◌, ◌&&◌, Bool, true, ℤ, pos, negsuc, ◌-ℤ◌, List, [], ◌∷◌}
+use Rattle.std.specs.Prelude.{◌≡◌, ℕ, suc, ◌+◌, ◌-◌, ◌*◌, ◌/◌, ◌%◌, ◌^◌, ◌==◌, ◌&&◌, Bool, ℤ, pos, negsuc, ◌-ℤ◌, List, [], ◌∷◌}
 use Rattle.std.specs.Prelude.{length, get_or, map, Option, None, Some, Ok, Err, sum_by, nat_le, int_le, int_lt, if◌then◌else◌}
-use Rattle.std.specs.List.{list_all}
+use Rattle.std.specs.List.{list_all, range_with_len}
 use Rattle.drc_base.specs.declared.kinds.Kind.TheVariants as kind
 use Rattle.drc_base.specs.Profile.{Profile}
 use Rattle.drc_base.specs.Steps.{◌>>=◌}
 use Rattle.drc_bits.specs.Reading.{Reading, Item, must, many_at, fault_at}
 use Rattle.drc_bits.specs.Numbers.{number_at, signed_at}
 use Rattle.drc_bits.specs.Varint.{var32_at}
-use Rattle.rans_binary.specs.Blocks.{first_bits, block_at as bit_block_at}
+use Rattle.rans_binary.specs.Blocks.{first_bits, bit_block_at}
 use Rattle.mesh_model.specs.declared.heads.Head.{Head}
 use Rattle.mesh_model.specs.declared.heads.Quant.{Quant}
 use Rattle.mesh_model.specs.Head.{in_type}
 use Rattle.predict.specs.Wrap.{Range}
 use Rattle.symbol_coding.specs.Block.{block_at}
-use Rattle.predict.specs.Restored.{restored, entry_before}
+use Rattle.predict.specs.declared.schemes.Prediction.{Prediction}
+use Rattle.predict.specs.Schemes.{facts, code_of, prediction_of}
+use Rattle.predict.specs.Restored.{restored}
 use Rattle.predict.specs.Walked.{Walked}
-use Rattle.predict.specs.Parallelogram.{parallelogram}
-use Rattle.predict.specs.Multi.{multi, wanted}
+use Rattle.predict.specs.Surfaces.{surface_or, lacks_surface}
+use Rattle.predict.specs.Foretold.{foretold, wanted_of}
 use Rattle.attr_section.specs.declared.decoder_heads.DecoderHead.{DecoderHead}
 use Rattle.attr_section.specs.declared.values.Values.{Values}
-use Rattle.attr_section.specs.declared.predictions.Prediction.{Prediction}
-use Rattle.attr_section.specs.declared.predictions.Prediction.TheVariants as prediction
 use Rattle.attr_section.specs.Each.{each_at}
-
--- no prediction
-abbrev pub no_prediction : ℤ
-no_prediction = negsuc 1
-
--- the number of a prediction: -2 none, 0 difference, 1 parallelogram, 4 constrained multi-parallelogram
-abbrev pub code_of : Prediction → ℤ
-code_of prediction.Off = no_prediction
-code_of prediction.Difference = pos 0
-code_of prediction.Parallelogram = pos 1
-code_of prediction.Multi = pos 4
-
--- the byte of a prediction
-abbrev pub byte_of : Prediction → ℕ
-byte_of prediction.Off = 254
-byte_of prediction.Difference = 0
-byte_of prediction.Parallelogram = 1
-byte_of prediction.Multi = 4
-
--- the prediction of a byte, where it is the byte of one
-abbrev pub prediction_of : ℕ → Option Prediction
-prediction_of b =
-    if b == 254 then Some prediction.Off else if b == 0 then Some prediction.Difference
-    else if b == 1 then Some prediction.Parallelogram else if b == 4 then Some prediction.Multi else None
-
--- whether a profile has a prediction: constrained multi-parallelogram prediction where it says so, the others always
-abbrev pub has_prediction : Profile → Prediction → Bool
-has_prediction p prediction.Off = true
-has_prediction p prediction.Difference = true
-has_prediction p prediction.Parallelogram = true
-has_prediction p prediction.Multi = p.multi
 
 -- a prediction that a profile has; any other is refused at its byte
 abbrev pub tested_prediction : Profile → Reading → Option Prediction → Reading → Item Prediction
 tested_prediction p c None after = fault_at kind.Prediction c
-tested_prediction p c (Some q) after = if has_prediction p q then Ok (q, after) else fault_at kind.Prediction c
+tested_prediction p c (Some q) after = if nat_le (facts q).since p.number then Ok (q, after) else fault_at kind.Prediction c
 
 -- the prediction of an attribute in a profile
 unfoldable pub prediction_at : Profile → Reading → Item Prediction
@@ -114,22 +83,6 @@ integers_at comps n c = do
   compressed ← number_at 1 c
   if compressed.0 == 0 then plain_values_at n compressed.1 else compressed_values_at comps n compressed.1
 
--- n values that are restored from corrections by difference
-unfoldable pub differences_at : ℕ → ℕ → Reading → Item (List ℤ)
-differences_at comps n c = do
-  transform ← transform_at c
-  corrections ← integers_at comps n transform.1
-  range ← range_at corrections.1
-  Ok (restored (entry_before comps) range.0 corrections.0, range.1)
-
--- n values that are restored from corrections by parallelograms over a surface
-unfoldable pub parallelograms_at : Walked → ℕ → ℕ → Reading → Item (List ℤ)
-parallelograms_at w comps n c = do
-  transform ← transform_at c
-  corrections ← integers_at comps n transform.1
-  range ← range_at corrections.1
-  Ok (restored (parallelogram w comps) range.0 corrections.0, range.1)
-
 -- so many flags: the first bits of a block, and no block where there are none. What a block has behind them counts for nothing
 unfoldable pub flag_bits_at : ℕ → Reading → Item (List Bool)
 flag_bits_at count c = if count == 0 then Ok ([], c) else (bit_block_at c >>= λ b. Ok (first_bits count b.0, b.1))
@@ -144,41 +97,36 @@ flags_at corners c = do
   count ← flag_count_at corners c
   flag_bits_at count.0 count.1
 
--- the four lists of flags over a surface: those of entries with one parallelogram, with two, three and four
-unfoldable pub flag_lists_at : Walked → Reading → Item (List (List Bool))
-flag_lists_at w c = many_at (flags_at (length w.entries)) 4 c
+-- so many lists of flags over a surface
+unfoldable pub flag_lists_at : ℕ → Walked → Reading → Item (List (List Bool))
+flag_lists_at count w c = many_at (flags_at (length w.entries)) count c
 
--- whether each of the four lists has the flags that are wanted of it
-abbrev pub has_flags : Walked → List (List Bool) → Bool
-has_flags w lists = list_all (λ k. nat_le (wanted w (suc k) (length w.corners)) (length (get_or lists k []))) (0 ∷ 1 ∷ 2 ∷ 3 ∷ [])
+-- whether each list has the flags that a prediction needs of it
+abbrev pub has_flags : Prediction → Walked → List (List Bool) → Bool
+has_flags q w lists = list_all (λ k. nat_le (wanted_of q w k) (length (get_or lists k []))) (range_with_len 0 (facts q).flag_lists)
 
--- the values of corrections and flags; where a flag is wanted that isn't there, they are refused at this place
-abbrev pub with_flags : ℕ → Walked → ℕ → List (List Bool) → Range → List ℤ → Reading → Item (List ℤ)
-with_flags at w comps lists range corrections after =
-    if has_flags w lists then Ok (restored (multi w comps lists) range corrections, after)
+-- the values of corrections and flags; where a flag is needed that isn't there, they are refused at this place
+unfoldable pub with_flags : ℕ → Walked → Prediction → ℕ → List (List Bool) → Range → List ℤ → Reading → Item (List ℤ)
+with_flags at w q comps lists range corrections after =
+    if has_flags q w lists then Ok (restored (foretold q w comps lists) range corrections, after)
     else Err (record { kind = kind.FlagsShort; at = at })
 
--- n values that are restored from corrections by the means of parallelograms over a surface, which flags choose; the byte of their
--- prediction stands at this place
-unfoldable pub means_at : ℕ → Walked → ℕ → ℕ → Reading → Item (List ℤ)
-means_at at w comps n c = do
+-- n values that are restored from corrections by this prediction, whose byte stands at this place, over a surface: the transform, the
+-- corrections, the lists of flags that the prediction has, and the range
+unfoldable pub corrected_at : ℕ → Walked → Prediction → ℕ → ℕ → Reading → Item (List ℤ)
+corrected_at at w q comps n c = do
   transform ← transform_at c
   corrections ← integers_at comps n transform.1
-  lists ← flag_lists_at w corrections.1
+  lists ← flag_lists_at (facts q).flag_lists w corrections.1
   range ← range_at lists.1
-  with_flags at w comps lists.0 range.0 corrections.0 range.1
+  with_flags at w q comps lists.0 range.0 corrections.0 range.1
 
--- values over the surface of a walk; where there is none their prediction is refused at this place
-abbrev pub over_surface : ℕ → Option Walked → (Walked → Reading → Item (List ℤ)) → Reading → Item (List ℤ)
-over_surface at None values c = Err (record { kind = kind.Prediction; at = at })
-over_surface at (Some w) values c = values w c
-
--- n values of this prediction, whose byte stands at this place
-abbrev pub predicted_at : ℕ → Option Walked → Prediction → ℕ → ℕ → Reading → Item (List ℤ)
-predicted_at at w prediction.Off comps n c = integers_at comps n c
-predicted_at at w prediction.Difference comps n c = differences_at comps n c
-predicted_at at w prediction.Parallelogram comps n c = over_surface at w (λ s. parallelograms_at s comps n) c
-predicted_at at w prediction.Multi comps n c = over_surface at w (λ s. means_at at s comps n) c
+-- n values of this prediction, whose byte stands at this place; where it needs a surface that isn't there, they are refused at this place
+unfoldable pub predicted_at : ℕ → Option Walked → Prediction → ℕ → ℕ → Reading → Item (List ℤ)
+predicted_at at w q comps n c =
+    if (facts q).corrects
+    then if lacks_surface q w then Err (record { kind = kind.Prediction; at = at }) else corrected_at at (surface_or w) q comps n c
+    else integers_at comps n c
 
 -- n values of an attribute, each of which is in its data type
 unfoldable pub typed_values_at : Profile → Option Walked → Head → ℕ → Reading → Item Values

@@ -1,12 +1,11 @@
 -- The bytes of attributes' values (Draco Bitstream Specification 2.2, sections "Sequential Attributes", "Prediction
 -- Decoder", "Mesh Parallelogram Prediction", "Mesh Constrained Multi Parallelogram Prediction" and "Quantization"; which of
 -- the allowed spellings is written is this project's choice). The values stand on the surface of a walk, where there is one.
-use Rattle.drc_base.specs.Profile.{profile_two}
+use Rattle.drc_base.specs.Profile.{profile}
 use Rattle.std.specs.Prelude.{◌≡◌, ◌≤◌, ◌<◌, ℕ, suc, ◌+◌, ◌*◌, ◌%◌, ◌^◌, ◌==◌, Bool, true, false, ℤ, pos, negsuc}
 use Rattle.std.specs.Prelude.{List, [], ◌∷◌, ◌++◌, length, map, flat_map, fold, max, Option, None, Some, Ok, nat_lt, if◌then◌else◌, All}
 use Rattle.std.specs.Int.{w32, cast_unsigned, int_min, int_max}
 use Rattle.std.specs.List.{list_all, zip}
-use Rattle.std.specs.Ordering.{int_eq}
 use Rattle.drc_base.specs.declared.limits.TheConstants.{MAX_VALUES}
 use Rattle.drc_bits.specs.Bits.{low_bytes}
 use Rattle.drc_bits.specs.Spells.{Spells}
@@ -16,21 +15,17 @@ use Rattle.mesh_model.specs.declared.heads.Head.{Head}
 use Rattle.mesh_model.specs.declared.heads.Quant.{Quant}
 use Rattle.mesh_model.specs.Head.{in_type}
 use Rattle.predict.specs.Wrap.{Range, CanWrap}
-use Rattle.predict.specs.Restored.{corrections, entry_before}
+use Rattle.predict.specs.declared.schemes.Prediction.{Prediction}
+use Rattle.predict.specs.Schemes.{facts, code_of, byte_of, prediction_coded}
+use Rattle.predict.specs.Symbols.{zigzag_of}
+use Rattle.predict.specs.Restored.{corrections}
 use Rattle.predict.specs.Walked.{Walked}
-use Rattle.predict.specs.Parallelogram.{parallelogram}
-use Rattle.predict.specs.Multi.{multi, wanted, marked}
+use Rattle.predict.specs.Surfaces.{surface_or, CanStand}
+use Rattle.predict.specs.Foretold.{foretold, marks_of, wanted_of}
 use Rattle.symbol_coding.specs.Block.{block_bytes}
 use Rattle.attr_section.specs.declared.values.Values.{Values}
-use Rattle.attr_section.specs.declared.predictions.Prediction.{Prediction}
-use Rattle.attr_section.specs.declared.predictions.Prediction.TheVariants as prediction
 use Rattle.attr_section.specs.Heads.{bare_head}
-use Rattle.attr_section.specs.Values.{no_prediction, code_of, byte_of, flags_at, predicted_at, values_at}
-
--- the zigzag symbol of an integer: 0, 1, 2, 3 for 0, -1, 1, -2 and so on
-abbrev pub symbol_of : ℤ → ℕ
-symbol_of (pos n) = 2 * n
-symbol_of (negsuc n) = 2 * n + 1
+use Rattle.attr_section.specs.Values.{flags_at, predicted_at, values_at}
 
 -- the greatest symbol
 abbrev pub greatest_symbol : List ℕ → ℕ
@@ -50,7 +45,7 @@ symbols_bytes plain comps symbols = if plain then 0 ∷ plain_bytes symbols else
 
 -- integers of entries of so many components, each by its symbol
 unfoldable pub integers_bytes : Bool → ℕ → List ℤ → List ℕ
-integers_bytes plain comps values = symbols_bytes plain comps (map symbol_of values)
+integers_bytes plain comps values = symbols_bytes plain comps (map zigzag_of values)
 
 -- the range of values
 abbrev pub range_of : List ℤ → Range
@@ -65,23 +60,6 @@ signed_bytes x = low_bytes 4 (cast_unsigned w32 x)
 abbrev pub range_bytes : Range → List ℕ
 range_bytes r = signed_bytes r.low ++ signed_bytes r.high
 
--- values by this prediction: the transform, the corrections, these bytes of its flags, the range
-abbrev pub corrected_bytes : Bool → ℕ → (List ℤ → ℤ) → List ℕ → List ℤ → List ℕ
-corrected_bytes plain comps predicted flags values =
-    1 ∷ (integers_bytes plain comps (corrections predicted (range_of values) values) ++ (flags ++ range_bytes (range_of values)))
-
--- values by difference
-unfoldable pub differences_bytes : Bool → ℕ → List ℤ → List ℕ
-differences_bytes plain comps values = corrected_bytes plain comps (entry_before comps) [] values
-
--- values by parallelograms over a surface
-unfoldable pub parallelograms_bytes : Bool → Walked → ℕ → List ℤ → List ℕ
-parallelograms_bytes plain w comps values = corrected_bytes plain comps (parallelogram w comps) [] values
-
--- the four lists of flags that are written over a surface: those of entries with one parallelogram, with two, three and four
-abbrev pub flag_lists_of : Walked → ℕ → List ℤ → List (List Bool)
-flag_lists_of w comps values = map (λ k. marked w comps values (suc k) (length w.corners)) (0 ∷ 1 ∷ 2 ∷ 3 ∷ [])
-
 -- the flags of a list: a block of them, and nothing where there are none
 abbrev pub flag_bits_bytes : List Bool → List ℕ
 flag_bits_bytes flags = if length flags == 0 then [] else block flags
@@ -90,40 +68,29 @@ flag_bits_bytes flags = if length flags == 0 then [] else block flags
 unfoldable pub flags_bytes : List Bool → List ℕ
 flags_bytes flags = spelling 5 (length flags) ++ flag_bits_bytes flags
 
--- values by the means of parallelograms over a surface, which these flags choose
-unfoldable pub flagged_bytes : Bool → Walked → ℕ → List (List Bool) → List ℤ → List ℕ
-flagged_bytes plain w comps lists values = corrected_bytes plain comps (multi w comps lists) (flat_map flags_bytes lists) values
+-- values by this prediction over a surface, with these lists of flags: the transform, the corrections, the flags, the range
+unfoldable pub flagged_bytes : Bool → Walked → Prediction → ℕ → List (List Bool) → List ℤ → List ℕ
+flagged_bytes plain w q comps lists values =
+    1 ∷ (integers_bytes plain comps (corrections (foretold q w comps lists) (range_of values) values)
+    ++ (flat_map flags_bytes lists ++ range_bytes (range_of values)))
 
--- values by the means of parallelograms over a surface
-abbrev pub means_bytes : Bool → Walked → ℕ → List ℤ → List ℕ
-means_bytes plain w comps values = flagged_bytes plain w comps (flag_lists_of w comps values) values
-
--- what is written over the surface of a walk, where there is one
-abbrev pub surface_bytes : Option Walked → (Walked → List ℕ) → List ℕ
-surface_bytes None bytes = []
-surface_bytes (Some w) bytes = bytes w
+-- values by this prediction over a surface
+abbrev pub corrected_bytes : Bool → Walked → Prediction → ℕ → List ℤ → List ℕ
+corrected_bytes plain w q comps values = flagged_bytes plain w q comps (marks_of q w comps values) values
 
 -- values of this prediction, behind its byte
-abbrev pub predicted_bytes : Bool → Option Walked → Prediction → ℕ → List ℤ → List ℕ
-predicted_bytes plain w prediction.Off comps values = integers_bytes plain comps values
-predicted_bytes plain w prediction.Difference comps values = differences_bytes plain comps values
-predicted_bytes plain w prediction.Parallelogram comps values = surface_bytes w (λ s. parallelograms_bytes plain s comps values)
-predicted_bytes plain w prediction.Multi comps values = surface_bytes w (λ s. means_bytes plain s comps values)
-
--- the prediction of a number, where it is the number of one
-abbrev pub prediction_coded : ℤ → Option Prediction
-prediction_coded code =
-    if int_eq code no_prediction then Some prediction.Off else if int_eq code (pos 0) then Some prediction.Difference
-    else if int_eq code (pos 1) then Some prediction.Parallelogram else if int_eq code (pos 4) then Some prediction.Multi else None
+unfoldable pub predicted_bytes : Bool → Option Walked → Prediction → ℕ → List ℤ → List ℕ
+predicted_bytes plain w q comps values =
+    if (facts q).corrects then corrected_bytes plain (surface_or w) q comps values else integers_bytes plain comps values
 
 -- values of a prediction, where there is one: its byte, and what it says
-abbrev pub coded_bytes : Bool → Option Walked → Option Prediction → ℕ → List ℤ → List ℕ
-coded_bytes plain w None comps values = []
-coded_bytes plain w (Some q) comps values = byte_of q ∷ predicted_bytes plain w q comps values
+abbrev pub prediction_bytes : Bool → Option Walked → Option Prediction → ℕ → List ℤ → List ℕ
+prediction_bytes plain w None comps values = []
+prediction_bytes plain w (Some q) comps values = byte_of q ∷ predicted_bytes plain w q comps values
 
 -- the values of an attribute of so many components: the byte of the prediction, and what it says
 unfoldable pub values_bytes : Bool → Option Walked → ℕ → Values → List ℕ
-values_bytes plain w comps v = coded_bytes plain w (prediction_coded v.predict) comps v.values
+values_bytes plain w comps v = prediction_bytes plain w (prediction_coded v.predict) comps v.values
 
 -- a quantisation: the minima, the range, the bits
 abbrev pub quant_bytes : Option Quant → List ℕ
@@ -152,15 +119,11 @@ abbrev pub QuantFits : Option Quant → Type 0
 QuantFits None = Unit {0}
 QuantFits (Some q) = All (λ m. m < 2 ^ 32) q.min × (q.range < 2 ^ 32)
 
--- values that may have this prediction: a range in which corrections wrap, and for parallelograms a surface, each entry of which
--- has its values
-abbrev pub CanPredict : Option Walked → ℕ → List ℤ → Prediction → Type 0
-CanPredict w comps values prediction.Off = Unit {0}
-CanPredict w comps values prediction.Difference = CanWrap (range_of values)
-CanPredict None comps values prediction.Parallelogram = ⊥
-CanPredict None comps values prediction.Multi = ⊥
-CanPredict (Some w) comps values prediction.Parallelogram = CanWrap (range_of values) × (length values ≡ length w.corners * comps)
-CanPredict (Some w) comps values prediction.Multi = CanWrap (range_of values) × (length values ≡ length w.corners * comps)
+-- values that may have this prediction: a range in which corrections wrap, where it corrects, and a surface, each entry of which has its
+-- values, where it needs one
+pub record CanPredict (w : Option Walked) (comps : ℕ) (values : List ℤ) (q : Prediction) : Type 0 where
+  pub wrap : (facts q).corrects ≡ true → CanWrap (range_of values)
+  pub stand : CanStand q w comps (length values)
 
 -- values that an attribute may have: whole entries, at least one, each in the data type, and a prediction that they may have
 pub record ValuesPass (w : Option Walked) (h : Head) (v : Values) : Type 0 where
@@ -178,19 +141,19 @@ pub record DecoderValuesPass (w : Option Walked) (heads : List Head) (attributes
   pub each : All (λ (h, v). ValuesPass w h v) (zip heads attributes)
 
 -- the values with the places of their prediction bytes, where they are written from this place on
-abbrev pub placed : Bool → Option Walked → ℕ → List Head → List Values → List Values
-placed plain w place [] attributes = []
-placed plain w place (h ∷ heads) [] = []
-placed plain w place (h ∷ heads) (v ∷ attributes) =
-    record v { at = place } ∷ placed plain w (place + length (values_bytes plain w h.comps v)) heads attributes
+abbrev pub values_placed : Bool → Option Walked → ℕ → List Head → List Values → List Values
+values_placed plain w place [] attributes = []
+values_placed plain w place (h ∷ heads) [] = []
+values_placed plain w place (h ∷ heads) (v ∷ attributes) =
+    record v { at = place } ∷ values_placed plain w (place + length (values_bytes plain w h.comps v)) heads attributes
 
 -- attributes have so many entries
 abbrev pub HaveEntries : ℕ → List Head → List Values → Type 0
 HaveEntries entries heads attributes = All (λ (h, v). length v.values ≡ entries * h.comps) (zip heads attributes)
 
--- no list of flags over a surface has more of them than there are corners
+-- of no prediction has a list of flags over a surface more of them than there are corners
 pub record HasFewFlags (w : Walked) : Type 0 where
-  pub few : (k : ℕ) → k < 4 → wanted w (suc k) (length w.corners) ≤ length w.entries
+  pub few : (q : Prediction) (k : ℕ) → k < (facts q).flag_lists → wanted_of q w k ≤ length w.entries
 
 -- where there is a surface, no list of flags over it has more of them than there are corners
 abbrev pub MayHaveFewFlags : Option Walked → Type 0
@@ -210,5 +173,5 @@ pub record PredictedSpelled (plain : Bool) (w : Option Walked) (q : Prediction) 
 pub record ValuesSpelled (plain : Bool) (w : Option Walked) (h : Head) (v : Values) : Type 0 where
   pub reads : MayHaveFewFlags w → (entries spent place : ℕ) (rest : List ℕ)
       → length v.values ≡ entries * h.comps → spent + length v.values ≤ MAX_VALUES
-      → values_at profile_two w (bare_head h) entries spent (record { place = place; rest = values_bytes plain w h.comps v ++ rest })
+      → values_at profile w (bare_head h) entries spent (record { place = place; rest = values_bytes plain w h.comps v ++ rest })
       ≡ Ok (record v { at = place }, record { place = place + length (values_bytes plain w h.comps v); rest = rest })

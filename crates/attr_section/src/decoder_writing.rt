@@ -1,22 +1,22 @@
 //! Writing the values of a decoder.
 
-ghost use Rattle.drc_base.specs.Profile.{profile_two};
-ghost use Rattle.std.specs.Prelude.{◌≡◌, ◌≤◌, ◌+◌, ◌++◌, ℕ, List, Ok, IfOk, OnOk, All, length};
+ghost use Rattle.drc_base.specs.Profile.{profile};
+ghost use Rattle.std.specs.Prelude.{◌≡◌, ◌≤◌, ◌+◌, ◌++◌, ℕ, List, Ok, OnOk, All, length};
 ghost use Rattle.std.specs.List.{zip};
 ghost use Rattle.std.specs.Option.{option_map};
 ghost use Rattle.attr_section.specs.Heads.{bare_head, bare_decoder};
 ghost use Rattle.drc_bits.specs.Spells.{Spells};
-ghost use Rattle.attr_section.specs.Surfaces.{surface_of, MayBeOver};
+ghost use Rattle.predict.specs.Surfaces.{surface_of, MayBeOver};
 ghost use Rattle.attr_section.specs.Values.{quantised_at, values_in, decoder_values_at};
-ghost use Rattle.attr_section.specs.Written.{quant_bytes, attributes_bytes, decoder_values_bytes, placed, ValuesPass, DecoderValuesPass, HaveEntries, MayHaveFewFlags, ValuesSpelled};
+ghost use Rattle.attr_section.specs.Written.{quant_bytes, attributes_bytes, decoder_values_bytes, values_placed, ValuesPass, DecoderValuesPass, HaveEntries, MayHaveFewFlags, ValuesSpelled};
 
 use crate::decoder_heads::DecoderHead;
 use crate::quant_writing::put_quants;
 use crate::value_writing::put_values;
 use crate::values::Values;
-use crate::walks::Walked;
 use drc_base::{MAX_VALUES, Memory};
 use mesh_model::Head;
+use predict::Walked;
 use std::alloc::Global;
 
 /// Appends the values of attributes.
@@ -42,49 +42,50 @@ fn put_attributes(
     Ok(())
 }
 
-/// The bytes of the values and quantisations of a decoder, each of which is read back.
+/// Appends the values and quantisations of a decoder, each of which is read back.
 #[tactic(auto, unfolding(crate::specs::Written::decoder_values_bytes))]
-fn written_decoder(
+fn put_decoder(
     alloc: Global,
+    out: &mut Vec<u8>,
     walk: Option<&Walked<'_>>,
     heads: &[Head],
     attributes: &[Values],
     plain: bool,
-) -> Result<Vec<u8>, Memory>
+) -> Result<(), Memory>
     requires values { DecoderValuesPass (surface_of (option_map (λ t. t.now) walk)) heads.now attributes.now }
     requires walk { MayBeOver (option_map (λ t. t.now) walk) }
-    ensures bytes { IfOk result (λ o. o.items ≡ decoder_values_bytes plain (surface_of (option_map (λ t. t.now) walk.entry)) heads.now attributes.now) }
+    ensures bytes { OnOk result (out.new.items ≡ out.old.items ++ decoder_values_bytes plain (surface_of (option_map (λ t. t.now) walk.entry)) heads.now attributes.now) }
     ensures again { OnOk result (All (λ (h, v). ValuesSpelled plain (surface_of (option_map (λ t. t.now) walk.entry)) h v) (zip heads.now attributes.now)) }
     ensures quants { OnOk result (All (λ h. Spells (quantised_at (bare_head h)) (quant_bytes h.quant) h) heads.now) }
 {
-    let mut out = Vec::new(alloc);
-    put_attributes(alloc, &mut out, walk, heads, attributes, plain)?;
-    put_quants(&mut out, heads)?;
-    Ok(out)
+    put_attributes(alloc, out, walk, heads, attributes, plain)?;
+    put_quants(out, heads)?;
+    Ok(())
 }
 
-/// The bytes of the values `v` of the decoder `h`, attribute after attribute, and then of its
-/// quantisations: as they are where `plain` says so, else in symbol blocks. `walk` is the surface that the
-/// values of an Edgebreaker stream stand on, in the order of the decoder's walk; None stands for a
-/// sequential stream. Attributes may be predicted by parallelograms, by one or by the mean of several,
-/// where there is a walk, and then have values for each of its entries. They are read back over that
-/// surface, wherever they begin and whatever follows them, and take exactly their length, for the number of
-/// entries that the values have, where the values of all decoders are within their limit, and no list of
-/// flags over the surface has more of them than there are corners (`flags_are_few`). It is refused for
-/// only when out of memory.
+/// Appends the values `v` of the decoder `h`, attribute after attribute, and then its quantisations: as they
+/// are where `plain` says so, else in symbol blocks. `walk` is the surface that the values of an Edgebreaker
+/// stream stand on, in the order of the decoder's walk; None stands for a sequential stream. Attributes may be
+/// predicted by parallelograms, by one or by the mean of several, where there is a walk, and then have values
+/// for each of its entries. They are read back over that surface, wherever they begin and whatever follows
+/// them, and take exactly the length of their bytes, for the number of entries that the values have, where the
+/// values of all decoders are within their limit, and no list of flags over the surface has more of them than
+/// there are corners (`flags_are_few`). It fails only when out of memory, and what `out` holds then is left
+/// open.
 pub fn write_decoder(
     alloc: Global,
+    out: &mut Vec<u8>,
     h: &DecoderHead,
     v: &[Values],
     plain: bool,
     walk: Option<&Walked<'_>>,
-) -> Result<Vec<u8>, Memory>
+) -> Result<(), Memory>
     requires values { DecoderValuesPass (surface_of (option_map (λ t. t.now) walk)) h.now.heads v.now }
     requires walk { MayBeOver (option_map (λ t. t.now) walk) }
-    ensures bytes { IfOk result (λ o. o.items ≡ decoder_values_bytes plain (surface_of (option_map (λ t. t.now) walk.entry)) h.now.heads v.now) }
-    ensures again { IfOk result (λ o. MayHaveFewFlags (surface_of (option_map (λ t. t.now) walk.entry)) → (entries spent place : ℕ) (rest : List ℕ) → HaveEntries entries h.now.heads v.now → spent + values_in v.now ≤ MAX_VALUES → decoder_values_at profile_two (surface_of (option_map (λ t. t.now) walk.entry)) (bare_decoder h.now) entries spent (record { place = place; rest = o.items ++ rest }) ≡ Ok ((placed plain (surface_of (option_map (λ t. t.now) walk.entry)) place h.now.heads v.now, h.now), record { place = place + length o.items; rest = rest })) }
+    ensures bytes { OnOk result (out.new.items ≡ out.old.items ++ decoder_values_bytes plain (surface_of (option_map (λ t. t.now) walk.entry)) h.now.heads v.now) }
+    ensures again { OnOk result (let bytes = decoder_values_bytes plain (surface_of (option_map (λ t. t.now) walk.entry)) h.now.heads v.now in
+        MayHaveFewFlags (surface_of (option_map (λ t. t.now) walk.entry)) → (entries spent place : ℕ) (rest : List ℕ) → HaveEntries entries h.now.heads v.now → spent + values_in v.now ≤ MAX_VALUES → decoder_values_at profile (surface_of (option_map (λ t. t.now) walk.entry)) (bare_decoder h.now) entries spent (record { place = place; rest = bytes ++ rest }) ≡ Ok ((values_placed plain (surface_of (option_map (λ t. t.now) walk.entry)) place h.now.heads v.now, h.now), record { place = place + length bytes; rest = rest })) }
 {
-    // For the prover alone, who shows the clauses of the value that the call gave.
-    let out = written_decoder(alloc, walk, h.heads.as_slice(), v, plain)?;
-    Ok(out)
+    put_decoder(alloc, out, walk, h.heads.as_slice(), v, plain)?;
+    Ok(())
 }

@@ -1,12 +1,10 @@
-//! Reading the flags of constrained multi-parallelogram prediction.
+//! Reading the flags of predictions.
 
-ghost use Rattle.std.specs.Prelude.{◌≡◌, ◌≤◌, ◌*◌, IfOk, length};
-ghost use Rattle.drc_bits.specs.Reading.{Reads, Gives};
+ghost use Rattle.std.specs.Prelude.{◌≡◌, ◌≤◌, IfOk, length};
+ghost use Rattle.drc_bits.specs.Reading.{Reads, Gives, many_at};
 ghost use Rattle.rans_binary.specs.Blocks.{Block, first_bits};
-ghost use Rattle.attr_section.specs.Surfaces.{surface};
-ghost use Rattle.attr_section.specs.Values.{flag_count_at, flag_bits_at, flags_at, flag_lists_at};
+ghost use Rattle.attr_section.specs.Values.{flag_count_at, flag_bits_at, flags_at};
 
-use crate::walks::Walked;
 use drc_base::{Fault, Kind, Memory, Refusal, Sequence};
 use drc_bits::Cursor;
 use predict::Flags;
@@ -61,22 +59,22 @@ fn read_flags(alloc: Global, c: &mut Cursor<'_>, corners: usize) -> Result<Seque
     Ok(Sequence::from_vec(bits))
 }
 
-/// The four lists of flags over the surface of a walk. `FlagCount` at the number of a list that has more
-/// than three for each face, and the faults of their blocks.
-#[tactic(auto, unfolding(crate::specs::Values::flag_lists_at, drc_bits::specs::Reading::many_at))]
+/// So many lists of flags over so many corners. `FlagCount` at the number of a list that has more flags than
+/// there are corners, so three for each face, and the faults of their blocks.
 pub fn read_flag_lists(
     alloc: Global,
     c: &mut Cursor<'_>,
-    walk: &Walked<'_>,
+    corners: usize,
+    count: u32,
 ) -> Result<Flags, Refusal>
-    ensures { Gives (λ f. f.lists) (flag_lists_at (surface walk.now) c.old) c.new result }
+    ensures { Gives (λ f. f.lists) (many_at (flags_at corners) count c.old) c.new result }
 {
-    let corners = walk.order.entry_of_corner.len();
-    let one = read_flags(alloc, c, corners)?;
-    let two = read_flags(alloc, c, corners)?;
-    let three = read_flags(alloc, c, corners)?;
-    let four = read_flags(alloc, c, corners)?;
+    let mut lists = Vec::new(alloc);
+    for _number in 0..count {
+        let flags = read_flags(alloc, c, corners)?;
+        lists.push(flags)?;
+    }
     Ok(Flags {
-        lists: [one, two, three, four],
+        lists: Sequence::from_vec(lists),
     })
 }

@@ -1,4 +1,4 @@
-//! Writing the flags of constrained multi-parallelogram prediction.
+//! Writing the flags of predictions.
 
 ghost use Rattle.std.specs.Prelude.{◌≡◌, ◌<◌, ◌^◌, ◌++◌, OnOk, All, length, flat_map};
 ghost use Rattle.drc_bits.specs.Spells.{Spells};

@@ -2,7 +2,7 @@
 
 ghost use Rattle.std.specs.Prelude.{◌≡◌, ◌<◌, IfOk, All, length, map};
 ghost use Rattle.drc_bits.specs.Reading.{Reads, Gives, many_at};
-ghost use Rattle.attr_section.specs.Heads.{is_type, head_at, coding_of, coding_at, codings_at};
+ghost use Rattle.attr_section.specs.Heads.{is_type, head_at, type_coding, coding_at, codings_at};
 
 use drc_base::{Fault, Kind, MAX_COMPONENTS, Refusal};
 use drc_bits::Cursor;
@@ -68,7 +68,7 @@ pub fn read_attributes(alloc: Global, c: &mut Cursor<'_>, n: u32) -> Result<Vec<
 
 /// The coding of a data type.
 pub fn coding_of(dtype: u8) -> u8
-    ensures { result ≡ coding_of dtype }
+    ensures { result ≡ type_coding dtype }
 {
     if dtype == FLOAT32 { 2 } else { 1 }
 }
@@ -76,7 +76,7 @@ pub fn coding_of(dtype: u8) -> u8
 /// Reads the coding of an attribute of this type.
 #[tactic(auto, unfolding(crate::specs::Heads::coding_at))]
 fn read_coding(c: &mut Cursor<'_>, dtype: u8) -> Result<(), Fault>
-    ensures { Reads (λ _. coding_of dtype) (coding_at dtype c.old) c.new result }
+    ensures { Reads (λ _. type_coding dtype) (coding_at dtype c.old) c.new result }
 {
     let at = c.place();
     let coding = c.get_u8()?;
@@ -94,7 +94,7 @@ fn read_coding(c: &mut Cursor<'_>, dtype: u8) -> Result<(), Fault>
 
 /// Reads the codings of these attributes.
 pub fn read_codings(c: &mut Cursor<'_>, heads: &[Head]) -> Result<(), Fault>
-    ensures { Reads (λ _. map (λ h. coding_of h.dtype) heads.now) (codings_at heads.now c.old) c.new result }
+    ensures { Reads (λ _. map (λ h. type_coding h.dtype) heads.now) (codings_at heads.now c.old) c.new result }
 {
     for head in heads {
         read_coding(c, head.dtype)?;

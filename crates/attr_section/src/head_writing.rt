@@ -1,16 +1,15 @@
 //! Writing the heads of attribute decoders.
 
-ghost use Rattle.std.specs.Prelude.{◌≡◌, ◌≤◌, ◌++◌, Option, ℕ, IfOk, OnOk, All, flat_map, map, is_some, length};
+ghost use Rattle.std.specs.Prelude.{◌≡◌, ◌≤◌, ◌++◌, Option, ℕ, OnOk, All, flat_map, map, is_some, length};
 ghost use Rattle.drc_bits.specs.Reading.{many_at};
 ghost use Rattle.drc_bits.specs.Spells.{Spells};
-ghost use Rattle.attr_section.specs.Heads.{id_byte, head_at, coding_of, decoder_at, heads_at, head_bytes, link_bytes, decoder_bytes, links_bytes, heads_bytes, bare_head, bare_decoder, link_of, HeadPasses, DecoderPasses, DecodersPass, DecoderSpelled, AreLinked};
+ghost use Rattle.attr_section.specs.Heads.{id_byte, head_at, type_coding, decoder_at, heads_at, head_bytes, link_bytes, decoder_bytes, links_bytes, heads_bytes, bare_head, bare_decoder, link_of, HeadPasses, DecoderPasses, DecodersPass, DecoderSpelled, AreAcceptedLinks};
 
 use crate::decoder_heads::DecoderHead;
 use crate::head_items::coding_of;
 use drc_base::Memory;
 use drc_bits::put_var32;
 use mesh_model::Head;
-use std::alloc::Global;
 
 /// Appends the bytes of a head.
 fn put_head(out: &mut Vec<u8>, head: &Head) -> Result<(), Memory>
@@ -40,7 +39,7 @@ fn put_heads(out: &mut Vec<u8>, heads: &[Head]) -> Result<(), Memory>
 
 /// Appends the codings of heads.
 fn put_codings(out: &mut Vec<u8>, heads: &[Head]) -> Result<(), Memory>
-    ensures { OnOk result (out.new.items ≡ out.old.items ++ map (λ h. coding_of h.dtype) heads.now) }
+    ensures { OnOk result (out.new.items ≡ out.old.items ++ map (λ h. type_coding h.dtype) heads.now) }
 {
     for head in heads {
         out.push(coding_of(head.dtype))?;
@@ -104,31 +103,19 @@ fn put_decoders(out: &mut Vec<u8>, decoders: &[DecoderHead]) -> Result<(), Memor
     Ok(())
 }
 
-/// The bytes of the heads of decoders, each of which is read back.
+/// Appends the heads of the decoders `d`, with their links under Edgebreaker. They are read back, whatever
+/// follows them, without the quantisations of the heads, where the links are those of a sequential stream, or
+/// are accepted beside the number of attribute data. An answer of `Memory` leaves the bytes open.
 #[tactic(auto, unfolding(crate::specs::Heads::heads_bytes))]
-fn written_heads(alloc: Global, d: &[DecoderHead], eb: bool) -> Result<Vec<u8>, Memory>
+pub fn write_heads(out: &mut Vec<u8>, d: &[DecoderHead], eb: bool) -> Result<(), Memory>
     requires { DecodersPass d.now }
-    ensures bytes { IfOk result (λ v. v.items ≡ heads_bytes eb d.now) }
-    ensures again { OnOk result (All DecoderSpelled d.now) }
+    ensures bytes { OnOk result (out.new.items ≡ out.old.items ++ heads_bytes eb d.now) }
+    ensures again { OnOk result ((attr_data : Option ℕ) → is_some attr_data ≡ eb → AreAcceptedLinks attr_data d.now → Spells (heads_at attr_data) (heads_bytes eb d.now) (map bare_decoder d.now)) }
 {
-    let mut out = Vec::new(alloc);
     out.push(d.len() as u8)?;
     if eb {
-        put_links(&mut out, d)?;
+        put_links(out, d)?;
     }
-    put_decoders(&mut out, d)?;
-    Ok(out)
-}
-
-/// The bytes of the heads of the decoders `d`, with their links under Edgebreaker. They are read
-/// back, whatever follows them, without the quantisations of the heads, where the links are those of
-/// a sequential stream, or are accepted beside the number of attribute data.
-pub fn write_heads(alloc: Global, d: &[DecoderHead], eb: bool) -> Result<Vec<u8>, Memory>
-    requires { DecodersPass d.now }
-    ensures bytes { IfOk result (λ v. v.items ≡ heads_bytes eb d.now) }
-    ensures again { IfOk result (λ v. (attr_data : Option ℕ) → is_some attr_data ≡ eb → AreLinked attr_data d.now → Spells (heads_at attr_data) v.items (map bare_decoder d.now)) }
-{
-    // For the prover alone, who shows the clauses of the value that the call gave.
-    let out = written_heads(alloc, d, eb)?;
-    Ok(out)
+    put_decoders(out, d)?;
+    Ok(())
 }

@@ -105,7 +105,7 @@ fn put_plain_symbols(
     Ok(())
 }
 
-/// The block of symbols, which are let go.
+/// The block of symbols, which are freed.
 fn block_of(alloc: Global, symbols: Vec<u32>, comps: u32) -> Result<Vec<u8>, Memory>
     requires some { 0 < comps }
     requires whole { length symbols.items % comps ≡ 0 }
@@ -136,7 +136,7 @@ fn put_compressed_symbols(
     Ok(())
 }
 
-/// Appends symbols, as they are or compressed. They are let go as soon as their bytes are there.
+/// Appends symbols, as they are or compressed. They are freed as soon as their bytes are there.
 pub fn put_symbols(
     alloc: Global,
     out: &mut Vec<u8>,

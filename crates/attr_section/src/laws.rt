@@ -1,22 +1,15 @@
 //! What holds of the definitions themselves.
 
-ghost use Rattle.attr_section.specs.ValueLaws.{FlagsAreTested, BytesArePredictions, PredictionsAreAccepted, FlagsAreFew};
+ghost use Rattle.attr_section.specs.ValueLaws.{FlagsAreTested, PredictionsAreAccepted, FlagsAreFew};
 
-/// The test of flags is true exactly where each list has the flags that are wanted of it, and it is
-/// false where a list has fewer. This is the contract of a call that does nothing.
+/// The test of flags is true exactly where each list has the flags that a prediction needs of it, and it
+/// is false where a list has fewer. This is the contract of a call that does nothing.
 pub fn flags_are_tested()
     ensures { FlagsAreTested }
 {}
 
-/// The byte of each prediction is read as this prediction. This is the contract of a call that does
-/// nothing.
-pub fn predictions_have_bytes()
-    ensures { BytesArePredictions }
-{}
-
-/// In a sequential stream values are predicted not at all, or by difference; a profile without
-/// constrained multi-parallelogram prediction has no values that are predicted so. This is the contract
-/// of a call that does nothing.
+/// In a sequential stream values have a prediction that needs no surface; a profile has no values with a
+/// prediction that came later. This is the contract of a call that does nothing.
 pub fn predictions_are_accepted()
     ensures { PredictionsAreAccepted }
 {}

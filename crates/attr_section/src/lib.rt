@@ -19,27 +19,23 @@ mod laws;
 mod links;
 mod predicted_writing;
 mod predicting;
-mod predictions;
 mod quant_writing;
 mod quants;
 mod ranges;
-mod symbols;
 mod types;
 mod value_reading;
 mod value_writing;
 mod values;
-mod walks;
 
 pub use decoder_heads::DecoderHead;
 pub use decoder_writing::write_decoder;
 pub use head_reading::read_heads;
 pub use head_writing::write_heads;
-pub use laws::{flags_are_few, flags_are_tested, predictions_are_accepted, predictions_have_bytes};
-pub use predictions::Prediction;
+pub use laws::{flags_are_few, flags_are_tested, predictions_are_accepted};
+pub use predict::{Prediction, Walked};
 pub use ranges::range_of;
 pub use value_reading::read_decoder;
 pub use values::Values;
-pub use walks::Walked;
 
 #[cfg(test)]
 mod tests;

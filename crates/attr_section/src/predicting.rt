@@ -1,35 +1,28 @@
 //! Reading values by their prediction.
 
-ghost use Rattle.drc_base.specs.Profile.{profile_two};
-ghost use Rattle.std.specs.Prelude.{◌≡◌, ℕ, ◌≤◌, ◌<◌, ◌*◌, ◌%◌, IfOk, length};
+ghost use Rattle.drc_base.specs.Profile.{profile};
+ghost use Rattle.std.specs.Prelude.{◌≡◌, ℕ, ◌≤◌, ◌<◌, ◌*◌, ◌%◌, true, IfOk, length};
 ghost use Rattle.std.specs.Option.{option_map};
 ghost use Rattle.drc_bits.specs.Reading.{Reading, Reads, Gives};
-ghost use Rattle.predict.specs.Walked.{IsOver};
-ghost use Rattle.attr_section.specs.Surfaces.{surface, surface_of, MayBeWalkOf};
-ghost use Rattle.attr_section.specs.Values.{prediction_at, range_at, transform_at, differences_at, parallelograms_at, means_at, with_flags, predicted_at};
+ghost use Rattle.predict.specs.Schemes.{facts};
+ghost use Rattle.predict.specs.Surfaces.{surface_of, surface_or, lacks_surface, MayBeWalkOf, MayBeOver, CanStand};
+ghost use Rattle.attr_section.specs.Values.{prediction_at, range_at, transform_at, flag_lists_at, corrected_at, with_flags, predicted_at};
 
 use crate::flag_lists::read_flag_lists;
 use crate::integers::read_integers;
-use crate::predictions::Prediction;
-use crate::walks::Walked;
 use drc_base::{Fault, Kind, MAX_VALUES, Refusal};
 use drc_bits::Cursor;
-use predict::{Flags, Wrap, restore_difference, restore_multi, restore_parallelogram};
+use predict::{Flags, Prediction, Walked, Wrap, restore};
 use std::alloc::Global;
 
 /// The prediction of an attribute.
-#[tactic(auto, unfolding(crate::specs::Values::prediction_at))]
+#[tactic(auto, unfolding(crate::specs::Values::prediction_at), using(crate::proofs::Accepted::is_known))]
 pub fn read_prediction(c: &mut Cursor<'_>) -> Result<Prediction, Fault>
-    ensures { Reads (λ q. q) (prediction_at profile_two c.old) c.new result }
+    ensures { Reads (λ q. q) (prediction_at profile c.old) c.new result }
 {
-    let at = c.place();
-    match c.get_u8()? {
-        254 => Ok(Prediction::Off),
-        0 => Ok(Prediction::Difference),
-        1 => Ok(Prediction::Parallelogram),
-        4 => Ok(Prediction::Multi),
-        _ => Err(Fault::new(Kind::Prediction, at)),
-    }
+    let fault = c.fault(Kind::Prediction);
+    let byte = c.get_u8()?;
+    Prediction::of_byte(byte).ok_or(fault)
 }
 
 /// Reads the transform of corrections.
@@ -54,100 +47,105 @@ fn read_range(c: &mut Cursor<'_>) -> Result<Wrap, Fault>
     Wrap::new(low, high).ok_or(fault)
 }
 
-/// `n` values that are restored from corrections by difference.
-#[tactic(auto, unfolding(crate::specs::Values::differences_at))]
-fn read_differences(
-    alloc: Global,
-    c: &mut Cursor<'_>,
-    comps: u32,
-    n: u32,
-) -> Result<Vec<i32>, Refusal>
-    requires some { 0 < comps }
-    requires whole { n % comps ≡ 0 }
-    requires few { n ≤ MAX_VALUES }
-    ensures item { Gives (λ v. v.items) (differences_at comps n c.old) c.new result }
-    ensures len { IfOk result (λ v. length v.items ≡ n) }
+/// The number of corners of the surface of a walk, none where there is no walk.
+fn corners_of(walk: Option<&Walked<'_>>) -> usize
+    ensures { result ≡ length (surface_or (surface_of (option_map (λ t. t.now) walk.entry))).entries }
 {
-    read_transform(c)?;
-    let mut values = read_integers(alloc, c, comps, n)?;
-    let wrap = read_range(c)?;
-    restore_difference(&wrap, comps, values.as_mut_slice());
-    Ok(values)
+    match walk {
+        None => 0,
+        Some(walk) => walk.order.entry_of_corner.len(),
+    }
 }
 
-/// `n` values that are restored from corrections by parallelograms over the surface of a walk.
-#[tactic(auto, unfolding(crate::specs::Values::parallelograms_at))]
-fn read_parallelograms(
+/// The lists of flags that a prediction has over the surface of a walk. `FlagCount` at the number of a list
+/// that has more than three for each face, and the faults of their blocks.
+#[tactic(auto, unfolding(crate::specs::Values::flag_lists_at))]
+fn read_flags(
     alloc: Global,
     c: &mut Cursor<'_>,
-    walk: &Walked<'_>,
-    comps: u32,
-    n: u32,
-) -> Result<Vec<i32>, Refusal>
-    requires some { 0 < comps }
-    requires whole { n % comps ≡ 0 }
-    requires few { n ≤ MAX_VALUES }
-    requires over { IsOver walk.now.sides.now.faces (surface walk.now) }
-    requires entries { n ≡ length walk.now.order.now.corner_of_entry * comps }
-    ensures item { Gives (λ v. v.items) (parallelograms_at (surface walk.now) comps n c.old) c.new result }
-    ensures len { IfOk result (λ v. length v.items ≡ n) }
+    walk: Option<&Walked<'_>>,
+    prediction: Prediction,
+) -> Result<Flags, Refusal>
+    ensures { Gives (λ f. f.lists) (flag_lists_at (facts prediction).flag_lists (surface_or (surface_of (option_map (λ t. t.now) walk.entry))) c.old) c.new result }
 {
-    read_transform(c)?;
-    let mut values = read_integers(alloc, c, comps, n)?;
-    let wrap = read_range(c)?;
-    restore_parallelogram(&wrap, comps, walk.sides, walk.order, values.as_mut_slice());
-    Ok(values)
+    let lists = prediction.facts().flag_lists;
+    read_flag_lists(alloc, c, corners_of(walk), lists)
 }
 
-/// Turns corrections into values, in place, by the means of parallelograms that flags choose. Where a
-/// flag is wanted that isn't there, `FlagsShort` at this place; the values are given up then.
-fn restore_means(
+/// Turns corrections into values, in place, over the surface of a walk where their prediction needs one.
+/// Where a flag is needed that isn't there, `FlagsShort` at this place; the values are given up then.
+#[tactic(auto, unfolding(crate::specs::Values::with_flags), using(crate::proofs::SpelledFlags::flags_pass, crate::proofs::SpelledFlags::flags_fail))]
+fn restore_values(
     at: u64,
+    prediction: Prediction,
     wrap: &Wrap,
     comps: u32,
-    walk: &Walked<'_>,
+    walk: Option<&Walked<'_>>,
     flags: &Flags,
     values: &mut [i32],
 ) -> Result<(), Fault>
+    requires corrects { (facts prediction).corrects ≡ true }
     requires some { 0 < comps }
-    requires over { IsOver walk.now.sides.now.faces (surface walk.now) }
-    requires entries { length values.old ≡ length walk.now.order.now.corner_of_entry * comps }
-    ensures { (after : Reading) → Reads (λ _. values.new) (with_flags at (surface walk.now) comps flags.now.lists wrap.now values.old after) after result }
+    requires whole { length values.old % comps ≡ 0 }
+    requires over { MayBeOver (option_map (λ t. t.now) walk) }
+    requires stand { CanStand prediction (surface_of (option_map (λ t. t.now) walk)) comps (length values.old) }
+    ensures { (after : Reading) → Reads (λ _. values.new) (with_flags at (surface_or (surface_of (option_map (λ t. t.now) walk.entry))) prediction comps flags.now.lists wrap.now values.old after) after result }
 {
-    match restore_multi(wrap, comps, walk.sides, walk.order, flags, values) {
+    match restore(prediction, wrap, comps, walk, flags, values) {
         Ok(()) => Ok(()),
         Err(kind) => Err(Fault::new(kind, at)),
     }
 }
 
-/// `n` values that are restored from corrections by the means of parallelograms over the surface of a
-/// walk, which flags choose; their prediction byte stands at `at`.
-#[tactic(auto, unfolding(crate::specs::Values::means_at))]
-fn read_means(
+/// `n` values that are restored from corrections by this prediction, whose byte stands at `at`, over the
+/// surface of a walk where it needs one.
+#[tactic(auto, unfolding(crate::specs::Values::corrected_at))]
+fn read_corrected(
     alloc: Global,
     c: &mut Cursor<'_>,
     at: u64,
-    walk: &Walked<'_>,
+    walk: Option<&Walked<'_>>,
+    prediction: Prediction,
     comps: u32,
     n: u32,
 ) -> Result<Vec<i32>, Refusal>
+    requires corrects { (facts prediction).corrects ≡ true }
     requires some { 0 < comps }
     requires whole { n % comps ≡ 0 }
     requires few { n ≤ MAX_VALUES }
-    requires over { IsOver walk.now.sides.now.faces (surface walk.now) }
-    requires entries { n ≡ length walk.now.order.now.corner_of_entry * comps }
-    ensures item { Gives (λ v. v.items) (means_at at (surface walk.now) comps n c.old) c.new result }
+    requires over { MayBeOver (option_map (λ t. t.now) walk) }
+    requires stand { CanStand prediction (surface_of (option_map (λ t. t.now) walk)) comps n }
+    ensures item { Gives (λ v. v.items) (corrected_at at (surface_or (surface_of (option_map (λ t. t.now) walk.entry))) prediction comps n c.old) c.new result }
     ensures len { IfOk result (λ v. length v.items ≡ n) }
 {
     read_transform(c)?;
     let mut values = read_integers(alloc, c, comps, n)?;
-    let flags = read_flag_lists(alloc, c, walk)?;
+    let flags = read_flags(alloc, c, walk, prediction)?;
     let wrap = read_range(c)?;
-    restore_means(at, &wrap, comps, walk, &flags, values.as_mut_slice())?;
+    restore_values(
+        at,
+        prediction,
+        &wrap,
+        comps,
+        walk,
+        &flags,
+        values.as_mut_slice(),
+    )?;
     Ok(values)
 }
 
+/// Whether a prediction needs a surface where there is no walk.
+fn lacks_surface(prediction: Prediction, walk: Option<&Walked<'_>>) -> bool
+    ensures { result ≡ lacks_surface prediction (surface_of (option_map (λ t. t.now) walk.entry)) }
+{
+    match walk {
+        None => prediction.facts().needs_surface,
+        Some(_) => false,
+    }
+}
+
 /// `n` values of this prediction, whose byte stands at `at`.
+#[tactic(auto, unfolding(crate::specs::Values::predicted_at))]
 pub fn read_predicted(
     alloc: Global,
     c: &mut Cursor<'_>,
@@ -164,13 +162,11 @@ pub fn read_predicted(
     ensures item { Gives (λ v. v.items) (predicted_at at (surface_of (option_map (λ t. t.now) walk.entry)) prediction comps n c.old) c.new result }
     ensures len { IfOk result (λ v. length v.items ≡ n) }
 {
-    match (prediction, walk) {
-        (Prediction::Off, _) => read_integers(alloc, c, comps, n),
-        (Prediction::Difference, _) => read_differences(alloc, c, comps, n),
-        (Prediction::Parallelogram, Some(walk)) => read_parallelograms(alloc, c, walk, comps, n),
-        (Prediction::Multi, Some(walk)) => read_means(alloc, c, at, walk, comps, n),
-        (Prediction::Parallelogram | Prediction::Multi, None) => {
-            Err(Refusal::Fault(Fault::new(Kind::Prediction, at)))
-        }
+    if !prediction.facts().corrects {
+        return read_integers(alloc, c, comps, n);
     }
+    if lacks_surface(prediction, walk) {
+        return Err(Refusal::Fault(Fault::new(Kind::Prediction, at)));
+    }
+    read_corrected(alloc, c, at, walk, prediction, comps, n)
 }

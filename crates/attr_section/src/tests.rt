@@ -2,7 +2,7 @@
 //! ones meant, on attributes whose bytes another program gave.
 
 ghost use Rattle.std.specs.Prelude.{◌≡◌, ◌<◌, [], ◌∷◌, false, IfOk, All};
-ghost use Rattle.attr_section.specs.Examples.{position_head, texture_head, position_values, texture_values, prediction_of};
+ghost use Rattle.attr_section.specs.Examples.{example_head, texture_head, position_values, texture_values, example_prediction};
 
 use crate::{DecoderHead, Values, read_decoder, read_heads, write_decoder, write_heads};
 use drc_base::{Fault, Kind, MAX_VALUES, Refusal, Sequence};
@@ -13,7 +13,7 @@ use std::test::Fail;
 
 /// The head of positions.
 fn positions() -> Head
-    ensures { result ≡ position_head }
+    ensures { result ≡ example_head }
 {
     Head {
         usage: 0,
@@ -45,14 +45,14 @@ fn texture(alloc: Global) -> Result<Head, AllocError>
 
 /// The difference, or no prediction.
 fn prediction_of(difference: bool) -> i8
-    ensures { result ≡ prediction_of difference }
+    ensures { result ≡ example_prediction difference }
 {
     if difference { 0 } else { -2 }
 }
 
 /// The values of the positions, by difference or by no prediction.
 fn position_values(alloc: Global, difference: bool) -> Result<Values, AllocError>
-    ensures { IfOk result (λ v. v ≡ record { values = position_values; predict = prediction_of difference; at = 0 }) }
+    ensures { IfOk result (λ v. v ≡ record { values = position_values; predict = example_prediction difference; at = 0 }) }
 {
     Ok(Values {
         values: Sequence::from_vec(vec![in alloc; 0, 10, -5, 7, 300, -300]?),
@@ -63,7 +63,7 @@ fn position_values(alloc: Global, difference: bool) -> Result<Values, AllocError
 
 /// The values of the texture coordinates, by difference or by no prediction.
 fn texture_values(alloc: Global, difference: bool) -> Result<Values, AllocError>
-    ensures { IfOk result (λ v. v ≡ record { values = texture_values; predict = prediction_of difference; at = 0 }) }
+    ensures { IfOk result (λ v. v ≡ record { values = texture_values; predict = example_prediction difference; at = 0 }) }
 {
     Ok(Values {
         values: Sequence::from_vec(vec![in alloc; 1, 2, 3, 255]?),
@@ -74,7 +74,7 @@ fn texture_values(alloc: Global, difference: bool) -> Result<Values, AllocError>
 
 /// A decoder of the two attributes, linked to this data id, with this walk.
 fn decoder(alloc: Global, data_id: Option<u8>, degree: bool) -> Result<DecoderHead, AllocError>
-    ensures { IfOk result (λ d. d ≡ record { data_id = data_id; corner = false; degree = degree; heads = position_head ∷ texture_head ∷ [] }) }
+    ensures { IfOk result (λ d. d ≡ record { data_id = data_id; corner = false; degree = degree; heads = example_head ∷ texture_head ∷ [] }) }
 {
     Ok(DecoderHead {
         data_id,
@@ -106,7 +106,8 @@ fn heads_both_ways(
     bytes: &[u8],
 ) -> Result<bool, Refusal> {
     let decoders = vec![in alloc; decoder(alloc, data_id, degree)?]?;
-    let written = write_heads(alloc, &decoders, attr_data.is_some())?;
+    let mut written = Vec::new(alloc);
+    write_heads(&mut written, &decoders, attr_data.is_some())?;
     let mut longer = Vec::new(alloc);
     longer.extend_from_slice(bytes)?;
     longer.push(0xff)?;
@@ -158,7 +159,8 @@ fn values_both_ways(
         position_values(alloc, difference)?,
         texture_values(alloc, difference)?,
     ]?;
-    let written = write_decoder(alloc, &h, &given, plain, None)?;
+    let mut written = Vec::new(alloc);
+    write_decoder(alloc, &mut written, &h, &given, plain, None)?;
     let mut longer = Vec::new(alloc);
     longer.extend_from_slice(bytes)?;
     longer.push(0xff)?;
@@ -304,7 +306,7 @@ fn faults_of_attributes(rt: HostRuntime) -> Result<(), Fail> {
         (5, 0, &[], Kind::Short, 0),
         (5, 1 << 26, &[], Kind::ValueLimit, 0),
         (5, 0, &[5], Kind::Prediction, 0),
-        // Parallelograms want a surface.
+        // Parallelograms need a surface.
         (5, 0, &[1, 1], Kind::Prediction, 0),
         (5, 0, &[4, 1], Kind::Prediction, 0),
         (5, 0, &[0, 0], Kind::Transform, 1),

@@ -1,13 +1,13 @@
 //! Reading the values of attributes.
 
-ghost use Rattle.drc_base.specs.Profile.{profile_two};
+ghost use Rattle.drc_base.specs.Profile.{profile};
 ghost use Rattle.std.specs.Prelude.{◌≡◌, ◌≤◌, ◌<◌, ◌*◌, ◌+◌, ◌%◌, ℕ, ℤ, Ok, IfOk, IfSome, MatchResult, IsTrue, All, length};
 ghost use Rattle.std.specs.Option.{option_map};
 ghost use Rattle.std.specs.List.{list_all};
 ghost use Rattle.drc_base.specs.Refusals.{Refuses};
 ghost use Rattle.drc_bits.specs.Reading.{Reads, Gives};
 ghost use Rattle.mesh_model.specs.Head.{in_type};
-ghost use Rattle.attr_section.specs.Surfaces.{surface_of, MayBeWalkOf};
+ghost use Rattle.predict.specs.Surfaces.{surface_of, MayBeWalkOf};
 ghost use Rattle.attr_section.specs.Values.{typed_values_at, values_at, values_in, attributes_at, decoder_values_at, AreColumns};
 
 use crate::decoder_heads::DecoderHead;
@@ -15,10 +15,10 @@ use crate::predicting::{read_predicted, read_prediction};
 use crate::quants::read_quants;
 use crate::types::are_in_type;
 use crate::values::Values;
-use crate::walks::Walked;
 use drc_base::{Fault, Kind, MAX_VALUES, Refusal, Sequence};
 use drc_bits::Cursor;
 use mesh_model::Head;
+use predict::Walked;
 use std::alloc::Global;
 
 /// `n` values of an attribute, each of which is in its data type.
@@ -34,7 +34,7 @@ fn read_typed_values(
     requires whole { n % head.now.comps ≡ 0 }
     requires few { n ≤ MAX_VALUES }
     requires walk { (entries : ℕ) × (n ≡ entries * head.now.comps) × MayBeWalkOf entries (option_map (λ t. t.now) walk) }
-    ensures item { Gives (λ v. v) (typed_values_at profile_two (surface_of (option_map (λ t. t.now) walk.entry)) head.now n c.old) c.new result }
+    ensures item { Gives (λ v. v) (typed_values_at profile (surface_of (option_map (λ t. t.now) walk.entry)) head.now n c.old) c.new result }
     ensures len { IfOk result (λ v. length v.values ≡ n) }
 {
     let at = c.place();
@@ -63,7 +63,7 @@ fn read_values(
     requires some { 0 < head.now.comps }
     requires spent { spent ≤ MAX_VALUES }
     requires walk { MayBeWalkOf entries (option_map (λ t. t.now) walk) }
-    ensures item { Gives (λ v. v) (values_at profile_two (surface_of (option_map (λ t. t.now) walk.entry)) head.now entries spent c.old) c.new result }
+    ensures item { Gives (λ v. v) (values_at profile (surface_of (option_map (λ t. t.now) walk.entry)) head.now entries spent c.old) c.new result }
     ensures len { IfOk result (λ v. length v.values ≡ entries * head.now.comps) }
     ensures few { IfOk result (λ v. spent + length v.values ≤ MAX_VALUES) }
 {
@@ -86,7 +86,7 @@ fn read_attributes(
     requires some { All (λ h. 0 < h.comps) heads.now }
     requires spent { spent ≤ MAX_VALUES }
     requires walk { MayBeWalkOf entries (option_map (λ t. t.now) walk) }
-    ensures item { Gives (λ v. v.items) (attributes_at profile_two (surface_of (option_map (λ t. t.now) walk.entry)) heads.now entries spent c.old) c.new result }
+    ensures item { Gives (λ v. v.items) (attributes_at profile (surface_of (option_map (λ t. t.now) walk.entry)) heads.now entries spent c.old) c.new result }
     ensures few { IfOk result (λ v. spent + values_in v.items ≤ MAX_VALUES) }
     ensures columns { IfOk result (λ v. AreColumns entries heads.now v.items) }
 {
@@ -120,7 +120,7 @@ fn values_in(attributes: &[Values]) -> u64
 /// also at a parallelogram where there is no walk; `Transform`, `ByteWidth`, the faults of a symbol block;
 /// with constrained multi-parallelogram prediction `FlagCount` at the number of flags where there are more
 /// than three for each face, and the faults of their blocks; `WrapRange` at a range's start, `FlagsShort`
-/// at the prediction byte where a flag is wanted that isn't there, `ValueRange` at the prediction byte; then
+/// at the prediction byte where a flag is needed that isn't there, `ValueRange` at the prediction byte; then
 /// `QuantBits` at the quantisations; and `Short` and `Long`. Restoring the values takes no memory.
 #[tactic(auto, unfolding(crate::specs::Values::decoder_values_at))]
 pub fn read_decoder(
@@ -134,7 +134,7 @@ pub fn read_decoder(
     requires some { All (λ head. 0 < head.comps) h.old.heads }
     requires spent { spent.old ≤ MAX_VALUES }
     requires walk { MayBeWalkOf entries (option_map (λ t. t.now) walk) }
-    ensures values { MatchResult result (λ v. decoder_values_at profile_two (surface_of (option_map (λ t. t.now) walk.entry)) h.old entries spent.old c.old ≡ Ok ((v.items, h.new), c.new)) (λ e. Refuses (decoder_values_at profile_two (surface_of (option_map (λ t. t.now) walk.entry)) h.old entries spent.old c.old) e) }
+    ensures values { MatchResult result (λ v. decoder_values_at profile (surface_of (option_map (λ t. t.now) walk.entry)) h.old entries spent.old c.old ≡ Ok ((v.items, h.new), c.new)) (λ e. Refuses (decoder_values_at profile (surface_of (option_map (λ t. t.now) walk.entry)) h.old entries spent.old c.old) e) }
     ensures spent { IfOk result (λ v. spent.new ≡ spent.old + values_in v.items) }
     ensures few { IfOk result (λ v. spent.new ≤ MAX_VALUES) }
     ensures columns { IfOk result (λ v. AreColumns entries h.new.heads v.items) }

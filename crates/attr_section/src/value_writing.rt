@@ -2,16 +2,28 @@
 
 ghost use Rattle.std.specs.Prelude.{◌≡◌, ◌++◌, OnOk};
 ghost use Rattle.std.specs.Option.{option_map};
-ghost use Rattle.attr_section.specs.Surfaces.{surface_of, MayBeOver};
+ghost use Rattle.predict.specs.declared.schemes.Prediction.{Prediction};
+ghost use Rattle.predict.specs.Schemes.{code_of};
+ghost use Rattle.predict.specs.Surfaces.{surface_of, MayBeOver};
 ghost use Rattle.attr_section.specs.Written.{values_bytes, ValuesPass, ValuesSpelled};
 
 use crate::predicted_writing::put_predicted;
-use crate::predictions::Prediction;
 use crate::values::Values;
-use crate::walks::Walked;
 use drc_base::Memory;
 use mesh_model::Head;
+use predict::{Prediction, Walked};
 use std::alloc::Global;
+
+/// The prediction of this number.
+fn prediction_of(code: i8) -> Prediction
+    requires { (q : Prediction) × (code ≡ code_of q) }
+    ensures { code_of result ≡ code }
+{
+    match Prediction::of_code(code) {
+        Some(prediction) => prediction,
+        None => unreachable!(),
+    }
+}
 
 /// Appends the values of an attribute.
 #[tactic(auto, unfolding(crate::specs::Written::values_bytes))]
@@ -30,8 +42,8 @@ pub fn put_values(
 {
     let comps = head.comps as u32;
     let values = v.values.as_slice();
-    let prediction = Prediction::of_code(v.predict);
-    out.push(prediction.byte())?;
+    let prediction = prediction_of(v.predict);
+    out.push(prediction.facts().byte)?;
     put_predicted(alloc, out, walk, prediction, values, comps, plain)?;
     Ok(())
 }

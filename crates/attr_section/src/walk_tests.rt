@@ -7,73 +7,33 @@ ghost use Rattle.predict.specs.Walked.{IsOver, walked};
 
 use crate::tests::decoder_of;
 use crate::{Values, Walked, read_decoder};
-use corner_table::{Order, SideTable, Steps, side_with};
-use drc_base::{Fault, Kind, Refusal, Sequence, Side};
+use corner_table::{Order, SideTable};
+use drc_base::{Fault, Kind, Refusal};
 use drc_bits::Cursor;
 use std::alloc::Global;
-use std::marker::Brand;
 use std::process::Abort;
-use std::sync::ledger::{Blank, Ledger};
 use std::test::Fail;
+use worked_surfaces::{glued, has_corners_of, order_of};
 
 /// The bytes of corrections: the transform, and twelve symbols of a byte each.
 const CORRECTIONS: [u8; 15] = [1, 0, 1, 0, 1, 0, 1, 2, 0, 0, 1, 0, 0, 0, 0];
 /// The range from 0 to 2.
 const RANGE: [u8; 8] = [0, 0, 0, 0, 2, 0, 0, 0];
 
-/// A table of two faces that are glued by one side of each.
-fn two_faces<L: Ledger>(rt: &impl Abort, alloc: Global, blank: Blank) -> SideTable
-    requires name { blank.name ≡ L.name }
-    requires parts { blank.parts ≡ L.parts }
-    requires some { 0 < L.parts }
-{
-    let mut steps = Steps::<L>::new(blank);
-    let mut table = SideTable::with_room(alloc, 2).expect(rt, "room");
-    let _ = table.add_face(&mut steps);
-    let _ = table.add_face(&mut steps);
-    let (a, b) = (side_with(0), side_with(4));
-    match (table.other(a, &mut steps), table.other(b, &mut steps)) {
-        (None, None) => table.glue(a, b, &mut steps),
-        _ => assert!(rt; false, "a side is glued already"),
-    }
-    table
-}
-
-/// Whether all corners are of the faces below a number.
-fn all_below(corners: &[Side], faces: u32) -> bool
-    ensures { IsTrue result → All (λ c. c.face < faces) corners.now }
-{
-    for i in 0..corners.len() {
-        let face = corners[i].face;
-        if face >= faces {
-            return false;
-        }
-    }
-    true
-}
-
 /// Whether an order is one over a table.
 fn is_over(t: &SideTable, o: &Order) -> bool
     ensures { IsTrue result → IsOver t.now.faces (walked t.now o.now) }
 {
-    let faces = t.face_count();
-    if o.entry_of_corner.len() != 3 * faces as usize {
-        return false;
-    }
-    all_below(o.corner_of_entry.as_slice(), faces)
+    has_corners_of(o, t)
 }
 
-/// The two faces, and an order of their four corners in which the first face comes first.
+/// Two faces, and an order of their four corners in which the first face comes first.
 fn square(rt: &impl Abort, alloc: Global) -> (SideTable, Order)
     ensures over { IsOver result.0.faces (walked result.0 result.1) }
     ensures entries { length result.1.corner_of_entry ≡ 4 }
 {
-    let sides = two_faces::<Brand>(rt, alloc, Blank::new(1));
-    let corners = [side_with(1), side_with(2), side_with(0), side_with(4)];
-    let order = Order {
-        corner_of_entry: Sequence::from_vec(corners.to_vec(alloc).expect(rt, "corners")),
-        entry_of_corner: Sequence::from_vec([2, 0, 1, 0, 3, 1].to_vec(alloc).expect(rt, "entries")),
-    };
+    let sides = glued(alloc, 2, &[(0, 4)]).expect(rt, "a table");
+    let order = order_of(alloc, &[1, 2, 0, 4], &[2, 0, 1, 0, 3, 1]).expect(rt, "an order");
     assert!(rt; is_over(&sides, &order) && order.corner_of_entry.len() == 4);
     (sides, order)
 }

@@ -159,7 +159,7 @@ face_more of items i a b c M x k = elim (cases_eq x.face i) [
         ∙ M.second_is
     new third = get_or_push ((items ++ a ∷ []) ++ b ∷ []) c free_entry (3 * i + 2) long_two ∙ M.third_is
 
--- a side whose place is told
+-- a side whose place is listed
 abbrev IsPlaced : List (ℕ × ℕ) → List ℕ → Side → Type 0
 IsPlaced rows places x = get_or places (number (carry rows x)) free_entry ≡ number x
 

@@ -4,7 +4,7 @@ use Rattle.corner_table.specs.Sides.{IsFree}
 use Rattle.corner_table.specs.Carried.{carry}
 use Rattle.corner_table.proofs.Places.{option_tells}
 use Rattle.corner_table.specs.Fans.{left_by, InFan}
-use Rattle.corner_table.specs.Laws.{SwingsAreInverse, FansAreClasses, FanIsOneWalk, WalksEnd, GluingStays, FansStay, EndsMeet, PrefixIsGluing, SurroundedFillsGap, GapIsSurrounded, GapIsOneStep, OneFaceMore, GluingIsCarried, FansAreCarried, FreeIsCarried, BoundaryIsCarried, ThreeFansAreCarried, ProperIsCarried, TestFindsFan, TestFindsNoOther}
+use Rattle.corner_table.specs.Laws.{SwingsAreInverse, FansAreClasses, FanIsOneWalk, WalksEnd, GluingStays, FansStay, EndsMeet, PrefixIsGluing, SurroundedFillsGap, GapIsSurrounded, GapIsOneStep, FaceBringsItsPairs, GluingIsCarried, FansAreCarried, FreeIsCarried, BoundaryIsCarried, ThreeFansAreCarried, ProperIsCarried, TestFindsFan, TestFindsNoOther}
 use Rattle.corner_table.proofs.Walks.{left_then_right, right_then_left, fan_sym, fan_trans, trail, to_leftmost, to_rightmost, left_by-fan}
 use Rattle.corner_table.proofs.Gluings.{glued_is, fan_stays, ends_join, starts_join}
 use Rattle.corner_table.proofs.Prefixing.{prefix_within, gap, gap_before, no_gap, prefix_more}
@@ -47,7 +47,7 @@ gap_is_one_step faces g m c right left G I = gap_before G m c right left I
 pub prefix_is_gluing : PrefixIsGluing
 prefix_is_gluing faces g m G = prefix_within m G
 
-pub one_face_more : OneFaceMore
+pub one_face_more : FaceBringsItsPairs
 one_face_more faces g m G x y = prefix_more m G x y
 
 pub gluing_is_carried : GluingIsCarried

@@ -76,7 +76,7 @@ pick test faces x h t = picked test faces x ∙ and_from _ _ (listed faces x h) 
 picks : (test : Side → Bool) (faces : ℕ) (x : Side) → is_member same (filter test (corners_of faces)) x ≡ true → test x ≡ true
 picks test faces x e = (and_parts _ _ (sym (picked test faces x) ∙ e)).1
 
--- what a bit tells
+-- what a bit says
 bit_at : (g : Gluing) (x y : Side) → g x ≡ Some y → has_bit g x ≡ nat_lt x.face y.face
 bit_at g x y e = rw (has_bit, e) refl
 

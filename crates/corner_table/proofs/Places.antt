@@ -60,7 +60,7 @@ place_eq_refl third = refl
 side_is : (a b : Side) → a.face ≡ b.face → a.place ≡ b.place → a ≡ b
 side_is a b e f = ap (λ (x : ℕ). side x a.place) e ∙ ap (side b.face) f
 
--- what the test of two sides tells
+-- what the test of two sides says
 pub same-true : (a b : Side) → same a b ≡ true → a ≡ b
 same-true a b e =
     let p = and_parts (eqb a.face b.face) (place_eq a.place b.place) e in

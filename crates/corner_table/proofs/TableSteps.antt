@@ -214,7 +214,7 @@ table_glued {faces} {across} a b T A B h = record {
     same : glued_in (set (set across (number a) (number b)) (number b) (number a)) ≡ glue a b (glued_in across)
     same = glued_in-set across a b faces A.within B.within (face_apart a b h) T.fits (let l = T.limit in let m = T.fits in omega arith)
 
--- and with its links, where the entries tell the new gluing
+-- and with its links, where the entries give the new gluing
 pub links_glued : {faces : ℕ} {across now after before : List ℕ} (a b : Side) → IsLinkedTable faces across after before → IsFree faces (glued_in across) a → IsFree faces (glued_in across) b → a.face ≢ b.face →
     length now ≡ length across → glued_in now ≡ glue a b (glued_in across) →
     IsLinkedTable faces now (relinked (number a) (number b) (after, before)).0 (relinked (number a) (number b) (after, before)).1
@@ -239,7 +239,7 @@ links_glued {faces} {across} {now} {after} {before} a b T A B h long same = reco
       }));
 }
 
--- the entries of a table, from what a table tells of itself
+-- the entries of a table, from what a table states of itself
 pub table_told : {faces room : ℕ} {across : List ℕ} → length across ≡ 3 * room → room ≤ MAX_FACES → faces ≤ room → IsGluing faces (glued_in across) → IsSideTable faces across
 table_told e m f G = record { limit = omega arith; whole = omega arith; fits = omega arith; gluing = G }
 
@@ -273,7 +273,7 @@ links_empty T none a b = record {
   linked = record { after_is = λ x X. absurd (let w = X.within in omega arith); before_is = λ x X. absurd (let w = X.within in omega arith) };
 }
 
--- what the links of a free side tell
+-- what the links of a free side say
 pub next_is : {faces : ℕ} {across after before : List ℕ} → IsLinkedTable faces across after before → (x : Side) → IsFree faces (glued_in across) x → side_at (get_or after (number x) 0) ≡ side_after faces (glued_in across) x
 next_is {faces} {across} T x X = ap side_at (T.linked.after_is x X) ∙ side_at-number (side_after faces (glued_in across) x)
 

@@ -1,5 +1,5 @@
 -- The labels while they are being given, fan after fan, and corner after corner of a fan. These are the code's own words, for the steps of
--- `label_vertices`; what it answers is told by `IsLabelled` alone.
+-- `label_vertices`; what it answers is stated by `IsLabelled` alone.
 use Rattle.std.specs.Prelude.{◌≡◌, ◌≢◌, ℕ, ◌*◌, ◌<◌, ◌≤◌, ◌⊎◌, ◌↔◌, Bool, true, false, IsTrue, List, length, get_or, Some, None}
 use Rattle.corner_table.specs.Sides.{Side, number, Gluing}
 use Rattle.corner_table.specs.Fans.{InFan, MeetsBoundary, swing_left, swing_right}

@@ -101,8 +101,8 @@ abbrev pub IsPairOf : ℕ → Gluing → Side → Side → Type 0
 IsPairOf m g x y = (g x ≡ Some y) × (((x.face ≡ m) × (y.face < m)) ⊎ ((y.face ≡ m) × (x.face < m)))
 
 -- one face more brings exactly its pairs with the faces below it
-abbrev pub OneFaceMore : Type 0
-OneFaceMore = (faces : ℕ) (g : Gluing) (m : ℕ) → IsGluing faces g → (x y : Side) →
+abbrev pub FaceBringsItsPairs : Type 0
+FaceBringsItsPairs = (faces : ℕ) (g : Gluing) (m : ℕ) → IsGluing faces g → (x y : Side) →
     (prefix (suc m) g x ≡ Some y) ↔ ((prefix m g x ≡ Some y) ⊎ IsPairOf m g x y)
 
 -- h is the gluing g under new numbers of its faces

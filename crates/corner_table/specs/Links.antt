@@ -24,7 +24,7 @@ taken_out after_a before_a after_b before_b a b links =
     (cond (eqb after_b b) links (joined before_b after_b links))
     (cond (eqb after_b b) (joined before_a after_a links) (joined before_b after_a (joined before_a after_b links)))
 
--- the same with the neighbours that the links tell
+-- the same with the neighbours that the links give
 abbrev pub relinked : ℕ → ℕ → List ℕ × List ℕ → List ℕ × List ℕ
 relinked a b links = taken_out (get_or links.0 a 0) (get_or links.1 a 0) (get_or links.0 b 0) (get_or links.1 b 0) a b links
 

@@ -1,5 +1,5 @@
--- The pairs of a gluing, each told once: at the one of its two sides whose face comes first (attribute seams have a bit for each pair so:
--- Draco Bitstream Specification 2.2, Edgebreaker). How many there are.
+-- The pairs of a gluing, each counted once: at the one of its two sides whose face comes first (attribute seams have a bit for each pair
+-- so: Draco Bitstream Specification 2.2, Edgebreaker). How many there are.
 use Rattle.std.specs.Prelude.{◌≡◌, ℕ, ◌+◌, ◌*◌, ◌<◌, ◌↔◌, Bool, true, false, not, nat_lt, is_none, List, length, filter, count_by, AllPairs}
 use Rattle.std.specs.Prelude.{Contains, Some, None}
 use Rattle.corner_table.specs.Sides.{Side, number, Gluing, IsGluing}

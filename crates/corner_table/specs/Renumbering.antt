@@ -1,5 +1,5 @@
--- Lists of sides under new numbers of the faces. These are the code's own words, for the steps of `renumbered`; what it answers is told by
--- `IsCarried`.
+-- Lists of sides under new numbers of the faces. These are the code's own words, for the steps of `renumbered`; what it answers is stated
+-- by `IsCarried`.
 use Rattle.std.specs.Prelude.{◌≡◌, ℕ, ◌+◌, ◌*◌, ◌<◌, List, length, get_or, set}
 use Rattle.corner_table.specs.Sides.{Side, Place, first, second, third, side, number}
 use Rattle.corner_table.specs.Table.{free_entry}

@@ -17,7 +17,7 @@ free_entry = 4294967295
 abbrev pub other_at : ℕ → Option Side
 other_at v = cond (eqb v free_entry) None (Some (side_at v))
 
--- the gluing that a list of entries tells
+-- the gluing that a list of entries gives
 abbrev pub glued_in : List ℕ → Gluing
 glued_in entries x = other_at (get_or entries (number x) free_entry)
 

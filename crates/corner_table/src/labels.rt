@@ -90,8 +90,8 @@ fn label_fan(table: &SideTable, labels: &mut Vec<u32>, start: u32, label: u32) -
 impl SideTable {
     /// Labels the vertices: a class for each fan, and of each class whether a free side meets it. Classes
     /// are numbered from 0 in the order of their fans' least corners, which is this project's own choice.
-    /// Takes memory for a number for each corner and a mark for each class, and is refused for want of it
-    /// alone. All entries are looked at, so the call counts as many steps as `across` does.
+    /// Takes memory for a number for each corner and a mark for each class, and fails only when out of
+    /// memory. All entries are looked at, so the call counts as many steps as `across` does.
     pub fn label_vertices<L: Ledger>(
         &self,
         alloc: Global,

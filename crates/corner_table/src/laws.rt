@@ -3,7 +3,7 @@
 ghost use Rattle.corner_table.specs.Pairs.{OneBitEach, BitSidesAreListed, BitSidesRise, PairsHaveTwoSides};
 ghost use Rattle.corner_table.specs.Laws.{SwingsAreInverse, FansAreClasses, FanIsOneWalk, WalksEnd, FanIsClosedOrOpen, StartsOnce, EndsOnce};
 ghost use Rattle.corner_table.specs.Laws.{GluingStays, FansStay, EndsMeet, FansJoin, NoOthersJoin};
-ghost use Rattle.corner_table.specs.Laws.{PrefixIsGluing, SurroundedFillsGap, GapIsSurrounded, GapIsOneStep, OneFaceMore};
+ghost use Rattle.corner_table.specs.Laws.{PrefixIsGluing, SurroundedFillsGap, GapIsSurrounded, GapIsOneStep, FaceBringsItsPairs};
 ghost use Rattle.corner_table.specs.Laws.{GluingIsCarried, FansAreCarried, FreeIsCarried, BoundaryIsCarried, ThreeFansAreCarried, ProperIsCarried};
 ghost use Rattle.corner_table.specs.Laws.{OneFollows, OneComesBefore, LinksAreInverse, NewFaceIsLoop, OthersStay, GluingTakesOut, NewLoopIsLinked, TakenOutIsLinked};
 ghost use Rattle.corner_table.specs.Laws.{TestFindsFan, TestFindsNoOther};
@@ -54,7 +54,7 @@ pub fn prefixes_have_gaps()
     ensures gap { SurroundedFillsGap }
     ensures boundary { GapIsOneStep }
     ensures surrounded { GapIsSurrounded }
-    ensures more { OneFaceMore }
+    ensures more { FaceBringsItsPairs }
 {}
 
 /// New numbers of the faces, each face turned, keep the surface: its gluing, its fans, its free sides with
@@ -92,10 +92,10 @@ pub fn meeting_is_one_fan()
     ensures only { TestFindsNoOther }
 {}
 
-/// The pairs of a surface, each told at the one of its two sides whose face comes first: of a pair exactly
-/// one side has a bit; the list of those sides has each of them once, by rising numbers, and no others;
-/// and twice the pairs and the free sides together are three for each face. This is the contract of a
-/// call that does nothing.
+/// The pairs of a surface, each counted at the one of its two sides whose face comes first: of a pair
+/// exactly one side has a bit; the list of those sides has each of them once, by rising numbers, and no
+/// others; and twice the pairs and the free sides together are three for each face. This is the contract
+/// of a call that does nothing.
 pub fn pairs_have_one_bit_each()
     ensures one { OneBitEach }
     ensures listed { BitSidesAreListed }

@@ -40,7 +40,7 @@ impl LinkedTable {
     ghost use Rattle.corner_table.specs.Table.{side_of, gluing_of, room_of, IsFreeIn};
 
     /// A table without faces, and room for `faces` of them, which is three lists of a number for each
-    /// of their sides. Refused only when out of memory.
+    /// of their sides. Fails only when out of memory.
     pub fn with_room(alloc: Global, faces: u32) -> Result<LinkedTable, Memory>
         requires { faces ≤ most_faces }
         ensures none { IfOk result (λ t. t.faces ≡ 0) }

@@ -10,7 +10,7 @@ use std::marker::Model;
 use std::sync::ledger::Ledger;
 
 /// Faces and the gluing of their sides in pairs. Contracts see it as the number of its faces and the
-/// list of its entries, which tells the gluing.
+/// list of its entries, which gives the gluing.
 #[derive(Debug, Drop)]
 pub struct SideTable {
     faces: u32,
@@ -37,7 +37,7 @@ impl SideTable {
     ghost use Rattle.corner_table.specs.Carried.{IsRenumbering, IsCarried};
 
     /// A table without faces, and room for `faces` of them, which is a number for each of their sides.
-    /// Refused only when out of memory.
+    /// Fails only when out of memory.
     pub fn with_room(alloc: Global, faces: u32) -> Result<SideTable, Memory>
         requires { faces ≤ most_faces }
         ensures none { IfOk result (λ t. t.faces ≡ 0) }
@@ -161,8 +161,8 @@ impl SideTable {
     /// The same surface under new numbers: row i says which face the new face i is, and by how much it
     /// is turned, so that its corner k is corner k + turn, modulo 3, of that face. Its pairs are those
     /// of this table, renumbered, and no others. It has room for exactly these faces. A list of a number for
-    /// each side is made for it, and one more while it is made. Refused only when out of memory. All
-    /// entries are looked at, so the call counts as many steps as `across` does.
+    /// each side is made for it, and one more while it is made. Fails only when out of memory. All entries
+    /// are looked at, so the call counts as many steps as `across` does.
     pub fn renumbered<L: Ledger>(
         &self,
         alloc: Global,

@@ -9,20 +9,20 @@ use Rattle.mesh_model.specs.declared.geometries.Geometry.TheVariants.{Mesh}
 use Rattle.mesh_model.specs.Head.{width_of}
 use Rattle.drc_gen.specs.declared.kinds.GenKind.{GenKind}
 use Rattle.drc_gen.specs.declared.kinds.GenKind.TheVariants.{Grid, Torus, Holes, Fans, Seams}
-use Rattle.drc_gen.specs.Generated.{heads_of, points_of, faces_of, generated}
+use Rattle.drc_gen.specs.Generated.{generated_heads, generated_points, generated_faces, generated}
 use Rattle.drc_gen.specs.GeneratedLaws.{IsSize, IsSmall}
 use Rattle.drc_gen.proofs.Meshes.{generated-mesh, few-faces, narrow}
 use Rattle.drc_gen.proofs.Proper.{some-faces, proper-faces, small-values}
-use Rattle.drc_container.specs.declared.methods.Method.{Method}
-use Rattle.drc_container.specs.declared.methods.Method.TheVariants as method
-use Rattle.drc_container.specs.Refused.{begins_with_position, refused}
-use Rattle.drc_container.specs.Encodable.{IsProperFace, IsEncodable}
-use Rattle.drc_container.proofs.Encodable.{encodable-encoded}
+use Rattle.drc_container.specs.declared.choice.methods.Method.{Method}
+use Rattle.drc_container.specs.declared.choice.methods.Method.TheVariants as method
+use Rattle.drc_container.specs.choice.Refused.{begins_with_position, refused}
+use Rattle.drc_container.specs.choice.Encodable.{IsProperFace, IsEncodable}
+use Rattle.drc_container.proofs.lemmas.choice.Encodable.{encodable-encoded}
 use Rattle.drc_app.specs.Due.{by_method}
 use Rattle.drc_app.specs.Laws.{GeneratedIsEncoded}
 
 -- the first attribute is a position
-begins : (kind : GenKind) → begins_with_position (heads_of kind) ≡ true
+begins : (kind : GenKind) → begins_with_position (generated_heads kind) ≡ true
 begins Grid = refl
 begins Torus = refl
 begins Holes = refl
@@ -30,7 +30,7 @@ begins Fans = refl
 begins Seams = refl
 
 -- of three integers
-proper : (kind : GenKind) (n seed f : ℕ) → IsSize n → f < length (faces_of kind n) → IsProperFace (generated kind n seed) f
+proper : (kind : GenKind) (n seed f : ℕ) → IsSize n → f < length (generated_faces kind n) → IsProperFace (generated kind n seed) f
 proper Grid n seed f size below = proper-faces Grid n seed f size below
 proper Torus n seed f size below = proper-faces Torus n seed f size below
 proper Holes n seed f size below = proper-faces Holes n seed f size below
@@ -53,13 +53,13 @@ generated-encodable kind n seed size =
       position = begins kind;
       some = some-faces kind n size;
       proper = λ f below. proper kind n seed f size below;
-      few_corners = omega (arith, few-corners (length (faces_of kind n)) few);
-      few_values = omega (arith, few-values (length (faces_of kind n)) (width_of (heads_of kind)) few (narrow kind));
+      few_corners = omega (arith, few-corners (length (generated_faces kind n)) few);
+      few_values = omega (arith, few-values (length (generated_faces kind n)) (width_of (generated_heads kind)) few (narrow kind));
       range = record { low = pos 0; high = pos (2 ^ 20) };
       can_wrap = record { ordered = omega (arith, ints); narrow = omega (arith, ints) };
       near = All-weaker (λ row. All IsSmall row) (λ row. All (λ v. (pos 0 ≤ℤ v) × (v ≤ℤ pos (2 ^ 20))) row)
           (λ row small. All-weaker IsSmall (λ v. (pos 0 ≤ℤ v) × (v ≤ℤ pos (2 ^ 20))) (λ v is. (is.0, at_most v is.1)) row small)
-          (points_of kind n seed) (small-values kind n seed size);
+          (generated_points kind n seed) (small-values kind n seed size);
     }
   where
     at_most : (v : ℤ) → v <ℤ pos (2 ^ 20) → v ≤ℤ pos (2 ^ 20)

@@ -1,6 +1,7 @@
-pub mod Choices
+pub mod Tables
 pub mod Numbers
-pub mod Spelled
+pub mod Settings
 pub mod Lines
+pub mod BadWords
 pub mod Generated
 pub mod MapEnds

@@ -13,20 +13,20 @@ use Rattle.mesh_model.specs.MapText.{map_text_of}
 use Rattle.drc_gen.specs.declared.kinds.GenKind.{GenKind}
 use Rattle.drc_gen.specs.Generated.{generated}
 use Rattle.ply_mesh.specs.Read.{ply_read}
-use Rattle.drc_container.specs.declared.methods.Method.{Method}
-use Rattle.drc_container.specs.declared.methods.Method.TheVariants as method
-use Rattle.drc_container.specs.declared.choices.Choice.{Choice}
-use Rattle.drc_container.specs.Encoded.{due as encoded}
-use Rattle.drc_container.specs.Chosen.{written as written_by}
-use Rattle.drc_container.specs.Stream.{meaning_of}
+use Rattle.drc_container.specs.declared.choice.methods.Method.{Method}
+use Rattle.drc_container.specs.declared.choice.methods.Method.TheVariants as method
+use Rattle.drc_container.specs.declared.choice.choices.Choice.{Choice}
+use Rattle.drc_container.specs.writing.Encoded.{encoding_due as encoded}
+use Rattle.drc_container.specs.writing.Chosen.{written as written_by}
+use Rattle.drc_container.specs.reading.Stream.{meaning_of}
 use Rattle.drc_info.specs.InfoText.{report_of}
-use Rattle.drc_recode.specs.Restored.{restored}
+use Rattle.drc_recode.specs.Restored.{restored_stream}
 use Rattle.kd_points.specs.Meaning.{kd_meaning}
 use Rattle.kd_points.specs.Rows.{kd_rows}
 use Rattle.kd_points.specs.Written.{cloud_in}
 use Rattle.kd_points.specs.Written.{kd_due as kd_file}
 use Rattle.drc_app.specs.Given.{Given, Written}
-use Rattle.drc_app.specs.Verified.{verified}
+use Rattle.drc_app.specs.Verified.{verified_input}
 use Rattle.drc_app.specs.Options.{no_choice}
 use Rattle.drc_app.specs.Summary.{summary_text}
 use Rattle.drc_app.specs.declared.commands.Command.{Command}
@@ -52,7 +52,7 @@ recoded_due choice stream = meaning_of stream >>= λ g. coded_due choice g
 unfoldable pub restored_due : List ℕ → Result (List ℕ × List ℕ) Fault
 restored_due input = do
   map ← map_read input
-  stream ← restored map.cloud map.rows.rows (drop map.end input)
+  stream ← restored_stream map.cloud map.rows.rows (drop map.end input)
   Ok (stream, [])
 
 -- the text of the geometry that a stream means; no note
@@ -68,8 +68,8 @@ kd_coded_due g = do
   Ok (file, map_text_of g (kd_rows (cloud_in g)))
 
 -- the same of the geometry that a text means
-abbrev pub kd_due : List ℕ → Result (List ℕ × List ℕ) Fault
-kd_due text = ply_read text >>= λ g. kd_coded_due g
+abbrev pub text_kd_due : List ℕ → Result (List ℕ × List ℕ) Fault
+text_kd_due text = ply_read text >>= λ g. kd_coded_due g
 
 -- the text of the cloud that a kd-tree file means; no note
 unfoldable pub kd_text_due : List ℕ → Result (List ℕ × List ℕ) Fault
@@ -91,7 +91,7 @@ by_method by = record no_choice { method = Some by }
 unfoldable pub length_due : Geometry → Method → ℕ
 length_due g by = length (written_by g (by_method by)).0
 
--- what a summary tells of a mesh that was asked for so
+-- what a summary says of a mesh that was asked for so
 unfoldable pub summary_of : GenMesh → MeshParts → Summary
 summary_of asked m = record {
   asked = asked;
@@ -113,25 +113,25 @@ reads (command.Gen mesh) = false
 reads c = true
 
 -- an output and its note, where there are any
-abbrev pub written : Result (List ℕ × List ℕ) Fault → Result Given Fault
-written answer = answer >>= λ a. Ok (Written a)
+abbrev pub written_due : Result (List ℕ × List ℕ) Fault → Result Given Fault
+written_due answer = answer >>= λ a. Ok (Written a)
 
 -- what the command gives from bytes within the limit, where it reads them
 abbrev pub worked : Command → List ℕ → Result Given Fault
-worked (command.Enc choice) bytes = written (stream_due choice bytes)
-worked command.Dec bytes = written (text_due bytes)
-worked command.Info bytes = written (report_due bytes)
+worked (command.Enc choice) bytes = written_due (stream_due choice bytes)
+worked command.Dec bytes = written_due (text_due bytes)
+worked command.Info bytes = written_due (report_due bytes)
 worked (command.Gen mesh) bytes = Ok (Written (summary_due mesh.kind mesh.size mesh.seed))
-worked (command.Recode choice) bytes = written (recoded_due choice bytes)
-worked command.Restore bytes = written (restored_due bytes)
-worked (command.Verify surface) bytes = verified surface bytes
-worked command.KdEnc bytes = written (kd_due bytes)
-worked command.KdDec bytes = written (kd_text_due bytes)
+worked (command.Recode choice) bytes = written_due (recoded_due choice bytes)
+worked command.Restore bytes = written_due (restored_due bytes)
+worked (command.Verify surface) bytes = verified_input surface bytes
+worked command.KdEnc bytes = written_due (text_kd_due bytes)
+worked command.KdDec bytes = written_due (kd_text_due bytes)
 
 -- too many bytes of input
 abbrev pub input_limit : Fault
 input_limit = record { kind = kind.InputLimit; at = MAX_INPUT_BYTES }
 
 -- what the command gives from all bytes of its input: too many of them are a fault, where it reads them
-abbrev pub due : Command → List ℕ → Result Given Fault
-due c bytes = if reads c && nat_lt MAX_INPUT_BYTES (length bytes) then Err input_limit else worked c bytes
+abbrev pub command_due : Command → List ℕ → Result Given Fault
+command_due c bytes = if reads c && nat_lt MAX_INPUT_BYTES (length bytes) then Err input_limit else worked c bytes

@@ -53,8 +53,8 @@ pub record IsReadWhole (t : Taking) : Type 0 where
   pub ended : t.ended ≡ true
   pub none_left : IsAtEnd t.left_after
 
--- a byte past the most that a command reads was taken, and none after it: of the bytes, where the source tells them; its count
--- says that they were more
+-- a byte past the most that a command reads was taken, and none after it: of the bytes, where the source shows them; its count says that
+-- they were more
 pub record IsPastMost (t : Taking) : Type 0 where
   pub taken : List ℕ
   pub more : length taken ≡ MAX_INPUT_BYTES + 1

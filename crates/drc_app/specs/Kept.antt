@@ -5,11 +5,11 @@ use Rattle.mesh_model.specs.Same.{Rows, Same}
 use Rattle.mesh_model.specs.MapRead.{map_read}
 use Rattle.mesh_model.specs.MapText.{map_text_of}
 use Rattle.ply_mesh.specs.Read.{ply_read}
-use Rattle.drc_container.specs.declared.choices.Choice.{Choice}
-use Rattle.drc_container.specs.Encoded.{Means}
-use Rattle.drc_container.specs.Layout.{layout_of, layout_chosen}
-use Rattle.drc_container.specs.Meaning.{Meaning}
-use Rattle.drc_container.specs.Stream.{stream, meaning_of}
+use Rattle.drc_container.specs.declared.choice.choices.Choice.{Choice}
+use Rattle.drc_container.specs.writing.Encoded.{Means}
+use Rattle.drc_container.specs.writing.Layout.{layout_of, layout_chosen}
+use Rattle.drc_container.specs.reading.Meaning.{Meaning}
+use Rattle.drc_container.specs.reading.Stream.{stream, meaning_of}
 use Rattle.drc_recode.specs.Restored.{MeansInOrder}
 use Rattle.kd_points.specs.Rows.{KdMeans}
 use Rattle.drc_verify.specs.Checked.{IsSame}
@@ -50,10 +50,10 @@ SaysWhetherSame surface input given = IsOkAnd (parts_of input) (λ parts. (g : G
 
 -- what a command keeps of its input: encoding keeps the geometry that the text, or the stream, means; restoring gives the first order back;
 -- verifying says whether all is the same; and a kd-tree file keeps the cloud that the text means
-abbrev pub Keeps : Command → List ℕ → Given → Type 0
-Keeps (command.Enc choice) input (Written answer) = IsOkAnd (ply_read input) (IsCoded choice answer.0 answer.1)
-Keeps (command.Recode choice) input (Written answer) = IsOkAnd (meaning_of input) (IsCoded choice answer.0 answer.1)
-Keeps command.Restore input (Written answer) = IsInOrder input answer.0
-Keeps (command.Verify surface) input given = SaysWhetherSame surface input given
-Keeps command.KdEnc input (Written answer) = IsOkAnd (ply_read input) (IsKdCoded answer.0 answer.1)
-Keeps c input given = Unit {0}
+abbrev pub KeepsGeometry : Command → List ℕ → Given → Type 0
+KeepsGeometry (command.Enc choice) input (Written answer) = IsOkAnd (ply_read input) (IsCoded choice answer.0 answer.1)
+KeepsGeometry (command.Recode choice) input (Written answer) = IsOkAnd (meaning_of input) (IsCoded choice answer.0 answer.1)
+KeepsGeometry command.Restore input (Written answer) = IsInOrder input answer.0
+KeepsGeometry (command.Verify surface) input given = SaysWhetherSame surface input given
+KeepsGeometry command.KdEnc input (Written answer) = IsOkAnd (ply_read input) (IsKdCoded answer.0 answer.1)
+KeepsGeometry c input given = Unit {0}

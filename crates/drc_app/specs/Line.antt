@@ -4,17 +4,16 @@ use Rattle.std.specs.Prelude.{Result, Ok, Err, true, false, Contains}
 use Rattle.drc_gen.specs.declared.kinds.GenKind.{GenKind}
 use Rattle.drc_gen.specs.declared.kinds.GenKind.TheVariants.{Grid, Torus, Holes, Fans, Seams}
 use Rattle.drc_gen.specs.GeneratedLaws.{IsSize}
-use Rattle.drc_container.specs.declared.choices.Choice.{Choice}
-use Rattle.drc_app.specs.Options.{words_of, SetsOnce, with_settings, no_choice}
+use Rattle.drc_container.specs.declared.choice.choices.Choice.{Choice}
+use Rattle.drc_app.specs.Options.{Setting, words_of, SetsOnce, with_settings, no_choice}
 use Rattle.drc_app.specs.declared.commands.Command.{Command}
 use Rattle.drc_app.specs.declared.commands.Command.TheVariants as command
 use Rattle.drc_app.specs.declared.commands.Encoder.{Encoder}
 use Rattle.drc_app.specs.declared.commands.Encoder.TheVariants as encoder
-use Rattle.drc_app.specs.declared.options.Setting.{Setting}
 use Rattle.drc_app.specs.declared.command_lines.CommandWord.{CommandWord}
 use Rattle.drc_app.specs.declared.command_lines.CommandWord.TheVariants.{Enc, Dec, Info, Gen, Recode, Verify, Kd}
 
--- the first words of command lines
+-- the first words of command lines, and all of them
 abbrev pub command_word : CommandWord → List ℕ
 command_word Enc = codes "enc"
 command_word Dec = codes "dec"
@@ -23,6 +22,9 @@ command_word Gen = codes "gen"
 command_word Recode = codes "recode"
 command_word Verify = codes "verify"
 command_word Kd = codes "kd"
+
+abbrev pub first_words : List CommandWord
+first_words = Enc ∷ Dec ∷ Info ∷ Gen ∷ Recode ∷ Verify ∷ Kd ∷ []
 
 -- the lines that have neither options with values nor numbers, and their commands
 abbrev pub plain_lines : List (List (List ℕ) × Command)
@@ -45,13 +47,16 @@ abbrev pub encoding : Encoder → Choice → Command
 encoding encoder.Enc choice = command.Enc choice
 encoding encoder.Recode choice = command.Recode choice
 
--- the word of a kind of generated mesh
+-- the words of the kinds of generated meshes, and all of them
 abbrev pub gen_word : GenKind → List ℕ
 gen_word Grid = codes "grid"
 gen_word Torus = codes "torus"
 gen_word Holes = codes "holes"
 gen_word Fans = codes "fans"
 gen_word Seams = codes "seams"
+
+abbrev pub kinds : List GenKind
+kinds = Grid ∷ Torus ∷ Holes ∷ Fans ∷ Seams ∷ []
 
 -- these words are the command line of this command: a line of the list above; `enc` or `recode` with options in any order, each
 -- at most once; or `gen` with a kind, a size and a seed, the two numbers as their decimal texts, so without leading zeros

@@ -10,8 +10,8 @@ use Rattle.drc_verify.specs.declared.verdicts.Verdict.{Verdict}
 use Rattle.drc_verify.specs.declared.verdicts.Verdict.TheVariants as verdict
 use Rattle.drc_app.specs.Given.{Given, Written, Differs}
 use Rattle.drc_app.specs.Notes.{refused_note, bad_word_note, verdict_note, read_failed_note, write_failed_note, memory_note}
-use Rattle.drc_app.specs.Due.{reads, due}
-use Rattle.drc_app.specs.Kept.{Keeps}
+use Rattle.drc_app.specs.Due.{reads, command_due}
+use Rattle.drc_app.specs.Kept.{KeepsGeometry}
 use Rattle.drc_app.specs.declared.commands.Command.{Command}
 use Rattle.drc_app.specs.declared.commands.Command.TheVariants as command
 use Rattle.drc_app.specs.declared.outcomes.Answer.{Answer}
@@ -38,29 +38,29 @@ WasReadEnough c input = MatchBool (reads c) (WasRead input) (IsUntaken input)
 abbrev pub IsUnreadBy : Command → Taking → Type 0
 IsUnreadBy c input = OnFalse (reads c) (IsUntaken input)
 
--- the bytes that a command works from: those of its input, where it reads and the source tells them; none, where it doesn't read
+-- the bytes that a command works from: those of its input, where it reads and the source shows them; none, where it doesn't read
 abbrev pub told_to : Command → Taking → Option (List ℕ)
 told_to c input = if reads c then input.left else Some []
 
--- where its bytes are told, this is what the command gives from them
-abbrev pub Gives : Command → Taking → Result Given Fault → Type 0
-Gives c input given = IfSome (told_to c input) (λ bytes. due c bytes ≡ given)
+-- where its bytes are known, this is what the command gives from them
+abbrev pub GivesFrom : Command → Taking → Result Given Fault → Type 0
+GivesFrom c input given = IfSome (told_to c input) (λ bytes. command_due c bytes ≡ given)
 
--- where its bytes are told, the command keeps of them what it has to
+-- where its bytes are known, the command keeps of them what it has to
 abbrev pub Kept : Command → Taking → Given → Type 0
-Kept c input given = IfSome (told_to c input) (λ bytes. Keeps c bytes given)
+Kept c input given = IfSome (told_to c input) (λ bytes. KeepsGeometry c bytes given)
 
 -- the bytes of an output, and of an output and its note
 abbrev pub output_bytes : Output → List ℕ
 output_bytes (output.Bytes bytes) = bytes.items
 output_bytes (output.Text text) = text
 
-abbrev pub bytes_of : Due → List ℕ × List ℕ
-bytes_of d = (output_bytes d.output, d.note.items)
+abbrev pub due_bytes : Due → List ℕ × List ℕ
+due_bytes d = (output_bytes d.output, d.note.items)
 
 -- what an answer gives
 abbrev pub seen : Answer → Given
-seen (answer.Due d) = Written (bytes_of d)
+seen (answer.Due d) = Written (due_bytes d)
 seen (answer.Differs v) = Differs v
 
 -- a command gives a verdict alone only where it verifies, and no yes
@@ -77,20 +77,20 @@ abbrev pub IsOutcome : Result Command ℕ → Taking → Outcome → Type 0
 IsOutcome line input (outcome.BadWord i) = (line ≡ Err i) × IsUntaken input
 IsOutcome line input outcome.ReadFailed = IsOkAnd line (λ c. IsTrue (reads c)) × HasReadFault input
 IsOutcome line input outcome.NoMemory = IsOkAnd line (λ c. IsUnreadBy c input)
-IsOutcome line input (outcome.Refused f) = IsOkAnd line (λ c. WasReadEnough c input × Gives c input (Err f))
+IsOutcome line input (outcome.Refused f) = IsOkAnd line (λ c. WasReadEnough c input × GivesFrom c input (Err f))
 IsOutcome line input (outcome.Done d) = IsOkAnd line (λ c.
-    WasReadWhole c input × Gives c input (Ok (Written (bytes_of d))) × Kept c input (Written (bytes_of d)))
+    WasReadWhole c input × GivesFrom c input (Ok (Written (due_bytes d))) × Kept c input (Written (due_bytes d)))
 IsOutcome line input (outcome.Differs v) = IsOkAnd line (λ c.
-    MayDiffer c v × WasReadWhole c input × Gives c input (Ok (Differs v)) × Kept c input (Differs v))
+    MayDiffer c v × WasReadWhole c input × GivesFrom c input (Ok (Differs v)) × Kept c input (Differs v))
 
 -- what a command came to on all bytes of its input
 abbrev pub IsOutcomeAt : Command → List ℕ → Outcome → Type 0
 IsOutcomeAt c bytes (outcome.BadWord i) = ⊥
 IsOutcomeAt c bytes outcome.ReadFailed = ⊥
 IsOutcomeAt c bytes outcome.NoMemory = Unit {0}
-IsOutcomeAt c bytes (outcome.Refused f) = due c bytes ≡ Err f
-IsOutcomeAt c bytes (outcome.Done d) = (due c bytes ≡ Ok (Written (bytes_of d))) × Keeps c bytes (Written (bytes_of d))
-IsOutcomeAt c bytes (outcome.Differs v) = MayDiffer c v × (due c bytes ≡ Ok (Differs v)) × Keeps c bytes (Differs v)
+IsOutcomeAt c bytes (outcome.Refused f) = command_due c bytes ≡ Err f
+IsOutcomeAt c bytes (outcome.Done d) = (command_due c bytes ≡ Ok (Written (due_bytes d))) × KeepsGeometry c bytes (Written (due_bytes d))
+IsOutcomeAt c bytes (outcome.Differs v) = MayDiffer c v × (command_due c bytes ≡ Ok (Differs v)) × KeepsGeometry c bytes (Differs v)
 
 -- the writing of an output and then of its note stopped: in the output, and then the note of the failure is tried; or in the note
 abbrev pub IsCutShort : Putting → Putting → List ℕ → List ℕ → Type 0

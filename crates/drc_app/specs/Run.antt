@@ -5,8 +5,8 @@ use Rattle.drc_app.specs.Ends.{Taking, Putting, HasReadFault, HasWriteFault, IsU
 use Rattle.drc_verify.specs.declared.verdicts.Verdict.{Verdict}
 use Rattle.drc_app.specs.Given.{Written, Differs}
 use Rattle.drc_app.specs.Notes.{refused_note, bad_word_note, verdict_note, read_failed_note, memory_note}
-use Rattle.drc_app.specs.Due.{reads, due}
-use Rattle.drc_app.specs.Outcome.{WasReadWhole, WasReadEnough, IsUnreadBy, told_to, Gives, Kept, MayDiffer, IsCutShort}
+use Rattle.drc_app.specs.Due.{reads, command_due}
+use Rattle.drc_app.specs.Outcome.{WasReadWhole, WasReadEnough, IsUnreadBy, told_to, GivesFrom, Kept, MayDiffer, IsCutShort}
 use Rattle.drc_app.specs.declared.commands.Command.{Command}
 
 -- the words are a command, the whole input was read where it reads, and all that it gives was written; what the command has to keep of its
@@ -14,24 +14,24 @@ use Rattle.drc_app.specs.declared.commands.Command.{Command}
 abbrev pub IsDone : Command → Taking → Putting → Putting → Type 0
 IsDone c input output notes =
     WasReadWhole c input
-    × ((text : List ℕ) × (note : List ℕ) × Gives c input (Ok (Written (text, note))) × Kept c input (Written (text, note))
+    × ((text : List ℕ) × (note : List ℕ) × GivesFrom c input (Ok (Written (text, note))) × Kept c input (Written (text, note))
     × IsWritten output text × IsWritten notes note)
 
 -- the words are a command, all was read where it reads, and this is the first fault
 abbrev pub IsRefused : Command → Taking → Putting → Type 0
-IsRefused c input notes = WasReadEnough c input × ((f : Fault) × Gives c input (Err f) × IsTried notes (refused_note f))
+IsRefused c input notes = WasReadEnough c input × ((f : Fault) × GivesFrom c input (Err f) × IsTried notes (refused_note f))
 
 -- the words are `verify`, all was read, and this verdict, which isn't yes, is all that is due
 abbrev pub IsUnlike : Command → Taking → Putting → Type 0
 IsUnlike c input notes =
     WasReadWhole c input
-    × ((v : Verdict) × MayDiffer c v × Gives c input (Ok (Differs v)) × Kept c input (Differs v) × IsTried notes (verdict_note v))
+    × ((v : Verdict) × MayDiffer c v × GivesFrom c input (Ok (Differs v)) × Kept c input (Differs v) × IsTried notes (verdict_note v))
 
 -- an output is due, and a sink failed
 abbrev pub IsStopped : Command → Taking → Putting → Putting → Type 0
 IsStopped c input output notes =
     WasReadWhole c input
-    × ((text : List ℕ) × (note : List ℕ) × Gives c input (Ok (Written (text, note))) × IsCutShort output notes text note)
+    × ((text : List ℕ) × (note : List ℕ) × GivesFrom c input (Ok (Written (text, note))) × IsCutShort output notes text note)
 
 -- what a call with this line did to its source and its sinks, by its status; reading fails only for a command that reads
 pub record HasRun (line : Result Command ℕ) (input : Taking) (output notes : Putting) (status : ℕ) : Type 0 where
@@ -46,22 +46,22 @@ pub record HasRun (line : Result Command ℕ) (input : Taking) (output notes : P
   pub unlike : status ≡ 6 → IsOkAnd line (λ c. IsUnlike c input notes)
   pub kept : status ≢ 0 → status ≢ 4 → IsUntouched output
 
--- where what the command works from is told and gives an output, and nothing failed, the call is done, unless memory ran out
+-- where what the command works from is known and gives an output, and nothing failed, the call is done, unless memory ran out
 abbrev pub IsComplete : Result Command ℕ → Taking → Putting → Putting → ℕ → Type 0
 IsComplete line input output notes status =
-    IfOk line (λ c. IfSome (told_to c input) (λ bytes. (answer : List ℕ × List ℕ) → due c bytes ≡ Ok (Written answer)
+    IfOk line (λ c. IfSome (told_to c input) (λ bytes. (answer : List ℕ × List ℕ) → command_due c bytes ≡ Ok (Written answer)
     → ¬ HasReadFault input → ¬ HasWriteFault output → ¬ HasWriteFault notes → (status ≡ 0) ⊎ (status ≡ 5)))
 
 -- the status is this one, unless the input failed or memory ran out
 abbrev pub EndsWith : ℕ → Taking → ℕ → Type 0
-EndsWith due input status = (status ≡ due) ⊎ ((status ≡ 3) × HasReadFault input) ⊎ (status ≡ 5)
+EndsWith command_due input status = (status ≡ command_due) ⊎ ((status ≡ 3) × HasReadFault input) ⊎ (status ≡ 5)
 
--- where what the command works from is told and has a fault, the call names it
+-- where what the command works from is known and has a fault, the call names it
 abbrev pub NamesFault : Result Command ℕ → Taking → ℕ → Type 0
 NamesFault line input status =
-    IfOk line (λ c. IfSome (told_to c input) (λ bytes. (f : Fault) → due c bytes ≡ Err f → EndsWith 2 input status))
+    IfOk line (λ c. IfSome (told_to c input) (λ bytes. (f : Fault) → command_due c bytes ≡ Err f → EndsWith 2 input status))
 
--- where what the command works from is told and gives a verdict that isn't yes, the call notes it
+-- where what the command works from is known and gives a verdict that isn't yes, the call notes it
 abbrev pub NotesVerdict : Result Command ℕ → Taking → ℕ → Type 0
 NotesVerdict line input status =
-    IfOk line (λ c. IfSome (told_to c input) (λ bytes. (v : Verdict) → due c bytes ≡ Ok (Differs v) → EndsWith 6 input status))
+    IfOk line (λ c. IfSome (told_to c input) (λ bytes. (v : Verdict) → command_due c bytes ≡ Ok (Differs v) → EndsWith 6 input status))

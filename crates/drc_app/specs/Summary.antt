@@ -1,6 +1,6 @@
 -- The summary of a generated mesh (this project's choice).
 use Rattle.std.specs.Prelude.{ℕ, List, ◌∷◌, ◌++◌, codes, decimal}
-use Rattle.drc_container.specs.declared.methods.Method.TheVariants as method
+use Rattle.drc_container.specs.declared.choice.methods.Method.TheVariants as method
 use Rattle.drc_app.specs.Line.{gen_word}
 use Rattle.drc_app.specs.Options.{method_word}
 use Rattle.drc_app.specs.declared.commands.GenMesh.{GenMesh}

@@ -9,7 +9,7 @@ use Rattle.mesh_model.specs.MapRead.{line_or_fault, map_read}
 use Rattle.mesh_model.specs.NumberText.{number_then}
 use Rattle.drc_verify.specs.declared.verdicts.Verdict.{Verdict}
 use Rattle.drc_verify.specs.declared.verdicts.Verdict.TheVariants as verdict
-use Rattle.drc_verify.specs.Checked.{due as checked}
+use Rattle.drc_verify.specs.Checked.{verdict_due as checked}
 use Rattle.drc_app.specs.Given.{Given, Written, Differs}
 
 -- the line `ply <n>` at the front of some bytes: n, and what stands behind the line
@@ -41,14 +41,14 @@ parts_of input =
 abbrev pub same_line : ℕ → List ℕ
 same_line count = codes "same " ++ decimal count ++ codes "\n"
 
--- a yes is an output; another verdict is told in the note
+-- a yes is an output; another verdict is given in the note
 abbrev pub given_by : ℕ → Verdict → Given
 given_by count verdict.Same = Written (same_line count, [])
 given_by count v = Differs v
 
 -- the verdict on the parts of an input, or their first fault; and with surfaces, what is missing for them
-unfoldable pub verified : Bool → List ℕ → Result Given Fault
-verified surface input = do
+unfoldable pub verified_input : Bool → List ℕ → Result Given Fault
+verified_input surface input = do
   parts ← parts_of input
   v ← checked surface parts.map.cloud parts.map.rows.rows parts.text parts.stream
   Ok (given_by (length parts.map.rows.rows) v)

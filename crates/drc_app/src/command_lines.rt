@@ -2,13 +2,11 @@
 
 ghost use Rattle.std.specs.Prelude.{◌≡◌, map, string_bytes, IfOk};
 ghost use Rattle.drc_app.specs.Line.{IsSized};
-ghost use Rattle.drc_app.specs.Progress.{command_named, behind_command, behind_option, with_option, after_word, named_alone, whole_line, line_of};
+ghost use Rattle.drc_app.specs.Progress.{command_named, behind_command, with_option, after_word, named_alone, whole_line, line_of};
 
 use crate::commands::{Command, Encoder, GenMesh, encoding};
 use crate::gen_words::{gen_named, number_named, size_named};
-use crate::options::{
-    OptionWord, Setting, is_given, no_choice, option_named, setting_named, with_setting,
-};
+use crate::options::{ValueOption, no_choice, option_read, with_value};
 use drc_container::Choice;
 use drc_gen::GenKind;
 
@@ -41,7 +39,7 @@ pub enum Progress {
     /// A command with one or more whole options.
     Options(Encoder, Choice),
     /// A command with whole options and one whose value is due.
-    Value(Encoder, Choice, OptionWord),
+    Value(Encoder, Choice, ValueOption),
     /// `gen` with a kind, whose size is due.
     SizeDue(GenKind),
     /// `gen` with a kind and a size, whose seed is due.
@@ -104,10 +102,10 @@ fn after_word(progress: Progress, word: &str) -> Option<Progress>
         Progress::Nothing => Some(Progress::Named(command_named(word)?)),
         Progress::Named(command) => behind_command(command, word),
         Progress::Options(by, choice) => with_option(by, choice, word),
-        Progress::Value(by, choice, option) => {
-            let setting = setting_named(option, word)?;
-            Some(Progress::Options(by, with_setting(choice, setting)))
-        }
+        Progress::Value(by, choice, option) => Some(Progress::Options(
+            by,
+            with_value(choice, option, word)?,
+        )),
         Progress::SizeDue(kind) => Some(Progress::SeedDue(kind, size_named(word)?)),
         Progress::SeedDue(kind, size) => {
             let seed = number_named(word)?;
@@ -159,26 +157,12 @@ fn behind_command(command: CommandWord, word: &str) -> Option<Progress>
 }
 
 /// The line with the option of this word more, unless it was given before. Its value is due, where it
-/// has one.
+/// takes one.
 fn with_option(by: Encoder, choice: Choice, word: &str) -> Option<Progress>
     ensures { result ≡ with_option by choice word.now }
 {
-    let option = option_named(word)?;
-    if is_given(&choice, option) {
-        return None;
-    }
-    Some(behind_option(by, choice, option))
-}
-
-/// The line with this option more.
-fn behind_option(by: Encoder, choice: Choice, option: OptionWord) -> Progress
-    ensures { result ≡ behind_option by choice option }
-{
-    match option {
-        OptionWord::PlainValues => Progress::Options(
-            by,
-            with_setting(choice, Setting::PlainValues),
-        ),
-        _ => Progress::Value(by, choice, option),
+    match option_read(choice, word)? {
+        (choice, None) => Some(Progress::Options(by, choice)),
+        (choice, Some(option)) => Some(Progress::Value(by, choice, option)),
     }
 }

@@ -4,19 +4,30 @@ ghost use Rattle.std.specs.Prelude.{◌≡◌};
 ghost use Rattle.drc_app.specs.Line.{gen_word};
 ghost use Rattle.drc_app.specs.Progress.{gen_named, number_named, sized, size_named};
 
+use crate::words::{Worded, named};
 use drc_gen::{GenKind, LEAST_SIZE, MOST_SIZE};
 use itoa::Buffer;
 
-/// The word of a kind.
-pub fn gen_word(kind: GenKind) -> &'static str
-    ensures { result.now ≡ gen_word kind }
-{
-    match kind {
-        GenKind::Grid => "grid",
-        GenKind::Torus => "torus",
-        GenKind::Holes => "holes",
-        GenKind::Fans => "fans",
-        GenKind::Seams => "seams",
+/// The kinds.
+const KINDS: [GenKind; 5] = [
+    GenKind::Grid,
+    GenKind::Torus,
+    GenKind::Holes,
+    GenKind::Fans,
+    GenKind::Seams,
+];
+
+impl Worded for GenKind {
+    ghost spelling = { gen_word };
+
+    fn word(self) -> &'static str {
+        match self {
+            GenKind::Grid => "grid",
+            GenKind::Torus => "torus",
+            GenKind::Holes => "holes",
+            GenKind::Fans => "fans",
+            GenKind::Seams => "seams",
+        }
     }
 }
 
@@ -24,14 +35,7 @@ pub fn gen_word(kind: GenKind) -> &'static str
 pub fn gen_named(word: &str) -> Option<GenKind>
     ensures { result ≡ gen_named word.now }
 {
-    match word {
-        "grid" => Some(GenKind::Grid),
-        "torus" => Some(GenKind::Torus),
-        "holes" => Some(GenKind::Holes),
-        "fans" => Some(GenKind::Fans),
-        "seams" => Some(GenKind::Seams),
-        _ => None,
-    }
+    named(&KINDS, word)
 }
 
 /// The number below 2^64 whose decimal text this word is: no sign, and no leading zero but in `0`

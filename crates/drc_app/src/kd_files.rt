@@ -5,9 +5,9 @@ ghost use Rattle.drc_base.specs.Refusals.{Answers};
 ghost use Rattle.mesh_model.specs.MapText.{map_words};
 ghost use Rattle.ply_mesh.specs.Read.{ply_read};
 ghost use Rattle.kd_points.specs.Meaning.{kd_meaning};
-ghost use Rattle.drc_app.specs.Due.{kd_coded_due, kd_due, kd_text_due};
+ghost use Rattle.drc_app.specs.Due.{kd_coded_due, text_kd_due, kd_text_due};
 ghost use Rattle.drc_app.specs.Kept.{IsKdCoded};
-ghost use Rattle.drc_app.specs.Outcome.{output_bytes, bytes_of};
+ghost use Rattle.drc_app.specs.Outcome.{output_bytes, due_bytes};
 
 use crate::outcomes::{Due, Output, text_read};
 use drc_base::{Memory, Refusal};
@@ -29,7 +29,7 @@ const LABEL: Head = Head {
 /// The kd-tree file of the cloud that a text means, and the map of its points. Refused by the text's first
 /// fault, and then as by `kd_encode`.
 pub fn kd_due(alloc: Global, text: Vec<u8>) -> Result<Due, Refusal>
-    ensures answer { Answers bytes_of (kd_due text.items) result }
+    ensures answer { Answers due_bytes (text_kd_due text.items) result }
     ensures kept { IfOk result (λ d. IsOkAnd (ply_read text.items) (IsKdCoded (output_bytes d.output) d.note.items)) }
 {
     let geometry = text_read(alloc, text)?;
@@ -53,7 +53,7 @@ fn of_the_kind(alloc: Global, geometry: Geometry) -> Result<Geometry, Memory>
 /// The kd-tree file of a geometry, and the map of its points. The points are freed before the map is made.
 #[tactic(auto, unfolding(crate::specs::Due::kd_coded_due))]
 fn kd_coded_due(alloc: Global, geometry: Geometry) -> Result<Due, Refusal>
-    ensures answer { Answers bytes_of (kd_coded_due geometry) result }
+    ensures answer { Answers due_bytes (kd_coded_due geometry) result }
     ensures kept { IfOk result (λ d. IsKdCoded (output_bytes d.output) d.note.items geometry) }
 {
     let (output, rows) = kd_encode(alloc, &geometry)?;
@@ -68,7 +68,7 @@ fn kd_coded_due(alloc: Global, geometry: Geometry) -> Result<Due, Refusal>
 /// The text of the cloud that a kd-tree file means, and no note. The file is freed before the text is made.
 #[tactic(auto, unfolding(crate::specs::Due::kd_text_due))]
 pub fn kd_text_due(alloc: Global, file: Vec<u8>) -> Result<Due, Refusal>
-    ensures { Answers bytes_of (kd_text_due file.items) result }
+    ensures { Answers due_bytes (kd_text_due file.items) result }
 {
     let geometry = kd_file_read(alloc, file)?;
     let text = PlyText::new(alloc, geometry)?;

@@ -1,12 +1,13 @@
 //! What holds of the definitions themselves.
 
-ghost use Rattle.drc_app.specs.Laws.{WordsSaySomething, WordsSayOneThing, GeneratedIsEncoded};
+ghost use Rattle.drc_app.specs.Laws.{WordsSaySomething, WordsSayOneThing, WordsNameBack, GeneratedIsEncoded};
 
 /// Any words are the line of one command, or have one bad word, and reading them word by word finds
-/// it. This is the contract of a call that does nothing.
+/// it. Each value that has a word is what this word names. This is the contract of a call that does nothing.
 pub fn words_say_one_thing()
     ensures found { WordsSaySomething }
     ensures alone { WordsSayOneThing }
+    ensures back { WordsNameBack }
 {}
 
 /// Generated meshes are never refused: whatever the kind, the size that a command line may ask for and

@@ -19,6 +19,7 @@ mod restoring;
 mod running;
 mod summaries;
 mod verifying;
+mod words;
 
 pub use commands::{Command, GenMesh};
 pub use delivery::out_of_memory;

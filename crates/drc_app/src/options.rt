@@ -1,39 +1,75 @@
 //! The options of the commands that encode. They take no memory.
 
 ghost use Rattle.std.specs.Prelude.{◌≡◌};
-ghost use Rattle.drc_app.specs.Options.{no_choice, with_setting};
-ghost use Rattle.drc_app.specs.Progress.{option_named, setting_named, is_given};
+ghost use Rattle.predict.specs.Schemes.{prediction_word};
+ghost use Rattle.drc_app.specs.Options.{no_choice, method_word, index_word, walk_word};
+ghost use Rattle.drc_app.specs.Progress.{option_read, with_value};
 
-use drc_container::{Choice, Index, Method, Predict, Walk};
+use crate::words::{Worded, named};
+use drc_container::{Choice, Index, Method, Prediction, Walk};
 
-/// An option.
-#[derive(Clone, Copy, Debug, PartialEq, Eq)]
-pub enum OptionWord {
-    /// `--method`, with a value.
-    Method,
-    /// `--index`, with a value.
-    Index,
-    /// `--predict`, with a value.
-    Predict,
-    /// `--walk`, with a value.
-    Walk,
-    /// `--plain-values`, without one.
-    PlainValues,
+/// The methods that can be chosen.
+const METHODS: [Method; 3] = [Method::Seq, Method::Eb, Method::Valence];
+
+/// How indices can be written.
+const INDICES: [Index; 2] = [Index::Plain, Index::Packed];
+
+/// The orders of entries.
+const WALKS: [Walk; 2] = [Walk::Depth, Walk::Degree];
+
+impl Worded for Method {
+    ghost spelling = { method_word };
+
+    fn word(self) -> &'static str {
+        match self {
+            Method::Seq => "seq",
+            Method::Eb => "eb",
+            Method::Valence => "valence",
+        }
+    }
 }
 
-/// An option with its value, where it has one.
+impl Worded for Index {
+    ghost spelling = { index_word };
+
+    fn word(self) -> &'static str {
+        match self {
+            Index::Plain => "plain",
+            Index::Packed => "packed",
+        }
+    }
+}
+
+impl Worded for Prediction {
+    ghost spelling = { prediction_word };
+
+    fn word(self) -> &'static str {
+        Prediction::word(self)
+    }
+}
+
+impl Worded for Walk {
+    ghost spelling = { walk_word };
+
+    fn word(self) -> &'static str {
+        match self {
+            Walk::Depth => "depth",
+            Walk::Degree => "degree",
+        }
+    }
+}
+
+/// An option that takes a value.
 #[derive(Clone, Copy, Debug, PartialEq, Eq)]
-pub enum Setting {
-    /// How connectivity is coded.
-    Method(Method),
-    /// How the faces of a sequential mesh are written.
-    Index(Index),
-    /// How values are predicted.
-    Predict(Predict),
-    /// The order of Edgebreaker's entries.
-    Walk(Walk),
-    /// Values are written as they are.
-    PlainValues,
+pub enum ValueOption {
+    /// `--method`
+    Method,
+    /// `--index`
+    Index,
+    /// `--predict`
+    Predict,
+    /// `--walk`
+    Walk,
 }
 
 /// No option.
@@ -49,76 +85,44 @@ pub fn no_choice() -> Choice
     }
 }
 
-/// The option of this word.
-pub fn option_named(word: &str) -> Option<OptionWord>
-    ensures { result ≡ option_named word.now }
+/// The choice behind the option of this word, and the option whose value is due, where it takes one.
+/// None, if there is no such option or the choice has it. Each option is a row: its word, whether the
+/// choice has it, and what is behind it.
+pub fn option_read(choice: Choice, word: &str) -> Option<(Choice, Option<ValueOption>)>
+    ensures { result ≡ option_read choice word.now }
 {
-    match word {
-        "--method" => Some(OptionWord::Method),
-        "--index" => Some(OptionWord::Index),
-        "--predict" => Some(OptionWord::Predict),
-        "--walk" => Some(OptionWord::Walk),
-        "--plain-values" => Some(OptionWord::PlainValues),
-        _ => None,
+    let (has, set, due) = match word {
+        "--method" => (choice.method.is_some(), choice, Some(ValueOption::Method)),
+        "--index" => (choice.index.is_some(), choice, Some(ValueOption::Index)),
+        "--predict" => (choice.predict.is_some(), choice, Some(ValueOption::Predict)),
+        "--walk" => (choice.walk.is_some(), choice, Some(ValueOption::Walk)),
+        "--plain-values" => (
+            choice.plain_values,
+            Choice {
+                plain_values: true,
+                ..choice
+            },
+            None,
+        ),
+        _ => return None,
+    };
+    if has {
+        return None;
     }
+    Some((set, due))
 }
 
-/// The setting of an option whose value this word is.
-pub fn setting_named(option: OptionWord, word: &str) -> Option<Setting>
-    ensures { result ≡ setting_named option word.now }
-{
-    match option {
-        OptionWord::Method => match word {
-            "seq" => Some(Setting::Method(Method::Seq)),
-            "eb" => Some(Setting::Method(Method::Eb)),
-            "valence" => Some(Setting::Method(Method::Valence)),
-            _ => None,
-        },
-        OptionWord::Index => match word {
-            "plain" => Some(Setting::Index(Index::Plain)),
-            "packed" => Some(Setting::Index(Index::Packed)),
-            _ => None,
-        },
-        OptionWord::Predict => match word {
-            "none" => Some(Setting::Predict(Predict::Off)),
-            "diff" => Some(Setting::Predict(Predict::Diff)),
-            "para" => Some(Setting::Predict(Predict::Para)),
-            "multi" => Some(Setting::Predict(Predict::Multi)),
-            _ => None,
-        },
-        OptionWord::Walk => match word {
-            "depth" => Some(Setting::Walk(Walk::Depth)),
-            "degree" => Some(Setting::Walk(Walk::Degree)),
-            _ => None,
-        },
-        OptionWord::PlainValues => None,
-    }
-}
-
-/// Whether the option was given.
-pub fn is_given(choice: &Choice, option: OptionWord) -> bool
-    ensures { result ≡ is_given choice.now option }
-{
-    match option {
-        OptionWord::Method => choice.method.is_some(),
-        OptionWord::Index => choice.index.is_some(),
-        OptionWord::Predict => choice.predict.is_some(),
-        OptionWord::Walk => choice.walk.is_some(),
-        OptionWord::PlainValues => choice.plain_values,
-    }
-}
-
-/// The choice with this setting.
-pub fn with_setting(choice: Choice, setting: Setting) -> Choice
-    ensures { result ≡ with_setting choice setting }
+/// The choice with the value of this word for an option.
+#[tactic(auto, using(crate::proofs::Tables::named_naming))]
+pub fn with_value(choice: Choice, option: ValueOption, word: &str) -> Option<Choice>
+    ensures { result ≡ with_value choice option word.now }
 {
     let mut choice = choice;
-    match setting {
-        Setting::Method(method) => choice.method = Some(method),
-        Setting::Index(index) => choice.index = Some(index),
-        Setting::Predict(predict) => choice.predict = Some(predict),
-        Setting::Walk(walk) => choice.walk = Some(walk),
-        Setting::PlainValues => choice.plain_values = true,
+    match option {
+        ValueOption::Method => choice.method = Some(named(&METHODS, word)?),
+        ValueOption::Index => choice.index = Some(named(&INDICES, word)?),
+        ValueOption::Predict => choice.predict = Some(named(&Prediction::all(), word)?),
+        ValueOption::Walk => choice.walk = Some(named(&WALKS, word)?),
     }
-    choice
+    Some(choice)
 }

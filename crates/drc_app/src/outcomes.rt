@@ -4,13 +4,13 @@ ghost use Rattle.std.specs.Prelude.{◌≡◌, ◌≤◌, map, string_bytes, len
 ghost use Rattle.drc_base.specs.Refusals.{Answers};
 ghost use Rattle.ply_mesh.specs.Read.{ply_read};
 ghost use Rattle.drc_gen.specs.GeneratedLaws.{IsSize};
-ghost use Rattle.drc_container.specs.Stream.{meaning_of};
+ghost use Rattle.drc_container.specs.reading.Stream.{meaning_of};
 ghost use Rattle.drc_app.specs.Line.{IsSized};
 ghost use Rattle.drc_app.specs.Progress.{line_of};
 ghost use Rattle.drc_app.specs.Ends.{takes};
-ghost use Rattle.drc_app.specs.Due.{input_limit, reads, due, worked, coded_due, stream_due, recoded_due, text_due, report_due, summary_due};
-ghost use Rattle.drc_app.specs.Kept.{Keeps, IsCoded};
-ghost use Rattle.drc_app.specs.Outcome.{output_bytes, bytes_of, seen, MayAnswer, IsOutcome, IsOutcomeAt};
+ghost use Rattle.drc_app.specs.Due.{input_limit, reads, command_due, worked, coded_due, stream_due, recoded_due, text_due, report_due, summary_due};
+ghost use Rattle.drc_app.specs.Kept.{KeepsGeometry, IsCoded};
+ghost use Rattle.drc_app.specs.Outcome.{output_bytes, due_bytes, seen, MayAnswer, IsOutcome, IsOutcomeAt};
 
 use crate::command_lines::command_of;
 use crate::commands::{Command, GenMesh, reads};
@@ -116,7 +116,7 @@ fn outcome_at(alloc: Global, command: Command, bytes: Vec<u8>) -> Outcome
 fn work(alloc: Global, command: Command, bytes: Vec<u8>) -> Result<Answer, Refusal>
     requires { IsSized command }
     ensures answer { Answers seen (worked command bytes.items) result }
-    ensures kept { IfOk result (λ a. Keeps command bytes.items (seen a)) }
+    ensures kept { IfOk result (λ a. KeepsGeometry command bytes.items (seen a)) }
     ensures differs { IfOk result (λ a. MayAnswer command a) }
 {
     match command {
@@ -134,7 +134,7 @@ fn work(alloc: Global, command: Command, bytes: Vec<u8>) -> Result<Answer, Refus
 
 /// The stream of the geometry that a text means, coded as chosen, and the map of its faces or points.
 fn stream_due(alloc: Global, choice: &Choice, text: Vec<u8>) -> Result<Due, Refusal>
-    ensures answer { Answers bytes_of (stream_due choice.now text.items) result }
+    ensures answer { Answers due_bytes (stream_due choice.now text.items) result }
     ensures kept { IfOk result (λ d. IsOkAnd (ply_read text.items) (IsCoded choice.now (output_bytes d.output) d.note.items)) }
 {
     let geometry = text_read(alloc, text)?;
@@ -143,7 +143,7 @@ fn stream_due(alloc: Global, choice: &Choice, text: Vec<u8>) -> Result<Due, Refu
 
 /// The stream of the geometry that a stream means, coded as chosen, and the map of its faces or points.
 fn recoded_due(alloc: Global, choice: &Choice, stream: Vec<u8>) -> Result<Due, Refusal>
-    ensures answer { Answers bytes_of (recoded_due choice.now stream.items) result }
+    ensures answer { Answers due_bytes (recoded_due choice.now stream.items) result }
     ensures kept { IfOk result (λ d. IsOkAnd (meaning_of stream.items) (IsCoded choice.now (output_bytes d.output) d.note.items)) }
 {
     let geometry = stream_packed(alloc, stream)?;
@@ -153,7 +153,7 @@ fn recoded_due(alloc: Global, choice: &Choice, stream: Vec<u8>) -> Result<Due, R
 /// The stream of a geometry, coded as chosen, and the map of its faces or points.
 #[tactic(auto, unfolding(crate::specs::Due::coded_due))]
 fn coded_due(alloc: Global, choice: &Choice, geometry: &Geometry) -> Result<Due, Refusal>
-    ensures answer { Answers bytes_of (coded_due choice.now geometry.now) result }
+    ensures answer { Answers due_bytes (coded_due choice.now geometry.now) result }
     ensures kept { IfOk result (λ d. IsCoded choice.now (output_bytes d.output) d.note.items geometry.now) }
 {
     let (output, rows) = encode(alloc, geometry, choice)?;
@@ -174,7 +174,7 @@ pub fn text_read(alloc: Global, text: Vec<u8>) -> Result<Geometry, Refusal>
 /// The text of the geometry that a stream means, and no note.
 #[tactic(auto, unfolding(crate::specs::Due::text_due))]
 fn text_due(alloc: Global, stream: Vec<u8>) -> Result<Due, Refusal>
-    ensures { Answers bytes_of (text_due stream.items) result }
+    ensures { Answers due_bytes (text_due stream.items) result }
 {
     let geometry = stream_read(alloc, stream)?;
     let text = PlyText::new(alloc, geometry)?;
@@ -201,7 +201,7 @@ fn stream_packed(alloc: Global, stream: Vec<u8>) -> Result<Geometry, Refusal>
 /// The report on a stream, and no note.
 #[tactic(auto, unfolding(crate::specs::Due::report_due))]
 fn report_due(alloc: Global, stream: &[u8]) -> Result<Due, Refusal>
-    ensures { Answers bytes_of (report_due stream.now) result }
+    ensures { Answers due_bytes (report_due stream.now) result }
 {
     let output = report(alloc, stream)?;
     Ok(Due {
@@ -213,7 +213,7 @@ fn report_due(alloc: Global, stream: &[u8]) -> Result<Due, Refusal>
 /// The summary of a generated mesh, and no note.
 fn gen_due(alloc: Global, asked: GenMesh) -> Result<Due, Memory>
     requires { IsSize asked.size }
-    ensures { IfOk result (λ d. bytes_of d ≡ summary_due asked.kind asked.size asked.seed) }
+    ensures { IfOk result (λ d. due_bytes d ≡ summary_due asked.kind asked.size asked.seed) }
 {
     let output = summary_due(alloc, asked)?;
     Ok(Due {

@@ -4,7 +4,7 @@ ghost use Rattle.std.specs.Prelude.{◌≡◌, IfOk};
 ghost use Rattle.drc_base.specs.Refusals.{Answers};
 ghost use Rattle.drc_app.specs.Due.{restored_due};
 ghost use Rattle.drc_app.specs.Kept.{IsInOrder};
-ghost use Rattle.drc_app.specs.Outcome.{output_bytes, bytes_of};
+ghost use Rattle.drc_app.specs.Outcome.{output_bytes, due_bytes};
 
 use crate::map_inputs::behind_map;
 use crate::outcomes::{Due, Output};
@@ -16,7 +16,7 @@ use std::alloc::Global;
 /// The stream behind the map at the front of `input`, in the order before the map's rows, and no note.
 #[tactic(auto, unfolding(crate::specs::Due::restored_due))]
 pub fn restored_due(alloc: Global, input: &[u8]) -> Result<Due, Refusal>
-    ensures answer { Answers bytes_of (restored_due input.now) result }
+    ensures answer { Answers due_bytes (restored_due input.now) result }
     ensures kept { IfOk result (λ d. IsInOrder input.now (output_bytes d.output)) }
 {
     let map = read_map(alloc, input)?;

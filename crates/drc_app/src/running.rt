@@ -35,7 +35,7 @@ pub fn run<I: Source, O: Sink, N: Sink>(
     run_by_word(alloc, words, input, output, notes)
 }
 
-/// `run`, told of the line that is found word by word. It stands for the proof of `run` alone.
+/// `run`, stated of the line that is found word by word. It stands for the proof of `run` alone.
 fn run_by_word<I: Source, O: Sink, N: Sink>(
     alloc: Global,
     words: &[String],

@@ -3,14 +3,14 @@
 ghost use Rattle.std.specs.Prelude.{◌≡◌, ◌++◌, ◌∷◌, [], None, codes, decimal, OnOk, IfOk};
 ghost use Rattle.mesh_model.specs.declared.geometries.Geometry.TheVariants.{Mesh};
 ghost use Rattle.drc_gen.specs.GeneratedLaws.{IsSize};
-ghost use Rattle.drc_container.specs.Refused.{refused};
-ghost use Rattle.drc_container.specs.declared.methods.Method.{Method as ByMethod};
+ghost use Rattle.drc_container.specs.choice.Refused.{refused};
+ghost use Rattle.drc_container.specs.declared.choice.methods.Method.{Method as ByMethod};
 ghost use Rattle.drc_app.specs.Summary.{count_line, asked_line, summary_text};
 ghost use Rattle.drc_app.specs.Due.{by_method, length_due, summary_of, summary_due};
 
 use crate::commands::GenMesh;
-use crate::gen_words::gen_word;
 use crate::options::no_choice;
+use crate::words::Worded;
 use decimal_text::append_spaced;
 use drc_base::{Memory, Refusal};
 use drc_container::{Choice, Method, encode};
@@ -18,7 +18,7 @@ use drc_gen::generate;
 use mesh_model::{CornerMesh, Geometry};
 use std::alloc::Global;
 
-/// What a summary tells of a generated mesh.
+/// What a summary says of a generated mesh.
 #[derive(Clone, Copy, Debug, PartialEq, Eq)]
 pub struct Summary {
     /// The mesh that was asked for.
@@ -36,7 +36,7 @@ pub struct Summary {
 }
 
 /// The summary of a generated mesh: what it was asked for by, how many faces and points it has, and how
-/// many bytes each method gives with no other option. It is refused only when out of memory.
+/// many bytes each method gives with no other option. It fails only when out of memory.
 #[tactic(auto, unfolding(crate::specs::Due::summary_due))]
 pub fn summary_due(alloc: Global, asked: GenMesh) -> Result<Vec<u8>, Memory>
     requires { IsSize asked.size }
@@ -47,7 +47,7 @@ pub fn summary_due(alloc: Global, asked: GenMesh) -> Result<Vec<u8>, Memory>
     summary_text(alloc, &summary)
 }
 
-/// What a summary tells of a mesh that was asked for so, which no method refuses. The mesh is freed.
+/// What a summary says of a mesh that was asked for so, which no method refuses. The mesh is freed.
 #[tactic(auto, unfolding(crate::specs::Due::summary_of))]
 fn summary_of(alloc: Global, asked: GenMesh, made: CornerMesh) -> Result<Summary, Memory>
     requires { (by : ByMethod) → refused (Mesh made) (by_method by) ≡ None }
@@ -94,9 +94,9 @@ fn summary_text(alloc: Global, s: &Summary) -> Result<Vec<u8>, Memory>
     put_asked(&mut out, s.asked)?;
     put_count(&mut out, "faces", s.faces as u64)?;
     put_count(&mut out, "points", s.points as u64)?;
-    put_count(&mut out, "seq", s.seq)?;
-    put_count(&mut out, "eb", s.eb)?;
-    put_count(&mut out, "valence", s.valence)?;
+    put_count(&mut out, Method::Seq.word(), s.seq)?;
+    put_count(&mut out, Method::Eb.word(), s.eb)?;
+    put_count(&mut out, Method::Valence.word(), s.valence)?;
     Ok(out)
 }
 
@@ -105,7 +105,7 @@ fn put_asked(out: &mut Vec<u8>, asked: GenMesh) -> Result<(), Memory>
     ensures { OnOk result (out.new.items ≡ out.old.items ++ asked_line asked) }
 {
     out.extend_from_slice(b"gen ")?;
-    out.extend_from_slice(gen_word(asked.kind).as_bytes())?;
+    out.extend_from_slice(asked.kind.word().as_bytes())?;
     append_spaced(out, asked.size as u64)?;
     append_spaced(out, asked.seed)?;
     out.push(b'\n')?;

@@ -4,45 +4,21 @@ use super::*;
 use crate::command_lines::command_of;
 use crate::options::no_choice;
 use drc_base::{MemSink, MemSource, Refusal, Sequence, Sink};
-use drc_container::{Choice, Method, Predict, Walk, decode_whole, encode};
+use drc_container::{Choice, Method, Prediction, Walk, decode_whole, encode};
 use drc_gen::{GenKind, generate};
 use mesh_model::{Geometry, Renumber, matches};
 use std::alloc::Global;
 use std::process::Abort;
 use std::test::Fail;
+use worked_surfaces::streams::{APART, CLOUD, FACE, FLAT_FACE, TETRAHEDRON, TRIANGLE};
 
-/// A sequential stream of one triangle.
-const TRIANGLE: [u8; 64] = [
-    68, 82, 65, 67, 79, 2, 2, 1, 0, 0, 0, 1, 3, 1, 0, 1, 2, 1, 1, 0, 5, 3, 0, 0, 1, 254, 0, 4, 0,
-    0, 0, 0, 0, 0, 0, 0, 0, 0, 0, 0, 20, 0, 0, 0, 0, 0, 0, 0, 0, 0, 0, 0, 0, 0, 0, 0, 20, 0, 0, 0,
-    1, 0, 0, 0,
-];
-
-/// Its text.
+/// The text of a triangle.
 const TEXT: &str =
     "ply\nformat ascii 1.0\ncomment drc attr 0 0 5 3 0 0\nelement vertex 3\nproperty int x\nproperty int y\nproperty int z\nelement face 1\nproperty list uchar int vertex_indices\nend_header\n0 0 0\n10 0 0\n0 10 -1\n3 0 1 2\n";
-
-/// The stream of that text with few bytes for each value.
-const NARROW: [u8; 37] = [
-    68, 82, 65, 67, 79, 2, 2, 1, 0, 0, 0, 1, 3, 1, 0, 1, 2, 1, 1, 0, 5, 3, 0, 0, 1, 254, 0, 1, 0,
-    0, 0, 20, 0, 0, 0, 20, 1,
-];
-
-/// The triangle's stream by Edgebreaker, with plain values.
-const SURFACE: [u8; 55] = [
-    68, 82, 65, 67, 79, 2, 2, 1, 1, 0, 0, 0, 3, 1, 0, 1, 0, 0, 1, 7, 255, 1, 17, 1, 255, 0, 0, 1,
-    0, 5, 3, 0, 0, 1, 1, 1, 0, 1, 3, 0, 0, 4, 3, 1, 0, 4, 2, 255, 255, 255, 255, 10, 0, 0, 0,
-];
 
 /// The text of a cloud.
 const CLOUD_TEXT: &str =
     "ply\nformat ascii 1.0\nelement vertex 3\nproperty int x\nproperty int y\nproperty int z\nend_header\n5 5 5\n5 5 5\n5 5 6\n";
-
-/// Its stream, predicted by difference, with plain values.
-const CLOUD: [u8; 44] = [
-    68, 82, 65, 67, 79, 2, 3, 0, 0, 0, 0, 3, 0, 0, 0, 1, 1, 0, 5, 3, 0, 0, 1, 0, 1, 0, 1, 0, 0, 0,
-    0, 0, 0, 0, 0, 1, 5, 0, 0, 0, 6, 0, 0, 0,
-];
 
 /// The same cloud as a kd-tree file.
 const KD_CLOUD: [u8; 35] = [
@@ -58,13 +34,7 @@ const KD_TEXT: &str =
 const TETRAHEDRON_TEXT: &str =
     "ply\nformat ascii 1.0\nelement vertex 4\nproperty int x\nproperty int y\nproperty int z\nelement face 4\nproperty list uchar int vertex_indices\nend_header\n0 0 0\n1 0 0\n0 1 0\n0 0 1\n3 0 2 1\n3 0 1 3\n3 1 2 3\n3 0 3 2\n";
 
-/// Its stream by Edgebreaker, with plain values.
-const TETRAHEDRON: [u8; 58] = [
-    68, 82, 65, 67, 79, 2, 2, 1, 1, 0, 0, 0, 4, 4, 0, 3, 0, 0, 1, 47, 1, 1, 16, 1, 255, 0, 0, 1, 0,
-    5, 3, 0, 0, 1, 1, 1, 0, 1, 0, 0, 1, 0, 1, 1, 0, 1, 0, 1, 1, 0, 0, 0, 0, 0, 1, 0, 0, 0,
-];
-
-/// The map of its faces.
+/// The map of the faces of its stream.
 const TETRAHEDRON_MAP: &str = "map mesh 4\n3 0\n2 1\n1 2\n0 1\n";
 
 /// The tetrahedron with its faces in the order of its text, and its points in that of the stream.
@@ -74,12 +44,6 @@ const RESTORED_TEXT: &str =
 /// The text of two triangles of a square.
 const SQUARE_TEXT: &str =
     "ply\nformat ascii 1.0\nelement vertex 4\nproperty int x\nproperty int y\nproperty int z\nelement face 2\nproperty list uchar int vertex_indices\nend_header\n0 0 0\n2 0 0\n0 2 0\n2 2 0\n3 0 1 2\n3 1 3 2\n";
-
-/// A stream of the same two triangles, which it doesn't glue.
-const CUT_SQUARE: [u8; 55] = [
-    68, 82, 65, 67, 79, 2, 2, 1, 1, 0, 0, 0, 6, 2, 0, 2, 0, 0, 1, 63, 255, 1, 34, 1, 255, 0, 0, 1,
-    0, 5, 3, 0, 0, 1, 254, 0, 1, 4, 0, 0, 0, 4, 0, 0, 0, 0, 4, 4, 0, 0, 4, 0, 4, 0, 0,
-];
 
 /// The report on the triangle's stream.
 const REPORT: &str =
@@ -95,7 +59,7 @@ fn cases() -> [Case; 7] {
         (
             "enc --method seq --predict none --plain-values",
             TEXT.as_bytes(),
-            &NARROW,
+            &FLAT_FACE,
             "map mesh 1\n0 0\n",
         ),
         (
@@ -108,7 +72,7 @@ fn cases() -> [Case; 7] {
         (
             "recode --plain-values",
             &TRIANGLE,
-            &SURFACE,
+            &FACE,
             "map mesh 1\n0 0\n",
         ),
         (
@@ -351,20 +315,12 @@ fn what_is_verified_is_the_same_or_differs(rt: HostRuntime) -> Result<(), Fail> 
             "",
             "not same rows 1\n",
         ),
-        (
-            "verify",
-            two,
-            SQUARE_TEXT,
-            &CUT_SQUARE[..],
-            0,
-            "same 2\n",
-            "",
-        ),
+        ("verify", two, SQUARE_TEXT, &APART[..], 0, "same 2\n", ""),
         (
             "verify --surface",
             two,
             SQUARE_TEXT,
-            &CUT_SQUARE[..],
+            &APART[..],
             6,
             "",
             "not same pair 0\n",
@@ -472,7 +428,7 @@ fn the_words_of_a_generated_mesh_are_exact(rt: HostRuntime) -> Result<(), Fail> 
 #[test]
 fn words_behind_a_command_are_named(rt: HostRuntime) -> Result<(), Fail> {
     let choice = Choice {
-        predict: Some(Predict::Multi),
+        predict: Some(Prediction::Multi),
         walk: Some(Walk::Degree),
         ..no_choice()
     };
@@ -514,8 +470,8 @@ fn words_behind_a_command_are_named(rt: HostRuntime) -> Result<(), Fail> {
     Ok(())
 }
 
-/// How many bytes a mesh is encoded as by a method. It asserts that they mean the mesh by exactly the rows
-/// that are told.
+/// How many bytes a mesh is encoded as by a method. It asserts that they mean the mesh by exactly the
+/// rows that are given.
 fn length_kept(
     rt: &impl Abort,
     alloc: Global,

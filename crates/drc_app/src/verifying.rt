@@ -2,7 +2,7 @@
 
 ghost use Rattle.std.specs.Prelude.{◌≡◌, None, Some, MatchOption, IfOk};
 ghost use Rattle.drc_base.specs.Refusals.{Answers};
-ghost use Rattle.drc_app.specs.Verified.{ply_line, text_and_stream, same_line, given_by, verified};
+ghost use Rattle.drc_app.specs.Verified.{ply_line, text_and_stream, same_line, given_by, verified_input};
 ghost use Rattle.drc_app.specs.Kept.{SaysWhetherSame};
 ghost use Rattle.drc_app.specs.Outcome.{seen, MayAnswer};
 ghost use Rattle.drc_app.specs.declared.commands.Command.TheVariants as Command;
@@ -58,9 +58,9 @@ fn given_by(alloc: Global, count: u64, verdict: Verdict) -> Result<Answer, Memor
 
 /// Whether the stream in an input is the geometry of the text in it by the rows of the map in it, and with
 /// `surface` whether it is glued as that: the line of a yes and no note, or the verdict.
-#[tactic(auto, unfolding(crate::specs::Verified::parts_of, crate::specs::Verified::verified, drc_verify::specs::Checked::due))]
+#[tactic(auto, unfolding(crate::specs::Verified::parts_of, crate::specs::Verified::verified_input, drc_verify::specs::Checked::verdict_due))]
 pub fn verified(alloc: Global, surface: bool, input: Vec<u8>) -> Result<Answer, Refusal>
-    ensures answer { Answers seen (verified surface input.items) result }
+    ensures answer { Answers seen (verified_input surface input.items) result }
     ensures says { IfOk result (λ a. SaysWhetherSame surface input.items (seen a)) }
     ensures differs { IfOk result (λ a. MayAnswer (Command.Verify surface) a) }
 {

@@ -30,12 +30,12 @@ abbrev pub is_failing : List ℕ → ℕ → Bool
 is_failing fails call = list_any (λ n. n == call) fails
 
 -- how many bytes a `take` with this room gives
-abbrev pub taken : MemSourceState → ℕ → ℕ
-taken s room = min (min s.piece room) (length s.rest)
+abbrev pub take_length : MemSourceState → ℕ → ℕ
+take_length s room = min (min s.piece room) (length s.rest)
 
 -- how many bytes of a piece of this length a `put` keeps
-abbrev pub kept : MemSinkState → ℕ → ℕ
-kept s len = min (min s.piece len) (s.room - length s.held)
+abbrev pub put_length : MemSinkState → ℕ → ℕ
+put_length s len = min (min s.piece len) (s.room - length s.held)
 
 -- a source after a `take` with this room
 unfoldable pub after_take : MemSourceState → ℕ → MemSourceState
@@ -43,10 +43,10 @@ after_take s room =
     if is_failing s.fails s.calls
     then record s { calls = counted s.calls 1; ended = false; faults = counted s.faults 1 }
     else record s {
-      rest = drop (taken s room) s.rest;
+      rest = drop (take_length s room) s.rest;
       calls = counted s.calls 1;
-      ended = taken s room == 0;
-      given = counted s.given (taken s room);
+      ended = take_length s room == 0;
+      given = counted s.given (take_length s room);
     }
 
 -- whether a `put` fails: by its number, or since no room is left
@@ -59,7 +59,7 @@ after_put s piece =
     if is_put_failing s
     then record s { calls = counted s.calls 1; faults = counted s.faults 1 }
     else record s
-    { held = s.held ++ take (kept s (length piece)) piece; calls = counted s.calls 1; finished = false }
+    { held = s.held ++ take (put_length s (length piece)) piece; calls = counted s.calls 1; finished = false }
 
 -- a sink after a `finish`
 unfoldable pub after_finish : MemSinkState → MemSinkState

@@ -114,7 +114,7 @@ pub enum Kind {
     FlagCount,
     /// A range that corrections can't wrap in.
     WrapRange,
-    /// A prediction wants a flag where none is left.
+    /// A prediction needs a flag where none is left.
     FlagsShort,
     /// A value outside its data type.
     ValueRange,
@@ -170,7 +170,7 @@ pub enum Kind {
     KdBits,
     /// More points in a lower box than its box has.
     KdSplit,
-    /// A mesh where a cloud is wanted.
+    /// A mesh where a cloud is expected.
     KdMesh,
 }
 

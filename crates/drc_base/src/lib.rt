@@ -1,6 +1,6 @@
 //! What every crate of the codec stands on: faults and their kinds, limits, sides of triangles,
 //! byte sources and sinks that may fail. The contract above it: which bytes were taken and
-//! appended, whether an end was reached, and that a failure is told only where a count of
+//! appended, whether an end was reached, and that a failure is reported only where a count of
 //! failures rose. The limits and the faults' words are this project's choice; the rules that give
 //! the faults follow the Draco Bitstream Specification 2.2 and ASCII PLY 1.0.
 #![tactic(auto)]

@@ -4,7 +4,7 @@ ghost use Rattle.std.specs.Prelude.{◌≡◌, ◌<◌, ◌≤◌, [], length, f
 ghost use Rattle.std.specs.Io.KnownBytes.{WriteAppends, Keeps};
 ghost use Rattle.drc_base.specs.Counters.{HasCause};
 ghost use Rattle.drc_base.specs.Sinks.{finished_after_put, finished_after_finish};
-ghost use Rattle.drc_base.specs.InMemory.{is_failing, is_put_failing, kept, after_put, after_finish};
+ghost use Rattle.drc_base.specs.InMemory.{is_failing, is_put_failing, put_length, after_put, after_finish};
 
 use crate::faults::{Failed, Memory};
 use crate::sinks::Sink;
@@ -12,7 +12,7 @@ use std::alloc::Global;
 use std::marker::Model;
 
 /// A sink into memory whose room is reserved when it is made. It keeps a bounded piece a call, fails
-/// at the calls whose numbers it is told, `put` and `finish` counted together, and fails at a `put`
+/// at the calls whose numbers it is given, `put` and `finish` counted together, and fails at a `put`
 /// where no room is left.
 #[derive(Drop)]
 pub struct MemSink {
@@ -99,7 +99,7 @@ impl Sink for MemSink {
         ensures finished { self.new.finished ≡ finished_after_put self.old.finished result }
         ensures cause { HasCause self.old.faults self.new.faults result }
         ensures failed { IsErr result ↔ IsTrue (is_put_failing self.old) }
-        ensures count { IfOk result (λ n. n ≡ kept self.old (length piece.now)) }
+        ensures count { IfOk result (λ n. n ≡ put_length self.old (length piece.now)) }
         ensures after { self.new ≡ after_put self.old piece.now }
     {
         let call = self.calls;

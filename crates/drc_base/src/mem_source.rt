@@ -5,14 +5,14 @@ ghost use Rattle.std.specs.Io.{ReadsAtMost};
 ghost use Rattle.std.specs.Io.KnownBytes.{ReadConsumes};
 ghost use Rattle.drc_base.specs.Counters.{HasCause};
 ghost use Rattle.drc_base.specs.Sources.{is_end, given_after};
-ghost use Rattle.drc_base.specs.InMemory.{is_failing, taken, after_take};
+ghost use Rattle.drc_base.specs.InMemory.{is_failing, take_length, after_take};
 
 use crate::faults::Failed;
 use crate::sources::Source;
 use std::marker::Model;
 
 /// A source over bytes in memory. It gives a bounded piece a call, and fails at the calls whose
-/// numbers it is told, so that every way of reading can be tried.
+/// numbers it is given, so that every way of reading can be tried.
 #[derive(Drop)]
 pub struct MemSource {
     bytes: Vec<u8>,
@@ -104,7 +104,7 @@ impl Source for MemSource {
         ensures given { self.new.given ≡ given_after self.old.given result }
         ensures cause { HasCause self.old.faults self.new.faults result }
         ensures failed { IsErr result ↔ IsTrue (is_failing self.old.fails self.old.calls) }
-        ensures count { IfOk result (λ n. n ≡ taken self.old (length buf.old)) }
+        ensures count { IfOk result (λ n. n ≡ take_length self.old (length buf.old)) }
         ensures after { self.new ≡ after_take self.old (length buf.old) }
     {
         let call = self.calls;

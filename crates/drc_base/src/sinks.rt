@@ -7,7 +7,7 @@ ghost use Rattle.drc_base.specs.Sinks.{finished_after_put, finished_after_finish
 
 use crate::faults::Failed;
 
-/// A sink of bytes that may fail. Contracts see the bytes held, where the sink tells them, whether
+/// A sink of bytes that may fail. Contracts see the bytes held, where the sink shows them, whether
 /// it was finished since the last bytes came, and how often it failed; the count stands at the last
 /// value of u64.
 pub trait Sink {

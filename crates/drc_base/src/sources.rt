@@ -8,7 +8,7 @@ ghost use Rattle.drc_base.specs.Sources.{is_end, given_after};
 
 use crate::faults::Failed;
 
-/// A source of bytes that may fail. Contracts see the bytes left, where the source tells them,
+/// A source of bytes that may fail. Contracts see the bytes left, where the source shows them,
 /// whether its last answer was that none is left, how many bytes it gave so far, and how often it
 /// failed; the two counts stand at the last value of u64.
 pub trait Source {

@@ -7,8 +7,8 @@ use crate::sinks::Sink;
 use std::io::Write;
 
 /// A sink over a writer of std, such as standard output. An error of the writer counts as a
-/// failure, and so does a write of no byte. Its bytes are told where the writer tells them, as over
-/// memory. What a real file or pipe keeps isn't promised by any clause.
+/// failure, and so does a write of no byte. Its bytes are known where the writer shows them, as
+/// over memory. What a real file or pipe keeps isn't promised by any clause.
 #[derive(Drop)]
 pub struct StdSink<W: Write> {
     writer: W,

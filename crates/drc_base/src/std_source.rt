@@ -7,8 +7,8 @@ use crate::sources::Source;
 use std::io::Read;
 
 /// A source over a reader of std, such as standard input. An error of the reader, an interruption
-/// too, counts as a failure. Its bytes are told where the reader tells them, as over memory. What a
-/// real file or pipe gives isn't promised by any clause.
+/// too, counts as a failure. Its bytes are known where the reader shows them, as over memory. What
+/// a real file or pipe gives isn't promised by any clause.
 #[derive(Drop)]
 pub struct StdSource<R: Read> {
     reader: R,

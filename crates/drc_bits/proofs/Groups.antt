@@ -7,7 +7,7 @@ use Rattle.std.specs.List.{All}
 use Rattle.drc_bits.proofs.Results.{Ok-injective, err≢ok}
 use Rattle.drc_base.specs.declared.kinds.Kind.{Kind}
 use Rattle.drc_base.specs.declared.kinds.Kind.TheVariants as kind
-use Rattle.drc_bits.specs.Varint.{with_group, groups_of, value_of, fitting, varint, spelling}
+use Rattle.drc_bits.specs.Varint.{with_group, varint_groups, value_of, fitting, varint, spelling}
 
 -- what i groups are worth
 abbrev pub weight_of : ℕ → ℕ
@@ -56,7 +56,7 @@ weight_below_10 (suc (suc (suc (suc (suc i))))) h =
 
 -- what was read so far
 pub record ReadSoFar (most : ℕ) (bytes : List ℕ) (i value weight : ℕ) : Type 0 where
-  pub same : behind value weight i (groups_of (most - i) (drop i bytes)) ≡ behind 0 1 0 (groups_of most bytes)
+  pub same : behind value weight i (varint_groups (most - i) (drop i bytes)) ≡ behind 0 1 0 (varint_groups most bytes)
   pub small : value < weight
   pub weighs : weight ≡ weight_of i
   pub within : i ≤ length bytes
@@ -65,11 +65,11 @@ pub ReadSoFar-start : (most : ℕ) (bytes : List ℕ) → ReadSoFar most bytes 0
 ReadSoFar-start most bytes = record { same = grind arith; small = omega arith; weighs = refl; within = omega arith }
 
 -- the groups at a byte with the high bit
-groups_of-high : (most b : ℕ) (bytes : List ℕ) → 128 ≤ b → groups_of (suc most) (b ∷ bytes) ≡ with_group (b - 128) (groups_of most bytes)
+groups_of-high : (most b : ℕ) (bytes : List ℕ) → 128 ≤ b → varint_groups (suc most) (b ∷ bytes) ≡ with_group (b - 128) (varint_groups most bytes)
 groups_of-high most b bytes high = grind arith
 
 -- the groups at a byte without it
-groups_of-low : (most b : ℕ) (bytes : List ℕ) → b < 128 → groups_of (suc most) (b ∷ bytes) ≡ Ok (b ∷ [])
+groups_of-low : (most b : ℕ) (bytes : List ℕ) → b < 128 → varint_groups (suc most) (b ∷ bytes) ≡ Ok (b ∷ [])
 groups_of-low most b bytes low = grind arith
 
 -- one group fewer may follow
@@ -78,7 +78,7 @@ one_fewer most i fits = omega arith
 
 -- the groups from a byte on
 groups_from : (most : ℕ) (bytes : List ℕ) (i b : ℕ) → i < most → i < length bytes → b ≡ get_or bytes i 0
-    → groups_of (most - i) (drop i bytes) ≡ groups_of (suc (most - (i + 1))) (b ∷ drop (i + 1) bytes)
+    → varint_groups (most - i) (drop i bytes) ≡ varint_groups (suc (most - (i + 1))) (b ∷ drop (i + 1) bytes)
 groups_from most bytes i b fits has is = rw (one_fewer most i fits, drop-cons bytes i 0 has, is, add-one i) refl
 
 pub ReadSoFar-high : (most : ℕ) (bytes : List ℕ) (i value weight b : ℕ) → ReadSoFar most bytes i value weight
@@ -86,7 +86,7 @@ pub ReadSoFar-high : (most : ℕ) (bytes : List ℕ) (i value weight b : ℕ) �
     → ReadSoFar most bytes (i + 1) (value + (b - 128) * weight) (weight * 128)
 ReadSoFar-high most bytes i value weight b so fits has is high byte = record {
   same =
-      sym (behind_group value weight i (b - 128) (groups_of (most - (i + 1)) (drop (i + 1) bytes)))
+      sym (behind_group value weight i (b - 128) (varint_groups (most - (i + 1)) (drop (i + 1) bytes)))
       ∙ ap (λ gs. behind value weight i gs) (sym (groups_from most bytes i b fits has is ∙ groups_of-high (most - (i + 1)) b (drop (i + 1) bytes) high))
       ∙ so.same;
   small = grind (arith, so.small, grows);
@@ -102,7 +102,7 @@ pub ReadSoFar-low : (most limit : ℕ) (bytes : List ℕ) (i value weight b : �
     → varint most limit bytes ≡ limited limit (Ok (value + b * weight, i + 1))
 unfolding varint
 ReadSoFar-low most limit bytes i value weight b so fits has is low =
-    sym (limited_start limit (groups_of most bytes))
+    sym (limited_start limit (varint_groups most bytes))
     ∙ ap (λ x. limited limit x) (sym so.same)
     ∙ ap (λ gs. limited limit (behind value weight i gs)) (groups_from most bytes i b fits has is ∙ groups_of-low (most - (i + 1)) b (drop (i + 1) bytes) low)
     ∙ (let worth : value + weight * (b + 128 * 0) ≡ value + b * weight = omega arith in rw worth refl)
@@ -111,7 +111,7 @@ pub ReadSoFar-short : (most limit : ℕ) (bytes : List ℕ) (i value weight : �
     → i < most → length bytes ≤ i → varint most limit bytes ≡ Err kind.Short
 unfolding varint
 ReadSoFar-short most limit bytes i value weight so fits ends =
-    sym (limited_start limit (groups_of most bytes))
+    sym (limited_start limit (varint_groups most bytes))
     ∙ ap (λ x. limited limit x) (sym so.same)
     ∙ rw (one_fewer most i fits, drop_all i bytes ends) refl
 
@@ -120,7 +120,7 @@ pub ReadSoFar-long : (most limit : ℕ) (bytes : List ℕ) (value weight : ℕ) 
 unfolding varint
 ReadSoFar-long most limit bytes value weight so =
     let none : most - most ≡ 0 = omega arith in
-    sym (limited_start limit (groups_of most bytes))
+    sym (limited_start limit (varint_groups most bytes))
     ∙ ap (λ x. limited limit x) (sym so.same)
     ∙ rw none refl
 
@@ -146,13 +146,13 @@ unfolding spelling
 length-digits zero v = refl
 length-digits (suc most) v = elim (cases_lt v 128) [ inl low ↦ grind arith | inr high ↦ grind (arith, length-digits most (v / 128)) ]
 
-groups_of-spelling : (most v : ℕ) (rest : List ℕ) → v < weight_of (suc most) → groups_of (suc most) (spelling (suc most) v ++ rest) ≡ Ok (digits (suc most) v)
+groups_of-spelling : (most v : ℕ) (rest : List ℕ) → v < weight_of (suc most) → varint_groups (suc most) (spelling (suc most) v ++ rest) ≡ Ok (digits (suc most) v)
 unfolding spelling
 groups_of-spelling zero v rest fits = let low : v < 128 = omega arith in grind arith
 groups_of-spelling (suc most) v rest fits = elim (cases_lt v 128) [
   | inl low ↦ grind arith
   | inr high ↦
-      let tail : groups_of (suc most) (spelling (suc most) (v / 128) ++ rest) ≡ Ok (digits (suc most) (v / 128)) = groups_of-spelling most (v / 128) rest (omega arith) in
+      let tail : varint_groups (suc most) (spelling (suc most) (v / 128) ++ rest) ≡ Ok (digits (suc most) (v / 128)) = groups_of-spelling most (v / 128) rest (omega arith) in
       let byte : v % 128 + 128 - 128 ≡ v % 128 = omega arith in
       grind (arith, tail, byte)
 ]
@@ -180,7 +180,7 @@ AreGroups-more group (Ok gs) groups seven are is =
     subst AreGroups same (record { some = omega arith; small = omega (arith, rest.small) })
 AreGroups-more group (Err k) groups seven are is = absurd (err≢ok is)
 
-groups_of-are : (most : ℕ) (bytes groups : List ℕ) → All (λ b. b < 256) bytes → groups_of most bytes ≡ Ok groups → AreGroups groups
+groups_of-are : (most : ℕ) (bytes groups : List ℕ) → All (λ b. b < 256) bytes → varint_groups most bytes ≡ Ok groups → AreGroups groups
 groups_of-are zero bytes groups are_bytes is = absurd (err≢ok is)
 groups_of-are (suc most) [] groups are_bytes is = absurd (err≢ok is)
 groups_of-are (suc most) (b ∷ bytes) groups are_bytes is = elim (cases_lt b 128) [
@@ -189,7 +189,7 @@ groups_of-are (suc most) (b ∷ bytes) groups are_bytes is = elim (cases_lt b 12
       subst AreGroups same (record { some = omega arith; small = omega arith })
   | inr high ↦
       let byte : b < 256 = are_bytes 0 0 (omega arith) in
-      AreGroups-more (b - 128) (groups_of most bytes) groups (omega arith)
+      AreGroups-more (b - 128) (varint_groups most bytes) groups (omega arith)
       (λ gs. groups_of-are most bytes gs (λ k d h. are_bytes (suc k) d (omega (arith, h))))
       (sym (groups_of-high most b bytes high) ∙ is)
 ]
@@ -226,7 +226,7 @@ pub spelling-shortest : (most limit v n : ℕ) (bytes : List ℕ) → All (λ b.
     → length (spelling most v) ≤ n
 unfolding varint
 spelling-shortest most limit v n bytes are_bytes is =
-    shortest-of most limit v n (groups_of most bytes) (λ gs. groups_of-are most bytes gs are_bytes) is
+    shortest-of most limit v n (varint_groups most bytes) (λ gs. groups_of-are most bytes gs are_bytes) is
 
 spelling-high : (most v : ℕ) → 128 ≤ v → spelling (suc most) v ≡ (v % 128 + 128) ∷ spelling most (v / 128)
 unfolding spelling

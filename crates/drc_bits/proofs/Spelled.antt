@@ -28,7 +28,7 @@ Spells-then item next a b x y first second = record {
       ∙ ap (λ n. Ok (y, record { place = n; rest = rest })) (let e : place + length a + length b ≡ place + length (a ++ b) = omega (arith, length-append a b) in e);
 }
 
--- an item that is told differently
+-- an item that is stated differently
 pub Spells-same : {A : Type 0} (item same : Reading → Item A) (bytes : List ℕ) (x : A) → ((c : Reading) → same c ≡ item c) → Spells item bytes x → Spells same bytes x
 Spells-same item same bytes x is spells = record { reads = λ place rest. is (record { place = place; rest = bytes ++ rest }) ∙ spells.reads place rest }
 

@@ -10,10 +10,10 @@ with_group group (Ok groups) = Ok (group ∷ groups)
 with_group group (Err k) = Err k
 
 -- the groups of seven bits up to and with the first byte below 128, which is one of the first `most`
-abbrev pub groups_of : ℕ → List ℕ → Result (List ℕ) Kind
-groups_of zero bytes = Err kind.Long
-groups_of (suc most) [] = Err kind.Short
-groups_of (suc most) (b ∷ bytes) = if nat_lt b 128 then Ok (b ∷ []) else with_group (b - 128) (groups_of most bytes)
+abbrev pub varint_groups : ℕ → List ℕ → Result (List ℕ) Kind
+varint_groups zero bytes = Err kind.Long
+varint_groups (suc most) [] = Err kind.Short
+varint_groups (suc most) (b ∷ bytes) = if nat_lt b 128 then Ok (b ∷ []) else with_group (b - 128) (varint_groups most bytes)
 
 -- the number of these groups, the low one first
 abbrev pub value_of : List ℕ → ℕ
@@ -27,7 +27,7 @@ fitting limit (Err k) = Err k
 
 -- the varint at the beginning of these bytes: its value below the limit, and how many bytes it takes
 unfoldable pub varint : ℕ → ℕ → List ℕ → Result (ℕ × ℕ) Kind
-varint most limit bytes = fitting limit (groups_of most bytes)
+varint most limit bytes = fitting limit (varint_groups most bytes)
 
 -- what a varint at the beginning is as an item; its faults stand where it begins
 abbrev pub as_item : Reading → Result (ℕ × ℕ) Kind → Item ℕ

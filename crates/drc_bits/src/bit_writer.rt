@@ -111,8 +111,8 @@ impl BitWriter {
         }
     }
 
-    /// Puts the low `n` bits of `value`, at most 32, the lowest first. Want of memory leaves the bits as
-    /// they were.
+    /// Puts the low `n` bits of `value`, at most 32, the lowest first. If memory runs out, the bits stay
+    /// as they were.
     pub fn put(&mut self, n: u32, value: u32) -> Result<(), Memory>
         requires n { n ≤ 32 }
         requires value { value < 2 ^ n }

@@ -14,7 +14,7 @@ use Rattle.mesh_model.proofs.Columns.{width_of-bounds}
 use Rattle.drc_c.specs.declared.heads.DrcHead.{DrcHead}
 use Rattle.drc_c.specs.Heads.{head_meant, quant_meant}
 use Rattle.drc_c.specs.Inputs.{width_told, geometry_meant, geometry_made}
-use Rattle.drc_c.specs.Early.{early_fault}
+use Rattle.drc_c.specs.Early.{arrays_early_fault}
 use Rattle.drc_c.proofs.WholeRows.{width_of-meant}
 
 -- a head with a quantisation, or without one, has a minimum for each of up to eight components
@@ -64,7 +64,7 @@ made_not false heads faces cells f e =
 
 -- a fault that is found before memory is taken is the first of the arrays
 pub early_refused : (mesh : ℕ) (heads : List DrcHead) (corners : List (List ℕ)) (values : List ℤ) (f : Fault) →
-    early_fault mesh heads corners values ≡ Some f → geometry_meant mesh heads corners values ≡ Err f
-unfolding early_fault geometry_made
+    arrays_early_fault mesh heads corners values ≡ Some f → geometry_meant mesh heads corners values ≡ Err f
+unfolding arrays_early_fault geometry_made
 early_refused mesh heads corners values f e =
     made_not (eqb mesh 1) (map head_meant heads) corners values f (rw (sym (width_of-meant heads)) at e)

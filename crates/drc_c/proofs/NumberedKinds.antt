@@ -4,11 +4,11 @@ use Rattle.std.specs.Prelude.{slice_get}
 use Rattle.drc_base.specs.declared.kinds.Kind.{Kind}
 use Rattle.drc_base.specs.declared.kinds.Kind.TheVariants as kind
 use Rattle.drc_c.specs.declared.kinds.TheConstants.{KINDS}
-use Rattle.drc_c.specs.Kinds.{number_of}
+use Rattle.drc_c.specs.Kinds.{number_of_kind}
 
 -- by cases
-pub numbered : (k : Kind) → slice_get KINDS (number_of k) ≡ Some k
-unfolding number_of
+pub numbered : (k : Kind) → slice_get KINDS (number_of_kind k) ≡ Some k
+unfolding number_of_kind
 numbered kind.Magic = refl
 numbered kind.GeometryType = refl
 numbered kind.Version = refl

@@ -3,9 +3,9 @@ use Rattle.std.proofs.Common.{◌≡◌, ◌↔◌, eqb, ℕ, ℤ, Bool, List, m
 use Rattle.drc_base.specs.declared.faults.Refusal.{Refusal}
 use Rattle.drc_base.specs.Refusals.{Answers}
 use Rattle.mesh_model.specs.declared.geometries.Geometry.{Geometry}
-use Rattle.drc_container.specs.Meaning.{Meaning}
-use Rattle.drc_container.specs.Stream.{stream}
-use Rattle.drc_container.proofs.Parted.{parts}
+use Rattle.drc_container.specs.reading.Meaning.{Meaning}
+use Rattle.drc_container.specs.reading.Stream.{stream}
+use Rattle.drc_container.proofs.lemmas.reading.Parted.{parts}
 use Rattle.drc_verify.specs.declared.verdicts.Verdict.{Verdict}
 use Rattle.drc_verify.specs.declared.verdicts.Verdict.TheVariants as verdict
 use Rattle.drc_verify.specs.Checked.{read_due, IsSame}

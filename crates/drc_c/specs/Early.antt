@@ -9,8 +9,8 @@ use Rattle.drc_c.specs.Heads.{head_meant}
 use Rattle.drc_c.specs.Inputs.{width_told}
 
 -- the first fault of the heads, of the numbers of points and values, and of the number of faces where there is to be a mesh
-unfoldable pub early_fault : ℕ → List DrcHead → List (List ℕ) → List ℤ → Option Fault
-early_fault mesh heads corners values = first_fault (
+unfoldable pub arrays_early_fault : ℕ → List DrcHead → List (List ℕ) → List ℤ → Option Fault
+arrays_early_fault mesh heads corners values = first_fault (
     heads_fault (map head_meant heads)
     ∷ count_fault (length values / width_told heads) (width_told heads)
     ∷ (if mesh == 1 then faces_fault corners else None)

@@ -4,9 +4,9 @@ use Rattle.drc_base.specs.declared.faults.Fault.{Fault}
 use Rattle.drc_base.specs.Steps.{◌>>=◌}
 use Rattle.mesh_model.specs.declared.geometries.Geometry.{Geometry}
 use Rattle.mesh_model.specs.Same.{Rows}
-use Rattle.drc_container.specs.declared.choices.Choice.{Choice}
-use Rattle.drc_container.specs.Encoded.{due, Means}
-use Rattle.drc_container.specs.Layout.{layout_of, layout_chosen}
+use Rattle.drc_container.specs.declared.choice.choices.Choice.{Choice}
+use Rattle.drc_container.specs.writing.Encoded.{encoding_due, Means}
+use Rattle.drc_container.specs.writing.Layout.{layout_of, layout_chosen}
 use Rattle.drc_c.specs.declared.heads.DrcHead.{DrcHead}
 use Rattle.drc_c.specs.declared.options.DrcOptions.{DrcOptions}
 use Rattle.drc_c.specs.declared.streams.DrcRow.{DrcRow}
@@ -15,13 +15,13 @@ use Rattle.drc_c.specs.Options.{choice_meant}
 use Rattle.drc_c.specs.Streams.{row_told}
 
 -- a stream and its map as C has them
-abbrev pub told : List ℕ × Rows → List ℕ × List DrcRow
-told e = (e.0, map row_told e.1)
+abbrev pub c_stream : List ℕ × Rows → List ℕ × List DrcRow
+c_stream e = (e.0, map row_told e.1)
 
 -- the bytes and the map of the geometry that arrays mean, coded as chosen; or the first fault of the arrays, then of the encoding
 unfoldable pub encoded : ℕ → List DrcHead → List (List ℕ) → List ℤ → Choice → Result (List ℕ × List DrcRow) Fault
 encoded mesh heads corners values choice =
-    geometry_meant mesh heads corners values >>= λ g. due g choice >>= λ e. Ok (told e)
+    geometry_meant mesh heads corners values >>= λ g. encoding_due g choice >>= λ e. Ok (c_stream e)
 
 -- these bytes and this map are those of the encoding: the bytes mean the geometry that the arrays are, by the map, and are coded as chosen
 pub record IsEncoding (mesh : ℕ) (heads : List DrcHead) (corners : List (List ℕ)) (values : List ℤ) (choice : Choice)
@@ -35,8 +35,8 @@ pub record IsEncoding (mesh : ℕ) (heads : List DrcHead) (corners : List (List 
   pub layout : layout_of bytes ≡ Ok (layout_chosen geometry choice)
 
 -- the choice of options, where the arrays fit each other and each number names something
-abbrev pub Takes : ℕ → List DrcHead → List (List ℕ) → List ℤ → DrcOptions → Option Choice → Type 0
-Takes mesh heads corners values options (Some choice) =
+abbrev pub TakesChoice : ℕ → List DrcHead → List (List ℕ) → List ℤ → DrcOptions → Option Choice → Type 0
+TakesChoice mesh heads corners values options (Some choice) =
     (do_fit mesh heads corners values ≡ true) × (choice_meant options ≡ Some choice)
-Takes mesh heads corners values options None =
+TakesChoice mesh heads corners values options None =
     (do_fit mesh heads corners values ≡ false) ⊎ (choice_meant options ≡ None)

@@ -1,14 +1,14 @@
 -- What options of C choose of an encoding (this project's choice).
 use Rattle.std.specs.Prelude.{ℕ, ◌==◌, Bool, true, false, Option, None, Some, option_and_then, if◌then◌else◌}
-use Rattle.drc_container.specs.declared.methods.Method.{Method}
-use Rattle.drc_container.specs.declared.methods.Method.TheVariants as method
-use Rattle.drc_container.specs.declared.choices.Index.{Index}
-use Rattle.drc_container.specs.declared.choices.Index.TheVariants as indexed
-use Rattle.drc_container.specs.declared.choices.Predict.{Predict}
-use Rattle.drc_container.specs.declared.choices.Predict.TheVariants as predict
-use Rattle.drc_container.specs.declared.choices.Walk.{Walk}
-use Rattle.drc_container.specs.declared.choices.Walk.TheVariants as walk
-use Rattle.drc_container.specs.declared.choices.Choice.{Choice}
+use Rattle.drc_container.specs.declared.choice.methods.Method.{Method}
+use Rattle.drc_container.specs.declared.choice.methods.Method.TheVariants as method
+use Rattle.drc_container.specs.declared.choice.choices.Index.{Index}
+use Rattle.drc_container.specs.declared.choice.choices.Index.TheVariants as indexed
+use Rattle.predict.specs.declared.schemes.Prediction.{Prediction}
+use Rattle.predict.specs.declared.schemes.Prediction.TheVariants as prediction
+use Rattle.drc_container.specs.declared.choice.choices.Walk.{Walk}
+use Rattle.drc_container.specs.declared.choice.choices.Walk.TheVariants as walk
+use Rattle.drc_container.specs.declared.choice.choices.Choice.{Choice}
 use Rattle.drc_c.specs.declared.options.DrcOptions.{DrcOptions}
 
 -- the method of a number: 0 none is chosen, 1 sequential, 2 Edgebreaker, 3 Edgebreaker by valence
@@ -24,12 +24,12 @@ index_numbered n =
     if n == 0 then Some None else (if n == 1 then Some (Some indexed.Plain) else (if n == 2 then Some (Some indexed.Packed) else None))
 
 -- the prediction of a number: 0 none is chosen, 1 not at all, 2 by the entry before, 3 by a parallelogram, 4 by several
-abbrev pub predict_numbered : ℕ → Option (Option Predict)
+abbrev pub predict_numbered : ℕ → Option (Option Prediction)
 predict_numbered n =
     if n == 0 then Some None
-    else (if n == 1 then Some (Some predict.Off)
-    else (if n == 2 then Some (Some predict.Diff)
-    else (if n == 3 then Some (Some predict.Para) else (if n == 4 then Some (Some predict.Multi) else None))))
+    else (if n == 1 then Some (Some prediction.Off)
+    else (if n == 2 then Some (Some prediction.Difference)
+    else (if n == 3 then Some (Some prediction.Parallelogram) else (if n == 4 then Some (Some prediction.Multi) else None))))
 
 -- the walk of a number: 0 none is chosen, 1 depth first, 2 by prediction degree
 abbrev pub walk_numbered : ℕ → Option (Option Walk)

@@ -4,20 +4,20 @@ use Rattle.drc_base.specs.declared.faults.Fault.{Fault}
 use Rattle.drc_base.specs.Steps.{◌>>=◌}
 use Rattle.mesh_model.specs.declared.geometries.Geometry.{Geometry}
 use Rattle.mesh_model.specs.Same.{Rows, Same}
-use Rattle.drc_container.specs.declared.choices.Choice.{Choice}
-use Rattle.drc_container.specs.Encoded.{Means}
-use Rattle.drc_container.specs.Layout.{layout_of, layout_chosen}
-use Rattle.drc_container.specs.Stream.{meaning_of}
+use Rattle.drc_container.specs.declared.choice.choices.Choice.{Choice}
+use Rattle.drc_container.specs.writing.Encoded.{Means}
+use Rattle.drc_container.specs.writing.Layout.{layout_of, layout_chosen}
+use Rattle.drc_container.specs.reading.Stream.{meaning_of}
 use Rattle.drc_recode.specs.FirstOrder.{first_order, StandsAgain}
 use Rattle.drc_recode.specs.Recoded.{recoded}
-use Rattle.drc_recode.specs.Restored.{in_order, restored, MeansInOrder}
+use Rattle.drc_recode.specs.Restored.{sequential_choice, restored_stream, MeansInOrder}
 use Rattle.drc_c.specs.declared.streams.DrcRow.{DrcRow}
-use Rattle.drc_c.specs.Encoded.{told}
+use Rattle.drc_c.specs.Encoded.{c_stream}
 use Rattle.drc_c.specs.Streams.{row_told, row_meant}
 
 -- the bytes and the map of the geometry that a stream means, coded as chosen; or the first fault of the stream, then of the encoding
 unfoldable pub recoded_told : List ℕ → Choice → Result (List ℕ × List DrcRow) Fault
-recoded_told bytes choice = recoded bytes choice >>= λ e. Ok (told e)
+recoded_told bytes choice = recoded bytes choice >>= λ e. Ok (c_stream e)
 
 -- this stream and this map are those of the recoding: the stream means the geometry of the old one, by the map, and is coded as chosen
 pub record IsRecoding (bytes : List ℕ) (choice : Choice) (written : List ℕ) (map_rows : List DrcRow) : Type 0 where
@@ -32,13 +32,13 @@ pub record IsRecoding (bytes : List ℕ) (choice : Choice) (written : List ℕ) 
 -- the stream of another one in the order before the rows of a map, of a cloud or of a mesh; or the first fault of the stream, of the
 -- map, then of the encoding
 abbrev pub restored_told : Bool → List DrcRow → List ℕ → Result (List ℕ) Fault
-restored_told cloud told bytes = restored cloud (map row_meant told) bytes
+restored_told cloud c_stream bytes = restored_stream cloud (map row_meant c_stream) bytes
 
 -- a stream is another one in the order before these rows, coded by the sequential method: of each geometry that the other one is by the
 -- rows, it has the faces or the points in their order
-pub record IsRestoring (told : List DrcRow) (bytes written : List ℕ) : Type 0 where
+pub record IsRestoring (c_stream : List DrcRow) (bytes written : List ℕ) : Type 0 where
   pub geometry : Geometry
   pub read : meaning_of bytes ≡ Ok geometry
-  pub stands : StandsAgain geometry (first_order geometry (map row_meant told)) (map row_meant told)
-  pub order : (g : Geometry) → Same g geometry (map row_meant told) → MeansInOrder g written
-  pub layout : layout_of written ≡ Ok (layout_chosen (first_order geometry (map row_meant told)) in_order)
+  pub stands : StandsAgain geometry (first_order geometry (map row_meant c_stream)) (map row_meant c_stream)
+  pub order : (g : Geometry) → Same g geometry (map row_meant c_stream) → MeansInOrder g written
+  pub layout : layout_of written ≡ Ok (layout_chosen (first_order geometry (map row_meant c_stream)) sequential_choice)

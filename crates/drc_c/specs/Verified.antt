@@ -5,8 +5,8 @@ use Rattle.drc_base.specs.Steps.{◌>>=◌}
 use Rattle.mesh_model.specs.declared.geometries.Geometry.{Geometry}
 use Rattle.drc_verify.specs.declared.verdicts.Verdict.{Verdict}
 use Rattle.drc_verify.specs.declared.verdicts.Verdict.TheVariants as verdict
-use Rattle.drc_container.specs.Meaning.{Meaning}
-use Rattle.drc_container.specs.Stream.{stream}
+use Rattle.drc_container.specs.reading.Meaning.{Meaning}
+use Rattle.drc_container.specs.reading.Stream.{stream}
 use Rattle.drc_verify.specs.Checked.{read_due, verdict_asked, IsSame}
 use Rattle.drc_c.specs.declared.heads.DrcHead.{DrcHead}
 use Rattle.drc_c.specs.declared.streams.DrcRow.{DrcRow}
@@ -34,8 +34,8 @@ status_of (verdict.Pair s) = NOT_SAME
 
 -- the verdict on the geometry that arrays mean, the rows of its map, and a stream; or the first fault of the arrays, then of the
 -- stream, then why there is no surface to compare
-unfoldable pub verified : Bool → ℕ → List DrcHead → List (List ℕ) → List ℤ → List DrcRow → List ℕ → Result Verdict Fault
-verified surface mesh heads corners values told bytes =
+unfoldable pub verified_arrays : Bool → ℕ → List DrcHead → List (List ℕ) → List ℤ → List DrcRow → List ℕ → Result Verdict Fault
+verified_arrays surface mesh heads corners values told bytes =
     geometry_meant mesh heads corners values >>= λ g. read_due surface (mesh == 0) (map row_meant told) g bytes
 
 -- a verdict is that on the geometry that arrays mean and on what a stream means, and it is a yes exactly where the one is the other by

@@ -4,17 +4,16 @@ ghost use Rattle.std.specs.Prelude.{◌≡◌, ◌⊎◌, [], ◌∷◌, Contain
 ghost use Rattle.drc_base.specs.declared.faults.Fault.{Fault as AnyFault};
 ghost use Rattle.mesh_model.specs.declared.geometries.Geometry.{Geometry as AnyGeometry};
 ghost use Rattle.mesh_model.specs.Contents.{faces_in};
-ghost use Rattle.drc_container.specs.Stream.{meaning_of, declared_of};
+ghost use Rattle.drc_container.specs.reading.Stream.{meaning_of, declared_of};
 ghost use Rattle.drc_c.specs.Arrays.{filled};
 ghost use Rattle.drc_c.specs.Faults.{fault_told};
 ghost use Rattle.drc_c.specs.Shapes.{shape_of, integers_of, LacksRoom};
 
 use crate::arrays::fill;
-use crate::copies::{Copies, copies_of, handed_corners, handed_values};
 use crate::faults::{DrcFault, refuse};
+use crate::handing::{Arrays, arrays_of, handed_corners, handed_values};
 use crate::shapes::{DrcShape, faces_in, integers_of, shape_of};
 use crate::statuses::{DONE, NO_MEMORY, NO_ROOM, REFUSED};
-use drc_base::Memory;
 use drc_container::decode;
 use mesh_model::Geometry;
 use std::alloc::Global;
@@ -87,7 +86,7 @@ pub extern "C" fn drc_decode_into(
     ensures refused { result ≡ REFUSED → (f : AnyFault) × (meaning_of bytes.now ≡ Err f) × (fault.new ≡ fault_told f) }
     ensures early { (f : AnyFault) → declared_of bytes.now ≡ Err f → (result ≡ REFUSED) × (fault.new ≡ fault_told f) }
 
-    // What isn't told is as before.
+    // What isn't written is as before.
     ensures arrays_same { (result ≡ DONE) ⊎ ((corners.new ≡ corners.old) × (values.new ≡ values.old)) }
     ensures shape_same { (result ≡ DONE) ⊎ (result ≡ NO_ROOM) ⊎ (shape.new ≡ shape.old) }
     ensures fault_same { (result ≡ REFUSED) ⊎ (fault.new ≡ fault.old) }
@@ -98,20 +97,16 @@ pub extern "C" fn drc_decode_into(
     }
 }
 
-/// Hands a geometry out in arrays of its own.
-fn hand_out(alloc: Global, g: &Geometry, out: &mut DrcGeometry) -> u32
-    ensures statuses { (result ≡ DONE) ⊎ (result ≡ NO_MEMORY) }
-    ensures done { result ≡ DONE → out.new.shape ≡ shape_of g.now }
-    ensures same { result ≡ NO_MEMORY → out.new ≡ out.old }
+/// A geometry in arrays that C frees.
+fn handed_out(alloc: Global, g: Geometry) -> DrcGeometry
+    ensures { result.shape ≡ shape_of g }
 {
-    match copies_of(alloc, g) {
-        Ok(Copies { corners, values }) => {
-            out.shape = shape_of(g);
-            out.corners = handed_corners(corners);
-            out.values = handed_values(values);
-            DONE
-        }
-        Err(Memory) => NO_MEMORY,
+    let shape = shape_of(&g);
+    let Arrays { corners, values } = arrays_of(alloc, g);
+    DrcGeometry {
+        shape,
+        corners: handed_corners(corners),
+        values: handed_values(values),
     }
 }
 
@@ -133,12 +128,15 @@ pub extern "C" fn drc_decode(
     ensures refused { result ≡ REFUSED → (f : AnyFault) × (meaning_of bytes.now ≡ Err f) × (fault.new ≡ fault_told f) }
     ensures early { (f : AnyFault) → declared_of bytes.now ≡ Err f → (result ≡ REFUSED) × (fault.new ≡ fault_told f) }
 
-    // What isn't told is as before.
+    // What isn't written is as before.
     ensures geometry_same { (result ≡ DONE) ⊎ (out.new ≡ out.old) }
     ensures fault_same { (result ≡ REFUSED) ⊎ (fault.new ≡ fault.old) }
 {
     match decode(alloc, bytes) {
-        Ok(g) => hand_out(alloc, &g, out),
+        Ok(g) => {
+            *out = handed_out(alloc, g);
+            DONE
+        }
         Err(refusal) => refuse(refusal, fault),
     }
 }

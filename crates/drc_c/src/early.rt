@@ -6,7 +6,7 @@ ghost use Rattle.mesh_model.specs.Head.{has_type, has_bits, head_fault, each_fau
 ghost use Rattle.mesh_model.specs.Parts.{count_fault, faces_fault};
 ghost use Rattle.drc_c.specs.Heads.{head_meant};
 ghost use Rattle.drc_c.specs.Inputs.{width_told};
-ghost use Rattle.drc_c.specs.Early.{early_fault};
+ghost use Rattle.drc_c.specs.Early.{arrays_early_fault};
 
 use crate::heads::{DrcHead, QUANTISED};
 use crate::inputs::{MESH, width_told};
@@ -120,14 +120,14 @@ fn test_faces(corners: &[[u32; 3]]) -> Result<(), Fault>
 
 /// The first fault of arrays that is found before memory is taken: of the heads, then of the numbers of points,
 /// of values and of faces.
-#[tactic(auto, unfolding(crate::specs::Early::early_fault))]
+#[tactic(auto, unfolding(crate::specs::Early::arrays_early_fault))]
 pub fn test_early(
     mesh: u32,
     heads: &[DrcHead],
     corners: &[[u32; 3]],
     values: &[i32],
 ) -> Result<(), Fault>
-    ensures { Tests (early_fault mesh heads.now corners.now values.now) result }
+    ensures { Tests (arrays_early_fault mesh heads.now corners.now values.now) result }
 {
     let width = tested_width(heads)?;
     test_counts(values, width)?;

@@ -4,13 +4,13 @@ ghost use Rattle.std.specs.Prelude.{◌≡◌, ◌<◌, ◌⊎◌, ℕ, List, []
 ghost use Rattle.drc_base.specs.declared.faults.Fault.{Fault as AnyFault};
 ghost use Rattle.drc_base.specs.declared.faults.Refusal.TheVariants as refusal;
 ghost use Rattle.drc_base.specs.Refusals.{Answers};
-ghost use Rattle.drc_container.specs.declared.choices.Choice.{Choice as AnyChoice};
+ghost use Rattle.drc_container.specs.declared.choice.choices.Choice.{Choice as AnyChoice};
 ghost use Rattle.drc_c.specs.Arrays.{filled};
-ghost use Rattle.drc_c.specs.Early.{early_fault};
+ghost use Rattle.drc_c.specs.Early.{arrays_early_fault};
 ghost use Rattle.drc_c.specs.Faults.{fault_told};
 ghost use Rattle.drc_c.specs.Inputs.{do_fit};
 ghost use Rattle.drc_c.specs.declared.streams.DrcRow.{DrcRow as AnyRow};
-ghost use Rattle.drc_c.specs.Encoded.{encoded, IsEncoding, Takes};
+ghost use Rattle.drc_c.specs.Encoded.{encoded, IsEncoding, TakesChoice};
 
 use crate::faults::{DrcFault, refuse};
 use crate::heads::DrcHead;
@@ -36,7 +36,7 @@ fn encode_arrays(
 ) -> Result<Encoded, Refusal>
     requires { do_fit mesh heads.now corners.now values.now ≡ true }
     ensures answer { Answers (λ e. (e.bytes.items, e.rows.items)) (encoded mesh heads.now corners.now values.now choice.now) result }
-    ensures early { (f : AnyFault) → early_fault mesh heads.now corners.now values.now ≡ Some f → result ≡ Err (refusal.Fault f) }
+    ensures early { (f : AnyFault) → arrays_early_fault mesh heads.now corners.now values.now ≡ Some f → result ≡ Err (refusal.Fault f) }
     ensures means { IfOk result (λ e. IsEncoding mesh heads.now corners.now values.now choice.now e.bytes.items e.rows.items) }
 {
     let g = geometry_meant(alloc, mesh, heads, corners, values)?;
@@ -53,7 +53,7 @@ fn choice_for(
     values: &[i32],
     options: &DrcOptions,
 ) -> Option<Choice>
-    ensures { Takes mesh heads.now corners.now values.now options.now result }
+    ensures { TakesChoice mesh heads.now corners.now values.now options.now result }
 {
     if !do_fit(mesh, heads, corners, values) {
         return None;
@@ -83,23 +83,23 @@ pub extern "C" fn drc_encode_into(
 ) -> u32
     ensures statuses { Contains (DONE ∷ BAD_ARGUMENT ∷ REFUSED ∷ NO_MEMORY ∷ NO_ROOM ∷ []) result }
     ensures done { result ≡ DONE → (choice : AnyChoice) × (stream : List ℕ) × (told : List AnyRow)
-        × Takes mesh heads.now corners.now values.now options.now (Some choice)
+        × TakesChoice mesh heads.now corners.now values.now options.now (Some choice)
         × IsEncoding mesh heads.now corners.now values.now choice stream told
         × (lengths.new ≡ record { bytes = length stream; rows = length told })
         × (bytes.new ≡ filled stream bytes.old) × (rows.new ≡ filled told rows.old) }
-    ensures bad { result ≡ BAD_ARGUMENT → Takes mesh heads.now corners.now values.now options.now None }
+    ensures bad { result ≡ BAD_ARGUMENT → TakesChoice mesh heads.now corners.now values.now options.now None }
     ensures refused { result ≡ REFUSED → (choice : AnyChoice) × (f : AnyFault)
-        × Takes mesh heads.now corners.now values.now options.now (Some choice)
+        × TakesChoice mesh heads.now corners.now values.now options.now (Some choice)
         × (encoded mesh heads.now corners.now values.now choice ≡ Err f) × (fault.new ≡ fault_told f) }
-    ensures early { (choice : AnyChoice) (f : AnyFault) → Takes mesh heads.now corners.now values.now options.now (Some choice)
-        → early_fault mesh heads.now corners.now values.now ≡ Some f → (result ≡ REFUSED) × (fault.new ≡ fault_told f) }
+    ensures early { (choice : AnyChoice) (f : AnyFault) → TakesChoice mesh heads.now corners.now values.now options.now (Some choice)
+        → arrays_early_fault mesh heads.now corners.now values.now ≡ Some f → (result ≡ REFUSED) × (fault.new ≡ fault_told f) }
     ensures no_room { result ≡ NO_ROOM → (choice : AnyChoice) × (stream : List ℕ) × (told : List AnyRow)
-        × Takes mesh heads.now corners.now values.now options.now (Some choice)
+        × TakesChoice mesh heads.now corners.now values.now options.now (Some choice)
         × IsEncoding mesh heads.now corners.now values.now choice stream told
         × (lengths.new ≡ record { bytes = length stream; rows = length told })
         × ((length bytes.old < length stream) ⊎ (length rows.old < length told)) }
 
-    // What isn't told is as before.
+    // What isn't written is as before.
     ensures arrays_same { (result ≡ DONE) ⊎ ((bytes.new ≡ bytes.old) × (rows.new ≡ rows.old)) }
     ensures lengths_same { (result ≡ DONE) ⊎ (result ≡ NO_ROOM) ⊎ (lengths.new ≡ lengths.old) }
     ensures fault_same { (result ≡ REFUSED) ⊎ (fault.new ≡ fault.old) }
@@ -131,17 +131,17 @@ pub extern "C" fn drc_encode(
 ) -> u32
     ensures statuses { Contains (DONE ∷ BAD_ARGUMENT ∷ REFUSED ∷ NO_MEMORY ∷ []) result }
     ensures done { result ≡ DONE → (choice : AnyChoice) × (bytes : List ℕ) × (told : List AnyRow)
-        × Takes mesh heads.now corners.now values.now options.now (Some choice)
+        × TakesChoice mesh heads.now corners.now values.now options.now (Some choice)
         × IsEncoding mesh heads.now corners.now values.now choice bytes told
         × (stream.new.lengths ≡ record { bytes = length bytes; rows = length told }) }
-    ensures bad { result ≡ BAD_ARGUMENT → Takes mesh heads.now corners.now values.now options.now None }
+    ensures bad { result ≡ BAD_ARGUMENT → TakesChoice mesh heads.now corners.now values.now options.now None }
     ensures refused { result ≡ REFUSED → (choice : AnyChoice) × (f : AnyFault)
-        × Takes mesh heads.now corners.now values.now options.now (Some choice)
+        × TakesChoice mesh heads.now corners.now values.now options.now (Some choice)
         × (encoded mesh heads.now corners.now values.now choice ≡ Err f) × (fault.new ≡ fault_told f) }
-    ensures early { (choice : AnyChoice) (f : AnyFault) → Takes mesh heads.now corners.now values.now options.now (Some choice)
-        → early_fault mesh heads.now corners.now values.now ≡ Some f → (result ≡ REFUSED) × (fault.new ≡ fault_told f) }
+    ensures early { (choice : AnyChoice) (f : AnyFault) → TakesChoice mesh heads.now corners.now values.now options.now (Some choice)
+        → arrays_early_fault mesh heads.now corners.now values.now ≡ Some f → (result ≡ REFUSED) × (fault.new ≡ fault_told f) }
 
-    // What isn't told is as before.
+    // What isn't written is as before.
     ensures stream_same { (result ≡ DONE) ⊎ (stream.new ≡ stream.old) }
     ensures fault_same { (result ≡ REFUSED) ⊎ (fault.new ≡ fault.old) }
 {

@@ -6,7 +6,7 @@ ghost use Rattle.drc_base.specs.declared.faults.Refusal.TheVariants as refusal;
 ghost use Rattle.drc_base.specs.Refusals.{Answers};
 ghost use Rattle.mesh_model.specs.FirstFault.{answer_of};
 ghost use Rattle.mesh_model.specs.Parts.{AreRows};
-ghost use Rattle.drc_c.specs.Early.{early_fault};
+ghost use Rattle.drc_c.specs.Early.{arrays_early_fault};
 ghost use Rattle.drc_c.specs.Inputs.{width_told, are_whole, do_fit, geometry_made, geometry_meant};
 
 use crate::early::test_early;
@@ -81,7 +81,7 @@ pub fn geometry_meant(
 ) -> Result<Geometry, Refusal>
     requires { do_fit mesh heads.now corners.now values.now ≡ true }
     ensures answer { Answers (λ g. g) (geometry_meant mesh heads.now corners.now values.now) result }
-    ensures early { (f : AnyFault) → early_fault mesh heads.now corners.now values.now ≡ Some f → result ≡ Err (refusal.Fault f) }
+    ensures early { (f : AnyFault) → arrays_early_fault mesh heads.now corners.now values.now ≡ Some f → result ≡ Err (refusal.Fault f) }
 {
     test_early(mesh, heads, corners, values)?;
     let heads = heads_meant(alloc, heads)?;

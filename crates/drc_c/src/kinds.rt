@@ -2,7 +2,7 @@
 //! a new kind comes last.
 
 ghost use Rattle.std.specs.Prelude.{◌≡◌, slice_get};
-ghost use Rattle.drc_c.specs.Kinds.{number_of};
+ghost use Rattle.drc_c.specs.Kinds.{number_of_kind};
 
 use drc_base::Kind;
 
@@ -96,9 +96,9 @@ pub const KINDS: [Kind; KIND_COUNT] = [
 ];
 
 /// The number of a kind.
-#[tactic(auto, unfolding(crate::specs::Kinds::number_of))]
+#[tactic(auto, unfolding(crate::specs::Kinds::number_of_kind))]
 pub fn number_of(kind: Kind) -> u32
-    ensures { result ≡ number_of kind }
+    ensures { result ≡ number_of_kind kind }
 {
     match kind {
         Kind::Magic => 0,

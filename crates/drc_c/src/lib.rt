@@ -6,11 +6,11 @@
 #![tactic(auto)]
 
 mod arrays;
-mod copies;
 mod decoding;
 mod early;
 mod encoding;
 mod faults;
+mod handing;
 mod heads;
 mod inputs;
 mod kinds;

@@ -3,7 +3,7 @@
 ghost use Rattle.std.specs.Prelude.{◌≡◌};
 ghost use Rattle.drc_c.specs.Options.{method_numbered, index_numbered, predict_numbered, walk_numbered, flag_numbered, choice_meant};
 
-use drc_container::{Choice, Index, Method, Predict, Walk};
+use drc_container::{Choice, Index, Method, Prediction, Walk};
 
 /// What is chosen of an encoding. All zeros choose nothing, so that each is as it is without an option of the
 /// program `drc enc`.
@@ -52,15 +52,15 @@ fn index_numbered(number: u32) -> Option<Option<Index>>
 }
 
 /// The prediction of a number.
-fn predict_numbered(number: u32) -> Option<Option<Predict>>
+fn predict_numbered(number: u32) -> Option<Option<Prediction>>
     ensures { result ≡ predict_numbered number }
 {
     match number {
         0 => Some(None),
-        1 => Some(Some(Predict::Off)),
-        2 => Some(Some(Predict::Diff)),
-        3 => Some(Some(Predict::Para)),
-        4 => Some(Some(Predict::Multi)),
+        1 => Some(Some(Prediction::Off)),
+        2 => Some(Some(Prediction::Difference)),
+        3 => Some(Some(Prediction::Parallelogram)),
+        4 => Some(Some(Prediction::Multi)),
         _ => None,
     }
 }

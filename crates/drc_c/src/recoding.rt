@@ -3,8 +3,8 @@
 ghost use Rattle.std.specs.Prelude.{◌≡◌, ◌<◌, ◌⊎◌, ℕ, List, [], ◌∷◌, Contains, Err, Some, None, IfOk, length};
 ghost use Rattle.drc_base.specs.declared.faults.Fault.{Fault as AnyFault};
 ghost use Rattle.drc_base.specs.Refusals.{Answers};
-ghost use Rattle.drc_container.specs.declared.choices.Choice.{Choice as AnyChoice};
-ghost use Rattle.drc_container.specs.Stream.{declared_of};
+ghost use Rattle.drc_container.specs.declared.choice.choices.Choice.{Choice as AnyChoice};
+ghost use Rattle.drc_container.specs.reading.Stream.{declared_of};
 ghost use Rattle.drc_base.specs.declared.faults.Refusal.TheVariants as refusal;
 ghost use Rattle.drc_c.specs.Arrays.{filled};
 ghost use Rattle.drc_c.specs.Faults.{fault_told};
@@ -70,7 +70,7 @@ pub extern "C" fn drc_recode_into(
         × (lengths.new ≡ record { bytes = length stream; rows = length told })
         × ((length written.old < length stream) ⊎ (length rows.old < length told)) }
 
-    // What isn't told is as before.
+    // What isn't written is as before.
     ensures arrays_same { (result ≡ DONE) ⊎ ((written.new ≡ written.old) × (rows.new ≡ rows.old)) }
     ensures lengths_same { (result ≡ DONE) ⊎ (result ≡ NO_ROOM) ⊎ (lengths.new ≡ lengths.old) }
     ensures fault_same { (result ≡ REFUSED) ⊎ (fault.new ≡ fault.old) }
@@ -108,7 +108,7 @@ pub extern "C" fn drc_recode(
     ensures early { (choice : AnyChoice) (f : AnyFault) → choice_meant options.now ≡ Some choice → declared_of bytes.now ≡ Err f
         → (result ≡ REFUSED) × (fault.new ≡ fault_told f) }
 
-    // What isn't told is as before.
+    // What isn't written is as before.
     ensures stream_same { (result ≡ DONE) ⊎ (stream.new ≡ stream.old) }
     ensures fault_same { (result ≡ REFUSED) ⊎ (fault.new ≡ fault.old) }
 {

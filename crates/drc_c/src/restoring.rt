@@ -76,7 +76,7 @@ pub extern "C" fn drc_restore_into(
         × (restored_told (not is_mesh) rows.now bytes.now ≡ Ok stream) × (length written.old < length stream)
         × (lengths.new ≡ record { bytes = length stream; rows = 0 }) }
 
-    // What isn't told is as before.
+    // What isn't written is as before.
     ensures array_same { (result ≡ DONE) ⊎ (written.new ≡ written.old) }
     ensures lengths_same { (result ≡ DONE) ⊎ (result ≡ NO_ROOM) ⊎ (lengths.new ≡ lengths.old) }
     ensures fault_same { (result ≡ REFUSED) ⊎ (fault.new ≡ fault.old) }
@@ -113,7 +113,7 @@ pub extern "C" fn drc_restore(
     ensures refused { result ≡ REFUSED → (is_mesh : Bool) × (f : AnyFault) × (flag_numbered mesh ≡ Some is_mesh)
         × (restored_told (not is_mesh) rows.now bytes.now ≡ Err f) × (fault.new ≡ fault_told f) }
 
-    // What isn't told is as before.
+    // What isn't written is as before.
     ensures stream_same { (result ≡ DONE) ⊎ (stream.new ≡ stream.old) }
     ensures fault_same { (result ≡ REFUSED) ⊎ (fault.new ≡ fault.old) }
 {

@@ -42,7 +42,7 @@ fn status_of(verdict: Verdict) -> u32
     }
 }
 
-/// Tells a verdict by its status, and writes it.
+/// Writes a verdict, and answers its status.
 pub fn tell(verdict: Verdict, out: &mut DrcVerdict) -> u32
     ensures status { result ≡ status_of verdict }
     ensures verdict { out.new ≡ verdict_told verdict }

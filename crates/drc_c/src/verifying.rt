@@ -6,10 +6,10 @@ ghost use Rattle.drc_base.specs.declared.faults.Refusal.TheVariants as refusal;
 ghost use Rattle.drc_base.specs.Refusals.{Answers};
 ghost use Rattle.drc_verify.specs.declared.verdicts.Verdict.{Verdict as AnyVerdict};
 ghost use Rattle.drc_verify.specs.declared.verdicts.Verdict.TheVariants as verdict;
-ghost use Rattle.drc_c.specs.Early.{early_fault};
+ghost use Rattle.drc_c.specs.Early.{arrays_early_fault};
 ghost use Rattle.drc_c.specs.Faults.{fault_told};
 ghost use Rattle.drc_c.specs.Inputs.{do_fit};
-ghost use Rattle.drc_c.specs.Verified.{verdict_told, verified, Asks, IsVerified};
+ghost use Rattle.drc_c.specs.Verified.{verdict_told, verified_arrays, Asks, IsVerified};
 
 use crate::faults::{DrcFault, refuse};
 use crate::heads::DrcHead;
@@ -24,7 +24,7 @@ use std::alloc::Global;
 
 /// The verdict on the geometry that arrays mean, the rows of its map, and a stream; or the first fault of the arrays, then
 /// of the stream, then why there is no surface to compare.
-#[tactic(auto, unfolding(crate::specs::Verified::verified))]
+#[tactic(auto, unfolding(crate::specs::Verified::verified_arrays))]
 fn verify_arrays(
     alloc: Global,
     mesh: u32,
@@ -36,8 +36,8 @@ fn verify_arrays(
     surface: bool,
 ) -> Result<Verdict, Refusal>
     requires { do_fit mesh heads.now corners.now values.now ≡ true }
-    ensures answer { Answers (λ v. v) (verified surface mesh heads.now corners.now values.now rows.now bytes.now) result }
-    ensures early { (f : AnyFault) → early_fault mesh heads.now corners.now values.now ≡ Some f → result ≡ Err (refusal.Fault f) }
+    ensures answer { Answers (λ v. v) (verified_arrays surface mesh heads.now corners.now values.now rows.now bytes.now) result }
+    ensures early { (f : AnyFault) → arrays_early_fault mesh heads.now corners.now values.now ≡ Some f → result ≡ Err (refusal.Fault f) }
     ensures verified { IfOk result (λ v. IsVerified surface mesh heads.now corners.now values.now rows.now bytes.now v) }
 {
     let g = geometry_meant(alloc, mesh, heads, corners, values)?;
@@ -90,11 +90,11 @@ pub extern "C" fn drc_verify(
         × (out.new ≡ verdict_told v) }
     ensures bad { result ≡ BAD_ARGUMENT → Asks mesh heads.now corners.now values.now surface None }
     ensures refused { result ≡ REFUSED → (asked : Bool) × (f : AnyFault) × Asks mesh heads.now corners.now values.now surface (Some asked)
-        × (verified asked mesh heads.now corners.now values.now rows.now bytes.now ≡ Err f) × (fault.new ≡ fault_told f) }
+        × (verified_arrays asked mesh heads.now corners.now values.now rows.now bytes.now ≡ Err f) × (fault.new ≡ fault_told f) }
     ensures early { (asked : Bool) (f : AnyFault) → Asks mesh heads.now corners.now values.now surface (Some asked)
-        → early_fault mesh heads.now corners.now values.now ≡ Some f → (result ≡ REFUSED) × (fault.new ≡ fault_told f) }
+        → arrays_early_fault mesh heads.now corners.now values.now ≡ Some f → (result ≡ REFUSED) × (fault.new ≡ fault_told f) }
 
-    // What isn't told is as before.
+    // What isn't written is as before.
     ensures verdict_same { (result ≡ DONE) ⊎ (result ≡ NOT_SAME) ⊎ (out.new ≡ out.old) }
     ensures fault_same { (result ≡ REFUSED) ⊎ (fault.new ≡ fault.old) }
 {

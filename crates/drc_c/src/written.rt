@@ -4,7 +4,7 @@ ghost use Rattle.std.specs.Prelude.{◌≡◌, ◌<◌, ◌⊎◌, length};
 ghost use Rattle.drc_c.specs.Arrays.{filled};
 
 use crate::arrays::fill;
-use crate::copies::{handed_bytes, handed_rows};
+use crate::handing::{handed_bytes, handed_rows};
 use crate::statuses::{DONE, NO_ROOM};
 use crate::streams::{DrcLengths, DrcRow, DrcStream};
 

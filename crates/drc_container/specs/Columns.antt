@@ -10,11 +10,11 @@ columns_of [] rows = []
 columns_of (h ∷ heads) rows = flat_map (λ row. take h.comps row) rows ∷ columns_of heads (map (λ row. drop h.comps row) rows)
 
 -- row i of these columns
-abbrev pub row_at : List Head → List (List ℤ) → ℕ → List ℤ
-row_at [] columns i = []
-row_at (h ∷ heads) [] i = []
-row_at (h ∷ heads) (column ∷ columns) i = take h.comps (drop (i * h.comps) column) ++ row_at heads columns i
+abbrev pub column_row : List Head → List (List ℤ) → ℕ → List ℤ
+column_row [] columns i = []
+column_row (h ∷ heads) [] i = []
+column_row (h ∷ heads) (column ∷ columns) i = take h.comps (drop (i * h.comps) column) ++ column_row heads columns i
 
 -- the first n rows of these columns, one after another
 abbrev pub cells_at : List Head → List (List ℤ) → ℕ → List ℤ
-cells_at heads columns n = flat_map (row_at heads columns) (range_with_len 0 n)
+cells_at heads columns n = flat_map (column_row heads columns) (range_with_len 0 n)

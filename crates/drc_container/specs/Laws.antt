@@ -1,22 +1,22 @@
--- What holds of every stream that is read: what is read as a mesh or a cloud is one (this project's choice).
-use Rattle.drc_base.specs.Profile.{profile_two}
+-- What holds of every sequential stream that is read: what is read as a mesh or a cloud is one (this project's choice).
+use Rattle.drc_base.specs.Profile.{profile}
 use Rattle.std.specs.Prelude.{◌≡◌, ℕ, Ok, None}
 use Rattle.drc_bits.specs.Reading.{Reading}
 use Rattle.mesh_model.specs.Parts.{mesh_fault, cloud_fault}
 use Rattle.seq_section.specs.declared.reading.SeqRead.{SeqRead}
 use Rattle.seq_section.specs.Indices.{indices_at}
-use Rattle.drc_container.specs.declared.attributes.Attributes.{Attributes}
+use Rattle.drc_container.specs.declared.reading.attributes.Attributes.{Attributes}
 use Rattle.drc_container.specs.Header.{cloud_points_at}
-use Rattle.drc_container.specs.Stream.{attributes_at, points_of}
+use Rattle.drc_container.specs.reading.Stream.{sequential_attributes_at, points_of}
 
 -- indices and attributes that were read one behind the other pass each test of a mesh
 abbrev pub MeshesPass : Type 0
 MeshesPass = (c d e : Reading) (indices : SeqRead) (a : Attributes)
-    → indices_at profile_two c ≡ Ok (indices, d) → attributes_at profile_two indices.points d ≡ Ok (a, e)
+    → indices_at profile c ≡ Ok (indices, d) → sequential_attributes_at profile indices.points d ≡ Ok (a, e)
     → mesh_fault a.heads (points_of indices.points a) indices.faces ≡ None
 
 -- a number of points and attributes that were read one behind the other pass each test of a cloud
 abbrev pub CloudsPass : Type 0
 CloudsPass = (c d e : Reading) (points : ℕ) (a : Attributes)
-    → cloud_points_at profile_two c ≡ Ok (points, d) → attributes_at profile_two points d ≡ Ok (a, e)
+    → cloud_points_at profile c ≡ Ok (points, d) → sequential_attributes_at profile points d ≡ Ok (a, e)
     → cloud_fault a.heads (points_of points a) ≡ None

@@ -1,4 +1,4 @@
-//! What a geometry has: a mesh or a cloud, told alike.
+//! What a geometry has: the same calls for a mesh and for a cloud.
 
 ghost use Rattle.std.specs.Prelude.{◌≡◌, ◌<◌, [], length, slice_index_or};
 ghost use Rattle.mesh_model.specs.Head.{width_of};

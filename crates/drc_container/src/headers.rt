@@ -1,15 +1,15 @@
 //! The header of a stream.
 
-ghost use Rattle.drc_base.specs.Profile.{profile_two};
+ghost use Rattle.drc_base.specs.Profile.{profile};
 ghost use Rattle.std.specs.Prelude.{◌≡◌, ◌++◌, Err, OnOk};
 ghost use Rattle.drc_bits.specs.Reading.{Reads};
 ghost use Rattle.drc_container.specs.Header.{magic, magic_at, header_at, form_said, minor_of, greatest_method, form_of, cloud_points_at};
-ghost use Rattle.drc_container.specs.Written.{header_of};
+ghost use Rattle.drc_container.specs.writing.Written.{header_of_type};
 
 use drc_base::{Fault, Kind, MAX_POINTS, Memory};
 use drc_bits::Cursor;
 
-/// The forms of streams that a header tells apart.
+/// The forms of streams that a header distinguishes.
 #[derive(Clone, Copy, Debug, PartialEq, Eq)]
 pub enum Form {
     /// A mesh whose faces are given as indices.
@@ -144,7 +144,7 @@ fn form_of(geometry: u8, method: u8) -> Form
 
 /// Appends the header of a geometry type and a method, without flags.
 pub fn put_header(out: &mut Vec<u8>, geometry: u8, method: u8) -> Result<(), Memory>
-    ensures { OnOk result (out.new.items ≡ out.old.items ++ header_of geometry method) }
+    ensures { OnOk result (out.new.items ≡ out.old.items ++ header_of_type geometry method) }
 {
     out.extend_from_slice(MAGIC)?;
     out.extend_from_slice(&[MAJOR, minor_of(geometry), geometry, method, 0, 0])?;
@@ -153,7 +153,7 @@ pub fn put_header(out: &mut Vec<u8>, geometry: u8, method: u8) -> Result<(), Mem
 
 /// Reads the number of points of a cloud.
 pub fn read_cloud_points(c: &mut Cursor<'_>) -> Result<u32, Fault>
-    ensures { Reads (λ n. n) (cloud_points_at profile_two c.old) c.new result }
+    ensures { Reads (λ n. n) (cloud_points_at profile c.old) c.new result }
 {
     let fault = c.fault(Kind::PointLimit);
     let points = c.get_u32()?;

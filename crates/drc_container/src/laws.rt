@@ -1,8 +1,8 @@
 //! What holds of the definitions themselves.
 
 ghost use Rattle.drc_container.specs.Laws.{MeshesPass, CloudsPass};
-ghost use Rattle.drc_container.specs.Encodable.{EncodableIsEncoded};
-ghost use Rattle.drc_container.specs.Profiles.{WiderMeansTheSame, OldFilesMeanTheSame};
+ghost use Rattle.drc_container.specs.choice.Encodable.{EncodableIsEncoded};
+ghost use Rattle.drc_container.specs.reading.Profiles.{WiderMeansTheSame, OldFilesMeanTheSame};
 
 /// What is read of a sequential mesh or a cloud is a geometry: the faces, or the number of points, and the
 /// attributes behind them pass each test of a mesh or a cloud, since the limits, the indices and the ranges

@@ -5,52 +5,25 @@
 //! encoder chooses are this project's profile.
 #![tactic(auto)]
 
-mod attributes;
-mod carried_surfaces;
-mod choices;
-mod choosing;
-mod coded_values;
-mod codings;
-mod connected;
+mod choice;
 mod contents;
-mod decoding;
-mod edgebreaker;
-#[cfg(test)]
-mod edgebreaker_tests;
-mod encoding;
 mod headers;
 mod laws;
-mod methods;
-mod placed;
-mod placing;
-mod points;
-mod refusals;
-mod seam_lists;
-mod seen;
-mod standing;
-mod standings;
-mod surface_encoding;
-#[cfg(test)]
-mod surface_encoding_tests;
-mod surface_values;
-mod surface_writing;
-mod traced_meshes;
-mod turned_meshes;
-mod walking;
+mod reading;
+mod surface;
 mod writing;
 
-pub use carried_surfaces::carried_surface;
-pub use choices::{Choice, Index, Predict, Walk};
-pub use decoding::{decode, decode_whole};
-pub use encoding::encode;
+pub use choice::choices::{Choice, Index, Walk};
+pub use choice::methods::Method;
 pub use laws::{
     encodable_meshes_are_encoded, old_files_keep_their_meaning, what_is_read_is_a_geometry,
 };
-pub use methods::Method;
-pub use seen::{AttrSeen, Decoded, Seen};
-pub use turned_meshes::renumbered_mesh;
+pub use predict::Prediction;
+pub use reading::decoding::{decode, decode_whole};
+pub use reading::info::{AttrInfo, Decoded, StreamInfo};
+pub use surface::carried_surfaces::carried_surface;
+pub use surface::turned_meshes::renumbered_mesh;
+pub use writing::encoding::encode;
 
 #[cfg(test)]
 mod tests;
-#[cfg(test)]
-mod worked_meshes;

@@ -15,22 +15,22 @@ use Rattle.mesh_model.proofs.Made.{mesh_of-IsMesh, AreRows-cells_of, range_fault
 use Rattle.drc_gen.specs.declared.kinds.GenKind.{GenKind}
 use Rattle.drc_gen.specs.declared.kinds.GenKind.TheVariants.{Grid, Torus, Holes, Fans, Seams}
 use Rattle.drc_gen.specs.Draws.{draw}
-use Rattle.drc_gen.specs.Lattice.{pairs, number_of, closed_number_of}
-use Rattle.drc_gen.specs.Generated.{position_head, label_head, heads_of, lattice_point, lattice_points, fan_point, patch_point, patch, points_of, triangles, cell_faces, is_hole, faces_but_holes, fan_face, patch_faces, faces_of, generated}
-use Rattle.drc_gen.specs.GeneratedLaws.{IsSize, GeneratedIsMesh, point_count, PointsAreCounted, FacesAreCounted}
+use Rattle.drc_gen.specs.Lattice.{pairs, pair_number, closed_number_of}
+use Rattle.drc_gen.specs.Generated.{position_head, label_head, generated_heads, lattice_point, lattice_points, fan_point, patch_point, patch, generated_points, triangles, cell_faces, is_hole, faces_but_holes, fan_face, patch_faces, generated_faces, generated}
+use Rattle.drc_gen.specs.GeneratedLaws.{IsSize, GeneratedIsMesh, generated_point_count, PointsAreCounted, FacesAreCounted}
 use Rattle.drc_gen.proofs.Lists.{length-pieces, length-pieces-le, All-flat_map, All-range}
 use Rattle.drc_gen.proofs.Walks.{length-pairs, pairs-below, draw-small}
 
 -- how many points there are
 pub length-points : PointsAreCounted
-unfolding points_of
-length-points Grid n seed = length-map (pairs (n + 1)) (λ c. lattice_point (draw seed (number_of (n + 1) c)) c) ∙ length-pairs (n + 1)
-length-points Torus n seed = length-map (pairs n) (λ c. lattice_point (draw seed (number_of n c)) c) ∙ length-pairs n
-length-points Holes n seed = length-map (pairs (n + 1)) (λ c. lattice_point (draw seed (number_of (n + 1) c)) c) ∙ length-pairs (n + 1)
+unfolding generated_points
+length-points Grid n seed = length-map (pairs (n + 1)) (λ c. lattice_point (draw seed (pair_number (n + 1) c)) c) ∙ length-pairs (n + 1)
+length-points Torus n seed = length-map (pairs n) (λ c. lattice_point (draw seed (pair_number n c)) c) ∙ length-pairs n
+length-points Holes n seed = length-map (pairs (n + 1)) (λ c. lattice_point (draw seed (pair_number (n + 1) c)) c) ∙ length-pairs (n + 1)
 length-points Fans n seed =
     length-map (range_with_len 0 (2 * (n * n) + 1)) (λ m. fan_point (draw seed m) m) ∙ length-range_with_len 0 (2 * (n * n) + 1)
 length-points Seams n seed =
-    length-pieces (λ c. patch (draw seed (number_of n c)) c) 4 (λ c. refl) (pairs n) ∙ omega (arith, length-pairs n)
+    length-pieces (λ c. patch (draw seed (pair_number n c)) c) 4 (λ c. refl) (pairs n) ∙ omega (arith, length-pairs n)
 
 no_more : (b : Bool) (xs : List (List ℕ)) → length (cond b [] xs) ≤ length xs
 no_more true xs = omega arith
@@ -38,13 +38,13 @@ no_more false xs = omega arith
 
 -- how many faces there are
 pub length-faces : (kind : GenKind) (n : ℕ) → FacesAreCounted kind n
-unfolding faces_of
-length-faces Grid n = length-pieces (cell_faces (number_of (n + 1))) 2 (λ c. refl) (pairs n) ∙ omega (arith, length-pairs n)
+unfolding generated_faces
+length-faces Grid n = length-pieces (cell_faces (pair_number (n + 1))) 2 (λ c. refl) (pairs n) ∙ omega (arith, length-pairs n)
 length-faces Torus n = length-pieces (cell_faces (closed_number_of n)) 2 (λ c. refl) (pairs n) ∙ omega (arith, length-pairs n)
 length-faces Holes n =
-    omega (arith, length-pairs n, length-pieces-le (faces_but_holes n) 2 (λ c. no_more (is_hole n c) (cell_faces (number_of (n + 1)) c)) (pairs n))
+    omega (arith, length-pairs n, length-pieces-le (faces_but_holes n) 2 (λ c. no_more (is_hole n c) (cell_faces (pair_number (n + 1)) c)) (pairs n))
 length-faces Fans n = length-map (range_with_len 0 (n * n)) fan_face ∙ length-range_with_len 0 (n * n)
-length-faces Seams n = length-pieces (λ c. patch_faces (number_of n c)) 2 (λ c. refl) (pairs n) ∙ omega (arith, length-pairs n)
+length-faces Seams n = length-pieces (λ c. patch_faces (pair_number n c)) 2 (λ c. refl) (pairs n) ∙ omega (arith, length-pairs n)
 
 -- the square of a size
 square : (n : ℕ) → n ≤ 512 → n * n ≤ 262144
@@ -53,14 +53,14 @@ square n most = omega (arith, mul-le n n 512 512 most most)
 square-more : (n : ℕ) → n ≤ 512 → (n + 1) * (n + 1) ≤ 263169
 square-more n most = omega (arith, mul-le (n + 1) (n + 1) 513 513 (omega arith) (omega arith))
 
-few-points : (kind : GenKind) (n : ℕ) → n ≤ 512 → point_count kind n ≤ 1048576
+few-points : (kind : GenKind) (n : ℕ) → n ≤ 512 → generated_point_count kind n ≤ 1048576
 few-points Grid n most = omega (arith, square-more n most)
 few-points Torus n most = omega (arith, square n most)
 few-points Holes n most = omega (arith, square-more n most)
 few-points Fans n most = omega (arith, square n most)
 few-points Seams n most = omega (arith, square n most)
 
-pub few-faces : (kind : GenKind) (n : ℕ) → n ≤ 512 → length (faces_of kind n) ≤ 524288
+pub few-faces : (kind : GenKind) (n : ℕ) → n ≤ 512 → length (generated_faces kind n) ≤ 524288
 few-faces Grid n most = omega (arith, square n most, length-faces Grid n)
 few-faces Torus n most = omega (arith, square n most, length-faces Torus n)
 few-faces Holes n most = omega (arith, square n most, length-faces Holes n)
@@ -68,7 +68,7 @@ few-faces Fans n most = omega (arith, square n most, length-faces Fans n)
 few-faces Seams n most = omega (arith, square n most, length-faces Seams n)
 
 -- the heads pass
-heads-pass : (kind : GenKind) → heads_fault (heads_of kind) ≡ None
+heads-pass : (kind : GenKind) → heads_fault (generated_heads kind) ≡ None
 unfolding heads_fault
 heads-pass Grid = refl
 heads-pass Torus = refl
@@ -76,7 +76,7 @@ heads-pass Holes = refl
 heads-pass Fans = refl
 heads-pass Seams = refl
 
-pub narrow : (kind : GenKind) → width_of (heads_of kind) ≤ 4
+pub narrow : (kind : GenKind) → width_of (generated_heads kind) ≤ 4
 narrow Grid = omega arith
 narrow Torus = omega arith
 narrow Holes = omega arith
@@ -114,10 +114,10 @@ patch-fits x y z hx hy hz = (refl, patch-at x y z hx hy hz)
 -- each point fits the heads
 lattice-fits : (seed side : ℕ) → side ≤ 513 → All (RowFits (position_head ∷ [])) (lattice_points seed side)
 lattice-fits seed side most =
-    let point : ℕ × ℕ → List ℤ = λ c. lattice_point (draw seed (number_of side c)) c in
+    let point : ℕ × ℕ → List ℤ = λ c. lattice_point (draw seed (pair_number side c)) c in
     All-map (RowFits (position_head ∷ [])) point (pairs side)
     (All-weaker (λ c. (c.0 < side) × (c.1 < side)) (λ c. RowFits (position_head ∷ []) (point c))
-    (λ c b. position-fits c.0 c.1 (draw seed (number_of side c)) (omega (arith, b.0)) (omega (arith, b.1)) (omega (arith, draw-small seed (number_of side c))))
+    (λ c b. position-fits c.0 c.1 (draw seed (pair_number side c)) (omega (arith, b.0)) (omega (arith, b.1)) (omega (arith, draw-small seed (pair_number side c))))
     (pairs side) (pairs-below side))
 
 away-small : (b : Bool) → cond b 0 1 < 2 ^ 31
@@ -138,8 +138,8 @@ patches-fit drawn (i, j) hi hj =
     (All-cons Fits r (s ∷ []) (patch-fits i (j + 1) z (omega arith) (omega arith) small)
     (All-cons Fits s [] (patch-fits (i + 1) (j + 1) z (omega arith) (omega arith) small) (All-nil Fits))))
 
-points-fit : (kind : GenKind) (n seed : ℕ) → n ≤ 512 → All (RowFits (heads_of kind)) (points_of kind n seed)
-unfolding points_of
+points-fit : (kind : GenKind) (n seed : ℕ) → n ≤ 512 → All (RowFits (generated_heads kind)) (generated_points kind n seed)
+unfolding generated_points
 points-fit Grid n seed most = lattice-fits seed (n + 1) (omega arith)
 points-fit Torus n seed most = lattice-fits seed n (omega arith)
 points-fit Holes n seed most = lattice-fits seed (n + 1) (omega arith)
@@ -151,8 +151,8 @@ points-fit Fans n seed most =
     (λ m b. position-fits m (cond (eqb m 0) 0 1) (draw seed m) (omega (arith, b, square n most)) (away-small (eqb m 0)) (omega (arith, draw-small seed m)))
     (range_with_len 0 many) (All-range many))
 points-fit Seams n seed most =
-    All-flat_map (λ c. (c.0 < n) × (c.1 < n)) (RowFits (position_head ∷ label_head ∷ [])) (λ c. patch (draw seed (number_of n c)) c)
-    (λ c b. patches-fit (draw seed (number_of n c)) c (omega (arith, b.0)) (omega (arith, b.1)))
+    All-flat_map (λ c. (c.0 < n) × (c.1 < n)) (RowFits (position_head ∷ label_head ∷ [])) (λ c. patch (draw seed (pair_number n c)) c)
+    (λ c b. patches-fit (draw seed (pair_number n c)) c (omega (arith, b.0)) (omega (arith, b.1)))
     (pairs n) (pairs-below n)
 
 -- faces of points
@@ -168,10 +168,10 @@ triangles-of many a b c d ha hb hc hd =
     (All-cons Face (a ∷ d ∷ c ∷ []) [] (face-of many a d c ha hd hc) (All-nil Face))
 
 -- numbers of points
-number-below : (side i j : ℕ) → i < side → j < side → number_of side (i, j) < side * side
+number-below : (side i j : ℕ) → i < side → j < side → pair_number side (i, j) < side * side
 number-below side i j hi hj = omega (arith, mul-add-lt j side i side hj hi)
 
-cell-of : (n : ℕ) (c : ℕ × ℕ) → c.0 < n → c.1 < n → All (IsFaceOf ((n + 1) * (n + 1))) (cell_faces (number_of (n + 1)) c)
+cell-of : (n : ℕ) (c : ℕ × ℕ) → c.0 < n → c.1 < n → All (IsFaceOf ((n + 1) * (n + 1))) (cell_faces (pair_number (n + 1)) c)
 cell-of n (i, j) hi hj =
     triangles-of ((n + 1) * (n + 1)) _ _ _ _
     (number-below (n + 1) i j (omega arith) (omega arith))
@@ -191,17 +191,17 @@ All-unless : (Q : List ℕ → Type 0) (b : Bool) (xs : List (List ℕ)) → All
 All-unless Q true xs all = All-nil Q
 All-unless Q false xs all = all
 
-faces-fit : (kind : GenKind) (n : ℕ) → 3 ≤ n → All (IsFaceOf (point_count kind n)) (faces_of kind n)
-unfolding faces_of
+faces-fit : (kind : GenKind) (n : ℕ) → 3 ≤ n → All (IsFaceOf (generated_point_count kind n)) (generated_faces kind n)
+unfolding generated_faces
 faces-fit Grid n least =
-    All-flat_map (λ c. (c.0 < n) × (c.1 < n)) (IsFaceOf ((n + 1) * (n + 1))) (cell_faces (number_of (n + 1)))
+    All-flat_map (λ c. (c.0 < n) × (c.1 < n)) (IsFaceOf ((n + 1) * (n + 1))) (cell_faces (pair_number (n + 1)))
     (λ c b. cell-of n c b.0 b.1) (pairs n) (pairs-below n)
 faces-fit Torus n least =
     All-flat_map (λ c. (c.0 < n) × (c.1 < n)) (IsFaceOf (n * n)) (cell_faces (closed_number_of n))
     (λ c b. closed-cell-of n c (omega arith)) (pairs n) (pairs-below n)
 faces-fit Holes n least =
     All-flat_map (λ c. (c.0 < n) × (c.1 < n)) (IsFaceOf ((n + 1) * (n + 1))) (faces_but_holes n)
-    (λ c b. All-unless (IsFaceOf ((n + 1) * (n + 1))) (is_hole n c) (cell_faces (number_of (n + 1)) c) (cell-of n c b.0 b.1))
+    (λ c b. All-unless (IsFaceOf ((n + 1) * (n + 1))) (is_hole n c) (cell_faces (pair_number (n + 1)) c) (cell-of n c b.0 b.1))
     (pairs n) (pairs-below n)
 faces-fit Fans n least =
     let many = 2 * (n * n) + 1 in
@@ -210,9 +210,9 @@ faces-fit Fans n least =
     (λ k b. face-of many 0 (2 * k + 1) (2 * k + 2) (omega arith) (omega (arith, b)) (omega (arith, b)))
     (range_with_len 0 (n * n)) (All-range (n * n)))
 faces-fit Seams n least =
-    All-flat_map (λ c. (c.0 < n) × (c.1 < n)) (IsFaceOf (4 * (n * n))) (λ c. patch_faces (number_of n c))
+    All-flat_map (λ c. (c.0 < n) × (c.1 < n)) (IsFaceOf (4 * (n * n))) (λ c. patch_faces (pair_number n c))
     (λ c b.
-    let k = number_of n c in
+    let k = pair_number n c in
     let inside : k < n * n = number-below n c.0 c.1 b.0 b.1 in
     triangles-of (4 * (n * n)) (4 * k) (4 * k + 1) (4 * k + 2) (4 * k + 3) (omega (arith, inside)) (omega (arith, inside)) (omega (arith, inside)) (omega (arith, inside)))
     (pairs n) (pairs-below n)
@@ -223,17 +223,17 @@ few-values many width few thin = omega (arith, mul-le many width 1048576 4 few t
 -- each kind at each size is a mesh
 pub generated-mesh : GeneratedIsMesh
 generated-mesh kind n seed size =
-    let many : length (points_of kind n seed) ≡ point_count kind n = length-points kind n seed in
-    let few : length (points_of kind n seed) ≤ 1048576 = omega (arith, many, few-points kind n size.1) in
+    let many : length (generated_points kind n seed) ≡ generated_point_count kind n = length-points kind n seed in
+    let few : length (generated_points kind n seed) ≤ 1048576 = omega (arith, many, few-points kind n size.1) in
     record {
       points = record {
         heads_pass = heads-pass kind;
         few_points = omega (arith, few);
-        few_values = omega (arith, few-values (length (points_of kind n seed)) (width_of (heads_of kind)) few (narrow kind));
+        few_values = omega (arith, few-values (length (generated_points kind n seed)) (width_of (generated_heads kind)) few (narrow kind));
         rows_fit = points-fit kind n seed size.1;
       };
       few_faces = omega (arith, few-faces kind n size.1);
-      faces = subst (λ m. All (IsFaceOf m) (faces_of kind n)) (sym many) (faces-fit kind n size.0);
+      faces = subst (λ m. All (IsFaceOf m) (generated_faces kind n)) (sym many) (faces-fit kind n size.0);
     }
 
 -- a value without a fault
@@ -262,9 +262,9 @@ made m is =
       mesh = v.1;
     }
 
-pub generated-made : (kind : GenKind) (n seed : ℕ) (heads : List Head) (cells : List ℤ) (faces : List (List ℕ)) → IsSize n → heads ≡ heads_of kind → cells ≡ cells_of (points_of kind n seed) → faces ≡ faces_of kind n → IsMade heads cells faces (generated kind n seed)
+pub generated-made : (kind : GenKind) (n seed : ℕ) (heads : List Head) (cells : List ℤ) (faces : List (List ℕ)) → IsSize n → heads ≡ generated_heads kind → cells ≡ cells_of (generated_points kind n seed) → faces ≡ generated_faces kind n → IsMade heads cells faces (generated kind n seed)
 generated-made kind n seed heads cells faces size hs ps fs =
     let m = generated kind n seed in
     subst (λ h. IsMade h cells faces m) (sym hs)
-    (subst (λ p. IsMade (heads_of kind) p faces m) (sym ps)
-    (subst (λ f. IsMade (heads_of kind) (cells_of (points_of kind n seed)) f m) (sym fs) (made m (generated-mesh kind n seed size))))
+    (subst (λ p. IsMade (generated_heads kind) p faces m) (sym ps)
+    (subst (λ f. IsMade (generated_heads kind) (cells_of (generated_points kind n seed)) f m) (sym fs) (made m (generated-mesh kind n seed size))))

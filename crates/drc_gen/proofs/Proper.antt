@@ -11,15 +11,15 @@ use Rattle.std.proofs.lemmas.Nat.{mul-le, mul-add-lt, mod_below, div-mul-add, mo
 use Rattle.drc_gen.specs.declared.kinds.GenKind.{GenKind}
 use Rattle.drc_gen.specs.declared.kinds.GenKind.TheVariants.{Grid, Torus, Holes, Fans, Seams}
 use Rattle.drc_gen.specs.Draws.{draw}
-use Rattle.drc_gen.specs.Lattice.{pairs, number_of, closed_number_of}
-use Rattle.drc_gen.specs.Generated.{lattice_point, lattice_points, fan_point, patch_point, patch, points_of, triangles, cell_faces, is_hole, faces_but_holes, fan_face, patch_faces, faces_of}
+use Rattle.drc_gen.specs.Lattice.{pairs, pair_number, closed_number_of}
+use Rattle.drc_gen.specs.Generated.{lattice_point, lattice_points, fan_point, patch_point, patch, generated_points, triangles, cell_faces, is_hole, faces_but_holes, fan_face, patch_faces, generated_faces}
 use Rattle.drc_gen.specs.GeneratedLaws.{FacesAreSome, FacesAreProper, IsSmall, ValuesAreSmall}
 use Rattle.drc_gen.proofs.Lists.{length-pieces, All-flat_map, All-range}
 use Rattle.drc_gen.proofs.Walks.{length-pairs, get_or-pairs, pairs-below, draw-small}
 use Rattle.drc_gen.proofs.Meshes.{length-faces}
 
 -- the pair of a number
-pair-of : (n i j : ℕ) → i < n → j < n → get_or (pairs n) (number_of n (i, j)) (0, 0) ≡ (i, j)
+pair-of : (n i j : ℕ) → i < n → j < n → get_or (pairs n) (pair_number n (i, j)) (0, 0) ≡ (i, j)
 pair-of n i j hi hj =
     get_or-pairs n (j * n + i) (omega (arith, mul-add-lt j n i n hj hi))
     ∙ ap (λ a. (a, (j * n + i) / n)) (mod-mul-add j n i hi)
@@ -40,7 +40,7 @@ holes-some : (n : ℕ) → 0 < length (faces_but_holes n (0, 0))
 holes-some n = omega arith
 
 pub some-faces : FacesAreSome
-unfolding faces_of
+unfolding generated_faces
 some-faces Grid n size = omega (arith, square-some n size.0, length-faces Grid n)
 some-faces Torus n size = omega (arith, square-some n size.0, length-faces Torus n)
 some-faces Holes n size =
@@ -81,17 +81,17 @@ triangles-apart points a b c d x y u v A B C D dx dy =
     (All-nil (StandApart points)))
 
 -- the points of a lattice
-lattice-stands : (seed side i j : ℕ) → i < side → j < side → StandsAt (lattice_points seed side) (number_of side (i, j)) i j
+lattice-stands : (seed side i j : ℕ) → i < side → j < side → StandsAt (lattice_points seed side) (pair_number side (i, j)) i j
 lattice-stands seed side i j hi hj =
-    let point : ℕ × ℕ → List ℤ = λ c. lattice_point (draw seed (number_of side c)) c in
-    let k = number_of side (i, j) in
+    let point : ℕ × ℕ → List ℤ = λ c. lattice_point (draw seed (pair_number side c)) c in
+    let k = pair_number side (i, j) in
     let inside : k < length (pairs side) = omega (arith, length-pairs side, mul-add-lt j side i side hj hi) in
-    (pos (draw seed (number_of side (i, j))), ap (take 3) (get_or-map point (pairs side) k (0, 0) [] inside ∙ ap point (pair-of side i j hi hj)))
+    (pos (draw seed (pair_number side (i, j))), ap (take 3) (get_or-map point (pairs side) k (0, 0) [] inside ∙ ap point (pair-of side i j hi hj)))
 
 more : (i : ℕ) → i ≢ i + 1
 more i = λ e. omega arith
 
-cell-apart : (seed n : ℕ) (c : ℕ × ℕ) → c.0 < n → c.1 < n → All (StandApart (lattice_points seed (n + 1))) (cell_faces (number_of (n + 1)) c)
+cell-apart : (seed n : ℕ) (c : ℕ × ℕ) → c.0 < n → c.1 < n → All (StandApart (lattice_points seed (n + 1))) (cell_faces (pair_number (n + 1)) c)
 cell-apart seed n (i, j) hi hj =
     triangles-apart (lattice_points seed (n + 1)) _ _ _ _ i j (i + 1) (j + 1)
     (lattice-stands seed (n + 1) i j (omega arith) (omega arith))
@@ -143,10 +143,10 @@ fan-face-apart seed many k below =
 
 -- the points of patches: point t of the patch of cell c
 patch-point-at : (seed n i j t : ℕ) → i < n → j < n → t < 4 →
-    get_or (flat_map (λ c. patch (draw seed (number_of n c)) c) (pairs n)) (4 * number_of n (i, j) + t) [] ≡ get_or (patch (draw seed (number_of n (i, j))) (i, j)) t []
+    get_or (flat_map (λ c. patch (draw seed (pair_number n c)) c) (pairs n)) (4 * pair_number n (i, j) + t) [] ≡ get_or (patch (draw seed (pair_number n (i, j))) (i, j)) t []
 patch-point-at seed n i j t hi hj ht =
-    let points : ℕ × ℕ → List (List ℤ) = λ c. patch (draw seed (number_of n c)) c in
-    let k = number_of n (i, j) in
+    let points : ℕ × ℕ → List (List ℤ) = λ c. patch (draw seed (pair_number n c)) c in
+    let k = pair_number n (i, j) in
     let inside : k < length (pairs n) = omega (arith, length-pairs n, mul-add-lt j n i n hj hi) in
     let front : length (flat_map points (take k (pairs n))) ≡ k * 4 =
     length-pieces points 4 (λ c. refl) (take k (pairs n)) ∙ ap (λ m. m * 4) (omega (arith, inside, length-take k (pairs n))) in
@@ -155,10 +155,10 @@ patch-point-at seed n i j t hi hj ht =
     ∙ get_or-flat_map points (pairs n) k t (0, 0) [] inside ht
     ∙ ap (λ c. get_or (points c) t []) (pair-of n i j hi hj)
 
-patch-apart : (seed n : ℕ) (c : ℕ × ℕ) → c.0 < n → c.1 < n → All (StandApart (flat_map (λ c. patch (draw seed (number_of n c)) c) (pairs n))) (patch_faces (number_of n c))
+patch-apart : (seed n : ℕ) (c : ℕ × ℕ) → c.0 < n → c.1 < n → All (StandApart (flat_map (λ c. patch (draw seed (pair_number n c)) c) (pairs n))) (patch_faces (pair_number n c))
 patch-apart seed n (i, j) hi hj =
-    let points = flat_map (λ c. patch (draw seed (number_of n c)) c) (pairs n) in
-    let k = number_of n (i, j) in
+    let points = flat_map (λ c. patch (draw seed (pair_number n c)) c) (pairs n) in
+    let k = pair_number n (i, j) in
     let at : 4 * k ≡ 4 * k + 0 = omega arith in
     triangles-apart points (4 * k) (4 * k + 1) (4 * k + 2) (4 * k + 3) i j (i + 1) (j + 1)
     (pos 0, ap (take 3) (ap (λ p. get_or points p []) at ∙ patch-point-at seed n i j 0 hi hj (omega arith)))
@@ -168,17 +168,17 @@ patch-apart seed n (i, j) hi hj =
     (more i) (more j)
 
 -- the corners of each face stand apart
-faces-apart : (kind : GenKind) (n seed : ℕ) → 3 ≤ n → All (StandApart (points_of kind n seed)) (faces_of kind n)
-unfolding points_of faces_of
+faces-apart : (kind : GenKind) (n seed : ℕ) → 3 ≤ n → All (StandApart (generated_points kind n seed)) (generated_faces kind n)
+unfolding generated_points generated_faces
 faces-apart Grid n seed least =
-    All-flat_map (λ c. (c.0 < n) × (c.1 < n)) (StandApart (lattice_points seed (n + 1))) (cell_faces (number_of (n + 1)))
+    All-flat_map (λ c. (c.0 < n) × (c.1 < n)) (StandApart (lattice_points seed (n + 1))) (cell_faces (pair_number (n + 1)))
     (λ c b. cell-apart seed n c b.0 b.1) (pairs n) (pairs-below n)
 faces-apart Torus n seed least =
     All-flat_map (λ c. (c.0 < n) × (c.1 < n)) (StandApart (lattice_points seed n)) (cell_faces (closed_number_of n))
     (λ c b. closed-cell-apart seed n c least b.0 b.1) (pairs n) (pairs-below n)
 faces-apart Holes n seed least =
     All-flat_map (λ c. (c.0 < n) × (c.1 < n)) (StandApart (lattice_points seed (n + 1))) (faces_but_holes n)
-    (λ c b. apart-unless (lattice_points seed (n + 1)) (is_hole n c) (cell_faces (number_of (n + 1)) c) (cell-apart seed n c b.0 b.1))
+    (λ c b. apart-unless (lattice_points seed (n + 1)) (is_hole n c) (cell_faces (pair_number (n + 1)) c) (cell-apart seed n c b.0 b.1))
     (pairs n) (pairs-below n)
 faces-apart Fans n seed least =
     let many = 2 * (n * n) + 1 in
@@ -187,12 +187,12 @@ faces-apart Fans n seed least =
     (All-weaker (λ k. k < n * n) (λ k. StandApart points (fan_face k)) (λ k b. fan-face-apart seed many k (omega (arith, b)))
     (range_with_len 0 (n * n)) (All-range (n * n)))
 faces-apart Seams n seed least =
-    All-flat_map (λ c. (c.0 < n) × (c.1 < n)) (StandApart (flat_map (λ c. patch (draw seed (number_of n c)) c) (pairs n)))
-    (λ c. patch_faces (number_of n c)) (λ c b. patch-apart seed n c b.0 b.1) (pairs n) (pairs-below n)
+    All-flat_map (λ c. (c.0 < n) × (c.1 < n)) (StandApart (flat_map (λ c. patch (draw seed (pair_number n c)) c) (pairs n)))
+    (λ c. patch_faces (pair_number n c)) (λ c b. patch-apart seed n c b.0 b.1) (pairs n) (pairs-below n)
 
 pub proper-faces : FacesAreProper
 proper-faces kind n seed f size below =
-    All-get_or (StandApart (points_of kind n seed)) (faces_of kind n) f [] below (faces-apart kind n seed size.0)
+    All-get_or (StandApart (generated_points kind n seed)) (generated_faces kind n) f [] below (faces-apart kind n seed size.0)
 
 -- small integers
 small : (x : ℕ) → x < 2 ^ 20 → IsSmall (pos x)
@@ -223,10 +223,10 @@ patch-small drawn (i, j) hi hj =
 
 lattice-small : (seed side : ℕ) → side ≤ 513 → All (λ row. All IsSmall row) (lattice_points seed side)
 lattice-small seed side most =
-    let point : ℕ × ℕ → List ℤ = λ c. lattice_point (draw seed (number_of side c)) c in
+    let point : ℕ × ℕ → List ℤ = λ c. lattice_point (draw seed (pair_number side c)) c in
     All-map (λ row. All IsSmall row) point (pairs side)
     (All-weaker (λ c. (c.0 < side) × (c.1 < side)) (λ c. All IsSmall (point c))
-    (λ c b. row-small c.0 c.1 (draw seed (number_of side c)) (omega (arith, b.0)) (omega (arith, b.1)) (omega (arith, draw-small seed (number_of side c))))
+    (λ c b. row-small c.0 c.1 (draw seed (pair_number side c)) (omega (arith, b.0)) (omega (arith, b.1)) (omega (arith, draw-small seed (pair_number side c))))
     (pairs side) (pairs-below side))
 
 away-low : (b : Bool) → cond b 0 1 < 2 ^ 20
@@ -234,7 +234,7 @@ away-low true = omega arith
 away-low false = omega arith
 
 pub small-values : ValuesAreSmall
-unfolding points_of
+unfolding generated_points
 small-values Grid n seed size = lattice-small seed (n + 1) (let most = size.1 in omega arith)
 small-values Torus n seed size = lattice-small seed n (let most = size.1 in omega arith)
 small-values Holes n seed size = lattice-small seed (n + 1) (let most = size.1 in omega arith)
@@ -246,6 +246,6 @@ small-values Fans n seed size =
     (λ m b. row-small m (cond (eqb m 0) 0 1) (draw seed m) (omega (arith, b, mul-le n n 512 512 size.1 size.1)) (away-low (eqb m 0)) (omega (arith, draw-small seed m)))
     (range_with_len 0 many) (All-range many))
 small-values Seams n seed size =
-    All-flat_map (λ c. (c.0 < n) × (c.1 < n)) (λ row. All IsSmall row) (λ c. patch (draw seed (number_of n c)) c)
-    (λ c b. patch-small (draw seed (number_of n c)) c (omega (arith, b.0, size.1)) (omega (arith, b.1, size.1)))
+    All-flat_map (λ c. (c.0 < n) × (c.1 < n)) (λ row. All IsSmall row) (λ c. patch (draw seed (pair_number n c)) c)
+    (λ c b. patch-small (draw seed (pair_number n c)) c (omega (arith, b.0, size.1)) (omega (arith, b.1, size.1)))
     (pairs n) (pairs-below n)

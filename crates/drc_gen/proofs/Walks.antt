@@ -12,9 +12,9 @@ use Rattle.mesh_model.specs.Parts.{cells_of}
 use Rattle.drc_gen.specs.declared.kinds.GenKind.{GenKind}
 use Rattle.drc_gen.specs.declared.kinds.GenKind.TheVariants.{Grid, Torus, Holes, Fans, Seams}
 use Rattle.drc_gen.specs.Draws.{draw, state_after, state_behind}
-use Rattle.drc_gen.specs.Lattice.{pairs, pair_at, number_of, closed_number_of}
-use Rattle.drc_gen.specs.Generated.{lattice_point, lattice_points, fan_point, patch, points_of, cell_faces, faces_but_holes, fan_face, patch_faces, faces_of}
-use Rattle.drc_gen.specs.Turns.{draw_count, points_at, faces_at}
+use Rattle.drc_gen.specs.Lattice.{pairs, pair_at, pair_number, closed_number_of}
+use Rattle.drc_gen.specs.Generated.{lattice_point, lattice_points, fan_point, patch, generated_points, cell_faces, faces_but_holes, fan_face, patch_faces, generated_faces}
+use Rattle.drc_gen.specs.Turns.{draw_count, points_at, lattice_faces}
 use Rattle.drc_gen.proofs.Lists.{flat_map-more, cells_of-flat_map, length-pieces, All-range}
 
 -- row j of the pairs
@@ -66,17 +66,17 @@ pieces-walk f n = ap (flat_map f) (pairs-walk n) ∙ flat_map-map f (pair_at n) 
 
 lattice-walk : (seed side : ℕ) → cells_of (lattice_points seed side) ≡ flat_map (λ k. lattice_point (draw seed k) (pair_at side k)) (range_with_len 0 (side * side))
 lattice-walk seed side =
-    let point : ℕ × ℕ → List ℤ = λ c. lattice_point (draw seed (number_of side c)) c in
+    let point : ℕ × ℕ → List ℤ = λ c. lattice_point (draw seed (pair_number side c)) c in
     flat_map-map (λ row. row) point (pairs side) ∙ pieces-walk point side ∙ simp div-add-mod'
 
-patches-walk : (seed n : ℕ) → cells_of (flat_map (λ c. patch (draw seed (number_of n c)) c) (pairs n)) ≡ flat_map (λ k. cells_of (patch (draw seed k) (pair_at n k))) (range_with_len 0 (n * n))
+patches-walk : (seed n : ℕ) → cells_of (flat_map (λ c. patch (draw seed (pair_number n c)) c) (pairs n)) ≡ flat_map (λ k. cells_of (patch (draw seed k) (pair_at n k))) (range_with_len 0 (n * n))
 patches-walk seed n =
-    let points : ℕ × ℕ → List (List ℤ) = λ c. patch (draw seed (number_of n c)) c in
+    let points : ℕ × ℕ → List (List ℤ) = λ c. patch (draw seed (pair_number n c)) c in
     cells_of-flat_map points (pairs n) ∙ pieces-walk (λ c. cells_of (points c)) n ∙ simp div-add-mod'
 
 -- the points of each kind, turn after turn
-pub points-walk : (kind : GenKind) (n seed : ℕ) → cells_of (points_of kind n seed) ≡ flat_map (λ k. cells_of (points_at kind n k (draw seed k))) (range_with_len 0 (draw_count kind n))
-unfolding points_of
+pub points-walk : (kind : GenKind) (n seed : ℕ) → cells_of (generated_points kind n seed) ≡ flat_map (λ k. cells_of (points_at kind n k (draw seed k))) (range_with_len 0 (draw_count kind n))
+unfolding generated_points
 points-walk Grid n seed = lattice-walk seed (n + 1)
 points-walk Torus n seed = lattice-walk seed n
 points-walk Holes n seed = lattice-walk seed (n + 1)
@@ -84,13 +84,13 @@ points-walk Fans n seed = flat_map-map (λ row. row) (λ m. fan_point (draw seed
 points-walk Seams n seed = patches-walk seed n
 
 -- the faces of each kind, turn after turn
-pub faces-walk : (kind : GenKind) (n : ℕ) → faces_of kind n ≡ flat_map (faces_at kind n) (range_with_len 0 (n * n))
-unfolding faces_of
-faces-walk Grid n = pieces-walk (cell_faces (number_of (n + 1))) n
+pub faces-walk : (kind : GenKind) (n : ℕ) → generated_faces kind n ≡ flat_map (lattice_faces kind n) (range_with_len 0 (n * n))
+unfolding generated_faces
+faces-walk Grid n = pieces-walk (cell_faces (pair_number (n + 1))) n
 faces-walk Torus n = pieces-walk (cell_faces (closed_number_of n)) n
 faces-walk Holes n = pieces-walk (faces_but_holes n) n
 faces-walk Fans n = sym (flat_map_single fan_face (range_with_len 0 (n * n)))
-faces-walk Seams n = pieces-walk (λ c. patch_faces (number_of n c)) n ∙ simp div-add-mod'
+faces-walk Seams n = pieces-walk (λ c. patch_faces (pair_number n c)) n ∙ simp div-add-mod'
 
 -- one more draw
 pub state-more : (seed k before after : ℕ) → before ≡ state_after seed k → after ≡ state_behind before → after ≡ state_after seed (k + 1)
@@ -115,16 +115,16 @@ cells-more kind n seed k before after drawn old new pushed made is next value =
     ∙ sym (flat_map-more turn k)
 
 -- all points
-pub cells-all : (kind : GenKind) (n seed k turns : ℕ) (cells : List ℤ) → cells ≡ flat_map (λ k. cells_of (points_at kind n k (draw seed k))) (range_with_len 0 k) → k ≡ turns → turns ≡ draw_count kind n → cells ≡ cells_of (points_of kind n seed)
+pub cells-all : (kind : GenKind) (n seed k turns : ℕ) (cells : List ℤ) → cells ≡ flat_map (λ k. cells_of (points_at kind n k (draw seed k))) (range_with_len 0 k) → k ≡ turns → turns ≡ draw_count kind n → cells ≡ cells_of (generated_points kind n seed)
 cells-all kind n seed k turns cells made at count =
     made
     ∙ ap (λ m. flat_map (λ k. cells_of (points_at kind n k (draw seed k))) (range_with_len 0 m)) (at ∙ count)
     ∙ sym (points-walk kind n seed)
 
 -- the faces of the cells so far, and those of one more
-pub faces-more : (kind : GenKind) (n k : ℕ) (old new : List (List ℕ)) → new ≡ old ++ faces_at kind n k → old ≡ flat_map (faces_at kind n) (range_with_len 0 k) → new ≡ flat_map (faces_at kind n) (range_with_len 0 (k + 1))
-faces-more kind n k old new pushed made = pushed ∙ ap (λ xs. xs ++ faces_at kind n k) made ∙ sym (flat_map-more (faces_at kind n) k)
+pub faces-more : (kind : GenKind) (n k : ℕ) (old new : List (List ℕ)) → new ≡ old ++ lattice_faces kind n k → old ≡ flat_map (lattice_faces kind n) (range_with_len 0 k) → new ≡ flat_map (lattice_faces kind n) (range_with_len 0 (k + 1))
+faces-more kind n k old new pushed made = pushed ∙ ap (λ xs. xs ++ lattice_faces kind n k) made ∙ sym (flat_map-more (lattice_faces kind n) k)
 
 -- all faces
-pub faces-all : (kind : GenKind) (n k : ℕ) (faces : List (List ℕ)) → faces ≡ flat_map (faces_at kind n) (range_with_len 0 k) → k ≡ n * n → faces ≡ faces_of kind n
-faces-all kind n k faces made at = made ∙ ap (λ m. flat_map (faces_at kind n) (range_with_len 0 m)) at ∙ sym (faces-walk kind n)
+pub faces-all : (kind : GenKind) (n k : ℕ) (faces : List (List ℕ)) → faces ≡ flat_map (lattice_faces kind n) (range_with_len 0 k) → k ≡ n * n → faces ≡ generated_faces kind n
+faces-all kind n k faces made at = made ∙ ap (λ m. flat_map (lattice_faces kind n) (range_with_len 0 m)) at ∙ sym (faces-walk kind n)

@@ -7,7 +7,7 @@ use Rattle.mesh_model.specs.Parts.{MeshParts}
 use Rattle.drc_gen.specs.declared.kinds.GenKind.{GenKind}
 use Rattle.drc_gen.specs.declared.kinds.GenKind.TheVariants.{Grid, Torus, Holes, Fans, Seams}
 use Rattle.drc_gen.specs.Draws.{draw}
-use Rattle.drc_gen.specs.Lattice.{pairs, number_of, closed_number_of}
+use Rattle.drc_gen.specs.Lattice.{pairs, pair_number, closed_number_of}
 
 -- the head of positions: three int32
 abbrev pub position_head : Head
@@ -18,9 +18,9 @@ abbrev pub label_head : Head
 label_head = record { usage = 4; dtype = 2; comps = 1; normalized = 0; id = 1; quant = None }
 
 -- the heads of each kind
-abbrev pub heads_of : GenKind → List Head
-heads_of Seams = position_head ∷ label_head ∷ []
-heads_of _ = position_head ∷ []
+abbrev pub generated_heads : GenKind → List Head
+generated_heads Seams = position_head ∷ label_head ∷ []
+generated_heads _ = position_head ∷ []
 
 -- a point of a lattice at a height
 abbrev pub lattice_point : ℕ → ℕ × ℕ → List ℤ
@@ -28,7 +28,7 @@ lattice_point height (i, j) = pos i ∷ pos j ∷ pos height ∷ []
 
 -- the points of a lattice of `side` points each way: the height of each is the draw of its number
 abbrev pub lattice_points : ℕ → ℕ → List (List ℤ)
-lattice_points seed side = map (λ c. lattice_point (draw seed (number_of side c)) c) (pairs side)
+lattice_points seed side = map (λ c. lattice_point (draw seed (pair_number side c)) c) (pairs side)
 
 -- point m of a fan at a height
 abbrev pub fan_point : ℕ → ℕ → List ℤ
@@ -45,12 +45,12 @@ patch drawn (i, j) =
     patch_point label (i, j) ∷ patch_point label (i + 1, j) ∷ patch_point label (i, j + 1) ∷ patch_point label (i + 1, j + 1) ∷ []
 
 -- the points of each kind
-unfoldable pub points_of : GenKind → ℕ → ℕ → List (List ℤ)
-points_of Grid n seed = lattice_points seed (n + 1)
-points_of Torus n seed = lattice_points seed n
-points_of Holes n seed = lattice_points seed (n + 1)
-points_of Fans n seed = map (λ m. fan_point (draw seed m) m) (range_with_len 0 (2 * (n * n) + 1))
-points_of Seams n seed = flat_map (λ c. patch (draw seed (number_of n c)) c) (pairs n)
+unfoldable pub generated_points : GenKind → ℕ → ℕ → List (List ℤ)
+generated_points Grid n seed = lattice_points seed (n + 1)
+generated_points Torus n seed = lattice_points seed n
+generated_points Holes n seed = lattice_points seed (n + 1)
+generated_points Fans n seed = map (λ m. fan_point (draw seed m) m) (range_with_len 0 (2 * (n * n) + 1))
+generated_points Seams n seed = flat_map (λ c. patch (draw seed (pair_number n c)) c) (pairs n)
 
 -- the faces of a cell with these corners
 abbrev pub triangles : ℕ → ℕ → ℕ → ℕ → List (List ℕ)
@@ -66,7 +66,7 @@ is_hole n (i, j) = (i % 2 == 1) && (j % 2 == 1) && nat_lt i (n - 1) && nat_lt j 
 
 -- the faces of a cell, or none
 abbrev pub faces_but_holes : ℕ → ℕ × ℕ → List (List ℕ)
-faces_but_holes n c = if is_hole n c then [] else cell_faces (number_of (n + 1)) c
+faces_but_holes n c = if is_hole n c then [] else cell_faces (pair_number (n + 1)) c
 
 -- face k of a fan round point 0
 abbrev pub fan_face : ℕ → List ℕ
@@ -77,13 +77,13 @@ abbrev pub patch_faces : ℕ → List (List ℕ)
 patch_faces k = triangles (4 * k) (4 * k + 1) (4 * k + 2) (4 * k + 3)
 
 -- the faces of each kind
-unfoldable pub faces_of : GenKind → ℕ → List (List ℕ)
-faces_of Grid n = flat_map (cell_faces (number_of (n + 1))) (pairs n)
-faces_of Torus n = flat_map (cell_faces (closed_number_of n)) (pairs n)
-faces_of Holes n = flat_map (faces_but_holes n) (pairs n)
-faces_of Fans n = map fan_face (range_with_len 0 (n * n))
-faces_of Seams n = flat_map (λ c. patch_faces (number_of n c)) (pairs n)
+unfoldable pub generated_faces : GenKind → ℕ → List (List ℕ)
+generated_faces Grid n = flat_map (cell_faces (pair_number (n + 1))) (pairs n)
+generated_faces Torus n = flat_map (cell_faces (closed_number_of n)) (pairs n)
+generated_faces Holes n = flat_map (faces_but_holes n) (pairs n)
+generated_faces Fans n = map fan_face (range_with_len 0 (n * n))
+generated_faces Seams n = flat_map (λ c. patch_faces (pair_number n c)) (pairs n)
 
 -- the mesh of a kind, a size and a seed
 abbrev pub generated : GenKind → ℕ → ℕ → MeshParts
-generated kind n seed = record { heads = heads_of kind; points = points_of kind n seed; faces = faces_of kind n }
+generated kind n seed = record { heads = generated_heads kind; points = generated_points kind n seed; faces = generated_faces kind n }

@@ -2,7 +2,7 @@
 use Rattle.std.specs.Prelude.{ℕ, ◌+◌, ◌*◌, ℤ, List, [], ◌∷◌}
 use Rattle.drc_gen.specs.declared.kinds.GenKind.{GenKind}
 use Rattle.drc_gen.specs.declared.kinds.GenKind.TheVariants.{Grid, Torus, Holes, Fans, Seams}
-use Rattle.drc_gen.specs.Lattice.{pair_at, number_of, closed_number_of}
+use Rattle.drc_gen.specs.Lattice.{pair_at, pair_number, closed_number_of}
 use Rattle.drc_gen.specs.Generated.{lattice_point, fan_point, patch, cell_faces, faces_but_holes, fan_face, patch_faces}
 
 -- how many draws the points of each kind take
@@ -22,9 +22,9 @@ points_at Fans n k drawn = fan_point drawn k ∷ []
 points_at Seams n k drawn = patch drawn (pair_at n k)
 
 -- the faces of cell k of n * n
-abbrev pub faces_at : GenKind → ℕ → ℕ → List (List ℕ)
-faces_at Grid n k = cell_faces (number_of (n + 1)) (pair_at n k)
-faces_at Torus n k = cell_faces (closed_number_of n) (pair_at n k)
-faces_at Holes n k = faces_but_holes n (pair_at n k)
-faces_at Fans n k = fan_face k ∷ []
-faces_at Seams n k = patch_faces k
+abbrev pub lattice_faces : GenKind → ℕ → ℕ → List (List ℕ)
+lattice_faces Grid n k = cell_faces (pair_number (n + 1)) (pair_at n k)
+lattice_faces Torus n k = cell_faces (closed_number_of n) (pair_at n k)
+lattice_faces Holes n k = faces_but_holes n (pair_at n k)
+lattice_faces Fans n k = fan_face k ∷ []
+lattice_faces Seams n k = patch_faces k

@@ -1,10 +1,10 @@
 //! The faces of generated meshes: the walk goes over n * n cells, cell k is (k mod n, k div n).
 
 ghost use Rattle.std.specs.Prelude.{◌≡◌, ◌+◌, ◌*◌, ◌^◌, ◌<◌, ◌++◌, ◌∷◌, [], IfOk, OnOk};
-ghost use Rattle.drc_gen.specs.Generated.{triangles, cell_faces, is_hole, faces_but_holes, fan_face, patch_faces, faces_of};
+ghost use Rattle.drc_gen.specs.Generated.{triangles, cell_faces, is_hole, faces_but_holes, fan_face, patch_faces, generated_faces};
 ghost use Rattle.drc_gen.specs.GeneratedLaws.{IsSize};
-ghost use Rattle.drc_gen.specs.Lattice.{number_of, closed_number_of, pair_at};
-ghost use Rattle.drc_gen.specs.Turns.{faces_at};
+ghost use Rattle.drc_gen.specs.Lattice.{pair_number, closed_number_of, pair_at};
+ghost use Rattle.drc_gen.specs.Turns.{lattice_faces};
 
 use crate::kinds::GenKind;
 use drc_base::Memory;
@@ -22,7 +22,7 @@ fn put_triangles(faces: &mut Vec<[u32; 3]>, a: u32, b: u32, c: u32, d: u32) -> R
 /// The number of point (i, j) where `side` points stand in a row.
 fn point_number(side: u32, i: u32, j: u32) -> u32
     requires { (side < 1024) × (i < 1024) × (j < 1024) }
-    ensures { result ≡ number_of side (i, j) }
+    ensures { result ≡ pair_number side (i, j) }
 {
     j * side + i
 }
@@ -30,7 +30,7 @@ fn point_number(side: u32, i: u32, j: u32) -> u32
 /// Appends the faces of cell (i, j) of a grid of `size` cells each way.
 fn put_cell(faces: &mut Vec<[u32; 3]>, size: u32, i: u32, j: u32) -> Result<(), Memory>
     requires { (size < 1000) × (i < 1000) × (j < 1000) }
-    ensures { OnOk result (faces.new.items ≡ faces.old.items ++ cell_faces (number_of (size + 1)) (i, j)) }
+    ensures { OnOk result (faces.new.items ≡ faces.old.items ++ cell_faces (pair_number (size + 1)) (i, j)) }
 {
     let side = size + 1;
     put_triangles(
@@ -101,7 +101,7 @@ fn put_patch_faces(faces: &mut Vec<[u32; 3]>, k: u32) -> Result<(), Memory>
 fn put_faces(faces: &mut Vec<[u32; 3]>, kind: GenKind, size: u32, k: u32) -> Result<(), Memory>
     requires size { IsSize size }
     requires k { k < size * size }
-    ensures { OnOk result (faces.new.items ≡ faces.old.items ++ faces_at kind size k) }
+    ensures { OnOk result (faces.new.items ≡ faces.old.items ++ lattice_faces kind size k) }
 {
     let (i, j) = (k % size, k / size);
     match kind {
@@ -131,7 +131,7 @@ fn count_faces(kind: GenKind, size: u32) -> u32
 /// The faces of a kind and a size.
 pub(crate) fn make_faces(alloc: Global, kind: GenKind, size: u32) -> Result<Vec<[u32; 3]>, Memory>
     requires { IsSize size }
-    ensures { IfOk result (λ faces. faces.items ≡ faces_of kind size) }
+    ensures { IfOk result (λ faces. faces.items ≡ generated_faces kind size) }
 {
     let mut faces = Vec::with_capacity(alloc, count_faces(kind, size) as usize)?;
     for k in 0..size * size {

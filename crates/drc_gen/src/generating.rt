@@ -24,8 +24,8 @@ fn sound_mesh(heads: Vec<Head>, points: Vec<i32>, faces: Vec<[u32; 3]>) -> Corne
     CornerMesh::of_typed(heads, points, faces).unwrap()
 }
 
-/// The mesh of a kind, a size (`LEAST_SIZE` to `MOST_SIZE`) and a seed: always the same, refused for
-/// only when out of memory. Its points and faces are those of the kind, in the order of its cells. Its
+/// The mesh of a kind, a size (`LEAST_SIZE` to `MOST_SIZE`) and a seed: always the same. It fails only
+/// when out of memory. Its points and faces are those of the kind, in the order of its cells. Its
 /// first attribute has positions, three int32; `Seams` has a second one, a label of one uint8 (this
 /// project's choice).
 pub fn generate(alloc: Global, kind: GenKind, size: u32, seed: u64) -> Result<CornerMesh, Memory>

@@ -1,7 +1,7 @@
 //! The heads of generated meshes.
 
 ghost use Rattle.std.specs.Prelude.{◌≡◌, IfOk};
-ghost use Rattle.drc_gen.specs.Generated.{position_head, label_head, heads_of};
+ghost use Rattle.drc_gen.specs.Generated.{position_head, label_head, generated_heads};
 
 use crate::kinds::GenKind;
 use drc_base::Memory;
@@ -38,7 +38,7 @@ fn labels() -> Head
 
 /// The heads of a kind.
 pub(crate) fn make_heads(alloc: Global, kind: GenKind) -> Result<Vec<Head>, Memory>
-    ensures { IfOk result (λ heads. heads.items ≡ heads_of kind) }
+    ensures { IfOk result (λ heads. heads.items ≡ generated_heads kind) }
 {
     match kind {
         GenKind::Seams => Ok(vec![in alloc; positions(), labels()]?),

@@ -4,7 +4,7 @@
 
 ghost use Rattle.std.specs.Prelude.{◌≡◌, ◌*◌, ◌^◌, ◌<◌, ◌≤◌, ◌++◌, IfOk, OnOk};
 ghost use Rattle.mesh_model.specs.Parts.{cells_of};
-ghost use Rattle.drc_gen.specs.Generated.{lattice_point, fan_point, patch, points_of};
+ghost use Rattle.drc_gen.specs.Generated.{lattice_point, fan_point, patch, generated_points};
 ghost use Rattle.drc_gen.specs.GeneratedLaws.{IsSize};
 ghost use Rattle.drc_gen.specs.Lattice.{pair_at};
 ghost use Rattle.drc_gen.specs.Turns.{draw_count, points_at};
@@ -124,7 +124,7 @@ pub(crate) fn make_points(
     seed: u64,
 ) -> Result<Vec<i32>, Memory>
     requires { IsSize size }
-    ensures { IfOk result (λ cells. cells.items ≡ cells_of (points_of kind size seed)) }
+    ensures { IfOk result (λ cells. cells.items ≡ cells_of (generated_points kind size seed)) }
 {
     let turns = count_draws(kind, size);
     let mut cells = Vec::with_capacity(alloc, turns as usize * cells_of_draw(kind))?;

@@ -6,12 +6,12 @@ use Rattle.drc_base.specs.declared.faults.Fault.{Fault}
 use Rattle.drc_base.specs.Steps.{◌>>=◌}
 use Rattle.mesh_model.specs.declared.geometries.Geometry.{Geometry}
 use Rattle.mesh_model.specs.declared.geometries.Geometry.TheVariants as geometry
-use Rattle.drc_container.specs.Stream.{stream}
-use Rattle.drc_container.specs.declared.methods.Method.{Method}
-use Rattle.drc_container.specs.declared.methods.Method.TheVariants as method
-use Rattle.drc_container.specs.declared.seen.AttrSeen.{AttrSeen}
-use Rattle.drc_container.specs.declared.seen.Seen.{Seen}
-use Rattle.drc_container.specs.Meaning.{Meaning}
+use Rattle.drc_container.specs.reading.Stream.{stream}
+use Rattle.drc_container.specs.declared.choice.methods.Method.{Method}
+use Rattle.drc_container.specs.declared.choice.methods.Method.TheVariants as method
+use Rattle.drc_container.specs.declared.reading.info.AttrInfo.{AttrInfo}
+use Rattle.drc_container.specs.declared.reading.info.StreamInfo.{StreamInfo}
+use Rattle.drc_container.specs.reading.Meaning.{Meaning}
 
 -- a word, and numbers behind it, each after a space
 abbrev pub field : List ℕ → List ℕ → List ℕ
@@ -47,40 +47,40 @@ point_count (geometry.Mesh m) = length m.points
 point_count (geometry.Cloud c) = length c.points
 
 -- the declared numbers of Edgebreaker connectivity; a sequential stream has none
-abbrev pub declared_line : Seen → Method → List ℕ
-declared_line seen method.Seq = []
-declared_line seen how =
-    field (codes "symbols") (seen.symbols ∷ []) ++ field (codes " splits") (seen.splits ∷ []) ++ line (codes " events") (seen.events ∷ [])
+abbrev pub declared_line : StreamInfo → Method → List ℕ
+declared_line info method.Seq = []
+declared_line info how =
+    field (codes "symbols") (info.symbols ∷ []) ++ field (codes " splits") (info.splits ∷ []) ++ line (codes " events") (info.events ∷ [])
 
 -- the line of attribute k: its head, its prediction, the number of its entries, and the place of its prediction
-abbrev pub attr_line : ℕ → AttrSeen → List ℕ
-attr_line k a = field (codes "attr") (k ∷ a.head.usage ∷ a.head.dtype ∷ a.head.comps ∷ a.head.normalized ∷ a.head.id ∷ [])
+abbrev pub info_attr_line : ℕ → AttrInfo → List ℕ
+info_attr_line k a = field (codes "attr") (k ∷ a.head.usage ∷ a.head.dtype ∷ a.head.comps ∷ a.head.normalized ∷ a.head.id ∷ [])
     ++ codes " predict " ++ signed_decimal a.predict ++ field (codes " entries") (a.entries ∷ []) ++ line (codes " at") (a.at ∷ [])
 
 -- the lines of attributes, the first of them attribute k
-abbrev pub attr_lines : ℕ → List AttrSeen → List ℕ
+abbrev pub attr_lines : ℕ → List AttrInfo → List ℕ
 attr_lines k [] = []
-attr_lines k (a ∷ attrs) = attr_line k a ++ attr_lines (k + 1) attrs
+attr_lines k (a ∷ attrs) = info_attr_line k a ++ attr_lines (k + 1) attrs
 
 -- the form of the stream, and where its connectivity stands: its place and its length
-unfoldable pub first_lines : Meaning → List ℕ
-first_lines d =
-    form_words d.geometry d.seen.method ++ newline ++ line (codes "connectivity") (d.seen.connectivity.0 ∷ d.seen.connectivity.1 ∷ [])
+unfoldable pub info_first_lines : Meaning → List ℕ
+info_first_lines d =
+    form_words d.geometry d.info.method ++ newline ++ line (codes "connectivity") (d.info.connectivity.0 ∷ d.info.connectivity.1 ∷ [])
 
 -- how many things the stream holds
 unfoldable pub count_lines : Meaning → List ℕ
 count_lines d =
     line (codes "faces") (face_count d.geometry ∷ [])
     ++ line (codes "points") (point_count d.geometry ∷ [])
-    ++ declared_line d.seen d.seen.method
+    ++ declared_line d.info d.info.method
 
 -- the last line: where the stream ends, and how many bytes follow
-unfoldable pub end_line : Seen → List ℕ
-end_line seen = field (codes "end") (seen.end ∷ []) ++ line (codes " rest") (seen.rest ∷ [])
+unfoldable pub end_line : StreamInfo → List ℕ
+end_line info = field (codes "end") (info.end ∷ []) ++ line (codes " rest") (info.rest ∷ [])
 
--- the report of what a stream means and what was seen of it
+-- the report of what a stream means and what is known of it
 unfoldable pub info_text : Meaning → List ℕ
-info_text d = first_lines d ++ count_lines d ++ attr_lines 0 d.seen.attrs ++ end_line d.seen
+info_text d = info_first_lines d ++ count_lines d ++ attr_lines 0 d.info.attrs ++ end_line d.info
 
 -- the report of a stream, or its first fault
 abbrev pub report_of : List ℕ → Result (List ℕ) Fault

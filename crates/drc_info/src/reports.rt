@@ -5,13 +5,13 @@ ghost use Rattle.std.specs.Fmt.{signed_decimal};
 ghost use Rattle.drc_base.specs.declared.faults.Fault.{Fault as AnyFault};
 ghost use Rattle.drc_base.specs.declared.faults.Refusal.TheVariants as refusal;
 ghost use Rattle.drc_base.specs.Refusals.{Answers};
-ghost use Rattle.drc_container.specs.Meaning.{told_by};
-ghost use Rattle.drc_container.specs.Stream.{declared_of};
-ghost use Rattle.drc_info.specs.InfoText.{field, line, mesh_words, form_words, face_count, point_count, declared_line, attr_line, attr_lines, first_lines, count_lines, end_line, info_text, report_of};
+ghost use Rattle.drc_container.specs.reading.Meaning.{told_by};
+ghost use Rattle.drc_container.specs.reading.Stream.{declared_of};
+ghost use Rattle.drc_info.specs.InfoText.{field, line, mesh_words, form_words, face_count, point_count, declared_line, info_attr_line, attr_lines, info_first_lines, count_lines, end_line, info_text, report_of};
 
 use crate::lines::put_field;
 use drc_base::{Memory, Refusal};
-use drc_container::{AttrSeen, Decoded, Method, Seen, decode_whole};
+use drc_container::{AttrInfo, Decoded, Method, StreamInfo, decode_whole};
 use itoa::Buffer;
 use mesh_model::Geometry;
 use std::alloc::Global;
@@ -29,7 +29,7 @@ pub fn report(alloc: Global, bytes: &[u8]) -> Result<Vec<u8>, Refusal>
     Ok(info_text(alloc, &decoded)?)
 }
 
-/// The report of what a stream means and what was seen of it.
+/// The report of what a stream means and what is known of it.
 #[tactic(auto, unfolding(crate::specs::InfoText::info_text))]
 fn info_text(alloc: Global, decoded: &Decoded) -> Result<Vec<u8>, Memory>
     ensures { IfOk result (λ v. v.items ≡ info_text (told_by decoded.now)) }
@@ -37,18 +37,18 @@ fn info_text(alloc: Global, decoded: &Decoded) -> Result<Vec<u8>, Memory>
     let mut out = Vec::new(alloc);
     put_first(&mut out, decoded)?;
     put_counts(&mut out, decoded)?;
-    put_attrs(&mut out, decoded.seen.attrs.as_slice())?;
-    put_end(&mut out, &decoded.seen)?;
+    put_attrs(&mut out, decoded.info.attrs.as_slice())?;
+    put_end(&mut out, &decoded.info)?;
     Ok(out)
 }
 
 /// Appends the form of the stream and where its connectivity stands.
-#[tactic(auto, unfolding(crate::specs::InfoText::first_lines))]
+#[tactic(auto, unfolding(crate::specs::InfoText::info_first_lines))]
 fn put_first(out: &mut Vec<u8>, decoded: &Decoded) -> Result<(), Memory>
-    ensures { OnOk result (out.new.items ≡ out.old.items ++ first_lines (told_by decoded.now)) }
+    ensures { OnOk result (out.new.items ≡ out.old.items ++ info_first_lines (told_by decoded.now)) }
 {
-    let (place, length) = decoded.seen.connectivity;
-    out.extend_from_slice(form_words(&decoded.geometry, decoded.seen.method))?;
+    let (place, length) = decoded.info.connectivity;
+    out.extend_from_slice(form_words(&decoded.geometry, decoded.info.method))?;
     out.push(b'\n')?;
     put_line(out, b"connectivity", &[place, length])?;
     Ok(())
@@ -61,7 +61,7 @@ fn put_counts(out: &mut Vec<u8>, decoded: &Decoded) -> Result<(), Memory>
 {
     put_line(out, b"faces", &[face_count(&decoded.geometry)])?;
     put_line(out, b"points", &[point_count(&decoded.geometry)])?;
-    put_declared(out, &decoded.seen)?;
+    put_declared(out, &decoded.info)?;
     Ok(())
 }
 
@@ -116,21 +116,21 @@ fn point_count(geometry: &Geometry) -> u64
 }
 
 /// Appends the line of the declared numbers of Edgebreaker connectivity.
-fn put_declared(out: &mut Vec<u8>, seen: &Seen) -> Result<(), Memory>
-    ensures { OnOk result (out.new.items ≡ out.old.items ++ declared_line seen.now seen.now.method) }
+fn put_declared(out: &mut Vec<u8>, info: &StreamInfo) -> Result<(), Memory>
+    ensures { OnOk result (out.new.items ≡ out.old.items ++ declared_line info.now info.now.method) }
 {
-    match seen.method {
+    match info.method {
         Method::Seq => Ok(()),
         Method::Eb | Method::Valence => {
-            put_field(out, b"symbols", &[seen.symbols as u64])?;
-            put_field(out, b" splits", &[seen.splits as u64])?;
-            put_line(out, b" events", &[seen.events as u64])
+            put_field(out, b"symbols", &[info.symbols as u64])?;
+            put_field(out, b" splits", &[info.splits as u64])?;
+            put_line(out, b" events", &[info.events as u64])
         }
     }
 }
 
 /// Appends the lines of the attributes.
-fn put_attrs(out: &mut Vec<u8>, attrs: &[AttrSeen]) -> Result<(), Memory>
+fn put_attrs(out: &mut Vec<u8>, attrs: &[AttrInfo]) -> Result<(), Memory>
     ensures { OnOk result (out.new.items ≡ out.old.items ++ attr_lines 0 attrs.now) }
 {
     for k in 0..attrs.len() {
@@ -140,8 +140,8 @@ fn put_attrs(out: &mut Vec<u8>, attrs: &[AttrSeen]) -> Result<(), Memory>
 }
 
 /// Appends the line of attribute `k`.
-fn put_attr(out: &mut Vec<u8>, k: u64, attr: &AttrSeen) -> Result<(), Memory>
-    ensures { OnOk result (out.new.items ≡ out.old.items ++ attr_line k attr.now) }
+fn put_attr(out: &mut Vec<u8>, k: u64, attr: &AttrInfo) -> Result<(), Memory>
+    ensures { OnOk result (out.new.items ≡ out.old.items ++ info_attr_line k attr.now) }
 {
     put_field(
         out,
@@ -172,9 +172,9 @@ fn put_prediction(out: &mut Vec<u8>, predict: i8) -> Result<(), Memory>
 
 /// Appends the last line.
 #[tactic(auto, unfolding(crate::specs::InfoText::end_line))]
-fn put_end(out: &mut Vec<u8>, seen: &Seen) -> Result<(), Memory>
-    ensures { OnOk result (out.new.items ≡ out.old.items ++ end_line seen.now) }
+fn put_end(out: &mut Vec<u8>, info: &StreamInfo) -> Result<(), Memory>
+    ensures { OnOk result (out.new.items ≡ out.old.items ++ end_line info.now) }
 {
-    put_field(out, b"end", &[seen.end])?;
-    put_line(out, b" rest", &[seen.rest])
+    put_field(out, b"end", &[info.end])?;
+    put_line(out, b" rest", &[info.rest])
 }

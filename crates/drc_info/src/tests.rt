@@ -4,13 +4,7 @@
 use crate::report;
 use drc_base::{Fault, Kind, Refusal};
 use std::test::Fail;
-
-/// A sequential mesh of one triangle.
-const TRIANGLE: [u8; 64] = [
-    0x44, 0x52, 0x41, 0x43, 0x4f, 2, 2, 1, 0, 0, 0, 1, 3, 1, 0, 1, 2, 1, 1, 0, 5, 3, 0, 0, 1, 0xfe,
-    0, 4, 0, 0, 0, 0, 0, 0, 0, 0, 0, 0, 0, 0, 20, 0, 0, 0, 0, 0, 0, 0, 0, 0, 0, 0, 0, 0, 0, 0, 20,
-    0, 0, 0, 1, 0, 0, 0,
-];
+use worked_surfaces::streams::{FACE, TRIANGLE};
 
 const TRIANGLE_REPORT: &str = "drc 2.2 mesh seq
 connectivity 11 6
@@ -35,13 +29,6 @@ attr 0 3 9 2 1 7 predict -2 entries 2 at 29
 attr 1 2 2 1 0 9 predict -2 entries 2 at 36
 end 54 rest 3
 ";
-
-/// A face in Edgebreaker's order.
-const FACE: [u8; 55] = [
-    0x44, 0x52, 0x41, 0x43, 0x4f, 2, 2, 1, 1, 0, 0, 0, 3, 1, 0, 1, 0, 0, 1, 7, 0xff, 1, 0x11, 1,
-    0xff, 0, 0, 1, 0, 5, 3, 0, 0, 1, 1, 1, 0, 1, 3, 0, 0, 4, 3, 1, 0, 4, 2, 0xff, 0xff, 0xff, 0xff,
-    10, 0, 0, 0,
-];
 
 const FACE_REPORT: &str = "drc 2.2 mesh eb
 connectivity 11 12

@@ -55,7 +55,8 @@ StandsAgain (Cloud n) (Mesh o) rows = ⊥
 
 -- the rows back undo the rows
 abbrev pub InvertedUndoes : Type 0
-InvertedUndoes = (rows : Rows) → NamesEachOnce (length rows) rows → All (λ row. row.1 ≤ 2) rows → composed rows (inverted rows) ≡ plain (length rows)
+InvertedUndoes = (rows : Rows) → NamesEachOnce (length rows) rows → All (λ row. row.1 ≤ 2) rows →
+    composed rows (inverted rows) ≡ plain (length rows)
 
 -- the first order is that order
 abbrev pub FirstOrderStands : Type 0

@@ -10,7 +10,8 @@ use Rattle.mesh_model.specs.Same.{Rows, named, turn}
 -- whether row i names no row, names one that an earlier row names, or has a turn above the greatest
 abbrev pub is_bad : ℕ → Rows → ℕ → Bool
 is_bad greatest rows i =
-    not (nat_lt (named rows i) (length rows)) || (list_any (λ row. row.0 == named rows i) (take i rows) || not (nat_le (turn rows i) greatest))
+    not (nat_lt (named rows i) (length rows))
+    || (list_any (λ row. row.0 == named rows i) (take i rows) || not (nat_le (turn rows i) greatest))
 
 -- the fault of the first such row, whose number it has
 unfoldable pub bad_row : ℕ → Rows → Option Fault

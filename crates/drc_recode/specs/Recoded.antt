@@ -3,10 +3,10 @@ use Rattle.std.specs.Prelude.{ℕ, List, Result}
 use Rattle.drc_base.specs.declared.faults.Fault.{Fault}
 use Rattle.drc_base.specs.Steps.{◌>>=◌}
 use Rattle.mesh_model.specs.Same.{Rows}
-use Rattle.drc_container.specs.declared.choices.Choice.{Choice}
-use Rattle.drc_container.specs.Encoded.{due}
-use Rattle.drc_container.specs.Stream.{meaning_of}
+use Rattle.drc_container.specs.declared.choice.choices.Choice.{Choice}
+use Rattle.drc_container.specs.writing.Encoded.{encoding_due}
+use Rattle.drc_container.specs.reading.Stream.{meaning_of}
 
 -- the bytes and rows that are due of the geometry that bytes mean; or the first fault of these bytes, or why it isn't encoded as chosen
 abbrev pub recoded : List ℕ → Choice → Result (List ℕ × Rows) Fault
-recoded bytes choice = meaning_of bytes >>= λ g. due g choice
+recoded bytes choice = meaning_of bytes >>= λ g. encoding_due g choice

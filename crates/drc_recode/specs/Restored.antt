@@ -6,24 +6,24 @@ use Rattle.mesh_model.specs.declared.geometries.Geometry.{Geometry}
 use Rattle.mesh_model.specs.Renumbering.{plain}
 use Rattle.mesh_model.specs.Same.{Rows, Same}
 use Rattle.mesh_model.specs.SameLaws.{count_of}
-use Rattle.drc_container.specs.declared.choices.Choice.{Choice}
-use Rattle.drc_container.specs.declared.methods.Method.TheVariants as method
-use Rattle.drc_container.specs.Encoded.{due}
-use Rattle.drc_container.specs.Stream.{meaning_of}
+use Rattle.drc_container.specs.declared.choice.choices.Choice.{Choice}
+use Rattle.drc_container.specs.declared.choice.methods.Method.TheVariants as method
+use Rattle.drc_container.specs.writing.Encoded.{encoding_due}
+use Rattle.drc_container.specs.reading.Stream.{meaning_of}
 use Rattle.drc_recode.specs.PutBack.{put_back}
 
 -- the sequential method, and nothing else chosen
-abbrev pub in_order : Choice
-in_order = record { method = Some method.Seq; index = None; predict = None; walk = None; plain_values = false }
+abbrev pub sequential_choice : Choice
+sequential_choice = record { method = Some method.Seq; index = None; predict = None; walk = None; plain_values = false }
 
 -- the bytes of a geometry in order, or why it isn't encoded so
 abbrev pub bytes_in_order : Geometry → Result (List ℕ) Fault
-bytes_in_order g = due g in_order >>= λ w. Ok w.0
+bytes_in_order g = encoding_due g sequential_choice >>= λ w. Ok w.0
 
 -- the bytes that are due of a stream in the order before the rows of a map: or the first fault of the stream, why its geometry can't
 -- be put back, or why it isn't encoded then
-abbrev pub restored : Bool → Rows → List ℕ → Result (List ℕ) Fault
-restored cloud rows bytes = meaning_of bytes >>= λ g. put_back cloud rows g >>= λ first. bytes_in_order first
+abbrev pub restored_stream : Bool → Rows → List ℕ → Result (List ℕ) Fault
+restored_stream cloud rows bytes = meaning_of bytes >>= λ g. put_back cloud rows g >>= λ first. bytes_in_order first
 
 -- bytes mean a geometry in its own order: what they mean is that geometry, face by face and corner by corner (or point by point), with
 -- the same integers

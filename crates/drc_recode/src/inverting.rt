@@ -34,7 +34,7 @@ pub fn inverse(alloc: Global, rows: &[(u32, u8)], greatest: u8) -> Result<Vec<(u
     ensures turns { IfOk result (λ _. All (λ row. row.1 ≤ greatest) rows.now) }
     ensures apart { IfOk result (λ v. NamesApart (length rows.now) v.items) }
 {
-    // For the prover alone: the call tells that rows which name numbers apart name each once.
+    // For the prover alone: the call states that rows which name different numbers name each once.
     renumbered_is_a_mesh();
     let mut seen = vec![in alloc; false; rows.len()]?;
     let mut back = vec![in alloc; (0u32, 0u8); rows.len()]?;

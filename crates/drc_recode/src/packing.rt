@@ -7,7 +7,7 @@ ghost use Rattle.std.specs.Prelude.{◌≡◌, Err, IfOk};
 ghost use Rattle.drc_base.specs.declared.faults.Fault.{Fault as AnyFault};
 ghost use Rattle.drc_base.specs.declared.faults.Refusal.TheVariants as refusal;
 ghost use Rattle.drc_base.specs.Refusals.{Answers};
-ghost use Rattle.drc_container.specs.Stream.{meaning_of, declared_of};
+ghost use Rattle.drc_container.specs.reading.Stream.{meaning_of, declared_of};
 
 use crate::reordering::copies_of;
 use drc_base::{Memory, Refusal};

@@ -54,7 +54,7 @@ fn mesh_back(alloc: Global, mesh: &CornerMesh, rows: &[(u32, u8)]) -> Result<Cor
     ensures can { IfOk result (λ _. CanTurnBack (geometry.Mesh mesh.now) rows.now) }
     ensures sound { IfOk result (λ _. IsMesh mesh.now) }
 {
-    // For the prover alone: the call tells what holds of every mesh.
+    // For the prover alone: the call states what holds of every mesh.
     let _faces = mesh.face_count();
     let back = inverse(alloc, rows, GREATEST_TURN)?;
     let first = renumbered_mesh(alloc, mesh, back.as_slice())?;
@@ -68,7 +68,7 @@ fn cloud_back(alloc: Global, cloud: &Cloud, rows: &[(u32, u8)]) -> Result<Cloud,
     ensures can { IfOk result (λ _. CanTurnBack (geometry.Cloud cloud.now) rows.now) }
     ensures sound { IfOk result (λ _. IsCloud cloud.now) }
 {
-    // For the prover alone: the call tells what holds of every cloud.
+    // For the prover alone: the call states what holds of every cloud.
     let _points = cloud.point_count();
     let back = inverse(alloc, rows, 0)?;
     let first = reordered_cloud(alloc, cloud, back.as_slice())?;

@@ -4,9 +4,9 @@ ghost use Rattle.std.specs.Prelude.{◌≡◌, Ok, Err, IfOk, IsOkAnd};
 ghost use Rattle.drc_base.specs.declared.faults.Fault.{Fault as AnyFault};
 ghost use Rattle.drc_base.specs.declared.faults.Refusal.TheVariants as refusal;
 ghost use Rattle.drc_base.specs.Refusals.{Answers};
-ghost use Rattle.drc_container.specs.Encoded.{Means};
-ghost use Rattle.drc_container.specs.Layout.{layout_of, layout_chosen};
-ghost use Rattle.drc_container.specs.Stream.{meaning_of, declared_of};
+ghost use Rattle.drc_container.specs.writing.Encoded.{Means};
+ghost use Rattle.drc_container.specs.writing.Layout.{layout_of, layout_chosen};
+ghost use Rattle.drc_container.specs.reading.Stream.{meaning_of, declared_of};
 ghost use Rattle.drc_recode.specs.Recoded.{recoded};
 
 use crate::packing::decode_packed;

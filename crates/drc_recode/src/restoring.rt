@@ -6,10 +6,10 @@ ghost use Rattle.drc_base.specs.declared.faults.Refusal.TheVariants as refusal;
 ghost use Rattle.drc_base.specs.Refusals.{Answers};
 ghost use Rattle.mesh_model.specs.declared.geometries.Geometry.{Geometry as AnyGeometry};
 ghost use Rattle.mesh_model.specs.Same.{Same};
-ghost use Rattle.drc_container.specs.Layout.{layout_of, layout_chosen};
-ghost use Rattle.drc_container.specs.Stream.{meaning_of, declared_of};
+ghost use Rattle.drc_container.specs.writing.Layout.{layout_of, layout_chosen};
+ghost use Rattle.drc_container.specs.reading.Stream.{meaning_of, declared_of};
 ghost use Rattle.drc_recode.specs.FirstOrder.{first_order, StandsAgain};
-ghost use Rattle.drc_recode.specs.Restored.{bytes_in_order, in_order, restored, MeansInOrder};
+ghost use Rattle.drc_recode.specs.Restored.{bytes_in_order, sequential_choice, restored_stream, MeansInOrder};
 
 use crate::laws::the_first_order_comes_back;
 use crate::putting_back::put_back;
@@ -20,7 +20,7 @@ use std::alloc::Global;
 
 /// The sequential method, and nothing else chosen.
 fn in_order() -> Choice
-    ensures { result ≡ in_order }
+    ensures { result ≡ sequential_choice }
 {
     Choice {
         method: Some(Method::Seq),
@@ -35,7 +35,7 @@ fn in_order() -> Choice
 fn write_in_order(alloc: Global, g: &Geometry) -> Result<Vec<u8>, Refusal>
     ensures answer { Answers (λ v. v.items) (bytes_in_order g.now) result }
     ensures order { IfOk result (λ v. MeansInOrder g.now v.items) }
-    ensures layout { IfOk result (λ v. layout_of v.items ≡ Ok (layout_chosen g.now in_order)) }
+    ensures layout { IfOk result (λ v. layout_of v.items ≡ Ok (layout_chosen g.now sequential_choice)) }
 {
     let (bytes, _rows) = encode(alloc, g, &in_order())?;
     Ok(bytes)
@@ -53,11 +53,11 @@ fn write_in_order(alloc: Global, g: &Geometry) -> Result<Vec<u8>, Refusal>
 /// reason not to encode it so, as `drc_container::encode`. Faults of the stream's header and of the numbers
 /// that connectivity declares come before memory is taken.
 pub fn restore(alloc: Global, map: &MapRead, stream: &[u8]) -> Result<Vec<u8>, Refusal>
-    ensures answer { Answers (λ v. v.items) (restored map.now.cloud map.now.rows.rows stream.now) result }
+    ensures answer { Answers (λ v. v.items) (restored_stream map.now.cloud map.now.rows.rows stream.now) result }
     ensures early { (f : AnyFault) → declared_of stream.now ≡ Err f → result ≡ Err (refusal.Fault f) }
     ensures stands { IfOk result (λ _. IsOkAnd (meaning_of stream.now) (λ n. StandsAgain n (first_order n map.now.rows.rows) map.now.rows.rows)) }
     ensures order { IfOk result (λ v. (g n : AnyGeometry) → meaning_of stream.now ≡ Ok n → Same g n map.now.rows.rows → MeansInOrder g v.items) }
-    ensures layout { IfOk result (λ v. IsOkAnd (meaning_of stream.now) (λ n. layout_of v.items ≡ Ok (layout_chosen (first_order n map.now.rows.rows) in_order))) }
+    ensures layout { IfOk result (λ v. IsOkAnd (meaning_of stream.now) (λ n. layout_of v.items ≡ Ok (layout_chosen (first_order n map.now.rows.rows) sequential_choice))) }
 {
     same_is_an_equivalence();
     the_first_order_comes_back();

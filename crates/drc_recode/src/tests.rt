@@ -10,39 +10,8 @@ use mesh_model::{Geometry, MapRead, Renumber};
 use std::alloc::{AllocError, Global};
 use std::process::Abort;
 use std::test::Fail;
-
-/// A sequential mesh of one triangle.
-const TRIANGLE: [u8; 64] = [
-    68, 82, 65, 67, 79, 2, 2, 1, 0, 0, 0, 1, 3, 1, 0, 1, 2, 1, 1, 0, 5, 3, 0, 0, 1, 254, 0, 4, 0,
-    0, 0, 0, 0, 0, 0, 0, 0, 0, 0, 0, 20, 0, 0, 0, 0, 0, 0, 0, 0, 0, 0, 0, 0, 0, 0, 0, 20, 0, 0, 0,
-    1, 0, 0, 0,
-];
-
-/// The same by Edgebreaker, with values as they are.
-const FACE: [u8; 55] = [
-    68, 82, 65, 67, 79, 2, 2, 1, 1, 0, 0, 0, 3, 1, 0, 1, 0, 0, 1, 7, 255, 1, 17, 1, 255, 0, 0, 1,
-    0, 5, 3, 0, 0, 1, 1, 1, 0, 1, 3, 0, 0, 4, 3, 1, 0, 4, 2, 255, 255, 255, 255, 10, 0, 0, 0,
-];
-
-/// A tetrahedron by Edgebreaker.
-const TETRAHEDRON: [u8; 58] = [
-    68, 82, 65, 67, 79, 2, 2, 1, 1, 0, 0, 0, 4, 4, 0, 3, 0, 0, 1, 47, 1, 1, 16, 1, 255, 0, 0, 1, 0,
-    5, 3, 0, 0, 1, 1, 1, 0, 1, 0, 0, 1, 0, 1, 1, 0, 1, 0, 1, 1, 0, 0, 0, 0, 0, 1, 0, 0, 0,
-];
-
-/// Where its faces stood when it was encoded.
-const TETRAHEDRON_ROWS: [(u32, u8); 4] = [(3, 0), (2, 1), (1, 2), (0, 1)];
-
-/// A cloud of the points 5 5 5, 5 5 5 and 5 5 6.
-const CLOUD: [u8; 44] = [
-    68, 82, 65, 67, 79, 2, 3, 0, 0, 0, 0, 3, 0, 0, 0, 1, 1, 0, 5, 3, 0, 0, 1, 0, 1, 0, 1, 0, 0, 0,
-    0, 0, 0, 0, 0, 1, 5, 0, 0, 0, 6, 0, 0, 0,
-];
-
-/// A cloud of no points.
-const NO_POINTS: [u8; 26] = [
-    68, 82, 65, 67, 79, 2, 3, 0, 0, 0, 0, 0, 0, 0, 0, 1, 1, 0, 5, 3, 0, 0, 1, 254, 0, 1,
-];
+use worked_surfaces::TETRAHEDRON_ROWS;
+use worked_surfaces::streams::{CLOUD, FACE, NO_POINTS, TETRAHEDRON, TRIANGLE};
 
 /// Edgebreaker with values as they are, where the geometry is a mesh.
 const PLAIN: Choice = Choice {

@@ -20,13 +20,13 @@ use Rattle.corner_table.proofs.Places.{option_tells}
 use Rattle.pairing.specs.Pairing.{pairing}
 use Rattle.pairing.specs.CarriedPairs.{carried}
 use Rattle.pairing.specs.Degenerate.{degenerate_fault}
-use Rattle.drc_container.specs.Meaning.{Surface, Meaning}
-use Rattle.drc_container.proofs.Parted.{parts}
+use Rattle.drc_container.specs.reading.Meaning.{Surface, Meaning}
+use Rattle.drc_container.proofs.lemmas.reading.Parted.{parts}
 use Rattle.drc_verify.specs.declared.verdicts.Verdict.{Verdict}
 use Rattle.drc_verify.specs.declared.verdicts.Verdict.TheVariants as verdict
 use Rattle.drc_verify.specs.Judged.{rows_verdict, AreOneKind}
 use Rattle.drc_verify.specs.SideTests.{first_other}
-use Rattle.drc_verify.specs.Checked.{surface_asked, surface_of, mesh_asked, pairs_asked, with_pairs, glued_verdict, surface_verdict, HasPairs, IsSame, HasFaces}
+use Rattle.drc_verify.specs.Checked.{surface_asked, table_surface, mesh_asked, pairs_asked, with_pairs, glued_verdict, surface_verdict, HasPairs, IsSame, HasFaces}
 use Rattle.drc_verify.proofs.Yes.{mesh-given, apart, new-row, yes-same}
 use Rattle.drc_verify.proofs.SidesDecided.{one-gluing, none-other}
 
@@ -109,7 +109,7 @@ pairs-told m (Err refusal.Memory) pairs refused = tt
 
 -- with surfaces a yes says that the pairs are the same too
 pub surface-same : (cloud : Bool) (rows : Rows) (g : Geometry) (n : Meaning) (t : Table) (v : Verdict) → HasFaces n
-    → surface_asked n.surface ≡ Ok (surface_of t) → IsGluing t.faces (gluing_of t) → surface_verdict cloud rows g n ≡ Ok v
+    → surface_asked n.surface ≡ Ok (table_surface t) → IsGluing t.faces (gluing_of t) → surface_verdict cloud rows g n ≡ Ok v
     → (v ≡ verdict.Same) ↔ IsSame true cloud rows g n
 unfolding surface_verdict
 surface-same cloud rows g n t v has asked is due =
@@ -117,7 +117,7 @@ surface-same cloud rows g n t v has asked is due =
     let b = parts (mesh_asked g) _ v a.2 in
     let e = parts (pairs_asked b.0) _ v b.2 in
     let m = b.0 in
-    let s = surface_of t in
+    let s = table_surface t in
     let table : s ≡ a.0 = Ok-injective (sym asked ∙ a.1) in
     let given : n.surface ≡ Some s = surface-is n.surface s asked in
     let pairs : pairing m ≡ e.0 = value-is (degenerate_fault m) (pairing m) e.0 e.1 in

@@ -5,17 +5,17 @@ use Rattle.std.proofs.lemmas.Bool.{cases_eq, eq-eqb, ne_eqb, or_right, lt-ltb, l
 use Rattle.std.proofs.lemmas.List.{length-set, get_or-replicate, length-replicate, get_or-set_same, get_or-set_other}
 use Rattle.std.proofs.lemmas.List.Folds.{list_any_more}
 use Rattle.mesh_model.specs.Same.{Rows, named}
-use Rattle.drc_verify.specs.RowTests.{AreMarked, is_new}
+use Rattle.drc_verify.specs.RowTests.{AreSeen, names_new}
 
 -- no row, no mark
-pub marked-none : (count : ℕ) (rows : Rows) → AreMarked rows 0 (replicate count false)
+pub marked-none : (count : ℕ) (rows : Rows) → AreSeen rows 0 (replicate count false)
 marked-none count rows = record {
   at = λ f below. get_or-replicate count f false false (omega (arith, length-replicate count false));
 }
 
 -- the number of row i is marked
-pub marked_more : (rows : Rows) (i : ℕ) (seen : List Bool) → i < length rows → AreMarked rows i seen → named rows i < length seen
-    → AreMarked rows (i + 1) (set seen (named rows i) true)
+pub marked_more : (rows : Rows) (i : ℕ) (seen : List Bool) → i < length rows → AreSeen rows i seen → named rows i < length seen
+    → AreSeen rows (i + 1) (set seen (named rows i) true)
 marked_more rows i seen inside marks within = record {
   at = λ f below.
       let fits : f < length seen = omega (arith, length-set seen (named rows i) true) in
@@ -39,21 +39,21 @@ marked_more rows i seen inside marks within = record {
     unless-here false c e = e
 
 -- a number past the end is not new
-pub past-end : (count : ℕ) (rows : Rows) (i : ℕ) → count ≤ named rows i → is_new count rows i ≡ false
-unfolding is_new
+pub past-end : (count : ℕ) (rows : Rows) (i : ℕ) → count ≤ named rows i → names_new count rows i ≡ false
+unfolding names_new
 past-end count rows i past = and_left (ltb (named rows i) count) _ (le-ltb (named rows i) count past)
 
 -- a marked number is not new
-pub marked-before : (rows : Rows) (i : ℕ) (seen : List Bool) → AreMarked rows i seen → named rows i < length seen
-    → get_or seen (named rows i) false ≡ true → is_new (length seen) rows i ≡ false
-unfolding is_new
+pub marked-before : (rows : Rows) (i : ℕ) (seen : List Bool) → AreSeen rows i seen → named rows i < length seen
+    → get_or seen (named rows i) false ≡ true → names_new (length seen) rows i ≡ false
+unfolding names_new
 marked-before rows i seen marks within marked =
     and_right (ltb (named rows i) (length seen)) _ (not_from_true _ (sym (marks.at (named rows i) within) ∙ marked))
 
 -- and one that isn't marked is
-pub unmarked : (rows : Rows) (i : ℕ) (seen : List Bool) → AreMarked rows i seen → named rows i < length seen
-    → get_or seen (named rows i) false ≡ false → is_new (length seen) rows i ≡ true
-unfolding is_new
+pub unmarked : (rows : Rows) (i : ℕ) (seen : List Bool) → AreSeen rows i seen → named rows i < length seen
+    → get_or seen (named rows i) false ≡ false → names_new (length seen) rows i ≡ true
+unfolding names_new
 unmarked rows i seen marks within free =
     and_from (ltb (named rows i) (length seen)) _ (lt-ltb (named rows i) (length seen) within)
     (not_from_false _ (sym (marks.at (named rows i) within) ∙ free))

@@ -8,9 +8,9 @@ use Rattle.std.proofs.lemmas.List.{length-take, get_or-take}
 use Rattle.std.proofs.lemmas.List.Elements.{All-from_get_or}
 use Rattle.std.proofs.lemmas.List.Folds.{list_any_at, list_any_none}
 use Rattle.mesh_model.specs.Parts.{MeshParts, CloudParts, corner}
-use Rattle.mesh_model.specs.Same.{Rows, named, turn, SameFace, SamePoint}
+use Rattle.mesh_model.specs.Same.{Rows, named, turn, SameFace, SameCloudPoint}
 use Rattle.mesh_model.proofs.DistinctRows.{same_row-decides}
-use Rattle.drc_verify.specs.RowTests.{NamesNew, FaceIsRight, PointIsRight, is_new, same_face, same_point, face_is_right, point_is_right}
+use Rattle.drc_verify.specs.RowTests.{NamesNew, FaceIsRight, PointIsRight, names_new, same_face, same_point, face_is_right, point_is_right}
 
 three : (P : ℕ → Type 0) → P 0 → P 1 → P 2 → (k : ℕ) → k < 3 → P k
 three P a b c zero below = a
@@ -27,7 +27,7 @@ same_face-decides m n i f t =
     (Decides-and _ _ (Decides-and _ _ (Decides-and _ _ (Decides-ltb t 3) (same_row-decides (corner n i 0) (corner m f (0 + t))))
     (same_row-decides (corner n i 1) (corner m f (1 + t)))) (same_row-decides (corner n i 2) (corner m f (2 + t))))
 
-pub same_point-decides : (m n : CloudParts) (i p t : ℕ) → Decides (same_point m n i p t) (SamePoint m n i p t)
+pub same_point-decides : (m n : CloudParts) (i p t : ℕ) → Decides (same_point m n i p t) (SameCloudPoint m n i p t)
 unfolding same_point
 same_point-decides m n i p t =
     Decides-and _ _ (Decides-eqb t 0) (same_row-decides (get_or n.points i []) (get_or m.points p []))
@@ -36,12 +36,12 @@ same_point-decides m n i p t =
 pub face_told : (m n : MeshParts) (i f t : ℕ) (r : Bool) → ((r ≡ true) ↔ SameFace m n i f t) → r ≡ same_face m n i f t
 face_told m n i f t r told = same_from_decides r (same_face m n i f t) told (same_face-decides m n i f t)
 
-pub point_told : (m n : CloudParts) (i p t : ℕ) (r : Bool) → ((r ≡ true) ↔ SamePoint m n i p t) → r ≡ same_point m n i p t
+pub point_told : (m n : CloudParts) (i p t : ℕ) (r : Bool) → ((r ≡ true) ↔ SameCloudPoint m n i p t) → r ≡ same_point m n i p t
 point_told m n i p t r told = same_from_decides r (same_point m n i p t) told (same_point-decides m n i p t)
 
 -- a row before row i names another number
-pub is_new-decides : (count : ℕ) (rows : Rows) (i : ℕ) → i < length rows → Decides (is_new count rows i) (NamesNew count rows i)
-unfolding is_new
+pub is_new-decides : (count : ℕ) (rows : Rows) (i : ℕ) → i < length rows → Decides (names_new count rows i) (NamesNew count rows i)
+unfolding names_new
 is_new-decides count rows i inside = (
   λ t.
       let parts = and_parts (ltb (named rows i) count) (not (list_any same (take i rows))) t in

@@ -3,22 +3,22 @@ use Rattle.std.proofs.Common.{◌≡◌, ℕ, ◌*◌, Option, None, Some, Resul
 use Rattle.std.specs.List.{zip}
 use Rattle.std.proofs.lemmas.List.FromFn.{length-map-range_with_len}
 use Rattle.drc_base.specs.declared.faults.Fault.{Fault}
-use Rattle.drc_base.specs.Profile.{Profile, profile_two}
+use Rattle.drc_base.specs.Profile.{Profile, profile}
 use Rattle.drc_bits.specs.Reading.{Reading, start_of}
 use Rattle.drc_bits.proofs.Results.{Ok-injective, err≢ok}
 use Rattle.mesh_model.specs.FirstFault.{value_unless}
 use Rattle.mesh_model.specs.Parts.{MeshParts, mesh_of, cloud_of}
-use Rattle.mesh_model.specs.Assembled.{assembled, assembled_parts, corner_rows, distinct, number_of, triple}
+use Rattle.mesh_model.specs.Assembled.{assembled, assembled_parts, corner_rows, distinct, row_number, triple}
 use Rattle.seq_section.specs.Indices.{indices_at}
 use Rattle.eb_section.specs.Connectivity.{Connectivity, connectivity_at}
 use Rattle.drc_container.specs.declared.headers.Form.{Form}
 use Rattle.drc_container.specs.declared.headers.Form.TheVariants as form
-use Rattle.drc_container.specs.declared.placed.Placed.{Placed}
+use Rattle.drc_container.specs.declared.reading.surface_attributes.SurfaceAttributes.{SurfaceAttributes}
 use Rattle.drc_container.specs.Header.{header_at, cloud_points_at}
-use Rattle.drc_container.specs.Meaning.{Surface, Meaning}
-use Rattle.drc_container.specs.OnSurface.{at_end, counts_in, accepted, assembled_in, assembled_at, attributes_on}
-use Rattle.drc_container.specs.Stream.{points_behind, mesh_behind, mesh_at, cloud_behind, cloud_at, surface_behind, edgebreaker_at, body_at, stream_in}
-use Rattle.drc_container.proofs.Parted.{parts, given}
+use Rattle.drc_container.specs.reading.Meaning.{Surface, Meaning}
+use Rattle.drc_container.specs.reading.OnSurface.{at_end, counts_in, accepted, assembled_in, assembled_at, attributes_on}
+use Rattle.drc_container.specs.reading.Stream.{points_behind, mesh_behind, mesh_at, cloud_behind, cloud_at, surface_behind, edgebreaker_at, body_at, stream_in}
+use Rattle.drc_container.proofs.lemmas.reading.Parted.{parts, given}
 use Rattle.drc_verify.specs.Checked.{HasFaces, SurfaceHasFaces}
 
 -- what has no surface
@@ -51,7 +51,7 @@ before-end : {A : Type 0} (end : ℕ) (r : Result A Fault) (y : A) → at_end en
 before-end end (Ok x) y is = is
 before-end end (Err f) y is = absurd (err≢ok is)
 
-assembled-faces : (p : Profile) (end faces : ℕ) (a : Placed) (m : MeshParts) → assembled_at p end faces a ≡ Ok m → length m.faces ≡ faces
+assembled-faces : (p : Profile) (end faces : ℕ) (a : SurfaceAttributes) (m : MeshParts) → assembled_at p end faces a ≡ Ok m → length m.faces ≡ faces
 unfolding assembled_in assembled
 assembled-faces p end faces a m is =
     let rows = corner_rows (zip a.heads a.tables) (3 * faces) in
@@ -59,7 +59,7 @@ assembled-faces p end faces a m is =
     let first : assembled_parts a.heads a.tables faces ≡ b.0 = value-is _ (assembled_parts a.heads a.tables faces) b.0 b.1 in
     let second : b.0 ≡ m = value-is (counts_in p b.0) b.0 m b.2 in
     ap (λ (x : MeshParts). length x.faces) (sym (first ∙ second))
-    ∙ length-map-range_with_len (triple (map (number_of (distinct rows)) rows)) 0 faces
+    ∙ length-map-range_with_len (triple (map (row_number (distinct rows)) rows)) 0 faces
 
 some-is : (s t : Surface) → Some s ≡ Some t → s ≡ t
 some-is s t e = cc
@@ -90,4 +90,4 @@ pub surface-has-faces : SurfaceHasFaces
 unfolding stream_in
 surface-has-faces bytes d is =
     let a = parts (header_at (start_of bytes)) _ d is in
-    body-has profile_two a.0.0 a.0.1 d a.2
+    body-has profile a.0.0 a.0.1 d a.2

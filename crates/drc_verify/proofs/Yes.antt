@@ -17,7 +17,7 @@ use Rattle.drc_verify.specs.HeadTests.{same_heads}
 use Rattle.drc_verify.specs.Firsts.{first_failing}
 use Rattle.drc_verify.specs.RowTests.{NamesNew, FaceIsRight, PointIsRight, face_is_right, point_is_right}
 use Rattle.drc_verify.specs.Judged.{verdict_by, count_fits, mesh_verdict, cloud_verdict, rows_verdict, AreOneKind}
-use Rattle.drc_verify.specs.Laws.{YesIsSame, VerdictsAreTold, Says}
+use Rattle.drc_verify.specs.Laws.{YesIsSame, VerdictsAreTold, VerdictSays}
 use Rattle.drc_verify.proofs.HeadsDecided.{same_heads-decides}
 use Rattle.drc_verify.proofs.FirstsFound.{first_failing-none, first_failing-found}
 use Rattle.drc_verify.proofs.RowsDecided.{face-decides, point-decides}
@@ -96,9 +96,9 @@ mesh-right : (m n : MeshParts) (rows : Rows) → SameMesh m n rows → (i : ℕ)
 mesh-right m n rows same i below =
     (new-row (length m.faces) rows same.each_face i below, same.faces i (omega (arith, same.each_row)))
 
-mesh-says : (m n : MeshParts) (rows : Rows) → Says false (Mesh m) (Mesh n) rows (mesh_verdict m n rows)
+mesh-says : (m n : MeshParts) (rows : Rows) → VerdictSays false (Mesh m) (Mesh n) rows (mesh_verdict m n rows)
 mesh-says m n rows =
-    verdict-cases (Says false (Mesh m) (Mesh n) rows) (same_heads m.heads n.heads)
+    verdict-cases (VerdictSays false (Mesh m) (Mesh n) rows) (same_heads m.heads n.heads)
     (count_fits (length rows) (length m.faces) (length n.faces)) (length rows) (first_failing (face_is_right m n rows) (length rows))
     (λ no h. false≢true (sym no ∙ (same_heads-decides m.heads n.heads).1 h.1))
     (λ heads no. (
@@ -159,9 +159,9 @@ cloud-right : (m n : CloudParts) (rows : Rows) → SameCloud m n rows → (i : �
 cloud-right m n rows same i below =
     (new-row (length m.points) rows same.each_point i below, same.points i (omega (arith, same.each_row)))
 
-cloud-says : (m n : CloudParts) (rows : Rows) → Says true (Cloud m) (Cloud n) rows (cloud_verdict m n rows)
+cloud-says : (m n : CloudParts) (rows : Rows) → VerdictSays true (Cloud m) (Cloud n) rows (cloud_verdict m n rows)
 cloud-says m n rows =
-    verdict-cases (Says true (Cloud m) (Cloud n) rows) (same_heads m.heads n.heads)
+    verdict-cases (VerdictSays true (Cloud m) (Cloud n) rows) (same_heads m.heads n.heads)
     (count_fits (length rows) (length m.points) (length n.points)) (length rows) (first_failing (point_is_right m n rows) (length rows))
     (λ no h. false≢true (sym no ∙ (same_heads-decides m.heads n.heads).1 h.1))
     (λ heads no. (
@@ -218,6 +218,6 @@ yes-back cloud (Cloud m) (Mesh n) rows kind same = absurd same
 
 pub yes-same : YesIsSame
 yes-same cloud g n rows = (
-  λ yes. subst (Says cloud g n rows) yes (verdicts-told cloud g n rows),
+  λ yes. subst (VerdictSays cloud g n rows) yes (verdicts-told cloud g n rows),
   λ h. yes-back cloud g n rows h.0 h.1,
 )

@@ -16,8 +16,8 @@ use Rattle.pairing.specs.Pairing.{pairing}
 use Rattle.pairing.specs.CarriedPairs.{carried}
 use Rattle.pairing.specs.Degenerate.{degenerate_fault}
 use Rattle.ply_mesh.specs.Read.{ply_read}
-use Rattle.drc_container.specs.Meaning.{Surface, Meaning}
-use Rattle.drc_container.specs.Stream.{stream}
+use Rattle.drc_container.specs.reading.Meaning.{Surface, Meaning}
+use Rattle.drc_container.specs.reading.Stream.{stream}
 use Rattle.drc_verify.specs.declared.verdicts.Verdict.{Verdict}
 use Rattle.drc_verify.specs.declared.verdicts.Verdict.TheVariants as verdict
 use Rattle.drc_verify.specs.Judged.{rows_verdict, AreOneKind}
@@ -31,8 +31,8 @@ surface_asked None = Err (record { kind = Choice; at = 0 })
 surface_asked (Some s) = Ok s
 
 -- the surface that a table is
-abbrev pub surface_of : Table → Surface
-surface_of t = record { faces = t.faces; glued = gluing_of t }
+abbrev pub table_surface : Table → Surface
+table_surface t = record { faces = t.faces; glued = gluing_of t }
 
 -- whether the first attribute is a position, usage 0
 abbrev pub has_position : List Head → Bool
@@ -88,8 +88,8 @@ abbrev pub read_due : Bool → Bool → Rows → Geometry → List ℕ → Resul
 read_due surface cloud rows g bytes = stream bytes >>= λ n. verdict_asked surface cloud rows g n
 
 -- what is due of a text in place of its geometry: the verdict, or the first fault of both
-unfoldable pub due : Bool → Bool → Rows → List ℕ → List ℕ → Result Verdict Fault
-due surface cloud rows text bytes = do
+unfoldable pub verdict_due : Bool → Bool → Rows → List ℕ → List ℕ → Result Verdict Fault
+verdict_due surface cloud rows text bytes = do
   g ← ply_read text
   read_due surface cloud rows g bytes
 

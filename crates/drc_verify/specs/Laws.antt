@@ -33,18 +33,18 @@ abbrev pub HaveCounts : Geometry → Geometry → Rows → Type 0
 HaveCounts g n rows = (length rows ≡ count_of g) × (length rows ≡ count_of n)
 
 -- what a verdict says; that all before it is right is said too
-abbrev pub Says : Bool → Geometry → Geometry → Rows → Verdict → Type 0
-Says cloud g n rows verdict.Same = AreOneKind cloud g n × Same g n rows
-Says cloud g n rows verdict.Heads = HaveHeads cloud g n → ⊥
-Says cloud g n rows (verdict.Rows r) = HaveHeads cloud g n × (HaveCounts g n rows → ⊥) × (r ≡ length rows)
-Says cloud g n rows (verdict.Row i) =
+abbrev pub VerdictSays : Bool → Geometry → Geometry → Rows → Verdict → Type 0
+VerdictSays cloud g n rows verdict.Same = AreOneKind cloud g n × Same g n rows
+VerdictSays cloud g n rows verdict.Heads = HaveHeads cloud g n → ⊥
+VerdictSays cloud g n rows (verdict.Rows r) = HaveHeads cloud g n × (HaveCounts g n rows → ⊥) × (r ≡ length rows)
+VerdictSays cloud g n rows (verdict.Row i) =
     HaveHeads cloud g n × HaveCounts g n rows × (i < length rows) × (RowIsRight g n rows i → ⊥)
     × ((j : ℕ) → j < i → RowIsRight g n rows j)
-Says cloud g n rows (verdict.Pair s) = ⊥
+VerdictSays cloud g n rows (verdict.Pair s) = ⊥
 
 -- each verdict says so
 abbrev pub VerdictsAreTold : Type 0
-VerdictsAreTold = (cloud : Bool) (g n : Geometry) (rows : Rows) → Says cloud g n rows (rows_verdict cloud g n rows)
+VerdictsAreTold = (cloud : Bool) (g n : Geometry) (rows : Rows) → VerdictSays cloud g n rows (rows_verdict cloud g n rows)
 
 -- what is said of the first of so many sides that isn't glued alike in two surfaces
 abbrev pub SaysSides : ℕ → Gluing → Gluing → Option ℕ → Type 0

@@ -3,7 +3,7 @@ use Rattle.std.specs.Prelude.{◌≡◌, ℕ, ◌+◌, ◌<◌, ◌==◌, ◌&&�
 use Rattle.std.specs.Prelude.{slice_index_or}
 use Rattle.std.specs.List.{list_any}
 use Rattle.mesh_model.specs.Parts.{MeshParts, CloudParts, corner}
-use Rattle.mesh_model.specs.Same.{Rows, named, turn, SameFace, SamePoint}
+use Rattle.mesh_model.specs.Same.{Rows, named, turn, SameFace, SameCloudPoint}
 use Rattle.mesh_model.specs.Assembled.{same_row}
 
 -- row i names one of so many numbers, and no earlier row names it
@@ -16,11 +16,11 @@ FaceIsRight m n rows i = NamesNew (length m.faces) rows i × SameFace m n i (nam
 
 -- row i of a cloud is right: point i of n is the point of m that it names, its turn is 0, and no earlier row names that point
 abbrev pub PointIsRight : CloudParts → CloudParts → Rows → ℕ → Type 0
-PointIsRight m n rows i = NamesNew (length m.points) rows i × SamePoint m n i (named rows i) (turn rows i)
+PointIsRight m n rows i = NamesNew (length m.points) rows i × SameCloudPoint m n i (named rows i) (turn rows i)
 
 -- the same as tests
-unfoldable pub is_new : ℕ → Rows → ℕ → Bool
-is_new count rows i = nat_lt (named rows i) count && not (list_any (λ row. row.0 == named rows i) (take i rows))
+unfoldable pub names_new : ℕ → Rows → ℕ → Bool
+names_new count rows i = nat_lt (named rows i) count && not (list_any (λ row. row.0 == named rows i) (take i rows))
 
 -- corner k of face i of n has the integers of corner k + turn of face f of m
 abbrev pub same_corner : MeshParts → MeshParts → ℕ → ℕ → ℕ → ℕ → Bool
@@ -33,11 +33,11 @@ unfoldable pub same_point : CloudParts → CloudParts → ℕ → ℕ → ℕ �
 same_point m n i p turn = turn == 0 && same_row (slice_index_or n.points i []) (slice_index_or m.points p [])
 
 abbrev pub face_is_right : MeshParts → MeshParts → Rows → ℕ → Bool
-face_is_right m n rows i = is_new (length m.faces) rows i && same_face m n i (named rows i) (turn rows i)
+face_is_right m n rows i = names_new (length m.faces) rows i && same_face m n i (named rows i) (turn rows i)
 
 abbrev pub point_is_right : CloudParts → CloudParts → Rows → ℕ → Bool
-point_is_right m n rows i = is_new (length m.points) rows i && same_point m n i (named rows i) (turn rows i)
+point_is_right m n rows i = names_new (length m.points) rows i && same_point m n i (named rows i) (turn rows i)
 
 -- a number is marked exactly where one of the first i rows names it. This is the code's own word, for a step of its pass
-pub record AreMarked (rows : Rows) (i : ℕ) (seen : List Bool) : Type 0 where
+pub record AreSeen (rows : Rows) (i : ℕ) (seen : List Bool) : Type 0 where
   pub at : (f : ℕ) → f < length seen → slice_index_or seen f false ≡ list_any (λ row. row.0 == f) (take i rows)

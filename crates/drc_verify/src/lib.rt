@@ -1,9 +1,9 @@
 //! Whether a stream is a PLY text's geometry by the rows of a map, and if not, where it first differs.
 //! The contract above it: the verdict is a function of the map, the geometry of the text and what the
 //! stream means; it is `Same` exactly where the one is the other by the rows and, where surfaces are
-//! asked for, the stream's glued pairs are those of the geometry under the new numbers. It knows of
-//! reading alone: nothing here rests on how a geometry is encoded. What is checked is this project's
-//! choice.
+//! asked for, the stream's glued pairs are those of the geometry under the new numbers. It uses the
+//! code that reads alone: nothing here rests on how a geometry is encoded. What is checked is this
+//! project's choice.
 #![tactic(auto)]
 
 mod judging;

@@ -5,9 +5,9 @@
 //! searched for, and each face is looked at once, where it stands.
 
 ghost use Rattle.std.specs.Prelude.{◌≡◌, ◌+◌, ◌<◌, false, length, replicate, IfOk, IsTrue};
-ghost use Rattle.mesh_model.specs.Same.{named, turn, SameFace, SamePoint};
+ghost use Rattle.mesh_model.specs.Same.{named, turn, SameFace, SameCloudPoint};
 ghost use Rattle.drc_verify.specs.Firsts.{first_failing};
-ghost use Rattle.drc_verify.specs.RowTests.{is_new, same_face, same_point, face_is_right, point_is_right, AreMarked};
+ghost use Rattle.drc_verify.specs.RowTests.{names_new, same_face, same_point, face_is_right, point_is_right, AreSeen};
 
 use drc_base::Memory;
 use mesh_model::{Cloud, CornerMesh};
@@ -24,11 +24,11 @@ fn none_marked(alloc: Global, count: u32) -> Result<Vec<bool>, Memory>
 #[tactic(auto, using(crate::proofs::Marking::marked_more))]
 fn marks_new(seen: &mut Vec<bool>, rows: &[(u32, u8)], i: u32) -> bool
     requires row { i < length rows.now }
-    requires marked { AreMarked rows.now i seen.old.items }
-    ensures new { result ≡ is_new (length seen.old.items) rows.now i }
+    requires marked { AreSeen rows.now i seen.old.items }
+    ensures new { result ≡ names_new (length seen.old.items) rows.now i }
     ensures within { IsTrue result → named rows.now i < length seen.old.items }
     ensures len { length seen.new.items ≡ length seen.old.items }
-    ensures marked { IsTrue result → AreMarked rows.now (i + 1) seen.new.items }
+    ensures marked { IsTrue result → AreSeen rows.now (i + 1) seen.new.items }
 {
     let number = rows[i as usize].0 as usize;
     if number >= seen.len() || seen[number] {
@@ -67,10 +67,10 @@ fn is_right_face(
     requires row { i < length rows.now }
     requires face { i < length n.now.faces }
     requires marks { length seen.old.items ≡ length m.now.faces }
-    requires marked { AreMarked rows.now i seen.old.items }
+    requires marked { AreSeen rows.now i seen.old.items }
     ensures right { result ≡ face_is_right m.now n.now rows.now i }
     ensures marks { length seen.new.items ≡ length m.now.faces }
-    ensures marked { IsTrue result → AreMarked rows.now (i + 1) seen.new.items }
+    ensures marked { IsTrue result → AreSeen rows.now (i + 1) seen.new.items }
 {
     if !marks_new(seen, rows, i) {
         return false;
@@ -84,10 +84,10 @@ fn is_right_point(m: &Cloud, n: &Cloud, rows: &[(u32, u8)], i: u32, seen: &mut V
     requires row { i < length rows.now }
     requires point { i < length n.now.points }
     requires marks { length seen.old.items ≡ length m.now.points }
-    requires marked { AreMarked rows.now i seen.old.items }
+    requires marked { AreSeen rows.now i seen.old.items }
     ensures right { result ≡ point_is_right m.now n.now rows.now i }
     ensures marks { length seen.new.items ≡ length m.now.points }
-    ensures marked { IsTrue result → AreMarked rows.now (i + 1) seen.new.items }
+    ensures marked { IsTrue result → AreSeen rows.now (i + 1) seen.new.items }
 {
     if !marks_new(seen, rows, i) {
         return false;

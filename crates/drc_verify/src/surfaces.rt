@@ -7,8 +7,8 @@ ghost use Rattle.corner_table.specs.Carried.{IsRenumbering};
 ghost use Rattle.corner_table.specs.Sides.{IsGluing};
 ghost use Rattle.corner_table.specs.Table.{gluing_of};
 ghost use Rattle.pairing.specs.CarriedPairs.{carried};
-ghost use Rattle.drc_container.specs.Meaning.{surface_in, told_by};
-ghost use Rattle.drc_verify.specs.Checked.{surface_asked, surface_of, has_position, mesh_asked, pairs_asked, text_pairs, with_pairs, glued_verdict, surface_verdict, IsSame, HasFaces};
+ghost use Rattle.drc_container.specs.reading.Meaning.{surface_in, told_by};
+ghost use Rattle.drc_verify.specs.Checked.{surface_asked, table_surface, has_position, mesh_asked, pairs_asked, text_pairs, with_pairs, glued_verdict, surface_verdict, IsSame, HasFaces};
 ghost use Rattle.drc_verify.specs.SideTests.{first_other};
 ghost use Rattle.drc_verify.specs.declared.verdicts.Verdict.TheVariants as verdict;
 
@@ -27,7 +27,7 @@ use std::sync::ledger::{Blank, Ledger};
 
 /// The table of a stream's surface; Choice where it has none.
 fn table_asked(sides: Option<Built>) -> Result<SideTable, Refusal>
-    ensures table { Answers surface_of (surface_asked (option_map surface_in sides)) result }
+    ensures table { Answers table_surface (surface_asked (option_map surface_in sides)) result }
     ensures gluing { IfOk result (λ t. IsGluing t.faces (gluing_of t)) }
 {
     match sides {
@@ -142,7 +142,7 @@ fn judge_glued(
     sides: &SideTable,
 ) -> Result<Verdict, Memory>
     requires { pairs.faces ≡ length m.now.faces }
-    ensures { IfOk result (λ v. v ≡ glued_verdict cloud m.now n.now rows.now (gluing_of pairs) (surface_of sides.now)) }
+    ensures { IfOk result (λ v. v ≡ glued_verdict cloud m.now n.now rows.now (gluing_of pairs) (table_surface sides.now)) }
 {
     match judge_mesh(alloc, cloud, rows, m, n)? {
         Verdict::Same => judge_pairs(alloc, pairs, rows, sides),
@@ -172,7 +172,7 @@ pub(crate) fn judge_surface(
     let Decoded {
         geometry,
         sides,
-        seen: _,
+        info: _,
     } = n;
     let sides = table_asked(sides)?;
     let mesh = mesh_asked(g)?;

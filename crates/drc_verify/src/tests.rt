@@ -7,6 +7,8 @@ use mesh_model::{MapRead, Renumber};
 use ply_mesh::read_ply;
 use std::alloc::{AllocError, Global};
 use std::test::Fail;
+use worked_surfaces::TETRAHEDRON_ROWS;
+use worked_surfaces::streams::{APART, CLOUD, TETRAHEDRON};
 
 /// A tetrahedron.
 const SOLID: &str = "ply
@@ -50,15 +52,6 @@ end_header
 3 0 3 2
 ";
 
-/// The tetrahedron by Edgebreaker.
-const SOLID_STREAM: [u8; 58] = [
-    68, 82, 65, 67, 79, 2, 2, 1, 1, 0, 0, 0, 4, 4, 0, 3, 0, 0, 1, 47, 1, 1, 16, 1, 255, 0, 0, 1, 0,
-    5, 3, 0, 0, 1, 1, 1, 0, 1, 0, 0, 1, 0, 1, 1, 0, 1, 0, 1, 1, 0, 0, 0, 0, 0, 1, 0, 0, 0,
-];
-
-/// Its map.
-const SOLID_ROWS: [(u32, u8); 4] = [(3, 0), (2, 1), (1, 2), (0, 1)];
-
 /// A square of two triangles.
 const SQUARE: &str = "ply
 format ascii 1.0
@@ -77,12 +70,6 @@ end_header
 3 0 1 2
 3 1 3 2
 ";
-
-/// The square by Edgebreaker, whose triangles aren't glued.
-const APART_STREAM: [u8; 55] = [
-    68, 82, 65, 67, 79, 2, 2, 1, 1, 0, 0, 0, 6, 2, 0, 2, 0, 0, 1, 63, 255, 1, 34, 1, 255, 0, 0, 1,
-    0, 5, 3, 0, 0, 1, 254, 0, 1, 4, 0, 0, 0, 4, 0, 0, 0, 0, 4, 4, 0, 0, 4, 0, 4, 0, 0,
-];
 
 /// A square with a face of two equal corners.
 const FLAT: &str = "ply
@@ -161,12 +148,6 @@ end_header
 5 5 6
 ";
 
-/// It as a stream.
-const POINTS_STREAM: [u8; 44] = [
-    68, 82, 65, 67, 79, 2, 3, 0, 0, 0, 0, 3, 0, 0, 0, 1, 1, 0, 5, 3, 0, 0, 1, 0, 1, 0, 1, 0, 0, 0,
-    0, 0, 0, 0, 0, 1, 5, 0, 0, 0, 6, 0, 0, 0,
-];
-
 /// What was read of a map of these rows.
 fn map_of(alloc: Global, cloud: bool, rows: &[(u32, u8)]) -> Result<MapRead, AllocError> {
     Ok(MapRead {
@@ -195,7 +176,7 @@ fn check(
 fn judges_the_rows_of_a_mesh(rt: HostRuntime) -> Result<(), Fail> {
     let alloc = rt.alloc();
     for (rows, due) in [
-        (SOLID_ROWS.as_slice(), Verdict::Same),
+        (TETRAHEDRON_ROWS.as_slice(), Verdict::Same),
         ([(3, 0), (2, 0), (1, 2), (0, 1)].as_slice(), Verdict::Row(1)),
         ([(3, 0), (2, 1), (1, 2), (0, 0)].as_slice(), Verdict::Row(3)),
         ([(3, 3), (2, 1), (1, 2), (0, 1)].as_slice(), Verdict::Row(0)),
@@ -205,7 +186,7 @@ fn judges_the_rows_of_a_mesh(rt: HostRuntime) -> Result<(), Fail> {
         ([].as_slice(), Verdict::Rows(0)),
     ] {
         for surface in [false, true] {
-            let verdict = check(alloc, false, rows, SOLID, &SOLID_STREAM, surface);
+            let verdict = check(alloc, false, rows, SOLID, &TETRAHEDRON, surface);
             assert_eq!(rt; verdict.ok(), Some(due));
         }
     }
@@ -257,16 +238,10 @@ fn judges_what_is_compared(rt: HostRuntime) -> Result<(), Fail> {
             false,
             plain,
             FLAGGED,
-            SOLID_STREAM.as_slice(),
+            TETRAHEDRON.as_slice(),
             Verdict::Heads,
         ),
-        (
-            false,
-            plain,
-            TWICE,
-            POINTS_STREAM.as_slice(),
-            Verdict::Heads,
-        ),
+        (false, plain, TWICE, CLOUD.as_slice(), Verdict::Heads),
     ] {
         assert_eq!(rt;
             check(alloc, cloud, rows, text, stream, false).ok(),
@@ -288,7 +263,7 @@ fn judges_the_rows_of_a_cloud(rt: HostRuntime) -> Result<(), Fail> {
         ([(0, 0), (2, 0), (1, 0)].as_slice(), Verdict::Row(1)),
         ([(0, 0)].as_slice(), Verdict::Rows(1)),
     ] {
-        let verdict = check(alloc, true, rows, POINTS, &POINTS_STREAM, false);
+        let verdict = check(alloc, true, rows, POINTS, &CLOUD, false);
         assert_eq!(rt; verdict.ok(), Some(due));
     }
     Ok(())
@@ -299,11 +274,11 @@ fn judges_the_pairs(rt: HostRuntime) -> Result<(), Fail> {
     let alloc = rt.alloc();
     let plain = [(0, 0), (1, 0)].as_slice();
     assert_eq!(rt;
-        check(alloc, false, plain, SQUARE, &APART_STREAM, false).ok(),
+        check(alloc, false, plain, SQUARE, &APART, false).ok(),
         Some(Verdict::Same)
     );
     assert_eq!(rt;
-        check(alloc, false, plain, SQUARE, &APART_STREAM, true).ok(),
+        check(alloc, false, plain, SQUARE, &APART, true).ok(),
         Some(Verdict::Pair(0))
     );
     Ok(())
@@ -315,7 +290,7 @@ fn judges_a_text_that_was_read(rt: HostRuntime) -> Result<(), Fail> {
     let map = map_of(alloc, false, &[(0, 0), (1, 0)])?;
     let geometry = read_ply(alloc, SQUARE.as_bytes())?;
     for (surface, due) in [(false, Verdict::Same), (true, Verdict::Pair(0))] {
-        let verdict = verify_read(alloc, &map, &geometry, &APART_STREAM, surface);
+        let verdict = verify_read(alloc, &map, &geometry, &APART, surface);
         assert_eq!(rt; verdict.ok(), Some(due));
     }
     Ok(())
@@ -331,9 +306,9 @@ fn refuses_what_has_no_verdict(rt: HostRuntime) -> Result<(), Fail> {
         (SQUARE, broken, true, Kind::Magic, 0),
         (TWICE, TWICE_STREAM.as_slice(), true, Kind::Choice, 0),
         (POINTS, TWICE_STREAM.as_slice(), true, Kind::Choice, 0),
-        (POINTS, APART_STREAM.as_slice(), true, Kind::NoPosition, 0),
-        (NORMALS, APART_STREAM.as_slice(), true, Kind::NoPosition, 0),
-        (FLAT, APART_STREAM.as_slice(), true, Kind::Degenerate, 1),
+        (POINTS, APART.as_slice(), true, Kind::NoPosition, 0),
+        (NORMALS, APART.as_slice(), true, Kind::NoPosition, 0),
+        (FLAT, APART.as_slice(), true, Kind::Degenerate, 1),
     ] {
         let due = Refusal::Fault(Fault { kind, at });
         assert_eq!(rt;

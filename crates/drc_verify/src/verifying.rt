@@ -4,9 +4,9 @@ ghost use Rattle.std.specs.Prelude.{◌≡◌, ◌↔◌, true, false, Ok, IfOk}
 ghost use Rattle.drc_base.specs.Refusals.{Answers};
 ghost use Rattle.mesh_model.specs.declared.geometries.Geometry.{Geometry as AnyGeometry};
 ghost use Rattle.ply_mesh.specs.Read.{ply_read};
-ghost use Rattle.drc_container.specs.Meaning.{Meaning};
-ghost use Rattle.drc_container.specs.Stream.{stream as meaning_of_stream};
-ghost use Rattle.drc_verify.specs.Checked.{due, read_due, IsSame};
+ghost use Rattle.drc_container.specs.reading.Meaning.{Meaning};
+ghost use Rattle.drc_container.specs.reading.Stream.{stream as meaning_of_stream};
+ghost use Rattle.drc_verify.specs.Checked.{verdict_due, read_due, IsSame};
 ghost use Rattle.drc_verify.specs.declared.verdicts.Verdict.TheVariants as verdict;
 
 use crate::judging::judge;
@@ -77,7 +77,7 @@ pub fn verify_read(
 /// the stream's first fault; and with `surface` Choice at 0 where the stream isn't Edgebreaker, NoPosition at
 /// 0 where the text is a cloud or its first attribute is no position, Degenerate at the text's first face with
 /// two corners at one position.
-#[tactic(auto, unfolding(crate::specs::Checked::due))]
+#[tactic(auto, unfolding(crate::specs::Checked::verdict_due))]
 pub fn verify(
     alloc: Global,
     map: &MapRead,
@@ -85,7 +85,7 @@ pub fn verify(
     stream: &[u8],
     surface: bool,
 ) -> Result<Verdict, Refusal>
-    ensures verdict { Answers (λ v. v) (due surface map.now.cloud map.now.rows.rows ply.now stream.now) result }
+    ensures verdict { Answers (λ v. v) (verdict_due surface map.now.cloud map.now.rows.rows ply.now stream.now) result }
     ensures same { (g : AnyGeometry) (n : Meaning) → ply_read ply.now ≡ Ok g → meaning_of_stream stream.now ≡ Ok n
         → IfOk result (λ v. (v ≡ verdict.Same) ↔ IsSame surface map.now.cloud map.now.rows.rows g n) }
 {

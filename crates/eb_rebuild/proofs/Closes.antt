@@ -4,7 +4,7 @@ use Rattle.drc_base.specs.declared.kinds.Kind.TheVariants as kind
 use Rattle.drc_base.specs.declared.faults.Fault.{Fault}
 use Rattle.drc_base.specs.Steps.{◌>>=◌}
 use Rattle.corner_table.specs.Sides.{Side}
-use Rattle.eb_rebuild.specs.Machine.{State, Plan, start, step, close, finish, must, fault, first_degenerate, take_symbols, close_all, rebuild}
+use Rattle.eb_rebuild.specs.Machine.{State, Plan, start, step, close, finish, must_be, fault, first_degenerate, take_symbols, close_all, rebuild}
 use Rattle.eb_rebuild.specs.Closes.{SymbolsCloseNone, CloseTakesOne, AllAreClosed, FinishKeepsState, RunClosesAll}
 use Rattle.eb_rebuild.proofs.Steps.{Next}
 use Rattle.eb_rebuild.proofs.Counts.{If, if_ok, if_then, step_counts, close_counts}
@@ -56,8 +56,8 @@ all_are_closed p bits s t e = closed p bits s.stack s t refl e
 kept_where_tested : (p : Plan) (s : State) → If (λ (t : State). t ≡ s) (finish p s)
 unfolding finish
 kept_where_tested p s =
-    if_then (λ (t : State). t ≡ s) (must (s.built == p.faces) kind.FaceCount s.built) (λ u. must (nat_le s.made p.created) kind.VertexCount s.made >>= λ v. last (first_degenerate s.built s.glued s.built))
-    (λ u. if_then (λ (t : State). t ≡ s) (must (nat_le s.made p.created) kind.VertexCount s.made) (λ v. last (first_degenerate s.built s.glued s.built))
+    if_then (λ (t : State). t ≡ s) (must_be (s.built == p.faces) kind.FaceCount s.built) (λ u. must_be (nat_le s.made p.created) kind.VertexCount s.made >>= λ v. last (first_degenerate s.built s.glued s.built))
+    (λ u. if_then (λ (t : State). t ≡ s) (must_be (nat_le s.made p.created) kind.VertexCount s.made) (λ v. last (first_degenerate s.built s.glued s.built))
     (λ v. kept (first_degenerate s.built s.glued s.built)))
   where
     last : Option ℕ → Next

@@ -6,7 +6,7 @@ use Rattle.drc_base.specs.Steps.{◌>>=◌}
 use Rattle.corner_table.specs.declared.symbols.Symbol.{Symbol}
 use Rattle.corner_table.specs.declared.symbols.Symbol.TheVariants.{C, S, L, R, E}
 use Rattle.corner_table.specs.Sides.{Side, side_at, second, third, side, same, glue}
-use Rattle.eb_rebuild.specs.Machine.{State, Plan, step, close, close_top, must, top, pushed, release, with_events, grown, note_events}
+use Rattle.eb_rebuild.specs.Machine.{State, Plan, step, close, close_top, must_be, top, pushed, release, with_events, grown, note_events}
 use Rattle.corner_table.specs.Fans.{side_before}
 use Rattle.eb_rebuild.proofs.Steps.{Next, tip_rest, split_rest, split_last, loop_test, fill_loop, fill_count, filled_state}
 
@@ -39,13 +39,13 @@ one_face n R s = if_then (OneFace s) (top s.built s.glued s.stack) (λ a. with_e
 one_face n L s = if_then (OneFace s) (top s.built s.glued s.stack) (λ a. with_events n s (grown s (glue (side s.built second) a.0 s.glued) a.1 1))
     (λ a. one_face_noted n s (grown s (glue (side s.built second) a.0 s.glued) a.1 1) (refl, refl))
 one_face n C s = if_then (OneFace s) (top s.built s.glued s.stack) (tip_rest s)
-    (λ a. if_then (OneFace s) (must (not (same (side_before s.built s.glued a.0) a.0)) kind.Alone s.built)
+    (λ a. if_then (OneFace s) (must_be (not (same (side_before s.built s.glued a.0) a.0)) kind.Alone s.built)
     (λ u. let x : Next = Ok (grown s (glue (side s.built third) (side_before s.built s.glued a.0) (glue (side s.built second) a.0 s.glued)) a.1 0) in x) (λ u. (refl, refl)))
 one_face n S s = if_then (OneFace s) (top s.built s.glued s.stack) (split_rest s)
     (λ b. if_then (OneFace s) (top s.built s.glued (pushed (s.reserved s.built) b.1)) (split_last s b.0)
-    (λ a. if_then (OneFace s) (must (not (same a.0 b.0)) kind.Gone s.built)
-    (λ u. must (not (same (side_before s.built s.glued b.0) a.0)) kind.SamePoint s.built >>= λ v. let x : Next = Ok (record (grown s (glue (side s.built second) b.0 (glue (side s.built third) a.0 s.glued)) a.1 0) { reserved = release s.built s.reserved }) in x)
-    (λ u. if_then (OneFace s) (must (not (same (side_before s.built s.glued b.0) a.0)) kind.SamePoint s.built)
+    (λ a. if_then (OneFace s) (must_be (not (same a.0 b.0)) kind.Gone s.built)
+    (λ u. must_be (not (same (side_before s.built s.glued b.0) a.0)) kind.SamePoint s.built >>= λ v. let x : Next = Ok (record (grown s (glue (side s.built second) b.0 (glue (side s.built third) a.0 s.glued)) a.1 0) { reserved = release s.built s.reserved }) in x)
+    (λ u. if_then (OneFace s) (must_be (not (same (side_before s.built s.glued b.0) a.0)) kind.SamePoint s.built)
     (λ v. let x : Next = Ok (record (grown s (glue (side s.built second) b.0 (glue (side s.built third) a.0 s.glued)) a.1 0) { reserved = release s.built s.reserved }) in x) (λ v. (refl, refl)))))
 
 -- a symbol builds one face
@@ -59,9 +59,9 @@ OneSide s rest t = (t.stack ≡ rest) × (s.built ≤ t.built) × (t.closes ≡ 
 one_side : (n : ℕ) (p : Plan) (b : Bool) (s : State) (a : Side) (rest : List Side) → If (OneSide s rest) (close_top n p b (a ∷ rest) s)
 one_side n p false s a rest = (refl, omega arith, refl)
 one_side n p true s a rest =
-    if_then (OneSide s rest) (must (is_none (s.glued a)) kind.Gone n) (fill_loop n p a rest s)
-    (λ u. if_then (OneSide s rest) (must (loop_test s a) kind.Loop n) (fill_count p a rest s)
-    (λ v. if_then (OneSide s rest) (must (not (s.built == p.faces)) kind.FaceCount s.built) (λ w. let x : Next = Ok (filled_state a rest s) in x)
+    if_then (OneSide s rest) (must_be (is_none (s.glued a)) kind.Gone n) (fill_loop n p a rest s)
+    (λ u. if_then (OneSide s rest) (must_be (loop_test s a) kind.Loop n) (fill_count p a rest s)
+    (λ v. if_then (OneSide s rest) (must_be (not (s.built == p.faces)) kind.FaceCount s.built) (λ w. let x : Next = Ok (filled_state a rest s) in x)
     (λ w. (refl, omega arith, refl))))
 
 -- a close takes the top side off

@@ -3,14 +3,14 @@ use Rattle.std.proofs.Common.{◌≡◌, ◌≢◌, ℕ, ◌<◌, ◌≤◌, ◌
 use Rattle.std.proofs.lemmas.Bool.{lt-leb}
 use Rattle.drc_base.specs.declared.kinds.Kind.TheVariants as kind
 use Rattle.drc_base.specs.Steps.{◌>>=◌}
-use Rattle.eb_rebuild.specs.Machine.{State, Plan, finish, must, fault, first_degenerate}
+use Rattle.eb_rebuild.specs.Machine.{State, Plan, finish, must_be, fault, first_degenerate}
 use Rattle.eb_rebuild.proofs.Steps.{Next, must_hold, must_fail}
 
 abbrev last : State → Unit {0} → Next
 last s u = elim (first_degenerate s.built s.glued s.built) [ None ↦ Ok s | Some f ↦ Err (fault kind.Degenerate f) ]
 
 abbrev vertices : Plan → State → Unit {0} → Next
-vertices p s u = must (nat_le s.made p.created) kind.VertexCount s.made >>= last s
+vertices p s u = must_be (nat_le s.made p.created) kind.VertexCount s.made >>= last s
 
 pub finish_faces : (p : Plan) (s : State) (n : ℕ) → s.built ≢ p.faces → n ≡ s.built → finish p s ≡ Err (fault kind.FaceCount n)
 unfolding finish

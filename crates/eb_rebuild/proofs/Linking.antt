@@ -14,7 +14,7 @@ use Rattle.corner_table.specs.Table.{Table, gluing_of, glued_in, room_of}
 use Rattle.corner_table.proofs.Numbers.{side_at-number}
 use Rattle.eb_rebuild.specs.declared.beside.Beside.{Beside}
 use Rattle.eb_rebuild.specs.declared.beside.Beside.TheVariants.{Left, Right}
-use Rattle.eb_rebuild.specs.Beside.{symbol_of, glued_place}
+use Rattle.eb_rebuild.specs.Beside.{symbol_in, glued_place}
 use Rattle.eb_rebuild.specs.Machine.{State, Plan, close, fill, top, pushed, release, note_events, step, fault}
 use Rattle.eb_rebuild.specs.Kept.{StackValue, SplitsValue, kept_in, AreSidesBelow, AreKeptBelow}
 use Rattle.eb_rebuild.specs.Linked.{LinkValue, IsLinkState, state_of, Does}
@@ -121,13 +121,13 @@ NotedBy value new m i r =
     (λ x. note_events m i value.splits.events (kept_in value.splits.kept) ≡ Err x)
 
 pub beside_does : (b : Beside) (old mid value new : LinkValue) (a : ℕ) → Attached old mid value new a (glued_place b) → (m i : ℕ) (r : Result (Unit {0}) Fault) → m ≡ value.plan.symbols → i ≡ value.table.faces → NotedBy value new m i r →
-    Does (step old.plan.symbols (symbol_of b) (state_of old)) (state_of new) r
+    Does (step old.plan.symbols (symbol_in b) (state_of old)) (state_of new) r
 beside_does b old mid value new a A m i r p q h =
     let s : State = record (state_of value) { stack = side_at a ∷ map side_at value.stack.sides } in
     let free : gluing_of value.table (side_at a) ≡ None = ap (λ (v : LinkValue). gluing_of v.table (side_at a)) (A.view ∙ A.rest) ∙ A.free in
     let t = top_free value.table.faces (gluing_of value.table) (side_at a) (map side_at value.stack.sides) free in
-    from_taken old mid value a (λ n x. step n (symbol_of b) x) (state_of new) r A.rest A.view A.sides
-    (noted_does (step value.plan.symbols (symbol_of b) s) (state_of new) value.plan.symbols value.table.faces m i value.splits.events new.splits.events (kept_in value.splits.kept) (kept_in new.splits.kept) r p q h
+    from_taken old mid value a (λ n x. step n (symbol_in b) x) (state_of new) r A.rest A.view A.sides
+    (noted_does (step value.plan.symbols (symbol_in b) s) (state_of new) value.plan.symbols value.table.faces m i value.splits.events new.splits.events (kept_in value.splits.kept) (kept_in new.splits.kept) r p q h
     (λ e. beside_steps b value.plan.symbols s (side_at a) (map side_at value.stack.sides) new.splits.events (kept_in new.splits.kept) t e ∙ ap {A = State} Ok (attached_state old mid value new a (glued_place b) A))
     (λ x e. beside_refused b value.plan.symbols s (side_at a) (map side_at value.stack.sides) x t e))
 

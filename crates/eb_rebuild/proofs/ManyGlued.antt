@@ -3,7 +3,7 @@ use Rattle.std.proofs.Common.{◌≡◌, ◌≢◌, ℕ, suc, ◌<◌, [], ◌�
 use Rattle.std.proofs.lemmas.Bool.{cases_lt}
 use Rattle.corner_table.specs.Sides.{Side, Place, side, next, prev, Gluing, IsGluing, IsFree}
 use Rattle.corner_table.specs.Fans.{InFan}
-use Rattle.eb_rebuild.specs.OneFaceMore.{Pairs, glue_all, IsOther, IsOtherPlace, AreApart, Touches}
+use Rattle.eb_rebuild.specs.OneFaceMore.{Pairs, glue_all, IsOther, IsOtherPlace, PairsAreApart, Touches}
 use Rattle.corner_table.proofs.Places.{glue_other}
 use Rattle.corner_table.proofs.Gluings.{more_faces, new_free, glued_is, fan_stays, ends_join, starts_join, alike_after, free_before}
 
@@ -20,25 +20,25 @@ pub old_untouched : (f : ℕ) (ps : Pairs) (g : Gluing) (x : Side) → x.face < 
 old_untouched f [] g x h o = refl
 old_untouched f (p ∷ ps) g x h o = glue_other (side f p.0) p.1 x (glue_all f ps g) (old_other f x p.0 h) o.0 ∙ old_untouched f ps g x h o.1
 
-new_untouched : (f : ℕ) (ps : Pairs) (g : Gluing) (k : Place) → AreApart f g ps → IsOtherPlace k ps → glue_all f ps g (side f k) ≡ g (side f k)
+new_untouched : (f : ℕ) (ps : Pairs) (g : Gluing) (k : Place) → PairsAreApart f g ps → IsOtherPlace k ps → glue_all f ps g (side f k) ≡ g (side f k)
 new_untouched f [] g k A o = refl
 new_untouched f (p ∷ ps) g k A o = glue_other (side f p.0) p.1 (side f k) (glue_all f ps g) (place_other f k p.0 o.0) (new_other f k p.1 A.0.within) ∙ new_untouched f ps g k A.3 o.1
 
 -- a place that isn't glued is free
-pub new_is_free : {f : ℕ} {g : Gluing} → IsGluing f g → (ps : Pairs) (k : Place) → AreApart f g ps → IsOtherPlace k ps → IsFree (suc f) (glue_all f ps g) (side f k)
+pub new_is_free : {f : ℕ} {g : Gluing} → IsGluing f g → (ps : Pairs) (k : Place) → PairsAreApart f g ps → IsOtherPlace k ps → IsFree (suc f) (glue_all f ps g) (side f k)
 new_is_free {f} {g} G ps k A o = record { within = omega arith; free = new_untouched f ps g k A o ∙ new_free G (side f k) (omega arith) }
 
 -- and so is a free side of another
 pub old_is_free : (f : ℕ) (g : Gluing) (ps : Pairs) (x : Side) → IsFree f g x → IsOther x ps → IsFree (suc f) (glue_all f ps g) x
 old_is_free f g ps x X o = record { within = (let w = X.within in omega arith); free = old_untouched f ps g x X.within o ∙ X.free }
 
-pub all_gluing : {f : ℕ} {g : Gluing} → IsGluing f g → (ps : Pairs) → AreApart f g ps → IsGluing (suc f) (glue_all f ps g)
+pub all_gluing : {f : ℕ} {g : Gluing} → IsGluing f g → (ps : Pairs) → PairsAreApart f g ps → IsGluing (suc f) (glue_all f ps g)
 all_gluing {f} {g} G [] A = more_faces (suc f) (omega arith) G
 all_gluing {f} {g} G (p ∷ ps) A =
     glued_is (side f p.0) p.1 (all_gluing G ps A.3) (new_is_free G ps p.0 A.3 A.2) (old_is_free f g ps p.1 A.0 A.1) (let w = A.0.within in (λ e. absurd (let q : f ≡ p.1.face = e in omega arith)))
 
 -- fans only grow
-pub all_stay : {f : ℕ} {g : Gluing} → IsGluing f g → (ps : Pairs) → AreApart f g ps → {c d : Side} → InFan g c d → InFan (glue_all f ps g) c d
+pub all_stay : {f : ℕ} {g : Gluing} → IsGluing f g → (ps : Pairs) → PairsAreApart f g ps → {c d : Side} → InFan g c d → InFan (glue_all f ps g) c d
 all_stay {f} {g} G [] A w = w
 all_stay {f} {g} G (p ∷ ps) A w = fan_stays {faces = suc f} {g = glue_all f ps g} (side f p.0) p.1 (new_is_free G ps p.0 A.3 A.2) (old_is_free f g ps p.1 A.0 A.1) (all_stay G ps A.3 w)
 
@@ -58,7 +58,7 @@ pub record Meeting (f : ℕ) (g : Gluing) (name : Side → ℕ) (c : Side) : Typ
   pub in_fan : InFan g c old
   pub one_name : name c ≡ name old
 
-pub all_meet : {f : ℕ} {g : Gluing} → IsGluing f g → (name : Side → ℕ) (ps : Pairs) → AreApart f g ps → Meet f name ps → (k : Place) → Touches k ps → Meeting f (glue_all f ps g) name (side f k)
+pub all_meet : {f : ℕ} {g : Gluing} → IsGluing f g → (name : Side → ℕ) (ps : Pairs) → PairsAreApart f g ps → Meet f name ps → (k : Place) → Touches k ps → Meeting f (glue_all f ps g) name (side f k)
 all_meet {f} {g} G name [] A m k h = absurd h
 all_meet {f} {g} G name (p ∷ ps) A m k h = elim h [
   | inl e ↦ subst (λ (j : Place). Meeting f (glue_all f (p ∷ ps) g) name (side f j)) e
@@ -84,7 +84,7 @@ FreeCase f g ps x = (IsFree f g x × IsOther x ps) ⊎ ((x.face ≡ f) × IsOthe
 face_is : (f : ℕ) (x : Side) → x.face ≡ f → x ≡ side f x.place
 face_is f x e = ap (λ (n : ℕ). side n x.place) e
 
-pub free_tells : {f : ℕ} {g : Gluing} → IsGluing f g → (ps : Pairs) (x : Side) → AreApart f g ps → IsFree (suc f) (glue_all f ps g) x → FreeCase f g ps x
+pub free_tells : {f : ℕ} {g : Gluing} → IsGluing f g → (ps : Pairs) (x : Side) → PairsAreApart f g ps → IsFree (suc f) (glue_all f ps g) x → FreeCase f g ps x
 free_tells {f} {g} G [] x A X = elim (cases_lt x.face f) [
   | inl l ↦ inl (record { within = l; free = X.free }, tt)
   | inr l ↦ inr (let w = X.within in omega arith, tt)

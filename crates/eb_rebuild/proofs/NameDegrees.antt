@@ -9,7 +9,7 @@ use Rattle.corner_table.proofs.Numbers.{number_injective}
 use Rattle.corner_table.proofs.Walks.{starts_once, ends_once}
 use Rattle.corner_table.proofs.Boundary.{free-left, free-right}
 use Rattle.eb_rebuild.specs.Counted.{times_in}
-use Rattle.eb_rebuild.specs.KeptDegrees.{raised}
+use Rattle.eb_rebuild.specs.KeptDegrees.{degree_raised}
 use Rattle.eb_rebuild.specs.Named.{Triangle, Row, no_triangle, renamed, renamed_triangle}
 use Rattle.eb_rebuild.specs.Shown.{name_of, AreNames}
 use Rattle.eb_rebuild.proofs.NamedRules.{renamed_from, renamed_case}
@@ -122,11 +122,11 @@ one_end {ts} {rows} {g} {made} N s x A B e = prev_injective s x (ends_once N.glu
 -- the number at a side that follows a is raised: what is read at a free side
 pub raised_is : {ts : List Triangle} {rows : List Row} {g : Gluing} {made : ℕ} → AreNames ts rows g made → (a na s : Side) → IsFree (length ts) g na → name_of ts (next na) ≡ name_of ts (prev a) → IsFree (length ts) g s →
     (k : ℕ) (ds : List ℕ) → number na < length ds →
-    get_or (raised (number na) k ds) (number s) 0 ≡ get_or ds (number s) 0 + cond (name_of ts (next s) == name_of ts (prev a)) k 0
+    get_or (degree_raised (number na) k ds) (number s) 0 ≡ get_or ds (number s) 0 + cond (name_of ts (next s) == name_of ts (prev a)) k 0
 raised_is {ts} {rows} {g} {made} N a na s B e A k ds l = elim (same_tells s na) [
   | inl q ↦ (
       let i : number s ≡ number na = ap number q in
-      let x = ap (λ (j : ℕ). get_or (raised (number na) k ds) j 0) i in
+      let x = ap (λ (j : ℕ). get_or (degree_raised (number na) k ds) j 0) i in
       let y = get_or-set_same ds (number na) (get_or ds (number na) 0 + k) 0 l in
       let z = ap (λ (j : ℕ). get_or ds j 0) i in
       let w : ◌≡◌ {A = ℕ} (cond (name_of ts (next s) == name_of ts (prev a)) k 0) k = cond-true (name_of ts (next s) == name_of ts (prev a)) k 0 (eq-eqb (name_of ts (next s)) (name_of ts (prev a)) (ap (λ (y : Side). name_of ts (next y)) q ∙ e)) in

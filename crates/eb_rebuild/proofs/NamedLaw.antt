@@ -13,8 +13,8 @@ use Rattle.corner_table.specs.Sides.{Side, Place, first, second, third, side, sa
 use Rattle.corner_table.specs.Fans.{side_before, meets}
 use Rattle.corner_table.proofs.Places.{option_tells, Some_injective, same-true, same-false}
 use Rattle.corner_table.proofs.Meeting.{fan_meets, meets-fan}
-use Rattle.eb_rebuild.specs.Machine.{State, Plan, start, step, close, close_top, finish, rebuild, take_symbols, close_all, first_degenerate, is_degenerate, fault, must, top, pushed, reserve, release, event_place, note_events, with_events, grown}
-use Rattle.eb_rebuild.specs.Named.{Triangle, no_triangle, Row, new_row, row_of, row_before, without, renamed, renamed_triangle, renamed_row, NamedState, named_start, row_or_gone, top_row, named_events, named_rule, named_step, named_fill, named_close_top, named_close, has_equal, first_with_equal, named_finish, named_symbols, named_closes, named_rebuild}
+use Rattle.eb_rebuild.specs.Machine.{State, Plan, start, step, close, close_top, finish, rebuild, take_symbols, close_all, first_degenerate, is_degenerate, fault, must_be, top, pushed, reserve, release, event_place, note_events, with_events, grown}
+use Rattle.eb_rebuild.specs.Named.{Triangle, no_triangle, Row, new_row, row_at_side, row_before, without, renamed, renamed_triangle, renamed_row, NamedState, named_start, row_or_gone, top_row, named_events, named_rule, named_step, named_fill, named_close_top, named_close, has_equal, first_with_equal, named_finish, named_symbols, named_closes, named_rebuild}
 use Rattle.eb_rebuild.specs.Shown.{name_of, row_named, AreNames, without_names, AreBelow, KeptBelow, Shows, Agree}
 use Rattle.eb_rebuild.proofs.Steps.{same_state, tip_rest, split_rest, split_last, loop_test, fill_loop, fill_count, filled_state}
 use Rattle.eb_rebuild.proofs.NamedRules.{row_is, no_row, row_before_is, before_ends, one_point_is, names_start, end_names, right_names, left_names, tip_names, split_names, fill_names}
@@ -35,7 +35,7 @@ agree_one Q (Err e) f h k = refl
 
 -- two tests that are one
 pub agree_must : {A' B' : Type 0} (Q : A' → B' → Type 0) (t u : Bool) (k : Kind) (n : ℕ) (f : Unit {0} → Result A' Fault) (h : Unit {0} → Result B' Fault) →
-    t ≡ u → (t ≡ true → Agree Q (f tt) (h tt)) → Agree Q (must t k n >>= f) (must u k n >>= h)
+    t ≡ u → (t ≡ true → Agree Q (f tt) (h tt)) → Agree Q (must_be t k n >>= f) (must_be u k n >>= h)
 agree_must Q true true k n f h e go = go refl
 agree_must Q false false k n f h e go = refl
 agree_must Q true false k n f h e go = absurd (cc)
@@ -46,16 +46,16 @@ abbrev pub Tops : List Triangle → Gluing → Row × List Side → Side × List
 Tops ts g y z = (y ≡ (row_named ts z.0, z.1)) × IsFree (length ts) g z.0 × AreBelow (length ts) z.1
 
 top_case : {ts : List Triangle} {rows : List Row} {g : Gluing} {made : ℕ} → AreNames ts rows g made → (i : ℕ) (a : Side) (rest : List Side) → a.face < length ts → AreBelow (length ts) rest →
-    Agree (Tops ts g) (row_or_gone i (row_of a rows) >>= λ r. let x : Result (Row × List Side) Fault = Ok (r, rest) in x) (must (is_none (g a)) kind.Gone i >>= λ u. let x : Result (Side × List Side) Fault = Ok (a, rest) in x)
+    Agree (Tops ts g) (row_or_gone i (row_at_side a rows) >>= λ r. let x : Result (Row × List Side) Fault = Ok (r, rest) in x) (must_be (is_none (g a)) kind.Gone i >>= λ u. let x : Result (Side × List Side) Fault = Ok (a, rest) in x)
 top_case {ts} {rows} {g} {made} N i a rest h B = elim (option_tells (g a)) [
   | inl n ↦ (
       let A : IsFree (length ts) g a = record { within = h; free = n } in
-      subst (λ (o : Option Row). Agree (Tops ts g) (row_or_gone i o >>= λ r. let x : Result (Row × List Side) Fault = Ok (r, rest) in x) (must (is_none (g a)) kind.Gone i >>= λ u. let x : Result (Side × List Side) Fault = Ok (a, rest) in x)) (sym (row_is N a A))
-      (subst (λ (o : Option Side). Agree (Tops ts g) (let x : Result (Row × List Side) Fault = Ok (row_named ts a, rest) in x) (must (is_none o) kind.Gone i >>= λ u. let x : Result (Side × List Side) Fault = Ok (a, rest) in x)) (sym n)
+      subst (λ (o : Option Row). Agree (Tops ts g) (row_or_gone i o >>= λ r. let x : Result (Row × List Side) Fault = Ok (r, rest) in x) (must_be (is_none (g a)) kind.Gone i >>= λ u. let x : Result (Side × List Side) Fault = Ok (a, rest) in x)) (sym (row_is N a A))
+      (subst (λ (o : Option Side). Agree (Tops ts g) (let x : Result (Row × List Side) Fault = Ok (row_named ts a, rest) in x) (must_be (is_none o) kind.Gone i >>= λ u. let x : Result (Side × List Side) Fault = Ok (a, rest) in x)) (sym n)
       (refl, A, B)))
   | inr b ↦ (
-      subst (λ (o : Option Row). Agree (Tops ts g) (row_or_gone i o >>= λ r. let x : Result (Row × List Side) Fault = Ok (r, rest) in x) (must (is_none (g a)) kind.Gone i >>= λ u. let x : Result (Side × List Side) Fault = Ok (a, rest) in x)) (sym (no_row N a b.0 b.1))
-      (subst (λ (o : Option Side). Agree (Tops ts g) (let x : Result (Row × List Side) Fault = Err (fault kind.Gone i) in x) (must (is_none o) kind.Gone i >>= λ u. let x : Result (Side × List Side) Fault = Ok (a, rest) in x)) (sym b.1) refl))
+      subst (λ (o : Option Row). Agree (Tops ts g) (row_or_gone i o >>= λ r. let x : Result (Row × List Side) Fault = Ok (r, rest) in x) (must_be (is_none (g a)) kind.Gone i >>= λ u. let x : Result (Side × List Side) Fault = Ok (a, rest) in x)) (sym (no_row N a b.0 b.1))
+      (subst (λ (o : Option Side). Agree (Tops ts g) (let x : Result (Row × List Side) Fault = Err (fault kind.Gone i) in x) (must_be (is_none o) kind.Gone i >>= λ u. let x : Result (Side × List Side) Fault = Ok (a, rest) in x)) (sym b.1) refl))
 ]
 
 pub top_agrees : {ts : List Triangle} {rows : List Row} {g : Gluing} {made : ℕ} → AreNames ts rows g made → (i : ℕ) (stack : List Side) → AreBelow (length ts) stack → Agree (Tops ts g) (top_row i rows stack) (top i g stack)
@@ -96,7 +96,7 @@ abbrev NotedBelow : ℕ → Noted → Type 0
 NotedBelow f (Ok noted) = KeptBelow f noted.1
 NotedBelow f (Err e) = Unit {0}
 
-must_noted : (f : ℕ) (t : Bool) (k : Kind) (n : ℕ) (h : Unit {0} → Noted) → NotedBelow f (h tt) → NotedBelow f (must t k n >>= h)
+must_noted : (f : ℕ) (t : Bool) (k : Kind) (n : ℕ) (h : Unit {0} → Noted) → NotedBelow f (h tt) → NotedBelow f (must_be t k n >>= h)
 must_noted f true k n h p = p
 must_noted f false k n h p = tt
 
@@ -110,7 +110,7 @@ note_below f n i [] kept h K = K
 note_below f n i (e ∷ events) kept h K =
     let rest : Unit {0} → Noted = λ u. note_events n i events (reserve (n - suc e.split) (side i (event_place e.right)) kept) in
     cond_noted f (nat_lt e.source (n - suc i)) _ _ K
-    (must_noted f (not (nat_lt (n - suc i) e.source)) kind.EventOrder i (λ u. must (is_none (kept (n - suc e.split))) kind.Taken i >>= rest)
+    (must_noted f (not (nat_lt (n - suc i) e.source)) kind.EventOrder i (λ u. must_be (is_none (kept (n - suc e.split))) kind.Taken i >>= rest)
     (must_noted f (is_none (kept (n - suc e.split))) kind.Taken i rest
     (note_below f n i events (reserve (n - suc e.split) (side i (event_place e.right)) kept) h (reserve_below f (n - suc e.split) (side i (event_place e.right)) kept h K))))
 
@@ -275,7 +275,7 @@ tip_made x a rest b =
     })
 
 abbrev pub tip_found : NamedState → Row → List Side → Row → Result NamedState Fault
-tip_found x a rest b = must (not (same b.side a.side)) kind.Alone (length x.triangles) >>= λ u. tip_made x a rest b
+tip_found x a rest b = must_be (not (same b.side a.side)) kind.Alone (length x.triangles) >>= λ u. tip_made x a rest b
 
 abbrev pub named_tip : NamedState → Row × List Side → Result NamedState Fault
 named_tip x a = tip_found x a.0 a.1 (row_before a.0 x.rows)
@@ -328,8 +328,8 @@ split_made x b a rest =
 
 abbrev pub named_split_last : NamedState → Row → Row × List Side → Result NamedState Fault
 named_split_last x b a =
-    must (not (same a.0.side b.side)) kind.Gone (length x.triangles) >>= λ u.
-    must (not (b.from == a.0.to)) kind.SamePoint (length x.triangles) >>= λ v.
+    must_be (not (same a.0.side b.side)) kind.Gone (length x.triangles) >>= λ u.
+    must_be (not (b.from == a.0.to)) kind.SamePoint (length x.triangles) >>= λ v.
     split_made x b a.0 a.1
 
 abbrev pub named_split : NamedState → Row × List Side → Result NamedState Fault
@@ -358,8 +358,8 @@ split_ends x W b B z A K =
     let ts = x.triangles in
     let before = side_before (length ts) x.glued b in
     agree_must Shows (not (same z.0 b)) (not (same z.0 b)) kind.Gone (length ts)
-    (λ u. must (not (name_of ts (next b) == name_of ts (prev z.0))) kind.SamePoint (length ts) >>= λ v. split_made x (row_named ts b) (row_named ts z.0) z.1)
-    (λ u. must (not (same before z.0)) kind.SamePoint (length ts) >>= λ v. split_state (without_names x) b z.0 z.1) refl
+    (λ u. must_be (not (name_of ts (next b) == name_of ts (prev z.0))) kind.SamePoint (length ts) >>= λ v. split_made x (row_named ts b) (row_named ts z.0) z.1)
+    (λ u. must_be (not (same before z.0)) kind.SamePoint (length ts) >>= λ v. split_state (without_names x) b z.0 z.1) refl
     (λ e. agree_must Shows (not (name_of ts (next b) == name_of ts (prev z.0))) (not (same before z.0)) kind.SamePoint (length ts)
     (λ v. split_made x (row_named ts b) (row_named ts z.0) z.1) (λ v. split_state (without_names x) b z.0 z.1) (ap not (one_point_is W.names b z.0 B A))
     (λ q. split_shows x W b z.0 z.1 B A K (λ h. apart_sides z.0 b e (sym h))))
@@ -409,8 +409,8 @@ fill_made p x a b c rest =
 
 abbrev pub fill_from : ℕ → Plan → NamedState → Row → List Side → Row → Row → Result NamedState Fault
 fill_from n p x a rest b c =
-    must (not (same b.side a.side) && not (same c.side a.side) && (c.from == a.to)) kind.Loop n >>= λ u.
-    must (not (length x.triangles == p.faces)) kind.FaceCount (length x.triangles) >>= λ v.
+    must_be (not (same b.side a.side) && not (same c.side a.side) && (c.from == a.to)) kind.Loop n >>= λ u.
+    must_be (not (length x.triangles == p.faces)) kind.FaceCount (length x.triangles) >>= λ v.
     fill_made p x a b c rest
 
 fill_shows : (p : Plan) (x : NamedState) → Stands x → (a : Side) (rest : List Side) → IsFree (length x.triangles) x.glued a → AreBelow (length x.triangles) rest → loop_test (without_names x) a ≡ true →
@@ -453,23 +453,23 @@ fill_goes n p x W a rest A K =
     subst (λ (q : Row). Agree Shows (fill_from n p x r rest q (row_before q x.rows)) (fill_loop n p a rest (without_names x) tt)) (sym (row_before_is W.names a A))
     (subst (λ (q : Row). Agree Shows (fill_from n p x r rest (row_named ts b) q) (fill_loop n p a rest (without_names x) tt)) (sym (row_before_is W.names b F.0))
     (agree_must Shows (not (same b a) && not (same c a) && (name_of ts (next c) == name_of ts (prev a))) (loop_test (without_names x) a) kind.Loop n
-    (λ u. must (not (f == p.faces)) kind.FaceCount f >>= λ v. fill_made p x r (row_named ts b) (row_named ts c) rest)
+    (λ u. must_be (not (f == p.faces)) kind.FaceCount f >>= λ v. fill_made p x r (row_named ts b) (row_named ts c) rest)
     (fill_count p a rest (without_names x))
     (ap (λ (t : Bool). not (same b a) && not (same c a) && t) (one_point_is W.names c a H.0 A))
     (λ e. agree_must Shows (not (f == p.faces)) (not (f == p.faces)) kind.FaceCount f (λ v. fill_made p x r (row_named ts b) (row_named ts c) rest) (λ v. Ok (filled_state a rest (without_names x))) refl
     (λ q. fill_shows p x W a rest A K (sym (ap (λ (t : Bool). not (same b a) && not (same c a) && t) (one_point_is W.names c a H.0 A)) ∙ e)))))
 
 fill_case : (n : ℕ) (p : Plan) (x : NamedState) → Stands x → (a : Side) (rest : List Side) → a.face < length x.triangles → AreBelow (length x.triangles) rest →
-    Agree Shows (row_or_gone n (row_of a x.rows) >>= λ r. named_fill n p r rest x) (must (is_none (x.glued a)) kind.Gone n >>= fill_loop n p a rest (without_names x))
+    Agree Shows (row_or_gone n (row_at_side a x.rows) >>= λ r. named_fill n p r rest x) (must_be (is_none (x.glued a)) kind.Gone n >>= fill_loop n p a rest (without_names x))
 fill_case n p x W a rest h K = elim (option_tells (x.glued a)) [
   | inl e ↦ (
       let A : IsFree (length x.triangles) x.glued a = record { within = h; free = e } in
-      subst (λ (o : Option Row). Agree Shows (row_or_gone n o >>= λ r. named_fill n p r rest x) (must (is_none (x.glued a)) kind.Gone n >>= fill_loop n p a rest (without_names x))) (sym (row_is W.names a A))
-      (subst (λ (o : Option Side). Agree Shows (named_fill n p (row_named x.triangles a) rest x) (must (is_none o) kind.Gone n >>= fill_loop n p a rest (without_names x))) (sym e)
+      subst (λ (o : Option Row). Agree Shows (row_or_gone n o >>= λ r. named_fill n p r rest x) (must_be (is_none (x.glued a)) kind.Gone n >>= fill_loop n p a rest (without_names x))) (sym (row_is W.names a A))
+      (subst (λ (o : Option Side). Agree Shows (named_fill n p (row_named x.triangles a) rest x) (must_be (is_none o) kind.Gone n >>= fill_loop n p a rest (without_names x))) (sym e)
       (fill_goes n p x W a rest A K)))
   | inr b ↦ (
-      subst (λ (o : Option Row). Agree Shows (row_or_gone n o >>= λ r. named_fill n p r rest x) (must (is_none (x.glued a)) kind.Gone n >>= fill_loop n p a rest (without_names x))) (sym (no_row W.names a b.0 b.1))
-      (subst (λ (o : Option Side). Agree Shows (let r : Result NamedState Fault = Err (fault kind.Gone n) in r) (must (is_none o) kind.Gone n >>= fill_loop n p a rest (without_names x))) (sym b.1) refl))
+      subst (λ (o : Option Row). Agree Shows (row_or_gone n o >>= λ r. named_fill n p r rest x) (must_be (is_none (x.glued a)) kind.Gone n >>= fill_loop n p a rest (without_names x))) (sym (no_row W.names a b.0 b.1))
+      (subst (λ (o : Option Side). Agree Shows (let r : Result NamedState Fault = Err (fault kind.Gone n) in r) (must_be (is_none o) kind.Gone n >>= fill_loop n p a rest (without_names x))) (sym b.1) refl))
 ]
 
 close_case : (n : ℕ) (p : Plan) (interior : Bool) (stack : List Side) (x : NamedState) → Stands x → AreBelow (length x.triangles) stack → Agree Shows (named_close_top n p interior stack x) (close_top n p interior stack (without_names x))
@@ -525,8 +525,8 @@ finish_agrees p x W =
     let named_last : Option ℕ → Result NamedState Fault = λ o. elim o [ None ↦ Ok x | Some f ↦ Err (fault kind.Degenerate f) ] in
     let plain_last : Option ℕ → Result State Fault = λ o. elim o [ None ↦ Ok (without_names x) | Some f ↦ Err (fault kind.Degenerate f) ] in
     agree_must Shows (f == p.faces) (f == p.faces) kind.FaceCount f
-    (λ u. must (nat_le x.made p.created) kind.VertexCount x.made >>= λ v. named_last (first_with_equal x.triangles f))
-    (λ u. must (nat_le x.made p.created) kind.VertexCount x.made >>= λ v. plain_last (first_degenerate f x.glued f)) refl
+    (λ u. must_be (nat_le x.made p.created) kind.VertexCount x.made >>= λ v. named_last (first_with_equal x.triangles f))
+    (λ u. must_be (nat_le x.made p.created) kind.VertexCount x.made >>= λ v. plain_last (first_degenerate f x.glued f)) refl
     (λ e. agree_must Shows (nat_le x.made p.created) (nat_le x.made p.created) kind.VertexCount x.made (λ v. named_last (first_with_equal x.triangles f)) (λ v. plain_last (first_degenerate f x.glued f)) refl
     (λ q. subst (λ (o : Option ℕ). Agree Shows (named_last o) (plain_last (first_degenerate f x.glued f))) (sym (first_is W f (omega arith))) (end_case x W (first_degenerate f x.glued f))))
 

@@ -11,22 +11,22 @@ use Rattle.corner_table.proofs.Boundary.{side_before-follows, side_before_only}
 use Rattle.eb_rebuild.specs.declared.beside.Beside.{Beside}
 use Rattle.eb_rebuild.specs.declared.beside.Beside.TheVariants.{Left, Right}
 use Rattle.eb_rebuild.specs.Beside.{glued_place, free_place, new_triangle}
-use Rattle.eb_rebuild.specs.Named.{Triangle, corner, Row, new_row, row_of, row_before, without, renamed, renamed_triangle, renamed_row}
+use Rattle.eb_rebuild.specs.Named.{Triangle, corner, Row, new_row, row_at_side, row_before, without, renamed, renamed_triangle, renamed_row}
 use Rattle.eb_rebuild.specs.Shown.{name_of, row_named, AreNames}
 use Rattle.eb_rebuild.proofs.RowLists.{found}
-use Rattle.eb_rebuild.specs.OneFaceMore.{Pairs, glue_all, IsOtherPlace, AreApart, Touches, more_triangles, without_all, new_rows, HasPlace, IsNewName, Grows}
+use Rattle.eb_rebuild.specs.OneFaceMore.{Pairs, glue_all, IsOtherPlace, PairsAreApart, Touches, more_triangles, without_all, new_rows, HasPlace, IsNewName, Grows}
 use Rattle.eb_rebuild.proofs.ManyGlued.{all_gluing, all_stay, new_is_free, old_is_free}
 use Rattle.eb_rebuild.proofs.Naming.{names_grow}
 
 -- the row of a free side
-pub row_is : {ts : List Triangle} {rows : List Row} {g : Gluing} {made : ℕ} → AreNames ts rows g made → (a : Side) → IsFree (length ts) g a → row_of a rows ≡ Some (row_named ts a)
+pub row_is : {ts : List Triangle} {rows : List Row} {g : Gluing} {made : ℕ} → AreNames ts rows g made → (a : Side) → IsFree (length ts) g a → row_at_side a rows ≡ Some (row_named ts a)
 row_is {ts} {rows} {g} {made} N a A = elim (found (λ (r : Row). same r.side a) rows) [
   | inl n ↦ absurd (let no : true ≡ false = sym (same_refl a) ∙ n.1 (row_named ts a) (N.sides_are a A) in cc)
   | inr s ↦ s.1 ∙ ap {A = Row} Some ((N.rows_are s.0 s.2).1 ∙ ap (row_named ts) (same-true s.0.side a s.3))
 ]
 
 -- a glued side has none
-pub no_row : {ts : List Triangle} {rows : List Row} {g : Gluing} {made : ℕ} → AreNames ts rows g made → (a b : Side) → g a ≡ Some b → row_of a rows ≡ None
+pub no_row : {ts : List Triangle} {rows : List Row} {g : Gluing} {made : ℕ} → AreNames ts rows g made → (a b : Side) → g a ≡ Some b → row_at_side a rows ≡ None
 no_row {ts} {rows} {g} {made} N a b e = elim (found (λ (r : Row). same r.side a) rows) [
   | inl n ↦ n.0
   | inr s ↦ absurd (let no : None ≡ Some b = sym (N.rows_are s.0 s.2).0.free ∙ ap g (same-true s.0.side a s.3) ∙ e in cc)
@@ -243,7 +243,7 @@ tip_names {ts} {rows} {g} {made} N a b A B ne e = plain_grow ts rows g made made
     t : Triangle
     t = (name_of ts (next a), name_of ts (next b), name_of ts (prev a))
 
-    apart : AreApart (length ts) g ((third, b) ∷ (second, a) ∷ [])
+    apart : PairsAreApart (length ts) g ((third, b) ∷ (second, a) ∷ [])
     apart = (B, (ne, tt), ((λ q. (cc)), tt), (A, tt, tt, tt))
 
     left : (k : Place) → IsOtherPlace k ((third, b) ∷ (second, a) ∷ []) → HasPlace k (first ∷ [])
@@ -316,7 +316,7 @@ split_names {ts} {rows} {g} {made} N b a B A ne = names_grow ts rows g made made
     ps : Pairs
     ps = (second, b) ∷ (third, a) ∷ []
 
-    apart : AreApart (length ts) g ps
+    apart : PairsAreApart (length ts) g ps
     apart = (B, (ne, tt), ((λ q. (cc)), tt), (A, tt, tt, tt))
 
     left : (k : Place) → IsOtherPlace k ps → HasPlace k (first ∷ [])
@@ -388,7 +388,7 @@ fill_names {ts} {rows} {g} {made} N a b c A B X ba ca cb u v w =
     ps : Pairs
     ps = (third, c) ∷ (second, b) ∷ (first, a) ∷ []
 
-    apart : AreApart (length ts) g ps
+    apart : PairsAreApart (length ts) g ps
     apart = (X, (cb, (ca, tt)), ((λ q. (cc)), ((λ q. (cc)), tt)), (B, (ba, tt), ((λ q. (cc)), tt), (A, tt, tt, tt)))
 
     left : (k : Place) → IsOtherPlace k ps → HasPlace k []

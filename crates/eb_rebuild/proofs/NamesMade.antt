@@ -13,8 +13,8 @@ use Rattle.corner_table.specs.declared.symbols.Symbol.{Symbol}
 use Rattle.corner_table.specs.declared.symbols.Symbol.TheVariants.{C, S, L, R, E}
 use Rattle.corner_table.specs.declared.symbols.Event.{Event}
 use Rattle.corner_table.specs.Sides.{Side, Place, first, second, third, side, same, next, prev, glue}
-use Rattle.eb_rebuild.specs.Machine.{State, Plan, fault, must, pushed, note_events, step, close}
-use Rattle.eb_rebuild.specs.Named.{Triangle, corner, no_triangle, Row, new_row, row_of, row_before, without, renamed, renamed_triangle, NamedState, named_start, row_or_gone, top_row, named_events, named_rule, named_step, named_fill, named_close_top, named_close, first_with_equal, named_finish, named_symbols, named_closes, named_rebuild}
+use Rattle.eb_rebuild.specs.Machine.{State, Plan, fault, must_be, pushed, note_events, step, close}
+use Rattle.eb_rebuild.specs.Named.{Triangle, corner, no_triangle, Row, new_row, row_at_side, row_before, without, renamed, renamed_triangle, NamedState, named_start, row_or_gone, top_row, named_events, named_rule, named_step, named_fill, named_close_top, named_close, first_with_equal, named_finish, named_symbols, named_closes, named_rebuild}
 use Rattle.eb_rebuild.specs.Shown.{Among, Shows, Agree, without_names, names_in, is_split}
 use Rattle.eb_rebuild.proofs.RowLists.{found}
 use Rattle.eb_rebuild.proofs.NamedLaw.{Stands, stands, symbols_agree, closes_agree, shows_start, named_right, named_left, tip_made, named_tip, split_made, named_split_last, named_split, fill_made}
@@ -33,7 +33,7 @@ after_any : {A B : Type 0} (Q : B → Type 0) (r : Result A Fault) (f : A → Re
 after_any Q (Ok x) f h = h x
 after_any Q (Err e) f h = tt
 
-after_must : {B : Type 0} (Q : B → Type 0) (t : Bool) (k : Kind) (n : ℕ) (f : Unit {0} → Result B Fault) → (t ≡ true → After Q (f tt)) → After Q (must t k n >>= f)
+after_must : {B : Type 0} (Q : B → Type 0) (t : Bool) (k : Kind) (n : ℕ) (f : Unit {0} → Result B Fault) → (t ≡ true → After Q (f tt)) → After Q (must_be t k n >>= f)
 after_must Q true k n f h = h refl
 after_must Q false k n f h = tt
 
@@ -93,8 +93,8 @@ gone_case i P (Some r) h = h r refl
 Some_is : {A : Type 0} (a b : A) → Some a ≡ Some b → a ≡ b
 Some_is {A} a b e = let q : ◌≡◌ {A = Option A} (Some a) (Some b) = e in let r : a ≡ b = cc in r
 
-side_row : {x : NamedState} → Stands x → (i : ℕ) (a : Side) → After (IsKnownRow x.triangles) (row_or_gone i (row_of a x.rows))
-side_row {x} W i a = gone_case i (IsKnownRow x.triangles) (row_of a x.rows)
+side_row : {x : NamedState} → Stands x → (i : ℕ) (a : Side) → After (IsKnownRow x.triangles) (row_or_gone i (row_at_side a x.rows))
+side_row {x} W i a = gone_case i (IsKnownRow x.triangles) (row_at_side a x.rows)
     (λ r e. elim (found (λ (q : Row). same q.side a) x.rows) [
       | inl n ↦ absurd (let no : ◌≡◌ {A = Option Row} None (Some r) = sym n.0 ∙ e in cc)
       | inr s ↦ subst (IsKnownRow x.triangles) (Some_is s.0 r (sym s.1 ∙ e)) (known_row W s.0 s.2)
@@ -103,7 +103,7 @@ side_row {x} W i a = gone_case i (IsKnownRow x.triangles) (row_of a x.rows)
 top_known : {x : NamedState} → Stands x → (i : ℕ) (stack : List Side) → After (λ (a : Row × List Side). IsKnownRow x.triangles a.0) (top_row i x.rows stack)
 top_known W i [] = tt
 top_known {x} W i (a ∷ rest) =
-    after_then (IsKnownRow x.triangles) (λ (a : Row × List Side). IsKnownRow x.triangles a.0) (row_or_gone i (row_of a x.rows)) (λ r. Ok (r, rest)) (side_row W i a) (λ r k. k)
+    after_then (IsKnownRow x.triangles) (λ (a : Row × List Side). IsKnownRow x.triangles a.0) (row_or_gone i (row_at_side a x.rows)) (λ r. Ok (r, rest)) (side_row W i a) (λ r k. k)
 
 before_known : {x : NamedState} → Stands x → (r : Row) → IsKnownRow x.triangles r → IsKnownRow x.triangles (row_before r x.rows)
 before_known {x} W r K = elim (found (λ (q : Row). q.to == r.from) x.rows) [
@@ -222,7 +222,7 @@ split_counted n d x V W =
     let Known : Row × List Side → Type 0 = λ a. IsKnownRow x.triangles a.0 in
     after_then Known (IsCounted (suc d)) (top_row i x.rows x.stack) (named_split x) (top_known V i x.stack)
     (λ b B. after_then Known (IsCounted (suc d)) (top_row i x.rows (pushed (x.reserved i) b.1)) (named_split_last x b.0) (top_known V i (pushed (x.reserved i) b.1))
-    (λ a A. after_must (IsCounted (suc d)) (not (same a.0.side b.0.side)) kind.Gone i (λ u. must (not (b.0.from == a.0.to)) kind.SamePoint i >>= λ v. split_made x b.0 a.0 a.1)
+    (λ a A. after_must (IsCounted (suc d)) (not (same a.0.side b.0.side)) kind.Gone i (λ u. must_be (not (b.0.from == a.0.to)) kind.SamePoint i >>= λ v. split_made x b.0 a.0 a.1)
     (λ e. after_must (IsCounted (suc d)) (not (b.0.from == a.0.to)) kind.SamePoint i (λ v. split_made x b.0 a.0 a.1)
     (λ q. taken b.0 a.0 B A (apart b.0.from a.0.to q)))))
   where
@@ -260,7 +260,7 @@ fill_counted n p d x a rest V W A =
     let B = before_known V a A in
     let t : Triangle = (b.from, a.to, a.from) in
     after_must (IsCounted d) (not (same b.side a.side) && not (same c.side a.side) && (c.from == a.to)) kind.Loop n
-    (λ u. must (not (length x.triangles == p.faces)) kind.FaceCount (length x.triangles) >>= λ v. fill_made p x a b c rest)
+    (λ u. must_be (not (length x.triangles == p.faces)) kind.FaceCount (length x.triangles) >>= λ v. fill_made p x a b c rest)
     (λ e. after_must (IsCounted d) (not (length x.triangles == p.faces)) kind.FaceCount (length x.triangles) (λ v. fill_made p x a b c rest)
     (λ q. no_more x.triangles t x.made d W B.0 A.1 A.0))
 
@@ -268,7 +268,7 @@ top_closed : (n : ℕ) (p : Plan) (interior : Bool) (stack : List Side) (d : ℕ
 top_closed n p true [] d x V W = W
 top_closed n p false [] d x V W = W
 top_closed n p true (a ∷ rest) d x V W =
-    after_then (IsKnownRow x.triangles) (IsCounted d) (row_or_gone n (row_of a x.rows)) (λ r. named_fill n p r rest x) (side_row V n a) (λ r A. fill_counted n p d x r rest V W A)
+    after_then (IsKnownRow x.triangles) (IsCounted d) (row_or_gone n (row_at_side a x.rows)) (λ r. named_fill n p r rest x) (side_row V n a) (λ r A. fill_counted n p d x r rest V W A)
 top_closed n p false (a ∷ rest) d x V W = W
 
 close_counted : (p : Plan) (interior : Bool) (d : ℕ) (x : NamedState) → Stands x → IsCounted d x → After (IsCounted d) (named_close p interior x)
@@ -344,7 +344,7 @@ finish_counted : (p : Plan) (d : ℕ) (x : NamedState) → IsReached d x → Aft
 unfolding named_finish
 finish_counted p d x W =
     let last : Result NamedState Fault = elim (first_with_equal x.triangles (length x.triangles)) [ None ↦ Ok x | Some f ↦ Err (fault kind.Degenerate f) ] in
-    after_must (IsReached d) (length x.triangles == p.faces) kind.FaceCount (length x.triangles) (λ u. must (nat_le x.made p.created) kind.VertexCount x.made >>= λ v. last)
+    after_must (IsReached d) (length x.triangles == p.faces) kind.FaceCount (length x.triangles) (λ u. must_be (nat_le x.made p.created) kind.VertexCount x.made >>= λ v. last)
     (λ e. after_must (IsReached d) (nat_le x.made p.created) kind.VertexCount x.made (λ v. last) (λ q. passed d x (first_with_equal x.triangles (length x.triangles)) W))
 
 pub made_at_end : (p : Plan) (symbols : List Symbol) (events : List Event) (bits : ℕ → Bool) (x : NamedState) → named_rebuild p symbols events bits ≡ Ok x →

@@ -9,7 +9,7 @@ use Rattle.corner_table.proofs.Walks.{fan_trans, fan_sym, left-within, right-wit
 use Rattle.eb_rebuild.specs.Named.{Triangle, corner, no_triangle, Row, new_row, renamed_triangle, renamed_row}
 use Rattle.eb_rebuild.specs.Shown.{name_of, row_named, Among, AreNames}
 use Rattle.eb_rebuild.proofs.RowLists.{among_filter, from_filter, among_map, from_map, among_first, among_last, from_append}
-use Rattle.eb_rebuild.specs.OneFaceMore.{Pairs, glue_all, IsOther, AreApart, more_triangles, without_all, new_rows, HasPlace, FitsNames, IsNewName, Grows}
+use Rattle.eb_rebuild.specs.OneFaceMore.{Pairs, glue_all, IsOther, PairsAreApart, more_triangles, without_all, new_rows, HasPlace, FitsNames, IsNewName, Grows}
 use Rattle.eb_rebuild.proofs.ManyGlued.{all_gluing, Meet, all_alike, Meeting, all_meet, free_tells, new_is_free, old_is_free}
 
 -- a list with one item more, read before the item and at it
@@ -130,7 +130,7 @@ names_grow ts rows g made made' rename t ps ks W = record {
       | inr l ↦ name_old rename ts t c l.0 ∙ ap rename (N.one_name c d w) ∙ sym (name_old rename ts t d l.1)
     ]
 
-    meeting : (qs : Pairs) → AreApart f g qs → FitsNames ts rename t qs → Meet f (name_of new) qs
+    meeting : (qs : Pairs) → PairsAreApart f g qs → FitsNames ts rename t qs → Meet f (name_of new) qs
     meeting [] A F = tt
     meeting (p ∷ qs) A F = (
       name_new rename ts t (place_before p.0) ∙ F.0 ∙ sym (name_old rename ts t (next p.1) A.0.within),

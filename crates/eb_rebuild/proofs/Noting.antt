@@ -10,7 +10,7 @@ use Rattle.corner_table.specs.declared.symbols.Event.{Event}
 use Rattle.corner_table.specs.Sides.{Side, side, number, side_at}
 use Rattle.corner_table.specs.Table.{other_at, free_entry}
 use Rattle.corner_table.proofs.TableSteps.{entry_taken}
-use Rattle.eb_rebuild.specs.Machine.{note_events, must, fault, reserve, event_place}
+use Rattle.eb_rebuild.specs.Machine.{note_events, must_be, fault, reserve, event_place}
 use Rattle.eb_rebuild.specs.Kept.{counted_down, no_event, kept_in, split_number, HasRoomFor, AreKeptBelow}
 use Rattle.eb_rebuild.specs.Rebuilding.{IsEventOf}
 
@@ -32,22 +32,22 @@ pub note_passed : (n i : ℕ) (e : Event) (es : List Event) (kept : ℕ → Opti
 unfolding note_events
 note_passed n i e es kept h =
     cond-false _ _ _ (le-ltb e.source (n - suc i) (omega arith))
-    ∙ ap (λ (t : Bool). must (not t) kind.EventOrder i >>= λ u. must (is_none (kept (n - suc e.split))) kind.Taken i >>= λ v. note_events n i es (reserve (n - suc e.split) (side i (event_place e.right)) kept)) (lt-ltb (n - suc i) e.source h)
+    ∙ ap (λ (t : Bool). must_be (not t) kind.EventOrder i >>= λ u. must_be (is_none (kept (n - suc e.split))) kind.Taken i >>= λ v. note_events n i es (reserve (n - suc e.split) (side i (event_place e.right)) kept)) (lt-ltb (n - suc i) e.source h)
 
 -- it is due: what is kept for its split decides
-pub note_due : (n i : ℕ) (e : Event) (es : List Event) (kept : ℕ → Option Side) → e.source ≡ n - suc i → note_events n i (e ∷ es) kept ≡ (must (is_none (kept (n - suc e.split))) kind.Taken i >>= λ v. note_events n i es (reserve (n - suc e.split) (side i (event_place e.right)) kept))
+pub note_due : (n i : ℕ) (e : Event) (es : List Event) (kept : ℕ → Option Side) → e.source ≡ n - suc i → note_events n i (e ∷ es) kept ≡ (must_be (is_none (kept (n - suc e.split))) kind.Taken i >>= λ v. note_events n i es (reserve (n - suc e.split) (side i (event_place e.right)) kept))
 unfolding note_events
 note_due n i e es kept h =
     cond-false _ _ _ (le-ltb e.source (n - suc i) (omega arith))
-    ∙ ap (λ (t : Bool). must (not t) kind.EventOrder i >>= λ u. must (is_none (kept (n - suc e.split))) kind.Taken i >>= λ v. note_events n i es (reserve (n - suc e.split) (side i (event_place e.right)) kept)) (le-ltb (n - suc i) e.source (omega arith))
+    ∙ ap (λ (t : Bool). must_be (not t) kind.EventOrder i >>= λ u. must_be (is_none (kept (n - suc e.split))) kind.Taken i >>= λ v. note_events n i es (reserve (n - suc e.split) (side i (event_place e.right)) kept)) (le-ltb (n - suc i) e.source (omega arith))
 
 pub note_taken : (n i : ℕ) (e : Event) (es : List Event) (kept : ℕ → Option Side) (a : Side) → e.source ≡ n - suc i → kept (n - suc e.split) ≡ Some a → note_events n i (e ∷ es) kept ≡ Err (fault kind.Taken i)
 note_taken n i e es kept a h k =
-    note_due n i e es kept h ∙ ap (λ (o : Option Side). must (is_none o) kind.Taken i >>= λ v. note_events n i es (reserve (n - suc e.split) (side i (event_place e.right)) kept)) k
+    note_due n i e es kept h ∙ ap (λ (o : Option Side). must_be (is_none o) kind.Taken i >>= λ v. note_events n i es (reserve (n - suc e.split) (side i (event_place e.right)) kept)) k
 
 pub note_more : (n i : ℕ) (e : Event) (es : List Event) (kept : ℕ → Option Side) → e.source ≡ n - suc i → kept (n - suc e.split) ≡ None → note_events n i (e ∷ es) kept ≡ note_events n i es (reserve (n - suc e.split) (side i (event_place e.right)) kept)
 note_more n i e es kept h k =
-    note_due n i e es kept h ∙ ap (λ (o : Option Side). must (is_none o) kind.Taken i >>= λ v. note_events n i es (reserve (n - suc e.split) (side i (event_place e.right)) kept)) k
+    note_due n i e es kept h ∙ ap (λ (o : Option Side). must_be (is_none o) kind.Taken i >>= λ v. note_events n i es (reserve (n - suc e.split) (side i (event_place e.right)) kept)) k
 
 -- a kept entry that is none, and one that is a side
 pub kept-none : (kept : List ℕ) (k v : ℕ) → v ≡ get_or kept k free_entry → v ≡ free_entry → kept_in kept k ≡ None

@@ -1,4 +1,4 @@
--- A table with names after a face more, and what its rows tell of its free sides.
+-- A table with names after a face more, and what its rows say of its free sides.
 use Rattle.std.proofs.Common.{◌≡◌, ◌≢◌, ℕ, suc, ◌+◌, ◌*◌, ◌<◌, ◌≤◌, Bool, true, false, not, ◌==◌, List, [], ◌∷◌, ◌++◌, length, map, filter, find, Option, Some, None, inl, inr, sym, refl, ap, ◌∙◌, subst, arith, cond, option_map, eqb-true, eq-eqb, length-append}
 use Rattle.std.proofs.lemmas.List.{length-map}
 use Rattle.corner_table.specs.Sides.{Side, Place, first, second, third, side, glue, side_at, number, same, next, prev, Gluing, IsGluing, IsFree}
@@ -9,12 +9,12 @@ use Rattle.corner_table.proofs.Numbers.{number-side_at}
 use Rattle.eb_rebuild.specs.declared.active_rows.Row.{Row as NumberedRow}
 use Rattle.eb_rebuild.specs.declared.beside.Beside.{Beside}
 use Rattle.eb_rebuild.specs.Beside.{glued_place, free_place, new_triangle}
-use Rattle.eb_rebuild.specs.Named.{Triangle, Row, row_of, row_to, row_before, without, new_row, renamed, renamed_triangle, renamed_row, NamedState, first_with_equal}
+use Rattle.eb_rebuild.specs.Named.{Triangle, Row, row_at_side, row_to, row_before, without, new_row, renamed, renamed_triangle, renamed_row, NamedState, first_with_equal}
 use Rattle.eb_rebuild.specs.Shown.{AreNames, name_of, row_named}
-use Rattle.eb_rebuild.specs.Rowed.{listed, all_listed, NamedTable, IsNamedTable, IsRowIn, IsGluedIn}
+use Rattle.eb_rebuild.specs.Rowed.{row_listed, all_listed, NamedTable, IsNamedTable, IsRowIn, IsGluedIn}
 use Rattle.eb_rebuild.specs.Machine.{first_degenerate}
 use Rattle.eb_rebuild.proofs.NamedLaw.{Stands, first_is}
-use Rattle.eb_rebuild.specs.OneFaceMore.{Pairs, glue_all, IsOther, IsOtherPlace, AreApart}
+use Rattle.eb_rebuild.specs.OneFaceMore.{Pairs, glue_all, IsOther, IsOtherPlace, PairsAreApart}
 use Rattle.eb_rebuild.proofs.ManyGlued.{new_is_free, old_is_free}
 use Rattle.eb_rebuild.proofs.NamedRules.{row_is, no_row, row_before_is, before_ends, one_point_is, end_names, beside_names, tip_names, split_names, fill_names}
 
@@ -29,33 +29,33 @@ side_test x y = one_truth _ _
     (λ e. eq-eqb x y (sym (number-side_at x) ∙ ap number (same-true (side_at x) (side_at y) e) ∙ number-side_at y))
     (λ e. ap (same (side_at x)) (ap side_at (sym (eqb-true x y e))) ∙ same_refl (side_at x))
 
-find_step : (b b' : Bool) (x : NumberedRow) (o : Option NumberedRow) (o' : Option Row) → b' ≡ b → option_map listed o ≡ o' → option_map listed (cond b (Some x) o) ≡ cond b' (Some (listed x)) o'
+find_step : (b b' : Bool) (x : NumberedRow) (o : Option NumberedRow) (o' : Option Row) → b' ≡ b → option_map row_listed o ≡ o' → option_map row_listed (cond b (Some x) o) ≡ cond b' (Some (row_listed x)) o'
 find_step true true x o o' e h = refl
 find_step false false x o o' e h = h
 find_step true false x o o' e h = absurd (cc)
 find_step false true x o o' e h = absurd (cc)
 
-find_listed : (p : NumberedRow → Bool) (q : Row → Bool) → ((r : NumberedRow) → q (listed r) ≡ p r) → (rows : List NumberedRow) → option_map listed (find p rows) ≡ find q (all_listed rows)
+find_listed : (p : NumberedRow → Bool) (q : Row → Bool) → ((r : NumberedRow) → q (row_listed r) ≡ p r) → (rows : List NumberedRow) → option_map row_listed (find p rows) ≡ find q (all_listed rows)
 find_listed p q h [] = refl
-find_listed p q h (x ∷ rows) = find_step (p x) (q (listed x)) x (find p rows) (find q (all_listed rows)) (h x) (find_listed p q h rows)
+find_listed p q h (x ∷ rows) = find_step (p x) (q (row_listed x)) x (find p rows) (find q (all_listed rows)) (h x) (find_listed p q h rows)
 
-filter_step : (b b' : Bool) (x : NumberedRow) (rows : List NumberedRow) (rows' : List Row) → b' ≡ b → all_listed rows ≡ rows' → all_listed (cond b (x ∷ rows) rows) ≡ cond b' (listed x ∷ rows') rows'
-filter_step true true x rows rows' e h = ap (λ (l : List Row). listed x ∷ l) h
+filter_step : (b b' : Bool) (x : NumberedRow) (rows : List NumberedRow) (rows' : List Row) → b' ≡ b → all_listed rows ≡ rows' → all_listed (cond b (x ∷ rows) rows) ≡ cond b' (row_listed x ∷ rows') rows'
+filter_step true true x rows rows' e h = ap (λ (l : List Row). row_listed x ∷ l) h
 filter_step false false x rows rows' e h = h
 filter_step true false x rows rows' e h = absurd (cc)
 filter_step false true x rows rows' e h = absurd (cc)
 
-filter_listed : (p : NumberedRow → Bool) (q : Row → Bool) → ((r : NumberedRow) → q (listed r) ≡ p r) → (rows : List NumberedRow) → all_listed (filter p rows) ≡ filter q (all_listed rows)
+filter_listed : (p : NumberedRow → Bool) (q : Row → Bool) → ((r : NumberedRow) → q (row_listed r) ≡ p r) → (rows : List NumberedRow) → all_listed (filter p rows) ≡ filter q (all_listed rows)
 filter_listed p q h [] = refl
-filter_listed p q h (x ∷ rows) = filter_step (p x) (q (listed x)) x (filter p rows) (filter q (all_listed rows)) (h x) (filter_listed p q h rows)
+filter_listed p q h (x ∷ rows) = filter_step (p x) (q (row_listed x)) x (filter p rows) (filter q (all_listed rows)) (h x) (filter_listed p q h rows)
 
 pub without_listed : (side : ℕ) (rows : List NumberedRow) → all_listed (filter (λ (r : NumberedRow). not (r.side == side)) rows) ≡ without (side_at side) (all_listed rows)
 without_listed side rows = filter_listed (λ (r : NumberedRow). not (r.side == side)) (λ (r : Row). not (same r.side (side_at side))) (λ r. ap not (side_test r.side side)) rows
 
-pub row_of_listed : (side : ℕ) (rows : List NumberedRow) → option_map listed (find (λ (r : NumberedRow). r.side == side) rows) ≡ row_of (side_at side) (all_listed rows)
+pub row_of_listed : (side : ℕ) (rows : List NumberedRow) → option_map row_listed (find (λ (r : NumberedRow). r.side == side) rows) ≡ row_at_side (side_at side) (all_listed rows)
 row_of_listed side rows = find_listed (λ (r : NumberedRow). r.side == side) (λ (r : Row). same r.side (side_at side)) (λ r. side_test r.side side) rows
 
-pub row_to_listed : (v : ℕ) (rows : List NumberedRow) → option_map listed (find (λ (r : NumberedRow). r.to == v) rows) ≡ row_to v (all_listed rows)
+pub row_to_listed : (v : ℕ) (rows : List NumberedRow) → option_map row_listed (find (λ (r : NumberedRow). r.to == v) rows) ≡ row_to v (all_listed rows)
 row_to_listed v rows = find_listed (λ (r : NumberedRow). r.to == v) (λ (r : Row). r.to == v) (λ r. refl) rows
 
 Some_inside : (x y : Row) → Some x ≡ Some y → x ≡ y
@@ -66,7 +66,7 @@ pub found_row : (v : NamedTable) → IsNamedTable v → (side : ℕ) → side < 
 found_row v I side h rows e r f = elim (option_tells (gluing_of v.table (side_at side))) [
   | inl n ↦ (
       let A : IsFree (length v.triangles) (gluing_of v.table) (side_at side) = record { within = (let l = I.long in omega arith); free = n } in
-      let is : listed r ≡ row_named v.triangles (side_at side) = Some_inside _ _ (sym (ap (option_map listed) f) ∙ row_of_listed side rows ∙ ap (row_of (side_at side)) e ∙ row_is I.names (side_at side) A) in
+      let is : row_listed r ≡ row_named v.triangles (side_at side) = Some_inside _ _ (sym (ap (option_map row_listed) f) ∙ row_of_listed side rows ∙ ap (row_at_side (side_at side)) e ∙ row_is I.names (side_at side) A) in
       let at : r.side ≡ side = sym (number-side_at r.side) ∙ ap (λ (q : Row). number q.side) is ∙ number-side_at side in (
         at,
         record {
@@ -74,14 +74,14 @@ found_row v I side h rows e r f = elim (option_tells (gluing_of v.table (side_at
           is = is ∙ ap (λ (k : ℕ). row_named v.triangles (side_at k)) (sym at);
         },
       ))
-  | inr b ↦ absurd (let no : Some (listed r) ≡ None = sym (ap (option_map listed) f) ∙ row_of_listed side rows ∙ ap (row_of (side_at side)) e ∙ no_row I.names (side_at side) b.0 b.1 in cc)
+  | inr b ↦ absurd (let no : Some (row_listed r) ≡ None = sym (ap (option_map row_listed) f) ∙ row_of_listed side rows ∙ ap (row_at_side (side_at side)) e ∙ no_row I.names (side_at side) b.0 b.1 in cc)
 ]
 
 pub no_row_found : (v : NamedTable) → IsNamedTable v → (side : ℕ) → side < 3 * v.table.faces → (rows : List NumberedRow) → all_listed rows ≡ v.rows → find (λ (r : NumberedRow). r.side == side) rows ≡ None → IsGluedIn v.table (side_at side)
 no_row_found v I side h rows e f = elim (option_tells (gluing_of v.table (side_at side))) [
   | inl n ↦ absurd (
       let A : IsFree (length v.triangles) (gluing_of v.table) (side_at side) = record { within = (let l = I.long in omega arith); free = n } in
-      let no : None ≡ Some (row_named v.triangles (side_at side)) = sym (ap (option_map listed) f) ∙ row_of_listed side rows ∙ ap (row_of (side_at side)) e ∙ row_is I.names (side_at side) A in cc)
+      let no : None ≡ Some (row_named v.triangles (side_at side)) = sym (ap (option_map row_listed) f) ∙ row_of_listed side rows ∙ ap (row_at_side (side_at side)) e ∙ row_is I.names (side_at side) A in cc)
   | inr b ↦ b
 ]
 
@@ -96,10 +96,10 @@ pub row_end : (v : NamedTable) (r : NumberedRow) → IsRowIn v r → r.to ≡ na
 row_end v r R = ap (λ (q : Row). q.to) R.is
 
 -- the row that ends where a row starts is found
-pub before_found : (v : NamedTable) → IsNamedTable v → (r b : NumberedRow) → IsRowIn v r → listed b ≡ row_before (listed r) v.rows → IsRowIn v b × (side_at b.side ≡ side_before v.table.faces (gluing_of v.table) (side_at r.side))
+pub before_found : (v : NamedTable) → IsNamedTable v → (r b : NumberedRow) → IsRowIn v r → row_listed b ≡ row_before (row_listed r) v.rows → IsRowIn v b × (side_at b.side ≡ side_before v.table.faces (gluing_of v.table) (side_at r.side))
 before_found v I r b R e =
     let A = row_free v I r R in
-    let is : listed b ≡ row_named v.triangles (side_before (length v.triangles) (gluing_of v.table) (side_at r.side)) = e ∙ ap (λ (q : Row). row_before q v.rows) R.is ∙ row_before_is I.names (side_at r.side) A in
+    let is : row_listed b ≡ row_named v.triangles (side_before (length v.triangles) (gluing_of v.table) (side_at r.side)) = e ∙ ap (λ (q : Row). row_before q v.rows) R.is ∙ row_before_is I.names (side_at r.side) A in
     let at : side_at b.side ≡ side_before (length v.triangles) (gluing_of v.table) (side_at r.side) = ap (λ (q : Row). q.side) is in
     let F = before_ends I.names (side_at r.side) A in (
       record {
@@ -112,12 +112,12 @@ before_found v I r b R e =
 pub before_some : (v : NamedTable) → IsNamedTable v → (r b : NumberedRow) → IsRowIn v r → (rows : List NumberedRow) → all_listed rows ≡ v.rows → find (λ (q : NumberedRow). q.to == r.from) rows ≡ Some b →
     IsRowIn v b × (side_at b.side ≡ side_before v.table.faces (gluing_of v.table) (side_at r.side))
 before_some v I r b R rows e f =
-    before_found v I r b R (ap (λ (o : Option Row). let x : Row = elim o [ None ↦ listed r | Some t ↦ t ] in x) (sym (ap (option_map listed) f) ∙ row_to_listed r.from rows ∙ ap (row_to r.from) e))
+    before_found v I r b R (ap (λ (o : Option Row). let x : Row = elim o [ None ↦ row_listed r | Some t ↦ t ] in x) (sym (ap (option_map row_listed) f) ∙ row_to_listed r.from rows ∙ ap (row_to r.from) e))
 
 pub before_none : (v : NamedTable) → IsNamedTable v → (r : NumberedRow) → IsRowIn v r → (rows : List NumberedRow) → all_listed rows ≡ v.rows → find (λ (q : NumberedRow). q.to == r.from) rows ≡ None →
     IsRowIn v r × (side_at r.side ≡ side_before v.table.faces (gluing_of v.table) (side_at r.side))
 before_none v I r R rows e f =
-    before_found v I r r R (ap (λ (o : Option Row). let x : Row = elim o [ None ↦ listed r | Some t ↦ t ] in x) (sym (ap (option_map listed) f) ∙ row_to_listed r.from rows ∙ ap (row_to r.from) e))
+    before_found v I r r R (ap (λ (o : Option Row). let x : Row = elim o [ None ↦ row_listed r | Some t ↦ t ] in x) (sym (ap (option_map row_listed) f) ∙ row_to_listed r.from rows ∙ ap (row_to r.from) e))
 
 -- one row starts where another ends
 pub joined_is : (v : NamedTable) → IsNamedTable v → (b a : NumberedRow) → IsRowIn v b → IsRowIn v a → (b.from == a.to) ≡ same (side_before v.table.faces (gluing_of v.table) (side_at b.side)) (side_at a.side)
@@ -135,9 +135,9 @@ names_along {ts} {us} {rows} {qs} {g} {h} {m} {n} p q r s N =
     (subst (λ (k : ℕ). AreNames ts rows g k) s N)))
 
 -- lists with items more, as definitions see them
-append_one : (kept : List NumberedRow) (x : NumberedRow) → all_listed (kept ++ (x ∷ [])) ≡ all_listed kept ++ (listed x ∷ [])
+append_one : (kept : List NumberedRow) (x : NumberedRow) → all_listed (kept ++ (x ∷ [])) ≡ all_listed kept ++ (row_listed x ∷ [])
 append_one [] x = refl
-append_one (r ∷ kept) x = ap (λ (l : List Row). listed r ∷ l) (append_one kept x)
+append_one (r ∷ kept) x = ap (λ (l : List Row). row_listed r ∷ l) (append_one kept x)
 
 append_two : (rows : List Row) (x y : Row) → (rows ++ (x ∷ [])) ++ (y ∷ []) ≡ rows ++ (x ∷ y ∷ [])
 append_two [] x y = refl
@@ -147,13 +147,13 @@ append_three : (rows : List Row) (x y z : Row) → (rows ++ (x ∷ y ∷ [])) ++
 append_three [] x y z = refl
 append_three (r ∷ rows) x y z = ap (λ (l : List Row). r ∷ l) (append_three rows x y z)
 
-pub listed_one : (kept one : List NumberedRow) (x : NumberedRow) (k : List Row) (p : Row) → one ≡ kept ++ (x ∷ []) → all_listed kept ≡ k → listed x ≡ p → all_listed one ≡ k ++ (p ∷ [])
-listed_one kept one x k p e h q = ap all_listed e ∙ append_one kept x ∙ ap (λ (l : List Row). l ++ (listed x ∷ [])) h ∙ ap (λ (r : Row). k ++ (r ∷ [])) q
+pub listed_one : (kept one : List NumberedRow) (x : NumberedRow) (k : List Row) (p : Row) → one ≡ kept ++ (x ∷ []) → all_listed kept ≡ k → row_listed x ≡ p → all_listed one ≡ k ++ (p ∷ [])
+listed_one kept one x k p e h q = ap all_listed e ∙ append_one kept x ∙ ap (λ (l : List Row). l ++ (row_listed x ∷ [])) h ∙ ap (λ (r : Row). k ++ (r ∷ [])) q
 
-pub listed_two : (kept one two : List NumberedRow) (x y : NumberedRow) (k : List Row) (p q : Row) → one ≡ kept ++ (x ∷ []) → two ≡ one ++ (y ∷ []) → all_listed kept ≡ k → listed x ≡ p → listed y ≡ q → all_listed two ≡ k ++ (p ∷ q ∷ [])
+pub listed_two : (kept one two : List NumberedRow) (x y : NumberedRow) (k : List Row) (p q : Row) → one ≡ kept ++ (x ∷ []) → two ≡ one ++ (y ∷ []) → all_listed kept ≡ k → row_listed x ≡ p → row_listed y ≡ q → all_listed two ≡ k ++ (p ∷ q ∷ [])
 listed_two kept one two x y k p q e f h u w = listed_one one two y (k ++ (p ∷ [])) q f (listed_one kept one x k p e h u) w ∙ append_two k p q
 
-pub listed_three : (kept one two three : List NumberedRow) (x y z : NumberedRow) (k : List Row) (p q r : Row) → one ≡ kept ++ (x ∷ []) → two ≡ one ++ (y ∷ []) → three ≡ two ++ (z ∷ []) → all_listed kept ≡ k → listed x ≡ p → listed y ≡ q → listed z ≡ r →
+pub listed_three : (kept one two three : List NumberedRow) (x y z : NumberedRow) (k : List Row) (p q r : Row) → one ≡ kept ++ (x ∷ []) → two ≡ one ++ (y ∷ []) → three ≡ two ++ (z ∷ []) → all_listed kept ≡ k → row_listed x ≡ p → row_listed y ≡ q → row_listed z ≡ r →
     all_listed three ≡ k ++ (p ∷ q ∷ r ∷ [])
 listed_three kept one two three x y z k p q r e f g h u w v = listed_one two three z (k ++ (p ∷ q ∷ [])) r g (listed_two kept one two x y k p q e f h u w) v ∙ append_three k p q r
 
@@ -168,7 +168,7 @@ listed_renamed from to rows told k e h = ap all_listed e ∙ go rows ∙ ap (map
   where
     go : (rows : List NumberedRow) → all_listed (map (λ (r : NumberedRow). record { side = r.side; from = renamed from to r.from; to = renamed from to r.to }) rows) ≡ map (renamed_row (renamed from to)) (all_listed rows)
     go [] = refl
-    go (r ∷ rows) = ap (λ (l : List Row). renamed_row (renamed from to) (listed r) ∷ l) (go rows)
+    go (r ∷ rows) = ap (λ (l : List Row). renamed_row (renamed from to) (row_listed r) ∷ l) (go rows)
 
 -- a pair more, in other words for its parts
 pub glued_by : (g mid new : Gluing) (f n : ℕ) (k : Place) (a s : Side) → new ≡ glue (side n k) s mid → mid ≡ g → n ≡ f → s ≡ a → new ≡ glue (side f k) a g
@@ -305,7 +305,7 @@ table_gluing v I = subst (λ (n : ℕ). IsGluing n (gluing_of v.table)) I.long I
 free_in : (table : Table) (f : ℕ) (g : Gluing) (x s : Side) → table.faces ≡ f + 1 → gluing_of table ≡ g → s ≡ x → IsFree (suc f) g x → IsFree table.faces (gluing_of table) s
 free_in table f g x s e h q X = subst (IsFree table.faces (gluing_of table)) (sym q) (subst (λ (k : Gluing). IsFree table.faces k x) (sym h) (record { within = (let w = X.within in omega arith); free = X.free }))
 
-pub place_free : (v : NamedTable) → IsNamedTable v → (table : Table) (ps : Pairs) (k : Place) (n : ℕ) → AreApart v.table.faces (gluing_of v.table) ps → IsOtherPlace k ps → table.faces ≡ v.table.faces + 1 → gluing_of table ≡ glue_all v.table.faces ps (gluing_of v.table) → n ≡ v.table.faces →
+pub place_free : (v : NamedTable) → IsNamedTable v → (table : Table) (ps : Pairs) (k : Place) (n : ℕ) → PairsAreApart v.table.faces (gluing_of v.table) ps → IsOtherPlace k ps → table.faces ≡ v.table.faces + 1 → gluing_of table ≡ glue_all v.table.faces ps (gluing_of v.table) → n ≡ v.table.faces →
     IsFree table.faces (gluing_of table) (side n k)
 place_free v I table ps k n A o e h q =
     free_in table v.table.faces (glue_all v.table.faces ps (gluing_of v.table)) (side v.table.faces k) (side n k) e h (ap (λ (m : ℕ). side m k) q) (new_is_free (table_gluing v I) ps k A o)

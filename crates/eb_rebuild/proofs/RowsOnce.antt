@@ -11,7 +11,7 @@ use Rattle.corner_table.proofs.Places.{glue_other, next_injective, prev_injectiv
 use Rattle.corner_table.proofs.Gluings.{new_free}
 use Rattle.corner_table.proofs.Walks.{starts_once, ends_once}
 use Rattle.corner_table.proofs.Boundary.{free-left, free-right, side_before-follows}
-use Rattle.eb_rebuild.specs.Machine.{State, step, top, pushed, release, must, with_events, grown, note_events}
+use Rattle.eb_rebuild.specs.Machine.{State, step, top, pushed, release, must_be, with_events, grown, note_events}
 use Rattle.eb_rebuild.specs.Named.{Row, NamedState}
 use Rattle.eb_rebuild.specs.Shown.{name_of, row_named, Among, AreBelow, KeptBelow, Shows}
 use Rattle.eb_rebuild.proofs.Steps.{Next, tip_rest, split_rest, split_last}
@@ -55,7 +55,7 @@ abbrev TopWithin : ℕ → Gluing → Side × List Side → Type 0
 TopWithin f g a = IsFree f g a.0 × AreBelow f a.1
 
 top_free_case : (f i : ℕ) (g : Gluing) (a : Side) (rest : List Side) (o : Option Side) → g a ≡ o → a.face < f → AreBelow f rest →
-    IfValue (TopWithin f g) (must (is_none o) kind.Gone i >>= λ u. let x : Result (Side × List Side) Fault = Ok (a, rest) in x)
+    IfValue (TopWithin f g) (must_be (is_none o) kind.Gone i >>= λ u. let x : Result (Side × List Side) Fault = Ok (a, rest) in x)
 top_free_case f i g a rest None e h B = (record { within = h; free = e }, B)
 top_free_case f i g a rest (Some b) e h B = tt
 
@@ -96,7 +96,7 @@ free_top n C s W =
     if_also (TopWithin s.built s.glued) (HasFreeTop s.built) (top s.built s.glued s.stack) (tip_rest s) (top_within s.built s.built s.glued s.stack W.1)
     (λ a A.
     let t = side_before s.built s.glued a.0 in
-    if_then (HasFreeTop s.built) (must (not (same t a.0)) kind.Alone s.built)
+    if_then (HasFreeTop s.built) (must_be (not (same t a.0)) kind.Alone s.built)
     (λ u. let x : Next = Ok (grown s (glue (side s.built third) t (glue (side s.built second) a.0 s.glued)) a.1 0) in x)
     (λ u. (
       a.1,
@@ -108,9 +108,9 @@ free_top n S s W =
     if_also (TopWithin s.built s.glued) (HasFreeTop s.built) (top s.built s.glued s.stack) (split_rest s) (top_within s.built s.built s.glued s.stack W.1)
     (λ b B. if_also (TopWithin s.built s.glued) (HasFreeTop s.built) (top s.built s.glued (pushed (s.reserved s.built) b.1)) (split_last s b.0)
     (top_within s.built s.built s.glued (pushed (s.reserved s.built) b.1) (kept_pushed s.built (s.reserved s.built) b.1 (W.2 s.built) B.1))
-    (λ a A. if_then (HasFreeTop s.built) (must (not (same a.0 b.0)) kind.Gone s.built)
-    (λ u. must (not (same (side_before s.built s.glued b.0) a.0)) kind.SamePoint s.built >>= λ v. let x : Next = Ok (record (grown s (glue (side s.built second) b.0 (glue (side s.built third) a.0 s.glued)) a.1 0) { reserved = release s.built s.reserved }) in x)
-    (λ u. if_then (HasFreeTop s.built) (must (not (same (side_before s.built s.glued b.0) a.0)) kind.SamePoint s.built)
+    (λ a A. if_then (HasFreeTop s.built) (must_be (not (same a.0 b.0)) kind.Gone s.built)
+    (λ u. must_be (not (same (side_before s.built s.glued b.0) a.0)) kind.SamePoint s.built >>= λ v. let x : Next = Ok (record (grown s (glue (side s.built second) b.0 (glue (side s.built third) a.0 s.glued)) a.1 0) { reserved = release s.built s.reserved }) in x)
+    (λ u. if_then (HasFreeTop s.built) (must_be (not (same (side_before s.built s.glued b.0) a.0)) kind.SamePoint s.built)
     (λ v. let x : Next = Ok (record (grown s (glue (side s.built second) b.0 (glue (side s.built third) a.0 s.glued)) a.1 0) { reserved = release s.built s.reserved }) in x)
     (λ v. (
       a.1,

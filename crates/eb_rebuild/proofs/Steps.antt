@@ -11,8 +11,8 @@ use Rattle.corner_table.specs.Fans.{side_before}
 use Rattle.corner_table.proofs.Places.{not_same, same_refl}
 use Rattle.eb_rebuild.specs.declared.beside.Beside.{Beside}
 use Rattle.eb_rebuild.specs.declared.beside.Beside.TheVariants.{Left, Right}
-use Rattle.eb_rebuild.specs.Beside.{symbol_of, glued_place}
-use Rattle.eb_rebuild.specs.Machine.{State, Plan, step, close, close_top, fill, top, pushed, release, must, fault, with_events, grown, note_events}
+use Rattle.eb_rebuild.specs.Beside.{symbol_in, glued_place}
+use Rattle.eb_rebuild.specs.Machine.{State, Plan, step, close, close_top, fill, top, pushed, release, must_be, fault, with_events, grown, note_events}
 
 -- a state from its parts
 abbrev pub the_state : ℕ → Gluing → List Side → (ℕ → Option Side) → List Event → ℕ → ℕ → State
@@ -33,21 +33,21 @@ pub then_err : {A : Type 0} (r : Result A Fault) (x : Fault) (f : A → Next) �
 then_err r x f e = ap (λ (s : Result _ Fault). s >>= f) e
 
 -- a test that is known
-pub must_hold : (t : Bool) (k : Kind) (n : ℕ) (f : Unit {0} → Next) → t ≡ true → (must t k n >>= f) ≡ f tt
-must_hold t k n f e = ap (λ (b : Bool). must b k n >>= f) e
+pub must_hold : (t : Bool) (k : Kind) (n : ℕ) (f : Unit {0} → Next) → t ≡ true → (must_be t k n >>= f) ≡ f tt
+must_hold t k n f e = ap (λ (b : Bool). must_be b k n >>= f) e
 
-pub must_fail : (t : Bool) (k : Kind) (n : ℕ) (f : Unit {0} → Next) → t ≡ false → (must t k n >>= f) ≡ Err (fault k n)
-must_fail t k n f e = ap (λ (b : Bool). must b k n >>= f) e
+pub must_fail : (t : Bool) (k : Kind) (n : ℕ) (f : Unit {0} → Next) → t ≡ false → (must_be t k n >>= f) ≡ Err (fault k n)
+must_fail t k n f e = ap (λ (b : Bool). must_be b k n >>= f) e
 
 -- the top of a stack
 pub top_none : (i : ℕ) (g : Gluing) → top i g [] ≡ Err (fault kind.NoActive i)
 top_none i g = refl
 
 pub top_free : (i : ℕ) (g : Gluing) (a : Side) (rest : List Side) → g a ≡ None → top i g (a ∷ rest) ≡ Ok (a, rest)
-top_free i g a rest e = ap (λ (o : Option Side). must (is_none o) kind.Gone i >>= λ u. let x : Result (Side × List Side) Fault = Ok (a, rest) in x) e
+top_free i g a rest e = ap (λ (o : Option Side). must_be (is_none o) kind.Gone i >>= λ u. let x : Result (Side × List Side) Fault = Ok (a, rest) in x) e
 
 pub top_gone : (i : ℕ) (g : Gluing) (a b : Side) (rest : List Side) → g a ≡ Some b → top i g (a ∷ rest) ≡ Err (fault kind.Gone i)
-top_gone i g a b rest e = ap (λ (o : Option Side). must (is_none o) kind.Gone i >>= λ u. let x : Result (Side × List Side) Fault = Ok (a, rest) in x) e
+top_gone i g a b rest e = ap (λ (o : Option Side). must_be (is_none o) kind.Gone i >>= λ u. let x : Result (Side × List Side) Fault = Ok (a, rest) in x) e
 
 -- after E, L and R the events are noted
 pub events_noted : (n : ℕ) (before after : State) (events : List Event) (kept : ℕ → Option Side) → note_events n before.built after.events after.reserved ≡ Ok (events, kept) →
@@ -68,13 +68,13 @@ unfolding step
 end_refused n s f e = events_refused n s (grown s s.glued s.stack 3) f e
 
 -- L and R
-step_beside : (b : Beside) (n : ℕ) (s : State) → step n (symbol_of b) s ≡ (top s.built s.glued s.stack >>= λ a. with_events n s (grown s (glue (side s.built (glued_place b)) a.0 s.glued) a.1 1))
+step_beside : (b : Beside) (n : ℕ) (s : State) → step n (symbol_in b) s ≡ (top s.built s.glued s.stack >>= λ a. with_events n s (grown s (glue (side s.built (glued_place b)) a.0 s.glued) a.1 1))
 unfolding step
 step_beside Left n s = refl
 step_beside Right n s = refl
 
 pub beside_steps : (b : Beside) (n : ℕ) (s : State) (a : Side) (rest : List Side) (events : List Event) (kept : ℕ → Option Side) → top s.built s.glued s.stack ≡ Ok (a, rest) → note_events n s.built s.events s.reserved ≡ Ok (events, kept) →
-    step n (symbol_of b) s ≡ Ok (the_state (suc s.built) (glue (side s.built (glued_place b)) a s.glued) (side s.built first ∷ rest) kept events (s.made + 1) s.closes)
+    step n (symbol_in b) s ≡ Ok (the_state (suc s.built) (glue (side s.built (glued_place b)) a s.glued) (side s.built first ∷ rest) kept events (s.made + 1) s.closes)
 beside_steps b n s a rest events kept t e =
     step_beside b n s
     ∙ then_ok (top s.built s.glued s.stack) (a, rest) (λ x. with_events n s (grown s (glue (side s.built (glued_place b)) x.0 s.glued) x.1 1)) t
@@ -89,20 +89,20 @@ pub left_steps : (n : ℕ) (s : State) (a : Side) (rest : List Side) (events : L
     step n L s ≡ Ok (the_state (suc s.built) (glue (side s.built second) a s.glued) (side s.built first ∷ rest) kept events (s.made + 1) s.closes)
 left_steps = beside_steps Left
 
-pub beside_refused : (b : Beside) (n : ℕ) (s : State) (a : Side) (rest : List Side) (f : Fault) → top s.built s.glued s.stack ≡ Ok (a, rest) → note_events n s.built s.events s.reserved ≡ Err f → step n (symbol_of b) s ≡ Err f
+pub beside_refused : (b : Beside) (n : ℕ) (s : State) (a : Side) (rest : List Side) (f : Fault) → top s.built s.glued s.stack ≡ Ok (a, rest) → note_events n s.built s.events s.reserved ≡ Err f → step n (symbol_in b) s ≡ Err f
 beside_refused b n s a rest f t e =
     step_beside b n s
     ∙ then_ok (top s.built s.glued s.stack) (a, rest) (λ x. with_events n s (grown s (glue (side s.built (glued_place b)) x.0 s.glued) x.1 1)) t
     ∙ events_refused n s (grown s (glue (side s.built (glued_place b)) a s.glued) rest 1) f e
 
-pub beside_no_top : (b : Beside) (n : ℕ) (s : State) (f : Fault) → top s.built s.glued s.stack ≡ Err f → step n (symbol_of b) s ≡ Err f
+pub beside_no_top : (b : Beside) (n : ℕ) (s : State) (f : Fault) → top s.built s.glued s.stack ≡ Err f → step n (symbol_in b) s ≡ Err f
 beside_no_top b n s f t = step_beside b n s ∙ then_err (top s.built s.glued s.stack) f (λ x. with_events n s (grown s (glue (side s.built (glued_place b)) x.0 s.glued) x.1 1)) t
 
 -- C
 abbrev pub tip_rest : State → Side × List Side → Next
 tip_rest s a =
     let t = side_before s.built s.glued a.0 in
-    must (not (same t a.0)) kind.Alone s.built >>= λ u.
+    must_be (not (same t a.0)) kind.Alone s.built >>= λ u.
     Ok (grown s (glue (side s.built third) t (glue (side s.built second) a.0 s.glued)) a.1 0)
 
 pub tip_steps : (n : ℕ) (s : State) (a : Side) (rest : List Side) → top s.built s.glued s.stack ≡ Ok (a, rest) → side_before s.built s.glued a ≢ a →
@@ -125,8 +125,8 @@ tip_no_top n s f t = then_err (top s.built s.glued s.stack) f (tip_rest s) t
 -- S
 abbrev pub split_last : State → Side → Side × List Side → Next
 split_last s b a =
-    must (not (same a.0 b)) kind.Gone s.built >>= λ u.
-    must (not (same (side_before s.built s.glued b) a.0)) kind.SamePoint s.built >>= λ v.
+    must_be (not (same a.0 b)) kind.Gone s.built >>= λ u.
+    must_be (not (same (side_before s.built s.glued b) a.0)) kind.SamePoint s.built >>= λ v.
     Ok (record (grown s (glue (side s.built second) b (glue (side s.built third) a.0 s.glued)) a.1 0) { reserved = release s.built s.reserved })
 
 abbrev pub split_rest : State → Side × List Side → Next
@@ -147,14 +147,14 @@ split_to_last n s b a rest left t u = then_ok (top s.built s.glued s.stack) (b, 
 pub split_one_side : (n : ℕ) (s : State) (b a : Side) (rest left : List Side) → top s.built s.glued s.stack ≡ Ok (b, rest) → top s.built s.glued (pushed (s.reserved s.built) rest) ≡ Ok (a, left) → a ≡ b → step n S s ≡ Err (fault kind.Gone s.built)
 split_one_side n s b a rest left t u h =
     split_to_last n s b a rest left t u
-    ∙ must_fail (not (same a b)) kind.Gone s.built (λ u. must (not (same (side_before s.built s.glued b) a)) kind.SamePoint s.built >>= λ v.
+    ∙ must_fail (not (same a b)) kind.Gone s.built (λ u. must_be (not (same (side_before s.built s.glued b) a)) kind.SamePoint s.built >>= λ v.
     Ok (record (grown s (glue (side s.built second) b (glue (side s.built third) a s.glued)) left 0) { reserved = release s.built s.reserved })) (ap not (ap (λ (x : Side). same x b) h ∙ same_refl b))
 
 split_to_point : (n : ℕ) (s : State) (b a : Side) (rest left : List Side) → top s.built s.glued s.stack ≡ Ok (b, rest) → top s.built s.glued (pushed (s.reserved s.built) rest) ≡ Ok (a, left) → a ≢ b →
-    step n S s ≡ (must (not (same (side_before s.built s.glued b) a)) kind.SamePoint s.built >>= λ v. Ok (record (grown s (glue (side s.built second) b (glue (side s.built third) a s.glued)) left 0) { reserved = release s.built s.reserved }))
+    step n S s ≡ (must_be (not (same (side_before s.built s.glued b) a)) kind.SamePoint s.built >>= λ v. Ok (record (grown s (glue (side s.built second) b (glue (side s.built third) a s.glued)) left 0) { reserved = release s.built s.reserved }))
 split_to_point n s b a rest left t u h =
     split_to_last n s b a rest left t u
-    ∙ must_hold (not (same a b)) kind.Gone s.built (λ u. must (not (same (side_before s.built s.glued b) a)) kind.SamePoint s.built >>= λ v.
+    ∙ must_hold (not (same a b)) kind.Gone s.built (λ u. must_be (not (same (side_before s.built s.glued b) a)) kind.SamePoint s.built >>= λ v.
     Ok (record (grown s (glue (side s.built second) b (glue (side s.built third) a s.glued)) left 0) { reserved = release s.built s.reserved })) (ap not (not_same a b h))
 
 pub split_one_point : (n : ℕ) (s : State) (b a : Side) (rest left : List Side) → top s.built s.glued s.stack ≡ Ok (b, rest) → top s.built s.glued (pushed (s.reserved s.built) rest) ≡ Ok (a, left) → a ≢ b → side_before s.built s.glued b ≡ a →
@@ -194,10 +194,10 @@ filled_state a rest s =
     the_state (suc s.built) (glue (side s.built third) c (glue (side s.built second) b (glue (side s.built first) a s.glued))) rest s.reserved s.events s.made (suc s.closes)
 
 abbrev pub fill_count : Plan → Side → List Side → State → Unit {0} → Next
-fill_count p a rest s u = must (not (s.built == p.faces)) kind.FaceCount s.built >>= λ v. Ok (filled_state a rest s)
+fill_count p a rest s u = must_be (not (s.built == p.faces)) kind.FaceCount s.built >>= λ v. Ok (filled_state a rest s)
 
 abbrev pub fill_loop : ℕ → Plan → Side → List Side → State → Unit {0} → Next
-fill_loop n p a rest s u = must (loop_test s a) kind.Loop n >>= fill_count p a rest s
+fill_loop n p a rest s u = must_be (loop_test s a) kind.Loop n >>= fill_count p a rest s
 
 pub fill_gone : (n : ℕ) (p : Plan) (s : State) (a x : Side) (rest : List Side) → s.glued a ≡ Some x → fill n p a rest s ≡ Err (fault kind.Gone n)
 fill_gone n p s a x rest e = must_fail (is_none (s.glued a)) kind.Gone n (fill_loop n p a rest s) (ap {A = Option Side} is_none e)

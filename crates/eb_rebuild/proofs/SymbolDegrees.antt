@@ -8,11 +8,11 @@ use Rattle.eb_rebuild.specs.declared.beside.Beside.{Beside}
 use Rattle.eb_rebuild.specs.declared.beside.Beside.TheVariants.{Left, Right}
 use Rattle.eb_rebuild.specs.Beside.{glued_place, new_triangle}
 use Rattle.eb_rebuild.specs.Counted.{times_in}
-use Rattle.eb_rebuild.specs.KeptDegrees.{raised, after_end, after_beside, after_tip, after_split}
+use Rattle.eb_rebuild.specs.KeptDegrees.{degree_raised, after_end, after_beside, after_tip, after_split}
 use Rattle.eb_rebuild.specs.Named.{Triangle, Row, corner, no_triangle, renamed, renamed_triangle}
 use Rattle.eb_rebuild.specs.Shown.{name_of, AreNames}
 use Rattle.eb_rebuild.proofs.NamedRules.{renamed_from, renamed_case}
-use Rattle.eb_rebuild.specs.OneFaceMore.{Pairs, glue_all, IsOther, IsOtherPlace, AreApart}
+use Rattle.eb_rebuild.specs.OneFaceMore.{Pairs, glue_all, IsOther, IsOtherPlace, PairsAreApart}
 use Rattle.eb_rebuild.proofs.ManyGlued.{free_tells}
 use Rattle.eb_rebuild.proofs.Naming.{get_or-before_last, get_or-last, name_old}
 use Rattle.eb_rebuild.proofs.NameDegrees.{bit, bit_same, bit_other, count, count_more, count_none, count_renamed, one_start, raised_is}
@@ -45,10 +45,10 @@ counts_grow us t f e g ds old new s S =
     ]
 
 -- a side that stays free was free and is none of those that are glued; a side of the new face isn't glued
-was_free : {ts : List Triangle} {rows : List Row} {g : Gluing} {made : ℕ} → AreNames ts rows g made → (ps : Pairs) → AreApart (length ts) g ps → (s : Side) → s.face < length ts → IsFree (suc (length ts)) (glue_all (length ts) ps g) s → IsFree (length ts) g s × IsOther s ps
+was_free : {ts : List Triangle} {rows : List Row} {g : Gluing} {made : ℕ} → AreNames ts rows g made → (ps : Pairs) → PairsAreApart (length ts) g ps → (s : Side) → s.face < length ts → IsFree (suc (length ts)) (glue_all (length ts) ps g) s → IsFree (length ts) g s × IsOther s ps
 was_free {ts} N ps A s l S = elim (free_tells N.gluing ps s A S) [ inl o ↦ o | inr n ↦ absurd (let e = n.0 in omega arith) ]
 
-is_left : {ts : List Triangle} {rows : List Row} {g : Gluing} {made : ℕ} → AreNames ts rows g made → (ps : Pairs) → AreApart (length ts) g ps → (k : Place) → IsFree (suc (length ts)) (glue_all (length ts) ps g) (side (length ts) k) → IsOtherPlace k ps
+is_left : {ts : List Triangle} {rows : List Row} {g : Gluing} {made : ℕ} → AreNames ts rows g made → (ps : Pairs) → PairsAreApart (length ts) g ps → (k : Place) → IsFree (suc (length ts)) (glue_all (length ts) ps g) (side (length ts) k) → IsOtherPlace k ps
 is_left {ts} N ps A k S = elim (free_tells N.gluing ps (side (length ts) k) A S) [ inl o ↦ absurd (let w = o.0.within in omega arith) | inr n ↦ n.1 ]
 
 -- free sides round one that is to be glued
@@ -65,7 +65,7 @@ read_at xs i j v e l = ap (λ (k : ℕ). get_or (set xs i v) k 0) e ∙ get_or-s
 read_by : (xs : List ℕ) (i j v : ℕ) → j ≢ i → get_or (set xs i v) j 0 ≡ get_or xs j 0
 read_by xs i j v n = get_or-set_other xs i j v 0 n
 
-length-raised : (i k : ℕ) (ds : List ℕ) → length (raised i k ds) ≡ length ds
+length-raised : (i k : ℕ) (ds : List ℕ) → length (degree_raised i k ds) ≡ length ds
 length-raised i k ds = length-set ds i (get_or ds i 0 + k)
 
 -- E
@@ -185,11 +185,11 @@ beside_counts {ts} {rows} {g} {made} b a na W ds room K = counts_grow ts t f ref
     ps : Pairs
     ps = (k, a) ∷ []
 
-    apart : AreApart f g ps
+    apart : PairsAreApart f g ps
     apart = (W.free, tt, tt, tt)
 
     more : List ℕ
-    more = raised (number na) 1 ds
+    more = degree_raised (number na) 1 ds
 
     one : List ℕ
     one = set more (number (side f (place_after k))) (get_or more (number a) 0 + 1)
@@ -283,11 +283,11 @@ tip_counts {ts} {rows} {g} {made} a b na W B ne ds room K = counts_grow ts t f r
     ps : Pairs
     ps = (third, b) ∷ (second, a) ∷ []
 
-    apart : AreApart f g ps
+    apart : PairsAreApart f g ps
     apart = (B, (ne, tt), ((λ e. (cc)), tt), (W.free, tt, tt, tt))
 
     more : List ℕ
-    more = raised (number na) 1 ds
+    more = degree_raised (number na) 1 ds
 
     reads : (s : Side) → IsFree f g s → get_or more (number s) 0 ≡ suc (count (name_of ts (next s)) ts) + bit (name_of ts (next s)) p
     reads s S =
@@ -384,14 +384,14 @@ split_counts {ts} {rows} {g} {made} b a nb na V W ne ds room K =
     ps : Pairs
     ps = (second, b) ∷ (third, a) ∷ []
 
-    apart : AreApart f g ps
+    apart : PairsAreApart f g ps
     apart = (V.free, (ne, tt), ((λ e. (cc)), tt), (W.free, tt, tt, tt))
 
     one : List ℕ
-    one = raised (number nb) 1 ds
+    one = degree_raised (number nb) 1 ds
 
     merged : List ℕ
-    merged = raised (number na) (get_or one (number b) 0) one
+    merged = degree_raised (number na) (get_or one (number b) 0) one
 
     one_reads : (s : Side) → IsFree f g s → get_or one (number s) 0 ≡ suc (count (name_of ts (next s)) ts) + bit (name_of ts (next s)) z
     one_reads s S =

@@ -9,9 +9,9 @@ use Rattle.eb_rebuild.specs.declared.beside.Beside.TheVariants.{Left, Right}
 use Rattle.eb_rebuild.specs.Named.{Triangle}
 
 -- the symbol itself
-abbrev pub symbol_of : Beside → Symbol
-symbol_of Left = L
-symbol_of Right = R
+abbrev pub symbol_in : Beside → Symbol
+symbol_in Left = L
+symbol_in Right = R
 
 -- the side of the new face that is glued
 abbrev pub glued_place : Beside → Place

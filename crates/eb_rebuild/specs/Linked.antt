@@ -42,7 +42,7 @@ pub record IsLinkState (v : LinkValue) : Type 0 where
   pub kept : AreKeptBelow v.table.faces v.splits.kept
   pub made : v.made ≤ 3 * v.table.faces
 
--- a step of the machine that is a fault or goes well
+-- a step of the machine that is a fault or succeeds
 abbrev pub Does : Result State Fault → State → Result (Unit {0}) Fault → Type 0
 Does next new (Ok done) = next ≡ Ok new
 Does next new (Err f) = next ≡ Err f

@@ -16,9 +16,9 @@ abbrev pub fault : Kind → ℕ → Fault
 fault k n = record { kind = k; at = n }
 
 -- the fault, unless the test holds
-abbrev pub must : Bool → Kind → ℕ → Result (Unit {0}) Fault
-must true k n = Ok tt
-must false k n = Err (fault k n)
+abbrev pub must_be : Bool → Kind → ℕ → Result (Unit {0}) Fault
+must_be true k n = Ok tt
+must_be false k n = Err (fault k n)
 
 -- what is declared: faces, a bound on the vertices made, and symbols
 pub record Plan : Type 0 where
@@ -48,7 +48,7 @@ start events = record { built = 0; glued = unglued; stack = []; reserved = λ k.
 -- the top of a stack, which has to be a side that isn't glued, and what lies below it
 abbrev pub top : ℕ → Gluing → List Side → Result (Side × List Side) Fault
 top i g [] = Err (fault kind.NoActive i)
-top i g (a ∷ rest) = must (is_none (g a)) kind.Gone i >>= λ _. Ok (a, rest)
+top i g (a ∷ rest) = must_be (is_none (g a)) kind.Gone i >>= λ _. Ok (a, rest)
 
 -- a side, if there is one, on a stack
 abbrev pub pushed : Option Side → List Side → List Side
@@ -72,8 +72,8 @@ unfoldable pub note_events : ℕ → ℕ → List Event → (ℕ → Option Side
 note_events n i [] kept = Ok ([], kept)
 note_events n i (e ∷ events) kept =
     cond (nat_lt e.source (n - suc i)) (Ok (e ∷ events, kept))
-    (must (not (nat_lt (n - suc i) e.source)) kind.EventOrder i >>= λ _.
-    must (is_none (kept (n - suc e.split))) kind.Taken i >>= λ _.
+    (must_be (not (nat_lt (n - suc i) e.source)) kind.EventOrder i >>= λ _.
+    must_be (is_none (kept (n - suc e.split))) kind.Taken i >>= λ _.
     note_events n i events (reserve (n - suc e.split) (side i (event_place e.right)) kept))
 
 -- the state after an E, L or R, once its events are noted
@@ -98,13 +98,13 @@ step n L s =
 step n C s =
     top s.built s.glued s.stack >>= λ a.
     let t = side_before s.built s.glued a.0 in
-    must (not (same t a.0)) kind.Alone s.built >>= λ _.
+    must_be (not (same t a.0)) kind.Alone s.built >>= λ _.
     Ok (grown s (glue (side s.built third) t (glue (side s.built second) a.0 s.glued)) a.1 0)
 step n S s =
     top s.built s.glued s.stack >>= λ b.
     top s.built s.glued (pushed (s.reserved s.built) b.1) >>= λ a.
-    must (not (same a.0 b.0)) kind.Gone s.built >>= λ _.
-    must (not (same (side_before s.built s.glued b.0) a.0)) kind.SamePoint s.built >>= λ _.
+    must_be (not (same a.0 b.0)) kind.Gone s.built >>= λ _.
+    must_be (not (same (side_before s.built s.glued b.0) a.0)) kind.SamePoint s.built >>= λ _.
     Ok (record (grown s (glue (side s.built second) b.0 (glue (side s.built third) a.0 s.glued)) a.1 0)
     { reserved = release s.built s.reserved })
 
@@ -113,9 +113,9 @@ abbrev pub fill : ℕ → Plan → Side → List Side → State → Result State
 fill n p a rest s =
     let b = side_before s.built s.glued a in
     let c = side_before s.built s.glued b in
-    must (is_none (s.glued a)) kind.Gone n >>= λ _.
-    must (not (same b a) && not (same c a) && same (side_before s.built s.glued c) a) kind.Loop n >>= λ _.
-    must (not (s.built == p.faces)) kind.FaceCount s.built >>= λ _.
+    must_be (is_none (s.glued a)) kind.Gone n >>= λ _.
+    must_be (not (same b a) && not (same c a) && same (side_before s.built s.glued c) a) kind.Loop n >>= λ _.
+    must_be (not (s.built == p.faces)) kind.FaceCount s.built >>= λ _.
     Ok (record s {
       built = suc s.built;
       stack = rest;
@@ -147,8 +147,8 @@ first_degenerate faces g (suc n) =
 -- the tests at the end; the last one is this project's choice
 unfoldable pub finish : Plan → State → Result State Fault
 finish p s =
-    must (s.built == p.faces) kind.FaceCount s.built >>= λ _.
-    must (nat_le s.made p.created) kind.VertexCount s.made >>= λ _.
+    must_be (s.built == p.faces) kind.FaceCount s.built >>= λ _.
+    must_be (nat_le s.made p.created) kind.VertexCount s.made >>= λ _.
     elim (first_degenerate s.built s.glued s.built) [ None ↦ Ok s | Some f ↦ Err (fault kind.Degenerate f) ]
 
 -- all symbols in turn

@@ -1,4 +1,4 @@
--- The machine told with named vertices: a triangle has the names of its three corners, a row is an active side with the names of its two
+-- The machine with named vertices: a triangle has the names of its three corners, a row is an active side with the names of its two
 -- ends, and S makes one name of two (reverse decoding: Isenburg and Snoeyink 2001; Draco Bitstream Specification 2.2, Edgebreaker).
 -- The names of the vertices made are 0, 1, 2 and so on.
 use Rattle.std.specs.Prelude.{ℕ, zero, suc, ◌+◌, Bool, true, false, not, ◌&&◌, ◌||◌, nat_le, ◌==◌, cond, List, [], ◌∷◌, ◌++◌, length}
@@ -10,7 +10,7 @@ use Rattle.corner_table.specs.declared.symbols.Symbol.{Symbol}
 use Rattle.corner_table.specs.declared.symbols.Symbol.TheVariants.{C, S, L, R, E}
 use Rattle.corner_table.specs.declared.symbols.Event.{Event}
 use Rattle.corner_table.specs.Sides.{Side, Place, first, second, third, side, same, place_after, place_before, Gluing, unglued, glue}
-use Rattle.eb_rebuild.specs.Machine.{Plan, fault, must, pushed, release, note_events}
+use Rattle.eb_rebuild.specs.Machine.{Plan, fault, must_be, pushed, release, note_events}
 
 -- the names of corners 0, 1 and 2 of a face
 abbrev pub Triangle : Type 0
@@ -36,8 +36,8 @@ abbrev pub new_row : ℕ → Triangle → Place → Row
 new_row f t k = record { side = side f k; from = corner t (place_after k); to = corner t (place_before k) }
 
 -- the row of a side, if it is a row
-abbrev pub row_of : Side → List Row → Option Row
-row_of a rows = find (λ r. same r.side a) rows
+abbrev pub row_at_side : Side → List Row → Option Row
+row_at_side a rows = find (λ r. same r.side a) rows
 
 -- the row that ends at a vertex
 abbrev pub row_to : ℕ → List Row → Option Row
@@ -92,7 +92,7 @@ row_or_gone i (Some r) = Ok r
 -- the row at the top of a stack, and what lies below it
 abbrev pub top_row : ℕ → List Row → List Side → Result (Row × List Side) Fault
 top_row i rows [] = Err (fault kind.NoActive i)
-top_row i rows (a ∷ rest) = row_or_gone i (row_of a rows) >>= λ r. Ok (r, rest)
+top_row i rows (a ∷ rest) = row_or_gone i (row_at_side a rows) >>= λ r. Ok (r, rest)
 
 -- a state once the events of symbol i of n are noted
 abbrev pub named_events : ℕ → ℕ → NamedState → Result NamedState Fault
@@ -134,7 +134,7 @@ named_rule n i L x =
 named_rule n i C x =
     top_row i x.rows x.stack >>= λ (a, rest).
     let b = row_before a x.rows in
-    must (not (same b.side a.side)) kind.Alone i >>= λ _.
+    must_be (not (same b.side a.side)) kind.Alone i >>= λ _.
     let t : Triangle = (a.from, b.from, a.to) in
     Ok (record x {
       triangles = x.triangles ++ (t ∷ []);
@@ -146,8 +146,8 @@ named_rule n i C x =
 named_rule n i S x =
     top_row i x.rows x.stack >>= λ (b, below).
     top_row i x.rows (pushed (x.reserved i) below) >>= λ (a, rest).
-    must (not (same a.side b.side)) kind.Gone i >>= λ _.
-    must (not (b.from == a.to)) kind.SamePoint i >>= λ _.
+    must_be (not (same a.side b.side)) kind.Gone i >>= λ _.
+    must_be (not (b.from == a.to)) kind.SamePoint i >>= λ _.
     let rename = renamed b.from a.to in
     let t : Triangle = (rename a.to, rename a.from, rename b.to) in
     Ok (record x {
@@ -169,8 +169,8 @@ named_fill n p a rest x =
     let i = length x.triangles in
     let b = row_before a x.rows in
     let c = row_before b x.rows in
-    must (not (same b.side a.side) && not (same c.side a.side) && (c.from == a.to)) kind.Loop n >>= λ _.
-    must (not (i == p.faces)) kind.FaceCount i >>= λ _.
+    must_be (not (same b.side a.side) && not (same c.side a.side) && (c.from == a.to)) kind.Loop n >>= λ _.
+    must_be (not (i == p.faces)) kind.FaceCount i >>= λ _.
     let t : Triangle = (b.from, a.to, a.from) in
     Ok (record x {
       triangles = x.triangles ++ (t ∷ []);
@@ -183,7 +183,7 @@ named_fill n p a rest x =
 -- what closing the top of a stack does
 abbrev pub named_close_top : ℕ → Plan → Bool → List Side → NamedState → Result NamedState Fault
 named_close_top n p interior [] x = Ok x
-named_close_top n p true (a ∷ rest) x = row_or_gone n (row_of a x.rows) >>= λ r. named_fill n p r rest x
+named_close_top n p true (a ∷ rest) x = row_or_gone n (row_at_side a x.rows) >>= λ r. named_fill n p r rest x
 named_close_top n p false (a ∷ rest) x = Ok (record x { stack = rest; closes = suc x.closes })
 
 unfoldable pub named_close : Plan → Bool → NamedState → Result NamedState Fault
@@ -203,8 +203,8 @@ first_with_equal triangles (suc n) =
 unfoldable pub named_finish : Plan → NamedState → Result NamedState Fault
 named_finish p x =
     let faces = length x.triangles in
-    must (faces == p.faces) kind.FaceCount faces >>= λ _.
-    must (nat_le x.made p.created) kind.VertexCount x.made >>= λ _.
+    must_be (faces == p.faces) kind.FaceCount faces >>= λ _.
+    must_be (nat_le x.made p.created) kind.VertexCount x.made >>= λ _.
     elim (first_with_equal x.triangles faces) [ None ↦ Ok x | Some f ↦ Err (fault kind.Degenerate f) ]
 
 -- all symbols in turn

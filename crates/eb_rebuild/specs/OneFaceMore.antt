@@ -27,9 +27,9 @@ IsOtherPlace k [] = Unit {0}
 IsOtherPlace k (p ∷ ps) = (k ≢ p.0) × IsOtherPlace k ps
 
 -- free sides and places, all apart
-abbrev pub AreApart : ℕ → Gluing → Pairs → Type 0
-AreApart f g [] = Unit {0}
-AreApart f g (p ∷ ps) = IsFree f g p.1 × IsOther p.1 ps × IsOtherPlace p.0 ps × AreApart f g ps
+abbrev pub PairsAreApart : ℕ → Gluing → Pairs → Type 0
+PairsAreApart f g [] = Unit {0}
+PairsAreApart f g (p ∷ ps) = IsFree f g p.1 × IsOther p.1 ps × IsOtherPlace p.0 ps × PairsAreApart f g ps
 
 -- a corner of the new face that is an end of a side which is glued, so that it meets a corner of the faces before
 abbrev pub Touches : Place → Pairs → Type 0
@@ -68,7 +68,7 @@ IsNewName ts rename t k = ((c : Side) → c.face < length ts → rename (name_of
 pub record Grows (ts : List Triangle) (rows : List Row) (g : Gluing) (made made' : ℕ) (rename : ℕ → ℕ)
     (t : Triangle) (ps : Pairs) (ks : List Place) : Type 0 where
   pub names : AreNames ts rows g made
-  pub apart : AreApart (length ts) g ps
+  pub apart : PairsAreApart (length ts) g ps
   -- corners that meet have one name, and every other corner of the new face has one of its own
   pub fits : FitsNames ts rename t ps
   pub corners : (k : Place) → Touches k ps ⊎ IsNewName ts rename t k

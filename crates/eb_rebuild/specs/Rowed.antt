@@ -13,11 +13,11 @@ use Rattle.eb_rebuild.specs.Kept.{StackValue, SplitsValue}
 use Rattle.eb_rebuild.specs.Linked.{LinkValue}
 
 -- a row by the number of its side
-abbrev pub listed : NumberedRow → Row
-listed r = record { side = side_at r.side; from = r.from; to = r.to }
+abbrev pub row_listed : NumberedRow → Row
+row_listed r = record { side = side_at r.side; from = r.from; to = r.to }
 
 abbrev pub all_listed : List NumberedRow → List Row
-all_listed rows = map listed rows
+all_listed rows = map row_listed rows
 
 -- a table, the names of each face's corners, the rows, and how many vertices were made
 pub record NamedTable : Type 0 where
@@ -35,7 +35,7 @@ pub record IsNamedTable (v : NamedTable) : Type 0 where
 -- a row of a table: a free side with the names of its ends
 pub record IsRowIn (v : NamedTable) (r : NumberedRow) : Type 0 where
   pub free : IsFreeIn v.table (side_at r.side)
-  pub is : listed r ≡ row_named v.triangles (side_at r.side)
+  pub is : row_listed r ≡ row_named v.triangles (side_at r.side)
 
 -- a side that is in a pair
 abbrev pub IsGluedIn : Table → Side → Type 0
@@ -52,7 +52,7 @@ pub record RowValue : Type 0 where
 abbrev pub plain_of : RowValue → LinkValue
 plain_of v = record { plan = v.plan; table = v.named.table; stack = v.stack; splits = v.splits; made = v.named.made; closes = v.closes }
 
--- a step of the machine that is a fault, goes well or wants memory
+-- a step of the machine that is a fault, succeeds or runs out of memory
 abbrev pub Tries : Result State Fault → State → Result (Unit {0}) Refusal → Type 0
 Tries next new (Ok done) = next ≡ Ok new
 Tries next new (Err (refusal.Fault f)) = next ≡ Err f

@@ -6,7 +6,7 @@ ghost use Rattle.drc_base.specs.declared.limits.TheConstants.{MAX_FACES as most_
 ghost use Rattle.corner_table.specs.Sides.{first, second, third, place_after, place_of};
 ghost use Rattle.eb_rebuild.specs.Named.{renamed, renamed_triangle, new_row, no_triangle, corner, has_equal, first_with_equal};
 ghost use Rattle.eb_rebuild.specs.Counted.{times_in};
-ghost use Rattle.eb_rebuild.specs.Rowed.{listed};
+ghost use Rattle.eb_rebuild.specs.Rowed.{row_listed};
 
 use drc_base::Memory;
 use std::alloc::{AllocError, Global};
@@ -133,7 +133,7 @@ pub(crate) fn with_row(rows: Vec<Row>, row: Row) -> Result<Vec<Row>, Memory>
 /// Side 0 of a face whose corners have these names.
 pub(crate) fn first_row(face: u32, t: (u32, u32, u32)) -> Row
     requires { face < most_faces }
-    ensures { listed result ≡ new_row face t first }
+    ensures { row_listed result ≡ new_row face t first }
 {
     Row {
         side: 3 * face,
@@ -145,7 +145,7 @@ pub(crate) fn first_row(face: u32, t: (u32, u32, u32)) -> Row
 /// Side 1 of a face.
 pub(crate) fn second_row(face: u32, t: (u32, u32, u32)) -> Row
     requires { face < most_faces }
-    ensures { listed result ≡ new_row face t second }
+    ensures { row_listed result ≡ new_row face t second }
 {
     Row {
         side: 3 * face + 1,
@@ -157,7 +157,7 @@ pub(crate) fn second_row(face: u32, t: (u32, u32, u32)) -> Row
 /// Side 2 of a face.
 pub(crate) fn third_row(face: u32, t: (u32, u32, u32)) -> Row
     requires { face < most_faces }
-    ensures { listed result ≡ new_row face t third }
+    ensures { row_listed result ≡ new_row face t third }
 {
     Row {
         side: 3 * face + 2,

@@ -9,7 +9,7 @@
 
 ghost use Rattle.std.specs.Prelude.{◌≡◌, ℕ, ◌+◌, ◌*◌, ◌^◌, ◌<◌, ◌≤◌, get_or, set, vec_len, IfOk};
 ghost use Rattle.drc_base.specs.declared.limits.TheConstants.{MAX_FACES as most_faces};
-ghost use Rattle.eb_rebuild.specs.KeptDegrees.{raised, after_end, after_beside, after_tip, after_split};
+ghost use Rattle.eb_rebuild.specs.KeptDegrees.{degree_raised, after_end, after_beside, after_tip, after_split};
 
 use crate::beside::Beside;
 use drc_base::Memory;
@@ -48,7 +48,7 @@ fn raise(degrees: &mut Vec<u32>, side: u32, more: u32)
     requires room { side < vec_len degrees.old }
     requires small { get_or degrees.old.items side 0 + more < 2 ^ 32 }
     ensures len { vec_len degrees.new ≡ vec_len degrees.old }
-    ensures items { degrees.new.items ≡ raised side more degrees.old.items }
+    ensures items { degrees.new.items ≡ degree_raised side more degrees.old.items }
 {
     let degree = degree_at(degrees, side) + more;
     keep(degrees, side, degree);

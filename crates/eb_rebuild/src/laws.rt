@@ -4,11 +4,11 @@ ghost use Rattle.eb_rebuild.specs.Shown.{SymbolsAgree, ClosesAgree, EndsAgree, R
 ghost use Rattle.eb_rebuild.specs.Closes.{SymbolsCloseNone, CloseTakesOne, AllAreClosed, FinishKeepsState, RunClosesAll};
 ghost use Rattle.eb_rebuild.specs.OneFaceMore.{OneFaceMore};
 
-/// Names are fans: the machine that names its vertices, as the format tells it, and the machine whose
-/// vertices are fans give the same answers. Each call of both, from a named state and the state that it
-/// shows, has the same fault, or gives a named state that shows the other again; and so has each whole
-/// run, and each run that stops after any symbols and any closes. This is the contract of a call that
-/// does nothing.
+/// Names are fans: the machine that names its vertices, as the format describes it, and the machine
+/// whose vertices are fans give the same answers. Each call of both, from a named state and the state
+/// that it shows, has the same fault, or gives a named state that shows the other again; and so has
+/// each whole run, and each run that stops after any symbols and any closes. This is the contract of a
+/// call that does nothing.
 pub fn names_are_fans()
     ensures symbols { SymbolsAgree }
     ensures closes { ClosesAgree }

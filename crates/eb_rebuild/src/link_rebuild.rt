@@ -1,8 +1,8 @@
 //! Rebuilding over the links of the boundary.
 //!
 //! The rules ask only which side comes before a free side round the boundary, and whether a side is
-//! free; the table's links tell both at once. So a symbol takes a few table calls, whatever was built
-//! before. The degrees of vertices are kept at the free sides that start there.
+//! free; the table's links answer both at once. So a symbol takes a few table calls, whatever was
+//! built before. The degrees of vertices are kept at the free sides that start there.
 
 ghost use Rattle.std.specs.Prelude.{◌≡◌, not, ◌&&◌};
 ghost use Rattle.corner_table.specs.Sides.{same};
@@ -103,7 +103,7 @@ impl LinkRebuild {
     ghost use Rattle.corner_table.specs.Sides.{side_at};
     ghost use Rattle.corner_table.specs.Table.{gluing_of, room_of};
     ghost use Rattle.eb_rebuild.specs.Machine.{top, step, close, pushed, release};
-    ghost use Rattle.eb_rebuild.specs.Beside.{symbol_of};
+    ghost use Rattle.eb_rebuild.specs.Beside.{symbol_in};
     ghost use Rattle.eb_rebuild.specs.Kept.{kept_in};
     ghost use Rattle.eb_rebuild.specs.Linked.{state_of, is_live, Does};
     ghost use Rattle.eb_rebuild.specs.Rebuilding.{Holds};
@@ -160,7 +160,7 @@ impl LinkRebuild {
         requires more { self.old.table.faces < self.old.plan.symbols }
         requires room { self.old.table.faces < room_of self.old.table }
         requires unclosed { self.old.closes ≡ 0 }
-        ensures does { Does (step self.old.plan.symbols (symbol_of beside) (state_of self.old)) (state_of self.new) result }
+        ensures does { Does (step self.old.plan.symbols (symbol_in beside) (state_of self.old)) (state_of self.new) result }
         ensures plan { self.new.plan ≡ self.old.plan }
         ensures room { OnOk result (room_of self.new.table ≡ room_of self.old.table) }
         ensures live { OnOk result (IsTrue (is_live self.new)) }

@@ -11,7 +11,7 @@ ghost use Rattle.corner_table.specs.Sides.{side_at, number};
 ghost use Rattle.corner_table.specs.Table.{side_of};
 ghost use Rattle.eb_rebuild.specs.Beside.{glued_place, free_place, new_triangle};
 ghost use Rattle.eb_rebuild.specs.Named.{new_row};
-ghost use Rattle.eb_rebuild.specs.Rowed.{listed};
+ghost use Rattle.eb_rebuild.specs.Rowed.{row_listed};
 
 use crate::active_rows::{
     Row, all_rows, corners_named, first_row, first_with_equal, one_if, renamed_rows,
@@ -58,7 +58,7 @@ fn new_triangle(beside: Beside, a: Row, vertex: u32) -> (u32, u32, u32)
 /// The row of the side that is free besides side 0, of a face with one side glued.
 fn free_row(beside: Beside, face: u32, t: (u32, u32, u32)) -> Row
     requires { face < most_faces }
-    ensures { listed result ≡ new_row face t (free_place beside) }
+    ensures { row_listed result ≡ new_row face t (free_place beside) }
 {
     match beside {
         Beside::Left => third_row(face, t),

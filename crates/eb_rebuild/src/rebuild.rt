@@ -111,8 +111,8 @@ pub trait Rebuild: Sized + Drop {
     /// The tests at the end, in order: FaceCount where the faces built aren't as many as declared, at
     /// their number; VertexCount where more than `created` vertices were made, at their number;
     /// Degenerate where two corners of a face are one vertex, at the least such face (this project's
-    /// choice). Memory where there is no room to tell the vertices apart. The table that is answered has
-    /// entries for no more than the declared faces.
+    /// choice). Memory where there is no room to distinguish the vertices. The table that is answered
+    /// has entries for no more than the declared faces.
     fn finish(self, alloc: Global) -> Result<Built, Refusal>
         requires live { IsTrue (live self) }
         requires all { (plan self).symbols ≤ (state self).built }

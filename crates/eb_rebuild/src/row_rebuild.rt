@@ -1,8 +1,9 @@
 //! Rebuilding with rows in a plain list.
 //!
-//! The machine as the format tells it: each vertex has a name, an active side stands in a list with
-//! the names of its ends, and an S writes one name over another in all triangles and rows. So each
-//! call looks through the list. It answers for the other rebuilding, which is fast.
+//! The machine as the format describes it: each vertex has a name, an active side stands in a list
+//! with the names of its ends, and an S writes one name over another in all triangles and rows. So
+//! each call looks through the list. By the contract of `Rebuild` the other rebuilding, which is
+//! fast, gives the same answers.
 
 ghost use Rattle.std.specs.Prelude.{◌≡◌, not, ◌&&◌, Bool};
 ghost use Rattle.corner_table.specs.Sides.{side_at, same};
@@ -76,7 +77,7 @@ impl RowRebuild {
     ghost use Rattle.corner_table.specs.declared.symbols.Symbol.TheVariants as kinds;
     ghost use Rattle.corner_table.specs.Table.{gluing_of, room_of};
     ghost use Rattle.eb_rebuild.specs.Machine.{top, step, close, pushed, release};
-    ghost use Rattle.eb_rebuild.specs.Beside.{symbol_of};
+    ghost use Rattle.eb_rebuild.specs.Beside.{symbol_in};
     ghost use Rattle.eb_rebuild.specs.Kept.{kept_in};
     ghost use Rattle.eb_rebuild.specs.Linked.{state_of};
     ghost use Rattle.eb_rebuild.specs.Rowed.{plain_of, Tries, IsRowIn};
@@ -139,7 +140,7 @@ impl RowRebuild {
     ) -> Result<(), Refusal>
         requires more { self.old.named.table.faces < self.old.plan.symbols }
         requires room { self.old.named.table.faces < room_of self.old.named.table }
-        ensures does { Tries (step self.old.plan.symbols (symbol_of beside) (state_of (plain_of self.old))) (state_of (plain_of self.new)) result }
+        ensures does { Tries (step self.old.plan.symbols (symbol_in beside) (state_of (plain_of self.old))) (state_of (plain_of self.new)) result }
         ensures plan { self.new.plan ≡ self.old.plan }
         ensures room { OnOk result (room_of self.new.named.table ≡ room_of self.old.named.table) }
     {

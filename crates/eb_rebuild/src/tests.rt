@@ -8,12 +8,13 @@ use crate::built::Built;
 use crate::link_rebuild::LinkRebuild;
 use crate::rebuild::Rebuild;
 use crate::row_rebuild::RowRebuild;
-use corner_table::{Event, FREE, SideTable, Steps, Symbol};
+use corner_table::{Event, FREE, Steps, Symbol};
 use drc_base::{Fault, Kind, MAX_FACES, Refusal};
 use std::alloc::Global;
 use std::marker::Brand;
 use std::process::Abort;
 use std::sync::ledger::{Blank, Ledger};
+use worked_surfaces::{RING_DECODED, TETRAHEDRON_DECODED, TORUS_DECODED, has_entries};
 
 /// Takes symbols, for which there is room, and no more than are declared.
 fn take_all<R: Rebuild, L: Ledger>(
@@ -90,20 +91,10 @@ fn rebuilt<R: Rebuild, L: Ledger>(
     machine.finish(alloc)
 }
 
-/// The table has these entries.
-fn has_entries<L: Ledger>(rt: &impl Abort, table: &SideTable, entries: &[u32], blank: Blank)
-    requires name { blank.name ≡ L.name }
-    requires parts { blank.parts ≡ L.parts }
-    requires some { 0 < L.parts }
-{
-    let mut steps = Steps::<L>::new(blank);
-    assert!(rt; table.across(&mut steps) == entries);
-}
-
 /// The rebuilding has the table that is listed.
 fn has_table(rt: &impl Abort, done: Result<Built, Refusal>, across: &[u32]) {
     match done {
-        Ok(built) => has_entries::<Brand>(rt, built.table(), across, Blank::new(1)),
+        Ok(built) => assert!(rt; has_entries(built.table(), across)),
         Err(_) => assert!(rt; false, "refused"),
     }
 }
@@ -140,17 +131,13 @@ fn rebuilds<R: Rebuild>(rt: &impl Abort, alloc: Global) {
     // A tetrahedron with an interior start face.
     let none = Vec::new(alloc);
     let done = rebuilt::<R, Brand>(alloc, (4, 4), &[E, Right, C], none, &[true], Blank::new(1));
-    let across = [5, 10, 8, 7, 11, 0, 9, 3, 2, 6, 1, 4];
-    has_table(rt, done, &across);
-    // A ring with a hole, which wants an event.
+    has_table(rt, done, &TETRAHEDRON_DECODED);
+    // A ring with a hole, which needs an event.
     let ring = [E, Right, L, Right, L, S];
     let events = one_event(rt, alloc, 5, 0, true);
     let done = rebuilt::<R, Brand>(alloc, (6, 7), &ring, events, &[false], Blank::new(1));
-    let across = [
-        5, 17, FREE, 7, FREE, 0, 11, 3, FREE, 13, FREE, 6, 16, 9, FREE, FREE, 12, 1,
-    ];
-    has_table(rt, done, &across);
-    // A torus, which wants two.
+    has_table(rt, done, &RING_DECODED);
+    // A torus, which needs two.
     let torus = [E, E, L, S, Right, L, S, S, Right, C, C, C, C];
     let mut events = one_event(rt, alloc, 11, 6, false);
     let second = Event {
@@ -160,11 +147,7 @@ fn rebuilds<R: Rebuild>(rt: &impl Abort, alloc: Global) {
     };
     events.push(second).expect(rt, "room");
     let done = rebuilt::<R, Brand>(alloc, (14, 10), &torus, events, &[true], Blank::new(1));
-    let across = [
-        11, 23, 35, 7, 38, 20, 10, 3, 29, 14, 6, 0, 16, 40, 9, 19, 12, 32, 22, 15, 5, 26, 18, 1,
-        28, 41, 21, 31, 24, 8, 34, 27, 17, 37, 30, 2, 39, 33, 4, 36, 13, 25,
-    ];
-    has_table(rt, done, &across);
+    has_table(rt, done, &TORUS_DECODED);
     // Two faces apart, and a third at one of them.
     let none = Vec::new(alloc);
     let done = rebuilt::<R, Brand>(alloc, (2, 6), &[E, E], none, &[], Blank::new(1));
@@ -201,7 +184,7 @@ fn refuses_symbols<R: Rebuild>(rt: &impl Abort, alloc: Global) {
     let events = one_event(rt, alloc, 1, 0, false);
     let done = rebuilt::<R, Brand>(alloc, (2, 4), &[E, S], events, &[], Blank::new(1));
     assert!(rt; told(rt, done) == Some((Kind::SamePoint, 1)));
-    // The kept side is glued when it is wanted.
+    // The kept side is glued when it is needed.
     let events = one_event(rt, alloc, 2, 0, false);
     let done = rebuilt::<R, Brand>(alloc, (3, 4), &[E, C, S], events, &[], Blank::new(1));
     assert!(rt; told(rt, done) == Some((Kind::Gone, 2)));

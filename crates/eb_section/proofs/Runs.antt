@@ -13,7 +13,7 @@ use Rattle.drc_bits.proofs.Many.{one_fewer}
 use Rattle.corner_table.specs.declared.symbols.Symbol.{Symbol}
 use Rattle.corner_table.specs.Sides.{Side}
 use Rattle.rans_binary.specs.Blocks.{Block, behind, bit_of, next_bit}
-use Rattle.eb_rebuild.specs.Machine.{Plan, State, step, close, close_all, close_top, finish, must, fault, first_degenerate}
+use Rattle.eb_rebuild.specs.Machine.{Plan, State, step, close, close_all, close_top, finish, must_be, fault, first_degenerate}
 use Rattle.eb_rebuild.specs.Rebuilding.{BuiltValue, Moves, Ends}
 use Rattle.eb_rebuild.proofs.Steps.{Next, fill_loop, fill_count, filled_state, loop_test}
 use Rattle.eb_rebuild.proofs.Counts.{If, if_ok, if_then, close_counts}
@@ -78,15 +78,15 @@ ClosedBy p false s t = t.built ≡ s.built
 ClosedBy p true s t = (t.built ≡ suc s.built) × (s.built ≤ p.faces → t.built ≤ p.faces)
 
 counted : (p : Plan) (s : State) (a : Side) (rest : List Side) (b : Bool) → (s.built == p.faces) ≡ b →
-    If (ClosedBy p true s) (must (not b) kind.FaceCount s.built >>= λ w. (let x : Next = Ok (filled_state a rest s) in x))
+    If (ClosedBy p true s) (must_be (not b) kind.FaceCount s.built >>= λ w. (let x : Next = Ok (filled_state a rest s) in x))
 counted p s a rest true is = tt
 counted p s a rest false is = let other = eqb-false s.built p.faces is in (refl, λ within. omega arith)
 
 closed_by : (n : ℕ) (p : Plan) (b : Bool) (s : State) (a : Side) (rest : List Side) → If (ClosedBy p b s) (close_top n p b (a ∷ rest) s)
 closed_by n p false s a rest = refl
 closed_by n p true s a rest =
-    if_then (ClosedBy p true s) (must (is_none (s.glued a)) kind.Gone n) (fill_loop n p a rest s)
-    (λ u. if_then (ClosedBy p true s) (must (loop_test s a) kind.Loop n) (fill_count p a rest s)
+    if_then (ClosedBy p true s) (must_be (is_none (s.glued a)) kind.Gone n) (fill_loop n p a rest s)
+    (λ u. if_then (ClosedBy p true s) (must_be (loop_test s a) kind.Loop n) (fill_count p a rest s)
     (λ v. counted p s a rest (s.built == p.faces) refl))
 
 -- what a close counts where a side waits
@@ -166,13 +166,13 @@ ends-as run p u (Err (refusal.Fault f)) same h = same ∙ h
 ends-as run p u (Err refusal.Memory) same h = tt
 
 -- an end without a fault has the declared faces
-must-then : (b : Bool) (k : Kind) (n : ℕ) (f : Unit {0} → Next) (t : State) → (must b k n >>= f) ≡ Ok t → b ≡ true
+must-then : (b : Bool) (k : Kind) (n : ℕ) (f : Unit {0} → Next) (t : State) → (must_be b k n >>= f) ≡ Ok t → b ≡ true
 must-then true k n f t e = refl
 must-then false k n f t e = absurd (err≢ok e)
 
 finish-faces : (p : Plan) (s t : State) → finish p s ≡ Ok t → s.built ≡ p.faces
 unfolding finish
-finish-faces p s t e = eqb-true s.built p.faces (must-then (s.built == p.faces) kind.FaceCount s.built (λ u. must (nat_le s.made p.created) kind.VertexCount s.made >>= λ v. last p s) t e)
+finish-faces p s t e = eqb-true s.built p.faces (must-then (s.built == p.faces) kind.FaceCount s.built (λ u. must_be (nat_le s.made p.created) kind.VertexCount s.made >>= λ v. last p s) t e)
   where
     last : Plan → State → Next
     last p s = elim (first_degenerate s.built s.glued s.built) [ None ↦ Ok s | Some f ↦ Err (fault kind.Degenerate f) ]

@@ -11,14 +11,14 @@ use Rattle.drc_bits.specs.Reading.{Reading, Item, must, many_at}
 use Rattle.drc_bits.specs.Varint.{var32_at, spelling}
 use Rattle.drc_bits.specs.Spells.{Spells}
 use Rattle.drc_bits.proofs.Spelled.{Spells-none, Spells-then, Spells-must, Spells-var32}
-use Rattle.rans_binary.specs.Blocks.{Block, IsBlockOf, block, block_at}
+use Rattle.rans_binary.specs.Blocks.{Block, IsBlockOf, block, bit_block_at}
 use Rattle.symbol_coding.specs.Block.{block_bytes, block_at as symbols_at}
 use Rattle.corner_table.specs.declared.symbols.Symbol.{Symbol}
 use Rattle.corner_table.specs.declared.symbols.Event.{Event}
 use Rattle.eb_rebuild.specs.Machine.{State, start, step}
 use Rattle.eb_valence.specs.declared.context_lists.TheConstants.{CONTEXTS}
 use Rattle.eb_valence.specs.Numbers.{symbol_number}
-use Rattle.eb_valence.specs.Contexts.{Coded, context, coded, coded_at, list_of, context_lists}
+use Rattle.eb_valence.specs.Contexts.{CodedSymbol, context, coded, context_coded_at, context_list, context_lists}
 use Rattle.eb_section.specs.Connectivity.{list_at}
 use Rattle.eb_section.specs.Written.{list_bytes, blocks_bytes}
 use Rattle.eb_section.specs.ReadAgain.{BeginWith}
@@ -42,17 +42,17 @@ Spells-no_more item = Spells-none []
 -- blocks that are read from the bytes of these lists, and begin with their bits
 pub record AreRead (lists : List (List Bool)) : Type 0 where
   pub blocks : List Block
-  pub spells : Spells (many_at block_at (length lists)) (blocks_bytes lists) blocks
+  pub spells : Spells (many_at bit_block_at (length lists)) (blocks_bytes lists) blocks
   pub begin : BeginWith lists blocks
 
 pub blocks-again : (lists : List (List Bool)) → AreBlocks lists → AreRead lists
-blocks-again [] each = record { blocks = []; spells = Spells-no_more block_at; begin = tt }
+blocks-again [] each = record { blocks = []; spells = Spells-no_more bit_block_at; begin = tt }
 blocks-again (bits ∷ lists) each =
     let here : IsBlockOf bits (block bits) = All-head (λ x. IsBlockOf x (block x)) bits lists each in
     let rest = blocks-again lists (All-tail (λ x. IsBlockOf x (block x)) bits lists each) in
     record {
       blocks = here.start ∷ rest.blocks;
-      spells = Spells-more block_at (length lists) (block bits) (blocks_bytes lists) here.start rest.blocks here.spells rest.spells;
+      spells = Spells-more bit_block_at (length lists) (block bits) (blocks_bytes lists) here.start rest.blocks here.spells rest.spells;
       begin = (record { first = here.first; numbered = here.numbered }, rest.begin);
     }
 
@@ -75,10 +75,10 @@ Spells-lists symbols (numbers ∷ lists) small short each =
     (Spells-lists symbols lists small (All-tail (λ x. length x ≤ symbols) numbers lists short) (All-tail IsSymbolBlock numbers lists each))
 
 -- a context has no more numbers than there are symbols
-one-most : (s : State) (x : Symbol) → length (coded_at s x) ≤ 1
+one-most : (s : State) (x : Symbol) → length (context_coded_at s x) ≤ 1
 one-most s x = is (s.built == 0) (record { context = context s; number = symbol_number x })
   where
-    is : (b : Bool) (c : Coded) → length (let l : List Coded = cond b [] (c ∷ []) in l) ≤ 1
+    is : (b : Bool) (c : CodedSymbol) → length (let l : List CodedSymbol = cond b [] (c ∷ []) in l) ≤ 1
     is true c = omega arith
     is false c = omega arith
 
@@ -86,17 +86,17 @@ fewer-coded : (n : ℕ) (word : List Symbol) (s : State) → length (coded n wor
 unfolding coded
 fewer-coded n [] s = omega arith
 fewer-coded n (x ∷ word) s =
-    elim (step n x s) as (λ (r : Result State Fault). length (let l : List Coded = elim r [ Err f ↦ [] | Ok t ↦ coded_at s x ++ coded n word t ] in l) ≤ suc (length word)) [
+    elim (step n x s) as (λ (r : Result State Fault). length (let l : List CodedSymbol = elim r [ Err f ↦ [] | Ok t ↦ context_coded_at s x ++ coded n word t ] in l) ≤ suc (length word)) [
       | Err f ↦ omega arith
-      | Ok t ↦ omega (arith, length-append (coded_at s x) (coded n word t), fewer-coded n word t, one-most s x)
+      | Ok t ↦ omega (arith, length-append (context_coded_at s x) (coded n word t), fewer-coded n word t, one-most s x)
     ]
 
 fewer-numbers : (symbols : List Symbol) (events : List Event) (k : ℕ)
-    → length (list_of (coded (length symbols) (reverse symbols) (start (reverse events))) k) ≤ length symbols
-unfolding list_of
+    → length (context_list (coded (length symbols) (reverse symbols) (start (reverse events))) k) ≤ length symbols
+unfolding context_list
 fewer-numbers symbols events k =
-    let codes : List Coded = coded (length symbols) (reverse symbols) (start (reverse events)) in
-    let chosen : List Coded = filter (λ c. c.context == k) codes in
+    let codes : List CodedSymbol = coded (length symbols) (reverse symbols) (start (reverse events)) in
+    let chosen : List CodedSymbol = filter (λ c. c.context == k) codes in
     omega (
       arith,
       length-reverse (map (λ c. c.number) chosen),
@@ -109,7 +109,7 @@ fewer-numbers symbols events k =
 
 pub short-lists : (symbols : List Symbol) (events : List Event) → All (λ numbers. length numbers ≤ length symbols) (context_lists symbols events)
 short-lists symbols events =
-    All-map (λ numbers. length numbers ≤ length symbols) (list_of (coded (length symbols) (reverse symbols) (start (reverse events)))) (range_with_len 0 CONTEXTS)
+    All-map (λ numbers. length numbers ≤ length symbols) (context_list (coded (length symbols) (reverse symbols) (start (reverse events)))) (range_with_len 0 CONTEXTS)
     (λ k d below. fewer-numbers symbols events _)
 
 -- so no more than a limit

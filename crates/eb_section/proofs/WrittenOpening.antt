@@ -2,7 +2,7 @@
 use Rattle.std.proofs.Common.{◌≡◌, ℕ, ◌^◌, ◌<◌, ◌≤◌, ◌==◌, ◌||◌, Bool, true, false, List, [], ◌∷◌, ◌++◌, Ok, nat_le, if◌then◌else◌, refl, ap, subst, arith, append_assoc, append-nil, le-leb}
 use Rattle.drc_base.specs.declared.kinds.Kind.TheVariants as kind
 use Rattle.drc_base.specs.declared.limits.TheConstants.{MAX_FACES, MAX_POINTS, MAX_ATTRIBUTES}
-use Rattle.drc_base.specs.Profile.{profile_two}
+use Rattle.drc_base.specs.Profile.{profile}
 use Rattle.drc_base.specs.Steps.{◌>>=◌}
 use Rattle.drc_bits.specs.Reading.{must}
 use Rattle.drc_bits.specs.Numbers.{number_at}
@@ -31,7 +31,7 @@ told_by : ℕ → Opening → Opening
 told_by t o = record { valence = (t == 2); vertices = o.vertices; faces = o.faces; attr_data = o.attr_data; symbols = o.symbols; splits = o.splits }
 
 Spells-numbers : (t : ℕ) (o : Opening) → (t == 0 || t == 2) ≡ true → IsWithin o
-    → Spells (opening_at profile_two)
+    → Spells (opening_at profile)
     ((t ∷ []) ++ (spelling 5 o.vertices ++ (spelling 5 o.faces ++ ((o.attr_data ∷ []) ++ (spelling 5 o.symbols ++ (spelling 5 o.splits ++ []))))))
     (told_by t o)
 unfolding opening_at told_by
@@ -88,10 +88,10 @@ same-opening o = ap (λ (v : Bool). let x : Opening = record { valence = v; vert
     is true = refl
     is false = refl
 
-pub Spells-opening : (o : Opening) → IsWithin o → Spells (opening_at profile_two) (opening_bytes o) o
+pub Spells-opening : (o : Opening) → IsWithin o → Spells (opening_at profile) (opening_bytes o) o
 unfolding opening_bytes
 Spells-opening o within =
     let t : ℕ = if o.valence then 2 else 0 in
-    subst (λ x. Spells (opening_at profile_two) (opening_bytes o) x) (same-opening o)
-    (subst (λ bytes. Spells (opening_at profile_two) bytes (told_by t o)) (by_groups t o.attr_data (spelling 5 o.vertices) (spelling 5 o.faces) (spelling 5 o.symbols) (spelling 5 o.splits))
+    subst (λ x. Spells (opening_at profile) (opening_bytes o) x) (same-opening o)
+    (subst (λ bytes. Spells (opening_at profile) bytes (told_by t o)) (by_groups t o.attr_data (spelling 5 o.vertices) (spelling 5 o.faces) (spelling 5 o.symbols) (spelling 5 o.splits))
     (Spells-numbers t o (known o.valence) within))

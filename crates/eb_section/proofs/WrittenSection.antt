@@ -6,7 +6,7 @@ use Rattle.std.proofs.lemmas.List.Sums.{count_by-le-length, sum_by-append}
 use Rattle.drc_base.specs.declared.kinds.Kind.TheVariants as kind
 use Rattle.drc_base.specs.declared.limits.TheConstants.{MAX_FACES, MAX_POINTS, MAX_ATTRIBUTES}
 use Rattle.drc_base.specs.declared.faults.Fault.{Fault}
-use Rattle.drc_base.specs.Profile.{profile_two}
+use Rattle.drc_base.specs.Profile.{profile}
 use Rattle.drc_base.specs.Steps.{◌>>=◌}
 use Rattle.drc_bits.specs.Reading.{Reading, Item, many_at}
 use Rattle.drc_bits.specs.Bits.{packed}
@@ -17,7 +17,7 @@ use Rattle.drc_bits.proofs.PackedBits.{length-packed, packed-again}
 use Rattle.drc_bits.proofs.Written.{reading, bytes_at-front, var64_at-spelling}
 use Rattle.corner_table.specs.declared.symbols.Symbol.{Symbol}
 use Rattle.corner_table.specs.declared.symbols.Event.{Event}
-use Rattle.rans_binary.specs.Blocks.{IsBlockOf, block, block_at}
+use Rattle.rans_binary.specs.Blocks.{IsBlockOf, block, bit_block_at}
 use Rattle.eb_rebuild.specs.Machine.{Plan, State, start}
 use Rattle.eb_rebuild.specs.Shown.{is_split}
 use Rattle.eb_standard.specs.SymbolBits.{reversed_bits}
@@ -29,7 +29,7 @@ use Rattle.eb_section.specs.declared.opening.Opening.{Opening}
 use Rattle.eb_section.specs.Opening.{opening_at, plan_of}
 use Rattle.eb_section.specs.Events.{events_at}
 use Rattle.eb_section.specs.Feeding.{rebuilt, Standard, standard}
-use Rattle.eb_section.specs.Connectivity.{Connectivity, told, standard_at, list_at, standard_behind, valence_behind, behind_at, connectivity_at}
+use Rattle.eb_section.specs.Connectivity.{Connectivity, section_of, standard_at, list_at, standard_behind, valence_behind, behind_at, connectivity_at}
 use Rattle.eb_section.specs.Written.{opening_of, opening_bytes, events_bytes, standard_bytes, list_bytes, blocks_bytes, standard_behind_bytes, valence_behind_bytes, connectivity_bytes}
 use Rattle.eb_section.specs.ReadAgain.{IsReadAgain}
 use Rattle.eb_section.specs.CodedBlocks.{IsSymbolBlock, AreCoded}
@@ -89,32 +89,32 @@ Spells-rebuilt run last view is =
 -- what a section of the standard traversal is behind its events
 standard-again : (o : Opening) (t : Traced) (seams : List (List Bool)) (p : Plan) → o.attr_data ≡ length seams → plan_of o ≡ p → p.symbols ≡ length t.symbols
     → length t.symbols ≤ MAX_FACES → (back : IsReadBack p t.symbols t.events t.starts) → (starts : IsBlockOf t.starts (block t.starts)) → (read : AreRead seams)
-    → Spells (standard_behind o t.events) (standard_behind_bytes t seams) (told o t.events read.blocks back.last)
+    → Spells (standard_behind o t.events) (standard_behind_bytes t seams) (section_of o t.events read.blocks back.last)
 unfolding standard_behind standard_behind_bytes
 standard-again o t seams p attr plan many few back starts read =
     let s : State = start (reverse t.events) in
-    let value : Connectivity = told o t.events read.blocks back.last in
+    let value : Connectivity = section_of o t.events read.blocks back.last in
     let more = packed-again (reversed_bits t.symbols) (AreBits-symbols t.symbols) in
     let run : (place : ℕ) → rebuilt standard (plan_of o) (source_at place t.symbols) starts.start s ≡ Ok back.last = λ place.
     ap (λ q. rebuilt standard q (source_at place t.symbols) starts.start s) plan
     ∙ rebuilt-again standard (source_at place t.symbols) starts.start p t.symbols t.events t.starts many back
     (λ u takes. fed-standard t.symbols (source_at place t.symbols) s more.0 refl more.1 ∙ takes) starts.numbered in
-    let seams_spell : Spells (many_at block_at o.attr_data) (blocks_bytes seams) read.blocks =
-    subst (λ n. Spells (many_at block_at n) (blocks_bytes seams) read.blocks) (sym attr) read.spells in
-    let tail : (place : ℕ) → Spells (λ c. block_at c >>= λ b. many_at block_at o.attr_data b.1 >>= λ seams. rebuilt standard (plan_of o) (source_at place t.symbols) b.0 s >>= λ u. Ok (told o t.events seams.0 u, seams.1))
+    let seams_spell : Spells (many_at bit_block_at o.attr_data) (blocks_bytes seams) read.blocks =
+    subst (λ n. Spells (many_at bit_block_at n) (blocks_bytes seams) read.blocks) (sym attr) read.spells in
+    let tail : (place : ℕ) → Spells (λ c. bit_block_at c >>= λ b. many_at bit_block_at o.attr_data b.1 >>= λ seams. rebuilt standard (plan_of o) (source_at place t.symbols) b.0 s >>= λ u. Ok (section_of o t.events seams.0 u, seams.1))
     (block t.starts ++ (blocks_bytes seams ++ [])) value = λ place.
-    Spells-then block_at
-    (λ b c. many_at block_at o.attr_data c >>= λ seams. rebuilt standard (plan_of o) (source_at place t.symbols) b s >>= λ u. Ok (told o t.events seams.0 u, seams.1))
+    Spells-then bit_block_at
+    (λ b c. many_at bit_block_at o.attr_data c >>= λ seams. rebuilt standard (plan_of o) (source_at place t.symbols) b s >>= λ u. Ok (section_of o t.events seams.0 u, seams.1))
     (block t.starts) (blocks_bytes seams ++ []) starts.start value starts.spells
-    (Spells-then (many_at block_at o.attr_data)
-    (λ seams c. rebuilt standard (plan_of o) (source_at place t.symbols) starts.start s >>= λ u. Ok (told o t.events seams u, c))
+    (Spells-then (many_at bit_block_at o.attr_data)
+    (λ seams c. rebuilt standard (plan_of o) (source_at place t.symbols) starts.start s >>= λ u. Ok (section_of o t.events seams u, c))
     (blocks_bytes seams) [] read.blocks value seams_spell
-    (Spells-rebuilt (rebuilt standard (plan_of o) (source_at place t.symbols) starts.start s) back.last (told o t.events read.blocks) (run place))) in
+    (Spells-rebuilt (rebuilt standard (plan_of o) (source_at place t.symbols) starts.start s) back.last (section_of o t.events read.blocks) (run place))) in
     subst (λ bytes. Spells (standard_behind o t.events) bytes value) (by_groups (standard_bytes t.symbols) (block t.starts) (blocks_bytes seams))
     (record {
       reads = λ place rest.
           at-then standard_at
-          (λ source c. block_at c >>= λ b. many_at block_at o.attr_data b.1 >>= λ seams. rebuilt standard (plan_of o) source b.0 s >>= λ u. Ok (told o t.events seams.0 u, seams.1))
+          (λ source c. bit_block_at c >>= λ b. many_at bit_block_at o.attr_data b.1 >>= λ seams. rebuilt standard (plan_of o) source b.0 s >>= λ u. Ok (section_of o t.events seams.0 u, seams.1))
           (standard_bytes t.symbols) (block t.starts ++ (blocks_bytes seams ++ [])) (source_at place t.symbols) value place rest
           (λ after. symbols-again t.symbols place after few) (tail place);
     })
@@ -127,31 +127,31 @@ standard-again o t seams p attr plan many few back starts read =
 valence-again : (o : Opening) (t : Traced) (seams : List (List Bool)) (p : Plan) → o.attr_data ≡ length seams → plan_of o ≡ p → p.symbols ≡ length t.symbols
     → length t.symbols ≤ MAX_FACES → (back : IsReadBack p t.symbols t.events t.starts) → (starts : IsBlockOf t.starts (block t.starts)) → (read : AreRead seams)
     → All IsSymbolBlock (context_lists t.symbols t.events)
-    → Spells (valence_behind o t.events) (valence_behind_bytes t seams) (told o t.events read.blocks back.last)
+    → Spells (valence_behind o t.events) (valence_behind_bytes t seams) (section_of o t.events read.blocks back.last)
 unfolding valence_behind valence_behind_bytes
 valence-again o t seams p attr plan many few back starts read lists =
     let s : State = start (reverse t.events) in
-    let value : Connectivity = told o t.events read.blocks back.last in
+    let value : Connectivity = section_of o t.events read.blocks back.last in
     let codes : List (List ℕ) = context_lists t.symbols t.events in
     let run : rebuilt symbol_at (plan_of o) codes starts.start s ≡ Ok back.last =
     ap (λ q. rebuilt symbol_at q codes starts.start s) plan
     ∙ rebuilt-again symbol_at codes starts.start p t.symbols t.events t.starts many back (λ u takes. fed-contexts t.symbols t.events u takes) starts.numbered in
-    let seams_spell : Spells (many_at block_at o.attr_data) (blocks_bytes seams) read.blocks =
-    subst (λ n. Spells (many_at block_at n) (blocks_bytes seams) read.blocks) (sym attr) read.spells in
+    let seams_spell : Spells (many_at bit_block_at o.attr_data) (blocks_bytes seams) read.blocks =
+    subst (λ n. Spells (many_at bit_block_at n) (blocks_bytes seams) read.blocks) (sym attr) read.spells in
     let lists_spell : Spells (many_at (list_at o.symbols) CONTEXTS) (flat_map list_bytes codes) codes =
     subst (λ n. Spells (many_at (list_at n) CONTEXTS) (flat_map list_bytes codes) codes) (sym (ap (λ (q : Plan). q.symbols) plan ∙ many))
     (Spells-lists (length t.symbols) codes (omega (arith, few)) (short-lists t.symbols t.events) lists) in
     subst (λ bytes. Spells (valence_behind o t.events) bytes value) (by_groups (block t.starts) (blocks_bytes seams) (flat_map list_bytes codes))
-    (Spells-then block_at
-    (λ b c. many_at block_at o.attr_data c >>= λ seams. many_at (list_at o.symbols) CONTEXTS seams.1 >>= λ lists. rebuilt symbol_at (plan_of o) lists.0 b s >>= λ u. Ok (told o t.events seams.0 u, lists.1))
+    (Spells-then bit_block_at
+    (λ b c. many_at bit_block_at o.attr_data c >>= λ seams. many_at (list_at o.symbols) CONTEXTS seams.1 >>= λ lists. rebuilt symbol_at (plan_of o) lists.0 b s >>= λ u. Ok (section_of o t.events seams.0 u, lists.1))
     (block t.starts) (blocks_bytes seams ++ (flat_map list_bytes codes ++ [])) starts.start value starts.spells
-    (Spells-then (many_at block_at o.attr_data)
-    (λ seams c. many_at (list_at o.symbols) CONTEXTS c >>= λ lists. rebuilt symbol_at (plan_of o) lists.0 starts.start s >>= λ u. Ok (told o t.events seams u, lists.1))
+    (Spells-then (many_at bit_block_at o.attr_data)
+    (λ seams c. many_at (list_at o.symbols) CONTEXTS c >>= λ lists. rebuilt symbol_at (plan_of o) lists.0 starts.start s >>= λ u. Ok (section_of o t.events seams u, lists.1))
     (blocks_bytes seams) (flat_map list_bytes codes ++ []) read.blocks value seams_spell
     (Spells-then (many_at (list_at o.symbols) CONTEXTS)
-    (λ lists c. rebuilt symbol_at (plan_of o) lists starts.start s >>= λ u. Ok (told o t.events read.blocks u, c))
+    (λ lists c. rebuilt symbol_at (plan_of o) lists starts.start s >>= λ u. Ok (section_of o t.events read.blocks u, c))
     (flat_map list_bytes codes) [] codes value lists_spell
-    (Spells-rebuilt (rebuilt symbol_at (plan_of o) codes starts.start s) back.last (told o t.events read.blocks) run))))
+    (Spells-rebuilt (rebuilt symbol_at (plan_of o) codes starts.start s) back.last (section_of o t.events read.blocks) run))))
   where
     by_groups : (a b d : List ℕ) → a ++ (b ++ (d ++ [])) ≡ a ++ b ++ d
     by_groups a b d = simp (append_assoc, append-nil)
@@ -164,12 +164,12 @@ behind_of o events c = if o.valence then valence_behind o events c else standard
 
 -- an opening, events, and what lies behind them
 Spells-parts : (o : Opening) (events : List Event) (front text behind : List ℕ) (value : Connectivity)
-    → Spells (opening_at profile_two) front o → Spells (events_at o) text events → Spells (behind_of o events) behind value
-    → Spells (connectivity_at profile_two) ((front ++ text) ++ behind) value
+    → Spells (opening_at profile) front o → Spells (events_at o) text events → Spells (behind_of o events) behind value
+    → Spells (connectivity_at profile) ((front ++ text) ++ behind) value
 unfolding connectivity_at behind_at
 Spells-parts o events front text behind value first second third =
-    subst (λ bytes. Spells (connectivity_at profile_two) bytes value) (sym (append_assoc front text behind))
-    (Spells-then (opening_at profile_two) behind_at front (text ++ behind) o value first
+    subst (λ bytes. Spells (connectivity_at profile) bytes value) (sym (append_assoc front text behind))
+    (Spells-then (opening_at profile) behind_at front (text ++ behind) o value first
     (Spells-then (events_at o) (behind_of o) text behind events value second third))
 
 pub section-again : (valence : Bool) (faces : ℕ) (t : Traced) (seams : List (List Bool)) → faces ≤ MAX_FACES → t.vertices ≤ MAX_POINTS → length seams ≤ MAX_ATTRIBUTES
@@ -185,9 +185,9 @@ section-again valence faces t seams few_faces few_vertices few_seams w coded =
     let within : IsWithin o = record { vertices = few_vertices; faces = few_faces; attr_data = few_seams; symbols = w.few_symbols; splits = splits } in
     let few : length t.symbols ≤ MAX_FACES = omega (arith, w.few_symbols, few_faces) in
     let behind : (v : Bool) → v ≡ valence → Spells (behind_of (opening_of v faces (length seams) t) t.events) (if v then valence_behind_bytes t seams else standard_behind_bytes t seams)
-    (told (opening_of v faces (length seams) t) t.events read.blocks back.last) = λ v.
+    (section_of (opening_of v faces (length seams) t) t.events read.blocks back.last) = λ v.
     elim v as (λ v. v ≡ valence → Spells (behind_of (opening_of v faces (length seams) t) t.events) (if v then valence_behind_bytes t seams else standard_behind_bytes t seams)
-    (told (opening_of v faces (length seams) t) t.events read.blocks back.last)) [
+    (section_of (opening_of v faces (length seams) t) t.events read.blocks back.last)) [
       | true ↦ λ is. valence-again (opening_of true faces (length seams) t) t seams (plan_of o) refl refl refl few back coded.starts read (coded.contexts (sym is))
       | false ↦ λ is. standard-again (opening_of false faces (length seams) t) t seams (plan_of o) refl refl refl few back coded.starts read
     ] in

@@ -16,12 +16,12 @@ use Rattle.corner_table.specs.Sides.{Side}
 use Rattle.rans_binary.specs.Blocks.{Block, bit_of}
 use Rattle.eb_rebuild.specs.Machine.{Plan, State, start, step, take_symbols, close, close_all, finish, rebuild}
 use Rattle.eb_rebuild.proofs.Closes.{symbols_close_none, close_takes_one, run_closes_all}
-use Rattle.eb_standard.specs.SymbolBits.{symbol_bits, reversed_bits, after_symbol}
+use Rattle.eb_standard.specs.SymbolBits.{symbol_bits, reversed_bits, place_behind_symbol}
 use Rattle.eb_standard.proofs.Reading.{reads_back}
-use Rattle.eb_valence.specs.Contexts.{context_lists, symbol_at, fed as context_fed}
+use Rattle.eb_valence.specs.Contexts.{context_lists, symbol_at, fed_by_context as context_fed}
 use Rattle.eb_valence.proofs.ReadBack.{words_read_back}
 use Rattle.eb_rebuild.specs.Shown.{is_split}
-use Rattle.eb_valence.specs.Noting.{Takes}
+use Rattle.eb_valence.specs.Noting.{TakesWord}
 use Rattle.eb_trace.specs.Writable.{IsReadBack, IsWritable}
 use Rattle.eb_section.specs.Feeding.{Source, fed, rebuilt, Standard, standard}
 
@@ -76,7 +76,7 @@ unfolding fed take_symbols
 fed-word n [] source s rest begun bits = refl
 fed-word n (x ∷ word) source s rest begun bits =
     let read = reads_back source.place x (flat_map symbol_bits word ++ rest) begun (bits ∙ append_assoc (symbol_bits x) (flat_map symbol_bits word) rest) in
-    let left : Standard = record { short = source.short; place = after_symbol source.place } in
+    let left : Standard = record { short = source.short; place = place_behind_symbol source.place } in
     let drawn : Option Symbol → Result (Symbol × Standard) Fault = λ o. elim o [ None ↦ Err source.short | Some y ↦ Ok (y, left) ] in
     ap (λ o. drawn o >>= λ y. step n y.0 s >>= fed standard n (length word) y.1) read.0
     ∙ bind-same (step n x s) (fed standard n (length word) left) (take_symbols n word) (λ t is. fed-word n word left t rest read.2 read.1)
@@ -146,7 +146,7 @@ rebuilt-again next source b p symbols events starts many back feeds numbered =
 
 -- the machine takes the symbols of a trace that is written
 pub takes-of : (faces vertices : ℕ) (symbols : List Symbol) (events : List Event) (starts : List Bool) → IsWritable faces vertices symbols events starts
-    → Takes (length symbols) (reverse symbols) (start (reverse events))
+    → TakesWord (length symbols) (reverse symbols) (start (reverse events))
 takes-of faces vertices symbols events starts w =
     let created : ℕ = vertices + count_by is_split (reverse symbols) in
     let back = w.read_back created (omega arith) in

@@ -9,7 +9,7 @@ use Rattle.drc_bits.specs.Varint.{var32_at, var64_at}
 use Rattle.corner_table.specs.declared.symbols.Event.{Event}
 use Rattle.corner_table.specs.Sides.{Gluing}
 use Rattle.corner_table.specs.Table.{gluing_of}
-use Rattle.rans_binary.specs.Blocks.{Block, block_at}
+use Rattle.rans_binary.specs.Blocks.{Block, bit_block_at}
 use Rattle.symbol_coding.specs.Block.{block_at as symbols_at}
 use Rattle.eb_rebuild.specs.Machine.{State, start}
 use Rattle.eb_valence.specs.declared.context_lists.TheConstants.{CONTEXTS}
@@ -46,8 +46,8 @@ meaning r = record {
 }
 
 -- the section whose machine ended in this state
-abbrev pub told : Opening → List Event → List Block → State → Connectivity
-told o events seams s = record {
+abbrev pub section_of : Opening → List Event → List Block → State → Connectivity
+section_of o events seams s = record {
   faces = s.built;
   glued = s.glued;
   valence = o.valence;
@@ -82,19 +82,19 @@ list_at symbols c = do
 unfoldable pub standard_behind : Opening → List Event → Reading → Item Connectivity
 standard_behind o events c = do
   source ← standard_at c
-  starts ← block_at source.1
-  seams ← many_at block_at o.attr_data starts.1
+  starts ← bit_block_at source.1
+  seams ← many_at bit_block_at o.attr_data starts.1
   s ← rebuilt standard (plan_of o) source.0 starts.0 (start (reverse events))
-  Ok (told o events seams.0 s, seams.1)
+  Ok (section_of o events seams.0 s, seams.1)
 
 -- the section behind its events, valence: the start faces, the seams, the symbols of each context; and the machine's surface
 unfoldable pub valence_behind : Opening → List Event → Reading → Item Connectivity
 valence_behind o events c = do
-  starts ← block_at c
-  seams ← many_at block_at o.attr_data starts.1
+  starts ← bit_block_at c
+  seams ← many_at bit_block_at o.attr_data starts.1
   lists ← many_at (list_at o.symbols) CONTEXTS seams.1
   s ← rebuilt symbol_at (plan_of o) lists.0 starts.0 (start (reverse events))
-  Ok (told o events seams.0 s, lists.1)
+  Ok (section_of o events seams.0 s, lists.1)
 
 -- the section behind its opening
 unfoldable pub behind_at : Opening → Reading → Item Connectivity

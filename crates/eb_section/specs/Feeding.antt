@@ -9,7 +9,7 @@ use Rattle.corner_table.specs.declared.symbols.Symbol.{Symbol}
 use Rattle.rans_binary.specs.Blocks.{Block, bit_of}
 use Rattle.eb_rebuild.specs.Machine.{Plan, State, step, close_all, finish}
 use Rattle.eb_rebuild.specs.Rebuilding.{BuiltValue, Holds}
-use Rattle.eb_standard.specs.SymbolBits.{SymbolPlace, next_symbol, after_symbol}
+use Rattle.eb_standard.specs.SymbolBits.{SymbolPlace, next_symbol, place_behind_symbol}
 
 -- a source gives the next symbol, and what is left of it, to a machine in this state; or a fault
 abbrev pub Source : Type 0 → Type 0
@@ -46,5 +46,5 @@ pub record Standard : Type 0 where
 abbrev pub standard : Source Standard
 standard source s = elim (next_symbol source.place) [
   | None ↦ Err source.short
-  | Some x ↦ Ok (x, record { short = source.short; place = after_symbol source.place })
+  | Some x ↦ Ok (x, record { short = source.short; place = place_behind_symbol source.place })
 ]

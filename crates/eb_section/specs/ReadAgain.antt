@@ -1,12 +1,12 @@
 -- What written connectivity is read as (this project's choice of words).
 use Rattle.std.specs.Prelude.{◌≡◌, ℕ, ◌<◌, Bool, false, List, [], ◌∷◌, length, reverse, get_or, Some, Ok, slice_get}
-use Rattle.drc_base.specs.Profile.{profile_two}
+use Rattle.drc_base.specs.Profile.{profile}
 use Rattle.drc_bits.specs.Spells.{Spells}
 use Rattle.rans_binary.specs.Blocks.{Block, bit_of, first_bits}
 use Rattle.eb_rebuild.specs.Machine.{State, rebuild}
 use Rattle.eb_trace.specs.declared.tracing.Traced.{Traced}
 use Rattle.eb_section.specs.Opening.{plan_of}
-use Rattle.eb_section.specs.Connectivity.{told, connectivity_at}
+use Rattle.eb_section.specs.Connectivity.{section_of, connectivity_at}
 use Rattle.eb_section.specs.Written.{opening_of}
 
 -- a block begins with these bits, which have the numbers from 0 on
@@ -29,4 +29,4 @@ pub record IsReadAgain (valence : Bool) (faces : ℕ) (t : Traced) (seams : List
   pub built : rebuild (plan_of (opening_of valence faces (length seams) t)) (reverse t.symbols) (reverse t.events)
       (λ k. get_or t.starts k false) ≡ Ok last
   pub seam_bits : BeginWith seams blocks
-  pub read : Spells (connectivity_at profile_two) bytes (told (opening_of valence faces (length seams) t) t.events blocks last)
+  pub read : Spells (connectivity_at profile) bytes (section_of (opening_of valence faces (length seams) t) t.events blocks last)

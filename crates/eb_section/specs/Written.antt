@@ -68,10 +68,10 @@ unfoldable pub valence_behind_bytes : Traced → List (List Bool) → List ℕ
 valence_behind_bytes t seams = block t.starts ++ blocks_bytes seams ++ flat_map list_bytes (context_lists t.symbols t.events)
 
 -- what lies behind the events
-abbrev pub coded_bytes : Bool → Traced → List (List Bool) → List ℕ
-coded_bytes valence t seams = if valence then valence_behind_bytes t seams else standard_behind_bytes t seams
+abbrev pub bytes_behind_events : Bool → Traced → List (List Bool) → List ℕ
+bytes_behind_events valence t seams = if valence then valence_behind_bytes t seams else standard_behind_bytes t seams
 
 -- the section of a trace of so many faces, with these lists of seam bits
 unfoldable pub connectivity_bytes : Bool → ℕ → Traced → List (List Bool) → List ℕ
 connectivity_bytes valence faces t seams =
-    opening_bytes (opening_of valence faces (length seams) t) ++ events_bytes t.events ++ coded_bytes valence t seams
+    opening_bytes (opening_of valence faces (length seams) t) ++ events_bytes t.events ++ bytes_behind_events valence t seams

@@ -2,7 +2,7 @@
 
 ghost use Rattle.std.specs.Prelude.{◌≡◌, IfOk, vec_len};
 ghost use Rattle.drc_bits.specs.Reading.{Gives, many_at};
-ghost use Rattle.rans_binary.specs.Blocks.{block_at};
+ghost use Rattle.rans_binary.specs.Blocks.{bit_block_at};
 
 use drc_base::Refusal;
 use drc_bits::Cursor;
@@ -15,7 +15,7 @@ pub(crate) fn read_blocks<'a>(
     c: &mut Cursor<'a>,
     count: u8,
 ) -> Result<Vec<BitBlock<'a>>, Refusal>
-    ensures blocks { Gives (λ v. v.items) (many_at block_at count c.old) c.new result }
+    ensures blocks { Gives (λ v. v.items) (many_at bit_block_at count c.old) c.new result }
     ensures len { IfOk result (λ v. vec_len v ≡ count) }
 {
     let mut blocks = Vec::new(alloc);

@@ -1,7 +1,7 @@
 //! The numbers that open the section.
 
 ghost use Rattle.std.specs.Prelude.{◌≡◌, ◌≤◌, IfOk, nat_le};
-ghost use Rattle.drc_base.specs.Profile.{profile_two};
+ghost use Rattle.drc_base.specs.Profile.{profile};
 ghost use Rattle.drc_bits.specs.Reading.{Reads, must};
 ghost use Rattle.drc_bits.specs.Numbers.{number_at};
 ghost use Rattle.drc_bits.specs.Varint.{var32_at};
@@ -76,7 +76,7 @@ fn read_traversal(c: &mut Cursor<'_>) -> Result<u8, Fault>
 /// no memory.
 #[tactic(auto, unfolding(crate::specs::Opening::opening_at))]
 pub(crate) fn read_opening(c: &mut Cursor<'_>) -> Result<Opening, Fault>
-    ensures opening { Reads (λ o. o) (opening_at profile_two c.old) c.new result }
+    ensures opening { Reads (λ o. o) (opening_at profile c.old) c.new result }
     ensures vertices { IfOk result (λ o. o.vertices ≤ MAX_POINTS) }
     ensures faces { IfOk result (λ o. o.faces ≤ MAX_FACES) }
     ensures attr_data { IfOk result (λ o. o.attr_data ≤ MAX_ATTRIBUTES) }

@@ -4,7 +4,7 @@ ghost use Rattle.std.specs.Prelude.{◌≡◌, ◌+◌, ◌*◌, ◌≤◌, Err,
 ghost use Rattle.drc_base.specs.declared.limits.TheConstants.{MAX_FACES as most_faces, MAX_ATTRIBUTES as most_attributes};
 ghost use Rattle.drc_base.specs.declared.faults.Fault.{Fault as AnyFault};
 ghost use Rattle.drc_base.specs.declared.faults.Refusal.TheVariants as refusal;
-ghost use Rattle.drc_base.specs.Profile.{profile_two};
+ghost use Rattle.drc_base.specs.Profile.{profile};
 ghost use Rattle.drc_bits.specs.Reading.{Gives};
 ghost use Rattle.eb_rebuild.specs.Rebuilding.{IsEventOf};
 ghost use Rattle.eb_section.specs.Opening.{declared_faces, most_calls, opening_at};
@@ -167,12 +167,12 @@ pub fn read_connectivity<'a, L: Ledger>(
     c: &mut Cursor<'a>,
     steps: &mut Steps<L>,
 ) -> Result<EbRead<'a>, Refusal>
-    ensures section { Gives meaning (connectivity_at profile_two c.old) c.new result }
-    ensures early { (f : AnyFault) → opening_at profile_two c.old ≡ Err f → result ≡ Err (refusal.Fault f) }
-    ensures early_count { (f : AnyFault) → declared_at profile_two c.old ≡ Err f → result ≡ Err (refusal.Fault f) }
+    ensures section { Gives meaning (connectivity_at profile c.old) c.new result }
+    ensures early { (f : AnyFault) → opening_at profile c.old ≡ Err f → result ≡ Err (refusal.Fault f) }
+    ensures early_count { (f : AnyFault) → declared_at profile c.old ≡ Err f → result ≡ Err (refusal.Fault f) }
     ensures unchanged { OnErr result (c.new ≡ c.old) }
     ensures linked { IfOk result (λ r. IsTrue r.sides.linked) }
-    ensures cost { steps.new ≤ steps.old + most_calls (declared_faces (opening_at profile_two c.old)) }
+    ensures cost { steps.new ≤ steps.old + most_calls (declared_faces (opening_at profile c.old)) }
     ensures room { IfOk result (λ r. length r.sides.table.entries ≤ 3 * r.sides.table.faces) }
     ensures faces { IfOk result (λ r. r.sides.table.faces ≤ most_faces) }
     ensures attr_data { IfOk result (λ r. r.attr_data ≤ most_attributes) }

@@ -13,6 +13,7 @@ use std::marker::Brand;
 use std::process::Abort;
 use std::sync::ledger::{Blank, Ledger};
 use std::test::Fail;
+use worked_surfaces::{RING_DECODED, TETRAHEDRON_DECODED, TORUS_DECODED};
 
 /// A tetrahedron, its symbols E R C in bits, and an interior start face.
 const TETRAHEDRON: [u8; 12] = [0, 4, 4, 0, 3, 0, 0, 1, 0x2f, 1, 1, 0x10];
@@ -36,7 +37,7 @@ const RING: [u8; 17] = [
 /// Two faces with a seam between them.
 const SEAM: [u8; 15] = [0, 4, 2, 1, 2, 0, 0, 1, 0x1f, 0xff, 1, 0x11, 1, 1, 0x10];
 
-/// Tells whether these bytes, but for the last two, are read as a surface of these entries; the numbers are
+/// Whether these bytes, but for the last two, are read as a surface of these entries; the numbers are
 /// those of attribute data, symbols, splits and events.
 fn reads<L: Ledger>(
     alloc: Global,
@@ -95,26 +96,9 @@ fn reads_standard(rt: HostRuntime) -> Result<(), Fail> {
             [0, 1, 0, 0],
             &[FREE, FREE, FREE],
         ),
-        (
-            &TETRAHEDRON,
-            [0, 3, 0, 0],
-            &[5, 10, 8, 7, 11, 0, 9, 3, 2, 6, 1, 4],
-        ),
-        (
-            &TORUS,
-            [0, 13, 3, 2],
-            &[
-                11, 23, 35, 7, 38, 20, 10, 3, 29, 14, 6, 0, 16, 40, 9, 19, 12, 32, 22, 15, 5, 26,
-                18, 1, 28, 41, 21, 31, 24, 8, 34, 27, 17, 37, 30, 2, 39, 33, 4, 36, 13, 25,
-            ],
-        ),
-        (
-            &RING,
-            [0, 6, 1, 1],
-            &[
-                5, 17, FREE, 7, FREE, 0, 11, 3, FREE, 13, FREE, 6, 16, 9, FREE, FREE, 12, 1,
-            ],
-        ),
+        (&TETRAHEDRON, [0, 3, 0, 0], &TETRAHEDRON_DECODED),
+        (&TORUS, [0, 13, 3, 2], &TORUS_DECODED),
+        (&RING, [0, 6, 1, 1], &RING_DECODED),
         // Two faces that are never joined.
         (
             &[0, 6, 2, 0, 2, 0, 0, 1, 0x3f, 0xff, 1, 0x22],
@@ -167,9 +151,15 @@ fn reads_standard(rt: HostRuntime) -> Result<(), Fail> {
         let is_read = reads::<Brand>(alloc, bytes, false, numbers, entries, Blank::new(1))?;
         assert!(&rt; is_read, "at {bytes:?}");
     }
-    let entries = [5, 10, 8, 7, 11, 0, 9, 3, 2, 6, 1, 4];
     let bytes = TETRAHEDRON_BY_VALENCE.as_slice();
-    let is_read = reads::<Brand>(alloc, bytes, true, [0, 3, 0, 0], &entries, Blank::new(1))?;
+    let is_read = reads::<Brand>(
+        alloc,
+        bytes,
+        true,
+        [0, 3, 0, 0],
+        &TETRAHEDRON_DECODED,
+        Blank::new(1),
+    )?;
     assert!(&rt; is_read);
     Ok(())
 }

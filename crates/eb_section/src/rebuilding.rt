@@ -119,7 +119,7 @@ fn rebuild<R: Rebuild, F: SymbolSource, L: Ledger>(
 }
 
 /// Rebuilds by links the surface that the opening of the section, its events, a source of symbols and a
-/// block of start bits tell. Room is taken for no more faces than the symbols that can come may build.
+/// block of start bits give. Room is taken for no more faces than the symbols that can come may build.
 pub(crate) fn rebuild_linked<F: SymbolSource, L: Ledger>(
     alloc: Global,
     opening: Opening,

@@ -1,12 +1,12 @@
 //! Writing the section.
 
-ghost use Rattle.std.specs.Prelude.{◌≡◌, ◌<◌, ◌≤◌, ◌^◌, ◌++◌, IfOk, OnOk, All, length, map, reverse};
+ghost use Rattle.std.specs.Prelude.{◌≡◌, ◌<◌, ◌≤◌, ◌^◌, ◌++◌, OnOk, All, length, map, reverse};
 ghost use Rattle.eb_rebuild.specs.Machine.{start};
 ghost use Rattle.eb_rebuild.specs.Rebuilding.{IsEventOf};
 ghost use Rattle.eb_rebuild.specs.Shown.{is_split as is_split_symbol};
 ghost use Rattle.eb_trace.specs.Writable.{IsWritable};
-ghost use Rattle.eb_valence.specs.Noting.{Takes};
-ghost use Rattle.eb_section.specs.Written.{opening_of, opening_bytes, coded_bytes, connectivity_bytes};
+ghost use Rattle.eb_valence.specs.Noting.{TakesWord};
+ghost use Rattle.eb_section.specs.Written.{opening_of, opening_bytes, bytes_behind_events, connectivity_bytes};
 ghost use Rattle.eb_section.specs.ReadAgain.{IsReadAgain};
 ghost use Rattle.eb_section.specs.CodedBlocks.{AreCoded};
 
@@ -20,52 +20,32 @@ use drc_bits::put_var32;
 use eb_trace::Traced;
 use std::alloc::Global;
 
-/// The bytes of the section (Draco Bitstream Specification 2.2, section "Edgebreaker Connectivity") of a
-/// trace of so many faces, with the seam bits of each attribute data: symbols standard, or by valence.
-/// Wherever these bytes stand and whatever follows them, they are read with exactly their length, as the surface
-/// that reverse decoding builds of the trace, with a block of seam bits for each list. Refused for want of
-/// memory alone.
+/// Appends the section (Draco Bitstream Specification 2.2, section "Edgebreaker Connectivity") of a trace of
+/// so many faces, with the seam bits of each attribute data: symbols standard, or by valence. Wherever its
+/// bytes stand and whatever follows them, they are read with exactly their length, as the surface that reverse
+/// decoding builds of the trace, with a block of seam bits for each list. It fails only when out of memory, and
+/// what `out` holds then is left open.
+#[tactic(auto, unfolding(crate::specs::Written::connectivity_bytes))]
 pub fn write_connectivity(
     alloc: Global,
+    out: &mut Vec<u8>,
     t: &Traced,
     faces: u32,
     valence: bool,
     seams: &[Vec<bool>],
-) -> Result<Vec<u8>, Memory>
+) -> Result<(), Memory>
     requires writable { IsWritable faces t.now.vertices t.now.symbols t.now.events t.now.starts }
     requires faces { faces ≤ MAX_FACES }
     requires vertices { t.now.vertices ≤ MAX_POINTS }
     requires few { length seams.now ≤ MAX_ATTRIBUTES }
     requires short { All (λ v. length v.items < 2 ^ 31) seams.now }
-    ensures bytes { IfOk result (λ v. v.items ≡ connectivity_bytes valence faces t.now (map (λ s. s.items) seams.now)) }
-    ensures again { IfOk result (λ v. IsReadAgain valence faces t.now (map (λ s. s.items) seams.now) v.items) }
+    ensures bytes { OnOk result (out.new.items ≡ out.old.items ++ connectivity_bytes valence faces t.now (map (λ s. s.items) seams.now)) }
+    ensures again { OnOk result (IsReadAgain valence faces t.now (map (λ s. s.items) seams.now) (connectivity_bytes valence faces t.now (map (λ s. s.items) seams.now))) }
 {
-    // For the prover alone, who shows the clauses of the value that the call gave.
-    let out = written(alloc, t, faces, valence, seams)?;
-    Ok(out)
-}
-
-/// The bytes of the section, each block of which is read by itself as what it is written for.
-#[tactic(auto, unfolding(crate::specs::Written::connectivity_bytes))]
-fn written(
-    alloc: Global,
-    t: &Traced,
-    faces: u32,
-    valence: bool,
-    seams: &[Vec<bool>],
-) -> Result<Vec<u8>, Memory>
-    requires writable { IsWritable faces t.now.vertices t.now.symbols t.now.events t.now.starts }
-    requires faces { faces ≤ MAX_FACES }
-    requires few { length seams.now ≤ MAX_ATTRIBUTES }
-    requires short { All (λ v. length v.items < 2 ^ 31) seams.now }
-    ensures bytes { IfOk result (λ v. v.items ≡ connectivity_bytes valence faces t.now (map (λ s. s.items) seams.now)) }
-    ensures coded { OnOk result (AreCoded valence t.now (map (λ s. s.items) seams.now)) }
-{
-    let mut out = Vec::new(alloc);
-    put_opening(&mut out, opening_for(t, faces, valence, seams.len()))?;
-    put_events(alloc, &mut out, t.events.as_slice())?;
-    put_coded(alloc, &mut out, t, valence, seams)?;
-    Ok(out)
+    put_opening(out, opening_for(t, faces, valence, seams.len()))?;
+    put_events(alloc, out, t.events.as_slice())?;
+    put_coded(alloc, out, t, valence, seams)?;
+    Ok(())
 }
 
 /// Appends what lies behind the events.
@@ -78,10 +58,10 @@ fn put_coded(
 ) -> Result<(), Memory>
     requires few { length t.now.symbols ≤ MAX_FACES }
     requires events { All (IsEventOf (length t.now.symbols)) t.now.events }
-    requires takes { Takes (length t.now.symbols) (reverse t.now.symbols) (start (reverse t.now.events)) }
+    requires takes { TakesWord (length t.now.symbols) (reverse t.now.symbols) (start (reverse t.now.events)) }
     requires starts { length t.now.starts < 2 ^ 31 }
     requires short { All (λ v. length v.items < 2 ^ 31) seams.now }
-    ensures bytes { OnOk result (out.new.items ≡ out.old.items ++ coded_bytes valence t.now (map (λ s. s.items) seams.now)) }
+    ensures bytes { OnOk result (out.new.items ≡ out.old.items ++ bytes_behind_events valence t.now (map (λ s. s.items) seams.now)) }
     ensures coded { OnOk result (AreCoded valence t.now (map (λ s. s.items) seams.now)) }
 {
     if valence {

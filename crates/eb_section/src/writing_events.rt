@@ -51,7 +51,7 @@ fn put_numbers(out: &mut Vec<u8>, events: &[Event]) -> Result<(), Memory>
     Ok(())
 }
 
-/// The bytes of the bits of events, of which each tells a side.
+/// The bytes of the bits of events, of which each gives a side.
 fn sides_of(alloc: Global, events: &[Event]) -> Result<Vec<u8>, Memory>
     ensures { IfOk result (λ v. v.items ≡ packed (map side_bit events.now)) }
 {

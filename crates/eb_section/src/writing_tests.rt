@@ -5,38 +5,12 @@ ghost use Rattle.std.specs.Prelude.{◌<◌, ◌≤◌, ◌^◌, All, IfOk, leng
 use crate::writing::write_connectivity;
 use drc_base::{MAX_ATTRIBUTES, MAX_FACES, MAX_POINTS, Memory, Refusal};
 use eb_trace::trace;
-use mesh_model::{CornerMesh, Head};
 use pairing::pair;
 use std::alloc::Global;
 use std::process::Abort;
 use std::test::Fail;
-
-/// A mesh of these faces, whose point i has the position (i, i * i, 0).
-fn mesh(
-    rt: &impl Abort,
-    alloc: Global,
-    count: u8,
-    faces: &[[u32; 3]],
-) -> Result<CornerMesh, Refusal> {
-    let head = Head {
-        usage: 0,
-        dtype: 5,
-        comps: 3,
-        normalized: 0,
-        id: 0,
-        quant: None,
-    };
-    let mut points = Vec::new(alloc);
-    for p in 0..count {
-        let x = i32::from(p);
-        points.push(x)?;
-        points.push(x * x)?;
-        points.push(0)?;
-    }
-    let heads = vec![in alloc; head]?;
-    assert!(rt; points.len() % 3 == 0);
-    CornerMesh::new(heads, points, faces.to_vec(alloc)?)
-}
+use worked_meshes::mesh_of;
+use worked_surfaces::{BOOK, MIRRORED, RING, SQUARE, TETRAHEDRON, TORUS, TWICE};
 
 /// A surface by its faces and the number of their points, and the bytes that are to be written of it.
 #[derive(Drop)]
@@ -57,46 +31,16 @@ fn writes(
     requires few { length seams.now ≤ MAX_ATTRIBUTES }
     requires short { All (λ v. length v.items < 2 ^ 31) seams.now }
 {
-    let table = pair(alloc, &mesh(rt, alloc, worked.points, worked.faces)?)?;
+    let table = pair(alloc, &mesh_of(alloc, worked.points, worked.faces)?)?;
     let traced = trace(alloc, &table)?;
     let faces = table.face_count();
     assert!(rt; faces <= MAX_FACES);
     assert!(rt; traced.vertices <= MAX_POINTS);
-    let bytes = write_connectivity(alloc, &traced, faces, worked.valence, seams)?;
+    let mut bytes = Vec::new(alloc);
+    write_connectivity(alloc, &mut bytes, &traced, faces, worked.valence, seams)?;
     assert!(rt; bytes.as_slice() == worked.bytes);
     Ok(())
 }
-
-/// A tetrahedron.
-const TETRAHEDRON: [[u32; 3]; 4] = [[0, 2, 1], [0, 1, 3], [1, 2, 3], [0, 3, 2]];
-
-/// A torus of seven points.
-const TORUS: [[u32; 3]; 14] = [
-    [0, 1, 3],
-    [1, 2, 4],
-    [2, 3, 5],
-    [3, 4, 6],
-    [4, 5, 0],
-    [5, 6, 1],
-    [6, 0, 2],
-    [0, 3, 2],
-    [1, 4, 3],
-    [2, 5, 4],
-    [3, 6, 5],
-    [4, 0, 6],
-    [5, 1, 0],
-    [6, 2, 1],
-];
-
-/// A ring with a hole.
-const RING: [[u32; 3]; 6] = [
-    [0, 1, 3],
-    [1, 4, 3],
-    [1, 2, 4],
-    [2, 5, 4],
-    [2, 0, 5],
-    [0, 3, 5],
-];
 
 #[test]
 fn writes_worked_surfaces(rt: HostRuntime) -> Result<(), Fail> {
@@ -155,19 +99,19 @@ fn writes_worked_surfaces(rt: HostRuntime) -> Result<(), Fail> {
         // Two mirrored faces, one face twice, and three faces on one edge: each is a part of its own.
         Worked {
             points: 3,
-            faces: &[[0, 1, 2], [0, 2, 1]],
+            faces: &MIRRORED,
             valence: false,
             bytes: &[0, 6, 2, 0, 2, 0, 0, 1, 0x3f, 0xff, 1, 0x22],
         },
         Worked {
             points: 3,
-            faces: &[[0, 1, 2], [0, 1, 2]],
+            faces: &TWICE,
             valence: false,
             bytes: &[0, 6, 2, 0, 2, 0, 0, 1, 0x3f, 0xff, 1, 0x22],
         },
         Worked {
             points: 5,
-            faces: &[[0, 1, 2], [1, 0, 3], [1, 0, 4]],
+            faces: &BOOK,
             valence: false,
             bytes: &[0, 7, 3, 0, 3, 0, 0, 2, 0x7f, 1, 0xff, 1, 0x22],
         },
@@ -189,11 +133,10 @@ fn one_seam(alloc: Global) -> Result<Vec<bool>, Memory>
 #[test]
 fn writes_seams(rt: HostRuntime) -> Result<(), Fail> {
     let alloc = rt.alloc();
-    let square = [[0, 1, 2], [2, 1, 3]];
     let seams = [one_seam(alloc)?];
     let worked = Worked {
         points: 4,
-        faces: &square,
+        faces: &SQUARE,
         valence: false,
         bytes: &[0, 4, 2, 1, 2, 0, 0, 1, 0x1f, 0xff, 1, 0x11, 1, 1, 0x10],
     };
@@ -201,7 +144,7 @@ fn writes_seams(rt: HostRuntime) -> Result<(), Fail> {
     // Under valence the seams come before the symbols, of which the L has a context and the E none.
     let worked = Worked {
         points: 4,
-        faces: &square,
+        faces: &SQUARE,
         valence: true,
         bytes: &[
             2, 4, 2, 1, 2, 0, 0, 0xff, 1, 0x11, 1, 1, 0x10, 1, 0, 3, 7, 1, 0x40, 1, 0, 2, 0, 0, 0,

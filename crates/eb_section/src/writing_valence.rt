@@ -5,7 +5,7 @@ ghost use Rattle.std.specs.List.{flat_map};
 ghost use Rattle.rans_binary.specs.Blocks.{IsBlockOf, block};
 ghost use Rattle.eb_rebuild.specs.Machine.{start};
 ghost use Rattle.eb_rebuild.specs.Rebuilding.{IsEventOf};
-ghost use Rattle.eb_valence.specs.Noting.{Takes};
+ghost use Rattle.eb_valence.specs.Noting.{TakesWord};
 ghost use Rattle.eb_valence.specs.Contexts.{context_lists};
 ghost use Rattle.eb_section.specs.Written.{list_bytes, valence_behind_bytes};
 ghost use Rattle.eb_section.specs.CodedBlocks.{AreBlocks, IsSymbolBlock};
@@ -28,7 +28,7 @@ pub(crate) fn put_valence(
 ) -> Result<(), Memory>
     requires few { length t.now.symbols ≤ MAX_FACES }
     requires events { All (IsEventOf (length t.now.symbols)) t.now.events }
-    requires takes { Takes (length t.now.symbols) (reverse t.now.symbols) (start (reverse t.now.events)) }
+    requires takes { TakesWord (length t.now.symbols) (reverse t.now.symbols) (start (reverse t.now.events)) }
     requires starts { length t.now.starts < 2 ^ 31 }
     requires short { All (λ v. length v.items < 2 ^ 31) seams.now }
     ensures bytes { OnOk result (out.new.items ≡ out.old.items ++ valence_behind_bytes t.now (map (λ s. s.items) seams.now)) }
@@ -46,7 +46,7 @@ pub(crate) fn put_valence(
 fn put_contexts(alloc: Global, out: &mut Vec<u8>, t: &Traced) -> Result<(), Memory>
     requires few { length t.now.symbols ≤ MAX_FACES }
     requires events { All (IsEventOf (length t.now.symbols)) t.now.events }
-    requires takes { Takes (length t.now.symbols) (reverse t.now.symbols) (start (reverse t.now.events)) }
+    requires takes { TakesWord (length t.now.symbols) (reverse t.now.symbols) (start (reverse t.now.events)) }
     ensures bytes { OnOk result (out.new.items ≡ out.old.items ++ flat_map list_bytes (context_lists t.now.symbols t.now.events)) }
     ensures coded { OnOk result (All IsSymbolBlock (context_lists t.now.symbols t.now.events)) }
 {

@@ -6,7 +6,7 @@ use Rattle.drc_bits.specs.Bits.{BitPlace, next_bits, after_bits, bits_left, bits
 use Rattle.corner_table.specs.declared.symbols.Symbol.{Symbol}
 use Rattle.corner_table.specs.declared.symbols.Symbol.TheVariants.{C, S, L, R, E}
 use Rattle.corner_table.proofs.Places.{Some_injective}
-use Rattle.eb_standard.specs.SymbolBits.{SymbolPlace, symbol_bits, symbol_of, next_symbol, after_symbol, longer, after_longer}
+use Rattle.eb_standard.specs.SymbolBits.{SymbolPlace, symbol_bits, three_bit_symbol, next_symbol, place_behind_symbol, longer, after_longer}
 use Rattle.eb_standard.specs.ReadBack.{ReadsBack, IsInBits}
 
 -- the next bits are those at the front
@@ -24,18 +24,18 @@ abbrev place_of : BitPlace → Bool → SymbolPlace
 place_of r b = record { place = r; begun = b }
 
 -- the other two bits of a longer symbol
-longer_is : (r : BitPlace) (a b : ℕ) (rest : List ℕ) → bits_left r ≡ a ∷ b ∷ rest → (longer r ≡ Some (symbol_of (a + 2 * (b + 2 * 0)))) × (bits_left (after_longer r).place ≡ rest) × ((after_longer r).begun ≡ false)
+longer_is : (r : BitPlace) (a b : ℕ) (rest : List ℕ) → bits_left r ≡ a ∷ b ∷ rest → (longer r ≡ Some (three_bit_symbol (a + 2 * (b + 2 * 0)))) × (bits_left (after_longer r).place ≡ rest) × ((after_longer r).begun ≡ false)
 longer_is r a b rest e =
     let n : next_bits 2 r ≡ Some (a + 2 * (b + 2 * 0)) = next_is 2 r (a ∷ b ∷ rest) e (omega arith) in
     let f : Option ℕ → SymbolPlace = λ o. elim o [ None ↦ place_of r true | Some n ↦ place_of (after_bits 2 r) false ] in (
-      ap (λ (o : Option ℕ). let x : Option Symbol = elim o [ None ↦ None | Some n ↦ Some (symbol_of n) ] in x) n,
+      ap (λ (o : Option ℕ). let x : Option Symbol = elim o [ None ↦ None | Some n ↦ Some (three_bit_symbol n) ] in x) n,
       ap (λ (o : Option ℕ). bits_left (f o).place) n ∙ left_is 2 r (a ∷ b ∷ rest) e (omega arith),
       ap (λ (o : Option ℕ). (f o).begun) n,
     )
 
 -- a longer symbol, from its first bit on
 whole_is : (r : BitPlace) (a b : ℕ) (rest : List ℕ) → bits_left r ≡ 1 ∷ a ∷ b ∷ rest →
-    (next_symbol (place_of r false) ≡ Some (symbol_of (a + 2 * (b + 2 * 0)))) × (bits_left (after_symbol (place_of r false)).place ≡ rest) × ((after_symbol (place_of r false)).begun ≡ false)
+    (next_symbol (place_of r false) ≡ Some (three_bit_symbol (a + 2 * (b + 2 * 0)))) × (bits_left (place_behind_symbol (place_of r false)).place ≡ rest) × ((place_behind_symbol (place_of r false)).begun ≡ false)
 whole_is r a b rest e =
     let n : next_bits 1 r ≡ Some 1 = next_is 1 r (1 ∷ a ∷ b ∷ rest) e (omega arith) in
     let l = longer_is (after_bits 1 r) a b rest (left_is 1 r (1 ∷ a ∷ b ∷ rest) e (omega arith)) in
@@ -44,14 +44,14 @@ whole_is r a b rest e =
     (ap f n ∙ l.0, ap (λ (o : Option ℕ). bits_left (g o).place) n ∙ l.1, ap (λ (o : Option ℕ). (g o).begun) n ∙ l.2)
 
 -- C
-tip_is : (r : BitPlace) (rest : List ℕ) → bits_left r ≡ 0 ∷ rest → (next_symbol (place_of r false) ≡ Some C) × (bits_left (after_symbol (place_of r false)).place ≡ rest) × ((after_symbol (place_of r false)).begun ≡ false)
+tip_is : (r : BitPlace) (rest : List ℕ) → bits_left r ≡ 0 ∷ rest → (next_symbol (place_of r false) ≡ Some C) × (bits_left (place_behind_symbol (place_of r false)).place ≡ rest) × ((place_behind_symbol (place_of r false)).begun ≡ false)
 tip_is r rest e =
     let n : next_bits 1 r ≡ Some 0 = next_is 1 r (0 ∷ rest) e (omega arith) in
     let f : Option ℕ → Option Symbol = λ o. elim o [ None ↦ None | Some b ↦ cond (b == 0) (Some C) (longer (after_bits 1 r)) ] in
     let g : Option ℕ → SymbolPlace = λ o. elim o [ None ↦ place_of r false | Some b ↦ cond (b == 0) (place_of (after_bits 1 r) false) (after_longer (after_bits 1 r)) ] in
     (ap f n, ap (λ (o : Option ℕ). bits_left (g o).place) n ∙ left_is 1 r (0 ∷ rest) e (omega arith), ap (λ (o : Option ℕ). (g o).begun) n)
 
-each_is : (x : Symbol) (r : BitPlace) (rest : List ℕ) → bits_left r ≡ symbol_bits x ++ rest → (next_symbol (place_of r false) ≡ Some x) × (bits_left (after_symbol (place_of r false)).place ≡ rest) × ((after_symbol (place_of r false)).begun ≡ false)
+each_is : (x : Symbol) (r : BitPlace) (rest : List ℕ) → bits_left r ≡ symbol_bits x ++ rest → (next_symbol (place_of r false) ≡ Some x) × (bits_left (place_behind_symbol (place_of r false)).place ≡ rest) × ((place_behind_symbol (place_of r false)).begun ≡ false)
 unfolding low_bits
 each_is C r rest e = tip_is r rest e
 each_is S r rest e = whole_is r 0 0 rest e
@@ -59,14 +59,14 @@ each_is L r rest e = whole_is r 1 0 rest e
 each_is R r rest e = whole_is r 0 1 rest e
 each_is E r rest e = whole_is r 1 1 rest e
 
-pub reads_back : (s : SymbolPlace) → ReadsBack s (after_symbol s) (next_symbol s)
+pub reads_back : (s : SymbolPlace) → ReadsBack s (place_behind_symbol s) (next_symbol s)
 reads_back s x rest b e =
     let same : place_of s.place false ≡ s = ap (place_of s.place) (sym b) in
-    let P : SymbolPlace → Type 0 = λ t. (next_symbol t ≡ Some x) × (bits_left (after_symbol t).place ≡ rest) × ((after_symbol t).begun ≡ false) in
+    let P : SymbolPlace → Type 0 = λ t. (next_symbol t ≡ Some x) × (bits_left (place_behind_symbol t).place ≡ rest) × ((place_behind_symbol t).begun ≡ false) in
     subst P same (each_is x s.place rest e)
 
-pub reads_back_as : (s t : SymbolPlace) (o : Option Symbol) → o ≡ next_symbol s → t ≡ after_symbol s → ReadsBack s t o
-reads_back_as s t o p q = subst (λ (u : SymbolPlace). ReadsBack s u o) (sym q) (subst (ReadsBack s (after_symbol s)) (sym p) (reads_back s))
+pub reads_back_as : (s t : SymbolPlace) (o : Option Symbol) → o ≡ next_symbol s → t ≡ place_behind_symbol s → ReadsBack s t o
+reads_back_as s t o p q = subst (λ (u : SymbolPlace). ReadsBack s u o) (sym q) (subst (ReadsBack s (place_behind_symbol s)) (sym p) (reads_back s))
 
 -- bits are 0 and 1
 abbrev AreBits : List ℕ → Type 0
@@ -101,7 +101,7 @@ short_none r ws e h =
     let n : next_bits 1 r ≡ Some 1 = next_is 1 r (1 ∷ ws) e (omega arith) in
     let m : next_bits 2 (after_bits 1 r) ≡ None = next_none 2 (after_bits 1 r) ws (left_is 1 r (1 ∷ ws) e (omega arith)) h in
     let f : Option ℕ → Option Symbol = λ o. elim o [ None ↦ None | Some b ↦ cond (b == 0) (Some C) (longer (after_bits 1 r)) ] in
-    ap f n ∙ ap (λ (o : Option ℕ). let x : Option Symbol = elim o [ None ↦ None | Some n ↦ Some (symbol_of n) ] in x) m
+    ap f n ∙ ap (λ (o : Option ℕ). let x : Option Symbol = elim o [ None ↦ None | Some n ↦ Some (three_bit_symbol n) ] in x) m
 
 none_left : (r : BitPlace) → bits_left r ≡ [] → next_symbol (place_of r false) ≡ None
 none_left r e =
@@ -152,7 +152,7 @@ Takes r t o = IfSome o (λ x. length (bits_left t.place) < length (bits_left r))
 -- two bits of a longer symbol
 longer_takes : (r : BitPlace) → Takes r (after_longer r) (longer r)
 longer_takes r =
-    let f : Option ℕ → Option Symbol = λ o. elim o [ None ↦ None | Some n ↦ Some (symbol_of n) ] in
+    let f : Option ℕ → Option Symbol = λ o. elim o [ None ↦ None | Some n ↦ Some (three_bit_symbol n) ] in
     let g : Option ℕ → SymbolPlace = λ o. elim o [ None ↦ place_of r true | Some n ↦ place_of (after_bits 2 r) false ] in
     elim (cases_lt (length (bits_left r)) 2) [
       | inl few ↦ subst (Takes r (after_longer r)) (sym (ap f (next_none 2 r (bits_left r) refl few))) tt
@@ -177,10 +177,10 @@ first_takes r b false e h =
     fewer_still None k = tt
     fewer_still (Some x) k = omega arith
 
-next_takes : (r : BitPlace) (begun : Bool) → Takes r (after_symbol (place_of r begun)) (next_symbol (place_of r begun))
+next_takes : (r : BitPlace) (begun : Bool) → Takes r (place_behind_symbol (place_of r begun)) (next_symbol (place_of r begun))
 next_takes r true = longer_takes r
 next_takes r false = elim (cases_lt (length (bits_left r)) 1) [
-  | inl none ↦ subst (Takes r (after_symbol (place_of r false))) (sym (ap (symbol_after r) (next_none 1 r (bits_left r) refl none))) tt
+  | inl none ↦ subst (Takes r (place_behind_symbol (place_of r false))) (sym (ap (symbol_after r) (next_none 1 r (bits_left r) refl none))) tt
   | inr some ↦
       let n = next_is 1 r (bits_left r) refl some in
       let b = number_of (take 1 (bits_left r)) in
@@ -188,5 +188,5 @@ next_takes r false = elim (cases_lt (length (bits_left r)) 1) [
       subst (λ (o : Option ℕ). Takes r (place_after r o) (symbol_after r o)) (sym n) (first_takes r b (b == 0) refl (omega arith))
 ]
 
-pub takes_some : (s t : SymbolPlace) (o : Option Symbol) → o ≡ next_symbol s → t ≡ after_symbol s → Takes s.place t o
+pub takes_some : (s t : SymbolPlace) (o : Option Symbol) → o ≡ next_symbol s → t ≡ place_behind_symbol s → Takes s.place t o
 takes_some s t o p q = subst (Takes s.place t) (sym p) (subst (λ (u : SymbolPlace). Takes s.place u (next_symbol s)) (sym q) (next_takes s.place s.begun))

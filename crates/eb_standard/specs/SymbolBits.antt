@@ -19,11 +19,11 @@ reversed_bits [] = []
 reversed_bits (x ∷ xs) = reversed_bits xs ++ symbol_bits x
 
 -- the symbol whose first bit is 1, by the number of the other two
-abbrev pub symbol_of : ℕ → Symbol
-symbol_of zero = S
-symbol_of (suc zero) = L
-symbol_of (suc (suc zero)) = R
-symbol_of (suc (suc (suc n))) = E
+abbrev pub three_bit_symbol : ℕ → Symbol
+three_bit_symbol zero = S
+three_bit_symbol (suc zero) = L
+three_bit_symbol (suc (suc zero)) = R
+three_bit_symbol (suc (suc (suc n))) = E
 
 -- a reader of symbols: its place in the bits, and whether the first bit of a longer symbol was taken whose other bits aren't there
 pub record SymbolPlace : Type 0 where
@@ -32,7 +32,7 @@ pub record SymbolPlace : Type 0 where
 
 -- the symbol of the next two bits
 abbrev pub longer : BitPlace → Option Symbol
-longer r = elim (next_bits 2 r) [ None ↦ None | Some n ↦ Some (symbol_of n) ]
+longer r = elim (next_bits 2 r) [ None ↦ None | Some n ↦ Some (three_bit_symbol n) ]
 
 -- the next symbol, where all of its bits are there
 abbrev pub next_symbol : SymbolPlace → Option Symbol
@@ -47,8 +47,8 @@ after_longer r = elim (next_bits 2 r) [
 ]
 
 -- the reader behind the next symbol; where bits of it aren't there, no symbol follows ever
-abbrev pub after_symbol : SymbolPlace → SymbolPlace
-after_symbol s = cond s.begun (after_longer s.place)
+abbrev pub place_behind_symbol : SymbolPlace → SymbolPlace
+place_behind_symbol s = cond s.begun (after_longer s.place)
     (elim (next_bits 1 s.place) [
       | None ↦ s
       | Some b ↦ cond (b == 0) (record { place = after_bits 1 s.place; begun = false }) (after_longer (after_bits 1 s.place))

@@ -2,7 +2,7 @@
 
 ghost use Rattle.std.specs.Prelude.{◌≡◌, ◌<◌, false, length, Some, None, IfSome};
 ghost use Rattle.drc_bits.specs.Bits.{bits_left};
-ghost use Rattle.eb_standard.specs.SymbolBits.{next_symbol, after_symbol, symbol_of, longer, after_longer};
+ghost use Rattle.eb_standard.specs.SymbolBits.{next_symbol, place_behind_symbol, three_bit_symbol, longer, after_longer};
 ghost use Rattle.eb_standard.specs.ReadBack.{ReadsBack, IsInBits};
 
 use corner_table::Symbol;
@@ -27,7 +27,7 @@ impl<'a> Model for SymbolReader<'a> {
 
 /// The symbol whose first bit is 1, by the number of its other two bits.
 fn symbol_from(rest: u32) -> Symbol
-    ensures { result ≡ symbol_of rest }
+    ensures { result ≡ three_bit_symbol rest }
 {
     match rest {
         0 => Symbol::S,
@@ -53,7 +53,7 @@ impl<'a> SymbolReader<'a> {
     /// there; then no symbol follows. It takes no memory.
     pub fn next(&mut self) -> Option<Symbol>
         ensures symbol { result ≡ next_symbol self.old }
-        ensures after { self.new ≡ after_symbol self.old }
+        ensures after { self.new ≡ place_behind_symbol self.old }
         ensures back { ReadsBack self.old self.new result }
         ensures stands { IsInBits self.old result }
         ensures fewer { IfSome result (λ x. length (bits_left self.new.place) < length (bits_left self.old.place)) }
@@ -64,7 +64,7 @@ impl<'a> SymbolReader<'a> {
     /// The next symbol.
     fn next_found(&mut self) -> Option<Symbol>
         ensures symbol { result ≡ next_symbol self.old }
-        ensures after { self.new ≡ after_symbol self.old }
+        ensures after { self.new ≡ place_behind_symbol self.old }
     {
         if self.begun {
             return self.longer();

@@ -18,7 +18,7 @@ use Rattle.eb_rebuild.proofs.Steps.{Next}
 use Rattle.eb_trace.specs.Readable.{IsReadable}
 use Rattle.eb_rebuild.specs.Shown.{is_split}
 use Rattle.eb_trace.specs.Front.{made_by, events_left, start_bits}
-use Rattle.eb_trace.specs.Rebuilt.{symbol_at, finished, CountsWord}
+use Rattle.eb_trace.specs.Rebuilt.{word_symbol, finished, CountsWord}
 use Rattle.eb_trace.specs.Trace.{fan_count, trace, order_of, word_of}
 use Rattle.eb_trace.specs.Kept.{WalkPassesFronts, WalkIsCounted, WalkNeedsAll}
 use Rattle.eb_trace.proofs.Vertices.{fans_are, renumbered_alike}
@@ -30,32 +30,32 @@ use Rattle.eb_trace.proofs.Whole.{passes_fronts, rebuilds_word, refuses_fewer}
 count_zero : (xs : List Symbol) → count_by is_split (take 0 xs) ≡ 0
 count_zero xs = refl
 
-module _ (faces : ℕ) (g : Gluing) (word : List Symbol) (T : IsReadable faces g (length word) (symbol_at word)) where
+module _ (faces : ℕ) (g : Gluing) (word : List Symbol) (T : IsReadable faces g (length word) (word_symbol word)) where
   -- the S among the first symbols of a list
-  splits_taken : (m : ℕ) → m ≤ length word → splits_before faces g (length word) (symbol_at word) T m ≡ count_by is_split (take m word)
-  splits_taken zero h = splits_none faces g (length word) (symbol_at word) T ∙ sym (count_zero word)
+  splits_taken : (m : ℕ) → m ≤ length word → splits_before faces g (length word) (word_symbol word) T m ≡ count_by is_split (take m word)
+  splits_taken zero h = splits_none faces g (length word) (word_symbol word) T ∙ sym (count_zero word)
   splits_taken (suc m) h =
       let before = splits_taken m (omega arith) in
-      let more = splits_more faces g (length word) (symbol_at word) T m in
+      let more = splits_more faces g (length word) (word_symbol word) T m in
       let one : count_by is_split (take (m + 1) word) ≡ count_by is_split (take (suc m) word) = ap (λ (k : ℕ). count_by is_split (take k word)) (add-one m) in
-      elim (cases_Bool (is_split (symbol_at word m))) [
+      elim (cases_Bool (is_split (word_symbol word m))) [
         | inl t ↦ (
-            let b : ◌≡◌ {A = ℕ} (cond (is_split (symbol_at word m)) 1 0) 1 = cond-true (is_split (symbol_at word m)) 1 0 t in
+            let b : ◌≡◌ {A = ℕ} (cond (is_split (word_symbol word m)) 1 0) 1 = cond-true (is_split (word_symbol word m)) 1 0 t in
             let c = count_by_more_yes is_split word m E (omega arith) t in
             omega arith)
         | inr t ↦ (
-            let b : ◌≡◌ {A = ℕ} (cond (is_split (symbol_at word m)) 1 0) 0 = cond-false (is_split (symbol_at word m)) 1 0 t in
+            let b : ◌≡◌ {A = ℕ} (cond (is_split (word_symbol word m)) 1 0) 0 = cond-false (is_split (word_symbol word m)) 1 0 t in
             let c = count_by_more_no is_split word m E (omega arith) t in
             omega arith)
       ]
 
-  made_is : made_by (symbol_at word) (length word) ≡ fan_count faces g + count_by is_split word
+  made_is : made_by (word_symbol word) (length word) ≡ fan_count faces g + count_by is_split word
   made_is =
-      let t = made_in_all faces g (length word) (symbol_at word) T in
+      let t = made_in_all faces g (length word) (word_symbol word) T in
       let fans : fan_count faces g ≡ t.0 = fans_are faces g T.gluing t.0 t.1 in
-      let splits : splits_before faces g (length word) (symbol_at word) T (length word) ≡ count_by is_split word =
+      let splits : splits_before faces g (length word) (word_symbol word) T (length word) ≡ count_by is_split word =
       splits_taken (length word) (omega arith) ∙ ap (count_by is_split) (take_all (length word) word (omega arith)) in
-      t.2 ∙ ap (λ (k : ℕ). k + splits_before faces g (length word) (symbol_at word) T (length word)) (sym fans) ∙ ap (λ (k : ℕ). fan_count faces g + k) splits
+      t.2 ∙ ap (λ (k : ℕ). k + splits_before faces g (length word) (word_symbol word) T (length word)) (sym fans) ∙ ap (λ (k : ℕ). fan_count faces g + k) splits
 
 pub counts_word : CountsWord
 counts_word faces g word T = made_is faces g word T
@@ -131,20 +131,20 @@ walk_passes_fronts faces g h G F K m l =
 pub walk_is_counted : WalkIsCounted
 walk_is_counted faces g G F = go (is_renumbered faces g (order_of (trace faces g)) G (renumbers faces g G F))
   where
-    go : (h : Gluing) × IsCarried faces g (order_of (trace faces g)) h → made_by (symbol_at (word_of (trace faces g))) (length (word_of (trace faces g))) ≡ fan_count faces g + count_by is_split (word_of (trace faces g))
+    go : (h : Gluing) × IsCarried faces g (order_of (trace faces g)) h → made_by (word_symbol (word_of (trace faces g))) (length (word_of (trace faces g))) ≡ fan_count faces g + count_by is_split (word_of (trace faces g))
     go (h, K) =
         let T = word_readable faces g G F h K in
         made_is faces h (word_of (trace faces g)) T
         ∙ ap (λ (k : ℕ). k + count_by is_split (word_of (trace faces g))) (renumbered_alike faces g h (order_of (trace faces g)) G (renumbers faces g G F) K)
 
--- the walk's own events and bits are those that the surface tells
+-- the walk's own events and bits are those that the surface determines
 as_told : (p : Plan) (g h : Gluing) (G : IsGluing p.faces g) (F : HasThreeFans p.faces g) (K : IsCarried p.faces g (order_of (trace p.faces g)) h) →
     rebuild p (word_of (trace p.faces g)) (trace p.faces g).events (λ k. get_or (reverse (trace p.faces g).bits) k false)
-    ≡ rebuild p (word_of (trace p.faces g)) (events_left (length (word_of (trace p.faces g))) h (symbol_at (word_of (trace p.faces g))) (length (word_of (trace p.faces g)))) (λ k. get_or (start_bits (length (word_of (trace p.faces g))) h) k false)
+    ≡ rebuild p (word_of (trace p.faces g)) (events_left (length (word_of (trace p.faces g))) h (word_symbol (word_of (trace p.faces g))) (length (word_of (trace p.faces g)))) (λ k. get_or (start_bits (length (word_of (trace p.faces g))) h) k false)
 as_told p g h G F K =
     let w = word_of (trace p.faces g) in
     ap (λ (events : List Event). rebuild p w events (λ k. get_or (reverse (trace p.faces g).bits) k false)) (word_events p.faces g G F h K)
-    ∙ ap (λ (bits : List Bool). rebuild p w (events_left (length w) h (symbol_at w) (length w)) (λ k. get_or bits k false)) (word_bits p.faces g G F h K)
+    ∙ ap (λ (bits : List Bool). rebuild p w (events_left (length w) h (word_symbol w) (length w)) (λ k. get_or bits k false)) (word_bits p.faces g G F h K)
 
 pub walk_rebuilds : (p : Plan) (g h : Gluing) → IsGluing p.faces g → HasThreeFans p.faces g → IsCarried p.faces g (order_of (trace p.faces g)) h → p.symbols ≡ length (word_of (trace p.faces g)) →
     fan_count p.faces g + count_by is_split (word_of (trace p.faces g)) ≤ p.created →
@@ -152,7 +152,7 @@ pub walk_rebuilds : (p : Plan) (g h : Gluing) → IsGluing p.faces g → HasThre
 walk_rebuilds p g h G F K symbols enough =
     let w = word_of (trace p.faces g) in
     let made = walk_is_counted p.faces g G F in
-    let few : made_by (symbol_at w) (length w) ≤ p.created = subst (λ (k : ℕ). k ≤ p.created) (sym made) enough in
+    let few : made_by (word_symbol w) (length w) ≤ p.created = subst (λ (k : ℕ). k ≤ p.created) (sym made) enough in
     as_told p g h G F K
     ∙ rebuilds_word p h w (word_readable p.faces g G F h K) symbols (three_fans_carried (renumbers p.faces g G F) K F) few
 
@@ -160,7 +160,7 @@ pub walk_needs_all : WalkNeedsAll
 walk_needs_all p g h G F K symbols few =
     let w = word_of (trace p.faces g) in
     let made = walk_is_counted p.faces g G F in
-    let less : p.created < made_by (symbol_at w) (length w) = subst (λ (k : ℕ). p.created < k) (sym made) few in
+    let less : p.created < made_by (word_symbol w) (length w) = subst (λ (k : ℕ). p.created < k) (sym made) few in
     as_told p g h G F K
     ∙ refuses_fewer p h w (word_readable p.faces g G F h K) symbols less
     ∙ ap (λ (k : ℕ). let x : Next = Err (fault kind.VertexCount k) in x) made

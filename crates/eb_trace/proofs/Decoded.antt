@@ -12,8 +12,8 @@ use Rattle.corner_table.proofs.Places.{Some_injective, next-prev}
 use Rattle.corner_table.proofs.Walks.{left_crosses, right_crosses}
 use Rattle.corner_table.proofs.Carrying.{carry-next, carry-prev, carry_injective, carry_onto, carried_gluing, fans_carried}
 use Rattle.eb_trace.specs.Readable.{IsPast, GoesOn, Says, IsInterior, IsReadable}
-use Rattle.eb_trace.specs.Rebuilt.{symbol_at}
-use Rattle.eb_trace.specs.Trace.{Entry, trace, order_of, word_of}
+use Rattle.eb_trace.specs.Rebuilt.{word_symbol}
+use Rattle.eb_trace.specs.Trace.{TracedEntry, trace, order_of, word_of}
 use Rattle.eb_trace.proofs.Rings.{Through, at as stays, by as swings, Ring, ring_has, through_last}
 use Rattle.eb_trace.proofs.Visited.{entry_at, no_entry, is_inside}
 use Rattle.eb_trace.proofs.Log.{AfterEnd, GoesRight, InOrder, Gate, at_boundary, at_inside, after_right, after_left, after_kept, Seen, Later, SeenAcross, MetBefore, Settled}
@@ -397,10 +397,10 @@ module _ (faces : ℕ) (g : Gluing) (G : IsGluing faces g) (F : HasThreeFans fac
       omega arith
 
   -- the word by numbers
-  pub word_is : (i k : ℕ) → suc (i + k) ≡ n → symbol_at (word_of (trace faces g)) i ≡ sym_of k
-  word_is i k e = get_or-map (λ (x : Entry). x.symbol) (entries_of faces g) i no_entry E (omega arith) ∙ ap (λ (x : Entry). x.symbol) (entry_of (entries_of faces g) i k e)
+  pub word_is : (i k : ℕ) → suc (i + k) ≡ n → word_symbol (word_of (trace faces g)) i ≡ sym_of k
+  word_is i k e = get_or-map (λ (x : TracedEntry). x.symbol) (entries_of faces g) i no_entry E (omega arith) ∙ ap (λ (x : TracedEntry). x.symbol) (entry_of (entries_of faces g) i k e)
 
-  pub readable : IsReadable faces h n (symbol_at (word_of (trace faces g)))
+  pub readable : IsReadable faces h n (word_symbol (word_of (trace faces g)))
   readable = record {
     gluing = H;
     fewer = (let t = total_is faces g G F in omega arith);

@@ -10,7 +10,7 @@ use Rattle.eb_rebuild.specs.Machine.{note_events, reserve, event_place}
 use Rattle.eb_rebuild.specs.Shown.{is_split}
 use Rattle.eb_rebuild.proofs.Noting.{note_none, note_later, note_more}
 use Rattle.eb_trace.specs.Readable.{IsReadable}
-use Rattle.eb_trace.specs.Front.{reserved_for, waiting, split_met, event_told, events_at, events_left}
+use Rattle.eb_trace.specs.Front.{reserved_for, waiting_side, split_met, event_told, events_of_face, events_left}
 use Rattle.eb_trace.proofs.Reserved.{reserved_early, reserved_late, reserved_unsplit, reserved_is, waiting_later, waiting_here, waiting_entry, waiting_more, met_third, third_met}
 
 -- a list of events begins with one of a source below d, if with any
@@ -28,7 +28,7 @@ pub left_zero : (n : ℕ) (g : Gluing) (word : ℕ → Symbol) → events_left n
 unfolding events_left
 left_zero n g word = refl
 
-pub left_suc : (n : ℕ) (g : Gluing) (word : ℕ → Symbol) (d : ℕ) → events_left n g word (suc d) ≡ events_at n g word (n - suc d) false ++ (events_at n g word (n - suc d) true ++ events_left n g word d)
+pub left_suc : (n : ℕ) (g : Gluing) (word : ℕ → Symbol) (d : ℕ) → events_left n g word (suc d) ≡ events_of_face n g word (n - suc d) false ++ (events_of_face n g word (n - suc d) true ++ events_left n g word d)
 unfolding events_left
 left_suc n g word d = refl
 
@@ -39,7 +39,7 @@ leads n g word (suc d) h =
     let rest = leads_more d (events_left n g word d) (leads n g word d (omega arith)) in
     let small : n - suc i < suc d = omega arith in
     subst (Leads (suc d)) (sym (left_suc n g word d))
-    (leads_told n i (suc d) false (split_met n word i (g (side i third))) (events_at n g word i true ++ events_left n g word d) small
+    (leads_told n i (suc d) false (split_met n word i (g (side i third))) (events_of_face n g word i true ++ events_left n g word d) small
     (leads_told n i (suc d) true (split_met n word i (g (side i second))) (events_left n g word d) small rest))
 
 -- such events are due later
@@ -51,7 +51,7 @@ note_leads n i d events kept h l = elim l [
       subst (λ (es : List Event). note_events n i es kept ≡ Ok (es, kept)) (sym t.2) (note_later n i t.0 t.1 kept (omega arith)))
 ]
 
--- an event that is told keeps its side
+-- an event that is noted keeps its side
 abbrev kept_by : Option ℕ → Side → (ℕ → Option Side) → ℕ → Option Side
 kept_by None a kept = kept
 kept_by (Some j) a kept = reserve j a kept
@@ -120,7 +120,7 @@ module _ (faces : ℕ) (g : Gluing) (n : ℕ) (word : ℕ → Symbol) (T : IsRea
       live : m < k → k < n → is_split (word k) ≡ true → kept_both m k ≡ reserved_for n g word (suc m) k
       live h l t = elim (option_tells (g (side k third))) [
         | inl o ↦ neither m k (λ a. (let u = met_third T m third k (λ q. (cc)) a in let no : None ≡ Some (side m third) = sym o ∙ u.3 in cc)) (λ a. (let u = met_third T m second k (λ q. (cc)) a in let no : None ≡ Some (side m second) = sym o ∙ u.3 in cc))
-            ∙ before ∙ ap (waiting m) o ∙ sym (ap (waiting (suc m)) o) ∙ sym after
+            ∙ before ∙ ap (waiting_side m) o ∙ sym (ap (waiting_side (suc m)) o) ∙ sym after
         | inr x ↦ elim (cases_eq x.0.face m) [
           | inr e ↦ neither m k (λ a. (let u = met_third T m third k (λ q. (cc)) a in e (ap (λ (z : Side). z.face) (Some_injective _ _ (sym x.1 ∙ u.3))))) (λ a. (let u = met_third T m second k (λ q. (cc)) a in e (ap (λ (z : Side). z.face) (Some_injective _ _ (sym x.1 ∙ u.3)))))
               ∙ before ∙ sym (waiting_more m (g (side k third)) (λ z i f. absurd (e (ap (λ (z : Side). z.face) (Some_injective _ _ (sym x.1 ∙ i)) ∙ f)))) ∙ sym after
@@ -128,10 +128,10 @@ module _ (faces : ℕ) (g : Gluing) (n : ℕ) (word : ℕ → Symbol) (T : IsRea
         ]
       ]
         where
-          before : reserved_for n g word m k ≡ waiting m (g (side k third))
+          before : reserved_for n g word m k ≡ waiting_side m (g (side k third))
           before = reserved_is n g word m k (omega arith) l t
 
-          after : reserved_for n g word (suc m) k ≡ waiting (suc m) (g (side k third))
+          after : reserved_for n g word (suc m) k ≡ waiting_side (suc m) (g (side k third))
           after = reserved_is n g word (suc m) k (omega arith) l t
 
           here : (p : Place) → g (side k third) ≡ Some (side m p) → kept_both m k ≡ reserved_for n g word (suc m) k
@@ -156,12 +156,12 @@ module _ (faces : ℕ) (g : Gluing) (n : ℕ) (word : ℕ → Symbol) (T : IsRea
       (t.1, reserved_is n g word m j (omega arith) t.1 t.2 ∙ waiting_later m (g (side j third)) (side m k) t.3 (omega arith))
 
   -- the events that are left before face m are its own, and then those left after it
-  told : (m : ℕ) → m < n → events_left n g word (n - m) ≡ events_at n g word m false ++ (events_at n g word m true ++ events_left n g word (n - suc m))
+  told : (m : ℕ) → m < n → events_left n g word (n - m) ≡ events_of_face n g word m false ++ (events_of_face n g word m true ++ events_left n g word (n - suc m))
   told m h =
       let d = n - suc m in
       let count : n - m ≡ suc d = omega arith in
       let face : n - suc d ≡ m = omega arith in
-      ap (events_left n g word) count ∙ left_suc n g word d ∙ ap (λ (i : ℕ). events_at n g word i false ++ (events_at n g word i true ++ events_left n g word d)) face
+      ap (events_left n g word) count ∙ left_suc n g word d ∙ ap (λ (i : ℕ). events_of_face n g word i false ++ (events_of_face n g word i true ++ events_left n g word d)) face
 
   -- face m notes its events, and keeps what waits after it
   pub notes_face : (m : ℕ) → m < n → is_split (word m) ≡ false → note_events n m (events_left n g word (n - m)) (reserved_for n g word m) ≡ Ok (events_left n g word (n - suc m), reserved_for n g word (suc m))
@@ -169,7 +169,7 @@ module _ (faces : ℕ) (g : Gluing) (n : ℕ) (word : ℕ → Symbol) (T : IsRea
       let d = n - suc m in
       let rest = events_left n g word d in
       ap (λ (es : List Event). note_events n m es (reserved_for n g word m)) (told m h)
-      ∙ note_told n m false (on_left m) (events_at n g word m true ++ rest) (reserved_for n g word m) (λ j e. unkept m j third (λ q. (cc)) e)
+      ∙ note_told n m false (on_left m) (events_of_face n g word m true ++ rest) (reserved_for n g word m) (λ j e. unkept m j third (λ q. (cc)) e)
       ∙ note_told n m true (on_right m) rest (kept_by (on_left m) (side m third) (reserved_for n g word m))
       (λ j e. (let t = unkept m j second (λ q. (cc)) e in (t.0, by_miss (on_left m) (side m third) _ j (λ a. not_both m j a e) ∙ t.1)))
       ∙ note_leads n m d rest (kept_both m) (omega arith) (leads n g word d (omega arith))
@@ -187,10 +187,10 @@ module _ (faces : ℕ) (g : Gluing) (n : ℕ) (word : ℕ → Symbol) (T : IsRea
         absurd (omega arith))
   ]
 
-  -- a face with both sides glued to earlier faces tells no event
+  -- a face with both sides glued to earlier faces has no event
   pub tells_none : (m : ℕ) → m < n → (x y : Side) → g (side m second) ≡ Some x → x.face < m → g (side m third) ≡ Some y → y.face < m → events_left n g word (n - m) ≡ events_left n g word (n - suc m)
   tells_none m h x y r rl l ll =
       let rest = events_left n g word (n - suc m) in
       told m h
-      ∙ ap (λ (o : Option ℕ). event_told n m false o ++ (events_at n g word m true ++ rest)) (unmet m third y (λ q. (cc)) l ll)
+      ∙ ap (λ (o : Option ℕ). event_told n m false o ++ (events_of_face n g word m true ++ rest)) (unmet m third y (λ q. (cc)) l ll)
       ∙ ap (λ (o : Option ℕ). event_told n m true o ++ rest) (unmet m second x (λ q. (cc)) r rl)

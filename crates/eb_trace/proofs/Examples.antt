@@ -7,8 +7,8 @@ use Rattle.corner_table.specs.Fans.{corners_of, leftmost, rightmost, walks_left,
 use Rattle.corner_table.specs.Table.{glued_in, free_entry}
 use Rattle.eb_rebuild.specs.Machine.{State, rebuild, take_symbols, step, note_events, close_all, close, finish, first_degenerate}
 use Rattle.eb_trace.specs.Front.{events_left, start_bits, free_firsts}
-use Rattle.eb_trace.specs.Rebuilt.{symbol_at}
-use Rattle.eb_trace.specs.Trace.{trace, walked, run, split_of, take_kept, word_of, order_of, fan_count}
+use Rattle.eb_trace.specs.Rebuilt.{word_symbol}
+use Rattle.eb_trace.specs.Trace.{trace, traced_runs, run, split_of_face, take_kept, word_of, order_of, fan_count}
 
 -- what a run of the machine has glued, side by side
 abbrev pairs_of : ℕ → Result State Fault → List (Option Side)
@@ -20,19 +20,19 @@ tetrahedron : Gluing
 tetrahedron = glued_in (8 ∷ 5 ∷ 10 ∷ 7 ∷ 11 ∷ 1 ∷ 9 ∷ 3 ∷ 0 ∷ 6 ∷ 2 ∷ 4 ∷ [])
 
 tetrahedron_word : word_of (trace 4 tetrahedron) ≡ E ∷ R ∷ C ∷ []
-unfolding tetrahedron walked run rightmost corners_of walks_left walks_right split_of take_kept
+unfolding tetrahedron traced_runs run rightmost corners_of walks_left walks_right split_of_face take_kept
 tetrahedron_word = refl
 
 tetrahedron_order : order_of (trace 4 tetrahedron) ≡ (3, 0) ∷ (2, 1) ∷ (1, 2) ∷ (0, 1) ∷ []
-unfolding tetrahedron walked run rightmost corners_of walks_left walks_right split_of take_kept
+unfolding tetrahedron traced_runs run rightmost corners_of walks_left walks_right split_of_face take_kept
 tetrahedron_order = refl
 
 tetrahedron_events : (trace 4 tetrahedron).events ≡ []
-unfolding tetrahedron walked run rightmost corners_of walks_left walks_right split_of take_kept
+unfolding tetrahedron traced_runs run rightmost corners_of walks_left walks_right split_of_face take_kept
 tetrahedron_events = refl
 
 tetrahedron_bits : (trace 4 tetrahedron).bits ≡ true ∷ []
-unfolding tetrahedron walked run rightmost corners_of walks_left walks_right split_of take_kept
+unfolding tetrahedron traced_runs run rightmost corners_of walks_left walks_right split_of_face take_kept
 tetrahedron_bits = refl
 
 tetrahedron_fans : fan_count 4 tetrahedron ≡ 4
@@ -43,7 +43,7 @@ tetrahedron_fans = refl
 tetrahedron_decoded : Gluing
 tetrahedron_decoded = glued_in (5 ∷ 10 ∷ 8 ∷ 7 ∷ 11 ∷ 0 ∷ 9 ∷ 3 ∷ 2 ∷ 6 ∷ 1 ∷ 4 ∷ [])
 
-tetrahedron_told : events_left 3 tetrahedron_decoded (symbol_at (E ∷ R ∷ C ∷ [])) 3 ≡ []
+tetrahedron_told : events_left 3 tetrahedron_decoded (word_symbol (E ∷ R ∷ C ∷ [])) 3 ≡ []
 unfolding tetrahedron_decoded events_left
 tetrahedron_told = refl
 
@@ -60,19 +60,19 @@ mirrored : Gluing
 mirrored = glued_in (free_entry ∷ free_entry ∷ free_entry ∷ free_entry ∷ free_entry ∷ free_entry ∷ [])
 
 mirrored_word : word_of (trace 2 mirrored) ≡ E ∷ E ∷ []
-unfolding mirrored walked run rightmost corners_of walks_left walks_right split_of take_kept
+unfolding mirrored traced_runs run rightmost corners_of walks_left walks_right split_of_face take_kept
 mirrored_word = refl
 
 mirrored_order : order_of (trace 2 mirrored) ≡ (1, 0) ∷ (0, 0) ∷ []
-unfolding mirrored walked run rightmost corners_of walks_left walks_right split_of take_kept
+unfolding mirrored traced_runs run rightmost corners_of walks_left walks_right split_of_face take_kept
 mirrored_order = refl
 
 mirrored_events : (trace 2 mirrored).events ≡ []
-unfolding mirrored walked run rightmost corners_of walks_left walks_right split_of take_kept
+unfolding mirrored traced_runs run rightmost corners_of walks_left walks_right split_of_face take_kept
 mirrored_events = refl
 
 mirrored_bits : (trace 2 mirrored).bits ≡ false ∷ false ∷ []
-unfolding mirrored walked run rightmost corners_of walks_left walks_right split_of take_kept
+unfolding mirrored traced_runs run rightmost corners_of walks_left walks_right split_of_face take_kept
 mirrored_bits = refl
 
 mirrored_fans : fan_count 2 mirrored ≡ 6
@@ -83,7 +83,7 @@ mirrored_fans = refl
 mirrored_decoded : Gluing
 mirrored_decoded = glued_in (free_entry ∷ free_entry ∷ free_entry ∷ free_entry ∷ free_entry ∷ free_entry ∷ [])
 
-mirrored_told : events_left 2 mirrored_decoded (symbol_at (E ∷ E ∷ [])) 2 ≡ []
+mirrored_told : events_left 2 mirrored_decoded (word_symbol (E ∷ E ∷ [])) 2 ≡ []
 unfolding mirrored_decoded events_left
 mirrored_told = refl
 
@@ -100,19 +100,19 @@ ring : Gluing
 ring = glued_in (4 ∷ 17 ∷ free_entry ∷ free_entry ∷ 0 ∷ 7 ∷ 10 ∷ 5 ∷ free_entry ∷ free_entry ∷ 6 ∷ 13 ∷ 16 ∷ 11 ∷ free_entry ∷ free_entry ∷ 12 ∷ 1 ∷ [])
 
 ring_word : word_of (trace 6 ring) ≡ E ∷ R ∷ L ∷ R ∷ L ∷ S ∷ []
-unfolding ring walked run rightmost corners_of walks_left walks_right split_of take_kept
+unfolding ring traced_runs run rightmost corners_of walks_left walks_right split_of_face take_kept
 ring_word = refl
 
 ring_order : order_of (trace 6 ring) ≡ (5, 1) ∷ (4, 1) ∷ (3, 1) ∷ (2, 1) ∷ (1, 1) ∷ (0, 2) ∷ []
-unfolding ring walked run rightmost corners_of walks_left walks_right split_of take_kept
+unfolding ring traced_runs run rightmost corners_of walks_left walks_right split_of_face take_kept
 ring_order = refl
 
 ring_events : (trace 6 ring).events ≡ record { source = 5; split = 0; right = true } ∷ []
-unfolding ring walked run rightmost corners_of walks_left walks_right split_of take_kept
+unfolding ring traced_runs run rightmost corners_of walks_left walks_right split_of_face take_kept
 ring_events = refl
 
 ring_bits : (trace 6 ring).bits ≡ false ∷ []
-unfolding ring walked run rightmost corners_of walks_left walks_right split_of take_kept
+unfolding ring traced_runs run rightmost corners_of walks_left walks_right split_of_face take_kept
 ring_bits = refl
 
 ring_fans : fan_count 6 ring ≡ 6
@@ -123,7 +123,7 @@ ring_fans = refl
 ring_decoded : Gluing
 ring_decoded = glued_in (5 ∷ 17 ∷ free_entry ∷ 7 ∷ free_entry ∷ 0 ∷ 11 ∷ 3 ∷ free_entry ∷ 13 ∷ free_entry ∷ 6 ∷ 16 ∷ 9 ∷ free_entry ∷ free_entry ∷ 12 ∷ 1 ∷ [])
 
-ring_told : events_left 6 ring_decoded (symbol_at (E ∷ R ∷ L ∷ R ∷ L ∷ S ∷ [])) 6 ≡ record { source = 5; split = 0; right = true } ∷ []
+ring_told : events_left 6 ring_decoded (word_symbol (E ∷ R ∷ L ∷ R ∷ L ∷ S ∷ [])) 6 ≡ record { source = 5; split = 0; right = true } ∷ []
 unfolding ring_decoded events_left
 ring_told = refl
 
@@ -140,19 +140,19 @@ torus : Gluing
 torus = glued_in (25 ∷ 23 ∷ 36 ∷ 28 ∷ 26 ∷ 39 ∷ 31 ∷ 29 ∷ 21 ∷ 34 ∷ 32 ∷ 24 ∷ 37 ∷ 35 ∷ 27 ∷ 40 ∷ 38 ∷ 30 ∷ 22 ∷ 41 ∷ 33 ∷ 8 ∷ 18 ∷ 1 ∷ 11 ∷ 0 ∷ 4 ∷ 14 ∷ 3 ∷ 7 ∷ 17 ∷ 6 ∷ 10 ∷ 20 ∷ 9 ∷ 13 ∷ 2 ∷ 12 ∷ 16 ∷ 5 ∷ 15 ∷ 19 ∷ [])
 
 torus_word : word_of (trace 14 torus) ≡ E ∷ E ∷ L ∷ S ∷ R ∷ L ∷ S ∷ S ∷ R ∷ C ∷ C ∷ C ∷ C ∷ []
-unfolding torus walked run rightmost corners_of walks_left walks_right split_of take_kept
+unfolding torus traced_runs run rightmost corners_of walks_left walks_right split_of_face take_kept
 torus_word = refl
 
 torus_order : order_of (trace 14 torus) ≡ (9, 0) ∷ (6, 2) ∷ (11, 2) ∷ (4, 0) ∷ (12, 2) ∷ (5, 0) ∷ (13, 0) ∷ (1, 1) ∷ (8, 0) ∷ (3, 1) ∷ (10, 1) ∷ (2, 2) ∷ (7, 2) ∷ (0, 1) ∷ []
-unfolding torus walked run rightmost corners_of walks_left walks_right split_of take_kept
+unfolding torus traced_runs run rightmost corners_of walks_left walks_right split_of_face take_kept
 torus_order = refl
 
 torus_events : (trace 14 torus).events ≡ record { source = 12; split = 5; right = true } ∷ record { source = 11; split = 6; right = false } ∷ []
-unfolding torus walked run rightmost corners_of walks_left walks_right split_of take_kept
+unfolding torus traced_runs run rightmost corners_of walks_left walks_right split_of_face take_kept
 torus_events = refl
 
 torus_bits : (trace 14 torus).bits ≡ true ∷ []
-unfolding torus walked run rightmost corners_of walks_left walks_right split_of take_kept
+unfolding torus traced_runs run rightmost corners_of walks_left walks_right split_of_face take_kept
 torus_bits = refl
 
 torus_fans : fan_count 14 torus ≡ 7
@@ -163,7 +163,7 @@ torus_fans = refl
 torus_decoded : Gluing
 torus_decoded = glued_in (11 ∷ 23 ∷ 35 ∷ 7 ∷ 38 ∷ 20 ∷ 10 ∷ 3 ∷ 29 ∷ 14 ∷ 6 ∷ 0 ∷ 16 ∷ 40 ∷ 9 ∷ 19 ∷ 12 ∷ 32 ∷ 22 ∷ 15 ∷ 5 ∷ 26 ∷ 18 ∷ 1 ∷ 28 ∷ 41 ∷ 21 ∷ 31 ∷ 24 ∷ 8 ∷ 34 ∷ 27 ∷ 17 ∷ 37 ∷ 30 ∷ 2 ∷ 39 ∷ 33 ∷ 4 ∷ 36 ∷ 13 ∷ 25 ∷ [])
 
-torus_told : events_left 13 torus_decoded (symbol_at (E ∷ E ∷ L ∷ S ∷ R ∷ L ∷ S ∷ S ∷ R ∷ C ∷ C ∷ C ∷ C ∷ [])) 13 ≡ record { source = 12; split = 5; right = true } ∷ record { source = 11; split = 6; right = false } ∷ []
+torus_told : events_left 13 torus_decoded (word_symbol (E ∷ E ∷ L ∷ S ∷ R ∷ L ∷ S ∷ S ∷ R ∷ C ∷ C ∷ C ∷ C ∷ [])) 13 ≡ record { source = 12; split = 5; right = true } ∷ record { source = 11; split = 6; right = false } ∷ []
 unfolding torus_decoded events_left
 torus_told = refl
 

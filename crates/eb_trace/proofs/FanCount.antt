@@ -97,7 +97,7 @@ module _ (faces : ℕ) (g : Gluing) (G : IsGluing faces g) where
       let e : suc (suc (suc (3 * n))) ≡ 3 * suc n = omega arith in
       subst (λ (m : ℕ). Numbered g m (count_by p (corners_of (suc n)))) e (subst (Numbered g (suc (suc (suc (3 * n))))) (sym (count_more p n)) c)
 
-  -- the fans of a gluing are as many as its count tells
+  -- the fans of a gluing are as many as its count says
   pub fan_count_is : HasFans faces g (fan_count faces g)
   fan_count_is = (
       let t = counted faces (omega arith) in

@@ -19,10 +19,10 @@ use Rattle.eb_rebuild.specs.Rebuilding.{IsEventOf}
 use Rattle.eb_rebuild.proofs.NamedLaw.{runs_agree}
 use Rattle.eb_rebuild.proofs.NamesMade.{made_at_end}
 use Rattle.eb_trace.specs.Front.{made_by, start_bits}
-use Rattle.eb_trace.specs.Rebuilt.{symbol_at, finished}
+use Rattle.eb_trace.specs.Rebuilt.{word_symbol, finished}
 use Rattle.eb_trace.specs.declared.surface.Surface.{Surface}
-use Rattle.eb_trace.specs.Trace.{Entry, Walk, trace, word_of, order_of, fan_count}
-use Rattle.eb_trace.specs.Stored.{IsSurface, gluing_in}
+use Rattle.eb_trace.specs.Trace.{TracedEntry, TraceWalk, trace, word_of, order_of, fan_count}
+use Rattle.eb_trace.specs.Stored.{IsTracedSurface, traced_gluing}
 use Rattle.eb_trace.specs.Events.{IsSplitEvent, AreSplitEvents}
 use Rattle.eb_trace.specs.FromTrace.{CarriesOne, CarriesFans, IsRebuiltFrom, AreStartBits, EndsNamed, NamesVertices}
 use Rattle.eb_trace.specs.Kept.{WalkCarries, WalkIsKept}
@@ -34,10 +34,10 @@ use Rattle.eb_trace.proofs.StartBits.{word_bits}
 use Rattle.eb_trace.proofs.Splits.{walk_notes_splits}
 
 -- the vertices of a surface
-pub vertices_are : (s : Surface) (faces : ℕ) (g : Gluing) → IsSurface s → s.faces ≡ faces → gluing_in s ≡ g → s.vertices ≡ fan_count faces g
+pub vertices_are : (s : Surface) (faces : ℕ) (g : Gluing) → IsTracedSurface s → s.faces ≡ faces → traced_gluing s ≡ g → s.vertices ≡ fan_count faces g
 vertices_are s faces g V e q =
-    V.vertices ∙ labels_are_fans s.faces (gluing_in s) s.labels.items (vec_len s.ends) s.ends.items V.gluing V.labelled
-    ∙ ap (λ (k : ℕ). fan_count k (gluing_in s)) e ∙ ap (λ (x : Gluing). fan_count faces x) q
+    V.vertices ∙ labels_are_fans s.faces (traced_gluing s) s.labels.items (vec_len s.ends) s.ends.items V.gluing V.labelled
+    ∙ ap (λ (k : ℕ). fan_count k (traced_gluing s)) e ∙ ap (λ (x : Gluing). fan_count faces x) q
 
 pub walk_is_kept : WalkIsKept
 walk_is_kept faces g G F created h K made =
@@ -50,7 +50,7 @@ pub rebuilt_from : (faces : ℕ) (g : Gluing) → IsGluing faces g → HasThreeF
     symbols ≡ reverse (word_of (trace faces g)) → events ≡ reverse (trace faces g).events → starts ≡ reverse (trace faces g).bits → order ≡ order_of (trace faces g) → vertices ≡ fan_count faces g →
     IsRebuiltFrom faces g symbols events starts order vertices
 rebuilt_from faces g G F symbols events starts order vertices a b c d e =
-    let w : Walk = trace faces g in
+    let w : TraceWalk = trace faces g in
     let p1 : List Symbol → Type 0 = λ x. IsRebuiltFrom faces g x (reverse (trace faces g).events) (reverse (trace faces g).bits) (order_of (trace faces g)) (fan_count faces g) in
     let p2 : List Event → Type 0 = λ x. IsRebuiltFrom faces g symbols x (reverse (trace faces g).bits) (order_of (trace faces g)) (fan_count faces g) in
     let p3 : List Bool → Type 0 = λ x. IsRebuiltFrom faces g symbols events x (order_of (trace faces g)) (fan_count faces g) in
@@ -97,7 +97,7 @@ pub few_symbols : (faces : ℕ) (g : Gluing) → IsGluing faces g → HasThreeFa
 few_symbols faces g G F symbols a =
     let t = total_is faces g G F in
     let l : length symbols ≡ length (entries_of faces g) =
-    ap (λ (x : List Symbol). length x) a ∙ length-reverse (word_of (trace faces g)) ∙ length-map (entries_of faces g) (λ (e : Entry). e.symbol) in
+    ap (λ (x : List Symbol). length x) a ∙ length-reverse (word_of (trace faces g)) ∙ length-map (entries_of faces g) (λ (e : TracedEntry). e.symbol) in
     omega arith
 
 -- new numbers leave one surface
@@ -131,7 +131,7 @@ carried_given faces g G F order vertices d e =
     subst (λ (k : ℕ). CarriesOne faces g order × CarriesFans faces g order k) (sym e)
     (subst (λ (x : List (ℕ × ℕ)). CarriesOne faces g x × CarriesFans faces g x (fan_count faces g)) (sym d) (walk_carries faces g G F))
 
--- the start bits are those that the surface tells
+-- the start bits are those that the surface determines
 pub bits_given : (faces : ℕ) (g : Gluing) → IsGluing faces g → HasThreeFans faces g → (symbols : List Symbol) (starts : List Bool) (order : List (ℕ × ℕ)) →
     symbols ≡ reverse (word_of (trace faces g)) → starts ≡ reverse (trace faces g).bits → order ≡ order_of (trace faces g) → AreStartBits faces g symbols starts order
 bits_given faces g G F symbols starts order a c d h K =
@@ -144,16 +144,16 @@ named_answer (Ok x) s t h e = (x, refl, subst (λ (k : Result State Fault). Agre
 named_answer (Err f) s t h e = absurd (subst (λ (k : Result State Fault). Agree Shows (Err f) k) e h)
 
 made_given : (faces : ℕ) (g : Gluing) → IsGluing faces g → HasThreeFans faces g → (symbols : List Symbol) (vertices : ℕ) → symbols ≡ reverse (word_of (trace faces g)) → vertices ≡ fan_count faces g →
-    made_by (symbol_at (reverse symbols)) (length (reverse symbols)) ≡ vertices + count_by is_split (reverse symbols)
+    made_by (word_symbol (reverse symbols)) (length (reverse symbols)) ≡ vertices + count_by is_split (reverse symbols)
 made_given faces g G F symbols vertices a e =
     let w : List Symbol = word_of (trace faces g) in
     let back : reverse symbols ≡ w = ap (λ (x : List Symbol). reverse x) a ∙ reverse-reverse (word_of (trace faces g)) in
-    subst (λ (x : List Symbol). made_by (symbol_at x) (length x) ≡ vertices + count_by is_split x) (sym back)
-    (subst (λ (k : ℕ). made_by (symbol_at w) (length w) ≡ k + count_by is_split w) (sym e) (walk_is_counted faces g G F))
+    subst (λ (x : List Symbol). made_by (word_symbol x) (length x) ≡ vertices + count_by is_split x) (sym back)
+    (subst (λ (k : ℕ). made_by (word_symbol w) (length w) ≡ k + count_by is_split w) (sym e) (walk_is_counted faces g G F))
 
 -- names of its vertices
 pub names_given : (faces : ℕ) (g : Gluing) (symbols : List Symbol) (events : List Event) (starts : List Bool) (order : List (ℕ × ℕ)) (vertices : ℕ) →
-    CarriesOne faces g order → IsRebuiltFrom faces g symbols events starts order vertices → made_by (symbol_at (reverse symbols)) (length (reverse symbols)) ≡ vertices + count_by is_split (reverse symbols) →
+    CarriesOne faces g order → IsRebuiltFrom faces g symbols events starts order vertices → made_by (word_symbol (reverse symbols)) (length (reverse symbols)) ≡ vertices + count_by is_split (reverse symbols) →
     NamesVertices faces g symbols events starts order vertices
 names_given faces g symbols events starts order vertices one kept count created enough = go (named_answer (named_rebuild plan word told bits) (rebuild plan word told bits) last (runs_agree plan word told bits) (kept created one.carried one.is_carried enough))
   where
@@ -178,7 +178,7 @@ names_given faces g symbols events starts order vertices one kept count created 
       no_fault = e;
       shows = λ h K. subst (λ (k : Gluing). Shows x (finished faces k word)) (sym (one.only h K)) V;
       names = (
-          let made : x.made ≡ made_by (symbol_at word) (length word) = ap (λ (t : State). t.made) V.state in
+          let made : x.made ≡ made_by (word_symbol word) (length word) = ap (λ (t : State). t.made) V.state in
           let names = made_at_end plan word told bits x e in
           omega (arith, count));
     }

@@ -12,8 +12,8 @@ use Rattle.eb_trace.specs.declared.surface.Surface.{Surface}
 use Rattle.eb_trace.specs.declared.marks.Marks.{Marks}
 use Rattle.eb_trace.specs.declared.notes.Notes.{Notes}
 use Rattle.eb_rebuild.specs.Shown.{is_split}
-use Rattle.eb_trace.specs.Trace.{Entry, is_visited, split_of, entered, nothing_walked}
-use Rattle.eb_trace.specs.Stored.{IsSurface, walk_of, entry_of, AreSized, split_told, split_entry, AreMarked, AreMarksOf, met_after, IsStored}
+use Rattle.eb_trace.specs.Trace.{TracedEntry, is_face_visited, split_of_face, entered_by, nothing_walked}
+use Rattle.eb_trace.specs.Stored.{IsTracedSurface, noted_walk, entry_of, AreSized, split_told, split_entry, AreMarkedBy, AreMarksOf, met_after, IsTraceStored}
 use Rattle.eb_trace.proofs.Covered.{IsVisiting, not_yet}
 use Rattle.eb_trace.proofs.Visited.{entered_visits, inside_visits}
 
@@ -39,7 +39,7 @@ label_is labels f p n e = ap (λ (k : ℕ). get_or labels k free_entry) (sym e)
 
 -- one face more is marked
 pub marked_more : {faces : ℕ} {g : Gluing} {labels : List ℕ} {count : ℕ} {ends : List Bool} → IsLabelled faces g labels count ends → {visited met : List Bool} {P Q : ℕ → Bool} (f : ℕ) → f < faces → IsVisiting P f Q →
-    length visited ≡ faces → length met ≡ count → AreMarked faces labels visited met P → AreMarked faces labels (set visited f true) (met_after labels f met) Q
+    length visited ≡ faces → length met ≡ count → AreMarkedBy faces labels visited met P → AreMarkedBy faces labels (set visited f true) (met_after labels f met) Q
 marked_more {faces} {g} {labels} {count} {ends} K {visited} {met} {P} {Q} f h N long room M = record { visited_is = visited_is; met_has = met_has; met_tells = met_tells }
   where
     visited_is : (k : ℕ) → k < faces → get_or (set visited f true) k false ≡ Q k
@@ -121,17 +121,17 @@ told_is k L h = refl
 told_is k R h = refl
 told_is k E h = refl
 
-split_here : (e : Entry) (entries : List Entry) (f : ℕ) → f ≡ e.corner.face → split_of (e ∷ entries) f ≡ cond (is_split e.symbol) (Some (length entries)) None
-unfolding split_of
+split_here : (e : TracedEntry) (entries : List TracedEntry) (f : ℕ) → f ≡ e.corner.face → split_of_face (e ∷ entries) f ≡ cond (is_split e.symbol) (Some (length entries)) None
+unfolding split_of_face
 split_here e entries f is = cond-true (e.corner.face == f) _ _ (eq-eqb e.corner.face f (sym is))
 
-split_there : (e : Entry) (entries : List Entry) (f : ℕ) → f ≢ e.corner.face → split_of (e ∷ entries) f ≡ split_of entries f
-unfolding split_of
+split_there : (e : TracedEntry) (entries : List TracedEntry) (f : ℕ) → f ≢ e.corner.face → split_of_face (e ∷ entries) f ≡ split_of_face entries f
+unfolding split_of_face
 split_there e entries f ne = cond-false (e.corner.face == f) _ _ (ne_eqb e.corner.face f (λ is. ne (sym is)))
 
-pub splits_more : (splits : List ℕ) (entries : List Entry) (e : Entry) (faces f : ℕ) → length splits ≡ faces → e.corner.face < faces → length entries < free_entry →
-    ((x : ℕ) → x < faces → split_told (get_or splits x free_entry) ≡ split_of entries x) → f < faces →
-    split_told (get_or (set splits e.corner.face (split_entry (length entries) e.symbol)) f free_entry) ≡ split_of (e ∷ entries) f
+pub splits_more : (splits : List ℕ) (entries : List TracedEntry) (e : TracedEntry) (faces f : ℕ) → length splits ≡ faces → e.corner.face < faces → length entries < free_entry →
+    ((x : ℕ) → x < faces → split_told (get_or splits x free_entry) ≡ split_of_face entries x) → f < faces →
+    split_told (get_or (set splits e.corner.face (split_entry (length entries) e.symbol)) f free_entry) ≡ split_of_face (e ∷ entries) f
 splits_more splits entries e faces f long within few told h = elim (cases_eq f e.corner.face) [
   | inl is ↦ ap split_told (ap (λ (j : ℕ). get_or (set splits e.corner.face (split_entry (length entries) e.symbol)) j free_entry) is ∙ get_or-set_same splits e.corner.face _ free_entry (omega arith))
       ∙ told_is (length entries) e.symbol few ∙ sym (split_here e entries f is)
@@ -139,27 +139,27 @@ splits_more splits entries e faces f long within few told h = elim (cases_eq f e
 ]
 
 -- how many entries there are
-pub entries_length : (n : Notes) → length (walk_of n).entries ≡ vec_len n.entries
+pub entries_length : (n : Notes) → length (noted_walk n).entries ≡ vec_len n.entries
 entries_length n = length-map (reverse n.entries.items) entry_of ∙ length-reverse n.entries.items ∙ sym n.entries.ok.0
 
 -- a face that is entered
-pub stored_entered : {s : Surface} {m : Marks} {n : Notes} (mm : Marks) (nn : Notes) (corner : ℕ) (symbol : Symbol) → IsSurface s → IsStored s m n → corner < 3 * s.faces → vec_len n.entries < s.faces →
+pub stored_entered : {s : Surface} {m : Marks} {n : Notes} (mm : Marks) (nn : Notes) (corner : ℕ) (symbol : Symbol) → IsTracedSurface s → IsTraceStored s m n → corner < 3 * s.faces → vec_len n.entries < s.faces →
     mm.visited.items ≡ set m.visited.items (corner / 3) true → mm.met.items ≡ met_after s.labels.items (corner / 3) m.met.items → mm.splits.items ≡ set m.splits.items (corner / 3) (split_entry (vec_len n.entries) symbol) → AreSized s mm →
-    nn.kept.items ≡ n.kept.items → walk_of nn ≡ entered (walk_of n) (side_at corner) symbol → IsStored s mm nn
+    nn.kept.items ≡ n.kept.items → noted_walk nn ≡ entered_by (noted_walk n) (side_at corner) symbol → IsTraceStored s mm nn
 stored_entered {s} {m} {n} mm nn corner symbol V T within few visited met splits sized kept walk = record {
   sized = sized;
   within = (let P : List ℕ → Type 0 = λ xs. All (λ (k : ℕ). k < 3 * s.faces) xs in subst P (sym kept) T.within);
   marks = subst (AreMarksOf s mm) (sym walk) (record {
     marked = (
-        let M = marked_more V.labelled (corner / 3) face (entered_visits (walk_of n) (side_at corner) symbol) (sym m.visited.ok.0 ∙ T.sized.faces) (sym m.met.ok.0 ∙ T.sized.vertices) T.marks.marked in
-        let A : List Bool → Type 0 = λ v. AreMarked s.faces s.labels.items v (met_after s.labels.items (corner / 3) m.met.items) (is_visited (entered (walk_of n) (side_at corner) symbol)) in
-        let B : List Bool → Type 0 = λ v. AreMarked s.faces s.labels.items mm.visited.items v (is_visited (entered (walk_of n) (side_at corner) symbol)) in
+        let M = marked_more V.labelled (corner / 3) face (entered_visits (noted_walk n) (side_at corner) symbol) (sym m.visited.ok.0 ∙ T.sized.faces) (sym m.met.ok.0 ∙ T.sized.vertices) T.marks.marked in
+        let A : List Bool → Type 0 = λ v. AreMarkedBy s.faces s.labels.items v (met_after s.labels.items (corner / 3) m.met.items) (is_face_visited (entered_by (noted_walk n) (side_at corner) symbol)) in
+        let B : List Bool → Type 0 = λ v. AreMarkedBy s.faces s.labels.items mm.visited.items v (is_face_visited (entered_by (noted_walk n) (side_at corner) symbol)) in
         subst B (sym met) (subst A (sym visited) M)
         );
     splits = λ f h.
-        (let few2 : length (walk_of n).entries < 4294967295 = (let e = entries_length n in let l = V.limit in omega arith) in
+        (let few2 : length (noted_walk n).entries < 4294967295 = (let e = entries_length n in let l = V.limit in omega arith) in
         ap (λ (xs : List ℕ). split_told (get_or xs f free_entry)) (splits ∙ ap (λ (k : ℕ). set m.splits.items (corner / 3) (split_entry k symbol)) (sym (entries_length n)))
-        ∙ splits_more m.splits.items (walk_of n).entries (record { corner = side_at corner; symbol = symbol }) s.faces f (sym m.splits.ok.0 ∙ T.sized.splits) face few2 T.marks.splits h);
+        ∙ splits_more m.splits.items (noted_walk n).entries (record { corner = side_at corner; symbol = symbol }) s.faces f (sym m.splits.ok.0 ∙ T.sized.splits) face few2 T.marks.splits h);
   });
 }
   where
@@ -167,18 +167,18 @@ stored_entered {s} {m} {n} mm nn corner symbol V T within few visited met splits
     face = omega arith
 
 -- an interior start face
-pub stored_inside : {s : Surface} {m : Marks} {n : Notes} (mm : Marks) (nn : Notes) (face : ℕ) (bits : List Bool) → IsSurface s → IsStored s m n → face < s.faces →
+pub stored_inside : {s : Surface} {m : Marks} {n : Notes} (mm : Marks) (nn : Notes) (face : ℕ) (bits : List Bool) → IsTracedSurface s → IsTraceStored s m n → face < s.faces →
     mm.visited.items ≡ set m.visited.items face true → mm.met.items ≡ met_after s.labels.items face m.met.items → mm.splits ≡ m.splits → AreSized s mm →
-    nn.kept.items ≡ n.kept.items → walk_of nn ≡ record (walk_of n) { interior = face ∷ (walk_of n).interior; bits = bits } → IsStored s mm nn
+    nn.kept.items ≡ n.kept.items → noted_walk nn ≡ record (noted_walk n) { interior = face ∷ (noted_walk n).interior; bits = bits } → IsTraceStored s mm nn
 stored_inside {s} {m} {n} mm nn face bits V T within visited met splits sized kept walk = record {
   sized = sized;
   within = (let P : List ℕ → Type 0 = λ xs. All (λ (k : ℕ). k < 3 * s.faces) xs in subst P (sym kept) T.within);
   marks = subst (AreMarksOf s mm) (sym walk) (record {
     marked = (
-        let Q : ℕ → Bool = is_visited (record (walk_of n) { interior = face ∷ (walk_of n).interior; bits = bits }) in
-        let M = marked_more V.labelled face within (inside_visits (walk_of n) face bits) (sym m.visited.ok.0 ∙ T.sized.faces) (sym m.met.ok.0 ∙ T.sized.vertices) T.marks.marked in
-        let A : List Bool → Type 0 = λ v. AreMarked s.faces s.labels.items v (met_after s.labels.items face m.met.items) Q in
-        let B : List Bool → Type 0 = λ v. AreMarked s.faces s.labels.items mm.visited.items v Q in
+        let Q : ℕ → Bool = is_face_visited (record (noted_walk n) { interior = face ∷ (noted_walk n).interior; bits = bits }) in
+        let M = marked_more V.labelled face within (inside_visits (noted_walk n) face bits) (sym m.visited.ok.0 ∙ T.sized.faces) (sym m.met.ok.0 ∙ T.sized.vertices) T.marks.marked in
+        let A : List Bool → Type 0 = λ v. AreMarkedBy s.faces s.labels.items v (met_after s.labels.items face m.met.items) Q in
+        let B : List Bool → Type 0 = λ v. AreMarkedBy s.faces s.labels.items mm.visited.items v Q in
         subst B (sym met) (subst A (sym visited) M)
         );
     splits = λ f h. ap (λ (v : _). split_told (get_or v.items f free_entry)) splits ∙ T.marks.splits f h;
@@ -186,8 +186,8 @@ stored_inside {s} {m} {n} mm nn face bits V T within visited met splits sized ke
 }
 
 -- before the first run
-no_split : (f : ℕ) → split_of [] f ≡ None
-unfolding split_of
+no_split : (f : ℕ) → split_of_face [] f ≡ None
+unfolding split_of_face
 no_split f = refl
 
 none_true : (n k : ℕ) → get_or (replicate n false) k false ≡ true → ⊥
@@ -197,7 +197,7 @@ none_true n k t = elim (cases_lt k n) [
 ]
 
 pub stored_nothing : (s : Surface) (m : Marks) (n : Notes) → m.visited.items ≡ replicate s.faces false → m.met.items ≡ replicate (vec_len s.ends) false → m.splits.items ≡ replicate s.faces free_entry →
-    walk_of n ≡ nothing_walked → n.kept.items ≡ [] → IsStored s m n
+    noted_walk n ≡ nothing_walked → n.kept.items ≡ [] → IsTraceStored s m n
 stored_nothing s m n visited met splits walk kept = record {
   sized = record {
     faces = m.visited.ok.0 ∙ ap length visited ∙ length-replicate s.faces false;

@@ -162,7 +162,7 @@ add_new R D k f S N c new = record { bounded = bounded; used = used; one = one; 
       ]
     ]
 
--- the same corners, told otherwise
+-- the same corners, stated otherwise
 pub of_equal : (R : Side → Side → Type 0) (D E : Side → Type 0) (k : ℕ) (f : Side → ℕ) → IsNaming R D k f → ((c : Side) → D c → E c) → ((c : Side) → E c → D c) → IsNaming R E k f
 of_equal R D E k f N there back = record {
   bounded = λ c e. N.bounded c (back c e);

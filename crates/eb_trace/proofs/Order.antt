@@ -7,13 +7,13 @@ use Rattle.corner_table.specs.Sides.{Side, Place, first, second, third, side, ne
 use Rattle.corner_table.specs.Fans.{HasThreeFans}
 use Rattle.corner_table.specs.Carried.{carry, turned, IsRenumbering}
 use Rattle.corner_table.proofs.Numbers.{no_room}
-use Rattle.eb_trace.specs.Trace.{Entry, trace, order_of}
+use Rattle.eb_trace.specs.Trace.{TracedEntry, trace, order_of}
 use Rattle.eb_trace.proofs.Visited.{is_inside, entry_at, no_entry, at_top, at_rest, visited_tells}
 use Rattle.eb_trace.proofs.Moments.{true_not_false}
 use Rattle.eb_trace.proofs.Walking.{Insides, InsideRing}
 use Rattle.eb_trace.proofs.Walked.{entries_of, insides_of, trace_ok}
 
-pub entry_of : (entries : List Entry) (i k : ℕ) → suc (i + k) ≡ length entries → get_or entries i no_entry ≡ entry_at entries k
+pub entry_of : (entries : List TracedEntry) (i k : ℕ) → suc (i + k) ≡ length entries → get_or entries i no_entry ≡ entry_at entries k
 entry_of [] i k e = absurd (let q : suc (i + k) ≡ 0 = e in omega arith)
 entry_of (x ∷ entries) zero k e =
     let q : suc (0 + k) ≡ suc (length entries) = e in
@@ -22,7 +22,7 @@ entry_of (x ∷ entries) (suc i) k e =
     let q : suc (suc i + k) ≡ suc (length entries) = e in
     entry_of entries i k (omega arith) ∙ sym (at_rest x entries k (λ m. (omega arith)))
 
-abbrev row_of : Entry → ℕ × ℕ
+abbrev row_of : TracedEntry → ℕ × ℕ
 row_of e = (e.corner.face, place_number e.corner.place)
 
 abbrev inner_row : ℕ → ℕ × ℕ

@@ -7,7 +7,7 @@ use Rattle.corner_table.specs.Sides.{Side, Place, first, second, third, side, Gl
 use Rattle.corner_table.proofs.Places.{option_tells, Some_injective}
 use Rattle.eb_rebuild.specs.Shown.{is_split}
 use Rattle.eb_trace.specs.Readable.{IsReadable, IsSplit, Says}
-use Rattle.eb_trace.specs.Front.{is_entry, waiting, reserved_for, split_met}
+use Rattle.eb_trace.specs.Front.{is_entry, waiting_side, reserved_for, split_met}
 
 pub three_first : (a b c : Bool) → a ≡ false → (a && b && c) ≡ false
 three_first true b c e = absurd (cc)
@@ -43,8 +43,8 @@ three_parts true false c e = absurd (let no : false ≡ true = sym (three_second
 three_parts true true false e = absurd (let no : false ≡ true = e in cc)
 
 -- what waits across a side
-pub waiting_later : (m : ℕ) (o : Option Side) (x : Side) → o ≡ Some x → m ≤ x.face → waiting m o ≡ None
-waiting_later m o x e h = ap (waiting m) e ∙ cond-false (nat_lt x.face m) _ _ (le-ltb x.face m h)
+pub waiting_later : (m : ℕ) (o : Option Side) (x : Side) → o ≡ Some x → m ≤ x.face → waiting_side m o ≡ None
+waiting_later m o x e h = ap (waiting_side m) e ∙ cond-false (nat_lt x.face m) _ _ (le-ltb x.face m h)
 
 entry_first : (k : Place) → k ≡ first → is_entry k ≡ true
 entry_first k e = ap is_entry e
@@ -58,15 +58,15 @@ either_none : (t : Bool) → cond t (let o : Option Side = None in o) None ≡ N
 either_none true = refl
 either_none false = refl
 
-pub waiting_entry : (m : ℕ) (o : Option Side) (x : Side) → o ≡ Some x → x.place ≡ first → waiting m o ≡ None
+pub waiting_entry : (m : ℕ) (o : Option Side) (x : Side) → o ≡ Some x → x.place ≡ first → waiting_side m o ≡ None
 waiting_entry m o x e h =
-    ap (waiting m) e ∙ ap (λ (t : Bool). cond (nat_lt x.face m) (cond t None (Some x)) None) (entry_first x.place h) ∙ either_none (nat_lt x.face m)
+    ap (waiting_side m) e ∙ ap (λ (t : Bool). cond (nat_lt x.face m) (cond t None (Some x)) None) (entry_first x.place h) ∙ either_none (nat_lt x.face m)
 
-pub waiting_here : (m : ℕ) (o : Option Side) (x : Side) → o ≡ Some x → x.face < m → x.place ≢ first → waiting m o ≡ Some x
-waiting_here m o x e h n = ap (waiting m) e ∙ cond-true (nat_lt x.face m) _ _ (lt-ltb x.face m h) ∙ cond-false (is_entry x.place) _ _ (entry_not x.place n)
+pub waiting_here : (m : ℕ) (o : Option Side) (x : Side) → o ≡ Some x → x.face < m → x.place ≢ first → waiting_side m o ≡ Some x
+waiting_here m o x e h n = ap (waiting_side m) e ∙ cond-true (nat_lt x.face m) _ _ (lt-ltb x.face m h) ∙ cond-false (is_entry x.place) _ _ (entry_not x.place n)
 
-waiting_same : (m : ℕ) (o : Option Side) (x : Side) → o ≡ Some x → x.face ≢ m → waiting (suc m) o ≡ waiting m o
-waiting_same m o x e n = ap (waiting (suc m)) e ∙ ap (λ (t : Bool). cond t (cond (is_entry x.place) None (Some x)) None) tests ∙ sym (ap (waiting m) e)
+waiting_same : (m : ℕ) (o : Option Side) (x : Side) → o ≡ Some x → x.face ≢ m → waiting_side (suc m) o ≡ waiting_side m o
+waiting_same m o x e n = ap (waiting_side (suc m)) e ∙ ap (λ (t : Bool). cond t (cond (is_entry x.place) None (Some x)) None) tests ∙ sym (ap (waiting_side m) e)
   where
     tests : nat_lt x.face (suc m) ≡ nat_lt x.face m
     tests = elim (cases_lt x.face m) [
@@ -75,9 +75,9 @@ waiting_same m o x e n = ap (waiting (suc m)) e ∙ ap (λ (t : Bool). cond t (c
     ]
 
 -- one more face lets a side wait only where the side is of that face
-pub waiting_more : (m : ℕ) (o : Option Side) → ((x : Side) → o ≡ Some x → x.face ≡ m → x.place ≡ first) → waiting (suc m) o ≡ waiting m o
+pub waiting_more : (m : ℕ) (o : Option Side) → ((x : Side) → o ≡ Some x → x.face ≡ m → x.place ≡ first) → waiting_side (suc m) o ≡ waiting_side m o
 waiting_more m o only = elim (option_tells o) [
-  | inl n ↦ ap (waiting (suc m)) n ∙ sym (ap (waiting m) n)
+  | inl n ↦ ap (waiting_side (suc m)) n ∙ sym (ap (waiting_side m) n)
   | inr x ↦ elim (cases_eq x.0.face m) [
     | inl e ↦ (let f = only x.0 x.1 e in waiting_entry (suc m) o x.0 x.1 f ∙ sym (waiting_entry m o x.0 x.1 f))
     | inr n ↦ waiting_same m o x.0 x.1 n
@@ -93,7 +93,7 @@ reserved_late n g word m k h = cond-false _ _ _ (three_second (nat_le m k) (nat_
 pub reserved_unsplit : (n : ℕ) (g : Gluing) (word : ℕ → Symbol) (m k : ℕ) → is_split (word k) ≡ false → reserved_for n g word m k ≡ None
 reserved_unsplit n g word m k h = cond-false _ _ _ (three_third (nat_le m k) (nat_lt k n) (is_split (word k)) h)
 
-pub reserved_is : (n : ℕ) (g : Gluing) (word : ℕ → Symbol) (m k : ℕ) → m ≤ k → k < n → is_split (word k) ≡ true → reserved_for n g word m k ≡ waiting m (g (side k third))
+pub reserved_is : (n : ℕ) (g : Gluing) (word : ℕ → Symbol) (m k : ℕ) → m ≤ k → k < n → is_split (word k) ≡ true → reserved_for n g word m k ≡ waiting_side m (g (side k third))
 reserved_is n g word m k h l s = cond-true _ _ _ (three_all (nat_le m k) (nat_lt k n) (is_split (word k)) (le-leb m k h) (lt-ltb k n l) s)
 
 -- for all numbers but m's own, what is kept stays where face m brings nothing that waits
@@ -172,7 +172,7 @@ reserved_none_yet n g word k = elim (cases_lt k n) [
   | inl l ↦ elim (cases_Bool (is_split (word k))) [
     | inr s ↦ reserved_unsplit n g word 0 k s
     | inl s ↦ reserved_is n g word 0 k (omega arith) l s ∙ elim (option_tells (g (side k third))) [
-      | inl o ↦ ap (waiting 0) o
+      | inl o ↦ ap (waiting_side 0) o
       | inr x ↦ waiting_later 0 (g (side k third)) x.0 x.1 (omega arith)
     ]
   ]

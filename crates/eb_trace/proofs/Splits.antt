@@ -11,9 +11,9 @@ use Rattle.corner_table.specs.Carried.{IsCarried}
 use Rattle.corner_table.proofs.Places.{Some_injective}
 use Rattle.corner_table.proofs.Prefixing.{gap}
 use Rattle.eb_rebuild.specs.Machine.{event_place}
-use Rattle.eb_trace.specs.Front.{split_met, event_told, events_at, events_left}
+use Rattle.eb_trace.specs.Front.{split_met, event_told, events_of_face, events_left}
 use Rattle.eb_trace.specs.Readable.{IsReadable, Says}
-use Rattle.eb_trace.specs.Rebuilt.{symbol_at}
+use Rattle.eb_trace.specs.Rebuilt.{word_symbol}
 use Rattle.eb_trace.specs.Trace.{trace, word_of, order_of}
 use Rattle.eb_trace.specs.Events.{may_meet, IsSplitEvent, ComesBefore, AreSplitEvents, WalkNotesSplits}
 use Rattle.eb_trace.proofs.Reserved.{split_is, met_third}
@@ -122,14 +122,14 @@ module _ {faces : ℕ} {g : Gluing} {n : ℕ} {word : ℕ → Symbol} (T : IsRea
   Told d events = All (IsTold d) events × AllPairs (λ (x y : Event). ComesBefore y x) events
 
   -- the events of one face come after those of the faces decoded after it
-  told_face : (d i : ℕ) → suc (i + d) ≡ n → (events : List Event) → Told d events → Told (suc d) (events_at n g word i false ++ (events_at n g word i true ++ events))
+  told_face : (d i : ℕ) → suc (i + d) ≡ n → (events : List Event) → Told d events → Told (suc d) (events_of_face n g word i false ++ (events_of_face n g word i true ++ events))
   told_face d i number events t =
       let old = All-weaker (IsTold d) (IsTold (suc d)) (told_later d) events t.0 in
       let less : (e : Event) → e.source ≡ n - suc i → All (λ (y : Event). y.source < e.source) events =
       (λ e q. All-weaker (IsTold d) (λ (y : Event). y.source < e.source) (λ y u. (let s = told_source d y u in omega arith)) events t.0) in
       let rights = with_told d i true (split_met n word i (g (side i second))) number refl events old t.1
       (λ e q r. All-weaker (λ (y : Event). y.source < e.source) (λ (y : Event). ComesBefore y e) (λ y u. inl u) events (less e q)) in
-      with_told d i false (split_met n word i (g (side i third))) number refl (events_at n g word i true ++ events) rights.0 rights.1
+      with_told d i false (split_met n word i (g (side i third))) number refl (events_of_face n g word i true ++ events) rights.0 rights.1
       (λ e q r. told_all (λ (y : Event). ComesBefore y e) i true (split_met n word i (g (side i second))) events (λ y s u. inr (s ∙ sym q, u, r))
       (All-weaker (λ (y : Event). y.source < e.source) (λ (y : Event). ComesBefore y e) (λ y u. inl u) events (less e q)))
 
@@ -156,9 +156,9 @@ module _ {faces : ℕ} {g : Gluing} {n : ℕ} {word : ℕ → Symbol} (T : IsRea
       ]
 
 -- in the order of the walk
-split_events : {faces : ℕ} {g : Gluing} (word : List Symbol) → IsReadable faces g (length word) (symbol_at word) → AreSplitEvents (reverse word) (reverse (events_left (length word) g (symbol_at word) (length word)))
+split_events : {faces : ℕ} {g : Gluing} (word : List Symbol) → IsReadable faces g (length word) (word_symbol word) → AreSplitEvents (reverse word) (reverse (events_left (length word) g (word_symbol word) (length word)))
 split_events {faces} {g} word T =
-    let events = events_left (length word) g (symbol_at word) (length word) in
+    let events = events_left (length word) g (word_symbol word) (length word) in
     let t = told_left T (length word) (omega arith) in
     record {
       fit = All-reverse (IsSplitEvent (reverse word)) events (All-weaker (IsTold T (length word)) (IsSplitEvent (reverse word)) fits events t.0);
@@ -167,8 +167,8 @@ split_events {faces} {g} word T =
           (λ i j d l m. differ T (get_or events i d) (get_or events j d) (t.0 i d (omega arith)) (t.0 j d m) (t.1 i j d l m));
     }
   where
-    turned : (k i : ℕ) → k ≡ length word - suc i → i < length word → symbol_at (reverse word) k ≡ symbol_at word i
-    turned k i e l = get_or-reverse word k E (omega arith) ∙ ap (symbol_at word) (let q : length word - 1 - k ≡ i = omega arith in q)
+    turned : (k i : ℕ) → k ≡ length word - suc i → i < length word → word_symbol (reverse word) k ≡ word_symbol word i
+    turned k i e l = get_or-reverse word k E (omega arith) ∙ ap (word_symbol word) (let q : length word - 1 - k ≡ i = omega arith in q)
 
     fits : (e : Event) → IsTold T (length word) e → IsSplitEvent (reverse word) e
     fits e a =

@@ -1,4 +1,5 @@
--- The start bits of the walk are those that the decoded table tells, and the whole: reverse decoding of what the walk notes keeps the surface.
+-- The start bits of the walk are those that the decoded table determines, and the whole: reverse decoding of what the walk notes keeps the
+-- surface.
 use Rattle.std.proofs.Common.{◌≡◌, ℕ, zero, suc, ◌+◌, ◌-◌, ◌<◌, ◌≤◌, Bool, true, false, cond, is_some, List, [], ◌∷◌, ◌++◌, map, reverse, length, Option, Some, None, inl, inr, sym, refl, ap, ◌∙◌, subst, arith, append_assoc, append-nil}
 use Rattle.std.proofs.lemmas.List.{reverse-append, length-map}
 use Rattle.corner_table.specs.Sides.{Side, first, side, Gluing, IsGluing}
@@ -9,8 +10,8 @@ use Rattle.corner_table.proofs.Places.{option_tells}
 use Rattle.corner_table.proofs.Prefixing.{tells-prefix, prefix-free, prefix_none}
 use Rattle.eb_trace.specs.Readable.{IsReadable}
 use Rattle.eb_trace.specs.Front.{free_firsts, events_left, start_bits}
-use Rattle.eb_trace.specs.Rebuilt.{symbol_at}
-use Rattle.eb_trace.specs.Trace.{Entry, trace, order_of, word_of}
+use Rattle.eb_trace.specs.Rebuilt.{word_symbol}
+use Rattle.eb_trace.specs.Trace.{TracedEntry, trace, order_of, word_of}
 use Rattle.eb_trace.specs.Kept.{WalkOrders, WalkIsReadable}
 use Rattle.eb_trace.proofs.Waiting.{firsts_none, firsts_free, firsts_glued}
 use Rattle.eb_trace.proofs.Visited.{is_inside}
@@ -113,13 +114,13 @@ module _ (faces : ℕ) (g : Gluing) (G : IsGluing faces g) (F : HasThreeFans fac
       ∙ sym (waits n (omega arith))
 
   word_length : length (word_of (trace faces g)) ≡ n
-  word_length = length-map (entries_of faces g) (λ (e : Entry). e.symbol)
+  word_length = length-map (entries_of faces g) (λ (e : TracedEntry). e.symbol)
 
-  pub word_readable : IsReadable faces h (length (word_of (trace faces g))) (symbol_at (word_of (trace faces g)))
-  word_readable = subst (λ (k : ℕ). IsReadable faces h k (symbol_at (word_of (trace faces g)))) (sym word_length) (readable faces g G F h K)
+  pub word_readable : IsReadable faces h (length (word_of (trace faces g))) (word_symbol (word_of (trace faces g)))
+  word_readable = subst (λ (k : ℕ). IsReadable faces h k (word_symbol (word_of (trace faces g)))) (sym word_length) (readable faces g G F h K)
 
-  pub word_events : (trace faces g).events ≡ events_left (length (word_of (trace faces g))) h (symbol_at (word_of (trace faces g))) (length (word_of (trace faces g)))
-  word_events = events_told faces g G F h K ∙ ap (λ (k : ℕ). events_left k h (symbol_at (word_of (trace faces g))) k) (sym word_length)
+  pub word_events : (trace faces g).events ≡ events_left (length (word_of (trace faces g))) h (word_symbol (word_of (trace faces g))) (length (word_of (trace faces g)))
+  word_events = events_told faces g G F h K ∙ ap (λ (k : ℕ). events_left k h (word_symbol (word_of (trace faces g))) k) (sym word_length)
 
   pub word_bits : reverse (trace faces g).bits ≡ start_bits (length (word_of (trace faces g))) h
   word_bits = bits_told ∙ ap (λ (k : ℕ). start_bits k h) (sym word_length)

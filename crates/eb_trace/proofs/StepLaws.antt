@@ -15,7 +15,7 @@ use Rattle.eb_rebuild.specs.Machine.{State, step, top, pushed, release}
 use Rattle.eb_rebuild.specs.Shown.{is_split}
 use Rattle.eb_rebuild.proofs.Steps.{Next, same_state, top_free, end_steps, right_steps, left_steps, tip_steps, split_steps}
 use Rattle.eb_trace.specs.Readable.{IsReadable, Says, IsPast, GoesOn, IsNewTip, IsSplit}
-use Rattle.eb_trace.specs.Front.{free_firsts, waiting, reserved_for, events_left, made_by, vertices_made, front}
+use Rattle.eb_trace.specs.Front.{free_firsts, waiting_side, reserved_for, events_left, made_by, vertices_made, front}
 use Rattle.eb_trace.proofs.Below.{by_place, unchanged_but, adds_none, adds_one, adds_two}
 use Rattle.eb_trace.proofs.Waiting.{firsts_free, firsts_glued, firsts_alike, firsts_skip, firsts_last, firsts_unlast, past_free}
 use Rattle.eb_trace.proofs.Reserved.{reserved_early, reserved_unsplit, reserved_is, reserved_stays, waiting_here, waiting_entry}
@@ -192,7 +192,7 @@ module _ (faces : ℕ) (g : Gluing) (n : ℕ) (word : ℕ → Symbol) (T : IsRea
         | inr i ↦ cond-false (k == m) _ _ (ne_eqb k m i) ∙ sym (both_kept m t.right t.across t.left t.below k i)
       ])
 
-      waits : reserved_for n g word m m ≡ waiting m (g (side m third))
+      waits : reserved_for n g word m m ≡ waiting_side m (g (side m third))
       waits = reserved_is n g word m m (omega arith) h (ap is_split e)
 
       from : (left : List Side) → top m (prefix m g) (pushed (reserved_for n g word m m) (free_firsts (prefix m g) t.right.before)) ≡ Ok (t.across, left) →

@@ -1,9 +1,10 @@
--- Surfaces by lists: what is found across, which vertices are new, and which corners tell a start.
+-- Surfaces by lists: what is found across, which vertices are new, and which corners give a start.
 use Rattle.std.proofs.Common.{◌≡◌, ◌||◌, ◌≢◌, ℕ, zero, suc, ◌+◌, ◌*◌, ◌<◌, ◌≤◌, Bool, true, false, not, eqb, is_none, List, [], ◌∷◌, ◌++◌, length, get_or, Option, Some, None, option_map, inl, inr, sym, refl, ap, ◌∙◌, arith, eqb-true, vec_len}
 use Rattle.std.proofs.lemmas.Bool.{cases_Bool, cases_eq, cases_lt, cond-true, cond-false, false_from_ne_true}
 use Rattle.std.proofs.lemmas.List.{get_or_past, get_or_append_left}
 use Rattle.std.proofs.Math.Seq.{get_or-append_seam}
 use Rattle.std.specs.Option.{MatchOption, IfSome}
+use Rattle.drc_base.specs.declared.limits.TheConstants.{MAX_FACES}
 use Rattle.drc_base.specs.declared.sides.Side.{Side as NumberedSide}
 use Rattle.corner_table.specs.Sides.{Side, Place, first, second, third, side, next, prev, place_number, number, side_at, Gluing, IsGluing}
 use Rattle.corner_table.specs.Fans.{InFan, MeetsBoundary, rightmost, swing_right}
@@ -14,14 +15,14 @@ use Rattle.corner_table.proofs.Places.{option_tells}
 use Rattle.corner_table.proofs.Gluings.{new_free}
 use Rattle.corner_table.proofs.Walks.{right_by-fan}
 use Rattle.corner_table.proofs.Boundary.{rightmost_tells}
-use Rattle.eb_trace.specs.Trace.{Walk, is_visited, is_new_vertex, start_by, start_corner, or_else}
-use Rattle.eb_trace.specs.Stored.{AreMarked, IsSurface}
+use Rattle.eb_trace.specs.Trace.{TraceWalk, is_face_visited, is_new_vertex, start_by, start_corner, or_else}
+use Rattle.eb_trace.specs.Stored.{AreMarkedBy, IsTracedSurface}
 use Rattle.eb_trace.specs.declared.surface.Surface.{Surface}
 use Rattle.eb_trace.proofs.Rings.{ring_of, ring_has, long_walk}
 use Rattle.eb_trace.proofs.Visited.{new_tells, old_tells, fan_within}
 use Rattle.eb_trace.proofs.Moments.{true_not_false}
 
--- an entry that isn't free tells a side
+-- an entry that isn't free gives a side
 pub other_some : (v : ℕ) → v ≢ free_entry → other_at v ≡ Some (side_at v)
 other_some v h = cond-false (eqb v free_entry) None (Some (side_at v)) (false_from_ne_true (eqb v free_entry) (λ t. h (eqb-true v free_entry t)))
 
@@ -30,22 +31,22 @@ place_less first = omega arith
 place_less second = omega arith
 place_less third = omega arith
 
-pub number_told : (x : Side) → x.face < 4194304 → other_at (number x) ≡ Some x
+pub number_told : (x : Side) → x.face < MAX_FACES → other_at (number x) ≡ Some x
 number_told x h = other_some (number x) (let p = place_less x.place in λ e. (let q : 3 * x.face + place_number x.place ≡ 4294967295 = e in absurd (omega arith))) ∙ ap {A = Side} Some (side_at-number x)
 
 -- what is found across is a side of the surface
 pub found_within : {faces : ℕ} (entries : List ℕ) → IsGluing faces (glued_in entries) → (x : Side) (v : ℕ) → glued_in entries x ≡ Some (side_at v) → v < 3 * faces
 found_within {faces} entries G x v e = let w = G.within (side_at v) x (G.paired x (side_at v) e) in omega arith
 
--- the entries of all sides tell the gluing
+-- the entries of all sides give the gluing
 pub all_told : {faces : ℕ} {g : Gluing} → IsGluing faces g → (entries : List ℕ) → length entries ≡ 3 * faces → ((k : ℕ) → k < 3 * faces → other_at (get_or entries k free_entry) ≡ g (side_at k)) → (x : Side) → glued_in entries x ≡ g x
 all_told {faces} {g} G entries long told x = elim (cases_lt x.face faces) [
   | inl h ↦ told (number x) (number-lt x faces h) ∙ ap g (side_at-number x)
   | inr h ↦ (let past : length entries ≤ number x = omega arith in ap other_at (get_or_past entries (number x) free_entry past)) ∙ sym (new_free G x h)
 ]
 
--- whether a vertex is new is told by its label
-pub new_is : {faces : ℕ} {g : Gluing} {labels : List ℕ} {count : ℕ} {ends : List Bool} → IsGluing faces g → IsLabelled faces g labels count ends → (visited met : List Bool) (w : Walk) → AreMarked faces labels visited met (is_visited w) →
+-- whether a vertex is new is shown by its label
+pub new_is : {faces : ℕ} {g : Gluing} {labels : List ℕ} {count : ℕ} {ends : List Bool} → IsGluing faces g → IsLabelled faces g labels count ends → (visited met : List Bool) (w : TraceWalk) → AreMarkedBy faces labels visited met (is_face_visited w) →
     (c : Side) → c.face < faces → (at_end old : Bool) → at_end ≡ get_or ends (label_at labels c) false → old ≡ get_or met (label_at labels c) false → not (at_end || old) ≡ is_new_vertex faces g w c
 new_is {faces} {g} {labels} {count} {ends} G L visited met w M c h at_end old e o = elim (cases_Bool (is_new_vertex faces g w c)) [
   | inl new ↦ neither at_end old (λ t. end_not new (sym e ∙ t)) (λ t. met_not new (sym o ∙ t)) ∙ sym new
@@ -76,9 +77,9 @@ new_is {faces} {g} {labels} {count} {ends} G L visited met w M c h at_end old e 
     end_not new t = (let m = (L.boundary c h).0 t in let n = new_tells G w c m.corner h new m.in_fan in elim m.free [ inl a ↦ n.0 a | inr a ↦ n.1 a ])
 
     met_not : is_new_vertex faces g w c ≡ true → get_or met (label_at labels c) false ≡ true → ⊥
-    met_not new t = (let m = M.met_tells (label_at labels c) t in let n = new_tells G w c m.0 h new (L.one_fan c m.0 h m.1 (sym m.3)) in true_not_false (is_visited w m.0.face) m.2 n.2)
+    met_not new t = (let m = M.met_tells (label_at labels c) t in let n = new_tells G w c m.0 h new (L.one_fan c m.0 h m.1 (sym m.3)) in true_not_false (is_face_visited w m.0.face) m.2 n.2)
 
--- what one corner of a face tells
+-- what one corner of a face gives
 none_is : (o : Option Side) → is_none o ≡ true → o ≡ None
 none_is None h = refl
 none_is (Some x) h = absurd (let no : false ≡ true = h in cc)
@@ -133,7 +134,7 @@ right_none g c = refl
 pub corner_at : (f : ℕ) (p : Place) (n : ℕ) → n ≡ 3 * f + place_number p → side_at n ≡ side f p
 corner_at f p n e = ap side_at e ∙ side_at-number (side f p)
 
--- the first corner that tells a start
+-- the first corner that gives a start
 pub started_first : (faces : ℕ) (g : Gluing) (f : ℕ) (o : Option Side) → o ≡ start_by faces g (side_at (3 * f)) → (c : Side) → o ≡ Some c → o ≡ start_corner faces g f
 started_first faces g f o e c s =
     let first_is : start_by faces g (side f first) ≡ Some c = ap (start_by faces g) (sym (corner_at f first (3 * f) (omega arith))) ∙ sym e ∙ s in
@@ -153,7 +154,7 @@ started_third faces g f o p q e n d m u =
     ∙ sym (ap (λ (a : Option Side). or_else a (or_else (start_by faces g (side f second)) (start_by faces g (side f third)))) first_is ∙ ap (λ (a : Option Side). or_else a (start_by faces g (side f third))) second_is)
 
 -- the number of what a table answers
-pub across_number : (o : Option NumberedSide) (v : ℕ) (x : Option Side) → option_map side_of o ≡ x → ((y : Side) → x ≡ Some y → y.face < 4194304) → MatchOption o (v ≡ free_entry) (λ s. v ≡ number (side_of s)) → other_at v ≡ x
+pub across_number : (o : Option NumberedSide) (v : ℕ) (x : Option Side) → option_map side_of o ≡ x → ((y : Side) → x ≡ Some y → y.face < MAX_FACES) → MatchOption o (v ≡ free_entry) (λ s. v ≡ number (side_of s)) → other_at v ≡ x
 across_number None v x e w m = ap other_at m ∙ e
 across_number (Some s) v x e w m = ap other_at m ∙ number_told (side_of s) (w (side_of s) (sym e)) ∙ e
 
@@ -166,13 +167,13 @@ one_more g entries new n v l e q told k h = elim (cases_eq k n) [
   | inr ne ↦ ap (λ (xs : List ℕ). other_at (get_or xs k free_entry)) e ∙ ap other_at (get_or_append_left entries (v ∷ []) free_entry k (omega arith)) ∙ told k (omega arith)
 ]
 
-pub across_small : (o : Option NumberedSide) (x : Option Side) → option_map side_of o ≡ x → ((y : Side) → x ≡ Some y → y.face < 4194304) → IfSome o (λ s. s.face < 4194304)
+pub across_small : (o : Option NumberedSide) (x : Option Side) → option_map side_of o ≡ x → ((y : Side) → x ≡ Some y → y.face < MAX_FACES) → IfSome o (λ s. s.face < MAX_FACES)
 across_small None x e w = tt
 across_small (Some s) x e w = w (side_of s) (sym e)
 
 -- the lists of a table are a surface
-pub surface_is : (s : Surface) (faces : ℕ) (g : Gluing) (labels : List ℕ) (count : ℕ) (ends : List Bool) → s.faces ≡ faces → s.faces ≤ 4194304 → 3 * faces ≤ length s.across.now → glued_in s.across.now ≡ g → IsGluing faces g →
-    IsLabelled faces g labels count ends → s.labels.items ≡ labels → s.ends.items ≡ ends → s.vertices ≡ count → IsSurface s
+pub surface_is : (s : Surface) (faces : ℕ) (g : Gluing) (labels : List ℕ) (count : ℕ) (ends : List Bool) → s.faces ≡ faces → s.faces ≤ MAX_FACES → 3 * faces ≤ length s.across.now → glued_in s.across.now ≡ g → IsGluing faces g →
+    IsLabelled faces g labels count ends → s.labels.items ≡ labels → s.ends.items ≡ ends → s.vertices ≡ count → IsTracedSurface s
 surface_is s faces g labels count ends f most long e G L l d v = record {
   limit = most;
   long = rw f long;

@@ -8,14 +8,14 @@ use Rattle.corner_table.specs.Fans.{InFan, rightmost, HasThreeFans}
 use Rattle.corner_table.proofs.Places.{option_tells, Some_injective}
 use Rattle.corner_table.proofs.Walks.{left_crosses, right_by-fan}
 use Rattle.corner_table.proofs.Boundary.{rightmost_tells}
-use Rattle.eb_trace.specs.Trace.{Entry, Walk, is_visited, run, start_by, start_corner, or_else, symbol_at_corner, visit}
+use Rattle.eb_trace.specs.Trace.{TracedEntry, TraceWalk, is_face_visited, run, start_by, start_corner, or_else, symbol_at_corner, trace_visit}
 use Rattle.eb_trace.proofs.Rings.{Ring, GoesRound, OtherInFan, ring_of, through_map, long_walk}
 use Rattle.eb_trace.proofs.Covered.{IsClosed, IsFaceOf, IsCovered, IsPart, IsVisiting, closed_covered, not_yet, still_unvisited, part_back, part_forth, three_sides, fan_unvisited, closed_visited, through_visited, count_most}
 use Rattle.eb_trace.proofs.Visited.{is_inside, inside_visits, Extends, extends_trans, extends_top, extends_length, visited_tells, number_visited, inside_visited, not_inside, fan_within, after_entries, run_extends, run_interior, run_bits, run_goes_on, run_ends}
 use Rattle.eb_trace.proofs.Log.{AfterEnd, at_boundary, at_inside, KeptFrom, Unseen, Later, Raw, Settled}
 use Rattle.eb_trace.proofs.Moments.{corner, symbol, Logged, Moment, Ended, run_ok, other_face, true_not_false}
 
-module _ (faces : ℕ) (g : Gluing) (G : IsGluing faces g) (F : HasThreeFans faces g) (all : List Entry) (insides : List ℕ) where
+module _ (faces : ℕ) (g : Gluing) (G : IsGluing faces g) (F : HasThreeFans faces g) (all : List TracedEntry) (insides : List ℕ) where
   abbrev at : ℕ → Side
   at k = corner faces g G F all insides k
 
@@ -25,21 +25,21 @@ module _ (faces : ℕ) (g : Gluing) (G : IsGluing faces g) (F : HasThreeFans fac
   abbrev Logs : ℕ → ℕ → List ℕ → Type 0
   Logs a count now = Logged faces g G F all insides a count now
 
-  abbrev Moments : ℕ → Walk → Side → Type 0
+  abbrev Moments : ℕ → TraceWalk → Side → Type 0
   Moments a w c = Moment faces g G F all insides a w c
 
-  abbrev Ends : ℕ → Walk → Type 0
+  abbrev Ends : ℕ → TraceWalk → Type 0
   Ends a w = Ended faces g G F all insides a w
 
   -- what a run's symbols say once it has ended
-  settle : (a : ℕ) (w : Walk) → Ends a w → Extends all w.entries → (k : ℕ) → a ≤ k → k < length w.entries → Settled g at insides (length all) k (word k)
+  settle : (a : ℕ) (w : TraceWalk) → Ends a w → Extends all w.entries → (k : ℕ) → a ≤ k → k < length w.entries → Settled g at insides (length all) k (word k)
   settle a w N x k h l = go (word k) (N.logged.raw k h l)
     where
-      here_visited : is_visited w (at k).face ≡ true
+      here_visited : is_face_visited w (at k).face ≡ true
       here_visited = number_visited all w x k l
 
       -- what was unvisited then, is visited now, and is another face
-      later : (f : ℕ) → Unseen at w.interior k f → is_visited w f ≡ true → f ≢ (at k).face → Later at (length all) k f
+      later : (f : ℕ) → Unseen at w.interior k f → is_face_visited w f ≡ true → f ≢ (at k).face → Later at (length all) k f
       later f u v ne = elim (visited_tells all w x f v) [
         | inr i ↦ absurd (true_not_false (is_inside w.interior f) i u.1)
         | inl t ↦ (
@@ -63,15 +63,15 @@ module _ (faces : ℕ) (g : Gluing) (G : IsGluing faces g) (F : HasThreeFans fac
         where
           ringed : Ring g (OtherInFan g (at k)) (at k) → Ring g (λ d. Later at (length all) k d.face) (at k)
           ringed r =
-              let start : is_visited w r.from.face ≡ true = closed_visited G (is_visited w) N.closed (next (at k)) (prev r.from) (left_crosses g (at k) r.from r.leaves) here_visited in
+              let start : is_face_visited w r.from.face ≡ true = closed_visited G (is_face_visited w) N.closed (next (at k)) (prev r.from) (left_crosses g (at k) r.from r.leaves) here_visited in
               record {
                 from = r.from;
                 to = r.to;
                 leaves = r.leaves;
-                round = through_map (λ d. Later at (length all) k d.face) (λ d p. later d.face (t.1 d p.0.0) p.1 (other_face G F (at k) d (N.logged.bounded k l) p.0)) (through_visited G (is_visited w) N.closed (OtherInFan g (at k)) r.round start);
+                round = through_map (λ d. Later at (length all) k d.face) (λ d p. later d.face (t.1 d p.0.0) p.1 (other_face G F (at k) d (N.logged.bounded k l) p.0)) (through_visited G (is_face_visited w) N.closed (OtherInFan g (at k)) r.round start);
                 returns = r.returns;
               }
-      go S (y, e, u, met) = (y, e, later y.face u (closed_visited G (is_visited w) N.closed (prev (at k)) y e here_visited) (λ q. G.apart (prev (at k)) y e (sym q)), met)
+      go S (y, e, u, met) = (y, e, later y.face u (closed_visited G (is_face_visited w) N.closed (prev (at k)) y e here_visited) (λ q. G.apart (prev (at k)) y e (sym q)), met)
       go L t = t
       go R t = t
       go E t = t
@@ -103,10 +103,10 @@ module _ (faces : ℕ) (g : Gluing) (G : IsGluing faces g) (F : HasThreeFans fac
   AreOutside = (k : ℕ) → k < length all → is_inside insides (at k).face ≡ false
 
   -- between two runs
-  pub record Between (w : Walk) : Type 0 where
+  pub record Between (w : TraceWalk) : Type 0 where
     pub logged : Logs (length w.entries) (length w.entries) w.interior
     pub settled : (k : ℕ) → k < length w.entries → Settled g at insides (length all) k (word k)
-    pub closed : IsClosed g (is_visited w)
+    pub closed : IsClosed g (is_face_visited w)
     pub last : AfterEnd word (length w.entries)
     pub kept : w.kept ≡ []
     pub inner : Insides (length w.entries) w.interior
@@ -135,22 +135,22 @@ module _ (faces : ℕ) (g : Gluing) (G : IsGluing faces g) (F : HasThreeFans fac
   ]
 
   -- the first symbol of a run has the corner that it starts at
-  run_first : (turns : ℕ) (w : Walk) (c : Side) → Extends all (run faces g (suc turns) w c).entries → (at (length w.entries) ≡ c) × (length w.entries < length (run faces g (suc turns) w c).entries)
-  run_first turns w c x = elim (option_tells (visit faces g w c).1) [
-    | inl n ↦ from ([], ap (λ (y : Walk). y.entries) (run_ends faces g turns w c n) ∙ after_entries g w c (symbol_at_corner faces g w c))
+  run_first : (turns : ℕ) (w : TraceWalk) (c : Side) → Extends all (run faces g (suc turns) w c).entries → (at (length w.entries) ≡ c) × (length w.entries < length (run faces g (suc turns) w c).entries)
+  run_first turns w c x = elim (option_tells (trace_visit faces g w c).1) [
+    | inl n ↦ from ([], ap (λ (y : TraceWalk). y.entries) (run_ends faces g turns w c n) ∙ after_entries g w c (symbol_at_corner faces g w c))
     | inr d ↦ (
-        let t = run_extends faces g turns (visit faces g w c).0 d.0 in
-        from (t.0, ap (λ (y : Walk). y.entries) (run_goes_on faces g turns w c d.0 d.1) ∙ t.1 ∙ ap (λ (l : List Entry). t.0 ++ l) (after_entries g w c (symbol_at_corner faces g w c))))
+        let t = run_extends faces g turns (trace_visit faces g w c).0 d.0 in
+        from (t.0, ap (λ (y : TraceWalk). y.entries) (run_goes_on faces g turns w c d.0 d.1) ∙ t.1 ∙ ap (λ (l : List TracedEntry). t.0 ++ l) (after_entries g w c (symbol_at_corner faces g w c))))
   ]
     where
       from : Extends (run faces g (suc turns) w c).entries (record { corner = c; symbol = symbol_at_corner faces g w c } ∷ w.entries) → (at (length w.entries) ≡ c) × (length w.entries < length (run faces g (suc turns) w c).entries)
       from y = (
-        ap (λ (e : Entry). e.corner) (extends_top all (record { corner = c; symbol = symbol_at_corner faces g w c }) w.entries (extends_trans all (run faces g (suc turns) w c).entries (record { corner = c; symbol = symbol_at_corner faces g w c } ∷ w.entries) x y)),
+        ap (λ (e : TracedEntry). e.corner) (extends_top all (record { corner = c; symbol = symbol_at_corner faces g w c }) w.entries (extends_trans all (run faces g (suc turns) w c).entries (record { corner = c; symbol = symbol_at_corner faces g w c } ∷ w.entries) x y)),
         extends_length (run faces g (suc turns) w c).entries (record { corner = c; symbol = symbol_at_corner faces g w c } ∷ w.entries) y,
       )
 
   -- a run that has ended settles its symbols
-  ended_between : (w v : Walk) → Between w → Ends (length w.entries) v → Extends all v.entries → Insides (length v.entries) v.interior → (AreOutside → v.bits ≡ bits_to (length v.entries)) → Between v
+  ended_between : (w v : TraceWalk) → Between w → Ends (length w.entries) v → Extends all v.entries → Insides (length v.entries) v.interior → (AreOutside → v.bits ≡ bits_to (length v.entries)) → Between v
   ended_between w v B N x I bits = record {
     logged = record { gates = N.logged.gates; raw = λ k h l. absurd (omega arith); apart = N.logged.apart; outside = N.logged.outside; bounded = N.logged.bounded; joined = λ k l h. absurd (omega arith) };
     settled = λ k h. elim (cases_lt k (length w.entries)) [ inl l ↦ B.settled k l | inr l ↦ settle (length w.entries) v N x k l h ];
@@ -175,7 +175,7 @@ module _ (faces : ℕ) (g : Gluing) (G : IsGluing faces g) (F : HasThreeFans fac
   last_in_fan : (x : Side) → InFan g x (rightmost g (3 * faces) x)
   last_in_fan x = elim (rightmost_tells g (3 * faces) x) [ inl t ↦ right_by-fan g t.0 x _ t.1 | inr p ↦ right_by-fan g (3 * faces) x _ p ]
 
-  -- one corner of a face tells a start corner, or has its side glued and a fan without ends
+  -- one corner of a face gives a start corner, or has its side glued and a fan without ends
   start_tells : (x : Side) → x.face < faces → (o : Option Side) → start_by faces g x ≡ o → ((c : Side) × (o ≡ Some c) × IsStart x.face c) ⊎ ((o ≡ None) × (g x ≢ None) × GoesRound g x)
   start_tells x h o e = elim (cases_Bool (is_none (g x))) [
     | inl t ↦ inl (x, sym e ∙ cond-true (is_none (g x)) _ _ t, (none_is (g x) t, h, λ V K u. u))
@@ -199,7 +199,7 @@ module _ (faces : ℕ) (g : Gluing) (G : IsGluing faces g) (F : HasThreeFans fac
     ]
   ]
 
-  -- a face tells a start corner, or is inside: its sides are glued, and its fans have no ends
+  -- a face gives a start corner, or is inside: its sides are glued, and its fans have no ends
   abbrev pub IsInside : ℕ → Type 0
   IsInside f = (p : Place) → (g (side f p) ≢ None) × GoesRound g (side f p)
 
@@ -224,25 +224,25 @@ module _ (faces : ℕ) (g : Gluing) (G : IsGluing faces g) (F : HasThreeFans fac
       inside a b c third = c
 
   -- all faces fit the turns of a run
-  enough : (w : Walk) → Rattle.eb_trace.proofs.Covered.unvisited_count (is_visited w) faces ≤ faces
-  enough w = count_most (is_visited w) faces
+  enough : (w : TraceWalk) → Rattle.eb_trace.proofs.Covered.unvisited_count (is_face_visited w) faces ≤ faces
+  enough w = count_most (is_face_visited w) faces
 
   -- a run from a boundary
-  pub from_boundary : (w : Walk) → Between w → ((x : ℕ) → is_inside w.interior x ≡ true → is_inside insides x ≡ true) → (f : ℕ) → f < faces → is_visited w f ≡ false → (c : Side) → IsStart f c → (bits : List Bool) → bits ≡ false ∷ w.bits →
-      Extends all (run faces g faces (record w { bits = bits }) c).entries → Between (run faces g faces (record w { bits = bits }) c) × (is_visited (run faces g faces (record w { bits = bits }) c) f ≡ true)
+  pub from_boundary : (w : TraceWalk) → Between w → ((x : ℕ) → is_inside w.interior x ≡ true → is_inside insides x ≡ true) → (f : ℕ) → f < faces → is_face_visited w f ≡ false → (c : Side) → IsStart f c → (bits : List Bool) → bits ≡ false ∷ w.bits →
+      Extends all (run faces g faces (record w { bits = bits }) c).entries → Between (run faces g faces (record w { bits = bits }) c) × (is_face_visited (run faces g faces (record w { bits = bits }) c) f ≡ true)
   from_boundary w B known f h u c start bits told x = (ended_between w v B N x inner bits_are, visits)
     where
-      v : Walk
+      v : TraceWalk
       v = run faces g faces (record w { bits = bits }) c
 
       moment : Moments (length w.entries) (record w { bits = bits }) c
       moment = record {
         logged = B.logged;
         within = start.1;
-        fresh = start.2 (is_visited w) B.closed u;
+        fresh = start.2 (is_face_visited w) B.closed u;
         gated = λ y e. absurd (let no : None ≡ Some y = sym start.0 ∙ e in cc);
         gate = at_boundary B.last start.0;
-        covered = closed_covered g (is_visited w) (c ∷ w.kept) B.closed;
+        covered = closed_covered g (is_face_visited w) (c ∷ w.kept) B.closed;
         kept = subst (KeptFrom g at word (length w.entries) c (length w.entries)) (sym B.kept) tt;
         known = known;
         joined = λ l. absurd (omega arith);
@@ -272,36 +272,36 @@ module _ (faces : ℕ) (g : Gluing) (G : IsGluing faces g) (F : HasThreeFans fac
       inner : Insides (length (run faces g faces (record w { bits = bits }) c).entries) (run faces g faces (record w { bits = bits }) c).interior
       inner = (let l = (begins faces refl).1 in subst (Insides (length (run faces g faces (record w { bits = bits }) c).entries)) (sym same) (insides_more (length w.entries) (length (run faces g faces (record w { bits = bits }) c).entries) (omega arith) w.interior B.inner))
 
-      visits : is_visited (run faces g faces (record w { bits = bits }) c) f ≡ true
-      visits = elim (cases_Bool (is_visited (run faces g faces (record w { bits = bits }) c) f)) [
+      visits : is_face_visited (run faces g faces (record w { bits = bits }) c) f ≡ true
+      visits = elim (cases_Bool (is_face_visited (run faces g faces (record w { bits = bits }) c) f)) [
         | inl t ↦ t
-        | inr unseen ↦ absurd (true_not_false (is_visited (run faces g faces (record w { bits = bits }) c) c.face)
-            (ap (λ (d : Side). is_visited (run faces g faces (record w { bits = bits }) c) d.face) (sym (begins faces refl).0) ∙ number_visited all (run faces g faces (record w { bits = bits }) c) x (length w.entries) (begins faces refl).1)
-            (start.2 (is_visited (run faces g faces (record w { bits = bits }) c)) N.closed unseen))
+        | inr unseen ↦ absurd (true_not_false (is_face_visited (run faces g faces (record w { bits = bits }) c) c.face)
+            (ap (λ (d : Side). is_face_visited (run faces g faces (record w { bits = bits }) c) d.face) (sym (begins faces refl).0) ∙ number_visited all (run faces g faces (record w { bits = bits }) c) x (length w.entries) (begins faces refl).1)
+            (start.2 (is_face_visited (run faces g faces (record w { bits = bits }) c)) N.closed unseen))
       ]
 
   -- a run round an interior start face
-  pub from_inside : (w : Walk) → Between w → (f : ℕ) → ((x : ℕ) → is_inside (f ∷ w.interior) x ≡ true → is_inside insides x ≡ true) → f < faces → is_visited w f ≡ false → IsInside f → (c : Side) → g (side f second) ≡ Some c → (bits : List Bool) → bits ≡ true ∷ w.bits →
-      Extends all (run faces g faces (record w { interior = f ∷ w.interior; bits = bits }) c).entries → Between (run faces g faces (record w { interior = f ∷ w.interior; bits = bits }) c) × (is_visited (run faces g faces (record w { interior = f ∷ w.interior; bits = bits }) c) f ≡ true)
+  pub from_inside : (w : TraceWalk) → Between w → (f : ℕ) → ((x : ℕ) → is_inside (f ∷ w.interior) x ≡ true → is_inside insides x ≡ true) → f < faces → is_face_visited w f ≡ false → IsInside f → (c : Side) → g (side f second) ≡ Some c → (bits : List Bool) → bits ≡ true ∷ w.bits →
+      Extends all (run faces g faces (record w { interior = f ∷ w.interior; bits = bits }) c).entries → Between (run faces g faces (record w { interior = f ∷ w.interior; bits = bits }) c) × (is_face_visited (run faces g faces (record w { interior = f ∷ w.interior; bits = bits }) c) f ≡ true)
   from_inside w B f known h u inside c across bits told x = (ended_between w v B N x inner bits_are, visits)
     where
-      v : Walk
+      v : TraceWalk
       v = run faces g faces (record w { interior = f ∷ w.interior; bits = bits }) c
 
-      visiting : IsVisiting (is_visited w) f (is_visited (record w { interior = f ∷ w.interior; bits = bits }))
+      visiting : IsVisiting (is_face_visited w) f (is_face_visited (record w { interior = f ∷ w.interior; bits = bits }))
       visiting = inside_visits w f bits
 
-      free : (p : Place) (d : Side) → OtherInFan g (side f p) d → is_visited (record w { interior = f ∷ w.interior; bits = bits }) d.face ≡ false
-      free p d o = not_yet visiting d.face (fan_unvisited (is_visited w) B.closed o.0 u) (other_face G F (side f p) d h o)
+      free : (p : Place) (d : Side) → OtherInFan g (side f p) d → is_face_visited (record w { interior = f ∷ w.interior; bits = bits }) d.face ≡ false
+      free p d o = not_yet visiting d.face (fan_unvisited (is_face_visited w) B.closed o.0 u) (other_face G F (side f p) d h o)
 
       ring : (p : Place) → Ring g (OtherInFan g (side f p)) (side f p)
       ring p = ring_of G (side f p) h (inside p).1
 
-      cover : IsCovered g (is_visited (record w { interior = f ∷ w.interior; bits = bits })) (c ∷ w.kept)
-      cover T part a b e t = elim (cases_Bool (is_visited (record w { interior = f ∷ w.interior; bits = bits }) b.face)) [
+      cover : IsCovered g (is_face_visited (record w { interior = f ∷ w.interior; bits = bits })) (c ∷ w.kept)
+      cover T part a b e t = elim (cases_Bool (is_face_visited (record w { interior = f ∷ w.interior; bits = bits }) b.face)) [
         | inr n ↦ n
         | inl s ↦ elim (visiting.only b.face s) [
-          | inl z ↦ absurd (true_not_false (is_visited w b.face) z (B.closed a b e (still_unvisited visiting a.face (part.unvisited a.face t)).0))
+          | inl z ↦ absurd (true_not_false (is_face_visited w b.face) z (B.closed a b e (still_unvisited visiting a.face (part.unvisited a.face t)).0))
           | inr z ↦ absurd (elim (three_sides (side f second) b z) [
             | inl q ↦ hit a (Some_injective _ _ (sym across ∙ ap g (sym q) ∙ G.paired a b e)) t
             | inr q ↦ elim q [ inl o ↦ at_third (ring first) a (ap g (sym o) ∙ G.paired a b e) t | inr o ↦ at_first (ring third) a (ap g (sym o) ∙ G.paired a b e) t ]
@@ -316,13 +316,13 @@ module _ (faces : ℕ) (g : Gluing) (G : IsGluing faces g) (F : HasThreeFans fac
           at_third r a e t =
               let to : next r.to ≡ a = Some_injective _ _ (sym (G.paired (next r.to) (side f third) (left_crosses g r.to (side f first) r.returns)) ∙ e) in
               let from : c ≡ prev r.from = Some_injective _ _ (sym across ∙ left_crosses g (side f first) r.from r.leaves) in
-              hit (prev r.from) from (part_back G (is_visited (record w { interior = f ∷ w.interior; bits = bits })) (c ∷ w.kept) T part (OtherInFan g (side f first)) (free first) r.round (ap (λ (z : Side). T z.face) to ∙ t))
+              hit (prev r.from) from (part_back G (is_face_visited (record w { interior = f ∷ w.interior; bits = bits })) (c ∷ w.kept) T part (OtherInFan g (side f first)) (free first) r.round (ap (λ (z : Side). T z.face) to ∙ t))
 
           at_first : Ring g (OtherInFan g (side f third)) (side f third) → (a : Side) → g (side f first) ≡ Some a → T a.face ≡ true → ⊥
           at_first r a e t =
               let from : prev r.from ≡ a = Some_injective _ _ (sym (left_crosses g (side f third) r.from r.leaves) ∙ e) in
               let to : c ≡ next r.to = Some_injective _ _ (sym across ∙ G.paired (next r.to) (side f second) (left_crosses g r.to (side f third) r.returns)) in
-              hit (next r.to) to (part_forth (is_visited (record w { interior = f ∷ w.interior; bits = bits })) (c ∷ w.kept) T part (OtherInFan g (side f third)) (free third) r.round (ap (λ (z : Side). T z.face) from ∙ t))
+              hit (next r.to) to (part_forth (is_face_visited (record w { interior = f ∷ w.interior; bits = bits })) (c ∷ w.kept) T part (OtherInFan g (side f third)) (free third) r.round (ap (λ (z : Side). T z.face) from ∙ t))
 
       moment : Moments (length w.entries) (record w { interior = f ∷ w.interior; bits = bits }) c
       moment = record {
@@ -330,13 +330,13 @@ module _ (faces : ℕ) (g : Gluing) (G : IsGluing faces g) (F : HasThreeFans fac
           gates = B.logged.gates;
           raw = λ k a b. absurd (omega arith);
           apart = B.logged.apart;
-          outside = λ j l. or_from (f == (at j).face) _ (ne_eqb f (at j).face (λ q. true_not_false (is_visited w f) (ap (is_visited w) q ∙ visited_before j l) u)) (B.logged.outside j l);
+          outside = λ j l. or_from (f == (at j).face) _ (ne_eqb f (at j).face (λ q. true_not_false (is_face_visited w f) (ap (is_face_visited w) q ∙ visited_before j l) u)) (B.logged.outside j l);
           bounded = B.logged.bounded;
           joined = λ k l q. absurd (omega arith);
         };
         within = G.within c (side f second) (G.paired (side f second) c across);
         fresh = not_yet visiting c.face (B.closed (side f second) c across u) (λ q. G.apart (side f second) c across (sym q));
-        gated = λ y e. ap (is_visited (record w { interior = f ∷ w.interior; bits = bits })) (ap (λ (z : Side). z.face) (Some_injective _ _ (sym e ∙ G.paired (side f second) c across))) ∙ visiting.new;
+        gated = λ y e. ap (is_face_visited (record w { interior = f ∷ w.interior; bits = bits })) (ap (λ (z : Side). z.face) (Some_injective _ _ (sym e ∙ G.paired (side f second) c across))) ∙ visiting.new;
         gate = at_inside f B.last (known f (or_left (f == f) _ (eq-eqb f f refl))) (G.paired (side f second) c across);
         covered = cover;
         kept = subst (KeptFrom g at word (length w.entries) c (length w.entries)) (sym B.kept) tt;
@@ -344,7 +344,7 @@ module _ (faces : ℕ) (g : Gluing) (G : IsGluing faces g) (F : HasThreeFans fac
         joined = λ l. absurd (omega arith);
       }
         where
-          visited_before : (j : ℕ) → j < length w.entries → is_visited w (at j).face ≡ true
+          visited_before : (j : ℕ) → j < length w.entries → is_face_visited w (at j).face ≡ true
           visited_before j l = number_visited all w (extends_trans all (run faces g faces (record w { interior = f ∷ w.interior; bits = bits }) c).entries w.entries x (run_extends faces g faces (record w { interior = f ∷ w.interior; bits = bits }) c)) j l
 
       N : Ends (length w.entries) (run faces g faces (record w { interior = f ∷ w.interior; bits = bits }) c)
@@ -359,29 +359,29 @@ module _ (faces : ℕ) (g : Gluing) (G : IsGluing faces g) (F : HasThreeFans fac
           subst (λ (m : ℕ). Extends all (run faces g m (record w { interior = f ∷ w.interior; bits = bits }) c).entries → (at (length w.entries) ≡ c) × (length w.entries < length (run faces g m (record w { interior = f ∷ w.interior; bits = bits }) c).entries)) (sym e)
           (λ y. run_first n (record w { interior = f ∷ w.interior; bits = bits }) c y) x
 
-      visits : is_visited (run faces g faces (record w { interior = f ∷ w.interior; bits = bits }) c) f ≡ true
+      visits : is_face_visited (run faces g faces (record w { interior = f ∷ w.interior; bits = bits }) c) f ≡ true
       visits = inside_visited (run faces g faces (record w { interior = f ∷ w.interior; bits = bits }) c) f (ap (λ (l : List ℕ). is_inside l f) same ∙ or_left (f == f) _ (eq-eqb f f refl))
 
       ringed : (p : Place) → InsideRing (side f p)
       ringed p = go (ring p)
         where
-          numbered : (d : Side) → OtherInFan g (side f p) d → is_visited (run faces g faces (record w { interior = f ∷ w.interior; bits = bits }) c) d.face ≡ true → (j : ℕ) × (j < length all) × ((at j).face ≡ d.face)
+          numbered : (d : Side) → OtherInFan g (side f p) d → is_face_visited (run faces g faces (record w { interior = f ∷ w.interior; bits = bits }) c) d.face ≡ true → (j : ℕ) × (j < length all) × ((at j).face ≡ d.face)
           numbered d o s = elim (visited_tells all (run faces g faces (record w { interior = f ∷ w.interior; bits = bits }) c) x d.face s) [
             | inl t ↦ (let l = t.1 in let n = extends_length all (run faces g faces (record w { interior = f ∷ w.interior; bits = bits }) c).entries x in (t.0, omega arith, t.2))
             | inr i ↦ absurd (elim (or_cases (f == d.face) (is_inside w.interior d.face) (sym (ap (λ (l : List ℕ). is_inside l d.face) same) ∙ i)) [
               | inl q ↦ other_face G F (side f p) d h o (sym (eqb-true f d.face q))
-              | inr q ↦ true_not_false (is_visited w d.face) (inside_visited w d.face q) (fan_unvisited (is_visited w) B.closed o.0 u)
+              | inr q ↦ true_not_false (is_face_visited w d.face) (inside_visited w d.face q) (fan_unvisited (is_face_visited w) B.closed o.0 u)
             ])
           ]
 
           go : Ring g (OtherInFan g (side f p)) (side f p) → InsideRing (side f p)
           go r =
-              let start : is_visited (run faces g faces (record w { interior = f ∷ w.interior; bits = bits }) c) r.from.face ≡ true = closed_visited G (is_visited (run faces g faces (record w { interior = f ∷ w.interior; bits = bits }) c)) N.closed (next (side f p)) (prev r.from) (left_crosses g (side f p) r.from r.leaves) visits in
+              let start : is_face_visited (run faces g faces (record w { interior = f ∷ w.interior; bits = bits }) c) r.from.face ≡ true = closed_visited G (is_face_visited (run faces g faces (record w { interior = f ∷ w.interior; bits = bits }) c)) N.closed (next (side f p)) (prev r.from) (left_crosses g (side f p) r.from r.leaves) visits in
               record {
                 from = r.from;
                 to = r.to;
                 leaves = r.leaves;
-                round = through_map (λ d. (j : ℕ) × (j < length all) × ((at j).face ≡ d.face)) (λ d q. numbered d q.0 q.1) (through_visited G (is_visited (run faces g faces (record w { interior = f ∷ w.interior; bits = bits }) c)) N.closed (OtherInFan g (side f p)) r.round start);
+                round = through_map (λ d. (j : ℕ) × (j < length all) × ((at j).face ≡ d.face)) (λ d q. numbered d q.0 q.1) (through_visited G (is_face_visited (run faces g faces (record w { interior = f ∷ w.interior; bits = bits }) c)) N.closed (OtherInFan g (side f p)) r.round start);
                 returns = r.returns;
               }
 

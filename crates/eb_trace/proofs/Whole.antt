@@ -16,7 +16,7 @@ use Rattle.eb_rebuild.proofs.Steps.{Next, the_state, same_state, then_ok}
 use Rattle.eb_rebuild.proofs.Ends.{finish_done, finish_vertices}
 use Rattle.eb_trace.specs.Readable.{IsReadable}
 use Rattle.eb_trace.specs.Front.{free_firsts, reserved_for, events_left, made_by, front, start_bits}
-use Rattle.eb_trace.specs.Rebuilt.{symbol_at, EachStepReads, PassesFronts, ClosesLast, finished, ReadsWord, RebuildsWord, RefusesFewer}
+use Rattle.eb_trace.specs.Rebuilt.{word_symbol, EachStepReads, PassesFronts, ClosesLast, finished, ReadsWord, RebuildsWord, RefusesFewer}
 use Rattle.eb_trace.proofs.Waiting.{firsts_none}
 use Rattle.eb_trace.proofs.Reserved.{reserved_early, reserved_late, reserved_none_yet}
 use Rattle.eb_trace.proofs.Events.{left_zero}
@@ -65,30 +65,30 @@ front_last g n word = same_state refl refl refl (fun_ext kept) (ap (events_left 
 abbrev bits_of : ℕ → Gluing → ℕ → Bool
 bits_of n g k = get_or (start_bits n g) k false
 
-module _ (p : Plan) (g : Gluing) (word : List Symbol) (T : IsReadable p.faces g (length word) (symbol_at word)) where
-  passed : (m : ℕ) → m ≤ length word → take_symbols (length word) (take m word) (start (events_left (length word) g (symbol_at word) (length word))) ≡ Ok (front (length word) g (symbol_at word) m)
+module _ (p : Plan) (g : Gluing) (word : List Symbol) (T : IsReadable p.faces g (length word) (word_symbol word)) where
+  passed : (m : ℕ) → m ≤ length word → take_symbols (length word) (take m word) (start (events_left (length word) g (word_symbol word) (length word))) ≡ Ok (front (length word) g (word_symbol word) m)
   passed m h =
       let n = length word in
       let long = length-take-le m word h in
-      ap (take_symbols n (take m word)) (front_first g n (symbol_at word))
-      ∙ symbols_from p.faces g n (symbol_at word) T (take m word) 0 (omega arith) (λ k l. get_or-take m word k E (omega arith) ∙ ap (symbol_at word) (let e : k ≡ 0 + k = omega arith in e))
-      ∙ ap (λ (k : ℕ). let x : Next = Ok (front n g (symbol_at word) k) in x) (let e : 0 + length (take m word) ≡ m = omega arith in e)
+      ap (take_symbols n (take m word)) (front_first g n (word_symbol word))
+      ∙ symbols_from p.faces g n (word_symbol word) T (take m word) 0 (omega arith) (λ k l. get_or-take m word k E (omega arith) ∙ ap (word_symbol word) (let e : k ≡ 0 + k = omega arith in e))
+      ∙ ap (λ (k : ℕ). let x : Next = Ok (front n g (word_symbol word) k) in x) (let e : 0 + length (take m word) ≡ m = omega arith in e)
 
-  symbols_taken : take_symbols (length word) word (start (events_left (length word) g (symbol_at word) (length word))) ≡ Ok (front (length word) g (symbol_at word) (length word))
-  symbols_taken = ap (λ (xs : List Symbol). take_symbols (length word) xs (start (events_left (length word) g (symbol_at word) (length word)))) (sym (take_all (length word) word (omega arith))) ∙ passed (length word) (omega arith)
+  symbols_taken : take_symbols (length word) word (start (events_left (length word) g (word_symbol word) (length word))) ≡ Ok (front (length word) g (word_symbol word) (length word))
+  symbols_taken = ap (λ (xs : List Symbol). take_symbols (length word) xs (start (events_left (length word) g (word_symbol word) (length word)))) (sym (take_all (length word) word (omega arith))) ∙ passed (length word) (omega arith)
 
-  all_closed : close_all p (bits_of (length word) g) (length (free_firsts (prefix (length word) g) (length word))) (front (length word) g (symbol_at word) (length word)) ≡ Ok (finished p.faces g word)
+  all_closed : close_all p (bits_of (length word) g) (length (free_firsts (prefix (length word) g) (length word))) (front (length word) g (word_symbol word) (length word)) ≡ Ok (finished p.faces g word)
   all_closed =
-      ap (close_all p (bits_of (length word) g) (length (free_firsts (prefix (length word) g) (length word)))) (front_last g (length word) (symbol_at word))
-      ∙ closes_all p g (length word) (symbol_at word) T (bits_of (length word) g) (made_by (symbol_at word) (length word)) (λ k. ap (bits_of (length word) g) (let e : k ≡ 0 + k = omega arith in e))
+      ap (close_all p (bits_of (length word) g) (length (free_firsts (prefix (length word) g) (length word)))) (front_last g (length word) (word_symbol word))
+      ∙ closes_all p g (length word) (word_symbol word) T (bits_of (length word) g) (made_by (word_symbol word) (length word)) (λ k. ap (bits_of (length word) g) (let e : k ≡ 0 + k = omega arith in e))
       ∙ ap {A = State} (λ s. let x : Next = Ok s in x) (same_state refl (prefix_whole T.gluing) refl refl refl refl count)
     where
       count : 0 + length (free_firsts (prefix (length word) g) (length word)) ≡ length (start_bits (length word) g)
       count = (let e : 0 + length (free_firsts (prefix (length word) g) (length word)) ≡ length (free_firsts (prefix (length word) g) (length word)) = omega arith in e) ∙ sym (length-map (free_firsts (prefix (length word) g) (length word)) (λ (a : Side). is_some (g a)))
 
-  read : (take_symbols (length word) word (start (events_left (length word) g (symbol_at word) (length word))) >>= λ s. close_all p (bits_of (length word) g) (length s.stack) s) ≡ Ok (finished p.faces g word)
+  read : (take_symbols (length word) word (start (events_left (length word) g (word_symbol word) (length word))) >>= λ s. close_all p (bits_of (length word) g) (length s.stack) s) ≡ Ok (finished p.faces g word)
   read =
-      then_ok (take_symbols (length word) word (start (events_left (length word) g (symbol_at word) (length word)))) (front (length word) g (symbol_at word) (length word)) (λ s. close_all p (bits_of (length word) g) (length s.stack) s) symbols_taken
+      then_ok (take_symbols (length word) word (start (events_left (length word) g (word_symbol word) (length word)))) (front (length word) g (word_symbol word) (length word)) (λ s. close_all p (bits_of (length word) g) (length s.stack) s) symbols_taken
       ∙ all_closed
 
 pub passes_fronts : PassesFronts
@@ -120,19 +120,19 @@ none_degenerate faces g F zero h = degenerate_zero faces g
 none_degenerate faces g F (suc n) h = degenerate_not faces g n (none_degenerate faces g F n (omega arith)) (three_fans faces g F n (omega arith))
 
 -- the run comes to the tests at the end with the table built
-pub comes_to_end : (p : Plan) (g : Gluing) (word : List Symbol) → IsReadable p.faces g (length word) (symbol_at word) → p.symbols ≡ length word →
-    rebuild p word (events_left (length word) g (symbol_at word) (length word)) (bits_of (length word) g) ≡ finish p (finished p.faces g word)
+pub comes_to_end : (p : Plan) (g : Gluing) (word : List Symbol) → IsReadable p.faces g (length word) (word_symbol word) → p.symbols ≡ length word →
+    rebuild p word (events_left (length word) g (word_symbol word) (length word)) (bits_of (length word) g) ≡ finish p (finished p.faces g word)
 unfolding rebuild
 comes_to_end p g word T count =
     let n = length word in
-    let events = events_left n g (symbol_at word) n in
+    let events = events_left n g (word_symbol word) n in
     let bits = bits_of n g in
     ap (λ (k : ℕ). take_symbols k word (start events) >>= λ s. close_all p bits (length s.stack) s >>= finish p) count
-    ∙ then_ok (take_symbols n word (start events)) (front n g (symbol_at word) n) (λ s. close_all p bits (length s.stack) s >>= finish p) (symbols_taken p g word T)
-    ∙ then_ok (close_all p bits (length (free_firsts (prefix n g) n)) (front n g (symbol_at word) n)) (finished p.faces g word) (finish p) (all_closed p g word T)
+    ∙ then_ok (take_symbols n word (start events)) (front n g (word_symbol word) n) (λ s. close_all p bits (length s.stack) s >>= finish p) (symbols_taken p g word T)
+    ∙ then_ok (close_all p bits (length (free_firsts (prefix n g) n)) (front n g (word_symbol word) n)) (finished p.faces g word) (finish p) (all_closed p g word T)
 
 pub rebuilds_word : RebuildsWord
 rebuilds_word p g word T count F made = comes_to_end p g word T count ∙ finish_done p (finished p.faces g word) refl made (none_degenerate p.faces g F p.faces (omega arith))
 
 pub refuses_fewer : RefusesFewer
-refuses_fewer p g word T count few = comes_to_end p g word T count ∙ finish_vertices p (finished p.faces g word) (made_by (symbol_at word) (length word)) refl few refl
+refuses_fewer p g word T count few = comes_to_end p g word T count ∙ finish_vertices p (finished p.faces g word) (made_by (word_symbol word) (length word)) refl few refl

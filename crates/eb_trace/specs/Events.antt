@@ -6,7 +6,7 @@ use Rattle.corner_table.specs.declared.symbols.Symbol.TheVariants.{C, S, L, R, E
 use Rattle.corner_table.specs.declared.symbols.Event.{Event}
 use Rattle.corner_table.specs.Sides.{Gluing, IsGluing}
 use Rattle.corner_table.specs.Fans.{HasThreeFans}
-use Rattle.eb_trace.specs.Rebuilt.{symbol_at}
+use Rattle.eb_trace.specs.Rebuilt.{word_symbol}
 use Rattle.eb_trace.specs.Trace.{trace, word_of}
 
 -- on which sides of its face a symbol may meet an S, since that side's face was visited before: on the right (true) an R, on the left an L,
@@ -22,8 +22,8 @@ may_meet E right = true
 pub record IsSplitEvent (word : List Symbol) (e : Event) : Type 0 where
   pub within : e.source < length word
   pub earlier : e.split < e.source
-  pub splits : symbol_at word e.split ≡ S
-  pub meets : may_meet (symbol_at word e.source) e.right ≡ true
+  pub splits : word_symbol word e.split ≡ S
+  pub meets : may_meet (word_symbol word e.source) e.right ≡ true
 
 -- sources rise, and of one source the right event comes first
 abbrev pub ComesBefore : Event → Event → Type 0

@@ -31,7 +31,7 @@ IsRebuiltFrom faces g symbols events starts order vertices =
     rebuild (record { faces = faces; created = created; symbols = length symbols }) (reverse symbols) (reverse events)
     (λ k. get_or starts k false) ≡ Ok (finished faces h (reverse symbols))
 
--- the surface in that order tells the start bits: one for each side that waits after the symbols
+-- the surface in that order determines the start bits: one for each side that waits after the symbols
 abbrev pub AreStartBits : ℕ → Gluing → List Symbol → List Bool → List (ℕ × ℕ) → Type 0
 AreStartBits faces g symbols starts order = (h : Gluing) → IsCarried faces g order h → starts ≡ start_bits (length symbols) h
 

@@ -22,32 +22,33 @@ is_entry second = false
 is_entry third = false
 
 -- a side, if it is of a face below m that wasn't entered by it
-abbrev pub waiting : ℕ → Option Side → Option Side
-waiting m None = None
-waiting m (Some x) = cond (nat_lt x.face m) (cond (is_entry x.place) None (Some x)) None
+abbrev pub waiting_side : ℕ → Option Side → Option Side
+waiting_side m None = None
+waiting_side m (Some x) = cond (nat_lt x.face m) (cond (is_entry x.place) None (Some x)) None
 
 -- the side that an event reserves for the S of number k, if that is still to come: what lies across its side 2, met from another branch
 abbrev pub reserved_for : ℕ → Gluing → (ℕ → Symbol) → ℕ → ℕ → Option Side
-reserved_for n g word m k = cond (nat_le m k && nat_lt k n && is_split (word k)) (waiting m (g (side k third))) None
+reserved_for n g word m k = cond (nat_le m k && nat_lt k n && is_split (word k)) (waiting_side m (g (side k third))) None
 
 -- the number of the S, later than face i, whose face lies across a side
 abbrev pub split_met : ℕ → (ℕ → Symbol) → ℕ → Option Side → Option ℕ
 split_met n word i None = None
 split_met n word i (Some y) = cond (nat_lt i y.face && nat_lt y.face n && is_split (word y.face)) (Some y.face) None
 
--- the event that face i tells of the S that it met; events count in the order of the walk
+-- the event by face i of the S that it met; events count in the order of the walk
 abbrev pub event_told : ℕ → ℕ → Bool → Option ℕ → List Event
 event_told n i right None = []
 event_told n i right (Some j) = record { source = n - suc i; split = n - suc j; right = right } ∷ []
 
 -- the events of face i on one side
-abbrev pub events_at : ℕ → Gluing → (ℕ → Symbol) → ℕ → Bool → List Event
-events_at n g word i right = event_told n i right (split_met n word i (g (side i (event_place right))))
+abbrev pub events_of_face : ℕ → Gluing → (ℕ → Symbol) → ℕ → Bool → List Event
+events_of_face n g word i right = event_told n i right (split_met n word i (g (side i (event_place right))))
 
 -- the events of the last d symbols to be decoded, the last of the walk first; right was noted before left
 unfoldable pub events_left : ℕ → Gluing → (ℕ → Symbol) → ℕ → List Event
 events_left n g word zero = []
-events_left n g word (suc d) = events_at n g word (n - suc d) false ++ (events_at n g word (n - suc d) true ++ events_left n g word d)
+events_left n g word (suc d) =
+    events_of_face n g word (n - suc d) false ++ (events_of_face n g word (n - suc d) true ++ events_left n g word d)
 
 -- the vertices that a symbol makes
 abbrev pub vertices_made : Symbol → ℕ

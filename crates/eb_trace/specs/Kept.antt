@@ -9,7 +9,7 @@ use Rattle.eb_rebuild.specs.Machine.{Plan, start, take_symbols, rebuild, fault}
 use Rattle.eb_trace.specs.Readable.{IsReadable}
 use Rattle.eb_rebuild.specs.Shown.{is_split}
 use Rattle.eb_trace.specs.Front.{front, events_left, start_bits, made_by}
-use Rattle.eb_trace.specs.Rebuilt.{symbol_at}
+use Rattle.eb_trace.specs.Rebuilt.{word_symbol}
 use Rattle.eb_trace.specs.Trace.{trace, word_of, order_of, fan_count}
 use Rattle.eb_trace.specs.FromTrace.{CarriesOne, CarriesFans, IsRebuiltFrom}
 
@@ -24,27 +24,27 @@ WalkCarries = (faces : ℕ) (g : Gluing) → IsGluing faces g → HasThreeFans f
 
 -- what a walk noted, against the surface h in the order of decoding
 pub record IsToldBy (faces : ℕ) (g h : Gluing) : Type 0 where
-  pub readable : IsReadable faces h (length (word_of (trace faces g))) (symbol_at (word_of (trace faces g)))
+  pub readable : IsReadable faces h (length (word_of (trace faces g))) (word_symbol (word_of (trace faces g)))
   pub events : (trace faces g).events ≡
-      events_left (length (word_of (trace faces g))) h (symbol_at (word_of (trace faces g))) (length (word_of (trace faces g)))
+      events_left (length (word_of (trace faces g))) h (word_symbol (word_of (trace faces g))) (length (word_of (trace faces g)))
   pub bits : reverse (trace faces g).bits ≡ start_bits (length (word_of (trace faces g))) h
 
--- the surface in the order of decoding is readable, and tells what the walk noted
+-- the surface in the order of decoding is readable, and determines what the walk noted
 abbrev pub WalkIsReadable : Type 0
 WalkIsReadable = (faces : ℕ) (g h : Gluing) → IsGluing faces g → HasThreeFans faces g → IsCarried faces g (order_of (trace faces g)) h →
     IsToldBy faces g h
 
--- fed the symbols, the last first, with the walk's events, the machine is after each of them in the state that the surface tells
+-- fed the symbols, the last first, with the walk's events, the machine is after each of them in the state that the surface determines
 abbrev pub WalkPassesFronts : Type 0
 WalkPassesFronts = (faces : ℕ) (g h : Gluing) → IsGluing faces g → HasThreeFans faces g → IsCarried faces g (order_of (trace faces g)) h →
     (m : ℕ) → m ≤ length (word_of (trace faces g)) →
     take_symbols (length (word_of (trace faces g))) (take m (word_of (trace faces g))) (start (trace faces g).events)
-    ≡ Ok (front (length (word_of (trace faces g))) h (symbol_at (word_of (trace faces g))) m)
+    ≡ Ok (front (length (word_of (trace faces g))) h (word_symbol (word_of (trace faces g))) m)
 
 -- the vertices that reverse decoding makes are the fans of the surface and, once more, each vertex that an S takes away
 abbrev pub WalkIsCounted : Type 0
 WalkIsCounted = (faces : ℕ) (g : Gluing) → IsGluing faces g → HasThreeFans faces g →
-    made_by (symbol_at (word_of (trace faces g))) (length (word_of (trace faces g)))
+    made_by (word_symbol (word_of (trace faces g))) (length (word_of (trace faces g)))
     ≡ fan_count faces g + count_by is_split (word_of (trace faces g))
 
 -- for any number of components, holes, handles and cut vertices: the machine that is made for all faces and for no fewer vertices than the

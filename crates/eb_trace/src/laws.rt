@@ -26,13 +26,13 @@ pub fn readable_is_rebuilt()
 /// The walk keeps the surface. Of any surface whose faces have three fans each, with any number of
 /// components, holes, handles and cut vertices: the order of decoding lists each face once, turned by
 /// 0, 1 or 2; there is one surface in that order, with as many fans; it is readable from the walk's
-/// word, and tells the walk's events and start bits; each event is of a symbol that met an earlier S,
-/// they come by rising sources, the right one of a symbol first, and no S has two; reverse decoding that
-/// is fed the word and the events is after each symbol in the state that this surface tells; the
-/// vertices that it makes are as many as the fans of the surface and the S of the word together; and
-/// reverse decoding of all these, with no fewer vertices declared than that, meets no fault and gives
-/// the surface in that order. Fewer are refused, with a fault that says how many it takes. This is the
-/// contract of a call that does nothing.
+/// word, and determines the walk's events and start bits; each event is of a symbol that met an earlier
+/// S, they come by rising sources, the right one of a symbol first, and no S has two; reverse decoding
+/// that is fed the word and the events is after each symbol in the state that this surface determines;
+/// the vertices that it makes are as many as the fans of the surface and the S of the word together;
+/// and reverse decoding of all these, with no fewer vertices declared than that, meets no fault and
+/// gives the surface in that order. Fewer are refused, with a fault that says how many it takes. This
+/// is the contract of a call that does nothing.
 pub fn walk_keeps_surface()
     ensures order { WalkOrders }
     ensures carried { WalkCarries }

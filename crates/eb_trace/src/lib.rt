@@ -19,5 +19,3 @@ pub use tracing::{Traced, trace};
 mod rebuild_tests;
 #[cfg(test)]
 mod tests;
-#[cfg(test)]
-mod worked;

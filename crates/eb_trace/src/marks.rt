@@ -5,8 +5,8 @@ ghost use Rattle.std.specs.Option.{option_map};
 ghost use Rattle.corner_table.specs.Sides.{side_at};
 ghost use Rattle.corner_table.specs.Table.{free_entry};
 ghost use Rattle.corner_table.specs.Labels.{label_at};
-ghost use Rattle.eb_trace.specs.Stored.{gluing_in, IsSurface, AreSized, AreMarksOf, split_told, met_after};
-ghost use Rattle.eb_trace.specs.Trace.{Walk, is_visited_across, is_new_vertex, symbol_for, symbol_at_corner, split_across};
+ghost use Rattle.eb_trace.specs.Stored.{traced_gluing, IsTracedSurface, AreSized, AreMarksOf, split_told, met_after};
+ghost use Rattle.eb_trace.specs.Trace.{TraceWalk, is_visited_across, is_new_vertex, symbol_for, symbol_at_corner, split_across};
 
 use crate::numbers::NONE;
 use crate::surface::Surface;
@@ -71,7 +71,7 @@ impl Marks {
     fn is_visited_across(&self, s: &Surface<'_>, side: Option<u32>) -> bool
         requires sized { AreSized s.now self.now }
         requires side { IfSome side (λ n. n < 3 * s.now.faces) }
-        ensures { (w : Walk) → AreMarksOf s.now self.now w → result ≡ is_visited_across w (option_map side_at side) }
+        ensures { (w : TraceWalk) → AreMarksOf s.now self.now w → result ≡ is_visited_across w (option_map side_at side) }
     {
         // For the prover alone, who knows the range of what is read.
         let _ = &s.faces;
@@ -83,7 +83,7 @@ impl Marks {
 
     /// Whether a visited face meets the vertex of a corner.
     fn is_met(&self, s: &Surface<'_>, corner: u32) -> bool
-        requires surface { IsSurface s.now }
+        requires surface { IsTracedSurface s.now }
         requires sized { AreSized s.now self.now }
         requires corner { corner < 3 * s.now.faces }
         ensures { result ≡ get_or self.now.met.items (label_at s.now.labels.items (side_at corner)) false }
@@ -93,10 +93,10 @@ impl Marks {
 
     /// Whether the vertex of a corner is new: it meets no boundary and no visited face.
     fn is_new(&self, s: &Surface<'_>, corner: u32) -> bool
-        requires surface { IsSurface s.now }
+        requires surface { IsTracedSurface s.now }
         requires sized { AreSized s.now self.now }
         requires corner { corner < 3 * s.now.faces }
-        ensures { (w : Walk) → AreMarksOf s.now self.now w → result ≡ is_new_vertex s.now.faces (gluing_in s.now) w (side_at corner) }
+        ensures { (w : TraceWalk) → AreMarksOf s.now self.now w → result ≡ is_new_vertex s.now.faces (traced_gluing s.now) w (side_at corner) }
     {
         let end = s.is_end(corner);
         let met = self.is_met(s, corner);
@@ -105,10 +105,10 @@ impl Marks {
 
     /// The symbol at a corner.
     pub(crate) fn symbol_at(&self, s: &Surface<'_>, corner: u32) -> Symbol
-        requires surface { IsSurface s.now }
+        requires surface { IsTracedSurface s.now }
         requires sized { AreSized s.now self.now }
         requires corner { corner < 3 * s.now.faces }
-        ensures { (w : Walk) → AreMarksOf s.now self.now w → result ≡ symbol_at_corner s.now.faces (gluing_in s.now) w (side_at corner) }
+        ensures { (w : TraceWalk) → AreMarksOf s.now self.now w → result ≡ symbol_at_corner s.now.faces (traced_gluing s.now) w (side_at corner) }
     {
         let new = self.is_new(s, corner);
         let right = self.is_visited_across(s, s.across_of(next_number(corner)));
@@ -120,7 +120,7 @@ impl Marks {
     pub(crate) fn split_of(&self, s: &Surface<'_>, side: Option<u32>) -> u32
         requires sized { AreSized s.now self.now }
         requires side { IfSome side (λ n. n < 3 * s.now.faces) }
-        ensures { (w : Walk) → AreMarksOf s.now self.now w → split_told result ≡ split_across w.entries (option_map side_at side) }
+        ensures { (w : TraceWalk) → AreMarksOf s.now self.now w → split_told result ≡ split_across w.entries (option_map side_at side) }
     {
         // For the prover alone, who knows the range of what is read.
         let _ = &s.faces;
@@ -132,7 +132,7 @@ impl Marks {
 
     /// Marks the vertex of a corner.
     fn meet(&mut self, s: &Surface<'_>, corner: u32)
-        requires surface { IsSurface s.now }
+        requires surface { IsTracedSurface s.now }
         requires sized { AreSized s.now self.old }
         requires corner { corner < 3 * s.now.faces }
         ensures met { self.new.met.items ≡ set self.old.met.items (get_or s.now.labels.items corner free_entry) true }
@@ -145,7 +145,7 @@ impl Marks {
 
     /// Marks a face and its vertices.
     pub(crate) fn mark(&mut self, s: &Surface<'_>, face: u32)
-        requires surface { IsSurface s.now }
+        requires surface { IsTracedSurface s.now }
         requires sized { AreSized s.now self.old }
         requires face { face < s.now.faces }
         ensures visited { self.new.visited.items ≡ set self.old.visited.items face true }

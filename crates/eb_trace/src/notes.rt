@@ -2,7 +2,7 @@
 
 ghost use Rattle.std.specs.Prelude.{◌≡◌, ◌+◌, ◌<◌, ◌++◌, ◌∷◌, IfOk, OnOk, vec_len, reverse, []};
 ghost use Rattle.corner_table.specs.Sides.{side_at};
-ghost use Rattle.eb_trace.specs.Stored.{walk_of, split_told};
+ghost use Rattle.eb_trace.specs.Stored.{noted_walk, split_told};
 ghost use Rattle.eb_trace.specs.Trace.{event_noted, nothing_walked};
 
 use crate::numbers::NONE;
@@ -29,7 +29,7 @@ pub(crate) struct Notes {
 
 /// Nothing is noted; there is room for the entries of all faces.
 pub(crate) fn no_notes(alloc: Global, faces: u32) -> Result<Notes, Memory>
-    ensures walk { IfOk result (λ n. walk_of n ≡ nothing_walked) }
+    ensures walk { IfOk result (λ n. noted_walk n ≡ nothing_walked) }
     ensures kept { IfOk result (λ n. n.kept.items ≡ []) }
 {
     Ok(Notes {
@@ -41,7 +41,7 @@ pub(crate) fn no_notes(alloc: Global, faces: u32) -> Result<Notes, Memory>
     })
 }
 
-/// Notes the event that a symbol tells of an S, if there is one.
+/// Notes the event by a symbol of an S, if there is one.
 pub(crate) fn note_event(
     events: &mut Vec<Event>,
     source: u32,

@@ -6,7 +6,6 @@ ghost use Rattle.drc_base.specs.declared.limits.TheConstants.{MAX_FACES as most_
 ghost use Rattle.eb_rebuild.specs.Rebuilding.{IsEventOf};
 
 use crate::tracing::{Traced, trace};
-use crate::worked::{BOOK, RING, TETRAHEDRON, TORUS, fan, grid, mesh};
 use corner_table::{SideTable, Steps, Symbol};
 use drc_base::Refusal;
 use eb_rebuild::{Built, Rebuild, RowRebuild};
@@ -16,6 +15,8 @@ use std::marker::Brand;
 use std::process::Abort;
 use std::sync::ledger::{Blank, Ledger};
 use std::test::Fail;
+use worked_meshes::mesh_of;
+use worked_surfaces::{BOOK, RING, SQUARE, TETRAHEDRON, TORUS, fan, grid};
 
 /// How many of the symbols are S.
 fn split_count(symbols: &[Symbol]) -> u32 {
@@ -53,7 +54,7 @@ fn take_all<R: Rebuild, L: Ledger>(
     Ok(())
 }
 
-/// Closes all sides that wait, each by its bit, and tells how many.
+/// Closes all sides that wait, each by its bit, and answers how many.
 fn close_all<R: Rebuild, L: Ledger>(
     machine: &mut R,
     bits: &[bool],
@@ -129,7 +130,7 @@ fn comes_back<L: Ledger>(
     requires some { 0 < L.parts }
 {
     let mut steps = Steps::<L>::new(blank);
-    let table = pair(alloc, &mesh(rt, alloc, points, faces)?)?;
+    let table = pair(alloc, &mesh_of(alloc, points, faces)?)?;
     let traced = trace(alloc, &table)?;
     let turned = table.renumbered(alloc, traced.order.as_slice(), &mut steps)?;
     let count = table.face_count();
@@ -160,7 +161,7 @@ fn surfaces_come_back(rt: HostRuntime) -> Result<(), Fail> {
     let three_holes = grid(alloc, (8, 4), (7, 3), &[(1, 1), (3, 1), (5, 1)])?;
     for (points, faces) in [
         (3u8, [[0, 1, 2]].as_slice()),
-        (4, &[[0, 1, 2], [2, 1, 3]]),
+        (4, &SQUARE),
         // Two parts share a point.
         (5, &[[0, 1, 2], [2, 3, 4]]),
         (4, &TETRAHEDRON),

@@ -7,7 +7,7 @@ ghost use Rattle.corner_table.specs.Sides.{side_at};
 ghost use Rattle.corner_table.specs.Fans.{rightmost, swing_right};
 ghost use Rattle.corner_table.specs.Labels.{label_at};
 ghost use Rattle.corner_table.specs.Table.{gluing_of};
-ghost use Rattle.eb_trace.specs.Stored.{gluing_in, IsSurface};
+ghost use Rattle.eb_trace.specs.Stored.{traced_gluing, IsTracedSurface};
 ghost use Rattle.eb_trace.specs.Trace.{start_by, start_corner};
 
 use crate::numbers::entry_at;
@@ -37,9 +37,9 @@ fn counted_surface<'t, L: Ledger>(
     requires name { blank.name ≡ L.name }
     requires parts { blank.parts ≡ L.parts }
     requires some { 0 < L.parts }
-    ensures surface { IfOk result (λ s. IsSurface s) }
+    ensures surface { IfOk result (λ s. IsTracedSurface s) }
     ensures faces { IfOk result (λ s. s.faces ≡ t.now.faces) }
-    ensures gluing { IfOk result (λ s. gluing_in s ≡ gluing_of t.now) }
+    ensures gluing { IfOk result (λ s. traced_gluing s ≡ gluing_of t.now) }
 {
     let mut steps = Steps::<L>::new(blank);
     let classes = t.label_vertices(alloc, &mut steps)?;
@@ -54,9 +54,9 @@ fn counted_surface<'t, L: Ledger>(
 
 /// A surface, from its table.
 pub(crate) fn surface_of<'t>(alloc: Global, t: &'t SideTable) -> Result<Surface<'t>, Memory>
-    ensures surface { IfOk result (λ s. IsSurface s) }
+    ensures surface { IfOk result (λ s. IsTracedSurface s) }
     ensures faces { IfOk result (λ s. s.faces ≡ t.now.faces) }
-    ensures gluing { IfOk result (λ s. gluing_in s ≡ gluing_of t.now) }
+    ensures gluing { IfOk result (λ s. traced_gluing s ≡ gluing_of t.now) }
 {
     // For the prover alone, who shows the clauses of the value that the call gave.
     let surface = counted_surface::<Brand>(alloc, t, Blank::new(1))?;
@@ -66,9 +66,9 @@ pub(crate) fn surface_of<'t>(alloc: Global, t: &'t SideTable) -> Result<Surface<
 impl Surface<'_> {
     /// The side across.
     pub(crate) fn across_of(&self, side: u32) -> Option<u32>
-        requires surface { IsSurface self.now }
+        requires surface { IsTracedSurface self.now }
         requires side { side < 3 * self.now.faces }
-        ensures other { option_map side_at result ≡ gluing_in self.now (side_at side) }
+        ensures other { option_map side_at result ≡ traced_gluing self.now (side_at side) }
         ensures within { IfSome result (λ n. n < 3 * self.now.faces) }
     {
         let found = entry_at(self.across, side);
@@ -77,7 +77,7 @@ impl Surface<'_> {
 
     /// The label of a corner's vertex.
     pub(crate) fn label_of(&self, corner: u32) -> u32
-        requires surface { IsSurface self.now }
+        requires surface { IsTracedSurface self.now }
         requires corner { corner < 3 * self.now.faces }
         ensures label { result ≡ label_at self.now.labels.items (side_at corner) }
         ensures within { result < vec_len self.now.ends }
@@ -87,7 +87,7 @@ impl Surface<'_> {
 
     /// Whether the vertex of a corner meets a boundary.
     pub(crate) fn is_end(&self, corner: u32) -> bool
-        requires surface { IsSurface self.now }
+        requires surface { IsTracedSurface self.now }
         requires corner { corner < 3 * self.now.faces }
         ensures { result ≡ get_or self.now.ends.items (label_at self.now.labels.items (side_at corner)) false }
     {
@@ -96,9 +96,9 @@ impl Surface<'_> {
 
     /// The next corner to the right round a corner's vertex.
     fn right_of(&self, corner: u32) -> Option<u32>
-        requires surface { IsSurface self.now }
+        requires surface { IsTracedSurface self.now }
         requires corner { corner < 3 * self.now.faces }
-        ensures corner { option_map side_at result ≡ swing_right (gluing_in self.now) (side_at corner) }
+        ensures corner { option_map side_at result ≡ swing_right (traced_gluing self.now) (side_at corner) }
         ensures within { IfSome result (λ n. n < 3 * self.now.faces) }
     {
         match self.across_of(previous_number(corner)) {
@@ -109,9 +109,9 @@ impl Surface<'_> {
 
     /// The last corner to the right round a corner's vertex.
     fn rightmost(&self, corner: u32) -> u32
-        requires surface { IsSurface self.now }
+        requires surface { IsTracedSurface self.now }
         requires corner { corner < 3 * self.now.faces }
-        ensures corner { side_at result ≡ rightmost (gluing_in self.now) (3 * self.now.faces) (side_at corner) }
+        ensures corner { side_at result ≡ rightmost (traced_gluing self.now) (3 * self.now.faces) (side_at corner) }
         ensures within { result < 3 * self.now.faces }
     {
         let mut at = corner;
@@ -124,11 +124,11 @@ impl Surface<'_> {
         at
     }
 
-    /// The start corner that one corner of a face tells.
+    /// The start corner that one corner of a face gives.
     fn start_by(&self, corner: u32) -> Option<u32>
-        requires surface { IsSurface self.now }
+        requires surface { IsTracedSurface self.now }
         requires corner { corner < 3 * self.now.faces }
-        ensures corner { option_map side_at result ≡ start_by self.now.faces (gluing_in self.now) (side_at corner) }
+        ensures corner { option_map side_at result ≡ start_by self.now.faces (traced_gluing self.now) (side_at corner) }
         ensures within { IfSome result (λ n. n < 3 * self.now.faces) }
     {
         match self.across_of(corner) {
@@ -145,9 +145,9 @@ impl Surface<'_> {
 
     /// The corner from which the run of a face starts; None where the run starts inside.
     pub(crate) fn start_corner(&self, face: u32) -> Option<u32>
-        requires surface { IsSurface self.now }
+        requires surface { IsTracedSurface self.now }
         requires face { face < self.now.faces }
-        ensures corner { option_map side_at result ≡ start_corner self.now.faces (gluing_in self.now) face }
+        ensures corner { option_map side_at result ≡ start_corner self.now.faces (traced_gluing self.now) face }
         ensures within { IfSome result (λ n. n < 3 * self.now.faces) }
     {
         match self.start_by(3 * face) {

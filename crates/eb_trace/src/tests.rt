@@ -1,13 +1,17 @@
 //! Worked surfaces: what their walks note.
 
 use crate::tracing::trace;
-use crate::worked::{BOOK, RING, TETRAHEDRON, TORUS, grid, mesh};
 use corner_table::{Event, Symbol};
-use drc_base::{Memory, Refusal};
+use drc_base::Refusal;
 use pairing::pair;
 use std::alloc::Global;
 use std::process::Abort;
 use std::test::Fail;
+use worked_meshes::mesh_of;
+use worked_surfaces::{
+    BOOK, MIRRORED, RING, RING_ROWS, TETRAHEDRON, TETRAHEDRON_ROWS, TORUS, TORUS_EVENTS,
+    TORUS_ROWS, TWICE, TWIN_ROWS, grid, two_tori,
+};
 
 /// What a walk is to note.
 #[derive(Drop)]
@@ -29,7 +33,7 @@ struct Worked<'a> {
 
 /// Walks over a surface, and compares what is noted.
 fn walks(rt: &impl Abort, alloc: Global, worked: Worked<'_>) -> Result<(), Refusal> {
-    let table = pair(alloc, &mesh(rt, alloc, worked.points, worked.faces)?)?;
+    let table = pair(alloc, &mesh_of(alloc, worked.points, worked.faces)?)?;
     let traced = trace(alloc, &table)?;
     assert!(rt; traced.symbols.as_slice() == worked.told.symbols);
     assert!(rt; traced.events.as_slice() == worked.told.events);
@@ -37,21 +41,6 @@ fn walks(rt: &impl Abort, alloc: Global, worked: Worked<'_>) -> Result<(), Refus
     assert!(rt; traced.order.as_slice() == worked.told.order);
     assert!(rt; traced.vertices == worked.told.vertices);
     Ok(())
-}
-
-/// The torus, and another one of seven points more.
-fn two_tori(alloc: Global) -> Result<Vec<[u32; 3]>, Memory> {
-    let mut faces = Vec::new(alloc);
-    for shift in [0u32, 7] {
-        for [a, b, c] in TORUS {
-            faces.push([
-                a.wrapping_add(shift),
-                b.wrapping_add(shift),
-                c.wrapping_add(shift),
-            ])?;
-        }
-    }
-    Ok(faces)
 }
 
 #[test]
@@ -68,7 +57,7 @@ fn walks_worked_surfaces(rt: HostRuntime) -> Result<(), Fail> {
                 symbols: &[C, R, E],
                 events: &[],
                 starts: &[true],
-                order: &[(3, 0), (2, 1), (1, 2), (0, 1)],
+                order: &TETRAHEDRON_ROWS,
                 vertices: 4,
             },
         },
@@ -77,35 +66,9 @@ fn walks_worked_surfaces(rt: HostRuntime) -> Result<(), Fail> {
             faces: &TORUS,
             told: Told {
                 symbols: &[C, C, C, C, R, S, S, L, R, S, L, E, E],
-                events: &[
-                    Event {
-                        source: 11,
-                        split: 6,
-                        right: false,
-                    },
-                    Event {
-                        source: 12,
-                        split: 5,
-                        right: true,
-                    },
-                ],
+                events: &TORUS_EVENTS,
                 starts: &[true],
-                order: &[
-                    (9, 0),
-                    (6, 2),
-                    (11, 2),
-                    (4, 0),
-                    (12, 2),
-                    (5, 0),
-                    (13, 0),
-                    (1, 1),
-                    (8, 0),
-                    (3, 1),
-                    (10, 1),
-                    (2, 2),
-                    (7, 2),
-                    (0, 1),
-                ],
+                order: &TORUS_ROWS,
                 vertices: 7,
             },
         },
@@ -140,36 +103,7 @@ fn walks_worked_surfaces(rt: HostRuntime) -> Result<(), Fail> {
                     },
                 ],
                 starts: &[true, true],
-                order: &[
-                    (23, 0),
-                    (20, 2),
-                    (25, 2),
-                    (18, 0),
-                    (26, 2),
-                    (19, 0),
-                    (27, 0),
-                    (15, 1),
-                    (22, 0),
-                    (17, 1),
-                    (24, 1),
-                    (16, 2),
-                    (21, 2),
-                    (9, 0),
-                    (6, 2),
-                    (11, 2),
-                    (4, 0),
-                    (12, 2),
-                    (5, 0),
-                    (13, 0),
-                    (1, 1),
-                    (8, 0),
-                    (3, 1),
-                    (10, 1),
-                    (2, 2),
-                    (7, 2),
-                    (0, 1),
-                    (14, 1),
-                ],
+                order: &TWIN_ROWS,
                 vertices: 14,
             },
         },
@@ -184,7 +118,7 @@ fn walks_worked_surfaces(rt: HostRuntime) -> Result<(), Fail> {
                     right: true,
                 }],
                 starts: &[false],
-                order: &[(5, 1), (4, 1), (3, 1), (2, 1), (1, 1), (0, 2)],
+                order: &RING_ROWS,
                 vertices: 6,
             },
         },
@@ -270,7 +204,7 @@ fn walks_worked_surfaces(rt: HostRuntime) -> Result<(), Fail> {
         // Two mirrored faces, which aren't joined.
         Worked {
             points: 3,
-            faces: &[[0, 1, 2], [0, 2, 1]],
+            faces: &MIRRORED,
             told: Told {
                 symbols: &[E, E],
                 events: &[],
@@ -282,7 +216,7 @@ fn walks_worked_surfaces(rt: HostRuntime) -> Result<(), Fail> {
         // A face twice.
         Worked {
             points: 3,
-            faces: &[[0, 1, 2], [0, 1, 2]],
+            faces: &TWICE,
             told: Told {
                 symbols: &[E, E],
                 events: &[],

@@ -9,7 +9,7 @@ ghost use Rattle.eb_trace.specs.Events.{IsSplitEvent, AreInOrder, SplitOnce};
 ghost use Rattle.eb_trace.specs.FromTrace.{AreStartBits, CarriesOne, CarriesFans, IsRebuiltFrom, NamesVertices};
 ghost use Rattle.eb_trace.specs.Writable.{IsWritable};
 ghost use Rattle.eb_trace.specs.declared.notes.Entered.{Entered as entered_value};
-ghost use Rattle.eb_trace.specs.Stored.{gluing_in, walk_of, row_of, IsSurface};
+ghost use Rattle.eb_trace.specs.Stored.{traced_gluing, noted_walk, entered_row, IsTracedSurface};
 ghost use Rattle.eb_trace.specs.Trace.{trace, word_of, order_of, fan_count};
 
 use crate::marks::no_marks;
@@ -39,9 +39,9 @@ pub struct Traced {
 
 /// The notes of the whole walk.
 fn walk_all(alloc: Global, s: &Surface<'_>) -> Result<Notes, Memory>
-    requires surface { IsSurface s.now }
-    requires few { length (trace s.now.faces (gluing_in s.now)).entries ≤ s.now.faces }
-    ensures { IfOk result (λ n. walk_of n ≡ trace s.now.faces (gluing_in s.now)) }
+    requires surface { IsTracedSurface s.now }
+    requires few { length (trace s.now.faces (traced_gluing s.now)).entries ≤ s.now.faces }
+    ensures { IfOk result (λ n. noted_walk n ≡ trace s.now.faces (traced_gluing s.now)) }
 {
     let mut marks = no_marks(alloc, s)?;
     let mut notes = no_notes(alloc, s.faces)?;
@@ -64,7 +64,7 @@ fn rows_of(
     entries: &[Entered],
     interior: &[u32],
 ) -> Result<Vec<(u32, u8)>, AllocError>
-    ensures { IfOk result (λ v. v.items ≡ map row_of (reverse entries.now) ++ map (λ (f : ℕ). (f, 1)) interior.now) }
+    ensures { IfOk result (λ v. v.items ≡ map entered_row (reverse entries.now) ++ map (λ (f : ℕ). (f, 1)) interior.now) }
 {
     entries
         .iter()
@@ -76,7 +76,7 @@ fn rows_of(
 
 /// The faces in the order of decoding.
 fn rows_in_order(alloc: Global, notes: &Notes) -> Result<Vec<(u32, u8)>, AllocError>
-    ensures { IfOk result (λ v. v.items ≡ order_of (walk_of notes.now)) }
+    ensures { IfOk result (λ v. v.items ≡ order_of (noted_walk notes.now)) }
 {
     // For the prover alone, who shows the clauses of the value that the call gave.
     let rows = rows_of(alloc, notes.entries.as_slice(), notes.interior.as_slice())?;
@@ -89,12 +89,12 @@ fn rows_in_order(alloc: Global, notes: &Notes) -> Result<Vec<(u32, u8)>, AllocEr
 /// how many vertices there are. There are no more symbols than faces, nor events or start bits than
 /// symbols, and the order lists each face once. Each event is of an R or E that met an earlier S on its right, or
 /// of an L or E that met one on its left; events come by rising sources, the right one of a symbol
-/// first, and no S has two. There is one surface in the order of decoding; it has as many vertices,
-/// and tells the start bits. The machine of reverse decoding that is made for all faces and for no
+/// first, and no S has two. There is one surface in the order of decoding; it has as many vertices, and
+/// determines the start bits. The machine of reverse decoding that is made for all faces and for no
 /// fewer vertices than there are vertices and S together, and is fed what is answered, meets no fault
 /// and builds that surface. So does the machine that names vertices, and in the end as many distinct
 /// names stand in its triangles as there are vertices. After the symbols as many sides wait as there
-/// are start bits. Refused only when out of memory.
+/// are start bits. Fails only when out of memory.
 pub fn trace(alloc: Global, t: &SideTable) -> Result<Traced, Memory>
     requires proper { IsProper t.now.faces (gluing_of t.now) }
     ensures symbols { IfOk result (λ r. r.symbols ≡ reverse (word_of (trace t.now.faces (gluing_of t.now)))) }

@@ -8,8 +8,8 @@ ghost use Rattle.std.specs.Prelude.{◌≡◌, ℕ, ◌*◌, ◌<◌, ◌≤◌,
 ghost use Rattle.std.specs.Option.{option_map};
 ghost use Rattle.corner_table.specs.Sides.{side, second, side_at};
 ghost use Rattle.eb_rebuild.specs.Machine.{pushed};
-ghost use Rattle.eb_trace.specs.Stored.{gluing_in, walk_of, split_entry, IsSurface, IsStored};
-ghost use Rattle.eb_trace.specs.Trace.{entered, events_noted, take_kept, go_back, after_symbol, visit, run, start_corner, begun_inside, begun, walked_from};
+ghost use Rattle.eb_trace.specs.Stored.{traced_gluing, noted_walk, split_entry, IsTracedSurface, IsTraceStored};
+ghost use Rattle.eb_trace.specs.Trace.{entered_by, events_noted, take_kept, go_back, after_symbol, trace_visit, run, start_corner, begun_inside, begun, face_run};
 
 use crate::marks::Marks;
 use crate::notes::{Entered, Notes, note_event};
@@ -36,12 +36,12 @@ fn enter(
     corner: u32,
     symbol: Symbol,
 ) -> Result<(), Memory>
-    requires surface { IsSurface s.now }
+    requires surface { IsTracedSurface s.now }
     requires corner { corner < 3 * s.now.faces }
-    requires stored { IsStored s.now marks.old notes.old }
+    requires stored { IsTraceStored s.now marks.old notes.old }
     requires few { vec_len notes.old.entries < s.now.faces }
-    ensures stored { OnOk result (IsStored s.now marks.new notes.new) }
-    ensures walk { OnOk result (walk_of notes.new ≡ entered (walk_of notes.old) (side_at corner) symbol) }
+    ensures stored { OnOk result (IsTraceStored s.now marks.new notes.new) }
+    ensures walk { OnOk result (noted_walk notes.new ≡ entered_by (noted_walk notes.old) (side_at corner) symbol) }
 {
     let split = split_entry(notes.entries.len() as u32, symbol);
     notes.entries.push(Entered { corner, symbol })?;
@@ -52,12 +52,12 @@ fn enter(
 
 /// Notes the events of a face about to be entered.
 fn note_events(s: &Surface<'_>, marks: &Marks, notes: &mut Notes, corner: u32) -> Result<(), Memory>
-    requires surface { IsSurface s.now }
+    requires surface { IsTracedSurface s.now }
     requires corner { corner < 3 * s.now.faces }
-    requires stored { IsStored s.now marks.now notes.old }
+    requires stored { IsTraceStored s.now marks.now notes.old }
     requires few { vec_len notes.old.entries < s.now.faces }
     ensures rest { OnOk result (notes.new ≡ record notes.old { events = notes.new.events }) }
-    ensures events { OnOk result (reverse notes.new.events.items ≡ events_noted (gluing_in s.now) (walk_of notes.old).entries (side_at corner) ++ reverse notes.old.events.items) }
+    ensures events { OnOk result (reverse notes.new.events.items ≡ events_noted (traced_gluing s.now) (noted_walk notes.old).entries (side_at corner) ++ reverse notes.old.events.items) }
 {
     let source = notes.entries.len() as u32;
     let right = marks.split_of(s, s.across_of(next_number(corner)));
@@ -81,9 +81,9 @@ fn keep(notes: &mut Notes, side: Option<u32>) -> Result<(), Memory>
 
 /// Takes kept corners off, up to and with the first of an unvisited face.
 fn take_kept(s: &Surface<'_>, marks: &Marks, notes: &mut Notes) -> Option<u32>
-    requires stored { IsStored s.now marks.now notes.old }
-    ensures stored { IsStored s.now marks.now notes.new }
-    ensures walk { go_back (walk_of notes.old) (take_kept (walk_of notes.old) (walk_of notes.old).kept) ≡ (walk_of notes.new, option_map side_at result) }
+    requires stored { IsTraceStored s.now marks.now notes.old }
+    ensures stored { IsTraceStored s.now marks.now notes.new }
+    ensures walk { go_back (noted_walk notes.old) (take_kept (noted_walk notes.old) (noted_walk notes.old).kept) ≡ (noted_walk notes.new, option_map side_at result) }
     ensures within { IfSome result (λ n. n < 3 * s.now.faces) }
 {
     'taking: loop {
@@ -106,12 +106,12 @@ fn after_symbol(
     corner: u32,
     symbol: Symbol,
 ) -> Result<Option<u32>, Memory>
-    requires surface { IsSurface s.now }
+    requires surface { IsTracedSurface s.now }
     requires corner { corner < 3 * s.now.faces }
-    requires stored { IsStored s.now marks.old notes.old }
+    requires stored { IsTraceStored s.now marks.old notes.old }
     requires few { vec_len notes.old.entries < s.now.faces }
-    ensures stored { OnOk result (IsStored s.now marks.new notes.new) }
-    ensures walk { IfOk result (λ next. after_symbol (gluing_in s.now) (walk_of notes.old) (side_at corner) symbol ≡ (walk_of notes.new, option_map side_at next)) }
+    ensures stored { OnOk result (IsTraceStored s.now marks.new notes.new) }
+    ensures walk { IfOk result (λ next. after_symbol (traced_gluing s.now) (noted_walk notes.old) (side_at corner) symbol ≡ (noted_walk notes.new, option_map side_at next)) }
     ensures within { IfOk result (λ next. IfSome next (λ n. n < 3 * s.now.faces)) }
 {
     let right = s.across_of(next_number(corner));
@@ -144,19 +144,19 @@ fn after_symbol(
     }
 }
 
-/// Visits the face of a corner, and tells where the run goes on.
+/// Visits the face of a corner, and answers where the run goes on.
 fn visit(
     s: &Surface<'_>,
     marks: &mut Marks,
     notes: &mut Notes,
     corner: u32,
 ) -> Result<Option<u32>, Memory>
-    requires surface { IsSurface s.now }
+    requires surface { IsTracedSurface s.now }
     requires corner { corner < 3 * s.now.faces }
-    requires stored { IsStored s.now marks.old notes.old }
+    requires stored { IsTraceStored s.now marks.old notes.old }
     requires few { vec_len notes.old.entries < s.now.faces }
-    ensures stored { OnOk result (IsStored s.now marks.new notes.new) }
-    ensures walk { IfOk result (λ next. visit s.now.faces (gluing_in s.now) (walk_of notes.old) (side_at corner) ≡ (walk_of notes.new, option_map side_at next)) }
+    ensures stored { OnOk result (IsTraceStored s.now marks.new notes.new) }
+    ensures walk { IfOk result (λ next. trace_visit s.now.faces (traced_gluing s.now) (noted_walk notes.old) (side_at corner) ≡ (noted_walk notes.new, option_map side_at next)) }
     ensures within { IfOk result (λ next. IfSome next (λ n. n < 3 * s.now.faces)) }
 {
     let symbol = marks.symbol_at(s, corner);
@@ -165,12 +165,12 @@ fn visit(
 
 /// A run from a corner.
 fn run(s: &Surface<'_>, marks: &mut Marks, notes: &mut Notes, corner: u32) -> Result<(), Memory>
-    requires surface { IsSurface s.now }
+    requires surface { IsTracedSurface s.now }
     requires corner { corner < 3 * s.now.faces }
-    requires stored { IsStored s.now marks.old notes.old }
-    requires few { length (run s.now.faces (gluing_in s.now) s.now.faces (walk_of notes.old) (side_at corner)).entries ≤ s.now.faces }
-    ensures stored { OnOk result (IsStored s.now marks.new notes.new) }
-    ensures walk { OnOk result (walk_of notes.new ≡ run s.now.faces (gluing_in s.now) s.now.faces (walk_of notes.old) (side_at corner)) }
+    requires stored { IsTraceStored s.now marks.old notes.old }
+    requires few { length (run s.now.faces (traced_gluing s.now) s.now.faces (noted_walk notes.old) (side_at corner)).entries ≤ s.now.faces }
+    ensures stored { OnOk result (IsTraceStored s.now marks.new notes.new) }
+    ensures walk { OnOk result (noted_walk notes.new ≡ run s.now.faces (traced_gluing s.now) s.now.faces (noted_walk notes.old) (side_at corner)) }
 {
     let mut at = corner;
     for turn in 0..s.faces {
@@ -189,12 +189,12 @@ fn begin_inside(
     notes: &mut Notes,
     face: u32,
 ) -> Result<(), Memory>
-    requires surface { IsSurface s.now }
+    requires surface { IsTracedSurface s.now }
     requires face { face < s.now.faces }
-    requires stored { IsStored s.now marks.old notes.old }
-    requires few { length (begun_inside s.now.faces (gluing_in s.now) face (walk_of notes.old) (gluing_in s.now (side face second))).entries ≤ s.now.faces }
-    ensures stored { OnOk result (IsStored s.now marks.new notes.new) }
-    ensures walk { OnOk result (walk_of notes.new ≡ begun_inside s.now.faces (gluing_in s.now) face (walk_of notes.old) (gluing_in s.now (side face second))) }
+    requires stored { IsTraceStored s.now marks.old notes.old }
+    requires few { length (begun_inside s.now.faces (traced_gluing s.now) face (noted_walk notes.old) (traced_gluing s.now (side face second))).entries ≤ s.now.faces }
+    ensures stored { OnOk result (IsTraceStored s.now marks.new notes.new) }
+    ensures walk { OnOk result (noted_walk notes.new ≡ begun_inside s.now.faces (traced_gluing s.now) face (noted_walk notes.old) (traced_gluing s.now (side face second))) }
 {
     match s.across_of(3 * face + 1) {
         None => Ok(()),
@@ -209,12 +209,12 @@ fn begin_inside(
 
 /// The run of a face.
 fn begin(s: &Surface<'_>, marks: &mut Marks, notes: &mut Notes, face: u32) -> Result<(), Memory>
-    requires surface { IsSurface s.now }
+    requires surface { IsTracedSurface s.now }
     requires face { face < s.now.faces }
-    requires stored { IsStored s.now marks.old notes.old }
-    requires few { length (begun s.now.faces (gluing_in s.now) face (walk_of notes.old) (start_corner s.now.faces (gluing_in s.now) face)).entries ≤ s.now.faces }
-    ensures stored { OnOk result (IsStored s.now marks.new notes.new) }
-    ensures walk { OnOk result (walk_of notes.new ≡ begun s.now.faces (gluing_in s.now) face (walk_of notes.old) (start_corner s.now.faces (gluing_in s.now) face)) }
+    requires stored { IsTraceStored s.now marks.old notes.old }
+    requires few { length (begun s.now.faces (traced_gluing s.now) face (noted_walk notes.old) (start_corner s.now.faces (traced_gluing s.now) face)).entries ≤ s.now.faces }
+    ensures stored { OnOk result (IsTraceStored s.now marks.new notes.new) }
+    ensures walk { OnOk result (noted_walk notes.new ≡ begun s.now.faces (traced_gluing s.now) face (noted_walk notes.old) (start_corner s.now.faces (traced_gluing s.now) face)) }
 {
     match s.start_corner(face) {
         Some(corner) => {
@@ -232,12 +232,12 @@ pub(crate) fn walk_from(
     notes: &mut Notes,
     face: u32,
 ) -> Result<(), Memory>
-    requires surface { IsSurface s.now }
+    requires surface { IsTracedSurface s.now }
     requires face { face < s.now.faces }
-    requires stored { IsStored s.now marks.old notes.old }
-    requires few { length (walked_from s.now.faces (gluing_in s.now) face (walk_of notes.old)).entries ≤ s.now.faces }
-    ensures stored { OnOk result (IsStored s.now marks.new notes.new) }
-    ensures walk { OnOk result (walk_of notes.new ≡ walked_from s.now.faces (gluing_in s.now) face (walk_of notes.old)) }
+    requires stored { IsTraceStored s.now marks.old notes.old }
+    requires few { length (face_run s.now.faces (traced_gluing s.now) face (noted_walk notes.old)).entries ≤ s.now.faces }
+    ensures stored { OnOk result (IsTraceStored s.now marks.new notes.new) }
+    ensures walk { OnOk result (noted_walk notes.new ≡ face_run s.now.faces (traced_gluing s.now) face (noted_walk notes.old)) }
 {
     if marks.is_visited(face) {
         Ok(())

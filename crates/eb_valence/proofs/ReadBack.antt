@@ -18,8 +18,8 @@ use Rattle.eb_rebuild.specs.Degree.{top_degree}
 use Rattle.eb_rebuild.proofs.Counts.{step_counts}
 use Rattle.eb_valence.specs.declared.context_lists.TheConstants.{CONTEXTS}
 use Rattle.eb_valence.specs.Numbers.{symbol_number, symbol_numbered, context_of}
-use Rattle.eb_valence.specs.Reading.{last_of, all_but_last, taken_from, taken_at}
-use Rattle.eb_valence.specs.Contexts.{Coded, coded, coded_at, list_of, lists_of, symbol_at, fed, EachReadsBack, WordsReadBack}
+use Rattle.eb_valence.specs.Reading.{last_of, all_but_last, symbol_taken, taken_at}
+use Rattle.eb_valence.specs.Contexts.{CodedSymbol, coded, context_coded_at, context_list, lists_of, symbol_at, fed_by_context, EachReadsBack, WordsReadBack}
 
 -- the last item of a list is the one that was put behind it
 slice_last : (xs : List ℕ) (n : ℕ) → slice_get (xs ++ n ∷ []) (length xs) ≡ Some n
@@ -36,13 +36,13 @@ pub all_but_last_is : (xs : List ℕ) (n : ℕ) → all_but_last (xs ++ n ∷ []
 all_but_last_is xs n = ap (λ k. take k (xs ++ n ∷ [])) (one_more xs n) ∙ take-append_seam xs (n ∷ [])
 
 -- what one code adds to the list of a context
-abbrev in_context : ℕ → Coded → List ℕ
+abbrev in_context : ℕ → CodedSymbol → List ℕ
 in_context k c = cond (c.context == k) (c.number ∷ []) []
 
-pub list_more : (codes : List Coded) (c : Coded) (k : ℕ) → list_of (c ∷ codes) k ≡ list_of codes k ++ in_context k c
-unfolding list_of
+pub list_more : (codes : List CodedSymbol) (c : CodedSymbol) (k : ℕ) → context_list (c ∷ codes) k ≡ context_list codes k ++ in_context k c
+unfolding context_list
 list_more codes c k =
-    let rest : List Coded = filter (λ x. x.context == k) codes in
+    let rest : List CodedSymbol = filter (λ x. x.context == k) codes in
     elim (c.context == k) as (λ (b : Bool). reverse (map (λ x. x.number) (cond b (c ∷ rest) rest)) ≡ reverse (map (λ x. x.number) rest) ++ cond b (c.number ∷ []) []) [
       | true ↦ reverse-append (c.number ∷ []) (map (λ x. x.number) rest)
       | false ↦ sym (append-nil (reverse (map (λ x. x.number) rest)))
@@ -64,23 +64,23 @@ set_is F G v k h e same =
     ext_get_or [] (set xs k v) (map G (range_with_len 0 CONTEXTS)) (length-set xs k v ∙ long ∙ sym (length-map-range_with_len G 0 CONTEXTS)) each
 
 -- what is taken from a context is the code that was put behind its list, and the others are left
-taken_is : (codes : List Coded) (k n : ℕ) (x : Symbol) → k < CONTEXTS → symbol_numbered n ≡ Some x →
-    taken_from k (lists_of (record { context = k; number = n } ∷ codes)) ≡ Ok (x, lists_of codes)
+taken_is : (codes : List CodedSymbol) (k n : ℕ) (x : Symbol) → k < CONTEXTS → symbol_numbered n ≡ Some x →
+    symbol_taken k (lists_of (record { context = k; number = n } ∷ codes)) ≡ Ok (x, lists_of codes)
 taken_is codes k n x h s =
-    let c : Coded = record { context = k; number = n } in
+    let c : CodedSymbol = record { context = k; number = n } in
     let lists : List (List ℕ) = lists_of (c ∷ codes) in
     let here : in_context k c ≡ n ∷ [] = ap (λ (b : Bool). cond b (n ∷ []) []) (eq-eqb k k refl) in
-    let items : get_or lists k [] ≡ list_of codes k ++ n ∷ [] =
-    get_or-map-range_with_len (list_of (c ∷ codes)) 0 CONTEXTS k k [] h (zero-add k) ∙ list_more codes c k ∙ ap (λ l. list_of codes k ++ l) here in
-    let elsewhere : (j : ℕ) → (j ≡ k → ⊥) → list_of (c ∷ codes) j ≡ list_of codes j = λ j other.
+    let items : get_or lists k [] ≡ context_list codes k ++ n ∷ [] =
+    get_or-map-range_with_len (context_list (c ∷ codes)) 0 CONTEXTS k k [] h (zero-add k) ∙ list_more codes c k ∙ ap (λ l. context_list codes k ++ l) here in
+    let elsewhere : (j : ℕ) → (j ≡ k → ⊥) → context_list (c ∷ codes) j ≡ context_list codes j = λ j other.
     let not : (k == j) ≡ false = ne_eqb k j (λ (e : k ≡ j). other (sym e)) in
-    list_more codes c j ∙ ap (λ (b : Bool). list_of codes j ++ cond b (n ∷ []) []) not ∙ append-nil (list_of codes j) in
+    list_more codes c j ∙ ap (λ (b : Bool). context_list codes j ++ cond b (n ∷ []) []) not ∙ append-nil (context_list codes j) in
     let left : set lists k (all_but_last (get_or lists k [])) ≡ lists_of codes =
-    set_is (list_of (c ∷ codes)) (list_of codes) (all_but_last (get_or lists k [])) k h (sym (ap all_but_last items ∙ all_but_last_is (list_of codes k) n)) elsewhere in
+    set_is (context_list (c ∷ codes)) (context_list codes) (all_but_last (get_or lists k [])) k h (sym (ap all_but_last items ∙ all_but_last_is (context_list codes k) n)) elsewhere in
     let read : Option Symbol → List (List ℕ) → Result (Symbol × List (List ℕ)) Kind = λ o rest. elim o [ None ↦ Err kind.BadSymbol | Some y ↦ Ok (y, rest) ] in
     let rest : List (List ℕ) = set lists k (all_but_last (get_or lists k [])) in
     let found : Option ℕ → Result (Symbol × List (List ℕ)) Kind = λ o. elim o [ None ↦ Err kind.ContextEmpty | Some m ↦ read (symbol_numbered m) rest ] in
-    ap found (ap last_of items ∙ last_is (list_of codes k) n) ∙ ap (λ o. read o rest) s ∙ ap (read (Some x)) left
+    ap found (ap last_of items ∙ last_is (context_list codes k) n) ∙ ap (λ o. read o rest) s ∙ ap (read (Some x)) left
 
 numbered : (x : Symbol) → symbol_numbered (symbol_number x) ≡ Some x
 numbered C = refl
@@ -107,15 +107,15 @@ only_end n L s t e h = absurd (top_first s _ t e h)
 only_end n R s t e h = absurd (top_first s _ t e h)
 
 -- what is coded of the first symbol of a word
-pub coded_more : (n : ℕ) (x : Symbol) (word : List Symbol) (s t : State) → step n x s ≡ Ok t → coded n (x ∷ word) s ≡ coded_at s x ++ coded n word t
+pub coded_more : (n : ℕ) (x : Symbol) (word : List Symbol) (s t : State) → step n x s ≡ Ok t → coded n (x ∷ word) s ≡ context_coded_at s x ++ coded n word t
 unfolding coded
-coded_more n x word s t e = ap (λ (r : Result State Fault). let y : List Coded = elim r [ Err f ↦ [] | Ok u ↦ coded_at s x ++ coded n word u ] in y) e
+coded_more n x word s t e = ap (λ (r : Result State Fault). let y : List CodedSymbol = elim r [ Err f ↦ [] | Ok u ↦ context_coded_at s x ++ coded n word u ] in y) e
 
 -- one symbol
 at_number : ℕ → Result (Symbol × List (List ℕ)) Kind → Result (Symbol × List (List ℕ)) Fault
 at_number i r = elim r [ Ok x ↦ Ok x | Err k ↦ Err (record { kind = k; at = i }) ]
 
-one_read : (b : Bool) (i : ℕ) (x : Symbol) (degree : ℕ) (codes : List Coded) → (b ≡ true → E ≡ x) →
+one_read : (b : Bool) (i : ℕ) (x : Symbol) (degree : ℕ) (codes : List CodedSymbol) → (b ≡ true → E ≡ x) →
     at_number i (taken_at (cond b None (Some degree)) (lists_of (cond b [] (record { context = context_of degree; number = symbol_number x } ∷ []) ++ codes)))
     ≡ Ok (x, lists_of codes)
 unfolding at_number
@@ -131,14 +131,14 @@ each_reads_back n x word s t first e =
 
 -- a word, symbol by symbol
 pub words_read_back : WordsReadBack
-unfolding take_symbols fed
+unfolding take_symbols fed_by_context
 words_read_back n [] s t first e = e
 words_read_back n (x ∷ word) s t first e =
-    elim (step n x s) as (λ (r : Result State Fault). step n x s ≡ r → (r >>= take_symbols n word) ≡ Ok t → fed n (length (x ∷ word)) (lists_of (coded n (x ∷ word) s)) s ≡ Ok t) [
+    elim (step n x s) as (λ (r : Result State Fault). step n x s ≡ r → (r >>= take_symbols n word) ≡ Ok t → fed_by_context n (length (x ∷ word)) (lists_of (coded n (x ∷ word) s)) s ≡ Ok t) [
       | Err f ↦ λ is no. absurd (cc)
       | Ok u ↦ λ is rest.
           let more : (u.built ≡ 0 → u.stack ≡ []) = λ none. absurd (let one = (step_counts n x s u is).0 in omega arith) in
-          ap (λ (r : Result (Symbol × List (List ℕ)) Fault). r >>= λ y. step n y.0 s >>= fed n (length word) y.1) (each_reads_back n x word s u first is)
-          ∙ ap (λ (r : Result State Fault). r >>= fed n (length word) (lists_of (coded n word u))) is
+          ap (λ (r : Result (Symbol × List (List ℕ)) Fault). r >>= λ y. step n y.0 s >>= fed_by_context n (length word) y.1) (each_reads_back n x word s u first is)
+          ∙ ap (λ (r : Result State Fault). r >>= fed_by_context n (length word) (lists_of (coded n word u))) is
           ∙ words_read_back n word u t more rest
     ] refl e

@@ -16,8 +16,8 @@ abbrev pub all_but_last : List ℕ → List ℕ
 all_but_last xs = take (length xs - 1) xs
 
 -- the symbol of the last item of list k, and the lists without it
-abbrev pub taken_from : ℕ → List (List ℕ) → Result (Symbol × List (List ℕ)) Kind
-taken_from k lists =
+abbrev pub symbol_taken : ℕ → List (List ℕ) → Result (Symbol × List (List ℕ)) Kind
+symbol_taken k lists =
     let items = get_or lists k [] in
     elim (last_of items) [
       | None ↦ Err kind.ContextEmpty
@@ -27,9 +27,9 @@ taken_from k lists =
 -- the next symbol at a vertex of this degree; without a degree it is E, and nothing is taken
 abbrev pub taken_at : Option ℕ → List (List ℕ) → Result (Symbol × List (List ℕ)) Kind
 taken_at None lists = Ok (E, lists)
-taken_at (Some degree) lists = taken_from (context_of degree) lists
+taken_at (Some degree) lists = symbol_taken (context_of degree) lists
 
 -- a reader answers the next symbol, or why there is none; then it stays as it was
-abbrev pub Draws : Result (Symbol × List (List ℕ)) Kind → List (List ℕ) → List (List ℕ) → Result Symbol Kind → Type 0
-Draws due old new (Ok x) = due ≡ Ok (x, new)
-Draws due old new (Err k) = (due ≡ Err k) × (new ≡ old)
+abbrev pub DrawsSymbol : Result (Symbol × List (List ℕ)) Kind → List (List ℕ) → List (List ℕ) → Result Symbol Kind → Type 0
+DrawsSymbol due old new (Ok x) = due ≡ Ok (x, new)
+DrawsSymbol due old new (Err k) = (due ≡ Err k) × (new ≡ old)

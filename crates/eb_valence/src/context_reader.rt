@@ -1,7 +1,7 @@
 //! Reading symbols by their contexts.
 
 ghost use Rattle.std.specs.Prelude.{◌≡◌, ◌<◌, suc, min, length, sum_by, IfSome, OnOk};
-ghost use Rattle.eb_valence.specs.Reading.{taken_from, taken_at, Draws};
+ghost use Rattle.eb_valence.specs.Reading.{symbol_taken, taken_at, DrawsSymbol};
 
 use crate::context_lists::{CONTEXTS, ContextLists};
 use crate::numbers::{context_of_degree, symbol_of_number};
@@ -48,7 +48,7 @@ impl ContextReader {
     /// context, BadSymbol where the last number left there stands for no symbol; then the reader stays as it
     /// was. It takes no memory.
     pub fn next(&mut self, degree: Option<u32>) -> Result<Symbol, Kind>
-        ensures draws { Draws (taken_at degree self.old) self.old self.new result }
+        ensures draws { DrawsSymbol (taken_at degree self.old) self.old self.new result }
         ensures fewer { IfSome degree (λ d. OnOk result (sum_by length self.new < sum_by length self.old)) }
     {
         match degree {
@@ -62,7 +62,7 @@ impl ContextReader {
     /// The next symbol of a context.
     fn next_in(&mut self, context: usize) -> Result<Symbol, Kind>
         requires { context < CONTEXTS }
-        ensures draws { Draws (taken_from context self.old) self.old self.new result }
+        ensures draws { DrawsSymbol (symbol_taken context self.old) self.old self.new result }
         ensures fewer { OnOk result (sum_by length self.new < sum_by length self.old) }
     {
         let Some(number) = self.left.last(context) else {

@@ -1,14 +1,14 @@
 //! Noting symbols in the lists of their contexts.
 //!
 //! The symbols are fed to the machine of reverse decoding, the last first; before each the degree of the
-//! vertex at which the top side starts tells the context. What was noted then stands from back to front.
+//! vertex at which the top side starts gives the context. What was noted then stands from back to front.
 
 ghost use Rattle.std.specs.Prelude.{◌≡◌, ◌==◌, ℕ, ◌<◌, ◌≤◌, List, All, IfOk, OnOk, length, map, reverse, replicate, [], IsTrue, true};
 ghost use Rattle.drc_base.specs.declared.limits.TheConstants.{MAX_FACES as most_faces};
 ghost use Rattle.eb_rebuild.specs.Machine.{start};
 ghost use Rattle.eb_rebuild.specs.Rebuilding.{IsEventOf};
-ghost use Rattle.eb_valence.specs.Contexts.{coded_at, coded, context_lists};
-ghost use Rattle.eb_valence.specs.Noting.{noted, Takes};
+ghost use Rattle.eb_valence.specs.Contexts.{context_coded_at, coded, context_lists};
+ghost use Rattle.eb_valence.specs.Noting.{noted, TakesWord};
 
 use crate::context_lists::ContextLists;
 use crate::numbers::{context_of_degree, number_of_symbol};
@@ -29,7 +29,7 @@ fn note<R: Rebuild>(
     requires live { IsTrue (R.live machine.now) }
     requires unclosed { (R.state machine.now).closes ≡ 0 }
     requires first { first ≡ ((R.state machine.now).built == 0) }
-    ensures { OnOk result (lists.new ≡ noted lists.old (coded_at (R.state machine.now) symbol)) }
+    ensures { OnOk result (lists.new ≡ noted lists.old (context_coded_at (R.state machine.now) symbol)) }
 {
     if first {
         return Ok(());
@@ -52,7 +52,7 @@ fn note_all<R: Rebuild, L: Ledger>(
     requires unclosed { (R.state machine).closes ≡ 0 }
     requires all { (R.plan machine).symbols ≡ length symbols.now }
     requires room { R.room machine ≡ length symbols.now }
-    requires takes { Takes (length symbols.now) (reverse symbols.now) (R.state machine) }
+    requires takes { TakesWord (length symbols.now) (reverse symbols.now) (R.state machine) }
     ensures { OnOk result (lists.new ≡ noted lists.old (coded (length symbols.now) (reverse symbols.now) (R.state machine))) }
 {
     for number in (0..symbols.len()).rev() {
@@ -75,7 +75,7 @@ fn lists_by<L: Ledger>(
 ) -> Result<ContextLists, Memory>
     requires few { length symbols.now ≤ most_faces }
     requires events { All (IsEventOf (length symbols.now)) events.items }
-    requires takes { Takes (length symbols.now) (reverse symbols.now) (start (reverse events.items)) }
+    requires takes { TakesWord (length symbols.now) (reverse symbols.now) (start (reverse events.items)) }
     requires name { blank.name ≡ L.name }
     requires parts { blank.parts ≡ L.parts }
     requires some { 0 < L.parts }
@@ -94,7 +94,7 @@ fn lists_by<L: Ledger>(
 /// degree of the vertex at which the machine's top side starts before it. Symbols and events are in the
 /// order of the encoder; there are no more symbols than a mesh may have faces, and the machine of reverse
 /// decoding, fed the last symbol first, meets no fault on them. The machine makes at most 12 table calls for
-/// each symbol. Refused only when out of memory.
+/// each symbol. Fails only when out of memory.
 pub fn contexts_of(
     alloc: Global,
     symbols: &[Symbol],
@@ -102,7 +102,7 @@ pub fn contexts_of(
 ) -> Result<ContextLists, Memory>
     requires few { length symbols.now ≤ most_faces }
     requires events { All (IsEventOf (length symbols.now)) events.now }
-    requires takes { Takes (length symbols.now) (reverse symbols.now) (start (reverse events.now)) }
+    requires takes { TakesWord (length symbols.now) (reverse symbols.now) (start (reverse events.now)) }
     ensures { IfOk result (λ lists. lists ≡ context_lists symbols.now events.now) }
 {
     let events = events.to_vec(alloc)?;

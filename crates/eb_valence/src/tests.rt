@@ -3,11 +3,12 @@
 use crate::context_lists::ContextLists;
 use crate::context_reader::ContextReader;
 use crate::noting::contexts_of;
-use corner_table::{Event, Symbol};
+use corner_table::Symbol;
 use drc_base::{Kind, Memory};
 use std::alloc::{AllocError, Global};
 use std::process::Abort;
 use std::test::Fail;
+use worked_surfaces::TORUS_EVENTS;
 
 /// Compares the lists of all contexts.
 fn has_lists(rt: &impl Abort, lists: &ContextLists, wanted: [&[u32]; 6]) {
@@ -24,19 +25,11 @@ fn notes_contexts_of_surfaces(rt: HostRuntime) -> Result<(), Fail> {
     has_lists(&rt, &none, [&[], &[], &[], &[], &[], &[]]);
     let tetrahedron = contexts_of(alloc, &[C, R, E], &[])?;
     has_lists(&rt, &tetrahedron, [&[3], &[0], &[], &[], &[], &[]]);
-    let events = [
-        Event {
-            source: 11,
-            split: 6,
-            right: false,
-        },
-        Event {
-            source: 12,
-            split: 5,
-            right: true,
-        },
-    ];
-    let torus = contexts_of(alloc, &[C, C, C, C, R, S, S, L, R, S, L, E, E], &events)?;
+    let torus = contexts_of(
+        alloc,
+        &[C, C, C, C, R, S, S, L, R, S, L, E, E],
+        &TORUS_EVENTS,
+    )?;
     has_lists(
         &rt,
         &torus,

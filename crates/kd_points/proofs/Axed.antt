@@ -1,4 +1,4 @@
--- The axes: where they lie, and that the bits along them tell each offset.
+-- The axes: where they lie, and that the bits along them give each offset.
 use Rattle.std.proofs.Common.{◌≡◌, ◌≢◌, ℕ, zero, suc, ◌+◌, ◌-◌, ◌*◌, ◌/◌, ◌%◌, ◌^◌, ◌<◌, ◌≤◌, ◌==◌, ◌&&◌, Bool, true, false, List, [], ◌∷◌, ◌++◌, length, get_or, sum, refl, sym, ◌∙◌, ap, subst, inl, inr, arith, pow-suc, pow_pos, append-nil, append_assoc, length-set}
 use Rattle.std.specs.Prelude.{if◌then◌else◌}
 use Rattle.std.specs.List.{All}
@@ -10,7 +10,7 @@ use Rattle.std.proofs.lemmas.Nat.{mod-pow-add}
 use Rattle.kd_tree.specs.Keys.{Key}
 use Rattle.kd_points.specs.declared.axes.Axis.{Axis}
 use Rattle.kd_points.specs.Axes.{axes_in, fullest, one_fewer}
-use Rattle.kd_points.specs.Keys.{has_bit, key_of, offset_in}
+use Rattle.kd_points.specs.Keys.{number_has_bit, key_of, offset_in}
 use Rattle.kd_points.proofs.Fullest.{fullest-some, one_fewer-sum}
 
 -- the next axis
@@ -107,7 +107,7 @@ offset_in-below (suc n) left (bit ∷ key) c few =
     ]
 
 -- a number's lowest bits: the highest of them, and the others
-split-bit : (o d : ℕ) → (if has_bit d o then 2 ^ d else 0) + o % 2 ^ d ≡ o % 2 ^ suc d
+split-bit : (o d : ℕ) → (if number_has_bit d o then 2 ^ d else 0) + o % 2 ^ d ≡ o % 2 ^ suc d
 split-bit o d =
     let b = o / 2 ^ d % 2 in
     let next : suc d ≡ 1 + d = omega arith in
@@ -130,7 +130,7 @@ least-sum [] c = omega arith
 least-sum (x ∷ xs) zero = let step = sum_by-cons (λ (n : ℕ). n) x xs in omega (arith, step)
 least-sum (x ∷ xs) (suc c) = let step = sum_by-cons (λ (n : ℕ). n) x xs in omega (arith, step, least-sum xs c)
 
--- the bits of a key along the axes tell each offset, up to the bits that are left
+-- the bits of a key along the axes give each offset, up to the bits that are left
 pub offset_back : (n : ℕ) (left : List ℕ) (o : ℕ → ℕ) (c : ℕ) → n ≡ sum left → offset_in (axes_in n left) (key_of (axes_in n left) o) c ≡ o c % 2 ^ get_or left c 0
 unfolding axes_in
 offset_back zero left o c all =
@@ -141,7 +141,7 @@ offset_back (suc n) left o c all =
     let f = fullest left in
     let l = get_or left f 0 in
     let axis = axis_of left in
-    let bit = has_bit axis.bit (o f) in
+    let bit = number_has_bit axis.bit (o f) in
     let has = fullest-some left (omega (arith, all)) in
     let less = one_fewer-sum left (omega (arith, all)) in
     let rest = offset_back n (one_fewer left f) o c (omega (arith, less, all)) in

@@ -3,8 +3,8 @@ use Rattle.std.proofs.Common.{◌≡◌, ℕ, zero, suc, ◌+◌, ◌-◌, ◌*�
 use Rattle.std.specs.Prelude.{nat_lt, if◌then◌else◌}
 use Rattle.std.proofs.Math.Nat.{mul-le-mul_left, mul_assoc, mul_comm}
 use Rattle.std.proofs.lemmas.List.{length-map, length-reverse}
-use Rattle.rans_core.specs.Coder.{Interval, State, all_pushed, drained, end_bytes, low_bytes, pushed}
-use Rattle.rans_binary.specs.Blocks.{IsBlockOf, block, coded_bits, interval_of, zeros_for}
+use Rattle.rans_core.specs.Coder.{Interval, CoderState, all_pushed, drained, end_bytes, low_bytes, state_pushed}
+use Rattle.rans_binary.specs.Blocks.{IsBlockOf, block, coded_bits, bit_interval, zeros_for}
 use Rattle.rans_binary.proofs.Again.{block-again}
 
 -- how many bytes there are after a drain, after a push and after all pushes
@@ -12,13 +12,13 @@ length-drained : (times limit number : ℕ) (bytes : List ℕ) → length (drain
 unfolding drained
 length-drained zero limit number bytes = omega arith
 length-drained (suc times) limit number bytes =
-    let stopped : State = record { number = number; bytes = bytes } in
-    let more : State = drained times limit (number / 256) (number % 256 ∷ bytes) in
+    let stopped : CoderState = record { number = number; bytes = bytes } in
+    let more : CoderState = drained times limit (number / 256) (number % 256 ∷ bytes) in
     let rest = length-drained times limit (number / 256) (number % 256 ∷ bytes) in
     elim (nat_lt number limit) as (λ b. length (if b then stopped else more).bytes ≤ length bytes + suc times) [ true ↦ omega arith | false ↦ omega (arith, rest) ]
 
-length-pushed : (scale total : ℕ) (i : Interval) (s : State) → length (pushed scale total i s).bytes ≤ length s.bytes + 4
-unfolding pushed
+length-pushed : (scale total : ℕ) (i : Interval) (s : CoderState) → length (state_pushed scale total i s).bytes ≤ length s.bytes + 4
+unfolding state_pushed
 length-pushed scale total i s = length-drained 4 (256 * (scale * i.prob)) s.number s.bytes
 
 length-all_pushed : (scale total : ℕ) (is : List Interval) → length (all_pushed scale total is).bytes ≤ 4 * length is
@@ -43,10 +43,10 @@ length-end_bytes n =
 
 length-coded_bits : (zeros : ℕ) (bits : List Bool) → length (coded_bits zeros bits) ≤ 4 * length bits + 4
 length-coded_bits zeros bits =
-    let is : List Interval = map (interval_of (256 - zeros)) bits in
-    let s : State = all_pushed 16 256 is in
+    let is : List Interval = map (bit_interval (256 - zeros)) bits in
+    let s : CoderState = all_pushed 16 256 is in
     let whole : length (coded_bits zeros bits) ≡ length (reverse s.bytes) + length (end_bytes (s.number - 16 * 256)) = length-append (reverse s.bytes) (end_bytes (s.number - 16 * 256)) in
-    omega (arith, whole, length-reverse s.bytes, length-end_bytes (s.number - 16 * 256), length-all_pushed 16 256 is, length-map bits (interval_of (256 - zeros)))
+    omega (arith, whole, length-reverse s.bytes, length-end_bytes (s.number - 16 * 256), length-all_pushed 16 256 is, length-map bits (bit_interval (256 - zeros)))
 
 -- a block of so many bits is read again
 pub few-again : (bits : List Bool) → length bits ≤ 2 ^ 27 → IsBlockOf bits (block bits)

@@ -16,7 +16,7 @@ use Rattle.kd_tree.specs.Keys.{Key}
 use Rattle.kd_points.specs.declared.extents.Extent.{Extent}
 use Rattle.kd_points.specs.declared.headers.Header.{Header}
 use Rattle.kd_points.specs.Extents.{row_within}
-use Rattle.kd_points.specs.Meaning.{FirstOutside, cloud_of_keys, extent_size, is_typed, typed_fault}
+use Rattle.kd_points.specs.Meaning.{FirstOutside, cloud_of_keys, extent_size, are_points_typed, typed_fault}
 
 -- a data type for each integer
 pub length-types_of : (heads : List Head) → length (types_of heads) ≡ width_of heads
@@ -33,13 +33,13 @@ length-row_within extents key = length-map-range_with_len _ 0 (length extents)
 
 -- a component whose integers are all in its data type, and one with another
 typed-is : (heads : List Head) (points : List (List ℤ)) (j : ℕ)
-    → ((i : ℕ) → i < length points → in_type (get_or (types_of heads) j 0) (get_or (get_or points i []) j (pos 0)) ≡ true) → is_typed heads points j ≡ true
+    → ((i : ℕ) → i < length points → in_type (get_or (types_of heads) j 0) (get_or (get_or points i []) j (pos 0)) ≡ true) → are_points_typed heads points j ≡ true
 typed-is heads points j each =
     list_all-from_AllPass (λ (row : List ℤ). in_type (get_or (types_of heads) j 0) (get_or row j (pos 0))) points
     (λ i d inside. ap (λ (row : List ℤ). in_type (get_or (types_of heads) j 0) (get_or row j (pos 0))) (get_or_default points i d [] inside) ∙ each i inside)
 
 untyped-is : (heads : List Head) (points : List (List ℤ)) (j i : ℕ) → i < length points
-    → in_type (get_or (types_of heads) j 0) (get_or (get_or points i []) j (pos 0)) ≡ false → is_typed heads points j ≡ false
+    → in_type (get_or (types_of heads) j 0) (get_or (get_or points i []) j (pos 0)) ≡ false → are_points_typed heads points j ≡ false
 untyped-is heads points j i inside fails = list_all_at (λ (row : List ℤ). in_type (get_or (types_of heads) j 0) (get_or row j (pos 0))) points i [] inside fails
 
 -- the place of a component's extent, where there is one
@@ -51,7 +51,7 @@ pub typed_none : (heads : List Head) (at : ℕ) (points : List (List ℤ)) (r : 
 unfolding typed_fault
 typed_none heads at points r first all =
     let w = width_of heads in
-    let test : ℕ → Bool = λ component. not (is_typed heads points component) in
+    let test : ℕ → Bool = λ component. not (are_points_typed heads points component) in
     let none : position test (range_with_len 0 w) ≡ None = position-none test (range_with_len 0 w) 0 (λ k below.
     let low : k < w = omega (arith, below, length-range_with_len 0 w) in
     ap test (get_or-range_with_len 0 w k 0 low ∙ zero-add k)
@@ -64,7 +64,7 @@ pub typed_at : (heads : List Head) (at : ℕ) (points : List (List ℤ)) (r : �
 unfolding typed_fault
 typed_at heads at points r first some =
     let w = width_of heads in
-    let test : ℕ → Bool = λ component. not (is_typed heads points component) in
+    let test : ℕ → Bool = λ component. not (are_points_typed heads points component) in
     let long = length-range_with_len 0 w in
     let found = first.here (omega (arith, some, length-types_of heads)) in
     let is : position test (range_with_len 0 w) ≡ Some r = position-at test (range_with_len 0 w) r 0 (omega (arith, some, long))

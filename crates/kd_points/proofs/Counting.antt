@@ -15,7 +15,7 @@ use Rattle.kd_tree.specs.Trees.{split_count, rest_count}
 use Rattle.kd_tree.specs.Laws.{BitsAreCounted}
 use Rattle.kd_points.specs.declared.extents.Extent.{Extent}
 use Rattle.kd_points.specs.Extents.{axes_over, depth_of, extents_of, key_within, keys_of}
-use Rattle.kd_points.specs.Written.{cloud_in, kd_counts, kd_fault, rest_of, split_of}
+use Rattle.kd_points.specs.Written.{cloud_in, kd_counts, kd_fault, rest_of, kd_split_of}
 use Rattle.kd_points.proofs.Lying.{length-axes_over}
 
 -- a key has so many bits
@@ -30,7 +30,7 @@ keys_long c k d inside =
     ap length (get_or-map f c.points k [] d low) ∙ length-key_within (extents_of c) (get_or c.points k [])
 
 -- the numbers of bits that are due
-pub counts_due : BitsAreCounted → (g : Geometry) (c : CloudParts) (split rest : List Bool) → kd_fault g ≡ None → g ≡ Cloud c → split ≡ split_of c → rest ≡ rest_of c
+pub counts_due : BitsAreCounted → (g : Geometry) (c : CloudParts) (split rest : List Bool) → kd_fault g ≡ None → g ≡ Cloud c → split ≡ kd_split_of c → rest ≡ rest_of c
     → kd_counts g ≡ Ok (length split, length rest)
 counts_due law g c split rest none is split_is rest_is =
     let counted = law (depth_of (extents_of c)) (keys_of c) (keys_long c) in

@@ -17,7 +17,7 @@ use Rattle.mesh_model.specs.declared.heads.Quant.{Quant}
 use Rattle.mesh_model.specs.Head.{has_type, has_minima, has_bits, head_fault, each_fault, heads_fault}
 use Rattle.mesh_model.proofs.FirstFaults.{unless-true, first_fault-cons}
 use Rattle.mesh_model.proofs.Passing.{heads_say}
-use Rattle.kd_points.specs.Header.{is_type, quant_at, quant_of_at, head_at, heads_at, attribute_count_at}
+use Rattle.kd_points.specs.Header.{is_kd_type, kd_quant_at, kd_quant_of_at, kd_head_at, kd_heads_at, kd_attribute_count_at}
 use Rattle.kd_points.proofs.Parted.{given, parts, either, must-passed, many-passed}
 
 -- a quantisation that fits a type and so many components
@@ -26,18 +26,18 @@ record QuantFits (dtype comps : ℕ) (q : Option Quant) : Type 0 where
   minima : has_minima comps q ≡ true
   bits : has_bits q ≡ true
 
-integer_type : (dtype : ℕ) → is_type dtype ≡ true → (dtype == 9) ≡ false → (nat_le 1 dtype && nat_le dtype 6) ≡ true
+integer_type : (dtype : ℕ) → is_kd_type dtype ≡ true → (dtype == 9) ≡ false → (nat_le 1 dtype && nat_le dtype 6) ≡ true
 integer_type dtype is not =
     let integer = nat_le 1 dtype && nat_le dtype 6 in
     sym (or-false integer) ∙ ap (λ b. integer || b) (sym not) ∙ is
 
-quant-passed : (dtype comps : ℕ) → is_type dtype ≡ true → (c : Reading) (y : Option Quant × Reading) → quant_of_at dtype comps c ≡ Ok y → QuantFits dtype comps y.0
-unfolding quant_of_at quant_at
-quant-passed dtype comps is_type c y is =
-    either (QuantFits dtype comps y.0) (dtype == 9) (quant_at comps c >>= λ q. Ok (Some q.0, q.1)) (Ok (None, c)) y is
+quant-passed : (dtype comps : ℕ) → is_kd_type dtype ≡ true → (c : Reading) (y : Option Quant × Reading) → kd_quant_of_at dtype comps c ≡ Ok y → QuantFits dtype comps y.0
+unfolding kd_quant_of_at kd_quant_at
+quant-passed dtype comps is_kd_type c y is =
+    either (QuantFits dtype comps y.0) (dtype == 9) (kd_quant_at comps c >>= λ q. Ok (Some q.0, q.1)) (Ok (None, c)) y is
     (λ float read.
     let has_bits : ℕ → Bool = λ b. nat_le 1 b && nat_le b 30 in
-    let p = parts (quant_at comps c) (λ q. Ok (Some q.0, q.1)) y read in
+    let p = parts (kd_quant_at comps c) (λ q. Ok (Some q.0, q.1)) y read in
     let q = parts (must kind.QuantBits has_bits (number_at 1) c) _ p.0 p.1 in
     let r = parts (number_at 4 q.0.1) _ p.0 q.2 in
     let s = parts (many_at (number_at 4) comps r.0.1) _ p.0 r.2 in
@@ -50,24 +50,24 @@ quant-passed dtype comps is_type c y is =
     (given (λ (z : Quant × Reading). QuantFits dtype comps (Some z.0)) (quant, s.0.1) p.0 s.2 found))
     (λ integer read.
     subst (λ (z : Option Quant × Reading). QuantFits dtype comps z.0) (Ok-injective read)
-    (record { type_fits = integer_type dtype is_type integer; minima = refl; bits = refl }))
+    (record { type_fits = integer_type dtype is_kd_type integer; minima = refl; bits = refl }))
 
 -- a head without a fault, at whatever place it stands
 abbrev IsHead : Head → Type 0
 IsHead h = (k : ℕ) → head_fault k h ≡ None
 
-head-passed : (c : Reading) (y : Head × Reading) → head_at c ≡ Ok y → IsHead y.0
-unfolding head_at
+head-passed : (c : Reading) (y : Head × Reading) → kd_head_at c ≡ Ok y → IsHead y.0
+unfolding kd_head_at
 head-passed c y is =
     let has_comps : ℕ → Bool = λ n. nat_le 1 n && nat_le n MAX_COMPONENTS in
     let p = parts (must kind.AttrType (λ n. nat_le n 4) (number_at 1) c) _ y is in
-    let q = parts (must kind.DataType is_type (number_at 1) p.0.1) _ y p.2 in
+    let q = parts (must kind.DataType is_kd_type (number_at 1) p.0.1) _ y p.2 in
     let r = parts (must kind.Components has_comps (number_at 1) q.0.1) _ y q.2 in
     let s = parts (number_at 1 r.0.1) _ y r.2 in
     let t = parts (var32_at s.0.1) _ y s.2 in
-    let u = parts (quant_of_at q.0.0 r.0.0 t.0.1) _ y t.2 in
+    let u = parts (kd_quant_of_at q.0.0 r.0.0 t.0.1) _ y t.2 in
     let usage = must-passed kind.AttrType (λ n. nat_le n 4) (number_at 1) c p.0 p.1 in
-    let dtype = must-passed kind.DataType is_type (number_at 1) p.0.1 q.0 q.1 in
+    let dtype = must-passed kind.DataType is_kd_type (number_at 1) p.0.1 q.0 q.1 in
     let comps = must-passed kind.Components has_comps (number_at 1) q.0.1 r.0 r.1 in
     let fits = quant-passed q.0.0 r.0.0 dtype.0 t.0.1 u.0 u.1 in
     let h : Head = record { usage = p.0.0; dtype = q.0.0; comps = r.0.0; normalized = s.0.0; id = t.0.0; quant = u.0.0 } in
@@ -83,15 +83,15 @@ each-none k [] are = refl
 each-none k (h ∷ heads) are = first_fault-cons (head_fault k h) _ (All-head IsHead h heads are k) (each-none (k + 1) heads (All-tail IsHead h heads are))
 
 -- heads that were read pass their tests
-pub heads_passed : (c : Reading) (y : List Head × Reading) → heads_at c ≡ Ok y → heads_fault y.0 ≡ None
-unfolding heads_at heads_fault attribute_count_at
+pub heads_passed : (c : Reading) (y : List Head × Reading) → kd_heads_at c ≡ Ok y → heads_fault y.0 ≡ None
+unfolding kd_heads_at heads_fault kd_attribute_count_at
 heads_passed c y is =
     let few : ℕ → Bool = λ n. nat_le n MAX_ATTRIBUTES in
     let some : ℕ → Bool = λ n. nat_lt 0 n in
-    let p = parts (attribute_count_at c) _ y is in
+    let p = parts (kd_attribute_count_at c) _ y is in
     let most = must-passed kind.AttrLimit few (λ c. must kind.NoAttribute some var32_at c) c p.0 p.1 in
     let least = must-passed kind.NoAttribute some var32_at c p.0 most.1 in
-    let heads = many-passed IsHead head_at head-passed p.0.0 p.0.1 y p.2 in
+    let heads = many-passed IsHead kd_head_at head-passed p.0.0 p.0.1 y p.2 in
     let some_heads : 1 ≤ length y.0 = omega (arith, heads.0, ltb-true 0 p.0.0 least.0) in
     let few_heads : length y.0 ≤ MAX_ATTRIBUTES = omega (arith, heads.0, leb-true p.0.0 MAX_ATTRIBUTES most.0) in
     first_fault-cons _ _ (unless-true _ kind.NoAttribute (length y.0) (le-leb 1 (length y.0) some_heads))

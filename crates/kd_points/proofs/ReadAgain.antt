@@ -33,10 +33,10 @@ use Rattle.kd_tree.proofs.Sorted.{sorted-long, sorted-moved, sorted-settled}
 use Rattle.kd_tree.proofs.Unordered.{rest-same, same-counts, split-same}
 use Rattle.kd_points.specs.declared.headers.Header.{Header}
 use Rattle.kd_points.specs.Extents.{depth_of, extents_of, key_within, keys_of}
-use Rattle.kd_points.specs.Header.{attribute_count_at, extent_at, head_at, header_at, heads_at, magic, opening_at, point_count_at, version}
-use Rattle.kd_points.specs.Laws.{HeadFits, IsFileOf}
+use Rattle.kd_points.specs.Header.{kd_attribute_count_at, extent_at, kd_head_at, kd_header_at, kd_heads_at, kd_magic, kd_opening_at, point_count_at, version}
+use Rattle.kd_points.specs.Laws.{KdHeadFits, IsFileOf}
 use Rattle.kd_points.specs.Meaning.{file_at, kd_meaning, tree_at}
-use Rattle.kd_points.specs.Written.{KdOrder, extent_bytes, head_bytes, header_bytes, kd_fault, kd_written, rest_of, split_of}
+use Rattle.kd_points.specs.Written.{KdOrder, extent_bytes, kd_head_bytes, kd_header_bytes, kd_fault, kd_written, rest_of, kd_split_of}
 use Rattle.kd_points.proofs.Blocked.{bits_few, few-again}
 use Rattle.kd_points.proofs.Clouded.{cloud_inside}
 use Rattle.kd_points.proofs.Counting.{keys_long}
@@ -46,28 +46,28 @@ use Rattle.kd_points.proofs.RowsBack.{depth_few, extent_fits}
 use Rattle.kd_points.proofs.Spelling.{Spells-all, Spells-extent, Spells-head}
 
 -- the first bytes and the version
-Spells-opening : Spells opening_at (magic ++ version ∷ []) version
-unfolding opening_at
+Spells-opening : Spells kd_opening_at (kd_magic ++ version ∷ []) version
+unfolding kd_opening_at
 Spells-opening =
-    Spells-then (must kind.KdMagic (λ bytes. pointwise nat_eq bytes magic) (bytes_at 5)) (λ first c. must kind.KdVersion (λ n. n == version) (number_at 1) c)
-    magic (version ∷ []) magic version
-    (Spells-must kind.KdMagic (λ bytes. pointwise nat_eq bytes magic) (bytes_at 5) magic magic refl (Spells-bytes magic))
+    Spells-then (must kind.KdMagic (λ bytes. pointwise nat_eq bytes kd_magic) (bytes_at 5)) (λ first c. must kind.KdVersion (λ n. n == version) (number_at 1) c)
+    kd_magic (version ∷ []) kd_magic version
+    (Spells-must kind.KdMagic (λ bytes. pointwise nat_eq bytes kd_magic) (bytes_at 5) kd_magic kd_magic refl (Spells-bytes kd_magic))
     (Spells-must kind.KdVersion (λ n. n == version) (number_at 1) (version ∷ []) version refl (Spells-byte version))
 
 -- the heads
-Spells-count : (n : ℕ) → 1 ≤ n → n ≤ MAX_ATTRIBUTES → Spells attribute_count_at (spelling 5 n) n
-unfolding attribute_count_at
+Spells-count : (n : ℕ) → 1 ≤ n → n ≤ MAX_ATTRIBUTES → Spells kd_attribute_count_at (spelling 5 n) n
+unfolding kd_attribute_count_at
 Spells-count n some few =
     Spells-must kind.AttrLimit (λ n. nat_le n MAX_ATTRIBUTES) (must kind.NoAttribute (λ n. nat_lt 0 n) var32_at) (spelling 5 n) n (le-leb n MAX_ATTRIBUTES few)
     (Spells-must kind.NoAttribute (λ n. nat_lt 0 n) var32_at (spelling 5 n) n (lt-ltb 0 n (omega (arith, some))) (Spells-var32 n (omega (arith, few))))
 
-Spells-heads : (heads : List Head) → HeadsSay heads → All HeadFits heads → Spells heads_at (spelling 5 (length heads) ++ flat_map head_bytes heads) heads
-unfolding heads_at
+Spells-heads : (heads : List Head) → HeadsSay heads → All KdHeadFits heads → Spells kd_heads_at (spelling 5 (length heads) ++ flat_map kd_head_bytes heads) heads
+unfolding kd_heads_at
 Spells-heads heads says fit =
-    Spells-then attribute_count_at (λ n c. many_at head_at n c) (spelling 5 (length heads)) (flat_map head_bytes heads) (length heads) heads
+    Spells-then kd_attribute_count_at (λ n c. many_at kd_head_at n c) (spelling 5 (length heads)) (flat_map kd_head_bytes heads) (length heads) heads
     (Spells-count (length heads) says.some says.few)
-    (subst (λ l. Spells (many_at head_at (length heads)) (flat_map head_bytes heads) l) (map-id heads)
-    (Spells-all head_at head_bytes (λ h. h) heads (λ k d inside. Spells-head _ (says.each k d inside) (fit k d inside))))
+    (subst (λ l. Spells (many_at kd_head_at (length heads)) (flat_map kd_head_bytes heads) l) (map-id heads)
+    (Spells-all kd_head_at kd_head_bytes (λ h. h) heads (λ k d inside. Spells-head _ (says.each k d inside) (fit k d inside))))
 
 -- the number of points
 Spells-points : (n width : ℕ) → 0 < n → n ≤ MAX_KD_POINTS → n * width ≤ MAX_KD_VALUES → Spells (point_count_at width) (spelling 5 n) n
@@ -121,32 +121,32 @@ regroup a b p e rest =
 record HeaderRead (c : CloudParts) (rest : List ℕ) : Type 0 where
   at : ℕ
   end : ℕ
-  reads : header_at (start_of (header_bytes c ++ rest))
+  reads : kd_header_at (start_of (kd_header_bytes c ++ rest))
       ≡ Ok (record { heads = c.heads; count = length c.points; extents = extents_of c; at = at }, record { place = end; rest = rest })
 
-header_read : (c : CloudParts) (rest : List ℕ) → IsCloud c → HasLimits c → All HeadFits c.heads → HeaderRead c rest
-unfolding header_at header_bytes
+header_read : (c : CloudParts) (rest : List ℕ) → IsCloud c → HasLimits c → All KdHeadFits c.heads → HeaderRead c rest
+unfolding kd_header_at kd_header_bytes
 header_read c rest cloud has fit =
     let n = length c.points in
-    let opening : List ℕ = magic ++ version ∷ [] in
-    let heads = spelling 5 (length c.heads) ++ flat_map head_bytes c.heads in
+    let opening : List ℕ = kd_magic ++ version ∷ [] in
+    let heads = spelling 5 (length c.heads) ++ flat_map kd_head_bytes c.heads in
     let count = spelling 5 n in
     let extents = flat_map extent_bytes (extents_of c) in
     let one : ℕ = 0 + length opening in
     let two = one + length heads in
     let three = two + length count in
-    let whole : (magic ++ version ∷ spelling 5 (length c.heads) ++ (flat_map head_bytes c.heads ++ (spelling 5 n ++ extents))) ++ rest
-    ≡ opening ++ (heads ++ (count ++ (extents ++ rest))) = ap (λ bytes. opening ++ bytes) (regroup (spelling 5 (length c.heads)) (flat_map head_bytes c.heads) count extents rest) in
+    let whole : (kd_magic ++ version ∷ spelling 5 (length c.heads) ++ (flat_map kd_head_bytes c.heads ++ (spelling 5 n ++ extents))) ++ rest
+    ≡ opening ++ (heads ++ (count ++ (extents ++ rest))) = ap (λ bytes. opening ++ bytes) (regroup (spelling 5 (length c.heads)) (flat_map kd_head_bytes c.heads) count extents rest) in
     let first = Spells-opening.reads 0 (heads ++ (count ++ (extents ++ rest))) in
     let second = (Spells-heads c.heads (heads_say c.heads cloud.heads_pass) fit).reads one (count ++ (extents ++ rest)) in
     let third = (Spells-points n (width_of c.heads) has.some has.few has.values).reads two (extents ++ rest) in
     let fourth = (Spells-extents c cloud has).reads three rest in
-    record { at = three; end = three + length extents; reads = ap (λ bytes. header_at (start_of bytes)) whole ∙ rw (first, second, third, fourth) refl }
+    record { at = three; end = three + length extents; reads = ap (λ bytes. kd_header_at (start_of bytes)) whole ∙ rw (first, second, third, fourth) refl }
 
 -- the tree of a file, and where it ends
 record TreeRead (c : CloudParts) (order : List ℕ) (place : ℕ) (rest : List ℕ) : Type 0 where
   end : ℕ
-  reads : tree_at (depth_of (extents_of c)) (length c.points) (record { place = place; rest = (block (split_of c) ++ block (rest_of c)) ++ rest })
+  reads : tree_at (depth_of (extents_of c)) (length c.points) (record { place = place; rest = (block (kd_split_of c) ++ block (rest_of c)) ++ rest })
       ≡ Ok (sorted_keys c order, record { place = end; rest = rest })
 
 trees : TreesAreReadAgain
@@ -154,7 +154,7 @@ trees fault depth keys s small long settled split rest =
     read-again fault depth 0 [] keys s small (λ k e h. (long k e h ∙ (let z : depth ≡ 0 + depth = omega arith in z), refl)) settled split rest
 
 tree_read : (c : CloudParts) (order : List ℕ) (place : ℕ) (more : List ℕ) → HasLimits c → IsKdOrder (keys_of c) order
-    → IsBlockOf (split_of c) (block (split_of c)) → IsBlockOf (rest_of c) (block (rest_of c)) → TreeRead c order place more
+    → IsBlockOf (kd_split_of c) (block (kd_split_of c)) → IsBlockOf (rest_of c) (block (rest_of c)) → TreeRead c order place more
 unfolding tree_at
 tree_read c order place more has is split rest =
     let depth = depth_of (extents_of c) in
@@ -171,23 +171,23 @@ tree_read c order place more has is split rest =
     let read = trees fault depth sorted s (omega (arith, many, has.few)) (sorted-long depth keys order (keys_long c) is) (sorted-settled depth keys order (keys_long c) is) split_fed rest_fed in
     let after : Streams = record { split = behind (length (split_bits depth 0 sorted)) s.split; rest = behind (length (rest_bits depth 0 sorted)) s.rest } in
     let due : tree_of fault depth (length c.points) s ≡ Ok (sorted, after) = subst (λ n. tree_of fault depth n s ≡ Ok (sorted, after)) many read in
-    let one = place + length (block (split_of c)) in
+    let one = place + length (block (kd_split_of c)) in
     let first = split.spells.reads place (block (rest_of c) ++ more) in
     let second = rest.spells.reads one more in
     record {
       end = one + length (block (rest_of c));
-      reads = ap (λ bytes. tree_at depth (length c.points) (record { place = place; rest = bytes })) (append_assoc (block (split_of c)) (block (rest_of c)) more)
+      reads = ap (λ bytes. tree_at depth (length c.points) (record { place = place; rest = bytes })) (append_assoc (block (kd_split_of c)) (block (rest_of c)) more)
           ∙ rw (first, second, due) refl;
     }
 
 -- the two blocks of a cloud that is written
-split_again : (c : CloudParts) → IsCloud c → HasLimits c → IsBlockOf (split_of c) (block (split_of c))
+split_again : (c : CloudParts) → IsCloud c → HasLimits c → IsBlockOf (kd_split_of c) (block (kd_split_of c))
 split_again c cloud has =
     let extents = extents_of c in
     let most = split-few (depth_of extents) 0 (keys_of c) in
     let many = length-map c.points (key_within extents) in
-    let total : length (split_of c) ≤ length c.points * depth_of extents = subst (λ n. length (split_of c) ≤ n * depth_of extents) many most in
-    few-again (split_of c) (bits_few (length c.points) (depth_of extents) (width_of c.heads) (length (split_of c)) total (depth_few c cloud has.some) has.values)
+    let total : length (kd_split_of c) ≤ length c.points * depth_of extents = subst (λ n. length (kd_split_of c) ≤ n * depth_of extents) many most in
+    few-again (kd_split_of c) (bits_few (length c.points) (depth_of extents) (width_of c.heads) (length (kd_split_of c)) total (depth_few c cloud has.some) has.values)
 
 rest_again : (c : CloudParts) → IsCloud c → HasLimits c → IsBlockOf (rest_of c) (block (rest_of c))
 rest_again c cloud has =
@@ -199,20 +199,20 @@ rest_again c cloud has =
     few-again (rest_of c) (bits_few (length c.points) depth (width_of c.heads) (length (rest_of c)) total (depth_few c cloud has.some) has.values)
 
 -- the file
-file_by : (c : CloudParts) (order more : List ℕ) → IsCloud c → HasLimits c → All HeadFits c.heads → IsKdOrder (keys_of c) order → IsFileOf c (kd_written c ++ more) (rows_by order)
+file_by : (c : CloudParts) (order more : List ℕ) → IsCloud c → HasLimits c → All KdHeadFits c.heads → IsKdOrder (keys_of c) order → IsFileOf c (kd_written c ++ more) (rows_by order)
 unfolding kd_written file_at
 file_by c order more cloud has fit is =
-    let blocks = block (split_of c) ++ block (rest_of c) in
+    let blocks = block (kd_split_of c) ++ block (rest_of c) in
     let front = header_read c (blocks ++ more) cloud has fit in
     let tree = tree_read c order front.end more has is (split_again c cloud has) (rest_again c cloud has) in
     let header : Header = record { heads = c.heads; count = length c.points; extents = extents_of c; at = front.at } in
     let points = cloud_inside header (sorted_keys c order) (width_of c.heads) (all_inside c order cloud is) refl in
     record {
       cloud = record { heads = c.heads; points = sorted_points c order };
-      reads = ap (λ bytes. kd_meaning bytes) (append_assoc (header_bytes c) blocks more) ∙ rw (front.reads, tree.reads, points) refl;
+      reads = ap (λ bytes. kd_meaning bytes) (append_assoc (kd_header_bytes c) blocks more) ∙ rw (front.reads, tree.reads, points) refl;
       same = same_points c order cloud is;
     }
 
-pub file_again : (c : CloudParts) (rows : Rows) (more : List ℕ) → IsCloud c → kd_fault (Cloud c) ≡ None → All HeadFits c.heads → KdOrder c rows → IsFileOf c (kd_written c ++ more) rows
+pub file_again : (c : CloudParts) (rows : Rows) (more : List ℕ) → IsCloud c → kd_fault (Cloud c) ≡ None → All KdHeadFits c.heads → KdOrder c rows → IsFileOf c (kd_written c ++ more) rows
 file_again c rows more cloud none fit order =
     subst (λ (r : Rows). IsFileOf c (kd_written c ++ more) r) (sym order.rows_are) (file_by c order.order more cloud (limits c none) fit order.ordered)

@@ -5,13 +5,13 @@ use Rattle.mesh_model.specs.declared.geometries.Geometry.{Geometry}
 use Rattle.mesh_model.specs.declared.geometries.Geometry.TheVariants.{Cloud}
 use Rattle.mesh_model.specs.Parts.{CloudParts, IsCloud}
 use Rattle.mesh_model.specs.Same.{Rows, Same}
-use Rattle.kd_points.specs.Laws.{HeadFits}
+use Rattle.kd_points.specs.Laws.{KdHeadFits}
 use Rattle.kd_points.specs.Rows.{KdMeans, kd_rows}
 use Rattle.kd_points.specs.Written.{KdOrder, cloud_in, kd_fault, kd_written}
 use Rattle.kd_points.proofs.OneOrder.{one_order}
 use Rattle.kd_points.proofs.ReadAgain.{file_again}
 
-pub written_means : (g : Geometry) (c : CloudParts) (rows : Rows) (more : List ℕ) → g ≡ Cloud c → IsCloud c → kd_fault g ≡ None → All HeadFits c.heads
+pub written_means : (g : Geometry) (c : CloudParts) (rows : Rows) (more : List ℕ) → g ≡ Cloud c → IsCloud c → kd_fault g ≡ None → All KdHeadFits c.heads
     → KdOrder c rows → KdMeans g (kd_written c ++ more) rows
 written_means g c rows more is sound none fit order =
     let file = file_again c rows more sound (subst (λ x. kd_fault x ≡ None) is none) fit order in

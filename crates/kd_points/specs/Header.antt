@@ -15,55 +15,55 @@ use Rattle.kd_points.specs.declared.extents.Extent.{Extent}
 use Rattle.kd_points.specs.declared.headers.Header.{Header}
 
 -- the first bytes of a file: KDPTS
-abbrev pub magic : List ℕ
-magic = 75 ∷ 68 ∷ 80 ∷ 84 ∷ 83 ∷ []
+abbrev pub kd_magic : List ℕ
+kd_magic = 75 ∷ 68 ∷ 80 ∷ 84 ∷ 83 ∷ []
 
 -- the version that is read
 abbrev pub version : ℕ
 version = 1
 
 -- the first bytes, and the version
-unfoldable pub opening_at : Reading → Item ℕ
-opening_at c = do
-  first ← must kind.KdMagic (λ bytes. pointwise nat_eq bytes magic) (bytes_at 5) c
+unfoldable pub kd_opening_at : Reading → Item ℕ
+kd_opening_at c = do
+  first ← must kind.KdMagic (λ bytes. pointwise nat_eq bytes kd_magic) (bytes_at 5) c
   must kind.KdVersion (λ n. n == version) (number_at 1) first.1
 
 -- how many attributes there are
-unfoldable pub attribute_count_at : Reading → Item ℕ
-attribute_count_at c = must kind.AttrLimit (λ n. nat_le n MAX_ATTRIBUTES) (must kind.NoAttribute (λ n. nat_lt 0 n) var32_at) c
+unfoldable pub kd_attribute_count_at : Reading → Item ℕ
+kd_attribute_count_at c = must kind.AttrLimit (λ n. nat_le n MAX_ATTRIBUTES) (must kind.NoAttribute (λ n. nat_lt 0 n) var32_at) c
 
 -- whether a data type is accepted: 1 to 6 are integers, and 9 is a float32 that is quantised
-abbrev pub is_type : ℕ → Bool
-is_type dtype = (nat_le 1 dtype && nat_le dtype 6) || dtype == 9
+abbrev pub is_kd_type : ℕ → Bool
+is_kd_type dtype = (nat_le 1 dtype && nat_le dtype 6) || dtype == 9
 
 -- the quantisation of so many components: bits, range, minima
-unfoldable pub quant_at : ℕ → Reading → Item Quant
-quant_at comps c = do
+unfoldable pub kd_quant_at : ℕ → Reading → Item Quant
+kd_quant_at comps c = do
   bits ← must kind.QuantBits (λ n. nat_le 1 n && nat_le n 30) (number_at 1) c
   range ← number_at 4 bits.1
   minima ← many_at (number_at 4) comps range.1
   Ok (record { bits = bits.0; range = range.0; min = minima.0 }, minima.1)
 
 -- the quantisation of an attribute of this type; integers have none
-unfoldable pub quant_of_at : ℕ → ℕ → Reading → Item (Option Quant)
-quant_of_at dtype comps c = if dtype == 9 then (quant_at comps c >>= λ q. Ok (Some q.0, q.1)) else Ok (None, c)
+unfoldable pub kd_quant_of_at : ℕ → ℕ → Reading → Item (Option Quant)
+kd_quant_of_at dtype comps c = if dtype == 9 then (kd_quant_at comps c >>= λ q. Ok (Some q.0, q.1)) else Ok (None, c)
 
 -- the head of an attribute
-unfoldable pub head_at : Reading → Item Head
-head_at c = do
+unfoldable pub kd_head_at : Reading → Item Head
+kd_head_at c = do
   usage ← must kind.AttrType (λ n. nat_le n 4) (number_at 1) c
-  dtype ← must kind.DataType is_type (number_at 1) usage.1
+  dtype ← must kind.DataType is_kd_type (number_at 1) usage.1
   comps ← must kind.Components (λ n. nat_le 1 n && nat_le n MAX_COMPONENTS) (number_at 1) dtype.1
   normalized ← number_at 1 comps.1
   id ← var32_at normalized.1
-  quant ← quant_of_at dtype.0 comps.0 id.1
+  quant ← kd_quant_of_at dtype.0 comps.0 id.1
   Ok (record { usage = usage.0; dtype = dtype.0; comps = comps.0; normalized = normalized.0; id = id.0; quant = quant.0 }, quant.1)
 
 -- the heads of all attributes
-unfoldable pub heads_at : Reading → Item (List Head)
-heads_at c = do
-  n ← attribute_count_at c
-  many_at head_at n.0 n.1
+unfoldable pub kd_heads_at : Reading → Item (List Head)
+kd_heads_at c = do
+  n ← kd_attribute_count_at c
+  many_at kd_head_at n.0 n.1
 
 -- how many points of so many integers there are
 unfoldable pub point_count_at : ℕ → Reading → Item ℕ
@@ -79,10 +79,10 @@ extent_at c = do
   Ok (record { least = least.0; bits = bits.0 }, bits.1)
 
 -- all that stands in front of the tree, and where the extents begin
-unfoldable pub header_at : Reading → Item Header
-header_at c = do
-  opening ← opening_at c
-  heads ← heads_at opening.1
+unfoldable pub kd_header_at : Reading → Item Header
+kd_header_at c = do
+  opening ← kd_opening_at c
+  heads ← kd_heads_at opening.1
   count ← point_count_at (width_of heads.0) heads.1
   extents ← many_at extent_at (width_of heads.0) count.1
   Ok (record { heads = heads.0; count = count.0; extents = extents.0; at = count.1.place }, extents.1)

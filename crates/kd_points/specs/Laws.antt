@@ -15,14 +15,14 @@ KeysTellPoints = (c : CloudParts) (i : ℕ) → IsCloud c → i < length c.point
     → row_within (extents_of c) (key_within (extents_of c) (slice_index_or c.points i [])) ≡ slice_index_or c.points i []
 
 -- the numbers of a quantisation have 32 bits
-abbrev pub QuantFits : Option Quant → Type 0
-QuantFits None = Unit {0}
-QuantFits (Some q) = All (λ m. m < 2 ^ 32) q.min × (q.range < 2 ^ 32)
+abbrev pub KdQuantFits : Option Quant → Type 0
+KdQuantFits None = Unit {0}
+KdQuantFits (Some q) = All (λ m. m < 2 ^ 32) q.min × (q.range < 2 ^ 32)
 
 -- the numbers of a head that are written in 32 bits fit them
-pub record HeadFits (h : Head) : Type 0 where
+pub record KdHeadFits (h : Head) : Type 0 where
   pub id : h.id < 2 ^ 32
-  pub quant : QuantFits h.quant
+  pub quant : KdQuantFits h.quant
 
 -- these bytes are a file of a cloud that is the given one by these rows
 pub record IsFileOf (c : CloudParts) (bytes : List ℕ) (rows : Rows) : Type 0 where
@@ -32,5 +32,5 @@ pub record IsFileOf (c : CloudParts) (bytes : List ℕ) (rows : Rows) : Type 0 w
 
 -- the file of a cloud without a fault is read, whatever bytes follow it, as the same cloud with its points in the order of the tree
 abbrev pub FilesAreReadAgain : Type 0
-FilesAreReadAgain = (c : CloudParts) (rows : Rows) (more : List ℕ) → IsCloud c → kd_fault (Cloud c) ≡ None → All HeadFits c.heads
+FilesAreReadAgain = (c : CloudParts) (rows : Rows) (more : List ℕ) → IsCloud c → kd_fault (Cloud c) ≡ None → All KdHeadFits c.heads
     → KdOrder c rows → IsFileOf c (kd_written c ++ more) rows

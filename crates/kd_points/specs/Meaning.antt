@@ -6,7 +6,7 @@ use Rattle.drc_base.specs.declared.faults.Fault.{Fault}
 use Rattle.drc_base.specs.declared.kinds.Kind.TheVariants as kind
 use Rattle.drc_base.specs.Steps.{◌>>=◌}
 use Rattle.drc_bits.specs.Reading.{Reading, Item, start_of}
-use Rattle.rans_binary.specs.Blocks.{block_at}
+use Rattle.rans_binary.specs.Blocks.{bit_block_at}
 use Rattle.mesh_model.specs.declared.heads.Head.{Head}
 use Rattle.mesh_model.specs.declared.geometries.Geometry.{Geometry}
 use Rattle.mesh_model.specs.declared.geometries.Geometry.TheVariants.{Cloud}
@@ -17,7 +17,7 @@ use Rattle.kd_tree.specs.Keys.{Key}
 use Rattle.kd_tree.specs.Reading.{tree_of}
 use Rattle.kd_points.specs.declared.headers.Header.{Header}
 use Rattle.kd_points.specs.Extents.{depth_of, row_within}
-use Rattle.kd_points.specs.Header.{header_at}
+use Rattle.kd_points.specs.Header.{kd_header_at}
 
 -- how many bytes the extent of a component takes
 abbrev pub extent_size : ℕ
@@ -26,14 +26,14 @@ extent_size = 5
 -- the keys of the tree behind these extents, and where it ends; KdSplit stands where the split block begins
 unfoldable pub tree_at : ℕ → ℕ → Reading → Item (List Key)
 tree_at depth count c = do
-  split ← block_at c
-  rest ← block_at split.1
+  split ← bit_block_at c
+  rest ← bit_block_at split.1
   tree ← tree_of (record { kind = kind.KdSplit; at = c.place }) depth count (record { split = split.0; rest = rest.0 })
   Ok (tree.0, rest.1)
 
 -- whether all points have an integer of its data type in a component
-abbrev pub is_typed : List Head → List (List ℤ) → ℕ → Bool
-is_typed heads points component =
+abbrev pub are_points_typed : List Head → List (List ℤ) → ℕ → Bool
+are_points_typed heads points component =
     list_all (λ row. in_type (slice_index (types_of heads) component) (slice_index_or row component (pos 0))) points
 
 -- component r is the first with an integer outside its data type; the number of components stands for none
@@ -48,7 +48,7 @@ pub record FirstOutside (types : List ℕ) (points : List (List ℤ)) (r : ℕ) 
 unfoldable pub typed_fault : List Head → ℕ → List (List ℤ) → Option Fault
 typed_fault heads at points =
     at_place kind.ValueRange (option_map (λ component. at + extent_size * component)
-    (position (λ component. not (is_typed heads points component)) (range_with_len 0 (width_of heads))))
+    (position (λ component. not (are_points_typed heads points component)) (range_with_len 0 (width_of heads))))
 
 -- the cloud of a header and keys, or its fault
 unfoldable pub cloud_of_keys : Header → List Key → Result CloudParts Fault
@@ -59,7 +59,7 @@ cloud_of_keys h keys =
 -- a file of points
 unfoldable pub file_at : Reading → Item CloudParts
 file_at c = do
-  header ← header_at c
+  header ← kd_header_at c
   keys ← tree_at (depth_of header.0.extents) header.0.count header.1
   cloud ← cloud_of_keys header.0 keys.0
   Ok (cloud, keys.1)

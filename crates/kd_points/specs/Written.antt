@@ -20,7 +20,7 @@ use Rattle.kd_tree.specs.Trees.{split_bits, rest_bits, split_count, rest_count}
 use Rattle.kd_tree.specs.Order.{IsKdOrder}
 use Rattle.kd_points.specs.declared.extents.Extent.{Extent}
 use Rattle.kd_points.specs.Extents.{extents_of, keys_of, depth_of}
-use Rattle.kd_points.specs.Header.{magic, version}
+use Rattle.kd_points.specs.Header.{kd_magic, version}
 
 -- why a geometry isn't written: it is a mesh, it has no points, too many, or too many integers
 unfoldable pub kd_fault : Geometry → Option Fault
@@ -37,34 +37,34 @@ abbrev pub cloud_in : Geometry → CloudParts
 cloud_in g = record { heads = heads_in g; points = points_in g }
 
 -- the bytes of a quantisation: bits, range, minima
-abbrev pub quant_bytes : Option Quant → List ℕ
-quant_bytes None = []
-quant_bytes (Some q) = q.bits ∷ low_bytes 4 q.range ++ flat_map (low_bytes 4) q.min
+abbrev pub kd_quant_bytes : Option Quant → List ℕ
+kd_quant_bytes None = []
+kd_quant_bytes (Some q) = q.bits ∷ low_bytes 4 q.range ++ flat_map (low_bytes 4) q.min
 
 -- the bytes of a head
-abbrev pub head_bytes : Head → List ℕ
-head_bytes h = h.usage ∷ h.dtype ∷ h.comps ∷ h.normalized ∷ spelling 5 h.id ++ quant_bytes h.quant
+abbrev pub kd_head_bytes : Head → List ℕ
+kd_head_bytes h = h.usage ∷ h.dtype ∷ h.comps ∷ h.normalized ∷ spelling 5 h.id ++ kd_quant_bytes h.quant
 
 -- the bytes of an extent
 abbrev pub extent_bytes : Extent → List ℕ
 extent_bytes e = low_bytes 4 (cast_unsigned w32 e.least) ++ e.bits ∷ []
 
 -- the bytes in front of the tree
-unfoldable pub header_bytes : CloudParts → List ℕ
-header_bytes c =
-    magic ++ version ∷ spelling 5 (length c.heads) ++ (flat_map head_bytes c.heads
+unfoldable pub kd_header_bytes : CloudParts → List ℕ
+kd_header_bytes c =
+    kd_magic ++ version ∷ spelling 5 (length c.heads) ++ (flat_map kd_head_bytes c.heads
     ++ (spelling 5 (length c.points) ++ flat_map extent_bytes (extents_of c)))
 
 -- the split bits and the rest bits of the tree of a cloud
-abbrev pub split_of : CloudParts → List Bool
-split_of c = split_bits (depth_of (extents_of c)) 0 (keys_of c)
+abbrev pub kd_split_of : CloudParts → List Bool
+kd_split_of c = split_bits (depth_of (extents_of c)) 0 (keys_of c)
 
 abbrev pub rest_of : CloudParts → List Bool
 rest_of c = rest_bits (depth_of (extents_of c)) 0 (keys_of c)
 
 -- the file of a cloud
 unfoldable pub kd_written : CloudParts → List ℕ
-kd_written c = header_bytes c ++ (block (split_of c) ++ block (rest_of c))
+kd_written c = kd_header_bytes c ++ (block (kd_split_of c) ++ block (rest_of c))
 
 -- the rows name the points by key, then by number, and have no turns
 pub record KdOrder (c : CloudParts) (rows : Rows) : Type 0 where

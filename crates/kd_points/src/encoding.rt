@@ -5,9 +5,9 @@ ghost use Rattle.drc_base.specs.Refusals.{Answers};
 ghost use Rattle.rans_binary.specs.Blocks.{IsBlockOf, block};
 ghost use Rattle.mesh_model.specs.Contents.{heads_in};
 ghost use Rattle.kd_points.specs.Extents.{extents_of};
-ghost use Rattle.kd_points.specs.Laws.{HeadFits};
+ghost use Rattle.kd_points.specs.Laws.{KdHeadFits};
 ghost use Rattle.kd_points.specs.Rows.{KdMeans, kd_rows};
-ghost use Rattle.kd_points.specs.Written.{KdOrder, cloud_in, kd_due, kd_counts, kd_written, rest_of, split_of};
+ghost use Rattle.kd_points.specs.Written.{KdOrder, cloud_in, kd_due, kd_counts, kd_written, rest_of, kd_split_of};
 
 use crate::head_writing::write_header;
 use crate::refusals::cloud_to_write;
@@ -33,13 +33,13 @@ fn rows_of(alloc: Global, order: &[u32]) -> Result<Vec<(u32, u8)>, Memory>
 #[tactic(auto, unfolding(crate::specs::Written::kd_written))]
 fn write_file(alloc: Global, cloud: &Cloud, tree: Tree) -> Result<(Vec<u8>, Sequence<u32>), Memory>
     requires extents { tree.extents ≡ extents_of cloud.now }
-    requires split { tree.split ≡ split_of cloud.now }
+    requires split { tree.split ≡ kd_split_of cloud.now }
     requires rest { tree.rest ≡ rest_of cloud.now }
     requires short { (length tree.split < 2 ^ 31) × (length tree.rest < 2 ^ 31) }
     ensures file { IfOk result (λ v. v.0.items ≡ kd_written cloud.now) }
     ensures order { IfOk result (λ v. v.1 ≡ tree.order) }
-    ensures fields { OnOk result (All HeadFits cloud.now.heads) }
-    ensures again { OnOk result (IsBlockOf (split_of cloud.now) (block (split_of cloud.now)) × IsBlockOf (rest_of cloud.now) (block (rest_of cloud.now))) }
+    ensures fields { OnOk result (All KdHeadFits cloud.now.heads) }
+    ensures again { OnOk result (IsBlockOf (kd_split_of cloud.now) (block (kd_split_of cloud.now)) × IsBlockOf (rest_of cloud.now) (block (rest_of cloud.now))) }
 {
     let mut out = write_header(alloc, cloud, tree.extents.as_slice())?;
     let split = write_block(alloc, tree.split.as_slice())?;
@@ -64,7 +64,7 @@ pub fn kd_encode(alloc: Global, g: &Geometry) -> Result<(Vec<u8>, Renumber), Ref
     ensures order { IfOk result (λ r. KdOrder (cloud_in g.now) r.1.rows) }
     ensures rows { IfOk result (λ r. r.1.rows ≡ kd_rows (cloud_in g.now)) }
     ensures again { IfOk result (λ r. (more : List ℕ) → KdMeans g.now (r.0.items ++ more) r.1.rows) }
-    ensures fields { OnOk result (All HeadFits (heads_in g.now)) }
+    ensures fields { OnOk result (All KdHeadFits (heads_in g.now)) }
 {
     let cloud = cloud_to_write(g)?;
     let tree = tree_of(alloc, cloud)?;
@@ -86,7 +86,7 @@ pub fn kd_bits(alloc: Global, g: &Geometry) -> Result<(u64, u64), Refusal>
 {
     let cloud = cloud_to_write(g)?;
     let tree = tree_of(alloc, cloud)?;
-    // For the prover alone: the call tells how many bits a tree has.
+    // For the prover alone: the call states how many bits a tree has.
     bits_are_counted();
     Ok((tree.split.len() as u64, tree.rest.len() as u64))
 }

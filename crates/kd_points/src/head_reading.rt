@@ -4,7 +4,7 @@ ghost use Rattle.std.specs.Prelude.{◌≡◌, IfOk, None};
 ghost use Rattle.mesh_model.specs.Head.{heads_fault};
 ghost use Rattle.drc_bits.specs.Reading.{Reads, Gives, many_at};
 ghost use Rattle.drc_bits.specs.Numbers.{number_at};
-ghost use Rattle.kd_points.specs.Header.{is_type, quant_at, quant_of_at, head_at, heads_at, attribute_count_at};
+ghost use Rattle.kd_points.specs.Header.{is_kd_type, kd_quant_at, kd_quant_of_at, kd_head_at, kd_heads_at, kd_attribute_count_at};
 
 use drc_base::{Fault, Kind, MAX_ATTRIBUTES, MAX_COMPONENTS, Refusal, Sequence};
 use drc_bits::Cursor;
@@ -16,15 +16,15 @@ const FLOAT32: u8 = 9;
 
 /// Whether a data type is accepted.
 fn is_type(dtype: u8) -> bool
-    ensures { result ≡ is_type dtype }
+    ensures { result ≡ is_kd_type dtype }
 {
     (1 <= dtype && dtype <= 6) || dtype == FLOAT32
 }
 
 /// How many attributes there are.
-#[tactic(auto, unfolding(crate::specs::Header::attribute_count_at))]
+#[tactic(auto, unfolding(crate::specs::Header::kd_attribute_count_at))]
 fn read_attribute_count(c: &mut Cursor<'_>) -> Result<u32, Fault>
-    ensures { Reads (λ n. n) (attribute_count_at c.old) c.new result }
+    ensures { Reads (λ n. n) (kd_attribute_count_at c.old) c.new result }
 {
     let at = c.place();
     let n = c.var32()?;
@@ -50,9 +50,9 @@ fn read_minima(alloc: Global, c: &mut Cursor<'_>, comps: u8) -> Result<Vec<u32>,
 }
 
 /// The quantisation of `comps` components: bits, range, minima.
-#[tactic(auto, unfolding(crate::specs::Header::quant_at))]
+#[tactic(auto, unfolding(crate::specs::Header::kd_quant_at))]
 fn read_quant(alloc: Global, c: &mut Cursor<'_>, comps: u8) -> Result<Quant, Refusal>
-    ensures { Gives (λ q. q) (quant_at comps c.old) c.new result }
+    ensures { Gives (λ q. q) (kd_quant_at comps c.old) c.new result }
 {
     let at = c.place();
     let bits = c.get_u8()?;
@@ -69,14 +69,14 @@ fn read_quant(alloc: Global, c: &mut Cursor<'_>, comps: u8) -> Result<Quant, Ref
 }
 
 /// The quantisation of an attribute of this type; integers have none.
-#[tactic(auto, unfolding(crate::specs::Header::quant_of_at))]
+#[tactic(auto, unfolding(crate::specs::Header::kd_quant_of_at))]
 fn read_quant_of(
     alloc: Global,
     c: &mut Cursor<'_>,
     dtype: u8,
     comps: u8,
 ) -> Result<Option<Quant>, Refusal>
-    ensures { Gives (λ q. q) (quant_of_at dtype comps c.old) c.new result }
+    ensures { Gives (λ q. q) (kd_quant_of_at dtype comps c.old) c.new result }
 {
     if dtype == FLOAT32 {
         let quant = read_quant(alloc, c, comps)?;
@@ -87,9 +87,9 @@ fn read_quant_of(
 }
 
 /// The head of an attribute.
-#[tactic(auto, unfolding(crate::specs::Header::head_at))]
+#[tactic(auto, unfolding(crate::specs::Header::kd_head_at))]
 fn read_head(alloc: Global, c: &mut Cursor<'_>) -> Result<Head, Refusal>
-    ensures { Gives (λ h. h) (head_at c.old) c.new result }
+    ensures { Gives (λ h. h) (kd_head_at c.old) c.new result }
 {
     let at = c.place();
     let usage = c.get_u8()?;
@@ -121,7 +121,7 @@ fn read_head(alloc: Global, c: &mut Cursor<'_>) -> Result<Head, Refusal>
 
 /// The heads of `n` attributes.
 fn read_attributes(alloc: Global, c: &mut Cursor<'_>, n: u32) -> Result<Vec<Head>, Refusal>
-    ensures { Gives (λ v. v.items) (many_at head_at n c.old) c.new result }
+    ensures { Gives (λ v. v.items) (many_at kd_head_at n c.old) c.new result }
 {
     let mut heads = Vec::new(alloc);
     for _number in 0..n {
@@ -133,9 +133,9 @@ fn read_attributes(alloc: Global, c: &mut Cursor<'_>, n: u32) -> Result<Vec<Head
 
 /// The heads of all attributes. The first fault: `NoAttribute` and `AttrLimit` at their number; then in
 /// each `AttrType`, `DataType`, `Components` and `QuantBits` at the item's place; and `Short` and `Long`.
-#[tactic(auto, unfolding(crate::specs::Header::heads_at))]
+#[tactic(auto, unfolding(crate::specs::Header::kd_heads_at))]
 pub fn read_heads(alloc: Global, c: &mut Cursor<'_>) -> Result<Vec<Head>, Refusal>
-    ensures item { Gives (λ v. v.items) (heads_at c.old) c.new result }
+    ensures item { Gives (λ v. v.items) (kd_heads_at c.old) c.new result }
     ensures pass { IfOk result (λ v. heads_fault v.items ≡ None) }
 {
     let n = read_attribute_count(c)?;

@@ -3,8 +3,8 @@
 ghost use Rattle.std.specs.Prelude.{◌≡◌, ◌<◌, ◌^◌, ◌++◌, All, OnOk, IfOk, flat_map};
 ghost use Rattle.drc_bits.specs.Bits.{low_bytes};
 ghost use Rattle.kd_points.specs.Extents.{extents_of};
-ghost use Rattle.kd_points.specs.Laws.{HeadFits, QuantFits};
-ghost use Rattle.kd_points.specs.Written.{quant_bytes, head_bytes, extent_bytes, header_bytes};
+ghost use Rattle.kd_points.specs.Laws.{KdHeadFits, KdQuantFits};
+ghost use Rattle.kd_points.specs.Written.{kd_quant_bytes, kd_head_bytes, extent_bytes, kd_header_bytes};
 
 use crate::extents::Extent;
 use crate::headers::{MAGIC, VERSION};
@@ -34,8 +34,8 @@ fn put_minima(out: &mut Vec<u8>, minima: &[u32]) -> Result<(), Memory>
 
 /// Appends a quantisation: bits, range, minima.
 fn put_quant(out: &mut Vec<u8>, quant: &Quant) -> Result<(), Memory>
-    ensures bytes { OnOk result (out.new.items ≡ out.old.items ++ quant_bytes (Some quant.now)) }
-    ensures fields { OnOk result (QuantFits (Some quant.now)) }
+    ensures bytes { OnOk result (out.new.items ≡ out.old.items ++ kd_quant_bytes (Some quant.now)) }
+    ensures fields { OnOk result (KdQuantFits (Some quant.now)) }
 {
     out.push(quant.bits)?;
     put_u32(out, quant.range)?;
@@ -45,8 +45,8 @@ fn put_quant(out: &mut Vec<u8>, quant: &Quant) -> Result<(), Memory>
 
 /// Appends the quantisation of a head, where it has one.
 fn put_quant_of(out: &mut Vec<u8>, head: &Head) -> Result<(), Memory>
-    ensures bytes { OnOk result (out.new.items ≡ out.old.items ++ quant_bytes head.now.quant) }
-    ensures fields { OnOk result (QuantFits head.now.quant) }
+    ensures bytes { OnOk result (out.new.items ≡ out.old.items ++ kd_quant_bytes head.now.quant) }
+    ensures fields { OnOk result (KdQuantFits head.now.quant) }
 {
     match &head.quant {
         None => Ok(()),
@@ -56,8 +56,8 @@ fn put_quant_of(out: &mut Vec<u8>, head: &Head) -> Result<(), Memory>
 
 /// Appends a head.
 fn put_head(out: &mut Vec<u8>, head: &Head) -> Result<(), Memory>
-    ensures bytes { OnOk result (out.new.items ≡ out.old.items ++ head_bytes head.now) }
-    ensures fields { OnOk result (HeadFits head.now) }
+    ensures bytes { OnOk result (out.new.items ≡ out.old.items ++ kd_head_bytes head.now) }
+    ensures fields { OnOk result (KdHeadFits head.now) }
 {
     out.push(head.usage)?;
     out.push(head.dtype)?;
@@ -70,8 +70,8 @@ fn put_head(out: &mut Vec<u8>, head: &Head) -> Result<(), Memory>
 
 /// Appends heads.
 fn put_heads(out: &mut Vec<u8>, heads: &[Head]) -> Result<(), Memory>
-    ensures bytes { OnOk result (out.new.items ≡ out.old.items ++ flat_map head_bytes heads.now) }
-    ensures fields { OnOk result (All HeadFits heads.now) }
+    ensures bytes { OnOk result (out.new.items ≡ out.old.items ++ flat_map kd_head_bytes heads.now) }
+    ensures fields { OnOk result (All KdHeadFits heads.now) }
 {
     for head in heads {
         put_head(out, head)?;
@@ -99,11 +99,11 @@ fn put_extents(out: &mut Vec<u8>, extents: &[Extent]) -> Result<(), Memory>
 }
 
 /// What stands in front of the tree of a cloud with these extents.
-#[tactic(auto, unfolding(crate::specs::Written::header_bytes))]
+#[tactic(auto, unfolding(crate::specs::Written::kd_header_bytes))]
 pub fn write_header(alloc: Global, cloud: &Cloud, extents: &[Extent]) -> Result<Vec<u8>, Memory>
     requires { extents.now ≡ extents_of cloud.now }
-    ensures bytes { IfOk result (λ v. v.items ≡ header_bytes cloud.now) }
-    ensures fields { OnOk result (All HeadFits cloud.now.heads) }
+    ensures bytes { IfOk result (λ v. v.items ≡ kd_header_bytes cloud.now) }
+    ensures fields { OnOk result (All KdHeadFits cloud.now.heads) }
 {
     let heads = cloud.heads();
     let mut out = Vec::new(alloc);

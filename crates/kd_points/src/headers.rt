@@ -3,7 +3,7 @@
 ghost use Rattle.std.specs.Prelude.{◌≡◌, ◌≤◌, ◌<◌, ◌+◌, ◌*◌, ◌^◌, IfOk, OnOk, None, length, All};
 ghost use Rattle.drc_bits.specs.Reading.{Reads, Gives, many_at};
 ghost use Rattle.mesh_model.specs.Head.{heads_fault, width_of};
-ghost use Rattle.kd_points.specs.Header.{opening_at, point_count_at, extent_at, header_at};
+ghost use Rattle.kd_points.specs.Header.{kd_opening_at, point_count_at, extent_at, kd_header_at};
 
 use crate::extents::Extent;
 use crate::head_reading::read_heads;
@@ -32,9 +32,9 @@ pub struct Header {
 }
 
 /// The first bytes and the version.
-#[tactic(auto, unfolding(crate::specs::Header::opening_at))]
+#[tactic(auto, unfolding(crate::specs::Header::kd_opening_at))]
 fn read_opening(c: &mut Cursor<'_>) -> Result<(), Fault>
-    ensures { Reads (λ _. 1) (opening_at c.old) c.new result }
+    ensures { Reads (λ _. 1) (kd_opening_at c.old) c.new result }
 {
     let at = c.place();
     let first = c.slice(5)?;
@@ -119,9 +119,9 @@ fn width_of(heads: &[Head]) -> u32
 /// `KdVersion`; those of heads; at the number of points `PointLimit`, then `KdLimit` where points times
 /// their integers are above `MAX_KD_VALUES`, then `Empty`; `KdBits` where the integers of a component have
 /// more than 32 bits; and `Short` and `Long`. Nothing here takes more memory than the bytes justify.
-#[tactic(auto, unfolding(crate::specs::Header::header_at))]
+#[tactic(auto, unfolding(crate::specs::Header::kd_header_at))]
 pub fn read_header(alloc: Global, c: &mut Cursor<'_>) -> Result<Header, Refusal>
-    ensures item { Gives (λ h. h) (header_at c.old) c.new result }
+    ensures item { Gives (λ h. h) (kd_header_at c.old) c.new result }
     ensures pass { IfOk result (λ h. heads_fault h.heads ≡ None) }
     ensures len { IfOk result (λ h. length h.extents ≡ width_of h.heads) }
     ensures most { IfOk result (λ h. width_of h.heads ≤ 128) }

@@ -3,7 +3,7 @@
 ghost use Rattle.std.specs.Prelude.{◌≡◌, ◌<◌, ◌≤◌, ◌≤ℤ◌, ◌++◌, ◌∷◌, [], ℕ, pos, IfOk, OnOk, All, length, slice_index_or};
 ghost use Rattle.mesh_model.specs.Head.{width_of};
 ghost use Rattle.kd_tree.specs.Reading.{number_behind};
-ghost use Rattle.kd_points.specs.Keys.{has_bit, key_of};
+ghost use Rattle.kd_points.specs.Keys.{number_has_bit, key_of};
 ghost use Rattle.kd_points.specs.Extents.{axes_over, depth_of, extents_of, keys_of, no_extent, offset_of};
 
 use crate::axes::Axis;
@@ -19,7 +19,7 @@ fn bit_along(axis: Axis, extents: &[Extent], row: &[i32]) -> bool
     requires extents { axis.component < length extents.now }
     requires bit { axis.bit < 32 }
     requires above { (slice_index_or extents.now axis.component no_extent).least ≤ℤ slice_index_or row.now axis.component (pos 0) }
-    ensures { result ≡ has_bit axis.bit (offset_of extents.now row.now axis.component) }
+    ensures { result ≡ number_has_bit axis.bit (offset_of extents.now row.now axis.component) }
 {
     let component = axis.component as usize;
     (distance(extents[component].least, row[component]) >> axis.bit) % 2 == 1

@@ -3,7 +3,7 @@
 ghost use Rattle.std.specs.Prelude.{◌≡◌, ◌<◌, ◌≤◌, ◌*◌, ◌^◌, IfOk, length};
 ghost use Rattle.mesh_model.specs.Head.{width_of};
 ghost use Rattle.kd_points.specs.Extents.{extents_of, keys_of};
-ghost use Rattle.kd_points.specs.Written.{split_of, rest_of};
+ghost use Rattle.kd_points.specs.Written.{kd_split_of, rest_of};
 ghost use Rattle.kd_tree.specs.Order.{IsKdOrder};
 
 use crate::axes::{axes_over, depth_of};
@@ -34,7 +34,7 @@ pub fn tree_of(alloc: Global, cloud: &Cloud) -> Result<Tree, Memory>
     requires values { length cloud.now.points * width_of cloud.now.heads ≤ 2 ^ 22 }
     ensures extents { IfOk result (λ t. t.extents ≡ extents_of cloud.now) }
     ensures order { IfOk result (λ t. IsKdOrder (keys_of cloud.now) t.order) }
-    ensures split { IfOk result (λ t. t.split ≡ split_of cloud.now) }
+    ensures split { IfOk result (λ t. t.split ≡ kd_split_of cloud.now) }
     ensures rest { IfOk result (λ t. t.rest ≡ rest_of cloud.now) }
     ensures short { IfOk result (λ t. (length t.split < 2 ^ 31) × (length t.rest < 2 ^ 31)) }
 {

@@ -10,7 +10,7 @@ use Rattle.rans_binary.specs.Blocks.{Block, behind, first_bits}
 use Rattle.rans_binary.proofs.BitNumbers.{behind-behind, first_bits-add, length-first_bits}
 use Rattle.kd_tree.specs.Keys.{Key, bit_at, is_low}
 use Rattle.kd_tree.specs.Trees.{IsSettled, digits, high_bits, lower, rest_bits, split_bits, upper}
-use Rattle.kd_tree.specs.Reading.{Streams, after_rest, after_split, boxes_of, keys_before, number_behind, split_number}
+use Rattle.kd_tree.specs.Reading.{Streams, after_rest, behind_split_bits, boxes_of, keys_before, number_behind, split_bits_number}
 use Rattle.kd_tree.proofs.Bits.{length-high_bits, number-bits}
 use Rattle.kd_tree.proofs.Digits.{digits-above}
 use Rattle.kd_tree.proofs.Boxes.{length-parts, rest-last, rest-more, rest-none, rest-one, split-last, split-more, split-none}
@@ -101,12 +101,12 @@ both-read fault left d prefix box s many small parted split rest low_read high_r
     let fed_rest : IsFed (RL ++ RH) s.rest = subst (λ xs. IsFed xs s.rest) rest_is rest in
     let first = fed-parts H (SL ++ SH) s.split fed in
     let digits_long : length H ≡ g = length-high_bits g (length low) in
-    let t : Streams = after_split g s in
+    let t : Streams = behind_split_bits g s in
     let below : IsFed (SL ++ SH) t.split = subst (λ m. IsFed (SL ++ SH) (behind m s.split)) digits_long first.1 in
     let parts = fed-parts SL SH t.split below in
     let rests = fed-parts RL RH s.rest fed_rest in
     let fits : length low < 2 ^ g = (let above = digits-above 32 (length box) small in omega (arith, above, all)) in
-    let number : split_number g s ≡ length low =
+    let number : split_bits_number g s ≡ length low =
     ap (λ m. number_behind 0 (first_bits m s.split)) (sym digits_long) ∙ ap (number_behind 0) first.0 ∙ number-back g (length low) fits in
     let u : Streams = behind_box left (d + 1) low t in
     let end : Streams = behind_box left (d + 1) high u in

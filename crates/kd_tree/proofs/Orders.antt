@@ -15,7 +15,7 @@ use Rattle.std.proofs.lemmas.List.Sorted.{All-permutation, IsPermutation-map}
 use Rattle.kd_tree.specs.Keys.{Key, KeyRows, key_at}
 use Rattle.kd_tree.specs.Order.{IsOrderBy, key_cmp, point_cmp}
 use Rattle.kd_tree.specs.Trees.{high_bits}
-use Rattle.kd_tree.specs.Packing.{AreClean, front_key, key_from, keys_in, row_at, row_cmp, IsWordOf, words_for}
+use Rattle.kd_tree.specs.Packing.{AreClean, front_key, key_from, keys_in, packed_row, row_cmp, IsWordOf, words_for}
 use Rattle.kd_tree.proofs.Bits.{drop-high_bits, length-high_bits}
 use Rattle.kd_tree.proofs.Packed.{count-is, front-row, key-keys_in, length-keys_in, row-in}
 
@@ -185,21 +185,21 @@ module _ (depth n : ℕ) (words : List ℕ) (is : length words ≡ n * words_for
   row-room : words_for depth ≤ length (drop (i * words_for depth) words)
   row-room = let r = row-in depth n i (words_for depth) (length words) is refl h in omega (arith, r, length-drop (i * words_for depth) words)
 
-  row-long : length (row_at (words_for depth) words i) ≡ depth / 64 + 1
+  row-long : length (packed_row (words_for depth) words i) ≡ depth / 64 + 1
   row-long = length-take-le (words_for depth) (drop (i * words_for depth) words) row-room
 
-  row-fit : AreFit (row_at (words_for depth) words i)
+  row-fit : AreFit (packed_row (words_for depth) words i)
   row-fit k = elim (cases_lt k (words_for depth)) [
     | inl low ↦ (let e = get_or-take (words_for depth) (drop (i * words_for depth) words) k 0 low ∙ get_or-drop (i * words_for depth) words k 0 in let f = fit (i * words_for depth + k) in omega (arith, e, f))
-    | inr high ↦ (let e = get_or_past (row_at (words_for depth) words i) k 0 (omega (arith, row-long, high)) in omega (arith, e))
+    | inr high ↦ (let e = get_or_past (packed_row (words_for depth) words i) k 0 (omega (arith, row-long, high)) in omega (arith, e))
   ]
 
-  row-last : get_or (row_at (words_for depth) words i) (depth / 64) 0 < 2 ^ (depth % 64)
+  row-last : get_or (packed_row (words_for depth) words i) (depth / 64) 0 < 2 ^ (depth % 64)
   row-last =
       let e = get_or-take (words_for depth) (drop (i * words_for depth) words) (depth / 64) 0 (omega arith) ∙ get_or-drop (i * words_for depth) words (depth / 64) 0 in
       let c = clean i h in omega (arith, e, c)
 
-  row-key : key_at (keys_in depth n words) i ≡ front_key depth (row_at (words_for depth) words i)
+  row-key : key_at (keys_in depth n words) i ≡ front_key depth (packed_row (words_for depth) words i)
   row-key = key-keys_in depth n words i h ∙ sym (front-row depth (drop (i * words_for depth) words) row-room)
 
 pub row-order : (depth n : ℕ) (words order : List ℕ) → length words ≡ n * words_for depth → AreClean depth n words → AreFit words →
@@ -208,8 +208,8 @@ row-order depth n words order is clean fit h =
     let rows : List Key = keys_in depth n words in
     let each : (i j : ℕ) → i < n → j < n → row_cmp (words_for depth) words i j ≡ point_cmp rows i j = λ i j a b.
     ap (λ o. ordering_then o (nat_cmp i j)) (sym (
-    ap (λ k. key_cmp k (key_at rows j)) (row-key depth n words is clean fit i a) ∙ ap (key_cmp (front_key depth (row_at (words_for depth) words i))) (row-key depth n words is clean fit j b)
-    ∙ words-order (depth / 64) (depth % 64) (row_at (words_for depth) words i) (row_at (words_for depth) words j) (row-long depth n words is clean fit i a) (row-long depth n words is clean fit j b)
+    ap (λ k. key_cmp k (key_at rows j)) (row-key depth n words is clean fit i a) ∙ ap (key_cmp (front_key depth (packed_row (words_for depth) words i))) (row-key depth n words is clean fit j b)
+    ∙ words-order (depth / 64) (depth % 64) (packed_row (words_for depth) words i) (packed_row (words_for depth) words j) (row-long depth n words is clean fit i a) (row-long depth n words is clean fit j b)
     (row-fit depth n words is clean fit i a) (row-fit depth n words is clean fit j b) (row-last depth n words is clean fit i a) (row-last depth n words is clean fit j b))) in
     subst (λ k. IsOrderBy (point_cmp rows) k order) (sym (length-keys_in depth n words)) (order-same (row_cmp (words_for depth) words) (point_cmp rows) n order each h)
 

@@ -8,7 +8,7 @@ use Rattle.std.proofs.lemmas.List.{drop-drop, drop-append-le, get_or_append_left
 use Rattle.kd_tree.specs.Keys.{Key, KeyRows, bit_at, key_at}
 use Rattle.kd_tree.specs.Trees.{high_bits}
 use Rattle.kd_tree.specs.Reading.{number_behind}
-use Rattle.kd_tree.specs.Packing.{AreClean, front_key, key_from, keys_in, row_at, words_for}
+use Rattle.kd_tree.specs.Packing.{AreClean, front_key, key_from, keys_in, packed_row, words_for}
 use Rattle.kd_tree.proofs.Bits.{bits-number, length-high_bits, number-below}
 
 pub length-key_from : (whole part : ℕ) (words : List ℕ) → length (key_from whole part words) ≡ 64 * whole + part
@@ -278,7 +278,7 @@ front-row depth words h =
 module _ (depth n count : ℕ) (words more others : List ℕ) (v o : KeyRows) (point : ℕ)
     (e : ◌≡◌ {A = KeyRows} (record { depth = depth; rows = keys_in depth n words }) v) (is : length words ≡ n * words_for depth)
     (f : ◌≡◌ {A = KeyRows} (record { depth = depth; rows = keys_in depth count others }) o) (long : length others ≡ count * words_for depth)
-    (inside : point < length o.rows) (all : more ≡ words ++ row_at (words_for depth) others point) where
+    (inside : point < length o.rows) (all : more ≡ words ++ packed_row (words_for depth) others point) where
   below : point < count
   below = let c = count-is depth count others o f in omega (arith, c, inside)
 
@@ -286,10 +286,10 @@ module _ (depth n count : ℕ) (words more others : List ℕ) (v o : KeyRows) (p
   room = let r = row-in depth count point (words_for depth) (length others) long refl below in omega (arith, r, length-drop (point * words_for depth) others)
 
   pub from-kept : take (length words) more ≡ words
-  from-kept = ap (take (length words)) all ∙ take_at words (row_at (words_for depth) others point) (length words) refl
+  from-kept = ap (take (length words)) all ∙ take_at words (packed_row (words_for depth) others point) (length words) refl
 
-  from-behind : drop (length words) more ≡ row_at (words_for depth) others point
-  from-behind = ap (drop (length words)) all ∙ drop_at words (row_at (words_for depth) others point) (length words) refl
+  from-behind : drop (length words) more ≡ packed_row (words_for depth) others point
+  from-behind = ap (drop (length words)) all ∙ drop_at words (packed_row (words_for depth) others point) (length words) refl
 
   pub table-from : ◌≡◌ {A = KeyRows} (record { depth = depth; rows = keys_in depth (n + 1) more }) (record { depth = v.depth; rows = v.rows ++ key_at o.rows point ∷ [] })
   table-from =
@@ -299,15 +299,15 @@ module _ (depth n count : ℕ) (words more others : List ℕ) (v o : KeyRows) (p
   pub clean-from : AreClean depth n words → AreClean depth count others → AreClean depth (n + 1) more
   clean-from clean others_clean =
       let last : get_or more (length words + depth / 64) 0 ≡ get_or others (point * words_for depth + depth / 64) 0 =
-      ap (λ xs. get_or xs (length words + depth / 64) 0) all ∙ get_or-append-add words (row_at (words_for depth) others point) (depth / 64) 0
+      ap (λ xs. get_or xs (length words + depth / 64) 0) all ∙ get_or-append-add words (packed_row (words_for depth) others point) (depth / 64) 0
       ∙ get_or-take (words_for depth) (drop (point * words_for depth) others) (depth / 64) 0 (omega arith) ∙ get_or-drop (point * words_for depth) others (depth / 64) 0 in
       let c = others_clean point below in
       clean-push depth n words more is from-kept clean (omega (arith, last, c))
 
   pub length-from : length more ≡ (n + 1) * words_for depth
   length-from =
-      let l : length (row_at (words_for depth) others point) ≡ words_for depth = length-take-le (words_for depth) (drop (point * words_for depth) others) room in
-      ap length all ∙ length-append words (row_at (words_for depth) others point) ∙ omega (arith, l, is)
+      let l : length (packed_row (words_for depth) others point) ≡ words_for depth = length-take-le (words_for depth) (drop (point * words_for depth) others) room in
+      ap length all ∙ length-append words (packed_row (words_for depth) others point) ∙ omega (arith, l, is)
 
 -- a table with the key of one word more
 module _ (depth n number : ℕ) (words more : List ℕ) (v : KeyRows)

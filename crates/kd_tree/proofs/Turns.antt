@@ -11,8 +11,8 @@ use Rattle.drc_base.specs.Refusals.{Refuses}
 use Rattle.rans_binary.specs.Blocks.{Block, first_bits}
 use Rattle.kd_tree.specs.Keys.{Key, KeyRows}
 use Rattle.kd_tree.specs.Trees.{digits}
-use Rattle.kd_tree.specs.Reading.{Streams, after_rest, after_split, boxes_of, keys_before, split_number}
-use Rattle.kd_tree.specs.Turns.{AreNested, IsDescended, IsFewer, IsNext, IsRefused, IsTaken, IsTurned, low_count, going, nodes_waiting, turns_left, waiting}
+use Rattle.kd_tree.specs.Reading.{Streams, after_rest, behind_split_bits, boxes_of, keys_before, split_bits_number}
+use Rattle.kd_tree.specs.Turns.{AreNested, IsDescended, IsFewer, IsNext, IsBoxRefused, IsTaken, IsTurned, low_count, going, nodes_waiting, turns_left, waiting}
 use Rattle.kd_tree.specs.Walk.{nodes}
 use Rattle.kd_tree.specs.declared.reading.Pending.{Pending}
 use Rattle.kd_tree.proofs.Walks.{nodes-two}
@@ -41,22 +41,22 @@ unfolding boxes_of
 boxes-one fault zero key s = ap (λ k. Ok (k ∷ [], s)) (sym (append-nil key))
 boxes-one fault (suc left) key s = refl
 
-pub boxes-more : (fault : Fault) (left n : ℕ) (key : Key) (s : Streams) → 2 ≤ n → split_number (digits n) s ≤ n →
+pub boxes-more : (fault : Fault) (left n : ℕ) (key : Key) (s : Streams) → 2 ≤ n → split_bits_number (digits n) s ≤ n →
     boxes_of fault (suc left) n key s
-    ≡ boxes_of fault left (split_number (digits n) s) (key ++ false ∷ []) (after_split (digits n) s) >>= λ low.
-    boxes_of fault left (n - split_number (digits n) s) (key ++ true ∷ []) low.1 >>= keys_before low.0
+    ≡ boxes_of fault left (split_bits_number (digits n) s) (key ++ false ∷ []) (behind_split_bits (digits n) s) >>= λ low.
+    boxes_of fault left (n - split_bits_number (digits n) s) (key ++ true ∷ []) low.1 >>= keys_before low.0
 unfolding boxes_of
 boxes-more fault left n key s h k =
     cond-false (n == 0) _ _ (ne_eqb n 0 (λ e. absurd (omega (arith, e, h))))
     ∙ cond-false (n == 1) _ _ (ne_eqb n 1 (λ e. absurd (omega (arith, e, h))))
-    ∙ cond-false (nat_lt n (split_number (digits n) s)) _ _ (le-ltb n (split_number (digits n) s) k)
+    ∙ cond-false (nat_lt n (split_bits_number (digits n) s)) _ _ (le-ltb n (split_bits_number (digits n) s) k)
 
-pub boxes-refused : (fault : Fault) (left n : ℕ) (key : Key) (s : Streams) → 2 ≤ n → n < split_number (digits n) s → boxes_of fault (suc left) n key s ≡ Err fault
+pub boxes-refused : (fault : Fault) (left n : ℕ) (key : Key) (s : Streams) → 2 ≤ n → n < split_bits_number (digits n) s → boxes_of fault (suc left) n key s ≡ Err fault
 unfolding boxes_of
 boxes-refused fault left n key s h k =
     cond-false (n == 0) _ _ (ne_eqb n 0 (λ e. absurd (omega (arith, e, h))))
     ∙ cond-false (n == 1) _ _ (ne_eqb n 1 (λ e. absurd (omega (arith, e, h))))
-    ∙ cond-true (nat_lt n (split_number (digits n) s)) _ _ (lt-ltb n (split_number (digits n) s) k)
+    ∙ cond-true (nat_lt n (split_bits_number (digits n) s)) _ _ (lt-ltb n (split_bits_number (digits n) s) k)
 
 -- ---- boxes that wait
 
@@ -77,15 +77,15 @@ deeper deep [] nested = tt
 deeper deep (p ∷ rest) nested = (omega (arith, nested.0), nested.1)
 
 -- down into the lower box
-pub descends : (fault : Fault) (depth n : ℕ) (path : Key) (stack : List Pending) (keys : List Key) (s : Streams) → length path < depth → 2 ≤ n → split_number (digits n) s ≤ n → AreNested (length path) stack →
+pub descends : (fault : Fault) (depth n : ℕ) (path : Key) (stack : List Pending) (keys : List Key) (s : Streams) → length path < depth → 2 ≤ n → split_bits_number (digits n) s ≤ n → AreNested (length path) stack →
     going fault depth n path stack keys s
-    ≡ going fault depth (split_number (digits n) s) (path ++ false ∷ []) (record { count = n - split_number (digits n) s; depth = length path } ∷ stack) keys (after_split (digits n) s)
+    ≡ going fault depth (split_bits_number (digits n) s) (path ++ false ∷ []) (record { count = n - split_bits_number (digits n) s; depth = length path } ∷ stack) keys (behind_split_bits (digits n) s)
 descends fault depth n path stack keys s deep many few nested =
     let left : ℕ = depth - (length path + 1) in
-    let k : ℕ = split_number (digits n) s in
+    let k : ℕ = split_bits_number (digits n) s in
     let low : Key = path ++ false ∷ [] in
     let high : Key = path ++ true ∷ [] in
-    let t : Streams = after_split (digits n) s in
+    let t : Streams = behind_split_bits (digits n) s in
     let whole : boxes_of fault (depth - length path) n path s ≡ boxes_of fault left k low t >>= (λ x. boxes_of fault left (n - k) high x.1 >>= keys_before x.0) =
     ap (λ m. boxes_of fault m n path s) (let e : depth - length path ≡ suc left = omega (arith, deep) in e) ∙ boxes-more fault left n path s many few in
     let front : take (length path) low ≡ path = take_at path (false ∷ []) (length path) refl in
@@ -174,12 +174,12 @@ descends-fewer depth n k path stack deep =
     omega (arith, two, same)
 
 -- the fault is due
-pub refuses : (fault : Fault) (depth n : ℕ) (path : Key) (stack : List Pending) (keys : List Key) (s : Streams) → length path < depth → 2 ≤ n → n < split_number (digits n) s → going fault depth n path stack keys s ≡ Err fault
+pub refuses : (fault : Fault) (depth n : ℕ) (path : Key) (stack : List Pending) (keys : List Key) (s : Streams) → length path < depth → 2 ≤ n → n < split_bits_number (digits n) s → going fault depth n path stack keys s ≡ Err fault
 refuses fault depth n path stack keys s deep many most =
     ap (λ r. r >>= (λ x. waiting fault depth path stack (keys ++ x.0) x.1))
     (ap (λ m. boxes_of fault m n path s) (let e : depth - length path ≡ suc (depth - length path - 1) = omega (arith, deep) in e) ∙ boxes-refused fault (depth - length path - 1) n path s many most)
 
-pub refused-turned : (fault : Fault) (depth n : ℕ) (path : Key) (stack : List Pending) (keys : List Key) (s : Streams) (e : Refusal) → length path < depth → 2 ≤ n → IsRefused fault n (split_number (digits n) s) e →
+pub refused-turned : (fault : Fault) (depth n : ℕ) (path : Key) (stack : List Pending) (keys : List Key) (s : Streams) (e : Refusal) → length path < depth → 2 ≤ n → IsBoxRefused fault n (split_bits_number (digits n) s) e →
     Refuses (going fault depth n path stack keys s) e
 refused-turned fault depth n path stack keys s (refusal.Fault f) deep many h = refuses fault depth n path stack keys s deep many h.1 ∙ ap (λ (x : Fault). Err x) (sym h.0)
 refused-turned fault depth n path stack keys s refusal.Memory deep many h = tt
@@ -195,12 +195,12 @@ descended-turned fault depth n path stack keys split rest split' path' stack' (O
     let p : Pending = record { count = n - k; depth = length path } in
     let long : length low ≡ length path + 1 = length_push path false in
     let due : Result (List Key × Streams) Fault = going fault depth n path stack keys s in
-    let at : IsNext fault depth due low (p ∷ stack) keys (after_split (digits n) s) (Some k) =
+    let at : IsNext fault depth due low (p ∷ stack) keys (behind_split_bits (digits n) s) (Some k) =
     (descends fault depth n path stack keys s deep many h.0 nested, omega (arith, long, deep), (omega (arith, long), nested)) in
     subst (IsNext fault depth due path' stack' keys (record { split = split'; rest = rest })) (sym h.1)
     (subst (λ (b : Block). IsNext fault depth due path' stack' keys (record { split = b; rest = rest }) (Some k)) (sym h.2)
-    (subst (λ x. IsNext fault depth due x stack' keys (after_split (digits n) s) (Some k)) (sym h.3)
-    (subst (λ x. IsNext fault depth due low x keys (after_split (digits n) s) (Some k)) (sym h.4) at)))
+    (subst (λ x. IsNext fault depth due x stack' keys (behind_split_bits (digits n) s) (Some k)) (sym h.3)
+    (subst (λ x. IsNext fault depth due low x keys (behind_split_bits (digits n) s) (Some k)) (sym h.4) at)))
 descended-turned fault depth n path stack keys split rest split' path' stack' (Err e) deep many nested h =
     refused-turned fault depth n path stack keys (record { split = split; rest = rest }) e deep many h
 

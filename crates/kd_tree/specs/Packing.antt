@@ -34,9 +34,9 @@ abbrev pub IsWordOf : KeyRows → ℕ → ℕ → Type 0
 IsWordOf keys i word = (word < 2 ^ keys.depth) × (key_at keys.rows i ≡ high_bits keys.depth word)
 
 -- the row with this number, of so many words each
-abbrev pub row_at : ℕ → List ℕ → ℕ → List ℕ
-row_at width words i = take width (drop (i * width) words)
+abbrev pub packed_row : ℕ → List ℕ → ℕ → List ℕ
+packed_row width words i = take width (drop (i * width) words)
 
 -- two numbers of rows: by the row's words, then by the number
 abbrev pub row_cmp : ℕ → List ℕ → ℕ → ℕ → Ordering
-row_cmp width words i j = ordering_then (slice_cmp nat_cmp (row_at width words i) (row_at width words j)) (nat_cmp i j)
+row_cmp width words i j = ordering_then (slice_cmp nat_cmp (packed_row width words i) (packed_row width words j)) (nat_cmp i j)

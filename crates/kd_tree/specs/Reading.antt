@@ -20,12 +20,12 @@ number_behind v [] = v
 number_behind v (bit ∷ bits) = number_behind (2 * v + (if bit then 1 else 0)) bits
 
 -- the number of the next n split bits
-abbrev pub split_number : ℕ → Streams → ℕ
-split_number n s = number_behind 0 (first_bits n s.split)
+abbrev pub split_bits_number : ℕ → Streams → ℕ
+split_bits_number n s = number_behind 0 (first_bits n s.split)
 
 -- behind n split bits
-abbrev pub after_split : ℕ → Streams → Streams
-after_split n s = record { split = behind n s.split; rest = s.rest }
+abbrev pub behind_split_bits : ℕ → Streams → Streams
+behind_split_bits n s = record { split = behind n s.split; rest = s.rest }
 
 -- behind n rest bits
 abbrev pub after_rest : ℕ → Streams → Streams
@@ -42,9 +42,9 @@ boxes_of fault zero n key s = Ok (replicate n key, s)
 boxes_of fault (suc left) n key s =
     if n == 0 then Ok ([], s) else
     if n == 1 then Ok ((key ++ first_bits (suc left) s.rest) ∷ [], after_rest (suc left) s) else
-    if nat_lt n (split_number (digits n) s) then Err fault else
-    boxes_of fault left (split_number (digits n) s) (key ++ false ∷ []) (after_split (digits n) s) >>= λ low.
-    boxes_of fault left (n - split_number (digits n) s) (key ++ true ∷ []) low.1 >>= keys_before low.0
+    if nat_lt n (split_bits_number (digits n) s) then Err fault else
+    boxes_of fault left (split_bits_number (digits n) s) (key ++ false ∷ []) (behind_split_bits (digits n) s) >>= λ low.
+    boxes_of fault left (n - split_bits_number (digits n) s) (key ++ true ∷ []) low.1 >>= keys_before low.0
 
 -- n keys of `depth` bits
 abbrev pub tree_of : Fault → ℕ → ℕ → Streams → Result (List Key × Streams) Fault

@@ -1,4 +1,4 @@
--- The walk of reading: the box in hand, and upper boxes that wait (this project's choice).
+-- The walk of reading: the current box, and upper boxes that wait (this project's choice).
 use Rattle.std.specs.Prelude.{◌≡◌, ℕ, ◌+◌, ◌-◌, ◌<◌, ◌≤◌, true, false, List, [], ◌∷◌, ◌++◌, length, take}
 use Rattle.std.specs.Prelude.{Option, Some, None, Result, Ok, Err}
 use Rattle.drc_base.specs.declared.faults.Fault.{Fault}
@@ -20,7 +20,7 @@ waiting fault depth path (p ∷ rest) keys s =
     boxes_of fault (depth - (p.depth + 1)) p.count (take p.depth path ++ true ∷ []) s >>= λ x.
     waiting fault depth path rest (keys ++ x.0) x.1
 
--- the keys so far, those of the box in hand, and those of the boxes that wait
+-- the keys so far, those of the current box, and those of the boxes that wait
 abbrev pub going : Fault → ℕ → ℕ → Key → List Pending → List Key → Streams → Result (List Key × Streams) Fault
 going fault depth n path stack keys s =
     boxes_of fault (depth - length path) n path s >>= λ x. waiting fault depth path stack (keys ++ x.0) x.1
@@ -63,9 +63,9 @@ IsTaken path [] after left next = next ≡ None
 IsTaken path (p ∷ rest) after left next = (next ≡ Some p.count) × (after ≡ take p.depth path ++ true ∷ []) × (left ≡ rest)
 
 -- a lower box is refused with this fault where it has more keys than the box
-abbrev pub IsRefused : Fault → ℕ → ℕ → Refusal → Type 0
-IsRefused fault n number (refusal.Fault f) = (f ≡ fault) × (n < number)
-IsRefused fault n number refusal.Memory = Unit {0}
+abbrev pub IsBoxRefused : Fault → ℕ → ℕ → Refusal → Type 0
+IsBoxRefused fault n number (refusal.Fault f) = (f ≡ fault) × (n < number)
+IsBoxRefused fault n number refusal.Memory = Unit {0}
 
 -- the number of the next split bits of a box of n keys
 abbrev pub low_count : ℕ → Block → ℕ
@@ -76,4 +76,4 @@ abbrev pub IsDescended : Fault → ℕ → Block → Key → List Pending → Bl
 IsDescended fault n split path stack split' path' stack' (Ok next) =
     (low_count n split ≤ n) × (next ≡ Some (low_count n split)) × (split' ≡ behind (digits n) split) × (path' ≡ path ++ false ∷ [])
     × (stack' ≡ record { count = n - low_count n split; depth = length path } ∷ stack)
-IsDescended fault n split path stack split' path' stack' (Err e) = IsRefused fault n (low_count n split) e
+IsDescended fault n split path stack split' path' stack' (Err e) = IsBoxRefused fault n (low_count n split) e

@@ -2,7 +2,7 @@
 
 ghost use Rattle.std.specs.Prelude.{◌≡◌, ℕ, ◌+◌, ◌-◌, ◌*◌, ◌/◌, ◌%◌, ◌^◌, ◌<◌, ◌≤◌, List, Bool, [], ◌∷◌, ◌++◌, length, take, drop, All, IfOk, OnErr, slice_index, slice_index_or, false};
 ghost use Rattle.kd_tree.specs.Keys.{Key, KeyRows, bit_at, key_at};
-ghost use Rattle.kd_tree.specs.Packing.{AreClean, front_key, keys_in, row_at, words_for};
+ghost use Rattle.kd_tree.specs.Packing.{AreClean, front_key, keys_in, packed_row, words_for};
 ghost use Rattle.kd_tree.specs.Reading.{number_behind};
 ghost use Rattle.kd_tree.specs.Trees.{high_bits};
 
@@ -79,7 +79,7 @@ pub(crate) fn words_of(depth: u32) -> usize
 /// The row with this number, of so many words each.
 pub(crate) fn row_of(words: &[u64], width: usize, point: usize) -> &[u64]
     requires { point * width + width ≤ length words.now }
-    ensures { result.now ≡ row_at width words.now point }
+    ensures { result.now ≡ packed_row width words.now point }
 {
     &words[point * width..point * width + width]
 }

@@ -195,7 +195,7 @@ fn end_box(
     Ok(next)
 }
 
-/// Reads what the box in hand adds. Gives the count of the next box, if one is left.
+/// Reads what the current box adds. Gives the count of the next box, if one is left.
 fn turn(
     out: &mut Keys,
     split: &mut BitBlock<'_>,

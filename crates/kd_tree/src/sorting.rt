@@ -3,7 +3,7 @@
 ghost use Rattle.std.specs.Prelude.{◌≡◌, ℕ, ◌*◌, ◌<◌, ◌^◌, List, [], length, map, All, IfOk};
 ghost use Rattle.std.specs.List.{range_with_len};
 ghost use Rattle.kd_tree.specs.Keys.{Key, KeyRows, key_at};
-ghost use Rattle.kd_tree.specs.Packing.{AreClean, IsWordOf, keys_in, row_at, row_cmp, words_for};
+ghost use Rattle.kd_tree.specs.Packing.{AreClean, IsWordOf, keys_in, packed_row, row_cmp, words_for};
 ghost use Rattle.kd_tree.specs.Order.{IsKdOrder, IsOrderBy};
 ghost use Rattle.kd_tree.specs.Trees.{IsSettled, high_bits, rest_bits, split_bits};
 
@@ -84,7 +84,7 @@ fn row_pairs<'a>(
     requires count { count < 2 ^ 32 }
     requires length { length words.now ≡ count * width }
     ensures numbers { IfOk result (λ v. map (λ p. p.1) v.items ≡ range_with_len 0 count) }
-    ensures rows { IfOk result (λ v. All (λ p. p.0.now ≡ row_at width words.now p.1) v.items) }
+    ensures rows { IfOk result (λ v. All (λ p. p.0.now ≡ packed_row width words.now p.1) v.items) }
 {
     let mut pairs = Vec::with_capacity(alloc, count)?;
     for k in 0..count {

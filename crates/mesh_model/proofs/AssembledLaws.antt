@@ -14,7 +14,7 @@ use Rattle.mesh_model.specs.declared.tables.AttrTable.{AttrTable}
 use Rattle.mesh_model.specs.FirstFault.{value_unless}
 use Rattle.mesh_model.specs.Head.{width_of}
 use Rattle.mesh_model.specs.Parts.{MeshParts, corner, count_fault}
-use Rattle.mesh_model.specs.Assembled.{Columns, corner_row, corner_rows, same_row, distinct, number_of, triple, assembled_parts, assembled}
+use Rattle.mesh_model.specs.Assembled.{Columns, corner_row, corner_rows, same_row, distinct, row_number, triple, assembled_parts, assembled}
 use Rattle.mesh_model.proofs.DistinctRows.{same_row-decides, same_row-refl, distinct-push, with_row}
 use Rattle.mesh_model.proofs.AssembledParts.{AreApart, apart-distinct}
 
@@ -48,8 +48,8 @@ has_row columns (suc n) c below =
     ]
 
 -- a row that is among rows stands at its number
-get_or-number_of : (rows : List (List ℤ)) (row : List ℤ) → list_any (same_row row) rows ≡ true → get_or rows (number_of rows row) [] ≡ row
-get_or-number_of rows row there = elim (cases_lt (number_of rows row) (length rows)) [
+get_or-number_of : (rows : List (List ℤ)) (row : List ℤ) → list_any (same_row row) rows ≡ true → get_or rows (row_number rows row) [] ≡ row
+get_or-number_of rows row there = elim (cases_lt (row_number rows row) (length rows)) [
   | inl inside ↦ sym ((same_row-decides row _).0 (passes_at_first (same_row row) rows [] inside))
   | inr past ↦
       let none = list_any_none (same_row row) rows
@@ -70,13 +70,13 @@ corner-assembled heads tables faces f k below small =
     let columns = zip heads tables in
     let rows = corner_rows columns (3 * faces) in
     let points = distinct rows in
-    let numbers = map (number_of points) rows in
+    let numbers = map (row_number points) rows in
     let c = 3 * f + k in
     let inside : c < 3 * faces = omega arith in
     let many : length rows ≡ 3 * faces = length-map-range_with_len (corner_row columns) 0 (3 * faces) in
     let row : get_or rows c [] ≡ corner_row columns c = get_or-map-range_with_len (corner_row columns) 0 (3 * faces) c c [] inside (omega arith) in
     ap (λ (face : List ℕ). get_or points (get_or face (k % 3) 0) []) (get_or-map-range_with_len (triple numbers) 0 faces f f [] below (omega arith))
-    ∙ ap (λ n. get_or points n []) (triple-at numbers f k small ∙ get_or-map (number_of points) rows c [] 0 (omega (arith, many)) ∙ ap (number_of points) row)
+    ∙ ap (λ n. get_or points n []) (triple-at numbers f k small ∙ get_or-map (row_number points) rows c [] 0 (omega (arith, many)) ∙ ap (row_number points) row)
     ∙ get_or-number_of points (corner_row columns c) (has_row columns (3 * faces) c inside)
 
 unwrapped : (fault : Option Fault) (x y : MeshParts) → value_unless fault x ≡ Ok y → x ≡ y

@@ -15,7 +15,7 @@ use Rattle.mesh_model.specs.FirstFault.{value_unless}
 use Rattle.mesh_model.specs.Head.{width_of}
 use Rattle.mesh_model.specs.Parts.{MeshParts, count_fault, rows_of, RowFits, IsFaceOf, IsMesh}
 use Rattle.mesh_model.specs.Stored.{AreStored}
-use Rattle.mesh_model.specs.Assembled.{Columns, corner_row, corner_rows, same_row, distinct, number_of, triple, assembled, AreTables, AreColumns}
+use Rattle.mesh_model.specs.Assembled.{Columns, corner_row, corner_rows, same_row, distinct, row_number, triple, assembled, AreTables, AreAttrTables}
 use Rattle.mesh_model.specs.RowIndex.{IsPointOf, IsNumbering}
 use Rattle.mesh_model.proofs.Columns.{width_of-bounds}
 use Rattle.mesh_model.proofs.CornerRows.{RowFits-corner_row}
@@ -46,25 +46,25 @@ apart-distinct columns (suc n) =
     (apart-with_row (distinct (corner_rows columns n)) (corner_row columns n) (apart-distinct columns n))
 
 -- where point p has a row, and points are pairwise different, p is the row's number
-pub number_of-at : (points : List (List ℤ)) (row : List ℤ) (p : ℕ) → AreApart points → p < length points → get_or points p [] ≡ row → number_of points row ≡ p
+pub number_of-at : (points : List (List ℤ)) (row : List ℤ) (p : ℕ) → AreApart points → p < length points → get_or points p [] ≡ row → row_number points row ≡ p
 number_of-at points row p apart below at =
     position_or_len_is (same_row row) points p [] (omega arith)
     (λ k before. same_row-apart row (get_or points k []) (λ e. apart k p [] before below (sym e ∙ sym at)))
     (λ _. same_row-refl row (get_or points p []) (sym at))
 
 -- the numbers of corners are those of their rows
-pub numbers-are : (columns : Columns) (corners : ℕ) (numbers : List ℕ) (points : List (List ℤ)) → IsNumbering columns corners numbers points → numbers ≡ map (number_of points) (corner_rows columns corners)
+pub numbers-are : (columns : Columns) (corners : ℕ) (numbers : List ℕ) (points : List (List ℤ)) → IsNumbering columns corners numbers points → numbers ≡ map (row_number points) (corner_rows columns corners)
 numbers-are columns corners numbers points is =
     let rows = corner_rows columns corners in
     let many : length rows ≡ corners = length-map-range_with_len (corner_row columns) 0 corners in
-    let each : length numbers ≡ length (map (number_of points) rows) = is.each ∙ sym (length-map rows (number_of points) ∙ many) in
-    same_lists numbers (map (number_of points) rows) each (λ c d below.
+    let each : length numbers ≡ length (map (row_number points) rows) = is.each ∙ sym (length-map rows (row_number points) ∙ many) in
+    same_lists numbers (map (row_number points) rows) each (λ c d below.
     let inside : c < corners = omega (arith, is.each) in
     let at : IsPointOf points (corner_row columns c) (get_or numbers c 0) = is.numbered c inside in
     let here : get_or rows c [] ≡ corner_row columns c = get_or-map-range_with_len (corner_row columns) 0 corners c c [] inside (omega arith) in
     get_or_default numbers c d 0 below
-    ∙ sym (get_or-map (number_of points) rows c [] d (omega (arith, many))
-    ∙ ap (number_of points) here
+    ∙ sym (get_or-map (row_number points) rows c [] d (omega (arith, many))
+    ∙ ap (row_number points) here
     ∙ number_of-at points (corner_row columns c) (get_or numbers c 0) (subst AreApart (sym is.distinct_rows) (apart-distinct columns corners)) at.0 at.1))
 
 -- what holds of each row holds of the distinct ones
@@ -74,7 +74,7 @@ All-distinct P (row ∷ rows) each =
     All-cons P row _ (All-head P row rows each) (All-filter (other_than row) P (distinct rows) (All-distinct P rows (All-tail P row rows each)))
 
 -- the points fit the heads
-pub points-fit : (heads : List Head) (tables : List AttrTable) (corners : ℕ) (numbers : List ℕ) (points : List (List ℤ)) → AreColumns corners heads tables → IsNumbering (zip heads tables) corners numbers points → All (RowFits heads) points
+pub points-fit : (heads : List Head) (tables : List AttrTable) (corners : ℕ) (numbers : List ℕ) (points : List (List ℤ)) → AreAttrTables corners heads tables → IsNumbering (zip heads tables) corners numbers points → All (RowFits heads) points
 points-fit heads tables corners numbers points are is =
     let columns = zip heads tables in
     let many = length-map-range_with_len (corner_row columns) 0 corners in
@@ -120,7 +120,7 @@ assembled-numbered heads tables faces numbers points is =
     let rows = corner_rows (zip heads tables) (3 * faces) in
     let answer : List ℕ → List (List ℤ) → Result MeshParts Fault = λ ns ps.
     value_unless (count_fault (length ps) (width_of heads)) (record { heads = heads; points = ps; faces = map (triple ns) (range_with_len 0 faces) }) in
-    ap (λ ps. answer (map (number_of ps) rows) ps) (sym is.distinct_rows)
+    ap (λ ps. answer (map (row_number ps) rows) ps) (sym is.distinct_rows)
     ∙ ap (λ ns. answer ns points) (sym (numbers-are (zip heads tables) (3 * faces) numbers points is))
 
 -- what was stored of a numbering: rows, faces, and that they are a mesh

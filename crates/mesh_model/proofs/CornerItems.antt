@@ -9,8 +9,8 @@ use Rattle.std.proofs.lemmas.List.FromFn.{map-range_with_len_more, length-map-ra
 use Rattle.std.proofs.lemmas.Nat.{le-div}
 use Rattle.mesh_model.specs.declared.heads.Head.{Head}
 use Rattle.mesh_model.specs.declared.tables.AttrTable.{AttrTable}
-use Rattle.mesh_model.specs.Assembled.{Columns, corner_row, corner_rows, distinct, entry, entry_at, same_row, triple, IsColumn, AreColumns}
-use Rattle.mesh_model.specs.Items.{HaveSameEntries, first_entry, HoldsItems, Keeps, HaveItems}
+use Rattle.mesh_model.specs.Assembled.{Columns, corner_row, corner_rows, distinct, entry, column_entry, same_row, triple, IsAttrTable, AreAttrTables}
+use Rattle.mesh_model.specs.Items.{HaveSameEntries, first_entry, HoldsItems, KeepsRows, HaveItems}
 use Rattle.mesh_model.specs.RowIndex.{IsPointOf}
 use Rattle.mesh_model.proofs.DistinctRows.{any-distinct, distinct-push, same_row-refl, with_row}
 
@@ -24,30 +24,30 @@ corner_row-same (h ∷ heads) (t ∷ tables) a b same =
     let here = All-head (λ (u : AttrTable). get_or u.of_corner a 0 ≡ get_or u.of_corner b 0) t tables same in
     let rest = All-tail (λ (u : AttrTable). get_or u.of_corner a 0 ≡ get_or u.of_corner b 0) t tables same in
     ap (λ e. entry h.comps t.values e ++ corner_row (zip heads tables) a) here
-    ∙ ap (λ row. entry_at b (h, t) ++ row) (corner_row-same heads tables a b rest)
+    ∙ ap (λ row. column_entry b (h, t) ++ row) (corner_row-same heads tables a b rest)
 
 -- the entries of a column are below the number of entries
-pub entries_below : (corners : ℕ) (h : Head) (t : AttrTable) → IsColumn corners (h, t) → 0 < h.comps → All (λ e. e < length t.values / h.comps) t.of_corner
+pub entries_below : (corners : ℕ) (h : Head) (t : AttrTable) → IsAttrTable corners (h, t) → 0 < h.comps → All (λ e. e < length t.values / h.comps) t.of_corner
 entries_below corners h t is some k d below =
     omega (arith, le-div (get_or t.of_corner k d + 1) (length t.values) h.comps some (is.entries k d below))
 
 -- the tables of columns have an entry for each corner
-tables_whole : (corners : ℕ) (heads : List Head) (tables : List AttrTable) → length tables ≡ length heads → All (IsColumn corners) (zip heads tables) → All (λ t. length t.of_corner ≡ corners) tables
+tables_whole : (corners : ℕ) (heads : List Head) (tables : List AttrTable) → length tables ≡ length heads → All (IsAttrTable corners) (zip heads tables) → All (λ t. length t.of_corner ≡ corners) tables
 tables_whole corners heads [] each fit = All-nil (λ (t : AttrTable). length t.of_corner ≡ corners)
 tables_whole corners [] (t ∷ tables) each fit = absurd (omega arith)
 tables_whole corners (h ∷ heads) (t ∷ tables) each fit =
     All-cons (λ (u : AttrTable). length u.of_corner ≡ corners) t tables
-    (All-head (IsColumn corners) (h, t) (zip heads tables) fit).each_corner
-    (tables_whole corners heads tables (omega arith) (All-tail (IsColumn corners) (h, t) (zip heads tables) fit))
+    (All-head (IsAttrTable corners) (h, t) (zip heads tables) fit).each_corner
+    (tables_whole corners heads tables (omega arith) (All-tail (IsAttrTable corners) (h, t) (zip heads tables) fit))
 
 -- and so have those after the first one
-pub others_whole : (corners : ℕ) (heads : List Head) (tables : List AttrTable) (n : ℕ) → AreColumns corners heads tables → All (λ t. length t.of_corner ≡ corners) (take n (drop 1 tables))
+pub others_whole : (corners : ℕ) (heads : List Head) (tables : List AttrTable) (n : ℕ) → AreAttrTables corners heads tables → All (λ t. length t.of_corner ≡ corners) (take n (drop 1 tables))
 others_whole corners heads tables n are =
     All-take (λ (t : AttrTable). length t.of_corner ≡ corners) n (drop 1 tables)
     (All-drop (λ (t : AttrTable). length t.of_corner ≡ corners) 1 tables (tables_whole corners heads tables are.each_head are.each_column))
 
 -- and so has the first one
-pub first_whole : (corners : ℕ) (heads : List Head) (tables : List AttrTable) (t : AttrTable) (entries : List ℕ) → AreColumns corners heads tables → 0 < length tables → entries ≡ (get_or tables 0 t).of_corner → length entries ≡ corners
+pub first_whole : (corners : ℕ) (heads : List Head) (tables : List AttrTable) (t : AttrTable) (entries : List ℕ) → AreAttrTables corners heads tables → 0 < length tables → entries ≡ (get_or tables 0 t).of_corner → length entries ≡ corners
 first_whole corners heads tables t entries are some is =
     ap length is ∙ tables_whole corners heads tables are.each_head are.each_column 0 t some
 
@@ -65,16 +65,16 @@ same_entries (t ∷ tables) a b n whole first others =
 
 -- ---- rows that are kept
 
-pub Keeps-same : (rows : List (List ℤ)) → Keeps rows rows
+pub Keeps-same : (rows : List (List ℤ)) → KeepsRows rows rows
 Keeps-same rows = record { no_fewer = omega arith; kept = λ q below. refl }
 
-pub Keeps-push : (rows : List (List ℤ)) (row : List ℤ) → Keeps rows (rows ++ row ∷ [])
+pub Keeps-push : (rows : List (List ℤ)) (row : List ℤ) → KeepsRows rows (rows ++ row ∷ [])
 Keeps-push rows row = record {
   no_fewer = omega (arith, length_push rows row);
   kept = λ q below. get_or_append_left rows (row ∷ []) [] q below;
 }
 
-pub IsPointOf-keeps : (before after : List (List ℤ)) (row : List ℤ) (p : ℕ) → Keeps before after → IsPointOf before row p → IsPointOf after row p
+pub IsPointOf-keeps : (before after : List (List ℤ)) (row : List ℤ) (p : ℕ) → KeepsRows before after → IsPointOf before row p → IsPointOf after row p
 IsPointOf-keeps before after row p keeps at = (omega (arith, at.0, keeps.no_fewer), keeps.kept p at.0 ∙ at.1)
 
 -- ---- items
@@ -195,7 +195,7 @@ HoldsItems-new heads tables c e latest firsts rows holds has inside = record {
 pub HaveItems-none : (columns : Columns) (rows : List (List ℤ)) → HaveItems columns 0 [] rows
 HaveItems-none columns rows = record { each = refl; row = λ c below. absurd (omega arith) }
 
-pub HaveItems-more : (columns : Columns) (c item : ℕ) (items : List ℕ) (before after : List (List ℤ)) → HaveItems columns c items before → Keeps before after → IsPointOf after (corner_row columns c) item → HaveItems columns (c + 1) (items ++ item ∷ []) after
+pub HaveItems-more : (columns : Columns) (c item : ℕ) (items : List ℕ) (before after : List (List ℤ)) → HaveItems columns c items before → KeepsRows before after → IsPointOf after (corner_row columns c) item → HaveItems columns (c + 1) (items ++ item ∷ []) after
 HaveItems-more columns c item items before after have keeps at = record {
   each = length_push items item ∙ ap (λ n. n + 1) have.each;
   row = λ k below. elim (cases_lt k c) [
@@ -209,7 +209,7 @@ HaveItems-more columns c item items before after have keeps at = record {
 }
 
 -- the corners of one more face
-pub HaveItems-face : (columns : Columns) (f a b c : ℕ) (items : List ℕ) (r0 r1 r2 r3 : List (List ℤ)) → HaveItems columns (3 * f) items r0 → Keeps r0 r1 → IsPointOf r1 (corner_row columns (3 * f)) a → Keeps r1 r2 → IsPointOf r2 (corner_row columns (3 * f + 1)) b → Keeps r2 r3 → IsPointOf r3 (corner_row columns (3 * f + 2)) c → HaveItems columns (3 * (f + 1)) (((items ++ a ∷ []) ++ b ∷ []) ++ c ∷ []) r3
+pub HaveItems-face : (columns : Columns) (f a b c : ℕ) (items : List ℕ) (r0 r1 r2 r3 : List (List ℤ)) → HaveItems columns (3 * f) items r0 → KeepsRows r0 r1 → IsPointOf r1 (corner_row columns (3 * f)) a → KeepsRows r1 r2 → IsPointOf r2 (corner_row columns (3 * f + 1)) b → KeepsRows r2 r3 → IsPointOf r3 (corner_row columns (3 * f + 2)) c → HaveItems columns (3 * (f + 1)) (((items ++ a ∷ []) ++ b ∷ []) ++ c ∷ []) r3
 HaveItems-face columns f a b c items r0 r1 r2 r3 have k1 at_a k2 at_b k3 at_c =
     let two : 3 * f + 1 + 1 ≡ 3 * f + 2 = omega arith in
     let three : 3 * f + 2 + 1 ≡ 3 * (f + 1) = omega arith in

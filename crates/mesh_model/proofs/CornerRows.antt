@@ -9,33 +9,33 @@ use Rattle.mesh_model.specs.declared.heads.Head.{Head}
 use Rattle.mesh_model.specs.declared.tables.AttrTable.{AttrTable}
 use Rattle.mesh_model.specs.Head.{width_of, types_of, in_type}
 use Rattle.mesh_model.specs.Parts.{RowFits}
-use Rattle.mesh_model.specs.Assembled.{corner_row, entry_at, IsColumn}
+use Rattle.mesh_model.specs.Assembled.{corner_row, column_entry, IsAttrTable}
 
 -- an entry has the head's components
-length-entry : (corners c : ℕ) (h : Head) (t : AttrTable) → IsColumn corners (h, t) → c < corners → length (entry_at c (h, t)) ≡ h.comps
+length-entry : (corners c : ℕ) (h : Head) (t : AttrTable) → IsAttrTable corners (h, t) → c < corners → length (column_entry c (h, t)) ≡ h.comps
 length-entry corners c h t is below =
     let e = get_or t.of_corner c 0 in
     let fits : (e + 1) * h.comps ≤ length t.values = is.entries c 0 (omega (arith, is.each_corner)) in
     simp (length-take, length-drop) (omega arith)
 
 -- each value of an entry is in the head's type
-entry-in_type : (corners c j : ℕ) (h : Head) (t : AttrTable) → IsColumn corners (h, t) → c < corners → j < h.comps → in_type h.dtype (get_or (entry_at c (h, t)) j (pos 0)) ≡ true
+entry-in_type : (corners c j : ℕ) (h : Head) (t : AttrTable) → IsAttrTable corners (h, t) → c < corners → j < h.comps → in_type h.dtype (get_or (column_entry c (h, t)) j (pos 0)) ≡ true
 entry-in_type corners c j h t is below narrow =
     let e = get_or t.of_corner c 0 in
     let fits : (e + 1) * h.comps ≤ length t.values = is.entries c 0 (omega (arith, is.each_corner)) in
-    let at : get_or (entry_at c (h, t)) j (pos 0) ≡ get_or t.values (e * h.comps + j) (pos 0) =
+    let at : get_or (column_entry c (h, t)) j (pos 0) ≡ get_or t.values (e * h.comps + j) (pos 0) =
     get_or-take h.comps (drop (e * h.comps) t.values) j (pos 0) narrow ∙ get_or-drop (e * h.comps) t.values j (pos 0) in
     ap (in_type h.dtype) at ∙ is.values (e * h.comps + j) (pos 0) (omega arith)
 
 -- the row of a corner fits the heads
-pub RowFits-corner_row : (corners c : ℕ) (heads : List Head) (tables : List AttrTable) → length tables ≡ length heads → All (IsColumn corners) (zip heads tables) → c < corners → RowFits heads (corner_row (zip heads tables) c)
+pub RowFits-corner_row : (corners c : ℕ) (heads : List Head) (tables : List AttrTable) → length tables ≡ length heads → All (IsAttrTable corners) (zip heads tables) → c < corners → RowFits heads (corner_row (zip heads tables) c)
 RowFits-corner_row corners c [] tables each fit below = (refl, λ j narrow. absurd (omega arith))
 RowFits-corner_row corners c (h ∷ heads) [] each fit below = absurd (omega arith)
 RowFits-corner_row corners c (h ∷ heads) (t ∷ tables) each fit below =
-    let here : IsColumn corners (h, t) = All-head (IsColumn corners) (h, t) (zip heads tables) fit in
-    let piece = entry_at c (h, t) in
+    let here : IsAttrTable corners (h, t) = All-head (IsAttrTable corners) (h, t) (zip heads tables) fit in
+    let piece = column_entry c (h, t) in
     let rest = corner_row (zip heads tables) c in
-    let rest_fits : RowFits heads rest = RowFits-corner_row corners c heads tables (omega arith) (All-tail (IsColumn corners) (h, t) (zip heads tables) fit) below in
+    let rest_fits : RowFits heads rest = RowFits-corner_row corners c heads tables (omega arith) (All-tail (IsAttrTable corners) (h, t) (zip heads tables) fit) below in
     let long : length piece ≡ h.comps = length-entry corners c h t here below in
     let sum : width_of (h ∷ heads) ≡ h.comps + width_of heads = sum_by-cons (λ (g : Head). g.comps) h heads in
     let types : length (replicate h.comps h.dtype) ≡ h.comps = length-replicate h.comps h.dtype in (

@@ -6,8 +6,8 @@ use Rattle.std.proofs.lemmas.List.{length_push, length-take, get_or-set_same, ge
 use Rattle.std.proofs.lemmas.List.Elements.{All-from_get_or}
 use Rattle.std.proofs.lemmas.List.Folds.{list_any_at, list_any_none}
 use Rattle.mesh_model.specs.Assembled.{same_row, distinct}
-use Rattle.mesh_model.specs.Items.{Keeps}
-use Rattle.mesh_model.specs.RowIndex.{IsPointOf, IsTwin, AreUnlike, AreNumbered}
+use Rattle.mesh_model.specs.Items.{KeepsRows}
+use Rattle.mesh_model.specs.RowIndex.{IsPointOf, IsTwin, AreUnlike, RowsAreNumbered}
 use Rattle.mesh_model.proofs.AssembledParts.{All-distinct}
 use Rattle.mesh_model.proofs.CornerItems.{Keeps-same, Keeps-push, IsPointOf-keeps}
 use Rattle.mesh_model.proofs.DistinctRows.{same_row-refl, same_row-apart, distinct-push, with_row}
@@ -16,7 +16,7 @@ use Rattle.mesh_model.proofs.DistinctRows.{same_row-refl, same_row-apart, distin
 pub record Grows (before after : List (List ℤ)) (row : List ℤ) : Type 0 where
   pub points : after ≡ with_row before row
   pub one_more : length after ≤ length before + 1
-  pub keeps : Keeps before after
+  pub keeps : KeepsRows before after
 
 -- a row that a point has brings no point
 pub Grows-found : (points : List (List ℤ)) (row : List ℤ) (p : ℕ) → IsPointOf points row p → Grows points points row
@@ -54,7 +54,7 @@ distinct-unlike rows (suc n) inside unlike =
     ap distinct more ∙ distinct-push (take n rows) row ∙ ap (λ ds. with_row ds row) rest ∙ sym (Grows-new (take n rows) row apart).points ∙ sym more
 
 -- no points of no rows
-pub AreNumbered-none : (rows : List (List ℤ)) (numbers : List ℕ) (points : List (List ℤ)) → length points ≡ 0 → AreNumbered rows 0 numbers points
+pub AreNumbered-none : (rows : List (List ℤ)) (numbers : List ℕ) (points : List (List ℤ)) → length points ≡ 0 → RowsAreNumbered rows 0 numbers points
 AreNumbered-none rows numbers (row ∷ points) none = absurd (omega (arith, none))
 AreNumbered-none rows numbers [] none = record {
   distinct_rows = refl;
@@ -63,7 +63,7 @@ AreNumbered-none rows numbers [] none = record {
 }
 
 -- one more row
-pub AreNumbered-more : (rows : List (List ℤ)) (i p : ℕ) (numbers : List ℕ) (before after : List (List ℤ)) → AreNumbered rows i numbers before → i < length rows → i < length numbers → Grows before after (get_or rows i []) → IsPointOf after (get_or rows i []) p → AreNumbered rows (i + 1) (set numbers i p) after
+pub AreNumbered-more : (rows : List (List ℤ)) (i p : ℕ) (numbers : List ℕ) (before after : List (List ℤ)) → RowsAreNumbered rows i numbers before → i < length rows → i < length numbers → Grows before after (get_or rows i []) → IsPointOf after (get_or rows i []) p → RowsAreNumbered rows (i + 1) (set numbers i p) after
 AreNumbered-more rows i p numbers before after are inside within grows at = record {
   distinct_rows =
       grows.points ∙ ap (λ ps. with_row ps (get_or rows i [])) are.distinct_rows
@@ -82,12 +82,12 @@ AreNumbered-more rows i p numbers before after are inside within grows at = reco
 }
 
 -- a row that is equal to an earlier one has its point
-pub IsPointOf-twin : (rows : List (List ℤ)) (i link : ℕ) (numbers : List ℕ) (points : List (List ℤ)) → AreNumbered rows i numbers points → IsTwin rows i link → 0 < link → IsPointOf points (get_or rows i []) (get_or numbers (link - 1) 0)
+pub IsPointOf-twin : (rows : List (List ℤ)) (i link : ℕ) (numbers : List ℕ) (points : List (List ℤ)) → RowsAreNumbered rows i numbers points → IsTwin rows i link → 0 < link → IsPointOf points (get_or rows i []) (get_or numbers (link - 1) 0)
 IsPointOf-twin rows i link numbers points are twin some =
     subst (λ row. IsPointOf points row (get_or numbers (link - 1) 0)) (twin.equal some) (are.numbered (link - 1) (omega (arith, twin.back)))
 
 -- a row that is equal to no earlier one brings a point
-pub Grows-twinless : (rows : List (List ℤ)) (i : ℕ) (numbers : List ℕ) (points : List (List ℤ)) → AreNumbered rows i numbers points → IsTwin rows i 0 → i < length rows → Grows points (points ++ get_or rows i [] ∷ []) (get_or rows i [])
+pub Grows-twinless : (rows : List (List ℤ)) (i : ℕ) (numbers : List ℕ) (points : List (List ℤ)) → RowsAreNumbered rows i numbers points → IsTwin rows i 0 → i < length rows → Grows points (points ++ get_or rows i [] ∷ []) (get_or rows i [])
 Grows-twinless rows i numbers points are twin inside =
     let row = get_or rows i [] in
     let unlike = All-from_get_or (λ (r : List ℤ). r ≢ row) (take i rows) [] (λ q below e.

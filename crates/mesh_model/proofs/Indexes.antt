@@ -4,15 +4,15 @@ use Rattle.std.specs.List.{All}
 use Rattle.std.proofs.lemmas.Bool.{cases_eq, cases_lt}
 use Rattle.std.proofs.lemmas.List.{length_push, get_or_push, get_or_append_left, get_or-set_same, get_or-set_other}
 use Rattle.mesh_model.specs.Hash.{bucket_of}
-use Rattle.mesh_model.specs.RowIndex.{key_of, AreLinked, AreChains, IsTwin}
+use Rattle.mesh_model.specs.RowIndex.{row_bucket, AreChained, AreChains, IsTwin}
 
 -- the first `count` rows are linked, and of each bucket the latest of them is known
 pub record IsIndex (rows : List (List ℤ)) (mask count : ℕ) (tops links : List ℕ) : Type 0 where
-  pub linked : AreLinked rows mask count links
+  pub linked : AreChained rows mask count links
   pub long : length links ≡ count
   pub top_in : (b : ℕ) → b ≤ mask → get_or tops b 0 ≤ count
-  pub top_same : (b : ℕ) → b ≤ mask → 0 < get_or tops b 0 → key_of rows mask (get_or tops b 0 - 1) ≡ b
-  pub top_all : (q : ℕ) → q < count → q < get_or tops (key_of rows mask q) 0
+  pub top_same : (b : ℕ) → b ≤ mask → 0 < get_or tops b 0 → row_bucket rows mask (get_or tops b 0 - 1) ≡ b
+  pub top_all : (q : ℕ) → q < count → q < get_or tops (row_bucket rows mask q) 0
 
 -- an index of no rows
 pub IsIndex-none : (rows : List (List ℤ)) (mask : ℕ) (tops : List ℕ) → length tops ≡ mask + 1 → All (λ top. top ≡ 0) tops → IsIndex rows mask 0 tops []
@@ -29,7 +29,7 @@ IsIndex-none rows mask tops buckets zeros = record {
 }
 
 -- one more row, at the front of its chain
-pub IsIndex-more : (rows : List (List ℤ)) (mask i : ℕ) (tops links : List ℕ) (b : ℕ) → IsIndex rows mask i tops links → length tops ≡ mask + 1 → b ≤ mask → b ≡ key_of rows mask i → IsIndex rows mask (i + 1) (set tops b (i + 1)) (links ++ get_or tops b 0 ∷ [])
+pub IsIndex-more : (rows : List (List ℤ)) (mask i : ℕ) (tops links : List ℕ) (b : ℕ) → IsIndex rows mask i tops links → length tops ≡ mask + 1 → b ≤ mask → b ≡ row_bucket rows mask i → IsIndex rows mask (i + 1) (set tops b (i + 1)) (links ++ get_or tops b 0 ∷ [])
 IsIndex-more rows mask i tops links b is buckets inside bucket = record {
   linked = record {
     back = λ p below. elim (cases_lt p i) [
@@ -37,16 +37,16 @@ IsIndex-more rows mask i tops links b is buckets inside bucket = record {
       | inr past ↦ omega (arith, new p (omega arith), is.top_in b inside)
     ];
     same = λ p below more. elim (cases_lt p i) [
-      | inl early ↦ ap (λ l. key_of rows mask (l - 1)) (old p early) ∙ is.linked.same p early (omega (arith, old p early))
+      | inl early ↦ ap (λ l. row_bucket rows mask (l - 1)) (old p early) ∙ is.linked.same p early (omega (arith, old p early))
       | inr past ↦
           let at : i ≡ p = omega arith in
-          ap (λ l. key_of rows mask (l - 1)) (new p at) ∙ is.top_same b inside (omega (arith, new p at)) ∙ bucket ∙ ap (key_of rows mask) at
+          ap (λ l. row_bucket rows mask (l - 1)) (new p at) ∙ is.top_same b inside (omega (arith, new p at)) ∙ bucket ∙ ap (row_bucket rows mask) at
     ];
     all = λ p q below before same. elim (cases_lt p i) [
       | inl early ↦ subst (λ l. q < l) (sym (old p early)) (is.linked.all p q early before same)
       | inr past ↦
           let at : i ≡ p = omega arith in
-          let key : key_of rows mask q ≡ b = same ∙ ap (key_of rows mask) (sym at) ∙ sym bucket in
+          let key : row_bucket rows mask q ≡ b = same ∙ ap (row_bucket rows mask) (sym at) ∙ sym bucket in
           subst (λ l. q < l) (sym (new p at)) (subst (λ k. q < get_or tops k 0) key (is.top_all q (omega arith)))
     ];
   };
@@ -58,15 +58,15 @@ IsIndex-more rows mask i tops links b is buckets inside bucket = record {
   top_same = λ d within more. elim (cases_eq d b) [
     | inl same ↦
         let last : get_or (set tops b (i + 1)) d 0 - 1 ≡ i = omega (arith, at_b d same) in
-        ap (key_of rows mask) last ∙ sym bucket ∙ sym same
-    | inr other ↦ ap (λ l. key_of rows mask (l - 1)) (at_other d other) ∙ is.top_same d within (omega (arith, at_other d other))
+        ap (row_bucket rows mask) last ∙ sym bucket ∙ sym same
+    | inr other ↦ ap (λ l. row_bucket rows mask (l - 1)) (at_other d other) ∙ is.top_same d within (omega (arith, at_other d other))
   ];
-  top_all = λ q below. elim (cases_eq (key_of rows mask q) b) [
-    | inl same ↦ subst (λ l. q < l) (sym (at_b (key_of rows mask q) same)) (omega arith)
+  top_all = λ q below. elim (cases_eq (row_bucket rows mask q) b) [
+    | inl same ↦ subst (λ l. q < l) (sym (at_b (row_bucket rows mask q) same)) (omega arith)
     | inr other ↦
         elim (cases_lt q i) [
-          | inl early ↦ subst (λ l. q < l) (sym (at_other (key_of rows mask q) other)) (is.top_all q early)
-          | inr past ↦ let at : q ≡ i = omega arith in absurd (other (ap (key_of rows mask) at ∙ sym bucket))
+          | inl early ↦ subst (λ l. q < l) (sym (at_other (row_bucket rows mask q) other)) (is.top_all q early)
+          | inr past ↦ let at : q ≡ i = omega arith in absurd (other (ap (row_bucket rows mask) at ∙ sym bucket))
         ]
   ];
 }
@@ -89,7 +89,7 @@ AreChains-before rows count i link links are inside = record {
   mask = are.mask;
   linked = record {
     back = λ p below. omega (arith, other p below, are.linked.back p (omega arith));
-    same = λ p below more. ap (λ l. key_of rows are.mask (l - 1)) (other p below) ∙ are.linked.same p (omega arith) (omega (arith, other p below));
+    same = λ p below more. ap (λ l. row_bucket rows are.mask (l - 1)) (other p below) ∙ are.linked.same p (omega arith) (omega (arith, other p below));
     all = λ p q below before same. subst (λ l. q < l) (sym (other p below)) (are.linked.all p q (omega arith) before same);
   };
 }
@@ -100,9 +100,9 @@ AreChains-before rows count i link links are inside = record {
 -- the chain of row i from a link on has every earlier row that equals it
 pub record Walks (rows : List (List ℤ)) (links : List ℕ) (i link : ℕ) : Type 0 where
   pub mask : ℕ
-  pub linked : AreLinked rows mask (i + 1) links
+  pub linked : AreChained rows mask (i + 1) links
   pub back : link ≤ i
-  pub same : 0 < link → key_of rows mask (link - 1) ≡ key_of rows mask i
+  pub same : 0 < link → row_bucket rows mask (link - 1) ≡ row_bucket rows mask i
   pub all : (q : ℕ) → q < i → get_or rows q [] ≡ get_or rows i [] → q < link
 
 -- at first it has
@@ -120,7 +120,7 @@ pub Walks-next : (rows : List (List ℤ)) (links : List ℕ) (i link : ℕ) → 
 Walks-next rows links i link walks some other =
     let p = link - 1 in
     let low : p < i = omega (arith, walks.back) in
-    let key : key_of rows walks.mask p ≡ key_of rows walks.mask i = walks.same some in
+    let key : row_bucket rows walks.mask p ≡ row_bucket rows walks.mask i = walks.same some in
     record {
       mask = walks.mask;
       linked = walks.linked;

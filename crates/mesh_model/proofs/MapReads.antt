@@ -3,7 +3,7 @@ use Rattle.std.proofs.Common.{◌≡◌, ℕ, suc, ◌+◌, ◌-◌, ◌<◌, �
 use Rattle.drc_base.specs.declared.faults.Fault.{Fault}
 use Rattle.drc_base.specs.declared.kinds.Kind.TheVariants.{MapForm}
 use Rattle.drc_base.specs.Steps.{◌>>=◌}
-use Rattle.mesh_model.specs.MapRead.{row_at, rows_at}
+use Rattle.mesh_model.specs.MapRead.{map_row_at, rows_at}
 use Rattle.mesh_model.specs.Same.{Rows}
 
 -- these rows in front of those that are read
@@ -30,7 +30,7 @@ rows-begun n line text =
 
 -- one more row was read
 pub rows-next : (n k line : ℕ) (text rest : List ℕ) (front : Rows) (row : ℕ × ℕ) (whole : Result (Rows × List ℕ) Fault)
-    → with_front front (rows_at (n - k) (k + line) text) ≡ whole → k < n → row_at text ≡ Some (row, rest)
+    → with_front front (rows_at (n - k) (k + line) text) ≡ whole → k < n → map_row_at text ≡ Some (row, rest)
     → with_front (front ++ row ∷ []) (rows_at (n - (k + 1)) (k + 1 + line) rest) ≡ whole
 unfolding rows_at
 rows-next n k line text rest front row whole so fits is =
@@ -41,7 +41,7 @@ rows-next n k line text rest front row whole so fits is =
 
 -- the next line is none of a row
 pub rows-fault : (n k line : ℕ) (text : List ℕ) (front : Rows) (whole : Result (Rows × List ℕ) Fault)
-    → with_front front (rows_at (n - k) (k + line) text) ≡ whole → k < n → row_at text ≡ None
+    → with_front front (rows_at (n - k) (k + line) text) ≡ whole → k < n → map_row_at text ≡ None
     → whole ≡ Err (record { kind = MapForm; at = k + line })
 unfolding rows_at
 rows-fault n k line text front whole so fits is = sym so ∙ rw (one_fewer n k fits, is) refl

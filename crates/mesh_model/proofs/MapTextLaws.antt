@@ -10,7 +10,7 @@ use Rattle.std.proofs.lemmas.List.Elements.{All-head, All-tail}
 use Rattle.std.proofs.lemmas.Slice.Eq.{bytes_eq-Decides}
 use Rattle.mesh_model.specs.declared.geometries.Geometry.{Geometry}
 use Rattle.mesh_model.specs.declared.geometries.Geometry.TheVariants.{Mesh, Cloud}
-use Rattle.mesh_model.specs.MapRead.{words_then, head_at, row_at, rows_at, most_rows, limited_head_at, map_read}
+use Rattle.mesh_model.specs.MapRead.{words_then, map_head_at, map_row_at, rows_at, most_rows, limited_head_at, map_read}
 use Rattle.mesh_model.specs.MapText.{map_words, row_line, map_text_of}
 use Rattle.mesh_model.specs.MapTextLaws.{is_cloud, IsMapRow, MapTextIsReadAgain}
 use Rattle.mesh_model.specs.NumberText.{is_digit, digits_of, behind_digits, value_after, digits_then, is_spelled, number_then}
@@ -41,7 +41,7 @@ number-again n c rest small other =
 row-text : (row : ℕ × ℕ) (rest : List ℕ) → row_line row ++ rest ≡ decimal row.0 ++ 32 ∷ (decimal row.1 ++ 10 ∷ rest)
 row-text row rest = simp append_assoc
 
-row-again : (row : ℕ × ℕ) (rest : List ℕ) → IsMapRow row → row_at (row_line row ++ rest) ≡ Some (row, rest)
+row-again : (row : ℕ × ℕ) (rest : List ℕ) → IsMapRow row → map_row_at (row_line row ++ rest) ≡ Some (row, rest)
 row-again row rest is =
     let small : row.1 < 2 ^ 32 = omega arith in
     rw (row-text row rest, number-again row.0 32 (decimal row.1 ++ 10 ∷ rest) is.0 refl, number-again row.1 10 rest small refl, le-leb row.1 2 is.1) refl
@@ -78,7 +78,7 @@ map-again g rows rest are few =
     let body = flat_map row_line rows in
     let text = map_text_of g rows ++ rest in
     let whole : text ≡ map_words g ++ (decimal n ++ 10 ∷ (body ++ rest)) = joined (map_words g) (decimal n) body rest in
-    let head : head_at text ≡ Some ((is_cloud g, n), body ++ rest) =
+    let head : map_head_at text ≡ Some ((is_cloud g, n), body ++ rest) =
     rw (whole, words-again g (decimal n ++ 10 ∷ (body ++ rest)), number-again n 10 (body ++ rest) (omega (arith, limit-small g)) refl) refl in
     let end : length text - length rest ≡ length (map_text_of g rows) = omega (arith, length-append (map_text_of g rows) rest) in
     rw (head, le-leb n (most_rows (is_cloud g)) few, rows-again rows 2 rest are, end) refl

@@ -13,7 +13,7 @@ use Rattle.drc_base.specs.Steps.{◌>>=◌}
 use Rattle.mesh_model.specs.declared.geometries.Geometry.{Geometry}
 use Rattle.mesh_model.specs.declared.geometries.Geometry.TheVariants.{Mesh, Cloud}
 use Rattle.mesh_model.specs.declared.map_reading.MapRead.{MapRead}
-use Rattle.mesh_model.specs.MapRead.{words_then, head_at, row_at, rows_at, line_or_fault, limited, most_rows, limited_head_at, map_read}
+use Rattle.mesh_model.specs.MapRead.{words_then, map_head_at, map_row_at, rows_at, line_or_fault, limited, most_rows, limited_head_at, map_read}
 use Rattle.mesh_model.specs.MapText.{map_words, row_line, map_text_of}
 use Rattle.mesh_model.specs.MapTextLaws.{is_cloud, IsMapRow, IsMapTextOf, MapReadIsMapText}
 use Rattle.mesh_model.specs.NumberText.{is_digit, digits_of, behind_digits, value_after, behind_byte, digits_then, is_spelled, number_then}
@@ -96,7 +96,7 @@ row-of face turn text behind rest small few first second = (
   first ∙ ap (λ (l : List ℕ). decimal face ++ 32 ∷ l) second ∙ sym (simp append_assoc),
 )
 
-row-written : (found : (ℕ × ℕ) × List ℕ) (text : List ℕ) → row_at text ≡ Some found → IsRowOf text found
+row-written : (found : (ℕ × ℕ) × List ℕ) (text : List ℕ) → map_row_at text ≡ Some found → IsRowOf text found
 row-written found text e =
     let a = then-some _ (number_then 32 text) found e in
     let b = then-some _ (number_then 10 a.0.1) found a.2 in
@@ -116,9 +116,9 @@ unfolding rows_at
 rows-written zero line text read e =
     subst (AreWritten 0 text) (ok_same e) (record { count = refl; each = All-nil IsMapRow; text_is = refl })
 rows-written (suc n) line text read e =
-    let a = step-ok (line_or_fault line (row_at text)) _ read e in
+    let a = step-ok (line_or_fault line (map_row_at text)) _ read e in
     let b = step-ok (rows_at n (line + 1) a.0.1) _ read a.2 in
-    let here = row-written a.0 text (line-ok line (row_at text) a.0 a.1) in
+    let here = row-written a.0 text (line-ok line (map_row_at text) a.0 a.1) in
     let others = rows-written n (line + 1) a.0.1 b.0 b.1 in
     let is : AreWritten (suc n) text (a.0.0 ∷ b.0.0, b.0.1) = record {
       count = ap suc others.count;
@@ -165,9 +165,9 @@ pub record IsHeadOf (text : List ℕ) (head : (Bool × ℕ) × List ℕ) : Type 
 head-written : (text : List ℕ) (head : (Bool × ℕ) × List ℕ) → limited_head_at text ≡ Ok head → IsHeadOf text head
 unfolding limited_head_at
 head-written text head e =
-    let a = step-ok (line_or_fault 1 (head_at text)) limited head e in
+    let a = step-ok (line_or_fault 1 (map_head_at text)) limited head e in
     let few = limit-kept a.0 head a.2 in
-    let w = then-some _ (words_then text) a.0 (line-ok 1 (head_at text) a.0 a.1) in
+    let w = then-some _ (words_then text) a.0 (line-ok 1 (map_head_at text) a.0 a.1) in
     let n = map-some _ (number_then 10 w.0.1) a.0 w.2 in
     let is : ((w.0.0, n.0.0), n.0.1) ≡ head = n.2 ∙ few.0 in
     let text_of : IsHeadOf text ((w.0.0, n.0.0), n.0.1) = record {

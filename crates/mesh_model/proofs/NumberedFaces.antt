@@ -6,7 +6,7 @@ use Rattle.std.proofs.lemmas.List.Elements.{All-from_get_or, All-nil, All-cons}
 use Rattle.std.proofs.lemmas.List.FromFn.{length-map-range_with_len, get_or-map-range_with_len}
 use Rattle.mesh_model.specs.Assembled.{Columns, corner_row, distinct, triple}
 use Rattle.mesh_model.specs.Items.{AreItemFaces}
-use Rattle.mesh_model.specs.RowIndex.{IsPointOf, AreUnlike, AreNumbered, AreNumberedFaces}
+use Rattle.mesh_model.specs.RowIndex.{IsPointOf, AreUnlike, RowsAreNumbered, AreNumberedFaces}
 use Rattle.mesh_model.proofs.Growing.{distinct-unlike}
 
 -- each face has three items
@@ -60,7 +60,7 @@ number-triple numbers items count f each below =
     ∙ ap (λ x. h (3 * f) ∷ h (3 * f + 1) ∷ x ∷ []) (sym (number-at numbers items (3 * f + 2) (omega arith)))
 
 -- the faces with the points of their items
-pub faces-merged : (columns : Columns) (count n : ℕ) (faces after : List (List ℕ)) (rows points : List (List ℤ)) (numbers : List ℕ) → AreItemFaces columns count faces rows → length rows ≡ n → AreNumbered rows n numbers points → length after ≡ length faces → ((f : ℕ) → f < length faces → get_or after f [] ≡ map (λ item. get_or numbers item 0) (get_or faces f [])) → AreNumberedFaces columns count after points
+pub faces-merged : (columns : Columns) (count n : ℕ) (faces after : List (List ℕ)) (rows points : List (List ℤ)) (numbers : List ℕ) → AreItemFaces columns count faces rows → length rows ≡ n → RowsAreNumbered rows n numbers points → length after ≡ length faces → ((f : ℕ) → f < length faces → get_or after f [] ≡ map (λ item. get_or numbers item 0) (get_or faces f [])) → AreNumberedFaces columns count after points
 faces-merged columns count n faces after rows points numbers are many numbered long each = record {
   numbers = numbered_by numbers items;
   numbering = record {

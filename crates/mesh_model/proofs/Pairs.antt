@@ -6,7 +6,7 @@ use Rattle.std.proofs.lemmas.List.Concat.{flat_map-append}
 use Rattle.std.proofs.lemmas.Slice.Zip.{length-zip, get_or-zip}
 use Rattle.mesh_model.specs.declared.heads.Head.{Head}
 use Rattle.mesh_model.specs.declared.tables.AttrTable.{AttrTable}
-use Rattle.mesh_model.specs.Assembled.{AreColumns, IsColumn}
+use Rattle.mesh_model.specs.Assembled.{AreAttrTables, IsAttrTable}
 
 -- column j is head j with table j
 pub column_zip : (heads : List Head) (tables : List AttrTable) (j : ℕ) (h : Head) (t : AttrTable) → length tables ≡ length heads → j < length heads → h ≡ get_or heads j h → t ≡ get_or tables j t → get_or (zip heads tables) j (h, t) ≡ (h, t)
@@ -17,13 +17,13 @@ pub length_columns : (heads : List Head) (tables : List AttrTable) → length ta
 length_columns heads tables each = length-zip heads tables ∙ omega arith
 
 -- a column is fit
-pub column_at : (corners : ℕ) (heads : List Head) (tables : List AttrTable) (j : ℕ) (h : Head) (t : AttrTable) → AreColumns corners heads tables → j < length heads → h ≡ get_or heads j h → t ≡ get_or tables j t → IsColumn corners (h, t)
+pub column_at : (corners : ℕ) (heads : List Head) (tables : List AttrTable) (j : ℕ) (h : Head) (t : AttrTable) → AreAttrTables corners heads tables → j < length heads → h ≡ get_or heads j h → t ≡ get_or tables j t → IsAttrTable corners (h, t)
 column_at corners heads tables j h t are below at_head at_table =
     let inside : j < length (zip heads tables) = omega (arith, length_columns heads tables are.each_head) in
-    subst (IsColumn corners) (column_zip heads tables j h t are.each_head below at_head at_table) (are.each_column j (h, t) inside)
+    subst (IsAttrTable corners) (column_zip heads tables j h t are.each_head below at_head at_table) (are.each_column j (h, t) inside)
 
 -- its entries are whole
-pub entry_fits : (corners c : ℕ) (h : Head) (t : AttrTable) → IsColumn corners (h, t) → c < corners → (get_or t.of_corner c 0 + 1) * h.comps ≤ length t.values
+pub entry_fits : (corners c : ℕ) (h : Head) (t : AttrTable) → IsAttrTable corners (h, t) → c < corners → (get_or t.of_corner c 0 + 1) * h.comps ≤ length t.values
 entry_fits corners c h t is below = is.entries c 0 (omega (arith, is.each_corner))
 
 -- one more column adds its piece

@@ -6,7 +6,7 @@ use Rattle.std.proofs.lemmas.Bool.Decides.{nat_tests}
 use Rattle.std.proofs.lemmas.List.{length-map, get_or-map}
 use Rattle.std.proofs.lemmas.List.Elements.{All-from_get_or}
 use Rattle.std.proofs.lemmas.List.Sums.{fails_before_first, passes_at_first}
-use Rattle.mesh_model.specs.Assembled.{Columns, corner_row, corner_rows, same_row, distinct, number_of}
+use Rattle.mesh_model.specs.Assembled.{Columns, corner_row, corner_rows, same_row, distinct, row_number}
 use Rattle.mesh_model.specs.Renumbering.{NamesApart}
 use Rattle.mesh_model.specs.RowIndex.{IsPointOf}
 use Rattle.mesh_model.specs.Same.{Rows, named, NamesEachOnce}
@@ -88,25 +88,25 @@ names-once count rows is = record {
 -- ---- distinct rows
 
 -- the number of a row that is a point's
-number-inside : (points : List (List ℤ)) (row : List ℤ) (p : ℕ) → IsPointOf points row p → number_of points row < length points
-number-inside points row p at = elim (cases_lt (number_of points row) (length points)) [
+number-inside : (points : List (List ℤ)) (row : List ℤ) (p : ℕ) → IsPointOf points row p → row_number points row < length points
+number-inside points row p at = elim (cases_lt (row_number points row) (length points)) [
   | inl inside ↦ inside
   | inr past ↦
-      let before : p < number_of points row = omega (arith, at.0) in
+      let before : p < row_number points row = omega (arith, at.0) in
       absurd (false≢true (sym (fails_before_first (same_row row) points p [] before) ∙ same_row-refl row (get_or points p []) (sym at.1)))
 ]
 
-number-at : (points : List (List ℤ)) (row : List ℤ) → number_of points row < length points → row ≡ get_or points (number_of points row) []
-number-at points row inside = (same_row-decides row (get_or points (number_of points row) [])).0 (passes_at_first (same_row row) points [] inside)
+number-at : (points : List (List ℤ)) (row : List ℤ) → row_number points row < length points → row ≡ get_or points (row_number points row) []
+number-at points row inside = (same_row-decides row (get_or points (row_number points row) [])).0 (passes_at_first (same_row row) points [] inside)
 
 -- rows that are points' rows, and pairwise different, are no more than points
 pub few-rows : (points rows : List (List ℤ)) → AreApart rows → All (λ row. (p : ℕ) × IsPointOf points row p) rows → length rows ≤ length points
 few-rows points rows apart each =
     let names = map name rows in
     let many : length names ≡ length rows = length-map rows name in
-    let inside : (i : ℕ) → i < length rows → number_of points (get_or rows i []) < length points =
+    let inside : (i : ℕ) → i < length rows → row_number points (get_or rows i []) < length points =
     λ i below. let at = each i [] below in number-inside points (get_or rows i []) at.0 at.1 in
-    let is : (i : ℕ) → i < length rows → named names i ≡ number_of points (get_or rows i []) =
+    let is : (i : ℕ) → i < length rows → named names i ≡ row_number points (get_or rows i []) =
     λ i below. ap (λ (row : ℕ × ℕ). row.0) (get_or-map name rows i [] (0, 0) below) in
     let here : (i : ℕ) → i < length rows → get_or rows i [] ≡ get_or points (named names i) [] =
     λ i below. number-at points (get_or rows i []) (inside i below) ∙ ap (λ n. get_or points n []) (sym (is i below)) in
@@ -123,7 +123,7 @@ few-rows points rows apart each =
     omega (arith, many, few-names names (length points) alone (λ i below. let l : i < length rows = omega (arith, many) in omega (arith, is i l, inside i l)))
   where
     name : List ℤ → ℕ × ℕ
-    name row = (number_of points row, 0)
+    name row = (row_number points row, 0)
 
 pub few-distinct : (columns : Columns) (count : ℕ) (points : List (List ℤ)) → ((c : ℕ) → c < count → (p : ℕ) × IsPointOf points (corner_row columns c) p) → length (distinct (corner_rows columns count)) ≤ length points
 few-distinct columns count points each =

@@ -8,7 +8,7 @@ use Rattle.std.proofs.lemmas.List.Elements.{All-map, All-from_get_or, All-weaker
 use Rattle.std.proofs.lemmas.List.FromFn.{length-map-range_with_len, get_or-map-range_with_len, get_or-range_with_len, length-range_with_len}
 use Rattle.mesh_model.specs.declared.geometries.Geometry.TheVariants.{Mesh, Cloud}
 use Rattle.mesh_model.specs.Parts.{MeshParts, CloudParts, corner}
-use Rattle.mesh_model.specs.Same.{Rows, named, turn, NamesEachOnce, SameFace, SameMesh, SamePoint, SameCloud}
+use Rattle.mesh_model.specs.Same.{Rows, named, turn, NamesEachOnce, SameFace, SameMesh, SameCloudPoint, SameCloud}
 use Rattle.mesh_model.specs.Renumbering.{plain, composed, inverted}
 use Rattle.mesh_model.specs.SameLaws.{SameIsReflexive, SameIsSymmetric, SameIsTransitive}
 use Rattle.mesh_model.proofs.Counts.{count-map, count-same, count-sum, count-all, count-never, OnePlace, one_place, first-one_place, count-range}
@@ -166,8 +166,8 @@ SameCloud-refl m = record {
   each_row = length-map-range_with_len unturned 0 (length m.points);
   each_point = plain-names (length m.points);
   points = λ i below.
-      let same : SamePoint m m i i 0 = (refl, refl) in
-      subst (λ (row : ℕ × ℕ). SamePoint m m i row.0 row.1) (sym (named-plain (length m.points) i below)) same;
+      let same : SameCloudPoint m m i i 0 = (refl, refl) in
+      subst (λ (row : ℕ × ℕ). SameCloudPoint m m i row.0 row.1) (sym (named-plain (length m.points) i below)) same;
 }
 
 SameMesh-trans : (m n o : MeshParts) (a b : Rows) → SameMesh m n a → SameMesh n o b → SameMesh m o (composed a b)
@@ -202,8 +202,8 @@ SameCloud-trans m n o a b first second = record {
       let inner = second.points i below in
       let outer = first.points j (second.each_point.within i (0, 0) under) in
       let none : (turn a j + turn b i) % 3 ≡ 0 = ap (λ t. (turn a j + t) % 3) inner.0 ∙ ap (λ t. (t + 0) % 3) outer.0 in
-      let same : SamePoint m o i (named a j) ((turn a j + turn b i) % 3) = (none, inner.1 ∙ outer.1) in
-      subst (λ (row : ℕ × ℕ). SamePoint m o i row.0 row.1) (sym (get_or-map then b i (0, 0) (0, 0) under)) same;
+      let same : SameCloudPoint m o i (named a j) ((turn a j + turn b i) % 3) = (none, inner.1 ∙ outer.1) in
+      subst (λ (row : ℕ × ℕ). SameCloudPoint m o i row.0 row.1) (sym (get_or-map then b i (0, 0) (0, 0) under)) same;
 }
   where
     then : ℕ × ℕ → ℕ × ℕ
@@ -245,9 +245,9 @@ SameCloud-sym m n c same = record {
       let point = same.points i (omega (arith, at.1.inside, same.each_row)) in
       let names_f : named c i ≡ f = eqb-true (named c i) f at.1.passes in
       let none : (3 - turn c i) % 3 ≡ 0 = ap (λ t. (3 - t) % 3) point.0 in
-      let back : SamePoint n m f i ((3 - turn c i) % 3) =
+      let back : SameCloudPoint n m f i ((3 - turn c i) % 3) =
       (none, ap (λ g. get_or m.points g []) (sym names_f) ∙ sym point.1) in
-      subst (λ (row : ℕ × ℕ). SamePoint n m f row.0 row.1) (sym (inverted-row c f i (omega (arith, many)) at.1)) back;
+      subst (λ (row : ℕ × ℕ). SameCloudPoint n m f row.0 row.1) (sym (inverted-row c f i (omega (arith, many)) at.1)) back;
 }
   where
     many : length c ≡ length m.points

@@ -22,12 +22,12 @@ abbrev pub Columns : Type 0
 Columns = List (Head × AttrTable)
 
 -- the entry of a column at a corner
-abbrev pub entry_at : ℕ → Head × AttrTable → List ℤ
-entry_at c column = entry column.0.comps column.1.values (slice_index column.1.of_corner c)
+abbrev pub column_entry : ℕ → Head × AttrTable → List ℤ
+column_entry c column = entry column.0.comps column.1.values (slice_index column.1.of_corner c)
 
 -- the row of a corner: the entries of all columns at it, in order
 abbrev pub corner_row : Columns → ℕ → List ℤ
-corner_row columns c = flat_map (entry_at c) columns
+corner_row columns c = flat_map (column_entry c) columns
 
 -- the rows of the first `count` corners
 abbrev pub corner_rows : Columns → ℕ → List (List ℤ)
@@ -43,8 +43,8 @@ distinct [] = []
 distinct (row ∷ rows) = row ∷ filter (λ other. not (same_row row other)) (distinct rows)
 
 -- the number of a row among rows: that of the first that equals it
-abbrev pub number_of : List (List ℤ) → List ℤ → ℕ
-number_of rows row = position_or_len (same_row row) rows
+abbrev pub row_number : List (List ℤ) → List ℤ → ℕ
+row_number rows row = position_or_len (same_row row) rows
 
 -- three numbers of a list, from number 3 * f on
 abbrev pub triple : List ℕ → ℕ → List ℕ
@@ -56,7 +56,7 @@ abbrev pub assembled_parts : List Head → List AttrTable → ℕ → MeshParts
 assembled_parts heads tables faces =
     let rows = corner_rows (zip heads tables) (3 * faces) in
     let points = distinct rows in
-    record { heads = heads; points = points; faces = map (triple (map (number_of points) rows)) (range_with_len 0 faces) }
+    record { heads = heads; points = points; faces = map (triple (map (row_number points) rows)) (range_with_len 0 faces) }
 
 -- the same, where it has neither too many points nor too many values
 unfoldable pub assembled : List Head → List AttrTable → ℕ → Result MeshParts Fault
@@ -65,18 +65,18 @@ assembled heads tables faces =
     value_unless (count_fault (length m.points) (width_of heads)) m
 
 -- a table has an entry for each corner, and its values are in the range of its head's type
-pub record IsColumn (corners : ℕ) (column : Head × AttrTable) : Type 0 where
+pub record IsAttrTable (corners : ℕ) (column : Head × AttrTable) : Type 0 where
   pub each_corner : length column.1.of_corner ≡ corners
   pub entries : All (λ e. (e + 1) * column.0.comps ≤ length column.1.values) column.1.of_corner
   pub values : All (λ value. IsTrue (in_type column.0.dtype value)) column.1.values
 
 -- each head has its table
-pub record AreColumns (corners : ℕ) (heads : List Head) (tables : List AttrTable) : Type 0 where
+pub record AreAttrTables (corners : ℕ) (heads : List Head) (tables : List AttrTable) : Type 0 where
   pub each_head : length tables ≡ length heads
-  pub each_column : All (IsColumn corners) (zip heads tables)
+  pub each_column : All (IsAttrTable corners) (zip heads tables)
 
 -- the heads pass, each has its table, and the faces are within the limit
 pub record AreTables (heads : List Head) (tables : List AttrTable) (faces : ℕ) : Type 0 where
   pub heads_pass : heads_fault heads ≡ None
   pub few_faces : faces ≤ MAX_FACES
-  pub columns : AreColumns (3 * faces) heads tables
+  pub columns : AreAttrTables (3 * faces) heads tables

@@ -1,4 +1,4 @@
--- What a geometry has: a mesh or a cloud, told alike.
+-- What a geometry has: the same words for a mesh and for a cloud.
 use Rattle.std.specs.Prelude.{ℕ, ℤ, Bool, true, false, List, []}
 use Rattle.mesh_model.specs.declared.heads.Head.{Head}
 use Rattle.mesh_model.specs.declared.geometries.Geometry.{Geometry}

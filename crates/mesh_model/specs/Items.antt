@@ -32,7 +32,7 @@ pub record HoldsItems (heads : List Head) (tables : List AttrTable) (count : ℕ
   pub latest_has : (e : ℕ) → 0 < slice_index latest e → first_entry tables (slice_index firsts (slice_index latest e - 1)) ≡ e
 
 -- the rows before stay in their places, and others may have come behind them
-pub record Keeps (before after : List (List ℤ)) : Type 0 where
+pub record KeepsRows (before after : List (List ℤ)) : Type 0 where
   pub no_fewer : length before ≤ length after
   pub kept : (q : ℕ) → q < length before → slice_index_or after q [] ≡ slice_index_or before q []
 

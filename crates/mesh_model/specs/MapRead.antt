@@ -20,13 +20,13 @@ words_then text =
     else (if starts_with nat_eq text (codes "map cloud ") then Some (true, drop 10 text) else None)
 
 -- the first line: the words, the number of rows and LF
-abbrev pub head_at : List ℕ → Option ((Bool × ℕ) × List ℕ)
-head_at text =
+abbrev pub map_head_at : List ℕ → Option ((Bool × ℕ) × List ℕ)
+map_head_at text =
     option_and_then (λ words. option_map (λ count. ((words.0, count.0), count.1)) (number_then 10 words.1)) (words_then text)
 
 -- the line of a row: the face or point, a space, the turn, at most 2, and LF
-abbrev pub row_at : List ℕ → Option ((ℕ × ℕ) × List ℕ)
-row_at text =
+abbrev pub map_row_at : List ℕ → Option ((ℕ × ℕ) × List ℕ)
+map_row_at text =
     option_and_then (λ face.
     option_and_then (λ turn. if nat_le turn.0 2 then Some ((face.0, turn.0), turn.1) else None) (number_then 10 face.1))
     (number_then 32 text)
@@ -40,7 +40,7 @@ line_or_fault line (Some x) = Ok x
 unfoldable pub rows_at : ℕ → ℕ → List ℕ → Result (Rows × List ℕ) Fault
 rows_at zero line text = Ok ([], text)
 rows_at (suc count) line text =
-    line_or_fault line (row_at text) >>= λ row. rows_at count (line + 1) row.1 >>= λ rows. Ok (row.0 ∷ rows.0, rows.1)
+    line_or_fault line (map_row_at text) >>= λ row. rows_at count (line + 1) row.1 >>= λ rows. Ok (row.0 ∷ rows.0, rows.1)
 
 -- the most rows of a renumbering of clouds, or of meshes, and the fault where there are more
 abbrev pub most_rows : Bool → ℕ
@@ -54,7 +54,7 @@ abbrev pub limited : (Bool × ℕ) × List ℕ → Result ((Bool × ℕ) × List
 limited head = if nat_le head.0.1 (most_rows head.0.0) then Ok head else Err (record { kind = limit_kind head.0.0; at = 1 })
 
 unfoldable pub limited_head_at : List ℕ → Result ((Bool × ℕ) × List ℕ) Fault
-limited_head_at text = line_or_fault 1 (head_at text) >>= limited
+limited_head_at text = line_or_fault 1 (map_head_at text) >>= limited
 
 -- the renumbering at the front of a text: the first line, then the line of each row. Its end is the number of bytes up to
 -- what stands behind the last line. The first line that isn't such a line, or that is missing, is MapForm at its number

@@ -19,7 +19,8 @@ IsMapRow row = (row.0 < 2 ^ 32) × (row.1 ≤ 2)
 -- where the rows are such rows and aren't too many, the text with any bytes behind it is read as these rows, up to its end
 abbrev pub MapTextIsReadAgain : Type 0
 MapTextIsReadAgain = (g : Geometry) (rows : Rows) (rest : List ℕ) → All IsMapRow rows → length rows ≤ most_rows (is_cloud g) →
-    map_read (map_text_of g rows ++ rest) ≡ Ok (record { cloud = is_cloud g; rows = record { rows = rows }; end = length (map_text_of g rows) })
+    map_read (map_text_of g rows ++ rest)
+    ≡ Ok (record { cloud = is_cloud g; rows = record { rows = rows }; end = length (map_text_of g rows) })
 
 -- a text begins with that of a renumbering, whose rows are such rows and aren't too many: up to its end it is the text of
 -- these rows, of any geometry of that kind

@@ -46,7 +46,7 @@ faces_fault faces = unless (nat_le (length faces) MAX_FACES) FaceLimit (length f
 unfoldable pub index_fault : ℕ → List (List ℕ) → Option Fault
 index_fault points faces = at_place IndexRange (position (λ face. not (list_all (λ p. nat_lt p points) face)) faces)
 
--- the fault of the first cell outside its data type, which its column in the row tells
+-- the fault of the first cell outside its data type, which its column in the row gives
 unfoldable pub range_fault : List Head → List ℤ → Option Fault
 range_fault heads cells = at_place ValueRange (
     position (λ (i, value). not (in_type (slice_index (types_of heads) (i % width_of heads)) value)) (enumerate_from 0 cells))

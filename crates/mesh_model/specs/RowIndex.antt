@@ -7,19 +7,19 @@ use Rattle.mesh_model.specs.Assembled.{Columns, corner_row, corner_rows, distinc
 use Rattle.mesh_model.specs.Hash.{bucket_of}
 
 -- the bucket of row p
-abbrev pub key_of : List (List ℤ) → ℕ → ℕ → ℕ
-key_of rows mask p = bucket_of mask (slice_index_or rows p [])
+abbrev pub row_bucket : List (List ℤ) → ℕ → ℕ → ℕ
+row_bucket rows mask p = bucket_of mask (slice_index_or rows p [])
 
 -- the chain of each of the first `count` rows has every earlier row of its bucket, of mask + 1 buckets
-pub record AreLinked (rows : List (List ℤ)) (mask count : ℕ) (links : List ℕ) : Type 0 where
+pub record AreChained (rows : List (List ℤ)) (mask count : ℕ) (links : List ℕ) : Type 0 where
   pub back : (p : ℕ) → p < count → slice_index links p ≤ p
-  pub same : (p : ℕ) → p < count → 0 < slice_index links p → key_of rows mask (slice_index links p - 1) ≡ key_of rows mask p
-  pub all : (p q : ℕ) → p < count → q < p → key_of rows mask q ≡ key_of rows mask p → q < slice_index links p
+  pub same : (p : ℕ) → p < count → 0 < slice_index links p → row_bucket rows mask (slice_index links p - 1) ≡ row_bucket rows mask p
+  pub all : (p q : ℕ) → p < count → q < p → row_bucket rows mask q ≡ row_bucket rows mask p → q < slice_index links p
 
 -- the same for some number of buckets
 pub record AreChains (rows : List (List ℤ)) (count : ℕ) (links : List ℕ) : Type 0 where
   pub mask : ℕ
-  pub linked : AreLinked rows mask count links
+  pub linked : AreChained rows mask count links
 
 -- a link from row p to an earlier row that is equal; 0 where there is none
 pub record IsTwin (rows : List (List ℤ)) (p link : ℕ) : Type 0 where
@@ -40,7 +40,7 @@ abbrev pub IsPointOf : List (List ℤ) → List ℤ → ℕ → Type 0
 IsPointOf points row p = (p < length points) × (slice_index_or points p [] ≡ row)
 
 -- the points of the first `count` rows, and for each of these rows the number of its point
-pub record AreNumbered (rows : List (List ℤ)) (count : ℕ) (numbers : List ℕ) (points : List (List ℤ)) : Type 0 where
+pub record RowsAreNumbered (rows : List (List ℤ)) (count : ℕ) (numbers : List ℕ) (points : List (List ℤ)) : Type 0 where
   pub distinct_rows : points ≡ distinct (take count rows)
   pub few : length points ≤ count
   pub numbered : (p : ℕ) → p < count → IsPointOf points (slice_index_or rows p []) (slice_index numbers p)

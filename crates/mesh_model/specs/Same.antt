@@ -34,15 +34,15 @@ pub record SameMesh (m n : MeshParts) (rows : Rows) : Type 0 where
   pub faces : (i : ℕ) → i < length n.faces → SameFace m n i (named rows i) (turn rows i)
 
 -- point i of n is point p of m
-abbrev pub SamePoint : CloudParts → CloudParts → ℕ → ℕ → ℕ → Type 0
-SamePoint m n i p turn = (turn ≡ 0) × (slice_index_or n.points i [] ≡ slice_index_or m.points p [])
+abbrev pub SameCloudPoint : CloudParts → CloudParts → ℕ → ℕ → ℕ → Type 0
+SameCloudPoint m n i p turn = (turn ≡ 0) × (slice_index_or n.points i [] ≡ slice_index_or m.points p [])
 
 -- n is m with its points in another order: point i of n is the point of m that row i names
 pub record SameCloud (m n : CloudParts) (rows : Rows) : Type 0 where
   pub heads : m.heads ≡ n.heads
   pub each_row : length rows ≡ length n.points
   pub each_point : NamesEachOnce (length m.points) rows
-  pub points : (i : ℕ) → i < length n.points → SamePoint m n i (named rows i) (turn rows i)
+  pub points : (i : ℕ) → i < length n.points → SameCloudPoint m n i (named rows i) (turn rows i)
 
 -- two meshes, or two clouds, are the same by a renumbering
 abbrev pub Same : Geometry → Geometry → Rows → Type 0

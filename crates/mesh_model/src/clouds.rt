@@ -107,6 +107,15 @@ impl Cloud {
         self.cells.as_slice()
     }
 
+    /// Its heads and the integers of all points, row after row, as they are held.
+    #[tactic(auto, using(crate::proofs::Rows::cells_back))]
+    pub fn into_parts(self) -> (Vec<Head>, Vec<i32>)
+        ensures heads { result.0.items ≡ self.heads }
+        ensures cells { result.1.items ≡ cells_of self.points }
+    {
+        (self.heads, self.cells)
+    }
+
     /// The integers of point `i`.
     pub fn point(&self, i: u32) -> &[i32]
         requires { i < length self.now.points }

@@ -1,7 +1,7 @@
 //! Rows of corners, read from the tables of their attributes.
 
 ghost use Rattle.std.specs.Prelude.{◌≡◌, ◌+◌, ◌*◌, ◌<◌, ◌≤◌, ◌++◌, length, take, slice_index, zip, OnOk};
-ghost use Rattle.mesh_model.specs.Assembled.{AreColumns, corner_row, entry};
+ghost use Rattle.mesh_model.specs.Assembled.{AreAttrTables, corner_row, entry};
 
 use crate::heads::Head;
 use crate::tables::AttrTable;
@@ -28,7 +28,7 @@ fn piece<'a>(
     j: usize,
     corner: u32,
 ) -> &'a [i32]
-    requires columns { AreColumns corners heads.now tables.now }
+    requires columns { AreAttrTables corners heads.now tables.now }
     requires places { (j < length heads.now) × (corner < corners) }
     ensures { corner_row (take (j + 1) (zip heads.now tables.now)) corner
         ≡ corner_row (take j (zip heads.now tables.now)) corner ++ result.now }
@@ -45,7 +45,7 @@ pub(crate) fn put_corner(
     corners: u32,
     corner: u32,
 ) -> Result<(), Memory>
-    requires columns { AreColumns corners heads.now tables.now }
+    requires columns { AreAttrTables corners heads.now tables.now }
     requires corner { corner < corners }
     ensures { OnOk result (cells.new.items ≡ cells.old.items ++ corner_row (zip heads.now tables.now) corner) }
 {

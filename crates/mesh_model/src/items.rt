@@ -6,9 +6,9 @@
 //! corner, whatever the tables hold. Items are no more than corners, and rows are stored of items only.
 
 ghost use Rattle.std.specs.Prelude.{◌≡◌, ◌+◌, ◌-◌, ◌*◌, ◌/◌, ◌<◌, ◌≤◌, ◌^◌, ◌↔◌, ◌++◌, ◌∷◌, [], ℕ, All, IfOk, OnOk, IsTrue, None, length, slice_index, slice_set, zip};
-ghost use Rattle.mesh_model.specs.Assembled.{AreColumns, corner_row};
+ghost use Rattle.mesh_model.specs.Assembled.{AreAttrTables, corner_row};
 ghost use Rattle.mesh_model.specs.Head.{heads_fault, width_of};
-ghost use Rattle.mesh_model.specs.Items.{AreFirstEntries, AreItemFaces, HaveSameEntries, HoldsItems, Keeps};
+ghost use Rattle.mesh_model.specs.Items.{AreFirstEntries, AreItemFaces, HaveSameEntries, HoldsItems, KeepsRows};
 ghost use Rattle.mesh_model.specs.Parts.{rows_of};
 ghost use Rattle.mesh_model.specs.RowIndex.{IsPointOf};
 
@@ -70,7 +70,7 @@ fn add_item(
     entry: u32,
     corner: u32,
 ) -> Result<u32, Memory>
-    requires columns { AreColumns corners heads.now tables.now }
+    requires columns { AreAttrTables corners heads.now tables.now }
     requires corner { corner < corners }
     requires entry { entry < length items.old.latest.items }
     requires room { length items.old.firsts.items + 1 < 2 ^ 32 }
@@ -96,7 +96,7 @@ fn item_of(
     corners: u32,
     corner: u32,
 ) -> Result<u32, Memory>
-    requires columns { AreColumns corners heads.now tables.now }
+    requires columns { AreAttrTables corners heads.now tables.now }
     requires pass { heads_fault heads.now ≡ None }
     requires few { corners ≤ 3 * MAX_FACES }
     requires corner { corner < corners }
@@ -108,7 +108,7 @@ fn item_of(
         (rows_of (width_of heads.now) items.new.cells.items)) }
     ensures stored { OnOk result (length items.new.cells.items ≡ length items.new.firsts.items * width_of heads.now) }
     ensures entries { OnOk result (length items.new.latest.items ≡ length items.old.latest.items) }
-    ensures keeps { OnOk result (Keeps (rows_of (width_of heads.now) items.old.cells.items)
+    ensures keeps { OnOk result (KeepsRows (rows_of (width_of heads.now) items.old.cells.items)
         (rows_of (width_of heads.now) items.new.cells.items)) }
     ensures item { IfOk result (IsPointOf (rows_of (width_of heads.now) items.new.cells.items) (corner_row (zip heads.now tables.now) corner)) }
 {
@@ -167,7 +167,7 @@ pub(crate) fn items_of(
     faces: u32,
     width: u32,
 ) -> Result<ItemFaces, Memory>
-    requires columns { AreColumns (3 * faces) heads.now tables.now }
+    requires columns { AreAttrTables (3 * faces) heads.now tables.now }
     requires pass { heads_fault heads.now ≡ None }
     requires few { faces ≤ MAX_FACES }
     requires width { width ≡ width_of heads.now }

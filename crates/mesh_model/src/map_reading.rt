@@ -2,7 +2,7 @@
 
 ghost use Rattle.std.specs.Prelude.{◌≡◌, ◌+◌, ◌≤◌, length, drop, MatchResult, Ok, Err};
 ghost use Rattle.drc_base.specs.Refusals.{Answers};
-ghost use Rattle.mesh_model.specs.MapRead.{GivesAt, head_at, limit_kind, limited_head_at, map_read, most_rows, row_at, rows_at, words_then};
+ghost use Rattle.mesh_model.specs.MapRead.{GivesAt, map_head_at, limit_kind, limited_head_at, map_read, most_rows, map_row_at, rows_at, words_then};
 ghost use Rattle.mesh_model.specs.NumberText.{IsReadAt};
 
 use crate::number_reading::read_number;
@@ -40,7 +40,7 @@ fn words(bytes: &[u8]) -> Option<(bool, usize)>
 
 /// Whether the first line is one of clouds, its number of rows, and the place behind it.
 fn read_line(bytes: &[u8]) -> Option<((bool, u32), usize)>
-    ensures { IsReadAt bytes.now (head_at bytes.now) result }
+    ensures { IsReadAt bytes.now (map_head_at bytes.now) result }
 {
     let cloud = words(bytes)?;
     let count = read_number(bytes, cloud.1, b'\n')?;
@@ -81,7 +81,7 @@ fn read_head(bytes: &[u8]) -> Result<((bool, u32), usize), Fault>
 #[inline(always)]
 fn read_row(bytes: &[u8], at: usize) -> Option<((u32, u8), usize)>
     requires { at ≤ length bytes.now }
-    ensures { IsReadAt bytes.now (row_at (drop at bytes.now)) result }
+    ensures { IsReadAt bytes.now (map_row_at (drop at bytes.now)) result }
 {
     let face = read_number(bytes, at, b' ')?;
     let turn = read_number(bytes, face.1, b'\n')?;

@@ -3,7 +3,7 @@
 ghost use Rattle.std.specs.Prelude.{◌≡◌, ◌+◌, ◌<◌, ◌↔◌, ℕ, length, IsTrue, IfOk, All};
 ghost use Rattle.std.specs.List.{list_all};
 ghost use Rattle.mesh_model.specs.Parts.{corner};
-ghost use Rattle.mesh_model.specs.Same.{NamesEachOnce, Same, SameFace, SameMesh, SamePoint, SameCloud, named, turn};
+ghost use Rattle.mesh_model.specs.Same.{NamesEachOnce, Same, SameFace, SameMesh, SameCloudPoint, SameCloud, named, turn};
 
 use crate::clouds::Cloud;
 use crate::geometries::Geometry;
@@ -162,7 +162,7 @@ fn same_meshes(
 pub fn same_point(m: &Cloud, n: &Cloud, i: u32, named: u32, turn: u8) -> bool
     requires point { i < length n.now.points }
     requires named { named < length m.now.points }
-    ensures { IsTrue result ↔ SamePoint m.now n.now i named turn }
+    ensures { IsTrue result ↔ SameCloudPoint m.now n.now i named turn }
 {
     turn == 0 && same_row(n.point(i), m.point(named))
 }
@@ -172,7 +172,7 @@ fn same_points(m: &Cloud, n: &Cloud, rows: &[(u32, u8)]) -> bool
     requires each_row { length rows.now ≡ length n.now.points }
     requires within { All (λ row. row.0 < length m.now.points) rows.now }
     ensures { IsTrue result ↔ ((i : ℕ) → i < length n.now.points →
-        SamePoint m.now n.now i (named rows.now i) (turn rows.now i)) }
+        SameCloudPoint m.now n.now i (named rows.now i) (turn rows.now i)) }
 {
     for i in 0..n.point_count() {
         let row = rows[i as usize];

@@ -147,6 +147,16 @@ impl CornerMesh {
         self.cells.as_slice()
     }
 
+    /// Its heads, the integers of all points, row after row, and its faces, as they are held.
+    #[tactic(auto, using(crate::proofs::Rows::cells_back))]
+    pub fn into_parts(self) -> (Vec<Head>, Vec<i32>, Vec<[u32; 3]>)
+        ensures heads { result.0.items ≡ self.heads }
+        ensures cells { result.1.items ≡ cells_of self.points }
+        ensures faces { result.2.items ≡ self.faces }
+    {
+        (self.heads, self.cells, self.faces)
+    }
+
     /// The integers of point `i`.
     pub fn point(&self, i: u32) -> &[i32]
         requires { i < length self.now.points }

@@ -2,11 +2,11 @@
 //! points are numbered in the order in which their rows come first.
 
 ghost use Rattle.std.specs.Prelude.{◌≡◌, ◌*◌, ◌<◌, ◌≤◌, ℕ, [], All, None, length, map, slice_index, slice_index_or, zip, IfOk};
-ghost use Rattle.mesh_model.specs.Assembled.{AreColumns, Columns};
+ghost use Rattle.mesh_model.specs.Assembled.{AreAttrTables, Columns};
 ghost use Rattle.mesh_model.specs.Head.{heads_fault, width_of};
 ghost use Rattle.mesh_model.specs.Items.{AreItemFaces};
 ghost use Rattle.mesh_model.specs.Parts.{rows_of};
-ghost use Rattle.mesh_model.specs.RowIndex.{AreNumbered, AreNumberedFaces, AreTwins};
+ghost use Rattle.mesh_model.specs.RowIndex.{RowsAreNumbered, AreNumberedFaces, AreTwins};
 
 use crate::heads::Head;
 use crate::items::{ItemFaces, items_of};
@@ -47,7 +47,7 @@ fn merge(
     requires wide { 0 < width }
     requires long { length twins.old ≡ count }
     requires twins { AreTwins (rows_of width cells.now) count twins.old }
-    ensures points { IfOk result (λ points. AreNumbered (rows_of width cells.now) count twins.new (rows_of width points.cells.items)) }
+    ensures points { IfOk result (λ points. RowsAreNumbered (rows_of width cells.now) count twins.new (rows_of width points.cells.items)) }
     ensures stored { IfOk result (λ points. length points.cells.items ≡ points.count * width) }
 {
     let mut kept = Vec::with_capacity(alloc, cells.len())?;
@@ -126,7 +126,7 @@ pub(crate) fn number_corners(
     faces: u32,
     width: u32,
 ) -> Result<Numbering, Memory>
-    requires columns { AreColumns (3 * faces) heads.now tables.now }
+    requires columns { AreAttrTables (3 * faces) heads.now tables.now }
     requires pass { heads_fault heads.now ≡ None }
     requires few { faces ≤ MAX_FACES }
     requires width { width ≡ width_of heads.now }

@@ -92,7 +92,7 @@ fn column_types(heads: &[Head]) -> [u8; MAX_WIDTH]
     types
 }
 
-/// ValueRange at the first cell outside its data type, which its column in the row tells.
+/// ValueRange at the first cell outside its data type, which its column in the row gives.
 #[tactic(auto, unfolding(crate::specs::Parts::range_fault))]
 fn test_values(heads: &[Head], width: u32, cells: &[i32]) -> Result<(), Fault>
     requires width { width ≡ width_of heads.now }

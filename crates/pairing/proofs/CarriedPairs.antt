@@ -61,7 +61,7 @@ carried_at g rows x h = cond-true (nat_lt x.face (length rows)) _ _ (lt-ltb x.fa
 carried_past : (g : Gluing) (rows : List (ℕ × ℕ)) (x : Side) → length rows ≤ x.face → carried g rows x ≡ None
 carried_past g rows x h = cond-false (nat_lt x.face (length rows)) _ _ (le-ltb x.face (length rows) h)
 
--- what a carried pair tells
+-- what a carried pair says
 record Tells (faces : ℕ) (g : Gluing) (rows : List (ℕ × ℕ)) (x y : Side) : Type 0 where
   in_one : x.face < faces
   in_other : y.face < faces

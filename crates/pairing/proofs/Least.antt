@@ -25,7 +25,7 @@ least-zero : (passes : ℕ → Bool) → least passes zero ≡ None
 unfolding least
 least-zero passes = refl
 
--- what the least number tells
+-- what the least number says
 pub data LeastCase (passes : ℕ → Bool) (n : ℕ) : Type 0 where
   found : (i : ℕ) → least passes n ≡ Some i → IsLeast passes n i → LeastCase passes n
   missing : least passes n ≡ None → ((j : ℕ) → j < n → passes j ≡ false) → LeastCase passes n
@@ -43,7 +43,7 @@ least_tells passes (suc n) = elim (least_tells passes n) [
   ]
 ]
 
--- and what tells the least number
+-- and what makes a number the least
 pub least_is : (passes : ℕ → Bool) (n i : ℕ) → IsLeast passes n i → least passes n ≡ Some i
 least_is passes n i I = elim (least_tells passes n) [
   | found j e J ↦ e ∙ ap {A = ℕ} Some (same j J)

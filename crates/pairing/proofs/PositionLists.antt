@@ -12,7 +12,7 @@ use Rattle.pairing.proofs.PairNumbers.{firsts_number}
 use Rattle.pairing.proofs.Pushes.{each_more}
 use Rattle.pairing.specs.Positions.{AreNumbered, IsColumn, ArePointNumbers, AreCornerNumbers, position_in}
 
--- no integer tells two points apart
+-- by no integer do two points differ
 pub point_numbers_begin : (points : List (List ℤ)) (n : ℕ) → n ≡ length points → ArePointNumbers points 0 (replicate n 0)
 point_numbers_begin points n e = record {
   each = length-replicate n 0 ∙ e;
@@ -62,7 +62,7 @@ point_numbers_more points j old bits new M = record {
         take_more_same (get_or points p []) (get_or points q []) j (pos 0) (M.wide p h) (M.wide q k) (M.before.apart p q h k a.0)
         (sym (M.column.values_are p h) ∙ ap (cast_signed w32) a.1 ∙ M.column.values_are q k)
 
--- points that are told apart need no integer more
+-- points that are distinguished need no integer more
 pub apart_numbers : (points : List (List ℤ)) (j width : ℕ) (numbers : List ℕ) → j ≤ width → ArePointNumbers points j numbers → ((x : ℕ) → x < length numbers → get_or numbers x 0 ≡ x) → ArePointNumbers points width numbers
 apart_numbers points j width numbers m P own = record {
   each = P.each;

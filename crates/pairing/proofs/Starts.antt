@@ -10,7 +10,7 @@ use Rattle.corner_table.specs.Sides.{Side, Place, first, second, third, side, ne
 use Rattle.corner_table.specs.Fans.{IsProper}
 use Rattle.corner_table.proofs.Numbers.{face-lt, number-side_at}
 use Rattle.pairing.specs.Pairing.{corner_position, same_position, may_pair, paired, pairing, PairsFit, NoneIsLeft}
-use Rattle.pairing.specs.Degenerate.{is_degenerate, degenerate_fault}
+use Rattle.pairing.specs.Degenerate.{is_degenerate_face, degenerate_fault}
 use Rattle.pairing.specs.Positions.{position_in, same_in, AreCornerNumbers, AreTriangles}
 use Rattle.pairing.specs.Classes.{AreClasses, AreLinked, AreFirsts}
 use Rattle.pairing.specs.Turns.{AreSides, IsUpTo}
@@ -24,8 +24,8 @@ or_false true b e = absurd (cc)
 or_false false b e = (refl, e)
 
 -- without a degenerate face each face has three positions
-none_degenerate : (m : MeshParts) → degenerate_fault m ≡ None → (f : ℕ) → f < length m.faces → is_degenerate m f ≡ false
-none_degenerate m e f h = elim (least_tells (is_degenerate m) (length m.faces)) [
+none_degenerate : (m : MeshParts) → degenerate_fault m ≡ None → (f : ℕ) → f < length m.faces → is_degenerate_face m f ≡ false
+none_degenerate m e f h = elim (least_tells (is_degenerate_face m) (length m.faces)) [
   | found i q I ↦ absurd (let no : Some (record { kind = Degenerate; at = i }) ≡ None = sym (ap (at_place Degenerate) q) ∙ e in cc)
   | missing q k ↦ k f h
 ]
@@ -101,7 +101,7 @@ up_to_begins thirds classes firsts count n e F = record {
   };
 }
 
--- positions are told apart by their numbers
+-- positions are distinguished by their numbers
 same_by_numbers : (m : MeshParts) (numbers : List ℕ) → AreCornerNumbers m numbers → (c d : Side) → c.face < length m.faces → d.face < length m.faces → same_in numbers c d ≡ same_position m c d
 same_by_numbers m numbers N c d h k = elim (cases_eq (position_in numbers c) (position_in numbers d)) [
   | inl e ↦ eq-eqb (position_in numbers c) (position_in numbers d) e ∙ sym (same_row-refl (corner_position m c) (corner_position m d) (N.apart c d h k e))

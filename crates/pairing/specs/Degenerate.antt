@@ -8,12 +8,12 @@ use Rattle.corner_table.specs.Sides.{side, first, second, third}
 use Rattle.pairing.specs.Pairing.{same_position, least}
 
 -- whether two corners of face f have one position
-abbrev pub is_degenerate : MeshParts → ℕ → Bool
-is_degenerate m f =
+abbrev pub is_degenerate_face : MeshParts → ℕ → Bool
+is_degenerate_face m f =
     same_position m (side f first) (side f second)
     || same_position m (side f second) (side f third)
     || same_position m (side f third) (side f first)
 
 -- the first such face
 abbrev pub degenerate_fault : MeshParts → Option Fault
-degenerate_fault m = at_place Degenerate (least (is_degenerate m) (length m.faces))
+degenerate_fault m = at_place Degenerate (least (is_degenerate_face m) (length m.faces))

@@ -1,4 +1,4 @@
--- Items that are told apart by two entries have the first one with theirs as a number (this project's choice).
+-- Items that are distinguished by two entries have the first one with theirs as a number (this project's choice).
 use Rattle.std.specs.Prelude.{◌≡◌, ℕ, ◌+◌, ◌<◌, ◌≤◌, List, length, get_or}
 
 -- v is the first item with both entries of item x

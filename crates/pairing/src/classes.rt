@@ -1,7 +1,7 @@
 //! The classes of sides: those that run the same way between the same positions.
 //!
-//! Edges are told apart by their lower and their higher position, and counted in the order of their
-//! first sides. Edge e has the classes 2e, for sides that run upwards, and 2e + 1.
+//! Edges are distinguished by their lower and their higher position, and counted in the order of
+//! their first sides. Edge e has the classes 2e, for sides that run upwards, and 2e + 1.
 
 ghost use Rattle.std.specs.Prelude.{◌≡◌, ◌≢◌, ℕ, ◌+◌, ◌-◌, ◌*◌, ◌/◌, ◌%◌, ◌^◌, ◌<◌, ◌≤◌, IfOk, length, slice_index, vec_len, min, max, if◌then◌else◌, nat_lt};
 ghost use Rattle.drc_base.specs.declared.limits.TheConstants.{MAX_FACES as most_faces};

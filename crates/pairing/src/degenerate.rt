@@ -6,7 +6,7 @@ ghost use Rattle.mesh_model.specs.Assembled.{same_row as one_row};
 ghost use Rattle.corner_table.specs.Sides.{side, first, second, third};
 ghost use Rattle.corner_table.specs.Sides.{place_of};
 ghost use Rattle.pairing.specs.Pairing.{corner_position};
-ghost use Rattle.pairing.specs.Degenerate.{is_degenerate, degenerate_fault};
+ghost use Rattle.pairing.specs.Degenerate.{is_degenerate_face, degenerate_fault};
 
 use crate::positions::first_width;
 use drc_base::{Fault, Kind};
@@ -32,7 +32,7 @@ fn is_one(p: &[i32], q: &[i32]) -> bool
 /// Whether two corners of face `f` have one position.
 fn is_degenerate(m: &CornerMesh, f: u32) -> bool
     requires { f < length m.now.faces }
-    ensures { result ≡ is_degenerate m.now f }
+    ensures { result ≡ is_degenerate_face m.now f }
 {
     let (p, q, r) = (
         position_at(m, f, 0),

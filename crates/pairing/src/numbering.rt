@@ -2,7 +2,7 @@
 //!
 //! Items stand in lists by their first entry. Along one list each second entry keeps the item at which
 //! it is met first, and this item is the number of all that follow with the same entry. What an
-//! earlier list kept is told apart by its first entry, so nothing is cleared between lists. Numbers
+//! earlier list kept is recognised by its first entry, so nothing is cleared between lists. Numbers
 //! take the places of the second entries, which are read once.
 
 ghost use Rattle.std.specs.Prelude.{◌≡◌, ℕ, ◌-◌, ◌+◌, ◌^◌, ◌<◌, ◌≤◌, ◌↔◌, IfOk, IsTrue, List, get_or, length, slice_index, vec_len};

@@ -1,8 +1,9 @@
 //! The positions of corners as numbers.
 //!
 //! Points are numbered by their first integer, then by that number and the next integer, and so on
-//! over the integers of the first attribute, until all points are told apart. Integers are taken by
-//! their upper and their lower bits, for which there are lists. A corner has the number of its point.
+//! over the integers of the first attribute, until all points are distinguished. Integers are taken
+//! by their upper and their lower bits, for which there are lists. A corner has the number of its
+//! point.
 
 ghost use Rattle.std.specs.Prelude.{◌≡◌, ℕ, pos, ◌+◌, ◌-◌, ◌*◌, ◌/◌, ◌%◌, ◌^◌, ◌<◌, ◌≤◌, ◌↔◌, [], map, IfOk, IsTrue, OnOk, length, get_or, slice_index, slice_index_or, vec_len};
 ghost use Rattle.std.specs.Int.{w32, cast_signed, cast_unsigned};
@@ -87,7 +88,7 @@ fn are_alike(bits: &[u32]) -> bool
     true
 }
 
-/// Whether each item is its own number, so that all are told apart.
+/// Whether each item is its own number, so that all are distinguished.
 fn are_apart(numbers: &[u32]) -> bool
     ensures { IsTrue result ↔ ((x : ℕ) → x < length numbers.now → slice_index numbers.now x ≡ x) }
 {

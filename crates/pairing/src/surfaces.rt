@@ -179,7 +179,7 @@ fn surface_of(alloc: Global, m: &CornerMesh) -> Result<SideTable, Memory>
 /// other way and whose third position is another. A position is what the first attribute has at a
 /// point. So each pair may be one, no two sides that are left free may be, and the surface is proper (this
 /// project's choice). Refusals: Degenerate at the first face with two equal positions,
-/// and out of memory, which is told of meshes without such a face alone.
+/// and out of memory, which is reported only for meshes without such a face.
 pub fn pair(alloc: Global, m: &CornerMesh) -> Result<SideTable, Refusal>
     ensures faces { IfOk result (λ t. t.faces ≡ length m.now.faces) }
     ensures pairs { IfOk result (λ t. gluing_of t ≡ pairing m.now) }

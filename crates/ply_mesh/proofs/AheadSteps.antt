@@ -9,7 +9,7 @@ use Rattle.ply_text.specs.InPlace.{IsNumberAt}
 use Rattle.ply_text.proofs.Cutting.{IsPlain, none_plain, cuts_plain}
 use Rattle.ply_text.proofs.InPlace.{between}
 use Rattle.ply_text.proofs.Splitting.{skips_blank, no_token}
-use Rattle.ply_mesh.specs.Body.{IsRange, numbers_of, points_of}
+use Rattle.ply_mesh.specs.Body.{IsRange, numbers_of, points_numbered}
 use Rattle.ply_mesh.specs.Ahead.{AreRanges, IsFirstLine, IsRowAhead, IsFaceAhead}
 use Rattle.ply_mesh.proofs.FaceSteps.{face_whole}
 use Rattle.ply_mesh.proofs.RowSteps.{IsRowSoFar, row_begun, row_more, row_done, row_undone}
@@ -132,7 +132,7 @@ face_is_ahead list points text p0 p1 p2 p3 low high below most a b c r0 r1 three
     let plain0 = plain_on text 0 p0 (pos 3) (none_plain text) n0 s0 in
     let plain1 = plain_on text (p0 + 1) p1 (pos a) plain0 na sa in
     let plain2 = plain_on text (p1 + 1) p2 (pos b) plain1 nb sb in
-    let made : points_of points (pos a ∷ pos b ∷ pos c ∷ []) ≡ Some (a ∷ b ∷ c ∷ []) = rw (lt-ltb a points ap', lt-ltb b points bp, lt-ltb c points cp) refl in
+    let made : points_numbered points (pos a ∷ pos b ∷ pos c ∷ []) ≡ Some (a ∷ b ∷ c ∷ []) = rw (lt-ltb a points ap', lt-ltb b points bp, lt-ltb c points cp) refl in
     let o0 = na.after in
     let o1 = nb.after in
     let o2 = nc.after in

@@ -12,7 +12,7 @@ use Rattle.mesh_model.specs.Head.{types_of, in_type, least_of, greatest_of}
 use Rattle.mesh_model.specs.Parts.{RowFits, IsFaceOf}
 use Rattle.ply_text.specs.Numbers.{integer_of, only_if, natural_of, is_digits, digits_value}
 use Rattle.ply_text.specs.Header.{column_type}
-use Rattle.ply_mesh.specs.Body.{number_of, numbers_of, row_of, indices_of, face_of, items_from}
+use Rattle.ply_mesh.specs.Body.{token_number, numbers_of, row_read, indices_of, face_of, items_from}
 use Rattle.ply_mesh.specs.Text.{face_line}
 use Rattle.ply_mesh.proofs.NumberTexts.{IsSmall, integer_again}
 use Rattle.ply_mesh.proofs.WellFormed.{IsTyped, column_same, length-types_of}
@@ -42,8 +42,8 @@ typed_small d (negsuc m) h = record { small = small_neg d m (and_parts (int_le (
 
 -- ---- rows
 
-number_back : (d : ℕ) (v : ℤ) → in_type d v ≡ true → number_of d (signed_decimal v) ≡ Some v
-unfolding number_of
+number_back : (d : ℕ) (v : ℤ) → in_type d v ≡ true → token_number d (signed_decimal v) ≡ Some v
+unfolding token_number
 number_back d v h = ap (only_if (in_type d)) (integer_again v (typed_small d v h)) ∙ ap (λ b. cond b (Some v) None) h
 
 numbers_back : (ds : List ℕ) (vs : List ℤ) → IsTyped ds vs → numbers_of ds (map signed_decimal vs) ≡ Some vs
@@ -58,8 +58,8 @@ typed_length [] (v ∷ vs) h = absurd h
 typed_length (d ∷ ds) [] h = absurd h
 typed_length (d ∷ ds) (v ∷ vs) h = ap suc (typed_length ds vs h.1)
 
-pub row_back : (ds : List ℕ) (at : ℕ) (vs : List ℤ) → IsTyped ds vs → row_of ds at (map signed_decimal vs) ≡ Ok vs
-unfolding row_of
+pub row_back : (ds : List ℕ) (at : ℕ) (vs : List ℤ) → IsTyped ds vs → row_read ds at (map signed_decimal vs) ≡ Ok vs
+unfolding row_read
 row_back ds at vs h = rw (eq-eqb (length (map signed_decimal vs)) (length ds) (length-map vs signed_decimal ∙ typed_length ds vs h), numbers_back ds vs h) refl
 
 pub typed_from : (ts : List ℕ) (vs : List ℤ) → length vs ≡ length ts → ((j : ℕ) → j < length ts → in_type (get_or ts j 0) (get_or vs j (pos 0)) ≡ true) → IsTyped (map column_type ts) vs
@@ -81,8 +81,8 @@ items_back {A} P item line each (x ∷ xs) at rest all = rw (each at x all.0, it
 
 -- ---- faces
 
-three_again : (at : ℕ) → number_of 2 (51 ∷ []) ≡ Some (pos 3)
-unfolding number_of integer_of natural_of is_digits digits_value in_type
+three_again : (at : ℕ) → token_number 2 (51 ∷ []) ≡ Some (pos 3)
+unfolding token_number integer_of natural_of is_digits digits_value in_type
 three_again at = refl
 
 index_in : (p : ℕ) → p < 2 ^ 31 → in_type 5 (pos p) ≡ true

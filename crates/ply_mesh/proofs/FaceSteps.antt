@@ -11,7 +11,7 @@ use Rattle.drc_base.specs.Steps.{◌>>=◌}
 use Rattle.ply_text.specs.Faults.{or_refuse}
 use Rattle.ply_text.specs.Tokens.{tokens_of}
 use Rattle.ply_text.specs.Numbers.{first_integer, is_between}
-use Rattle.ply_mesh.specs.Body.{IsRange, numbers_of, points_of, indices_of, count_of, counted_face, face_of, texts}
+use Rattle.ply_mesh.specs.Body.{IsRange, numbers_of, points_numbered, indices_of, face_count_read, counted_face, face_of, texts}
 use Rattle.ply_mesh.proofs.Types.{number_in}
 use Rattle.ply_mesh.proofs.RowSteps.{first_parts}
 
@@ -39,7 +39,7 @@ not_three_tokens : (itype points at : ℕ) (tokens : List (List ℕ)) → 3 < le
 unfolding indices_of
 not_three_tokens itype points at tokens many = rw (ne_eqb (length tokens) 3 (λ h. omega arith)) refl
 
--- five tokens tell as much of a face as all
+-- five tokens show as much of a face as all
 pub face_few : (list : ℕ × ℕ) (points at : ℕ) (tokens : List (List ℕ)) → face_of list points at (take 5 tokens) ≡ face_of list points at tokens
 unfolding face_of
 face_few list points at [] = refl
@@ -48,7 +48,7 @@ face_few list points at (a ∷ b ∷ []) = refl
 face_few list points at (a ∷ b ∷ c ∷ []) = refl
 face_few list points at (a ∷ b ∷ c ∷ d ∷ []) = refl
 face_few list points at (a ∷ b ∷ c ∷ d ∷ e ∷ more) =
-    ap (λ (r : Result (List ℕ) Fault). count_of list.0 at a >>= λ _. r)
+    ap (λ (r : Result (List ℕ) Fault). face_count_read list.0 at a >>= λ _. r)
     (not_three_tokens list.1 points at (b ∷ c ∷ d ∷ e ∷ []) (omega arith) ∙ sym (not_three_tokens list.1 points at (b ∷ c ∷ d ∷ e ∷ more) (omega arith)))
 
 pub face_is : (list : ℕ × ℕ) (points at : ℕ) (found : List (Bor (List ℕ))) (a : Bor (List ℕ)) → 0 < length found → face_of list points at (texts found) ≡ counted_face list points at (get_or found 0 a).now (texts (drop 1 found))
@@ -61,7 +61,7 @@ pub face_whole : (list : ℕ × ℕ) (points : ℕ) (line : List ℕ) (p0 p1 p2 
     → first_integer (tokens_of (drop p0 line)) ≡ Some (a, tokens_of (drop p1 line)) → is_between below most a ≡ true
     → first_integer (tokens_of (drop p1 line)) ≡ Some (b, tokens_of (drop p2 line)) → is_between below most b ≡ true
     → first_integer (tokens_of (drop p2 line)) ≡ Some (c, tokens_of (drop p3 line)) → is_between below most c ≡ true
-    → tokens_of (drop p3 line) ≡ [] → points_of points (a ∷ b ∷ c ∷ []) ≡ Some face → (at : ℕ) → face_of list points at (tokens_of line) ≡ Ok face
+    → tokens_of (drop p3 line) ≡ [] → points_numbered points (a ∷ b ∷ c ∷ []) ≡ Some face → (at : ℕ) → face_of list points at (tokens_of line) ≡ Ok face
 unfolding face_of indices_of
 face_whole list points line p0 p1 p2 p3 low high below most v a b c face r0 r1 three e0 i0 ea ia eb ib ec ic last made at =
     let t0 = first_parts (tokens_of line) (tokens_of (drop p0 line)) v e0 in
@@ -74,6 +74,6 @@ face_whole list points line p0 p1 p2 p3 low high below most v a b c face r0 r1 t
     let nc = number_in list.1 below most tc.0 c r1 tc.2 ic in
     let whole : tokens_of line ≡ t0.0 ∷ ta.0 ∷ tb.0 ∷ tc.0 ∷ [] =
     t0.1 ∙ ap (λ (ts : List (List ℕ)). t0.0 ∷ ts) (ta.1 ∙ ap (λ (ts : List (List ℕ)). ta.0 ∷ ts) (tb.1 ∙ ap (λ (ts : List (List ℕ)). tb.0 ∷ ts) (tc.1 ∙ ap (λ (ts : List (List ℕ)). tc.0 ∷ ts) last))) in
-    let counted : count_of list.0 at t0.0 ≡ Ok v = ap (λ (o : Option ℤ). or_refuse PlyNumber at o >>= λ n. cond (int_eq n (pos 3)) (Ok n) (Err (record { kind = PlyFace; at = at }))) n0 ∙ ap (λ (z : ℤ). cond (int_eq z (pos 3)) (Ok v) (Err (record { kind = PlyFace; at = at }))) three in
+    let counted : face_count_read list.0 at t0.0 ≡ Ok v = ap (λ (o : Option ℤ). or_refuse PlyNumber at o >>= λ n. cond (int_eq n (pos 3)) (Ok n) (Err (record { kind = PlyFace; at = at }))) n0 ∙ ap (λ (z : ℤ). cond (int_eq z (pos 3)) (Ok v) (Err (record { kind = PlyFace; at = at }))) three in
     let values : numbers_of (list.1 ∷ list.1 ∷ list.1 ∷ []) (ta.0 ∷ tb.0 ∷ tc.0 ∷ []) ≡ Some (a ∷ b ∷ c ∷ []) = rw (na, nb, nc) refl in
     ap (face_of list points at) whole ∙ rw (counted, values, made) refl

@@ -17,9 +17,9 @@ use Rattle.ply_text.specs.Words.{keyword_of, type_of, is_indices}
 use Rattle.ply_text.specs.Comments.{is_form, is_dtype, head_of, attr_of, patterns_of, fields_of, quant_of, with_quant}
 use Rattle.ply_text.specs.Declarations.{element_of, is_list, scalar_of, list_of}
 use Rattle.ply_text.specs.Draft.{Draft, PropertyParts, property, element, scalar, list, attribute, quantisation, comment, body, statement}
-use Rattle.ply_text.specs.Header.{column_type, is_end, header_from}
+use Rattle.ply_text.specs.Header.{column_type, ends_header, header_from}
 use Rattle.ply_mesh.specs.Fields.{QuantFields, HasFields}
-use Rattle.ply_mesh.specs.Text.{pattern_text, attr_line, quant_line, quant_lines, head_lines, type_word, name_at, property_line, component_lines, property_lines, is_named, element_line, list_line}
+use Rattle.ply_mesh.specs.Text.{pattern_text, attr_line, quant_line, quant_lines, head_lines, type_word, name_at, property_line, component_lines, property_lines, has_usage_names, element_line, list_line}
 use Rattle.ply_mesh.proofs.NumberTexts.{within_again, is_digits_again, pattern_again}
 
 abbrev pub Lines : Type 0
@@ -32,7 +32,7 @@ pub record Passes (d : Draft) (ls : Lines) (d' : Draft) : Type 0 where
 pub Passes-nil : (d : Draft) → Passes d [] d
 Passes-nil d = record { passes = λ at rest. ap (λ n. header_from n d rest) (let e : at ≡ at + 0 = omega arith in e) }
 
-pub Passes-one : (d : Draft) (line : List (List ℕ)) (d' : Draft) → is_end d line ≡ false → ((at : ℕ) → statement at d line ≡ Ok d') → Passes d (line ∷ []) d'
+pub Passes-one : (d : Draft) (line : List (List ℕ)) (d' : Draft) → ends_header d line ≡ false → ((at : ℕ) → statement at d line ≡ Ok d') → Passes d (line ∷ []) d'
 Passes-one d line d' e step = record { passes = λ at rest. rw (e, step at) refl }
 
 pub Passes-append : (d d' d'' : Draft) (ls ms : Lines) → Passes d ls d' → Passes d' ms d'' → Passes d (ls ++ ms) d''
@@ -83,7 +83,7 @@ attr_step : (done : List PlyHead) (h : Head) (at : ℕ) → length done ≤ 15 �
 unfolding statement comment attribute attr_line keyword_of is_form attr_of
 attr_step done h at few p f = rw (lt-leb 16 (length done) (omega arith), head_again (length done) h few p f) refl
 
-attr_end : (done : List PlyHead) (k : ℕ) (h : Head) → is_end (with_heads done) (attr_line k h) ≡ false
+attr_end : (done : List PlyHead) (k : ℕ) (h : Head) → ends_header (with_heads done) (attr_line k h) ≡ false
 unfolding attr_line keyword_of
 attr_end done k h = refl
 
@@ -110,7 +110,7 @@ quant_step : (done : List PlyHead) (h : Head) (q : Quant) (at : ℕ) → length 
 unfolding statement comment quantisation quant_line keyword_of is_form quant_of
 quant_step done h q at few m b f = rw (within_again 15 (length done) few (omega arith), last_head done (bare h), fields_again h q m b f, last_quant done (bare h) (ply_quant q)) refl
 
-quant_end : (d : List PlyHead) (k : ℕ) (q : Quant) → is_end (with_heads d) (quant_line k q) ≡ false
+quant_end : (d : List PlyHead) (k : ℕ) (q : Quant) → ends_header (with_heads d) (quant_line k q) ≡ false
 unfolding quant_line keyword_of
 quant_end d k q = refl
 
@@ -142,7 +142,7 @@ heads_step k done (h ∷ hs) e few p f =
 abbrev pub with_points : List PlyHead → ℕ → List PropertyParts → Draft
 with_points heads n properties = record { formatted = true; heads = heads; vertices = Some n; properties = properties; faces = None; list = None }
 
-vertex_end : (heads : List PlyHead) (n : ℕ) → is_end (with_heads heads) (element_line (codes "vertex") n) ≡ false
+vertex_end : (heads : List PlyHead) (n : ℕ) → ends_header (with_heads heads) (element_line (codes "vertex") n) ≡ false
 unfolding element_line keyword_of
 vertex_end heads n = refl
 
@@ -174,7 +174,7 @@ property_is : (heads : List PlyHead) (n : ℕ) (ps : List PropertyParts) (d : �
 unfolding statement body property_line keyword_of is_list scalar scalar_of
 property_is heads n ps d name at h = let w = word_right d h in rw (w.1, w.0) refl
 
-property_end : (heads : List PlyHead) (n : ℕ) (ps : List PropertyParts) (d : ℕ) (name : List ℕ) → is_end (with_points heads n ps) (property_line d name) ≡ false
+property_end : (heads : List PlyHead) (n : ℕ) (ps : List PropertyParts) (d : ℕ) (name : List ℕ) → ends_header (with_points heads n ps) (property_line d name) ≡ false
 unfolding property_line keyword_of
 property_end heads n ps d name = refl
 
@@ -195,16 +195,16 @@ components_step heads n ps named k h j (suc m) t =
 -- the properties that heads give
 abbrev pub all_properties : List Head → ℕ → List Head → List PropertyParts
 all_properties all k [] = []
-all_properties all k (h ∷ hs) = components_of (is_named all k h) k h 0 h.comps ++ all_properties all (k + 1) hs
+all_properties all k (h ∷ hs) = components_of (has_usage_names all k h) k h 0 h.comps ++ all_properties all (k + 1) hs
 
 pub properties_step : (heads : List PlyHead) (n : ℕ) (ps : List PropertyParts) (all : List Head) (k : ℕ) (hs : List Head) → AllByRecursion HeadSays hs → Passes (with_points heads n ps) (property_lines all k hs) (with_points heads n (ps ++ all_properties all k hs))
 properties_step heads n ps all k [] p = subst (λ (xs : List PropertyParts). Passes (with_points heads n ps) [] (with_points heads n xs)) (sym (append-nil ps)) (Passes-nil (with_points heads n ps))
 properties_step heads n ps all k (h ∷ hs) p =
-    let cs = components_of (is_named all k h) k h 0 h.comps in
-    let one = components_step heads n ps (is_named all k h) k h 0 h.comps (dtype_right h.dtype h.quant p.0.typed) in
+    let cs = components_of (has_usage_names all k h) k h 0 h.comps in
+    let one = components_step heads n ps (has_usage_names all k h) k h 0 h.comps (dtype_right h.dtype h.quant p.0.typed) in
     let rest = properties_step heads n (ps ++ cs) all (k + 1) hs p.1 in
     subst (λ (xs : List PropertyParts). Passes (with_points heads n ps) (property_lines all k (h ∷ hs)) (with_points heads n xs)) (append_assoc ps cs (all_properties all (k + 1) hs))
-    (Passes-append (with_points heads n ps) (with_points heads n (ps ++ cs)) (with_points heads n ((ps ++ cs) ++ all_properties all (k + 1) hs)) (component_lines (is_named all k h) k h 0 h.comps) (property_lines all (k + 1) hs) one rest)
+    (Passes-append (with_points heads n ps) (with_points heads n (ps ++ cs)) (with_points heads n ((ps ++ cs) ++ all_properties all (k + 1) hs)) (component_lines (has_usage_names all k h) k h 0 h.comps) (property_lines all (k + 1) hs) one rest)
 
 -- ---- faces
 
@@ -215,7 +215,7 @@ face_is : (heads : List PlyHead) (n : ℕ) (ps : List PropertyParts) (m at : ℕ
 unfolding statement body element element_of element_line keyword_of
 face_is heads n ps m at few = rw (is_digits_again m (omega arith), within_again MAX_FACES m few (omega arith)) refl
 
-face_end : (heads : List PlyHead) (n : ℕ) (ps : List PropertyParts) (m : ℕ) → is_end (with_points heads n ps) (element_line (codes "face") m) ≡ false
+face_end : (heads : List PlyHead) (n : ℕ) (ps : List PropertyParts) (m : ℕ) → ends_header (with_points heads n ps) (element_line (codes "face") m) ≡ false
 unfolding element_line keyword_of
 face_end heads n ps m = refl
 
@@ -223,7 +223,7 @@ list_is : (heads : List PlyHead) (n : ℕ) (ps : List PropertyParts) (m at : ℕ
 unfolding statement body keyword_of is_list list list_of type_of is_indices
 list_is heads n ps m at = refl
 
-list_end : (heads : List PlyHead) (n : ℕ) (ps : List PropertyParts) (m : ℕ) → is_end (with_faces heads n ps m None) list_line ≡ false
+list_end : (heads : List PlyHead) (n : ℕ) (ps : List PropertyParts) (m : ℕ) → ends_header (with_faces heads n ps m None) list_line ≡ false
 unfolding keyword_of
 list_end heads n ps m = refl
 

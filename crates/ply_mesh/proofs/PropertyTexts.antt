@@ -4,7 +4,7 @@ use Rattle.std.specs.Prelude.{codes}
 use Rattle.std.proofs.lemmas.List.{at_drop_more}
 use Rattle.std.proofs.lemmas.List.Concat.{flat_map-append}
 use Rattle.mesh_model.specs.declared.heads.Head.{Head}
-use Rattle.ply_mesh.specs.Text.{line_text, text_of, type_word, is_named, name_at, property_line, component_lines, property_lines}
+use Rattle.ply_mesh.specs.Text.{line_text, text_of, type_word, has_usage_names, name_at, property_line, component_lines, property_lines}
 
 pub five : (o a b c d e : List ℕ) → ((((o ++ a) ++ b) ++ c) ++ d) ++ e ≡ o ++ (a ++ (b ++ (c ++ (d ++ e))))
 five o a b c d e = simp append_assoc
@@ -19,8 +19,8 @@ component_more out named k h j comps lt =
     append_assoc out (line_text (property_line h.dtype (name_at named k h.usage j))) (text_of (component_lines named k h (j + 1) (comps - (j + 1))))
     ∙ ap (λ (m : ℕ). out ++ text_of (component_lines named k h j m)) (sym n)
 
-pub properties_more : (out : List ℕ) (heads : List Head) (k : ℕ) (h : Head) → k < length heads → h ≡ get_or heads k h → (out ++ text_of (component_lines (is_named heads k h) k h 0 h.comps)) ++ text_of (property_lines heads (k + 1) (drop (k + 1) heads)) ≡ out ++ text_of (property_lines heads k (drop k heads))
+pub properties_more : (out : List ℕ) (heads : List Head) (k : ℕ) (h : Head) → k < length heads → h ≡ get_or heads k h → (out ++ text_of (component_lines (has_usage_names heads k h) k h 0 h.comps)) ++ text_of (property_lines heads (k + 1) (drop (k + 1) heads)) ≡ out ++ text_of (property_lines heads k (drop k heads))
 properties_more out heads k h lt e =
-    append_assoc out (text_of (component_lines (is_named heads k h) k h 0 h.comps)) (text_of (property_lines heads (k + 1) (drop (k + 1) heads)))
-    ∙ ap (λ (t : List ℕ). out ++ t) (sym (flat_map-append line_text (component_lines (is_named heads k h) k h 0 h.comps) (property_lines heads (k + 1) (drop (k + 1) heads)))
-    ∙ ap (λ (x : Head). text_of (component_lines (is_named heads k x) k x 0 x.comps ++ property_lines heads (k + 1) (drop (k + 1) heads))) e ∙ sym (at_drop_more (λ (hs : List Head). text_of (property_lines heads k hs)) heads k h lt))
+    append_assoc out (text_of (component_lines (has_usage_names heads k h) k h 0 h.comps)) (text_of (property_lines heads (k + 1) (drop (k + 1) heads)))
+    ∙ ap (λ (t : List ℕ). out ++ t) (sym (flat_map-append line_text (component_lines (has_usage_names heads k h) k h 0 h.comps) (property_lines heads (k + 1) (drop (k + 1) heads)))
+    ∙ ap (λ (x : Head). text_of (component_lines (has_usage_names heads k x) k x 0 x.comps ++ property_lines heads (k + 1) (drop (k + 1) heads))) e ∙ sym (at_drop_more (λ (hs : List Head). text_of (property_lines heads k hs)) heads k h lt))

@@ -25,11 +25,11 @@ use Rattle.ply_text.specs.Tokens.{token_lines}
 use Rattle.ply_text.specs.Words.{keyword_of}
 use Rattle.ply_text.specs.Declarations.{is_magic, is_format}
 use Rattle.ply_text.specs.Draft.{Draft, PropertyParts, statement, body}
-use Rattle.ply_text.specs.Header.{column_type, column_types, is_typed, types_of, is_whole, heads_of, agrees, header_by, header_at, is_end, header_from, no_draft, header_of_lines, header_of}
+use Rattle.ply_text.specs.Header.{column_type, column_types, is_head_typed, property_types, is_whole, heads_of, agrees, header_by, ply_header_at, ends_header, header_from, no_draft, header_of_lines, header_of}
 use Rattle.ply_mesh.specs.Fields.{HasFields}
-use Rattle.ply_mesh.specs.Body.{row_of, face_of, items_from}
-use Rattle.ply_mesh.specs.Read.{quant_of, head_of, body_of, ply_read}
-use Rattle.ply_mesh.specs.Text.{head_lines, is_named, property_lines, element_line, faces_header, point_lines, face_line, face_lines, ply_text, text_of}
+use Rattle.ply_mesh.specs.Body.{row_read, face_of, items_from}
+use Rattle.ply_mesh.specs.Read.{geometry_quant, geometry_head, body_of, ply_read}
+use Rattle.ply_mesh.specs.Text.{head_lines, has_usage_names, property_lines, element_line, faces_header, point_lines, face_line, face_lines, ply_text, text_of}
 use Rattle.ply_mesh.proofs.Lexing.{are_tokens, are_lines, list_all-append, lines_again}
 use Rattle.ply_mesh.proofs.NumberTexts.{IsSmall}
 use Rattle.ply_mesh.proofs.TokenTexts.{head_tokens, property_tokens, element_tokens, point_tokens, face_tokens}
@@ -40,32 +40,32 @@ use Rattle.ply_mesh.proofs.HeaderSteps.{Lines, Passes, Passes-one, Passes-append
 
 -- ---- heads and their columns
 
-quant_back : (o : Option Quant) → option_map quant_of (option_map ply_quant o) ≡ o
+quant_back : (o : Option Quant) → option_map geometry_quant (option_map ply_quant o) ≡ o
 quant_back None = refl
 quant_back (Some q) = refl
 
-heads_back : (hs : List Head) → map head_of (map ply_head hs) ≡ hs
+heads_back : (hs : List Head) → map geometry_head (map ply_head hs) ≡ hs
 heads_back [] = refl
 heads_back (h ∷ hs) =
-    let one : head_of (ply_head h) ≡ h = ap (λ (o : Option Quant). record { usage = h.usage; dtype = h.dtype; comps = h.comps; normalized = h.normalized; id = h.id; quant = o }) (quant_back h.quant) in
-    ap (λ (x : Head). x ∷ map head_of (map ply_head hs)) one ∙ ap (λ (xs : List Head). h ∷ xs) (heads_back hs)
+    let one : geometry_head (ply_head h) ≡ h = ap (λ (o : Option Quant). record { usage = h.usage; dtype = h.dtype; comps = h.comps; normalized = h.normalized; id = h.id; quant = o }) (quant_back h.quant) in
+    ap (λ (x : Head). x ∷ map geometry_head (map ply_head hs)) one ∙ ap (λ (xs : List Head). h ∷ xs) (heads_back hs)
 
-component_types : (named : Bool) (k : ℕ) (h : Head) (j n : ℕ) → types_of (components_of named k h j n) ≡ replicate n (column_type h.dtype)
+component_types : (named : Bool) (k : ℕ) (h : Head) (j n : ℕ) → property_types (components_of named k h j n) ≡ replicate n (column_type h.dtype)
 component_types named k h j zero = refl
 component_types named k h j (suc n) = ap (λ (ds : List ℕ). column_type h.dtype ∷ ds) (component_types named k h (j + 1) n)
 
-all_types : (all : List Head) (k : ℕ) (hs : List Head) → types_of (all_properties all k hs) ≡ column_types (map ply_head hs)
+all_types : (all : List Head) (k : ℕ) (hs : List Head) → property_types (all_properties all k hs) ≡ column_types (map ply_head hs)
 unfolding column_types
 all_types all k [] = refl
 all_types all k (h ∷ hs) =
-    map-append _ (components_of (is_named all k h) k h 0 h.comps) (all_properties all (k + 1) hs)
-    ∙ ap (λ (ds : List ℕ). ds ++ types_of (all_properties all (k + 1) hs)) (component_types (is_named all k h) k h 0 h.comps)
+    map-append _ (components_of (has_usage_names all k h) k h 0 h.comps) (all_properties all (k + 1) hs)
+    ∙ ap (λ (ds : List ℕ). ds ++ property_types (all_properties all (k + 1) hs)) (component_types (has_usage_names all k h) k h 0 h.comps)
     ∙ ap (λ (ds : List ℕ). replicate h.comps (column_type h.dtype) ++ ds) (all_types all (k + 1) hs)
 
 not_nine : (d : ℕ) → d ≤ 6 → eqb d 9 ≡ false
 not_nine d h = ne_eqb d 9 (λ e. omega arith)
 
-typed_again : (h : Head) → has_type h.dtype h.quant ≡ true → is_typed (ply_head h) ≡ true
+typed_again : (h : Head) → has_type h.dtype h.quant ≡ true → is_head_typed (ply_head h) ≡ true
 typed_again h t = go h.quant refl where
   go : (o : Option Quant) → h.quant ≡ o → cond (eqb h.dtype 9) (is_some (option_map ply_quant o)) (is_none (option_map ply_quant o)) ≡ true
   go None e =
@@ -73,9 +73,9 @@ typed_again h t = go h.quant refl where
       cond-false (eqb h.dtype 9) false true (not_nine h.dtype (leb-true h.dtype 6 p.1))
   go (Some q) e = cond-true (eqb h.dtype 9) true false (ap (has_type h.dtype) (sym e) ∙ t)
 
-all_typed : (hs : List Head) → AllByRecursion HeadSays hs → list_all is_typed (map ply_head hs) ≡ true
+all_typed : (hs : List Head) → AllByRecursion HeadSays hs → list_all is_head_typed (map ply_head hs) ≡ true
 all_typed [] p = refl
-all_typed (h ∷ hs) p = and_from (is_typed (ply_head h)) (list_all is_typed (map ply_head hs)) (typed_again h p.0.typed) (all_typed hs p.1)
+all_typed (h ∷ hs) p = and_from (is_head_typed (ply_head h)) (list_all is_head_typed (map ply_head hs)) (typed_again h p.0.typed) (all_typed hs p.1)
 
 -- ---- the header
 
@@ -91,17 +91,17 @@ module _ (hs : List Head) (n : ℕ) (p : HeadsSay hs) (f : AllByRecursion HasFie
 
   columns : length ps ≡ width_of hs
   columns =
-      let a : length (types_of ps) ≡ length (column_types (map ply_head hs)) = ap length (all_types hs 0 hs) in
-      let b : length (column_types (map ply_head hs)) ≡ length (column_dtypes (map head_of (map ply_head hs))) = ap length (columns_are (map ply_head hs)) ∙ length-map (column_dtypes (map head_of (map ply_head hs))) column_type in
-      let c : length (column_dtypes (map head_of (map ply_head hs))) ≡ width_of hs = ap (λ (xs : List Head). length (column_dtypes xs)) (heads_back hs) ∙ length-types_of hs in
+      let a : length (property_types ps) ≡ length (column_types (map ply_head hs)) = ap length (all_types hs 0 hs) in
+      let b : length (column_types (map ply_head hs)) ≡ length (column_dtypes (map geometry_head (map ply_head hs))) = ap length (columns_are (map ply_head hs)) ∙ length-map (column_dtypes (map geometry_head (map ply_head hs))) column_type in
+      let c : length (column_dtypes (map geometry_head (map ply_head hs))) ≡ width_of hs = ap (λ (xs : List Head). length (column_dtypes xs)) (heads_back hs) ∙ length-types_of hs in
       sym (length-map ps _) ∙ a ∙ b ∙ c
 
   agreed : agrees (map ply_head hs) ps ≡ true
   unfolding agrees
-  agreed = and_from _ _ ((bytes_eq-Decides (column_types (map ply_head hs)) (types_of ps)).1 (sym (all_types hs 0 hs))) (all_typed hs (recursion_from_All HeadSays hs p.each))
+  agreed = and_from _ _ ((bytes_eq-Decides (column_types (map ply_head hs)) (property_types ps)).1 (sym (all_types hs 0 hs))) (all_typed hs (recursion_from_All HeadSays hs p.each))
 
-  cloud_end : (at : ℕ) → header_at at (with_points (map ply_head hs) n ps) end_line ≡ Ok (made hs n None None (at + 1))
-  unfolding header_at is_whole heads_of header_by
+  cloud_end : (at : ℕ) → ply_header_at at (with_points (map ply_head hs) n ps) end_line ≡ Ok (made hs n None None (at + 1))
+  unfolding ply_header_at is_whole heads_of header_by
   cloud_end at =
       rw (
         lt-ltb 0 (length ps) (omega (arith, columns)),
@@ -112,8 +112,8 @@ module _ (hs : List Head) (n : ℕ) (p : HeadsSay hs) (f : AllByRecursion HasFie
         all_types hs 0 hs,
       ) refl
 
-  mesh_end : (m at : ℕ) → header_at at (with_faces (map ply_head hs) n ps m (Some (2, 5))) end_line ≡ Ok (made hs n (Some m) (Some (2, 5)) (at + 1))
-  unfolding header_at is_whole heads_of header_by
+  mesh_end : (m at : ℕ) → ply_header_at at (with_faces (map ply_head hs) n ps m (Some (2, 5))) end_line ≡ Ok (made hs n (Some m) (Some (2, 5)) (at + 1))
+  unfolding ply_header_at is_whole heads_of header_by
   mesh_end m at =
       rw (
         lt-ltb 0 (length ps) (omega (arith, columns)),
@@ -148,7 +148,7 @@ points_pass hs n p f few =
     let c = Passes-append (with_heads []) (with_points heads n []) (with_points heads n (all_properties hs 0 hs)) (head_lines 0 hs ++ element_line (codes "vertex") n ∷ []) (property_lines hs 0 hs) b (properties_step heads n [] hs 0 hs each) in
     Passes-append no_draft (with_heads []) (with_points heads n (all_properties hs 0 hs)) (format_line ∷ []) ((head_lines 0 hs ++ element_line (codes "vertex") n ∷ []) ++ property_lines hs 0 hs) format_step c
 
-end_is : (d : Draft) → d.formatted ≡ true → is_end d end_line ≡ true
+end_is : (d : Draft) → d.formatted ≡ true → ends_header d end_line ≡ true
 unfolding keyword_of
 end_is d h = rw h refl
 
@@ -157,13 +157,13 @@ unfolding is_magic
 magic_is = refl
 
 -- a header of these lines, and the lines after it
-read_again : (text : List ℕ) (xs : Lines) (d : Draft) (h : Header) (rest : Lines) (g : Geometry) → token_lines text ≡ (((codes "ply" ∷ []) ∷ xs) ++ end_line ∷ []) ++ rest → Passes no_draft xs d → d.formatted ≡ true → header_at (2 + length xs) d end_line ≡ Ok h → h.body_line ≡ 2 + length xs + 1 → body_of h rest ≡ Ok g → ply_read text ≡ Ok g
+read_again : (text : List ℕ) (xs : Lines) (d : Draft) (h : Header) (rest : Lines) (g : Geometry) → token_lines text ≡ (((codes "ply" ∷ []) ∷ xs) ++ end_line ∷ []) ++ rest → Passes no_draft xs d → d.formatted ≡ true → ply_header_at (2 + length xs) d end_line ≡ Ok h → h.body_line ≡ 2 + length xs + 1 → body_of h rest ≡ Ok g → ply_read text ≡ Ok g
 unfolding ply_read header_of
 read_again text xs d h rest g cut pass formatted last place meaning =
     let regrouped : (xs ++ end_line ∷ []) ++ rest ≡ xs ++ (end_line ∷ rest) = append_assoc xs (end_line ∷ []) rest in
     let header : header_of_lines (token_lines text) ≡ Ok h =
     ap header_of_lines cut ∙ cond-true (is_magic (codes "ply" ∷ [])) (header_from 2 no_draft ((xs ++ end_line ∷ []) ++ rest)) _ magic_is ∙ ap (header_from 2 no_draft) regrouped ∙ pass.passes 2 (end_line ∷ rest)
-    ∙ cond-true (is_end d end_line) (header_at (2 + length xs) d end_line) _ (end_is d formatted) ∙ last in
+    ∙ cond-true (ends_header d end_line) (ply_header_at (2 + length xs) d end_line) _ (end_is d formatted) ∙ last in
     let before : h.body_line - 1 ≡ length (((codes "ply" ∷ []) ∷ xs) ++ end_line ∷ []) = omega (arith, place, length-append ((codes "ply" ∷ []) ∷ xs) (end_line ∷ [])) in
     let after : drop (h.body_line - 1) (token_lines text) ≡ rest = ap (drop (h.body_line - 1)) cut ∙ drop_at (((codes "ply" ∷ []) ∷ xs) ++ end_line ∷ []) rest (h.body_line - 1) (sym before) in
     ap (λ (r : Result Header Fault). r >>= λ (y : Header). body_of y (drop (y.body_line - 1) (token_lines text))) header ∙ ap (body_of h) after ∙ meaning
@@ -212,10 +212,10 @@ module _ (hs : List Head) (points : List (List ℤ)) (is : ArePoints hs points) 
   types_are : column_types (map ply_head hs) ≡ map column_type (column_dtypes hs)
   types_are = columns_are (map ply_head hs) ∙ ap (λ (xs : List Head). map column_type (column_dtypes xs)) (heads_back hs)
 
-  rows_back : (at : ℕ) (rest : Lines) → items_from (row_of (column_types (map ply_head hs))) (length points) at (point_lines points ++ rest) ≡ Ok (points, rest)
+  rows_back : (at : ℕ) (rest : Lines) → items_from (row_read (column_types (map ply_head hs))) (length points) at (point_lines points ++ rest) ≡ Ok (points, rest)
   rows_back at rest =
-      items_back (RowFits hs) (row_of (column_types (map ply_head hs))) (λ (row : List ℤ). map signed_decimal row)
-      (λ line row fit. ap (λ (ds : List ℕ). row_of ds line (map signed_decimal row)) types_are ∙ row_back (map column_type (column_dtypes hs)) line row (row_typed_back hs row fit))
+      items_back (RowFits hs) (row_read (column_types (map ply_head hs))) (λ (row : List ℤ). map signed_decimal row)
+      (λ line row fit. ap (λ (ds : List ℕ). row_read ds line (map signed_decimal row)) types_are ∙ row_back (map column_type (column_dtypes hs)) line row (row_typed_back hs row fit))
       points at rest fits
 
   points_few : length points < 2 ^ 32
@@ -252,7 +252,7 @@ cut_again xs rest a b =
 
 cloud_body : (hs : List Head) (points : List (List ℤ)) → ArePoints hs points → AllByRecursion HasFields hs → (line : ℕ) → body_of (made hs (length points) None None line) (point_lines points) ≡ Ok (cloud_part hs points)
 cloud_body hs points is f line =
-    let rows = ap (items_from (row_of (column_types (map ply_head hs))) (length points) line) (sym (append-nil (point_lines points))) ∙ rows_back hs points is f line [] in
+    let rows = ap (items_from (row_read (column_types (map ply_head hs))) (length points) line) (sym (append-nil (point_lines points))) ∙ rows_back hs points is f line [] in
     cloud_from (made hs (length points) None None line) (point_lines points) [] points refl rows ∙ ap (λ (xs : List Head). Ok (cloud_part xs points)) (heads_back hs)
 
 cloud_again : (hs : List Head) (points : List (List ℤ)) → ArePoints hs points → AllByRecursion HasFields hs → ply_read (ply_text (cloud_part hs points)) ≡ Ok (cloud_part hs points)

@@ -9,7 +9,7 @@ use Rattle.std.specs.Borrow.{Bor}
 use Rattle.std.proofs.lemmas.Bool.{eq-eqb, ne_eqb}
 use Rattle.drc_base.specs.declared.kinds.Kind.TheVariants.{PlyRow, PlyNumber}
 use Rattle.ply_text.specs.Faults.{or_refuse}
-use Rattle.ply_mesh.specs.Body.{IsRange, number_of, numbers_of, row_of, texts, Appends, AppendsSome}
+use Rattle.ply_mesh.specs.Body.{IsRange, token_number, numbers_of, row_read, texts, Appends, AppendsSome}
 use Rattle.ply_mesh.proofs.Types.{number_in}
 
 -- what was appended so far, and what is still read, are what is due
@@ -29,7 +29,7 @@ regroup : (front : List ℤ) (v : ℤ) (o : Option (List ℤ)) → option_map (�
 regroup front v None = refl
 regroup front v (Some vs) = ap (λ (ws : List ℤ). Some ws) (sym (append_assoc front (v ∷ []) vs))
 
-pub row_step : (due : Option (List ℤ)) (old out : List ℤ) (dtype : ℕ) (dtypes : List ℕ) (token : List ℕ) (tokens : List (List ℕ)) (v : ℤ) → number_of dtype token ≡ Some v → IsRowSoFar due old out (numbers_of (dtype ∷ dtypes) (token ∷ tokens)) → IsRowSoFar due old (out ++ v ∷ []) (numbers_of dtypes tokens)
+pub row_step : (due : Option (List ℤ)) (old out : List ℤ) (dtype : ℕ) (dtypes : List ℕ) (token : List ℕ) (tokens : List (List ℕ)) (v : ℤ) → token_number dtype token ≡ Some v → IsRowSoFar due old out (numbers_of (dtype ∷ dtypes) (token ∷ tokens)) → IsRowSoFar due old (out ++ v ∷ []) (numbers_of dtypes tokens)
 row_step due old out dtype dtypes token tokens v e h = record {
   front = h.front ++ v ∷ [];
   out-is = ap (λ (xs : List ℤ). xs ++ v ∷ []) h.out-is ∙ append_assoc old h.front (v ∷ []);
@@ -75,7 +75,7 @@ both dtypes found j d lt in' =
     ap (λ (ds : List ℕ). numbers_of ds (drop j (texts found))) cut ∙ ap (numbers_of (get_or dtypes j 0 ∷ drop (j + 1) dtypes)) cut2
 
 pub token_more : (due : Option (List ℤ)) (old out : List ℤ) (dtypes : List ℕ) (found : List (Bor (List ℕ))) (j : ℕ) (d : Bor (List ℕ)) (v : ℤ) → j < length dtypes → j < length found
-    → number_of (get_or dtypes j 0) (get_or found j d).now ≡ Some v → IsRowSoFar due old out (numbers_of (drop j dtypes) (drop j (texts found))) → IsRowSoFar due old (out ++ v ∷ []) (numbers_of (drop (j + 1) dtypes) (drop (j + 1) (texts found)))
+    → token_number (get_or dtypes j 0) (get_or found j d).now ≡ Some v → IsRowSoFar due old out (numbers_of (drop j dtypes) (drop j (texts found))) → IsRowSoFar due old (out ++ v ∷ []) (numbers_of (drop (j + 1) dtypes) (drop (j + 1) (texts found)))
 token_more due old out dtypes found j d v lt in' n h =
     row_step due old out (get_or dtypes j 0) (drop (j + 1) dtypes) (get_or found j d).now (drop (j + 1) (texts found)) v n (subst (IsRowSoFar due old out) (both dtypes found j d lt in') h)
 
@@ -88,24 +88,24 @@ pub numbers-length : (dtypes : List ℕ) (tokens : List (List ℕ)) (vs : List �
 numbers-length [] [] vs e = refl
 numbers-length [] (t ∷ ts) vs e = absurd cc
 numbers-length (d ∷ ds) [] vs e = absurd cc
-numbers-length (d ∷ ds) (t ∷ ts) vs e = ahead (length ds) (length ts) (numbers_of ds ts) (number_of d t) vs (λ ws m. numbers-length ds ts ws m) e
+numbers-length (d ∷ ds) (t ∷ ts) vs e = ahead (length ds) (length ts) (numbers_of ds ts) (token_number d t) vs (λ ws m. numbers-length ds ts ws m) e
 
 -- a row whose tokens are as many as the types
-pub row_is : (dtypes : List ℕ) (at : ℕ) (tokens : List (List ℕ)) → length tokens ≡ length dtypes → row_of dtypes at tokens ≡ or_refuse PlyNumber at (numbers_of dtypes tokens)
-unfolding row_of
+pub row_is : (dtypes : List ℕ) (at : ℕ) (tokens : List (List ℕ)) → length tokens ≡ length dtypes → row_read dtypes at tokens ≡ or_refuse PlyNumber at (numbers_of dtypes tokens)
+unfolding row_read
 row_is dtypes at tokens e = rw (eq-eqb (length tokens) (length dtypes) e) refl
 
--- the first tokens, one more than the types, tell how many there are
+-- the first tokens, one more than the types, show how many there are
 first_are_all : (n : ℕ) (tokens : List (List ℕ)) → length (take (n + 1) tokens) ≡ n → take (n + 1) tokens ≡ tokens
 first_are_all n tokens e = take_all (n + 1) tokens (omega (arith, length-take (n + 1) tokens))
 
-pub row_counts : (dtypes : List ℕ) (at : ℕ) (line : List ℕ) (found : List (Bor (List ℕ))) → texts found ≡ take (length dtypes + 1) (tokens_of line) → (length found ≡ length dtypes → ⊥) → row_of dtypes at (tokens_of line) ≡ Err (record { kind = PlyRow; at = at })
-unfolding row_of
+pub row_counts : (dtypes : List ℕ) (at : ℕ) (line : List ℕ) (found : List (Bor (List ℕ))) → texts found ≡ take (length dtypes + 1) (tokens_of line) → (length found ≡ length dtypes → ⊥) → row_read dtypes at (tokens_of line) ≡ Err (record { kind = PlyRow; at = at })
+unfolding row_read
 row_counts dtypes at line found e ne =
     let n : length found ≡ length (take (length dtypes + 1) (tokens_of line)) = sym (length-map found (λ (t : Bor (List ℕ)). t.now)) ∙ ap length e in
     rw (ne_eqb (length (tokens_of line)) (length dtypes) (λ h. ne (omega (arith, n, length-take (length dtypes + 1) (tokens_of line))))) refl
 
-pub row_whole : (dtypes : List ℕ) (at : ℕ) (tokens : List (List ℕ)) (old out : List ℤ) → AppendsSome (numbers_of dtypes tokens) old out → Appends (row_of dtypes at tokens) old out
+pub row_whole : (dtypes : List ℕ) (at : ℕ) (tokens : List (List ℕ)) (old out : List ℤ) → AppendsSome (numbers_of dtypes tokens) old out → Appends (row_read dtypes at tokens) old out
 row_whole dtypes at tokens old out h = (h.0, row_is dtypes at tokens (numbers-length dtypes tokens h.0 h.1) ∙ ap (or_refuse PlyNumber at) h.1, h.2)
 
 pub tokens_done : (dtypes : List ℕ) (at : ℕ) (found : List (Bor (List ℕ))) (old out : List ℤ) (j : ℕ) → length found ≡ length dtypes → length dtypes ≤ j → IsRowSoFar (numbers_of dtypes (texts found)) old out (numbers_of (drop j dtypes) (drop j (texts found)))
@@ -117,15 +117,15 @@ tokens_done dtypes at found old out j same le h =
 
 -- a token that is no number
 pub token_none : (dtypes : List ℕ) (found : List (Bor (List ℕ))) (old out : List ℤ) (j : ℕ) (d : Bor (List ℕ)) → length found ≡ length dtypes → j < length dtypes
-    → number_of (get_or dtypes j 0) (get_or found j d).now ≡ None → IsRowSoFar (numbers_of dtypes (texts found)) old out (numbers_of (drop j dtypes) (drop j (texts found)))
+    → token_number (get_or dtypes j 0) (get_or found j d).now ≡ None → IsRowSoFar (numbers_of dtypes (texts found)) old out (numbers_of (drop j dtypes) (drop j (texts found)))
     → numbers_of dtypes (texts found) ≡ None
 token_none dtypes found old out j d same lt n h =
     let now : numbers_of (drop j dtypes) (drop j (texts found)) ≡ None = both dtypes found j d lt (omega arith) ∙ ap (λ (o : Option ℤ). option_and_then (λ first. option_and_then (λ others. Some (first ∷ others)) (numbers_of (drop (j + 1) dtypes) (drop (j + 1) (texts found)))) o) n in
     sym h.whole ∙ ap (option_map (λ vs. h.front ++ vs)) now
 
 -- the row of a line whose tokens were found
-pub row_of_tokens : (dtypes : List ℕ) (at : ℕ) (line : List ℕ) (found : List (Bor (List ℕ))) → texts found ≡ take (length dtypes + 1) (tokens_of line) → length found ≡ length dtypes → or_refuse PlyNumber at (numbers_of dtypes (texts found)) ≡ row_of dtypes at (tokens_of line)
+pub row_of_tokens : (dtypes : List ℕ) (at : ℕ) (line : List ℕ) (found : List (Bor (List ℕ))) → texts found ≡ take (length dtypes + 1) (tokens_of line) → length found ≡ length dtypes → or_refuse PlyNumber at (numbers_of dtypes (texts found)) ≡ row_read dtypes at (tokens_of line)
 row_of_tokens dtypes at line found e same =
     let count : length (texts found) ≡ length dtypes = length-map found (λ (t : Bor (List ℕ)). t.now) ∙ same in
     let all = first_are_all (length dtypes) (tokens_of line) (sym (ap length e) ∙ count) in
-    sym (row_is dtypes at (texts found) count) ∙ ap (row_of dtypes at) (e ∙ all)
+    sym (row_is dtypes at (texts found) count) ∙ ap (row_read dtypes at) (e ∙ all)

@@ -9,7 +9,7 @@ use Rattle.mesh_model.specs.declared.heads.Quant.{Quant}
 use Rattle.mesh_model.specs.Head.{has_bits}
 use Rattle.mesh_model.proofs.Passing.{HeadSays}
 use Rattle.ply_mesh.specs.Fields.{HasFields}
-use Rattle.ply_mesh.specs.Text.{pattern_text, attr_line, quant_line, quant_lines, head_lines, type_word, usage_name, plain_name, name_at, is_named, property_line, component_lines, property_lines, element_line, face_line}
+use Rattle.ply_mesh.specs.Text.{pattern_text, attr_line, quant_line, quant_lines, head_lines, type_word, usage_name, plain_name, name_at, has_usage_names, property_line, component_lines, property_lines, element_line, face_line}
 use Rattle.ply_mesh.proofs.Lexing.{is_token, are_tokens, are_lines, list_all-append}
 use Rattle.ply_mesh.proofs.NumberTexts.{decimal_token, decimal_above, signed_token, pattern_token, IsSmall}
 use Rattle.std.proofs.lemmas.Bool.{leb-true, and_parts}
@@ -63,7 +63,7 @@ component_tokens named k h j (suc n) hk hj =
 
 pub property_tokens : (all : List Head) (k : ℕ) (hs : List Head) → k + length hs < 2 ^ 32 → AllByRecursion HeadSays hs → are_lines (property_lines all k hs) ≡ true
 property_tokens all k [] hk p = refl
-property_tokens all k (h ∷ hs) hk p = list_all-append are_tokens (component_lines (is_named all k h) k h 0 h.comps) (property_lines all (k + 1) hs) (component_tokens (is_named all k h) k h 0 h.comps (omega arith) (omega (arith, p.0.few))) (property_tokens all (k + 1) hs (omega arith) p.1)
+property_tokens all k (h ∷ hs) hk p = list_all-append are_tokens (component_lines (has_usage_names all k h) k h 0 h.comps) (property_lines all (k + 1) hs) (component_tokens (has_usage_names all k h) k h 0 h.comps (omega arith) (omega (arith, p.0.few))) (property_tokens all (k + 1) hs (omega arith) p.1)
 
 attr_all : (k : ℕ) (h : Head) → k < 2 ^ 32 → HeadSays h → HasFields h → h.dtype < 2 ^ 32 → Tokens (attr_line k h)
 unfolding attr_line

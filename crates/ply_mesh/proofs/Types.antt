@@ -5,7 +5,7 @@ use Rattle.std.proofs.lemmas.Bool.{cases_Bool, cond_both, leb-true, le-leb}
 use Rattle.mesh_model.specs.Head.{least_of, greatest_of, in_type}
 use Rattle.ply_text.specs.Numbers.{integer_of, only_if, is_between}
 use Rattle.ply_text.proofs.Signs.{plus_between, minus_between}
-use Rattle.ply_mesh.specs.Body.{IsRange, number_of}
+use Rattle.ply_mesh.specs.Body.{IsRange, token_number}
 
 -- how far the least value of a data type lies below 0, and its greatest value
 least_is : (d : ℕ) → (least_of d ≡ neg_ℤ (pos (unsigned_abs (least_of d)))) × (unsigned_abs (least_of d) ≤ 2 ^ 31)
@@ -37,8 +37,8 @@ wider below most below' most' (pos n) b m h = plus_between below' most' n ∙ le
 wider below most below' most' (negsuc n) b m h = minus_between below' most' (suc n) ∙ le-leb (suc n) below' (omega (arith, leb-true (suc n) below (sym (minus_between below most (suc n)) ∙ h)))
 
 -- a number of 64 bits that is in the type's range
-pub number_in : (dtype below most : ℕ) (token : List ℕ) (v : ℤ) → IsRange dtype below most → integer_of token ≡ Some v → is_between below most v ≡ true → number_of dtype token ≡ Some v
-unfolding number_of
+pub number_in : (dtype below most : ℕ) (token : List ℕ) (v : ℤ) → IsRange dtype below most → integer_of token ≡ Some v → is_between below most v ≡ true → token_number dtype token ≡ Some v
+unfolding token_number
 number_in dtype below most token v r e h = ap (only_if (in_type dtype)) e ∙ ap (λ b. cond b (Some v) None) (in_type_is dtype below most v r ∙ h)
 
 some_of : (test : ℤ → Bool) (o : Option ℤ) (v : ℤ) → only_if test o ≡ Some v → o ≡ Some v
@@ -58,13 +58,13 @@ none_of dtype below most (Some v) r e = elim (cases_Bool (is_between below most 
   | inr f ↦ ap (λ b. cond b (Some v) None) (in_type_is dtype below most v r ∙ f)
 ]
 
-pub typed_none : (dtype below most : ℕ) (token : List ℕ) → IsRange dtype below most → only_if (is_between (2 ^ 63) (2 ^ 63 - 1)) (integer_of token) ≡ None → number_of dtype token ≡ None
-unfolding number_of
+pub typed_none : (dtype below most : ℕ) (token : List ℕ) → IsRange dtype below most → only_if (is_between (2 ^ 63) (2 ^ 63 - 1)) (integer_of token) ≡ None → token_number dtype token ≡ None
+unfolding token_number
 typed_none dtype below most token r e = none_of dtype below most (integer_of token) r e
 
-pub typed_some : (dtype below most : ℕ) (token : List ℕ) (v : ℤ) → IsRange dtype below most → only_if (is_between (2 ^ 63) (2 ^ 63 - 1)) (integer_of token) ≡ Some v → is_between below most v ≡ true → number_of dtype token ≡ Some v
+pub typed_some : (dtype below most : ℕ) (token : List ℕ) (v : ℤ) → IsRange dtype below most → only_if (is_between (2 ^ 63) (2 ^ 63 - 1)) (integer_of token) ≡ Some v → is_between below most v ≡ true → token_number dtype token ≡ Some v
 typed_some dtype below most token v r e h = number_in dtype below most token v r (some_of (is_between (2 ^ 63) (2 ^ 63 - 1)) (integer_of token) v e) h
 
-pub typed_out : (dtype below most : ℕ) (token : List ℕ) (v : ℤ) → IsRange dtype below most → only_if (is_between (2 ^ 63) (2 ^ 63 - 1)) (integer_of token) ≡ Some v → is_between below most v ≡ false → number_of dtype token ≡ None
-unfolding number_of
+pub typed_out : (dtype below most : ℕ) (token : List ℕ) (v : ℤ) → IsRange dtype below most → only_if (is_between (2 ^ 63) (2 ^ 63 - 1)) (integer_of token) ≡ Some v → is_between below most v ≡ false → token_number dtype token ≡ None
+unfolding token_number
 typed_out dtype below most token v r e h = ap (only_if (in_type dtype)) (some_of (is_between (2 ^ 63) (2 ^ 63 - 1)) (integer_of token) v e) ∙ ap (λ b. cond b (Some v) None) (in_type_is dtype below most v r ∙ h)

@@ -22,10 +22,10 @@ use Rattle.ply_text.specs.Faults.{or_refuse}
 use Rattle.ply_text.specs.Numbers.{integer_of}
 use Rattle.ply_text.specs.declared.headers.PlyQuant.{PlyQuant}
 use Rattle.ply_text.specs.declared.headers.Header.{Header}
-use Rattle.ply_text.specs.Header.{column_type, column_types, is_typed}
-use Rattle.ply_text.specs.IsHeader.{QuantFits, HeadFits, IsHeader}
-use Rattle.ply_mesh.specs.Body.{number_of, numbers_of, row_of, point_of, points_of, indices_of, count_of, face_of, items_from}
-use Rattle.ply_mesh.specs.Read.{quant_of, head_of}
+use Rattle.ply_text.specs.Header.{column_type, column_types, is_head_typed}
+use Rattle.ply_text.specs.IsHeader.{PlyQuantFits, PlyHeadFits, IsHeader}
+use Rattle.ply_mesh.specs.Body.{token_number, numbers_of, row_read, point_numbered, points_numbered, indices_of, face_count_read, face_of, items_from}
+use Rattle.ply_mesh.specs.Read.{geometry_quant, geometry_head}
 use Rattle.ply_mesh.proofs.Binds.{bind_ok, some_ok, then_ok, then_some, only_test}
 
 -- ---- items
@@ -66,8 +66,8 @@ IsTyped [] (v ∷ vs) = ⊥
 IsTyped (d ∷ ds) [] = ⊥
 IsTyped (d ∷ ds) (v ∷ vs) = (in_type d v ≡ true) × IsTyped ds vs
 
-number_typed : (d : ℕ) (token : List ℕ) (v : ℤ) → number_of d token ≡ Some v → in_type d v ≡ true
-unfolding number_of
+number_typed : (d : ℕ) (token : List ℕ) (v : ℤ) → token_number d token ≡ Some v → in_type d v ≡ true
+unfolding token_number
 number_typed d token v e = (only_test (in_type d) (integer_of token) v e).0
 
 pub numbers_typed : (ds : List ℕ) (tokens : List (List ℕ)) (vs : List ℤ) → numbers_of ds tokens ≡ Some vs → IsTyped ds vs
@@ -75,12 +75,12 @@ numbers_typed [] [] vs e = subst (IsTyped []) (same_Some [] vs e) tt
 numbers_typed [] (t ∷ ts) vs e = absurd cc
 numbers_typed (d ∷ ds) [] vs e = absurd cc
 numbers_typed (d ∷ ds) (t ∷ ts) vs e =
-    let a = then_some (number_of d t) (λ first. option_and_then (λ others. Some (first ∷ others)) (numbers_of ds ts)) vs e in
+    let a = then_some (token_number d t) (λ first. option_and_then (λ others. Some (first ∷ others)) (numbers_of ds ts)) vs e in
     let b = then_some (numbers_of ds ts) (λ others. Some (a.0 ∷ others)) vs a.2 in
     subst (IsTyped (d ∷ ds)) (same_Some (a.0 ∷ b.0) vs b.2) (number_typed d t a.0 a.1, numbers_typed ds ts b.0 b.1)
 
-pub row_typed : (ds : List ℕ) (at : ℕ) (line : List (List ℕ)) (row : List ℤ) → row_of ds at line ≡ Ok row → IsTyped ds row
-unfolding row_of
+pub row_typed : (ds : List ℕ) (at : ℕ) (line : List (List ℕ)) (row : List ℤ) → row_read ds at line ≡ Ok row → IsTyped ds row
+unfolding row_read
 row_typed ds at line row e =
     let t = then_ok (eqb (length line) (length ds)) (or_refuse PlyNumber at (numbers_of ds line)) PlyRow at row e in
     numbers_typed ds line row (some_ok PlyNumber at (numbers_of ds line) row t.1)
@@ -104,12 +104,12 @@ map-replicate zero d = refl
 map-replicate (suc n) d = ap (λ (ds : List ℕ). column_type d ∷ ds) (map-replicate n d)
 
 -- the columns of heads that are read
-pub columns_are : (heads : List PlyHead) → column_types heads ≡ map column_type (types_of (map head_of heads))
+pub columns_are : (heads : List PlyHead) → column_types heads ≡ map column_type (types_of (map geometry_head heads))
 unfolding column_types
 columns_are [] = refl
 columns_are (h ∷ hs) =
     ap (λ (ds : List ℕ). ds ++ column_types hs) (map-replicate h.comps h.dtype) ∙ ap (λ (ds : List ℕ). map column_type (replicate h.comps h.dtype) ++ ds) (columns_are hs)
-    ∙ sym (map-append column_type (replicate h.comps h.dtype) (types_of (map head_of hs)))
+    ∙ sym (map-append column_type (replicate h.comps h.dtype) (types_of (map geometry_head hs)))
 
 pub length-types_of : (heads : List Head) → length (types_of heads) ≡ width_of heads
 length-types_of [] = refl
@@ -126,26 +126,26 @@ typed_at (d ∷ ds) (v ∷ vs) h = let t = typed_at ds vs h.1 in (ap suc t.0, at
   at t zero lt = h.0
   at t (suc j) lt = t.1 j (omega arith)
 
-pub row_fits : (heads : List PlyHead) (types : List ℕ) (row : List ℤ) → column_types heads ≡ types → IsTyped types row → RowFits (map head_of heads) row
+pub row_fits : (heads : List PlyHead) (types : List ℕ) (row : List ℤ) → column_types heads ≡ types → IsTyped types row → RowFits (map geometry_head heads) row
 row_fits heads types row e h =
-    let t = typed_at (types_of (map head_of heads)) row (typed_columns (types_of (map head_of heads)) row (subst (λ (ds : List ℕ). IsTyped ds row) (sym e ∙ columns_are heads) h)) in
-    let n = length-types_of (map head_of heads) in
+    let t = typed_at (types_of (map geometry_head heads)) row (typed_columns (types_of (map geometry_head heads)) row (subst (λ (ds : List ℕ). IsTyped ds row) (sym e ∙ columns_are heads) h)) in
+    let n = length-types_of (map geometry_head heads) in
     (t.0 ∙ n, λ j lt. t.1 j (omega arith))
 
 -- ---- faces
 
-point_inside : (points : ℕ) (v : ℤ) (p : ℕ) → point_of points v ≡ Some p → p < points
+point_inside : (points : ℕ) (v : ℤ) (p : ℕ) → point_numbered points v ≡ Some p → p < points
 point_inside points (pos n) p e = go (ltb n points) refl e where
   go : (b : Bool) → ltb n points ≡ b → cond b (Some n) None ≡ Some p → p < points
   go true t e = let s : n ≡ p = same_Some n p e in omega (arith, ltb-true n points t)
   go false t e = absurd cc
 point_inside points (negsuc n) p e = absurd cc
 
-points_inside : (points : ℕ) (vs : List ℤ) (face : List ℕ) → points_of points vs ≡ Some face → (length face ≡ length vs) × AllByRecursion (λ p. p < points) face
+points_inside : (points : ℕ) (vs : List ℤ) (face : List ℕ) → points_numbered points vs ≡ Some face → (length face ≡ length vs) × AllByRecursion (λ p. p < points) face
 points_inside points [] face e = subst (λ (f : List ℕ). (length f ≡ 0) × AllByRecursion (λ p. p < points) f) (same_Some [] face e) (refl, tt)
 points_inside points (v ∷ vs) face e =
-    let a = then_some (point_of points v) (λ first. option_and_then (λ others. Some (first ∷ others)) (points_of points vs)) face e in
-    let b = then_some (points_of points vs) (λ others. Some (a.0 ∷ others)) face a.2 in
+    let a = then_some (point_numbered points v) (λ first. option_and_then (λ others. Some (first ∷ others)) (points_numbered points vs)) face e in
+    let b = then_some (points_numbered points vs) (λ others. Some (a.0 ∷ others)) face a.2 in
     let r = points_inside points vs b.0 b.1 in
     subst (λ (f : List ℕ). (length f ≡ suc (length vs)) × AllByRecursion (λ p. p < points) f) (same_Some (a.0 ∷ b.0) face b.2) (ap suc r.0, (point_inside points v a.0 a.1, r.1))
 
@@ -153,20 +153,20 @@ pub face_fits : (list : ℕ × ℕ) (points at : ℕ) (line : List (List ℕ)) (
 unfolding face_of indices_of
 face_fits list points at [] face e = absurd cc
 face_fits list points at (count ∷ tokens) face e =
-    let a = bind_ok (count_of list.0 at count) (λ _. indices_of list.1 points at tokens) face e in
+    let a = bind_ok (face_count_read list.0 at count) (λ _. indices_of list.1 points at tokens) face e in
     let ds = list.1 ∷ list.1 ∷ list.1 ∷ [] in
-    let t = then_ok (eqb (length tokens) 3) (or_refuse PlyNumber at (numbers_of ds tokens) >>= λ values. or_refuse PlyIndex at (points_of points values)) PlyRow at face a.2 in
-    let b = bind_ok (or_refuse PlyNumber at (numbers_of ds tokens)) (λ values. or_refuse PlyIndex at (points_of points values)) face t.1 in
+    let t = then_ok (eqb (length tokens) 3) (or_refuse PlyNumber at (numbers_of ds tokens) >>= λ values. or_refuse PlyIndex at (points_numbered points values)) PlyRow at face a.2 in
+    let b = bind_ok (or_refuse PlyNumber at (numbers_of ds tokens)) (λ values. or_refuse PlyIndex at (points_numbered points values)) face t.1 in
     let vs = numbers_typed ds tokens b.0 (some_ok PlyNumber at (numbers_of ds tokens) b.0 b.1) in
     let n : length b.0 ≡ 3 = (typed_at ds b.0 vs).0 in
-    let r = points_inside points b.0 face (some_ok PlyIndex at (points_of points b.0) face b.2) in
+    let r = points_inside points b.0 face (some_ok PlyIndex at (points_numbered points b.0) face b.2) in
     (r.0 ∙ n, All-from_recursion (λ p. p < points) face r.1)
 
 -- ---- heads
 
-type_right : (h : PlyHead) → HeadFits h → is_typed h ≡ true → has_type h.dtype (option_map quant_of h.quant) ≡ true
+type_right : (h : PlyHead) → PlyHeadFits h → is_head_typed h ≡ true → has_type h.dtype (option_map geometry_quant h.quant) ≡ true
 type_right h fits typed = go h.quant refl where
-  go : (q : Option PlyQuant) → h.quant ≡ q → has_type h.dtype (option_map quant_of q) ≡ true
+  go : (q : Option PlyQuant) → h.quant ≡ q → has_type h.dtype (option_map geometry_quant q) ≡ true
   go None e = elim (cases_Bool (eqb h.dtype 9)) [
     | inl nine ↦ absurd (false≢true (ap is_some (sym e) ∙ sym (ap (λ b. cond b (is_some h.quant) (is_none h.quant)) nine) ∙ typed))
     | inr other ↦
@@ -181,43 +181,43 @@ type_right h fits typed = go h.quant refl where
     | inr other ↦ absurd (false≢true (ap is_none (sym e) ∙ sym (ap (λ b. cond b (is_some h.quant) (is_none h.quant)) other) ∙ typed))
   ]
 
-minima_right : (h : PlyHead) → HeadFits h → has_minima h.comps (option_map quant_of h.quant) ≡ true
+minima_right : (h : PlyHead) → PlyHeadFits h → has_minima h.comps (option_map geometry_quant h.quant) ≡ true
 minima_right h fits = go h.quant fits.quant where
-  go : (q : Option PlyQuant) → IfSome q (QuantFits h.comps) → has_minima h.comps (option_map quant_of q) ≡ true
+  go : (q : Option PlyQuant) → IfSome q (PlyQuantFits h.comps) → has_minima h.comps (option_map geometry_quant q) ≡ true
   go None f = refl
   go (Some q) f = eq-eqb (length q.min) h.comps f.minima
 
-bits_right : (q : Option PlyQuant) (comps : ℕ) → IfSome q (QuantFits comps) → has_bits (option_map quant_of q) ≡ true
+bits_right : (q : Option PlyQuant) (comps : ℕ) → IfSome q (PlyQuantFits comps) → has_bits (option_map geometry_quant q) ≡ true
 bits_right None comps f = refl
 bits_right (Some q) comps f = and_from _ _ (le-leb 1 q.bits f.some_bits) (le-leb q.bits 30 f.few_bits)
 
-passes : (k : ℕ) (h : PlyHead) → HeadFits h → is_typed h ≡ true → head_fault k (head_of h) ≡ None
+passes : (k : ℕ) (h : PlyHead) → PlyHeadFits h → is_head_typed h ≡ true → head_fault k (geometry_head h) ≡ None
 passes k h fits typed =
     first_fault-cons _ _ (unless-true _ AttrType k (le-leb h.usage 4 fits.usage))
     (first_fault-cons _ _ (unless-true _ DataType k (type_right h fits typed))
     (first_fault-cons _ _ (unless-true _ Components k (and_from _ _ (and_from _ _ (le-leb 1 h.comps fits.some) (le-leb h.comps MAX_COMPONENTS fits.few)) (minima_right h fits)))
     (first_fault-cons _ [] (unless-true _ QuantBits k (bits_right h.quant h.comps fits.quant)) refl)))
 
-each_passes : (k : ℕ) (hs : List PlyHead) → AllByRecursion (λ h. HeadFits h × (is_typed h ≡ true)) hs → each_fault k (map head_of hs) ≡ None
+each_passes : (k : ℕ) (hs : List PlyHead) → AllByRecursion (λ h. PlyHeadFits h × (is_head_typed h ≡ true)) hs → each_fault k (map geometry_head hs) ≡ None
 each_passes k [] all = refl
 each_passes k (h ∷ hs) all = first_fault-cons _ _ (passes k h all.0.0 all.0.1) (each_passes (k + 1) hs all.1)
 
-pub heads_pass : (h : Header) → IsHeader h → heads_fault (map head_of h.heads) ≡ None
+pub heads_pass : (h : Header) → IsHeader h → heads_fault (map geometry_head h.heads) ≡ None
 unfolding heads_fault
 heads_pass h is =
-    let n = length-map h.heads head_of in
-    let all : All (λ x. HeadFits x × (is_typed x ≡ true)) h.heads = λ k d lt. (is.heads k d lt, is.typed k d lt) in
-    first_fault-cons _ _ (unless-true _ NoAttribute _ (le-leb 1 (length (map head_of h.heads)) (omega (arith, is.some_heads))))
-    (first_fault-cons _ _ (unless-true _ AttrLimit _ (le-leb (length (map head_of h.heads)) MAX_ATTRIBUTES (omega (arith, is.few_heads))))
-    (first_fault-cons _ [] (each_passes 0 h.heads (recursion_from_All (λ x. HeadFits x × (is_typed x ≡ true)) h.heads all)) refl))
+    let n = length-map h.heads geometry_head in
+    let all : All (λ x. PlyHeadFits x × (is_head_typed x ≡ true)) h.heads = λ k d lt. (is.heads k d lt, is.typed k d lt) in
+    first_fault-cons _ _ (unless-true _ NoAttribute _ (le-leb 1 (length (map geometry_head h.heads)) (omega (arith, is.some_heads))))
+    (first_fault-cons _ _ (unless-true _ AttrLimit _ (le-leb (length (map geometry_head h.heads)) MAX_ATTRIBUTES (omega (arith, is.few_heads))))
+    (first_fault-cons _ [] (each_passes 0 h.heads (recursion_from_All (λ x. PlyHeadFits x × (is_head_typed x ≡ true)) h.heads all)) refl))
 
 -- ---- geometries
 
-pub points_fit : (h : Header) → IsHeader h → (lines rest : List (List (List ℕ))) (rows : List (List ℤ)) → items_from (row_of h.types) h.vertices h.body_line lines ≡ Ok (rows, rest) → ArePoints (map head_of h.heads) rows × (length rows ≡ h.vertices)
+pub points_fit : (h : Header) → IsHeader h → (lines rest : List (List (List ℕ))) (rows : List (List ℤ)) → items_from (row_read h.types) h.vertices h.body_line lines ≡ Ok (rows, rest) → ArePoints (map geometry_head h.heads) rows × (length rows ≡ h.vertices)
 points_fit h is lines rest rows e =
-    let heads = map head_of h.heads in
-    let n = items_count (row_of h.types) h.vertices h.body_line lines rows rest e in
-    let typed = items_all (IsTyped h.types) (row_of h.types) (λ at line row r. row_typed h.types at line row r) h.vertices h.body_line lines rows rest e in
+    let heads = map geometry_head h.heads in
+    let n = items_count (row_read h.types) h.vertices h.body_line lines rows rest e in
+    let typed = items_all (IsTyped h.types) (row_read h.types) (λ at line row r. row_typed h.types at line row r) h.vertices h.body_line lines rows rest e in
     let columns : length h.types ≡ width_of heads = ap length (sym is.types) ∙ ap length (columns_are h.heads) ∙ length-map (types_of heads) column_type ∙ length-types_of heads in (
       record {
         heads_pass = heads_pass h is;
@@ -228,14 +228,14 @@ points_fit h is lines rest rows e =
       n,
     )
 
-pub cloud_fits : (h : Header) → IsHeader h → (lines rest : List (List (List ℕ))) (rows : List (List ℤ)) (heads : List Head) (cells : List ℤ) → heads ≡ map head_of h.heads → cells ≡ cells_of rows → items_from (row_of h.types) h.vertices h.body_line lines ≡ Ok (rows, rest)
+pub cloud_fits : (h : Header) → IsHeader h → (lines rest : List (List (List ℕ))) (rows : List (List ℤ)) (heads : List Head) (cells : List ℤ) → heads ≡ map geometry_head h.heads → cells ≡ cells_of rows → items_from (row_read h.types) h.vertices h.body_line lines ≡ Ok (rows, rest)
     → AreRows heads cells × (cloud_of heads cells ≡ Ok (record { heads = heads; points = rows }))
 cloud_fits h is lines rest rows heads cells he ce e =
     let p = points_fit h is lines rest rows e in
     let are : ArePoints heads rows = subst (λ (hs : List Head). ArePoints hs rows) (sym he) p.0 in
     rw ce (AreRows-cells_of heads rows are, cloud_of-IsCloud (record { heads = heads; points = rows }) are)
 
-pub mesh_fits : (h : Header) (list : ℕ × ℕ) (count at : ℕ) → IsHeader h → (lines rest more : List (List (List ℕ))) (rows : List (List ℤ)) (faces : List (List ℕ)) (heads : List Head) (cells : List ℤ) → heads ≡ map head_of h.heads → cells ≡ cells_of rows → items_from (row_of h.types) h.vertices h.body_line lines ≡ Ok (rows, rest)
+pub mesh_fits : (h : Header) (list : ℕ × ℕ) (count at : ℕ) → IsHeader h → (lines rest more : List (List (List ℕ))) (rows : List (List ℤ)) (faces : List (List ℕ)) (heads : List Head) (cells : List ℤ) → heads ≡ map geometry_head h.heads → cells ≡ cells_of rows → items_from (row_read h.types) h.vertices h.body_line lines ≡ Ok (rows, rest)
     → h.faces ≡ Some count → items_from (face_of list h.vertices) count at rest ≡ Ok (faces, more)
     → AreRows heads cells × (mesh_of heads cells faces ≡ Ok (record { heads = heads; points = rows; faces = faces }))
 mesh_fits h list count at is lines rest more rows faces heads cells he ce e fe fs =

@@ -2,7 +2,7 @@
 use Rattle.std.specs.Prelude.{ℕ, ◌≡◌, ◌+◌, ◌<◌, ℤ, List, ◌∷◌, length, take, drop, slice_index, slice_index_or, Ok}
 use Rattle.std.specs.Str.Lines.{lines}
 use Rattle.ply_text.specs.Tokens.{tokens_of}
-use Rattle.ply_mesh.specs.Body.{IsRange, numbers_of, row_of, face_of, Appends, AppendsSome}
+use Rattle.ply_mesh.specs.Body.{IsRange, numbers_of, row_read, face_of, Appends, AppendsSome}
 
 -- the range of each data type
 pub record AreRanges (dtypes : List ℕ) (ranges : List (ℕ × ℕ)) : Type 0 where
@@ -28,7 +28,7 @@ pub record IsFaceAhead (list : ℕ × ℕ) (points : ℕ) (text : List ℕ) (end
 -- the first line was taken off, and its numbers, those of a point, were appended
 abbrev pub TakesRow : List ℕ → ℕ → List (List ℕ) → List (List ℕ) → List ℤ → List ℤ → Type 0
 TakesRow dtypes at before after old new =
-    (line : List ℕ) × (before ≡ line ∷ after) × Appends (row_of dtypes at (tokens_of line)) old new
+    (line : List ℕ) × (before ≡ line ∷ after) × Appends (row_read dtypes at (tokens_of line)) old new
 
 -- the first line, which is a face, was taken off
 abbrev pub TakesFace : ℕ × ℕ → ℕ → ℕ → List (List ℕ) → List (List ℕ) → List ℕ → Type 0

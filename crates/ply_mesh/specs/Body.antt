@@ -19,8 +19,8 @@ pub record IsRange (dtype below most : ℕ) : Type 0 where
   pub small : most < 2 ^ 31
 
 -- the number of a token, if it is in the range of a data type
-unfoldable pub number_of : ℕ → List ℕ → Option ℤ
-number_of dtype token = only_if (in_type dtype) (integer_of token)
+unfoldable pub token_number : ℕ → List ℕ → Option ℤ
+token_number dtype token = only_if (in_type dtype) (integer_of token)
 
 -- the numbers of tokens, one for each data type
 abbrev pub numbers_of : List ℕ → List (List ℕ) → Option (List ℤ)
@@ -28,41 +28,41 @@ numbers_of [] [] = Some []
 numbers_of [] (token ∷ tokens) = None
 numbers_of (dtype ∷ dtypes) [] = None
 numbers_of (dtype ∷ dtypes) (token ∷ tokens) =
-    option_and_then (λ first. option_and_then (λ others. Some (first ∷ others)) (numbers_of dtypes tokens)) (number_of dtype token)
+    option_and_then (λ first. option_and_then (λ others. Some (first ∷ others)) (numbers_of dtypes tokens)) (token_number dtype token)
 
 -- a point: one number for each property
-unfoldable pub row_of : List ℕ → ℕ → List (List ℕ) → Result (List ℤ) Fault
-row_of dtypes at tokens =
+unfoldable pub row_read : List ℕ → ℕ → List (List ℕ) → Result (List ℤ) Fault
+row_read dtypes at tokens =
     if length tokens == length dtypes then or_refuse PlyNumber at (numbers_of dtypes tokens) else refuse PlyRow at
 
 -- the number of a point
-abbrev pub point_of : ℕ → ℤ → Option ℕ
-point_of points (pos n) = if nat_lt n points then Some n else None
-point_of points (negsuc n) = None
+abbrev pub point_numbered : ℕ → ℤ → Option ℕ
+point_numbered points (pos n) = if nat_lt n points then Some n else None
+point_numbered points (negsuc n) = None
 
 -- the numbers of points, each below their number
-abbrev pub points_of : ℕ → List ℤ → Option (List ℕ)
-points_of points [] = Some []
-points_of points (v ∷ vs) =
-    option_and_then (λ first. option_and_then (λ others. Some (first ∷ others)) (points_of points vs)) (point_of points v)
+abbrev pub points_numbered : ℕ → List ℤ → Option (List ℕ)
+points_numbered points [] = Some []
+points_numbered points (v ∷ vs) =
+    option_and_then (λ first. option_and_then (λ others. Some (first ∷ others)) (points_numbered points vs)) (point_numbered points v)
 
 -- the three points of a face, behind its count
 unfoldable pub indices_of : ℕ → ℕ → ℕ → List (List ℕ) → Result (List ℕ) Fault
 indices_of itype points at tokens =
     if length tokens == 3
     then (or_refuse PlyNumber at (numbers_of (itype ∷ itype ∷ itype ∷ []) tokens)
-    >>= λ values. or_refuse PlyIndex at (points_of points values))
+    >>= λ values. or_refuse PlyIndex at (points_numbered points values))
     else refuse PlyRow at
 
 -- the count of a face, which is 3
-abbrev pub count_of : ℕ → ℕ → List ℕ → Result ℤ Fault
-count_of ctype at token = do
-  n ← or_refuse PlyNumber at (number_of ctype token)
+abbrev pub face_count_read : ℕ → ℕ → List ℕ → Result ℤ Fault
+face_count_read ctype at token = do
+  n ← or_refuse PlyNumber at (token_number ctype token)
   if int_eq n (pos 3) then Ok n else refuse PlyFace at
 
 -- a face behind its count
 abbrev pub counted_face : ℕ × ℕ → ℕ → ℕ → List ℕ → List (List ℕ) → Result (List ℕ) Fault
-counted_face list points at count tokens = count_of list.0 at count >>= λ _. indices_of list.1 points at tokens
+counted_face list points at count tokens = face_count_read list.0 at count >>= λ _. indices_of list.1 points at tokens
 
 -- a face: its count, and then its points
 unfoldable pub face_of : ℕ × ℕ → ℕ → ℕ → List (List ℕ) → Result (List ℕ) Fault

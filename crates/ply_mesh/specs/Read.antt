@@ -12,16 +12,17 @@ use Rattle.ply_text.specs.declared.headers.PlyHead.{PlyHead}
 use Rattle.ply_text.specs.declared.headers.Header.{Header}
 use Rattle.ply_text.specs.Tokens.{token_lines}
 use Rattle.ply_text.specs.Header.{header_of}
-use Rattle.ply_mesh.specs.Body.{row_of, face_of, items_from, ends}
+use Rattle.ply_mesh.specs.Body.{row_read, face_of, items_from, ends}
 
 -- the same quantisation of a geometry
-abbrev pub quant_of : PlyQuant → Quant
-quant_of q = record { bits = q.bits; range = q.range; min = q.min }
+abbrev pub geometry_quant : PlyQuant → Quant
+geometry_quant q = record { bits = q.bits; range = q.range; min = q.min }
 
 -- the same head of a geometry
-abbrev pub head_of : PlyHead → Head
-head_of h =
-    record { usage = h.usage; dtype = h.dtype; comps = h.comps; normalized = h.normalized; id = h.id; quant = option_map quant_of h.quant }
+abbrev pub geometry_head : PlyHead → Head
+geometry_head h =
+    let quant = option_map geometry_quant h.quant in
+    record { usage = h.usage; dtype = h.dtype; comps = h.comps; normalized = h.normalized; id = h.id; quant = quant }
 
 -- the geometry of a header, points and faces: without an element of faces it is a cloud
 abbrev pub geometry_of : List Head → List (List ℤ) → Option (List (List ℕ)) → Geometry
@@ -38,9 +39,9 @@ faces_from h at lines (Some count) = do
 -- the lines of a body: the points, then the faces, then nothing
 unfoldable pub body_of : Header → List (List (List ℕ)) → Result Geometry Fault
 body_of h lines = do
-  points ← items_from (row_of h.types) h.vertices h.body_line lines
+  points ← items_from (row_read h.types) h.vertices h.body_line lines
   faces ← faces_from h (h.body_line + h.vertices) points.1 h.faces
-  ends (geometry_of (map head_of h.heads) points.0 faces.0) (h.body_line + h.vertices + unwrap_or h.faces 0) faces.1
+  ends (geometry_of (map geometry_head h.heads) points.0 faces.0) (h.body_line + h.vertices + unwrap_or h.faces 0) faces.1
 
 -- the geometry of a PLY text, or its first fault
 unfoldable pub ply_read : List ℕ → Result Geometry Fault

@@ -85,8 +85,8 @@ abbrev pub takes_names : ℕ → Head → Bool
 takes_names usage h = (h.usage == usage) && may_be_named h
 
 -- head k has the names of its usage: it is the first that may
-abbrev pub is_named : List Head → ℕ → Head → Bool
-is_named heads k h = may_be_named h && not (list_any (takes_names h.usage) (take k heads))
+abbrev pub has_usage_names : List Head → ℕ → Head → Bool
+has_usage_names heads k h = may_be_named h && not (list_any (takes_names h.usage) (take k heads))
 
 -- the j-th name of a usage
 unfoldable pub usage_name : ℕ → ℕ → List ℕ
@@ -117,7 +117,7 @@ component_lines named k h j (suc n) = property_line h.dtype (name_at named k h.u
 -- the properties of heads from number k on, which are among all heads
 abbrev pub property_lines : List Head → ℕ → List Head → List (List (List ℕ))
 property_lines heads k [] = []
-property_lines heads k (h ∷ hs) = component_lines (is_named heads k h) k h 0 h.comps ++ property_lines heads (k + 1) hs
+property_lines heads k (h ∷ hs) = component_lines (has_usage_names heads k h) k h 0 h.comps ++ property_lines heads (k + 1) hs
 
 -- ---- the whole text
 

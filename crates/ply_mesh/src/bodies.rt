@@ -5,7 +5,7 @@ ghost use Rattle.drc_base.specs.Refusals.{Answers, Refuses};
 ghost use Rattle.mesh_model.specs.declared.geometries.Geometry.{Geometry as GeometryValue};
 ghost use Rattle.ply_text.specs.Tokens.{tokens_of};
 ghost use Rattle.ply_mesh.specs.Ahead.{AreRanges, TakesRow, TakesFace};
-ghost use Rattle.ply_mesh.specs.Body.{IsRange, row_of, face_of, items_from, ends, AreRowsRead};
+ghost use Rattle.ply_mesh.specs.Body.{IsRange, row_read, face_of, items_from, ends, AreRowsRead};
 
 use crate::face_lines::read_face;
 use crate::faces_ahead::face_ahead;
@@ -40,7 +40,7 @@ fn take_row<'a>(
     ensures fewer { length lines.new ≤ length lines.old }
     ensures row { MatchResult result
         (λ _. TakesRow dtypes.now at lines.old lines.new out.old.items out.new.items)
-        (λ e. Refuses (items_from (row_of dtypes.now) 1 at (map tokens_of lines.old)) e) }
+        (λ e. Refuses (items_from (row_read dtypes.now) 1 at (map tokens_of lines.old)) e) }
 {
     let text = lines.rest();
     if let Some(end) = row_ahead(dtypes, ranges, text, out)? {
@@ -66,8 +66,8 @@ pub(crate) fn read_rows(
     requires { at + count < 2 ^ 64 }
     ensures fewer { length lines.new ≤ length lines.old }
     ensures rows { MatchResult result
-        (λ cells. AreRowsRead (items_from (row_of dtypes.now) count at (map tokens_of lines.old)) cells.items (map tokens_of lines.new))
-        (λ e. Refuses (items_from (row_of dtypes.now) count at (map tokens_of lines.old)) e) }
+        (λ cells. AreRowsRead (items_from (row_read dtypes.now) count at (map tokens_of lines.old)) cells.items (map tokens_of lines.new))
+        (λ e. Refuses (items_from (row_read dtypes.now) count at (map tokens_of lines.old)) e) }
 {
     let ranges = ranges_of(alloc, dtypes)?;
     let mut cells = Vec::with_capacity(alloc, room)?;

@@ -3,7 +3,7 @@
 ghost use Rattle.std.specs.Prelude.{◌≡◌, ◌∷◌, [], Ok, ℕ, length, drop, IfSome};
 ghost use Rattle.drc_base.specs.Refusals.{Answers};
 ghost use Rattle.ply_text.specs.Tokens.{tokens_of};
-ghost use Rattle.ply_mesh.specs.Body.{point_of, points_of, indices_of, counted_face, face_of, texts};
+ghost use Rattle.ply_mesh.specs.Body.{point_numbered, points_numbered, indices_of, counted_face, face_of, texts};
 
 use crate::numbers::{number_of, range_of};
 use drc_base::{Fault, Kind, Refusal};
@@ -12,7 +12,7 @@ use std::alloc::Global;
 
 /// The number of a point.
 fn point_of(points: u32, value: i32) -> Option<u32>
-    ensures { result ≡ point_of points value }
+    ensures { result ≡ point_numbered points value }
 {
     if value < 0 || value as u32 >= points {
         return None;
@@ -22,7 +22,7 @@ fn point_of(points: u32, value: i32) -> Option<u32>
 
 /// The numbers of three points.
 fn points_of(points: u32, a: i32, b: i32, c: i32) -> Option<[u32; 3]>
-    ensures { result ≡ points_of points (a ∷ b ∷ c ∷ []) }
+    ensures { result ≡ points_numbered points (a ∷ b ∷ c ∷ []) }
 {
     let a = point_of(points, a)?;
     let b = point_of(points, b)?;
@@ -30,7 +30,7 @@ fn points_of(points: u32, a: i32, b: i32, c: i32) -> Option<[u32; 3]>
     Some([a, b, c])
 }
 
-/// The face of a line, read in place; None says no more than that this call doesn't tell.
+/// The face of a line, read in place; None says nothing about the line.
 #[tactic(auto, using(crate::proofs::FaceSteps::face_whole))]
 fn face_in_place(list: (u8, u8), points: u32, line: &[u8]) -> Option<[u32; 3]>
     ensures { IfSome result (λ face. (at : ℕ) → face_of list points at (tokens_of line.now) ≡ Ok face) }

@@ -25,7 +25,7 @@ fn index_ahead(text: &[u8], place: usize, most: u32, end: u8) -> Option<(u32, us
 }
 
 /// The face of the first line, and the place of its LF. `counts` and `indices` are the ranges of the types of
-/// `list`. None says no more than that this call doesn't tell.
+/// `list`. None says nothing about the line.
 #[inline(always)]
 #[tactic(auto, using(crate::proofs::AheadSteps::face_is_ahead))]
 pub(crate) fn face_ahead(

@@ -3,7 +3,7 @@
 ghost use Rattle.std.specs.Prelude.{◌≡◌, ◌≤◌, ◌<◌, ◌^◌, IsTrue, FitsSigned};
 ghost use Rattle.std.specs.Int.{w32};
 ghost use Rattle.ply_text.specs.Numbers.{is_between};
-ghost use Rattle.ply_mesh.specs.Body.{IsRange, number_of};
+ghost use Rattle.ply_mesh.specs.Body.{IsRange, token_number};
 
 use mesh_model::{greatest_of, least_of};
 use ply_text::read_int;
@@ -32,7 +32,7 @@ pub(crate) fn is_within(v: i64, below: u32, most: u32) -> bool
 /// The number of a token, if it is in the range of a data type.
 #[tactic(auto, using(crate::proofs::Types::typed_some, crate::proofs::Types::typed_none, crate::proofs::Types::typed_out))]
 pub(crate) fn number_of(dtype: u8, token: &[u8]) -> Option<i32>
-    ensures { result ≡ number_of dtype token.now }
+    ensures { result ≡ token_number dtype token.now }
 {
     let range = range_of(dtype);
     let Some(v) = read_int(token) else {

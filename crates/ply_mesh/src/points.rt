@@ -1,4 +1,4 @@
-//! The points of a mesh and those of a cloud, told alike.
+//! The points of a mesh and those of a cloud, under the same names.
 
 ghost use Rattle.std.specs.Prelude.{◌≡◌, ◌<◌, ◌≤◌, ℕ, ℤ, List, [], length, slice_index_or};
 

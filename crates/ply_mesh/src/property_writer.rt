@@ -3,7 +3,7 @@
 ghost use Rattle.std.specs.Prelude.{◌≡◌, ◌+◌, ◌<◌, ◌≤◌, ◌++◌, ◌∷◌, length, take, OnOk};
 ghost use Rattle.std.specs.List.{list_any};
 ghost use Rattle.std.specs.Fmt.{decimal};
-ghost use Rattle.ply_mesh.specs.Text.{line_text, text_of, type_word, may_be_named, takes_names, is_named, usage_name, plain_name, name_at, property_line, component_lines, property_lines};
+ghost use Rattle.ply_mesh.specs.Text.{line_text, text_of, type_word, may_be_named, takes_names, has_usage_names, usage_name, plain_name, name_at, property_line, component_lines, property_lines};
 
 use drc_base::Memory;
 use mesh_model::Head;
@@ -104,7 +104,7 @@ fn any_takes_names(usage: u8, heads: &[Head]) -> bool
 /// Whether head `k` has the names of its usage: it is the first that may.
 fn is_named(heads: &[Head], k: usize, head: &Head) -> bool
     requires { k ≤ length heads.now }
-    ensures { result ≡ is_named heads.now k head.now }
+    ensures { result ≡ has_usage_names heads.now k head.now }
 {
     may_be_named(head) && !any_takes_names(head.usage, &heads[..k])
 }

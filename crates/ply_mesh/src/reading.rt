@@ -4,8 +4,8 @@ ghost use Rattle.std.specs.Prelude.{◌≡◌, ◌+◌, ◌<◌, ◌-◌, ◌^�
 ghost use Rattle.drc_base.specs.Refusals.{Answers, Refuses};
 ghost use Rattle.ply_text.specs.Tokens.{tokens_of};
 ghost use Rattle.ply_text.specs.IsHeader.{IsHeader};
-ghost use Rattle.ply_mesh.specs.Body.{row_of, items_from, AreRowsRead};
-ghost use Rattle.ply_mesh.specs.Read.{quant_of, head_of, body_of, ply_read};
+ghost use Rattle.ply_mesh.specs.Body.{row_read, items_from, AreRowsRead};
+ghost use Rattle.ply_mesh.specs.Read.{geometry_quant, geometry_head, body_of, ply_read};
 
 use crate::bodies::{read_end, read_faces, read_rows, skip_lines};
 use drc_base::{Memory, Refusal, Sequence};
@@ -20,7 +20,7 @@ const NUMBER_BYTES: usize = 2;
 const FACE_BYTES: usize = 8;
 
 fn quant_of(alloc: Global, quant: &PlyQuant) -> Result<Quant, Memory>
-    ensures { IfOk result (λ q. q ≡ quant_of quant.now) }
+    ensures { IfOk result (λ q. q ≡ geometry_quant quant.now) }
 {
     let min = Vec::from_slice(alloc, quant.min.as_slice())?;
     Ok(Quant {
@@ -31,7 +31,7 @@ fn quant_of(alloc: Global, quant: &PlyQuant) -> Result<Quant, Memory>
 }
 
 fn head_of(alloc: Global, head: &PlyHead) -> Result<Head, Memory>
-    ensures { IfOk result (λ h. h ≡ head_of head.now) }
+    ensures { IfOk result (λ h. h ≡ geometry_head head.now) }
 {
     let quant = match &head.quant {
         None => None,
@@ -48,7 +48,7 @@ fn head_of(alloc: Global, head: &PlyHead) -> Result<Head, Memory>
 }
 
 fn heads_of(alloc: Global, heads: &[PlyHead]) -> Result<Vec<Head>, Memory>
-    ensures { IfOk result (λ made. made.items ≡ map head_of heads.now) }
+    ensures { IfOk result (λ made. made.items ≡ map geometry_head heads.now) }
 {
     let mut made = Vec::new(alloc);
     for i in 0..heads.len() {
@@ -77,7 +77,7 @@ fn read_points(
 ) -> Result<Vec<i32>, Refusal>
     requires { header.now.body_line + length lines.old < 2 ^ 63 + 8 }
     ensures fewer { length lines.new ≤ length lines.old }
-    ensures rows { let due = items_from (row_of header.now.types) header.now.vertices header.now.body_line (map tokens_of lines.old) in
+    ensures rows { let due = items_from (row_read header.now.types) header.now.vertices header.now.body_line (map tokens_of lines.old) in
         MatchResult result (λ cells. AreRowsRead due cells.items (map tokens_of lines.new)) (λ e. Refuses due e) }
 {
     let types = header.types.as_slice();

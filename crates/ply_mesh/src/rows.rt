@@ -5,7 +5,7 @@ ghost use Rattle.drc_base.specs.Refusals.{Refuses};
 ghost use Rattle.drc_base.specs.declared.kinds.Kind.TheVariants.{PlyNumber};
 ghost use Rattle.ply_text.specs.Faults.{or_refuse};
 ghost use Rattle.ply_text.specs.Tokens.{tokens_of};
-ghost use Rattle.ply_mesh.specs.Body.{numbers_of, row_of, texts, Appends, AppendsSome};
+ghost use Rattle.ply_mesh.specs.Body.{numbers_of, row_read, texts, Appends, AppendsSome};
 
 use crate::numbers::{number_of, range_of};
 use drc_base::{Fault, Kind, Memory, Refusal};
@@ -13,7 +13,7 @@ use ply_text::{first_tokens, int_at, is_at_end};
 use std::alloc::Global;
 
 /// Appends the numbers of a line of points, read in place. False leaves the list as it was, and says
-/// no more than that this call doesn't tell.
+/// nothing about the line.
 #[tactic(auto, using(crate::proofs::RowSteps::row_begun, crate::proofs::RowSteps::row_more, crate::proofs::RowSteps::row_done, crate::proofs::RowSteps::row_undone))]
 fn row_in_place(dtypes: &[u8], line: &[u8], out: &mut Vec<i32>) -> Result<bool, Memory>
     ensures { IfOk result (λ whole. MatchBool whole
@@ -64,8 +64,8 @@ fn row_by_tokens(
     out: &mut Vec<i32>,
 ) -> Result<(), Refusal>
     ensures { MatchResult result
-        (λ _. Appends (row_of dtypes.now at (tokens_of line.now)) out.old.items out.new.items)
-        (λ e. Refuses (row_of dtypes.now at (tokens_of line.now)) e) }
+        (λ _. Appends (row_read dtypes.now at (tokens_of line.now)) out.old.items out.new.items)
+        (λ e. Refuses (row_read dtypes.now at (tokens_of line.now)) e) }
 {
     let found = first_tokens(alloc, line, dtypes.len() + 1)?;
     if found.as_slice().len() != dtypes.len() {
@@ -85,8 +85,8 @@ pub(crate) fn read_row(
     out: &mut Vec<i32>,
 ) -> Result<(), Refusal>
     ensures { MatchResult result
-        (λ _. Appends (row_of dtypes.now at (tokens_of line.now)) out.old.items out.new.items)
-        (λ e. Refuses (row_of dtypes.now at (tokens_of line.now)) e) }
+        (λ _. Appends (row_read dtypes.now at (tokens_of line.now)) out.old.items out.new.items)
+        (λ e. Refuses (row_read dtypes.now at (tokens_of line.now)) e) }
 {
     if row_in_place(dtypes, line, out)? {
         return Ok(());

@@ -70,7 +70,7 @@ fn row_so_far(
 }
 
 /// Appends the numbers of the first line, and answers the place of its LF. None leaves the list as it was,
-/// and says no more than that this call doesn't tell.
+/// and says nothing about the line.
 pub(crate) fn row_ahead(
     dtypes: &[u8],
     ranges: &[(u32, u32)],

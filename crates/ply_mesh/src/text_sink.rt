@@ -5,7 +5,7 @@ ghost use Rattle.std.specs.Prelude.{◌≡◌, [], Some, false};
 use drc_base::{Failed, Sink};
 use std::alloc::Global;
 
-/// A text that grows by what is put to it. Want of memory is its only failure, and finishing it never
+/// A text that grows by what is put to it. It fails only when out of memory, and finishing it never
 /// fails.
 #[derive(Drop)]
 pub(crate) struct TextSink {

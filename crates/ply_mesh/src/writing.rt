@@ -11,7 +11,7 @@ use decimal_text::{ROOM_BYTES, put_signed, put_unsigned};
 use drc_base::{Failed, Sink, write_all};
 use mesh_model::{CornerMesh, Geometry};
 
-/// The bytes of a chunk, which a sink gets at once when it is nearly full.
+/// The bytes of a chunk, which a sink gets in one piece when it is nearly full.
 pub(crate) const PIECE_BYTES: usize = 65536;
 
 /// Writes the line of a point from `at` on, and answers the place behind it.

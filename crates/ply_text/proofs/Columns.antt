@@ -5,7 +5,7 @@ use Rattle.std.proofs.lemmas.List.{at_drop_more, at_drop_all, append-nil}
 use Rattle.ply_text.specs.declared.headers.PlyHead.{PlyHead}
 use Rattle.std.specs.List.{list_all}
 use Rattle.std.proofs.lemmas.List.Sums.{AllPass-from_list_all}
-use Rattle.ply_text.specs.Header.{column_type, column_types, is_typed}
+use Rattle.ply_text.specs.Header.{column_type, column_types, is_head_typed}
 
 -- the columns so far and those of the heads that are left are all
 pub record AreColumns (heads : List PlyHead) (types : List ℕ) (i : ℕ) : Type 0 where
@@ -26,5 +26,5 @@ pub all_columns : (heads : List PlyHead) (types : List ℕ) (i : ℕ) → length
 unfolding column_types
 all_columns heads types i le h = sym (append-nil types) ∙ ap (λ (ts : List ℕ). types ++ ts) (sym (at_drop_all column_types heads i le)) ∙ h.whole
 
-pub each_typed : (heads : List PlyHead) (b : Bool) → b ≡ true → b ≡ list_all is_typed heads → All (λ h. is_typed h ≡ true) heads
-each_typed heads b yes' e = AllPass-from_list_all is_typed heads (sym e ∙ yes')
+pub each_typed : (heads : List PlyHead) (b : Bool) → b ≡ true → b ≡ list_all is_head_typed heads → All (λ h. is_head_typed h ≡ true) heads
+each_typed heads b yes' e = AllPass-from_list_all is_head_typed heads (sym e ∙ yes')

@@ -27,12 +27,12 @@ unfoldable pub column_types : List PlyHead → List ℕ
 column_types heads = flat_map (λ h. replicate h.comps (column_type h.dtype)) heads
 
 -- a head is quantised exactly at data type 9
-abbrev pub is_typed : PlyHead → Bool
-is_typed h = if h.dtype == 9 then is_some h.quant else is_none h.quant
+abbrev pub is_head_typed : PlyHead → Bool
+is_head_typed h = if h.dtype == 9 then is_some h.quant else is_none h.quant
 
 -- the types of properties, in order
-abbrev pub types_of : List Property → List ℕ
-types_of properties = map (λ p. p.dtype) properties
+abbrev pub property_types : List Property → List ℕ
+property_types properties = map (λ p. p.dtype) properties
 
 -- each element that was declared has its properties
 unfoldable pub is_whole : Draft → Bool
@@ -44,7 +44,7 @@ heads_of d = if nat_lt 0 (length d.heads) then d.heads else named_heads 0 0 d.pr
 
 -- heads agree with the properties
 unfoldable pub agrees : List PlyHead → List Property → Bool
-agrees heads properties = bytes_eq (column_types heads) (types_of properties) && list_all is_typed heads
+agrees heads properties = bytes_eq (column_types heads) (property_types properties) && list_all is_head_typed heads
 
 -- the last line: it is alone, nothing is missing, and then the tests of the attributes
 unfoldable pub header_by : ℕ → Draft → List PlyHead → Result Header Fault
@@ -56,13 +56,13 @@ header_by at d heads =
       heads = heads;
       vertices = unwrap_or d.vertices 0;
       faces = d.faces;
-      types = types_of d.properties;
+      types = property_types d.properties;
       list = d.list;
       body_line = at + 1;
     })))
 
-unfoldable pub header_at : ℕ → Draft → List (List ℕ) → Result Header Fault
-header_at at d line =
+unfoldable pub ply_header_at : ℕ → Draft → List (List ℕ) → Result Header Fault
+ply_header_at at d line =
     if not (is_alone line) then refuse PlyHeader at
     else (if not (is_whole d) then refuse PlyElement at else header_by at d (heads_of d))
 
@@ -71,14 +71,14 @@ is_end_by keyword.EndHeader = true
 is_end_by _ = false
 
 -- the line ends the header
-abbrev pub is_end : Draft → List (List ℕ) → Bool
-is_end d line = d.formatted && is_end_by (keyword_at line)
+abbrev pub ends_header : Draft → List (List ℕ) → Bool
+ends_header d line = d.formatted && is_end_by (keyword_at line)
 
 -- the header from line number `at` on
 abbrev pub header_from : ℕ → Draft → List (List (List ℕ)) → Result Header Fault
 header_from at d [] = refuse PlyShort at
 header_from at d (line ∷ lines) =
-    if is_end d line then header_at at d line else (statement at d line >>= λ next. header_from (at + 1) next lines)
+    if ends_header d line then ply_header_at at d line else (statement at d line >>= λ next. header_from (at + 1) next lines)
 
 -- nothing was declared yet
 abbrev pub no_draft : Draft

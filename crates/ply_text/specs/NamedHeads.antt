@@ -4,12 +4,12 @@ use Rattle.std.specs.Str.{bytes_eq}
 use Rattle.ply_text.specs.declared.headers.PlyHead.{PlyHead}
 use Rattle.ply_text.specs.declared.headers.Property.{Property}
 
--- an attribute that names tell: its usage, and the names of its components
+-- an attribute that is known by names: its usage, and the names of its components
 pub record NameRun : Type 0 where
   pub usage : ℕ
   pub words : List (List ℕ)
 
--- the names that tell an attribute: where two rows fit, the one above is taken
+-- the names that an attribute is known by: where two rows fit, the one above is taken
 abbrev pub name_runs : List NameRun
 name_runs =
     record { usage = 0; words = codes "x" ∷ codes "y" ∷ codes "z" ∷ [] }

@@ -1,5 +1,5 @@
-//! Numbers of a line whose end isn't known yet, for long texts: nothing is sought but the end of the number.
-//! Where these calls don't tell, the line is read on its own.
+//! Numbers of a line whose end isn't known yet, for long texts: only the end of the number is searched for.
+//! Where these calls answer nothing, the line is read on its own.
 
 ghost use Rattle.std.specs.Prelude.{◌≡◌, ◌+◌, ◌<◌, ◌≤◌, ◌^◌, length, pos, IfSome};
 ghost use Rattle.ply_text.specs.InPlace.{AreDigits, IsNumberAt};
@@ -37,8 +37,8 @@ fn digits_ahead(text: &[u8], start: usize) -> Option<(u32, usize)>
     None
 }
 
-/// The number of digits alone that is written at `place`, and the place of the byte after it. None says no
-/// more than that this call doesn't tell.
+/// The number of digits alone that is written at `place`, and the place of the byte after it. None says
+/// nothing about the number.
 #[inline(always)]
 #[tactic(auto, using(crate::proofs::NumbersAhead::natural_at))]
 pub fn natural_ahead(text: &[u8], place: usize) -> Option<(u32, usize)>
@@ -54,7 +54,7 @@ pub fn natural_ahead(text: &[u8], place: usize) -> Option<(u32, usize)>
 }
 
 /// The number of digits, or of `-` and digits, that is written at `place`, and the place of the byte after
-/// it. None says no more than that this call doesn't tell.
+/// it. None says nothing about the number.
 #[inline(always)]
 #[tactic(auto, using(crate::proofs::NumbersAhead::natural_at, crate::proofs::NumbersAhead::minus_ahead))]
 pub fn integer_ahead(text: &[u8], place: usize) -> Option<(i32, usize)>

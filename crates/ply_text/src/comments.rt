@@ -3,7 +3,7 @@
 ghost use Rattle.std.specs.Prelude.{◌≡◌, ◌≤◌, ◌<◌, length, option_map, IfOk, IfSome};
 ghost use Rattle.ply_text.specs.Tokens.{tokens_of};
 ghost use Rattle.ply_text.specs.Comments.{head_of, attr_of, patterns_of, fields_of, quant_of};
-ghost use Rattle.ply_text.specs.IsHeader.{HeadFits, QuantFits, FitsAt};
+ghost use Rattle.ply_text.specs.IsHeader.{PlyHeadFits, PlyQuantFits, FitsAt};
 
 use crate::bit_patterns::pattern_of;
 use crate::headers::{PlyHead, PlyQuant};
@@ -24,7 +24,7 @@ fn head_of(
     id: &[u8],
 ) -> Option<PlyHead>
     ensures head { result ≡ head_of number k.now usage.now dtype.now comps.now normalized.now id.now }
-    ensures fits { IfSome result HeadFits }
+    ensures fits { IfSome result PlyHeadFits }
 {
     let k = natural_within(k, 15)?;
     if k != number {
@@ -55,7 +55,7 @@ fn head_of(
 #[tactic(auto, unfolding(crate::specs::Comments::attr_of))]
 pub(crate) fn attr_of(number: u64, line: &[u8]) -> Option<PlyHead>
     ensures head { result ≡ attr_of number (tokens_of line.now) }
-    ensures fits { IfSome result HeadFits }
+    ensures fits { IfSome result PlyHeadFits }
 {
     let mut tokens = TokenReader::new(line);
     let _word = tokens.next()?;
@@ -97,7 +97,7 @@ fn fields_of(
     minima: &mut TokenReader<'_>,
 ) -> Result<Option<PlyQuant>, Memory>
     ensures found { IfOk result (λ found. found ≡ fields_of head.now bits.now range.now minima.old) }
-    ensures fits { IfOk result (λ found. IfSome found (QuantFits head.now.comps)) }
+    ensures fits { IfOk result (λ found. IfSome found (PlyQuantFits head.now.comps)) }
 {
     let Some(bits) = natural_within(bits, 30) else {
         return Ok(None);

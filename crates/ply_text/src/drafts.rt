@@ -5,7 +5,7 @@ ghost use Rattle.drc_base.specs.Refusals.{Answers};
 ghost use Rattle.ply_text.specs.Tokens.{tokens_of};
 ghost use Rattle.ply_text.specs.Draft.{draft_of, element, scalar, list, attribute, quantisation, comment, declaration, body, statement};
 ghost use Rattle.ply_text.specs.Comments.{with_quant};
-ghost use Rattle.ply_text.specs.IsHeader.{HeadFits, FitsAt, HasType, IsDraft};
+ghost use Rattle.ply_text.specs.IsHeader.{PlyHeadFits, FitsAt, HasType, IsDraft};
 
 use crate::comments::{attr_of, quant_of};
 use crate::headers::{PlyHead, PlyQuant, Property};
@@ -218,10 +218,10 @@ impl HeaderDraft {
 #[tactic(auto, using(crate::proofs::Heads::with_quant_is))]
 fn set_quant(heads: &mut Vec<PlyHead>, number: usize, quant: PlyQuant)
     requires number { number < vec_len heads.old }
-    requires heads { All HeadFits heads.old.items }
+    requires heads { All PlyHeadFits heads.old.items }
     requires quant { FitsAt heads.old.items number quant }
     ensures set { heads.new.items ≡ with_quant number quant heads.old.items }
-    ensures heads { All HeadFits heads.new.items }
+    ensures heads { All PlyHeadFits heads.new.items }
     ensures len { vec_len heads.new ≡ vec_len heads.old }
 {
     let head = &mut heads[number];

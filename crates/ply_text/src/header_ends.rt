@@ -5,8 +5,8 @@ ghost use Rattle.std.specs.List.{list_all};
 ghost use Rattle.drc_base.specs.Refusals.{Answers};
 ghost use Rattle.ply_text.specs.Tokens.{tokens_of};
 ghost use Rattle.ply_text.specs.Draft.{draft_of};
-ghost use Rattle.ply_text.specs.IsHeader.{HeadFits, IsDraft, IsHeader};
-ghost use Rattle.ply_text.specs.Header.{column_type, column_types, is_typed, types_of, is_whole, agrees, header_by, header_at};
+ghost use Rattle.ply_text.specs.IsHeader.{PlyHeadFits, IsDraft, IsHeader};
+ghost use Rattle.ply_text.specs.Header.{column_type, column_types, is_head_typed, property_types, is_whole, agrees, header_by, ply_header_at};
 
 use crate::drafts::HeaderDraft;
 use crate::headers::{Header, PlyHead, Property};
@@ -51,7 +51,7 @@ fn column_types(alloc: Global, heads: &[PlyHead]) -> Result<Vec<u8>, Memory>
 
 /// The types of the properties.
 fn types_of(alloc: Global, properties: &[Property]) -> Result<Vec<u8>, Memory>
-    ensures types { IfOk result (λ types. types.items ≡ types_of properties.now) }
+    ensures types { IfOk result (λ types. types.items ≡ property_types properties.now) }
     ensures len { IfOk result (λ types. length types.items ≡ length properties.now) }
 {
     Ok(properties.iter().map(|p| p.dtype).collect(alloc)?)
@@ -59,7 +59,7 @@ fn types_of(alloc: Global, properties: &[Property]) -> Result<Vec<u8>, Memory>
 
 /// Whether a head is quantised exactly at data type 9.
 fn is_typed(head: &PlyHead) -> bool
-    ensures { result ≡ is_typed head.now }
+    ensures { result ≡ is_head_typed head.now }
 {
     if head.dtype == 9 {
         head.quant.is_some()
@@ -70,8 +70,8 @@ fn is_typed(head: &PlyHead) -> bool
 
 #[tactic(auto, using(crate::proofs::Columns::each_typed))]
 fn are_typed(heads: &[PlyHead]) -> bool
-    ensures typed { result ≡ list_all is_typed heads.now }
-    ensures each { IsTrue result → All (λ h. IsTrue (is_typed h)) heads.now }
+    ensures typed { result ≡ list_all is_head_typed heads.now }
+    ensures each { IsTrue result → All (λ h. IsTrue (is_head_typed h)) heads.now }
 {
     for i in 0..heads.len() {
         if !is_typed(&heads[i]) {
@@ -105,8 +105,8 @@ fn header_made(
 ) -> Header
     requires some { 1 ≤ length heads.items }
     requires few { length heads.items ≤ 16 }
-    requires heads { All HeadFits heads.items }
-    requires typed { All (λ h. IsTrue (is_typed h)) heads.items }
+    requires heads { All PlyHeadFits heads.items }
+    requires typed { All (λ h. IsTrue (is_head_typed h)) heads.items }
     requires types { column_types heads.items ≡ types.items }
     requires vertices { vertices ≤ MAX_POINTS }
     requires values { vertices * length types.items ≤ MAX_VALUES }
@@ -148,7 +148,7 @@ fn header_by(
     requires room { at + 1 < 2 ^ 64 }
     requires sound { IsDraft (draft_of draft.now) }
     requires list { IsSome draft.now.faces → IsSome draft.now.list }
-    requires heads { All HeadFits heads.items }
+    requires heads { All PlyHeadFits heads.items }
     requires some { 1 ≤ length heads.items }
     ensures header { Answers (λ header. header) (header_by at (draft_of draft.now) heads.items) result }
     ensures sound { IfOk result IsHeader }
@@ -170,7 +170,7 @@ fn header_by(
 }
 
 /// The header that ends at this line.
-#[tactic(auto, unfolding(crate::specs::Header::header_at, crate::specs::Header::heads_of, crate::specs::Header::header_by))]
+#[tactic(auto, unfolding(crate::specs::Header::ply_header_at, crate::specs::Header::heads_of, crate::specs::Header::header_by))]
 pub(crate) fn header_at(
     alloc: Global,
     at: u64,
@@ -179,7 +179,7 @@ pub(crate) fn header_at(
 ) -> Result<Header, Refusal>
     requires room { at + 1 < 2 ^ 64 }
     requires sound { IsDraft (draft_of draft) }
-    ensures header { Answers (λ header. header) (header_at at (draft_of draft) (tokens_of line.now)) result }
+    ensures header { Answers (λ header. header) (ply_header_at at (draft_of draft) (tokens_of line.now)) result }
     ensures sound { IfOk result IsHeader }
     ensures body { IfOk result (λ header. header.body_line ≡ at + 1) }
 {

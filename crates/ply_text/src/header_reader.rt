@@ -5,7 +5,7 @@ ghost use Rattle.drc_base.specs.Refusals.{Answers};
 ghost use Rattle.ply_text.specs.Tokens.{tokens_of};
 ghost use Rattle.ply_text.specs.Draft.{draft_of};
 ghost use Rattle.ply_text.specs.IsHeader.{IsDraft, IsHeader};
-ghost use Rattle.ply_text.specs.Header.{is_end_by, is_end, no_draft, header_from, header_of};
+ghost use Rattle.ply_text.specs.Header.{is_end_by, ends_header, no_draft, header_from, header_of};
 
 use crate::drafts::HeaderDraft;
 use crate::header_ends::header_at;
@@ -27,7 +27,7 @@ fn is_end_by(word: Keyword) -> bool
 
 /// Whether the line ends the header.
 fn is_end(draft: &HeaderDraft, line: &[u8]) -> bool
-    ensures { result ≡ is_end (draft_of draft.now) (tokens_of line.now) }
+    ensures { result ≡ ends_header (draft_of draft.now) (tokens_of line.now) }
 {
     draft.formatted && is_end_by(keyword_at(line))
 }

@@ -1,4 +1,4 @@
-//! The names of properties that tell an attribute.
+//! The names of properties that an attribute is known by.
 
 ghost use Rattle.std.specs.Prelude.{◌≡◌, ◌≤◌, ◌<◌, map, IsTrue};
 ghost use Rattle.std.specs.List.{list_all};
@@ -8,13 +8,14 @@ ghost use Rattle.ply_text.specs.RunParts.{runs_of, is_short};
 use crate::headers::Property;
 use crate::words::is_word;
 
-/// An attribute that names tell: its usage, and the names of its components.
+/// An attribute that is known by names: its usage, and the names of its components.
 pub(crate) struct NameRun {
     pub usage: u8,
     pub words: &'static [&'static [u8]],
 }
 
-/// The names that tell an attribute: where two rows fit, the one above is taken (this project's choice).
+/// The names that an attribute is known by: where two rows fit, the one above is taken (this project's
+/// choice).
 const NAME_RUNS: [NameRun; 6] = [
     NameRun {
         usage: 0,

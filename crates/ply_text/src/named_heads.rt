@@ -1,7 +1,7 @@
 //! Attributes from the names of properties.
 
 ghost use Rattle.std.specs.Prelude.{◌≡◌, ◌≤◌, ◌<◌, length, All, IfOk, IfSome, MatchOption};
-ghost use Rattle.ply_text.specs.IsHeader.{HeadFits, HasType};
+ghost use Rattle.ply_text.specs.IsHeader.{PlyHeadFits, HasType};
 ghost use Rattle.ply_text.specs.NamedHeads.{named_head, named_heads};
 
 use crate::headers::{PlyHead, Property};
@@ -14,7 +14,7 @@ fn named_head(k: u32, dtype: u8, run: (u8, u8)) -> PlyHead
     requires dtype { (1 ≤ dtype) × (dtype ≤ 6) }
     requires run { (run.0 ≤ 4) × (0 < run.1) × (run.1 ≤ 4) }
     ensures head { result ≡ named_head k dtype run }
-    ensures fits { HeadFits result }
+    ensures fits { PlyHeadFits result }
 {
     PlyHead {
         usage: run.0,
@@ -35,7 +35,7 @@ pub(crate) fn named_heads(
 ) -> Result<Option<Vec<PlyHead>>, Memory>
     requires types { All HasType properties.now }
     ensures heads { IfOk result (λ found. MatchOption found (16 < length (named_heads 0 0 properties.now)) (λ heads. heads.items ≡ named_heads 0 0 properties.now)) }
-    ensures fits { IfOk result (λ found. IfSome found (λ heads. All HeadFits heads.items)) }
+    ensures fits { IfOk result (λ found. IfSome found (λ heads. All PlyHeadFits heads.items)) }
     ensures some { 0 < length properties.now → IfOk result (λ found. IfSome found (λ heads. 1 ≤ length heads.items)) }
 {
     let mut heads = Vec::new(alloc);

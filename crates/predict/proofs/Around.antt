@@ -9,12 +9,12 @@ use Rattle.corner_table.specs.Sides.{Side, side_at, same, number, Gluing}
 use Rattle.corner_table.proofs.Numbers.{number-side_at}
 use Rattle.corner_table.proofs.Places.{same_refl, not_same}
 use Rattle.predict.specs.declared.surface.FaceAcross.{FaceAcross}
-use Rattle.predict.specs.Walked.{Walked, IsBelow, is_below, only_below, face_at, corner_at, at_corner}
-use Rattle.predict.specs.Gathered.{Turn, turn, turn_on, round_from, round, gathered}
+use Rattle.predict.specs.Walked.{Walked, IsBelow, is_below, only_below, face_entries, corner_at, at_corner}
+use Rattle.predict.specs.Gathered.{Turn, turn_at, turn_on, round_from, round, gathered}
 
 -- the start
 pub gathered_start : (w : Walked) (e : ℕ) (c : Side) (n : ℕ) (found : List FaceAcross) → found ≡ [] → c ≡ corner_at w e → n ≡ length w.entries
-    → take 4 (found ++ filter_map (at_corner w e) (round_from w.gluing c n (Some (turn c true)))) ≡ gathered w e
+    → take 4 (found ++ filter_map (at_corner w e) (round_from w.gluing c n (Some (turn_at c true)))) ≡ gathered w e
 unfolding gathered
 gathered_start w e c n found none at fuel = rw (none, at, fuel) refl
 
@@ -92,9 +92,9 @@ pub at_corner-below : (w : Walked) (e : ℕ) (c : Side) → IfSome (at_corner w 
 unfolding at_corner
 at_corner-below w e c = of (w.gluing c)
   where
-    of : (o : Option Side) → IfSome (elim o [ None ↦ None | Some o ↦ only_below e (face_at w o) ]) (IsBelow e)
+    of : (o : Option Side) → IfSome (elim o [ None ↦ None | Some o ↦ only_below e (face_entries w o) ]) (IsBelow e)
     of None = tt
-    of (Some o) = only_below-below e (face_at w o)
+    of (Some o) = only_below-below e (face_entries w o)
 
 all_found : (f : Side → Option FaceAcross) (e : ℕ) → ((c : Side) → IfSome (f c) (IsBelow e)) → (cs : List Side) → All (IsBelow e) (filter_map f cs)
 all_found f e below [] = All-nil (IsBelow e)

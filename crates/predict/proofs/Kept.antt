@@ -9,7 +9,7 @@ use Rattle.predict.specs.declared.surface.FaceAcross.{FaceAcross}
 use Rattle.predict.specs.Walked.{Walked, IsBelow}
 use Rattle.predict.specs.Gathered.{gathered}
 use Rattle.predict.specs.Multi.{by_many, kept, wanted, flags_for, multi, marks, marked, AreMarked, HasFlags, LacksFlags, off_by, is_left_out}
-use Rattle.predict.specs.Entry.{Foretells, AreUsed, LacksNext, ForetellsAll, put}
+use Rattle.predict.specs.Entry.{Foretells, AreUsed, LacksNext, ForetellsAll, flags_put}
 use Rattle.predict.proofs.Entries.{entry_of, component_of}
 use Rattle.predict.proofs.Around.{gathered_few}
 
@@ -57,7 +57,7 @@ kept_below e (f ∷ flags) (t ∷ faces) below = of f (kept_below e flags faces 
 not_eq : (a b : ℕ) → a ≢ b → eqb a b ≡ false
 not_eq a b n = elim (cases_Bool (eqb a b)) [ inl t ↦ absurd (n (eqb-true a b t)) | inr f ↦ f ]
 
--- one entry more wants flags of the list of its number of faces, and of no other
+-- one entry more needs flags of the list of its number of faces, and of no other
 pub wanted_here : (w : Walked) (k e : ℕ) → length (gathered w e) ≡ k → wanted w k (suc e) ≡ wanted w k e + k
 unfolding wanted
 wanted_here w k e h = ap (λ (n : ℕ). wanted w k e + n) (cond-true (nat_eq (length (gathered w e)) k) k 0 (eq-eqb (length (gathered w e)) k h))
@@ -71,7 +71,7 @@ pub wanted_none : (w : Walked) (k : ℕ) → wanted w k 0 ≡ 0
 unfolding wanted
 wanted_none w k = refl
 
--- more entries want no fewer flags
+-- more entries need no fewer flags
 pub wanted_grows : (w : Walked) (k e n : ℕ) → e ≤ n → wanted w k e ≤ wanted w k n
 wanted_grows w k e zero h = let z : e ≡ zero = omega arith in rw z (omega arith)
 wanted_grows w k e (suc n) h = elim (cases_eq e (suc n)) [
@@ -233,7 +233,7 @@ has_flags w lists e used all U k h = subst (λ (n : ℕ). wanted w (suc k) n ≤
 
 -- the marks of one entry more, put behind those of their list
 pub marked_more : (w : Walked) (comps : ℕ) (v : List ℤ) (lists new : List (List Bool)) (e : ℕ) → length lists ≡ 4
-    → new ≡ put (marks w comps v e) lists → AreMarked w comps v lists e → AreMarked w comps v new (suc e)
+    → new ≡ flags_put (marks w comps v e) lists → AreMarked w comps v lists e → AreMarked w comps v new (suc e)
 marked_more w comps v lists new e four write M k h = at (length (gathered w e)) refl
   where
     count : length (marks w comps v e) ≡ length (gathered w e)
@@ -292,7 +292,3 @@ pub keep_more : (flags : List Bool) (faces : List FaceAcross) (i : ℕ) (d : Boo
     → found ≡ kept (take i flags) (take i faces) → now ≡ found ++ cond (get_or flags i d) [] (get_or faces i t ∷ []) → now ≡ kept (take (i + 1) flags) (take (i + 1) faces)
 keep_more flags faces i d t found now has same so push =
     push ∙ ap (λ (l : List FaceAcross). l ++ cond (get_or flags i d) [] (get_or faces i t ∷ [])) so ∙ sym (kept_more flags faces i d t has same)
-
--- a list of flags, read at any default
-pub list_is : (lists : List (List Bool)) (k : ℕ) (d list : List Bool) → k < length lists → list ≡ get_or lists k d → list ≡ get_or lists k []
-list_is lists k d list h is = is ∙ get_or_default lists k d [] h

@@ -1,8 +1,11 @@
+pub mod Named
 pub mod Wrapping
 pub mod Restoring
+pub mod Corrections
 pub mod Surfaces
 pub mod Entries
 pub mod Means
 pub mod Around
 pub mod Kept
+pub mod Foretold
 pub mod Rounds

@@ -11,7 +11,7 @@ use Rattle.corner_table.proofs.Places.{option_tells, Some_injective, same-false}
 use Rattle.corner_table.proofs.Walks.{left_none, right_none, left_by-zero, right_by-zero, left_last, right_last, left_split, right_split, right_back, left_by-fan, right_by-fan, left-within, right-within, left_count, left_more, left_then_right, fan_trans, fan_sym}
 use Rattle.predict.specs.declared.surface.FaceAcross.{FaceAcross}
 use Rattle.predict.specs.Walked.{Walked, IsOver, corner_at, at_corner}
-use Rattle.predict.specs.Gathered.{Turn, turn, rightwards, leftwards_from, round_from, round, gathered}
+use Rattle.predict.specs.Gathered.{Turn, turn_at, rightwards, leftwards_from, round_from, round, gathered}
 use Rattle.predict.specs.Multi.{wanted}
 use Rattle.predict.specs.Laws.{AreApart, FlagsAreFew}
 use Rattle.predict.proofs.Kept.{wanted_here, wanted_there}
@@ -118,10 +118,10 @@ round_none g s zero = refl
 round_none g s (suc n) = refl
 
 -- a step to the right
-right_goes : (g : Gluing) (s c : Side) (i : ℕ) (P : Option Turn → Type 0) → RightAt g s i c → P None → ((d : Side) → RightAt g s (suc i) d → P (Some (turn d false))) → P (rightwards g c)
+right_goes : (g : Gluing) (s c : Side) (i : ℕ) (P : Option Turn → Type 0) → RightAt g s i c → P None → ((d : Side) → RightAt g s (suc i) d → P (Some (turn_at d false))) → P (rightwards g c)
 right_goes g s c i P R none some = elim (option_tells (swing_right g c)) [
-  | inl e ↦ subst (λ (o : Option Side). P (option_map (λ d. turn d false) o)) (sym e) none
-  | inr x ↦ subst (λ (o : Option Side). P (option_map (λ d. turn d false) o)) (sym x.1) (some x.0 (record { met = right_last g i s c x.0 R.met x.1; open_fan = R.open_fan }))
+  | inl e ↦ subst (λ (o : Option Side). P (option_map (λ d. turn_at d false) o)) (sym e) none
+  | inr x ↦ subst (λ (o : Option Side). P (option_map (λ d. turn_at d false) o)) (sym x.1) (some x.0 (record { met = right_last g i s c x.0 R.met x.1; open_fan = R.open_fan }))
 ]
 
 -- what comes to the right is met there, once
@@ -129,7 +129,7 @@ record GoodRight (g : Gluing) (s : Side) (i : ℕ) (cs : List Side) : Type 0 whe
   pub met : All (FromRight g s i) cs
   pub apart : Apart cs
 
-right_round : {faces : ℕ} {g : Gluing} → IsGluing faces g → (s c : Side) (i n : ℕ) → RightAt g s i c → GoodRight g s i (round_from g s n (Some (turn c false)))
+right_round : {faces : ℕ} {g : Gluing} → IsGluing faces g → (s c : Side) (i n : ℕ) → RightAt g s i c → GoodRight g s i (round_from g s n (Some (turn_at c false)))
 unfolding round_from
 right_round {faces} {g} G s c i zero R = record { met = All-nil (FromRight g s i); apart = tt }
 right_round {faces} {g} G s c i (suc n) R = with_rest (right_goes g s c i (λ o. GoodRight g s (suc i) (round_from g s n o)) R (nothing n) (λ d D. right_round G s d (suc i) n D))
@@ -148,7 +148,7 @@ record GoodLeft (g : Gluing) (s : Side) (i : ℕ) (cs : List Side) : Type 0 wher
   pub met : All (FromLeft g s i) cs
   pub apart : Apart cs
 
-left_round : {faces : ℕ} {g : Gluing} → IsGluing faces g → (s c : Side) (i n : ℕ) → LeftAt g s i c → GoodLeft g s i (round_from g s n (Some (turn c true)))
+left_round : {faces : ℕ} {g : Gluing} → IsGluing faces g → (s c : Side) (i n : ℕ) → LeftAt g s i c → GoodLeft g s i (round_from g s n (Some (turn_at c true)))
 unfolding round_from
 left_round {faces} {g} G s c i zero L = record { met = All-nil (FromLeft g s i); apart = tt }
 left_round {faces} {g} G s c i (suc n) L = with_rest (rest (λ d D. left_round G s d (suc i) n D) (swing_left g c) refl)
@@ -162,14 +162,14 @@ left_round {faces} {g} G s c i (suc n) L = with_rest (rest (λ d D. left_round G
       apart = r.apart;
     }
 
-    rest : ((d : Side) → LeftAt g s (suc i) d → GoodLeft g s (suc i) (round_from g s n (Some (turn d true)))) → (o : Option Side) → swing_left g c ≡ o
+    rest : ((d : Side) → LeftAt g s (suc i) d → GoodLeft g s (suc i) (round_from g s n (Some (turn_at d true)))) → (o : Option Side) → swing_left g c ≡ o
         → GoodLeft g s (suc i) (round_from g s n (leftwards_from g s o))
     rest on None e =
         let ends : Ends g s = record { swings = i; last = c; met = L.met; ends = e } in
         right_goes g s s 0 (λ o. GoodLeft g s (suc i) (round_from g s n o)) (record { met = right_none g s; open_fan = ends }) (nothing n) (λ d D. of_right (right_round G s d 1 n D))
     rest on (Some d) e = elim (cases_Bool (same d s)) [
-      | inl h ↦ subst (λ (o : Option Turn). GoodLeft g s (suc i) (round_from g s n o)) (sym (cond-true (same d s) None (Some (turn d true)) h)) (nothing n)
-      | inr h ↦ subst (λ (o : Option Turn). GoodLeft g s (suc i) (round_from g s n o)) (sym (cond-false (same d s) None (Some (turn d true)) h)) (on d (record {
+      | inl h ↦ subst (λ (o : Option Turn). GoodLeft g s (suc i) (round_from g s n o)) (sym (cond-true (same d s) None (Some (turn_at d true)) h)) (nothing n)
+      | inr h ↦ subst (λ (o : Option Turn). GoodLeft g s (suc i) (round_from g s n o)) (sym (cond-false (same d s) None (Some (turn_at d true)) h)) (on d (record {
         met = left_last g i s c d L.met e;
         new = λ j p q r. elim (cases_eq j (suc i)) [
           | inl z ↦ same-false d s h (Some_injective _ _ (sym (left_last g i s c d L.met e) ∙ ap (λ (k : ℕ). left_by g k s) (sym z) ∙ r))

@@ -9,7 +9,7 @@ use Rattle.corner_table.specs.Sides.{Side, number, side_at, IsGluing}
 use Rattle.corner_table.specs.Table.{Table, free_entry, other_at, glued_in, gluing_of, room_of, side_of}
 use Rattle.predict.specs.declared.surface.Surface.{Surface}
 use Rattle.predict.specs.Walked.{IsOver, walked}
-use Rattle.predict.specs.Stored.{IsSurface}
+use Rattle.predict.specs.Stored.{IsOrderedSurface}
 
 -- an entry that isn't free is a side of one of the faces
 pub found_within : {faces : ℕ} (across : List ℕ) → IsGluing faces (glued_in across) → (x : Side) (v : ℕ)
@@ -21,7 +21,7 @@ found_within {faces} across G x v e h =
 
 -- the lists of a table and of an order over it are a surface
 pub surface_is : (s : Surface) (t : Table) (o : Order) → s.across.now ≡ t.entries → s.corners.now ≡ o.corner_of_entry → s.entries.now ≡ o.entry_of_corner
-    → t.faces ≤ room_of t → room_of t ≤ MAX_FACES → IsGluing t.faces (gluing_of t) → IsOver t.faces (walked t o) → IsSurface s
+    → t.faces ≤ room_of t → room_of t ≤ MAX_FACES → IsGluing t.faces (gluing_of t) → IsOver t.faces (walked t o) → IsOrderedSurface s
 surface_is s t o across corners entries room limit G over = record {
   limit = let f = faces in omega arith;
   whole = let f = faces in let n = count in omega arith;

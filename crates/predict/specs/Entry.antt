@@ -25,13 +25,13 @@ pub record AreUsed (w : Walked) (lists : List (List Bool)) (e : ℕ) (used : Lis
   pub count : (k : ℕ) → k < 4 → get_or used k 0 ≡ wanted w (suc k) e
   pub enough : (k : ℕ) → k < 4 → wanted w (suc k) e ≤ length (get_or lists k [])
 
--- entry e wants more flags of a list than it has
+-- entry e needs more flags of a list than it has
 abbrev pub LacksNext : Walked → List (List Bool) → ℕ → Type 0
 LacksNext w lists e = (k : ℕ) × (k < 4) × (length (get_or lists k []) < wanted w (suc k) (suc e))
 
 -- the flags of one entry, put behind those of their list
-abbrev pub put : List Bool → List (List Bool) → List (List Bool)
-put flags lists = cond (nat_eq (length flags) 0) lists (set lists (length flags - 1) (get_or lists (length flags - 1) [] ++ flags))
+abbrev pub flags_put : List Bool → List (List Bool) → List (List Bool)
+flags_put flags lists = cond (nat_eq (length flags) 0) lists (set lists (length flags - 1) (get_or lists (length flags - 1) [] ++ flags))
 
 -- a prediction foretells each entry before e from the faces that its written flags keep
 abbrev pub ForetellsAll : (List ℤ → ℤ) → Walked → ℕ → List ℤ → ℕ → Type 0

@@ -12,17 +12,17 @@ pub record Turn : Type 0 where
   pub at : Side
   pub leftwards : Bool
 
-abbrev pub turn : Side → Bool → Turn
-turn c l = record { at = c; leftwards = l }
+abbrev pub turn_at : Side → Bool → Turn
+turn_at c l = record { at = c; leftwards = l }
 
 -- the next corner to the right, where there is one
 abbrev pub rightwards : Gluing → Side → Option Turn
-rightwards g c = option_map (λ d. turn d false) (swing_right g c)
+rightwards g c = option_map (λ d. turn_at d false) (swing_right g c)
 
 -- the next corner to the left, where it isn't the start again; where there is none, the way goes on to the right of the start
 abbrev pub leftwards_from : Gluing → Side → Option Side → Option Turn
 leftwards_from g start None = rightwards g start
-leftwards_from g start (Some d) = cond (same d start) None (Some (turn d true))
+leftwards_from g start (Some d) = cond (same d start) None (Some (turn_at d true))
 
 -- what comes after a corner on the way round
 abbrev pub turn_on : Gluing → Side → Turn → Option Turn
@@ -37,7 +37,7 @@ round_from g start (suc n) (Some t) = t.at ∷ round_from g start n (turn_on g s
 -- the corners round the vertex of a corner: to the left until it comes again, or to the left and then to its right; there are no more than
 -- corners of faces
 abbrev pub round : Walked → Side → List Side
-round w c = round_from w.gluing c (length w.entries) (Some (turn c true))
+round w c = round_from w.gluing c (length w.entries) (Some (turn_at c true))
 
 -- the first four faces, across the sides of these corners, that entry e can be predicted from
 unfoldable pub gathered : Walked → ℕ → List FaceAcross

@@ -1,9 +1,13 @@
+pub mod Schemes
 pub mod Wrap
 pub mod Restored
+pub mod Symbols
 pub mod Walked
+pub mod Surfaces
 pub mod Parallelogram
 pub mod Gathered
 pub mod Multi
+pub mod Foretold
 pub mod Laws
 pub mod Stored
 pub mod Entry

@@ -25,7 +25,7 @@ kept [] faces = []
 kept (f ∷ flags) [] = []
 kept (f ∷ flags) (t ∷ faces) = cond f (kept flags faces) (t ∷ kept flags faces)
 
--- how many flags the entries before e want of those that gather k faces: one for each face
+-- how many flags the entries before e need of those that gather k faces: one for each face
 unfoldable pub wanted : Walked → ℕ → ℕ → ℕ
 wanted w k zero = 0
 wanted w k (suc e) = wanted w k e + cond (nat_eq (length (gathered w e)) k) k 0
@@ -40,11 +40,11 @@ multi w comps lists before =
     let e = length before / comps in
     by_many comps (kept (flags_for w lists e) (gathered w e)) (length before % comps) before
 
--- each list has the flags that are wanted of it
+-- each list has the flags that are needed of it
 abbrev pub HasFlags : Walked → List (List Bool) → Type 0
 HasFlags w lists = (k : ℕ) → k < 4 → wanted w (suc k) (length w.corners) ≤ length (get_or lists k [])
 
--- a list has fewer flags than are wanted of it
+-- a list has fewer flags than are needed of it
 abbrev pub LacksFlags : Walked → List (List Bool) → Type 0
 LacksFlags w lists = (k : ℕ) × (k < 4) × (length (get_or lists k []) < wanted w (suc k) (length w.corners))
 
@@ -70,3 +70,7 @@ marked w comps v k (suc e) = marked w comps v k e ++ cond (nat_eq (length (gathe
 -- the four lists of flags that are written
 abbrev pub AreMarked : Walked → ℕ → List ℤ → List (List Bool) → ℕ → Type 0
 AreMarked w comps v lists e = (k : ℕ) → k < 4 → get_or lists k [] ≡ marked w comps v (suc k) e
+
+-- the four lists of flags that are written over a surface: those of entries with one parallelogram, with two, three and four
+abbrev pub flag_lists_of : Walked → ℕ → List ℤ → List (List Bool)
+flag_lists_of w comps values = map (λ k. marked w comps values (suc k) (length w.corners)) (0 ∷ 1 ∷ 2 ∷ 3 ∷ [])

@@ -6,24 +6,24 @@ use Rattle.corner_table.specs.Table.{side_of, glued_in}
 use Rattle.predict.specs.declared.surface.Surface.{Surface}
 use Rattle.predict.specs.declared.gathering.Turn.{Turn as StoredTurn}
 use Rattle.predict.specs.Walked.{Walked}
-use Rattle.predict.specs.Gathered.{Turn, turn}
+use Rattle.predict.specs.Gathered.{Turn, turn_at}
 
--- the surface that the lists tell
+-- the surface that the lists give
 abbrev pub walked_in : Surface → Walked
 walked_in s = record { gluing = glued_in s.across.now; corners = map side_of s.corners.now; entries = s.entries.now }
 
 -- how many faces it has
-abbrev pub faces_in : Surface → ℕ
-faces_in s = length s.entries.now / 3
+abbrev pub surface_faces : Surface → ℕ
+surface_faces s = length s.entries.now / 3
 
 -- the lists are those of an order over a table
-pub record IsSurface (s : Surface) : Type 0 where
-  pub limit : faces_in s ≤ MAX_FACES
-  pub whole : length s.entries.now ≡ 3 * faces_in s
+pub record IsOrderedSurface (s : Surface) : Type 0 where
+  pub limit : surface_faces s ≤ MAX_FACES
+  pub whole : length s.entries.now ≡ 3 * surface_faces s
   pub long : length s.entries.now ≤ length s.across.now
-  pub gluing : IsGluing (faces_in s) (glued_in s.across.now)
-  pub corners : All (λ c. c.face < faces_in s) s.corners.now
+  pub gluing : IsGluing (surface_faces s) (glued_in s.across.now)
+  pub corners : All (λ c. c.face < surface_faces s) s.corners.now
 
 -- a turn, as the code has it
-abbrev pub turn_of : StoredTurn → Turn
-turn_of t = turn (side_at t.at) t.leftwards
+abbrev pub stored_turn : StoredTurn → Turn
+stored_turn t = turn_at (side_at t.at) t.leftwards

@@ -26,12 +26,12 @@ abbrev pub corner_at : Walked → ℕ → Side
 corner_at w e = get_or w.corners e (side 0 first)
 
 -- the entry of a corner
-abbrev pub entry_at : Walked → Side → ℕ
-entry_at w c = get_or w.entries (number c) 0
+abbrev pub corner_entry : Walked → Side → ℕ
+corner_entry w c = get_or w.entries (number c) 0
 
 -- the entries of a face: that of its corner o, and those after and before it
-abbrev pub face_at : Walked → Side → FaceAcross
-face_at w o = record { across = entry_at w o; after = entry_at w (next o); before = entry_at w (prev o) }
+abbrev pub face_entries : Walked → Side → FaceAcross
+face_entries w o = record { across = corner_entry w o; after = corner_entry w (next o); before = corner_entry w (prev o) }
 
 -- the three entries come before entry e
 pub record IsBelow (e : ℕ) (t : FaceAcross) : Type 0 where
@@ -49,4 +49,4 @@ only_below e t = cond (is_below e t) (Some t) None
 
 -- what the side of a corner gives to predict entry e from: the face across, where there is one whose entries all come before
 unfoldable pub at_corner : Walked → ℕ → Side → Option FaceAcross
-at_corner w e c = elim (w.gluing c) [ None ↦ None | Some o ↦ only_below e (face_at w o) ]
+at_corner w e c = elim (w.gluing c) [ None ↦ None | Some o ↦ only_below e (face_entries w o) ]

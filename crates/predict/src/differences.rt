@@ -1,10 +1,12 @@
 //! Prediction by the difference to the entry before.
 
-ghost use Rattle.std.specs.Prelude.{◌≡◌, ◌<◌, ◌≤◌, ◌%◌, ◌≤ℤ◌, length, take, pos, slice_index_or, IfOk};
+ghost use Rattle.std.specs.Prelude.{◌≡◌, ◌<◌, ◌≤◌, ◌%◌, ◌≤ℤ◌, length, map, take, pos, slice_index_or, IfOk};
 ghost use Rattle.std.specs.List.{All};
-ghost use Rattle.predict.specs.Wrap.{least_correction, greatest_correction, restored_value};
+ghost use Rattle.predict.specs.Symbols.{zigzag_of};
+ghost use Rattle.predict.specs.Wrap.{restored_value};
 ghost use Rattle.predict.specs.Restored.{restored, corrections, entry_before};
 
+use crate::symbols::symbol_of;
 use crate::wraps::Wrap;
 use drc_base::Memory;
 use std::alloc::Global;
@@ -48,30 +50,27 @@ pub fn restore_difference(w: &Wrap, comps: u32, v: &mut [i32])
     }
 }
 
-/// The corrections of the values `v` of entries of `comps` components, each of at most half a span,
-/// from which the values are restored.
+/// The symbols of the corrections of the values `v` of entries of `comps` components, each of at most half a
+/// span, from which the values are restored. The corrections themselves are not kept.
 pub fn correct_difference(
     alloc: Global,
     w: &Wrap,
     comps: u32,
     v: &[i32],
-) -> Result<Vec<i32>, Memory>
+) -> Result<Vec<u32>, Memory>
     requires some { 0 < comps }
-    requires whole { length v.now % comps ≡ 0 }
     requires within { All (λ x. (w.now.low ≤ℤ x) × (x ≤ℤ w.now.high)) v.now }
-    ensures corrections { IfOk result (λ c. c.items ≡ corrections (entry_before comps) w.now v.now) }
-    ensures restores { IfOk result (λ c. restored (entry_before comps) w.now c.items ≡ v.now) }
-    ensures small { IfOk result (λ c. All (λ x. (least_correction w.now ≤ℤ x) × (x ≤ℤ greatest_correction w.now)) c.items) }
+    ensures { IfOk result (λ s. s.items ≡ map zigzag_of (corrections (entry_before comps) w.now v.now)) }
 {
     let wrap = w.copy();
     let comps = comps as usize;
     let firsts = comps.min(v.len());
-    let mut corrections = Vec::with_capacity(alloc, v.len())?;
+    let mut symbols = Vec::with_capacity(alloc, v.len())?;
     for i in 0..firsts {
-        corrections.push_reserved(wrap.correction(0, v[i]));
+        symbols.push_reserved(symbol_of(wrap.correction(0, v[i])));
     }
     for k in firsts..v.len() {
-        corrections.push_reserved(wrap.correction(v[k - comps], v[k]));
+        symbols.push_reserved(symbol_of(wrap.correction(v[k - comps], v[k])));
     }
-    Ok(corrections)
+    Ok(symbols)
 }

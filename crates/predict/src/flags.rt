@@ -1,4 +1,5 @@
-//! The flags of constrained multi-parallelogram prediction: which parallelograms are left out.
+//! The flags of predictions: of constrained multi-parallelogram prediction, which parallelograms are left
+//! out.
 
 ghost use Rattle.std.specs.Prelude.{◌≡◌, ℕ, suc, ◌+◌, ◌-◌, ◌*◌, ◌^◌, ◌<◌, ◌≤◌, [], ◌∷◌, ◌++◌, cond, nat_eq, nat_lt, unsigned_abs, ◌-ℤ◌, List, Bool, length, map, take, drop, get_or, IfOk, IfSome, MatchOption, IsTrue, ◌↔◌};
 ghost use Rattle.std.specs.List.{All};
@@ -11,12 +12,12 @@ use crate::surface::FaceAcross;
 use arrayvec::ArrayVec;
 use drc_base::{Memory, Sequence};
 
-/// The flags of constrained multi-parallelogram prediction, in the order in which they are taken.
+/// The flags of a prediction, in the order in which they are taken.
 #[derive(Debug, Drop)]
 pub struct Flags {
-    /// List k - 1 has the flags of the entries with k parallelograms, one for each: whether it is
-    /// left out.
-    pub lists: [Sequence<bool>; 4],
+    /// As many lists as the prediction has. Of constrained multi-parallelogram prediction list k - 1 has
+    /// the flags of the entries with k parallelograms, one for each: whether it is left out.
+    pub lists: Sequence<Sequence<bool>>,
 }
 
 /// Keeps a face, unless it is left out.

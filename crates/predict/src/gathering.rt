@@ -7,7 +7,7 @@ ghost use Rattle.corner_table.specs.Sides.{side_at};
 ghost use Rattle.corner_table.specs.Fans.{swing_left, swing_right};
 ghost use Rattle.predict.specs.Walked.{IsBelow, corner_at, at_corner};
 ghost use Rattle.predict.specs.Gathered.{gathered, turn_on, rightwards};
-ghost use Rattle.predict.specs.Stored.{IsSurface, walked_in, turn_of};
+ghost use Rattle.predict.specs.Stored.{IsOrderedSurface, walked_in, stored_turn};
 
 use crate::surface::{FaceAcross, Surface};
 use arrayvec::ArrayVec;
@@ -23,7 +23,7 @@ pub(crate) struct Turn {
 impl Surface<'_> {
     /// The next corner to the left round a corner's vertex.
     fn left_of(&self, corner: u32) -> Option<u32>
-        requires surface { IsSurface self.now }
+        requires surface { IsOrderedSurface self.now }
         requires corner { corner < length self.now.entries.now }
         ensures corner { option_map side_at result ≡ swing_left (walked_in self.now).gluing (side_at corner) }
         ensures within { IfSome result (λ n. n < length self.now.entries.now) }
@@ -36,9 +36,9 @@ impl Surface<'_> {
 
     /// The next corner to the right round a corner's vertex, as a turn.
     fn rightwards(&self, corner: u32) -> Option<Turn>
-        requires surface { IsSurface self.now }
+        requires surface { IsOrderedSurface self.now }
         requires corner { corner < length self.now.entries.now }
-        ensures turn { option_map turn_of result ≡ rightwards (walked_in self.now).gluing (side_at corner) }
+        ensures turn { option_map stored_turn result ≡ rightwards (walked_in self.now).gluing (side_at corner) }
         ensures within { IfSome result (λ t. t.at < length self.now.entries.now) }
     {
         match self.across_of(previous_number(corner)) {
@@ -52,10 +52,10 @@ impl Surface<'_> {
 
     /// What comes after a corner on the way round from `start`.
     fn turn_on(&self, start: u32, turn: Turn) -> Option<Turn>
-        requires surface { IsSurface self.now }
+        requires surface { IsOrderedSurface self.now }
         requires start { start < length self.now.entries.now }
         requires corner { turn.at < length self.now.entries.now }
-        ensures turn { option_map turn_of result ≡ turn_on (walked_in self.now).gluing (side_at start) (turn_of turn) }
+        ensures turn { option_map stored_turn result ≡ turn_on (walked_in self.now).gluing (side_at start) (stored_turn turn) }
         ensures within { IfSome result (λ t. t.at < length self.now.entries.now) }
     {
         if !turn.leftwards {
@@ -79,7 +79,7 @@ impl Surface<'_> {
     /// Adds the face across the side of a corner to those found, where entry `e` can be predicted
     /// from it.
     fn gather_corner(&self, e: usize, corner: u32, found: &mut ArrayVec<FaceAcross, 4>)
-        requires surface { IsSurface self.now }
+        requires surface { IsOrderedSurface self.now }
         requires corner { corner < length self.now.entries.now }
         requires room { length found.old.items < 4 }
         ensures { found.new.items ≡ found.old.items ++ option_to_list (at_corner (walked_in self.now) e (side_at corner)) }
@@ -92,7 +92,7 @@ impl Surface<'_> {
 
     /// The first four faces round the vertex of entry `e` from which it can be predicted.
     pub(crate) fn gather(&self, e: usize) -> ArrayVec<FaceAcross, 4>
-        requires surface { IsSurface self.now }
+        requires surface { IsOrderedSurface self.now }
         requires entry { e < length self.now.corners.now }
         ensures faces { result.items ≡ gathered (walked_in self.now) e }
         ensures below { All (IsBelow e) result.items }

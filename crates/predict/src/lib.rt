@@ -6,6 +6,7 @@
 //! Parallelogram Prediction" and "Mesh Constrained Multi Parallelogram Prediction".
 #![tactic(auto)]
 
+mod corrected;
 mod differences;
 mod entry;
 mod flags;
@@ -13,16 +14,24 @@ mod gathering;
 mod laws;
 mod multi;
 mod parallelograms;
+mod restored;
+mod schemes;
 mod single;
 mod surface;
+mod symbols;
+mod walks;
 mod wholes;
 mod wraps;
 
-pub use differences::{correct_difference, restore_difference};
+pub use corrected::correct;
 pub use flags::Flags;
-pub use laws::{corrections_restore, flags_are_few};
+pub use laws::{corrections_restore, flags_are_few, predictions_are_named};
 pub use multi::{correct_multi, restore_multi};
+pub use restored::restore;
+pub use schemes::{Facts, Prediction};
 pub use single::{correct_parallelogram, restore_parallelogram};
+pub use symbols::symbols_of;
+pub use walks::Walked;
 pub use wraps::Wrap;
 
 #[cfg(test)]

@@ -7,8 +7,8 @@ ghost use Rattle.predict.specs.Restored.{restored, corrections};
 ghost use Rattle.predict.specs.Walked.{Walked, IsBelow, IsOver, walked};
 ghost use Rattle.predict.specs.Gathered.{gathered};
 ghost use Rattle.predict.specs.Multi.{by_many, kept, multi, wanted, flags_for, HasFlags, LacksFlags, AreMarked, marks, is_left_out};
-ghost use Rattle.predict.specs.Entry.{Foretells, Goes, Corrected, AreUsed, LacksNext, ForetellsAll, put};
-ghost use Rattle.predict.specs.Stored.{IsSurface, walked_in};
+ghost use Rattle.predict.specs.Entry.{Foretells, Goes, Corrected, AreUsed, LacksNext, ForetellsAll, flags_put};
+ghost use Rattle.predict.specs.Stored.{IsOrderedSurface, walked_in};
 
 use crate::entry::{correct_entry, restore_entry};
 use crate::flags::{Flags, keep, marks_of};
@@ -18,6 +18,16 @@ use arrayvec::ArrayVec;
 use corner_table::{Order, SideTable};
 use drc_base::{Kind, Memory, Sequence};
 use std::alloc::Global;
+
+/// A list of flags; it is empty where there is none.
+fn list_at(flags: &Flags, k: usize) -> &[bool]
+    ensures { result.now ≡ get_or flags.now.lists k [] }
+{
+    match flags.lists.as_slice().get(k) {
+        None => &[],
+        Some(list) => list.as_slice(),
+    }
+}
 
 /// The faces of an entry that its flags keep; `used` has how many flags of each list are taken. None
 /// where the list has too few.
@@ -37,7 +47,7 @@ fn take_flags(
     if count == 0 {
         return Some(ArrayVec::new());
     }
-    let list = flags.lists[count - 1].as_slice();
+    let list = list_at(flags, count - 1);
     let first = used[count - 1];
     if first > list.len() || list.len() - first < count {
         return None;
@@ -49,7 +59,7 @@ fn take_flags(
 /// Turns the corrections `v` of entries of `comps` components into their values, in place, each
 /// predicted by the mean of those parallelograms that its flags keep. The order `o` is one over the
 /// table `t`, and `v` has `comps` values for each of its entries. It takes no memory. `FlagsShort`
-/// exactly where more flags of a list are wanted than it has; `v` is given up then. Flags that are
+/// exactly where more flags of a list are needed than it has; `v` is given up then. Flags that are
 /// left over are ignored.
 pub fn restore_multi(
     w: &Wrap,
@@ -84,7 +94,7 @@ fn put_marks(lists: &mut [Sequence<bool>; 4], marks: &[bool]) -> Result<(), Memo
     requires few { length marks.now ≤ 4 }
     requires four { length lists.old ≡ 4 }
     ensures long { length lists.new ≡ 4 }
-    ensures put { IfOk result (λ _. lists.new ≡ put marks.now lists.old) }
+    ensures put { IfOk result (λ _. lists.new ≡ flags_put marks.now lists.old) }
 {
     let count = marks.len();
     if count > 0 {
@@ -104,7 +114,7 @@ fn correct_entries(
 ) -> Result<(), Memory>
     requires some { 0 < comps }
     requires comps { comps < 2 ^ 32 }
-    requires surface { IsSurface surface.now }
+    requires surface { IsOrderedSurface surface.now }
     requires whole { length v.now ≡ length surface.now.corners.now * comps }
     requires range { All (λ x. (w.now.low ≤ℤ x) × (x ≤ℤ w.now.high)) v.now }
     requires room { length out.old ≡ length v.now }
@@ -124,6 +134,16 @@ fn correct_entries(
     Ok(())
 }
 
+/// The flags of four lists.
+fn flags_of(alloc: Global, lists: [Sequence<bool>; 4]) -> Result<Flags, Memory>
+    ensures { IfOk result (λ f. f.lists ≡ lists) }
+{
+    let lists = Vec::from_array(alloc, lists)?;
+    Ok(Flags {
+        lists: Sequence::from_vec(lists),
+    })
+}
+
 /// Puts the corrections of all entries, and answers their flags.
 fn correct_with_flags(
     alloc: Global,
@@ -135,12 +155,13 @@ fn correct_with_flags(
 ) -> Result<Flags, Memory>
     requires some { 0 < comps }
     requires comps { comps < 2 ^ 32 }
-    requires surface { IsSurface surface.now }
+    requires surface { IsOrderedSurface surface.now }
     requires whole { length v.now ≡ length surface.now.corners.now * comps }
     requires range { All (λ x. (w.now.low ≤ℤ x) × (x ≤ℤ w.now.high)) v.now }
     requires room { length out.old ≡ length v.now }
     requires can_wrap { CanWrap w.now }
     requires ends { HasEnds w.now }
+    ensures four { IfOk result (λ x. length x.lists ≡ 4) }
     ensures flags { IfOk result (λ x. AreMarked (walked_in surface.now) comps v.now x.lists (length surface.now.corners.now)) }
     ensures enough { IfOk result (λ x. HasFlags (walked_in surface.now) x.lists) }
     ensures corrections { IfOk result (λ x. out.new ≡ corrections (multi (walked_in surface.now) comps x.lists) w.now v.now) }
@@ -154,7 +175,8 @@ fn correct_with_flags(
         Sequence::from_vec(Vec::new(alloc)),
     ];
     correct_entries(w, comps, surface, v, &mut lists, out)?;
-    Ok(Flags { lists })
+    let flags = flags_of(alloc, lists)?;
+    Ok(flags)
 }
 
 /// The corrections of the values `v` of entries of `comps` components, each predicted by the mean of
@@ -162,7 +184,7 @@ fn correct_with_flags(
 /// and from both the values are restored. A flag is set, and leaves its parallelogram out, exactly
 /// where the entry before is nearer to the entry, by the sums of the distances of their components.
 /// The order `o` is one over the table `t`, and `v` has `comps` values for each of its entries. It
-/// takes memory for the corrections and the flags, and is refused for want of it alone.
+/// takes memory for the corrections and the flags, and fails only when out of memory.
 pub fn correct_multi(
     alloc: Global,
     w: &Wrap,
@@ -175,6 +197,7 @@ pub fn correct_multi(
     requires order { IsOver t.now.faces (walked t.now o.now) }
     requires whole { length v.now ≡ length o.now.corner_of_entry * comps }
     requires within { All (λ x. (w.now.low ≤ℤ x) × (x ≤ℤ w.now.high)) v.now }
+    ensures four { IfOk result (λ c. length c.1.lists ≡ 4) }
     ensures flags { IfOk result (λ c. AreMarked (walked t.now o.now) comps v.now c.1.lists (length o.now.corner_of_entry)) }
     ensures enough { IfOk result (λ c. HasFlags (walked t.now o.now) c.1.lists) }
     ensures corrections { IfOk result (λ c. c.0.items ≡ corrections (multi (walked t.now o.now) comps c.1.lists) w.now v.now) }

@@ -6,7 +6,7 @@ ghost use Rattle.predict.specs.Wrap.{CanWrap, HasEnds, least_correction, greates
 ghost use Rattle.predict.specs.Restored.{restored, corrections};
 ghost use Rattle.predict.specs.Walked.{IsOver, walked};
 ghost use Rattle.predict.specs.Parallelogram.{parallelogram};
-ghost use Rattle.predict.specs.Stored.{IsSurface, walked_in};
+ghost use Rattle.predict.specs.Stored.{IsOrderedSurface, walked_in};
 
 use crate::entry::{correct_by_one, restore_by_one};
 use crate::surface::{Surface, surface_of};
@@ -36,7 +36,7 @@ pub fn restore_parallelogram(w: &Wrap, comps: u32, t: &SideTable, o: &Order, v: 
 /// Puts the corrections of all entries.
 fn correct_entries(w: &Wrap, comps: usize, surface: &Surface<'_>, v: &[i32], out: &mut [i32])
     requires some { 0 < comps }
-    requires surface { IsSurface surface.now }
+    requires surface { IsOrderedSurface surface.now }
     requires whole { length v.now ≡ length surface.now.corners.now * comps }
     requires range { All (λ x. (w.now.low ≤ℤ x) × (x ≤ℤ w.now.high)) v.now }
     requires room { length out.old ≡ length v.now }
@@ -55,7 +55,7 @@ fn correct_entries(w: &Wrap, comps: usize, surface: &Surface<'_>, v: &[i32], out
 /// The corrections of the values `v` of entries of `comps` components, each predicted by its
 /// parallelogram: each of at most half a span, and from them the values are restored. The order `o`
 /// is one over the table `t`, and `v` has `comps` values for each of its entries. It takes memory for
-/// the corrections, and is refused for want of it alone.
+/// the corrections, and fails only when out of memory.
 pub fn correct_parallelogram(
     alloc: Global,
     w: &Wrap,

@@ -5,8 +5,8 @@ ghost use Rattle.std.specs.Prelude.{◌≡◌, ◌<◌, ◌≤◌, IfSome, lengt
 ghost use Rattle.std.specs.Option.{option_map};
 ghost use Rattle.corner_table.specs.Sides.{side_at};
 ghost use Rattle.corner_table.specs.Table.{gluing_of, free_entry};
-ghost use Rattle.predict.specs.Walked.{IsOver, IsBelow, walked, corner_at, face_at, only_below, at_corner};
-ghost use Rattle.predict.specs.Stored.{IsSurface, walked_in};
+ghost use Rattle.predict.specs.Walked.{IsOver, IsBelow, walked, corner_at, face_entries, only_below, at_corner};
+ghost use Rattle.predict.specs.Stored.{IsOrderedSurface, walked_in};
 
 use corner_table::{FREE, Order, SideTable, Steps, next_number, number_of, previous_number};
 use drc_base::Side;
@@ -44,7 +44,7 @@ fn entries_of<'t, L: Ledger>(t: &'t SideTable, blank: Blank) -> &'t [u32]
 /// A surface, from its table and an order over it.
 pub(crate) fn surface_of<'t>(t: &'t SideTable, o: &'t Order) -> Surface<'t>
     requires { IsOver t.now.faces (walked t.now o.now) }
-    ensures surface { IsSurface result }
+    ensures surface { IsOrderedSurface result }
     ensures walked { walked_in result ≡ walked t.now o.now }
     ensures count { length result.corners.now ≡ length o.now.corner_of_entry }
 {
@@ -76,7 +76,7 @@ fn entry_of(entries: &[u32], corner: u32) -> u32
 impl Surface<'_> {
     /// The corner of an entry.
     pub(crate) fn corner_of(&self, e: usize) -> u32
-        requires surface { IsSurface self.now }
+        requires surface { IsOrderedSurface self.now }
         requires entry { e < length self.now.corners.now }
         ensures corner { side_at result ≡ corner_at (walked_in self.now) e }
         ensures within { result < length self.now.entries.now }
@@ -86,7 +86,7 @@ impl Surface<'_> {
 
     /// The side across.
     pub(crate) fn across_of(&self, side: u32) -> Option<u32>
-        requires surface { IsSurface self.now }
+        requires surface { IsOrderedSurface self.now }
         requires side { side < length self.now.entries.now }
         ensures other { option_map side_at result ≡ (walked_in self.now).gluing (side_at side) }
         ensures within { IfSome result (λ n. n < length self.now.entries.now) }
@@ -98,9 +98,9 @@ impl Surface<'_> {
     /// The face of a corner, where its entries come before entry `e`. That of the corner itself is
     /// tested before the other two are read.
     fn face_below(&self, e: usize, corner: u32) -> Option<FaceAcross>
-        requires surface { IsSurface self.now }
+        requires surface { IsOrderedSurface self.now }
         requires corner { corner < length self.now.entries.now }
-        ensures { result ≡ only_below e (face_at (walked_in self.now) (side_at corner)) }
+        ensures { result ≡ only_below e (face_entries (walked_in self.now) (side_at corner)) }
     {
         let across = entry_of(self.entries, corner);
         if across as usize >= e {
@@ -122,7 +122,7 @@ impl Surface<'_> {
     /// The face across the side of a corner, where there is one whose entries come before entry `e`.
     #[tactic(auto, unfolding(crate::specs::Walked::at_corner))]
     pub(crate) fn at_corner(&self, e: usize, corner: u32) -> Option<FaceAcross>
-        requires surface { IsSurface self.now }
+        requires surface { IsOrderedSurface self.now }
         requires corner { corner < length self.now.entries.now }
         ensures face { result ≡ at_corner (walked_in self.now) e (side_at corner) }
         ensures below { IfSome result (IsBelow e) }

@@ -7,10 +7,10 @@ use Rattle.drc_bits.specs.Reading.{must}
 use Rattle.drc_bits.specs.Numbers.{number_at}
 use Rattle.drc_bits.specs.Varint.{spelling}
 use Rattle.drc_bits.proofs.Written.{reading, bytes_at-front, number_at-byte, var32_at-spelling}
-use Rattle.rans_core.specs.Coder.{Interval, State, all_pushed, started}
+use Rattle.rans_core.specs.Coder.{Interval, CoderState, all_pushed, started}
 use Rattle.rans_core.proofs.Pulling.{all_pushed-Pulled}
 use Rattle.rans_core.proofs.Closing.{started-spelled}
-use Rattle.rans_binary.specs.Blocks.{Block, IsBlockOf, block, block_at, coded_bits, first_bits, interval_of, zeros_for}
+use Rattle.rans_binary.specs.Blocks.{Block, IsBlockOf, block, bit_block_at, coded_bits, first_bits, bit_interval, zeros_for}
 use Rattle.rans_binary.proofs.BitNumbers.{get-first_bits}
 use Rattle.rans_binary.proofs.Bits.{first_bits-Pulled, intervals-Fit}
 
@@ -22,10 +22,10 @@ pub must-byte : (place b : ℕ) (rest : List ℕ) → 0 < b → must kind.BadPro
 must-byte place b rest h = rw (number_at-byte place b rest) (cond-true _ _ _ (lt-ltb 0 b h))
 
 -- a block that is spelled so gives its first state
-pub block_at-spelled : (place zeros : ℕ) (coded rest : List ℕ) (s : State) → 0 < zeros → length coded < 2 ^ 32 → started 3 4096 coded ≡ Some s →
-    block_at (reading place (zeros ∷ (spelling 5 (length coded) ++ (coded ++ rest))))
+pub block_at-spelled : (place zeros : ℕ) (coded rest : List ℕ) (s : CoderState) → 0 < zeros → length coded < 2 ^ 32 → started 3 4096 coded ≡ Some s →
+    bit_block_at (reading place (zeros ∷ (spelling 5 (length coded) ++ (coded ++ rest))))
     ≡ Ok (record { ones = 256 - zeros; state = s }, reading (place + 1 + length (spelling 5 (length coded)) + length coded) rest)
-unfolding block_at
+unfolding bit_block_at
 block_at-spelled place zeros coded rest s some small e =
     rw (
       must-byte place zeros (spelling 5 (length coded) ++ (coded ++ rest)) some,
@@ -41,9 +41,9 @@ block-again bits small =
     let bounds = zeros_for-bounds bits in
     let coded : List ℕ = coded_bits zeros bits in
     let text : List ℕ = spelling 5 (length coded) in
-    let is : List Interval = map (interval_of (256 - zeros)) bits in
+    let is : List Interval = map (bit_interval (256 - zeros)) bits in
     let both = all_pushed-Pulled 16 256 is (omega arith) (omega arith) (omega arith) (intervals-Fit (256 - zeros) bits (omega (arith, bounds)) (omega (arith, bounds))) in
-    let s : State = all_pushed 16 256 is in
+    let s : CoderState = all_pushed 16 256 is in
     let b : Block = record { ones = 256 - zeros; state = s } in
     let start : started 3 4096 coded ≡ Some s = started-spelled 3 4096 s (omega arith) (inl (omega arith)) both.0 in
     let first : first_bits (length bits) b ≡ bits = first_bits-Pulled (256 - zeros) s bits both.1 in record {
@@ -52,7 +52,7 @@ block-again bits small =
         reads = λ place rest.
             let whole : (zeros ∷ text ++ coded) ++ rest ≡ zeros ∷ (text ++ (coded ++ rest)) = ap (λ xs. zeros ∷ xs) (append_assoc text coded rest) in
             let end : place + 1 + length text + length coded ≡ place + length (zeros ∷ text ++ coded) = omega (arith, length-append text coded) in
-            ap (λ xs. block_at (reading place xs)) whole
+            ap (λ xs. bit_block_at (reading place xs)) whole
             ∙ block_at-spelled place zeros coded rest s (omega (arith, bounds)) small start
             ∙ ap (λ n. Ok (b, reading n rest)) end;
       };

@@ -2,33 +2,33 @@
 use Rattle.std.proofs.Common.{◌≡◌, ℕ, ◌+◌, ◌-◌, ◌*◌, ◌/◌, ◌%◌, ◌<◌, ◌≤◌, Bool, true, false, nat_lt, List, [], ◌∷◌, map, length, get_or, All, sym, refl, ap, ◌∙◌, inl, inr, arith, ltb-true, ltb-false, lt-ltb, le-ltb, mul-add}
 use Rattle.std.proofs.lemmas.Bool.{cases_Bool}
 use Rattle.std.proofs.lemmas.List.Elements.{All-nil, All-cons}
-use Rattle.rans_core.specs.Coder.{State, HasSlot, Fits, Pulled, pulled, refilled, unread}
+use Rattle.rans_core.specs.Coder.{CoderState, HasSlot, Fits, Pulled, pulled, refilled, unread}
 use Rattle.rans_core.proofs.Pulling.{refilled-full}
 use Rattle.rans_core.proofs.Unread.{refilled-more}
-use Rattle.rans_binary.specs.Blocks.{Block, interval_of, after_bit, first_bits}
+use Rattle.rans_binary.specs.Blocks.{Block, bit_interval, after_bit, first_bits}
 
--- the slot of a bit tells the bit
-pub next_bit-of_slot : (ones slot : ℕ) (bit : Bool) → HasSlot (interval_of ones bit) slot → nat_lt slot ones ≡ bit
+-- the slot of a bit determines the bit
+pub next_bit-of_slot : (ones slot : ℕ) (bit : Bool) → HasSlot (bit_interval ones bit) slot → nat_lt slot ones ≡ bit
 next_bit-of_slot ones slot true h = lt-ltb slot ones (omega arith)
 next_bit-of_slot ones slot false h = le-ltb slot ones h.0
 
 -- what is pulled are the next bits
-pub first_bits-Pulled : (ones : ℕ) (s : State) (bits : List Bool) → Pulled 16 256 s (map (interval_of ones) bits) →
+pub first_bits-Pulled : (ones : ℕ) (s : CoderState) (bits : List Bool) → Pulled 16 256 s (map (bit_interval ones) bits) →
     first_bits (length bits) (record { ones = ones; state = s }) ≡ bits
 first_bits-Pulled ones s [] h = refl
 first_bits-Pulled ones s (bit ∷ bits) h =
-    let t : State = refilled 4096 s.number s.bytes in
+    let t : CoderState = refilled 4096 s.number s.bytes in
     let e : nat_lt (t.number % 256) ones ≡ bit = next_bit-of_slot ones (t.number % 256) bit h.0 in
-    rw e (ap (λ zs. bit ∷ zs) (first_bits-Pulled ones (pulled 256 (interval_of ones bit) t) bits h.1))
+    rw e (ap (λ zs. bit ∷ zs) (first_bits-Pulled ones (pulled 256 (bit_interval ones bit) t) bits h.1))
 
 -- the slots of a bit fit
-pub interval_of-Fits : (ones : ℕ) (bit : Bool) → 0 < ones → ones < 256 → Fits 256 (interval_of ones bit)
+pub interval_of-Fits : (ones : ℕ) (bit : Bool) → 0 < ones → ones < 256 → Fits 256 (bit_interval ones bit)
 interval_of-Fits ones true some most = (some, omega arith)
 interval_of-Fits ones false some most = (omega arith, omega arith)
 
-pub intervals-Fit : (ones : ℕ) (bits : List Bool) → 0 < ones → ones < 256 → All (Fits 256) (map (interval_of ones) bits)
+pub intervals-Fit : (ones : ℕ) (bits : List Bool) → 0 < ones → ones < 256 → All (Fits 256) (map (bit_interval ones) bits)
 intervals-Fit ones [] some most = All-nil (Fits 256)
-intervals-Fit ones (bit ∷ bits) some most = All-cons (Fits 256) (interval_of ones bit) (map (interval_of ones) bits) (interval_of-Fits ones bit some most) (intervals-Fit ones bits some most)
+intervals-Fit ones (bit ∷ bits) some most = All-cons (Fits 256) (bit_interval ones bit) (map (bit_interval ones) bits) (interval_of-Fits ones bit some most) (intervals-Fit ones bits some most)
 
 -- one byte fills a number of at least 16
 pub refilled-once : (coded : List ℕ) (left left' number b : ℕ) → left' < length coded → left ≡ left' + 1 → number < 4096 → 16 ≤ number → b ≡ get_or coded left' 0 →

@@ -1,7 +1,7 @@
 -- Pushing a bit, and the bytes of a block read again.
 use Rattle.std.proofs.Common.{◌≡◌, ℕ, ◌+◌, ◌*◌, ◌/◌, ◌%◌, ◌<◌, ◌≤◌, List, [], ◌∷◌, ◌++◌, reverse, sym, refl, ◌∙◌, arith, mod-lt}
 use Rattle.std.proofs.lemmas.Nat.{le-div, div_below}
-use Rattle.rans_core.specs.Coder.{Interval, drained, pushed}
+use Rattle.rans_core.specs.Coder.{Interval, drained, state_pushed}
 use Rattle.rans_core.proofs.Pulling.{full_step}
 use Rattle.rans_core.proofs.Draining.{drained-stop, drained-step}
 
@@ -22,6 +22,6 @@ drained-once prob number b xs ys some below above e p =
 -- what the code does at a push is the push rule
 pub pushed-is : (number rest result : ℕ) (i j : Interval) (bytes out : List ℕ) → i ≡ j →
     drained 4 (256 * (16 * j.prob)) number bytes ≡ record { number = rest; bytes = out } → result ≡ rest / j.prob * 256 + rest % j.prob + j.cum →
-    pushed 16 256 i (record { number = number; bytes = bytes }) ≡ record { number = result; bytes = out }
-unfolding pushed
+    state_pushed 16 256 i (record { number = number; bytes = bytes }) ≡ record { number = result; bytes = out }
+unfolding state_pushed
 pushed-is number rest result i j bytes out same e f = rw (same, e, f) refl

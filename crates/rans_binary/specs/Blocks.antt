@@ -9,20 +9,20 @@ use Rattle.drc_bits.specs.Reading.{Reading, Item, must, fault_at, bytes_at}
 use Rattle.drc_bits.specs.Numbers.{number_at}
 use Rattle.drc_bits.specs.Spells.{Spells}
 use Rattle.drc_bits.specs.Varint.{var32_at, spelling}
-use Rattle.rans_core.specs.Coder.{Interval, State, Pulled, pulled, refilled, started, all_spelled}
+use Rattle.rans_core.specs.Coder.{Interval, CoderState, Pulled, pulled, refilled, started, all_spelled}
 
 -- a block between two bits: how many of the 256 slots are ones, and the coder's state
 pub record Block : Type 0 where
   pub ones : ℕ
-  pub state : State
+  pub state : CoderState
 
 -- the slots of a bit
-abbrev pub interval_of : ℕ → Bool → Interval
-interval_of ones true = record { cum = 0; prob = ones }
-interval_of ones false = record { cum = ones; prob = 256 - ones }
+abbrev pub bit_interval : ℕ → Bool → Interval
+bit_interval ones true = record { cum = 0; prob = ones }
+bit_interval ones false = record { cum = ones; prob = 256 - ones }
 
 -- the state after its refill: its number is at least 4096, where bytes are left for that
-abbrev pub refilled_block : Block → State
+abbrev pub refilled_block : Block → CoderState
 refilled_block b = refilled 4096 b.state.number b.state.bytes
 
 -- the next bit: whether the slot is one of the ones
@@ -31,7 +31,7 @@ next_bit b = nat_lt ((refilled_block b).number % 256) b.ones
 
 -- the block after the next bit
 abbrev pub after_bit : Block → Block
-after_bit b = record { ones = b.ones; state = pulled 256 (interval_of b.ones (next_bit b)) (refilled_block b) }
+after_bit b = record { ones = b.ones; state = pulled 256 (bit_interval b.ones (next_bit b)) (refilled_block b) }
 
 -- the next n bits
 abbrev pub first_bits : ℕ → Block → List Bool
@@ -49,16 +49,16 @@ bit_of b k = next_bit (behind k b)
 
 -- the bits are pulled one after another
 abbrev pub BitsPulled : Block → List Bool → Type 0
-BitsPulled b bits = Pulled 16 256 b.state (map (interval_of b.ones) bits)
+BitsPulled b bits = Pulled 16 256 b.state (map (bit_interval b.ones) bits)
 
 -- the block that starts with this state, or BadStart where its coded bytes begin; its other end is where they end
-abbrev pub block_from : ℕ → Reading → Reading → Option State → Item Block
+abbrev pub block_from : ℕ → Reading → Reading → Option CoderState → Item Block
 block_from none begin end (Some s) = Ok (record { ones = 256 - none; state = s }, end)
 block_from none begin end None = fault_at kind.BadStart begin
 
 -- a block at the beginning: how many slots are zeros, the size of its bytes, and the bytes
-unfoldable pub block_at : Reading → Item Block
-block_at c = do
+unfoldable pub bit_block_at : Reading → Item Block
+bit_block_at c = do
   zeros ← must kind.BadProb (λ n. nat_lt 0 n) (number_at 1) c
   size ← var32_at zeros.1
   coded ← bytes_at size.0 size.1
@@ -70,7 +70,7 @@ zeros_for bits = let n = max 1 (length bits) in max 1 (min 255 ((256 * count_by 
 
 -- the coded bytes of bits, the last one pushed first
 abbrev pub coded_bits : ℕ → List Bool → List ℕ
-coded_bits zeros bits = all_spelled 16 256 (map (interval_of (256 - zeros)) bits)
+coded_bits zeros bits = all_spelled 16 256 (map (bit_interval (256 - zeros)) bits)
 
 -- the bytes of a block of bits
 unfoldable pub block : List Bool → List ℕ
@@ -80,7 +80,7 @@ block bits = let coded = coded_bits (zeros_for bits) bits in zeros_for bits ∷ 
 -- first bits are these
 pub record IsBlockOf (bits : List Bool) (bytes : List ℕ) : Type 0 where
   pub start : Block
-  pub spells : Spells block_at bytes start
+  pub spells : Spells bit_block_at bytes start
   pub pulls : BitsPulled start bits
   pub first : first_bits (length bits) start ≡ bits
   pub numbered : (k : ℕ) → k < length bits → slice_get bits k ≡ Some (bit_of start k)

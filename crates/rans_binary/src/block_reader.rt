@@ -2,8 +2,8 @@
 
 ghost use Rattle.std.specs.Prelude.{◌≡◌, ℕ, ◌+◌, ◌-◌, ◌*◌, ◌/◌, ◌%◌, ◌^◌, ◌<◌, ◌≤◌, ◌↔◌, IsTrue, length};
 ghost use Rattle.drc_bits.specs.Reading.{Takes};
-ghost use Rattle.rans_core.specs.Coder.{State, refilled, unread};
-ghost use Rattle.rans_binary.specs.Blocks.{Block, after_bit, block_at, next_bit};
+ghost use Rattle.rans_core.specs.Coder.{CoderState, refilled, unread};
+ghost use Rattle.rans_binary.specs.Blocks.{Block, after_bit, bit_block_at, next_bit};
 
 use drc_base::{Fault, Kind};
 use drc_bits::Cursor;
@@ -78,9 +78,9 @@ impl<'a> BitBlock<'a> {
     /// Reads a block at the cursor, its bits not yet. `BadProb` where a zero has no slot, `Short` and
     /// `Long` of the size, `Short` of the coded bytes, and `BadStart` at the first of them where they
     /// hold no first state; the cursor then stays. It takes no memory.
-    #[tactic(auto, unfolding(crate::specs::Blocks::block_at))]
+    #[tactic(auto, unfolding(crate::specs::Blocks::bit_block_at))]
     pub fn read(c: &mut Cursor<'a>) -> Result<BitBlock<'a>, Fault>
-        ensures { Takes (λ b. b) (block_at c.old) c.old c.new result }
+        ensures { Takes (λ b. b) (bit_block_at c.old) c.old c.new result }
     {
         let mut ahead = c.copy();
         let bad_prob = ahead.fault(Kind::BadProb);

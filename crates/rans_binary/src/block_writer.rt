@@ -1,8 +1,8 @@
 //! Writing a block.
 
 ghost use Rattle.std.specs.Prelude.{◌≡◌, ℕ, ◌+◌, ◌-◌, ◌*◌, ◌/◌, ◌%◌, ◌^◌, ◌<◌, ◌≤◌, List, Bool, [], ◌∷◌, ◌++◌, length, drop, map, not, count_by, reverse, if◌then◌else◌, IfOk, OnOk, OnErr, vec_len};
-ghost use Rattle.rans_core.specs.Coder.{State, all_pushed, drained, pushed};
-ghost use Rattle.rans_binary.specs.Blocks.{IsBlockOf, block, coded_bits, interval_of, zeros_for};
+ghost use Rattle.rans_core.specs.Coder.{CoderState, all_pushed, drained, state_pushed};
+ghost use Rattle.rans_binary.specs.Blocks.{IsBlockOf, block, coded_bits, bit_interval, zeros_for};
 
 use drc_base::Memory;
 use drc_bits::put_var32;
@@ -102,7 +102,7 @@ fn number_with(rest: u32, slots: Slots) -> u32
 fn push_bit(out: &mut Vec<u8>, number: u32, slots: Slots) -> Result<u32, Memory>
     requires above { 4096 ≤ number }
     requires below { number < 2 ^ 20 }
-    ensures pushed { IfOk result (λ n. pushed 16 256 (record { cum = slots.below; prob = slots.count }) (record { number = number; bytes = reverse out.old.items })
+    ensures pushed { IfOk result (λ n. state_pushed 16 256 (record { cum = slots.below; prob = slots.count }) (record { number = number; bytes = reverse out.old.items })
         ≡ record { number = n; bytes = reverse out.new.items }) }
     ensures above { IfOk result (λ n. 4096 ≤ n) }
     ensures below { IfOk result (λ n. n < 2 ^ 20) }

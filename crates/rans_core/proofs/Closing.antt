@@ -2,17 +2,17 @@
 use Rattle.std.proofs.Common.{◌≡◌, ℕ, ◌+◌, ◌-◌, ◌*◌, ◌/◌, ◌%◌, ◌^◌, ◌<◌, ◌≤◌, nat_lt, List, [], ◌∷◌, ◌++◌, reverse, ◌⊎◌, Option, Some, refl, ap, ◌∙◌, inl, inr, arith, ltb-true, ltb-false, lt-ltb, add-one, All, pow_mono, pow_pos}
 use Rattle.std.proofs.lemmas.Bool.{cases_Bool, cond-true, cond-false}
 use Rattle.std.proofs.lemmas.List.{reverse-append, reverse-reverse, append_assoc}
-use Rattle.rans_core.specs.Coder.{Fits, Interval, Unpacks, all_pushed, all_spelled, State, low_bytes, end_bytes, spelled, joined, started_back, started}
+use Rattle.rans_core.specs.Coder.{Fits, Interval, Unpacks, all_pushed, all_spelled, CoderState, low_bytes, end_bytes, spelled, joined_number, started_back, started}
 use Rattle.rans_core.proofs.Pulling.{IsFull, all_pushed-Pulled}
 
 -- the first state, from the parts of the last byte and the joined number
 pub started_back-at : (tags base n more high last : ℕ) (before bytes : List ℕ) → more < tags → last / 64 ≡ more → last % 64 ≡ high →
-    joined more high before ≡ Some (record { number = n; bytes = bytes }) → base + n < 256 * base →
+    joined_number more high before ≡ Some (record { number = n; bytes = bytes }) → base + n < 256 * base →
     started_back tags base (last ∷ before) ≡ Some (record { number = base + n; bytes = bytes })
 started_back-at tags base n more high last before bytes t q r j b =
     rw (q, r) (rw j (cond-true _ _ _ (lt-ltb more tags t) ∙ cond-true _ _ _ (lt-ltb (base + n) (256 * base) b)))
 
-abbrev first : List ℕ → ℕ → Option State
+abbrev first : List ℕ → ℕ → Option CoderState
 first bytes n = Some (record { number = n; bytes = bytes })
 
 number_is : (bytes : List ℕ) (m n : ℕ) → m ≡ n → first bytes m ≡ first bytes n
@@ -64,7 +64,7 @@ started_back-end tags base n bytes t h b =
     ]
 
 -- a full state's bytes start with that state
-pub started-spelled : (tags base : ℕ) (s : State) → 2 < tags → (255 * base ≤ 2 ^ 22) ⊎ ((3 < tags) × (255 * base ≤ 2 ^ 30)) → IsFull base s →
+pub started-spelled : (tags base : ℕ) (s : CoderState) → 2 < tags → (255 * base ≤ 2 ^ 22) ⊎ ((3 < tags) × (255 * base ≤ 2 ^ 30)) → IsFull base s →
     started tags base (spelled base s) ≡ Some s
 started-spelled tags base s t room full =
     let n : ℕ = s.number - base in
@@ -89,5 +89,5 @@ all_spelled-Unpacks bits is high fits =
     let most : 2 ^ bits ≤ 2 ^ 20 = pow_mono {i = bits} {j = 20} high in
     let least : 1 ≤ 2 ^ bits = pow_pos bits in
     let both = all_pushed-Pulled 4 (2 ^ bits) is (omega arith) least (omega arith) fits in
-    let s : State = all_pushed 4 (2 ^ bits) is in
+    let s : CoderState = all_pushed 4 (2 ^ bits) is in
     (s, started-spelled 4 (4 * 2 ^ bits) s (omega arith) (inr (omega arith, omega arith)) both.0, both.1)

@@ -2,7 +2,7 @@
 use Rattle.std.proofs.Common.{◌≡◌, ℕ, zero, suc, ◌+◌, ◌*◌, ◌/◌, ◌%◌, ◌^◌, ◌<◌, ◌≤◌, List, [], ◌∷◌, ◌++◌, reverse, sym, refl, ap, ◌∙◌, arith, add-one, lt-ltb, le-ltb}
 use Rattle.std.proofs.lemmas.Bool.{cond-true, cond-false}
 use Rattle.std.proofs.lemmas.List.{reverse-append}
-use Rattle.rans_core.specs.Coder.{Coder, State, drained, pushed}
+use Rattle.rans_core.specs.Coder.{Coder, CoderState, drained, state_pushed}
 use Rattle.rans_core.proofs.Pulling.{drained-below, drained-above}
 
 -- nothing is emitted below the limit
@@ -27,7 +27,7 @@ drained-step times times' limit number b xs ys h t e p =
 pub drained-fits : (low number rest : ℕ) (bytes out : List ℕ) → 1 ≤ low → low ≤ number → number < 2 ^ 32 →
     drained 4 (256 * low) number bytes ≡ record { number = rest; bytes = out } → (low ≤ rest) × (rest < 256 * low)
 drained-fits low number rest bytes out one above below e =
-    let n : (drained 4 (256 * low) number bytes).number ≡ rest = ap (λ (s : State). s.number) e in
+    let n : (drained 4 (256 * low) number bytes).number ≡ rest = ap (λ (s : CoderState). s.number) e in
     let a : low ≤ (drained 4 (256 * low) number bytes).number = drained-above low (256 * low) 4 number bytes refl above in
     let b : (drained 4 (256 * low) number bytes).number < 256 * low = drained-below (256 * low) 4 number bytes (omega arith) in
     (omega (arith, a, n), omega (arith, b, n))
@@ -35,7 +35,7 @@ drained-fits low number rest bytes out one above below e =
 -- what the code does at a push is the push rule
 pub pushed-is : (bits number rest result cum prob : ℕ) (bytes out : List ℕ) →
     drained 4 (256 * (4 * prob)) number bytes ≡ record { number = rest; bytes = out } → result ≡ rest / prob * 2 ^ bits + rest % prob + cum →
-    (let s : State = pushed 4 (2 ^ bits) (record { cum = cum; prob = prob }) (record { number = number; bytes = bytes }) in
+    (let s : CoderState = state_pushed 4 (2 ^ bits) (record { cum = cum; prob = prob }) (record { number = number; bytes = bytes }) in
     let c : Coder = record { bits = bits; state = record { number = result; bytes = out } } in c ≡ record { bits = bits; state = s })
-unfolding pushed
+unfolding state_pushed
 pushed-is bits number rest result cum prob bytes out e f = rw (e, f) refl

@@ -1,6 +1,6 @@
 -- Worked examples, computed.
 use Rattle.std.proofs.Common.{◌≡◌, [], ◌∷◌, Some, None, refl}
-use Rattle.rans_core.specs.Coder.{Interval, all_spelled, drained, end_bytes, pushed, started}
+use Rattle.rans_core.specs.Coder.{Interval, all_spelled, drained, end_bytes, state_pushed, started}
 
 -- of 4096 slots the first 3072 and the other 1024
 low : Interval
@@ -11,7 +11,7 @@ high = record { cum = 3072; prob = 1024 }
 
 -- low high low low, from the coded bytes of the symbols 0 1 0 0
 four : all_spelled 4 4096 (low ∷ high ∷ low ∷ low ∷ []) ≡ 0 ∷ 36 ∷ 130 ∷ []
-unfolding low high drained end_bytes pushed
+unfolding low high drained end_bytes state_pushed
 four = refl
 
 -- nothing is coded as the byte 0

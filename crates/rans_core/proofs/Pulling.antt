@@ -3,7 +3,7 @@ use Rattle.std.proofs.Common.{◌≡◌, ℕ, zero, suc, ◌+◌, ◌-◌, ◌*�
 use Rattle.std.proofs.lemmas.Nat.{div-mul-add, mod-mul-add, le-div, div_below}
 use Rattle.std.proofs.lemmas.Bool.{cases_Bool, cond-true, cond-false}
 use Rattle.std.proofs.lemmas.List.Elements.{All-head, All-tail}
-use Rattle.rans_core.specs.Coder.{Interval, State, HasSlot, Fits, refilled, pulled, Pulled, drained, pushed, all_pushed}
+use Rattle.rans_core.specs.Coder.{Interval, CoderState, HasSlot, Fits, refilled, pulled, Pulled, drained, state_pushed, all_pushed}
 
 -- a number at the base or above needs no byte
 pub refilled-full : (base number : ℕ) (bytes : List ℕ) → base ≤ number → refilled base number bytes ≡ record { number = number; bytes = bytes }
@@ -48,7 +48,7 @@ drained-above low limit (suc times) number bytes l h =
     ]
 
 -- a coder's numbers after a push: not below the base, and below 256 bases
-pub record IsFull (base : ℕ) (s : State) : Type 0 where
+pub record IsFull (base : ℕ) (s : CoderState) : Type 0 where
   pub above : base ≤ s.number
   pub below : s.number < 256 * base
 
@@ -77,16 +77,16 @@ wide_enough scale total (suc prob) one small =
     omega arith
 
 -- one push: the state stays full, shows the interval's slot, and the pull gives what a refill takes back to the state before
-pub record IsPush (scale total : ℕ) (i : Interval) (s t : State) : Type 0 where
+pub record IsPush (scale total : ℕ) (i : Interval) (s t : CoderState) : Type 0 where
   pub full : IsFull (scale * total) t
   pub shown : HasSlot i (t.number % total)
   pub back : (let u = pulled total i t in refilled (scale * total) u.number u.bytes) ≡ s
 
-pub pushed-IsPush : (scale total : ℕ) (i : Interval) (s : State) → 0 < scale → total ≤ 2 ^ 32 → Fits total i → IsFull (scale * total) s →
-    IsPush scale total i s (pushed scale total i s)
-unfolding pushed
+pub pushed-IsPush : (scale total : ℕ) (i : Interval) (s : CoderState) → 0 < scale → total ≤ 2 ^ 32 → Fits total i → IsFull (scale * total) s →
+    IsPush scale total i s (state_pushed scale total i s)
+unfolding state_pushed
 pushed-IsPush scale total i s positive small fits full =
-    let t : State = drained 4 (256 * (scale * i.prob)) s.number s.bytes in
+    let t : CoderState = drained 4 (256 * (scale * i.prob)) s.number s.bytes in
     let narrow : i.prob ≤ total = omega arith in
     let room : scale * i.prob ≤ scale * total = mul-le-mul_left scale narrow in
     let one : 1 ≤ scale * i.prob = mul-pos positive fits.0 in
@@ -113,7 +113,7 @@ pushed-IsPush scale total i s positive small fits full =
     }
 
 -- a refilled state can stand for what it was refilled from
-pub Pulled-refilled : (scale total : ℕ) (s t : State) (is : List Interval) → IsFull (scale * total) t →
+pub Pulled-refilled : (scale total : ℕ) (s t : CoderState) (is : List Interval) → IsFull (scale * total) t →
     refilled (scale * total) s.number s.bytes ≡ t → Pulled scale total t is → Pulled scale total s is
 Pulled-refilled scale total s t [] full e h = tt
 Pulled-refilled scale total s t (i ∷ is) full e h =
@@ -130,6 +130,6 @@ all_pushed-Pulled scale total [] positive some small fits =
 all_pushed-Pulled scale total (i ∷ is) positive some small fits =
     let before = all_pushed-Pulled scale total is positive some small (All-tail (Fits total) i is fits) in
     let push = pushed-IsPush scale total i (all_pushed scale total is) positive small (All-head (Fits total) i is fits) before.0 in
-    let t : State = pushed scale total i (all_pushed scale total is) in
+    let t : CoderState = state_pushed scale total i (all_pushed scale total is) in
     let full : refilled (scale * total) t.number t.bytes ≡ t = refilled-full (scale * total) t.number t.bytes push.full.above in
     (push.full, rw full (push.shown, Pulled-refilled scale total (pulled total i t) (all_pushed scale total is) is before.0 push.back before.1))

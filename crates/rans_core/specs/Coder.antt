@@ -10,14 +10,14 @@ pub record Interval : Type 0 where
   pub prob : ℕ
 
 -- the number, and the bytes that were emitted and aren't read back yet, the last one emitted first
-pub record State : Type 0 where
+pub record CoderState : Type 0 where
   pub number : ℕ
   pub bytes : List ℕ
 
 -- a coder for symbols: its precision in bits and its state
 pub record Coder : Type 0 where
   pub bits : ℕ
-  pub state : State
+  pub state : CoderState
 
 -- a slot lies in an interval
 abbrev pub HasSlot : Interval → ℕ → Type 0
@@ -30,17 +30,17 @@ Fits total i = (0 < i.prob) × (i.cum + i.prob ≤ total)
 -- ---- pulling
 
 -- while the number is below the base and bytes are left, the next byte is its new low byte
-abbrev pub refilled : ℕ → ℕ → List ℕ → State
+abbrev pub refilled : ℕ → ℕ → List ℕ → CoderState
 refilled base number [] = record { number = number; bytes = [] }
 refilled base number (b ∷ bytes) = if nat_lt number base then refilled base (256 * number + b) bytes
     else record { number = number; bytes = b ∷ bytes }
 
 -- the state after the pull of a symbol with this interval, from a refilled state
-abbrev pub pulled : ℕ → Interval → State → State
+abbrev pub pulled : ℕ → Interval → CoderState → CoderState
 pulled total i s = record { number = s.number / total * i.prob + s.number % total - i.cum; bytes = s.bytes }
 
 -- the intervals are pulled one after another: each has the slot that the refilled state shows
-abbrev pub Pulled : ℕ → ℕ → State → List Interval → Type 0
+abbrev pub Pulled : ℕ → ℕ → CoderState → List Interval → Type 0
 Pulled scale total s [] = Unit {0}
 Pulled scale total s (i ∷ is) = let t = refilled (scale * total) s.number s.bytes in
     HasSlot i (t.number % total) × Pulled scale total (pulled total i t) is
@@ -48,20 +48,20 @@ Pulled scale total s (i ∷ is) = let t = refilled (scale * total) s.number s.by
 -- ---- pushing
 
 -- while the number is at least the limit, its low byte is emitted; at most so many times
-unfoldable pub drained : ℕ → ℕ → ℕ → List ℕ → State
+unfoldable pub drained : ℕ → ℕ → ℕ → List ℕ → CoderState
 drained zero limit number bytes = record { number = number; bytes = bytes }
 drained (suc times) limit number bytes = if nat_lt number limit then record { number = number; bytes = bytes }
     else drained times limit (number / 256) (number % 256 ∷ bytes)
 
 -- the state after the push of a symbol with this interval; four bytes are enough for a number below 2 ^ 32
-unfoldable pub pushed : ℕ → ℕ → Interval → State → State
-pushed scale total i s = let t = drained 4 (256 * (scale * i.prob)) s.number s.bytes in
+unfoldable pub state_pushed : ℕ → ℕ → Interval → CoderState → CoderState
+state_pushed scale total i s = let t = drained 4 (256 * (scale * i.prob)) s.number s.bytes in
     record { number = t.number / i.prob * total + t.number % i.prob + i.cum; bytes = t.bytes }
 
 -- the state after all pushes, the last interval pushed first
-abbrev pub all_pushed : ℕ → ℕ → List Interval → State
+abbrev pub all_pushed : ℕ → ℕ → List Interval → CoderState
 all_pushed scale total [] = record { number = scale * total; bytes = [] }
-all_pushed scale total (i ∷ is) = pushed scale total i (all_pushed scale total is)
+all_pushed scale total (i ∷ is) = state_pushed scale total i (all_pushed scale total is)
 
 -- ---- the ends
 
@@ -78,7 +78,7 @@ end_bytes n = if nat_lt n (2 ^ 6) then low_bytes 1 n
     else low_bytes 4 (n + 3 * 2 ^ 30)))
 
 -- all bytes of a coder in their order: the first emitted first, then the end
-abbrev pub spelled : ℕ → State → List ℕ
+abbrev pub spelled : ℕ → CoderState → List ℕ
 spelled base s = reverse s.bytes ++ end_bytes (s.number - base)
 
 -- the bytes that the push rule gives for the intervals, the last one pushed first
@@ -86,23 +86,23 @@ abbrev pub all_spelled : ℕ → ℕ → List Interval → List ℕ
 all_spelled scale total is = spelled (scale * total) (all_pushed scale total is)
 
 -- a number whose further bytes stand behind it, the next lower first
-abbrev pub joined : ℕ → ℕ → List ℕ → Option State
-joined zero number bytes = Some (record { number = number; bytes = bytes })
-joined (suc n) number [] = None
-joined (suc n) number (b ∷ bytes) = joined n (256 * number + b) bytes
+abbrev pub joined_number : ℕ → ℕ → List ℕ → Option CoderState
+joined_number zero number bytes = Some (record { number = number; bytes = bytes })
+joined_number (suc n) number [] = None
+joined_number (suc n) number (b ∷ bytes) = joined_number n (256 * number + b) bytes
 
 -- the first state, where it is below 256 bases
-abbrev pub raised : ℕ → State → Option State
-raised base s = if nat_lt (base + s.number) (256 * base) then Some (record { number = base + s.number; bytes = s.bytes }) else None
+abbrev pub state_raised : ℕ → CoderState → Option CoderState
+state_raised base s = if nat_lt (base + s.number) (256 * base) then Some (record { number = base + s.number; bytes = s.bytes }) else None
 
 -- the first state from the bytes, the last one first; None where it is bad or the tag isn't below `tags`
-abbrev pub started_back : ℕ → ℕ → List ℕ → Option State
+abbrev pub started_back : ℕ → ℕ → List ℕ → Option CoderState
 started_back tags base [] = None
 started_back tags base (last ∷ before) =
-    if nat_lt (last / 64) tags then option_and_then (raised base) (joined (last / 64) (last % 64) before) else None
+    if nat_lt (last / 64) tags then option_and_then (state_raised base) (joined_number (last / 64) (last % 64) before) else None
 
 -- the first state of a coder's bytes in their order
-abbrev pub started : ℕ → ℕ → List ℕ → Option State
+abbrev pub started : ℕ → ℕ → List ℕ → Option CoderState
 started tags base bytes = started_back tags base (reverse bytes)
 
 -- the bytes below a place, the last one first
@@ -115,4 +115,4 @@ refilled_coder c = record { bits = c.bits; state = refilled (4 * 2 ^ c.bits) c.s
 
 -- the bytes start without a fault, and the intervals are pulled from there in this order
 abbrev pub Unpacks : ℕ → ℕ → List ℕ → List Interval → Type 0
-Unpacks scale total bytes is = (s : State) × (started 4 (scale * total) bytes ≡ Some s) × Pulled scale total s is
+Unpacks scale total bytes is = (s : CoderState) × (started 4 (scale * total) bytes ≡ Some s) × Pulled scale total s is

@@ -1,7 +1,7 @@
 //! Pushing: symbols into a coder's bytes, the last symbol first.
 
 ghost use Rattle.std.specs.Prelude.{◌≡◌, ℕ, ◌+◌, ◌-◌, ◌*◌, ◌^◌, ◌<◌, ◌≤◌, List, [], reverse, IfOk, OnOk, OnErr, All, vec_len, vec_capacity};
-ghost use Rattle.rans_core.specs.Coder.{Coder, Fits, Interval, State, Unpacks, all_pushed, all_spelled, drained, pushed, spelled};
+ghost use Rattle.rans_core.specs.Coder.{Coder, Fits, Interval, CoderState, Unpacks, all_pushed, all_spelled, drained, state_pushed, spelled};
 
 use crate::ends::end_bytes;
 use crate::slots::{number_with, slots_of};
@@ -70,12 +70,12 @@ impl Encoder {
         }
     }
 
-    /// Pushes a symbol: `cum` slots lie below its interval, `prob` slots in it. Want of memory leaves
-    /// the encoder as it was.
+    /// Pushes a symbol: `cum` slots lie below its interval, `prob` slots in it. If memory runs out,
+    /// the encoder stays as it was.
     pub fn push(&mut self, cum: u32, prob: u32) -> Result<(), Memory>
         requires some { 0 < prob }
         requires within { cum + prob ≤ 2 ^ self.old.bits }
-        ensures ok { OnOk result (self.new ≡ record { bits = self.old.bits; state = pushed 4 (2 ^ self.old.bits) (record { cum = cum; prob = prob }) self.old.state }) }
+        ensures ok { OnOk result (self.new ≡ record { bits = self.old.bits; state = state_pushed 4 (2 ^ self.old.bits) (record { cum = cum; prob = prob }) self.old.state }) }
         ensures err { OnErr result (self.new ≡ self.old) }
     {
         self.bytes.reserve(4)?;

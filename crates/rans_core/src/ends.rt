@@ -1,7 +1,7 @@
 //! The two ends of a coder's bytes, and the refill between two symbols.
 
 ghost use Rattle.std.specs.Prelude.{◌≡◌, ℕ, ◌+◌, ◌*◌, ◌^◌, ◌<◌, ◌≤◌, length, IfSome, MatchOption, Some, None};
-ghost use Rattle.rans_core.specs.Coder.{State, end_bytes, low_bytes, joined, refilled, started, unread};
+ghost use Rattle.rans_core.specs.Coder.{CoderState, end_bytes, low_bytes, joined_number, refilled, started, unread};
 
 use arrayvec::ArrayVec;
 
@@ -11,8 +11,8 @@ fn join_bytes(bytes: &[u8], left: usize, more: usize, high: u32) -> Option<(u32,
     requires left { left ≤ length bytes.now }
     requires more { more ≤ 3 }
     requires high { high < 64 }
-    ensures joins { MatchOption result (joined more high (unread bytes.now left) ≡ None)
-        (λ r. joined more high (unread bytes.now left) ≡ Some (record { number = r.0; bytes = unread bytes.now r.1 })) }
+    ensures joins { MatchOption result (joined_number more high (unread bytes.now left) ≡ None)
+        (λ r. joined_number more high (unread bytes.now left) ≡ Some (record { number = r.0; bytes = unread bytes.now r.1 })) }
     ensures bounds { IfSome result (λ r. (r.0 < 2 ^ 30) × (r.1 ≤ left)) }
 {
     if left < more {

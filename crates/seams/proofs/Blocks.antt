@@ -1,4 +1,4 @@
--- Bits that were made of flags tell these flags.
+-- Bits that were made of flags give these flags.
 use Rattle.std.proofs.Common.{◌≡◌, ℕ, zero, suc, ◌+◌, ◌*◌, ◌<◌, Bool, true, false, cond, List, [], ◌∷◌, ◌++◌, map, length, get_or, set, take, inl, inr, refl, ap, sym, ◌∙◌, arith}
 use Rattle.std.proofs.lemmas.Bool.{cases_Bool, cond-true, cond-false}
 use Rattle.std.proofs.lemmas.List.{get_or-map, length-append, map-append, take-set, take_more_set}
@@ -9,7 +9,7 @@ use Rattle.corner_table.proofs.Numbers.{number-side_at}
 use Rattle.corner_table.proofs.Places.{option_tells}
 use Rattle.seams.specs.Seams.{flag_at}
 use Rattle.corner_table.specs.Pairs.{has_bit, bit_sides}
-use Rattle.seams.specs.SeamBits.{place_in, told}
+use Rattle.seams.specs.SeamBits.{place_in, flag_of_bits}
 use Rattle.seams.specs.Pairs.{bit_sides_below}
 use Rattle.seams.specs.Laws.{BitsTellFlags, BlockTellsFlags}
 use Rattle.seams.proofs.Listing.{listed-is}
@@ -17,14 +17,14 @@ use Rattle.seams.proofs.Bits.{one_has, side_stands, place_is, bits_are, below_mo
 use Rattle.seams.proofs.Telling.{of_one, of_other, of_free}
 
 pub bits_tell_flags : BitsTellFlags
-bits_tell_flags faces g flags bits G A same = sym (listed-is faces flags (told faces g bits) A.each_side each)
+bits_tell_flags faces g flags bits G A same = sym (listed-is faces flags (flag_of_bits faces g bits) A.each_side each)
   where
     at_place : (x : Side) → x.face < faces → has_bit g x ≡ true → bits (place_in (bit_sides faces g) x) ≡ flag_at flags x
     at_place x h t =
         let s = side_stands faces g x x h t in
         same (place_in (bit_sides faces g) x) s.0 ∙ get_or-map (flag_at flags) (bit_sides faces g) (place_in (bit_sides faces g) x) x false s.0 ∙ ap (flag_at flags) s.1
 
-    each : (x : Side) → x.face < faces → flag_at flags x ≡ told faces g bits x
+    each : (x : Side) → x.face < faces → flag_at flags x ≡ flag_of_bits faces g bits x
     each x h = elim (option_tells (g x)) [
       | inl e ↦ A.boundary x h e ∙ sym (of_free (λ z. bits (place_in (bit_sides faces g) z)) g x e)
       | inr y ↦ elim (one_has G x y.0 y.1) [

@@ -5,7 +5,7 @@ use Rattle.std.proofs.lemmas.Bool.{cases_Bool, cond-true, cond-false}
 use Rattle.corner_table.specs.Sides.{Side, next, prev, Gluing}
 use Rattle.corner_table.specs.Fans.{swing_left, swing_right, InFan, here, leftwards, rightwards, MeetsBoundary}
 use Rattle.corner_table.proofs.Places.{option_tells}
-use Rattle.seams.specs.Seams.{flag_at, listed, unseamed}
+use Rattle.seams.specs.Seams.{flag_at, flags_listed, unseamed}
 use Rattle.seams.specs.Classes.{InClass, itself, over_next, over_prev, IsEnd, MeetsEnd}
 use Rattle.seams.specs.Laws.{ClassIsFan, ClassEnds, ClassInFan, UncutIsFan, CutIsGluing, ListCutsAlike}
 use Rattle.seams.proofs.Listing.{flag_at-listed}
@@ -102,7 +102,7 @@ class_ends flags g c = (ends_boundary flags g c, boundary_ends flags g c)
 -- a list of flags cuts as what it was made of does
 pub list_cuts_alike : ListCutsAlike
 list_cuts_alike faces g flags G = fun_ext (λ x. elim (option_tells (g x)) [
-  | inl e ↦ nothing (flag_at (listed faces flags) x) (flags x) (g x) e
+  | inl e ↦ nothing (flag_at (flags_listed faces flags) x) (flags x) (g x) e
   | inr y ↦ ap (λ b. cond b None (g x)) (flag_at-listed faces flags x (G.within x y.0 y.1))
 ])
   where

@@ -1,10 +1,10 @@
--- Two faces with one pair, and a fan of four faces round a point: their bits, what these tell, and the classes round the point.
+-- Two faces with one pair, and a fan of four faces round a point: their bits, the flags that these give, and the classes round the point.
 use Rattle.std.proofs.Common.{◌≡◌, Bool, true, false, List, [], ◌∷◌, get_or, refl}
 use Rattle.corner_table.specs.Sides.{first, second, third, side, Gluing, unglued, glue}
 use Rattle.corner_table.specs.Fans.{corners_of, meets, walks_left, walks_right}
-use Rattle.seams.specs.Seams.{flag_at, listed, unseamed}
+use Rattle.seams.specs.Seams.{flag_at, flags_listed, unseamed}
 use Rattle.corner_table.specs.Pairs.{bit_sides}
-use Rattle.seams.specs.SeamBits.{seam_bits, told}
+use Rattle.seams.specs.SeamBits.{seam_bits, flag_of_bits}
 
 abbrev two : Gluing
 two = glue (side 0 first) (side 1 third) unglued
@@ -13,11 +13,11 @@ two_bits : bit_sides 2 two ≡ side 0 first ∷ []
 unfolding corners_of
 two_bits = refl
 
-two_seam : listed 2 (told 2 two (λ k. true)) ≡ true ∷ true ∷ true ∷ true ∷ true ∷ true ∷ []
+two_seam : flags_listed 2 (flag_of_bits 2 two (λ k. true)) ≡ true ∷ true ∷ true ∷ true ∷ true ∷ true ∷ []
 unfolding corners_of
 two_seam = refl
 
-two_uncut : listed 2 (told 2 two (λ k. false)) ≡ false ∷ true ∷ true ∷ true ∷ true ∷ false ∷ []
+two_uncut : flags_listed 2 (flag_of_bits 2 two (λ k. false)) ≡ false ∷ true ∷ true ∷ true ∷ true ∷ false ∷ []
 unfolding corners_of
 two_uncut = refl
 
@@ -31,7 +31,7 @@ fan_bits = refl
 abbrev halves : List Bool
 halves = true ∷ false ∷ true ∷ true ∷ true ∷ false ∷ true ∷ false ∷ true ∷ true ∷ true ∷ false ∷ []
 
-fan_told : listed 4 (told 4 fan (λ k. get_or (false ∷ true ∷ true ∷ false ∷ []) k false)) ≡ halves
+fan_told : flags_listed 4 (flag_of_bits 4 fan (λ k. get_or (false ∷ true ∷ true ∷ false ∷ []) k false)) ≡ halves
 unfolding corners_of
 fan_told = refl
 

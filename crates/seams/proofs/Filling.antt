@@ -7,7 +7,7 @@ use Rattle.std.proofs.Math.Seq.{set-append_seam}
 use Rattle.rans_binary.specs.Blocks.{Block, bit_of}
 use Rattle.corner_table.specs.Sides.{Gluing, IsGluing}
 use Rattle.seams.specs.Seams.{AreFlags}
-use Rattle.seams.specs.SeamBits.{flags_of}
+use Rattle.seams.specs.SeamBits.{flags_of_bits}
 use Rattle.seams.proofs.Values.{told_are_flags}
 
 length-front : {B X : Type 0} (F : X → B) (xs : List X) (k : ℕ) → k < length xs → length (map F (take k xs)) ≡ k
@@ -55,7 +55,7 @@ passed_at {X} f xs ys k x h inv e =
     e ∙ ap (λ zs. get_or zs k x) inv ∙ get_or-append_right (map f (take k xs)) (drop k xs) k k x (length-front f xs k h) (omega arith)
     ∙ ap (λ i. get_or (drop k xs) i x) none ∙ get_or-drop k xs 0 x ∙ ap (λ i. get_or xs i x) same
 
--- what blocks tell is flags
-pub all_flags : (faces : ℕ) (g : Gluing) → IsGluing faces g → (blocks : List Block) → All (AreFlags faces g) (map (flags_of faces g) blocks)
+-- what blocks give is flags
+pub all_flags : (faces : ℕ) (g : Gluing) → IsGluing faces g → (blocks : List Block) → All (AreFlags faces g) (map (flags_of_bits faces g) blocks)
 all_flags faces g G [] = All-nil (AreFlags faces g)
-all_flags faces g G (b ∷ blocks) = All-cons (AreFlags faces g) (flags_of faces g b) (map (flags_of faces g) blocks) (told_are_flags faces g (bit_of b) G) (all_flags faces g G blocks)
+all_flags faces g G (b ∷ blocks) = All-cons (AreFlags faces g) (flags_of_bits faces g b) (map (flags_of_bits faces g) blocks) (told_are_flags faces g (bit_of b) G) (all_flags faces g G blocks)

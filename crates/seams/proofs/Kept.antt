@@ -12,7 +12,7 @@ use Rattle.seams.specs.Seams.{AreFlags, flag_at, unseamed}
 use Rattle.seams.specs.Pairs.{TellPairs}
 use Rattle.seams.proofs.Chains.{uncut, cut_is_gluing}
 
--- the entry of no side tells no pair
+-- the entry of no side gives no pair
 no_side : other_at free_entry ≡ None
 no_side = cond-true (eqb free_entry free_entry) None (Some (side_at free_entry)) (eq-eqb free_entry free_entry refl)
 
@@ -20,7 +20,7 @@ no_side = cond-true (eqb free_entry free_entry) None (Some (side_at free_entry))
 flag_number : (flags : List Bool) (n : ℕ) (b : Bool) → get_or flags n true ≡ b → flag_at flags (side_at n) ≡ b
 flag_number flags n b e = ap (λ k. get_or flags k true) (number-side_at n) ∙ e
 
--- the entry of a side that is no seam tells its pair
+-- the entry of a side that is no seam gives its pair
 pub kept_some : (entries : List ℕ) (flags : List Bool) (n : ℕ) → n < length entries → get_or flags n true ≡ false → other_at (get_or entries n 0) ≡ unseamed (flag_at flags) (glued_in entries) (side_at n)
 kept_some entries flags n below h =
     ap other_at (sym (ap (λ (k : ℕ). get_or entries k free_entry) (number-side_at n) ∙ get_or_default_zero entries n free_entry below))
@@ -36,7 +36,7 @@ tell_more g n e entries T is = record {
   ];
 }
 
--- all entries tell the surface
+-- all entries give the surface
 pub tell_all : (faces : ℕ) (g : Gluing) (entries : List ℕ) → IsGluing faces g → TellPairs g (3 * faces) entries → glued_in entries ≡ g
 tell_all faces g entries G T = fun_ext (λ x. elim (cases_lt x.face faces) [
   | inl h ↦ T.pairs (number x) (number-lt x faces h) ∙ ap g (side_at-number x)
@@ -46,7 +46,7 @@ tell_all faces g entries G T = fun_ext (λ x. elim (cases_lt x.face faces) [
   ])
 ])
 
--- so the entries that are kept tell the surface that is cut
+-- so the entries that are kept give the surface that is cut
 pub kept_told : (faces : ℕ) (g : Gluing) (flags : List Bool) (entries : List ℕ) → IsGluing faces g → AreFlags faces g flags → TellPairs (unseamed (flag_at flags) g) (3 * faces) entries →
     (glued_in entries ≡ unseamed (flag_at flags) g) × IsGluing faces (glued_in entries)
 kept_told faces g flags entries G A T =

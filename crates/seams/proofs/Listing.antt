@@ -6,7 +6,7 @@ use Rattle.std.proofs.lemmas.List.FromFn.{map-range_with_len_more, get_or-map-ra
 use Rattle.corner_table.specs.Sides.{Side, first, second, third, side, number, side_at}
 use Rattle.corner_table.specs.Fans.{corners_of}
 use Rattle.corner_table.proofs.Numbers.{side_at-number, number-side_at, number-lt, face-lt}
-use Rattle.seams.specs.Seams.{flag_at, listed}
+use Rattle.seams.specs.Seams.{flag_at, flags_listed}
 
 -- the sides with the numbers below n
 abbrev pub numbered : ℕ → List Side
@@ -50,10 +50,10 @@ corner_is faces x d h =
     ∙ get_or-map-range_with_len side_at 0 (3 * faces) (number x) (number x) d (number-lt x faces h) (omega arith)
     ∙ side_at-number x
 
-pub length-listed : (faces : ℕ) (flags : Side → Bool) → length (listed faces flags) ≡ 3 * faces
+pub length-listed : (faces : ℕ) (flags : Side → Bool) → length (flags_listed faces flags) ≡ 3 * faces
 length-listed faces flags = length-map (corners_of faces) flags ∙ length-corners faces
 
-pub flag_at-listed : (faces : ℕ) (flags : Side → Bool) (x : Side) → x.face < faces → flag_at (listed faces flags) x ≡ flags x
+pub flag_at-listed : (faces : ℕ) (flags : Side → Bool) (x : Side) → x.face < faces → flag_at (flags_listed faces flags) x ≡ flags x
 flag_at-listed faces flags x h =
     let l = length-corners faces in
     let n = number-lt x faces h in
@@ -61,15 +61,15 @@ flag_at-listed faces flags x h =
     get_or-map flags (corners_of faces) (number x) x true inside ∙ ap flags (corner_is faces x x h)
 
 -- a list that has the flag of each side
-pub listed-is : (faces : ℕ) (given : List Bool) (flags : Side → Bool) → length given ≡ 3 * faces → ((x : Side) → x.face < faces → flag_at given x ≡ flags x) → given ≡ listed faces flags
-listed-is faces given flags long each = ext_get_or true given (listed faces flags) (long ∙ sym (length-listed faces flags)) at
+pub listed-is : (faces : ℕ) (given : List Bool) (flags : Side → Bool) → length given ≡ 3 * faces → ((x : Side) → x.face < faces → flag_at given x ≡ flags x) → given ≡ flags_listed faces flags
+listed-is faces given flags long each = ext_get_or true given (flags_listed faces flags) (long ∙ sym (length-listed faces flags)) at
   where
-    at : (i : ℕ) → i < length given → get_or given i true ≡ get_or (listed faces flags) i true
+    at : (i : ℕ) → i < length given → get_or given i true ≡ get_or (flags_listed faces flags) i true
     at i h =
         let below : i < 3 * faces = omega arith in
         let within = face-lt i faces below in
         let e = number-side_at i in
-        ap (λ n. get_or given n true) (sym e) ∙ each (side_at i) within ∙ sym (flag_at-listed faces flags (side_at i) within) ∙ ap (λ n. get_or (listed faces flags) n true) e
+        ap (λ n. get_or given n true) (sym e) ∙ each (side_at i) within ∙ sym (flag_at-listed faces flags (side_at i) within) ∙ ap (λ n. get_or (flags_listed faces flags) n true) e
 
-pub listed_alike : (faces : ℕ) (one other : Side → Bool) → ((x : Side) → x.face < faces → one x ≡ other x) → listed faces one ≡ listed faces other
-listed_alike faces one other each = listed-is faces (listed faces one) other (length-listed faces one) (λ x h. flag_at-listed faces one x h ∙ each x h)
+pub listed_alike : (faces : ℕ) (one other : Side → Bool) → ((x : Side) → x.face < faces → one x ≡ other x) → flags_listed faces one ≡ flags_listed faces other
+listed_alike faces one other each = listed-is faces (flags_listed faces one) other (length-listed faces one) (λ x h. flag_at-listed faces one x h ∙ each x h)

@@ -5,7 +5,7 @@ use Rattle.std.proofs.lemmas.List.{get_or-set_same, get_or-set_other, length-set
 use Rattle.corner_table.specs.Sides.{Side, number, side_at, Gluing, IsGluing}
 use Rattle.corner_table.proofs.Numbers.{side_at-number, number-side_at, number-lt}
 use Rattle.corner_table.proofs.Places.{option_tells, Some_injective}
-use Rattle.seams.specs.Seams.{flag_at, listed}
+use Rattle.seams.specs.Seams.{flag_at, flags_listed}
 use Rattle.corner_table.specs.Pairs.{has_bit}
 use Rattle.seams.specs.SeamBits.{of_pairs}
 use Rattle.seams.specs.Pairs.{TellsLater, AreToldTo}
@@ -37,7 +37,7 @@ told_none faces g F = record {
 is_number : (n : ℕ) (x : Side) → number x < n + 1 → (number x < n → ⊥) → x ≡ side_at n
 is_number n x h unmet = sym (side_at-number x) ∙ ap side_at (elim (cases_lt (number x) n) [ inl l ↦ absurd (unmet l) | inr l ↦ (let e : number x ≡ n = omega arith in e) ])
 
--- a side that has no bit tells nothing
+-- a side that has no bit sets nothing
 pub told_over : (faces : ℕ) (g : Gluing) (F : Side → Bool) (n : ℕ) (flags : List Bool) → AreToldTo faces g F n flags → has_bit g (side_at n) ≡ false → AreToldTo faces g F (n + 1) flags
 told_over faces g F n flags A bare = record {
   each_side = A.each_side;
@@ -52,7 +52,7 @@ told_over faces g F n flags A bare = record {
       | inr l ↦ (let e : number x ≡ n = omega arith in absurd (false≢true (sym bare ∙ ap (λ k. has_bit g (side_at k)) (sym e) ∙ ap (has_bit g) (side_at-number x) ∙ b)))
     ]
 
--- a side that has one tells both sides of its pair
+-- a side that has one sets the flags of both sides of its pair
 pub told_more : (faces : ℕ) (g : Gluing) (F : Side → Bool) (n o : ℕ) (flag : Bool) (flags : List Bool) → IsGluing faces g → n < 3 * faces → AreToldTo faces g F n flags → TellsLater faces g n (Some o) → flag ≡ F (side_at n) →
     AreToldTo faces g F (n + 1) (set (set flags n flag) o flag)
 told_more faces g F n o flag flags G small A T v = record {
@@ -117,8 +117,8 @@ told_more faces g F n o flag flags G small A T v = record {
           ap (flag_at (set (set flags n flag) o flag)) r ∙ at_other ∙ v ∙ ap F (sym q))
     ]
 
--- after the last side all are told
-pub told_all : (faces : ℕ) (g : Gluing) (F : Side → Bool) (flags : List Bool) → IsGluing faces g → AreToldTo faces g F (3 * faces) flags → flags ≡ listed faces (of_pairs F g)
+-- after the last side all are set
+pub told_all : (faces : ℕ) (g : Gluing) (F : Side → Bool) (flags : List Bool) → IsGluing faces g → AreToldTo faces g F (3 * faces) flags → flags ≡ flags_listed faces (of_pairs F g)
 told_all faces g F flags G A = listed-is faces flags (of_pairs F g) A.each_side each
   where
     each : (x : Side) → x.face < faces → flag_at flags x ≡ of_pairs F g x
@@ -133,7 +133,7 @@ told_all faces g F flags G A = listed-is faces flags (of_pairs F g) A.each_side 
       ]
     ]
 
-pub told_end : (faces n : ℕ) (g : Gluing) (F : Side → Bool) (flags : List Bool) → IsGluing faces g → n ≡ 3 * faces → AreToldTo faces g F n flags → flags ≡ listed faces (of_pairs F g)
+pub told_end : (faces n : ℕ) (g : Gluing) (F : Side → Bool) (flags : List Bool) → IsGluing faces g → n ≡ 3 * faces → AreToldTo faces g F n flags → flags ≡ flags_listed faces (of_pairs F g)
 told_end faces n g F flags G e A = told_all faces g F flags G (subst (λ k. AreToldTo faces g F k flags) e A)
 
 pub told_start : (faces : ℕ) (g : Gluing) (F : Side → Bool) (flags : List Bool) → flags ≡ replicate (3 * faces) true → AreToldTo faces g F 0 flags

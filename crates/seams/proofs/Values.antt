@@ -11,9 +11,9 @@ use Rattle.mesh_model.proofs.DistinctRows.{same_row-decides, same_row-refl, same
 use Rattle.corner_table.specs.Sides.{Side, Place, first, second, third, next, prev, place_number, Gluing, IsGluing}
 use Rattle.corner_table.proofs.Places.{option_tells, next-prev, prev-next}
 use Rattle.corner_table.proofs.Walks.{left_crosses, right_crosses}
-use Rattle.seams.specs.Seams.{AreFlags, listed}
+use Rattle.seams.specs.Seams.{AreFlags, flags_listed}
 use Rattle.corner_table.specs.Pairs.{bit_sides}
-use Rattle.seams.specs.SeamBits.{place_in, of_pairs, told}
+use Rattle.seams.specs.SeamBits.{place_in, of_pairs, flag_of_bits}
 use Rattle.seams.specs.Values.{piece, part_of, point_at, differ, is_seam}
 use Rattle.seams.specs.Classes.{itself, over_next, over_prev}
 use Rattle.seams.specs.Laws.{AreAlike, SeamsAreAlike, SeamsAreFlags, ClassHasOneValue, ToldAreFlags}
@@ -50,7 +50,7 @@ seams_are_alike faces g m k G x y e =
     ∙ ap (λ b. differ m k (next y) (prev x) || b) (differ-sym m k (next x) (prev y))
     ∙ sym (seam_glued m k g y x (G.paired x y e))
 
--- so they are told by the sides that have a bit
+-- so they are given by the sides that have a bit
 pub seams_of_pairs : (faces : ℕ) (g : Gluing) (m : MeshParts) (k : ℕ) → IsGluing faces g → (x : Side) → of_pairs (is_seam m k g) g x ≡ is_seam m k g x
 seams_of_pairs faces g m k G x = elim (option_tells (g x)) [
   | inl e ↦ of_free (is_seam m k g) g x e ∙ sym (seam_free m k g x e)
@@ -61,7 +61,7 @@ seams_of_pairs faces g m k G x = elim (option_tells (g x)) [
 ]
 
 -- flags that are alike make a list of flags
-pub listed_flags : (faces : ℕ) (g : Gluing) (flags : Side → Bool) → IsGluing faces g → AreAlike g flags → ((x : Side) → g x ≡ None → flags x ≡ true) → AreFlags faces g (listed faces flags)
+pub listed_flags : (faces : ℕ) (g : Gluing) (flags : Side → Bool) → IsGluing faces g → AreAlike g flags → ((x : Side) → g x ≡ None → flags x ≡ true) → AreFlags faces g (flags_listed faces flags)
 listed_flags faces g flags G alike free = record {
   each_side = length-listed faces flags;
   alike = λ x y e. flag_at-listed faces flags x (G.within x y e) ∙ alike x y e ∙ sym (flag_at-listed faces flags y (G.within y x (G.paired x y e)));
@@ -71,7 +71,7 @@ listed_flags faces g flags G alike free = record {
 pub seams_are_flags : SeamsAreFlags
 seams_are_flags faces g m k G = listed_flags faces g (is_seam m k g) G (seams_are_alike faces g m k G) (seam_free m k g)
 
--- what is told of the sides that have a bit is alike
+-- what is given for the sides that have a bit is alike
 pub of_pairs_alike : (faces : ℕ) (g : Gluing) (F : Side → Bool) → IsGluing faces g → AreAlike g (of_pairs F g)
 of_pairs_alike faces g F G x y e =
     let back = G.paired x y e in
@@ -81,7 +81,7 @@ of_pairs_alike faces g F G x y e =
     ]
 
 pub told_are_flags : ToldAreFlags
-told_are_flags faces g bits G = listed_flags faces g (told faces g bits) G (of_pairs_alike faces g (λ x. bits (place_in (bit_sides faces g) x)) G) (of_free (λ x. bits (place_in (bit_sides faces g) x)) g)
+told_are_flags faces g bits G = listed_flags faces g (flag_of_bits faces g bits) G (of_pairs_alike faces g (λ x. bits (place_in (bit_sides faces g) x)) G) (of_free (λ x. bits (place_in (bit_sides faces g) x)) g)
 
 -- what doesn't differ is one value
 agree : (m : MeshParts) (k : ℕ) (c d : Side) → differ m k c d ≡ false → piece m k c ≡ piece m k d

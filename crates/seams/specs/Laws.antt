@@ -4,9 +4,9 @@ use Rattle.mesh_model.specs.Parts.{MeshParts}
 use Rattle.corner_table.specs.Sides.{Side, Gluing, IsGluing}
 use Rattle.corner_table.specs.Fans.{InFan, MeetsBoundary}
 use Rattle.rans_binary.specs.Blocks.{Block, first_bits}
-use Rattle.seams.specs.Seams.{flag_at, listed, unseamed, AreFlags}
+use Rattle.seams.specs.Seams.{flag_at, flags_listed, unseamed, AreFlags}
 use Rattle.corner_table.specs.Pairs.{bit_sides}
-use Rattle.seams.specs.SeamBits.{seam_bits, told, flags_of}
+use Rattle.seams.specs.SeamBits.{seam_bits, flag_of_bits, flags_of_bits}
 use Rattle.seams.specs.Values.{piece, is_seam}
 use Rattle.seams.specs.Classes.{InClass, MeetsEnd}
 
@@ -44,24 +44,25 @@ ClassHasOneValue = (m : MeshParts) (k : ℕ) (g : Gluing) (c d : Side) → InCla
 
 -- the seams of a mesh, as a list, are flags of its surface
 abbrev pub SeamsAreFlags : Type 0
-SeamsAreFlags = (faces : ℕ) (g : Gluing) (m : MeshParts) (k : ℕ) → IsGluing faces g → AreFlags faces g (listed faces (is_seam m k g))
+SeamsAreFlags = (faces : ℕ) (g : Gluing) (m : MeshParts) (k : ℕ) → IsGluing faces g → AreFlags faces g (flags_listed faces (is_seam m k g))
 
 -- a list of flags and what it was made of cut the surface alike
 abbrev pub ListCutsAlike : Type 0
 ListCutsAlike = (faces : ℕ) (g : Gluing) (flags : Side → Bool) → IsGluing faces g →
-    unseamed (flag_at (listed faces flags)) g ≡ unseamed flags g
+    unseamed (flag_at (flags_listed faces flags)) g ≡ unseamed flags g
 
--- whatever the bits are, what they tell is flags
+-- whatever the bits are, what they give is flags
 abbrev pub ToldAreFlags : Type 0
-ToldAreFlags = (faces : ℕ) (g : Gluing) (bits : ℕ → Bool) → IsGluing faces g → AreFlags faces g (listed faces (told faces g bits))
+ToldAreFlags = (faces : ℕ) (g : Gluing) (bits : ℕ → Bool) → IsGluing faces g →
+    AreFlags faces g (flags_listed faces (flag_of_bits faces g bits))
 
--- bits that are the seam bits of flags tell these flags
+-- bits that are the seam bits of flags give these flags
 abbrev pub BitsTellFlags : Type 0
 BitsTellFlags = (faces : ℕ) (g : Gluing) (flags : List Bool) (bits : ℕ → Bool) → IsGluing faces g → AreFlags faces g flags →
     ((i : ℕ) → i < length (bit_sides faces g) → bits i ≡ get_or (seam_bits faces g (flag_at flags)) i false) →
-    listed faces (told faces g bits) ≡ flags
+    flags_listed faces (flag_of_bits faces g bits) ≡ flags
 
 -- so does a block that has them first
 abbrev pub BlockTellsFlags : Type 0
 BlockTellsFlags = (faces : ℕ) (g : Gluing) (flags : List Bool) (b : Block) → IsGluing faces g → AreFlags faces g flags →
-    first_bits (length (bit_sides faces g)) b ≡ seam_bits faces g (flag_at flags) → flags_of faces g b ≡ flags
+    first_bits (length (bit_sides faces g)) b ≡ seam_bits faces g (flag_at flags) → flags_of_bits faces g b ≡ flags

@@ -5,9 +5,9 @@ use Rattle.std.specs.List.{position_or_len}
 use Rattle.rans_binary.specs.Blocks.{Block, bit_of}
 use Rattle.corner_table.specs.Sides.{Side, same, Gluing}
 use Rattle.corner_table.specs.Pairs.{has_bit, bit_sides}
-use Rattle.seams.specs.Seams.{listed}
+use Rattle.seams.specs.Seams.{flags_listed}
 
--- the seam bits that tell flags
+-- the seam bits of flags
 abbrev pub seam_bits : ℕ → Gluing → (Side → Bool) → List Bool
 seam_bits faces g flags = map flags (bit_sides faces g)
 
@@ -15,14 +15,14 @@ seam_bits faces g flags = map flags (bit_sides faces g)
 abbrev pub place_in : List Side → Side → ℕ
 place_in sides x = position_or_len (same x) sides
 
--- what is told of the sides that have a bit, told of all: of both sides of a pair, and a boundary is a seam
+-- flags of the sides that have a bit, given to all: to both sides of a pair, and a boundary is a seam
 abbrev pub of_pairs : (Side → Bool) → Gluing → Side → Bool
 of_pairs flags g x = elim (g x) [ None ↦ true | Some y ↦ flags (cond (has_bit g x) x y) ]
 
--- the flags that seam bits tell, of which bit i is that of the side at place i
-abbrev pub told : ℕ → Gluing → (ℕ → Bool) → Side → Bool
-told faces g bits = of_pairs (λ x. bits (place_in (bit_sides faces g) x)) g
+-- the flags that seam bits give, of which bit i is that of the side at place i
+abbrev pub flag_of_bits : ℕ → Gluing → (ℕ → Bool) → Side → Bool
+flag_of_bits faces g bits = of_pairs (λ x. bits (place_in (bit_sides faces g) x)) g
 
--- the flags that a block's next bits tell
-abbrev pub flags_of : ℕ → Gluing → Block → List Bool
-flags_of faces g b = listed faces (told faces g (bit_of b))
+-- the flags that a block's next bits give
+abbrev pub flags_of_bits : ℕ → Gluing → Block → List Bool
+flags_of_bits faces g b = flags_listed faces (flag_of_bits faces g (bit_of b))

@@ -9,8 +9,8 @@ abbrev pub flag_at : List Bool → Side → Bool
 flag_at flags x = get_or flags (number x) true
 
 -- flags as such a list
-abbrev pub listed : ℕ → (Side → Bool) → List Bool
-listed faces flags = map flags (corners_of faces)
+abbrev pub flags_listed : ℕ → (Side → Bool) → List Bool
+flags_listed faces flags = map flags (corners_of faces)
 
 -- the surface cut at its seams: the pairs that are no seam
 abbrev pub unseamed : (Side → Bool) → Gluing → Gluing

@@ -15,8 +15,8 @@ use std::alloc::Global;
 use std::marker::Brand;
 use std::sync::ledger::{Blank, Ledger};
 
-/// The entry that a side has once the surface is cut: that of before, or `FREE` at a seam. Both
-/// are at hand before the flag is asked for, so that one of them is chosen without a branch.
+/// The entry that a side has once the surface is cut: that of before, or `FREE` at a seam. Both are
+/// read before the flag is, so that one of them is chosen without a branch.
 #[tactic(auto, using(crate::proofs::Kept::kept_some))]
 fn kept_entry(across: &[u32], seam: &[bool], side: u32) -> u32
     requires entry { side < length across.now }
@@ -46,7 +46,7 @@ fn kept_pairs(alloc: Global, across: &[u32], faces: u32, seam: &[bool]) -> Resul
 }
 
 /// The surface cut at its seams: a table with as many faces whose pairs are those that are no seam. Its
-/// boundary has the sides of the seams. Refused only when out of memory (this project's choice).
+/// boundary has the sides of the seams. Fails only when out of memory (this project's choice).
 pub fn unglued(alloc: Global, t: &SideTable, seam: &[bool]) -> Result<SideTable, Memory>
     requires { AreFlags t.now.faces (gluing_of t.now) seam.now }
     ensures faces { IfOk result (λ u. u.faces ≡ t.now.faces) }
@@ -71,7 +71,7 @@ fn labels_of<L: Ledger>(alloc: Global, t: &SideTable, blank: Blank) -> Result<Cl
 /// The classes of corners: what is connected round a vertex over glued sides that are no seam, so that a
 /// class is a fan of the surface cut at its seams; without flags nothing is cut, and a class is a vertex.
 /// `ends` says of a class whether a boundary or a seam meets it. Classes are numbered from 0 in the order
-/// of their least corners, which is this project's choice. Refused only when out of memory (Draco
+/// of their least corners, which is this project's choice. Fails only when out of memory (Draco
 /// Bitstream Specification 2.2, section Edgebreaker Connectivity, attribute seams).
 pub fn classes(alloc: Global, t: &SideTable, seam: Option<&[bool]>) -> Result<Classes, Memory>
     requires { MayBeFlags t.now.faces (gluing_of t.now) (option_map (λ s. s.now) seam) }

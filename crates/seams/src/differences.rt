@@ -8,7 +8,7 @@ ghost use Rattle.mesh_model.specs.Head.{width_of as heads_width};
 ghost use Rattle.mesh_model.specs.Assembled.{same_row};
 ghost use Rattle.corner_table.specs.Sides.{side_at, next, prev, IsGluing};
 ghost use Rattle.corner_table.specs.Table.{gluing_of, glued_in};
-ghost use Rattle.seams.specs.Seams.{listed, AreFlags};
+ghost use Rattle.seams.specs.Seams.{flags_listed, AreFlags};
 ghost use Rattle.seams.specs.Values.{is_seam, differ, point_at};
 
 use crate::sides::{all_set, later_side, sides_across};
@@ -108,13 +108,13 @@ fn pair_differs(m: &CornerMesh, span: (usize, usize), x: u32, y: u32) -> bool
     points_differ(m, span, point_before(m, x), point_after(m, y))
 }
 
-/// Tells of both sides of each pair whether it is a seam, where each flag is set before.
+/// Writes for both sides of each pair whether it is a seam, where each flag is set before.
 fn mark_seams(m: &CornerMesh, across: &[u32], attr: u8, flags: &mut [bool])
     requires attribute { attr < length m.now.heads }
     requires gluing { IsGluing (length m.now.faces) (glued_in across.now) }
     requires room { 3 * length m.now.faces ≤ length across.now }
     requires set { flags.old ≡ replicate (3 * length m.now.faces) true }
-    ensures { flags.new ≡ listed (length m.now.faces) (is_seam m.now attr (glued_in across.now)) }
+    ensures { flags.new ≡ flags_listed (length m.now.faces) (is_seam m.now attr (glued_in across.now)) }
 {
     let faces = m.face_count();
     let span = span_of(m, attr);
@@ -134,7 +134,7 @@ fn mark_seams(m: &CornerMesh, across: &[u32], attr: u8, flags: &mut [bool])
 fn marked(alloc: Global, m: &CornerMesh, t: &SideTable, attr: u8) -> Result<Vec<bool>, Memory>
     requires attribute { attr < length m.now.heads }
     requires faces { t.now.faces ≡ length m.now.faces }
-    ensures { IfOk result (λ v. v.items ≡ listed t.now.faces (is_seam m.now attr (gluing_of t.now))) }
+    ensures { IfOk result (λ v. v.items ≡ flags_listed t.now.faces (is_seam m.now attr (gluing_of t.now))) }
 {
     let faces = t.face_count();
     let mut flags = all_set(alloc, 3 * faces as usize)?;
@@ -144,11 +144,11 @@ fn marked(alloc: Global, m: &CornerMesh, t: &SideTable, attr: u8) -> Result<Vec<
 
 /// Of each side 3f + k of a mesh's surface, whether it is a seam of attribute `attr`: boundaries are, and a
 /// pair is one where at either of its ends the two corners that meet there differ in the attribute (this
-/// project's choice). Refused only when out of memory.
+/// project's choice). Fails only when out of memory.
 pub fn seams_of(alloc: Global, m: &CornerMesh, t: &SideTable, attr: u8) -> Result<Vec<bool>, Memory>
     requires attribute { attr < length m.now.heads }
     requires faces { t.now.faces ≡ length m.now.faces }
-    ensures seams { IfOk result (λ v. v.items ≡ listed t.now.faces (is_seam m.now attr (gluing_of t.now))) }
+    ensures seams { IfOk result (λ v. v.items ≡ flags_listed t.now.faces (is_seam m.now attr (gluing_of t.now))) }
     ensures flags { IfOk result (λ v. AreFlags t.now.faces (gluing_of t.now) v.items) }
 {
     // For the prover alone: the entries of a table are a gluing.

@@ -24,7 +24,7 @@ pub fn classes_have_one_value()
     ensures value { ClassHasOneValue }
 {}
 
-/// Seam bits tell flags, whatever the bits are; those of given flags tell these again, and so does a block
+/// Seam bits give flags, whatever the bits are; those of given flags give these again, and so does a block
 /// that has them first; a list of flags cuts a surface as what it was made of does. This is the contract of
 /// a call that does nothing.
 pub fn bits_tell_seams()

@@ -1,5 +1,5 @@
 //! Seams of an attribute and its classes of corners, for decoder and encoder. The contract above it: seam
-//! bits tell which pairs of a surface are seams, the same flags as the bits were made of; a class is what
+//! bits say which pairs of a surface are seams, the same flags as the bits were made of; a class is what
 //! is connected round a vertex once the seams are cut, and on a class of a mesh's own seams the attribute
 //! has one value. It follows the Draco Bitstream Specification 2.2, section Edgebreaker Connectivity
 //! (attribute seams); which pairs of a mesh are seams is this project's choice.

@@ -7,7 +7,7 @@ ghost use Rattle.corner_table.specs.Table.{gluing_of, glued_in};
 ghost use Rattle.rans_binary.specs.Blocks.{behind};
 ghost use Rattle.seams.specs.Seams.{AreFlags};
 ghost use Rattle.corner_table.specs.Pairs.{bit_sides};
-ghost use Rattle.seams.specs.SeamBits.{flags_of};
+ghost use Rattle.seams.specs.SeamBits.{flags_of_bits};
 
 use crate::sides::{all_set, later_side, sides_across};
 use corner_table::SideTable;
@@ -28,7 +28,7 @@ fn read_block<'a>(
     requires gluing { IsGluing faces (glued_in across.now) }
     requires room { 3 * faces ≤ length across.now }
     requires set { flags.old ≡ replicate (3 * faces) true }
-    ensures flags { flags.new ≡ flags_of faces (glued_in across.now) block.entry }
+    ensures flags { flags.new ≡ flags_of_bits faces (glued_in across.now) block.entry }
     ensures after { result ≡ behind (length (bit_sides faces (glued_in across.now))) block.entry }
 {
     let mut ahead = block;
@@ -62,7 +62,7 @@ fn read_each(
     t: &SideTable,
     blocks: &mut [BitBlock<'_>],
 ) -> Result<Vec<Vec<bool>>, Memory>
-    ensures flags { IfOk result (λ v. map (λ s. s.items) v.items ≡ map (flags_of t.now.faces (gluing_of t.now)) blocks.old) }
+    ensures flags { IfOk result (λ v. map (λ s. s.items) v.items ≡ map (flags_of_bits t.now.faces (gluing_of t.now)) blocks.old) }
     ensures after { IfOk result (λ v. blocks.new ≡ map (behind (length (bit_sides t.now.faces (gluing_of t.now)))) blocks.old) }
     ensures refused { OnErr result (blocks.new ≡ blocks.old) }
 {
@@ -77,15 +77,15 @@ fn read_each(
 
 /// For each block a list of one flag for each side 3f + k, whether it is a seam: boundaries are, and of a
 /// pair the side of the lesser face takes the block's next bit, for both sides. A block can't end: after
-/// its own bits others are told. Each block stands behind the bits that were taken. Refused for want of
-/// memory alone, and then the blocks are as before (Draco Bitstream Specification 2.2, section Edgebreaker
+/// its own bits it gives others. Each block stands behind the bits that were taken. Fails only when out of
+/// memory, and then the blocks are as before (Draco Bitstream Specification 2.2, section Edgebreaker
 /// Connectivity, attribute seams).
 pub fn read_seams(
     alloc: Global,
     t: &SideTable,
     blocks: &mut [BitBlock<'_>],
 ) -> Result<Vec<Vec<bool>>, Memory>
-    ensures flags { IfOk result (λ v. map (λ s. s.items) v.items ≡ map (flags_of t.now.faces (gluing_of t.now)) blocks.old) }
+    ensures flags { IfOk result (λ v. map (λ s. s.items) v.items ≡ map (flags_of_bits t.now.faces (gluing_of t.now)) blocks.old) }
     ensures sound { IfOk result (λ v. All (AreFlags t.now.faces (gluing_of t.now)) (map (λ s. s.items) v.items)) }
     ensures after { IfOk result (λ v. blocks.new ≡ map (behind (length (bit_sides t.now.faces (gluing_of t.now)))) blocks.old) }
     ensures refused { OnErr result (blocks.new ≡ blocks.old) }

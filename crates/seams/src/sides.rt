@@ -31,7 +31,7 @@ pub(crate) fn sides_across(t: &SideTable) -> &[u32]
 }
 
 /// Whether the entry of a side is the number of a later side. One more than the entry of a free side wraps
-/// to 0, so that one comparison tells that the side is glued, and that the other one is later.
+/// to 0, so that one comparison shows that the side is glued, and that the other one is later.
 fn is_later(entry: u32, side: u32) -> bool
     requires { side < free_entry }
     ensures { IsTrue result ↔ ((side < entry) × (entry < free_entry)) }

@@ -1,24 +1,23 @@
-//! Worked surfaces: their seams, the bits of these, and their classes. What is wanted was computed by a
-//! plain program that joins corners one by one.
+//! Worked surfaces: their seams, the bits of these, and their classes. The expected values were
+//! computed by a plain program that joins corners one by one.
 
 ghost use Rattle.std.specs.Prelude.{◌≡◌, ◌<◌, length, IfOk};
-ghost use Rattle.corner_table.specs.Table.{gluing_of, room_of};
+ghost use Rattle.corner_table.specs.Table.{gluing_of};
 ghost use Rattle.seams.specs.Seams.{AreFlags};
 
 use crate::sides::sides_across;
 use crate::{classes, read_seams, seam_bits, seams_of, unglued};
-use corner_table::{SideTable, Steps, side_with};
+use corner_table::SideTable;
 use drc_base::{MAX_FACES, Memory, Refusal};
 use drc_bits::Cursor;
 use mesh_model::{CornerMesh, Head};
 use rans_binary::{BitBlock, write_block};
 use std::alloc::Global;
-use std::marker::Brand;
 use std::process::Abort;
-use std::sync::ledger::{Blank, Ledger};
 use std::test::Fail;
+use worked_surfaces::{SQUARE, TORUS, TORUS_PAIRS, glued};
 
-/// A surface by its pairs of sides and a label for each corner, and what is to be told of it: its seam
+/// A surface by its pairs of sides and a label for each corner, and what is expected of it: its seam
 /// bits, the class of each corner, and of each class whether it ends.
 #[derive(Drop)]
 struct Worked<'a> {
@@ -29,8 +28,8 @@ struct Worked<'a> {
     ends: &'a [bool],
 }
 
-/// A mesh whose first attribute is the same at all corners, and the second one tells labels apart: one by
-/// the first of its integers or by the second alone.
+/// A mesh whose first attribute is the same at all corners, and the second one distinguishes labels: one
+/// by the first of its integers or by the second alone.
 fn mesh(rt: &impl Abort, alloc: Global, labels: &[[u32; 3]]) -> Result<CornerMesh, Refusal> {
     let same = Head {
         usage: 4,
@@ -59,53 +58,6 @@ fn mesh(rt: &impl Abort, alloc: Global, labels: &[[u32; 3]]) -> Result<CornerMes
     CornerMesh::new(heads, points, labels.to_vec(alloc)?)
 }
 
-/// Adds all faces that there is room for.
-fn add_faces<L: Ledger>(table: &mut SideTable, faces: u32, steps: &mut Steps<L>)
-    requires none { table.old.faces ≡ 0 }
-    requires room { room_of table.old ≡ faces }
-{
-    for _ in 0..faces {
-        let _ = table.add_face(steps);
-    }
-}
-
-/// Glues two sides, which have to be free sides of two faces.
-fn glue_pair<L: Ledger>(
-    rt: &impl Abort,
-    table: &mut SideTable,
-    pair: (u32, u32),
-    steps: &mut Steps<L>,
-) {
-    let (a, b) = (side_with(pair.0), side_with(pair.1));
-    assert!(rt; a.face < table.face_count() && b.face < table.face_count() && a.face != b.face);
-    match (table.other(a, steps), table.other(b, steps)) {
-        (None, None) => table.glue(a, b, steps),
-        _ => assert!(rt; false, "a side is glued already"),
-    }
-}
-
-/// A table of these pairs.
-fn table<L: Ledger>(
-    rt: &impl Abort,
-    alloc: Global,
-    faces: u32,
-    pairs: &[(u32, u32)],
-    blank: Blank,
-) -> Result<SideTable, Memory>
-    requires name { blank.name ≡ L.name }
-    requires parts { blank.parts ≡ L.parts }
-    requires some { 0 < L.parts }
-{
-    assert!(rt; faces <= MAX_FACES);
-    let mut steps = Steps::<L>::new(blank);
-    let mut table = SideTable::with_room(alloc, faces)?;
-    add_faces(&mut table, faces, &mut steps);
-    for pair in pairs {
-        glue_pair(rt, &mut table, *pair, &mut steps);
-    }
-    Ok(table)
-}
-
 /// The blocks of two lists of bits, one after the other, and other bytes behind them.
 fn two_blocks(
     rt: &impl Abort,
@@ -121,7 +73,7 @@ fn two_blocks(
     Ok(bytes)
 }
 
-/// Reads two blocks, and compares with the flags that they are to tell.
+/// Reads two blocks, and compares with the flags that they are to give.
 fn reads_back(
     rt: &impl Abort,
     alloc: Global,
@@ -153,10 +105,12 @@ fn is_cut(cut: &SideTable, t: &SideTable, flags: &[bool]) -> bool {
     true
 }
 
-/// Compares what is told of a surface.
+/// Compares the seams, bits and classes of a surface with those expected.
 fn is_told(rt: &impl Abort, alloc: Global, worked: Worked<'_>) -> Result<(), Fail> {
     let m = mesh(rt, alloc, worked.labels).map_err(|_| "a refusal")?;
-    let t = table::<Brand>(rt, alloc, m.face_count(), worked.pairs, Blank::new(1))?;
+    let faces = m.face_count();
+    assert!(rt; faces <= MAX_FACES);
+    let t = glued(alloc, faces, worked.pairs)?;
     assert_eq!(rt; m.heads().len(), 2);
     assert_eq!(rt; t.face_count(), m.face_count());
     let flags = seams_of(alloc, &m, &t, 1)?;
@@ -187,10 +141,9 @@ fn is_told(rt: &impl Abort, alloc: Global, worked: Worked<'_>) -> Result<(), Fai
 
 #[test]
 fn tells_seams_of_few_faces(rt: HostRuntime) -> Result<(), Fail> {
-    // Two faces with a label each.
-    is_told(
-        &rt,
-        rt.alloc(),
+    let alloc = rt.alloc();
+    for worked in [
+        // Two faces with a label each.
         Worked {
             pairs: &[(0, 5)],
             labels: &[[7, 7, 7], [9, 9, 9]],
@@ -198,11 +151,7 @@ fn tells_seams_of_few_faces(rt: HostRuntime) -> Result<(), Fail> {
             classes: &[0, 1, 2, 3, 4, 5],
             ends: &[true; 6],
         },
-    )?;
-    // The same, where the labels differ at one end of their side alone.
-    is_told(
-        &rt,
-        rt.alloc(),
+        // The same, where the labels differ at one end of their side alone.
         Worked {
             pairs: &[(0, 5)],
             labels: &[[0, 1, 2], [3, 1, 4]],
@@ -210,11 +159,7 @@ fn tells_seams_of_few_faces(rt: HostRuntime) -> Result<(), Fail> {
             classes: &[0, 1, 2, 3, 4, 5],
             ends: &[true; 6],
         },
-    )?;
-    // The same, at the other end.
-    is_told(
-        &rt,
-        rt.alloc(),
+        // The same, at the other end.
         Worked {
             pairs: &[(0, 5)],
             labels: &[[0, 1, 2], [2, 3, 4]],
@@ -222,23 +167,15 @@ fn tells_seams_of_few_faces(rt: HostRuntime) -> Result<(), Fail> {
             classes: &[0, 1, 2, 3, 4, 5],
             ends: &[true; 6],
         },
-    )?;
-    // Two faces without a seam.
-    is_told(
-        &rt,
-        rt.alloc(),
+        // Two faces without a seam.
         Worked {
             pairs: &[(0, 5)],
-            labels: &[[0, 1, 2], [2, 1, 3]],
+            labels: &SQUARE,
             bits: &[false],
             classes: &[0, 1, 2, 2, 1, 3],
             ends: &[true; 4],
         },
-    )?;
-    // A closed fan in two halves.
-    is_told(
-        &rt,
-        rt.alloc(),
+        // A closed fan in two halves.
         Worked {
             pairs: &[(1, 5), (2, 10), (4, 8), (7, 11)],
             labels: &[[0, 1, 2], [0, 2, 3], [5, 3, 4], [5, 4, 1]],
@@ -246,11 +183,7 @@ fn tells_seams_of_few_faces(rt: HostRuntime) -> Result<(), Fail> {
             classes: &[0, 1, 2, 0, 2, 3, 4, 5, 6, 4, 6, 7],
             ends: &[true; 8],
         },
-    )?;
-    // A closed fan with a seam that ends at its vertex: one class, which ends.
-    is_told(
-        &rt,
-        rt.alloc(),
+        // A closed fan with a seam that ends at its vertex: one class, which ends.
         Worked {
             pairs: &[(1, 5), (2, 10), (4, 8), (7, 11)],
             labels: &[[0, 1, 2], [0, 2, 3], [0, 3, 4], [0, 4, 9]],
@@ -258,11 +191,7 @@ fn tells_seams_of_few_faces(rt: HostRuntime) -> Result<(), Fail> {
             classes: &[0, 1, 2, 0, 2, 3, 0, 3, 4, 0, 4, 5],
             ends: &[true; 6],
         },
-    )?;
-    // An open fan of three faces.
-    is_told(
-        &rt,
-        rt.alloc(),
+        // An open fan of three faces.
         Worked {
             pairs: &[(1, 5), (4, 8)],
             labels: &[[0, 1, 2], [0, 2, 3], [5, 3, 4]],
@@ -270,16 +199,17 @@ fn tells_seams_of_few_faces(rt: HostRuntime) -> Result<(), Fail> {
             classes: &[0, 1, 2, 0, 2, 3, 4, 5, 6],
             ends: &[true; 7],
         },
-    )?;
+    ] {
+        is_told(&rt, alloc, worked)?;
+    }
     Ok(())
 }
 
 #[test]
 fn tells_seams_of_surfaces(rt: HostRuntime) -> Result<(), Fail> {
-    // A cube with a label for each of its sides.
-    is_told(
-        &rt,
-        rt.alloc(),
+    let alloc = rt.alloc();
+    for worked in [
+        // A cube with a label for each of its sides.
         Worked {
             pairs: &[
                 (0, 22),
@@ -325,51 +255,10 @@ fn tells_seams_of_surfaces(rt: HostRuntime) -> Result<(), Fail> {
             ],
             ends: &[true; 24],
         },
-    )?;
-    // A torus without seams.
-    is_told(
-        &rt,
-        rt.alloc(),
+        // A torus without seams.
         Worked {
-            pairs: &[
-                (0, 25),
-                (1, 23),
-                (2, 36),
-                (3, 28),
-                (4, 26),
-                (5, 39),
-                (6, 31),
-                (7, 29),
-                (8, 21),
-                (9, 34),
-                (10, 32),
-                (11, 24),
-                (12, 37),
-                (13, 35),
-                (14, 27),
-                (15, 40),
-                (16, 38),
-                (17, 30),
-                (18, 22),
-                (19, 41),
-                (20, 33),
-            ],
-            labels: &[
-                [0, 1, 3],
-                [1, 2, 4],
-                [2, 3, 5],
-                [3, 4, 6],
-                [4, 5, 0],
-                [5, 6, 1],
-                [6, 0, 2],
-                [0, 3, 2],
-                [1, 4, 3],
-                [2, 5, 4],
-                [3, 6, 5],
-                [4, 0, 6],
-                [5, 1, 0],
-                [6, 2, 1],
-            ],
+            pairs: &TORUS_PAIRS,
+            labels: &TORUS,
             bits: &[
                 false, false, false, false, false, false, false, false, false, false, false, false,
                 false, false, false, false, false, false, false, false, false,
@@ -380,35 +269,9 @@ fn tells_seams_of_surfaces(rt: HostRuntime) -> Result<(), Fail> {
             ],
             ends: &[false; 7],
         },
-    )?;
-    // A torus with a strip of five faces cut out.
-    is_told(
-        &rt,
-        rt.alloc(),
+        // A torus with a strip of five faces cut out.
         Worked {
-            pairs: &[
-                (0, 25),
-                (1, 23),
-                (2, 36),
-                (3, 28),
-                (4, 26),
-                (5, 39),
-                (6, 31),
-                (7, 29),
-                (8, 21),
-                (9, 34),
-                (10, 32),
-                (11, 24),
-                (12, 37),
-                (13, 35),
-                (14, 27),
-                (15, 40),
-                (16, 38),
-                (17, 30),
-                (18, 22),
-                (19, 41),
-                (20, 33),
-            ],
+            pairs: &TORUS_PAIRS,
             labels: &[
                 [10, 11, 13],
                 [11, 12, 14],
@@ -435,11 +298,7 @@ fn tells_seams_of_surfaces(rt: HostRuntime) -> Result<(), Fail> {
             ],
             ends: &[true; 30],
         },
-    )?;
-    // Eight faces, of which three parts meet at a point; three faces are cut off.
-    is_told(
-        &rt,
-        rt.alloc(),
+        // Eight faces, of which three parts meet at a point; three faces are cut off.
         Worked {
             pairs: &[
                 (0, 9),
@@ -466,6 +325,8 @@ fn tells_seams_of_surfaces(rt: HostRuntime) -> Result<(), Fail> {
             ],
             ends: &[true; 16],
         },
-    )?;
+    ] {
+        is_told(&rt, alloc, worked)?;
+    }
     Ok(())
 }

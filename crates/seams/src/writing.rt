@@ -7,7 +7,7 @@ ghost use Rattle.corner_table.specs.Table.{gluing_of, glued_in};
 ghost use Rattle.rans_binary.specs.Blocks.{Block, first_bits};
 ghost use Rattle.seams.specs.Seams.{AreFlags, flag_at};
 ghost use Rattle.corner_table.specs.Pairs.{has_bit, bit_sides};
-ghost use Rattle.seams.specs.SeamBits.{seam_bits as bits_for, flags_of};
+ghost use Rattle.seams.specs.SeamBits.{seam_bits as bits_for, flags_of_bits};
 
 use crate::sides::{flag_of, later_side, sides_across};
 use corner_table::SideTable;
@@ -48,14 +48,14 @@ fn put_bits(across: &[u32], faces: u32, seam: &[bool], bits: &mut [bool]) -> usi
 }
 
 /// The seam bits of flags: for each pair of sides, in the order of the sides 3f + k of the lesser faces,
-/// whether it is a seam. A block that has these bits first, whatever follows them, tells the flags again.
-/// Refused only when out of memory (Draco Bitstream Specification 2.2, section Edgebreaker Connectivity,
+/// whether it is a seam. A block that has these bits first, whatever follows them, gives the flags again.
+/// Fails only when out of memory (Draco Bitstream Specification 2.2, section Edgebreaker Connectivity,
 /// attribute seams).
 pub fn seam_bits(alloc: Global, t: &SideTable, seam: &[bool]) -> Result<Vec<bool>, Memory>
     requires { AreFlags t.now.faces (gluing_of t.now) seam.now }
     ensures bits { IfOk result (λ v. v.items ≡ bits_for t.now.faces (gluing_of t.now) (flag_at seam.now)) }
     ensures count { IfOk result (λ v. length v.items ≡ length (bit_sides t.now.faces (gluing_of t.now))) }
-    ensures again { IfOk result (λ v. (b : Block) → first_bits (length v.items) b ≡ v.items → flags_of t.now.faces (gluing_of t.now) b ≡ seam.now) }
+    ensures again { IfOk result (λ v. (b : Block) → first_bits (length v.items) b ≡ v.items → flags_of_bits t.now.faces (gluing_of t.now) b ≡ seam.now) }
 {
     let faces = t.face_count();
     // One bit for each two sides, and room for one flag more, which is no bit.

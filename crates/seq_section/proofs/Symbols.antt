@@ -13,7 +13,7 @@ use Rattle.drc_bits.specs.Spells.{Spells}
 use Rattle.drc_bits.proofs.Results.{Ok-injective, err≢ok}
 use Rattle.symbol_coding.specs.Block.{block_at, block_bytes}
 use Rattle.seq_section.specs.Indices.{packed_at, IsFaceBelow}
-use Rattle.seq_section.specs.Packed.{difference_of, symbol_of, sums_from, differences_from, point_of, points_of, points_after, threes, faces_of, symbols_after, symbols_of}
+use Rattle.seq_section.specs.Packed.{difference_of, difference_symbol, sums_from, differences_from, point_meant, points_meant, points_after, threes, faces_meant, symbols_after, symbols_of}
 
 -- ---- reading
 
@@ -31,7 +31,7 @@ then-ok (Ok x) f y is = (x, refl, is)
 then-ok (Err e) f y is = absurd (err≢ok is)
 
 -- a number that is a point
-point-is : (o : Fault) (n : ℕ) (z : ℤ) (p : ℕ) → point_of o n z ≡ Ok p → (z ≡ pos p) × (p < n)
+point-is : (o : Fault) (n : ℕ) (z : ℤ) (p : ℕ) → point_meant o n z ≡ Ok p → (z ≡ pos p) × (p < n)
 point-is o n (pos i) p is = elim (cases_lt i n) [
   | inl a ↦ let t : nat_lt i n ≡ true = grind (arith, a) in
       let there : i ≡ p = Ok-injective (rw t at is) in (ap pos there, omega (arith, a, there))
@@ -43,14 +43,14 @@ in_turn : (face rest more : List ℕ) (a b d : ℕ) → face ≡ a ∷ rest → 
 in_turn face rest more a b d p q r = cc
 
 -- three numbers that are points: the last of them
-three-last : (o : Fault) (n : ℕ) (x y z : ℤ) (face : List ℕ) → points_of o n (x ∷ y ∷ z ∷ []) ≡ Ok face
+three-last : (o : Fault) (n : ℕ) (x y z : ℤ) (face : List ℕ) → points_meant o n (x ∷ y ∷ z ∷ []) ≡ Ok face
     → (z ≡ pos (get_or face 2 0)) × (get_or face 2 0 < n) × (a : ℕ) × (b : ℕ) × (d : ℕ) × (face ≡ a ∷ b ∷ d ∷ [])
 three-last o n x y z face is =
-    let first = then-ok (point_of o n x) (λ p. points_of o n (y ∷ z ∷ []) >>= λ ps. Ok (p ∷ ps)) face is in
-    let rest = then-ok (points_of o n (y ∷ z ∷ [])) (λ ps. Ok (first.0 ∷ ps)) face first.2 in
-    let second = then-ok (point_of o n y) (λ p. points_of o n (z ∷ []) >>= λ ps. Ok (p ∷ ps)) rest.0 rest.1 in
-    let more = then-ok (points_of o n (z ∷ [])) (λ ps. Ok (second.0 ∷ ps)) rest.0 second.2 in
-    let third = then-ok (point_of o n z) (λ p. points_of o n [] >>= λ ps. Ok (p ∷ ps)) more.0 more.1 in
+    let first = then-ok (point_meant o n x) (λ p. points_meant o n (y ∷ z ∷ []) >>= λ ps. Ok (p ∷ ps)) face is in
+    let rest = then-ok (points_meant o n (y ∷ z ∷ [])) (λ ps. Ok (first.0 ∷ ps)) face first.2 in
+    let second = then-ok (point_meant o n y) (λ p. points_meant o n (z ∷ []) >>= λ ps. Ok (p ∷ ps)) rest.0 rest.1 in
+    let more = then-ok (points_meant o n (z ∷ [])) (λ ps. Ok (second.0 ∷ ps)) rest.0 second.2 in
+    let third = then-ok (point_meant o n z) (λ p. points_meant o n [] >>= λ ps. Ok (p ∷ ps)) more.0 more.1 in
     let last = point-is o n z third.0 third.1 in
     let e1 : face ≡ first.0 ∷ rest.0 = sym (Ok-injective rest.2) in
     let e2 : rest.0 ≡ second.0 ∷ more.0 = sym (Ok-injective more.2) in
@@ -59,13 +59,13 @@ three-last o n x y z face is =
     let told : get_or face 2 0 ≡ third.0 = ap (λ l. get_or l 2 0) there in
     (last.0 ∙ ap pos (sym told), omega (arith, told, last.1), first.0, second.0, third.0, there)
 
-points_of-append : (o : Fault) (n : ℕ) (xs ys : List ℤ) → points_of o n (xs ++ ys) ≡ (points_of o n xs >>= λ ps. points_of o n ys >>= λ qs. Ok (ps ++ qs))
-points_of-append o n [] ys = same (points_of o n ys)
+points_of-append : (o : Fault) (n : ℕ) (xs ys : List ℤ) → points_meant o n (xs ++ ys) ≡ (points_meant o n xs >>= λ ps. points_meant o n ys >>= λ qs. Ok (ps ++ qs))
+points_of-append o n [] ys = same (points_meant o n ys)
   where
     same : (r : Result (List ℕ) Fault) → r ≡ (r >>= λ qs. Ok qs)
     same (Ok x) = refl
     same (Err e) = refl
-points_of-append o n (x ∷ xs) ys = rw (points_of-append o n xs ys) (regrouped (point_of o n x) (points_of o n xs) (points_of o n ys))
+points_of-append o n (x ∷ xs) ys = rw (points_of-append o n xs ys) (regrouped (point_meant o n x) (points_meant o n xs) (points_meant o n ys))
   where
     regrouped : (a : Result ℕ Fault) (b c : Result (List ℕ) Fault)
         → (a >>= λ p. (b >>= λ ps. c >>= λ qs. Ok (ps ++ qs)) >>= λ ps. Ok (p ∷ ps)) ≡ ((a >>= λ p. b >>= λ ps. Ok (p ∷ ps)) >>= λ ps. c >>= λ qs. Ok (ps ++ qs))
@@ -75,14 +75,14 @@ points_of-append o n (x ∷ xs) ys = rw (points_of-append o n xs ys) (regrouped 
     regrouped (Ok a) (Ok b) (Ok c) = refl
 
 -- a face was read, whose numbers are x, y and z
-next-face : (o : Fault) (n : ℕ) (x y z : ℤ) (ds : List ℤ) (front : List (List ℕ)) (face : List ℕ) → points_of o n (x ∷ y ∷ z ∷ []) ≡ Ok face
-    → with_faces front (points_of o n (x ∷ y ∷ z ∷ sums_from z ds)) ≡ with_faces (front ++ face ∷ []) (points_of o n (sums_from (pos (get_or face 2 0)) ds))
+next-face : (o : Fault) (n : ℕ) (x y z : ℤ) (ds : List ℤ) (front : List (List ℕ)) (face : List ℕ) → points_meant o n (x ∷ y ∷ z ∷ []) ≡ Ok face
+    → with_faces front (points_meant o n (x ∷ y ∷ z ∷ sums_from z ds)) ≡ with_faces (front ++ face ∷ []) (points_meant o n (sums_from (pos (get_or face 2 0)) ds))
 next-face o n x y z ds front face is =
     let last = three-last o n x y z face is in
     let split = points_of-append o n (x ∷ y ∷ z ∷ []) (sums_from z ds) in
-    let told : points_of o n (x ∷ y ∷ z ∷ sums_from z ds) ≡ (points_of o n (sums_from (pos (get_or face 2 0)) ds) >>= λ qs. Ok (face ++ qs)) =
+    let told : points_meant o n (x ∷ y ∷ z ∷ sums_from z ds) ≡ (points_meant o n (sums_from (pos (get_or face 2 0)) ds) >>= λ qs. Ok (face ++ qs)) =
     split ∙ (rw (is, last.0) refl) in
-    rw told (regrouped front face last.2 last.3 last.4 last.5 (points_of o n (sums_from (pos (get_or face 2 0)) ds)))
+    rw told (regrouped front face last.2 last.3 last.4 last.5 (points_meant o n (sums_from (pos (get_or face 2 0)) ds)))
   where
     regrouped : (front : List (List ℕ)) (face : List ℕ) (a b d : ℕ) → face ≡ a ∷ b ∷ d ∷ [] → (r : Result (List ℕ) Fault)
         → with_faces front (r >>= λ qs. Ok (face ++ qs)) ≡ with_faces (front ++ face ∷ []) r
@@ -90,8 +90,8 @@ next-face o n x y z ds front face is =
     regrouped front face a b d is (Ok cs) = rw is (ap Ok (sym (append_assoc front ((a ∷ b ∷ d ∷ []) ∷ []) (threes cs))))
 
 -- no face was read
-no-face : (o : Fault) (n : ℕ) (x y z : ℤ) (ds : List ℤ) (front : List (List ℕ)) (f : Fault) → points_of o n (x ∷ y ∷ z ∷ []) ≡ Err f
-    → with_faces front (points_of o n (x ∷ y ∷ z ∷ sums_from z ds)) ≡ Err f
+no-face : (o : Fault) (n : ℕ) (x y z : ℤ) (ds : List ℤ) (front : List (List ℕ)) (f : Fault) → points_meant o n (x ∷ y ∷ z ∷ []) ≡ Err f
+    → with_faces front (points_meant o n (x ∷ y ∷ z ∷ sums_from z ds)) ≡ Err f
 no-face o n x y z ds front f is = rw (points_of-append o n (x ∷ y ∷ z ∷ []) (sums_from z ds), is) refl
 
 -- the symbols from a face on
@@ -179,7 +179,7 @@ length-symbols_of n faces are = length-symbols_after (pos 0) (corners_of faces) 
 
 -- ---- what was written is read back
 
-difference-again : (d : ℤ) → difference_of (symbol_of d) ≡ d
+difference-again : (d : ℤ) → difference_of (difference_symbol d) ≡ d
 difference-again (pos n) =
     let even : (2 * n) % 2 == 1 ≡ false = grind arith in
     let half : 2 * n / 2 ≡ n = omega arith in
@@ -189,13 +189,13 @@ difference-again (negsuc n) =
     let half : (2 * (n + 1) + 1) / 2 ≡ suc n = omega arith in
     rw (odd, half) refl
 
-sums-again : (start : ℤ) (indices : List ℤ) → sums_from start (map difference_of (map symbol_of (differences_from start indices))) ≡ indices
+sums-again : (start : ℤ) (indices : List ℤ) → sums_from start (map difference_of (map difference_symbol (differences_from start indices))) ≡ indices
 sums-again start [] = refl
 sums-again start (i ∷ is) =
     let back : start +ℤ (i -ℤ start) ≡ i = omega (arith, ints) in
     rw (difference-again (i -ℤ start), back) (ap (λ l. i ∷ l) (sums-again i is))
 
-points-again : (o : Fault) (n : ℕ) (indices : List ℕ) → All (λ i. i < n) indices → points_of o n (map pos indices) ≡ Ok indices
+points-again : (o : Fault) (n : ℕ) (indices : List ℕ) → All (λ i. i < n) indices → points_meant o n (map pos indices) ≡ Ok indices
 points-again o n [] are = refl
 points-again o n (i ∷ is) are =
     let here : nat_lt i n ≡ true = (let h : i < n = are 0 0 (omega arith) in grind (arith, h)) in
@@ -218,7 +218,7 @@ threes-again n (face ∷ faces) are = one face (are 0 [] (omega arith)).0 (three
     one (a ∷ b ∷ d ∷ e ∷ face) len rest = absurd (omega (arith, len))
 
 -- the symbols of faces mean the faces
-faces-again : (o : Fault) (n : ℕ) (faces : List (List ℕ)) → All (IsFaceBelow n) faces → faces_of o n (symbols_of faces) ≡ Ok faces
+faces-again : (o : Fault) (n : ℕ) (faces : List (List ℕ)) → All (IsFaceBelow n) faces → faces_meant o n (symbols_of faces) ≡ Ok faces
 faces-again o n faces are =
     rw (sums-again (pos 0) (map pos (corners_of faces)), points-again o n (corners_of faces) (corners-below n faces are)) (ap Ok (threes-again n faces are))
 

@@ -3,7 +3,7 @@ use Rattle.std.proofs.Common.{◌≡◌, ℕ, ◌+◌, ◌-◌, ◌*◌, ◌/◌
 use Rattle.std.proofs.lemmas.Bool.{cases_lt}
 use Rattle.drc_base.specs.declared.kinds.Kind.{Kind}
 use Rattle.drc_base.specs.declared.kinds.Kind.TheVariants as kind
-use Rattle.drc_bits.specs.Varint.{with_group, groups_of, value_of, fitting, spelling, varint}
+use Rattle.drc_bits.specs.Varint.{with_group, varint_groups, value_of, fitting, spelling, varint}
 use Rattle.drc_bits.proofs.Results.{Ok-injective, err≢ok}
 
 pub one_byte : (n : ℕ) → n < 128 → spelling 5 n ≡ n ∷ []
@@ -94,6 +94,6 @@ none-of-three (a ∷ b ∷ d ∷ []) v k has high high2 high3 is few =
 none-of-three (a ∷ b ∷ d ∷ e ∷ bytes) v k has high high2 high3 is few = elim (cases_lt e 128) [
   | inl low ↦ let more = four_groups (2 ^ 32) (a - 128) (b - 128) (d - 128) e v k (Ok [])
       (rw (le-ltb a 128 high, le-ltb b 128 high2, le-ltb d 128 high3, lt-ltb e 128 low) at is) in omega (arith, more, few)
-  | inr high4 ↦ let more = four_groups (2 ^ 32) (a - 128) (b - 128) (d - 128) (e - 128) v k (groups_of 1 bytes)
+  | inr high4 ↦ let more = four_groups (2 ^ 32) (a - 128) (b - 128) (d - 128) (e - 128) v k (varint_groups 1 bytes)
       (rw (le-ltb a 128 high, le-ltb b 128 high2, le-ltb d 128 high3, le-ltb e 128 high4) at is) in omega (arith, more, few)
 ]

@@ -4,7 +4,7 @@ use Rattle.std.specs.List.{All, flat_map}
 use Rattle.std.proofs.lemmas.Bool.{cases_lt}
 use Rattle.drc_base.specs.declared.kinds.Kind.TheVariants as kind
 use Rattle.drc_base.specs.declared.limits.TheConstants.{MAX_FACES, MAX_POINTS}
-use Rattle.drc_base.specs.Profile.{profile_two}
+use Rattle.drc_base.specs.Profile.{profile}
 use Rattle.drc_base.specs.Steps.{◌>>=◌}
 use Rattle.drc_bits.specs.Reading.{must, many_at}
 use Rattle.drc_bits.specs.Numbers.{number_at, little_endian}
@@ -13,7 +13,7 @@ use Rattle.drc_bits.specs.Bits.{low_bytes}
 use Rattle.drc_bits.specs.Spells.{Spells}
 use Rattle.drc_bits.proofs.Spelled.{Spells-none, Spells-then, Spells-must, Spells-number, Spells-var32, Spells-byte}
 use Rattle.seq_section.specs.declared.reading.Opening.{Opening}
-use Rattle.seq_section.specs.Indices.{index_width, number_of_width, bytes_of_width, index_at, face_at, index_bytes, face_bytes, IsFaceBelow, method_at, opening_at, faces_at, indices_at, opening_bytes, faces_bytes, indices_bytes}
+use Rattle.seq_section.specs.Indices.{index_width, number_of_width, bytes_of_width, index_at, face_at, index_bytes, face_bytes, IsFaceBelow, method_at, indices_opening_at, faces_at, indices_at, indices_opening_bytes, faces_bytes, indices_bytes}
 
 length-low_bytes : (n v : ℕ) → length (low_bytes n v) ≡ n
 length-low_bytes zero v = refl
@@ -85,13 +85,13 @@ Spells-faces points (face ∷ faces) are few =
 
 -- the opening of a written section
 Spells-opening : (faces points method : ℕ) → faces ≤ MAX_FACES → points ≤ MAX_POINTS → method ≤ 1
-    → Spells (opening_at profile_two) (opening_bytes faces points method) (record { faces = faces; points = points; method = method })
-unfolding opening_at
+    → Spells (indices_opening_at profile) (indices_opening_bytes faces points method) (record { faces = faces; points = points; method = method })
+unfolding indices_opening_at
 Spells-opening faces points method few_faces few_points known =
     let faces_pass : nat_le faces MAX_FACES ≡ true = grind (arith, few_faces) in
     let points_pass : nat_le points MAX_POINTS ≡ true = grind (arith, few_points) in
     let method_passes : nat_le method 1 ≡ true = grind (arith, known) in
-    subst (λ bytes. Spells (opening_at profile_two) bytes (record { faces = faces; points = points; method = method })) (sym (append_assoc (spelling 5 faces) (spelling 5 points) (method ∷ [])))
+    subst (λ bytes. Spells (indices_opening_at profile) bytes (record { faces = faces; points = points; method = method })) (sym (append_assoc (spelling 5 faces) (spelling 5 points) (method ∷ [])))
     (Spells-then (must kind.FaceLimit (λ n. nat_le n MAX_FACES) var32_at)
     (λ f c. must kind.PointLimit (λ n. nat_le n MAX_POINTS) var32_at c >>= λ p. method_at p.1 >>= λ m. Ok (record { faces = f; points = p.0; method = m.0 }, m.1))
     (spelling 5 faces) (spelling 5 points ++ (method ∷ [])) faces (record { faces = faces; points = points; method = method })
@@ -108,14 +108,14 @@ Spells-opening faces points method few_faces few_points known =
 -- a written section is read back where its faces are
 pub Spells-section : (packed : Bool) (faces : List (List ℕ)) (points : ℕ) → length faces ≤ MAX_FACES → points ≤ MAX_POINTS
     → Spells (faces_at (record { faces = length faces; points = points; method = if packed then 0 else 1 })) (faces_bytes packed faces points) faces
-    → Spells (indices_at profile_two) (indices_bytes packed faces points) (record { faces = faces; points = points })
+    → Spells (indices_at profile) (indices_bytes packed faces points) (record { faces = faces; points = points })
 unfolding indices_at indices_bytes
 Spells-section packed faces points few_faces few_points behind =
     let opening : Opening = record { faces = length faces; points = points; method = if packed then 0 else 1 } in
-    let front : List ℕ = opening_bytes (length faces) points (if packed then 0 else 1) in
+    let front : List ℕ = indices_opening_bytes (length faces) points (if packed then 0 else 1) in
     let known : (if packed then 0 else 1) ≤ 1 = elim packed as (λ b. (if b then 0 else 1) ≤ 1) [ true ↦ omega arith | false ↦ omega arith ] in
-    subst (λ bytes. Spells (indices_at profile_two) bytes (record { faces = faces; points = points })) (ap (λ l. front ++ l) (append-nil (faces_bytes packed faces points)))
-    (Spells-then (opening_at profile_two) (λ o c. faces_at o c >>= λ fs. Ok (record { faces = fs.0; points = o.points }, fs.1))
+    subst (λ bytes. Spells (indices_at profile) bytes (record { faces = faces; points = points })) (ap (λ l. front ++ l) (append-nil (faces_bytes packed faces points)))
+    (Spells-then (indices_opening_at profile) (λ o c. faces_at o c >>= λ fs. Ok (record { faces = fs.0; points = o.points }, fs.1))
     front (faces_bytes packed faces points ++ []) opening (record { faces = faces; points = points })
     (Spells-opening (length faces) points (if packed then 0 else 1) few_faces few_points known)
     (Spells-then (faces_at opening) (λ fs c. Ok (record { faces = fs; points = points }, c)) (faces_bytes packed faces points) []

@@ -11,7 +11,7 @@ use Rattle.drc_bits.specs.Numbers.{number_at}
 use Rattle.drc_bits.specs.Varint.{var32_at, spelling}
 use Rattle.drc_bits.specs.Bits.{low_bytes}
 use Rattle.symbol_coding.specs.Block.{block_at, block_bytes}
-use Rattle.seq_section.specs.Packed.{faces_of, symbols_of}
+use Rattle.seq_section.specs.Packed.{faces_meant, symbols_of}
 use Rattle.seq_section.specs.declared.reading.SeqRead.{SeqRead}
 use Rattle.seq_section.specs.declared.reading.Opening.{Opening}
 
@@ -20,8 +20,8 @@ abbrev pub method_at : Reading → Item ℕ
 method_at c = must kind.IndexMethod (λ n. nat_le n 1) (number_at 1) c
 
 -- the opening of the section in a profile: faces, points, and the coding of the indices
-unfoldable pub opening_at : Profile → Reading → Item Opening
-opening_at p c = do
+unfoldable pub indices_opening_at : Profile → Reading → Item Opening
+indices_opening_at p c = do
   faces ← must kind.FaceLimit (λ n. nat_le n p.faces) var32_at c
   points ← must kind.PointLimit (λ n. nat_le n p.points) var32_at faces.1
   method ← method_at points.1
@@ -61,7 +61,7 @@ face_at points c = do
 unfoldable pub packed_at : ℕ → ℕ → Reading → Item (List (List ℕ))
 packed_at points faces c = do
   symbols ← block_at (3 * faces) 1 c
-  corners ← faces_of (record { kind = kind.IndexRange; at = c.place }) points symbols.0
+  corners ← faces_meant (record { kind = kind.IndexRange; at = c.place }) points symbols.0
   Ok (corners, symbols.1)
 
 -- the faces behind the opening
@@ -72,7 +72,7 @@ faces_at opening c = if opening.method == 0 then packed_at opening.points openin
 -- the section in a profile
 unfoldable pub indices_at : Profile → Reading → Item SeqRead
 indices_at p c = do
-  opening ← opening_at p c
+  opening ← indices_opening_at p c
   faces ← faces_at opening.0 opening.1
   Ok (record { faces = faces.0; points = opening.0.points }, faces.1)
 
@@ -85,8 +85,8 @@ abbrev pub face_bytes : ℕ → List ℕ → List ℕ
 face_bytes points face = flat_map (index_bytes points) face
 
 -- the bytes of the opening
-abbrev pub opening_bytes : ℕ → ℕ → ℕ → List ℕ
-opening_bytes faces points method = spelling 5 faces ++ spelling 5 points ++ (method ∷ [])
+abbrev pub indices_opening_bytes : ℕ → ℕ → ℕ → List ℕ
+indices_opening_bytes faces points method = spelling 5 faces ++ spelling 5 points ++ (method ∷ [])
 
 -- the bytes behind the opening: those of a block of symbols, or of each face
 abbrev pub faces_bytes : Bool → List (List ℕ) → ℕ → List ℕ
@@ -94,7 +94,7 @@ faces_bytes packed faces points = if packed then block_bytes (symbols_of faces) 
 
 -- the bytes of the section, with packed or with plain indices
 unfoldable pub indices_bytes : Bool → List (List ℕ) → ℕ → List ℕ
-indices_bytes packed faces points = opening_bytes (length faces) points (if packed then 0 else 1) ++ faces_bytes packed faces points
+indices_bytes packed faces points = indices_opening_bytes (length faces) points (if packed then 0 else 1) ++ faces_bytes packed faces points
 
 -- a face of points: three indices below their number
 abbrev pub IsFaceBelow : ℕ → List ℕ → Type 0

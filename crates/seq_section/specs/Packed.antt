@@ -11,9 +11,9 @@ abbrev pub difference_of : ℕ → ℤ
 difference_of v = if v % 2 == 1 then neg_ℤ (pos (v / 2)) else pos (v / 2)
 
 -- the symbol of a difference
-abbrev pub symbol_of : ℤ → ℕ
-symbol_of (pos n) = 2 * n
-symbol_of (negsuc n) = 2 * (n + 1) + 1
+abbrev pub difference_symbol : ℤ → ℕ
+difference_symbol (pos n) = 2 * n
+difference_symbol (negsuc n) = 2 * (n + 1) + 1
 
 -- the sums of a start and the differences up to each
 abbrev pub sums_from : ℤ → List ℤ → List ℤ
@@ -26,18 +26,18 @@ differences_from start [] = []
 differences_from start (i ∷ is) = (i -ℤ start) ∷ differences_from i is
 
 -- the point of this number, where it is one of so many, else the fault
-abbrev pub point_of : Fault → ℕ → ℤ → Result ℕ Fault
-point_of outside points (pos i) = if nat_lt i points then Ok i else Err outside
-point_of outside points (negsuc n) = Err outside
+abbrev pub point_meant : Fault → ℕ → ℤ → Result ℕ Fault
+point_meant outside points (pos i) = if nat_lt i points then Ok i else Err outside
+point_meant outside points (negsuc n) = Err outside
 
 -- the points of these numbers, where each is one
-abbrev pub points_of : Fault → ℕ → List ℤ → Result (List ℕ) Fault
-points_of outside points [] = Ok []
-points_of outside points (i ∷ is) = point_of outside points i >>= λ p. points_of outside points is >>= λ ps. Ok (p ∷ ps)
+abbrev pub points_meant : Fault → ℕ → List ℤ → Result (List ℕ) Fault
+points_meant outside points [] = Ok []
+points_meant outside points (i ∷ is) = point_meant outside points i >>= λ p. points_meant outside points is >>= λ ps. Ok (p ∷ ps)
 
 -- the points that symbols mean after a number
 abbrev pub points_after : Fault → ℕ → ℤ → List ℕ → Result (List ℕ) Fault
-points_after outside points start symbols = points_of outside points (sums_from start (map difference_of symbols))
+points_after outside points start symbols = points_meant outside points (sums_from start (map difference_of symbols))
 
 -- corners, three by three
 abbrev pub threes : List ℕ → List (List ℕ)
@@ -45,12 +45,12 @@ threes (a ∷ b ∷ d ∷ corners) = (a ∷ b ∷ d ∷ []) ∷ threes corners
 threes _ = []
 
 -- the faces that symbols mean
-abbrev pub faces_of : Fault → ℕ → List ℕ → Result (List (List ℕ)) Fault
-faces_of outside points symbols = points_after outside points (pos 0) symbols >>= λ corners. Ok (threes corners)
+abbrev pub faces_meant : Fault → ℕ → List ℕ → Result (List (List ℕ)) Fault
+faces_meant outside points symbols = points_after outside points (pos 0) symbols >>= λ corners. Ok (threes corners)
 
 -- the symbols of indices, the first after a number
 abbrev pub symbols_after : ℤ → List ℕ → List ℕ
-symbols_after start indices = map symbol_of (differences_from start (map pos indices))
+symbols_after start indices = map difference_symbol (differences_from start (map pos indices))
 
 -- the symbols of faces
 abbrev pub symbols_of : List (List ℕ) → List ℕ

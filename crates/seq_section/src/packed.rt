@@ -6,7 +6,7 @@ ghost use Rattle.drc_bits.specs.Reading.{Gives};
 ghost use Rattle.drc_bits.specs.Spells.{Spells};
 ghost use Rattle.symbol_coding.specs.Block.{block_bytes};
 ghost use Rattle.seq_section.specs.Indices.{packed_at, IsFaceBelow};
-ghost use Rattle.seq_section.specs.Packed.{difference_of, point_of, points_after, faces_of, symbol_of, symbols_after, symbols_of};
+ghost use Rattle.seq_section.specs.Packed.{difference_of, point_meant, points_after, faces_meant, difference_symbol, symbols_after, symbols_of};
 
 use drc_base::{Fault, Kind, MAX_FACES, MAX_POINTS, Memory, Refusal};
 use drc_bits::Cursor;
@@ -39,7 +39,7 @@ fn faces_of(
 ) -> Result<Vec<[u32; 3]>, Refusal>
     requires few_points { points ≤ MAX_POINTS }
     requires threes { length symbols.now % 3 ≡ 0 }
-    ensures { Answers (λ v. v.items) (faces_of outside points symbols.now) result }
+    ensures { Answers (λ v. v.items) (faces_meant outside points symbols.now) result }
 {
     let mut faces = Vec::new(alloc);
     let mut last = 0u32;
@@ -77,7 +77,7 @@ fn face_after(
 fn index_after(last: u32, symbol: u32, points: u32, outside: Fault) -> Result<u32, Fault>
     requires last { last ≤ MAX_POINTS }
     requires few_points { points ≤ MAX_POINTS }
-    ensures { result ≡ point_of outside points (pos last +ℤ difference_of symbol) }
+    ensures { result ≡ point_meant outside points (pos last +ℤ difference_of symbol) }
 {
     let size = symbol / 2;
     if symbol % 2 == 1 {
@@ -91,7 +91,7 @@ fn index_after(last: u32, symbol: u32, points: u32, outside: Fault) -> Result<u3
 
 /// The index itself, where it is below `points`.
 fn point_below(index: u32, points: u32, outside: Fault) -> Result<u32, Fault>
-    ensures { result ≡ point_of outside points (pos index) }
+    ensures { result ≡ point_meant outside points (pos index) }
 {
     if index >= points {
         return Err(outside);
@@ -152,7 +152,7 @@ fn put_symbols(symbols: &mut Vec<u32>, last: u32, face: [u32; 3], points: u32) -
 fn symbol_of(last: u32, index: u32) -> u32
     requires last { last ≤ MAX_POINTS }
     requires index { index ≤ MAX_POINTS }
-    ensures { result ≡ symbol_of (pos index -ℤ pos last) }
+    ensures { result ≡ difference_symbol (pos index -ℤ pos last) }
 {
     if index < last {
         return 2 * (last - index) + 1;

@@ -26,7 +26,7 @@ pub fn read_faces(
     Ok(read)
 }
 
-/// Reads a face: where its bytes are plain to see all at once, else index by index.
+/// Reads a face: in one step where it is seen in its bytes, else index by index.
 #[inline(always)]
 fn next_face(c: &mut Cursor<'_>, points: u32) -> Result<[u32; 3], Fault>
     ensures { Reads (λ f. f) (face_at points c.old) c.new result }

@@ -3,10 +3,10 @@
 ghost use Rattle.std.specs.Prelude.{◌≡◌, ◌≤◌, Err, IfOk, OnErr, nat_le};
 ghost use Rattle.drc_base.specs.declared.faults.Fault.{Fault as AnyFault};
 ghost use Rattle.drc_base.specs.declared.faults.Refusal.TheVariants as refusal;
-ghost use Rattle.drc_base.specs.Profile.{profile_two};
+ghost use Rattle.drc_base.specs.Profile.{profile};
 ghost use Rattle.drc_bits.specs.Reading.{Reads, Gives, must};
 ghost use Rattle.drc_bits.specs.Varint.{var32_at};
-ghost use Rattle.seq_section.specs.Indices.{method_at, opening_at, faces_at, indices_at};
+ghost use Rattle.seq_section.specs.Indices.{method_at, indices_opening_at, faces_at, indices_at};
 
 use crate::methods::{PACKED, PLAIN};
 use crate::packed::read_packed;
@@ -42,8 +42,8 @@ pub struct Opening {
 /// numbers and of the method come before memory is taken. After a refusal the cursor is where it was.
 #[tactic(auto, unfolding(crate::specs::Indices::indices_at))]
 pub fn read_indices(alloc: Global, c: &mut Cursor<'_>) -> Result<SeqRead, Refusal>
-    ensures indices { Gives (λ r. r) (indices_at profile_two c.old) c.new result }
-    ensures early { (f : AnyFault) → opening_at profile_two c.old ≡ Err f → result ≡ Err (refusal.Fault f) }
+    ensures indices { Gives (λ r. r) (indices_at profile c.old) c.new result }
+    ensures early { (f : AnyFault) → indices_opening_at profile c.old ≡ Err f → result ≡ Err (refusal.Fault f) }
     ensures unchanged { OnErr result (c.new ≡ c.old) }
 {
     let mut ahead = c.copy();
@@ -73,9 +73,9 @@ fn read_behind(
 }
 
 /// Reads the opening of the section.
-#[tactic(auto, unfolding(crate::specs::Indices::opening_at))]
+#[tactic(auto, unfolding(crate::specs::Indices::indices_opening_at))]
 fn read_opening(c: &mut Cursor<'_>) -> Result<Opening, Fault>
-    ensures opening { Reads (λ o. o) (opening_at profile_two c.old) c.new result }
+    ensures opening { Reads (λ o. o) (indices_opening_at profile c.old) c.new result }
     ensures faces { IfOk result (λ o. o.faces ≤ MAX_FACES) }
     ensures points { IfOk result (λ o. o.points ≤ MAX_POINTS) }
 {

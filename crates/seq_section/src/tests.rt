@@ -29,7 +29,8 @@ fn writes(
     if points > MAX_POINTS || first >= points || second >= points || third >= points {
         return Ok(false);
     }
-    let written = write_indices(alloc, &[face], points, packed)?;
+    let mut written = Vec::new(alloc);
+    write_indices(alloc, &mut written, &[face], points, packed)?;
     Ok(written.as_slice() == bytes)
 }
 

@@ -12,15 +12,15 @@ use Rattle.drc_bits.specs.Bits.{AreBits, bits_of, bytes_for, low_bits, packed}
 use Rattle.drc_bits.proofs.Written.{reading, advanced-front, bytes_at-front, number_at-byte, var64_at-spelling}
 use Rattle.drc_bits.proofs.BitLists.{bits_of-append}
 use Rattle.drc_bits.proofs.PackedBits.{AreBits-append, AreBits-low_bits, length-packed, packed-again}
-use Rattle.rans_core.specs.Coder.{State, Fits, Pulled, all_spelled, started}
+use Rattle.rans_core.specs.Coder.{CoderState, Fits, Pulled, all_spelled, started}
 use Rattle.rans_core.proofs.Closing.{all_spelled-Unpacks}
 use Rattle.symbol_tables.specs.Tables.{table_at, table_bytes}
-use Rattle.symbol_tables.specs.Normal.{HasTable, greatest_of, normal}
+use Rattle.symbol_tables.specs.Normal.{HasTable, greatest_count, normal}
 use Rattle.symbol_tables.proofs.Symbols.{symbol_of-is}
 use Rattle.symbol_tables.proofs.Sharing.{normal-length, normal-positive, normal-sum}
 use Rattle.symbol_tables.proofs.Spelling.{table_at-Spells}
-use Rattle.symbol_coding.specs.Symbols.{coded_at, coded_bytes, counts_of, full, interval_of, next_symbol, next_symbols}
-use Rattle.symbol_coding.specs.Block.{HasWidths, block_at, lengths_of, precision, raw_at, raw_bytes, raw_length, tagged_at, tagged_bytes, value_bits, values_in, widths}
+use Rattle.symbol_coding.specs.Symbols.{coded_at, coded_bytes, counts_of, full, interval_of, refilled_symbol, next_symbols}
+use Rattle.symbol_coding.specs.Block.{HasWidths, block_at, lengths_of, precision, raw_at, raw_bytes, raw_length, tagged_at, tagged_bytes, value_bits, values_in_groups, widths}
 use Rattle.symbol_coding.proofs.Slots.{within}
 use Rattle.symbol_coding.proofs.Tables.{positive-below, raw-table, tagged-table, used-positive}
 use Rattle.symbol_coding.proofs.Widths.{length-value_bits, length-lengths_of, values_in-bits, widths-fit}
@@ -28,13 +28,13 @@ use Rattle.symbol_coding.proofs.Widths.{length-value_bits, length-lengths_of, va
 -- ---- coded symbols
 
 -- what is pulled as these symbols are the next symbols
-pub symbols-again : (bits : ℕ) (probs symbols : List ℕ) (s : State) → ((k : ℕ) → k < length symbols → 0 < get_or probs (get_or symbols k 0) 0)
+pub symbols-again : (bits : ℕ) (probs symbols : List ℕ) (s : CoderState) → ((k : ℕ) → k < length symbols → 0 < get_or probs (get_or symbols k 0) 0)
     → Pulled 4 (2 ^ bits) s (map (interval_of probs) symbols) → next_symbols (length symbols) bits probs s ≡ symbols
 unfolding next_symbols
 symbols-again bits probs [] s positive pulls = refl
 symbols-again bits probs (v ∷ vs) s positive pulls =
     let below : v < length probs = positive-below probs v (positive 0 (omega arith)) in
-    let is : next_symbol bits probs s ≡ v = symbol_of-is probs ((full bits s).number % 2 ^ bits) v (below, pulls.0.0, pulls.0.1) in
+    let is : refilled_symbol bits probs s ≡ v = symbol_of-is probs ((full bits s).number % 2 ^ bits) v (below, pulls.0.0, pulls.0.1) in
     rw (is) (ap (λ xs. v ∷ xs) (symbols-again bits probs vs _ (λ k h. positive (suc k) (omega (arith, h))) pulls.1))
 
 -- the slots of symbols that have some
@@ -49,7 +49,7 @@ slots-fit bits probs symbols whole positive = λ k d h.
 
 -- the coded bytes start, and give the symbols
 pub record IsCoded (bits : ℕ) (probs symbols coded : List ℕ) : Type 0 where
-  pub state : State
+  pub state : CoderState
   pub starts : started 4 (4 * 2 ^ bits) coded ≡ Some state
   pub gives : next_symbols (length symbols) bits probs state ≡ symbols
 
@@ -62,7 +62,7 @@ is-coded bits probs symbols high whole positive =
       gives = symbols-again bits probs symbols u.0 positive u.2;
     }
 
-pub coded-reads : (bits place : ℕ) (coded rest : List ℕ) (s : State) → length coded < 2 ^ 64 → started 4 (4 * 2 ^ bits) coded ≡ Some s
+pub coded-reads : (bits place : ℕ) (coded rest : List ℕ) (s : CoderState) → length coded < 2 ^ 64 → started 4 (4 * 2 ^ bits) coded ≡ Some s
     → coded_at bits (reading place (spelling 10 (length coded) ++ (coded ++ rest)))
     ≡ Ok (record { place = place + length (spelling 10 (length coded)); state = s }, reading (place + length (spelling 10 (length coded)) + length coded) rest)
 unfolding coded_at
@@ -87,7 +87,7 @@ scheme-passes place b rest passes = rw (number_at-byte place b rest, passes) ref
 length-passes : (l : ℕ) → 1 ≤ l → l ≤ 18 → (nat_le 1 l && nat_le l 18) ≡ true
 length-passes l low high = rw (le-leb 1 l low) (le-leb l 18 high)
 
-pub raw-reads : (n comps place length' : ℕ) (probs values coded text rest : List ℕ) (s : State) → 0 < n → 1 ≤ length' → length' ≤ 18
+pub raw-reads : (n comps place length' : ℕ) (probs values coded text rest : List ℕ) (s : CoderState) → 0 < n → 1 ≤ length' → length' ≤ 18
     → Spells (table_at (precision length')) text probs → length coded < 2 ^ 64 → started 4 (4 * 2 ^ precision length') coded ≡ Some s → next_symbols n (precision length') probs s ≡ values
     → block_at n comps (reading place (1 ∷ length' ∷ (text ++ (spelling 10 (length coded) ++ (coded ++ rest)))))
     ≡ Ok (values, reading (place + 1 + 1 + length text + length (spelling 10 (length coded)) + length coded) rest)
@@ -103,9 +103,9 @@ raw-reads n comps place length' probs values coded text rest s some low high tab
       gives,
     ) refl
 
-pub tagged-reads : (n comps place : ℕ) (probs lengths values coded text bits rest : List ℕ) (s : State) → 0 < n
+pub tagged-reads : (n comps place : ℕ) (probs lengths values coded text bits rest : List ℕ) (s : CoderState) → 0 < n
     → Spells (table_at (precision 5)) text probs → length coded < 2 ^ 64 → started 4 (4 * 2 ^ precision 5) coded ≡ Some s → next_symbols (n / comps) (precision 5) probs s ≡ lengths
-    → ((long short : ℕ) → values_in long short (widths comps lengths) (bits_of (bits ++ rest)) ≡ Ok values) → bytes_for (sum (widths comps lengths)) ≡ length bits
+    → ((long short : ℕ) → values_in_groups long short (widths comps lengths) (bits_of (bits ++ rest)) ≡ Ok values) → bytes_for (sum (widths comps lengths)) ≡ length bits
     → block_at n comps (reading place (0 ∷ (text ++ (spelling 10 (length coded) ++ (coded ++ (bits ++ rest))))))
     ≡ Ok (values, reading (place + 1 + length text + length (spelling 10 (length coded)) + length coded + length bits) rest)
 unfolding block_at tagged_at
@@ -132,7 +132,7 @@ none-again [] bytes comps none empty = record {
 }
 none-again (v ∷ vs) bytes comps none empty = absurd (omega (arith, none))
 
-pub raw-again : (values bytes : List ℕ) (comps : ℕ) → 0 < length values → length values ≤ MAX_VALUES → greatest_of values < 2 ^ 18 → bytes ≡ raw_bytes values → length bytes < 2 ^ 64
+pub raw-again : (values bytes : List ℕ) (comps : ℕ) → 0 < length values → length values ≤ MAX_VALUES → greatest_count values < 2 ^ 18 → bytes ≡ raw_bytes values → length bytes < 2 ^ 64
     → Spells (block_at (length values) comps) bytes values
 unfolding raw_bytes coded_bytes
 raw-again values bytes comps some few small is short =
@@ -185,8 +185,8 @@ tagged-again values bytes comps divides some few each is short =
     let again = packed-again put (AreBits-value_bits ws values) in
     let gives : next_symbols (length values / comps) bits probs good.state ≡ lengths =
     ap (λ n. next_symbols n bits probs good.state) (sym (length-lengths_of values comps)) ∙ good.gives in
-    let reads : (rest : List ℕ) (long short : ℕ) → values_in long short ws (bits_of (last ++ rest)) ≡ Ok values =
-    λ rest long short. ap (values_in long short ws) (bits_of-append last rest ∙ ap (λ xs. xs ++ bits_of rest) again.1 ∙ append_assoc put again.0 (bits_of rest))
+    let reads : (rest : List ℕ) (long short : ℕ) → values_in_groups long short ws (bits_of (last ++ rest)) ≡ Ok values =
+    λ rest long short. ap (values_in_groups long short ws) (bits_of-append last rest ∙ ap (λ xs. xs ++ bits_of rest) again.1 ∙ append_assoc put again.0 (bits_of rest))
     ∙ values_in-bits long short ws values (again.0 ++ bits_of rest) fit in
     let taken : bytes_for (sum ws) ≡ length last = ap bytes_for (sym (length-value_bits ws values fit)) ∙ sym (length-packed put) in
     let size : length bytes ≡ 1 + (length text + (length number + length coded)) + length last =

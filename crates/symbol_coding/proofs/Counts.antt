@@ -5,7 +5,7 @@ use Rattle.std.proofs.lemmas.List.{ext_get_or, length-take}
 use Rattle.std.proofs.lemmas.List.Sums.{sum_by-cons, count_by-le-length, count_by_more_no, count_by_more_yes}
 use Rattle.std.proofs.lemmas.List.FromFn.{length-map-range_with_len, get_or-map-range_with_len}
 use Rattle.std.specs.List.{range_with_len}
-use Rattle.symbol_tables.specs.Normal.{HasTable, greatest_of, used_of}
+use Rattle.symbol_tables.specs.Normal.{HasTable, greatest_count, used_of}
 use Rattle.symbol_tables.proofs.Symbols.{sum-cons}
 use Rattle.symbol_coding.specs.Symbols.{counts_of}
 use Rattle.symbol_coding.specs.Block.{cost_of_count, raw_cost}
@@ -32,16 +32,16 @@ fold-reached a (x ∷ xs) = elim (fold-reached (max a x) xs) [
 ]
 
 -- each is at most the greatest, which is one of them
-pub each-greatest : (xs : List ℕ) (k : ℕ) → get_or xs k 0 ≤ greatest_of xs
+pub each-greatest : (xs : List ℕ) (k : ℕ) → get_or xs k 0 ≤ greatest_count xs
 each-greatest xs k = fold-each 0 xs k
 
-pub greatest-reached : (xs : List ℕ) → 0 < length xs → (k : ℕ) × (k < length xs) × (get_or xs k 0 ≡ greatest_of xs)
+pub greatest-reached : (xs : List ℕ) → 0 < length xs → (k : ℕ) × (k < length xs) × (get_or xs k 0 ≡ greatest_count xs)
 greatest-reached xs some = elim (fold-reached 0 xs) [
   | inl none ↦ (0, some, (let h = fold-each 0 xs 0 in omega (arith, h, none)))
   | inr at ↦ at
 ]
 
-pub greatest-below : (xs : List ℕ) (limit : ℕ) → 0 < limit → ((k : ℕ) → get_or xs k 0 < limit) → greatest_of xs < limit
+pub greatest-below : (xs : List ℕ) (limit : ℕ) → 0 < limit → ((k : ℕ) → get_or xs k 0 < limit) → greatest_count xs < limit
 greatest-below xs limit some each = elim (fold-reached 0 xs) [
   | inl none ↦ omega (arith, none, some)
   | inr at ↦ (let h = each at.0 in omega (arith, h, at.2))
@@ -115,13 +115,13 @@ sum-counts (x ∷ xs) n =
     let one = sum-one x 0 n in
     let rest = sum-counts xs n in omega (arith, same, add, one, rest)
 
-pub counts_of-length : (symbols : List ℕ) → length (counts_of symbols) ≡ greatest_of symbols + 1
+pub counts_of-length : (symbols : List ℕ) → length (counts_of symbols) ≡ greatest_count symbols + 1
 unfolding counts_of
-counts_of-length symbols = length-map-range_with_len (count_in symbols) 0 (greatest_of symbols + 1)
+counts_of-length symbols = length-map-range_with_len (count_in symbols) 0 (greatest_count symbols + 1)
 
-pub counts_of-at : (symbols : List ℕ) (s : ℕ) → s ≤ greatest_of symbols → get_or (counts_of symbols) s 0 ≡ count_in symbols s
+pub counts_of-at : (symbols : List ℕ) (s : ℕ) → s ≤ greatest_count symbols → get_or (counts_of symbols) s 0 ≡ count_in symbols s
 unfolding counts_of
-counts_of-at symbols s h = get_or-map-range_with_len (count_in symbols) 0 (greatest_of symbols + 1) s s 0 (omega (arith, h)) (omega arith)
+counts_of-at symbols s h = get_or-map-range_with_len (count_in symbols) 0 (greatest_count symbols + 1) s s 0 (omega (arith, h)) (omega arith)
 
 pub counts_of-positive : (symbols : List ℕ) (k : ℕ) → k < length symbols → 0 < get_or (counts_of symbols) (get_or symbols k 0) 0
 counts_of-positive symbols k h =
@@ -130,19 +130,19 @@ counts_of-positive symbols k h =
 
 sum-counts_of : (symbols : List ℕ) → sum (counts_of symbols) ≤ length symbols
 unfolding counts_of
-sum-counts_of symbols = sum-counts symbols (greatest_of symbols + 1)
+sum-counts_of symbols = sum-counts symbols (greatest_count symbols + 1)
 
 -- as many symbols are used as there are counts, at most
-pub used-few : (symbols : List ℕ) → used_of (counts_of symbols) ≤ greatest_of symbols + 1
+pub used-few : (symbols : List ℕ) → used_of (counts_of symbols) ≤ greatest_count symbols + 1
 used-few symbols = let l = counts_of-length symbols in let h = count_by-le-length (λ n. nat_lt 0 n) (counts_of symbols) in omega (arith, l, h)
 
 -- the counts of symbols have a table
-pub has-table : (symbols : List ℕ) (bits : ℕ) → 0 < length symbols → length symbols < 2 ^ 31 → greatest_of symbols < 2 ^ 20 → used_of (counts_of symbols) ≤ 2 ^ bits → HasTable (counts_of symbols) bits
+pub has-table : (symbols : List ℕ) (bits : ℕ) → 0 < length symbols → length symbols < 2 ^ 31 → greatest_count symbols < 2 ^ 20 → used_of (counts_of symbols) ≤ 2 ^ bits → HasTable (counts_of symbols) bits
 has-table symbols bits some few small used =
     let l = counts_of-length symbols in
     let at = greatest-reached symbols some in
-    let p : 0 < get_or (counts_of symbols) (greatest_of symbols) 0 = subst (λ s. 0 < get_or (counts_of symbols) s 0) at.2 (counts_of-positive symbols at.0 at.1) in
-    let e : length (counts_of symbols) - 1 ≡ greatest_of symbols = omega (arith, l) in
+    let p : 0 < get_or (counts_of symbols) (greatest_count symbols) 0 = subst (λ s. 0 < get_or (counts_of symbols) s 0) at.2 (counts_of-positive symbols at.0 at.1) in
+    let e : length (counts_of symbols) - 1 ≡ greatest_count symbols = omega (arith, l) in
     let total = sum-counts_of symbols in record {
       some = omega (arith, l);
       last = subst (λ s. 0 < get_or (counts_of symbols) s 0) (sym e) p;
@@ -174,8 +174,8 @@ counted-next symbols counts next k v n inside is below len so after s h = elim (
 ]
 
 -- all are counted
-pub counted-all : (symbols counts : List ℕ) → length counts ≡ greatest_of symbols + 1
-    → ((s : ℕ) → s < greatest_of symbols + 1 → get_or counts s 0 ≡ count_in (take (length symbols) symbols) s) → counts ≡ counts_of symbols
+pub counted-all : (symbols counts : List ℕ) → length counts ≡ greatest_count symbols + 1
+    → ((s : ℕ) → s < greatest_count symbols + 1 → get_or counts s 0 ≡ count_in (take (length symbols) symbols) s) → counts ≡ counts_of symbols
 counted-all symbols counts len so =
     ext_get_or 0 counts (counts_of symbols) (len ∙ sym (counts_of-length symbols)) (λ i h.
     so i (omega (arith, h, len)) ∙ ap (λ xs. count_in xs i) (take_all (length symbols) symbols (omega arith)) ∙ sym (counts_of-at symbols i (omega (arith, h, len))))
@@ -191,6 +191,6 @@ pub symbols-cost : (values counts : List ℕ) (cost n : ℕ) → counts ≡ coun
     → cost + 8 * length counts ≡ raw_cost values
 symbols-cost values counts cost n is so done =
     let whole : take n counts ≡ counts_of values = take_all n counts done ∙ is in
-    let l : length counts ≡ greatest_of values + 1 = ap length is ∙ counts_of-length values in
+    let l : length counts ≡ greatest_count values + 1 = ap length is ∙ counts_of-length values in
     let s : cost ≡ sum (map (cost_of_count (length values)) (counts_of values)) = so ∙ ap (λ xs. sum (map (cost_of_count (length values)) xs)) whole in
     omega (arith, l, s)

@@ -10,9 +10,9 @@ use Rattle.drc_bits.specs.Bits.{BitPlace, after_bits, bits_left, bits_of, next_b
 use Rattle.drc_bits.proofs.BitLists.{length-bits_of}
 use Rattle.drc_bits.proofs.Many.{one_fewer}
 use Rattle.rans_core.specs.Coder.{Coder}
-use Rattle.symbol_coding.specs.Symbols.{after_symbol, next_symbol, next_symbols}
+use Rattle.symbol_coding.specs.Symbols.{state_behind_symbol, refilled_symbol, next_symbols}
 use Rattle.symbol_coding.proofs.Slots.{symbols-step}
-use Rattle.symbol_coding.specs.Block.{values_in, widths, with_values}
+use Rattle.symbol_coding.specs.Block.{values_in_groups, widths, with_values}
 
 -- ---- one value
 
@@ -88,25 +88,25 @@ in_front front v (Ok vs) = ap (λ xs. Ok xs) (sym (append_assoc front (v ∷ [])
 in_front front v (Err f) = refl
 
 pub values_in-next : (long short w : ℕ) (ws bits front : List ℕ) → w ≤ 32 → w ≤ length bits
-    → with_values front (values_in long short (w ∷ ws) bits) ≡ with_values (front ++ number_of (take w bits) ∷ []) (values_in long short ws (drop w bits))
-unfolding values_in
+    → with_values front (values_in_groups long short (w ∷ ws) bits) ≡ with_values (front ++ number_of (take w bits) ∷ []) (values_in_groups long short ws (drop w bits))
+unfolding values_in_groups
 values_in-next long short w ws bits front small fits =
-    rw (cond-false _ _ _ (le-ltb 32 w small), cond-false _ _ _ (le-ltb (length bits) w fits)) (in_front front (number_of (take w bits)) (values_in long short ws (drop w bits)))
+    rw (cond-false _ _ _ (le-ltb 32 w small), cond-false _ _ _ (le-ltb (length bits) w fits)) (in_front front (number_of (take w bits)) (values_in_groups long short ws (drop w bits)))
 
 pub values_in-short : (long short w : ℕ) (ws bits front : List ℕ) → w ≤ 32 → length bits < w
-    → with_values front (values_in long short (w ∷ ws) bits) ≡ Err (record { kind = kind.Short; at = short })
-unfolding values_in
+    → with_values front (values_in_groups long short (w ∷ ws) bits) ≡ Err (record { kind = kind.Short; at = short })
+unfolding values_in_groups
 values_in-short long short w ws bits front small fits =
     rw (cond-false _ _ _ (le-ltb 32 w small), cond-true _ _ _ (lt-ltb (length bits) w fits)) refl
 
 pub values_in-long : (long short w : ℕ) (ws bits front : List ℕ) → 32 < w
-    → with_values front (values_in long short (w ∷ ws) bits) ≡ Err (record { kind = kind.Length; at = long })
-unfolding values_in
+    → with_values front (values_in_groups long short (w ∷ ws) bits) ≡ Err (record { kind = kind.Length; at = long })
+unfolding values_in_groups
 values_in-long long short w ws bits front large = rw (cond-true _ _ _ (lt-ltb 32 w large)) refl
 
 -- where the bits of so many values of one width aren't all there, they run out
 pub values_in-few : (long short w n : ℕ) (ws bits front : List ℕ) → w ≤ 32 → length bits < n * w
-    → with_values front (values_in long short (replicate n w ++ ws) bits) ≡ Err (record { kind = kind.Short; at = short })
+    → with_values front (values_in_groups long short (replicate n w ++ ws) bits) ≡ Err (record { kind = kind.Short; at = short })
 values_in-few long short w zero ws bits front small few = absurd (omega (arith, few))
 values_in-few long short w (suc n) ws bits front small few = elim (cases_lt (length bits) w) [
   | inl missing ↦ values_in-short long short w (replicate n w ++ ws) bits front small missing
@@ -145,56 +145,56 @@ there-next w n k r inside there =
     omega (arith, m, there)
 
 pub group-next : (long short w n k v : ℕ) (ws front next : List ℕ) (r t : BitPlace) (whole : Result (List ℕ) Fault) → w ≤ 32 → k < n → IsTaken w v r t → next ≡ front ++ v ∷ []
-    → whole ≡ with_values front (values_in long short (replicate (n - k) w ++ ws) (bits_left r))
-    → whole ≡ with_values next (values_in long short (replicate (n - (k + 1)) w ++ ws) (bits_left t))
+    → whole ≡ with_values front (values_in_groups long short (replicate (n - k) w ++ ws) (bits_left r))
+    → whole ≡ with_values next (values_in_groups long short (replicate (n - (k + 1)) w ++ ws) (bits_left t))
 group-next long short w n k v ws front next r t whole small inside taken is so =
-    so ∙ ap (λ m. with_values front (values_in long short (replicate m w ++ ws) (bits_left r))) (one_fewer n k inside)
+    so ∙ ap (λ m. with_values front (values_in_groups long short (replicate m w ++ ws) (bits_left r))) (one_fewer n k inside)
     ∙ values_in-next long short w (replicate (n - (k + 1)) w ++ ws) (bits_left r) front small taken.fits
-    ∙ ap (λ x. with_values (front ++ x ∷ []) (values_in long short (replicate (n - (k + 1)) w ++ ws) (drop w (bits_left r)))) (sym taken.value)
-    ∙ ap (λ bits. with_values (front ++ v ∷ []) (values_in long short (replicate (n - (k + 1)) w ++ ws) bits)) (sym (left-taken w v r t taken))
-    ∙ ap (λ xs. with_values xs (values_in long short (replicate (n - (k + 1)) w ++ ws) (bits_left t))) (sym is)
+    ∙ ap (λ x. with_values (front ++ x ∷ []) (values_in_groups long short (replicate (n - (k + 1)) w ++ ws) (drop w (bits_left r)))) (sym taken.value)
+    ∙ ap (λ bits. with_values (front ++ v ∷ []) (values_in_groups long short (replicate (n - (k + 1)) w ++ ws) bits)) (sym (left-taken w v r t taken))
+    ∙ ap (λ xs. with_values xs (values_in_groups long short (replicate (n - (k + 1)) w ++ ws) (bits_left t))) (sym is)
 
 pub group-end : (long short w n : ℕ) (ws front : List ℕ) (r : BitPlace) (whole : Result (List ℕ) Fault)
-    → whole ≡ with_values front (values_in long short (replicate (n - n) w ++ ws) (bits_left r))
-    → whole ≡ with_values front (values_in long short ws (bits_left r))
-group-end long short w n ws front r whole so = so ∙ ap (λ m. with_values front (values_in long short (replicate m w ++ ws) (bits_left r))) (let e : n - n ≡ 0 = omega arith in e)
+    → whole ≡ with_values front (values_in_groups long short (replicate (n - n) w ++ ws) (bits_left r))
+    → whole ≡ with_values front (values_in_groups long short ws (bits_left r))
+group-end long short w n ws front r whole so = so ∙ ap (λ m. with_values front (values_in_groups long short (replicate m w ++ ws) (bits_left r))) (let e : n - n ≡ 0 = omega arith in e)
 
 -- ---- one group
 
 pub group-values : (long short comps groups g w : ℕ) (probs front next : List ℕ) (d e : Coder) (r t : BitPlace) (whole : Result (List ℕ) Fault) → g < groups
-    → w ≡ next_symbol d.bits probs d.state → e ≡ record { bits = d.bits; state = after_symbol d.bits probs d.state }
-    → ((long short : ℕ) (ws : List ℕ) → with_values front (values_in long short (replicate comps w ++ ws) (bits_left r)) ≡ with_values next (values_in long short ws (bits_left t)))
-    → whole ≡ with_values front (values_in long short (widths comps (next_symbols (groups - g) d.bits probs d.state)) (bits_left r))
-    → whole ≡ with_values next (values_in long short (widths comps (next_symbols (groups - (g + 1)) e.bits probs e.state)) (bits_left t))
+    → w ≡ refilled_symbol d.bits probs d.state → e ≡ record { bits = d.bits; state = state_behind_symbol d.bits probs d.state }
+    → ((long short : ℕ) (ws : List ℕ) → with_values front (values_in_groups long short (replicate comps w ++ ws) (bits_left r)) ≡ with_values next (values_in_groups long short ws (bits_left t)))
+    → whole ≡ with_values front (values_in_groups long short (widths comps (next_symbols (groups - g) d.bits probs d.state)) (bits_left r))
+    → whole ≡ with_values next (values_in_groups long short (widths comps (next_symbols (groups - (g + 1)) e.bits probs e.state)) (bits_left t))
 group-values long short comps groups g w probs front next d e r t whole inside symbol after turn so =
-    so ∙ ap (λ ss. with_values front (values_in long short (widths comps ss) (bits_left r)))
+    so ∙ ap (λ ss. with_values front (values_in_groups long short (widths comps ss) (bits_left r)))
     (symbols-step groups g probs d e inside after ∙ ap (λ x. x ∷ next_symbols (groups - (g + 1)) e.bits probs e.state) (sym symbol))
     ∙ turn long short (widths comps (next_symbols (groups - (g + 1)) e.bits probs e.state))
 
 pub group-missing : (long short comps groups g w : ℕ) (probs front : List ℕ) (d e : Coder) (r : BitPlace) (whole : Result (List ℕ) Fault) → g < groups
-    → w ≡ next_symbol d.bits probs d.state → e ≡ record { bits = d.bits; state = after_symbol d.bits probs d.state }
-    → ((long short : ℕ) (ws : List ℕ) → with_values front (values_in long short (replicate comps w ++ ws) (bits_left r)) ≡ Err (record { kind = kind.Short; at = short }))
-    → whole ≡ with_values front (values_in long short (widths comps (next_symbols (groups - g) d.bits probs d.state)) (bits_left r))
+    → w ≡ refilled_symbol d.bits probs d.state → e ≡ record { bits = d.bits; state = state_behind_symbol d.bits probs d.state }
+    → ((long short : ℕ) (ws : List ℕ) → with_values front (values_in_groups long short (replicate comps w ++ ws) (bits_left r)) ≡ Err (record { kind = kind.Short; at = short }))
+    → whole ≡ with_values front (values_in_groups long short (widths comps (next_symbols (groups - g) d.bits probs d.state)) (bits_left r))
     → whole ≡ Err (record { kind = kind.Short; at = short })
 group-missing long short comps groups g w probs front d e r whole inside symbol after turn so =
-    so ∙ ap (λ ss. with_values front (values_in long short (widths comps ss) (bits_left r)))
+    so ∙ ap (λ ss. with_values front (values_in_groups long short (widths comps ss) (bits_left r)))
     (symbols-step groups g probs d e inside after ∙ ap (λ x. x ∷ next_symbols (groups - (g + 1)) e.bits probs e.state) (sym symbol))
     ∙ turn long short (widths comps (next_symbols (groups - (g + 1)) e.bits probs e.state))
 
 pub group-long : (long short comps groups g w : ℕ) (probs front : List ℕ) (d e : Coder) (r : BitPlace) (whole : Result (List ℕ) Fault) → g < groups → 0 < comps
-    → w ≡ next_symbol d.bits probs d.state → e ≡ record { bits = d.bits; state = after_symbol d.bits probs d.state } → 32 < w
-    → whole ≡ with_values front (values_in long short (widths comps (next_symbols (groups - g) d.bits probs d.state)) (bits_left r))
+    → w ≡ refilled_symbol d.bits probs d.state → e ≡ record { bits = d.bits; state = state_behind_symbol d.bits probs d.state } → 32 < w
+    → whole ≡ with_values front (values_in_groups long short (widths comps (next_symbols (groups - g) d.bits probs d.state)) (bits_left r))
     → whole ≡ Err (record { kind = kind.Length; at = long })
 group-long long short comps groups g w probs front d e r whole inside some symbol after large so =
     let rest : List ℕ = widths comps (next_symbols (groups - (g + 1)) e.bits probs e.state) in
-    so ∙ ap (λ ss. with_values front (values_in long short (widths comps ss) (bits_left r)))
+    so ∙ ap (λ ss. with_values front (values_in_groups long short (widths comps ss) (bits_left r)))
     (symbols-step groups g probs d e inside after ∙ ap (λ x. x ∷ next_symbols (groups - (g + 1)) e.bits probs e.state) (sym symbol))
-    ∙ ap (λ m. with_values front (values_in long short (replicate m w ++ rest) (bits_left r))) (let h : comps ≡ suc (comps - 1) = omega arith in h)
+    ∙ ap (λ m. with_values front (values_in_groups long short (replicate m w ++ rest) (bits_left r))) (let h : comps ≡ suc (comps - 1) = omega arith in h)
     ∙ values_in-long long short w (replicate (comps - 1) w ++ rest) (bits_left r) front large
 
 -- the bits of a group, and those of the groups after it
 pub group-taken : (comps groups g w taken taken' total : ℕ) (probs : List ℕ) (d e : Coder) → g < groups
-    → w ≡ next_symbol d.bits probs d.state → e ≡ record { bits = d.bits; state = after_symbol d.bits probs d.state } → taken' ≡ taken + comps * w
+    → w ≡ refilled_symbol d.bits probs d.state → e ≡ record { bits = d.bits; state = state_behind_symbol d.bits probs d.state } → taken' ≡ taken + comps * w
     → taken + sum (widths comps (next_symbols (groups - g) d.bits probs d.state)) ≡ total
     → taken' + sum (widths comps (next_symbols (groups - (g + 1)) e.bits probs e.state)) ≡ total
 group-taken comps groups g w taken taken' total probs d e inside symbol after is so =
@@ -206,10 +206,10 @@ group-taken comps groups g w taken taken' total probs d e inside symbol after is
     omega (arith, split, two, one, is, so)
 
 pub groups-end : (long short comps groups : ℕ) (probs front : List ℕ) (d : Coder) (r : BitPlace) (whole : Result (List ℕ) Fault)
-    → whole ≡ with_values front (values_in long short (widths comps (next_symbols (groups - groups) d.bits probs d.state)) (bits_left r)) → whole ≡ Ok front
-unfolding next_symbols values_in
+    → whole ≡ with_values front (values_in_groups long short (widths comps (next_symbols (groups - groups) d.bits probs d.state)) (bits_left r)) → whole ≡ Ok front
+unfolding next_symbols values_in_groups
 groups-end long short comps groups probs front d r whole so =
-    so ∙ ap (λ m. with_values front (values_in long short (widths comps (next_symbols m d.bits probs d.state)) (bits_left r))) (let e : groups - groups ≡ 0 = omega arith in e)
+    so ∙ ap (λ m. with_values front (values_in_groups long short (widths comps (next_symbols m d.bits probs d.state)) (bits_left r))) (let e : groups - groups ≡ 0 = omega arith in e)
     ∙ ap (λ xs. Ok xs) (append-nil front)
 
 pub groups-taken : (comps groups taken total : ℕ) (probs : List ℕ) (d : Coder) → taken + sum (widths comps (next_symbols (groups - groups) d.bits probs d.state)) ≡ total → taken ≡ total

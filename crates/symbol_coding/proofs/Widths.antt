@@ -4,16 +4,16 @@ use Rattle.std.proofs.lemmas.Bool.{cond-false}
 use Rattle.std.proofs.lemmas.List.{length-take, length-drop, length-map, length-replicate, take-append-drop}
 use Rattle.drc_bits.specs.Bits.{low_bits, number_of}
 use Rattle.drc_bits.proofs.BitLists.{length-low_bits, number_of-low_bits}
-use Rattle.symbol_tables.specs.Normal.{greatest_of}
+use Rattle.symbol_tables.specs.Normal.{greatest_count}
 use Rattle.symbol_tables.proofs.Symbols.{sum-cons}
 use Rattle.symbol_coding.specs.Symbols.{digits}
-use Rattle.symbol_coding.specs.Block.{HasWidths, groups_of, length_of, lengths_of, value_bits, values_in, widths}
+use Rattle.symbol_coding.specs.Block.{HasWidths, groups_of, length_of, lengths_of, value_bits, values_in_groups, widths}
 use Rattle.symbol_coding.proofs.Counts.{each-greatest, greatest-below}
 use Rattle.symbol_coding.proofs.Digits.{digits-above, digits-most}
 
 -- the bits of such values give them back
-pub values_in-bits : (long short : ℕ) (ws vs more : List ℕ) → HasWidths ws vs → values_in long short ws (value_bits ws vs ++ more) ≡ Ok vs
-unfolding values_in
+pub values_in-bits : (long short : ℕ) (ws vs more : List ℕ) → HasWidths ws vs → values_in_groups long short ws (value_bits ws vs ++ more) ≡ Ok vs
+unfolding values_in_groups
 values_in-bits long short [] [] more fit = refl
 values_in-bits long short [] (v ∷ vs) more fit = absurd fit
 values_in-bits long short (w ∷ ws) [] more fit = absurd fit
@@ -25,7 +25,7 @@ values_in-bits long short (w ∷ ws) (v ∷ vs) more fit =
     let front : take w (low_bits w v ++ rest) ≡ low_bits w v = take_at (low_bits w v) rest w l in
     let back : drop w (low_bits w v ++ rest) ≡ rest = drop_at (low_bits w v) rest w l in
     let number : number_of (low_bits w v) ≡ v = number_of-low_bits w v ∙ mod-eq_of_lt fit.1 in
-    ap (values_in long short (w ∷ ws)) whole
+    ap (values_in_groups long short (w ∷ ws)) whole
     ∙ rw (cond-false _ _ _ (le-ltb 32 w fit.0), cond-false _ _ _ (le-ltb (length (low_bits w v ++ rest)) w enough), front, back, number, values_in-bits long short ws vs more fit.2) refl
 
 -- how many bits they have
@@ -53,9 +53,9 @@ Fit-replicate w (v ∷ vs) small each = (small, each 0 (omega arith), Fit-replic
 -- a group's values fit its bit length
 pub group-fits : (group : List ℕ) → ((k : ℕ) → get_or group k 0 < 2 ^ 32) → (length_of group ≤ 32) × ((k : ℕ) → get_or group k 0 < 2 ^ length_of group)
 group-fits group each =
-    let most = digits-most 32 (greatest_of group) in
-    let above : greatest_of group < 2 ^ digits (greatest_of group) = digits-above 32 (greatest_of group) (greatest-below group (2 ^ 32) (omega arith) each) in
-    let room : 2 ^ digits (greatest_of group) ≤ 2 ^ length_of group = pow_mono {i = digits (greatest_of group)} {j = length_of group} (omega arith) in
+    let most = digits-most 32 (greatest_count group) in
+    let above : greatest_count group < 2 ^ digits (greatest_count group) = digits-above 32 (greatest_count group) (greatest-below group (2 ^ 32) (omega arith) each) in
+    let room : 2 ^ digits (greatest_count group) ≤ 2 ^ length_of group = pow_mono {i = digits (greatest_count group)} {j = length_of group} (omega arith) in
     (omega (arith, most), (λ k. let h = each-greatest group k in omega (arith, h, above, room)))
 
 pub get-take : (n k : ℕ) (xs : List ℕ) → get_or (take n xs) k 0 ≤ get_or xs k 0

@@ -6,12 +6,12 @@ use Rattle.std.specs.Prelude.{map, flat_map, length, take, drop, replicate, sum,
 use Rattle.drc_base.specs.declared.faults.Fault.{Fault}
 use Rattle.drc_base.specs.declared.kinds.Kind.TheVariants as kind
 use Rattle.drc_base.specs.Steps.{◌>>=◌}
-use Rattle.rans_core.specs.Coder.{State}
+use Rattle.rans_core.specs.Coder.{CoderState}
 use Rattle.drc_bits.specs.Reading.{Reading, Item, must, advanced}
 use Rattle.drc_bits.specs.Numbers.{number_at}
 use Rattle.drc_bits.specs.Bits.{bits_of, bytes_for, low_bits, number_of, packed}
 use Rattle.symbol_tables.specs.Tables.{count_at, table_at, table_bytes}
-use Rattle.symbol_tables.specs.Normal.{greatest_of, normal, used_of}
+use Rattle.symbol_tables.specs.Normal.{greatest_count, normal, used_of}
 use Rattle.symbol_coding.specs.Symbols.{coded_at, coded_bytes, counts_of, digits, next_symbols}
 
 -- the precision in bits of a coder for symbols of so many bits
@@ -34,18 +34,18 @@ raw_at n c = do
 
 -- the values of these widths from bits: Length, at one place, where a width is above 32, and Short, at the other,
 -- where the bits run out
-unfoldable pub values_in : ℕ → ℕ → List ℕ → List ℕ → Result (List ℕ) Fault
-values_in long short [] bits = Ok []
-values_in long short (w ∷ ws) bits = if nat_lt 32 w then Err (record { kind = kind.Length; at = long })
+unfoldable pub values_in_groups : ℕ → ℕ → List ℕ → List ℕ → Result (List ℕ) Fault
+values_in_groups long short [] bits = Ok []
+values_in_groups long short (w ∷ ws) bits = if nat_lt 32 w then Err (record { kind = kind.Length; at = long })
     else (if nat_lt (length bits) w then Err (record { kind = kind.Short; at = short })
-    else values_in long short ws (drop w bits) >>= λ vs. Ok (number_of (take w bits) ∷ vs))
+    else values_in_groups long short ws (drop w bits) >>= λ vs. Ok (number_of (take w bits) ∷ vs))
 
 -- these values in front of others
 abbrev pub with_values : List ℕ → Result (List ℕ) Fault → Result (List ℕ) Fault
 with_values front rest = rest >>= λ vs. Ok (front ++ vs)
 
 -- the bit lengths of values in groups whose lengths are the next symbols
-abbrev pub next_widths : ℕ → ℕ → List ℕ → State → List ℕ
+abbrev pub next_widths : ℕ → ℕ → List ℕ → CoderState → List ℕ
 next_widths groups comps probs s = widths comps (next_symbols groups (precision 5) probs s)
 
 -- a block of groups: a table of bit lengths, the coded lengths, one for each group, and then the bits of all values
@@ -53,7 +53,7 @@ unfoldable pub tagged_at : ℕ → ℕ → Reading → Item (List ℕ)
 tagged_at groups comps c = do
   probs ← table_at (precision 5) c
   coded ← coded_at (precision 5) probs.1
-  values ← values_in coded.0.place coded.1.place (next_widths groups comps probs.0 coded.0.state) (bits_of coded.1.rest)
+  values ← values_in_groups coded.0.place coded.1.place (next_widths groups comps probs.0 coded.0.state) (bits_of coded.1.rest)
   Ok (values, advanced (bytes_for (sum (next_widths groups comps probs.0 coded.0.state))) coded.1)
 
 -- what follows a scheme: 0 for groups, 1 for symbols
@@ -70,8 +70,8 @@ unfoldable pub raw_opening_at : Reading → Item ℕ
 raw_opening_at c = must kind.Length (λ l. nat_le 1 l && nat_le l 18) (number_at 1) c >>= λ l. count_at l.1
 
 -- a block up to its table's number of symbols: what comes before any memory is taken
-unfoldable pub opening_at : ℕ → Reading → Item ℕ
-opening_at n c = if n == 0 then Ok (0, c)
+unfoldable pub block_opening_at : ℕ → Reading → Item ℕ
+block_opening_at n c = if n == 0 then Ok (0, c)
     else must kind.Scheme (λ s. nat_lt s 2) (number_at 1) c
     >>= λ scheme. if scheme.0 == 0 then count_at scheme.1 else raw_opening_at scheme.1
 
@@ -84,7 +84,7 @@ groups_of (suc n) comps values = take comps values ∷ groups_of n comps (drop c
 
 -- the bit length of a group: that of its greatest value, at least 1
 abbrev pub length_of : List ℕ → ℕ
-length_of group = max 1 (digits (greatest_of group))
+length_of group = max 1 (digits (greatest_count group))
 
 -- the bit lengths of the groups
 unfoldable pub lengths_of : ℕ → List ℕ → List ℕ
@@ -109,7 +109,7 @@ cost_of_count n k = k * digits (n / k)
 
 -- what symbols cost, about, in bits: each as often as it occurs, and eight for each probability
 abbrev pub raw_cost : List ℕ → ℕ
-raw_cost values = sum (map (cost_of_count (length values)) (counts_of values)) + 8 * (greatest_of values + 1)
+raw_cost values = sum (map (cost_of_count (length values)) (counts_of values)) + 8 * (greatest_count values + 1)
 
 -- what a group costs, about, in bits: five for its length, and its values
 abbrev pub cost_of_group : ℕ → ℕ → ℕ
@@ -121,7 +121,7 @@ tagged_cost values comps = sum (map (cost_of_group comps) (lengths_of comps valu
 
 -- whether symbols are written: where all values are below 2 ^ 18 and it costs no more
 unfoldable pub is_raw : List ℕ → ℕ → Bool
-is_raw values comps = nat_lt (greatest_of values) (2 ^ 18) && nat_le (raw_cost values) (tagged_cost values comps)
+is_raw values comps = nat_lt (greatest_count values) (2 ^ 18) && nat_le (raw_cost values) (tagged_cost values comps)
 
 -- the bit length of symbols with these counts: that of how many are used, from 1 to 18
 abbrev pub raw_length : List ℕ → ℕ

@@ -8,9 +8,9 @@ use Rattle.drc_base.specs.declared.kinds.Kind.TheVariants as kind
 use Rattle.drc_base.specs.Steps.{◌>>=◌}
 use Rattle.drc_bits.specs.Reading.{Reading, Item, fault_at, bytes_at}
 use Rattle.drc_bits.specs.Varint.{var64_at, spelling}
-use Rattle.rans_core.specs.Coder.{Interval, State, all_spelled, pulled, refilled, started}
+use Rattle.rans_core.specs.Coder.{Interval, CoderState, all_spelled, pulled, refilled, started}
 use Rattle.symbol_tables.specs.Tables.{cum_of, symbol_of}
-use Rattle.symbol_tables.specs.Normal.{greatest_of}
+use Rattle.symbol_tables.specs.Normal.{greatest_count}
 
 -- the slots of a symbol
 abbrev pub interval_of : List ℕ → ℕ → Interval
@@ -19,29 +19,29 @@ interval_of probs s = record { cum = cum_of probs s; prob = slice_index probs s 
 -- ---- reading
 
 -- the state after its refill
-abbrev pub full : ℕ → State → State
+abbrev pub full : ℕ → CoderState → CoderState
 full bits s = refilled (4 * 2 ^ bits) s.number s.bytes
 
 -- the symbol that comes next: the one that has the slot of the refilled state
-abbrev pub next_symbol : ℕ → List ℕ → State → ℕ
-next_symbol bits probs s = symbol_of probs ((full bits s).number % 2 ^ bits)
+abbrev pub refilled_symbol : ℕ → List ℕ → CoderState → ℕ
+refilled_symbol bits probs s = symbol_of probs ((full bits s).number % 2 ^ bits)
 
 -- the state after that symbol
-abbrev pub after_symbol : ℕ → List ℕ → State → State
-after_symbol bits probs s = pulled (2 ^ bits) (interval_of probs (next_symbol bits probs s)) (full bits s)
+abbrev pub state_behind_symbol : ℕ → List ℕ → CoderState → CoderState
+state_behind_symbol bits probs s = pulled (2 ^ bits) (interval_of probs (refilled_symbol bits probs s)) (full bits s)
 
 -- the next n symbols
-unfoldable pub next_symbols : ℕ → ℕ → List ℕ → State → List ℕ
+unfoldable pub next_symbols : ℕ → ℕ → List ℕ → CoderState → List ℕ
 next_symbols zero bits probs s = []
-next_symbols (suc n) bits probs s = next_symbol bits probs s ∷ next_symbols n bits probs (after_symbol bits probs s)
+next_symbols (suc n) bits probs s = refilled_symbol bits probs s ∷ next_symbols n bits probs (state_behind_symbol bits probs s)
 
 -- coded symbols: the place of their first byte, and their first state
 pub record Coded : Type 0 where
   pub place : ℕ
-  pub state : State
+  pub state : CoderState
 
 -- coded bytes between two places that start with this state; BadStart at the first of them where there is none
-abbrev pub coded_from : Reading → Reading → Option State → Item Coded
+abbrev pub coded_from : Reading → Reading → Option CoderState → Item Coded
 coded_from first end (Some s) = Ok (record { place = first.place; state = s }, end)
 coded_from first end None = fault_at kind.BadStart first
 
@@ -61,7 +61,7 @@ coded_bytes bits probs symbols = let coded = all_spelled 4 (2 ^ bits) (map (inte
 
 -- how often each symbol occurs, up to the greatest one
 unfoldable pub counts_of : List ℕ → List ℕ
-counts_of symbols = map (λ s. count_by (λ v. v == s) symbols) (range_with_len 0 (greatest_of symbols + 1))
+counts_of symbols = map (λ s. count_by (λ v. v == s) symbols) (range_with_len 0 (greatest_count symbols + 1))
 
 -- the number of binary digits of a number below 2 ^ most
 unfoldable pub digits_in : ℕ → ℕ → ℕ

@@ -4,7 +4,7 @@ ghost use Rattle.std.specs.Prelude.{◌≡◌, ℕ, ◌+◌, ◌*◌, ◌/◌, �
 ghost use Rattle.drc_bits.specs.Reading.{Reads};
 ghost use Rattle.symbol_tables.specs.Tables.{HasSymbol};
 ghost use Rattle.symbol_coding.specs.Block.{precision};
-ghost use Rattle.symbol_coding.specs.Symbols.{after_symbol, coded_at, next_symbol, next_symbols};
+ghost use Rattle.symbol_coding.specs.Symbols.{state_behind_symbol, coded_at, refilled_symbol, next_symbols};
 
 use drc_base::{Fault, Kind, Memory};
 use drc_bits::Cursor;
@@ -47,8 +47,8 @@ pub fn pull(decoder: &mut Decoder<'_>, table: &Table, slots: &[u32]) -> u32
     requires whole { sum table.now ≡ 2 ^ decoder.old.bits }
     requires len { length slots.now ≡ sum table.now }
     requires slots { (slot : ℕ) → slot < sum table.now → HasSymbol table.now slot (slice_index slots.now slot) }
-    ensures symbol { result ≡ next_symbol decoder.old.bits table.now decoder.old.state }
-    ensures after { decoder.new ≡ record { bits = decoder.old.bits; state = after_symbol decoder.old.bits table.now decoder.old.state } }
+    ensures symbol { result ≡ refilled_symbol decoder.old.bits table.now decoder.old.state }
+    ensures after { decoder.new ≡ record { bits = decoder.old.bits; state = state_behind_symbol decoder.old.bits table.now decoder.old.state } }
 {
     let slot = decoder.slot();
     let symbol = slots[slot as usize];

@@ -1,7 +1,7 @@
 //! What the two schemes of a block cost, about, and what that is counted from.
 
 ghost use Rattle.std.specs.Prelude.{◌≡◌, ℕ, ◌+◌, ◌-◌, ◌*◌, ◌/◌, ◌%◌, ◌^◌, ◌<◌, ◌≤◌, length, map, max, sum, take, drop, slice_index, count_by, nat_lt, IfOk};
-ghost use Rattle.symbol_tables.specs.Normal.{greatest_of, used_of};
+ghost use Rattle.symbol_tables.specs.Normal.{greatest_count, used_of};
 ghost use Rattle.symbol_coding.specs.Block.{cost_of_count, length_of, lengths_of, raw_cost, raw_length, tagged_cost};
 ghost use Rattle.symbol_coding.specs.Symbols.{counts_of, digits};
 
@@ -61,7 +61,7 @@ fn zeros(alloc: Global, n: usize) -> Result<Vec<u32>, Memory>
 
 /// Counts symbols into zeros.
 fn count_into(counts: &mut [u32], symbols: &[u32])
-    requires len { length counts.old ≡ greatest_of symbols.now + 1 }
+    requires len { length counts.old ≡ greatest_count symbols.now + 1 }
     requires zeros { (s : ℕ) → slice_index counts.old s ≡ 0 }
     requires few { length symbols.now ≤ MAX_VALUES }
     ensures { counts.new ≡ counts_of symbols.now }
@@ -74,7 +74,7 @@ fn count_into(counts: &mut [u32], symbols: &[u32])
 
 /// How often each symbol occurs, up to the greatest one.
 pub fn counts_in(alloc: Global, symbols: &[u32], greatest: u32) -> Result<Vec<u32>, Memory>
-    requires greatest { greatest ≡ greatest_of symbols.now }
+    requires greatest { greatest ≡ greatest_count symbols.now }
     requires few { length symbols.now ≤ MAX_VALUES }
     ensures { IfOk result (λ v. v.items ≡ counts_of symbols.now) }
 {
@@ -97,7 +97,7 @@ fn cost_of(n: u32, count: u32) -> u64
 /// What symbols cost, about, in bits: by how often each occurs, and eight for each probability.
 pub fn cost_of_symbols(values: &[u32], counts: &[u32]) -> u64
     requires counts { counts.now ≡ counts_of values.now }
-    requires small { greatest_of values.now < 2 ^ 20 }
+    requires small { greatest_count values.now < 2 ^ 20 }
     requires few { length values.now ≤ MAX_VALUES }
     ensures { result ≡ raw_cost values.now }
 {

@@ -7,7 +7,7 @@ ghost use Rattle.drc_base.specs.declared.kinds.Kind.TheVariants as kind;
 ghost use Rattle.drc_bits.specs.Bits.{bits_left, bits_of, bytes_for};
 ghost use Rattle.drc_bits.specs.Reading.{Gives};
 ghost use Rattle.symbol_tables.specs.Tables.{count_at};
-ghost use Rattle.symbol_coding.specs.Block.{block_at, opening_at, raw_at, raw_opening_at, tagged_at, values_in, widths, with_values};
+ghost use Rattle.symbol_coding.specs.Block.{block_at, block_opening_at, raw_at, raw_opening_at, tagged_at, values_in_groups, widths, with_values};
 ghost use Rattle.symbol_coding.specs.Symbols.{next_symbols};
 
 use crate::coded::{precision, pull, pull_all, read_coded};
@@ -41,8 +41,8 @@ fn read_group(reader: &mut BitReader<'_>, values: &mut Vec<u32>, width: u32, com
     requires room { vec_len values.old + comps ≤ vec_capacity values.old }
     requires there { comps * width ≤ length (bits_left reader.old) }
     ensures values { (long short : ℕ) (ws : List ℕ)
-        → with_values values.old.items (values_in long short (replicate comps width ++ ws) (bits_left reader.old))
-        ≡ with_values values.new.items (values_in long short ws (bits_left reader.new)) }
+        → with_values values.old.items (values_in_groups long short (replicate comps width ++ ws) (bits_left reader.old))
+        ≡ with_values values.new.items (values_in_groups long short ws (bits_left reader.new)) }
     ensures bytes { reader.new.bytes ≡ reader.old.bytes }
     ensures taken { reader.new.taken ≡ reader.old.taken + comps * width }
     ensures len { vec_len values.new ≡ vec_len values.old + comps }
@@ -82,7 +82,7 @@ fn read_groups(
     requires long { long.kind ≡ kind.Length }
     requires short { short.kind ≡ kind.Short }
     ensures values { Answers (λ r. r.0.items)
-        (values_in long.at short.at (widths comps (next_symbols groups decoder.entry.bits table.now decoder.entry.state)) (bits_of bytes.now)) result }
+        (values_in_groups long.at short.at (widths comps (next_symbols groups decoder.entry.bits table.now decoder.entry.state)) (bits_of bytes.now)) result }
     ensures used { IfOk result (λ r. r.1 ≡ bytes_for (sum (widths comps (next_symbols groups decoder.entry.bits table.now decoder.entry.state)))) }
     ensures within { IfOk result (λ r. r.1 ≤ length bytes.now) }
     ensures len { IfOk result (λ r. length r.0.items ≡ groups * comps) }
@@ -131,7 +131,7 @@ fn read_tagged(
 }
 
 /// Reads a block that has values, in groups of `comps` components.
-#[tactic(auto, unfolding(crate::specs::Block::block_at, crate::specs::Block::opening_at))]
+#[tactic(auto, unfolding(crate::specs::Block::block_at, crate::specs::Block::block_opening_at))]
 fn read_block(alloc: Global, c: &mut Cursor<'_>, n: u32, comps: u32) -> Result<Vec<u32>, Refusal>
     requires some { 0 < n }
     requires comps { 0 < comps }
@@ -139,7 +139,7 @@ fn read_block(alloc: Global, c: &mut Cursor<'_>, n: u32, comps: u32) -> Result<V
     requires few { n ≤ MAX_VALUES }
     ensures block { Gives (λ v. v.items) (block_at n comps c.old) c.new result }
     ensures len { IfOk result (λ v. length v.items ≡ n) }
-    ensures early { (f : TheFault) → opening_at n c.old ≡ Err f → result ≡ Err (Refusal.Fault f) }
+    ensures early { (f : TheFault) → block_opening_at n c.old ≡ Err f → result ≡ Err (Refusal.Fault f) }
 {
     let no_scheme = c.fault(Kind::Scheme);
     let scheme = c.get_u8()?;
@@ -158,7 +158,7 @@ fn read_block(alloc: Global, c: &mut Cursor<'_>, n: u32, comps: u32) -> Result<V
 /// length is above 32, and `Short` where the bits of the values begin if they run out. The faults up to
 /// the table's number of symbols come before any memory is taken. After a refusal the cursor is where
 /// it was.
-#[tactic(auto, unfolding(crate::specs::Block::block_at, crate::specs::Block::opening_at))]
+#[tactic(auto, unfolding(crate::specs::Block::block_at, crate::specs::Block::block_opening_at))]
 pub fn read_symbols(
     alloc: Global,
     c: &mut Cursor<'_>,
@@ -170,7 +170,7 @@ pub fn read_symbols(
     requires few { n ≤ MAX_VALUES }
     ensures block { Gives (λ v. v.items) (block_at n comps c.old) c.new result }
     ensures len { IfOk result (λ v. length v.items ≡ n) }
-    ensures early { (f : TheFault) → opening_at n c.old ≡ Err f → result ≡ Err (Refusal.Fault f) }
+    ensures early { (f : TheFault) → block_opening_at n c.old ≡ Err f → result ≡ Err (Refusal.Fault f) }
     ensures unchanged { OnErr result (c.new ≡ c.old) }
 {
     if n == 0 {

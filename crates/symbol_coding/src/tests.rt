@@ -140,7 +140,7 @@ fn faults_of_blocks(rt: HostRuntime) {
     );
 }
 
-/// As many symbols as want the precision of 20 bits.
+/// As many symbols as need the precision of 20 bits.
 #[test]
 fn many_symbols(rt: HostRuntime) -> Result<(), Fail> {
     let mut values = Vec::new(rt.alloc());

@@ -4,7 +4,7 @@ ghost use Rattle.std.specs.Prelude.{◌≡◌, ℕ, ◌+◌, ◌-◌, ◌*◌, �
 ghost use Rattle.drc_bits.specs.Bits.{packed};
 ghost use Rattle.drc_bits.specs.Spells.{Spells};
 ghost use Rattle.rans_core.specs.Coder.{all_pushed, all_spelled};
-ghost use Rattle.symbol_tables.specs.Normal.{greatest_of};
+ghost use Rattle.symbol_tables.specs.Normal.{greatest_count};
 ghost use Rattle.symbol_tables.specs.Tables.{table_bytes};
 ghost use Rattle.symbol_coding.specs.Block.{HasWidths, block_at, block_bytes, is_raw, lengths_of, raw_bytes, tagged_bytes, value_bits, widths};
 ghost use Rattle.symbol_coding.specs.Symbols.{coded_bytes, counts_of, interval_of};
@@ -61,7 +61,7 @@ fn write_coded(
 fn write_raw(alloc: Global, values: &[u32], counts: &[u32]) -> Result<Vec<u8>, Memory>
     requires some { 0 < length values.now }
     requires few { length values.now ≤ MAX_VALUES }
-    requires small { greatest_of values.now < 2 ^ 18 }
+    requires small { greatest_count values.now < 2 ^ 18 }
     requires counts { counts.now ≡ counts_of values.now }
     ensures { IfOk result (λ v. v.items ≡ raw_bytes values.now) }
 {
@@ -141,7 +141,7 @@ fn raw_counts(
     requires few { length values.now ≤ MAX_VALUES }
     requires lengths { lengths.now ≡ lengths_of comps values.now }
     ensures { IfOk result (λ counts. MatchOption counts (is_raw values.now comps ≡ false)
-        (λ v. (is_raw values.now comps ≡ true) × (greatest_of values.now < 2 ^ 18) × (v.items ≡ counts_of values.now))) }
+        (λ v. (is_raw values.now comps ≡ true) × (greatest_count values.now < 2 ^ 18) × (v.items ≡ counts_of values.now))) }
 {
     let greatest = greatest_in(values);
     if greatest >= 1 << 18 {

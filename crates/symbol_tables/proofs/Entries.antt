@@ -140,7 +140,7 @@ bytes-read (suc n) place (b ∷ rest) xs d is =
       omega (arith, l, more.2),
     )
 
--- what is told behind an entry is told in front of it
+-- what holds of a reading behind an entry holds of the reading in front of it
 told-step : (e : Entry) (n place : ℕ) (rest : List ℕ) (r : Item (List ℕ)) → IsEntry e → IsTold n (reading (place + length (entry_bytes e)) rest) r
     → IsTold (length (entry_probs e) + n) (reading place (entry_bytes e ++ rest)) (in_front (entry_probs e) r)
 told-step e n place rest (Ok x) is told =
@@ -166,7 +166,7 @@ told-step e n place rest (Err f) is told =
       stops = ap (λ m. prob_at m 0 told.behind) same ∙ told.stops;
     }
 
--- what reading n probabilities at a place tells is true
+-- what reading n probabilities at a place answers is true
 abbrev TrulyTold : ℕ → ℕ → List ℕ → Type 0
 TrulyTold n place bytes = IsTold n (reading place bytes) (probs_at n 0 (reading place bytes))
 

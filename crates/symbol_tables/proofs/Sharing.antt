@@ -6,7 +6,7 @@ use Rattle.std.proofs.lemmas.List.{length-set, length-map, get_or_past, get_or-m
 use Rattle.std.proofs.lemmas.Grind.{get_or-set_at}
 use Rattle.std.proofs.lemmas.List.Sums.{sum_by-cons, sum_by-set, get_or-le-sum_by}
 use Rattle.std.specs.List.{position_or_len}
-use Rattle.symbol_tables.specs.Normal.{used_of, greatest_of, most_frequent, share_of, shares, normal, HasTable}
+use Rattle.symbol_tables.specs.Normal.{used_of, greatest_count, most_frequent, share_of, shares, normal, HasTable}
 use Rattle.symbol_tables.proofs.Symbols.{sum-cons}
 
 -- what a share takes of all slots but one for each used symbol, times all counts
@@ -63,7 +63,7 @@ normal-sum counts bits h =
     let given : List ℕ = shares counts (2 ^ bits) in
     let at : ℕ = most_frequent counts in
     let l : length given ≡ length counts = length-map counts (share_of (2 ^ bits - used_of counts) (sum counts)) in
-    let inside : at < length given = subst (λ n. at < n) (sym l) (position-below (λ n. n == greatest_of counts) counts h.some) in
+    let inside : at < length given = subst (λ n. at < n) (sym l) (position-below (λ n. n == greatest_count counts) counts h.some) in
     let most : sum given ≤ 2 ^ bits = shares-sum counts (2 ^ bits) (sum-positive counts (length counts - 1) h.last) h.used in
     let e : sum (set given at (get_or given at 0 + (2 ^ bits - sum given))) + get_or given at 0 ≡ sum given + (get_or given at 0 + (2 ^ bits - sum given)) =
     sum_by-set (λ x. x) given at (get_or given at 0 + (2 ^ bits - sum given)) 0 inside in
@@ -81,7 +81,7 @@ pub HasTable-positive : (counts : List ℕ) (bits : ℕ) → HasTable counts bit
 HasTable-positive counts bits h = sum-positive counts (length counts - 1) h.last
 
 pub most_frequent-below : (counts : List ℕ) (bits : ℕ) → HasTable counts bits → most_frequent counts < length counts
-most_frequent-below counts bits h = position-below (λ n. n == greatest_of counts) counts h.some
+most_frequent-below counts bits h = position-below (λ n. n == greatest_count counts) counts h.some
 
 pub shifted : (bits : ℕ) → bits ≤ 20 → (1 * 2 ^ bits % 2 ^ 32 ≡ 2 ^ bits) × (2 ^ bits ≤ 2 ^ 20)
 shifted bits h = (one_shl bits 32 (omega arith), pow_mono {i = bits} {j = 20} h)

@@ -8,12 +8,12 @@ abbrev pub used_of : List ℕ → ℕ
 used_of counts = count_by (λ n. nat_lt 0 n) counts
 
 -- the greatest count
-abbrev pub greatest_of : List ℕ → ℕ
-greatest_of counts = fold max 0 counts
+abbrev pub greatest_count : List ℕ → ℕ
+greatest_count counts = fold max 0 counts
 
 -- the first symbol with the greatest count
 abbrev pub most_frequent : List ℕ → ℕ
-most_frequent counts = unwrap_or (position (λ n. n == greatest_of counts) counts) 0
+most_frequent counts = unwrap_or (position (λ n. n == greatest_count counts) counts) 0
 
 -- one slot and a part of the others, where the symbol is used
 abbrev pub share_of : ℕ → ℕ → ℕ → ℕ

@@ -1,4 +1,4 @@
--- The spellings of probabilities, told on whole lists: a spelling is a list of entries, each of one symbol or of a run of
+-- The spellings of probabilities, defined on whole lists: a spelling is a list of entries, each of one symbol or of a run of
 -- symbols without slots (Draco Bitstream Specification 2.2, section Symbol Decoding).
 use Rattle.std.specs.Prelude.{◌≡◌, ℕ, ◌+◌, ◌-◌, ◌*◌, ◌<◌, ◌≤◌, List, [], ◌∷◌, ◌++◌, length, flat_map, replicate, Ok, Err}
 use Rattle.drc_base.specs.declared.faults.Fault.{Fault}
@@ -60,7 +60,7 @@ pub record StopsAt (n : ℕ) (begin : Reading) (fault : Fault) : Type 0 where
   pub place : behind.place ≡ begin.place + length (bytes_of entries)
   pub stops : prob_at (n - length (probs_of entries) - 1) 0 behind ≡ Err fault
 
--- what reading the probabilities of n symbols tells
+-- what an answer of reading the probabilities of n symbols means
 abbrev pub IsTold : ℕ → Reading → Item (List ℕ) → Type 0
 IsTold n begin (Ok x) = HasSpelling n begin x.0 x.1
 IsTold n begin (Err f) = StopsAt n begin f

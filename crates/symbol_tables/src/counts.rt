@@ -2,7 +2,7 @@
 
 ghost use Rattle.std.specs.Prelude.{◌≡◌, ℕ, ◌+◌, ◌-◌, ◌*◌, ◌/◌, ◌^◌, ◌<◌, ◌≤◌, length, map, sum, count_by, nat_lt, slice_index, slice_set, position, ◌==◌, IfOk};
 ghost use Rattle.drc_base.specs.declared.limits.TheConstants.{MAX_TABLE_SYMBOLS as most_symbols};
-ghost use Rattle.symbol_tables.specs.Normal.{HasTable, greatest_of, most_frequent, normal, share_of, shares, used_of};
+ghost use Rattle.symbol_tables.specs.Normal.{HasTable, greatest_count, most_frequent, normal, share_of, shares, used_of};
 
 use crate::table::Table;
 use drc_base::Memory;
@@ -26,7 +26,7 @@ fn total_of(counts: &[u32]) -> u32
 
 /// The greatest of the numbers, or 0. It takes no memory.
 pub fn greatest_in(numbers: &[u32]) -> u32
-    ensures { result ≡ greatest_of numbers.now }
+    ensures { result ≡ greatest_count numbers.now }
 {
     numbers
         .iter()

@@ -83,7 +83,7 @@ fn spell_probs(alloc: Global, probs: &[u32]) -> Result<Vec<u8>, Memory>
 
 impl Table {
     /// Appends the table's bytes. Read at their beginning with as many slots, whatever bytes follow, they
-    /// give the table. Want of memory leaves `out` as it was.
+    /// give the table. If memory runs out, `out` stays as it was.
     pub fn write(&self, alloc: Global, out: &mut Vec<u8>) -> Result<(), Memory>
         ensures bytes { OnOk result (out.new.items ≡ out.old.items ++ table_bytes self.now) }
         ensures err { OnErr result (out.new.items ≡ out.old.items) }

@@ -8,7 +8,7 @@ use Rattle.corner_table.specs.Fans.{InFan, here, leftwards, rightwards}
 use Rattle.corner_table.specs.Labels.{IsLabelled, label_at}
 use Rattle.corner_table.proofs.Places.{next-prev, prev-next, next-next, prev-prev, option_tells}
 use Rattle.walk_order.specs.Visits.{Walk, unwalked, is_visited, lacks, is_new, with_entry, entered, with_base}
-use Rattle.walk_order.specs.DepthFirst.{goes_right_alone, walk, walked_from, walked, depth_first_order}
+use Rattle.walk_order.specs.DepthFirst.{goes_right_alone, walk, walked_from, depth_walked, depth_first_order}
 use Rattle.walk_order.specs.Laws.{ListsClasses, DepthFirstListsClasses}
 use Rattle.walk_order.specs.Stored.{AllHaveEntries}
 use Rattle.walk_order.proofs.Fuel.{walk_missing, walk_out, walk_met, walk_on, left_of}
@@ -267,28 +267,28 @@ module _ (faces : ℕ) (g : Gluing) (labels : List ℕ) (count : ℕ) (ends : Li
     | inr u ↦ subst (Grows labels w) (sym (cond-false (is_visited w f) w _ u)) (grows_trans (base_grows labels w f) (walk_grows faces (with_base labels w f) (Some (side f first))))
   ]
 
-  pub walked_none : walked faces g labels ends zero ≡ unwalked faces
-  unfolding walked
+  pub walked_none : depth_walked faces g labels ends zero ≡ unwalked faces
+  unfolding depth_walked
   walked_none = refl
 
-  pub walked_more : (f : ℕ) → walked faces g labels ends (suc f) ≡ walked_from faces g labels ends f (walked faces g labels ends f)
-  unfolding walked
+  pub walked_more : (f : ℕ) → depth_walked faces g labels ends (suc f) ≡ walked_from faces g labels ends f (depth_walked faces g labels ends f)
+  unfolding depth_walked
   walked_more f = refl
 
-  walked_apart : (n : ℕ) → AreApart labels (walked faces g labels ends n).entries
+  walked_apart : (n : ℕ) → AreApart labels (depth_walked faces g labels ends n).entries
   walked_apart zero = subst (λ (w : Walk). AreApart labels w.entries) (sym walked_none) nothing_apart
-  walked_apart (suc f) = subst (λ (w : Walk). AreApart labels w.entries) (sym (walked_more f)) ((from_grows f (walked faces g labels ends f)).apart (walked_apart f))
+  walked_apart (suc f) = subst (λ (w : Walk). AreApart labels w.entries) (sym (walked_more f)) ((from_grows f (depth_walked faces g labels ends f)).apart (walked_apart f))
 
-  pub walked_all : (n : ℕ) → n ≤ faces → IsWalked n (walked faces g labels ends n)
+  pub walked_all : (n : ℕ) → n ≤ faces → IsWalked n (depth_walked faces g labels ends n)
   walked_all zero h = subst (IsWalked zero) (sym walked_none) (record { covered = nothing_covered; all = λ f l. absurd (omega arith) })
-  walked_all (suc f) h = subst (IsWalked (suc f)) (sym (walked_more f)) (from_walked f (omega arith) (walked faces g labels ends f) (walked_all f (omega arith)))
+  walked_all (suc f) h = subst (IsWalked (suc f)) (sym (walked_more f)) (from_walked f (omega arith) (depth_walked faces g labels ends f) (walked_all f (omega arith)))
 
   -- every class has an entry in the depth-first order
-  pub depth_first_has_all : AllHaveEntries labels (walked faces g labels ends faces).entries count
-  depth_first_has_all = (let W = walked_all faces (omega arith) in all_have (walked faces g labels ends faces) W.covered W.all)
+  pub depth_first_has_all : AllHaveEntries labels (depth_walked faces g labels ends faces).entries count
+  depth_first_has_all = (let W = walked_all faces (omega arith) in all_have (depth_walked faces g labels ends faces) W.covered W.all)
 
   pub depth_first_lists : ListsClasses labels count (depth_first_order faces g labels ends)
-  depth_first_lists = lists_classes (walked faces g labels ends faces).entries depth_first_has_all (walked_apart faces)
+  depth_first_lists = lists_classes (depth_walked faces g labels ends faces).entries depth_first_has_all (walked_apart faces)
 
 pub depth_first_lists_classes : DepthFirstListsClasses
 depth_first_lists_classes faces g labels count ends G L = depth_first_lists faces g labels count ends G L

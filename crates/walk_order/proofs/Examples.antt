@@ -3,7 +3,7 @@ use Rattle.std.proofs.Common.{◌≡◌, ℕ, true, false, Bool, List, [], ◌�
 use Rattle.corner_table.specs.Sides.{first, second, third, side, Gluing}
 use Rattle.corner_table.specs.Table.{glued_in, free_entry}
 use Rattle.walk_order.specs.Visits.{lacks}
-use Rattle.walk_order.specs.DepthFirst.{walk, walked, depth_first_order}
+use Rattle.walk_order.specs.DepthFirst.{walk, depth_walked, depth_first_order}
 use Rattle.walk_order.specs.PredictionDegree.{take_unvisited, visits, ranked, prediction_degree_order}
 
 -- five faces, of which the two that the first leads to differ in the two orders
@@ -17,7 +17,7 @@ five_ends : List Bool
 five_ends = false ∷ true ∷ true ∷ true ∷ true ∷ true ∷ []
 
 five_depth_first : depth_first_order 5 five five_labels five_ends ≡ side 0 second ∷ side 0 third ∷ side 0 first ∷ side 2 first ∷ side 4 first ∷ side 3 first ∷ []
-unfolding five five_labels five_ends lacks walk walked
+unfolding five five_labels five_ends lacks walk depth_walked
 five_depth_first = refl
 
 five_prediction_degree : prediction_degree_order 5 five five_labels 6 ≡ side 0 second ∷ side 0 third ∷ side 0 first ∷ side 2 first ∷ side 3 first ∷ side 4 first ∷ []
@@ -35,7 +35,7 @@ tetrahedron_ends : List Bool
 tetrahedron_ends = false ∷ false ∷ false ∷ false ∷ []
 
 tetrahedron_depth_first : depth_first_order 4 tetrahedron tetrahedron_labels tetrahedron_ends ≡ side 0 second ∷ side 0 third ∷ side 0 first ∷ side 1 third ∷ []
-unfolding tetrahedron tetrahedron_labels tetrahedron_ends lacks walk walked
+unfolding tetrahedron tetrahedron_labels tetrahedron_ends lacks walk depth_walked
 tetrahedron_depth_first = refl
 
 tetrahedron_prediction_degree : prediction_degree_order 4 tetrahedron tetrahedron_labels 4 ≡ side 0 second ∷ side 0 third ∷ side 0 first ∷ side 1 third ∷ []
@@ -53,7 +53,7 @@ grid_ends : List Bool
 grid_ends = true ∷ true ∷ false ∷ true ∷ true ∷ false ∷ true ∷ true ∷ false ∷ true ∷ false ∷ true ∷ true ∷ true ∷ true ∷ true ∷ []
 
 grid_depth_first : depth_first_order 18 grid grid_labels grid_ends ≡ side 0 second ∷ side 0 third ∷ side 0 first ∷ side 1 third ∷ side 6 third ∷ side 9 second ∷ side 8 second ∷ side 2 second ∷ side 5 second ∷ side 4 second ∷ side 10 third ∷ side 16 third ∷ side 17 third ∷ side 15 third ∷ side 12 first ∷ side 13 third ∷ []
-unfolding grid grid_labels grid_ends lacks walk walked
+unfolding grid grid_labels grid_ends lacks walk depth_walked
 grid_depth_first = refl
 
 grid_prediction_degree : prediction_degree_order 18 grid grid_labels 16 ≡ side 0 second ∷ side 0 third ∷ side 0 first ∷ side 1 third ∷ side 6 third ∷ side 9 second ∷ side 8 second ∷ side 2 second ∷ side 5 second ∷ side 10 third ∷ side 16 third ∷ side 17 third ∷ side 15 third ∷ side 12 first ∷ side 13 third ∷ side 4 second ∷ []
@@ -71,7 +71,7 @@ torus_ends : List Bool
 torus_ends = false ∷ false ∷ false ∷ false ∷ false ∷ false ∷ false ∷ []
 
 torus_depth_first : depth_first_order 14 torus torus_labels torus_ends ≡ side 0 second ∷ side 0 third ∷ side 0 first ∷ side 7 third ∷ side 2 third ∷ side 10 second ∷ side 3 second ∷ []
-unfolding torus torus_labels torus_ends lacks walk walked
+unfolding torus torus_labels torus_ends lacks walk depth_walked
 torus_depth_first = refl
 
 torus_prediction_degree : prediction_degree_order 14 torus torus_labels 7 ≡ side 0 second ∷ side 0 third ∷ side 0 first ∷ side 7 third ∷ side 2 third ∷ side 10 second ∷ side 4 first ∷ []
@@ -89,7 +89,7 @@ nothing_ends : List Bool
 nothing_ends = []
 
 nothing_depth_first : depth_first_order 0 nothing nothing_labels nothing_ends ≡ []
-unfolding nothing nothing_labels nothing_ends lacks walk walked
+unfolding nothing nothing_labels nothing_ends lacks walk depth_walked
 nothing_depth_first = refl
 
 nothing_prediction_degree : prediction_degree_order 0 nothing nothing_labels 0 ≡ []

@@ -127,7 +127,7 @@ module _ (g : Gluing) (labels : List ℕ) (ends : List Bool) where
       walk g labels ends n w (Some c) ≡ walk g labels ends n (walk g labels ends n (entered labels w c) (g (next c))) (left_of w c)
   one_turn n w c h f = sym (enough n w (Some c) h) ∙ walk_on n w c f
 
-  -- the relation tells what the recursion computes
+  -- the relation gives what the recursion computes
   follows : {w v : Walk} {o : Option Side} → Walks g labels ends w o v → (n : ℕ) → unvisited w.visited ≤ n → walk g labels ends n w o ≡ v
   follows (missing {w}) n h = walk_missing n w
   follows (met {w} {c} e) n h = walk_met n w c e

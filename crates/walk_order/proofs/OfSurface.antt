@@ -1,4 +1,4 @@
--- The orders of a surface are told by the surface alone.
+-- The orders of a surface are determined by the surface alone.
 use Rattle.std.proofs.Common.{◌≡◌, ℕ, ◌*◌, ◌<◌, Bool, List, length, map, get_or, inl, inr, sym, ap, ◌∙◌, arith}
 use Rattle.std.specs.List.{position_or_len}
 use Rattle.std.proofs.lemmas.Bool.{cases_Bool}

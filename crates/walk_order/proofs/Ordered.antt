@@ -12,7 +12,7 @@ use Rattle.corner_table.proofs.Numbers.{number-lt}
 use Rattle.walk_order.specs.declared.surface.Surface.{Surface}
 use Rattle.walk_order.specs.declared.marks.Marks.{Marks}
 use Rattle.walk_order.specs.Orders.{corners_in, entry_at, class_of, IsOrderOf}
-use Rattle.walk_order.specs.Stored.{is_mark, unused, IsSurface, IsStored, AllHaveEntries, entries_of}
+use Rattle.walk_order.specs.Stored.{is_mark, unused, IsSurface, IsStored, AllHaveEntries, marked_entries}
 use Rattle.walk_order.proofs.Surfaces.{labels_within}
 use Rattle.walk_order.proofs.Tables.{number_no_mark}
 use Rattle.walk_order.proofs.Stored.{entries_fit}
@@ -28,12 +28,12 @@ none_used (x ∷ xs) h = sum_by-cons (λ (v : ℕ). cond (is_mark v) 1 0) x xs �
 counted_plain : (u n m l : ℕ) → u + n ≡ m → u ≡ 0 → m ≡ l → n ≡ l
 counted_plain u n m l a b e = omega arith
 
-module _ (s : Surface) (m : Marks) (S : IsSurface s) (M : IsStored s m) (A : AllHaveEntries s.labels.now (entries_of m) (length s.ends.now)) where
+module _ (s : Surface) (m : Marks) (S : IsSurface s) (M : IsStored s m) (A : AllHaveEntries s.labels.now (marked_entries m) (length s.ends.now)) where
   -- the number of a class's entry
-  told : (k : ℕ) → k < length s.ends.now → (get_or m.entry_of_class.items k 0 < length (entries_of m)) × (label_at s.labels.now (get_or (entries_of m) (get_or m.entry_of_class.items k 0) (side_at 0)) ≡ k)
+  told : (k : ℕ) → k < length s.ends.now → (get_or m.entry_of_class.items k 0 < length (marked_entries m)) × (label_at s.labels.now (get_or (marked_entries m) (get_or m.entry_of_class.items k 0) (side_at 0)) ≡ k)
   told k h = M.table.told k (let l = M.table.long in omega arith) (A k h)
 
-  as_many : length (entries_of m) ≡ length s.ends.now
+  as_many : length (marked_entries m) ≡ length s.ends.now
   as_many = counted_plain _ _ _ _ M.table.counted (none_used m.entry_of_class.items no_mark) M.table.long
     where
       no_mark : (i : ℕ) → i < length m.entry_of_class.items → is_mark (get_or m.entry_of_class.items i 0) ≡ false
@@ -53,7 +53,7 @@ module _ (s : Surface) (m : Marks) (S : IsSurface s) (M : IsStored s m) (A : All
         ap (class_of s.labels.now o) at ∙ ap (λ (es : List Side). label_at s.labels.now (get_or es (get_or m.entry_of_class.items (label_at s.labels.now c) 0) (side_at 0))) corners_are ∙ (told (label_at s.labels.now c) (S.labelled.bounded c h)).1;
   }
     where
-      corners_are : corners_in o ≡ entries_of m
+      corners_are : corners_in o ≡ marked_entries m
       corners_are = ap (map side_of) a
 
       entry_is : (c : Side) → c.face < s.faces → entry_at o c ≡ get_or m.entry_of_class.items (label_at s.labels.now c) 0

@@ -6,7 +6,7 @@ use Rattle.corner_table.specs.Sides.{Side, first, side, next, prev, Gluing, IsGl
 use Rattle.corner_table.specs.Labels.{IsLabelled}
 use Rattle.corner_table.proofs.Places.{option_tells, Some_injective}
 use Rattle.walk_order.specs.Visits.{Walk, unwalked, is_visited, unvisited, entered, with_base}
-use Rattle.walk_order.specs.PredictionDegree.{Ranked, unranked, rate, rated, pushed, take_unvisited, taken2, taken1, taken0, taken_from, taken, unvisited_across, turned_to, turned, visit, visits, ranked_from, ranked, prediction_degree_order}
+use Rattle.walk_order.specs.PredictionDegree.{Ranked, unranked, rate, rated, ranked_pushed, take_unvisited, taken2, taken1, taken0, taken_from, ranked_taken, unvisited_across, turned_to, ranked_turned, ranked_visit, visits, ranked_from, ranked, prediction_degree_order}
 use Rattle.walk_order.specs.Laws.{ListsClasses, PredictionDegreeListsClasses, Visits, last, on, VisitsAreRelation}
 use Rattle.walk_order.specs.Stored.{AllHaveEntries}
 use Rattle.walk_order.proofs.Fuel.{one_fewer}
@@ -109,12 +109,12 @@ module _ (P : Side → Type 0) where
   taken_from_goes (suc zero) r h = taken1_goes r h
   taken_from_goes (suc (suc k)) r h = taken2_goes r h
 
-  pushed_walk : (k : ℕ) (c : Side) (r : Ranked) → (pushed k c r).walk ≡ r.walk
+  pushed_walk : (k : ℕ) (c : Side) (r : Ranked) → (ranked_pushed k c r).walk ≡ r.walk
   pushed_walk zero c r = refl
   pushed_walk (suc zero) c r = refl
   pushed_walk (suc (suc k)) c r = refl
 
-  pushed_holds : (k : ℕ) (c : Side) (r : Ranked) → P c → Holds P r → Holds P (pushed k c r)
+  pushed_holds : (k : ℕ) (c : Side) (r : Ranked) → P c → Holds P r → Holds P (ranked_pushed k c r)
   pushed_holds zero c r p h = record { held0 = All-cons P c r.stack0 p h.held0; held1 = h.held1; held2 = h.held2 }
   pushed_holds (suc zero) c r p h = record { held0 = h.held0; held1 = All-cons P c r.stack1 p h.held1; held2 = h.held2 }
   pushed_holds (suc (suc k)) c r p h = record { held0 = h.held0; held1 = h.held1; held2 = All-cons P c r.stack2 p h.held2 }
@@ -129,17 +129,17 @@ module _ (P : Side → Type 0) where
   pub goes_there : (labels : List ℕ) (r : Ranked) (d : Side) → nat_le (rate labels r d) r.best ≡ true → turned_to labels r (Some d) ≡ (rated labels r d, Some d)
   goes_there labels r d e = ap (λ (b : Bool). let x : Ranked × Option Side = elim b [
     | true ↦ (rated labels r d, Some d)
-    | false ↦ taken (pushed (rate labels r d) d (rated labels r d))
+    | false ↦ ranked_taken (ranked_pushed (rate labels r d) d (rated labels r d))
   ] in x) e
 
-  pub goes_elsewhere : (labels : List ℕ) (r : Ranked) (d : Side) → nat_le (rate labels r d) r.best ≡ false → turned_to labels r (Some d) ≡ taken (pushed (rate labels r d) d (rated labels r d))
+  pub goes_elsewhere : (labels : List ℕ) (r : Ranked) (d : Side) → nat_le (rate labels r d) r.best ≡ false → turned_to labels r (Some d) ≡ ranked_taken (ranked_pushed (rate labels r d) d (rated labels r d))
   goes_elsewhere labels r d e = ap (λ (b : Bool). let x : Ranked × Option Side = elim b [
     | true ↦ (rated labels r d, Some d)
-    | false ↦ taken (pushed (rate labels r d) d (rated labels r d))
+    | false ↦ ranked_taken (ranked_pushed (rate labels r d) d (rated labels r d))
   ] in x) e
 
-  after_push : (k : ℕ) (c : Side) (r : Ranked) → P c → Holds P r → Going r.walk P (taken (pushed k c r))
-  after_push k c r p h = subst (λ (w : Walk). Going w P (taken (pushed k c r))) (pushed_walk k c r) (taken_from_goes (pushed k c r).best (pushed k c r) (pushed_holds k c r p h))
+  after_push : (k : ℕ) (c : Side) (r : Ranked) → P c → Holds P r → Going r.walk P (ranked_taken (ranked_pushed k c r))
+  after_push k c r p h = subst (λ (w : Walk). Going w P (ranked_taken (ranked_pushed k c r))) (pushed_walk k c r) (taken_from_goes (ranked_pushed k c r).best (ranked_pushed k c r) (pushed_holds k c r p h))
 
   turned_to_goes : (labels : List ℕ) (r : Ranked) (o : Option Side) → Holds P r → Offered r.walk o → Going r.walk P (turned_to labels r o)
   turned_to_goes labels r None h a = taken_from_goes r.best r h
@@ -148,12 +148,12 @@ module _ (P : Side → Type 0) where
     | inr f ↦ subst (Going r.walk P) (sym (goes_elsewhere labels r d f)) (after_push (rate labels r d) d (rated labels r d) (a d refl).0 (rated_holds labels r d h))
   ]
 
-  turned_goes : (labels : List ℕ) (r : Ranked) (o u : Option Side) → Holds P r → Offered r.walk o → Offered r.walk u → Going r.walk P (turned labels r o u)
+  turned_goes : (labels : List ℕ) (r : Ranked) (o u : Option Side) → Holds P r → Offered r.walk o → Offered r.walk u → Going r.walk P (ranked_turned labels r o u)
   turned_goes labels r None u h a b = turned_to_goes labels r u h b
   turned_goes labels r (Some d) None h a b = turned_to_goes labels r (Some d) h a
   turned_goes labels r (Some d) (Some e) h a b =
-      subst (λ (w : Walk). Going w P (turned_to labels (pushed (rate labels r d) d (rated labels r d)) (Some e))) (pushed_walk (rate labels r d) d (rated labels r d))
-      (turned_to_goes labels (pushed (rate labels r d) d (rated labels r d)) (Some e) (pushed_holds (rate labels r d) d (rated labels r d) (a d refl).0 (rated_holds labels r d h))
+      subst (λ (w : Walk). Going w P (turned_to labels (ranked_pushed (rate labels r d) d (rated labels r d)) (Some e))) (pushed_walk (rate labels r d) d (rated labels r d))
+      (turned_to_goes labels (ranked_pushed (rate labels r d) d (rated labels r d)) (Some e) (pushed_holds (rate labels r d) d (rated labels r d) (a d refl).0 (rated_holds labels r d h))
       (subst (λ (w : Walk). Offered w (Some e)) (sym (pushed_walk (rate labels r d) d (rated labels r d))) b))
 
 across_tells : (w : Walk) (o : Option Side) (d : Side) → unvisited_across w o ≡ Some d → (o ≡ Some d) × (is_visited w d.face ≡ false)
@@ -165,7 +165,7 @@ across_tells w (Some c) d e = elim (cases_Bool (is_visited w c.face)) [
 
 -- a visit, where the corners across have a property
 visit_goes : (P : Side → Type 0) (g : Gluing) (labels : List ℕ) (r : Ranked) (c : Side) → Holds P r → ((d : Side) → g (prev c) ≡ Some d → P d) → ((d : Side) → g (next c) ≡ Some d → P d) →
-    Going (entered labels r.walk c) P (visit g labels r c)
+    Going (entered labels r.walk c) P (ranked_visit g labels r c)
 visit_goes P g labels r c h a b = turned_goes P labels (record r { walk = entered labels r.walk c }) (unvisited_across (entered labels r.walk c) (g (prev c))) (unvisited_across (entered labels r.walk c) (g (next c)))
     (record { held0 = h.held0; held1 = h.held1; held2 = h.held2 })
     (λ d e. (let t = across_tells (entered labels r.walk c) (g (prev c)) d e in (a d t.0, t.1)))
@@ -182,7 +182,7 @@ anything_holds r = record { held0 = all_any r.stack0; held1 = all_any r.stack1; 
     all_any [] = All-nil Anything
     all_any (c ∷ cs) = All-cons Anything c cs tt (all_any cs)
 
-pub visit_is : (g : Gluing) (labels : List ℕ) (r : Ranked) (c : Side) → Going (entered labels r.walk c) Anything (visit g labels r c)
+pub visit_is : (g : Gluing) (labels : List ℕ) (r : Ranked) (c : Side) → Going (entered labels r.walk c) Anything (ranked_visit g labels r c)
 visit_is g labels r c = visit_goes Anything g labels r c (anything_holds r) (λ d e. tt) (λ d e. tt)
 
 module _ (g : Gluing) (labels : List ℕ) where
@@ -190,16 +190,16 @@ module _ (g : Gluing) (labels : List ℕ) where
   unfolding visits
   visits_none r c = refl
 
-  pub visits_end : (n : ℕ) (r : Ranked) (c : Side) → (visit g labels r c).1 ≡ None → visits g labels (suc n) r c ≡ (visit g labels r c).0
+  pub visits_end : (n : ℕ) (r : Ranked) (c : Side) → (ranked_visit g labels r c).1 ≡ None → visits g labels (suc n) r c ≡ (ranked_visit g labels r c).0
   unfolding visits
-  visits_end n r c e = ap (λ (o : Option Side). let x : Ranked = elim o [ None ↦ (visit g labels r c).0 | Some d ↦ visits g labels n (visit g labels r c).0 d ] in x) e
+  visits_end n r c e = ap (λ (o : Option Side). let x : Ranked = elim o [ None ↦ (ranked_visit g labels r c).0 | Some d ↦ visits g labels n (ranked_visit g labels r c).0 d ] in x) e
 
-  pub visits_go : (n : ℕ) (r : Ranked) (c d : Side) → (visit g labels r c).1 ≡ Some d → visits g labels (suc n) r c ≡ visits g labels n (visit g labels r c).0 d
+  pub visits_go : (n : ℕ) (r : Ranked) (c d : Side) → (ranked_visit g labels r c).1 ≡ Some d → visits g labels (suc n) r c ≡ visits g labels n (ranked_visit g labels r c).0 d
   unfolding visits
-  visits_go n r c d e = ap (λ (o : Option Side). let x : Ranked = elim o [ None ↦ (visit g labels r c).0 | Some z ↦ visits g labels n (visit g labels r c).0 z ] in x) e
+  visits_go n r c d e = ap (λ (o : Option Side). let x : Ranked = elim o [ None ↦ (ranked_visit g labels r c).0 | Some z ↦ visits g labels n (ranked_visit g labels r c).0 z ] in x) e
 
-  -- after a visit there is a face fewer, and the next corner's is unvisited
-  fewer_after : (r s : Ranked) (c d : Side) → visit g labels r c ≡ (s, Some d) → is_visited r.walk c.face ≡ false → (unvisited s.walk.visited + 1 ≡ unvisited r.walk.visited) × (is_visited s.walk d.face ≡ false)
+  -- after a ranked_visit there is a face fewer, and the next corner's is unvisited
+  fewer_after : (r s : Ranked) (c d : Side) → ranked_visit g labels r c ≡ (s, Some d) → is_visited r.walk c.face ≡ false → (unvisited s.walk.visited + 1 ≡ unvisited r.walk.visited) × (is_visited s.walk d.face ≡ false)
   fewer_after r s c d e f =
       let V = visit_is g labels r c in
       let same : s.walk ≡ entered labels r.walk c = sym (ap (λ (t : Ranked × Option Side). t.0.walk) e) ∙ V.walk in
@@ -222,13 +222,13 @@ module _ (g : Gluing) (labels : List ℕ) where
 
   leads : (n : ℕ) (r : Ranked) (c : Side) → unvisited r.walk.visited ≤ n → is_visited r.walk c.face ≡ false → Visits g labels r c (visits g labels n r c)
   leads zero r c h f = absurd (fuel_there r c f h)
-  leads (suc n) r c h f = elim (option_tells (visit g labels r c).1) [
-    | inl e ↦ subst (Visits g labels r c) (sym (visits_end n r c e)) (last (ap (λ (o : Option Side). let x : Ranked × Option Side = ((visit g labels r c).0, o) in x) e))
+  leads (suc n) r c h f = elim (option_tells (ranked_visit g labels r c).1) [
+    | inl e ↦ subst (Visits g labels r c) (sym (visits_end n r c e)) (last (ap (λ (o : Option Side). let x : Ranked × Option Side = ((ranked_visit g labels r c).0, o) in x) e))
     | inr d ↦ (
-        let e : visit g labels r c ≡ ((visit g labels r c).0, Some d.0) = ap (λ (o : Option Side). let x : Ranked × Option Side = ((visit g labels r c).0, o) in x) d.1 in
-        let t = fewer_after r (visit g labels r c).0 c d.0 e f in
+        let e : ranked_visit g labels r c ≡ ((ranked_visit g labels r c).0, Some d.0) = ap (λ (o : Option Side). let x : Ranked × Option Side = ((ranked_visit g labels r c).0, o) in x) d.1 in
+        let t = fewer_after r (ranked_visit g labels r c).0 c d.0 e f in
         let less = t.0 in
-        subst (Visits g labels r c) (sym (visits_go n r c d.0 d.1)) (on e (leads n (visit g labels r c).0 d.0 (omega arith) t.1)))
+        subst (Visits g labels r c) (sym (visits_go n r c d.0 d.1)) (on e (leads n (ranked_visit g labels r c).0 d.0 (omega arith) t.1)))
   ]
 
 pub visits_are_relation : VisitsAreRelation
@@ -256,7 +256,7 @@ module _ (faces : ℕ) (g : Gluing) (labels : List ℕ) (count : ℕ) (ends : Li
     held2 = All-weaker (Ready w) (Ready v) (ready_more W) r.stack2 h.held2;
   }
 
-  visit_holds : (r : Ranked) (c : Side) → IsHeld r → Ready r.walk c → Going (entered labels r.walk c) (Ready (entered labels r.walk c)) (visit g labels r c)
+  visit_holds : (r : Ranked) (c : Side) → IsHeld r → Ready r.walk c → Going (entered labels r.walk c) (Ready (entered labels r.walk c)) (ranked_visit g labels r c)
   visit_holds r c H R = visit_goes (Ready (entered labels r.walk c)) g labels r c (waiting_more (entered_grows labels r.walk c) r H.waiting)
       (λ d e. subst (Rattle.walk_order.proofs.Covering.IsReady faces g labels count ends G L (entered labels r.walk c)) e (entered_left faces g labels count ends G L r.walk c R))
       (λ d e. subst (Rattle.walk_order.proofs.Covering.IsReady faces g labels count ends G L (entered labels r.walk c)) e (entered_right faces g labels count ends G L r.walk c R))
@@ -267,7 +267,7 @@ module _ (faces : ℕ) (g : Gluing) (labels : List ℕ) (count : ℕ) (ends : Li
     waiting = subst (λ (w : Walk). Holds (Ready w) q) (sym e) h;
   }
 
-  -- visits keep all covered, and visit the first face
+  -- visits keep all covered, and ranked_visit the first face
   pub record Visited (r q : Ranked) : Type 0 where
     pub held : IsHeld q
     pub grows : Grows labels r.walk q.walk
@@ -276,13 +276,13 @@ module _ (faces : ℕ) (g : Gluing) (labels : List ℕ) (count : ℕ) (ends : Li
   visits_hold zero r c H R = (subst (Visited r) (sym (visits_none g labels r c)) (record { held = H; grows = grows_refl labels r.walk }), λ h. absurd (omega arith))
   visits_hold (suc n) r c H R =
       let V = visit_holds r c H R in
-      let step : Grows labels r.walk (visit g labels r c).0.walk = subst (Grows labels r.walk) (sym V.walk) (entered_grows labels r.walk c) in
-      let here : is_visited (visit g labels r c).0.walk c.face ≡ true = ap (λ (w : Walk). is_visited w c.face) V.walk ∙ set_here r.walk.visited c.face in
-      let held : IsHeld (visit g labels r c).0 = held_after r (visit g labels r c).0 c H R V.walk V.holds in
-      elim (option_tells (visit g labels r c).1) [
+      let step : Grows labels r.walk (ranked_visit g labels r c).0.walk = subst (Grows labels r.walk) (sym V.walk) (entered_grows labels r.walk c) in
+      let here : is_visited (ranked_visit g labels r c).0.walk c.face ≡ true = ap (λ (w : Walk). is_visited w c.face) V.walk ∙ set_here r.walk.visited c.face in
+      let held : IsHeld (ranked_visit g labels r c).0 = held_after r (ranked_visit g labels r c).0 c H R V.walk V.holds in
+      elim (option_tells (ranked_visit g labels r c).1) [
         | inl e ↦ subst (λ (x : Ranked). Visited r x × (0 < suc n → is_visited x.walk c.face ≡ true)) (sym (visits_end g labels n r c e)) (record { held = held; grows = step }, λ h. here)
         | inr d ↦ subst (λ (x : Ranked). Visited r x × (0 < suc n → is_visited x.walk c.face ≡ true)) (sym (visits_go g labels n r c d.0 d.1)) (
-            let t = visits_hold n (visit g labels r c).0 d.0 held (subst (λ (w : Walk). Ready w d.0) (sym V.walk) (V.next_is d.0 d.1).0) in
+            let t = visits_hold n (ranked_visit g labels r c).0 d.0 held (subst (λ (w : Walk). Ready w d.0) (sym V.walk) (V.next_is d.0 d.1).0) in
             (record { held = t.0.held; grows = grows_trans step t.0.grows }, λ h. t.0.grows.visited c.face here))
       ]
 

@@ -12,12 +12,12 @@ use Rattle.walk_order.specs.declared.surface.Surface.{Surface}
 use Rattle.walk_order.specs.declared.marks.Marks.{Marks}
 use Rattle.walk_order.specs.Visits.{is_new}
 use Rattle.walk_order.specs.DepthFirst.{goes_right_alone}
-use Rattle.walk_order.specs.Stored.{new_mark, IsSurface, IsStored, IsEntryTable, entries_of, walk_of}
+use Rattle.walk_order.specs.Stored.{new_mark, IsSurface, IsStored, IsEntryTable, marked_entries, marked_walk}
 use Rattle.walk_order.proofs.Surfaces.{few_classes}
 use Rattle.walk_order.proofs.Tables.{table_more, table_none, kept_new}
 
 -- the numbers of entries fit
-pub entries_fit : {s : Surface} {m : Marks} → IsSurface s → IsStored s m → length (entries_of m) < 4294967294
+pub entries_fit : {s : Surface} {m : Marks} → IsSurface s → IsStored s m → length (marked_entries m) < 4294967294
 entries_fit S M = let f = few_classes S in let c = M.table.counted in let l = M.table.long in omega arith
 
 pub items_fit : {s : Surface} {m : Marks} → IsSurface s → IsStored s m → length m.entries.items < 4294967294
@@ -40,32 +40,32 @@ nothing_stored s m z e t = record {
 
 -- a new entry is stored
 pub entry_stored : (s : Surface) (m n : Marks) (corner class count : ℕ) → IsSurface s → IsStored s m → corner < 3 * s.faces → class ≡ label_at s.labels.now (side_at corner) →
-    is_new s.labels.now (entries_of m) (side_at corner) ≡ true → vec_len n.visited ≡ s.faces →
+    is_new s.labels.now (marked_entries m) (side_at corner) ≡ true → vec_len n.visited ≡ s.faces →
     (e : NumberedSide) → count ≡ length m.entries.items → side_of e ≡ side_at corner → e.face ≡ corner / 3 → n.entries.items ≡ m.entries.items ++ (e ∷ []) → n.entry_of_class.items ≡ set m.entry_of_class.items class count →
     IsStored s n
 entry_stored s m n corner class count S M h k new z e l a f i t = record {
   sized = z;
   table = subst (λ (es : List Side). IsEntryTable s.labels.now s.ends.now es n.entry_of_class.items) (sym entries)
-      (subst (IsEntryTable s.labels.now s.ends.now (entries_of m ++ (side_at corner ∷ []))) (sym table)
-      (table_more s.labels.now s.ends.now (entries_of m) m.entry_of_class.items (side_at corner) M.table (class_within S M corner h) (few_in_table S M) new));
+      (subst (IsEntryTable s.labels.now s.ends.now (marked_entries m ++ (side_at corner ∷ []))) (sym table)
+      (table_more s.labels.now s.ends.now (marked_entries m) m.entry_of_class.items (side_at corner) M.table (class_within S M corner h) (few_in_table S M) new));
   corners = subst (All (λ (x : NumberedSide). x.face < s.faces)) (sym i) (All-push (λ (x : NumberedSide). x.face < s.faces) m.entries.items e M.corners (let w : e.face < s.faces = omega arith in w));
 }
   where
-    entries : entries_of n ≡ entries_of m ++ (side_at corner ∷ [])
+    entries : marked_entries n ≡ marked_entries m ++ (side_at corner ∷ [])
     entries = ap (map side_of) i ∙ map-append side_of m.entries.items (e ∷ []) ∙ ap (λ (x : Side). map side_of m.entries.items ++ (x ∷ [])) a
 
-    table : n.entry_of_class.items ≡ set m.entry_of_class.items (label_at s.labels.now (side_at corner)) (length (entries_of m))
+    table : n.entry_of_class.items ≡ set m.entry_of_class.items (label_at s.labels.now (side_at corner)) (length (marked_entries m))
     table = t ∙ ap (λ (x : ℕ). set m.entry_of_class.items x count) k ∙ ap (set m.entry_of_class.items (label_at s.labels.now (side_at corner))) (l ∙ sym (length-map m.entries.items side_of))
 
 -- what is kept for a corner's class, where it is a mark
 pub class_new : {s : Surface} {m : Marks} → IsSurface s → IsStored s m → (corner class v : ℕ) → corner < 3 * s.faces → class ≡ label_at s.labels.now (side_at corner) → v ≡ get_or m.entry_of_class.items class 0 →
-    4294967294 ≤ v → is_new s.labels.now (entries_of m) (side_at corner) ≡ true
+    4294967294 ≤ v → is_new s.labels.now (marked_entries m) (side_at corner) ≡ true
 class_new {s} {m} S M corner class v h k e high =
     (kept_new _ _ _ _ M.table (few_in_table S M) (label_at s.labels.now (side_at corner)) v (class_within S M corner h) (e ∙ ap (λ (x : ℕ). get_or m.entry_of_class.items x 0) k)).0 high
 
 -- and where it is the number of an entry
 pub class_old : {s : Surface} {m : Marks} → IsSurface s → IsStored s m → (corner class v : ℕ) → corner < 3 * s.faces → class ≡ label_at s.labels.now (side_at corner) → v ≡ get_or m.entry_of_class.items class 0 →
-    v < 4294967294 → is_new s.labels.now (entries_of m) (side_at corner) ≡ false
+    v < 4294967294 → is_new s.labels.now (marked_entries m) (side_at corner) ≡ false
 class_old {s} {m} S M corner class v h k e low =
     (kept_new _ _ _ _ M.table (few_in_table S M) (label_at s.labels.now (side_at corner)) v (class_within S M corner h) (e ∙ ap (λ (x : ℕ). get_or m.entry_of_class.items x 0) k)).1 low
 
@@ -74,16 +74,16 @@ alone_plain true true v a b = (let e : v ≡ 4294967294 = a refl in ne_eqb v 429
 alone_plain true false v a b = eq-eqb v 4294967295 (a refl)
 alone_plain false ended v a b = (let l = b refl in ne_eqb v 4294967295 (λ x. absurd (omega arith)))
 
--- the mark of a new class that no free side meets tells that the walk goes right alone
+-- by the mark of a new class that no free side meets, the walk goes right alone
 pub alone_told : {s : Surface} {m : Marks} → IsSurface s → IsStored s m → (corner v : ℕ) → corner < 3 * s.faces → v ≡ get_or m.entry_of_class.items (label_at s.labels.now (side_at corner)) 0 →
-    nat_eq v 4294967295 ≡ goes_right_alone s.labels.now s.ends.now (walk_of m) (side_at corner)
-alone_told {s} {m} S M corner v h e = alone_plain (is_new s.labels.now (entries_of m) (side_at corner)) (get_or s.ends.now (label_at s.labels.now (side_at corner)) false) v
+    nat_eq v 4294967295 ≡ goes_right_alone s.labels.now s.ends.now (marked_walk m) (side_at corner)
+alone_told {s} {m} S M corner v h e = alone_plain (is_new s.labels.now (marked_entries m) (side_at corner)) (get_or s.ends.now (label_at s.labels.now (side_at corner)) false) v
     (λ new. e ∙ M.table.new _ (class_within S M corner h) new)
     (λ old. let p = (M.table.told _ (class_within S M corner h) old).0 in let f = entries_fit S M in omega arith)
 
--- what is kept for a corner's class tells whether it is new
+-- what is kept for a corner's class shows whether it is new
 pub new_told : {s : Surface} {m : Marks} → IsSurface s → IsStored s m → (corner class v : ℕ) → corner < 3 * s.faces → class ≡ label_at s.labels.now (side_at corner) → v ≡ get_or m.entry_of_class.items class 0 →
-    nat_le 4294967294 v ≡ is_new s.labels.now (entries_of m) (side_at corner)
+    nat_le 4294967294 v ≡ is_new s.labels.now (marked_entries m) (side_at corner)
 new_told {s} {m} S M corner class v h k e = elim (cases_lt v 4294967294) [
   | inl low ↦ lt-leb 4294967294 v low ∙ sym (class_old S M corner class v h k e low)
   | inr high ↦ le-leb 4294967294 v high ∙ sym (class_new S M corner class v h k e high)

@@ -9,7 +9,7 @@ use Rattle.corner_table.proofs.Numbers.{number-side_at, number-lt, face-lt}
 use Rattle.walk_order.specs.declared.surface.Surface.{Surface}
 use Rattle.walk_order.specs.Stored.{IsSurface}
 
--- an entry that isn't free tells a side
+-- an entry that isn't free gives a side
 pub other_some : (v : ℕ) → v ≢ free_entry → other_at v ≡ Some (side_at v)
 other_some v h = cond-false (eqb v free_entry) None (Some (side_at v)) (false_from_ne_true (eqb v free_entry) (λ t. h (eqb-true v free_entry t)))
 

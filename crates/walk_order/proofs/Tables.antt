@@ -1,5 +1,5 @@
--- The table of the entries of classes: what it is before the walk, what a new entry makes of it, and that it tells the order once every class has
--- an entry.
+-- The table of the entries of classes: what it is before the walk, what a new entry makes of it, and that it gives the order once every
+-- class has an entry.
 use Rattle.std.proofs.Common.{◌≡◌, ◌≢◌, ℕ, suc, ◌+◌, ◌<◌, ◌≤◌, Bool, true, false, not, ◌||◌, ◌==◌, cond, List, [], ◌∷◌, ◌++◌, length, get_or, set, map, inl, inr, sym, refl, ap, ◌∙◌, subst, arith, eqb-true, eq-eqb, ne_eqb, length-append, length-set, get_or-set_other, get_or-set_same}
 use Rattle.std.specs.List.{list_any}
 use Rattle.std.proofs.lemmas.Bool.{cases_Bool, cases_lt, cases_eq, lt-leb, not_from_true}
@@ -161,7 +161,7 @@ table_none labels ends table e = subst (IsEntryTable labels ends []) (sym e) (re
   back = λ i h. absurd (let no : i < 0 = h in omega arith);
 })
 
--- what is kept for a class tells whether it has an entry
+-- what is kept for a class shows whether it has an entry
 pub kept_new : (labels : List ℕ) (ends : List Bool) (entries : List Side) (table : List ℕ) → IsEntryTable labels ends entries table → length table < 4294967294 → (k v : ℕ) → k < length table → v ≡ get_or table k 0 →
     (4294967294 ≤ v → lacks labels entries k ≡ true) × (v < 4294967294 → lacks labels entries k ≡ false)
 kept_new labels ends entries table T few k v h e = (

@@ -4,7 +4,7 @@ use Rattle.std.proofs.lemmas.Bool.{cases_Bool, cond-true, cond-false}
 use Rattle.corner_table.specs.Sides.{Side, next, prev, Gluing}
 use Rattle.walk_order.specs.Visits.{Walk, is_visited, unvisited, entered}
 use Rattle.walk_order.specs.DepthFirst.{goes_right_alone, walk}
-use Rattle.walk_order.specs.Stored.{before, turn, walks_in_turn}
+use Rattle.walk_order.specs.Stored.{before, turn_step, walks_in_turn}
 use Rattle.walk_order.proofs.Fuel.{walk_missing, walk_met, one_turn, one_fewer, left_of}
 
 -- corners that wait, as many as there are at most
@@ -21,11 +21,11 @@ before_left true o cs = refl
 before_left false o cs = refl
 
 module _ (g : Gluing) (labels : List ℕ) (ends : List Bool) where
-  turn_met : (w : Walk) (cs : List Side) (c : Side) → is_visited w c.face ≡ true → turn g labels ends w cs c ≡ (w, cs, None)
+  turn_met : (w : Walk) (cs : List Side) (c : Side) → is_visited w c.face ≡ true → turn_step g labels ends w cs c ≡ (w, cs, None)
   turn_met w cs c e = cond-true (is_visited w c.face) (w, cs, None) _ e
 
   turn_goes : (w : Walk) (cs : List Side) (c : Side) → is_visited w c.face ≡ false →
-      turn g labels ends w cs c ≡ (entered labels w c, cond (goes_right_alone labels ends w c) cs (before (g (prev c)) cs), g (next c))
+      turn_step g labels ends w cs c ≡ (entered labels w c, cond (goes_right_alone labels ends w c) cs (before (g (prev c)) cs), g (next c))
   turn_goes w cs c e = cond-false (is_visited w c.face) (w, cs, None) _ e
 
   in_turn : (n : ℕ) (w : Walk) (c : Side) (cs : List Side) → walks_in_turn g labels ends n w (c ∷ cs) ≡ walks_in_turn g labels ends n (walk g labels ends n w (Some c)) cs
@@ -44,8 +44,8 @@ module _ (g : Gluing) (labels : List ℕ) (ends : List Bool) where
   pub in_turn_one : (n : ℕ) (w : Walk) (c : Side) → walk g labels ends n w (Some c) ≡ walks_in_turn g labels ends n w (c ∷ [])
   in_turn_one n w c = sym (in_turn n w c [] ∙ in_turn_none n (walk g labels ends n w (Some c)))
 
-  -- a turn keeps what all that waits comes to
-  pub turn_walks : (n : ℕ) (w : Walk) (cs : List Side) (c : Side) (t : Walk × List Side × Option Side) → unvisited w.visited ≤ n → turn g labels ends w cs c ≡ t →
+  -- a turn_step keeps what all that waits comes to
+  pub turn_walks : (n : ℕ) (w : Walk) (cs : List Side) (c : Side) (t : Walk × List Side × Option Side) → unvisited w.visited ≤ n → turn_step g labels ends w cs c ≡ t →
       walks_in_turn g labels ends n w (c ∷ cs) ≡ walks_in_turn g labels ends n t.0 (before t.2 t.1)
   turn_walks n w cs c t h e = in_turn n w c cs ∙ elim (cases_Bool (is_visited w c.face)) [
     | inl v ↦ ap (λ (u : Walk). walks_in_turn g labels ends n u cs) (walk_met g labels ends n w c v) ∙ ap (λ (x : Walk × List Side × Option Side). walks_in_turn g labels ends n x.0 (before x.2 x.1)) (sym (turn_met w cs c v) ∙ e)
@@ -58,7 +58,7 @@ module _ (g : Gluing) (labels : List ℕ) (ends : List Bool) where
   ]
 
   -- and makes the measure smaller, unless no corner is given to go on at
-  pub turn_falls : (w : Walk) (cs : List Side) (c : Side) (t : Walk × List Side × Option Side) → turn g labels ends w cs c ≡ t →
+  pub turn_falls : (w : Walk) (cs : List Side) (c : Side) (t : Walk × List Side × Option Side) → turn_step g labels ends w cs c ≡ t →
       (2 * unvisited t.0.visited + length t.1 < 2 * unvisited w.visited + length cs) ⊎ ((2 * unvisited t.0.visited + length t.1 ≤ 2 * unvisited w.visited + length cs) × (t.2 ≡ None))
   turn_falls w cs c t e = elim (cases_Bool (is_visited w c.face)) [
     | inl v ↦ inr (

@@ -25,10 +25,10 @@ abbrev pub walked_from : ℕ → Gluing → List ℕ → List Bool → ℕ → W
 walked_from faces g labels ends f w = cond (is_visited w f) w (walk g labels ends faces (with_base labels w f) (Some (side f first)))
 
 -- walks of the first faces in turn
-unfoldable pub walked : ℕ → Gluing → List ℕ → List Bool → ℕ → Walk
-walked faces g labels ends zero = unwalked faces
-walked faces g labels ends (suc f) = walked_from faces g labels ends f (walked faces g labels ends f)
+unfoldable pub depth_walked : ℕ → Gluing → List ℕ → List Bool → ℕ → Walk
+depth_walked faces g labels ends zero = unwalked faces
+depth_walked faces g labels ends (suc f) = walked_from faces g labels ends f (depth_walked faces g labels ends f)
 
 -- the corners of the entries, in order
 abbrev pub depth_first_order : ℕ → Gluing → List ℕ → List Bool → List Side
-depth_first_order faces g labels ends = (walked faces g labels ends faces).entries
+depth_first_order faces g labels ends = (depth_walked faces g labels ends faces).entries

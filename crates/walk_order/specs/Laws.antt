@@ -4,7 +4,7 @@ use Rattle.corner_table.specs.Sides.{Side, next, prev, side_at, Gluing, IsGluing
 use Rattle.corner_table.specs.Labels.{IsLabelled, label_at}
 use Rattle.walk_order.specs.Visits.{Walk, is_visited, unvisited, entered}
 use Rattle.walk_order.specs.DepthFirst.{goes_right_alone, walk, depth_first_order}
-use Rattle.walk_order.specs.PredictionDegree.{Ranked, visit, visits, prediction_degree_order}
+use Rattle.walk_order.specs.PredictionDegree.{Ranked, ranked_visit, visits, prediction_degree_order}
 
 -- the depth-first walk from a corner makes one state of another
 pub data Walks (g : Gluing) (labels : List ℕ) (ends : List Bool) : Walk → Option Side → Walk → Type 0 where
@@ -27,9 +27,9 @@ WalkIsRelation = (g : Gluing) (labels : List ℕ) (ends : List Bool) (n : ℕ) (
 -- the walk by prediction degree from a corner of an unvisited face makes one state of another
 pub data Visits (g : Gluing) (labels : List ℕ) : Ranked → Side → Ranked → Type 0 where
   -- where no corner is left to go on at, the walk ends
-  last : {r q : Ranked} {c : Side} → visit g labels r c ≡ (q, None) → Visits g labels r c q
+  last : {r q : Ranked} {c : Side} → ranked_visit g labels r c ≡ (q, None) → Visits g labels r c q
   -- else it goes on at the next corner
-  on : {r s q : Ranked} {c d : Side} → visit g labels r c ≡ (s, Some d) → Visits g labels s d q → Visits g labels r c q
+  on : {r s q : Ranked} {c d : Side} → ranked_visit g labels r c ≡ (s, Some d) → Visits g labels s d q → Visits g labels r c q
 
 -- the recursion with fuel for the unvisited faces is the relation
 abbrev pub VisitsAreRelation : Type 0

@@ -67,7 +67,7 @@ OrdersAreOfSurface = (faces : ℕ) (g : Gluing) (labels : List ℕ) (count : ℕ
     (depth_first_order faces g labels ends ≡ depth_first_of faces g)
     × (prediction_degree_order faces g labels count ≡ prediction_degree_of faces g)
 
--- and the entries of corners in an order of its classes are told by the corners of the entries
+-- and the entries of corners in an order of its classes are determined by the corners of the entries
 abbrev pub EntriesAreOfSurface : Type 0
 EntriesAreOfSurface = (faces : ℕ) (g : Gluing) (labels : List ℕ) (count : ℕ) (ends : List Bool) (o : Order) → IsGluing faces g →
     IsLabelled faces g labels count ends → IsOrderOf faces labels count o → o.entry_of_corner ≡ entries_of faces g (corners_in o)

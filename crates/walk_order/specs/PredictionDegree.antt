@@ -27,10 +27,10 @@ abbrev pub rated : List ℕ → Ranked → Side → Ranked
 rated labels r c = record r { rated = cond (is_new labels r.walk.entries c) (set r.rated (label_at labels c) true) r.rated }
 
 -- a corner is put on the stack of its rate
-abbrev pub pushed : ℕ → Side → Ranked → Ranked
-pushed zero c r = record r { stack0 = c ∷ r.stack0; best = 0 }
-pushed (suc zero) c r = record r { stack1 = c ∷ r.stack1; best = min r.best 1 }
-pushed (suc (suc k)) c r = record r { stack2 = c ∷ r.stack2; best = min r.best 2 }
+abbrev pub ranked_pushed : ℕ → Side → Ranked → Ranked
+ranked_pushed zero c r = record r { stack0 = c ∷ r.stack0; best = 0 }
+ranked_pushed (suc zero) c r = record r { stack1 = c ∷ r.stack1; best = min r.best 1 }
+ranked_pushed (suc (suc k)) c r = record r { stack2 = c ∷ r.stack2; best = min r.best 2 }
 
 -- corners are taken off a stack, up to and with the first of an unvisited face
 unfoldable pub take_unvisited : Walk → List Side → List Side × Option Side
@@ -61,8 +61,8 @@ taken_from zero r = taken0 r
 taken_from (suc zero) r = taken1 r
 taken_from (suc (suc k)) r = taken2 r
 
-abbrev pub taken : Ranked → Ranked × Option Side
-taken r = taken_from r.best r
+abbrev pub ranked_taken : Ranked → Ranked × Option Side
+ranked_taken r = taken_from r.best r
 
 -- the corner across a side, where its face is unvisited
 abbrev pub unvisited_across : Walk → Option Side → Option Side
@@ -72,28 +72,28 @@ unvisited_across w (Some d) = cond (is_visited w d.face) None (Some d)
 -- where the walk goes on, with at most one corner across: there, where its rate is no more than the number of the best stack; else that
 -- corner is put on its stack, and the next one is taken
 abbrev pub turned_to : List ℕ → Ranked → Option Side → Ranked × Option Side
-turned_to labels r None = taken r
+turned_to labels r None = ranked_taken r
 turned_to labels r (Some d) = elim (nat_le (rate labels r d) r.best) [
   | true ↦ (rated labels r d, Some d)
-  | false ↦ taken (pushed (rate labels r d) d (rated labels r d))
+  | false ↦ ranked_taken (ranked_pushed (rate labels r d) d (rated labels r d))
 ]
 
 -- with the corners across to the left and to the right: where there are both, the left one is put on its stack first
-abbrev pub turned : List ℕ → Ranked → Option Side → Option Side → Ranked × Option Side
-turned labels r None right = turned_to labels r right
-turned labels r (Some d) None = turned_to labels r (Some d)
-turned labels r (Some d) (Some e) = turned_to labels (pushed (rate labels r d) d (rated labels r d)) (Some e)
+abbrev pub ranked_turned : List ℕ → Ranked → Option Side → Option Side → Ranked × Option Side
+ranked_turned labels r None right = turned_to labels r right
+ranked_turned labels r (Some d) None = turned_to labels r (Some d)
+ranked_turned labels r (Some d) (Some e) = turned_to labels (ranked_pushed (rate labels r d) d (rated labels r d)) (Some e)
 
 -- the face of a corner is entered, and where the walk goes on
-abbrev pub visit : Gluing → List ℕ → Ranked → Side → Ranked × Option Side
-visit g labels r c =
+abbrev pub ranked_visit : Gluing → List ℕ → Ranked → Side → Ranked × Option Side
+ranked_visit g labels r c =
     let w = entered labels r.walk c in
-    turned labels (record r { walk = w }) (unvisited_across w (g (prev c))) (unvisited_across w (g (next c)))
+    ranked_turned labels (record r { walk = w }) (unvisited_across w (g (prev c))) (unvisited_across w (g (next c)))
 
 -- visits from a corner on, as long as there is a next one; each is of another face, so as many as there are faces are enough
 unfoldable pub visits : Gluing → List ℕ → ℕ → Ranked → Side → Ranked
 visits g labels zero r c = r
-visits g labels (suc n) r c = let t = visit g labels r c in elim t.1 [ None ↦ t.0 | Some d ↦ visits g labels n t.0 d ]
+visits g labels (suc n) r c = let t = ranked_visit g labels r c in elim t.1 [ None ↦ t.0 | Some d ↦ visits g labels n t.0 d ]
 
 -- the walk of a face, unless it is visited: its corners 1 and 2 become entries, and it is walked from corner 0, with stack 0 the best
 abbrev pub ranked_from : ℕ → Gluing → List ℕ → ℕ → Ranked → Ranked

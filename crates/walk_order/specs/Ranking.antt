@@ -4,12 +4,12 @@ use Rattle.corner_table.specs.Sides.{side_at}
 use Rattle.walk_order.specs.declared.surface.Surface.{Surface}
 use Rattle.walk_order.specs.declared.degree_walk.Ranks.{Ranks}
 use Rattle.walk_order.specs.PredictionDegree.{Ranked}
-use Rattle.walk_order.specs.Stored.{walk_of, IsStored}
+use Rattle.walk_order.specs.Stored.{marked_walk, IsStored}
 
--- the walk that the ranks tell: stacks grow at their ends, and the walk has their tops first
+-- the walk that the ranks stand for: stacks grow at their ends, and the walk has their tops first
 abbrev pub ranked_of : Ranks → Ranked
 ranked_of r = record {
-  walk = walk_of r.marks;
+  walk = marked_walk r.marks;
   rated = r.rated.items;
   stack0 = map side_at (reverse r.stack0.items);
   stack1 = map side_at (reverse r.stack1.items);

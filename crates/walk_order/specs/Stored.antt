@@ -45,17 +45,17 @@ pub record IsEntryTable (labels : List ℕ) (ends : List Bool) (entries : List S
   pub back : (i : ℕ) → i < length entries → get_or table (label_at labels (get_or entries i (side_at 0))) 0 ≡ i
 
 -- the entries so far, as the walk has them
-abbrev pub entries_of : Marks → List Side
-entries_of m = map side_of m.entries.items
+abbrev pub marked_entries : Marks → List Side
+marked_entries m = map side_of m.entries.items
 
--- the walk that the marks tell
-abbrev pub walk_of : Marks → Walk
-walk_of m = record { visited = m.visited.items; entries = entries_of m }
+-- the walk that the marks stand for
+abbrev pub marked_walk : Marks → Walk
+marked_walk m = record { visited = m.visited.items; entries = marked_entries m }
 
 -- a walk as it is stored
 pub record IsStored (s : Surface) (m : Marks) : Type 0 where
   pub sized : vec_len m.visited ≡ s.faces
-  pub table : IsEntryTable s.labels.now s.ends.now (entries_of m) m.entry_of_class.items
+  pub table : IsEntryTable s.labels.now s.ends.now (marked_entries m) m.entry_of_class.items
   pub corners : All (λ (e : NumberedSide). e.face < s.faces) m.entries.items
 
 -- every class has an entry
@@ -68,8 +68,8 @@ before None waiting = waiting
 before (Some c) waiting = c ∷ waiting
 
 -- one turn at a corner while others wait, the next one first: the walk after it, what waits then, and the corner to go on at
-abbrev pub turn : Gluing → List ℕ → List Bool → Walk → List Side → Side → Walk × List Side × Option Side
-turn g labels ends w waiting c = cond (is_visited w c.face) (w, waiting, None)
+abbrev pub turn_step : Gluing → List ℕ → List Bool → Walk → List Side → Side → Walk × List Side × Option Side
+turn_step g labels ends w waiting c = cond (is_visited w c.face) (w, waiting, None)
     (entered labels w c, cond (goes_right_alone labels ends w c) waiting (before (g (prev c)) waiting), g (next c))
 
 -- the walks from corners that wait, in turn

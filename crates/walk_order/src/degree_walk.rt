@@ -10,9 +10,9 @@ ghost use Rattle.std.specs.Option.{option_map};
 ghost use Rattle.corner_table.specs.Sides.{side_at};
 ghost use Rattle.corner_table.specs.Labels.{IsLabelled};
 ghost use Rattle.corner_table.specs.Table.{gluing_of};
-ghost use Rattle.walk_order.specs.PredictionDegree.{rate, rated, pushed, take_unvisited, taken2, taken1, taken0, taken, unvisited_across, turned_to, turned, visit, visits, ranked_from, ranked, unranked, prediction_degree_order};
+ghost use Rattle.walk_order.specs.PredictionDegree.{rate, rated, ranked_pushed, take_unvisited, taken2, taken1, taken0, ranked_taken, unvisited_across, turned_to, ranked_turned, ranked_visit, visits, ranked_from, ranked, unranked, prediction_degree_order};
 ghost use Rattle.walk_order.specs.Orders.{corners_in, IsOrderOf};
-ghost use Rattle.walk_order.specs.Stored.{gluing_in, walk_of, IsSurface, IsStored};
+ghost use Rattle.walk_order.specs.Stored.{gluing_in, marked_walk, IsSurface, IsStored};
 ghost use Rattle.walk_order.specs.Ranking.{ranked_of, IsRanked};
 
 use crate::marks::{Marks, no_marks};
@@ -37,7 +37,7 @@ pub(crate) struct Ranks {
 fn take_unvisited(s: &Surface<'_>, marks: &Marks, stack: &mut Vec<u32>) -> Option<u32>
     requires stored { IsStored s.now marks.now }
     requires within { All (λ (k : ℕ). k < 3 * s.now.faces) stack.old.items }
-    ensures taken { (map side_at (reverse stack.new.items), option_map side_at result) ≡ take_unvisited (walk_of marks.now) (map side_at (reverse stack.old.items)) }
+    ensures taken { (map side_at (reverse stack.new.items), option_map side_at result) ≡ take_unvisited (marked_walk marks.now) (map side_at (reverse stack.old.items)) }
     ensures rest { All (λ (k : ℕ). k < 3 * s.now.faces) stack.new.items }
     ensures within { IfSome result (λ n. n < 3 * s.now.faces) }
 {
@@ -93,7 +93,7 @@ impl Ranks {
         requires corner { corner < 3 * s.now.faces }
         requires stored { IsRanked s.now self.old }
         ensures stored { OnOk result (IsRanked s.now self.new) }
-        ensures ranked { OnOk result (ranked_of self.new ≡ pushed rate (side_at corner) (ranked_of self.old)) }
+        ensures ranked { OnOk result (ranked_of self.new ≡ ranked_pushed rate (side_at corner) (ranked_of self.old)) }
     {
         // For the prover alone: the number of faces is within its range.
         let _ = &s.faces;
@@ -164,7 +164,7 @@ impl Ranks {
         requires stored { IsRanked s.now self.old }
         ensures stored { IsRanked s.now self.new }
         ensures within { IfSome result (λ n. n < 3 * s.now.faces) }
-        ensures taken { (ranked_of self.new, option_map side_at result) ≡ taken (ranked_of self.old) }
+        ensures taken { (ranked_of self.new, option_map side_at result) ≡ ranked_taken (ranked_of self.old) }
     {
         match self.best {
             0 => self.take0(s),
@@ -178,7 +178,7 @@ impl Ranks {
         requires surface { IsSurface s.now }
         requires side { side < 3 * s.now.faces }
         requires stored { IsRanked s.now self.now }
-        ensures corner { option_map side_at result ≡ unvisited_across (walk_of self.now.marks) (gluing_in s.now (side_at side)) }
+        ensures corner { option_map side_at result ≡ unvisited_across (marked_walk self.now.marks) (gluing_in s.now (side_at side)) }
         ensures within { IfSome result (λ n. n < 3 * s.now.faces) }
     {
         match s.across_of(side) {
@@ -229,7 +229,7 @@ impl Ranks {
         requires stored { IsRanked s.now self.old }
         ensures stored { OnOk result (IsRanked s.now self.new) }
         ensures within { IfOk result (λ next. IfSome next (λ n. n < 3 * s.now.faces)) }
-        ensures turned { IfOk result (λ next. (ranked_of self.new, option_map side_at next) ≡ turned s.now.labels.now (ranked_of self.old) (option_map side_at left) (option_map side_at right)) }
+        ensures turned { IfOk result (λ next. (ranked_of self.new, option_map side_at next) ≡ ranked_turned s.now.labels.now (ranked_of self.old) (option_map side_at left) (option_map side_at right)) }
     {
         match left {
             None => self.turn_to(s, right),
@@ -244,14 +244,14 @@ impl Ranks {
         }
     }
 
-    /// Enters the face of a corner, and tells where the walk goes on.
+    /// Enters the face of a corner, and answers where the walk goes on.
     fn visit(&mut self, s: &Surface<'_>, at: u32) -> Result<Option<u32>, Memory>
         requires surface { IsSurface s.now }
         requires corner { at < 3 * s.now.faces }
         requires stored { IsRanked s.now self.old }
         ensures stored { OnOk result (IsRanked s.now self.new) }
         ensures within { IfOk result (λ next. IfSome next (λ n. n < 3 * s.now.faces)) }
-        ensures visit { IfOk result (λ next. (ranked_of self.new, option_map side_at next) ≡ visit (gluing_in s.now) s.now.labels.now (ranked_of self.old) (side_at at)) }
+        ensures visit { IfOk result (λ next. (ranked_of self.new, option_map side_at next) ≡ ranked_visit (gluing_in s.now) s.now.labels.now (ranked_of self.old) (side_at at)) }
     {
         self.marks.enter(s, at)?;
         let left = self.unvisited_across(s, previous_number(at));
@@ -319,8 +319,8 @@ fn rank_all(alloc: Global, s: &Surface<'_>) -> Result<Ranks, Memory>
 /// of the best stack, and else puts it on its stack, which becomes the best where it comes before it; then,
 /// as where there is none, the next corner is the last one of an unvisited face on the first stack from the
 /// best on, and that stack becomes the best. Each class has one entry, the entry of each corner is of the
-/// corner's class, and lists are as long as there are classes and corners. Takes memory in proportion to
-/// the corners, and is refused for want of it alone.
+/// corner's class, and lists are as long as there are classes and corners. Takes memory in proportion to the
+/// corners, and fails only when out of memory.
 pub fn prediction_degree(alloc: Global, t: &SideTable, c: &Classes) -> Result<Order, Memory>
     requires { IsLabelled t.now.faces (gluing_of t.now) c.now.of_corner c.now.count c.now.ends }
     ensures entries { IfOk result (λ o. corners_in o ≡ prediction_degree_order t.now.faces (gluing_of t.now) c.now.of_corner c.now.count) }

@@ -9,9 +9,9 @@ ghost use Rattle.std.specs.Option.{option_map};
 ghost use Rattle.corner_table.specs.Sides.{side_at};
 ghost use Rattle.corner_table.specs.Labels.{IsLabelled};
 ghost use Rattle.corner_table.specs.Table.{gluing_of};
-ghost use Rattle.walk_order.specs.DepthFirst.{walk, walked_from, walked, depth_first_order};
+ghost use Rattle.walk_order.specs.DepthFirst.{walk, walked_from, depth_walked, depth_first_order};
 ghost use Rattle.walk_order.specs.Orders.{corners_in, IsOrderOf};
-ghost use Rattle.walk_order.specs.Stored.{gluing_in, walk_of, before, turn, IsSurface, IsStored};
+ghost use Rattle.walk_order.specs.Stored.{gluing_in, marked_walk, before, turn_step, IsSurface, IsStored};
 
 use crate::marks::{Marks, no_marks};
 use crate::orders::order_of;
@@ -46,7 +46,7 @@ fn visit(
     ensures stored { OnOk result (IsStored s.now marks.new) }
     ensures stack { OnOk result (All (λ (k : ℕ). k < 3 * s.now.faces) stack.new.items) }
     ensures within { IfOk result (λ next. IfSome next (λ n. n < 3 * s.now.faces)) }
-    ensures turn { IfOk result (λ next. turn (gluing_in s.now) s.now.labels.now s.now.ends.now (walk_of marks.old) (map side_at (reverse stack.old.items)) (side_at at) ≡ (walk_of marks.new, map side_at (reverse stack.new.items), option_map side_at next)) }
+    ensures turn { IfOk result (λ next. turn_step (gluing_in s.now) s.now.labels.now s.now.ends.now (marked_walk marks.old) (map side_at (reverse stack.old.items)) (side_at at) ≡ (marked_walk marks.new, map side_at (reverse stack.new.items), option_map side_at next)) }
 {
     if marks.is_visited(at / 3) {
         return Ok(None);
@@ -71,7 +71,7 @@ fn walk_on(
     requires empty { vec_len stack.old ≡ 0 }
     ensures stored { OnOk result (IsStored s.now marks.new) }
     ensures empty { OnOk result (vec_len stack.new ≡ 0) }
-    ensures walk { OnOk result (walk_of marks.new ≡ walk (gluing_in s.now) s.now.labels.now s.now.ends.now s.now.faces (walk_of marks.old) (Some (side_at start))) }
+    ensures walk { OnOk result (marked_walk marks.new ≡ walk (gluing_in s.now) s.now.labels.now s.now.ends.now s.now.faces (marked_walk marks.old) (Some (side_at start))) }
 {
     let mut at = start;
     'walking: loop {
@@ -98,7 +98,7 @@ fn walk_from(
     requires empty { vec_len stack.old ≡ 0 }
     ensures stored { OnOk result (IsStored s.now marks.new) }
     ensures empty { OnOk result (vec_len stack.new ≡ 0) }
-    ensures walk { OnOk result (walk_of marks.new ≡ walked_from s.now.faces (gluing_in s.now) s.now.labels.now s.now.ends.now face (walk_of marks.old)) }
+    ensures walk { OnOk result (marked_walk marks.new ≡ walked_from s.now.faces (gluing_in s.now) s.now.labels.now s.now.ends.now face (marked_walk marks.old)) }
 {
     if marks.is_visited(face) {
         return Ok(());
@@ -113,7 +113,7 @@ fn walk_from(
 fn walk_all(alloc: Global, s: &Surface<'_>) -> Result<Marks, Memory>
     requires { IsSurface s.now }
     ensures stored { IfOk result (λ m. IsStored s.now m) }
-    ensures walk { IfOk result (λ m. walk_of m ≡ walked s.now.faces (gluing_in s.now) s.now.labels.now s.now.ends.now s.now.faces) }
+    ensures walk { IfOk result (λ m. marked_walk m ≡ depth_walked s.now.faces (gluing_in s.now) s.now.labels.now s.now.ends.now s.now.faces) }
 {
     let mut marks = no_marks(alloc, s)?;
     let mut stack = Vec::new(alloc);
@@ -131,7 +131,7 @@ fn walk_all(alloc: Global, s: &Surface<'_>) -> Result<Marks, Memory>
 /// leads to at the corner across the side before it. To the right alone it goes from a corner whose
 /// class was new and that no free side meets. Each class has one entry, the entry of each corner is of
 /// the corner's class, and lists are as long as there are classes and corners. Takes memory in proportion
-/// to the corners, and is refused for want of it alone.
+/// to the corners, and fails only when out of memory.
 pub fn depth_first(alloc: Global, t: &SideTable, c: &Classes) -> Result<Order, Memory>
     requires { IsLabelled t.now.faces (gluing_of t.now) c.now.of_corner c.now.count c.now.ends }
     ensures entries { IfOk result (λ o. corners_in o ≡ depth_first_order t.now.faces (gluing_of t.now) c.now.of_corner c.now.ends) }

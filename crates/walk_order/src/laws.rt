@@ -3,7 +3,7 @@
 ghost use Rattle.walk_order.specs.OfSurface.{EntriesAreOfSurface, LabelsAreOne, OrdersAreOfSurface, SurfaceIsLabelled};
 ghost use Rattle.walk_order.specs.Laws.{DepthFirstListsClasses, PredictionDegreeListsClasses, VisitsAreRelation, WalkIsRelation};
 
-/// Both walks are the relations that their rules tell, one sentence each. With as much fuel as there are
+/// Both walks are the relations that their rules define, one sentence each. With as much fuel as there are
 /// unvisited faces, the depth-first recursion from a corner leads from one state to another exactly where
 /// the relation does, and so do the visits by prediction degree from a corner of an unvisited face. This is
 /// the contract of a call that does nothing.

@@ -5,7 +5,7 @@ ghost use Rattle.corner_table.specs.Sides.{side_at};
 ghost use Rattle.corner_table.specs.Labels.{label_at};
 ghost use Rattle.walk_order.specs.Visits.{is_visited, is_new, with_entry, entered, unwalked};
 ghost use Rattle.walk_order.specs.DepthFirst.{goes_right_alone};
-ghost use Rattle.walk_order.specs.Stored.{new_mark, entries_of, walk_of, IsSurface, IsStored};
+ghost use Rattle.walk_order.specs.Stored.{new_mark, marked_entries, marked_walk, IsSurface, IsStored};
 
 use crate::surface::Surface;
 use corner_table::side_with;
@@ -45,7 +45,7 @@ fn new_marks(alloc: Global, ends: &[bool]) -> Result<Vec<u32>, Memory>
 pub(crate) fn no_marks(alloc: Global, s: &Surface<'_>) -> Result<Marks, Memory>
     requires { IsSurface s.now }
     ensures stored { IfOk result (λ m. IsStored s.now m) }
-    ensures walk { IfOk result (λ m. walk_of m ≡ unwalked s.now.faces) }
+    ensures walk { IfOk result (λ m. marked_walk m ≡ unwalked s.now.faces) }
 {
     let visited = vec![in alloc; false; s.faces as usize]?;
     let entries = Vec::with_capacity(alloc, s.ends.len())?;
@@ -61,7 +61,7 @@ impl Marks {
     /// Whether a face is visited.
     pub(crate) fn is_visited(&self, face: u32) -> bool
         requires { face < vec_len self.now.visited }
-        ensures { result ≡ is_visited (walk_of self.now) face }
+        ensures { result ≡ is_visited (marked_walk self.now) face }
     {
         self.visited[face as usize]
     }
@@ -79,7 +79,7 @@ impl Marks {
         requires surface { IsSurface s.now }
         requires corner { corner < 3 * s.now.faces }
         requires stored { IsStored s.now self.now }
-        ensures { result ≡ is_new s.now.labels.now (entries_of self.now) (side_at corner) }
+        ensures { result ≡ is_new s.now.labels.now (marked_entries self.now) (side_at corner) }
     {
         self.mark_of(s.class_of(corner)) >= NEW_AT_END
     }
@@ -90,10 +90,10 @@ impl Marks {
         requires corner { corner < 3 * s.now.faces }
         requires stored { IsStored s.now self.old }
         requires class { class ≡ label_at s.now.labels.now (side_at corner) }
-        requires new { is_new s.now.labels.now (entries_of self.old) (side_at corner) ≡ true }
+        requires new { is_new s.now.labels.now (marked_entries self.old) (side_at corner) ≡ true }
         ensures stored { OnOk result (IsStored s.now self.new) }
         ensures visited { OnOk result (self.new.visited ≡ self.old.visited) }
-        ensures entries { OnOk result (entries_of self.new ≡ entries_of self.old ++ (side_at corner ∷ [])) }
+        ensures entries { OnOk result (marked_entries self.new ≡ marked_entries self.old ++ (side_at corner ∷ [])) }
     {
         let number = self.entries.len() as u32;
         self.entries.push(side_with(corner))?;
@@ -108,7 +108,7 @@ impl Marks {
         requires stored { IsStored s.now self.old }
         ensures stored { OnOk result (IsStored s.now self.new) }
         ensures visited { OnOk result (self.new.visited ≡ self.old.visited) }
-        ensures entries { OnOk result (entries_of self.new ≡ with_entry s.now.labels.now (entries_of self.old) (side_at corner)) }
+        ensures entries { OnOk result (marked_entries self.new ≡ with_entry s.now.labels.now (marked_entries self.old) (side_at corner)) }
         ensures kept { IfOk result (λ v. v ≡ get_or self.old.entry_of_class.items (label_at s.now.labels.now (side_at corner)) 0) }
     {
         let class = s.class_of(corner);
@@ -126,7 +126,7 @@ impl Marks {
         requires stored { IsStored s.now self.old }
         ensures stored { OnOk result (IsStored s.now self.new) }
         ensures visited { OnOk result (self.new.visited ≡ self.old.visited) }
-        ensures entries { OnOk result (entries_of self.new ≡ with_entry s.now.labels.now (entries_of self.old) (side_at corner)) }
+        ensures entries { OnOk result (marked_entries self.new ≡ with_entry s.now.labels.now (marked_entries self.old) (side_at corner)) }
     {
         self.take_entry(s, corner)?;
         Ok(())
@@ -138,8 +138,8 @@ impl Marks {
         requires corner { corner < 3 * s.now.faces }
         requires stored { IsStored s.now self.old }
         ensures stored { OnOk result (IsStored s.now self.new) }
-        ensures walk { OnOk result (walk_of self.new ≡ entered s.now.labels.now (walk_of self.old) (side_at corner)) }
-        ensures alone { IfOk result (λ a. a ≡ goes_right_alone s.now.labels.now s.now.ends.now (walk_of self.old) (side_at corner)) }
+        ensures walk { OnOk result (marked_walk self.new ≡ entered s.now.labels.now (marked_walk self.old) (side_at corner)) }
+        ensures alone { IfOk result (λ a. a ≡ goes_right_alone s.now.labels.now s.now.ends.now (marked_walk self.old) (side_at corner)) }
     {
         let kept = self.take_entry(s, corner)?;
         self.visited[(corner / 3) as usize] = true;

@@ -2,7 +2,7 @@
 
 ghost use Rattle.std.specs.Prelude.{◌≡◌, ℕ, ◌<◌, All, IfOk, map, length, get_or};
 ghost use Rattle.walk_order.specs.Orders.{corners_in, IsOrderOf};
-ghost use Rattle.walk_order.specs.Stored.{entries_of, IsSurface, IsStored, AllHaveEntries};
+ghost use Rattle.walk_order.specs.Stored.{marked_entries, IsSurface, IsStored, AllHaveEntries};
 
 use crate::marks::Marks;
 use crate::surface::Surface;
@@ -26,8 +26,8 @@ fn entries_of_corners(alloc: Global, labels: &[u32], table: &[u32]) -> Result<Ve
 pub(crate) fn order_of(alloc: Global, s: &Surface<'_>, marks: Marks) -> Result<Order, Memory>
     requires surface { IsSurface s.now }
     requires stored { IsStored s.now marks }
-    requires all { AllHaveEntries s.now.labels.now (entries_of marks) (length s.now.ends.now) }
-    ensures entries { IfOk result (λ o. corners_in o ≡ entries_of marks) }
+    requires all { AllHaveEntries s.now.labels.now (marked_entries marks) (length s.now.ends.now) }
+    ensures entries { IfOk result (λ o. corners_in o ≡ marked_entries marks) }
     ensures classes { IfOk result (λ o. IsOrderOf s.now.faces s.now.labels.now (length s.now.ends.now) o) }
 {
     let table = marks.entry_of_class;

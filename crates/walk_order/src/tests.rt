@@ -2,16 +2,16 @@
 //! with sets and recursion.
 
 ghost use Rattle.std.specs.Prelude.{◌≡◌, ◌<◌};
-ghost use Rattle.corner_table.specs.Table.{room_of};
 
 use crate::degree_walk::prediction_degree;
 use crate::depth_walk::depth_first;
-use corner_table::{Order, SideTable, Steps, side_with};
+use corner_table::{Order, Steps, side_with};
 use drc_base::MAX_FACES;
 use std::alloc::Global;
 use std::marker::Brand;
 use std::process::Abort;
 use std::sync::ledger::{Blank, Ledger};
+use worked_surfaces::{TORUS_PAIRS, glued};
 
 /// A surface by its pairs of sides, and of each order the numbers of the corners of the entries and the
 /// entry of each corner.
@@ -130,29 +130,7 @@ const CUBE: Case = Case {
 /// A torus of seven points.
 const TORUS: Case = Case {
     faces: 14,
-    pairs: &[
-        (0, 25),
-        (1, 23),
-        (2, 36),
-        (3, 28),
-        (4, 26),
-        (5, 39),
-        (6, 31),
-        (7, 29),
-        (8, 21),
-        (9, 34),
-        (10, 32),
-        (11, 24),
-        (12, 37),
-        (13, 35),
-        (14, 27),
-        (15, 40),
-        (16, 38),
-        (17, 30),
-        (18, 22),
-        (19, 41),
-        (20, 33),
-    ],
+    pairs: &TORUS_PAIRS,
     depth_first: (
         &[1, 2, 0, 23, 8, 31, 10],
         &[
@@ -213,51 +191,6 @@ const GRID: Case = Case {
     ),
 };
 
-/// Glues two sides, which have to be free sides of two faces.
-fn glue_pair<L: Ledger>(
-    rt: &impl Abort,
-    table: &mut SideTable,
-    pair: (u32, u32),
-    steps: &mut Steps<L>,
-)
-    ensures { table.new.faces ≡ table.old.faces }
-{
-    let (a, b) = (side_with(pair.0), side_with(pair.1));
-    assert!(rt; a.face < table.face_count() && b.face < table.face_count() && a.face != b.face);
-    match (table.other(a, steps), table.other(b, steps)) {
-        (None, None) => table.glue(a, b, steps),
-        _ => assert!(rt; false, "a side is glued already"),
-    }
-}
-
-/// Adds all faces that there is room for.
-fn add_faces<L: Ledger>(table: &mut SideTable, faces: u32, steps: &mut Steps<L>)
-    requires none { table.old.faces ≡ 0 }
-    requires room { room_of table.old ≡ faces }
-    ensures { table.new.faces ≡ faces }
-{
-    for _ in 0..faces {
-        let _ = table.add_face(steps);
-    }
-}
-
-/// The table of a surface.
-fn table_of<L: Ledger>(
-    rt: &impl Abort,
-    alloc: Global,
-    case: &Case,
-    steps: &mut Steps<L>,
-) -> SideTable {
-    let faces = case.faces;
-    assert!(rt; faces <= MAX_FACES);
-    let mut table = SideTable::with_room(alloc, faces).expect(rt, "room");
-    add_faces(&mut table, faces, steps);
-    for pair in case.pairs {
-        glue_pair(rt, &mut table, *pair, steps);
-    }
-    table
-}
-
 /// Whether an order has these corners and entries.
 fn is_order(order: &Order, due: (&[u32], &[u32])) -> bool {
     let corners = order.corner_of_entry.as_slice();
@@ -272,7 +205,8 @@ fn has_orders<L: Ledger>(rt: &impl Abort, alloc: Global, case: &Case, blank: Bla
     requires some { 0 < L.parts }
 {
     let mut steps = Steps::<L>::new(blank);
-    let table = table_of(rt, alloc, case, &mut steps);
+    assert!(rt; case.faces <= MAX_FACES);
+    let table = glued(alloc, case.faces, case.pairs).expect(rt, "a table");
     let classes = table.label_vertices(alloc, &mut steps).expect(rt, "labels");
     let depth = depth_first(alloc, &table, &classes).expect(rt, "depth first");
     assert!(rt; is_order(&depth, case.depth_first));

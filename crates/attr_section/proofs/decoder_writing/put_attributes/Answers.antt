@@ -2,7 +2,7 @@ use Rattle.std.proofs.Common.{◌<◌, ◌≤◌, length, arith, sym}
 use Rattle.std.specs.List.{zip}
 use Rattle.std.proofs.lemmas.List.{take_all}
 use Rattle.std.specs.Option.{option_map}
-use Rattle.attr_section.specs.Surfaces.{surface_of}
+use Rattle.predict.specs.Surfaces.{surface_of}
 use Rattle.attr_section.specs.Written.{values_bytes, ValuesSpelled}
 use Rattle.attr_section.proofs.Loops.{appended-more, all-more, zipped, length-zipped}
 use Rattle.attr_section.proofs.decoder_writing.put_attributes.Goals as goal

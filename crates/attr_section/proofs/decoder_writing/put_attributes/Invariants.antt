@@ -1,7 +1,7 @@
 use Rattle.std.proofs.Common.{◌≡◌, ◌++◌, take, flat_map}
 use Rattle.std.specs.List.{All, zip}
 use Rattle.std.specs.Option.{option_map}
-use Rattle.attr_section.specs.Surfaces.{surface_of}
+use Rattle.predict.specs.Surfaces.{surface_of}
 use Rattle.attr_section.specs.Written.{values_bytes, ValuesSpelled}
 use Rattle.attr_section.proofs.decoder_writing.put_attributes.Given as goal
 

@@ -1,16 +1,16 @@
-use Rattle.drc_base.specs.Profile.{profile_two}
+use Rattle.drc_base.specs.Profile.{profile}
 use Rattle.std.proofs.Common.{◌≡◌, ◌≤◌, ◌+◌, [], drop, take}
 use Rattle.drc_base.specs.declared.limits.TheConstants.{MAX_VALUES}
 use Rattle.std.specs.Option.{option_map}
-use Rattle.attr_section.specs.Surfaces.{surface_of}
+use Rattle.predict.specs.Surfaces.{surface_of}
 use Rattle.attr_section.specs.Each.{each_at}
 use Rattle.attr_section.specs.Values.{values_at, values_in, AreColumns}
 use Rattle.attr_section.proofs.value_reading.read_attributes.Given as goal
 
 abbrev pub invariant-loop-head : goal.invariant-loop-head
 invariant-loop-head l =
-    (each_at (λ before h. values_at profile_two (surface_of (option_map (λ t. t.now) l.walk)) h l.entries (l.spent + values_in before)) l.attributes.items (drop l.head-index l.heads) l.c
-    ≡ each_at (λ before h. values_at profile_two (surface_of (option_map (λ t. t.now) l.walk)) h l.entries (l.spent + values_in before)) [] l.heads l.fn.c)
+    (each_at (λ before h. values_at profile (surface_of (option_map (λ t. t.now) l.walk)) h l.entries (l.spent + values_in before)) l.attributes.items (drop l.head-index l.heads) l.c
+    ≡ each_at (λ before h. values_at profile (surface_of (option_map (λ t. t.now) l.walk)) h l.entries (l.spent + values_in before)) [] l.heads l.fn.c)
     × (l.total ≡ l.spent + values_in l.attributes.items)
     × (l.total ≤ MAX_VALUES)
     × AreColumns l.entries (take l.head-index l.heads) l.attributes.items

@@ -1,12 +1,10 @@
-use Rattle.std.proofs.Common.{◌<◌, sym, arith}
-use Rattle.std.proofs.lemmas.List.Elements.{All-map, All-same}
+use Rattle.std.proofs.Common.{◌<◌}
+use Rattle.std.proofs.lemmas.List.Elements.{All-map}
 use Rattle.corner_table.specs.Table.{side_of}
 use Rattle.attr_section.proofs.walk_tests.is_over.Goals as goal
 
 pub returns : goal.returns
 returns c = λ yes. record {
-  each_corner = omega arith;
-  corners = All-map (λ s. s.face < c.args.t.now.faces) side_of c.args.o.now.corner_of_entry
-      (All-same (λ s. s.face < c.args.t.now.faces) c.args.o.now.corner_of_entry c.as_slice.result.now (sym c.as_slice.ensures.items)
-      (λ k d h. let b = c.all_below.ensures yes k d h in let n = c.face_count-faces.ensures.count in omega arith));
+  each_corner = c.has_corners_of.ensures.each_corner yes;
+  corners = All-map (λ s. s.face < c.args.t.now.faces) side_of c.args.o.now.corner_of_entry (c.has_corners_of.ensures.corners yes);
 }

@@ -1,4 +1,4 @@
--- One row more tells three places more.
+-- One row more gives three places more.
 use Rattle.std.proofs.Common.{ℕ, ◌*◌, ◌<◌, ap, ◌∙◌, arith}
 use Rattle.corner_table.proofs.CarriedLists.{face_placed}
 use Rattle.corner_table.proofs.renumbering.places_of.Goals as goal

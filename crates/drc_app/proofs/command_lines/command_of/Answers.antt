@@ -1,7 +1,7 @@
 use Rattle.std.proofs.Common.{◌≡◌, map, string_bytes, arith}
 use Rattle.std.proofs.lemmas.Grind.{common_steps}
 use Rattle.drc_app.specs.Progress.{line_of}
-use Rattle.drc_app.proofs.Lines.{sized_command}
+use Rattle.drc_app.proofs.BadWords.{sized_command}
 use Rattle.drc_app.proofs.command_lines.command_of.Goals as goal
 
 pub returns-clause-sized : goal.returns-clause-sized

@@ -1,5 +1,6 @@
-use Rattle.drc_app.proofs.Lines.{words_say, say_one_thing}
+use Rattle.drc_app.proofs.BadWords.{words_say, say_one_thing}
+use Rattle.drc_app.proofs.Settings.{name_back}
 use Rattle.drc_app.proofs.laws.words_say_one_thing.Goals as goal
 
 pub returns : goal.returns
-returns c = record { found = words_say; alone = say_one_thing }
+returns c = record { found = words_say; alone = say_one_thing; back = name_back }

@@ -8,9 +8,9 @@ use Rattle.drc_app.specs.declared.outcomes.Outcome.{Outcome}
 use Rattle.drc_app.specs.declared.outcomes.Outcome.TheVariants as outcome
 use Rattle.drc_app.specs.Ends.{Taking, IsReadWhole, IsUntaken, takes}
 use Rattle.drc_app.specs.Given.{Written, Differs}
-use Rattle.drc_app.specs.Due.{reads, due}
-use Rattle.drc_app.specs.Kept.{Keeps}
-use Rattle.drc_app.specs.Outcome.{bytes_of, IsOutcome, IsOutcomeAt}
+use Rattle.drc_app.specs.Due.{reads, command_due}
+use Rattle.drc_app.specs.Kept.{KeepsGeometry}
+use Rattle.drc_app.specs.Outcome.{due_bytes, IsOutcome, IsOutcomeAt}
 use Rattle.drc_app.proofs.outcomes.outcome_of.Goals as goal
 
 -- where all was read, the bytes that were left are those that were taken
@@ -40,18 +40,18 @@ whole-outcome c input bytes (outcome.BadWord i) on whole all at = absurd at
 whole-outcome c input bytes outcome.ReadFailed on whole all at = absurd at
 whole-outcome c input bytes outcome.NoMemory on whole all at = unasked (IsUntaken input) (reads c) on
 whole-outcome c input bytes (outcome.Refused f) on whole all at =
-    (on-true (IsUntaken input) (reads c) on (inl whole), told (reads c) input.left bytes (λ b. due c b ≡ Err f) on all at)
+    (on-true (IsUntaken input) (reads c) on (inl whole), told (reads c) input.left bytes (λ b. command_due c b ≡ Err f) on all at)
 whole-outcome c input bytes (outcome.Done d) on whole all at =
-    let given = Written (bytes_of d) in (
+    let given = Written (due_bytes d) in (
       on-true (IsUntaken input) (reads c) on whole,
-      told (reads c) input.left bytes (λ b. due c b ≡ Ok given) on all at.0,
-      told (reads c) input.left bytes (λ b. Keeps c b given) on all at.1,
+      told (reads c) input.left bytes (λ b. command_due c b ≡ Ok given) on all at.0,
+      told (reads c) input.left bytes (λ b. KeepsGeometry c b given) on all at.1,
     )
 whole-outcome c input bytes (outcome.Differs v) on whole all at = (
   at.0,
   on-true (IsUntaken input) (reads c) on whole,
-  told (reads c) input.left bytes (λ b. due c b ≡ Ok (Differs v)) on all at.1,
-  told (reads c) input.left bytes (λ b. Keeps c b (Differs v)) on all at.2,
+  told (reads c) input.left bytes (λ b. command_due c b ≡ Ok (Differs v)) on all at.1,
+  told (reads c) input.left bytes (λ b. KeepsGeometry c b (Differs v)) on all at.2,
 )
 
 pub returns-in-Ok-read_all-clause-outcome : goal.returns-in-Ok-read_all-clause-outcome

@@ -1,5 +1,5 @@
 use Rattle.std.proofs.Common.{map, string_bytes}
-use Rattle.drc_app.proofs.Lines.{words_say}
+use Rattle.drc_app.proofs.BadWords.{words_say}
 use Rattle.drc_app.specs.Progress.{line_of}
 use Rattle.drc_app.proofs.running.run.Goals as goal
 

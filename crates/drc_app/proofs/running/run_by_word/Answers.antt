@@ -7,7 +7,7 @@ use Rattle.drc_app.specs.declared.outcomes.Outcome.TheVariants as outcome
 use Rattle.drc_app.specs.Ends.{Taking, Putting, HasWriteFault}
 use Rattle.drc_verify.specs.declared.verdicts.Verdict.{Verdict}
 use Rattle.drc_app.specs.Given.{Given, Written, Differs}
-use Rattle.drc_app.specs.Due.{due}
+use Rattle.drc_app.specs.Due.{command_due}
 use Rattle.drc_app.specs.Outcome.{IsOutcome, IsDelivered, Delivers, told_to}
 use Rattle.drc_app.specs.Run.{IsComplete}
 use Rattle.drc_app.proofs.running.run_by_word.Goals as goal
@@ -48,9 +48,9 @@ complete (Ok c) input output notes outcome.ReadFailed status is given =
 complete (Ok c) input output notes outcome.NoMemory status is given =
     always (told_to c input) _ (λ bytes answer good read whole all. inr given.0)
 complete (Ok c) input output notes (outcome.Refused f) status is given =
-    weaker (told_to c input) (λ bytes. due c bytes ≡ Err f) _ (λ bytes bad answer good read whole all. absurd (apart (due c bytes) (Written answer) f bad good)) is.1
+    weaker (told_to c input) (λ bytes. command_due c bytes ≡ Err f) _ (λ bytes bad answer good read whole all. absurd (apart (command_due c bytes) (Written answer) f bad good)) is.1
 complete (Ok c) input output notes (outcome.Differs v) status is given =
-    weaker (told_to c input) (λ bytes. due c bytes ≡ Ok (Differs v)) _ (λ bytes unlike answer good read whole all. absurd (other (due c bytes) answer v unlike good)) is.2
+    weaker (told_to c input) (λ bytes. command_due c bytes ≡ Ok (Differs v)) _ (λ bytes unlike answer good read whole all. absurd (other (command_due c bytes) answer v unlike good)) is.2
 complete (Ok c) input output notes (outcome.Done d) status is given =
     always (told_to c input) _ (λ bytes answer good read whole all. written output notes _ _ status given whole all)
 

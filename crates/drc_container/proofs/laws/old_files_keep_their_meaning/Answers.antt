@@ -1,4 +1,4 @@
-use Rattle.drc_container.proofs.Widened.{wider-same, old-same}
+use Rattle.drc_container.proofs.lemmas.reading.Widened.{wider-same, old-same}
 use Rattle.drc_container.proofs.laws.old_files_keep_their_meaning.Goals as goal
 
 pub returns : goal.returns

@@ -1,4 +1,4 @@
-use Rattle.drc_container.proofs.Whole.{meshes_pass, clouds_pass}
+use Rattle.drc_container.proofs.lemmas.reading.Whole.{meshes_pass, clouds_pass}
 use Rattle.drc_container.proofs.laws.what_is_read_is_a_geometry.Goals as goal
 
 pub returns : goal.returns

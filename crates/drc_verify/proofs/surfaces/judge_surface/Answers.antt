@@ -1,5 +1,5 @@
 use Rattle.std.proofs.Common.{◌≡◌, Ok, rules}
-use Rattle.drc_container.specs.Meaning.{told_by}
+use Rattle.drc_container.specs.reading.Meaning.{told_by}
 use Rattle.drc_verify.specs.Checked.{surface_verdict}
 use Rattle.drc_verify.proofs.Glued.{surface-same}
 use Rattle.drc_verify.proofs.surfaces.judge_surface.Goals as goal

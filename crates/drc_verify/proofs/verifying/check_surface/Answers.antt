@@ -2,7 +2,7 @@
 use Rattle.std.proofs.Common.{◌≡◌, ◌↔◌, true, IfOk, sym, ◌∙◌, subst}
 use Rattle.drc_bits.proofs.Results.{Ok-injective}
 use Rattle.mesh_model.specs.Same.{Rows}
-use Rattle.drc_container.specs.Meaning.{Meaning, told_by}
+use Rattle.drc_container.specs.reading.Meaning.{Meaning, told_by}
 use Rattle.drc_verify.specs.Checked.{IsSame}
 use Rattle.drc_verify.specs.declared.verdicts.Verdict.TheVariants as verdict
 use Rattle.drc_verify.proofs.verifying.check_surface.Goals as goal

@@ -2,7 +2,7 @@
 use Rattle.std.proofs.Common.{ℕ, sym, subst, List, map, reverse, ap, ◌∙◌}
 use Rattle.std.proofs.lemmas.List.{reverse-reverse, length-reverse}
 use Rattle.corner_table.specs.Carried.{IsRenumbering}
-use Rattle.eb_trace.specs.Trace.{Walk, word_of, order_of}
+use Rattle.eb_trace.specs.Trace.{TraceWalk, word_of, order_of}
 use Rattle.eb_trace.specs.declared.notes.Entered.{Entered}
 use Rattle.corner_table.specs.Table.{gluing_of}
 use Rattle.eb_trace.proofs.Given.{vertices_are, rebuilt_from, bits_given, named_given, events_given, events_taken, few_events, few_symbols, carried_given}
@@ -17,12 +17,12 @@ walk_all-requires-clause-few c = few_of _ _ _ _ c.in_ok-surface.ensures.faces c.
 pub returns-clause-symbols : goal.returns-clause-symbols
 returns-clause-symbols c =
     c.from_vec.ensures ∙ c.in_ok-symbols.ensures ∙ ap (λ (l : List Entered). map (λ (e : Entered). e.symbol) l) c.as_slice.ensures.value ∙ symbols_are c.in_ok-notes.notes.entries.items
-    ∙ ap (λ (w : Walk). reverse (word_of w)) (trace_same _ _ _ _ _ c.in_ok-surface.ensures.faces c.in_ok-surface.ensures.gluing c.in_ok-notes.ensures)
+    ∙ ap (λ (w : TraceWalk). reverse (word_of w)) (trace_same _ _ _ _ _ c.in_ok-surface.ensures.faces c.in_ok-surface.ensures.gluing c.in_ok-notes.ensures)
 
 pub returns-clause-events : goal.returns-clause-events
 returns-clause-events c =
     c.from_vec-2.ensures ∙ sym (reverse-reverse c.in_ok-notes.notes.events.items)
-    ∙ ap (λ (w : Walk). reverse w.events) (trace_same _ _ _ _ _ c.in_ok-surface.ensures.faces c.in_ok-surface.ensures.gluing c.in_ok-notes.ensures)
+    ∙ ap (λ (w : TraceWalk). reverse w.events) (trace_same _ _ _ _ _ c.in_ok-surface.ensures.faces c.in_ok-surface.ensures.gluing c.in_ok-notes.ensures)
 
 pub returns-clause-events_fit : goal.returns-clause-events_fit
 returns-clause-events_fit c = events_taken _ _ (events_given c.args.t.now.faces (gluing_of c.args.t.now) c.requires.proper.gluing c.requires.proper.three_fans _ _ (returns-clause-symbols c) (returns-clause-events c))
@@ -60,7 +60,7 @@ returns-clause-counted c = (carried_given c.args.t.now.faces (gluing_of c.args.t
 pub returns-clause-starts : goal.returns-clause-starts
 returns-clause-starts c =
     c.from_vec-3.ensures ∙ sym (reverse-reverse c.in_ok-notes.notes.bits.items)
-    ∙ ap (λ (w : Walk). reverse w.bits) (trace_same _ _ _ _ _ c.in_ok-surface.ensures.faces c.in_ok-surface.ensures.gluing c.in_ok-notes.ensures)
+    ∙ ap (λ (w : TraceWalk). reverse w.bits) (trace_same _ _ _ _ _ c.in_ok-surface.ensures.faces c.in_ok-surface.ensures.gluing c.in_ok-notes.ensures)
 
 pub returns-clause-kept : goal.returns-clause-kept
 returns-clause-kept c = rebuilt_from c.args.t.now.faces (gluing_of c.args.t.now) c.requires.proper.gluing c.requires.proper.three_fans _ _ _ _ _ (returns-clause-symbols c) (returns-clause-events c) (returns-clause-starts c) (returns-clause-order c) (returns-clause-vertices c)

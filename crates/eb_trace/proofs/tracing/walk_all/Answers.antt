@@ -1,6 +1,6 @@
 -- Each face is walked from in its turn.
 use Rattle.std.proofs.Common.{sym, ◌∙◌}
-use Rattle.eb_trace.specs.Stored.{walk_of}
+use Rattle.eb_trace.specs.Stored.{noted_walk}
 use Rattle.eb_trace.proofs.Walked.{walked_none}
 use Rattle.eb_trace.proofs.Marking.{stored_nothing}
 use Rattle.eb_trace.proofs.Going.{few_from, one_walked}
@@ -18,5 +18,5 @@ walk_from-requires-clause-few c = few_from _ _ _ _ c.loop-face.invariant.walk c.
 pub loop-face-preserved : goal.loop-face-preserved
 loop-face-preserved c = record {
   stored = c.in_ok-walk_from.ensures.stored;
-  walk = one_walked _ _ _ _ (walk_of c.loop-face.notes) c.loop-face.invariant.walk c.in_ok-walk_from.ensures.walk;
+  walk = one_walked _ _ _ _ (noted_walk c.loop-face.notes) c.loop-face.invariant.walk c.in_ok-walk_from.ensures.walk;
 }

@@ -1,7 +1,7 @@
 -- A turn of the loop is a turn of the run.
 use Rattle.std.proofs.Common.{◌≡◌, ℕ, suc, ◌+◌, ◌-◌, ◌*◌, ◌<◌, sym, subst, ◌∙◌, arith}
 use Rattle.std.specs.Option.{IfSome}
-use Rattle.eb_trace.specs.Stored.{walk_of}
+use Rattle.eb_trace.specs.Stored.{noted_walk}
 use Rattle.eb_trace.proofs.Marking.{entries_length}
 use Rattle.eb_trace.proofs.Going.{turn_ends, turn_goes_on, turns_over, few_at_turn}
 use Rattle.eb_trace.proofs.walk.run.Goals as goal
@@ -11,7 +11,7 @@ visit-requires-clause-few c =
     let test = c.loop-turn-test.true in
     let n = c.args.s.now.faces in
     let e : n - c.loop-turn.turn ≡ suc (n - (c.loop-turn.turn + 1)) = omega arith in
-    let few = few_at_turn _ _ _ _ (walk_of c.loop-turn.notes) _ _ _ e c.loop-turn.invariant.same c.requires.few in
+    let few = few_at_turn _ _ _ _ (noted_walk c.loop-turn.notes) _ _ _ e c.loop-turn.invariant.same c.requires.few in
     let l = entries_length c.loop-turn.notes in
     omega arith
 

@@ -2,12 +2,12 @@
 use Rattle.std.proofs.Common.{◌≡◌, ◌-◌, ◌*◌, ◌<◌}
 use Rattle.corner_table.specs.Sides.{side_at}
 use Rattle.eb_trace.specs.Trace.{run}
-use Rattle.eb_trace.specs.Stored.{gluing_in, walk_of, IsStored}
+use Rattle.eb_trace.specs.Stored.{traced_gluing, noted_walk, IsTraceStored}
 use Rattle.eb_trace.proofs.walk.run.Given as goal
 
 abbrev pub invariant-loop-turn : goal.invariant-loop-turn
 invariant-loop-turn l = record {
   within : l.at < 3 * l.s.faces;
-  stored : IsStored l.s l.marks l.notes;
-  same : run l.s.faces (gluing_in l.s) l.s.faces (walk_of l.fn.notes) (side_at l.corner) ≡ run l.s.faces (gluing_in l.s) (l.s.faces - l.turn) (walk_of l.notes) (side_at l.at);
+  stored : IsTraceStored l.s l.marks l.notes;
+  same : run l.s.faces (traced_gluing l.s) l.s.faces (noted_walk l.fn.notes) (side_at l.corner) ≡ run l.s.faces (traced_gluing l.s) (l.s.faces - l.turn) (noted_walk l.notes) (side_at l.at);
 }

@@ -2,7 +2,7 @@
 use Rattle.std.proofs.Common.{◌≡◌, ◌+◌, ◌≤◌, ℕ, length, reverse, take, IsTrue}
 use Rattle.eb_rebuild.specs.Machine.{State}
 use Rattle.eb_valence.specs.Contexts.{coded}
-use Rattle.eb_valence.specs.Noting.{noted, Takes}
+use Rattle.eb_valence.specs.Noting.{noted, TakesWord}
 use Rattle.eb_valence.proofs.noting.note_all.Given as goal
 
 abbrev pub invariant-loop-number : goal.invariant-loop-number
@@ -17,6 +17,6 @@ invariant-loop-number g l =
       room : g.R.Rebuild.room l.machine ≡ n;
       within : l.number ≤ n;
       built : now.built + l.number ≡ n;
-      takes : Takes n (reverse (take l.number l.symbols)) now;
+      takes : TakesWord n (reverse (take l.number l.symbols)) now;
       told : noted l.lists (coded n (reverse (take l.number l.symbols)) now) ≡ noted l.fn.lists (coded n (reverse l.symbols) (g.R.Rebuild.state l.fn.machine));
     }

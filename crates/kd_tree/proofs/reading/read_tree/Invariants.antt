@@ -1,4 +1,4 @@
--- What the keys so far, the box in hand and those that wait give is what is due.
+-- What the keys so far, the current box and those that wait give is what is due.
 use Rattle.std.proofs.Common.{◌≡◌, reverse}
 use Rattle.kd_tree.specs.Reading.{tree_of}
 use Rattle.kd_tree.specs.Turns.{IsNext, turns_left}

@@ -1,6 +1,6 @@
 use Rattle.std.proofs.Common.{◌++◌, take, sym, ap, ◌∙◌, arith}
 use Rattle.std.specs.List.{zip}
-use Rattle.mesh_model.specs.Assembled.{entry_at, corner_row}
+use Rattle.mesh_model.specs.Assembled.{column_entry, corner_row}
 use Rattle.mesh_model.proofs.Pairs.{column_at, entry_fits, columns_more}
 use Rattle.mesh_model.proofs.corners.piece.Goals as goal
 
@@ -18,5 +18,5 @@ pub returns : goal.returns
 returns c =
     let heads = c.args.heads.now in
     let tables = c.args.tables.now in
-    columns_more (entry_at c.args.corner) heads tables c.args.j c.index-heads-j.result c.index-tables-j.result c.requires.columns.each_head c.requires.places.0 c.index-heads-j.is c.index-tables-j.is
+    columns_more (column_entry c.args.corner) heads tables c.args.j c.index-heads-j.result c.index-tables-j.result c.requires.columns.each_head c.requires.places.0 c.index-heads-j.is c.index-tables-j.is
     ∙ ap (λ xs. corner_row (take c.args.j (zip heads tables)) c.args.corner ++ xs) (sym c.entry_of.ensures.entry)

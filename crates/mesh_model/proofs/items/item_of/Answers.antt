@@ -3,7 +3,7 @@ use Rattle.std.specs.List.{zip}
 use Rattle.std.proofs.lemmas.List.{get_or_default, get_or_push, length-append, length_push}
 use Rattle.mesh_model.specs.Assembled.{corner_row}
 use Rattle.mesh_model.specs.Head.{width_of}
-use Rattle.mesh_model.specs.Items.{first_entry, HaveSameEntries, Keeps}
+use Rattle.mesh_model.specs.Items.{first_entry, HaveSameEntries, KeepsRows}
 use Rattle.mesh_model.specs.Parts.{rows_of}
 use Rattle.mesh_model.specs.RowIndex.{IsPointOf}
 use Rattle.mesh_model.proofs.Columns.{heads_some, width_of-bounds}
@@ -107,7 +107,7 @@ returns-clause-keeps c =
     let long = (RowFits-corner_row c.args.corners c.args.corner heads c.args.tables.now c.requires.columns.each_head c.requires.columns.each_column c.requires.corner).0 in
     let grown : rows_of w c.add_item.new.items.cells.items ≡ rows_of w items.cells.items ++ row ∷ [] =
     ap (rows_of w) c.in_ok-item.ensures.cells ∙ rows_of-push w (length items.firsts.items) items.cells.items row (width_of-bounds heads c.requires.pass).0 c.requires.stored long in
-    subst (Keeps (rows_of w items.cells.items)) (sym grown) (Keeps-push (rows_of w items.cells.items) row)
+    subst (KeepsRows (rows_of w items.cells.items)) (sym grown) (Keeps-push (rows_of w items.cells.items) row)
 
 pub returns-clause-item : goal.returns-clause-item
 returns-clause-item c =

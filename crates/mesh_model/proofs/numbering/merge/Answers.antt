@@ -1,7 +1,7 @@
 use Rattle.std.proofs.Common.{◌≡◌, ◌≢◌, ◌+◌, ◌-◌, ◌*◌, ◌<◌, ◌++◌, [], ◌∷◌, List, ℤ, get_or, set, length, sym, ap, ◌∙◌, subst, arith}
 use Rattle.std.proofs.lemmas.List.{get_or-set_other, get_or_push, length_push, length-append}
 use Rattle.mesh_model.specs.Parts.{rows_of}
-use Rattle.mesh_model.specs.RowIndex.{AreNumbered, IsPointOf, IsTwin}
+use Rattle.mesh_model.specs.RowIndex.{RowsAreNumbered, IsPointOf, IsTwin}
 use Rattle.mesh_model.proofs.Growing.{Grows-found, Grows-twinless, AreNumbered-more, IsPointOf-twin}
 use Rattle.mesh_model.proofs.Rows.{length-rows, rows_of-push}
 use Rattle.mesh_model.proofs.numbering.merge.Goals as goal
@@ -55,7 +55,7 @@ loop-i-preserved c =
     let at : IsPointOf (before ++ row ∷ []) row p = (omega (arith, length_push before row, last), get_or_push before row [] p last) in
     let whole : length c.loop-i.kept.items + length c.stored_row.result.now ≡ (p + 1) * w = omega (arith, so_far.stored, c.stored_row.ensures.len) in
     record {
-      numbered = subst (AreNumbered rows (i + 1) (set numbers i p)) (sym grown)
+      numbered = subst (RowsAreNumbered rows (i + 1) (set numbers i p)) (sym grown)
           (AreNumbered-more rows i p numbers before (before ++ row ∷ []) so_far.numbered inside within (Grows-twinless rows i numbers before so_far.numbered alone inside) at);
       stored = ap length added ∙ length-append c.loop-i.kept.items c.stored_row.result.now ∙ whole;
       twins = λ k behind below.

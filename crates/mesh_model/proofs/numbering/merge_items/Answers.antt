@@ -1,7 +1,7 @@
 use Rattle.std.proofs.Common.{◌≡◌, ◌<◌, ◌++◌, [], List, ℕ, ℤ, drop, get_or, length, map, take, sym, ap, ◌∙◌, subst, arith, rules}
 use Rattle.std.proofs.lemmas.List.{take_at}
 use Rattle.mesh_model.specs.Parts.{rows_of}
-use Rattle.mesh_model.specs.RowIndex.{AreNumbered, AreNumberedFaces}
+use Rattle.mesh_model.specs.RowIndex.{RowsAreNumbered, AreNumberedFaces}
 use Rattle.mesh_model.proofs.NumberedFaces.{faces-merged}
 use Rattle.mesh_model.proofs.Rows.{length-rows}
 use Rattle.mesh_model.proofs.numbering.merge_items.Goals as goal
@@ -24,8 +24,8 @@ returns-clause-numbering c = λ columns count are.
     c.renumber.ensures f (omega (arith, below, ap length given))
     ∙ ap (λ (ns : List ℕ). map (λ item. get_or ns item 0) (get_or c.as_mut_slice-2.result.now f [])) used
     ∙ ap (λ (fs : List (List ℕ)). map (λ item. get_or numbers item 0) (get_or fs f [])) given in
-    let numbered : AreNumbered rows items.count numbers points =
-    subst (λ (cells : List ℤ). AreNumbered (rows_of w cells) items.count numbers points) c.as_slice.ensures.value c.in_ok-points.ensures.points in
+    let numbered : RowsAreNumbered rows items.count numbers points =
+    subst (λ (cells : List ℤ). RowsAreNumbered (rows_of w cells) items.count numbers points) c.as_slice.ensures.value c.in_ok-points.ensures.points in
     let whole : take items.faces.len (after ++ drop (length after) faces) ≡ after = take_at after (drop (length after) faces) items.faces.len (search rules) in
     subst (λ fs. AreNumberedFaces columns count fs points) (sym whole)
     (faces-merged columns count items.count faces after rows points numbers are many numbered long each)

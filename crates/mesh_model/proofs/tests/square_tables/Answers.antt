@@ -6,11 +6,11 @@ use Rattle.std.proofs.lemmas.List.Sums.{AllPass-from_list_all}
 use Rattle.mesh_model.specs.declared.heads.Head.{Head}
 use Rattle.mesh_model.specs.declared.tables.AttrTable.{AttrTable}
 use Rattle.mesh_model.specs.Head.{in_type, heads_fault}
-use Rattle.mesh_model.specs.Assembled.{IsColumn, AreTables}
+use Rattle.mesh_model.specs.Assembled.{IsAttrTable, AreTables}
 use Rattle.mesh_model.proofs.tests.square_tables.Goals as goal
 
 -- a column whose parts pass their tests
-IsColumn-tested : (corners : ℕ) (h : Head) (t : AttrTable) → length t.of_corner ≡ corners → list_all (λ e. leb ((e + 1) * h.comps) (length t.values)) t.of_corner ≡ true → list_all (in_type h.dtype) t.values ≡ true → IsColumn corners (h, t)
+IsColumn-tested : (corners : ℕ) (h : Head) (t : AttrTable) → length t.of_corner ≡ corners → list_all (λ e. leb ((e + 1) * h.comps) (length t.values)) t.of_corner ≡ true → list_all (in_type h.dtype) t.values ≡ true → IsAttrTable corners (h, t)
 IsColumn-tested corners h t each entries values = record {
   each_corner = each;
   entries = All-weaker (λ e. leb ((e + 1) * h.comps) (length t.values) ≡ true) (λ e. (e + 1) * h.comps ≤ length t.values)
@@ -40,8 +40,8 @@ square = record {
   few_faces = lit≤ tt;
   columns = record {
     each_head = refl;
-    each_column = All-cons (IsColumn 9) (place, places) ((label, labels) ∷ []) (IsColumn-tested 9 place places refl refl refl)
-        (All-cons (IsColumn 9) (label, labels) [] (IsColumn-tested 9 label labels refl refl refl) (All-nil (IsColumn 9)));
+    each_column = All-cons (IsAttrTable 9) (place, places) ((label, labels) ∷ []) (IsColumn-tested 9 place places refl refl refl)
+        (All-cons (IsAttrTable 9) (label, labels) [] (IsColumn-tested 9 label labels refl refl refl) (All-nil (IsAttrTable 9)));
   };
 }
 

@@ -1,4 +1,4 @@
--- Both tell whether the rows are equal.
+-- Both say whether the rows are equal.
 use Rattle.std.proofs.Common.{inl, inr, sym, ◌∙◌}
 use Rattle.std.proofs.lemmas.Bool.{cases_Bool}
 use Rattle.mesh_model.specs.Assembled.{same_row}

@@ -1,4 +1,4 @@
--- One integer more, and no more where the points are told apart.
+-- One integer more, and no more where the points are distinguished.
 use Rattle.std.proofs.Common.{[], arith}
 use Rattle.pairing.proofs.PositionLists.{point_numbers_more, apart_numbers}
 use Rattle.pairing.proofs.positions.point_numbers.Goals as goal

@@ -1,20 +1,20 @@
 use Rattle.std.proofs.Common.{◌+◌, ◌-◌, List, ℕ, length, map, ap, subst, arith}
 use Rattle.std.proofs.lemmas.Result.{err_from_is_err_and}
 use Rattle.ply_text.specs.Tokens.{tokens_of}
-use Rattle.ply_mesh.specs.Body.{row_of, items_from}
+use Rattle.ply_mesh.specs.Body.{row_read, items_from}
 use Rattle.ply_mesh.proofs.ItemSteps.{AreRowsSoFar, rows_more, first_refused}
 use Rattle.ply_mesh.proofs.bodies.read_rows.Goals as goal
 
 pub returns-in_err-take_row-clause-rows : goal.returns-in_err-take_row-clause-rows
 returns-in_err-take_row-clause-rows c =
-    let item = row_of c.args.dtypes.now in
+    let item = row_read c.args.dtypes.now in
     let h = c.loop-i.invariant.0 in
     let p = err_from_is_err_and c.from_residual-in_err-take_row.result c.from_residual-in_err-take_row.ensures.1 in
     rw (p.1, p.2) (first_refused item h.front c.args.count c.loop-i.i c.args.at (map tokens_of c.loop-i.lines) _ _ c.loop-i-test.true c.in_err-take_row.ensures.row h.whole)
 
 pub loop-i-preserved : goal.loop-i-preserved
 loop-i-preserved c =
-    let item = row_of c.args.dtypes.now in
+    let item = row_read c.args.dtypes.now in
     let due = items_from item c.args.count c.args.at (map tokens_of c.args.lines.now) in
     let t = c.in_ok-take_row.ensures.row in
     let shorter = ap length t.1 in (

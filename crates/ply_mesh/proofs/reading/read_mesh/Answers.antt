@@ -2,7 +2,7 @@ use Rattle.std.proofs.Common.{◌∙◌, map, ap}
 use Rattle.std.proofs.lemmas.Result.{err_from_is_err_and}
 use Rattle.mesh_model.specs.declared.geometries.Geometry.TheVariants.{Mesh}
 use Rattle.ply_text.specs.Tokens.{tokens_of}
-use Rattle.ply_mesh.specs.Read.{head_of}
+use Rattle.ply_mesh.specs.Read.{geometry_head}
 use Rattle.ply_mesh.proofs.BodySteps.{rows_fault, faces_fault, mesh_ends}
 use Rattle.ply_mesh.proofs.Finish.{mesh_rows, mesh_never, mesh_is}
 use Rattle.ply_mesh.proofs.reading.read_mesh.Goals as goal
@@ -26,25 +26,25 @@ returns-in_err-read_end c =
     let r = c.in_ok-cells.ensures.rows in
     let f = rw c.unwrap_or-list.ensures at c.in_ok-faces.ensures.faces in
     let e = mesh_ends h (map tokens_of c.args.lines.now) (map tokens_of c.read_points.new.lines) (map tokens_of c.read_faces.new.lines) r.0 c.in_ok-faces.faces.items c.args.count c.requires.faces r.1 f in
-    rw (p.1, p.2, e) (c.in_err-read_end.ensures (Mesh (record { heads = map head_of h.heads; points = r.0; faces = c.in_ok-faces.faces.items })))
+    rw (p.1, p.2, e) (c.in_err-read_end.ensures (Mesh (record { heads = map geometry_head h.heads; points = r.0; faces = c.in_ok-faces.faces.items })))
 
 pub new-requires : goal.new-requires
 new-requires c =
     let r = c.in_ok-cells.ensures.rows in
     let f = rw c.unwrap_or-list.ensures at c.in_ok-faces.ensures.faces in
-    let he = c.in_ok-heads.ensures ∙ ap (map head_of) c.as_slice.ensures.items in
+    let he = c.in_ok-heads.ensures ∙ ap (map geometry_head) c.as_slice.ensures.items in
     mesh_rows c.args.header.now c.requires.header (map tokens_of c.args.lines.now) (map tokens_of c.read_points.new.lines) c.in_ok-heads.heads.items c.in_ok-cells.cells.items he r c.args.count c.in_ok-faces.faces.items (map tokens_of c.read_faces.new.lines) c.requires.faces f
 
 pub returns-in_err-mesh : goal.returns-in_err-mesh
 returns-in_err-mesh c =
     let r = c.in_ok-cells.ensures.rows in
     let f = rw c.unwrap_or-list.ensures at c.in_ok-faces.ensures.faces in
-    let he = c.in_ok-heads.ensures ∙ ap (map head_of) c.as_slice.ensures.items in
+    let he = c.in_ok-heads.ensures ∙ ap (map geometry_head) c.as_slice.ensures.items in
     absurd (mesh_never c.args.header.now c.requires.header (map tokens_of c.args.lines.now) (map tokens_of c.read_points.new.lines) c.in_ok-heads.heads.items c.in_ok-cells.cells.items he r c.args.count c.in_ok-faces.faces.items (map tokens_of c.read_faces.new.lines) c.requires.faces f c.new.result _ c.new.ensures c.in_err-mesh.was)
 
 pub returns : goal.returns
 returns c =
     let r = c.in_ok-cells.ensures.rows in
     let f = rw c.unwrap_or-list.ensures at c.in_ok-faces.ensures.faces in
-    let he = c.in_ok-heads.ensures ∙ ap (map head_of) c.as_slice.ensures.items in
+    let he = c.in_ok-heads.ensures ∙ ap (map geometry_head) c.as_slice.ensures.items in
     mesh_is c.args.header.now c.requires.header (map tokens_of c.args.lines.now) (map tokens_of c.read_points.new.lines) c.in_ok-heads.heads.items c.in_ok-cells.cells.items he r c.args.count c.in_ok-faces.faces.items (map tokens_of c.read_faces.new.lines) c.requires.faces f c.new.result c.in_ok-mesh.mesh c.in_ok-read_end.ensures c.new.ensures c.in_ok-mesh.was

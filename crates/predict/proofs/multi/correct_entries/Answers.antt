@@ -5,7 +5,7 @@ use Rattle.predict.specs.declared.surface.FaceAcross.{FaceAcross}
 use Rattle.predict.specs.Walked.{IsBelow}
 use Rattle.predict.specs.Gathered.{gathered}
 use Rattle.predict.specs.Multi.{by_many, kept, marks, is_left_out, AreMarked}
-use Rattle.predict.specs.Entry.{Foretells, put}
+use Rattle.predict.specs.Entry.{Foretells, flags_put}
 use Rattle.predict.specs.Stored.{walked_in}
 use Rattle.predict.proofs.Entries.{corrected_start, corrected_on, corrected_end, all_entries}
 use Rattle.predict.proofs.Kept.{marked_none, marked_more}
@@ -40,7 +40,7 @@ loop-e-preserved c =
       long = c.in_ok-put_marks.ensures.long;
       marked = subst (λ (n : ℕ). AreMarked w comps v c.put_marks.new.lists n) (sym (add-one e))
           (marked_more w comps v c.loop-e.lists c.put_marks.new.lists e c.loop-e.invariant.long
-          (c.in_ok-put_marks.ensures.put ∙ ap (λ (m : List Bool). put m c.loop-e.lists) put_are) c.loop-e.invariant.marked);
+          (c.in_ok-put_marks.ensures.put ∙ ap (λ (m : List Bool). flags_put m c.loop-e.lists) put_are) c.loop-e.invariant.marked);
       corrected = λ f foretells. corrected_on f c.args.w.now v c.correct_entry.new.out comps e
           (c.correct_entry.ensures f (subst (λ (l : List FaceAcross). Foretells f comps e (by_many comps l)) (sym faces) (foretells e (omega arith)))
           (c.loop-e.invariant.corrected f (λ i h. foretells i (omega arith))));

@@ -1,8 +1,8 @@
-use Rattle.std.proofs.Common.{◌≡◌, ◌<◌, ◌≤◌, ◌-◌, ◌+◌, suc, ℕ, Bool, List, [], length, take, drop, get_or, set, rules, ap, ◌∙◌, sym, arith}
+use Rattle.std.proofs.Common.{◌≡◌, ◌<◌, ◌≤◌, ◌-◌, ◌+◌, suc, ℕ, Bool, List, [], length, take, drop, get_or, set, ap, ◌∙◌, sym, arith}
 use Rattle.predict.specs.declared.surface.FaceAcross.{FaceAcross}
 use Rattle.predict.specs.Gathered.{gathered}
 use Rattle.predict.specs.Multi.{kept, flags_for}
-use Rattle.predict.proofs.Kept.{kept_nothing, used_same, used_more, lacks_next, taken_are, list_is}
+use Rattle.predict.proofs.Kept.{kept_nothing, used_same, used_more, lacks_next, taken_are}
 use Rattle.predict.proofs.multi.take_flags.Goals as goal
 use Rattle.predict.proofs.multi.take_flags.Goals.{then-first-list-via-then-first-list, then-first-list-via-else-first-list+then-list-first}
 
@@ -18,9 +18,8 @@ returns-then-first-list-clause-faces c = λ w e is U.
     let count : length (gathered w e) ≡ length c.args.found.now = sym (ap (λ (l : List FaceAcross). length l) is) in
     let here : length (gathered w e) ≡ suc k = omega (arith, count, c.if-count-eq0.false) in
     let low : k < 4 = omega (arith, c.requires.few, c.if-count-eq0.false) in
-    let four : k < length c.args.flags.now.lists = search rules in
-    let list : length c.as_slice-list.result.now ≡ length (get_or c.args.flags.now.lists k []) =
-    ap (λ (l : List Bool). length l) (list_is c.args.flags.now.lists k _ c.as_slice-list.result.now four c.as_slice-list.ensures.items) in
+    let list : length c.list_at-list.result.now ≡ length (get_or c.args.flags.now.lists k []) =
+    ap (λ (l : List Bool). length l) c.list_at-list.ensures in
     let short : length (get_or c.args.flags.now.lists k []) < get_or c.args.used.now k 0 + suc k = elim c.then-first-list.branch [
       | then-first-list-via-then-first-list w ↦ omega (arith, list, w.if-first-list.true)
       | then-first-list-via-else-first-list+then-list-first w ↦ omega (arith, list, w.if-first-list.false, w.if-list-first.true, c.if-count-eq0.false)
@@ -35,11 +34,10 @@ returns-clause-faces c = λ w e is U.
     let count : length (gathered w e) ≡ length c.args.found.now = sym (ap (λ (l : List FaceAcross). length l) is) in
     let here : length (gathered w e) ≡ suc k = omega (arith, count, c.if-count-eq0.false) in
     let low : k < 4 = omega (arith, c.requires.few, c.if-count-eq0.false) in
-    let four : k < length c.args.flags.now.lists = search rules in
-    let list = list_is lists k _ c.as_slice-list.result.now four c.as_slice-list.ensures.items in
+    let list = c.list_at-list.ensures in
     let many : first + length c.args.found.now - first ≡ suc k = omega (arith, c.if-count-eq0.false) in
-    let flags : take (first + length c.args.found.now - first) (drop first c.as_slice-list.result.now) ≡ flags_for w lists e =
-    ap (λ (n : ℕ). take n (drop first c.as_slice-list.result.now)) many ∙ ap (λ (l : List Bool). take (suc k) (drop first l)) list ∙ taken_are w lists e k c.args.used.now low here U in
+    let flags : take (first + length c.args.found.now - first) (drop first c.list_at-list.result.now) ≡ flags_for w lists e =
+    ap (λ (n : ℕ). take n (drop first c.list_at-list.result.now)) many ∙ ap (λ (l : List Bool). take (suc k) (drop first l)) list ∙ taken_are w lists e k c.args.used.now low here U in
     let enough : first + suc k ≤ length (get_or lists k []) =
     omega (arith, ap (λ (l : List Bool). length l) list, c.if-first-list.false, c.if-list-first.false, c.if-count-eq0.false) in
     let next : first + length c.args.found.now ≡ first + suc k = omega (arith, c.if-count-eq0.false) in (

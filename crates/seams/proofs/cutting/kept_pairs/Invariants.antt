@@ -1,4 +1,4 @@
--- The entries of the sides so far tell their pairs, and there is room for the others.
+-- The entries of the sides so far give their pairs, and there is room for the others.
 use Rattle.std.proofs.Common.{◌≡◌, ◌≤◌, vec_len, vec_capacity}
 use Rattle.corner_table.specs.Table.{glued_in}
 use Rattle.seams.specs.Seams.{flag_at, unseamed}

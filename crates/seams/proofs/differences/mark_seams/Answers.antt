@@ -1,4 +1,4 @@
--- Each pair is told by its side that has the bit.
+-- The flags of each pair are set by its side that has the bit.
 use Rattle.std.proofs.Common.{◌≡◌, ◌*◌, true, replicate, sym, ◌∙◌, length, arith}
 use Rattle.corner_table.specs.Sides.{side_at, IsGluing}
 use Rattle.corner_table.specs.Table.{glued_in}

@@ -1,4 +1,4 @@
--- The sides so far are told.
+-- The flags of the sides so far are set.
 use Rattle.corner_table.specs.Table.{glued_in}
 use Rattle.seams.specs.Values.{is_seam}
 use Rattle.seams.specs.Pairs.{AreToldTo}

@@ -1,4 +1,4 @@
--- The sides so far are told, by as many bits.
+-- The flags of the sides so far are set, by as many bits.
 use Rattle.std.proofs.Common.{◌≡◌, length}
 use Rattle.corner_table.specs.Table.{glued_in}
 use Rattle.corner_table.specs.Pairs.{bit_sides}

@@ -1,4 +1,4 @@
--- What blocks tell is flags.
+-- What blocks give is flags.
 use Rattle.std.proofs.Common.{sym, subst}
 use Rattle.std.specs.List.{All}
 use Rattle.corner_table.specs.Table.{gluing_of}

@@ -1,4 +1,4 @@
--- A bit for two sides each is room enough, and the bits tell the flags.
+-- A bit for two sides each is room enough, and the bits give the flags.
 use Rattle.std.proofs.Common.{◌≡◌, Bool, List, length, take, ap, ◌∙◌, arith}
 use Rattle.std.proofs.lemmas.List.{length-map, with_items_is}
 use Rattle.corner_table.specs.Table.{gluing_of, glued_in}

@@ -1,6 +1,6 @@
 use Rattle.std.proofs.Common.{◌≡◌, ℕ, ◌+◌, ◌*◌, ◌<◌, ◌≤◌, ◌++◌, true, false, replicate, length, vec_len, refl, arith, rules, ap, sym, ◌∙◌, subst, add-mul}
 use Rattle.drc_bits.specs.Bits.{bits_left, bytes_for}
-use Rattle.symbol_coding.specs.Block.{values_in, with_values}
+use Rattle.symbol_coding.specs.Block.{values_in_groups, with_values}
 use Rattle.symbol_coding.proofs.Values.{group-long, group-missing, group-taken, group-values, groups-end, groups-taken, less-left, long_of, short_of, taken-there, values_in-few}
 use Rattle.symbol_coding.proofs.reading.read_groups.Goals as goal
 
@@ -22,7 +22,7 @@ pub loop-g-preserved : goal.loop-g-preserved
 loop-g-preserved c = record {
   values = group-values c.args.long.at c.args.short.at c.args.comps c.args.groups c.loop-g.g c.pull-width.result c.args.table.now c.loop-g.values.items c.read_group.new.values.items c.loop-g.decoder c.pull-width.new.decoder c.loop-g.reader c.read_group.new.reader _
       c.loop-g-test.true c.pull-width.ensures.symbol c.pull-width.ensures.after
-      (λ long short ws. ap (λ xs. with_values xs (values_in long short (replicate c.args.comps c.pull-width.result ++ ws) (bits_left c.loop-g.reader))) (sym c.in_ok-reserve.ensures.items) ∙ c.read_group.ensures.values long short ws)
+      (λ long short ws. ap (λ xs. with_values xs (values_in_groups long short (replicate c.args.comps c.pull-width.result ++ ws) (bits_left c.loop-g.reader))) (sym c.in_ok-reserve.ensures.items) ∙ c.read_group.ensures.values long short ws)
       c.loop-g.invariant.values;
   bits = search rules;
   taken = group-taken c.args.comps c.args.groups c.loop-g.g c.pull-width.result c.loop-g.reader.taken c.read_group.new.reader.taken _ c.args.table.now c.loop-g.decoder c.pull-width.new.decoder

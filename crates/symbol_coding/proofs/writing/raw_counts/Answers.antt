@@ -1,5 +1,5 @@
 use Rattle.std.proofs.Common.{◌^◌, ◌<◌, ◌≤◌, arith, subst}
-use Rattle.symbol_tables.specs.Normal.{greatest_of}
+use Rattle.symbol_tables.specs.Normal.{greatest_count}
 use Rattle.symbol_coding.specs.Block.{raw_cost, tagged_cost}
 use Rattle.symbol_coding.proofs.Tables.{is-raw, lengths-few, lengths-most, not-raw-costly, not-raw-large}
 use Rattle.symbol_coding.proofs.writing.raw_counts.Goals as goal
@@ -21,7 +21,7 @@ returns-then-cost_of_symbols-cost_of_groups c =
 
 pub returns : goal.returns
 returns c =
-    let small : greatest_of c.args.values.now < 2 ^ 18 = subst (λ n. n < 2 ^ 18) c.greatest_in-greatest.ensures c.if-greatest.false in
+    let small : greatest_count c.args.values.now < 2 ^ 18 = subst (λ n. n < 2 ^ 18) c.greatest_in-greatest.ensures c.if-greatest.false in
     let cheap : raw_cost c.args.values.now ≤ tagged_cost c.args.values.now c.args.comps =
     subst (λ n. raw_cost c.args.values.now ≤ n) c.cost_of_groups.ensures (subst (λ n. n ≤ c.cost_of_groups.result) c.cost_of_symbols.ensures c.if-cost_of_symbols-cost_of_groups.false) in
     (is-raw c.args.values.now c.args.comps small cheap, small, c.in_ok-counts.ensures)

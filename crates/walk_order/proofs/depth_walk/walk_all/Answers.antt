@@ -1,6 +1,6 @@
 -- Each face is walked from in its turn.
 use Rattle.std.proofs.Common.{sym, ◌∙◌, arith}
-use Rattle.walk_order.specs.Stored.{walk_of}
+use Rattle.walk_order.specs.Stored.{marked_walk}
 use Rattle.walk_order.proofs.Walking.{one_walked, walked_nothing}
 use Rattle.walk_order.proofs.depth_walk.walk_all.Goals as goal
 
@@ -15,5 +15,5 @@ pub loop-face-preserved : goal.loop-face-preserved
 loop-face-preserved c = record {
   stored = c.in_ok-walk_from.ensures.stored;
   empty = c.in_ok-walk_from.ensures.empty;
-  walk = one_walked _ _ _ _ _ (walk_of c.loop-face.marks) _ c.loop-face.invariant.walk c.in_ok-walk_from.ensures.walk;
+  walk = one_walked _ _ _ _ _ (marked_walk c.loop-face.marks) _ c.loop-face.invariant.walk c.in_ok-walk_from.ensures.walk;
 }

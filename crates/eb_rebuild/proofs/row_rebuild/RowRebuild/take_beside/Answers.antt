@@ -1,6 +1,6 @@
 -- A face more, glued to the top side, its side 0 on top, and its events noted.
 use Rattle.std.proofs.Common.{ℕ, suc, ◌*◌, ◌<◌, ◌∷◌, length, sym, refl, ap, ◌∙◌, subst, arith}
-use Rattle.eb_rebuild.specs.Beside.{symbol_of}
+use Rattle.eb_rebuild.specs.Beside.{symbol_in}
 use Rattle.eb_rebuild.specs.Machine.{step}
 use Rattle.eb_rebuild.specs.Kept.{AreKeptBelow}
 use Rattle.eb_rebuild.specs.Linked.{state_of}
@@ -40,7 +40,7 @@ returns-clause-does g c =
     let value : RowValue = (record { plan = record { faces = c.self.inside.faces; created = c.self.inside.created; symbols = c.self.inside.symbols }; named = c.self.inside.named; stack = c.self.inside.stack; splits = c.self.inside.splits; closes = c.self.inside.closes }) in
     let new : RowValue = (record { plan = record { faces = c.self.inside.faces; created = c.self.inside.created; symbols = c.self.inside.symbols }; named = c.add_beside.new.self; stack = c.push.new.self; splits = c.note.new.self; closes = c.self.inside.closes }) in
     let T : Taken (plain_of c.args.self.now) (plain_of c.take_row.new.self) (plain_of value) c.in-Ok.a.side = taken_row c.args.self.now c.take_row.new.self value c.in-Ok.a c.take_row.ensures.rest c.self.view_is c.in-Ok.ensures.ok.0 c.in-Ok.ensures.ok.1 in
-    tries_of (step c.args.self.now.plan.symbols (symbol_of c.args.beside) (state_of (plain_of c.args.self.now))) (state_of (plain_of new)) c.note.result c.refused.result c.refused.ensures
+    tries_of (step c.args.self.now.plan.symbols (symbol_in c.args.beside) (state_of (plain_of c.args.self.now))) (state_of (plain_of new)) c.note.result c.refused.result c.refused.ensures
     (beside_does c.args.beside (plain_of c.args.self.now) (plain_of c.take_row.new.self) (plain_of value) (plain_of new) c.in-Ok.a.side
     (record {
       rest = T.rest;

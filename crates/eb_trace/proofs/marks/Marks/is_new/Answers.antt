@@ -1,4 +1,4 @@
--- A vertex is new where its label tells neither a boundary nor a visited face.
+-- A vertex is new where its label is neither that of a boundary nor that of a visited face.
 use Rattle.std.proofs.Common.{◌∙◌}
 use Rattle.corner_table.specs.Sides.{side_at}
 use Rattle.corner_table.proofs.Numbers.{face-lt}

@@ -1,6 +1,6 @@
 use Rattle.std.proofs.Common.{◌≡◌, ℕ, ◌+◌, ◌*◌, ◌≤◌, ◌++◌, List, length, sym, ap, ◌∙◌, subst, arith}
 use Rattle.kd_tree.specs.Keys.{KeyRows}
-use Rattle.kd_tree.specs.Packing.{AreClean, keys_in, row_at, words_for}
+use Rattle.kd_tree.specs.Packing.{AreClean, keys_in, packed_row, words_for}
 use Rattle.kd_tree.proofs.Packed.{clean-from, count-is, length-from, row-in, table-from}
 use Rattle.kd_tree.proofs.keys.Keys.push_from.Goals as goal
 
@@ -22,12 +22,12 @@ rows c = subst (λ (k : ℕ). RowsAre k c.keys.inside.count c.keys.inside.words.
 long : (c : goal.After-self-1) → length c.keys.inside.words.items ≡ c.keys.inside.count * words_for c.self.inside.depth
 long c = c.keys.invariant.0 ∙ ap (λ k. c.keys.inside.count * words_for k) (depths c)
 
-put : (c : goal.After-self-1) → c.extend_from_slice.new.self.items ≡ c.self.inside.words.items ++ row_at (words_for c.self.inside.depth) c.keys.inside.words.items c.args.point
+put : (c : goal.After-self-1) → c.extend_from_slice.new.self.items ≡ c.self.inside.words.items ++ packed_row (words_for c.self.inside.depth) c.keys.inside.words.items c.args.point
 put c =
     c.in_ok-extend_from_slice.ensures.items
     ∙ ap (λ xs. c.self.inside.words.items ++ xs) (c.row_of-row.ensures
-    ∙ ap (λ n. row_at n c.as_slice.result.now c.args.point) (c.words_of.ensures.words ∙ ap words_for (depths c))
-    ∙ ap (λ xs. row_at (words_for c.self.inside.depth) xs c.args.point) c.as_slice.ensures.value)
+    ∙ ap (λ n. packed_row n c.as_slice.result.now c.args.point) (c.words_of.ensures.words ∙ ap words_for (depths c))
+    ∙ ap (λ xs. packed_row (words_for c.self.inside.depth) xs c.args.point) c.as_slice.ensures.value)
 
 pub invariant_of-self-2 : goal.invariant_of-self-2
 invariant_of-self-2 c = (

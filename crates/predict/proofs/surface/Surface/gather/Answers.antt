@@ -4,7 +4,7 @@ use Rattle.corner_table.specs.Sides.{side_at}
 use Rattle.predict.specs.declared.surface.FaceAcross.{FaceAcross}
 use Rattle.predict.specs.Walked.{at_corner}
 use Rattle.predict.specs.Gathered.{turn_on, gathered}
-use Rattle.predict.specs.Stored.{walked_in, turn_of}
+use Rattle.predict.specs.Stored.{walked_in, stored_turn}
 use Rattle.predict.proofs.Around.{gathered_start, gathered_step, gathered_full, gathered_end, gathered_stop, all_gathered, found_more}
 use Rattle.predict.proofs.surface.Surface.gather.Goals as goal
 
@@ -20,7 +20,7 @@ pub returns-in-None-clause-faces : goal.returns-in-None-clause-faces
 returns-in-None-clause-faces c =
     let few : length c.loop-step.found.items ≤ 4 = omega (arith, c.loop-step.invariant.few) in
     gathered_end (at_corner (walked_in c.args.self.now) c.args.e) (walked_in c.args.self.now).gluing (side_at c.corner_of-start.result) (length c.args.self.now.entries.now - c.loop-step.step)
-    (option_map turn_of c.loop-step.turn) c.loop-step.found.items _ few (ap (option_map turn_of) c.in-None.is) c.loop-step.invariant.rest
+    (option_map stored_turn c.loop-step.turn) c.loop-step.found.items _ few (ap (option_map stored_turn) c.in-None.is) c.loop-step.invariant.rest
 
 pub returns-in-None-clause-below : goal.returns-in-None-clause-below
 returns-in-None-clause-below c = all_gathered (walked_in c.args.self.now) c.args.e c.loop-step.found.items (returns-in-None-clause-faces c)
@@ -34,8 +34,8 @@ loop-step-preserved c =
       few = omega (arith, more, c.loop-step.invariant.few, c.if-len-eq4.false, c.len.ensures.value);
       rest = gathered_step (at_corner (walked_in c.args.self.now) c.args.e) (walked_in c.args.self.now).gluing (side_at c.corner_of-start.result)
           (length c.args.self.now.entries.now - c.loop-step.step) (length c.args.self.now.entries.now - (c.loop-step.step + 1))
-          (option_map turn_of c.loop-step.turn) (option_map turn_of c.turn_on-turn.result) (turn_of c.in-Some.now) c.loop-step.found.items c.gather_corner.new.found.items _
-          fuel (ap (option_map turn_of) c.in-Some.is) c.turn_on-turn.ensures.turn c.gather_corner.ensures c.loop-step.invariant.rest;
+          (option_map stored_turn c.loop-step.turn) (option_map stored_turn c.turn_on-turn.result) (stored_turn c.in-Some.now) c.loop-step.found.items c.gather_corner.new.found.items _
+          fuel (ap (option_map stored_turn) c.in-Some.is) c.turn_on-turn.ensures.turn c.gather_corner.ensures c.loop-step.invariant.rest;
     }
 
 pub returns-then-len-eq4-clause-faces : goal.returns-then-len-eq4-clause-faces
@@ -45,9 +45,9 @@ returns-then-len-eq4-clause-faces c =
     gathered_full c.gather_corner.new.found.items _ _ four
     (gathered_step (at_corner (walked_in c.args.self.now) c.args.e) (walked_in c.args.self.now).gluing (side_at c.corner_of-start.result)
     (length c.args.self.now.entries.now - c.loop-step.step) (length c.args.self.now.entries.now - (c.loop-step.step + 1))
-    (option_map turn_of c.loop-step.turn) (turn_on (walked_in c.args.self.now).gluing (side_at c.corner_of-start.result) (turn_of c.in-Some.now)) (turn_of c.in-Some.now)
+    (option_map stored_turn c.loop-step.turn) (turn_on (walked_in c.args.self.now).gluing (side_at c.corner_of-start.result) (stored_turn c.in-Some.now)) (stored_turn c.in-Some.now)
     c.loop-step.found.items c.gather_corner.new.found.items (gathered (walked_in c.args.self.now) c.args.e)
-    fuel (ap (option_map turn_of) c.in-Some.is) refl c.gather_corner.ensures c.loop-step.invariant.rest)
+    fuel (ap (option_map stored_turn) c.in-Some.is) refl c.gather_corner.ensures c.loop-step.invariant.rest)
 
 pub returns-then-len-eq4-clause-below : goal.returns-then-len-eq4-clause-below
 returns-then-len-eq4-clause-below c = all_gathered (walked_in c.args.self.now) c.args.e c.gather_corner.new.found.items (returns-then-len-eq4-clause-faces c)
@@ -56,7 +56,7 @@ pub returns-clause-faces : goal.returns-clause-faces
 returns-clause-faces c =
     let few : length c.loop-step.found.items ≤ 4 = omega (arith, c.loop-step.invariant.few) in
     gathered_stop (at_corner (walked_in c.args.self.now) c.args.e) (walked_in c.args.self.now).gluing (side_at c.corner_of-start.result) (length c.args.self.now.entries.now - c.loop-step.step)
-    (option_map turn_of c.loop-step.turn) c.loop-step.found.items _ few (omega (arith, c.loop-step-test.false)) c.loop-step.invariant.rest
+    (option_map stored_turn c.loop-step.turn) c.loop-step.found.items _ few (omega (arith, c.loop-step-test.false)) c.loop-step.invariant.rest
 
 pub returns-clause-below : goal.returns-clause-below
 returns-clause-below c = all_gathered (walked_in c.args.self.now) c.args.e c.loop-step.found.items (returns-clause-faces c)

@@ -1,4 +1,4 @@
--- What was kept for the class tells whether the walk goes right alone.
+-- What was kept for the class shows whether the walk goes right alone.
 use Rattle.walk_order.proofs.Stored.{alone_told}
 use Rattle.walk_order.proofs.marks.Marks.enter.Goals as goal
 

@@ -1,4 +1,4 @@
--- What is kept for the class tells whether it is new.
+-- What is kept for the class shows whether it is new.
 use Rattle.walk_order.proofs.Stored.{new_told}
 use Rattle.walk_order.proofs.marks.Marks.is_new.Goals as goal
 

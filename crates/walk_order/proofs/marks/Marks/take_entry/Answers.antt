@@ -1,4 +1,4 @@
--- What is kept for a class tells whether it is new.
+-- What is kept for a class shows whether it is new.
 use Rattle.std.proofs.Common.{sym, ◌∙◌}
 use Rattle.std.proofs.lemmas.Bool.{cond-true}
 use Rattle.walk_order.proofs.Stored.{class_new}

@@ -1,0 +1,166 @@
+-- Settings whose options a choice doesn't have yet, one behind another, are settings of each option at most once.
+use Rattle.std.proofs.Common.{◌≡◌, ℕ, zero, suc, Bool, true, false, List, [], ◌∷◌, map, Some, refl, sym, ap, ◌∙◌, arith}
+use Rattle.std.specs.Prelude.{◌≢◌, ◌||◌, Contains}
+use Rattle.std.specs.Map.{keys_of}
+use Rattle.std.specs.Str.{bytes_eq}
+use Rattle.std.proofs.lemmas.Bool.{false≢true}
+use Rattle.std.proofs.lemmas.Slice.Eq.{bytes_eq-Decides}
+use Rattle.drc_container.specs.declared.choice.choices.Choice.{Choice}
+use Rattle.drc_container.specs.declared.choice.choices.Index.{Index}
+use Rattle.drc_container.specs.declared.choice.choices.Index.TheVariants as index
+use Rattle.predict.specs.declared.schemes.Prediction.{Prediction}
+use Rattle.predict.specs.declared.schemes.Prediction.TheVariants as prediction
+use Rattle.predict.specs.Schemes.{prediction_word, predictions}
+use Rattle.drc_container.specs.declared.choice.choices.Walk.{Walk}
+use Rattle.drc_container.specs.declared.choice.choices.Walk.TheVariants as walk
+use Rattle.drc_container.specs.declared.choice.methods.Method.{Method}
+use Rattle.drc_container.specs.declared.choice.methods.Method.TheVariants as method
+use Rattle.drc_gen.specs.declared.kinds.GenKind.{GenKind}
+use Rattle.drc_gen.specs.declared.kinds.GenKind.TheVariants.{Grid}
+use Rattle.drc_app.specs.declared.options.ValueOption.{ValueOption}
+use Rattle.drc_app.specs.declared.options.ValueOption.TheVariants as option
+use Rattle.drc_app.specs.Words.{Words, word_rows, value_named}
+use Rattle.drc_app.specs.Options.{OptionKind, flag, one_of, OptionRow, options, option_values, Sets, Setting, SetsNone, SetsOnce, no_choice}
+use Rattle.drc_app.specs.Options.{method_word, methods, index_word, indices, walk_word, walks}
+use Rattle.drc_app.specs.Line.{gen_word}
+use Rattle.drc_app.specs.Progress.{gen_named}
+use Rattle.drc_app.specs.Laws.{WordsNameBack}
+use Rattle.drc_app.proofs.Tables.{each-of, are_distinct, names_back}
+
+-- ---- computations over all rows
+
+pub option_back : (w : List ℕ) (row : OptionRow) → Contains options (w, row) → value_named options w ≡ Some row
+option_back w row is = names_back options w row refl is
+
+pub value_back : (o : ValueOption) (w : List ℕ) (set : Choice → Choice) → Contains (option_values o) (w, set) → value_named (option_values o) w ≡ Some set
+value_back o w set is = names_back (option_values o) w set (distinct o) is
+  where
+    distinct : (o : ValueOption) → are_distinct bytes_eq (keys_of (option_values o)) ≡ true
+    distinct option.Method = refl
+    distinct o = refl
+
+-- what the settings of an option set
+abbrev sets_of : OptionKind → List (Choice → Choice)
+sets_of (flag f) = f ∷ []
+sets_of (one_of o) = map (λ v. v.1) (option_values o)
+
+-- which options a choice has, behind each setting of an option; and which it had, with that option more
+abbrev had : Choice → List Bool
+had c = map (λ (q : List ℕ × OptionRow). q.1.has c) options
+
+abbrev had_more : Choice → List ℕ → List Bool
+had_more c o = map (λ (q : List ℕ × OptionRow). bytes_eq q.0 o || q.1.has c) options
+
+abbrev behind_each : Choice → List ℕ × OptionRow → List (List Bool)
+behind_each c r = map (λ (f : Choice → Choice). had (f c)) (sets_of r.1.takes)
+
+abbrev more_each : Choice → List ℕ × OptionRow → List (List Bool)
+more_each c r = map (λ (f : Choice → Choice). had_more c r.0) (sets_of r.1.takes)
+
+-- a setting gives its own option alone
+gives_own : (c : Choice) → map (behind_each c) options ≡ map (more_each c) options
+gives_own c = refl
+
+none_given : had no_choice ≡ map (λ (q : List ℕ × OptionRow). false) options
+none_given = refl
+
+-- ---- each setting
+
+contains-value : (rows : Words (Choice → Choice)) (w : List ℕ) (f : Choice → Choice) → Contains rows (w, f) → Contains (map (λ v. v.1) rows) f
+contains-value [] w f (k, below, is) = absurd (omega (arith, below))
+contains-value (row ∷ rows) w f (zero, below, is) = (0, omega arith, ap (λ r. r.1) is)
+contains-value (row ∷ rows) w f (suc k, below, is) =
+    let r = contains-value rows w f (k, omega (arith, below), is) in
+    (suc r.0, omega (arith, r.1), r.2)
+
+set_is : (t : OptionKind) (words : List (List ℕ)) (f : Choice → Choice) → Sets t words f → Contains (sets_of t) f
+set_is (flag g) words f is = (0, omega arith, sym is.1)
+set_is (one_of o) words f is = contains-value (option_values o) is.0 f is.2
+
+has-set : (c : Choice) (s t : Setting) → t.row.has (s.set c) ≡ (bytes_eq t.option s.option || t.row.has c)
+has-set c s t =
+    let own = each-of (behind_each c) (more_each c) options (s.option, s.row) (gives_own c) s.is_option in
+    let set = each-of (λ f. had (f c)) (λ f. had_more c s.option) (sets_of s.row.takes) s.set own (set_is s.row.takes s.value s.set s.sets) in
+    each-of (λ q. q.1.has (s.set c)) (λ q. bytes_eq q.0 s.option || q.1.has c) options (t.option, t.row) set t.is_option
+
+neither : (a b : Bool) → (a || b) ≡ false → (a ≡ false) × (b ≡ false)
+neither true b e = absurd (false≢true (sym e))
+neither false b e = (refl, e)
+
+unequal : (x y : List ℕ) → x ≢ y → bytes_eq x y ≡ false
+unequal x y n = by (bytes_eq x y) (bytes_eq-Decides x y).0
+  where
+    by : (b : Bool) → (b ≡ true → x ≡ y) → b ≡ false
+    by true is = absurd (n (is refl))
+    by false is = refl
+
+-- ---- lists of settings
+
+-- no setting's option was given before it
+abbrev pub AreNew : Choice → List Setting → Type 0
+AreNew c [] = Unit {0}
+AreNew c (s ∷ ss) = (s.row.has c ≡ false) × AreNew (s.set c) ss
+
+-- no setting's option was given in this choice
+abbrev AreFree : Choice → List Setting → Type 0
+AreFree c [] = Unit {0}
+AreFree c (s ∷ ss) = (s.row.has c ≡ false) × AreFree c ss
+
+-- settings of other options stay free behind one, and those that are free behind one are of other options
+free-behind : (c : Choice) (s : Setting) (ss : List Setting) → SetsNone s.option ss → AreFree c ss → AreFree (s.set c) ss
+free-behind c s [] none free = tt
+free-behind c s (t ∷ ts) none free =
+    (has-set c s t ∙ ap (λ b. b || t.row.has c) (unequal t.option s.option none.0) ∙ free.0, free-behind c s ts none.1 free.1)
+
+free-before : (c : Choice) (s : Setting) (ss : List Setting) → AreFree (s.set c) ss → SetsNone s.option ss × AreFree c ss
+free-before c s [] free = (tt, tt)
+free-before c s (t ∷ ts) free =
+    let n = neither (bytes_eq t.option s.option) (t.row.has c) (sym (has-set c s t) ∙ free.0) in
+    let r = free-before c s ts free.1 in
+    (((λ same. false≢true (sym n.0 ∙ (bytes_eq-Decides t.option s.option).1 same)), r.0), (n.1, r.1))
+
+once-new : (c : Choice) (ss : List Setting) → SetsOnce ss → AreFree c ss → AreNew c ss
+once-new c [] once free = tt
+once-new c (s ∷ ss) once free = (free.0, once-new (s.set c) ss once.1 (free-behind c s ss once.0 free.1))
+
+new-once-free : (c : Choice) (ss : List Setting) → AreNew c ss → SetsOnce ss × AreFree c ss
+new-once-free c [] new = (tt, tt)
+new-once-free c (s ∷ ss) new =
+    let behind = new-once-free (s.set c) ss new.1 in
+    let before = free-before c s ss behind.1 in
+    ((before.0, behind.0), (new.0, before.1))
+
+pub new-once : (ss : List Setting) → AreNew no_choice ss → SetsOnce ss
+new-once ss new = (new-once-free no_choice ss new).0
+
+pub once-new_choice : (ss : List Setting) → SetsOnce ss → AreNew no_choice ss
+once-new_choice ss once = once-new no_choice ss once (free ss)
+  where
+    free : (ss : List Setting) → AreFree no_choice ss
+    free [] = tt
+    free (s ∷ ss) = (each-of (λ q. q.1.has no_choice) (λ q. false) options (s.option, s.row) none_given s.is_option, free ss)
+
+-- ---- each value's word names it back
+
+method_back : (m : Method) → value_named (word_rows method_word methods) (method_word m) ≡ Some m
+method_back method.Seq = refl
+method_back m = refl
+
+index_back : (i : Index) → value_named (word_rows index_word indices) (index_word i) ≡ Some i
+index_back index.Plain = refl
+index_back i = refl
+
+prediction_back : (q : Prediction) → value_named (word_rows prediction_word predictions) (prediction_word q) ≡ Some q
+prediction_back prediction.Off = refl
+prediction_back q = refl
+
+walk_back : (w : Walk) → value_named (word_rows walk_word walks) (walk_word w) ≡ Some w
+walk_back walk.Depth = refl
+walk_back w = refl
+
+pub gen_back : (k : GenKind) → gen_named (gen_word k) ≡ Some k
+gen_back Grid = refl
+gen_back k = refl
+
+pub name_back : WordsNameBack
+name_back = (method_back, index_back, prediction_back, walk_back, gen_back)

@@ -1,0 +1,4 @@
+pub mod choice
+pub mod reading
+pub mod writing
+pub mod surface

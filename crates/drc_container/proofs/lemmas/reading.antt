@@ -1,0 +1,17 @@
+pub mod Rows
+pub mod AttrInfos
+pub mod Lengths
+pub mod Decoders
+pub mod Declared
+pub mod Parted
+pub mod Counted
+pub mod Faces
+pub mod Headed
+pub mod Whole
+pub mod Keeping
+pub mod ProfileCounts
+pub mod Widened
+pub mod Linked
+pub mod Tabled
+pub mod DecodersOnSurface
+pub mod HeadsBeside

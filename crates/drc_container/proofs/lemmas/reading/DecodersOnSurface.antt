@@ -1,0 +1,57 @@
+-- Decoders of attributes on a surface, one at a time.
+use Rattle.drc_base.specs.Profile.{profile}
+use Rattle.std.proofs.Common.{◌≡◌, ℕ, ◌<◌, Bool, true, List, [], ◌∷◌, length, map, get_or, Some, Ok, refl, sym, ◌∙◌, ap, subst, arith}
+use Rattle.std.specs.List.{All}
+use Rattle.std.proofs.Math.ListN.{get_or-map}
+use Rattle.std.specs.Prelude.{if◌then◌else◌}
+use Rattle.drc_base.specs.declared.faults.Refusal.{Refusal}
+use Rattle.drc_base.specs.declared.faults.Refusal.TheVariants as refusal
+use Rattle.drc_base.specs.Refusals.{Refuses}
+use Rattle.drc_bits.specs.Reading.{Reading, Item}
+use Rattle.corner_table.specs.Sides.{Gluing}
+use Rattle.corner_table.specs.Table.{Table, gluing_of}
+use Rattle.rans_binary.specs.Blocks.{Block}
+use Rattle.attr_section.specs.declared.decoder_heads.DecoderHead.{DecoderHead}
+use Rattle.eb_section.specs.Connectivity.{Connectivity}
+use Rattle.drc_container.specs.declared.reading.surface_attributes.SurfaceAttributes.{SurfaceAttributes}
+use Rattle.drc_container.specs.reading.OnSurface.{seams_of, cut_at, walked_by, walked_for, attributes_joined, values_on, decoder_on, surface_decoders_at}
+
+-- the next decoder was read
+pub surface_decoders_at-next : (s : Connectivity) (before x : SurfaceAttributes) (d : DecoderHead) (ds rest : List DecoderHead) (c next : Reading) (whole : Item SurfaceAttributes)
+    → surface_decoders_at profile s before ds c ≡ whole → ds ≡ d ∷ rest → decoder_on profile (walked_for s d) d (values_on before.tables) c ≡ Ok (x, next)
+    → surface_decoders_at profile s (attributes_joined before x) rest next ≡ whole
+unfolding surface_decoders_at
+surface_decoders_at-next s before x d ds rest c next whole so is read = sym (rw (is, read) refl) ∙ so
+
+-- the next decoder is refused
+pub surface_decoders_at-refuses : (s : Connectivity) (before : SurfaceAttributes) (d : DecoderHead) (ds rest : List DecoderHead) (c : Reading) (r : Refusal) (whole : Item SurfaceAttributes)
+    → surface_decoders_at profile s before ds c ≡ whole → ds ≡ d ∷ rest → Refuses (decoder_on profile (walked_for s d) d (values_on before.tables) c) r
+    → Refuses whole r
+unfolding surface_decoders_at
+surface_decoders_at-refuses s before d ds rest c refusal.Memory whole so is refuses = tt
+surface_decoders_at-refuses s before d ds rest c (refusal.Fault f) whole so is refuses = sym so ∙ rw (is, refuses) refl
+
+-- no decoder is left
+pub surface_decoders_at-end : (s : Connectivity) (before : SurfaceAttributes) (ds : List DecoderHead) (c : Reading) (whole : Item SurfaceAttributes)
+    → surface_decoders_at profile s before ds c ≡ whole → ds ≡ [] → whole ≡ Ok (before, c)
+unfolding surface_decoders_at
+surface_decoders_at-end s before ds c whole so none = sym so ∙ rw none refl
+
+-- a table that was cut at the seams of a decoder's attribute data is the surface that the decoder walks
+pub walked-cut : (s : Connectivity) (d : DecoderHead) (id : ℕ) (block : Block) (t u : Table) → d.corner ≡ true → d.data_id ≡ Some id
+    → block ≡ seams_of s.seams (Some id) → t.faces ≡ s.faces → gluing_of t ≡ s.glued
+    → u.faces ≡ t.faces → gluing_of u ≡ cut_at t.faces (gluing_of t) block → walked_by d.degree u.faces (gluing_of u) ≡ walked_for s d
+walked-cut s d id block t u corner is seams faces glued same pairs =
+    let whole : Gluing = cut_at s.faces s.glued (seams_of s.seams d.data_id) in
+    let cut : gluing_of u ≡ whole =
+    pairs ∙ ap (λ (n : ℕ). cut_at n (gluing_of t) block) faces ∙ ap (λ (g : Gluing). cut_at s.faces g block) glued
+    ∙ ap (λ (b : Block). cut_at s.faces s.glued b) (seams ∙ ap (seams_of s.seams) (sym is)) in
+    let chosen : Bool → Gluing = λ c. if c then whole else s.glued in
+    ap (λ (n : ℕ). walked_by d.degree n (gluing_of u)) (same ∙ faces) ∙ ap (walked_by d.degree s.faces) (cut ∙ ap chosen (sym corner))
+
+-- what holds of each item's image holds of that of the first
+pub first-of : {A B : Type 0} (P : B → Type 0) (f : A → B) (xs : List A) (x : A) (ys : List B) → All P (map f xs) → map f xs ≡ ys → 0 < length ys
+    → x ≡ get_or xs 0 x → P (f x)
+first-of P f xs x ys each is some at =
+    let count : length (map f xs) ≡ length ys = ap length is in
+    subst P (get_or-map f xs 0 x ∙ ap f (sym at)) (each 0 (f x) (omega (arith, some, count)))

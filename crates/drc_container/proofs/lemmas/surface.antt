@@ -1,0 +1,12 @@
+pub mod Orders
+pub mod Proper
+pub mod Traced
+pub mod Seams
+pub mod Flags
+pub mod Walks
+pub mod Decoded
+pub mod TurnedMeshes
+pub mod Pieces
+pub mod Classes
+pub mod AttributeSurfaces
+pub mod Tracing

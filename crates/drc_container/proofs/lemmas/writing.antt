@@ -1,0 +1,21 @@
+pub mod Columns
+pub mod Extracted
+pub mod Codable
+pub mod Again
+pub mod Meanings
+pub mod Layouts
+pub mod Attributed
+pub mod SurfaceWritten
+pub mod SurfaceLayout
+pub mod SurfaceConnectivity
+pub mod SurfaceDecoders
+pub mod SurfaceRead
+pub mod SurfaceMesh
+pub mod SurfaceMeans
+pub mod SurfaceColumns
+pub mod SurfaceParts
+pub mod SurfaceLinks
+pub mod SurfacePut
+pub mod SurfaceEncoded
+pub mod SurfacePreludes
+mod WrittenExamples

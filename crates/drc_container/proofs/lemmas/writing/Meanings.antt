@@ -1,0 +1,172 @@
+-- A written stream means the geometry that was written.
+use Rattle.drc_base.specs.Profile.{profile}
+use Rattle.std.proofs.Common.{◌≡◌, ℕ, ◌+◌, List, [], ◌∷◌, ◌++◌, map, length, None, Result, Ok, refl, sym, ◌∙◌, ap, subst, arith, append-nil, length-append}
+use Rattle.std.specs.Prelude.{ℤ, Bool}
+use Rattle.std.specs.List.{All}
+use Rattle.drc_base.specs.declared.faults.Fault.{Fault}
+use Rattle.drc_base.specs.Steps.{◌>>=◌}
+use Rattle.drc_bits.specs.Reading.{Reading}
+use Rattle.mesh_model.specs.declared.heads.Head.{Head}
+use Rattle.mesh_model.specs.declared.geometries.Geometry.{Geometry}
+use Rattle.mesh_model.specs.declared.geometries.Geometry.TheVariants.{Mesh, Cloud}
+use Rattle.mesh_model.specs.Head.{width_of}
+use Rattle.mesh_model.specs.Parts.{MeshParts, CloudParts, RowFits, IsMesh, IsCloud, mesh_of, cloud_of, cells_of}
+use Rattle.mesh_model.specs.IsGeometry.{IsGeometry}
+use Rattle.mesh_model.specs.Renumbering.{plain as plain_rows}
+use Rattle.mesh_model.specs.SameLaws.{count_of}
+use Rattle.mesh_model.specs.Contents.{heads_in, points_in}
+use Rattle.mesh_model.proofs.SameLaws.{same-refl}
+use Rattle.mesh_model.proofs.Made.{mesh_of-IsMesh, cloud_of-IsCloud}
+use Rattle.attr_section.specs.declared.values.Values.{Values}
+use Rattle.attr_section.specs.Written.{values_placed, values_bytes}
+use Rattle.drc_container.specs.declared.choice.choices.Choice.{Choice}
+use Rattle.drc_container.specs.declared.reading.attributes.Attributes.{Attributes}
+use Rattle.drc_container.specs.declared.reading.decoding.PointsRead.{PointsRead}
+use Rattle.drc_container.specs.declared.reading.info.StreamInfo.{StreamInfo}
+use Rattle.drc_container.specs.Columns.{columns_of, cells_at}
+use Rattle.drc_container.specs.declared.choice.methods.Method.TheVariants as method
+use Rattle.drc_container.specs.choice.Choice.{method_of, is_sequential, chosen_code, index_of, is_packed}
+use Rattle.drc_container.specs.reading.Stream.{stream, stream_in, body_at, points_behind, mesh_at, mesh_behind, cloud_at, cloud_behind, sequential_attributes_at, points_of}
+use Rattle.drc_container.specs.reading.Meaning.{Meaning, sequential_info}
+use Rattle.drc_container.specs.writing.Written.{header_bytes, sequential_connectivity_bytes, sequential_attributes_bytes, attribute_heads_bytes, values_of, stream_bytes}
+use Rattle.drc_container.specs.writing.Encoded.{ConnectivitySpelled, AttributesSpelled, attributes_again, KeepsBeside, Means}
+use Rattle.drc_container.proofs.lemmas.writing.Columns.{AreWide, cells_at-columns_of}
+use Rattle.drc_container.proofs.lemmas.writing.Extracted.{valued}
+use Rattle.drc_container.proofs.lemmas.writing.Again.{written_form, header_spelled}
+
+-- values keep their integers when they are given places
+placed-columns : (plain : Bool) (place : ℕ) (heads : List Head) (values : List Values) → length values ≡ length heads
+    → map (λ v. v.values) (values_placed plain None place heads values) ≡ map (λ v. v.values) values
+placed-columns plain place [] [] same = refl
+placed-columns plain place [] (v ∷ values) same = absurd (omega (arith, same))
+placed-columns plain place (h ∷ heads) [] same = refl
+placed-columns plain place (h ∷ heads) (v ∷ values) same =
+    ap (λ l. v.values ∷ l) (placed-columns plain (place + length (values_bytes plain None h.comps v)) heads values (omega (arith, same)))
+
+valued-columns : (predict : ℤ) (columns : List (List ℤ)) → map (λ v. v.values) (valued predict columns) ≡ columns
+valued-columns predict [] = refl
+valued-columns predict (column ∷ columns) = ap (λ l. column ∷ l) (valued-columns predict columns)
+
+-- each row is as wide as the heads say
+wide-rows : (heads : List Head) (points : List (List ℤ)) → All (RowFits heads) points → AreWide (width_of heads) points
+wide-rows heads points fit = λ j below. (fit j [] below).0
+
+-- the cells that are read back are those of the points
+cells-again : (plain : Bool) (place : ℕ) (predict : ℤ) (heads : List Head) (points : List (List ℤ)) → All (RowFits heads) points
+    → length (valued predict (columns_of heads points)) ≡ length heads
+    → cells_at heads (map (λ v. v.values) (values_placed plain None place heads (valued predict (columns_of heads points)))) (length points) ≡ cells_of points
+cells-again plain place predict heads points fit same =
+    ap (λ columns. cells_at heads columns (length points))
+    (placed-columns plain place heads (valued predict (columns_of heads points)) same ∙ valued-columns predict (columns_of heads points))
+    ∙ cells_at-columns_of heads points (wide-rows heads points fit)
+
+-- where connectivity and attributes of a written stream begin, and where it ends
+abbrev pub connectivity_place : Geometry → ℕ
+connectivity_place g = 0 + length (header_bytes 0 g)
+
+abbrev pub attributes_place : Geometry → Choice → ℕ
+attributes_place g choice = connectivity_place g + length (sequential_connectivity_bytes (is_packed (index_of choice)) g)
+
+abbrev pub end_place : Geometry → Choice → ℕ
+end_place g choice = attributes_place g choice + length (sequential_attributes_bytes choice.plain_values g (chosen_code g choice))
+
+-- what is known of a written stream
+abbrev pub info_written : Geometry → Choice → StreamInfo
+info_written g choice =
+    sequential_info (connectivity_place g) (attributes_place g choice) (length (points_in g))
+    (attributes_again choice.plain_values g (chosen_code g choice) (attributes_place g choice)) (record { place = end_place g choice; rest = [] })
+
+-- what a written stream means
+abbrev pub decoded_written : Geometry → Choice → Meaning
+decoded_written g choice = record { geometry = g; surface = None; info = info_written g choice }
+
+-- where the connectivity of a written stream begins
+abbrev behind_header : Geometry → Choice → Reading
+behind_header g choice = record {
+  place = connectivity_place g;
+  rest = sequential_connectivity_bytes (is_packed (index_of choice)) g ++ sequential_attributes_bytes choice.plain_values g (chosen_code g choice);
+}
+
+-- the points that are read of what was written
+points-again : (g : Geometry) (choice : Choice) → All (RowFits (heads_in g)) (points_in g)
+    → AttributesSpelled choice.plain_values g (chosen_code g choice)
+    → length (values_of g (chosen_code g choice)) ≡ length (heads_in g)
+    → points_behind profile (connectivity_place g) (length (points_in g))
+    (record { place = attributes_place g choice; rest = sequential_attributes_bytes choice.plain_values g (chosen_code g choice) })
+    ≡ Ok (record { heads = heads_in g; cells = cells_of (points_in g); info = info_written g choice })
+unfolding points_behind
+points-again g choice fit attributes same =
+    let predict = chosen_code g choice in
+    let bytes = sequential_attributes_bytes choice.plain_values g predict in
+    let p = connectivity_place g in
+    let q = attributes_place g choice in
+    let n = length (points_in g) in
+    let read : Attributes × Reading → Result PointsRead Fault =
+    λ a. Ok (record { heads = a.0.heads; cells = points_of n a.0; info = sequential_info p q n a.0 a.1 }) in
+    let told : List ℤ → Result PointsRead Fault = λ cells. Ok (record { heads = heads_in g; cells = cells; info = info_written g choice }) in
+    ap (λ rest. sequential_attributes_at profile n (record { place = q; rest = rest }) >>= read) (sym (append-nil bytes))
+    ∙ ap (λ x. x >>= read) (attributes.reads q [])
+    ∙ ap told (cells-again choice.plain_values (q + length (attribute_heads_bytes g)) predict (heads_in g) (points_in g) fit same)
+
+body-mesh : (m : MeshParts) (choice : Choice) → IsMesh m → ConnectivitySpelled (is_packed (index_of choice)) (Mesh m)
+    → AttributesSpelled choice.plain_values (Mesh m) (chosen_code (Mesh m) choice)
+    → length (values_of (Mesh m) (chosen_code (Mesh m) choice)) ≡ length m.heads
+    → mesh_at profile (behind_header (Mesh m) choice) ≡ Ok (decoded_written (Mesh m) choice)
+unfolding mesh_at mesh_behind
+body-mesh m choice is connectivity attributes same =
+    let p = connectivity_place (Mesh m) in
+    let bytes = sequential_attributes_bytes choice.plain_values (Mesh m) (chosen_code (Mesh m) choice) in
+    let of_mesh : StreamInfo → MeshParts → Result Meaning Fault = λ info mesh. Ok (record { geometry = Mesh mesh; surface = None; info = info }) in
+    let built : PointsRead → Result Meaning Fault = λ read. mesh_of read.heads read.cells m.faces >>= of_mesh read.info in
+    ap (λ x. x >>= λ indices. mesh_behind profile p indices.0 indices.1) (connectivity.reads p bytes)
+    ∙ ap (λ x. x >>= built) (points-again (Mesh m) choice is.points.rows_fit attributes same)
+    ∙ ap (λ x. x >>= of_mesh (info_written (Mesh m) choice)) (mesh_of-IsMesh m is)
+
+body-cloud : (m : CloudParts) (choice : Choice) → IsCloud m → ConnectivitySpelled (is_packed (index_of choice)) (Cloud m)
+    → AttributesSpelled choice.plain_values (Cloud m) (chosen_code (Cloud m) choice)
+    → length (values_of (Cloud m) (chosen_code (Cloud m) choice)) ≡ length m.heads
+    → cloud_at profile (behind_header (Cloud m) choice) ≡ Ok (decoded_written (Cloud m) choice)
+unfolding cloud_at cloud_behind
+body-cloud m choice is connectivity attributes same =
+    let p = connectivity_place (Cloud m) in
+    let bytes = sequential_attributes_bytes choice.plain_values (Cloud m) (chosen_code (Cloud m) choice) in
+    let of_cloud : StreamInfo → CloudParts → Result Meaning Fault = λ info cloud. Ok (record { geometry = Cloud cloud; surface = None; info = info }) in
+    let built : PointsRead → Result Meaning Fault = λ read. cloud_of read.heads read.cells >>= of_cloud read.info in
+    ap (λ x. x >>= λ points. cloud_behind profile p points.0 points.1) (connectivity.reads p bytes)
+    ∙ ap (λ x. x >>= built) (points-again (Cloud m) choice is.rows_fit attributes same)
+    ∙ ap (λ x. x >>= of_cloud (info_written (Cloud m) choice)) (cloud_of-IsCloud m is)
+
+body-written : (g : Geometry) (choice : Choice) → IsGeometry g → ConnectivitySpelled (is_packed (index_of choice)) g
+    → AttributesSpelled choice.plain_values g (chosen_code g choice) → length (values_of g (chosen_code g choice)) ≡ length (heads_in g)
+    → body_at profile (written_form g) (behind_header g choice) ≡ Ok (decoded_written g choice)
+body-written (Mesh m) choice is connectivity attributes same = body-mesh m choice is connectivity attributes same
+body-written (Cloud m) choice is connectivity attributes same = body-cloud m choice is connectivity attributes same
+
+-- a written stream means its geometry
+pub stream-written : (g : Geometry) (choice : Choice) → IsGeometry g → ConnectivitySpelled (is_packed (index_of choice)) g
+    → AttributesSpelled choice.plain_values g (chosen_code g choice) → length (values_of g (chosen_code g choice)) ≡ length (heads_in g)
+    → stream (stream_bytes g choice) ≡ Ok (decoded_written g choice)
+unfolding stream_in stream_bytes
+stream-written g choice is connectivity attributes same =
+    ap (λ x. x >>= λ header. body_at profile header.0 header.1)
+    ((header_spelled g).reads 0 (sequential_connectivity_bytes (is_packed (index_of choice)) g ++ sequential_attributes_bytes choice.plain_values g (chosen_code g choice)))
+    ∙ body-written g choice is connectivity attributes same
+
+length-written : (g : Geometry) (choice : Choice) → end_place g choice ≡ length (stream_bytes g choice)
+unfolding stream_bytes
+length-written g choice =
+    let h = header_bytes 0 g in
+    let c = sequential_connectivity_bytes (is_packed (index_of choice)) g in
+    let a = sequential_attributes_bytes choice.plain_values g (chosen_code g choice) in
+    omega (arith, length-append h (c ++ a), length-append c a)
+
+pub means : (g : Geometry) (choice : Choice) → method_of g choice ≡ method.Seq → IsGeometry g → ConnectivitySpelled (is_packed (index_of choice)) g
+    → AttributesSpelled choice.plain_values g (chosen_code g choice) → length (values_of g (chosen_code g choice)) ≡ length (heads_in g)
+    → Means g choice (stream_bytes g choice) (plain_rows (count_of g))
+means g choice sequential is connectivity attributes same = record {
+  decoded = decoded_written g choice;
+  stream_is = stream-written g choice is connectivity attributes same;
+  same = same-refl g;
+  beside = subst (λ m. KeepsBeside (is_sequential m) g (decoded_written g choice) (plain_rows (count_of g))) (sym sequential) (refl, refl);
+  whole = length-written g choice;
+}

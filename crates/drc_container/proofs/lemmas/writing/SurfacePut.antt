@@ -1,0 +1,129 @@
+-- The values of a mesh's attributes by Edgebreaker, written one attribute after another.
+use Rattle.std.proofs.Common.{◌≡◌, ℕ, ◌+◌, ◌-◌, ◌<◌, ◌≤◌, List, [], ◌∷◌, ◌++◌, length, take, drop, get_or, Some, None, refl, sym, ap, ◌∙◌, subst, arith, drop-cons, append_assoc, append-nil}
+use Rattle.std.specs.Prelude.{flat_map}
+use Rattle.std.specs.List.{All, enumerate_from}
+use Rattle.std.proofs.lemmas.Grind.{flat_map-append}
+use Rattle.std.proofs.lemmas.List.{take_all}
+use Rattle.std.proofs.lemmas.List.Elements.{All-nil, All-cons, All-append}
+use Rattle.mesh_model.specs.declared.heads.Head.{Head}
+use Rattle.mesh_model.specs.Parts.{IsMesh}
+use Rattle.corner_table.specs.Sides.{IsGluing}
+use Rattle.attr_section.specs.declared.decoder_heads.DecoderHead.{DecoderHead}
+use Rattle.attr_section.specs.declared.values.Values.{Values}
+use Rattle.attr_section.specs.Written.{DecoderValuesPass, HaveEntries, decoder_values_bytes}
+use Rattle.drc_container.specs.declared.choice.codings.Coding.{Coding}
+use Rattle.drc_container.specs.writing.WrittenOnSurface.{GluedMesh, surface_walk, coded_by, coded_values, decoder_for, decoders_for, attribute_bytes, values_bytes_on}
+use Rattle.drc_container.specs.writing.Encoded.{AttributeSpelled, AreReadAgain}
+use Rattle.drc_container.specs.surface.AttributeSurfaces.{CanCodeValues}
+use Rattle.drc_container.proofs.lemmas.writing.SurfaceParts.{enumerate-more, values-at, values-each, decoder-at, decoders-each, decoder-values-pass, decoder-entries}
+
+-- what stands for the head of an attribute that isn't there
+pub no_head : Head
+no_head = record { usage = 0; dtype = 0; comps = 0; normalized = 0; id = 0; quant = None }
+
+-- the head of attribute k
+abbrev pub head_at : GluedMesh → ℕ → Head
+head_at d k = get_or d.mesh.heads k no_head
+
+-- what is known of attribute k: its decoder, and its values
+pub record IsAt (coding : Coding) (d : GluedMesh) (k : ℕ) (x : DecoderHead) (part : List Values) : Type 0 where
+  pub has : k < length d.mesh.heads
+  pub decoder : x ≡ decoder_for coding d k (head_at d k)
+  pub values : part ≡ coded_by coding d k ∷ []
+
+pub is-at : (coding : Coding) (d : GluedMesh) (decoders : List DecoderHead) (values : List Values) (k : ℕ) (x : DecoderHead) → decoders ≡ decoders_for coding d
+    → values ≡ coded_values coding d → k < length decoders → x ≡ get_or decoders k x → IsAt coding d k x (take (k + 1 - k) (drop k values))
+is-at coding d decoders values k x same_decoders same_values below is =
+    let has : k < length d.mesh.heads = omega (arith, below, ap length same_decoders, decoders-each coding d) in
+    let one : k + 1 - k ≡ 1 = omega arith in
+    let v = coded_by coding d k in
+    let there : k < length (coded_values coding d) = omega (arith, has, values-each coding d) in
+    record {
+      has = has;
+      decoder = is ∙ ap (λ (l : List DecoderHead). get_or l k x) same_decoders ∙ decoder-at coding d k x no_head has;
+      values = rw (one, same_values, drop-cons (coded_values coding d) k v there, values-at coding d k v has) refl;
+    }
+
+-- they pass
+pub put-pass : (coding : Coding) (d : GluedMesh) (k : ℕ) (x : DecoderHead) (part : List Values) → IsMesh d.mesh → IsGluing (length d.mesh.faces) d.pairs → CanCodeValues coding d
+    → IsAt coding d k x part → DecoderValuesPass (Some (surface_walk coding d k)) x.heads part
+put-pass coding d k x part is G can at =
+    let w = Some (surface_walk coding d k) in
+    subst (λ (l : List Values). DecoderValuesPass w x.heads l) (sym at.values)
+    (subst (λ (y : DecoderHead). DecoderValuesPass w y.heads (coded_by coding d k ∷ [])) (sym at.decoder) (decoder-values-pass coding d is G can k no_head at.has))
+
+-- and are those of each entry
+pub put-entries : (coding : Coding) (d : GluedMesh) (k : ℕ) (x : DecoderHead) (part : List Values) → IsMesh d.mesh
+    → IsAt coding d k x part → HaveEntries (length (surface_walk coding d k).corners) x.heads part
+put-entries coding d k x part is at =
+    let n = length (surface_walk coding d k).corners in
+    subst (λ (l : List Values). HaveEntries n x.heads l) (sym at.values)
+    (subst (λ (y : DecoderHead). HaveEntries n y.heads (coded_by coding d k ∷ [])) (sym at.decoder) (decoder-entries coding d is k no_head at.has))
+
+-- what is written of them is the attribute's bytes
+pub put-bytes : (coding : Coding) (d : GluedMesh) (k : ℕ) (x : DecoderHead) (part : List Values) → IsAt coding d k x part
+    → decoder_values_bytes coding.plain (Some (surface_walk coding d k)) x.heads part ≡ attribute_bytes coding d k (head_at d k)
+put-bytes coding d k x part at =
+    let w = Some (surface_walk coding d k) in
+    ap (λ (l : List Values). decoder_values_bytes coding.plain w x.heads l) at.values
+    ∙ ap (λ (y : DecoderHead). decoder_values_bytes coding.plain w y.heads (coded_by coding d k ∷ [])) at.decoder
+
+-- which is read back as the attribute
+pub put-again : (coding : Coding) (d : GluedMesh) (k : ℕ) (x : DecoderHead) (part : List Values) → IsAt coding d k x part
+    → AreReadAgain coding.plain (surface_walk coding d k) x part → AttributeSpelled coding d k (head_at d k)
+put-again coding d k x part at again =
+    let w = surface_walk coding d k in
+    subst (λ (y : DecoderHead). AreReadAgain coding.plain w y (coded_by coding d k ∷ [])) at.decoder
+    (subst (λ (l : List Values). AreReadAgain coding.plain w x l) at.values again)
+
+-- ---- one attribute more
+
+-- the bytes
+pub bytes-more : (coding : Coding) (d : GluedMesh) (k : ℕ) → k < length d.mesh.heads
+    → flat_map (λ (j, h). attribute_bytes coding d j h) (enumerate_from 0 (take (k + 1) d.mesh.heads))
+    ≡ flat_map (λ (j, h). attribute_bytes coding d j h) (enumerate_from 0 (take k d.mesh.heads)) ++ attribute_bytes coding d k (head_at d k)
+bytes-more coding d k has =
+    let f : ℕ × Head → List ℕ = λ (j, h). attribute_bytes coding d j h in
+    let front = enumerate_from 0 (take k d.mesh.heads) in
+    let zero_k : 0 + k ≡ k = omega arith in
+    ap (flat_map f) (enumerate-more 0 d.mesh.heads k no_head has)
+    ∙ flat_map-append f front ((0 + k, head_at d k) ∷ [])
+    ∙ ap (λ (l : List ℕ). flat_map f front ++ l) (append-nil (f (0 + k, head_at d k)) ∙ ap (λ (j : ℕ). attribute_bytes coding d j (head_at d k)) zero_k)
+
+-- behind what was there
+pub put-more : (coding : Coding) (d : GluedMesh) (k : ℕ) (x : DecoderHead) (part : List Values) (old new front : List ℕ) → IsAt coding d k x part
+    → new ≡ front ++ decoder_values_bytes coding.plain (Some (surface_walk coding d k)) x.heads part
+    → front ≡ old ++ flat_map (λ (j, h). attribute_bytes coding d j h) (enumerate_from 0 (take k d.mesh.heads))
+    → new ≡ old ++ flat_map (λ (j, h). attribute_bytes coding d j h) (enumerate_from 0 (take (k + 1) d.mesh.heads))
+put-more coding d k x part old new front at more so =
+    let f : ℕ × Head → List ℕ = λ (j, h). attribute_bytes coding d j h in
+    let before = flat_map f (enumerate_from 0 (take k d.mesh.heads)) in
+    more
+    ∙ ap (λ (l : List ℕ). front ++ l) (put-bytes coding d k x part at)
+    ∙ ap (λ (l : List ℕ). l ++ attribute_bytes coding d k (head_at d k)) so
+    ∙ append_assoc old before (attribute_bytes coding d k (head_at d k))
+    ∙ ap (λ (l : List ℕ). old ++ l) (sym (bytes-more coding d k at.has))
+
+-- and what is read back
+pub again-more : (coding : Coding) (d : GluedMesh) (k : ℕ) → k < length d.mesh.heads
+    → All (λ (j, h). AttributeSpelled coding d j h) (enumerate_from 0 (take k d.mesh.heads)) → AttributeSpelled coding d k (head_at d k)
+    → All (λ (j, h). AttributeSpelled coding d j h) (enumerate_from 0 (take (k + 1) d.mesh.heads))
+again-more coding d k has front here =
+    let P : ℕ × Head → Type 0 = λ (j, h). AttributeSpelled coding d j h in
+    let h = head_at d k in
+    let zero_k : 0 + k ≡ k = omega arith in
+    let last : P (0 + k, h) = subst (λ (j : ℕ). AttributeSpelled coding d j h) (sym zero_k) here in
+    subst (All P) (sym (enumerate-more 0 d.mesh.heads k no_head has))
+    (All-append P (enumerate_from 0 (take k d.mesh.heads)) ((0 + k, h) ∷ []) front (All-cons P (0 + k, h) [] last (All-nil P)))
+
+-- ---- at the end
+
+pub bytes-end : (coding : Coding) (d : GluedMesh) (k : ℕ) (old out : List ℕ) → length d.mesh.heads ≤ k
+    → out ≡ old ++ flat_map (λ (j, h). attribute_bytes coding d j h) (enumerate_from 0 (take k d.mesh.heads)) → out ≡ old ++ values_bytes_on coding d
+bytes-end coding d k old out done so =
+    so ∙ ap (λ (hs : List Head). old ++ flat_map (λ (j, h). attribute_bytes coding d j h) (enumerate_from 0 hs)) (take_all k d.mesh.heads done)
+
+pub again-end : (coding : Coding) (d : GluedMesh) (k : ℕ) → length d.mesh.heads ≤ k
+    → All (λ (j, h). AttributeSpelled coding d j h) (enumerate_from 0 (take k d.mesh.heads)) → All (λ (j, h). AttributeSpelled coding d j h) (enumerate_from 0 d.mesh.heads)
+again-end coding d k done so =
+    subst (λ (hs : List Head). All (λ (j, h). AttributeSpelled coding d j h) (enumerate_from 0 hs)) (take_all k d.mesh.heads done) so

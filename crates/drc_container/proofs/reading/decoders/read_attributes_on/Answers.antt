@@ -1,0 +1,22 @@
+use Rattle.std.proofs.Common.{subst, sym}
+use Rattle.std.specs.List.{All}
+use Rattle.eb_section.specs.Connectivity.{meaning}
+use Rattle.drc_container.proofs.lemmas.reading.Headed.{heads-read}
+use Rattle.drc_container.proofs.lemmas.reading.Linked.{IsCut, heads-linked}
+use Rattle.drc_container.proofs.lemmas.reading.Tabled.{tables-whole}
+use Rattle.drc_container.proofs.reading.decoders.read_attributes_on.Goals as goal
+
+pub read_each-requires-clause-heads : goal.read_each-requires-clause-heads
+read_each-requires-clause-heads c =
+    let read = heads-read _ c.args.c.now (c.in_ok-decoders.decoders.items, _) c.in_ok-decoders.ensures.item in
+    λ k d below. (read.each k d below).heads
+
+pub read_each-requires-clause-seams : goal.read_each-requires-clause-seams
+read_each-requires-clause-seams c =
+    let linked = heads-linked c.args.surface.now.attr_data c.args.c.now (c.in_ok-decoders.decoders.items, _) c.in_ok-decoders.ensures.item in
+    subst (λ n. All (IsCut n) c.in_ok-decoders.decoders.items) (sym c.requires.seams) linked
+
+pub returns-clause-tables : goal.returns-clause-tables
+returns-clause-tables c =
+    tables-whole (meaning c.args.surface.now) c.args.c.now _ _ c.in_ok-decoders.decoders.items c.in_ok-attributes.attributes
+    c.in_ok-decoders.ensures.item c.in_ok-attributes.ensures.item c.requires.faces c.in_ok-attributes.ensures.columns

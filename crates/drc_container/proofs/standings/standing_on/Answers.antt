@@ -1,9 +1,0 @@
-use Rattle.drc_container.proofs.SurfaceStandings.{few-flags}
-use Rattle.drc_container.proofs.standings.standing_on.Goals as goal
-
-pub invariant_of-result : goal.invariant_of-result
-invariant_of-result c = record {
-  over = c.in_ok-order.ensures.over;
-  few_flags = few-flags c.args.degree c.args.sides c.in_ok-order.order c.face_count-faces.ensures.gluing c.in_ok-order.ensures.over c.in_ok-order.ensures.walked;
-  few_entries = c.in_ok-order.ensures.few;
-}

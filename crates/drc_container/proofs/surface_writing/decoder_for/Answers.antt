@@ -1,6 +1,0 @@
-use Rattle.std.proofs.Common.{arith}
-use Rattle.drc_container.proofs.SurfaceStandings.{cut-each}
-use Rattle.drc_container.proofs.surface_writing.decoder_for.Goals as goal
-
-pub is_cut_at-corner-requires : goal.is_cut_at-corner-requires
-is_cut_at-corner-requires c = omega (arith, c.requires.attribute, cut-each c.args.coding.now.degree c.args.s.now c.requires.stands)

@@ -1,0 +1,3 @@
+pub mod Choice
+pub mod Refused
+pub mod Encodable

@@ -1,0 +1,4 @@
+pub mod Meaning
+pub mod OnSurface
+pub mod Stream
+pub mod Profiles

@@ -1,0 +1,2 @@
+pub mod AttributeSurfaces
+pub mod Traced

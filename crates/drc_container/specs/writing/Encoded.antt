@@ -1,0 +1,136 @@
+-- What an encoding answers, and what its bytes mean (this project's choice).
+use Rattle.drc_base.specs.Profile.{profile}
+use Rattle.std.specs.Prelude.{◌≡◌, ◌<◌, ◌≤◌, ℕ, ◌+◌, ◌-◌, ℤ, Bool, true, false, List, [], ◌∷◌, ◌++◌, map, length}
+use Rattle.std.specs.Prelude.{Option, None, Some, Result, Ok, All}
+use Rattle.std.specs.List.{enumerate_from}
+use Rattle.drc_base.specs.declared.faults.Fault.{Fault}
+use Rattle.drc_base.specs.declared.limits.TheConstants.{MAX_POINTS, MAX_VALUES}
+use Rattle.drc_bits.specs.Spells.{Spells}
+use Rattle.mesh_model.specs.declared.geometries.Geometry.{Geometry}
+use Rattle.mesh_model.specs.declared.geometries.Geometry.TheVariants.{Mesh, Cloud}
+use Rattle.mesh_model.specs.FirstFault.{value_unless}
+use Rattle.mesh_model.specs.Same.{Rows, Same}
+use Rattle.mesh_model.specs.declared.heads.Head.{Head}
+use Rattle.mesh_model.specs.Parts.{MeshParts}
+use Rattle.mesh_model.specs.Contents.{heads_in, points_in}
+use Rattle.corner_table.specs.Carried.{IsCarried}
+use Rattle.pairing.specs.Pairing.{pairing}
+use Rattle.pairing.specs.Degenerate.{degenerate_fault}
+use Rattle.eb_trace.specs.Trace.{fan_count}
+use Rattle.eb_section.specs.ReadAgain.{IsReadAgain}
+use Rattle.predict.specs.Wrap.{CanWrap}
+use Rattle.predict.specs.Walked.{Walked}
+use Rattle.seq_section.specs.Indices.{indices_at}
+use Rattle.attr_section.specs.declared.decoder_heads.DecoderHead.{DecoderHead}
+use Rattle.attr_section.specs.declared.values.Values.{Values}
+use Rattle.attr_section.specs.Heads.{bare_decoder, heads_at}
+use Rattle.attr_section.specs.Values.{values_in, decoder_values_at}
+use Rattle.attr_section.specs.Written.{range_of, values_placed, decoder_values_bytes}
+use Rattle.drc_container.specs.declared.choice.codings.Coding.{Coding}
+use Rattle.drc_container.specs.declared.choice.choices.Choice.{Choice}
+use Rattle.predict.specs.Schemes.{facts}
+use Rattle.drc_container.specs.declared.choice.methods.Method.TheVariants as method
+use Rattle.drc_container.specs.declared.reading.attributes.Attributes.{Attributes}
+use Rattle.drc_container.specs.reading.Meaning.{Surface, Meaning}
+use Rattle.drc_container.specs.Header.{cloud_points_at}
+use Rattle.drc_container.specs.choice.Choice.{method_of, is_sequential, predict_chosen, chosen_code}
+use Rattle.drc_container.specs.reading.Stream.{stream, sequential_attributes_at}
+use Rattle.drc_container.specs.choice.Refused.{refused, coding_fault}
+use Rattle.drc_container.specs.writing.Written.{sequential_connectivity_bytes, decoder_of, attribute_heads_bytes, sequential_attributes_bytes, values_of}
+use Rattle.drc_container.specs.writing.WrittenOnSurface.{traced, GluedMesh, decoded, surface_walk, coded_by, coded_values, decoder_for, decoders_for}
+use Rattle.drc_container.specs.writing.WrittenOnSurface.{seam_lists, decoder_heads_bytes, connectivity_of, edgebreaker_bytes}
+use Rattle.drc_container.specs.writing.Chosen.{mesh_in, written}
+
+-- what is due: the bytes and rows, or why the geometry isn't encoded as chosen
+abbrev pub encoding_due : Geometry → Choice → Result (List ℕ × Rows) Fault
+encoding_due g choice = value_unless (refused g choice) (written g choice)
+
+-- what is due of a mesh that is coded so by Edgebreaker: the bytes, and its faces in the order of decoding, or why it isn't coded so
+abbrev pub due_on_surface : Coding → MeshParts → Result (List ℕ × Rows) Fault
+due_on_surface coding m = value_unless (coding_fault coding m) (edgebreaker_bytes coding m, (traced m).order)
+
+-- the surface is that of the mesh's pairs, under the new numbers that the rows give to the faces
+pub record KeepsSurface (m : MeshParts) (rows : Rows) (s : Option Surface) : Type 0 where
+  pub surface : Surface
+  pub is : s ≡ Some surface
+  pub faces : surface.faces ≡ length m.faces
+  pub pairs : IsCarried (length m.faces) (pairing m) rows surface.glued
+
+-- what is kept beside the geometry: by the sequential method the list of points, and by Edgebreaker the surface
+abbrev pub KeepsBeside : Bool → Geometry → Meaning → Rows → Type 0
+KeepsBeside true g d rows = (points_in d.geometry ≡ points_in g) × (d.surface ≡ None)
+KeepsBeside false g d rows = KeepsSurface (mesh_in g) rows d.surface
+
+-- these bytes are a stream that ends with them, its geometry is this one by these rows, and the points or the surface are kept
+pub record Means (g : Geometry) (choice : Choice) (bytes : List ℕ) (rows : Rows) : Type 0 where
+  pub decoded : Meaning
+  pub stream_is : stream bytes ≡ Ok decoded
+  pub same : Same g decoded.geometry rows
+  pub beside : KeepsBeside (is_sequential (method_of g choice)) g decoded rows
+  pub whole : decoded.info.end ≡ length bytes
+
+-- this geometry can be coded by this choice, sequentially: there is a point, the prediction needs no surface, and values that are corrected
+-- lie near enough
+pub record CanCode (g : Geometry) (choice : Choice) : Type 0 where
+  pub sequential : method_of g choice ≡ method.Seq
+  pub some : 0 < length (points_in g)
+  pub alone : (facts (predict_chosen g choice)).needs_surface ≡ false
+  pub near : (facts (predict_chosen g choice)).corrects ≡ true → All (λ v. CanWrap (range_of v.values)) (values_of g (chosen_code g choice))
+
+-- the connectivity is read back: the faces of a mesh and its number of points, or the number of points of a cloud
+abbrev pub ConnectivitySpelled : Bool → Geometry → Type 0
+ConnectivitySpelled packed (Mesh m) =
+    Spells (indices_at profile) (sequential_connectivity_bytes packed (Mesh m)) (record { faces = m.faces; points = length m.points })
+ConnectivitySpelled packed (Cloud c) = Spells (cloud_points_at profile) (sequential_connectivity_bytes packed (Cloud c)) (length c.points)
+
+-- the attributes that are read back from a place on: the heads, and the values with the places of their prediction bytes
+abbrev pub attributes_again : Bool → Geometry → ℤ → ℕ → Attributes
+attributes_again plain g predict place = record {
+  heads = heads_in g;
+  values = values_placed plain None (place + length (attribute_heads_bytes g)) (heads_in g) (values_of g predict);
+}
+
+-- the attributes are read back, and in front of them their heads
+pub record AttributesSpelled (plain : Bool) (g : Geometry) (predict : ℤ) : Type 0 where
+  pub heads : Spells (heads_at None) (attribute_heads_bytes g) (bare_decoder (decoder_of g) ∷ [])
+  pub reads : (place : ℕ) (rest : List ℕ)
+      → sequential_attributes_at profile (length (points_in g))
+      (record { place = place; rest = sequential_attributes_bytes plain g predict ++ rest })
+      ≡ Ok (
+        attributes_again plain g predict place,
+        record { place = place + length (sequential_attributes_bytes plain g predict); rest = rest },
+      )
+
+-- this mesh can be coded so by Edgebreaker: it has faces, none of which is degenerate; its vertices and its coded values are few; and
+-- values that are corrected lie near enough
+pub record CanCodeSurface (coding : Coding) (m : MeshParts) : Type 0 where
+  pub some : 0 < length m.faces
+  pub proper : degenerate_fault m ≡ None
+  pub few_vertices : fan_count (length m.faces) (pairing m) ≤ MAX_POINTS
+  pub few_values : values_in (coded_values coding (decoded m)) ≤ MAX_VALUES
+  pub near : (facts coding.predict).corrects ≡ true → All (λ v. CanWrap (range_of v.values)) (coded_values coding (decoded m))
+
+-- the values of a decoder over a surface that is walked so are read back, wherever they stand and whatever follows them
+pub record AreReadAgain (plain : Bool) (w : Walked) (d : DecoderHead) (values : List Values) : Type 0 where
+  pub reads : (spent place : ℕ) (rest : List ℕ) → spent + values_in values ≤ MAX_VALUES
+      → decoder_values_at profile (Some w) (bare_decoder d) (length w.corners) spent
+      (record { place = place; rest = decoder_values_bytes plain (Some w) d.heads values ++ rest })
+      ≡ Ok (
+        (values_placed plain (Some w) place d.heads values, d),
+        record { place = place + length (decoder_values_bytes plain (Some w) d.heads values); rest = rest },
+      )
+
+-- the values of attribute k, which has this head, are read back
+abbrev pub AttributeSpelled : Coding → GluedMesh → ℕ → Head → Type 0
+AttributeSpelled coding d k h = AreReadAgain coding.plain (surface_walk coding d k) (decoder_for coding d k h) (coded_by coding d k ∷ [])
+
+-- the connectivity of a mesh is read back
+abbrev pub ConnectivityReadAgain : Bool → MeshParts → Type 0
+ConnectivityReadAgain valence m = IsReadAgain valence (length m.faces) (traced m) (seam_lists (decoded m)) (connectivity_of valence m)
+
+-- the parts of a mesh's stream by Edgebreaker are read back: the connectivity, the heads of the decoders, and the values of each attribute
+pub record SurfaceSpelled (coding : Coding) (m : MeshParts) : Type 0 where
+  pub connectivity : ConnectivityReadAgain coding.valence m
+  pub heads : Spells (heads_at (Some (length m.heads - 1))) (decoder_heads_bytes coding (decoded m))
+      (map bare_decoder (decoders_for coding (decoded m)))
+  pub values : All (λ (k, h). AttributeSpelled coding (decoded m) k h) (enumerate_from 0 m.heads)

@@ -1,0 +1,76 @@
+//! The attributes of a stream.
+
+ghost use Rattle.drc_base.specs.Profile.{profile};
+ghost use Rattle.std.specs.Prelude.{◌≡◌, ◌<◌, [], IfOk, All};
+ghost use Rattle.drc_bits.specs.Reading.{Gives};
+ghost use Rattle.attr_section.specs.Values.{AreColumns};
+ghost use Rattle.drc_container.specs.reading.Stream.{sequential_attributes_at, decoders_values_at};
+
+use attr_section::{DecoderHead, Values, read_decoder, read_heads};
+use drc_base::{Refusal, Sequence};
+use drc_bits::Cursor;
+use mesh_model::Head;
+use std::alloc::Global;
+
+/// The attributes of a stream: their heads, and the values of each.
+#[derive(Debug, Drop)]
+pub struct Attributes {
+    /// What each attribute is.
+    pub heads: Sequence<Head>,
+    /// The values of each attribute.
+    pub values: Sequence<Values>,
+}
+
+/// Reads all attributes of a sequential stream with so many entries: the heads of its decoders, then
+/// the values of each decoder in turn. The first fault of the bytes, at its place.
+#[tactic(auto, unfolding(crate::specs::reading::Stream::sequential_attributes_at))]
+pub fn read_attributes(
+    alloc: Global,
+    c: &mut Cursor<'_>,
+    entries: u32,
+) -> Result<Attributes, Refusal>
+    ensures attributes { Gives (λ a. a) (sequential_attributes_at profile entries c.old) c.new result }
+    ensures columns { IfOk result (λ a. AreColumns entries a.heads a.values) }
+{
+    let decoders = read_heads(alloc, c, None)?;
+    read_decoders(alloc, c, entries, decoders)
+}
+
+/// Reads the values of these decoders in turn.
+fn read_decoders(
+    alloc: Global,
+    c: &mut Cursor<'_>,
+    entries: u32,
+    decoders: Vec<DecoderHead>,
+) -> Result<Attributes, Refusal>
+    requires { All (λ d. All (λ h. 0 < h.comps) d.heads) decoders.items }
+    ensures attributes { Gives (λ a. a) (decoders_values_at profile entries (record { heads = []; values = [] }) decoders.items c.old) c.new result }
+    ensures columns { IfOk result (λ a. AreColumns entries a.heads a.values) }
+{
+    let mut heads = Vec::new(alloc);
+    let mut values = Vec::new(alloc);
+    let mut spent: u64 = 0;
+    for mut decoder in decoders {
+        let mut read = read_decoder(alloc, c, &mut decoder, entries, None, &mut spent)?;
+        values.append(&mut read)?;
+        let mut its_heads = heads_of(decoder);
+        heads.append(&mut its_heads)?;
+    }
+    Ok(Attributes {
+        heads: Sequence::from_vec(heads),
+        values: Sequence::from_vec(values),
+    })
+}
+
+/// The heads of a decoder.
+pub fn heads_of(decoder: DecoderHead) -> Vec<Head>
+    ensures { result.items ≡ decoder.heads }
+{
+    let DecoderHead {
+        data_id: _,
+        corner: _,
+        degree: _,
+        heads,
+    } = decoder;
+    heads.into_vec()
+}

@@ -1,0 +1,127 @@
+//! Decoding a whole stream.
+
+ghost use Rattle.drc_base.specs.Profile.{profile};
+ghost use Rattle.std.specs.Prelude.{◌≡◌, None, Err, IfOk, IfSome, IsTrue};
+ghost use Rattle.drc_base.specs.declared.faults.Fault.{Fault as AnyFault};
+ghost use Rattle.drc_base.specs.declared.faults.Refusal.TheVariants as refusal;
+ghost use Rattle.drc_base.specs.Refusals.{Answers};
+ghost use Rattle.drc_container.specs.reading.Meaning.{told_by};
+ghost use Rattle.drc_container.specs.reading.Stream.{stream, meaning_of, points_behind, mesh_at, cloud_at, declared_of};
+ghost use Rattle.mesh_model.specs.Parts.{AreRows, range_fault};
+ghost use Rattle.drc_container.specs.Header.{cloud_points_at};
+ghost use Rattle.seq_section.specs.Indices.{indices_opening_at};
+
+use crate::headers::{Form, read_cloud_points, read_header};
+use crate::reading::attributes::{Attributes, read_attributes};
+use crate::reading::edgebreaker::read_edgebreaker;
+use crate::reading::info::{Decoded, StreamInfo, sequential_info};
+use crate::reading::points::points_of;
+use drc_base::{Refusal, Sequence};
+use drc_bits::Cursor;
+use mesh_model::{Cloud, CornerMesh, Geometry, Head};
+use seq_section::read_indices;
+use std::alloc::Global;
+
+/// The geometry that a stream means, or its first fault, whose `at` is a place but for the kinds that
+/// say otherwise. Bytes after the stream's end are ignored. Faults of the header, of the two numbers
+/// and the method of sequential connectivity, and of the numbers that Edgebreaker connectivity declares,
+/// come before memory is taken.
+pub fn decode(alloc: Global, bytes: &[u8]) -> Result<Geometry, Refusal>
+    ensures meaning { Answers (λ g. g) (meaning_of bytes.now) result }
+    ensures early { (f : AnyFault) → declared_of bytes.now ≡ Err f → result ≡ Err (refusal.Fault f) }
+{
+    let Decoded {
+        geometry,
+        sides: _,
+        info: _,
+    } = decode_whole(alloc, bytes)?;
+    Ok(geometry)
+}
+
+/// The geometry that a stream means, the surface of an Edgebreaker mesh, which was rebuilt by links, and
+/// what is known of the stream; or its first fault, as `decode`.
+#[tactic(auto, unfolding(crate::specs::reading::Stream::stream_in))]
+pub fn decode_whole(alloc: Global, bytes: &[u8]) -> Result<Decoded, Refusal>
+    ensures stream { Answers told_by (stream bytes.now) result }
+    ensures early { (f : AnyFault) → declared_of bytes.now ≡ Err f → result ≡ Err (refusal.Fault f) }
+    ensures linked { IfOk result (λ d. IfSome d.sides (λ b. IsTrue b.linked)) }
+{
+    let mut c = Cursor::new(bytes);
+    match read_header(&mut c)? {
+        Form::SequentialMesh => read_mesh(alloc, &mut c),
+        Form::Cloud => read_cloud(alloc, &mut c),
+        Form::EdgebreakerMesh => read_edgebreaker(alloc, &mut c),
+    }
+}
+
+/// What is read of a sequential stream behind its connectivity.
+#[derive(Drop)]
+struct PointsRead {
+    /// What each attribute is.
+    heads: Sequence<Head>,
+    /// The integers of all points, point after point.
+    cells: Sequence<i32>,
+    /// What is known of the stream beside them.
+    info: StreamInfo,
+}
+
+/// Reads so many points of a sequential stream behind its connectivity, which begins at `from`.
+#[tactic(auto, unfolding(crate::specs::reading::Stream::points_behind))]
+fn read_points(
+    alloc: Global,
+    c: &mut Cursor<'_>,
+    from: u64,
+    points: u32,
+) -> Result<PointsRead, Refusal>
+    ensures points { Answers (λ r. r) (points_behind profile from points c.old) result }
+    ensures rows { IfOk result (λ r. AreRows r.heads r.cells) }
+    ensures typed { IfOk result (λ r. range_fault r.heads r.cells ≡ None) }
+{
+    let to = c.place();
+    let attributes = read_attributes(alloc, c, points)?;
+    let info = sequential_info(alloc, c, from, to, points, &attributes)?;
+    let Attributes { heads, values } = attributes;
+    let cells = points_of(alloc, points, heads.as_slice(), values.into_vec())?;
+    Ok(PointsRead {
+        heads,
+        cells: Sequence::from_vec(cells),
+        info,
+    })
+}
+
+/// Reads a sequential mesh behind its header.
+#[tactic(auto, unfolding(crate::specs::reading::Stream::mesh_at, crate::specs::reading::Stream::mesh_behind))]
+fn read_mesh(alloc: Global, c: &mut Cursor<'_>) -> Result<Decoded, Refusal>
+    ensures mesh { Answers told_by (mesh_at profile c.old) result }
+    ensures sides { IfOk result (λ d. d.sides ≡ None) }
+    ensures early { (f : AnyFault) → indices_opening_at profile c.old ≡ Err f → result ≡ Err (refusal.Fault f) }
+{
+    let from = c.place();
+    let indices = read_indices(alloc, c)?;
+    let PointsRead { heads, cells, info } = read_points(alloc, c, from, indices.points)?;
+    let faces = indices.faces.into_vec();
+    let mesh = CornerMesh::of_typed(heads.into_vec(), cells.into_vec(), faces)?;
+    Ok(Decoded {
+        geometry: Geometry::Mesh(mesh),
+        sides: None,
+        info,
+    })
+}
+
+/// Reads a cloud behind its header.
+#[tactic(auto, unfolding(crate::specs::reading::Stream::cloud_at, crate::specs::reading::Stream::cloud_behind))]
+fn read_cloud(alloc: Global, c: &mut Cursor<'_>) -> Result<Decoded, Refusal>
+    ensures cloud { Answers told_by (cloud_at profile c.old) result }
+    ensures sides { IfOk result (λ d. d.sides ≡ None) }
+    ensures early { (f : AnyFault) → cloud_points_at profile c.old ≡ Err f → result ≡ Err (refusal.Fault f) }
+{
+    let from = c.place();
+    let points = read_cloud_points(c)?;
+    let PointsRead { heads, cells, info } = read_points(alloc, c, from, points)?;
+    let cloud = Cloud::of_typed(heads.into_vec(), cells.into_vec())?;
+    Ok(Decoded {
+        geometry: Geometry::Cloud(cloud),
+        sides: None,
+        info,
+    })
+}

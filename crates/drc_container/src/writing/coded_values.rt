@@ -1,0 +1,68 @@
+//! The values of attributes from the points of a geometry.
+
+ghost use Rattle.std.specs.Prelude.{◌≡◌, ◌+◌, ◌++◌, ◌≤◌, ℤ, List, take, drop, length, IfOk, vec_len, vec_capacity};
+ghost use Rattle.std.specs.List.{flat_map};
+ghost use Rattle.mesh_model.specs.Head.{width_of};
+ghost use Rattle.mesh_model.specs.Contents.{heads_in, points_in};
+ghost use Rattle.predict.specs.Schemes.{code_of};
+ghost use Rattle.drc_container.specs.writing.Written.{values_of};
+
+use crate::contents::{heads_in, point, point_count};
+use attr_section::Values;
+use drc_base::{Memory, Sequence};
+use mesh_model::Geometry;
+use predict::Prediction;
+use std::alloc::Global;
+
+/// The coded values of each attribute with this prediction: its integers, point after point.
+pub fn values_of(alloc: Global, g: &Geometry, predict: Prediction) -> Result<Vec<Values>, Memory>
+    ensures { IfOk result (λ v. v.items ≡ values_of g.now (code_of predict)) }
+{
+    let mut values = Vec::new(alloc);
+    let mut start: usize = 0;
+    for head in heads_in(g) {
+        let comps = head.comps as usize;
+        let column = column_of(alloc, g, start, comps)?;
+        values.push(predicted_column(predict, column))?;
+        start += comps;
+    }
+    Ok(values)
+}
+
+/// The coded values of an attribute with this prediction, from its integers.
+pub fn predicted_column(predict: Prediction, column: Vec<i32>) -> Values
+    ensures { result ≡ record { values = column.items; predict = code_of predict; at = 0 } }
+{
+    Values {
+        values: Sequence::from_vec(column),
+        predict: predict.code(),
+        at: 0,
+    }
+}
+
+/// The `comps` integers of each point from integer `start` on, point after point.
+fn column_of(alloc: Global, g: &Geometry, start: usize, comps: usize) -> Result<Vec<i32>, Memory>
+    requires { start + comps ≤ width_of (heads_in g.now) }
+    ensures { IfOk result (λ v. v.items ≡ flat_map (λ (row : List ℤ). take comps (drop start row)) (points_in g.now)) }
+{
+    let count = point_count(g);
+    let mut column = Vec::with_capacity(alloc, count as usize * comps)?;
+    for i in 0..count {
+        let row = point(g, i);
+        put_piece(&mut column, &row[start..start + comps]);
+    }
+    Ok(column)
+}
+
+/// Appends integers, where there is room.
+#[inline(always)]
+pub fn put_piece(column: &mut Vec<i32>, piece: &[i32])
+    requires room { vec_len column.old + length piece.now ≤ vec_capacity column.old }
+    ensures items { column.new.items ≡ column.old.items ++ piece.now }
+    ensures len { vec_len column.new ≡ vec_len column.old + length piece.now }
+    ensures capacity { vec_capacity column.new ≡ vec_capacity column.old }
+{
+    for x in piece {
+        column.push_reserved(*x);
+    }
+}

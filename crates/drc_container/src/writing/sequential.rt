@@ -1,0 +1,164 @@
+//! Writing a sequential stream.
+
+ghost use Rattle.drc_base.specs.Profile.{profile};
+ghost use Rattle.std.specs.Prelude.{◌≡◌, ◌≤◌, ◌<◌, ◌++◌, Ok, IfOk, OnOk, length};
+ghost use Rattle.drc_bits.specs.Bits.{low_bytes};
+ghost use Rattle.drc_bits.specs.Spells.{Spells};
+ghost use Rattle.drc_base.specs.declared.limits.TheConstants.{MAX_POINTS};
+ghost use Rattle.mesh_model.specs.declared.geometries.Geometry.TheVariants as geometry;
+ghost use Rattle.mesh_model.specs.Parts.{ArePoints};
+ghost use Rattle.mesh_model.specs.Renumbering.{plain};
+ghost use Rattle.mesh_model.specs.SameLaws.{count_of};
+ghost use Rattle.mesh_model.specs.Contents.{heads_in, points_in};
+ghost use Rattle.seq_section.specs.Indices.{indices_at};
+ghost use Rattle.drc_container.specs.choice.Choice.{chosen_code, index_of, is_packed};
+ghost use Rattle.drc_container.specs.Header.{cloud_points_at};
+ghost use Rattle.drc_container.specs.writing.Written.{geometry_type, sequential_connectivity_bytes, sequential_attributes_bytes, decoder_of, values_of, stream_bytes};
+ghost use Rattle.drc_container.specs.writing.Encoded.{CanCode, ConnectivitySpelled, AttributesSpelled, Means};
+ghost use Rattle.drc_container.specs.writing.Layout.{layout_of, layout_chosen};
+
+use crate::choice::choices::Choice;
+use crate::choice::choosing::packs;
+use crate::contents::{heads_in, is_mesh, point_count};
+use crate::headers::{CLOUD, MESH, SEQUENTIAL, put_header};
+use attr_section::{DecoderHead, Values, write_decoder, write_heads};
+use drc_base::{MAX_POINTS, Memory, Sequence};
+use mesh_model::{CornerMesh, Geometry, Head};
+use seq_section::write_indices;
+use std::alloc::Global;
+
+/// The geometry type of a geometry.
+fn geometry_type(g: &Geometry) -> u8
+    ensures { result ≡ geometry_type g.now }
+{
+    if is_mesh(g) { MESH } else { CLOUD }
+}
+
+/// Appends the indices of a mesh.
+fn put_mesh_connectivity(
+    alloc: Global,
+    out: &mut Vec<u8>,
+    mesh: &CornerMesh,
+    packed: bool,
+) -> Result<(), Memory>
+    ensures bytes { OnOk result (out.new.items ≡ out.old.items ++ sequential_connectivity_bytes packed (geometry.Mesh mesh.now)) }
+    ensures again { OnOk result (ConnectivitySpelled packed (geometry.Mesh mesh.now)) }
+{
+    write_indices(alloc, out, mesh.faces(), mesh.point_count(), packed)
+}
+
+/// Appends the number of points of a cloud.
+fn put_cloud_points(out: &mut Vec<u8>, points: u32) -> Result<(), Memory>
+    requires { points ≤ MAX_POINTS }
+    ensures bytes { OnOk result (out.new.items ≡ out.old.items ++ low_bytes 4 points) }
+    ensures again { OnOk result (Spells (cloud_points_at profile) (low_bytes 4 points) points) }
+{
+    out.extend_from_slice(&points.to_le_bytes())?;
+    Ok(())
+}
+
+/// Appends the connectivity of a geometry.
+fn put_connectivity(
+    alloc: Global,
+    out: &mut Vec<u8>,
+    g: &Geometry,
+    packed: bool,
+) -> Result<(), Memory>
+    ensures bytes { OnOk result (out.new.items ≡ out.old.items ++ sequential_connectivity_bytes packed g.now) }
+    ensures again { OnOk result (ConnectivitySpelled packed g.now) }
+{
+    match g {
+        Geometry::Mesh(mesh) => put_mesh_connectivity(alloc, out, mesh, packed),
+        Geometry::Cloud(cloud) => put_cloud_points(out, cloud.point_count()),
+    }
+}
+
+/// Equal heads.
+pub fn copies_of(alloc: Global, heads: &[Head]) -> Result<Vec<Head>, Memory>
+    ensures { IfOk result (λ v. v.items ≡ heads.now) }
+{
+    let mut copies = Vec::new(alloc);
+    for head in heads {
+        copies.push(head.copy(alloc)?)?;
+    }
+    Ok(copies)
+}
+
+/// The one decoder of all attributes.
+fn decoder_of(alloc: Global, g: &Geometry) -> Result<DecoderHead, Memory>
+    ensures { IfOk result (λ d. d ≡ decoder_of g.now) }
+{
+    let heads = copies_of(alloc, heads_in(g))?;
+    Ok(DecoderHead {
+        data_id: None,
+        corner: false,
+        degree: false,
+        heads: Sequence::from_vec(heads),
+    })
+}
+
+/// Appends the attributes: their heads, and then their values, which are freed.
+#[tactic(auto, unfolding(crate::specs::writing::Written::sequential_attributes_bytes))]
+fn put_attributes(
+    alloc: Global,
+    out: &mut Vec<u8>,
+    g: &Geometry,
+    choice: &Choice,
+    values: Vec<Values>,
+) -> Result<(), Memory>
+    requires can { CanCode g.now choice.now }
+    requires sound { ArePoints (heads_in g.now) (points_in g.now) }
+    requires values { values.items ≡ values_of g.now (chosen_code g.now choice.now) }
+    ensures bytes { OnOk result (out.new.items ≡ out.old.items ++ sequential_attributes_bytes choice.now.plain_values g.now (chosen_code g.now choice.now)) }
+    ensures again { OnOk result (AttributesSpelled choice.now.plain_values g.now (chosen_code g.now choice.now)) }
+{
+    let mut decoders = Vec::new(alloc);
+    decoders.push(decoder_of(alloc, g)?)?;
+    write_heads(out, decoders.as_slice(), false)?;
+    let plain = choice.plain_values;
+    write_decoder(alloc, out, &decoders[0], values.as_slice(), plain, None)?;
+    Ok(())
+}
+
+/// Appends the stream, each part of which is read back.
+#[tactic(auto, unfolding(crate::specs::writing::Written::stream_bytes, crate::specs::writing::Written::header_bytes))]
+fn put_stream(
+    alloc: Global,
+    out: &mut Vec<u8>,
+    g: &Geometry,
+    choice: &Choice,
+    values: Vec<Values>,
+) -> Result<(), Memory>
+    requires can { CanCode g.now choice.now }
+    requires sound { ArePoints (heads_in g.now) (points_in g.now) }
+    requires values { values.items ≡ values_of g.now (chosen_code g.now choice.now) }
+    ensures bytes { OnOk result (out.new.items ≡ out.old.items ++ stream_bytes g.now choice.now) }
+    ensures connectivity { OnOk result (ConnectivitySpelled (is_packed (index_of choice.now)) g.now) }
+    ensures attributes { OnOk result (AttributesSpelled choice.now.plain_values g.now (chosen_code g.now choice.now)) }
+{
+    put_header(out, geometry_type(g), SEQUENTIAL)?;
+    put_connectivity(alloc, out, g, packs(choice))?;
+    put_attributes(alloc, out, g, choice, values)?;
+    Ok(())
+}
+
+/// The sequential stream of a geometry with these values, which are freed. It means the geometry, and is
+/// coded as chosen.
+pub fn write_stream(
+    alloc: Global,
+    g: &Geometry,
+    choice: &Choice,
+    values: Vec<Values>,
+) -> Result<Vec<u8>, Memory>
+    requires can { CanCode g.now choice.now }
+    requires values { values.items ≡ values_of g.now (chosen_code g.now choice.now) }
+    ensures bytes { IfOk result (λ v. v.items ≡ stream_bytes g.now choice.now) }
+    ensures means { IfOk result (λ v. Means g.now choice.now v.items (plain (count_of g.now))) }
+    ensures layout { IfOk result (λ v. layout_of v.items ≡ Ok (layout_chosen g.now choice.now)) }
+{
+    // For the prover alone: the call states what holds of every geometry.
+    let _count = point_count(g);
+    let mut out = Vec::new(alloc);
+    put_stream(alloc, &mut out, g, choice, values)?;
+    Ok(out)
+}

@@ -1,5 +1,0 @@
--- The call counts in the ledger of its blank.
-use Rattle.pairing.proofs.tests.has_table.Given as goal
-
-abbrev pub ghosts-has_entries : goal.ghosts-has_entries
-ghosts-has_entries g a = record { name = a.blank.name; parts = a.blank.parts }

@@ -1,5 +1,0 @@
--- The table's calls are counted in the ledger of their own blank.
-use Rattle.predict.proofs.surface_tests.one_parallelogram_is_kept_where_it_comes_before.Given as goal
-
-abbrev pub ghosts-table_of : goal.ghosts-table_of
-ghosts-table_of g a = record { name = a.blank.name; parts = a.blank.parts }
