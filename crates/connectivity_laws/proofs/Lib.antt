@@ -2,3 +2,4 @@ pub mod SmallSymbols
 pub mod ReadIndices
 pub mod CodedTraces
 pub mod ReadConnectivity
+mod Examples
