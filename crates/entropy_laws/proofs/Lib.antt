@@ -1,0 +1,3 @@
+pub mod CodedLengths
+pub mod BlockLengths
+pub mod Again
