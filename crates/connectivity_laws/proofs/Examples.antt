@@ -1,5 +1,5 @@
 -- Sections that the laws are about: of one face, whose bytes are written out.
-use Rattle.std.proofs.Common.{◌≡◌, ℕ, ◌<◌, ◌≤◌, ◌+◌, ◌^◌, Bool, true, false, List, [], ◌∷◌, length, reverse, get_or, count_by, None, Result, Ok, Err, nat_le, refl, sym, ap, subst, arith, le-leb}
+use Rattle.std.proofs.Common.{◌≡◌, ℕ, ◌<◌, ◌≤◌, ◌^◌, false, List, [], ◌∷◌, length, get_or, None, Result, Ok, Err, refl, sym, ap, subst, arith, le-leb}
 use Rattle.std.specs.List.{All}
 use Rattle.std.proofs.lemmas.List.Elements.{All-nil, All-cons}
 use Rattle.drc_base.specs.declared.faults.Fault.{Fault}
@@ -12,15 +12,14 @@ use Rattle.rans_binary.specs.Blocks.{block}
 use Rattle.corner_table.specs.Sides.{unglued}
 use Rattle.corner_table.specs.Fans.{corners_of, leftmost, walks_left, walks_right}
 use Rattle.corner_table.specs.declared.symbols.Symbol.TheVariants.{E}
-use Rattle.eb_rebuild.specs.Machine.{State, start, step, note_events, take_symbols, close, close_all, finish, first_degenerate, rebuild}
+use Rattle.eb_rebuild.specs.Machine.{State, step, note_events, take_symbols, close, close_all, finish, first_degenerate, rebuild}
 use Rattle.eb_rebuild.specs.Rebuilding.{IsEventOf}
-use Rattle.eb_rebuild.specs.Shown.{is_split}
 use Rattle.eb_trace.specs.declared.tracing.Traced.{Traced}
-use Rattle.eb_trace.specs.Writable.{AsManyWait, IsReadBack, IsWritable}
+use Rattle.eb_trace.specs.Writable.{AsManyWait, IsWritable}
 use Rattle.eb_section.specs.Written.{opening_bytes, numbers_bytes, events_bytes, standard_bytes, standard_behind_bytes, connectivity_bytes}
 use Rattle.eb_section.specs.ReadAgain.{IsReadAgain}
 use Rattle.seq_section.specs.Indices.{indices_at, indices_bytes, IsFaceBelow}
-use Rattle.connectivity_laws.specs.Laws.{IndicesAreRead, ConnectivityIsRead}
+use Rattle.connectivity_laws.proofs.Again.{indices-again, connectivity-again}
 
 -- ---- indices
 
@@ -37,9 +36,9 @@ unfolding indices_bytes spelling
 plain_bytes = refl
 
 -- each index by itself: one face, three points, the method, and the indices
-plain_face : IndicesAreRead → Spells (indices_at profile) (1 ∷ 3 ∷ 1 ∷ 0 ∷ 1 ∷ 2 ∷ []) (record { faces = triangle; points = 3 })
-plain_face law =
-    subst (λ bytes. Spells (indices_at profile) bytes (record { faces = triangle; points = 3 })) plain_bytes (law false triangle 3 (omega arith) (omega arith) triangle-below)
+plain_face : Spells (indices_at profile) (1 ∷ 3 ∷ 1 ∷ 0 ∷ 1 ∷ 2 ∷ []) (record { faces = triangle; points = 3 })
+plain_face =
+    subst (λ bytes. Spells (indices_at profile) bytes (record { faces = triangle; points = 3 })) plain_bytes (indices-again false triangle 3 (omega arith) (omega arith) triangle-below)
 
 -- ---- a trace
 
@@ -82,7 +81,7 @@ unfolding connectivity_bytes opening_bytes events_bytes numbers_bytes standard_b
 face_bytes = refl
 
 -- the section of one face, standard
-face_section : ConnectivityIsRead → IsReadAgain false 1 face_trace [] (0 ∷ 3 ∷ 1 ∷ 0 ∷ 1 ∷ 0 ∷ 0 ∷ 1 ∷ 7 ∷ 255 ∷ 1 ∷ 17 ∷ [])
-face_section law =
+face_section : IsReadAgain false 1 face_trace [] (0 ∷ 3 ∷ 1 ∷ 0 ∷ 1 ∷ 0 ∷ 0 ∷ 1 ∷ 7 ∷ 255 ∷ 1 ∷ 17 ∷ [])
+face_section =
     subst (λ bytes. IsReadAgain false 1 face_trace [] bytes) face_bytes
-    (law false 1 face_trace [] face-writable (omega arith) (omega arith) (omega arith) (All-nil (λ bits. length bits < 2 ^ 31)))
+    (connectivity-again false 1 face_trace [] face-writable (omega arith) (omega arith) (omega arith) (All-nil (λ bits. length bits < 2 ^ 31)))
