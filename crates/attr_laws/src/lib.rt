@@ -3,3 +3,5 @@
 #![tactic(auto)]
 
 mod laws;
+
+pub use laws::{decoders_are_read, heads_are_read, parts_are_read, values_are_read};
