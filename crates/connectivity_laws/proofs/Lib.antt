@@ -1,0 +1,4 @@
+pub mod SmallSymbols
+pub mod ReadIndices
+pub mod CodedTraces
+pub mod ReadConnectivity

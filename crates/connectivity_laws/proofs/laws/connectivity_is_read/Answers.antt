@@ -1,0 +1,5 @@
+use Rattle.connectivity_laws.proofs.ReadConnectivity.{connectivity-again}
+use Rattle.connectivity_laws.proofs.laws.connectivity_is_read.Goals as goal
+
+pub returns : goal.returns
+returns c = connectivity-again ? ?

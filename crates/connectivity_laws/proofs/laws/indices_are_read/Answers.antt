@@ -1,0 +1,5 @@
+use Rattle.connectivity_laws.proofs.ReadIndices.{indices-again}
+use Rattle.connectivity_laws.proofs.laws.indices_are_read.Goals as goal
+
+pub returns : goal.returns
+returns c = indices-again ?
