@@ -3,3 +3,5 @@
 #![tactic(auto)]
 
 mod laws;
+
+pub use laws::what_is_written_means_the_geometry;
