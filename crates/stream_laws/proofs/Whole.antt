@@ -1,5 +1,6 @@
 -- What is written of a geometry that isn't refused means the geometry and is coded as was chosen.
-use Rattle.std.proofs.Common.{◌≡◌, true, false, None, Ok, inl, inr, refl, sym, ◌∙◌, ap, subst}
+use Rattle.std.proofs.Common.{◌≡◌, ℕ, Bool, true, false, List, None, Ok, inl, inr, refl, sym, ap, subst}
+use Rattle.std.specs.Prelude.{if◌then◌else◌}
 use Rattle.std.specs.List.{All}
 use Rattle.std.proofs.lemmas.Bool.{cases_Bool}
 use Rattle.mesh_model.specs.declared.geometries.Geometry.{Geometry}
@@ -7,13 +8,18 @@ use Rattle.mesh_model.specs.declared.geometries.Geometry.TheVariants.{Mesh, Clou
 use Rattle.mesh_model.specs.Contents.{heads_in}
 use Rattle.mesh_model.specs.IsGeometry.{IsGeometry}
 use Rattle.mesh_model.specs.Parts.{MeshParts, IsMesh}
+use Rattle.mesh_model.specs.Renumbering.{plain}
+use Rattle.mesh_model.specs.Same.{Rows}
+use Rattle.mesh_model.specs.SameLaws.{count_of}
 use Rattle.attr_laws.specs.Laws.{HeadFits, HeadsAreRead, DecoderValuesAreRead}
 use Rattle.connectivity_laws.specs.Laws.{IndicesAreRead, ConnectivityIsRead}
 use Rattle.drc_container.specs.declared.choice.codings.Coding.{Coding}
 use Rattle.drc_container.specs.declared.choice.choices.Choice.{Choice}
 use Rattle.drc_container.specs.choice.Choice.{method_of, is_sequential, index_of, is_packed}
 use Rattle.drc_container.specs.choice.Refused.{refused}
-use Rattle.drc_container.specs.writing.Chosen.{coding_of, written}
+use Rattle.drc_container.specs.writing.Written.{stream_bytes}
+use Rattle.drc_container.specs.writing.WrittenOnSurface.{traced, edgebreaker_bytes}
+use Rattle.drc_container.specs.writing.Chosen.{mesh_in, coding_of, written}
 use Rattle.drc_container.specs.writing.Encoded.{CanCodeSurface, SurfaceSpelled, Means}
 use Rattle.drc_container.specs.writing.Layout.{layout_of, layout_chosen}
 use Rattle.drc_container.proofs.lemmas.choice.FirstRefusals.{cloud-sequential}
@@ -34,21 +40,28 @@ pub record PartsAreRead : Type 0 where
   pub heads : HeadsAreRead
   pub values : DecoderValuesAreRead
 
--- what is wanted of a geometry and a choice
-abbrev pub IsWritten : Geometry → Choice → Type 0
-IsWritten g choice = Means g choice (written g choice).0 (written g choice).1 × (layout_of (written g choice).0 ≡ Ok (layout_chosen g choice))
+-- bytes and rows are what they should be of a geometry and a choice
+abbrev IsWritten : Geometry → Choice → List ℕ × Rows → Type 0
+IsWritten g choice w = Means g choice w.0 w.1 × (layout_of w.0 ≡ Ok (layout_chosen g choice))
+
+-- what is written by either method
+either : (g : Geometry) (choice : Choice) (b : Bool) → is_sequential (method_of g choice) ≡ b
+    → written g choice ≡ (if b then (stream_bytes g choice, plain (count_of g)) else (edgebreaker_bytes (coding_of g choice) (mesh_in g), (traced (mesh_in g)).order))
+either g choice b is =
+    ap (λ s. if s then (stream_bytes g choice, plain (count_of g)) else (edgebreaker_bytes (coding_of g choice) (mesh_in g), (traced (mesh_in g)).order)) is
 
 -- ---- by the sequential method
 
 in-order : PartsAreRead → (g : Geometry) (choice : Choice) → IsGeometry g → All HeadFits (heads_in g) → refused g choice ≡ None
-    → is_sequential (method_of g choice) ≡ true → IsWritten g choice
+    → is_sequential (method_of g choice) ≡ true → IsWritten g choice (written g choice)
 in-order parts g choice is fit none on =
     let are = points-are g is in
     let can = can-code g choice are none on in
     let connectivity = connectivity-spelled parts.indices (is_packed (index_of choice)) g is in
     let attributes = attributes-spelled parts.heads parts.values g choice is fit can in
     let each = (columns_of_geometry g choice can are).each_head in
-    rw on (means g choice can.sequential is connectivity attributes each, layout-written g choice can is connectivity attributes each)
+    subst (IsWritten g choice) (sym (either g choice true on))
+    (means g choice can.sequential is connectivity attributes each, layout-written g choice can is connectivity attributes each)
 
 -- ---- by Edgebreaker
 
@@ -60,15 +73,16 @@ surface-spelled parts coding m is fit can = record {
 }
 
 on-surface : PartsAreRead → (m : MeshParts) (choice : Choice) → IsMesh m → All HeadFits m.heads → refused (Mesh m) choice ≡ None
-    → is_sequential (method_of (Mesh m) choice) ≡ false → IsWritten (Mesh m) choice
+    → is_sequential (method_of (Mesh m) choice) ≡ false → IsWritten (Mesh m) choice (written (Mesh m) choice)
 on-surface parts m choice is fit none off =
     let can = can-code_surface m choice is none off in
     let spelled = surface-spelled parts (coding_of (Mesh m) choice) m is fit can in
-    rw off (surface-means m choice off is can spelled, surface-laid_out m choice off is can spelled)
+    subst (IsWritten (Mesh m) choice) (sym (either (Mesh m) choice false off))
+    (surface-means m choice off is can spelled, surface-laid_out m choice off is can spelled)
 
 -- ---- by either
 
-is-written : PartsAreRead → (g : Geometry) (choice : Choice) → IsGeometry g → All HeadFits (heads_in g) → refused g choice ≡ None → IsWritten g choice
+is-written : PartsAreRead → (g : Geometry) (choice : Choice) → IsGeometry g → All HeadFits (heads_in g) → refused g choice ≡ None → IsWritten g choice (written g choice)
 is-written parts (Mesh m) choice is fit none = elim (cases_Bool (is_sequential (method_of (Mesh m) choice))) [
   | inl on ↦ in-order parts (Mesh m) choice is fit none on
   | inr off ↦ on-surface parts m choice is fit none off
