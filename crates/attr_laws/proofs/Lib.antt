@@ -1,0 +1,5 @@
+pub mod Fitting
+pub mod Parts
+pub mod Heads
+pub mod Values
+pub mod Decoders

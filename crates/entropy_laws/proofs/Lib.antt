@@ -1,0 +1,4 @@
+pub mod CodedLengths
+pub mod BlockLengths
+pub mod Again
+mod Examples

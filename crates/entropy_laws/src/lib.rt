@@ -3,3 +3,5 @@
 #![tactic(auto)]
 
 mod laws;
+
+pub use laws::{bit_blocks_are_read, symbol_blocks_are_read, tables_are_read};

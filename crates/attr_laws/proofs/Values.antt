@@ -1,0 +1,62 @@
+-- The values of an attribute are read as what they were made of, by any prediction that they may have.
+use Rattle.std.proofs.Common.{◌≡◌, ℕ, ◌%◌, ◌<◌, ◌≤◌, Bool, true, false, ℤ, List, length, FitsSigned, inl, inr, sym, ap, ◌∙◌, Option, arith}
+use Rattle.std.specs.Int.{w32}
+use Rattle.std.specs.List.{All}
+use Rattle.std.proofs.lemmas.Bool.{cases_Bool}
+use Rattle.drc_base.specs.declared.limits.TheConstants.{MAX_VALUES}
+use Rattle.drc_bits.specs.Spells.{Spells}
+use Rattle.predict.specs.declared.schemes.Prediction.{Prediction}
+use Rattle.predict.specs.Schemes.{facts}
+use Rattle.predict.specs.Wrap.{Range}
+use Rattle.predict.specs.Restored.{corrections}
+use Rattle.predict.specs.Walked.{Walked}
+use Rattle.predict.specs.Surfaces.{surface_or}
+use Rattle.predict.specs.Foretold.{foretold, marks_of}
+use Rattle.predict.proofs.Foretold.{length-marks, marks_enough}
+use Rattle.predict.proofs.Restoring.{length-corrections, restored-corrections}
+use Rattle.attr_section.specs.Values.{corrected_at}
+use Rattle.attr_section.specs.Written.{range_of, corrected_bytes, CanPredict, HasFewFlags, PredictedSpelled}
+use Rattle.attr_section.proofs.SpelledFlags.{Spells-flag_lists, lists_short, lists_few, few_or}
+use Rattle.attr_section.proofs.SpelledIntegers.{range_of-bounds}
+use Rattle.attr_section.proofs.SpelledCorrections.{stands_there, Spells-flagged, Spells-corrected, Spells-uncorrected}
+use Rattle.attr_section.proofs.SpelledValues.{predicted_spelled}
+use Rattle.attr_laws.specs.Laws.{ValuesAreRead}
+use Rattle.attr_laws.proofs.Fitting.{fit_typed, fit_ends, fit_corrections}
+use Rattle.attr_laws.proofs.Parts.{flags_read, integers_read, ranges_read}
+
+-- values by a prediction that corrects
+corrected_read : (plain : Bool) (w : Option Walked) (q : Prediction) (comps : ℕ) (values : List ℤ) → (facts q).corrects ≡ true
+    → 0 < comps → length values % comps ≡ 0 → length values ≤ MAX_VALUES → All (FitsSigned w32) values → CanPredict w comps values q → HasFewFlags (surface_or w) → (at : ℕ)
+    → Spells (corrected_at at (surface_or w) q comps (length values)) (corrected_bytes plain (surface_or w) q comps values) values
+corrected_read plain w q comps values corrects some whole few fit can few_flags at =
+    let s : Walked = surface_or w in
+    let r : Range = range_of values in
+    let lists : List (List Bool) = marks_of q s comps values in
+    let f : List ℤ → ℤ = foretold q s comps lists in
+    let cs : List ℤ = corrections f r values in
+    let wraps = can.wrap corrects in
+    let within = range_of-bounds values in
+    let long : length cs ≡ length values = length-corrections f r values in
+    let short = lists_short q w comps values some few can.stand in
+    Spells-flagged plain at s q comps lists values
+    (integers_read plain comps cs some (ap (λ n. n % comps) long ∙ whole) (omega (arith, long, few)) (fit_corrections f r values wraps within))
+    (Spells-flag_lists (facts q).flag_lists s lists (length-marks q s comps values) (λ k d below. flags_read _ (short k d below)) (lists_few q s comps values few_flags))
+    (ranges_read r wraps (fit_ends values fit)) (marks_enough q s comps values) (restored-corrections f r values wraps within fit)
+
+-- values by any prediction
+predicted_read : (plain : Bool) (w : Option Walked) (q : Prediction) (comps : ℕ) (values : List ℤ)
+    → 0 < comps → length values % comps ≡ 0 → length values ≤ MAX_VALUES → All (FitsSigned w32) values → CanPredict w comps values q → PredictedSpelled plain w q comps values
+predicted_read plain w q comps values some whole few fit can = elim (cases_Bool (facts q).corrects) [
+  | inl corrects ↦ record {
+    again = λ flags at. Spells-corrected plain at w q comps values corrects (stands_there q w comps (length values) can.stand)
+        (corrected_read plain w q comps values corrects some whole few fit can (few_or w flags) at);
+  }
+  | inr none ↦ record { again = λ flags at. Spells-uncorrected plain at w q comps values none (integers_read plain comps values some whole few fit) }
+]
+
+-- the values of an attribute
+pub values_read : ValuesAreRead
+values_read plain w h v pass =
+    let (q, told, can) = pass.predicted in
+    predicted_spelled plain w h v q (sym told)
+    (predicted_read plain w q h.comps v.values pass.comps pass.whole pass.few (fit_typed h.dtype v.values pass.typed) can) pass.typed
