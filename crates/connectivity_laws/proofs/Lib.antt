@@ -1,4 +1,4 @@
 pub mod SmallSymbols
-pub mod ReadIndices
-pub mod CodedTraces
-pub mod ReadConnectivity
+pub mod SmallLists
+pub mod Again
+mod Examples

@@ -1,24 +1,16 @@
--- The blocks of a written trace are each read as what they were made of, where blocks of symbols and of bits are.
-use Rattle.std.proofs.Common.{◌≡◌, ℕ, ◌^◌, ◌<◌, ◌≤◌, ◌==◌, Bool, true, false, cond, List, [], ◌∷◌, ◌++◌, length, map, reverse, Result, Ok, Err, refl, sym, subst, arith}
+-- The numbers in the lists of contexts have 32 bits.
+use Rattle.std.proofs.Common.{ℕ, ◌^◌, ◌<◌, ◌==◌, Bool, true, false, cond, List, [], ◌∷◌, ◌++◌, length, map, reverse, Result, Ok, Err, sym, subst, arith}
 use Rattle.std.specs.List.{All, filter, range_with_len}
 use Rattle.std.proofs.lemmas.List.{reverse-append}
 use Rattle.std.proofs.lemmas.List.Elements.{All-nil, All-cons, All-head, All-tail, All-append, All-map, All-filter}
-use Rattle.drc_base.specs.declared.limits.TheConstants.{MAX_FACES, MAX_VALUES}
 use Rattle.drc_base.specs.declared.faults.Fault.{Fault}
 use Rattle.corner_table.specs.declared.symbols.Symbol.{Symbol}
 use Rattle.corner_table.specs.declared.symbols.Symbol.TheVariants.{C, S, L, R, E}
 use Rattle.corner_table.specs.declared.symbols.Event.{Event}
-use Rattle.entropy_laws.specs.Laws.{SymbolBlocksAreRead, BitBlocksAreRead}
 use Rattle.eb_rebuild.specs.Machine.{State, start, step}
-use Rattle.eb_trace.specs.declared.tracing.Traced.{Traced}
-use Rattle.eb_trace.specs.Writable.{IsWritable}
 use Rattle.eb_valence.specs.declared.context_lists.TheConstants.{CONTEXTS}
 use Rattle.eb_valence.specs.Numbers.{symbol_number}
 use Rattle.eb_valence.specs.Contexts.{CodedSymbol, context, coded, context_coded_at, context_list, context_lists}
-use Rattle.eb_section.specs.CodedBlocks.{IsSymbolBlock, AreCoded}
-use Rattle.eb_section.proofs.WrittenBlocks.{short-lists}
-
--- ---- numbers of symbols in the lists of contexts
 
 -- what is coded has a number of 32 bits
 abbrev IsSmall : CodedSymbol → Type 0
@@ -60,23 +52,8 @@ small-list codes k each =
     All-reverse (λ v. v < 2 ^ 32) (map (λ c. c.number) chosen)
     (All-map (λ v. v < 2 ^ 32) (λ (c : CodedSymbol). c.number) chosen (All-filter (λ c. c.context == k) IsSmall codes each))
 
-small-lists : (symbols : List Symbol) (events : List Event) → All (λ numbers. All (λ v. v < 2 ^ 32) numbers) (context_lists symbols events)
+pub small-lists : (symbols : List Symbol) (events : List Event) → All (λ numbers. All (λ v. v < 2 ^ 32) numbers) (context_lists symbols events)
 small-lists symbols events =
     let codes : List CodedSymbol = coded (length symbols) (reverse symbols) (start (reverse events)) in
     All-map (λ numbers. All (λ v. v < 2 ^ 32) numbers) (context_list codes) (range_with_len 0 CONTEXTS)
     (λ k d below. small-list codes _ (small-coded (length symbols) (reverse symbols) (start (reverse events))))
-
--- ---- blocks
-
-contexts-coded : SymbolBlocksAreRead → (symbols : List Symbol) (events : List Event) → length symbols ≤ MAX_FACES → All IsSymbolBlock (context_lists symbols events)
-contexts-coded blocks symbols events few = λ k d below.
-    blocks _ 1 (omega arith) (omega arith) (omega (arith, short-lists symbols events k d below, few)) (small-lists symbols events k d below)
-
-pub trace-coded : SymbolBlocksAreRead → BitBlocksAreRead → (valence : Bool) (faces : ℕ) (t : Traced) (seams : List (List Bool))
-    → IsWritable faces t.vertices t.symbols t.events t.starts → faces ≤ MAX_FACES → All (λ bits. length bits < 2 ^ 31) seams → AreCoded valence t seams
-trace-coded blocks bit_blocks valence faces t seams w few short =
-    record {
-      starts = bit_blocks t.starts (omega (arith, w.few_starts, w.few_symbols, few));
-      seams = λ k d below. bit_blocks _ (short k d below);
-      contexts = λ is. contexts-coded blocks t.symbols t.events (omega (arith, w.few_symbols, few));
-    }
