@@ -1,9 +1,8 @@
 -- The connectivity of a mesh that is written by Edgebreaker is what its writer needs: the trace is writable, and the lists of seam bits
 -- are few and short.
-use Rattle.std.proofs.Common.{◌≡◌, ℕ, ◌+◌, ◌-◌, ◌<◌, ◌≤◌, ◌^◌, Bool, List, length, get_or, None, refl, sym, ◌∙◌, ap, subst, arith}
+use Rattle.std.proofs.Common.{◌≡◌, ℕ, ◌+◌, ◌-◌, ◌<◌, ◌≤◌, ◌^◌, Bool, List, length, get_or, None, refl, ap, arith}
 use Rattle.std.specs.List.{All}
 use Rattle.std.proofs.lemmas.List.{length-reverse}
-use Rattle.std.proofs.lemmas.List.Elements.{All-from_get_or}
 use Rattle.std.proofs.lemmas.List.FromFn.{length-map-range_with_len, get_or-map-range_with_len}
 use Rattle.drc_base.specs.declared.limits.TheConstants.{MAX_ATTRIBUTES, MAX_POINTS}
 use Rattle.mesh_model.specs.Parts.{MeshParts, IsMesh}
@@ -65,8 +64,8 @@ lists-short d is k e below =
 
 -- ---- both
 
-pub connectivity-again : ConnectivityIsRead → (coding : Coding) (m : MeshParts) → IsMesh m → CanCodeSurface coding m → ConnectivityReadAgain coding.valence m
-connectivity-again read coding m is can =
+pub surface_connectivity-again : ConnectivityIsRead → (coding : Coding) (m : MeshParts) → IsMesh m → CanCodeSurface coding m → ConnectivityReadAgain coding.valence m
+surface_connectivity-again read coding m is can =
     let d = decoded m in
     let D = decoded-keeps m is can.proper in
     let few : (traced m).vertices ≤ MAX_POINTS = omega (arith, can.few_vertices, (traced-trace m).vertices) in

@@ -1,8 +1,7 @@
 -- The surfaces that the values of a mesh's attributes stand on, as they are walked: no list of flags over one has more of them than there
 -- are corners.
-use Rattle.std.proofs.Common.{◌≡◌, ℕ, ◌*◌, length, get_or, ◌∙◌, ap}
+use Rattle.std.proofs.Common.{ℕ, length, get_or, ◌∙◌, ap}
 use Rattle.corner_table.specs.Sides.{side_at, IsGluing}
-use Rattle.walk_order.specs.OfSurface.{fan_labels}
 use Rattle.walk_order.proofs.Labels.{surface_is_labelled}
 use Rattle.predict.specs.Walked.{IsOver}
 use Rattle.predict.specs.Laws.{AreApart}

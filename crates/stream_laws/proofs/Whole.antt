@@ -12,7 +12,10 @@ use Rattle.mesh_model.specs.Renumbering.{plain}
 use Rattle.mesh_model.specs.Same.{Rows}
 use Rattle.mesh_model.specs.SameLaws.{count_of}
 use Rattle.attr_laws.specs.Laws.{HeadFits, HeadsAreRead, DecoderValuesAreRead}
+use Rattle.attr_laws.proofs.Heads.{heads_read}
+use Rattle.attr_laws.proofs.Decoders.{decoder_values_read}
 use Rattle.connectivity_laws.specs.Laws.{IndicesAreRead, ConnectivityIsRead}
+use Rattle.connectivity_laws.proofs.Again.{indices-again, connectivity-again}
 use Rattle.drc_container.specs.declared.choice.codings.Coding.{Coding}
 use Rattle.drc_container.specs.declared.choice.choices.Choice.{Choice}
 use Rattle.drc_container.specs.choice.Choice.{method_of, is_sequential, index_of, is_packed}
@@ -29,16 +32,19 @@ use Rattle.drc_container.proofs.lemmas.writing.Layouts.{layout-written}
 use Rattle.drc_container.proofs.lemmas.writing.SurfaceMeans.{surface-means, surface-laid_out}
 use Rattle.stream_laws.specs.Laws.{WrittenMeans, WrittenIsLaidOut}
 use Rattle.stream_laws.proofs.Accepted.{early-none, can-code, can-code_surface}
-use Rattle.stream_laws.proofs.Connected.{connectivity-again}
+use Rattle.stream_laws.proofs.Connected.{surface_connectivity-again}
 use Rattle.stream_laws.proofs.InOrder.{points-are, connectivity-spelled, attributes-spelled}
 use Rattle.stream_laws.proofs.OnSurface.{surface_heads-again, surface_values-again}
 
 -- what the laws of the parts say
-pub record PartsAreRead : Type 0 where
+record PartsAreRead : Type 0 where
   pub indices : IndicesAreRead
   pub connectivity : ConnectivityIsRead
   pub heads : HeadsAreRead
   pub values : DecoderValuesAreRead
+
+parts-read : PartsAreRead
+parts-read = record { indices = indices-again; connectivity = connectivity-again; heads = heads_read; values = decoder_values_read }
 
 -- bytes and rows are what they should be of a geometry and a choice
 abbrev IsWritten : Geometry → Choice → List ℕ × Rows → Type 0
@@ -67,7 +73,7 @@ in-order parts g choice is fit none on =
 
 surface-spelled : PartsAreRead → (coding : Coding) (m : MeshParts) → IsMesh m → All HeadFits m.heads → CanCodeSurface coding m → SurfaceSpelled coding m
 surface-spelled parts coding m is fit can = record {
-  connectivity = connectivity-again parts.connectivity coding m is can;
+  connectivity = surface_connectivity-again parts.connectivity coding m is can;
   heads = surface_heads-again parts.heads coding m is can fit;
   values = surface_values-again parts.values coding m is can fit;
 }
@@ -90,8 +96,8 @@ is-written parts (Mesh m) choice is fit none = elim (cases_Bool (is_sequential (
 is-written parts (Cloud c) choice is fit none =
     in-order parts (Cloud c) choice is fit none (cloud-sequential (Cloud c) choice (early-none (Cloud c) choice none) refl)
 
-pub written-means : PartsAreRead → WrittenMeans
-written-means parts g choice is fit none = (is-written parts g choice is fit none).0
+pub written-means : WrittenMeans
+written-means g choice is fit none = (is-written parts-read g choice is fit none).0
 
-pub written-laid_out : PartsAreRead → WrittenIsLaidOut
-written-laid_out parts g choice is fit none = (is-written parts g choice is fit none).1
+pub written-laid_out : WrittenIsLaidOut
+written-laid_out g choice is fit none = (is-written parts-read g choice is fit none).1
