@@ -1,6 +1,15 @@
 //! What holds of the definitions themselves.
 
+ghost use Rattle.std.specs.Prelude.{◌≡◌, None, Ok};
+ghost use Rattle.drc_container.specs.choice.Refused.{refused};
+ghost use Rattle.drc_container.specs.writing.Chosen.{written};
+ghost use Rattle.drc_container.specs.writing.Encoded.{Means};
+ghost use Rattle.drc_container.specs.writing.Layout.{layout_of, layout_chosen};
 ghost use Rattle.stream_laws.specs.Laws.{WrittenMeans, WrittenIsLaidOut};
+
+use crate::heads::geometry_fits;
+use drc_container::Choice;
+use mesh_model::Geometry;
 
 /// What is written of a geometry that isn't refused means the geometry, whatever the geometry and the
 /// choice: the stream has a meaning, whose geometry is the one that was written, by the rows beside the
@@ -12,3 +21,13 @@ pub fn what_is_written_means_the_geometry()
     ensures means { WrittenMeans }
     ensures layout { WrittenIsLaidOut }
 {}
+
+/// The same of a geometry in memory, which has all that the law asks of a geometry: where it isn't refused,
+/// what is written of it means it, and is coded as was chosen. This is the contract of a call that reads the
+/// heads, and does nothing.
+pub fn each_geometry_is_written(g: &Geometry, choice: &Choice)
+    ensures means { refused g.now choice.now ≡ None → Means g.now choice.now (written g.now choice.now).0 (written g.now choice.now).1 }
+    ensures layout { refused g.now choice.now ≡ None → layout_of (written g.now choice.now).0 ≡ Ok (layout_chosen g.now choice.now) }
+{
+    geometry_fits(g);
+}
