@@ -4,3 +4,4 @@ pub mod Walked
 pub mod OnSurface
 pub mod InOrder
 pub mod Whole
+mod Examples
