@@ -4,4 +4,5 @@ pub mod Walked
 pub mod OnSurface
 pub mod InOrder
 pub mod Whole
+pub mod bytes
 mod Examples

@@ -51,9 +51,9 @@ abbrev IsWritten : Geometry → Choice → List ℕ × Rows → Type 0
 IsWritten g choice w = Means g choice w.0 w.1 × (layout_of w.0 ≡ Ok (layout_chosen g choice))
 
 -- what is written by either method
-either : (g : Geometry) (choice : Choice) (b : Bool) → is_sequential (method_of g choice) ≡ b
+pub written-by : (g : Geometry) (choice : Choice) (b : Bool) → is_sequential (method_of g choice) ≡ b
     → written g choice ≡ (if b then (stream_bytes g choice, plain (count_of g)) else (edgebreaker_bytes (coding_of g choice) (mesh_in g), (traced (mesh_in g)).order))
-either g choice b is =
+written-by g choice b is =
     ap (λ s. if s then (stream_bytes g choice, plain (count_of g)) else (edgebreaker_bytes (coding_of g choice) (mesh_in g), (traced (mesh_in g)).order)) is
 
 -- ---- by the sequential method
@@ -66,7 +66,7 @@ in-order parts g choice is fit none on =
     let connectivity = connectivity-spelled parts.indices (is_packed (index_of choice)) g is in
     let attributes = attributes-spelled parts.heads parts.values g choice is fit can in
     let each = (columns_of_geometry g choice can are).each_head in
-    subst (IsWritten g choice) (sym (either g choice true on))
+    subst (IsWritten g choice) (sym (written-by g choice true on))
     (means g choice can.sequential is connectivity attributes each, layout-written g choice can is connectivity attributes each)
 
 -- ---- by Edgebreaker
@@ -83,7 +83,7 @@ on-surface : PartsAreRead → (m : MeshParts) (choice : Choice) → IsMesh m →
 on-surface parts m choice is fit none off =
     let can = can-code_surface m choice is none off in
     let spelled = surface-spelled parts (coding_of (Mesh m) choice) m is fit can in
-    subst (IsWritten (Mesh m) choice) (sym (either (Mesh m) choice false off))
+    subst (IsWritten (Mesh m) choice) (sym (written-by (Mesh m) choice false off))
     (surface-means m choice off is can spelled, surface-laid_out m choice off is can spelled)
 
 -- ---- by either

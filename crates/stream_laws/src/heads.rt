@@ -5,6 +5,7 @@ ghost use Rattle.attr_section.specs.Written.{QuantFits};
 ghost use Rattle.mesh_model.specs.Contents.{heads_in};
 ghost use Rattle.mesh_model.specs.IsGeometry.{IsGeometry};
 ghost use Rattle.attr_laws.specs.Laws.{HeadFits};
+ghost use Rattle.stream_laws.specs.Laws.{IsByte};
 
 use mesh_model::{Geometry, Head, Quant};
 
@@ -27,11 +28,13 @@ fn quant_fits(quant: &Quant)
     numbers_fit(quant.min.as_slice());
 }
 
-/// The numbers of a head have 32 bits.
+/// The numbers of a head have 32 bits, and its flag is a byte.
 fn head_fits(head: &Head)
-    ensures { HeadFits head.now }
+    ensures fits { HeadFits head.now }
+    ensures flag { IsByte head.now.normalized }
 {
     // For the prover alone, as above.
+    let _flag = head.normalized;
     let _id = head.id;
     match &head.quant {
         None => {}
@@ -39,9 +42,10 @@ fn head_fits(head: &Head)
     }
 }
 
-/// The numbers of heads have 32 bits.
+/// The numbers of heads have 32 bits, and their flags are bytes.
 fn heads_fit(heads: &[Head])
-    ensures { All HeadFits heads.now }
+    ensures fit { All HeadFits heads.now }
+    ensures flags { All (λ h. IsByte h.normalized) heads.now }
 {
     for head in heads {
         head_fits(head);
@@ -52,6 +56,7 @@ fn heads_fit(heads: &[Head])
 pub fn geometry_fits(g: &Geometry)
     ensures geometry { IsGeometry g.now }
     ensures heads { All HeadFits (heads_in g.now) }
+    ensures flags { All (λ h. IsByte h.normalized) (heads_in g.now) }
 {
     match g {
         Geometry::Mesh(mesh) => heads_fit(mesh.heads()),

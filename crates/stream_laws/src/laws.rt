@@ -1,11 +1,11 @@
 //! What holds of the definitions themselves.
 
-ghost use Rattle.std.specs.Prelude.{◌≡◌, None, Ok};
+ghost use Rattle.std.specs.Prelude.{◌≡◌, None, Ok, All};
 ghost use Rattle.drc_container.specs.choice.Refused.{refused};
 ghost use Rattle.drc_container.specs.writing.Chosen.{written};
 ghost use Rattle.drc_container.specs.writing.Encoded.{Means};
 ghost use Rattle.drc_container.specs.writing.Layout.{layout_of, layout_chosen};
-ghost use Rattle.stream_laws.specs.Laws.{WrittenMeans, WrittenIsLaidOut};
+ghost use Rattle.stream_laws.specs.Laws.{IsByte, WrittenMeans, WrittenIsLaidOut, WrittenIsBytes};
 
 use crate::heads::geometry_fits;
 use drc_container::Choice;
@@ -22,12 +22,19 @@ pub fn what_is_written_means_the_geometry()
     ensures layout { WrittenIsLaidOut }
 {}
 
-/// The same of a geometry in memory, which has all that the law asks of a geometry: where it isn't refused,
-/// what is written of it means it, and is coded as was chosen. This is the contract of a call that reads the
-/// heads, and does nothing.
+/// Each number that is written of a geometry is one of a byte, whatever the geometry and the choice. So there
+/// is no geometry that can't be written in bytes. This is the contract of a call that does nothing.
+pub fn what_is_written_is_bytes()
+    ensures { WrittenIsBytes }
+{}
+
+/// The same of a geometry in memory, which has all that these laws ask of a geometry: what is written of it is
+/// bytes, and where it isn't refused, they mean it, and are coded as was chosen. This is the contract of a call
+/// that reads the heads, and does nothing else.
 pub fn each_geometry_is_written(g: &Geometry, choice: &Choice)
     ensures means { refused g.now choice.now ≡ None → Means g.now choice.now (written g.now choice.now).0 (written g.now choice.now).1 }
     ensures layout { refused g.now choice.now ≡ None → layout_of (written g.now choice.now).0 ≡ Ok (layout_chosen g.now choice.now) }
+    ensures bytes { All IsByte (written g.now choice.now).0 }
 {
     geometry_fits(g);
 }
