@@ -1,0 +1,8 @@
+pub mod Accepted
+pub mod Connected
+pub mod Walked
+pub mod OnSurface
+pub mod InOrder
+pub mod Whole
+pub mod bytes
+mod Examples

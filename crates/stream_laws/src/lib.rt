@@ -1,5 +1,10 @@
-//! Laws of streams: what is written of a geometry means the geometry, and is laid out as was chosen. They are laws over
-//! definitions: no function of this crate does anything.
+//! Laws of streams: what is written of a geometry is bytes, means the geometry, and is laid out as was chosen.
+//! They are laws over definitions: no function of this crate changes or answers anything.
 #![tactic(auto)]
 
+mod heads;
 mod laws;
+
+pub use laws::{
+    each_geometry_is_written, what_is_written_is_bytes, what_is_written_means_the_geometry,
+};

@@ -1,0 +1,5 @@
+pub mod Lists
+pub mod Blocks
+pub mod Attributes
+pub mod Connectivity
+pub mod Streams
