@@ -1,0 +1,4 @@
+pub mod MeantSurfaces
+pub mod MeantTables
+pub mod MeantMeshes
+pub mod MeantGeometries

@@ -3,3 +3,6 @@
 #![tactic(auto)]
 
 mod laws;
+mod meanings;
+
+pub use meanings::every_meaning_is_a_geometry;
