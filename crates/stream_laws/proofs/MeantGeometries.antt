@@ -1,13 +1,11 @@
 -- Every meaning is a geometry.
 use Rattle.drc_base.specs.Profile.{profile}
 use Rattle.std.proofs.Common.{◌≡◌, ℕ, ◌≤◌, List, [], ◌∷◌, ◌++◌, length, None, Some, Result, Ok, Err, sym, ◌∙◌, arith}
-use Rattle.std.specs.Prelude.{◌==◌, ◌&&◌, Bool, true, false, not, nat_le, nat_lt, if◌then◌else◌}
 use Rattle.std.specs.List.{All}
 use Rattle.std.proofs.lemmas.List.Elements.{All-head, All-tail, All-weaker}
 use Rattle.drc_base.specs.declared.faults.Fault.{Fault}
 use Rattle.drc_base.specs.declared.limits.TheConstants.{MAX_VALUES}
-use Rattle.drc_bits.specs.Reading.{Reading, start_of}
-use Rattle.drc_bits.specs.Numbers.{number_at}
+use Rattle.drc_bits.specs.Reading.{Reading}
 use Rattle.drc_bits.proofs.Results.{err≢ok}
 use Rattle.mesh_model.specs.declared.heads.Head.{Head}
 use Rattle.mesh_model.specs.declared.geometries.Geometry.TheVariants as geometry
@@ -21,19 +19,20 @@ use Rattle.attr_section.specs.Heads.{heads_at}
 use Rattle.attr_section.specs.Values.{values_in, decoder_values_at, AreColumns}
 use Rattle.attr_section.proofs.Columned.{AreColumns-append}
 use Rattle.eb_section.specs.Connectivity.{Connectivity, connectivity_at}
-use Rattle.drc_container.specs.Header.{metadata_flag, minor_of, greatest_method, form_of, form_said, magic_at, header_at, cloud_points_at}
+use Rattle.drc_container.specs.Header.{cloud_points_at}
 use Rattle.drc_container.specs.reading.Meaning.{Meaning, edgebreaker_info}
 use Rattle.drc_container.specs.reading.OnSurface.{attributes_on, at_end, assembled_in, assembled_at}
-use Rattle.drc_container.specs.reading.Stream.{decoders_values_at, sequential_attributes_at, points_of, points_behind, mesh_behind, mesh_at, cloud_behind, cloud_at, surface_behind, edgebreaker_at, body_at, stream, stream_in}
-use Rattle.drc_container.proofs.lemmas.reading.Parted.{given, parts, passed}
+use Rattle.drc_container.specs.reading.Stream.{decoders_values_at, sequential_attributes_at, points_of, points_behind, mesh_behind, mesh_at, cloud_behind, cloud_at, surface_behind, edgebreaker_at, stream}
+use Rattle.drc_container.proofs.lemmas.reading.Parted.{given, parts}
 use Rattle.drc_container.proofs.lemmas.reading.Headed.{shapes, DecoderRead, heads-read}
 use Rattle.drc_container.proofs.lemmas.reading.Whole.{AreTyped}
 use Rattle.drc_container.proofs.lemmas.reading.Decoders.{values_in-append}
 use Rattle.drc_container.proofs.lemmas.reading.Lengths.{cells_at-whole}
 use Rattle.drc_container.proofs.lemmas.reading.Faces.{indices-passed}
 use Rattle.drc_container.proofs.lemmas.reading.ProfileCounts.{assembled-two}
+use Rattle.stream_laws.proofs.MeantForms.{given-of, of-each-form}
 use Rattle.stream_laws.proofs.MeantSurfaces.{IsSurfaceRead, connectivity-surface}
-use Rattle.stream_laws.proofs.MeantTables.{given-of, decoder-columns, attributes-tables}
+use Rattle.stream_laws.proofs.MeantTables.{decoder-columns, attributes-tables}
 use Rattle.stream_laws.proofs.MeantMeshes.{assembled-mesh, made-mesh, made-cloud}
 
 -- columns of types are columns
@@ -101,7 +100,7 @@ cloud c d is =
     given (λ (z : Meaning). IsGeometry z.geometry) made d r.2 points
 
 -- what has no fault at the end of a stream has none
-before_end : {A : Type 0} (end : ℕ) (r : Result A Fault) (x : A) → at_end end r ≡ Ok x → r ≡ Ok x
+pub before_end : {A : Type 0} (end : ℕ) (r : Result A Fault) (x : A) → at_end end r ≡ Ok x → r ≡ Ok x
 before_end end (Ok y) x is = is
 before_end end (Err f) x is = absurd (err≢ok is)
 
@@ -127,40 +126,7 @@ edgebreaker-mesh c d is =
     let p = parts (connectivity_at profile c) _ d is in
     surface-mesh c.place p.0.0 (connectivity-surface c p.0 p.1) p.0.1 d p.2
 
--- of two forms, one was chosen
-chosen : {A : Type 0} (P : A → Type 0) (b : Bool) (x y : A) → P x → P y → P (if b then x else y)
-chosen P true x y one other = one
-chosen P false x y one other = other
-
--- whatever form a header says
-said-geometry : (major minor kind method flags : ℕ) (said : _) → form_said major minor kind method flags ≡ Ok said
-    → (c : Reading) (d : Meaning) → body_at profile said c ≡ Ok d → IsGeometry d.geometry
-unfolding form_said
-said-geometry major minor kind method flags said is =
-    let one = passed (nat_le kind 1) _ _ said is in
-    let two = passed ((major == 2) && (minor == minor_of kind)) _ _ said one.1 in
-    let three = passed (not ((kind == 0) && (method == 1))) _ _ said two.1 in
-    let four = passed (nat_le method (greatest_method kind)) _ _ said three.1 in
-    let five = passed (nat_lt flags metadata_flag) _ _ said four.1 in
-    given-of (form_of kind method) said five.1 (λ f. (c : Reading) (d : Meaning) → body_at profile f c ≡ Ok d → IsGeometry d.geometry)
-    (chosen (λ f. (c : Reading) (d : Meaning) → body_at profile f c ≡ Ok d → IsGeometry d.geometry) (kind == 0) _ _ cloud
-    (chosen (λ f. (c : Reading) (d : Meaning) → body_at profile f c ≡ Ok d → IsGeometry d.geometry) (method == 0) _ _ sequential-mesh edgebreaker-mesh))
-
-header-geometry : (c : Reading) (y : _ × Reading) → header_at c ≡ Ok y → (d : Meaning) → body_at profile y.0 y.1 ≡ Ok d → IsGeometry d.geometry
-unfolding header_at
-header-geometry c y is =
-    let a = parts (magic_at c) _ y is in
-    let major = parts (number_at 1 a.0.1) _ y a.2 in
-    let minor = parts (number_at 1 major.0.1) _ y major.2 in
-    let kind = parts (number_at 1 minor.0.1) _ y minor.2 in
-    let method = parts (number_at 1 kind.0.1) _ y kind.2 in
-    let flags = parts (number_at 2 method.0.1) _ y method.2 in
-    let said = parts (form_said major.0.0 minor.0.0 kind.0.0 method.0.0 flags.0.0) _ y flags.2 in
-    given-of (said.0, flags.0.1) y said.2 (λ z. (d : Meaning) → body_at profile z.0 z.1 ≡ Ok d → IsGeometry d.geometry)
-    (said-geometry major.0.0 minor.0.0 kind.0.0 method.0.0 flags.0.0 said.0 said.1 flags.0.1)
-
 pub meaning-geometry : (bytes : List ℕ) (d : Meaning) → stream bytes ≡ Ok d → IsGeometry d.geometry
-unfolding stream_in
 meaning-geometry bytes d is =
-    let p = parts (header_at (start_of bytes)) _ d is in
-    header-geometry (start_of bytes) p.0 p.1 d p.2
+    of-each-form (λ (_ : Reading). Unit {0}) (λ (d : Meaning). IsGeometry d.geometry) (λ _ _ _ _. tt)
+    (λ c _. sequential-mesh c) (λ c _. edgebreaker-mesh c) (λ c _. cloud c) bytes tt d is

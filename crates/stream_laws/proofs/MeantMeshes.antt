@@ -22,7 +22,7 @@ use Rattle.mesh_model.proofs.AssembledLaws.{corner-assembled}
 use Rattle.drc_container.proofs.lemmas.choice.FirstRefusals.{value-given}
 
 -- a value that no fault came before
-value-is : {A : Type 0} (r : Option Fault) (a x : A) → value_unless r a ≡ Ok x → a ≡ x
+pub value-is : {A : Type 0} (r : Option Fault) (a x : A) → value_unless r a ≡ Ok x → a ≡ x
 value-is None a x is = cc
 value-is (Some f) a x is = cc
 

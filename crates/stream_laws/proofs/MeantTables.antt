@@ -1,11 +1,10 @@
 -- The attributes of an Edgebreaker mesh that was read are tables for assembling: each corner has an entry of the order in which the
 -- surface is walked, cut at seams or not.
 use Rattle.drc_base.specs.Profile.{profile}
-use Rattle.std.proofs.Common.{◌≡◌, ℕ, ◌+◌, ◌*◌, ◌<◌, ◌≤◌, Bool, true, false, List, [], ◌∷◌, length, get_or, Option, Some, Result, Ok, refl, subst, arith}
+use Rattle.std.proofs.Common.{◌≡◌, ℕ, ◌+◌, ◌*◌, ◌<◌, ◌≤◌, Bool, true, false, List, [], ◌∷◌, length, get_or, Option, Some, Ok, refl, subst, arith}
 use Rattle.std.specs.Prelude.{if◌then◌else◌}
 use Rattle.std.specs.List.{All}
 use Rattle.std.proofs.lemmas.List.Elements.{All-nil, All-head, All-tail, All-from_get_or}
-use Rattle.drc_base.specs.declared.faults.Fault.{Fault}
 use Rattle.drc_base.specs.declared.limits.TheConstants.{MAX_VALUES}
 use Rattle.drc_bits.specs.Reading.{Reading}
 use Rattle.mesh_model.specs.declared.heads.Head.{Head}
@@ -31,6 +30,7 @@ use Rattle.drc_container.proofs.lemmas.reading.Headed.{shapes, quants-passed, De
 use Rattle.drc_container.proofs.lemmas.reading.Whole.{AreTyped, AreColumns, columns-from}
 use Rattle.drc_container.proofs.lemmas.reading.Tabled.{columns-tables, columns-joined, values_on-tables, values_on-append, tables-whole}
 use Rattle.drc_container.proofs.lemmas.surface.Walks.{has_entry, entries-each}
+use Rattle.stream_laws.proofs.MeantForms.{given-of}
 use Rattle.stream_laws.proofs.MeantSurfaces.{IsSurfaceRead}
 
 -- each corner has an entry of the order
@@ -94,10 +94,6 @@ decoder-columns w d n spent few passes c y is =
 record AreOnSurface (corners : ℕ) (heads : List Head) (tables : List AttrTable) : Type 0 where
   columns : AreAttrTables corners heads tables
   few : values_on tables ≤ MAX_VALUES
-
--- what a value has, what was read has, where the type is that of the values
-pub given-of : {A : Type 0} (x y : A) → ◌≡◌ {A = Result A Fault} (Ok x) (Ok y) → (P : A → Type 0) → P x → P y
-given-of x y is P holds = given P x y is holds
 
 decoders-placed : (s : Connectivity) → IsGluing s.faces s.glued → (ds : List DecoderHead) → All DecoderRead ds
     → (before : _) (c : Reading) (y : _ × Reading) → surface_decoders_at profile s before ds c ≡ Ok y

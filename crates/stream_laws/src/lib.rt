@@ -5,4 +5,4 @@
 mod laws;
 mod meanings;
 
-pub use meanings::every_meaning_is_a_geometry;
+pub use meanings::{every_meaning_is_a_geometry, every_meaning_is_a_text};
