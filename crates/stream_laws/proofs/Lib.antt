@@ -1,10 +1,1 @@
-pub mod MeantForms
-pub mod MeantSurfaces
-pub mod MeantTables
-pub mod MeantMeshes
-pub mod MeantGeometries
-pub mod BytesBehind
-pub mod BytesBehindBlocks
-pub mod BytesBehindAttributes
-pub mod MeantFields
-pub mod MeantFaces
+pub mod reading

@@ -8,6 +8,7 @@ use Rattle.ply_mesh.specs.Fields.{HasFields}
 use Rattle.ply_mesh.specs.Read.{ply_read}
 use Rattle.ply_mesh.specs.Text.{ply_text}
 use Rattle.corner_table.specs.Sides.{IsGluing}
+use Rattle.corner_table.specs.Fans.{HasThreeFans}
 use Rattle.drc_container.specs.reading.Meaning.{Meaning, Surface}
 use Rattle.drc_container.specs.reading.Stream.{stream}
 
@@ -23,10 +24,12 @@ MeaningsAreGeometries = (bytes : List ℕ) (d : Meaning) → stream bytes ≡ Ok
 abbrev pub MeaningsHaveFields : Type 0
 MeaningsHaveFields = (bytes : List ℕ) (d : Meaning) → AreBytes bytes → stream bytes ≡ Ok d → AllByRecursion HasFields (heads_in d.geometry)
 
--- a surface of these faces: it has as many, and each of its sides is glued to at most one side, which is of another face
+-- a surface of these faces: it has as many, each of its sides is glued to at most one side, which is of another face, and the three
+-- corners of a face lie in three fans
 pub record IsSurfaceOf (faces : List (List ℕ)) (s : Surface) : Type 0 where
   pub each_face : s.faces ≡ length faces
   pub gluing : IsGluing s.faces s.glued
+  pub three_fans : HasThreeFans s.faces s.glued
 
 -- where a meaning has a surface, it is one of its faces
 abbrev pub MeaningsHaveSurfaces : Type 0

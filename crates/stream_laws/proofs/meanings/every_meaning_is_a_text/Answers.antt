@@ -1,6 +1,6 @@
 use Rattle.ply_mesh.proofs.RoundTrip.{geometry_again}
-use Rattle.stream_laws.proofs.MeantGeometries.{meaning-geometry}
-use Rattle.stream_laws.proofs.MeantFields.{meaning-fields}
+use Rattle.stream_laws.proofs.reading.Geometries.{meaning-geometry}
+use Rattle.stream_laws.proofs.reading.Fields.{meaning-fields}
 use Rattle.stream_laws.proofs.meanings.every_meaning_is_a_text.Goals as goal
 
 pub returns : goal.returns

@@ -19,10 +19,10 @@ use Rattle.drc_container.specs.reading.Stream.{points_behind, mesh_behind, mesh_
 use Rattle.drc_container.proofs.lemmas.reading.Parted.{given, parts}
 use Rattle.drc_container.proofs.lemmas.reading.ProfileCounts.{assembled-two}
 use Rattle.stream_laws.specs.Meanings.{IsSurfaceOf}
-use Rattle.stream_laws.proofs.MeantForms.{of-each-form}
-use Rattle.stream_laws.proofs.MeantSurfaces.{connectivity-surface}
-use Rattle.stream_laws.proofs.MeantMeshes.{value-is}
-use Rattle.stream_laws.proofs.MeantGeometries.{before_end}
+use Rattle.stream_laws.proofs.reading.Forms.{of-each-form}
+use Rattle.stream_laws.proofs.reading.Surfaces.{connectivity-surface}
+use Rattle.stream_laws.proofs.reading.Meshes.{value-is}
+use Rattle.stream_laws.proofs.reading.Geometries.{before_end}
 
 -- where there is a surface, it is one of the faces
 abbrev HasSurface : Meaning → Type 0
@@ -55,11 +55,12 @@ unfolding edgebreaker_at surface_behind
 edgebreaker-surface c d is =
     let s = parts (connectivity_at profile c) _ d is in
     let faces = s.0.0.faces in
+    let read = connectivity-surface c s.0 s.1 in
     let p = parts (attributes_on profile s.0.0 s.0.1) _ d s.2 in
     let q = parts (assembled_at profile p.0.1.place faces p.0.0) _ d p.2 in
     let whole = sym (assembled-two p.0.0.heads p.0.0.tables faces) ∙ before_end p.0.1.place (assembled_in profile p.0.0.heads p.0.0.tables faces) q.0 q.1 in
     given HasSurface _ d q.2
-    (record { each_face = assembled-faces p.0.0.heads p.0.0.tables faces q.0 whole; gluing = (connectivity-surface c s.0 s.1).gluing })
+    (record { each_face = assembled-faces p.0.0.heads p.0.0.tables faces q.0 whole; gluing = read.gluing; three_fans = read.three_fans })
 
 pub meaning-surface : (bytes : List ℕ) (d : Meaning) → stream bytes ≡ Ok d → HasSurface d
 meaning-surface bytes d is =

@@ -20,7 +20,7 @@ use Rattle.eb_valence.specs.declared.context_lists.TheConstants.{CONTEXTS}
 use Rattle.eb_section.specs.Opening.{traversal_at, opening_at}
 use Rattle.eb_section.specs.Events.{numbers_at, no_numbers, event_count_at, events_at}
 use Rattle.eb_section.specs.Connectivity.{standard_at, list_at, standard_behind, valence_behind, behind_at, connectivity_at}
-use Rattle.stream_laws.proofs.BytesBehind.{BytesAhead, LeavesBytes, ok-leaves, fault-leaves, then-leaves, value-leaves, either-leaves, must-leaves, many-bytes, chain-bytes, further, bytes-leave, bits-leave, number-leaves, var32-leaves, var64-leaves}
+use Rattle.stream_laws.proofs.reading.Bytes.{BytesAhead, LeavesBytes, ok-leaves, fault-leaves, then-leaves, value-leaves, either-leaves, must-leaves, many-bytes, chain-bytes, further, bytes-leave, bits-leave, number-leaves, var32-leaves, var64-leaves}
 
 -- ---- bits
 

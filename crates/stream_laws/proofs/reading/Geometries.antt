@@ -30,10 +30,10 @@ use Rattle.drc_container.proofs.lemmas.reading.Decoders.{values_in-append}
 use Rattle.drc_container.proofs.lemmas.reading.Lengths.{cells_at-whole}
 use Rattle.drc_container.proofs.lemmas.reading.Faces.{indices-passed}
 use Rattle.drc_container.proofs.lemmas.reading.ProfileCounts.{assembled-two}
-use Rattle.stream_laws.proofs.MeantForms.{given-of, of-each-form}
-use Rattle.stream_laws.proofs.MeantSurfaces.{IsSurfaceRead, connectivity-surface}
-use Rattle.stream_laws.proofs.MeantTables.{decoder-columns, attributes-tables}
-use Rattle.stream_laws.proofs.MeantMeshes.{assembled-mesh, made-mesh, made-cloud}
+use Rattle.stream_laws.proofs.reading.Forms.{given-of, of-each-form}
+use Rattle.stream_laws.proofs.reading.Surfaces.{IsSurfaceRead, connectivity-surface}
+use Rattle.stream_laws.proofs.reading.Tables.{decoder-columns, attributes-tables}
+use Rattle.stream_laws.proofs.reading.Meshes.{assembled-mesh, made-mesh, made-cloud}
 
 -- columns of types are columns
 typed-columns : (n : ℕ) (heads : List Head) (values : List Values) → AreTyped n (shapes heads) values → AreColumns n heads values

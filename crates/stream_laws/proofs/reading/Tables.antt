@@ -30,8 +30,8 @@ use Rattle.drc_container.proofs.lemmas.reading.Headed.{shapes, quants-passed, De
 use Rattle.drc_container.proofs.lemmas.reading.Whole.{AreTyped, AreColumns, columns-from}
 use Rattle.drc_container.proofs.lemmas.reading.Tabled.{columns-tables, columns-joined, values_on-tables, values_on-append, tables-whole}
 use Rattle.drc_container.proofs.lemmas.surface.Walks.{has_entry, entries-each}
-use Rattle.stream_laws.proofs.MeantForms.{given-of}
-use Rattle.stream_laws.proofs.MeantSurfaces.{IsSurfaceRead}
+use Rattle.stream_laws.proofs.reading.Forms.{given-of}
+use Rattle.stream_laws.proofs.reading.Surfaces.{IsSurfaceRead}
 
 -- each corner has an entry of the order
 entries-within : (degree : Bool) (faces : ℕ) (g : Gluing) → IsGluing faces g

@@ -1,7 +1,7 @@
--- Edgebreaker connectivity that was read is a surface: its gluing pairs sides of its faces, whose number is within the limit, and
--- each attribute data has its block of seam bits.
+-- Edgebreaker connectivity that was read is a surface: its gluing pairs sides of its faces, which have three fans each and are
+-- within the limit, and each attribute data has its block of seam bits.
 use Rattle.drc_base.specs.Profile.{profile}
-use Rattle.std.proofs.Common.{◌≡◌, ℕ, zero, suc, ◌≤◌, ◌==◌, Bool, true, false, List, length, reverse, Result, Ok, Err, refl, sym, ap, subst, arith}
+use Rattle.std.proofs.Common.{◌≡◌, ℕ, zero, suc, ◌≤◌, ◌==◌, Bool, true, false, List, length, reverse, Option, None, Some, Result, inl, inr, Ok, Err, refl, sym, ◌∙◌, ap, subst, arith}
 use Rattle.std.specs.Prelude.{nat_le}
 use Rattle.std.proofs.lemmas.Bool.{leb-true, eqb-true}
 use Rattle.drc_base.specs.declared.faults.Fault.{Fault}
@@ -16,8 +16,10 @@ use Rattle.drc_bits.proofs.Results.{err≢ok}
 use Rattle.corner_table.specs.declared.symbols.Symbol.{Symbol}
 use Rattle.corner_table.specs.declared.symbols.Event.{Event}
 use Rattle.corner_table.specs.Sides.{IsGluing}
+use Rattle.corner_table.specs.Fans.{HasThreeFans}
+use Rattle.corner_table.proofs.Places.{option_tells}
 use Rattle.rans_binary.specs.Blocks.{Block, bit_of, bit_block_at}
-use Rattle.eb_rebuild.specs.Machine.{State, Plan, start, step, close, close_all, finish, must_be}
+use Rattle.eb_rebuild.specs.Machine.{State, Plan, start, step, close, close_all, finish, must_be, fault, first_degenerate}
 use Rattle.eb_rebuild.specs.Named.{NamedState, named_start, named_step, named_close}
 use Rattle.eb_rebuild.specs.Shown.{Shows, Agree}
 use Rattle.eb_rebuild.proofs.NamedLaw.{symbols_agree, closes_agree, shows_start}
@@ -30,6 +32,7 @@ use Rattle.eb_section.specs.Events.{events_at}
 use Rattle.eb_section.specs.Feeding.{Source, standard, fed, rebuilt}
 use Rattle.eb_section.specs.Connectivity.{Connectivity, section_of, standard_at, list_at, standard_behind, valence_behind, behind_at, connectivity_at}
 use Rattle.drc_container.proofs.lemmas.reading.Parted.{given, parts, either, must-passed, many-passed}
+use Rattle.stream_laws.proofs.reading.Fans.{three-fans}
 
 -- a state whose fans have names
 pub record IsShown (s : State) : Type 0 where
@@ -75,9 +78,23 @@ finished-faces p s t is =
     let q = parts (must_be (s.built == p.faces) kind.FaceCount s.built) _ t is in
     eqb-true s.built p.faces (test-passed (s.built == p.faces) kind.FaceCount s.built q.0 q.1)
 
+-- at the end no face is degenerate
+finished-none : (p : Plan) (s t : State) → finish p s ≡ Ok t → first_degenerate s.built s.glued s.built ≡ None
+unfolding finish
+finished-none p s t is =
+    let q = parts (must_be (s.built == p.faces) kind.FaceCount s.built) _ t is in
+    let r = parts (must_be (nat_le s.made p.created) kind.VertexCount s.made) _ t q.2 in
+    elim (option_tells (first_degenerate s.built s.glued s.built)) [
+      | inl none ↦ none
+      | inr found ↦ (
+          let last : Option ℕ → Result State Fault = λ o. elim o [ None ↦ Ok s | Some f ↦ Err (fault kind.Degenerate f) ] in
+          absurd (err≢ok (sym (ap last found.1) ∙ r.2)))
+    ]
+
 -- a state of a finished surface of so many faces
 pub record IsFinished (faces : ℕ) (s : State) : Type 0 where
   pub gluing : IsGluing s.built s.glued
+  pub three_fans : HasThreeFans s.built s.glued
   pub counted : s.built ≡ faces
 
 -- a whole rebuilding
@@ -91,8 +108,10 @@ rebuilt-finished {S} next p source starts events t is =
     let fed = fed-shown next p.symbols p.symbols source (start events) a.0 begun a.1 in
     let closed = closed-shown p (bit_of starts) (length a.0.stack) a.0 b.0 fed b.1 in
     let same : t ≡ b.0 = finish_keeps_state p b.0 t b.2 in
+    let gluing = (sound closed.named b.0 closed.shows).0 in
     subst (IsFinished p.faces) (sym same) (record {
-      gluing = (sound closed.named b.0 closed.shows).0;
+      gluing = gluing;
+      three_fans = three-fans b.0.built b.0.glued gluing (finished-none p b.0 t b.2);
       counted = finished-faces p b.0 t b.2;
     })
 
@@ -118,12 +137,13 @@ few-declared c =
 -- connectivity that is a surface
 pub record IsSurfaceRead (s : Connectivity) : Type 0 where
   pub gluing : IsGluing s.faces s.glued
+  pub three_fans : HasThreeFans s.faces s.glued
   pub few_faces : s.faces ≤ MAX_FACES
   pub each_seam : length s.seams ≡ s.attr_data
 
 surface-read : (o : _) (events : List Event) (seams : List Block) (s : State) → (plan_of o).faces ≤ MAX_FACES → length seams ≡ (section_of o events seams s).attr_data
     → IsFinished (plan_of o).faces s → IsSurfaceRead (section_of o events seams s)
-surface-read o events seams s few each is = record { gluing = is.gluing; few_faces = omega (arith, few, is.counted); each_seam = each }
+surface-read o events seams s few each is = record { gluing = is.gluing; three_fans = is.three_fans; few_faces = omega (arith, few, is.counted); each_seam = each }
 
 -- as many blocks as are read
 blocks-counted : (n : ℕ) (c : Reading) (y : List Block × Reading) → many_at bit_block_at n c ≡ Ok y → length y.0 ≡ n

@@ -25,12 +25,12 @@ use Rattle.drc_container.specs.reading.OnSurface.{walked_for, decoder_attributes
 use Rattle.drc_container.specs.reading.Stream.{decoders_values_at, sequential_attributes_at, points_behind, mesh_behind, mesh_at, cloud_behind, cloud_at, surface_behind, edgebreaker_at, stream}
 use Rattle.drc_container.proofs.lemmas.reading.Parted.{given, parts}
 use Rattle.drc_container.proofs.lemmas.reading.ProfileCounts.{assembled-two}
-use Rattle.stream_laws.proofs.BytesBehind.{BytesAhead, LeavesBytes, ok-leaves, then-leaves, value-leaves, must-leaves, bytes-leave, number-leaves}
-use Rattle.stream_laws.proofs.BytesBehindBlocks.{indices-leave, connectivity-leaves}
-use Rattle.stream_laws.proofs.BytesBehindAttributes.{HeadsHaveBareFields, heads-fields, decoder_values-fields}
-use Rattle.stream_laws.proofs.MeantForms.{given-of, of-each-form}
-use Rattle.stream_laws.proofs.MeantMeshes.{value-is}
-use Rattle.stream_laws.proofs.MeantGeometries.{before_end}
+use Rattle.stream_laws.proofs.reading.Bytes.{BytesAhead, LeavesBytes, ok-leaves, then-leaves, value-leaves, must-leaves, bytes-leave, number-leaves}
+use Rattle.stream_laws.proofs.reading.BytesOfBlocks.{indices-leave, connectivity-leaves}
+use Rattle.stream_laws.proofs.reading.BytesOfAttributes.{HeadsHaveBareFields, heads-fields, decoder_values-fields}
+use Rattle.stream_laws.proofs.reading.Forms.{given-of, of-each-form}
+use Rattle.stream_laws.proofs.reading.Meshes.{value-is}
+use Rattle.stream_laws.proofs.reading.Geometries.{before_end}
 
 -- ---- a header
 

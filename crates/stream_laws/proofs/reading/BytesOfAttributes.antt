@@ -7,7 +7,7 @@ use Rattle.std.proofs.lemmas.List.Elements.{All-nil, recursion_from_All}
 use Rattle.drc_base.specs.declared.kinds.Kind.TheVariants as kind
 use Rattle.drc_base.specs.declared.limits.TheConstants.{MAX_ATTRIBUTES, MAX_COMPONENTS}
 use Rattle.drc_base.specs.Steps.{◌>>=◌}
-use Rattle.drc_bits.specs.Reading.{Reading, must, many_at}
+use Rattle.drc_bits.specs.Reading.{Reading, Item, must, many_at}
 use Rattle.drc_bits.proofs.Results.{err≢ok}
 use Rattle.drc_bits.specs.Numbers.{number_at, signed_at}
 use Rattle.drc_bits.specs.Varint.{var32_at}
@@ -28,8 +28,8 @@ use Rattle.attr_section.specs.declared.values.Values.{Values}
 use Rattle.attr_section.specs.Heads.{is_known_id, is_used_id, most_element, most_walk, is_type, type_coding, decoder_count_at, link_at, linked_at, links_at, head_at, coding_at, codings_at, attributes_of, attribute_count_at, decoder_at, decoders_at, heads_at}
 use Rattle.attr_section.specs.Values.{tested_prediction, prediction_at, signed_of, plain_value_at, byte_width_at, plain_values_at, can_wrap, range_at, transform_at, compressed_values_at, integers_at, flag_bits_at, flag_count_at, flags_at, flag_lists_at, has_flags, with_flags, corrected_at, predicted_at, typed_values_at, values_at, quant_bits_at, quant_at, quant_of_at, quantised_at, values_in, attributes_at as columns_at, quants_at, decoder_values_at}
 use Rattle.drc_container.proofs.lemmas.reading.Parted.{given, parts, either}
-use Rattle.stream_laws.proofs.BytesBehind.{BytesAhead, Leaves, LeavesBytes, ok-leaves, fault-leaves, then-leaves, either-leaves, must-leaves, many-leaves, many-bytes, each-leaves, each-bytes, number-leaves, signed-leaves, var32-leaves, number-below, var32-below}
-use Rattle.stream_laws.proofs.BytesBehindBlocks.{bit_block-leaves, block-leaves}
+use Rattle.stream_laws.proofs.reading.Bytes.{BytesAhead, Leaves, LeavesBytes, ok-leaves, fault-leaves, then-leaves, either-leaves, must-leaves, many-leaves, many-bytes, each-leaves, each-bytes, number-leaves, signed-leaves, var32-leaves, number-below, var32-below}
+use Rattle.stream_laws.proofs.reading.BytesOfBlocks.{bit_block-leaves, block-leaves}
 
 -- ---- heads
 
@@ -46,7 +46,9 @@ head-fields c here y is =
     let q = parts (must kind.DataType is_type (number_at 1) p.0.1) _ y p.2 in
     let r = parts (must kind.Components has_comps (number_at 1) q.0.1) _ y q.2 in
     let s = parts (number_at 1 r.0.1) _ y r.2 in
-    let t = parts (var32_at s.0.1) _ y s.2 in
+    let last : ℕ × Reading → Item Head =
+    λ x. Ok (record { usage = p.0.0; dtype = q.0.0; comps = r.0.0; normalized = s.0.0; id = x.0; quant = None }, x.1) in
+    let t = parts (var32_at s.0.1) last y s.2 in
     let hp = must-leaves kind.AttrType (λ n. nat_le n 4) (number_at 1) c (number-leaves 1 c here) p.0 p.1 in
     let hq = must-leaves kind.DataType is_type (number_at 1) p.0.1 (number-leaves 1 p.0.1 hp) q.0 q.1 in
     let hr = must-leaves kind.Components has_comps (number_at 1) q.0.1 (number-leaves 1 q.0.1 hq) r.0 r.1 in
