@@ -5,4 +5,5 @@ pub mod OnSurface
 pub mod InOrder
 pub mod Whole
 pub mod bytes
+pub mod reading
 mod Examples

@@ -1,0 +1,11 @@
+pub mod Forms
+pub mod Fans
+pub mod Surfaces
+pub mod Tables
+pub mod Meshes
+pub mod Geometries
+pub mod Faces
+pub mod Bytes
+pub mod BytesOfBlocks
+pub mod BytesOfAttributes
+pub mod Fields
