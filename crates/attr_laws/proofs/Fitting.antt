@@ -1,5 +1,5 @@
 -- Which integers have 32 bits: the values of a data type, the ends of their range, and their corrections; and their symbols.
-use Rattle.std.proofs.Common.{◌≡◌, ℕ, ◌+◌, ◌-◌, ◌*◌, ◌/◌, ◌^◌, ◌<◌, ◌≤◌, Bool, true, false, ◌&&◌, ℤ, pos, negsuc, ◌+ℤ◌, ◌-ℤ◌, ◌<ℤ◌, ◌≤ℤ◌, neg_ℤ, cond, int_lt, int_le, FitsSigned, List, [], ◌∷◌, map, if◌then◌else◌, arith}
+use Rattle.std.proofs.Common.{◌≡◌, ℕ, ◌-◌, ◌/◌, ◌^◌, ◌<◌, Bool, true, false, ℤ, pos, negsuc, ◌+ℤ◌, ◌-ℤ◌, ◌<ℤ◌, ◌≤ℤ◌, neg_ℤ, cond, int_lt, int_le, FitsSigned, List, [], ◌∷◌, map, if◌then◌else◌, arith}
 use Rattle.std.specs.Int.{w32, int_min, int_max}
 use Rattle.std.specs.List.{All, fold, list_all}
 use Rattle.std.proofs.lemmas.Bool.{and_parts}
@@ -7,7 +7,7 @@ use Rattle.std.proofs.lemmas.Int.{ints}
 use Rattle.std.proofs.lemmas.List.Elements.{All-head, All-tail, All-map, All-weaker}
 use Rattle.std.proofs.lemmas.List.Sums.{AllPass-from_list_all}
 use Rattle.mesh_model.specs.Head.{in_type, least_of, greatest_of}
-use Rattle.predict.specs.Wrap.{Range, CanWrap, HasEnds, span_of, least_correction, greatest_correction}
+use Rattle.predict.specs.Wrap.{Range, CanWrap, HasEnds, span_of}
 use Rattle.predict.specs.Symbols.{zigzag_of}
 use Rattle.predict.specs.Restored.{corrections}
 use Rattle.predict.proofs.Wrapping.{span_is}

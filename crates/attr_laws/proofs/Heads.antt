@@ -1,5 +1,4 @@
 -- Heads and quantisations are read as what they were made of.
-use Rattle.std.proofs.Common.{◌≡◌, ◌≤◌, List, ap}
 use Rattle.std.specs.List.{All}
 use Rattle.attr_section.specs.declared.decoder_heads.DecoderHead.{DecoderHead}
 use Rattle.attr_section.specs.Heads.{DecoderPasses, DecoderSpelled}

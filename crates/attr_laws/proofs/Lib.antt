@@ -3,3 +3,4 @@ pub mod Parts
 pub mod Heads
 pub mod Values
 pub mod Decoders
+mod Examples

@@ -1,5 +1,5 @@
 -- The values of an attribute are read as what they were made of, by any prediction that they may have.
-use Rattle.std.proofs.Common.{◌≡◌, ℕ, ◌%◌, ◌<◌, ◌≤◌, Bool, true, false, ℤ, List, length, FitsSigned, inl, inr, sym, ap, ◌∙◌, Option, arith}
+use Rattle.std.proofs.Common.{◌≡◌, ℕ, ◌%◌, ◌<◌, ◌≤◌, Bool, true, ℤ, List, length, FitsSigned, inl, inr, sym, ap, ◌∙◌, Option, arith}
 use Rattle.std.specs.Int.{w32}
 use Rattle.std.specs.List.{All}
 use Rattle.std.proofs.lemmas.Bool.{cases_Bool}
