@@ -1,5 +1,5 @@
 -- Sections that the laws are about: of one face, whose bytes are written out.
-use Rattle.std.proofs.Common.{◌≡◌, ℕ, ◌<◌, ◌≤◌, ◌^◌, false, List, [], ◌∷◌, length, get_or, None, Result, Ok, Err, refl, sym, ap, subst, arith, le-leb}
+use Rattle.std.proofs.Common.{◌≡◌, ℕ, ◌<◌, ◌≤◌, ◌^◌, true, false, List, [], ◌∷◌, length, get_or, None, Result, Ok, Err, refl, sym, ap, subst, arith, le-leb}
 use Rattle.std.specs.List.{All}
 use Rattle.std.proofs.lemmas.List.Elements.{All-nil, All-cons}
 use Rattle.drc_base.specs.declared.faults.Fault.{Fault}
@@ -9,14 +9,16 @@ use Rattle.drc_bits.specs.Spells.{Spells}
 use Rattle.drc_bits.specs.Varint.{spelling}
 use Rattle.rans_core.specs.Coder.{drained, end_bytes, state_pushed}
 use Rattle.rans_binary.specs.Blocks.{block}
+use Rattle.symbol_coding.specs.Block.{block_bytes}
 use Rattle.corner_table.specs.Sides.{unglued}
 use Rattle.corner_table.specs.Fans.{corners_of, leftmost, walks_left, walks_right}
 use Rattle.corner_table.specs.declared.symbols.Symbol.TheVariants.{E}
 use Rattle.eb_rebuild.specs.Machine.{State, step, note_events, take_symbols, close, close_all, finish, first_degenerate, rebuild}
 use Rattle.eb_rebuild.specs.Rebuilding.{IsEventOf}
 use Rattle.eb_trace.specs.declared.tracing.Traced.{Traced}
+use Rattle.eb_valence.specs.Contexts.{coded, context_list}
 use Rattle.eb_trace.specs.Writable.{AsManyWait, IsWritable}
-use Rattle.eb_section.specs.Written.{opening_bytes, numbers_bytes, events_bytes, standard_bytes, standard_behind_bytes, connectivity_bytes}
+use Rattle.eb_section.specs.Written.{opening_bytes, numbers_bytes, events_bytes, standard_bytes, standard_behind_bytes, valence_behind_bytes, connectivity_bytes}
 use Rattle.eb_section.specs.ReadAgain.{IsReadAgain}
 use Rattle.seq_section.specs.Indices.{indices_at, indices_bytes, IsFaceBelow}
 use Rattle.connectivity_laws.proofs.Again.{indices-again, connectivity-again}
@@ -85,3 +87,13 @@ face_section : IsReadAgain false 1 face_trace [] (0 ∷ 3 ∷ 1 ∷ 0 ∷ 1 ∷ 
 face_section =
     subst (λ bytes. IsReadAgain false 1 face_trace [] bytes) face_bytes
     (connectivity-again false 1 face_trace [] face-writable (omega arith) (omega arith) (omega arith) (All-nil (λ bits. length bits < 2 ^ 31)))
+
+by_valence_bytes : connectivity_bytes true 1 face_trace [] ≡ 2 ∷ 3 ∷ 1 ∷ 0 ∷ 1 ∷ 0 ∷ 0 ∷ 255 ∷ 1 ∷ 17 ∷ 0 ∷ 0 ∷ 0 ∷ 0 ∷ 0 ∷ 0 ∷ []
+unfolding connectivity_bytes opening_bytes events_bytes numbers_bytes valence_behind_bytes spelling packed block drained end_bytes state_pushed coded context_list step note_events block_bytes
+by_valence_bytes = refl
+
+-- and by valence, where no symbol stands in a list: the first one isn't coded
+by_valence_section : IsReadAgain true 1 face_trace [] (2 ∷ 3 ∷ 1 ∷ 0 ∷ 1 ∷ 0 ∷ 0 ∷ 255 ∷ 1 ∷ 17 ∷ 0 ∷ 0 ∷ 0 ∷ 0 ∷ 0 ∷ 0 ∷ [])
+by_valence_section =
+    subst (λ bytes. IsReadAgain true 1 face_trace [] bytes) by_valence_bytes
+    (connectivity-again true 1 face_trace [] face-writable (omega arith) (omega arith) (omega arith) (All-nil (λ bits. length bits < 2 ^ 31)))
