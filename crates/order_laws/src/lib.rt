@@ -5,4 +5,4 @@
 
 mod laws;
 
-pub use laws::round_is_the_fan;
+pub use laws::{prediction_degree_is_its_rule, round_is_the_fan};
