@@ -6,3 +6,4 @@ pub mod Agreeing
 pub mod Steps
 pub mod Rule
 mod Examples
+mod WorkedRule
