@@ -5,5 +5,5 @@ pub mod Stacks
 pub mod Agreeing
 pub mod Steps
 pub mod Rule
-mod Examples
+mod WorkedRounds
 mod WorkedRule

@@ -7,6 +7,8 @@ use Rattle.corner_table.specs.Sides.{Side, first, second, third, side, Gluing}
 use Rattle.corner_table.specs.Labels.{label_at}
 use Rattle.corner_table.specs.Table.{glued_in, free_entry}
 use Rattle.walk_order.specs.Visits.{lacks}
+use Rattle.walk_order.specs.OfSurface.{fan_labels}
+use Rattle.corner_table.specs.Fans.{corners_of, walks_left, walks_right}
 use Rattle.walk_order.specs.PredictionDegree.{take_unvisited, visits, ranked, prediction_degree_order}
 use Rattle.order_laws.specs.Degree.{Waiting, Traversal, start, Enters, new, known, counted, Rates, entry, again, once, IsLast, top, under, IsNext, next_face, Leads, over, passed, begun, emptied, dropped, taken, marked, no_left, goes_left, puts_left, no_right, goes_right, puts_right}
 use Rattle.order_laws.proofs.Contained.{has, has_contains, has_not, above_one, at_most_one, lacks_contains, not_lacks_contains}
@@ -57,6 +59,11 @@ tetrahedron = glued_in (8 ∷ 5 ∷ 10 ∷ 7 ∷ 11 ∷ 1 ∷ 9 ∷ 3 ∷ 0 ∷ 
 tetrahedron_labels : List ℕ
 tetrahedron_labels = 0 ∷ 1 ∷ 2 ∷ 0 ∷ 2 ∷ 3 ∷ 2 ∷ 1 ∷ 3 ∷ 0 ∷ 3 ∷ 1 ∷ []
 
+-- its labels are those of its fans
+tetrahedron_fans : fan_labels 4 tetrahedron ≡ tetrahedron_labels
+unfolding tetrahedron tetrahedron_labels fan_labels corners_of walks_left walks_right
+tetrahedron_fans = refl
+
 tetrahedron_end : Traversal
 tetrahedron_end = record {
   visited = 3 ∷ 2 ∷ 1 ∷ 0 ∷ [];
@@ -69,8 +76,8 @@ tetrahedron_end = record {
 tetrahedron_rule : Leads 4 tetrahedron tetrahedron_labels 0 next_face start tetrahedron_end
 unfolding tetrahedron tetrahedron_labels tetrahedron_end lacks
 tetrahedron_rule =
-    begun (below 0 4 refl) (unseen 0 ([]) refl) (fresh refl) (fresh refl) (fresh refl) (
-    taken (next_at 0 (side 0 first) top refl refl) (unseen 0 ([]) refl) (
+    begun (below 0 4 refl) (unseen 0 [] refl) (fresh refl) (fresh refl) (fresh refl) (
+    taken (next_at 0 (side 0 first) top refl refl) (unseen 0 [] refl) (
     marked (old refl) (
     puts_left refl (unseen 3 (0 ∷ []) refl) (less refl refl) (inl (unseen 1 (0 ∷ []) refl)) (
     puts_right refl (unseen 1 (0 ∷ []) refl) (more refl refl) (below 0 1 refl) (
@@ -103,6 +110,11 @@ five = glued_in (free_entry ∷ 6 ∷ 3 ∷ 2 ∷ 11 ∷ free_entry ∷ 1 ∷ 12
 five_labels : List ℕ
 five_labels = 0 ∷ 1 ∷ 2 ∷ 3 ∷ 1 ∷ 0 ∷ 4 ∷ 0 ∷ 2 ∷ 3 ∷ 0 ∷ 4 ∷ 5 ∷ 4 ∷ 2 ∷ []
 
+-- its labels are those of its fans
+five_fans : fan_labels 5 five ≡ five_labels
+unfolding five five_labels fan_labels corners_of walks_left walks_right
+five_fans = refl
+
 five_end : Traversal
 five_end = record {
   visited = 4 ∷ 1 ∷ 3 ∷ 2 ∷ 0 ∷ [];
@@ -115,8 +127,8 @@ five_end = record {
 five_rule : Leads 5 five five_labels 0 next_face start five_end
 unfolding five five_labels five_end lacks
 five_rule =
-    begun (below 0 5 refl) (unseen 0 ([]) refl) (fresh refl) (fresh refl) (fresh refl) (
-    taken (next_at 0 (side 0 first) top refl refl) (unseen 0 ([]) refl) (
+    begun (below 0 5 refl) (unseen 0 [] refl) (fresh refl) (fresh refl) (fresh refl) (
+    taken (next_at 0 (side 0 first) top refl refl) (unseen 0 [] refl) (
     marked (old refl) (
     puts_left refl (unseen 1 (0 ∷ []) refl) (less refl refl) (inl (unseen 2 (0 ∷ []) refl)) (
     puts_right refl (unseen 2 (0 ∷ []) refl) (less refl refl) (below 0 2 refl) (

@@ -1,5 +1,5 @@
 -- The traversal by prediction degree as its rule says it, one sentence a case (Draco Bitstream Specification 2.2, prediction degree
--- traversal). There are stacks of corners, numbered from 0 on, a number `best`, and a count for each class of corners, 0 at the start.
+-- traversal). There are three stacks of corners, 0 to 2, a number best, and a count for each class of corners, 0 at the start of the mesh.
 use Rattle.std.specs.Prelude.{◌≡◌, ◌≢◌, ℕ, suc, ◌<◌, ◌≤◌, ◌⊎◌, ◌==◌, min, List, [], ◌∷◌, ◌++◌, map, count_by, Option, Some, None, All, Contains}
 use Rattle.corner_table.specs.Sides.{Side, first, second, third, side, next, prev, Gluing}
 use Rattle.corner_table.specs.Labels.{label_at}
@@ -12,8 +12,8 @@ pub record Waiting : Type 0 where
 abbrev pub on_stack : ℕ → Side → Waiting
 on_stack k c = record { stack = k; corner = c }
 
--- how far the traversal is: the visited faces, the corners of the entries in their order, the classes that were rated, one item each time,
--- the corners on the stacks, the last that was put on one first, and the number `best`
+-- how far the traversal is: the visited faces; the corners of the entries, in their order; the classes that were rated, one item each
+-- time; the corners that wait on the stacks, the last pushed first; and best
 pub record Traversal : Type 0 where
   pub visited : List ℕ
   pub entries : List Side
@@ -57,7 +57,7 @@ counted labels c s = record s { rated = label_at labels c ∷ s.rated }
 
 -- a corner is rated
 pub data Rates (labels : List ℕ) (c : Side) : Traversal → ℕ → Traversal → Type 0 where
-  -- the rate is 0 where its class has an entry
+  -- its rate is 0 where its class has an entry
   entry : {s : Traversal} → HasEntry labels s c → Rates labels c s 0 s
   -- else its class's count goes up by one, and the rate is 1 where the count is then above 1
   again : {s : Traversal} → ¬ HasEntry labels s c → 1 < count_of (counted labels c s) (label_at labels c) → Rates labels c s 1 (counted labels c s)
@@ -73,7 +73,7 @@ pub data IsLast (k : ℕ) (c : Side) : List Waiting → List Waiting → Type 0 
   top : {rest : List Waiting} → IsLast k c (on_stack k c ∷ rest) rest
   under : {w : Waiting} {all rest : List Waiting} → w.stack ≢ k → IsLast k c all rest → IsLast k c (w ∷ all) (w ∷ rest)
 
--- c is the last corner of stack k, the first stack from best on that isn't empty
+-- c is the last corner of stack k, the first stack from best on that isn't empty: no corner waits on a stack from best on before it
 pub record IsNext (s : Traversal) (k : ℕ) (c : Side) (rest : List Waiting) : Type 0 where
   pub from_best : s.best ≤ k
   pub before : All (λ (w : Waiting). (w.stack < s.best) ⊎ (k ≤ w.stack)) s.waiting
@@ -94,7 +94,7 @@ pub data Step : Type 0 where
   left : Side → Step
   right : Side → Step
 
--- from a step on, in the turn of a face, the traversal comes from one state to another, at its end
+-- from a step on, in the turn of a face, the rule leads from one state of the traversal to the one at its end
 pub data Leads (faces : ℕ) (g : Gluing) (labels : List ℕ) : ℕ → Step → Traversal → Traversal → Type 0 where
   -- 1. For each face in order
   over : {f : ℕ} {s : Traversal} → f ≡ faces → Leads faces g labels f next_face s s
