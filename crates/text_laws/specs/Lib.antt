@@ -1,0 +1,2 @@
+pub mod HeaderShape
+pub mod Laws
