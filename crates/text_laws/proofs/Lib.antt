@@ -1,3 +1,4 @@
 pub mod Lines
 pub mod Keywords
 pub mod Declaring
+pub mod Declared
