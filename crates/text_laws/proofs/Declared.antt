@@ -134,7 +134,7 @@ vertex_rest k ps m types line (vertex ∷ lines) s f (next, (n, few, is, e), ste
       vertex = vertex;
       columns = r.columns;
       mesh = r.mesh;
-      order = rw (f, r.cut) refl;
+      order = ap (λ (l : Line). l ∷ vertex ∷ lines) f ∙ ap (λ (ls : List Line). format_line ∷ vertex ∷ ls) r.cut;
       points = subst (λ (n : ℕ). IsElement (codes "vertex") n vertex) r.same is;
       few = subst (λ (n : ℕ). n ≤ MAX_POINTS) r.same few;
       some = r.some;

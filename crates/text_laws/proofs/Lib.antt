@@ -2,3 +2,5 @@ pub mod Lines
 pub mod Keywords
 pub mod Declaring
 pub mod Declared
+pub mod Noting
+pub mod Quantising
