@@ -6,6 +6,7 @@ use Rattle.std.proofs.lemmas.Bool.{cases_Bool, or_from}
 use Rattle.drc_base.specs.declared.faults.Fault.{Fault}
 use Rattle.ply_text.specs.Words.{keyword_of}
 use Rattle.ply_text.specs.Declarations.{keyword_at}
+use Rattle.ply_text.specs.Comments.{is_form}
 use Rattle.ply_text.specs.Draft.{Draft, comment, body, statement}
 use Rattle.text_laws.specs.HeaderShape.{Line, is_comment, is_described}
 use Rattle.text_laws.proofs.Lines.{word_from}
@@ -39,22 +40,29 @@ keyword_cases word P f g h i j k = elim (cases_Bool (bytes_eq word (codes "comme
 ]
 
 -- another comment's word describes nothing
-drop_word : (form word : List ℕ) (ts : Line) → Not word (codes "comment") → is_described form (word ∷ ts) ≡ false
-drop_word form word [] w = refl
-drop_word form word (a ∷ []) w = refl
-drop_word form word (a ∷ b ∷ ts) w = rw w refl
+pub other_word : (form word : List ℕ) (ts : Line) → Not word (codes "comment") → is_described form (word ∷ ts) ≡ false
+other_word form word [] w = refl
+other_word form word (a ∷ []) w = refl
+other_word form word (a ∷ b ∷ ts) w = rw w refl
+
+-- a comment's describes what its form says
+pub comment_word : (form word : List ℕ) (ts : Line) → Is word (codes "comment") → is_described form (word ∷ ts) ≡ is_form form (word ∷ ts)
+unfolding is_form
+comment_word form word [] w = refl
+comment_word form word (a ∷ []) w = refl
+comment_word form word (a ∷ b ∷ ts) w = rw w refl
 
 -- a line that goes on is a comment, or another line
 pub statement_parts : (at : ℕ) (d d' : Draft) (line : Line) (P : Type 0) → statement at d line ≡ Ok d'
-    → (is_comment line ≡ true → comment at d line ≡ Ok d' → P)
+    → (is_comment line ≡ true → ((form : List ℕ) → is_described form line ≡ is_form form line) → comment at d line ≡ Ok d' → P)
     → (is_comment line ≡ true → is_described (codes "attr") line ≡ false → is_described (codes "quant") line ≡ false → d ≡ d' → P)
     → (is_comment line ≡ false → body at d line (keyword_at line) ≡ Ok d' → P) → P
 unfolding statement keyword_of
 statement_parts at d d' [] P e f g h = h refl e
 statement_parts at d d' (word ∷ tokens) P e f g h =
     keyword_cases word P
-    (λ c. f (rw c refl) (rw c at e))
-    (λ c o. g (rw (c, o) refl) (drop_word (codes "attr") word tokens c) (drop_word (codes "quant") word tokens c) (let s = rw (c, o) at e in cc))
+    (λ c. f (rw c refl) (λ form. comment_word form word tokens c) (rw c at e))
+    (λ c o. g (rw (c, o) refl) (other_word (codes "attr") word tokens c) (other_word (codes "quant") word tokens c) (let s = rw (c, o) at e in cc))
     (λ c o x. h (rw (c, o) refl) (rw (c, o, x) (rw (c, o, x) at e)))
     (λ c o x p. h (rw (c, o) refl) (rw (c, o, x, p) (rw (c, o, x, p) at e)))
     (λ c o x p q. h (rw (c, o) refl) (rw (c, o, x, p, q) (rw (c, o, x, p, q) at e)))

@@ -4,3 +4,5 @@ pub mod Declaring
 pub mod Declared
 pub mod Noting
 pub mod Quantising
+pub mod Describing
+pub mod Running
