@@ -6,3 +6,4 @@ pub mod Noting
 pub mod Quantising
 pub mod Describing
 pub mod Running
+pub mod Shapes
