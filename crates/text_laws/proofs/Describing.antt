@@ -9,7 +9,7 @@ use Rattle.ply_text.specs.declared.headers.PlyHead.{PlyHead}
 use Rattle.ply_text.specs.declared.headers.PlyQuant.{PlyQuant}
 use Rattle.ply_text.specs.Comments.{attr_of, quant_of, with_quant}
 use Rattle.text_laws.specs.HeaderShape.{Line, is_attr, is_quant, is_quant_of, IsAttrLine, IsQuantLine, AreAttrLines, AreQuantLines, Describe}
-use Rattle.text_laws.proofs.Noting.{base, described_form, attr_given, attr_read, QuantGiven, quant_given, quant_read}
+use Rattle.text_laws.proofs.Noting.{base, form_behind, attr_given, attr_read, QuantGiven, quant_given, quant_read}
 use Rattle.text_laws.proofs.Quantising.{there_is, SettlesQuant, named_by, names_one, names_quant, length-with_quant, at_front, quant_front, QuantsRun, Settles, AllSettle, run_settles, AreNamed, settled_run}
 
 -- ---- one line after another
@@ -77,7 +77,7 @@ behind_rest k line lines h before after x e is =
     (y.0, y.1, omega arith)
 
 attr_no_quant : (line : Line) → is_attr line ≡ true → is_quant line ≡ false
-attr_no_quant line e = let f = described_form (codes "attr") line e in rw f.1 refl
+attr_no_quant line e = let f = form_behind (codes "attr") line e in rw f.1 refl
 
 -- ---- heads first, then quantisations
 
@@ -288,10 +288,8 @@ pub notes_describe : (fs : List PlyHead) (lines : List Line) → NotesRun [] lin
 notes_describe fs lines run =
     let s = run_splits [] fs lines (omega arith) run in
     let r = run_settles s.news fs (filter is_quant lines) s.quants in
-    let few = s.few in
     let long = r.0 in
     record {
-      few = omega arith;
       attrs = attrs_give 0 (filter is_attr lines) s.news fs long (λ j h f p q. (r.1 j h f p q).same) s.attrs;
       quants = λ k f e.
           let h = there_is s.news k (let lt = slice_get_within fs k f e in omega arith) in
@@ -328,10 +326,9 @@ at_bases (x ∷ fs) zero h f p q = let a : base x ≡ h = cc p in let b : x ≡ 
 at_bases (x ∷ fs) (suc k) h f p q = at_bases fs k h f p q
 
 -- and comments that describe heads are noted one after another
-pub describe_notes : (fs : List PlyHead) (lines : List Line) → Describe fs lines → NotesRun [] lines fs
-describe_notes fs lines d =
+pub describe_notes : (fs : List PlyHead) (lines : List Line) → length fs ≤ 16 → Describe fs lines → NotesRun [] lines fs
+describe_notes fs lines few d =
     let n : length (bases fs) ≡ length fs = length-map fs base in
-    let few = d.few in
     let c = attrs_count 0 fs (filter is_attr lines) d.attrs in
     let behind : Behind 0 lines = λ before after line e is. let b = d.behind before after line e is in let lt = b.2 in (b.0, b.1, omega arith) in
     let settles : AllSettle (bases fs) (filter is_quant lines) fs = λ k h f p q.

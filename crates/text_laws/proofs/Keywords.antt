@@ -8,7 +8,7 @@ use Rattle.ply_text.specs.Words.{keyword_of}
 use Rattle.ply_text.specs.Declarations.{keyword_at}
 use Rattle.ply_text.specs.Comments.{is_form}
 use Rattle.ply_text.specs.Draft.{Draft, comment, body, statement}
-use Rattle.text_laws.specs.HeaderShape.{Line, is_comment, is_described}
+use Rattle.text_laws.specs.HeaderShape.{Line, is_comment, has_form}
 use Rattle.text_laws.proofs.Lines.{word_from}
 
 abbrev pub Not : List ℕ → List ℕ → Type 0
@@ -40,13 +40,13 @@ keyword_cases word P f g h i j k = elim (cases_Bool (bytes_eq word (codes "comme
 ]
 
 -- another comment's word describes nothing
-pub other_word : (form word : List ℕ) (ts : Line) → Not word (codes "comment") → is_described form (word ∷ ts) ≡ false
+pub other_word : (form word : List ℕ) (ts : Line) → Not word (codes "comment") → has_form form (word ∷ ts) ≡ false
 other_word form word [] w = refl
 other_word form word (a ∷ []) w = refl
 other_word form word (a ∷ b ∷ ts) w = rw w refl
 
 -- a comment's describes what its form says
-pub comment_word : (form word : List ℕ) (ts : Line) → Is word (codes "comment") → is_described form (word ∷ ts) ≡ is_form form (word ∷ ts)
+pub comment_word : (form word : List ℕ) (ts : Line) → Is word (codes "comment") → has_form form (word ∷ ts) ≡ is_form form (word ∷ ts)
 unfolding is_form
 comment_word form word [] w = refl
 comment_word form word (a ∷ []) w = refl
@@ -54,8 +54,8 @@ comment_word form word (a ∷ b ∷ ts) w = rw w refl
 
 -- a line that goes on is a comment, or another line
 pub statement_parts : (at : ℕ) (d d' : Draft) (line : Line) (P : Type 0) → statement at d line ≡ Ok d'
-    → (is_comment line ≡ true → ((form : List ℕ) → is_described form line ≡ is_form form line) → comment at d line ≡ Ok d' → P)
-    → (is_comment line ≡ true → is_described (codes "attr") line ≡ false → is_described (codes "quant") line ≡ false → d ≡ d' → P)
+    → (is_comment line ≡ true → ((form : List ℕ) → has_form form line ≡ is_form form line) → comment at d line ≡ Ok d' → P)
+    → (is_comment line ≡ true → has_form (codes "attr") line ≡ false → has_form (codes "quant") line ≡ false → d ≡ d' → P)
     → (is_comment line ≡ false → body at d line (keyword_at line) ≡ Ok d' → P) → P
 unfolding statement keyword_of
 statement_parts at d d' [] P e f g h = h refl e

@@ -10,15 +10,15 @@ use Rattle.ply_text.specs.declared.headers.PlyQuant.{PlyQuant}
 use Rattle.ply_text.specs.Numbers.{natural_within, only_if, pattern_of}
 use Rattle.ply_text.specs.Comments.{is_form, is_dtype, head_of, attr_of, patterns_of, fields_of, quant_of}
 use Rattle.ply_text.specs.IsHeader.{PlyQuantFits}
-use Rattle.text_laws.specs.HeaderShape.{Line, writes, Writes, WritesPattern, is_described, is_attr, is_quant, IsAttrLine, IsQuantLine}
+use Rattle.text_laws.specs.HeaderShape.{Line, writes, Writes, WritesPattern, has_form, is_attr, is_quant, IsAttrLine, IsQuantLine}
 use Rattle.text_laws.proofs.Lines.{word_from, passed, bind_some, only_if_some, within_writes, writes_within}
 
 -- the tokens behind the three words
-pub described_form : (form : List ℕ) (line : Line) → is_described form line ≡ true → (tokens : Line) × (line ≡ codes "comment" ∷ codes "drc" ∷ form ∷ tokens)
-described_form form [] e = absurd (cc)
-described_form form (a ∷ []) e = absurd (cc)
-described_form form (a ∷ b ∷ []) e = absurd (cc)
-described_form form (a ∷ b ∷ c ∷ tokens) e =
+pub form_behind : (form : List ℕ) (line : Line) → has_form form line ≡ true → (tokens : Line) × (line ≡ codes "comment" ∷ codes "drc" ∷ form ∷ tokens)
+form_behind form [] e = absurd (cc)
+form_behind form (a ∷ []) e = absurd (cc)
+form_behind form (a ∷ b ∷ []) e = absurd (cc)
+form_behind form (a ∷ b ∷ c ∷ tokens) e =
     let p = and_parts (bytes_eq a (codes "comment")) (bytes_eq b (codes "drc") && bytes_eq c form) e in
     let q = and_parts (bytes_eq b (codes "drc")) (bytes_eq c form) p.1 in
     let x = word_from a (codes "comment") p.0 in
@@ -91,7 +91,7 @@ attr_says number a b c (k ∷ usage ∷ dtype ∷ comps ∷ normalized ∷ id �
 -- an attr line that is read gives its head
 pub attr_given : (k : ℕ) (line : Line) (head : PlyHead) → is_attr line ≡ true → attr_of k line ≡ Some head → IsAttrLine k head line × (head.quant ≡ None)
 attr_given k line head is e =
-    let f = described_form (codes "attr") line is in
+    let f = form_behind (codes "attr") line is in
     let s = attr_says k (codes "comment") (codes "drc") (codes "attr") f.0 head (ap (attr_of k) (sym f.1) ∙ e) in
     (record { numbers = f.0; form = f.1; say = s.say; usage = s.usage; dtype = s.dtype; some = s.some; few = s.few; flag = s.flag; id = s.id }, s.quant)
 
@@ -206,7 +206,7 @@ pub quant_given : (heads : List PlyHead) (line : Line) (p : ℕ × PlyQuant) →
 unfolding quant_of
 quant_given heads line p is e = go f.0 f.1 where
   f : (tokens : Line) × (line ≡ codes "comment" ∷ codes "drc" ∷ codes "quant" ∷ tokens)
-  f = described_form (codes "quant") line is
+  f = form_behind (codes "quant") line is
 
   go : (tokens : Line) → line ≡ codes "comment" ∷ codes "drc" ∷ codes "quant" ∷ tokens → QuantGiven heads p.0 p.1 line
   go [] l = let x = ap (quant_of heads) (sym l) ∙ e in absurd (cc x)

@@ -15,7 +15,7 @@ use Rattle.ply_text.specs.Comments.{is_form, attr_of, quant_of, with_quant}
 use Rattle.ply_text.specs.Declarations.{keyword_at}
 use Rattle.ply_text.specs.Draft.{Draft, attribute, quantisation, comment, body, statement}
 use Rattle.ply_text.specs.Header.{is_end_by, ends_header, header_from, ply_header_at}
-use Rattle.text_laws.specs.HeaderShape.{Line, is_comment, is_declaration, is_described, is_attr, is_quant}
+use Rattle.text_laws.specs.HeaderShape.{Line, is_comment, is_declaration, has_form, is_attr, is_quant}
 use Rattle.text_laws.proofs.Lines.{passed, not_refused, or_refuse_ok, step_ok}
 use Rattle.text_laws.proofs.Keywords.{Is, Not, keyword_cases, comment_word, other_word, statement_parts}
 use Rattle.text_laws.proofs.Declaring.{Stage, draft_at, Next, GoesOn, body_goes}
@@ -46,7 +46,7 @@ record Noted (d : Draft) (line : Line) (d' : Draft) : Type 0 where
   notes : Notes d.heads line next
   draft : record d { heads = next } ≡ d'
 
-comment_notes : (at : ℕ) (d d' : Draft) (line : Line) → ((form : List ℕ) → is_described form line ≡ is_form form line) → comment at d line ≡ Ok d' → Noted d line d'
+comment_notes : (at : ℕ) (d d' : Draft) (line : Line) → ((form : List ℕ) → has_form form line ≡ is_form form line) → comment at d line ≡ Ok d' → Noted d line d'
 unfolding comment attribute quantisation
 comment_notes at d d' line forms e =
     passed (is_form (codes "attr") line) _ _ (Ok d') _ e
@@ -102,7 +102,7 @@ declaration_goes : (s t : Stage) (line : Line) → is_comment line ≡ false →
 declaration_goes s t line no' by ls u steps = let both : Steps s (line ∷ filter is_declaration ls) u = (t, by, steps) in rw no' both
 
 -- a declaration describes nothing
-plain_line : (form : List ℕ) (line : Line) → is_comment line ≡ false → is_described form line ≡ false
+plain_line : (form : List ℕ) (line : Line) → is_comment line ≡ false → has_form form line ≡ false
 plain_line form [] e = refl
 plain_line form (a ∷ []) e = refl
 plain_line form (a ∷ b ∷ []) e = refl
@@ -143,7 +143,7 @@ header_ends s hs at (line ∷ lines) h e =
 
 -- ---- and back
 
-comment_reads : (at : ℕ) (d : Draft) (line : Line) (next : List PlyHead) → ((form : List ℕ) → is_described form line ≡ is_form form line) → Notes d.heads line next → comment at d line ≡ Ok (record d { heads = next })
+comment_reads : (at : ℕ) (d : Draft) (line : Line) (next : List PlyHead) → ((form : List ℕ) → has_form form line ≡ is_form form line) → Notes d.heads line next → comment at d line ≡ Ok (record d { heads = next })
 unfolding comment attribute quantisation
 comment_reads at d line next forms (attr head is lt e f) = rw (sym (forms (codes "attr")) ∙ is, lt-leb MAX_ATTRIBUTES (length d.heads) lt, e, f) refl
 comment_reads at d line next forms (quant p no' is e f) = rw (sym (forms (codes "attr")) ∙ no', sym (forms (codes "quant")) ∙ is, e, f) refl

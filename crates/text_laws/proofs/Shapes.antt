@@ -217,12 +217,17 @@ typed_all : (heads : List PlyHead) → AllByRecursion (λ head. is_head_typed he
 typed_all [] h = refl
 typed_all (x ∷ heads) h = and_from (is_head_typed x) (list_all is_head_typed heads) h.0 (typed_all heads h.1)
 
+few_described : (ds : List PlyHead) (ps : List PropertyParts) → length (heads_given ds ps) ≤ 16 → length ds ≤ 16
+few_described [] ps le = omega arith
+few_described (d ∷ ds) ps le = le
+
 front_read : (h : Header) (front rest : List Line) → IsHeaderOf h front → header_of_lines (front ++ rest) ≡ Ok h
 unfolding agrees
 front_read h front rest is =
     let b = is.between in
     let r : Reaches Stage.begun h.vertices is.properties h.faces h.list (filter is_declaration b) = declare_reach h.vertices is.properties h.faces h.list (filter is_declaration b) is.declared in
-    let notes = describe_notes is.described b is.describe in
+    let few : length (heads_given is.described is.properties) ≤ MAX_ATTRIBUTES = subst (λ (x : List PlyHead). length x ≤ MAX_ATTRIBUTES) is.heads is.few in
+    let notes = describe_notes is.described b (few_described is.described is.properties few) is.describe in
     let d = done_draft r.stage is.described h.vertices is.properties h.faces h.list r.done in
     let heads = heads_given is.described is.properties in
     let long : length front ≡ 2 + length b = ap length is.whole ∙ omega (arith, length-append b (end_line ∷ [])) in
@@ -233,7 +238,7 @@ front_read h front rest is =
         (subst (λ (x : List ℕ). bytes_eq x (property_types is.properties) ≡ true) (sym (ap column_types (sym is.heads) ∙ is.columns ∙ is.types)) (word_is (property_types is.properties)))
         (subst (λ (x : List PlyHead). list_all is_head_typed x ≡ true) is.heads (typed_all h.heads (recursion_from_All (λ head. is_head_typed head ≡ true) h.heads is.typed))) in
     let last : header_by (2 + length b) f heads ≡ Ok (made (2 + length b) f heads) =
-        passes_header (2 + length b) f heads (subst (λ (x : List PlyHead). length x ≤ MAX_ATTRIBUTES) is.heads is.few) agree (subst (λ w. h.vertices * w ≤ MAX_VALUES) (ap length is.types ∙ count) is.values) in
+        passes_header (2 + length b) f heads few agree (subst (λ w. h.vertices * w ≤ MAX_VALUES) (ap length is.types ∙ count) is.values) in
     let same : made (2 + length b) f heads ≡ h = made_is (2 + length b) h heads is.properties is.heads is.types (is.body ∙ ap (λ k. k + 1) long) in
     ap (λ (x : List Line). header_of_lines (x ++ rest)) is.whole
     ∙ rw magic_is refl

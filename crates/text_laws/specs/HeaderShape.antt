@@ -99,19 +99,19 @@ abbrev pub is_declaration : Line → Bool
 is_declaration line = not (is_comment line)
 
 -- `comment drc FORM ..`
-abbrev pub is_described : List ℕ → Line → Bool
-is_described form [] = false
-is_described form (word ∷ []) = false
-is_described form (word ∷ drc ∷ []) = false
-is_described form (word ∷ drc ∷ second ∷ tokens) = bytes_eq word (codes "comment") && (bytes_eq drc (codes "drc") && bytes_eq second form)
+abbrev pub has_form : List ℕ → Line → Bool
+has_form form [] = false
+has_form form (word ∷ []) = false
+has_form form (word ∷ drc ∷ []) = false
+has_form form (word ∷ drc ∷ second ∷ tokens) = bytes_eq word (codes "comment") && (bytes_eq drc (codes "drc") && bytes_eq second form)
 
 -- `comment drc attr ..`
 abbrev pub is_attr : Line → Bool
-is_attr line = is_described (codes "attr") line
+is_attr line = has_form (codes "attr") line
 
 -- `comment drc quant ..`
 abbrev pub is_quant : Line → Bool
-is_quant line = is_described (codes "quant") line
+is_quant line = has_form (codes "quant") line
 
 -- `comment drc quant k ..`
 abbrev pub is_quant_of : ℕ → Line → Bool
@@ -157,7 +157,6 @@ AreQuantLines k comps (Some q) lines = (line : Line) × (lines ≡ line ∷ []) 
 -- the comments among these lines describe these heads: an attr line for each, in order; a quant line for each head that is
 -- quantised, and no other; and each quant line stands somewhere behind the attr line of its head
 pub record Describe (heads : List PlyHead) (lines : List Line) : Type 0 where
-  pub few : length heads ≤ MAX_ATTRIBUTES
   pub attrs : AreAttrLines 0 heads (filter is_attr lines)
   pub quants : (k : ℕ) (head : PlyHead) → slice_get heads k ≡ Some head → AreQuantLines k head.comps head.quant (filter (is_quant_of k) lines)
   pub behind : (before after : List Line) (line : Line) → lines ≡ before ++ line ∷ after → IsTrue (is_quant line) →
