@@ -6,4 +6,5 @@ pub mod Noting
 pub mod Quantising
 pub mod Describing
 pub mod Running
+pub mod Naming
 pub mod Shapes

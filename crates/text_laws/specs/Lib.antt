@@ -1,2 +1,3 @@
+pub mod NameShape
 pub mod HeaderShape
 pub mod Laws
