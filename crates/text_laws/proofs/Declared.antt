@@ -1,20 +1,20 @@
 -- Lines of declarations go on as their forms say, and all of them together have one form.
-use Rattle.std.proofs.Common.{◌≡◌, ℕ, ◌+◌, ◌≤◌, ◌<◌, ◌&&◌, Bool, true, false, List, [], ◌∷◌, ◌++◌, length, cond, Option, Some, None, Result, Ok, Err, refl, sym, ap, subst, ◌∙◌, append_assoc, arith, inl, inr, ◌⊎◌}
-use Rattle.std.specs.Prelude.{codes, is_some, is_none, IsTrue}
+use Rattle.std.proofs.Common.{◌≡◌, ℕ, ◌≤◌, true, false, List, [], ◌∷◌, ◌++◌, length, Option, Some, None, Ok, refl, sym, ap, subst, ◌∙◌, append_assoc, inl, inr}
+use Rattle.std.specs.Prelude.{codes}
 use Rattle.std.specs.List.{AllZip}
 use Rattle.std.specs.Str.{bytes_eq}
 use Rattle.std.proofs.lemmas.Bool.{and_parts, cases_Bool}
 use Rattle.std.proofs.lemmas.List.{append-nil}
 use Rattle.drc_base.specs.declared.limits.TheConstants.{MAX_POINTS, MAX_FACES}
 use Rattle.ply_text.specs.declared.headers.PlyHead.{PlyHead}
-use Rattle.ply_text.specs.Numbers.{is_digits, digits_value}
+use Rattle.ply_text.specs.Numbers.{is_digits}
 use Rattle.ply_text.specs.Words.{keyword_of, type_of}
 use Rattle.ply_text.specs.Declarations.{is_format, keyword_at, element_of, is_list, scalar_of, list_of}
-use Rattle.ply_text.specs.Draft.{Draft, PropertyParts, property, element, scalar, list, body}
-use Rattle.ply_text.specs.Header.{ends_header, is_end_by}
+use Rattle.ply_text.specs.Draft.{PropertyParts, element, scalar, list, body}
+use Rattle.ply_text.specs.Header.{ends_header}
 use Rattle.text_laws.specs.HeaderShape.{Line, writes, IsElement, IsProperty, IsListProperty, DeclareFaces, MayDeclareFaces, Declare, format_line}
 use Rattle.text_laws.proofs.Lines.{word_from, writes_within}
-use Rattle.text_laws.proofs.Declaring.{Stage, begun, formatted, points, faces, listed, draft_at, Next, GoesOn}
+use Rattle.text_laws.proofs.Declaring.{Stage, begun, formatted, points, faces, listed, draft_at, Next}
 
 no_type_list : (word : List ℕ) (t : ℕ) → type_of word ≡ Some t → bytes_eq word (codes "list") ≡ false
 unfolding type_of

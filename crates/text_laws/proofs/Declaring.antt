@@ -1,21 +1,17 @@
 -- Declarations, line by line and as a whole.
-use Rattle.std.proofs.Common.{◌≡◌, ℕ, ◌+◌, ◌≤◌, ◌<◌, ◌&&◌, Bool, true, false, List, [], ◌∷◌, ◌++◌, length, cond, Option, Some, None, Result, Ok, Err, refl, sym, ap, subst, ◌∙◌, append_assoc, arith, inl, inr, ◌⊎◌}
+use Rattle.std.proofs.Common.{◌≡◌, ℕ, ◌≤◌, ◌&&◌, Bool, true, false, List, [], ◌∷◌, ◌++◌, cond, Some, None, Ok, refl, sym, ap, ◌∙◌, inl, inr, ◌⊎◌}
 use Rattle.std.specs.Prelude.{codes, is_some, is_none}
-use Rattle.std.specs.List.{AllZip}
 use Rattle.std.specs.Str.{bytes_eq}
-use Rattle.std.proofs.lemmas.Bool.{and_parts, or_parts}
-use Rattle.drc_base.specs.declared.faults.Fault.{Fault}
+use Rattle.std.proofs.lemmas.Bool.{and_parts}
 use Rattle.drc_base.specs.declared.kinds.Kind.TheVariants.{PlyFormat, PlyHeader, PlyType, PlyElement, PointLimit, FaceLimit}
 use Rattle.drc_base.specs.declared.limits.TheConstants.{MAX_POINTS, MAX_FACES}
-use Rattle.drc_base.specs.Steps.{◌>>=◌}
 use Rattle.ply_text.specs.declared.headers.PlyHead.{PlyHead}
-use Rattle.ply_text.specs.Faults.{refuse, or_refuse}
 use Rattle.ply_text.specs.Numbers.{natural_within, is_digits}
 use Rattle.ply_text.specs.Words.{keyword_of, type_of, is_indices}
 use Rattle.ply_text.specs.Declarations.{is_format, keyword_at, element_of, is_list, scalar_of, list_of}
 use Rattle.ply_text.specs.Draft.{Draft, PropertyParts, property, in_vertex, element, scalar, list, declaration, body}
-use Rattle.text_laws.specs.HeaderShape.{Line, writes, Writes, IsElement, IsProperty, IsListProperty, format_line}
-use Rattle.text_laws.proofs.Lines.{word_from, word_is, passed, not_refused, or_refuse_ok, within_writes, writes_within}
+use Rattle.text_laws.specs.HeaderShape.{Line, IsElement, IsProperty, IsListProperty, format_line}
+use Rattle.text_laws.proofs.Lines.{word_from, passed, not_refused, or_refuse_ok, within_writes}
 use Rattle.text_laws.proofs.Keywords.{keyword_cases}
 
 -- how far the declarations have come
@@ -126,13 +122,13 @@ vertex_goes at heads d line l h =
     let f = element_form line e p.1 in
     passed (bytes_eq e.0 (codes "vertex") && true) _ _ (Ok d) _ p.2
     (λ name go.
-        let q = or_refuse_ok PointLimit at (natural_within MAX_POINTS e.1) _ d go in
-        let w = within_writes MAX_POINTS e.1 q.0 q.1 in
-        record {
-          next = points q.0 [];
-          by = (q.0, w.1, record { number = e.1; form = led (codes "element") f.0 e.0 e.1 line l f.1 ∙ ap (λ (x : List ℕ). codes "element" ∷ x ∷ e.1 ∷ []) (word_from e.0 (codes "vertex") (and_parts _ _ name).0); says = w.0 }, refl);
-          draft = let s = q.2 in cc;
-        })
+    let q = or_refuse_ok PointLimit at (natural_within MAX_POINTS e.1) _ d go in
+    let w = within_writes MAX_POINTS e.1 q.0 q.1 in
+    record {
+      next = points q.0 [];
+      by = (q.0, w.1, record { number = e.1; form = led (codes "element") f.0 e.0 e.1 line l f.1 ∙ ap (λ (x : List ℕ). codes "element" ∷ x ∷ e.1 ∷ []) (word_from e.0 (codes "vertex") (and_parts _ _ name).0); says = w.0 }, refl);
+      draft = let s = q.2 in cc;
+    })
     (λ name go. passed (bytes_eq e.0 (codes "face") && false) _ _ (Ok d) _ go (λ face _. absurd (let z = (and_parts (bytes_eq e.0 (codes "face")) false face).1 in cc)) (λ face go. not_refused _ PlyElement at d go))
 
 none_and : (P : Type 0) (b : Bool) → (b && false) ≡ true → P
@@ -154,16 +150,16 @@ face_goes at n ps heads d line l h =
     passed (bytes_eq e.0 (codes "vertex") && false) _ _ (Ok d) _ p.2
     (λ name go. none_and _ (bytes_eq e.0 (codes "vertex")) name)
     (λ _ go.
-        passed (bytes_eq e.0 (codes "face") && true) _ _ (Ok d) _ go
-        (λ name more.
-            let q = or_refuse_ok FaceLimit at (natural_within MAX_FACES e.1) _ d more in
-            let w = within_writes MAX_FACES e.1 q.0 q.1 in
-            record {
-              next = faces n ps q.0;
-              by = inr (q.0, w.1, record { number = e.1; form = led (codes "element") f.0 e.0 e.1 line l f.1 ∙ ap (λ (x : List ℕ). codes "element" ∷ x ∷ e.1 ∷ []) (word_from e.0 (codes "face") (and_parts _ _ name).0); says = w.0 }, refl);
-              draft = let s = q.2 in cc;
-            })
-        (λ _ more. not_refused _ PlyElement at d more))
+    passed (bytes_eq e.0 (codes "face") && true) _ _ (Ok d) _ go
+    (λ name more.
+    let q = or_refuse_ok FaceLimit at (natural_within MAX_FACES e.1) _ d more in
+    let w = within_writes MAX_FACES e.1 q.0 q.1 in
+    record {
+      next = faces n ps q.0;
+      by = inr (q.0, w.1, record { number = e.1; form = led (codes "element") f.0 e.0 e.1 line l f.1 ∙ ap (λ (x : List ℕ). codes "element" ∷ x ∷ e.1 ∷ []) (word_from e.0 (codes "face") (and_parts _ _ name).0); says = w.0 }, refl);
+      draft = let s = q.2 in cc;
+    })
+    (λ _ more. not_refused _ PlyElement at d more))
 
 -- no element where faces are declared
 no_element : (at : ℕ) (d d' : Draft) (line : Line) (P : Type 0) → is_none d.vertices ≡ false → in_vertex d ≡ false → element at d line ≡ Ok d' → P
@@ -174,8 +170,8 @@ no_element at d d' line P v i h =
     passed (bytes_eq e.0 (codes "vertex") && is_none d.vertices) _ _ (Ok d') P p.2
     (λ name go. left_out P (bytes_eq e.0 (codes "vertex")) (is_none d.vertices) v name)
     (λ _ go. passed (bytes_eq e.0 (codes "face") && in_vertex d) _ _ (Ok d') P go
-        (λ name more. left_out P (bytes_eq e.0 (codes "face")) (in_vertex d) i name)
-        (λ _ more. not_refused P PlyElement at d' more))
+    (λ name more. left_out P (bytes_eq e.0 (codes "face")) (in_vertex d) i name)
+    (λ _ more. not_refused P PlyElement at d' more))
 
 scalar_goes : (at n : ℕ) (ps : List PropertyParts) (heads : List PlyHead) (d : Draft) (line : Line) → Leads (codes "property") line → scalar at (draft_at (points n ps) heads) line ≡ Ok d → GoesOn (points n ps) heads line d
 unfolding scalar
@@ -227,9 +223,9 @@ no_list at d d' line P i h =
     let t = or_refuse_ok PlyType at (type_of p.0.0) _ d' p.2 in
     let u = or_refuse_ok PlyType at (type_of p.0.1) _ d' t.2 in
     passed (in_vertex d) _ _ (Ok d') P u.2 (λ _ go. not_refused P PlyType at d' go) (λ _ go.
-        passed ((is_some d.faces && is_none d.list) && is_indices p.0.2) _ _ (Ok d') P go
-        (λ there _. both P (is_some d.faces && is_none d.list) i (and_parts (is_some d.faces && is_none d.list) (is_indices p.0.2) there).0)
-        (λ _ more. not_refused P PlyElement at d' more))
+    passed ((is_some d.faces && is_none d.list) && is_indices p.0.2) _ _ (Ok d') P go
+    (λ there _. both P (is_some d.faces && is_none d.list) i (and_parts (is_some d.faces && is_none d.list) (is_indices p.0.2) there).0)
+    (λ _ more. not_refused P PlyElement at d' more))
 
 property_goes : (at n : ℕ) (ps : List PropertyParts) (heads : List PlyHead) (d : Draft) (line : Line) → Leads (codes "property") line →
     cond (is_list line) (list at (draft_at (points n ps) heads) line) (scalar at (draft_at (points n ps) heads) line) ≡ Ok d → GoesOn (points n ps) heads line d

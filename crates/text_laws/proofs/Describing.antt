@@ -1,15 +1,15 @@
 -- Heads that comments describe, line by line and all of them together.
-use Rattle.std.proofs.Common.{◌≡◌, ℕ, zero, suc, ◌+◌, ◌≤◌, ◌<◌, ◌&&◌, Bool, true, false, List, [], ◌∷◌, ◌++◌, length, map, cond, Option, Some, None, refl, sym, ap, subst, ◌∙◌, append_assoc, arith, inl, inr, ◌⊎◌}
+use Rattle.std.proofs.Common.{◌≡◌, ℕ, zero, suc, ◌+◌, ◌≤◌, ◌<◌, true, false, List, [], ◌∷◌, ◌++◌, length, map, Option, Some, None, refl, sym, ap, subst, ◌∙◌, append_assoc, arith, inl, inr}
 use Rattle.std.specs.Prelude.{codes, slice_get}
 use Rattle.std.specs.List.{filter}
-use Rattle.std.proofs.lemmas.Bool.{cases_Bool, false_from_ne_true}
+use Rattle.std.proofs.lemmas.Bool.{cases_Bool}
 use Rattle.std.proofs.lemmas.List.{length-append, length-map, append-nil}
 use Rattle.std.proofs.lemmas.Option.{slice_get_within}
 use Rattle.ply_text.specs.declared.headers.PlyHead.{PlyHead}
 use Rattle.ply_text.specs.declared.headers.PlyQuant.{PlyQuant}
 use Rattle.ply_text.specs.Comments.{attr_of, quant_of, with_quant}
-use Rattle.text_laws.specs.HeaderShape.{Line, is_attr, is_quant, is_quant_of, IsAttrLine, IsQuantLine, AreAttrLines, AreQuantLines, Describe}
-use Rattle.text_laws.proofs.Noting.{base, form_behind, attr_given, attr_read, QuantGiven, quant_given, quant_read}
+use Rattle.text_laws.specs.HeaderShape.{Line, is_attr, is_quant, is_quant_of, IsAttrLine, AreAttrLines, AreQuantLines, Describe}
+use Rattle.text_laws.proofs.Noting.{base, form_behind, attr_given, attr_read, quant_given, quant_read}
 use Rattle.text_laws.proofs.Quantising.{there_is, SettlesQuant, named_by, names_one, names_quant, length-with_quant, at_front, quant_front, QuantsRun, Settles, AllSettle, run_settles, AreNamed, settled_run}
 
 -- ---- one line after another
@@ -114,7 +114,7 @@ split_quant hs fs line lines n q small no' is e s =
     let none = count_none line no' in
     let one : length hs + count line ≡ length (with_quant n q hs) = omega arith in
     let both : QuantsRun (hs ++ s.news) (line ∷ filter is_quant lines) fs =
-        ((n, q), is, read, subst (λ (xs : List PlyHead). QuantsRun xs (filter is_quant lines) fs) (sym (quant_front hs s.news n q lt)) s.quants) in
+    ((n, q), is, read, subst (λ (xs : List PlyHead). QuantsRun xs (filter is_quant lines) fs) (sym (quant_front hs s.news n q lt)) s.quants) in
     record {
       news = s.news;
       attrs = rw no' (subst (λ k. AttrsRun k (filter is_attr lines) s.news) same s.attrs);
@@ -332,8 +332,8 @@ describe_notes fs lines few d =
     let c = attrs_count 0 fs (filter is_attr lines) d.attrs in
     let behind : Behind 0 lines = λ before after line e is. let b = d.behind before after line e is in let lt = b.2 in (b.0, b.1, omega arith) in
     let settles : AllSettle (bases fs) (filter is_quant lines) fs = λ k h f p q.
-        subst (λ (x : PlyHead). Settles k x f (filter is_quant lines)) (sym (at_bases fs k h f p q))
-        (record { same = refl; quant = subst (λ (ls : List Line). AreQuantLines k f.comps f.quant ls) (sym (filter_quants k lines)) (d.quants k f q) }) in
+    subst (λ (x : PlyHead). Settles k x f (filter is_quant lines)) (sym (at_bases fs k h f p q))
+    (record { same = refl; quant = subst (λ (ls : List Line). AreQuantLines k f.comps f.quant ls) (sym (filter_quants k lines)) (d.quants k f q) }) in
     splits_run [] fs lines (record {
       news = bases fs;
       attrs = attrs_run 0 fs (filter is_attr lines) (omega arith) d.attrs;

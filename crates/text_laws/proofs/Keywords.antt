@@ -1,15 +1,13 @@
 -- What the first word of a line says, and which lines are comments.
-use Rattle.std.proofs.Common.{◌≡◌, ℕ, ◌&&◌, ◌||◌, Bool, true, false, List, [], ◌∷◌, Result, Ok, refl, ap, inl, inr}
+use Rattle.std.proofs.Common.{◌≡◌, ℕ, true, false, List, [], ◌∷◌, Ok, refl, inl, inr}
 use Rattle.std.specs.Prelude.{codes}
 use Rattle.std.specs.Str.{bytes_eq}
-use Rattle.std.proofs.lemmas.Bool.{cases_Bool, or_from}
-use Rattle.drc_base.specs.declared.faults.Fault.{Fault}
+use Rattle.std.proofs.lemmas.Bool.{cases_Bool}
 use Rattle.ply_text.specs.Words.{keyword_of}
 use Rattle.ply_text.specs.Declarations.{keyword_at}
 use Rattle.ply_text.specs.Comments.{is_form}
 use Rattle.ply_text.specs.Draft.{Draft, comment, body, statement}
 use Rattle.text_laws.specs.HeaderShape.{Line, is_comment, has_form}
-use Rattle.text_laws.proofs.Lines.{word_from}
 
 abbrev pub Not : List ℕ → List ℕ → Type 0
 Not word text = bytes_eq word text ≡ false

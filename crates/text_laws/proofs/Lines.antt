@@ -1,15 +1,15 @@
 -- Words, numbers and steps that go on.
-use Rattle.std.proofs.Common.{◌≡◌, ℕ, ◌≤◌, ◌<◌, ◌&&◌, ◌||◌, Bool, true, false, List, [], ◌∷◌, cond, eqb, leb, Option, Some, None, Result, Ok, Err, refl, sym, ap, ◌∙◌, arith, inl, inr}
-use Rattle.std.specs.Prelude.{codes, option_and_then}
+use Rattle.std.proofs.Common.{◌≡◌, ℕ, ◌≤◌, Bool, true, false, List, cond, eqb, leb, Option, Some, None, Result, Ok, Err, refl, sym, ap, ◌∙◌}
+use Rattle.std.specs.Prelude.{option_and_then}
 use Rattle.std.specs.Str.{bytes_eq}
-use Rattle.std.proofs.lemmas.Bool.{cases_Bool, and_parts, and_from, leb-true, le-leb, eqb-true, eq-eqb}
+use Rattle.std.proofs.lemmas.Bool.{and_parts, and_from, leb-true, le-leb, eqb-true, eq-eqb}
 use Rattle.std.proofs.lemmas.Slice.Eq.{bytes_eq-Decides}
 use Rattle.drc_base.specs.declared.faults.Fault.{Fault}
 use Rattle.drc_base.specs.declared.kinds.Kind.{Kind}
 use Rattle.drc_base.specs.Steps.{◌>>=◌}
 use Rattle.ply_text.specs.Faults.{refuse, or_refuse}
 use Rattle.ply_text.specs.Numbers.{is_digits, digits_value, natural_of, natural_within, only_if}
-use Rattle.text_laws.specs.HeaderShape.{Line, writes}
+use Rattle.text_laws.specs.HeaderShape.{writes}
 
 pub word_from : (a b : List ℕ) → bytes_eq a b ≡ true → a ≡ b
 word_from a b e = (bytes_eq-Decides a b).0 e

@@ -1,14 +1,14 @@
 -- Heads that are named from the left, and the pieces of properties that give them.
-use Rattle.std.proofs.Common.{◌≡◌, ℕ, zero, suc, ◌+◌, ◌-◌, ◌≤◌, ◌<◌, ◌&&◌, Bool, true, false, List, [], ◌∷◌, ◌++◌, length, take, drop, cond, ltb, eqb, refl, sym, ap, subst, ◌∙◌, append_assoc, arith, inl, inr, ◌⊎◌}
-use Rattle.std.specs.List.{AllZip, AllByRecursion, list_all}
+use Rattle.std.proofs.Common.{◌≡◌, ℕ, zero, suc, ◌+◌, ◌-◌, ◌<◌, Bool, true, false, List, [], ◌∷◌, ◌++◌, length, drop, ltb, eqb, refl, sym, ap, subst, ◌∙◌, arith, inl, inr, ◌⊎◌}
+use Rattle.std.specs.List.{AllByRecursion, list_all}
 use Rattle.std.specs.Str.{bytes_eq}
 use Rattle.std.proofs.lemmas.Bool.{and_parts, and_from, cases_Bool, eqb-true, eq-eqb, ltb-true}
 use Rattle.std.proofs.lemmas.List.{drop_at}
 use Rattle.ply_text.specs.declared.headers.PlyHead.{PlyHead}
 use Rattle.ply_text.specs.Draft.{PropertyParts}
 use Rattle.ply_text.specs.NamedHeads.{NameRun, name_runs, is_named, stand, run_by, run_of, named_head, named_heads}
-use Rattle.text_laws.specs.NameShape.{AreNamed, IsAbsent, IsRowHead, IsPlainHead, IsNamedHead, NamesGive}
-use Rattle.text_laws.proofs.Lines.{word_from, word_is, passed}
+use Rattle.text_laws.specs.NameShape.{AreNamed, IsAbsent, IsRowHead, IsPlainHead, NamesGive}
+use Rattle.text_laws.proofs.Lines.{word_from, word_is}
 
 -- ---- names in front
 
@@ -172,7 +172,7 @@ row_named k ps (p ∷ piece) rest h heads cut r more =
     let some = row_has_name r.above r.below r.run r.place in
     let stands = stand_any r.run.words r.dtype p (piece ++ rest) (p ∷ piece) rest refl r.named in
     let taken : run_by name_runs p.dtype (p ∷ (piece ++ rest)) ≡ (r.run.usage, length r.run.words) =
-        ap (λ (rs : List NameRun). run_by rs p.dtype (p ∷ (piece ++ rest))) r.place ∙ row_first r.above r.below r.run p (piece ++ rest) r.first stands in
+    ap (λ (rs : List NameRun). run_by rs p.dtype (p ∷ (piece ++ rest))) r.place ∙ row_first r.above r.below r.run p (piece ++ rest) r.first stands in
     let left = rest_is (length r.run.words) p (piece ++ rest) (p ∷ piece) rest refl (named_long r.run.words r.dtype (p ∷ piece) r.named) some in
     let dtype : p.dtype ≡ r.dtype = first_dtype r.run.words r.dtype p piece some r.named in
     let head : h ≡ named_head k p.dtype (r.run.usage, length r.run.words) = r.is ∙ ap (λ d. named_head k d (r.run.usage, length r.run.words)) (sym dtype) in

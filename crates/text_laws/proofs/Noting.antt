@@ -1,17 +1,17 @@
 -- A line that describes a head, and its fields.
-use Rattle.std.proofs.Common.{◌≡◌, ℕ, ◌+◌, ◌-◌, ◌≤◌, ◌<◌, ◌^◌, ◌&&◌, ◌||◌, Bool, true, false, List, [], ◌∷◌, ◌++◌, length, cond, eqb, leb, Option, Some, None, refl, sym, ap, subst, ◌∙◌, arith, inl, inr, ◌⊎◌}
+use Rattle.std.proofs.Common.{◌≡◌, ℕ, ◌-◌, ◌≤◌, ◌<◌, ◌^◌, ◌&&◌, ◌||◌, Bool, true, List, [], ◌∷◌, length, eqb, leb, Option, Some, None, refl, sym, ap, subst, ◌∙◌, arith, inl, inr}
 use Rattle.std.specs.Prelude.{codes, is_none, IsTrue, slice_get}
 use Rattle.std.specs.List.{AllZip}
 use Rattle.std.specs.Str.{bytes_eq}
-use Rattle.std.proofs.lemmas.Bool.{and_parts, and_from, or_cases, leb-true, le-leb, eqb-true, eq-eqb}
+use Rattle.std.proofs.lemmas.Bool.{and_parts, or_cases, leb-true, le-leb, eqb-true, eq-eqb}
 use Rattle.drc_base.specs.declared.limits.TheConstants.{MAX_COMPONENTS}
 use Rattle.ply_text.specs.declared.headers.PlyHead.{PlyHead}
 use Rattle.ply_text.specs.declared.headers.PlyQuant.{PlyQuant}
 use Rattle.ply_text.specs.Numbers.{natural_within, only_if, pattern_of}
-use Rattle.ply_text.specs.Comments.{is_form, is_dtype, head_of, attr_of, patterns_of, fields_of, quant_of}
+use Rattle.ply_text.specs.Comments.{is_dtype, head_of, attr_of, patterns_of, fields_of, quant_of}
 use Rattle.ply_text.specs.IsHeader.{PlyQuantFits}
 use Rattle.text_laws.specs.HeaderShape.{Line, writes, Writes, WritesPattern, has_form, is_attr, is_quant, IsAttrLine, IsQuantLine}
-use Rattle.text_laws.proofs.Lines.{word_from, passed, bind_some, only_if_some, within_writes, writes_within}
+use Rattle.text_laws.proofs.Lines.{word_from, bind_some, only_if_some, within_writes, writes_within}
 
 -- the tokens behind the three words
 pub form_behind : (form : List ℕ) (line : Line) → has_form form line ≡ true → (tokens : Line) × (line ≡ codes "comment" ∷ codes "drc" ∷ form ∷ tokens)

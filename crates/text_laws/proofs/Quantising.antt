@@ -1,13 +1,12 @@
 -- Heads that are given their quantisations, line by line and each by its own line.
-use Rattle.std.proofs.Common.{◌≡◌, ℕ, zero, suc, ◌+◌, ◌≤◌, ◌<◌, ◌&&◌, Bool, true, false, List, [], ◌∷◌, ◌++◌, length, cond, Option, Some, None, refl, sym, ap, subst, ◌∙◌, arith, inl, inr, ◌⊎◌}
-use Rattle.std.specs.Prelude.{codes, slice_get}
+use Rattle.std.proofs.Common.{◌≡◌, ℕ, zero, suc, ◌≤◌, ◌<◌, true, false, List, [], ◌∷◌, ◌++◌, length, Option, Some, None, refl, sym, ap, subst, ◌∙◌, arith, inl, inr}
+use Rattle.std.specs.Prelude.{slice_get}
 use Rattle.std.specs.List.{filter}
-use Rattle.std.proofs.lemmas.Bool.{and_parts, cases_Bool, cases_eq, false_from_ne_true}
-use Rattle.std.proofs.lemmas.Option.{slice_get_within}
+use Rattle.std.proofs.lemmas.Bool.{and_parts, cases_eq, false_from_ne_true}
 use Rattle.ply_text.specs.declared.headers.PlyHead.{PlyHead}
 use Rattle.ply_text.specs.declared.headers.PlyQuant.{PlyQuant}
 use Rattle.ply_text.specs.Comments.{quant_of, with_quant}
-use Rattle.text_laws.specs.HeaderShape.{Line, writes, is_quant, is_quant_of, IsQuantLine, AreQuantLines}
+use Rattle.text_laws.specs.HeaderShape.{Line, is_quant, is_quant_of, IsQuantLine, AreQuantLines}
 use Rattle.text_laws.proofs.Lines.{writes_one}
 use Rattle.text_laws.proofs.Noting.{base, QuantGiven, quant_given, quant_read}
 

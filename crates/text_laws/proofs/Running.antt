@@ -1,10 +1,9 @@
 -- A header line by line, up to its end: its comments and its declarations go on side by side.
-use Rattle.std.proofs.Common.{◌≡◌, ℕ, zero, suc, ◌+◌, ◌≤◌, ◌<◌, ◌&&◌, Bool, true, false, List, [], ◌∷◌, ◌++◌, length, cond, leb, Option, Some, None, Result, Ok, Err, refl, sym, ap, subst, ◌∙◌, arith, inl, inr, not}
+use Rattle.std.proofs.Common.{◌≡◌, ℕ, ◌+◌, true, false, List, [], ◌∷◌, ◌++◌, length, leb, Ok, refl, sym, ap, subst, ◌∙◌, arith, inl, inr}
 use Rattle.std.specs.Prelude.{codes}
 use Rattle.std.specs.List.{filter}
-use Rattle.std.proofs.lemmas.Bool.{cases_Bool, leb-true, leb-false, lt-leb, and_left, and_right, or_parts}
+use Rattle.std.proofs.lemmas.Bool.{cases_Bool, leb-false, lt-leb, and_left, and_right, or_parts}
 use Rattle.std.specs.Str.{bytes_eq}
-use Rattle.drc_base.specs.declared.faults.Fault.{Fault}
 use Rattle.drc_base.specs.declared.kinds.Kind.TheVariants.{AttrLimit, PlyAttr, PlyShort}
 use Rattle.drc_base.specs.declared.limits.TheConstants.{MAX_ATTRIBUTES}
 use Rattle.drc_base.specs.Steps.{◌>>=◌}
@@ -14,11 +13,11 @@ use Rattle.ply_text.specs.Words.{keyword_of}
 use Rattle.ply_text.specs.Comments.{is_form, attr_of, quant_of, with_quant}
 use Rattle.ply_text.specs.Declarations.{keyword_at}
 use Rattle.ply_text.specs.Draft.{Draft, attribute, quantisation, comment, body, statement}
-use Rattle.ply_text.specs.Header.{is_end_by, ends_header, header_from, ply_header_at}
+use Rattle.ply_text.specs.Header.{ends_header, header_from, ply_header_at}
 use Rattle.text_laws.specs.HeaderShape.{Line, is_comment, is_declaration, has_form, is_attr, is_quant}
 use Rattle.text_laws.proofs.Lines.{passed, not_refused, or_refuse_ok, step_ok}
-use Rattle.text_laws.proofs.Keywords.{Is, Not, keyword_cases, comment_word, other_word, statement_parts}
-use Rattle.text_laws.proofs.Declaring.{Stage, draft_at, Next, GoesOn, body_goes}
+use Rattle.text_laws.proofs.Keywords.{keyword_cases, comment_word, other_word, statement_parts}
+use Rattle.text_laws.proofs.Declaring.{Stage, draft_at, Next, body_goes}
 use Rattle.text_laws.proofs.Declared.{Steps, next_body, next_goes}
 use Rattle.text_laws.proofs.Describing.{Notes, attr, quant, nothing, NotesRun}
 
@@ -51,19 +50,19 @@ unfolding comment attribute quantisation
 comment_notes at d d' line forms e =
     passed (is_form (codes "attr") line) _ _ (Ok d') _ e
     (λ is go.
-        passed (leb MAX_ATTRIBUTES (length d.heads)) _ _ (Ok d') _ go
-        (λ _ more. not_refused _ AttrLimit at d' more)
-        (λ room more.
-            let p = or_refuse_ok PlyAttr at (attr_of (length d.heads) line) _ d' more in
-            let last = p.2 in
-            record { next = d.heads ++ p.0 ∷ []; notes = attr p.0 (forms (codes "attr") ∙ is) (leb-false MAX_ATTRIBUTES (length d.heads) room) p.1 refl; draft = cc last }))
+    passed (leb MAX_ATTRIBUTES (length d.heads)) _ _ (Ok d') _ go
+    (λ _ more. not_refused _ AttrLimit at d' more)
+    (λ room more.
+    let p = or_refuse_ok PlyAttr at (attr_of (length d.heads) line) _ d' more in
+    let last = p.2 in
+    record { next = d.heads ++ p.0 ∷ []; notes = attr p.0 (forms (codes "attr") ∙ is) (leb-false MAX_ATTRIBUTES (length d.heads) room) p.1 refl; draft = cc last }))
     (λ no' go.
-        passed (is_form (codes "quant") line) _ _ (Ok d') _ go
-        (λ is more.
-            let p = or_refuse_ok PlyAttr at (quant_of d.heads line) _ d' more in
-            let last = p.2 in
-            record { next = with_quant p.0.0 p.0.1 d.heads; notes = quant p.0 (forms (codes "attr") ∙ no') (forms (codes "quant") ∙ is) p.1 refl; draft = cc last })
-        (λ none more. record { next = d.heads; notes = nothing (forms (codes "attr") ∙ no') (forms (codes "quant") ∙ none) refl; draft = cc more }))
+    passed (is_form (codes "quant") line) _ _ (Ok d') _ go
+    (λ is more.
+    let p = or_refuse_ok PlyAttr at (quant_of d.heads line) _ d' more in
+    let last = p.2 in
+    record { next = with_quant p.0.0 p.0.1 d.heads; notes = quant p.0 (forms (codes "attr") ∙ no') (forms (codes "quant") ∙ is) p.1 refl; draft = cc last })
+    (λ none more. record { next = d.heads; notes = nothing (forms (codes "attr") ∙ no') (forms (codes "quant") ∙ none) refl; draft = cc more }))
 
 -- ---- from line to line
 
@@ -126,20 +125,20 @@ header_ends s hs at (line ∷ lines) h e =
       header = let z : at + length {A = Line} [] ≡ at = omega arith in rw z last;
     })
     (λ _ go.
-        let p = step_ok (statement at d line) (λ next. header_from (at + 1) next lines) h go in
-        statement_parts at d p.0 line (Ends s hs at (line ∷ lines) h) p.1
-        (λ is forms c.
-            let n = comment_notes at d p.0 line forms c in
-            let same : p.0 ≡ draft_at s n.next = sym n.draft ∙ with_heads s hs n.next in
-            further s hs at line lines h n.next s (subst (λ (xs : List PlyHead). Notes xs line n.next) (heads_at s hs) n.notes) (comment_goes s s line is refl)
-            (header_ends s n.next (at + 1) lines h (ap (λ (x : Draft). header_from (at + 1) x lines) (sym same) ∙ p.2)))
-        (λ is a q same.
-            further s hs at line lines h hs s (nothing a q refl) (comment_goes s s line is refl)
-            (header_ends s hs (at + 1) lines h (ap (λ (x : Draft). header_from (at + 1) x lines) same ∙ p.2)))
-        (λ no' b.
-            let g = body_goes s at hs p.0 line b in
-            further s hs at line lines h hs g.next (nothing (plain_line (codes "attr") line no') (plain_line (codes "quant") line no') refl) (declaration_goes s g.next line no' g.by)
-            (header_ends g.next hs (at + 1) lines h (ap (λ (x : Draft). header_from (at + 1) x lines) (sym g.draft) ∙ p.2))))
+    let p = step_ok (statement at d line) (λ next. header_from (at + 1) next lines) h go in
+    statement_parts at d p.0 line (Ends s hs at (line ∷ lines) h) p.1
+    (λ is forms c.
+    let n = comment_notes at d p.0 line forms c in
+    let same : p.0 ≡ draft_at s n.next = sym n.draft ∙ with_heads s hs n.next in
+    further s hs at line lines h n.next s (subst (λ (xs : List PlyHead). Notes xs line n.next) (heads_at s hs) n.notes) (comment_goes s s line is refl)
+    (header_ends s n.next (at + 1) lines h (ap (λ (x : Draft). header_from (at + 1) x lines) (sym same) ∙ p.2)))
+    (λ is a q same.
+    further s hs at line lines h hs s (nothing a q refl) (comment_goes s s line is refl)
+    (header_ends s hs (at + 1) lines h (ap (λ (x : Draft). header_from (at + 1) x lines) same ∙ p.2)))
+    (λ no' b.
+    let g = body_goes s at hs p.0 line b in
+    further s hs at line lines h hs g.next (nothing (plain_line (codes "attr") line no') (plain_line (codes "quant") line no') refl) (declaration_goes s g.next line no' g.by)
+    (header_ends g.next hs (at + 1) lines h (ap (λ (x : Draft). header_from (at + 1) x lines) (sym g.draft) ∙ p.2))))
 
 -- ---- and back
 
@@ -162,12 +161,12 @@ word_reads s at hs next word tokens is n =
     let d = draft_at s hs in
     keyword_cases word ((statement at d (word ∷ tokens) ≡ Ok (draft_at s next)) × (ends_header d (word ∷ tokens) ≡ false))
     (λ c.
-        let notes : Notes d.heads (word ∷ tokens) next = subst (λ (xs : List PlyHead). Notes xs (word ∷ tokens) next) (sym (heads_at s hs)) n in
-        let r = comment_reads at d (word ∷ tokens) next (λ form. comment_word form word tokens c) notes in
-        (rw c (r ∙ ap Ok (with_heads s hs next)), and_right d.formatted _ (rw c refl)))
+    let notes : Notes d.heads (word ∷ tokens) next = subst (λ (xs : List PlyHead). Notes xs (word ∷ tokens) next) (sym (heads_at s hs)) n in
+    let r = comment_reads at d (word ∷ tokens) next (λ form. comment_word form word tokens c) notes in
+    (rw c (r ∙ ap Ok (with_heads s hs next)), and_right d.formatted _ (rw c refl)))
     (λ c o.
-        let same : next ≡ hs = notes_nothing hs next (word ∷ tokens) (other_word (codes "attr") word tokens c) (other_word (codes "quant") word tokens c) n in
-        (rw (c, o, same) refl, and_right d.formatted _ (rw (c, o) refl)))
+    let same : next ≡ hs = notes_nothing hs next (word ∷ tokens) (other_word (codes "attr") word tokens c) (other_word (codes "quant") word tokens c) n in
+    (rw (c, o, same) refl, and_right d.formatted _ (rw (c, o) refl)))
     (λ c o x. absurd (let no' : is_comment (word ∷ tokens) ≡ false = rw (c, o) refl in cc (is, no')))
     (λ c o x p. absurd (let no' : is_comment (word ∷ tokens) ≡ false = rw (c, o) refl in cc (is, no')))
     (λ c o x p q. absurd (let no' : is_comment (word ∷ tokens) ≡ false = rw (c, o) refl in cc (is, no')))

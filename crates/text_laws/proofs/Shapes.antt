@@ -1,30 +1,30 @@
 -- A header is read off lines exactly where they have its shape.
-use Rattle.std.proofs.Common.{◌≡◌, ℕ, zero, suc, ◌+◌, ◌*◌, ◌≤◌, ◌<◌, ◌&&◌, ◌||◌, Bool, true, false, All, List, [], ◌∷◌, ◌++◌, length, map, cond, ltb, leb, Option, Some, None, Result, Ok, Err, refl, sym, ap, subst, ◌∙◌, append_assoc, arith, not}
-use Rattle.std.specs.Prelude.{codes, is_some, is_none, unwrap_or, IsTrue}
+use Rattle.std.proofs.Common.{◌≡◌, ℕ, ◌+◌, ◌*◌, ◌≤◌, ◌||◌, true, false, List, [], ◌∷◌, ◌++◌, length, cond, ltb, Option, Some, Ok, refl, sym, ap, subst, ◌∙◌, append_assoc, arith, not}
+use Rattle.std.specs.Prelude.{codes, is_some, is_none, unwrap_or}
 use Rattle.std.specs.List.{filter, list_all, AllByRecursion}
 use Rattle.std.specs.Str.{bytes_eq}
-use Rattle.std.proofs.lemmas.Bool.{and_parts, and_from, not-true, not-false, ltb-true, ltb-false, lt-ltb, le-ltb}
+use Rattle.std.proofs.lemmas.Bool.{and_parts, and_from, not-false, ltb-true, ltb-false, lt-ltb, le-ltb}
 use Rattle.std.proofs.lemmas.List.{length-append, length-map}
 use Rattle.std.proofs.lemmas.List.Elements.{recursion_from_All}
 use Rattle.std.proofs.lemmas.List.Sums.{AllPass-from_list_all}
-use Rattle.drc_base.specs.declared.faults.Fault.{Fault}
 use Rattle.drc_base.specs.declared.kinds.Kind.TheVariants.{PlyMagic, PlyHeader, PlyElement, PlyAttr, PlyShort, AttrLimit, ValueLimit}
 use Rattle.drc_base.specs.declared.limits.TheConstants.{MAX_ATTRIBUTES, MAX_VALUES}
 use Rattle.ply_text.specs.declared.headers.Header.{Header}
 use Rattle.ply_text.specs.declared.headers.PlyHead.{PlyHead}
 use Rattle.ply_text.specs.Words.{keyword_of}
-use Rattle.ply_text.specs.Declarations.{is_magic, is_alone, keyword_at}
+use Rattle.ply_text.specs.Declarations.{is_magic, is_alone}
 use Rattle.ply_text.specs.Draft.{Draft, PropertyParts}
 use Rattle.ply_text.specs.Header.{column_types, is_head_typed, property_types, is_whole, heads_of, agrees, header_by, ply_header_at, is_end_by, ends_header, header_from, no_draft, header_of_lines, header_of}
 use Rattle.ply_text.specs.NamedHeads.{named_heads}
 use Rattle.ply_text.specs.Tokens.{token_lines}
-use Rattle.text_laws.specs.HeaderShape.{Line, is_declaration, heads_given, IsHeaderOf, BeginWithHeader}
-use Rattle.text_laws.specs.Laws.{HeadersAreShapes, TextsAreShapes}
+use Rattle.text_laws.specs.HeaderShape.{Line, is_declaration, AreHeads, IsHeaderOf, BeginWithHeader}
+use Rattle.text_laws.specs.Laws.{HeadersAreShapes, TextsAreShapes, NamesAreShapes}
 use Rattle.text_laws.proofs.Lines.{word_from, word_is, passed, not_refused}
 use Rattle.text_laws.proofs.Keywords.{keyword_cases}
 use Rattle.text_laws.proofs.Declaring.{Stage, draft_at}
 use Rattle.text_laws.proofs.Declared.{Steps, IsDone, Reaches, steps_declare, declare_reach}
 use Rattle.text_laws.proofs.Describing.{NotesRun, notes_describe, describe_notes}
+use Rattle.text_laws.proofs.Naming.{named_give, give_named}
 use Rattle.text_laws.proofs.Running.{Ends, header_ends, ends_read}
 
 abbrev magic_line : Line
@@ -80,6 +80,19 @@ done_draft (Stage.points k qs) heads n ps m types d = (rw (d.0, d.1, d.2, d.3) r
 done_draft (Stage.faces k qs l) heads n ps m types d = absurd d
 done_draft (Stage.listed k qs l t) heads n ps m types d = (rw (d.0, d.1, d.2, d.3) refl, rw (d.2, d.3) refl)
 
+-- the heads of comments, else those of names
+abbrev heads_given : List PlyHead → List PropertyParts → List PlyHead
+heads_given [] ps = named_heads 0 0 ps
+heads_given (h ∷ hs) ps = h ∷ hs
+
+given_heads : (ds : List PlyHead) (ps : List PropertyParts) (hs : List PlyHead) → hs ≡ heads_given ds ps → AreHeads ds ps hs
+given_heads [] ps hs e = named_give hs 0 ps e
+given_heads (d ∷ ds) ps hs e = e
+
+heads_from : (ds : List PlyHead) (ps : List PropertyParts) (hs : List PlyHead) → AreHeads ds ps hs → hs ≡ heads_given ds ps
+heads_from [] ps hs h = give_named hs 0 ps h
+heads_from (d ∷ ds) ps hs e = e
+
 heads_same : (hs : List PlyHead) (ps : List PropertyParts) → cond (ltb 0 (length hs)) hs (named_heads 0 0 ps) ≡ heads_given hs ps
 heads_same [] ps = refl
 heads_same (h ∷ hs) ps = rw (lt-ltb 0 (length (h ∷ hs)) (omega arith)) refl
@@ -100,12 +113,12 @@ header_passes at d heads h e =
     passed (ltb MAX_ATTRIBUTES (length heads)) _ _ (Ok h) _ e
     (λ _ go. not_refused _ AttrLimit at h go)
     (λ few go.
-        passed (not (agrees heads d.properties)) _ _ (Ok h) _ go
-        (λ _ more. not_refused _ PlyAttr at h more)
-        (λ agree more.
-            passed (ltb MAX_VALUES (unwrap_or d.vertices 0 * length d.properties)) _ _ (Ok h) _ more
-            (λ _ last. not_refused _ ValueLimit at h last)
-            (λ values last. record { few = ltb-false MAX_ATTRIBUTES (length heads) few; agree = not-false (agrees heads d.properties) agree; values = ltb-false MAX_VALUES (unwrap_or d.vertices 0 * length d.properties) values; same = cc last })))
+    passed (not (agrees heads d.properties)) _ _ (Ok h) _ go
+    (λ _ more. not_refused _ PlyAttr at h more)
+    (λ agree more.
+    passed (ltb MAX_VALUES (unwrap_or d.vertices 0 * length d.properties)) _ _ (Ok h) _ more
+    (λ _ last. not_refused _ ValueLimit at h last)
+    (λ values last. record { few = ltb-false MAX_ATTRIBUTES (length heads) few; agree = not-false (agrees heads d.properties) agree; values = ltb-false MAX_VALUES (unwrap_or d.vertices 0 * length d.properties) values; same = cc last })))
 
 passes_header : (at : ℕ) (d : Draft) (heads : List PlyHead) → length heads ≤ MAX_ATTRIBUTES → agrees heads d.properties ≡ true → unwrap_or d.vertices 0 * length d.properties ≤ MAX_VALUES → header_by at d heads ≡ Ok (made at d heads)
 unfolding header_by
@@ -126,13 +139,13 @@ closes at stage heads line h ends e =
     passed (not (is_alone line)) _ _ (Ok h) _ e
     (λ _ go. not_refused _ PlyHeader at h go)
     (λ alone go.
-        passed (not (is_whole d)) _ _ (Ok h) _ go
-        (λ _ more. not_refused _ PlyElement at h more)
-        (λ whole more. record {
-          end = end_form d line ends (not-false (is_alone line) alone);
-          done = whole_done stage heads (not-false (is_whole d) whole);
-          passes = header_passes at d (heads_of d) h more;
-        }))
+    passed (not (is_whole d)) _ _ (Ok h) _ go
+    (λ _ more. not_refused _ PlyElement at h more)
+    (λ whole more. record {
+      end = end_form d line ends (not-false (is_alone line) alone);
+      done = whole_done stage heads (not-false (is_whole d) whole);
+      passes = header_passes at d (heads_of d) h more;
+    }))
 
 draft_heads : (stage : Stage) (heads : List PlyHead) → (draft_at stage heads).heads ≡ heads
 draft_heads Stage.begun heads = refl
@@ -162,7 +175,7 @@ made_shape between stage heads h steps notes c =
       described = heads;
       declared = steps_declare (unwrap_or d.vertices 0) d.properties d.faces d.list (filter is_declaration between) stage steps c.done;
       describe = notes_describe heads between notes;
-      heads = heads_are d ∙ ap (λ (xs : List PlyHead). heads_given xs d.properties) (draft_heads stage heads);
+      heads = given_heads heads d.properties hs (heads_are d ∙ ap (λ (xs : List PlyHead). heads_given xs d.properties) (draft_heads stage heads));
       few = p.few;
       types = refl;
       columns = word_from (column_types hs) (property_types d.properties) agree.0;
@@ -225,8 +238,9 @@ front_read : (h : Header) (front rest : List Line) → IsHeaderOf h front → he
 unfolding agrees
 front_read h front rest is =
     let b = is.between in
+    let same_heads = heads_from is.described is.properties h.heads is.heads in
     let r : Reaches Stage.begun h.vertices is.properties h.faces h.list (filter is_declaration b) = declare_reach h.vertices is.properties h.faces h.list (filter is_declaration b) is.declared in
-    let few : length (heads_given is.described is.properties) ≤ MAX_ATTRIBUTES = subst (λ (x : List PlyHead). length x ≤ MAX_ATTRIBUTES) is.heads is.few in
+    let few : length (heads_given is.described is.properties) ≤ MAX_ATTRIBUTES = subst (λ (x : List PlyHead). length x ≤ MAX_ATTRIBUTES) same_heads is.few in
     let notes = describe_notes is.described b (few_described is.described is.properties few) is.describe in
     let d = done_draft r.stage is.described h.vertices is.properties h.faces h.list r.done in
     let heads = heads_given is.described is.properties in
@@ -235,11 +249,11 @@ front_read h front rest is =
     let count : length (property_types is.properties) ≡ length is.properties = length-map is.properties (λ p. p.dtype) in
     let f = full is.described h.vertices is.properties h.faces h.list in
     let agree = and_from (bytes_eq (column_types heads) (property_types is.properties)) (list_all is_head_typed heads)
-        (subst (λ (x : List ℕ). bytes_eq x (property_types is.properties) ≡ true) (sym (ap column_types (sym is.heads) ∙ is.columns ∙ is.types)) (word_is (property_types is.properties)))
-        (subst (λ (x : List PlyHead). list_all is_head_typed x ≡ true) is.heads (typed_all h.heads (recursion_from_All (λ head. is_head_typed head ≡ true) h.heads is.typed))) in
+    (subst (λ (x : List ℕ). bytes_eq x (property_types is.properties) ≡ true) (sym (ap column_types (sym same_heads) ∙ is.columns ∙ is.types)) (word_is (property_types is.properties)))
+    (subst (λ (x : List PlyHead). list_all is_head_typed x ≡ true) same_heads (typed_all h.heads (recursion_from_All (λ head. is_head_typed head ≡ true) h.heads is.typed))) in
     let last : header_by (2 + length b) f heads ≡ Ok (made (2 + length b) f heads) =
-        passes_header (2 + length b) f heads few agree (subst (λ w. h.vertices * w ≤ MAX_VALUES) (ap length is.types ∙ count) is.values) in
-    let same : made (2 + length b) f heads ≡ h = made_is (2 + length b) h heads is.properties is.heads is.types (is.body ∙ ap (λ k. k + 1) long) in
+    passes_header (2 + length b) f heads few agree (subst (λ w. h.vertices * w ≤ MAX_VALUES) (ap length is.types ∙ count) is.values) in
+    let same : made (2 + length b) f heads ≡ h = made_is (2 + length b) h heads is.properties same_heads is.types (is.body ∙ ap (λ k. k + 1) long) in
     ap (λ (x : List Line). header_of_lines (x ++ rest)) is.whole
     ∙ rw magic_is refl
     ∙ ap (header_from 2 no_draft) (append_assoc b (end_line ∷ []) rest)
@@ -254,3 +268,6 @@ headers_are_shapes lines h = (read_shape lines h, λ begin. ap header_of_lines b
 pub texts_are_shapes : TextsAreShapes
 unfolding header_of
 texts_are_shapes text h = headers_are_shapes (token_lines text) h
+
+pub names_are_shapes : NamesAreShapes
+names_are_shapes properties heads = (named_give heads 0 properties, give_named heads 0 properties)

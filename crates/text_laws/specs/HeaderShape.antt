@@ -1,6 +1,6 @@
 -- The header of a PLY text as a shape of its lines (PLY 1.0, in this project's profile): which lines stand where, and what
 -- they say, of the whole list of lines at once. Nothing is said here of how they are read.
-use Rattle.std.specs.Prelude.{ℕ, ◌≡◌, ◌<◌, ◌≤◌, ◌+◌, ◌*◌, ◌^◌, ◌++◌, ◌&&◌, ◌||◌, ◌==◌, Bool, true, false, not, IsTrue, List, [], ◌∷◌, length}
+use Rattle.std.specs.Prelude.{ℕ, ◌≡◌, ◌<◌, ◌≤◌, ◌+◌, ◌*◌, ◌^◌, ◌++◌, ◌&&◌, ◌||◌, ◌==◌, Bool, false, not, IsTrue, List, [], ◌∷◌, length}
 use Rattle.std.specs.Prelude.{Option, None, Some, All, codes, slice_get, slice_index_or}
 use Rattle.std.specs.List.{AllZip, filter}
 use Rattle.std.specs.Str.{bytes_eq}
@@ -12,9 +12,9 @@ use Rattle.ply_text.specs.Comments.{is_dtype}
 use Rattle.ply_text.specs.Draft.{PropertyParts}
 use Rattle.ply_text.specs.Header.{column_types, is_head_typed, property_types}
 use Rattle.ply_text.specs.IsHeader.{PlyQuantFits}
-use Rattle.ply_text.specs.NamedHeads.{named_heads}
 use Rattle.ply_text.specs.Numbers.{is_digits, digits_value, pattern_of}
 use Rattle.ply_text.specs.Words.{type_of, is_indices}
+use Rattle.text_laws.specs.NameShape.{NamesGive}
 
 -- a line, by its tokens
 abbrev pub Line : Type 0
@@ -164,10 +164,10 @@ pub record Describe (heads : List PlyHead) (lines : List Line) : Type 0 where
 
 -- ---- the header
 
--- the heads of a header: those that its comments describe, else those that the names of its properties give
-abbrev pub heads_given : List PlyHead → List PropertyParts → List PlyHead
-heads_given [] properties = named_heads 0 0 properties
-heads_given (head ∷ heads) properties = head ∷ heads
+-- the heads of a header: those that its comments describe; where they describe none, those that the names of its properties give
+abbrev pub AreHeads : List PlyHead → List PropertyParts → List PlyHead → Type 0
+AreHeads [] properties heads = NamesGive 0 properties heads
+AreHeads (head ∷ described) properties heads = heads ≡ head ∷ described
 
 -- these lines, from `ply` to `end_header`, are a header, and it says h. Comments stand anywhere between, and say no more
 -- than the heads; the other lines stand in one order; the heads have the properties' types in a row, within the limits
@@ -178,7 +178,7 @@ pub record IsHeaderOf (h : Header) (lines : List Line) : Type 0 where
   pub described : List PlyHead
   pub declared : Declare h.vertices properties h.faces h.list (filter is_declaration between)
   pub describe : Describe described between
-  pub heads : h.heads ≡ heads_given described properties
+  pub heads : AreHeads described properties h.heads
   pub few : length h.heads ≤ MAX_ATTRIBUTES
   pub types : h.types ≡ property_types properties
   pub columns : column_types h.heads ≡ h.types

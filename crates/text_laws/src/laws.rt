@@ -1,11 +1,13 @@
 //! What holds of the definitions themselves.
 
-ghost use Rattle.text_laws.specs.Laws.{HeadersAreShapes, TextsAreShapes};
+ghost use Rattle.text_laws.specs.Laws.{HeadersAreShapes, TextsAreShapes, NamesAreShapes};
 
 /// The header of a PLY text is a shape of its lines: it is read exactly where the lines begin with the magic, then
 /// declarations in their one order with comments anywhere among them, and the end line; and it is what these say,
-/// whatever follows. This is the contract of a call that does nothing.
+/// whatever follows. Where no comment describes attributes, they are those of the pieces of the properties that have
+/// known names. This is the contract of a call that does nothing.
 pub fn headers_are_shapes()
     ensures lines { HeadersAreShapes }
     ensures text { TextsAreShapes }
+    ensures names { NamesAreShapes }
 {}
