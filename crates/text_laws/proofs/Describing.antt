@@ -47,11 +47,11 @@ count_more line lines = elim (cases_Bool (is_attr line)) [
 count_none : (line : Line) → is_attr line ≡ false → count line ≡ 0
 count_none line e = rw e refl
 
-behind_nil : (k : ℕ) → Behind k []
+pub behind_nil : (k : ℕ) → Behind k []
 behind_nil k [] after line e is = absurd (cc e)
 behind_nil k (b ∷ before) after line e is = absurd (cc e)
 
-behind_more : (k : ℕ) (line : Line) (lines : List Line) → (is_quant line ≡ true → (n : ℕ) × (is_quant_of n line ≡ true) × (n < k)) → Behind (k + count line) lines → Behind k (line ∷ lines)
+pub behind_more : (k : ℕ) (line : Line) (lines : List Line) → (is_quant line ≡ true → (n : ℕ) × (is_quant_of n line ≡ true) × (n < k)) → Behind (k + count line) lines → Behind k (line ∷ lines)
 behind_more k line lines here rest [] after x e is =
     let s : line ≡ x = cc e in
     let h = here (ap is_quant s ∙ is) in

@@ -8,3 +8,4 @@ pub mod Describing
 pub mod Running
 pub mod Naming
 pub mod Shapes
+mod Examples

@@ -234,7 +234,7 @@ few_described : (ds : List PlyHead) (ps : List PropertyParts) → length (heads_
 few_described [] ps le = omega arith
 few_described (d ∷ ds) ps le = le
 
-front_read : (h : Header) (front rest : List Line) → IsHeaderOf h front → header_of_lines (front ++ rest) ≡ Ok h
+pub front_read : (h : Header) (front rest : List Line) → IsHeaderOf h front → header_of_lines (front ++ rest) ≡ Ok h
 unfolding agrees
 front_read h front rest is =
     let b = is.between in
