@@ -154,8 +154,8 @@ abbrev pub AreQuantLines : ℕ → ℕ → Option PlyQuant → List Line → Typ
 AreQuantLines k comps None lines = lines ≡ []
 AreQuantLines k comps (Some q) lines = (line : Line) × (lines ≡ line ∷ []) × IsQuantLine k comps q line
 
--- the comments among these lines describe these heads: an attr line for each, in order; a quant line for each head that is
--- quantised, and no other; and each quant line stands somewhere behind the attr line of its head
+-- the comments among these lines describe these heads: there is an attr line for each, in order; a quant line for each head
+-- that is quantised, and no other; and each quant line stands somewhere behind the attr line of its head
 pub record Describe (heads : List PlyHead) (lines : List Line) : Type 0 where
   pub attrs : AreAttrLines 0 heads (filter is_attr lines)
   pub quants : (k : ℕ) (head : PlyHead) → slice_get heads k ≡ Some head → AreQuantLines k head.comps head.quant (filter (is_quant_of k) lines)
@@ -169,8 +169,9 @@ abbrev pub AreHeads : List PlyHead → List PropertyParts → List PlyHead → T
 AreHeads [] properties heads = NamesGive 0 properties heads
 AreHeads (head ∷ described) properties heads = heads ≡ head ∷ described
 
--- these lines, from `ply` to `end_header`, are a header, and it says h. Comments stand anywhere between, and say no more
--- than the heads; the other lines stand in one order; the heads have the properties' types in a row, within the limits
+-- these lines, from `ply` to `end_header`, are a header, and it says h. Of the lines between, those that are no comments
+-- declare the points with their properties, and the faces; the comments, wherever they stand, describe attributes or say
+-- nothing. The heads have the types of the properties, each head's components in a row, and all is within the limits
 pub record IsHeaderOf (h : Header) (lines : List Line) : Type 0 where
   pub between : List Line
   pub whole : lines ≡ (codes "ply" ∷ []) ∷ (between ++ (codes "end_header" ∷ []) ∷ [])
