@@ -8,4 +8,6 @@ pub mod Describing
 pub mod Running
 pub mod Naming
 pub mod Shapes
+pub mod Items
+pub mod Texts
 mod Examples

@@ -29,6 +29,10 @@ pub or_refuse_ok : {A B : Type 0} (k : Kind) (at : ℕ) (o : Option A) (f : A �
 or_refuse_ok k at None f y e = absurd (cc)
 or_refuse_ok k at (Some x) f y e = (x, refl, e)
 
+pub some_from : {A : Type 0} (k : Kind) (at : ℕ) (o : Option A) (y : A) → or_refuse k at o ≡ Ok y → o ≡ Some y
+some_from k at None y e = absurd (cc)
+some_from k at (Some x) y e = let s : x ≡ y = cc in ap Some s
+
 pub step_ok : {A B E : Type 0} (r : Result A E) (f : A → Result B E) (y : B) → (r >>= f) ≡ Ok y → (x : A) × (r ≡ Ok x) × (f x ≡ Ok y)
 step_ok (Ok x) f y e = (x, refl, e)
 step_ok (Err x) f y e = absurd (cc)

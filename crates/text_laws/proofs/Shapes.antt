@@ -18,7 +18,7 @@ use Rattle.ply_text.specs.Header.{column_types, is_head_typed, property_types, i
 use Rattle.ply_text.specs.NamedHeads.{named_heads}
 use Rattle.ply_text.specs.Tokens.{token_lines}
 use Rattle.text_laws.specs.HeaderShape.{Line, is_declaration, AreHeads, IsHeaderOf, BeginWithHeader}
-use Rattle.text_laws.specs.Laws.{HeadersAreShapes, TextsAreShapes, NamesAreShapes}
+use Rattle.text_laws.specs.Laws.{HeadersAreShapes, TextHeadersAreShapes, NamesAreShapes}
 use Rattle.text_laws.proofs.Lines.{word_from, word_is, passed, not_refused}
 use Rattle.text_laws.proofs.Keywords.{keyword_cases}
 use Rattle.text_laws.proofs.Declaring.{Stage, draft_at}
@@ -265,9 +265,9 @@ front_read h front rest is =
 pub headers_are_shapes : HeadersAreShapes
 headers_are_shapes lines h = (read_shape lines h, λ begin. ap header_of_lines begin.cut ∙ front_read h begin.header begin.rest begin.is)
 
-pub texts_are_shapes : TextsAreShapes
+pub text_headers_are_shapes : TextHeadersAreShapes
 unfolding header_of
-texts_are_shapes text h = headers_are_shapes (token_lines text) h
+text_headers_are_shapes text h = headers_are_shapes (token_lines text) h
 
 pub names_are_shapes : NamesAreShapes
 names_are_shapes properties heads = (named_give heads 0 properties, give_named heads 0 properties)

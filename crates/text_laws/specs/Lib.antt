@@ -1,3 +1,4 @@
 pub mod NameShape
 pub mod HeaderShape
+pub mod TextShape
 pub mod Laws
