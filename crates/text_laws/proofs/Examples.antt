@@ -3,14 +3,23 @@ use Rattle.std.proofs.Common.{◌≡◌, ℕ, true, List, [], ◌∷◌, ◌++�
 use Rattle.std.specs.List.{filter}
 use Rattle.std.specs.Prelude.{codes, slice_get, zero, suc}
 use Rattle.std.proofs.lemmas.List.Elements.{All-from_recursion}
+use Rattle.mesh_model.specs.declared.geometries.Geometry.{Geometry}
+use Rattle.mesh_model.specs.declared.geometries.Geometry.TheVariants.{Mesh}
+use Rattle.mesh_model.specs.Head.{in_type}
+use Rattle.ply_mesh.specs.Body.{token_number, row_read}
+use Rattle.ply_mesh.specs.Read.{body_of, ply_read}
+use Rattle.ply_text.specs.Tokens.{tokens_of, token_lines}
+use Rattle.text_laws.specs.TextShape.{IsTextOf}
+use Rattle.text_laws.proofs.Texts.{texts_are_shapes}
+use Rattle.std.specs.Prelude.{pos}
 use Rattle.ply_text.specs.declared.headers.Header.{Header}
 use Rattle.ply_text.specs.declared.headers.PlyHead.{PlyHead}
 use Rattle.ply_text.specs.Comments.{is_form, quant_of}
 use Rattle.ply_text.specs.Declarations.{is_magic, is_format, element_of, is_list, scalar_of, list_of}
 use Rattle.ply_text.specs.Draft.{property, element, scalar, list, quantisation, comment, body, statement}
-use Rattle.ply_text.specs.Header.{column_types, is_head_typed, is_whole, heads_of, agrees, header_by, ply_header_at, header_of_lines}
+use Rattle.ply_text.specs.Header.{column_types, is_head_typed, is_whole, heads_of, agrees, header_by, ply_header_at, header_of_lines, header_of}
 use Rattle.ply_text.specs.NamedHeads.{run_of}
-use Rattle.ply_text.specs.Numbers.{is_digits, digits_value, natural_of, natural_within, pattern_of}
+use Rattle.ply_text.specs.Numbers.{is_digits, digits_value, natural_of, integer_of, natural_within, pattern_of}
 use Rattle.ply_text.specs.Words.{keyword_of, type_of, is_indices}
 use Rattle.text_laws.specs.HeaderShape.{Line, is_quant_of, AreQuantLines, Declare, Describe, IsHeaderOf, BeginWithHeader}
 use Rattle.text_laws.proofs.Describing.{Behind, behind_nil, behind_more}
@@ -206,3 +215,18 @@ list_lines = (codes "ply" ∷ []) ∷ format ∷ points ∷ index_list ∷ colum
 list_none : (h : Header) → BeginWithHeader h list_lines → ⊥
 unfolding is_magic statement body is_format keyword_of element element_of is_digits digits_value natural_of natural_within list list_of is_list type_of
 list_none h b = let e = (headers_are_shapes list_lines h).1 b in absurd (cc e)
+
+-- ---- a whole text
+
+abbrev text : List ℕ
+text = codes "ply\nformat ascii 1.0\r\nelement vertex 1\nproperty uchar a\nelement face 0\nproperty list uchar int vertex_indices\nend_header\n\t007 \n\n"
+
+abbrev geometry : Geometry
+geometry = Mesh (record { heads = record { usage = 4; dtype = 2; comps = 1; normalized = 0; id = 0; quant = None } ∷ []; points = (pos 7 ∷ []) ∷ []; faces = [] })
+
+text_read : ply_read text ≡ Ok geometry
+unfolding ply_read header_of body_of token_lines tokens_of row_read token_number integer_of in_type is_magic statement body is_format keyword_of element element_of is_digits digits_value natural_of natural_within scalar scalar_of list list_of is_list is_indices type_of ply_header_at is_whole heads_of header_by agrees column_types run_of
+text_read = refl
+
+text_shaped : IsTextOf geometry (token_lines text)
+text_shaped = (texts_are_shapes text geometry).0 text_read

@@ -117,6 +117,9 @@ body_read h lines g b =
 behind : (h : Header) (lines front rest : List Line) → lines ≡ front ++ rest → IsHeaderOf h front → drop (h.body_line - 1) lines ≡ rest
 behind h lines front rest cut is = ap (drop (h.body_line - 1)) cut ∙ drop_at front rest (h.body_line - 1) (let b = is.body in omega arith)
 
+body_behind : (h : Header) (lines front rest : List Line) (g : Geometry) → lines ≡ front ++ rest → IsHeaderOf h front → body_of h (drop (h.body_line - 1) lines) ≡ Ok g → body_of h rest ≡ Ok g
+body_behind h lines front rest g cut is e = subst (λ (ls : List Line). body_of h ls ≡ Ok g) (behind h lines front rest cut is) e
+
 text_says : (text : List ℕ) (g : Geometry) → ply_read text ≡ Ok g → IsTextOf g (token_lines text)
 unfolding ply_read
 text_says text g e =
@@ -124,7 +127,7 @@ text_says text g e =
     let p = step_ok (header_of text) (λ h. body_of h (drop (h.body_line - 1) (token_lines text))) g e in
     let h = p.0 in
     let begin : BeginWithHeader h lines = (text_headers_are_shapes text h).0 p.1 in
-    let after : body_of h begin.rest ≡ Ok g = ap (body_of h) (sym (behind h lines begin.header begin.rest begin.cut begin.is)) ∙ p.2 in
+    let after : body_of h begin.rest ≡ Ok g = body_behind h lines begin.header begin.rest g begin.cut begin.is p.2 in
     let b = body_says h begin.rest g (λ k there. list_there h.faces h.list begin.is.declared.mesh k begin.is.declared.rest there) after in
     record {
       h = h;
