@@ -120,6 +120,25 @@ behind h lines front rest cut is = ap (drop (h.body_line - 1)) cut ∙ drop_at f
 body_behind : (h : Header) (lines front rest : List Line) (g : Geometry) → lines ≡ front ++ rest → IsHeaderOf h front → body_of h (drop (h.body_line - 1) lines) ≡ Ok g → body_of h rest ≡ Ok g
 body_behind h lines front rest g cut is e = subst (λ (ls : List Line). body_of h ls ≡ Ok g) (behind h lines front rest cut is) e
 
+-- a header, and what stands behind it
+text_from : (h : Header) (g : Geometry) (lines : List Line) (begin : BeginWithHeader h lines) → Body h g begin.rest → IsTextOf g lines
+text_from h g lines begin b = record {
+  h = h;
+  header = begin.header;
+  rows = b.rows;
+  triangles = b.triangles;
+  rest = b.rest;
+  whole = begin.cut ∙ ap (λ (ls : List Line). begin.header ++ ls) b.whole;
+  is = begin.is;
+  points = b.points;
+  count = b.count;
+  each = b.each;
+  faces = b.faces;
+  face_lines = b.face_lines;
+  blank = b.blank;
+  geometry = b.geometry;
+}
+
 text_says : (text : List ℕ) (g : Geometry) → ply_read text ≡ Ok g → IsTextOf g (token_lines text)
 unfolding ply_read
 text_says text g e =
@@ -128,23 +147,7 @@ text_says text g e =
     let h = p.0 in
     let begin : BeginWithHeader h lines = (text_headers_are_shapes text h).0 p.1 in
     let after : body_of h begin.rest ≡ Ok g = body_behind h lines begin.header begin.rest g begin.cut begin.is p.2 in
-    let b = body_says h begin.rest g (λ k there. list_there h.faces h.list begin.is.declared.mesh k begin.is.declared.rest there) after in
-    record {
-      h = h;
-      header = begin.header;
-      rows = b.rows;
-      triangles = b.triangles;
-      rest = b.rest;
-      whole = begin.cut ∙ ap (λ (ls : List Line). begin.header ++ ls) b.whole;
-      is = begin.is;
-      points = b.points;
-      count = b.count;
-      each = b.each;
-      faces = b.faces;
-      face_lines = b.face_lines;
-      blank = b.blank;
-      geometry = b.geometry;
-    }
+    text_from h g lines begin (body_says h begin.rest g (λ k there. list_there h.faces h.list begin.is.declared.mesh k begin.is.declared.rest there) after)
 
 text_read : (text : List ℕ) (g : Geometry) → IsTextOf g (token_lines text) → ply_read text ≡ Ok g
 unfolding ply_read
