@@ -9,20 +9,20 @@ use Rattle.ply_text.specs.Comments.{is_form}
 use Rattle.ply_text.specs.Draft.{Draft, comment, body, statement}
 use Rattle.text_laws.specs.HeaderShape.{Line, is_comment, has_form}
 
-abbrev pub Not : List ℕ → List ℕ → Type 0
-Not word text = bytes_eq word text ≡ false
+abbrev pub IsNot : List ℕ → List ℕ → Type 0
+IsNot word text = bytes_eq word text ≡ false
 
-abbrev pub Is : List ℕ → List ℕ → Type 0
-Is word text = bytes_eq word text ≡ true
+abbrev pub IsWord : List ℕ → List ℕ → Type 0
+IsWord word text = bytes_eq word text ≡ true
 
 -- a word is one of the five, or none of them
 pub keyword_cases : (word : List ℕ) (P : Type 0)
-    → (Is word (codes "comment") → P)
-    → (Not word (codes "comment") → Is word (codes "obj_info") → P)
-    → (Not word (codes "comment") → Not word (codes "obj_info") → Is word (codes "element") → P)
-    → (Not word (codes "comment") → Not word (codes "obj_info") → Not word (codes "element") → Is word (codes "property") → P)
-    → (Not word (codes "comment") → Not word (codes "obj_info") → Not word (codes "element") → Not word (codes "property") → Is word (codes "end_header") → P)
-    → (Not word (codes "comment") → Not word (codes "obj_info") → Not word (codes "element") → Not word (codes "property") → Not word (codes "end_header") → P) → P
+    → (IsWord word (codes "comment") → P)
+    → (IsNot word (codes "comment") → IsWord word (codes "obj_info") → P)
+    → (IsNot word (codes "comment") → IsNot word (codes "obj_info") → IsWord word (codes "element") → P)
+    → (IsNot word (codes "comment") → IsNot word (codes "obj_info") → IsNot word (codes "element") → IsWord word (codes "property") → P)
+    → (IsNot word (codes "comment") → IsNot word (codes "obj_info") → IsNot word (codes "element") → IsNot word (codes "property") → IsWord word (codes "end_header") → P)
+    → (IsNot word (codes "comment") → IsNot word (codes "obj_info") → IsNot word (codes "element") → IsNot word (codes "property") → IsNot word (codes "end_header") → P) → P
 keyword_cases word P f g h i j k = elim (cases_Bool (bytes_eq word (codes "comment"))) [
   | inl c ↦ f c
   | inr c ↦ elim (cases_Bool (bytes_eq word (codes "obj_info"))) [
@@ -38,13 +38,13 @@ keyword_cases word P f g h i j k = elim (cases_Bool (bytes_eq word (codes "comme
 ]
 
 -- another comment's word describes nothing
-pub other_word : (form word : List ℕ) (ts : Line) → Not word (codes "comment") → has_form form (word ∷ ts) ≡ false
+pub other_word : (form word : List ℕ) (ts : Line) → IsNot word (codes "comment") → has_form form (word ∷ ts) ≡ false
 other_word form word [] w = refl
 other_word form word (a ∷ []) w = refl
 other_word form word (a ∷ b ∷ ts) w = rw w refl
 
 -- a comment's describes what its form says
-pub comment_word : (form word : List ℕ) (ts : Line) → Is word (codes "comment") → has_form form (word ∷ ts) ≡ is_form form (word ∷ ts)
+pub comment_word : (form word : List ℕ) (ts : Line) → IsWord word (codes "comment") → has_form form (word ∷ ts) ≡ is_form form (word ∷ ts)
 unfolding is_form
 comment_word form word [] w = refl
 comment_word form word (a ∷ []) w = refl
