@@ -1,4 +1,7 @@
-use super::*;
+use drc_base::{
+    Failed, MemSink, MemSource, Memory, ReadEnd, Sink, Source, StdSink, StdSource, read_all,
+    write_all,
+};
 use std::alloc::Global;
 use std::io::Cursor;
 use std::test::Fail;

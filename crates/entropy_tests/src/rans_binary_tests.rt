@@ -2,9 +2,9 @@
 
 ghost use Rattle.std.specs.Prelude.{◌<◌, ◌^◌, length};
 
-use crate::{BitBlock, write_block};
 use drc_base::{Fault, Kind};
 use drc_bits::Cursor;
+use rans_binary::{BitBlock, write_block};
 use std::process::Abort;
 use std::test::Fail;
 

@@ -2,8 +2,8 @@
 
 ghost use Rattle.std.specs.Prelude.{◌≡◌, ◌≤◌, ◌<◌, ◌+◌, ◌^◌};
 
-use crate::{Decoder, Encoder};
 use drc_base::Memory;
+use rans_core::{Decoder, Encoder};
 use std::alloc::Global;
 use std::test::Fail;
 

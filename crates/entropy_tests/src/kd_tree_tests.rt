@@ -2,9 +2,9 @@
 
 ghost use Rattle.std.specs.Prelude.{◌<◌, length};
 
-use crate::{Keys, read_tree, sort_keys, write_tree};
 use drc_base::{Fault, Kind, Refusal};
 use drc_bits::Cursor;
+use kd_tree::{Keys, read_tree, sort_keys, write_tree};
 use rans_binary::{BitBlock, write_block};
 use std::process::Abort;
 use std::test::Fail;

@@ -1,7 +1,7 @@
 //! The calls beside bytes that another program gave, with ample memory.
 
-use crate::{BitReader, BitWriter, Cursor, put_var32, put_var64};
 use drc_base::{Fault, Kind};
+use drc_bits::{BitReader, BitWriter, Cursor, put_var32, put_var64};
 use std::test::Fail;
 
 /// Numbers of many widths, put one after another and read again.

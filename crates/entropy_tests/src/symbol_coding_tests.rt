@@ -1,10 +1,10 @@
 //! The calls beside blocks that another program gave, with ample memory.
 
-use crate::{read_symbols, write_symbols};
 use drc_base::{Fault, Kind, MAX_VALUES, Refusal};
 use drc_bits::Cursor;
 use std::alloc::Global;
 use std::test::Fail;
+use symbol_coding::{read_symbols, write_symbols};
 
 /// Whether the values are written as these bytes, and these bytes with one more behind them are read as
 /// the values.

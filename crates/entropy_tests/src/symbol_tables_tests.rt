@@ -3,12 +3,12 @@
 ghost use Rattle.std.specs.Prelude.{◌≡◌, ◌≤◌, ◌+◌, ◌*◌, ◌^◌, length};
 ghost use Rattle.symbol_tables.specs.Normal.{HasTable};
 
-use crate::Table;
 use drc_base::{Fault, Kind, Refusal};
 use drc_bits::Cursor;
 use std::alloc::Global;
 use std::process::Abort;
 use std::test::Fail;
+use symbol_tables::Table;
 
 /// The kind and place of the fault of a table with 4096 slots, if any.
 fn fault_of(alloc: Global, bytes: &[u8]) -> Option<Fault> {
