@@ -1,7 +1,7 @@
 //! What no contract can say: that the definitions are the ones meant, on examples worked by hand.
 
-use super::*;
 use drc_base::{Fault, Kind, Refusal};
+use ply_text::{Header, Lines, first_tokens, put_int, read_header, read_int};
 use std::alloc::Global;
 use std::test::Fail;
 

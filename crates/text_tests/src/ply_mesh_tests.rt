@@ -1,8 +1,8 @@
 //! What no contract can say: that the definitions are the ones meant, on examples worked by hand.
 
-use super::*;
 use drc_base::{Fault, Kind, MemSink, Refusal};
 use mesh_model::Geometry;
+use ply_mesh::{PlyText, read_ply, write_ply};
 use std::alloc::Global;
 use std::test::Fail;
 
