@@ -1,12 +1,12 @@
 -- Labelling one fan: a walk to the left and one to the right reach exactly the corners of the fan.
-use Rattle.std.proofs.Common.{◌≡◌, ◌≢◌, ℕ, ◌<◌, true, false, cond, List, length, get_or, set, Some, None, ◌⊎◌, inl, inr, sym, refl, ap, ◌∙◌, subst, arith, length-set, get_or-set_other, get_or-set_same, option_map, eqb, eqb-true, sum_by}
+use Rattle.std.proofs.Common.{◌≡◌, ◌≢◌, ℕ, ◌+◌, ◌<◌, true, false, cond, List, length, get_or, set, Some, None, ◌⊎◌, inl, inr, sym, refl, ap, ◌∙◌, subst, arith, length-set, get_or-set_other, get_or-set_same, option_map, eqb, eqb-true}
 use Rattle.std.proofs.lemmas.Bool.{cases_Bool, cond-false}
 use Rattle.std.proofs.lemmas.List.Sums.{sum_by-set}
 use Rattle.corner_table.specs.Sides.{Side, next, prev, number, side_at, Gluing, IsGluing}
 use Rattle.corner_table.specs.Fans.{swing_left, swing_right, InFan, here, leftwards, rightwards, MeetsBoundary}
 use Rattle.corner_table.specs.Table.{free_entry}
 use Rattle.corner_table.specs.Labels.{label_at}
-use Rattle.corner_table.specs.Labelling.{GoesLeft, GoesRight, Marks, IsMarking, IsReady, IsLeftwards, IsLeftDone, IsRightwards, IsWhole, IsFanLabelled}
+use Rattle.corner_table.specs.Labelling.{unlabelled, GoesLeft, GoesRight, Marks, IsMarking, IsReady, IsLeftwards, IsLeftDone, IsRightwards, IsWhole, IsFanLabelled}
 use Rattle.corner_table.proofs.Places.{same_tells, Some_injective}
 use Rattle.corner_table.proofs.Numbers.{number_injective, number-side_at}
 use Rattle.corner_table.proofs.Walks.{left_then_right, right_then_left, fan_trans, fan_sym}
@@ -252,16 +252,16 @@ closed_labelled {faces} {g} G label old new start R D =
           | inr f ↦ (let q = t.1 in let no : None ≡ Some q.0 = sym (ap (option_map prev) f) ∙ q.1 in cc)
         ]
 
--- what a walk still may label: one for each corner without a label
-abbrev pub unlabelled : ℕ → ℕ
-unlabelled v = cond (eqb v free_entry) 1 0
+-- one for a corner without a label
+abbrev one_unlabelled : ℕ → ℕ
+one_unlabelled v = cond (eqb v free_entry) 1 0
 
--- a label leaves one less
-pub fewer_unlabelled : (l : List ℕ) (i v : ℕ) → i < length l → get_or l i free_entry ≡ free_entry → v ≢ free_entry → sum_by unlabelled (set l i v) < sum_by unlabelled l
+-- a label leaves one corner less without one
+pub fewer_unlabelled : (l : List ℕ) (i v : ℕ) → i < length l → get_or l i free_entry ≡ free_entry → v ≢ free_entry → unlabelled (set l i v) + 1 ≡ unlabelled l
 fewer_unlabelled l i v h e n =
-    let s = sum_by-set unlabelled l i v free_entry h in
-    let a : unlabelled (get_or l i free_entry) ≡ 1 = ap unlabelled e in
-    let b : unlabelled v ≡ 0 = (elim (cases_Bool (eqb v free_entry)) [ inl t ↦ absurd (n (eqb-true v free_entry t)) | inr t ↦ cond-false _ _ _ t ]) in
+    let s = sum_by-set one_unlabelled l i v free_entry h in
+    let a : one_unlabelled (get_or l i free_entry) ≡ 1 = ap one_unlabelled e in
+    let b : one_unlabelled v ≡ 0 = (elim (cases_Bool (eqb v free_entry)) [ inl t ↦ absurd (n (eqb-true v free_entry t)) | inr t ↦ cond-false _ _ _ t ]) in
     omega arith
 
 -- the same by numbers

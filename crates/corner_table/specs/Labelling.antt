@@ -1,10 +1,14 @@
 -- The labels while they are being given, fan after fan, and corner after corner of a fan. These are the code's own words, for the steps of
 -- `label_vertices`; what it answers is stated by `IsLabelled` alone.
-use Rattle.std.specs.Prelude.{◌≡◌, ◌≢◌, ℕ, ◌*◌, ◌<◌, ◌≤◌, ◌⊎◌, ◌↔◌, Bool, true, false, IsTrue, List, length, get_or, Some, None}
+use Rattle.std.specs.Prelude.{◌≡◌, ◌≢◌, ℕ, ◌*◌, ◌<◌, ◌≤◌, ◌⊎◌, ◌↔◌, Bool, true, false, IsTrue, List, length, get_or, count_by, eqb, Some, None}
 use Rattle.corner_table.specs.Sides.{Side, number, Gluing}
 use Rattle.corner_table.specs.Fans.{InFan, MeetsBoundary, swing_left, swing_right}
 use Rattle.corner_table.specs.Table.{free_entry}
 use Rattle.corner_table.specs.Labels.{label_at}
+
+-- how many corners have no label
+abbrev pub unlabelled : List ℕ → ℕ
+unlabelled labels = count_by (λ v. eqb v free_entry) labels
 
 -- a corner that carries the new label has a next corner to the left, which carries it too
 abbrev pub GoesLeft : Gluing → ℕ → List ℕ → Side → Type 0

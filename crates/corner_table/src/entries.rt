@@ -1,115 +1,82 @@
-//! The entries of a table, and its writes.
+//! The entries of a table, which are read at the cost of a look each.
 
-ghost use Rattle.std.specs.Prelude.{◌≡◌, ◌+◌, ◌*◌, ◌<◌, ◌≤◌, get_or, set, vec_len, IfOk, replicate};
-ghost use Rattle.drc_base.specs.declared.limits.TheConstants.{MAX_FACES as most_faces};
-ghost use Rattle.corner_table.specs.Sides.{next, prev};
-ghost use Rattle.corner_table.specs.Table.{side_of, free_entry};
-ghost use Rattle.corner_table.specs.Links.{relinked, new_loop};
+ghost use Rattle.std.specs.Prelude.{◌≡◌, ◌+◌, ◌<◌, ◌≤◌, get_or, set, length, vec_len, IfOk, replicate};
+ghost use Rattle.corner_table.specs.Table.{free_entry};
 
-use drc_base::{Memory, Side};
+use crate::steps::Looks;
+use drc_base::Memory;
 use std::alloc::Global;
+use std::marker::Model;
 
 /// The entry of a side that is in no pair, in the list that a table is.
 pub const FREE: u32 = u32::MAX;
 
-/// The entry with a number.
-pub(crate) fn entry_at(entries: &Vec<u32>, number: u32) -> u32
-    requires { number < vec_len entries.now }
-    ensures { result ≡ get_or entries.now.items number 0 }
-{
-    entries[number as usize]
+/// A list of a table, an entry for each side. Only `at` reads an entry, and takes a look for it; `lent`
+/// lends the list, and takes a look for each entry.
+#[derive(Drop)]
+pub(crate) struct Entries {
+    list: Vec<u32>,
 }
 
-/// The entry with a number, as a gluing reads it.
-pub(crate) fn entry_or_free(entries: &Vec<u32>, number: u32) -> u32
-    requires { number < vec_len entries.now }
-    ensures { result ≡ get_or entries.now.items number free_entry }
-{
-    entries[number as usize]
+impl Model for Entries {
+    ghost use Rattle.std.specs.Prelude.{ℕ, List};
+
+    ghost Value = { List ℕ };
+
+    ghost view = { λ e. e.list.items };
 }
 
-/// The corner after `c` in its face.
-pub(crate) fn next_of(c: Side) -> Side
-    ensures { side_of result ≡ next (side_of c) }
-{
-    let k = match c.k {
-        0 => 1,
-        1 => 2,
-        _ => 0,
-    };
-    Side { face: c.face, k }
-}
+impl Entries {
+    /// Entries that are all one number, as many as is said.
+    pub(crate) fn filled(alloc: Global, value: u32, count: usize) -> Result<Entries, Memory>
+        ensures items { IfOk result (λ e. e ≡ replicate count value) }
+        ensures len { IfOk result (λ e. length e ≡ count) }
+    {
+        Ok(Entries {
+            list: filled(alloc, value, count)?,
+        })
+    }
 
-/// The corner before `c` in its face.
-pub(crate) fn previous_of(c: Side) -> Side
-    ensures { side_of result ≡ prev (side_of c) }
-{
-    let k = match c.k {
-        0 => 2,
-        1 => 0,
-        _ => 1,
-    };
-    Side { face: c.face, k }
-}
+    /// The entries of a list.
+    pub(crate) fn from_vec(list: Vec<u32>) -> Entries
+        ensures { result ≡ list.items }
+    {
+        Entries { list }
+    }
 
-/// Side `y` follows side `x` from now on.
-fn join(after: &mut Vec<u32>, before: &mut Vec<u32>, x: u32, y: u32)
-    requires in_after { x < vec_len after.old }
-    requires in_before { y < vec_len before.old }
-    ensures after_len { vec_len after.new ≡ vec_len after.old }
-    ensures before_len { vec_len before.new ≡ vec_len before.old }
-    ensures after { after.new.items ≡ set after.old.items x y }
-    ensures before { before.new.items ≡ set before.old.items y x }
-{
-    after[x as usize] = y;
-    before[y as usize] = x;
-}
+    /// How many there are.
+    pub(crate) fn count(&self) -> u64
+        ensures { result ≡ length self.now }
+    {
+        self.list.len() as u64
+    }
 
-/// Links the three sides of a new face.
-pub(crate) fn link_face(after: &mut Vec<u32>, before: &mut Vec<u32>, face: u32)
-    requires limit { face < most_faces }
-    requires in_after { 3 * face + 3 ≤ vec_len after.old }
-    requires in_before { 3 * face + 3 ≤ vec_len before.old }
-    ensures after_len { vec_len after.new ≡ vec_len after.old }
-    ensures before_len { vec_len before.new ≡ vec_len before.old }
-    ensures after { after.new.items ≡ (new_loop face (after.old.items, before.old.items)).0 }
-    ensures before { before.new.items ≡ (new_loop face (after.old.items, before.old.items)).1 }
-{
-    let first = 3 * face;
-    join(after, before, first, first + 1);
-    join(after, before, first + 1, first + 2);
-    join(after, before, first + 2, first);
-}
+    /// The entry with a number.
+    pub(crate) fn at(&self, number: u32, looks: &mut Looks) -> u32
+        requires inside { number < length self.now }
+        requires look { 0 < looks.old.left }
+        ensures link { result ≡ get_or self.now number 0 }
+        ensures side { result ≡ get_or self.now number free_entry }
+        ensures look { looks.new.left + 1 ≡ looks.old.left }
+    {
+        looks.take();
+        self.list[number as usize]
+    }
 
-/// Takes two free sides out of the boundary: what comes before each is joined to what follows the
-/// other. A side that is alone in its loop has no neighbour to join; both its ends are one vertex.
-pub(crate) fn relink(after: &mut Vec<u32>, before: &mut Vec<u32>, a: u32, b: u32)
-    requires a_after { a < vec_len after.old }
-    requires a_before { a < vec_len before.old }
-    requires b_after { b < vec_len after.old }
-    requires b_before { b < vec_len before.old }
-    requires next_a { get_or after.old.items a 0 < vec_len before.old }
-    requires next_b { get_or after.old.items b 0 < vec_len before.old }
-    requires previous_a { get_or before.old.items a 0 < vec_len after.old }
-    requires previous_b { get_or before.old.items b 0 < vec_len after.old }
-    ensures after_len { vec_len after.new ≡ vec_len after.old }
-    ensures before_len { vec_len before.new ≡ vec_len before.old }
-    ensures after { after.new.items ≡ (relinked a b (after.old.items, before.old.items)).0 }
-    ensures before { before.new.items ≡ (relinked a b (after.old.items, before.old.items)).1 }
-{
-    let next_a = after[a as usize];
-    let next_b = after[b as usize];
-    let previous_a = before[a as usize];
-    let previous_b = before[b as usize];
-    if next_a == a {
-        if next_b != b {
-            join(after, before, previous_b, next_b);
-        }
-    } else if next_b == b {
-        join(after, before, previous_a, next_a);
-    } else {
-        join(after, before, previous_a, next_b);
-        join(after, before, previous_b, next_a);
+    /// All entries.
+    pub(crate) fn lent(&self, _looks: Looks) -> &[u32]
+        requires { length self.now ≤ _looks.left }
+        ensures { result.now ≡ self.now }
+    {
+        self.list.as_slice()
+    }
+
+    /// Puts a number in the place of an entry.
+    pub(crate) fn put(&mut self, number: u32, value: u32)
+        requires { number < length self.old }
+        ensures { self.new ≡ set self.old number value }
+    {
+        self.list[number as usize] = value;
     }
 }
 

@@ -8,6 +8,7 @@ mod entries;
 mod labels;
 mod laws;
 mod linked_table;
+mod links;
 mod renumbering;
 mod side_numbers;
 mod side_table;

@@ -4,21 +4,24 @@
 //! one before it, so that the ends of an open fan are found without a walk. A table that is finished has no
 //! use for them, and is given back without.
 
-use crate::entries::{entry_at, filled, link_face, relink};
+use crate::entries::Entries;
+use crate::links::{link_face, relink};
 use crate::side_numbers::{number_of, side_with};
 use crate::side_table::SideTable;
 use crate::steps::Steps;
 use drc_base::{Memory, Side};
 use std::alloc::Global;
+use std::fmt;
+use std::fmt::Debug;
 use std::marker::Model;
 use std::sync::ledger::Ledger;
 
 /// A table of glued sides with the links of its boundary. Contracts see it as the table.
-#[derive(Debug, Drop)]
+#[derive(Drop)]
 pub struct LinkedTable {
     sides: SideTable,
-    after: Vec<u32>,
-    before: Vec<u32>,
+    after: Entries,
+    before: Entries,
 }
 
 impl Model for LinkedTable {
@@ -28,7 +31,15 @@ impl Model for LinkedTable {
 
     ghost view = { λ t. t.sides };
 
-    ghost invariant = { λ t. IsLinkedTable t.sides.faces t.sides.entries t.after.items t.before.items };
+    ghost invariant = { λ t. IsLinkedTable t.sides.faces t.sides.entries t.after t.before };
+}
+
+impl Debug for LinkedTable {
+    fn fmt<W: fmt::Write>(&self, f: &mut fmt::Formatter<W>) -> fmt::Result {
+        f.debug_struct("LinkedTable")
+            .field("sides", &self.sides)
+            .finish_non_exhaustive()
+    }
 }
 
 impl LinkedTable {
@@ -50,8 +61,8 @@ impl LinkedTable {
         let sides = SideTable::with_room(alloc, faces)?;
         // For the prover alone, who knows from here on how many entries there are.
         let _ = sides.face_count();
-        let after = filled(alloc, 0, 3 * faces as usize)?;
-        let before = filled(alloc, 0, 3 * faces as usize)?;
+        let after = Entries::filled(alloc, 0, 3 * faces as usize)?;
+        let before = Entries::filled(alloc, 0, 3 * faces as usize)?;
         Ok(LinkedTable {
             sides,
             after,
@@ -94,12 +105,13 @@ impl LinkedTable {
         ensures glued { gluing_of self.new ≡ glue (side_of a) (side_of b) (gluing_of self.old) }
         ensures steps { steps.new ≡ steps.old + 1 }
     {
+        let looks = steps.tick();
         // For the prover alone, who knows of the lists from here on that they fit together.
         let _ = self.sides.face_count();
         let first = number_of(a);
         let second = number_of(b);
-        relink(&mut self.after, &mut self.before, first, second);
-        self.sides.glue(a, b, steps);
+        relink(&mut self.after, &mut self.before, first, second, looks);
+        self.sides.pair(a, b);
     }
 
     /// The side that `s` is glued to; None where `s` is free.
@@ -120,10 +132,10 @@ impl LinkedTable {
         ensures only { (x : side_value) → Follows self.now.faces (gluing_of self.now) (side_of s) x → x ≡ side_of result }
         ensures steps { steps.new ≡ steps.old + 1 }
     {
-        steps.tick();
+        let mut looks = steps.tick();
         // For the prover alone, who knows of the lists from here on that they fit together.
         let _ = &self.sides;
-        side_with(entry_at(&self.after, number_of(s)))
+        side_with(self.after.at(number_of(s), &mut looks))
     }
 
     /// The one free side that ends at the fan where the free side `s` starts: the one before it round
@@ -136,10 +148,10 @@ impl LinkedTable {
         ensures only { (x : side_value) → IsFreeIn self.now x → Follows self.now.faces (gluing_of self.now) x (side_of s) → x ≡ side_of result }
         ensures steps { steps.new ≡ steps.old + 1 }
     {
-        steps.tick();
+        let mut looks = steps.tick();
         // For the prover alone, who knows of the lists from here on that they fit together.
         let _ = &self.sides;
-        side_with(entry_at(&self.before, number_of(s)))
+        side_with(self.before.at(number_of(s), &mut looks))
     }
 
     /// The table.

@@ -9,7 +9,8 @@ ghost use Rattle.corner_table.specs.Table.{free_entry};
 ghost use Rattle.corner_table.specs.Carried.{turned, IsRenumbering};
 ghost use Rattle.corner_table.specs.Renumbering.{ArePlaces, placed_face, becomes, AreCarried};
 
-use crate::entries::{FREE, filled};
+use crate::entries::{Entries, FREE, filled};
+use crate::steps::Looks;
 use drc_base::Memory;
 use std::alloc::Global;
 
@@ -64,34 +65,45 @@ fn entry_now(places: &Vec<u32>, entry: u32) -> u32
     }
 }
 
-/// The entry of the corner `k` of a new face.
-fn entry_of(places: &Vec<u32>, entries: &Vec<u32>, face: u32, k: u8, turn: u8) -> u32
+/// The entry of the corner `k` of a new face, for a look.
+fn entry_of(
+    places: &Vec<u32>,
+    entries: &Entries,
+    face: u32,
+    k: u8,
+    turn: u8,
+    looks: &mut Looks,
+) -> u32
     requires face { face < most_faces }
     requires places { (k < 3) × (turn < 3) }
-    requires within { 3 * face + 3 ≤ vec_len entries.now }
-    ensures { result ≡ becomes places.now.items entries.now.items (side face (turned turn (place_of k))) }
+    requires within { 3 * face + 3 ≤ length entries.now }
+    requires look { 0 < looks.old.left }
+    ensures becomes { result ≡ becomes places.now.items entries.now (side face (turned turn (place_of k))) }
+    ensures look { looks.new.left + 1 ≡ looks.old.left }
 {
-    entry_now(places, entries[source_of(face, k, turn) as usize])
+    entry_now(places, entries.at(source_of(face, k, turn), looks))
 }
 
-/// The entries of the new sides.
+/// The entries of the new sides, for a look at each entry of the old ones.
 pub(crate) fn carried(
     alloc: Global,
     faces: u32,
     rows: &[(u32, u8)],
     places: &Vec<u32>,
-    entries: &Vec<u32>,
+    entries: &Entries,
+    mut looks: Looks,
 ) -> Result<Vec<u32>, Memory>
     requires rows { IsRenumbering faces rows.now }
     requires few { faces ≤ most_faces }
-    requires fits { 3 * faces ≤ vec_len entries.now }
-    ensures { IfOk result (λ v. AreCarried faces rows.now places.now.items entries.now.items v.items) }
+    requires fits { 3 * faces ≤ length entries.now }
+    requires looks { 3 * faces ≤ looks.left }
+    ensures { IfOk result (λ v. AreCarried faces rows.now places.now.items entries.now v.items) }
 {
     let mut now = Vec::with_capacity(alloc, 3 * rows.len())?;
     for (face, turn) in rows {
-        now.push(entry_of(places, entries, *face, 0, *turn))?;
-        now.push(entry_of(places, entries, *face, 1, *turn))?;
-        now.push(entry_of(places, entries, *face, 2, *turn))?;
+        now.push(entry_of(places, entries, *face, 0, *turn, &mut looks))?;
+        now.push(entry_of(places, entries, *face, 1, *turn, &mut looks))?;
+        now.push(entry_of(places, entries, *face, 2, *turn, &mut looks))?;
     }
     Ok(now)
 }

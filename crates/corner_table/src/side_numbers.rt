@@ -54,3 +54,27 @@ pub fn previous_number(corner: u32) -> u32
         corner - 1
     }
 }
+
+/// The corner after `c` in its face.
+pub(crate) fn next_of(c: Side) -> Side
+    ensures { side_of result ≡ next (side_of c) }
+{
+    let k = match c.k {
+        0 => 1,
+        1 => 2,
+        _ => 0,
+    };
+    Side { face: c.face, k }
+}
+
+/// The corner before `c` in its face.
+pub(crate) fn previous_of(c: Side) -> Side
+    ensures { side_of result ≡ prev (side_of c) }
+{
+    let k = match c.k {
+        0 => 2,
+        1 => 0,
+        _ => 1,
+    };
+    Side { face: c.face, k }
+}

@@ -1,20 +1,24 @@
 //! The table of glued sides: the side across is kept in a list by the number 3f + k.
 
-use crate::entries::{FREE, entry_or_free, filled, next_of, previous_of};
+use crate::entries::{Entries, FREE};
 use crate::renumbering::{carried, places_of};
-use crate::side_numbers::{next_number, number_of, previous_number, side_with};
-use crate::steps::Steps;
+use crate::side_numbers::{
+    next_number, next_of, number_of, previous_number, previous_of, side_with,
+};
+use crate::steps::{Looks, Steps};
 use drc_base::{MAX_FACES, Memory, Side};
 use std::alloc::Global;
+use std::fmt;
+use std::fmt::Debug;
 use std::marker::Model;
 use std::sync::ledger::Ledger;
 
 /// Faces and the gluing of their sides in pairs. Contracts see it as the number of its faces and the
 /// list of its entries, which gives the gluing.
-#[derive(Debug, Drop)]
+#[derive(Drop)]
 pub struct SideTable {
     faces: u32,
-    across: Vec<u32>,
+    across: Entries,
 }
 
 impl Model for SideTable {
@@ -22,9 +26,17 @@ impl Model for SideTable {
 
     ghost Value = { Table };
 
-    ghost view = { λ t. record { faces = t.faces; entries = t.across.items } };
+    ghost view = { λ t. record { faces = t.faces; entries = t.across } };
 
-    ghost invariant = { λ t. IsSideTable t.faces t.across.items };
+    ghost invariant = { λ t. IsSideTable t.faces t.across };
+}
+
+impl Debug for SideTable {
+    fn fmt<W: fmt::Write>(&self, f: &mut fmt::Formatter<W>) -> fmt::Result {
+        f.debug_struct("SideTable")
+            .field("faces", &self.faces)
+            .finish_non_exhaustive()
+    }
 }
 
 impl SideTable {
@@ -44,7 +56,7 @@ impl SideTable {
         ensures room { IfOk result (λ t. room_of t ≡ faces) }
         ensures unglued { IfOk result (λ t. gluing_of t ≡ unglued) }
     {
-        let across = filled(alloc, FREE, 3 * faces as usize)?;
+        let across = Entries::filled(alloc, FREE, 3 * faces as usize)?;
         Ok(SideTable { faces: 0, across })
     }
 
@@ -59,7 +71,7 @@ impl SideTable {
     {
         SideTable {
             faces,
-            across: pairs,
+            across: Entries::from_vec(pairs),
         }
     }
 
@@ -83,7 +95,7 @@ impl SideTable {
         ensures free { (k : Place) → IsFreeIn self.new (side result k) }
         ensures steps { steps.new ≡ steps.old + 1 }
     {
-        steps.tick();
+        let _ = steps.tick();
         let face = self.faces;
         self.faces = face + 1;
         face
@@ -100,24 +112,20 @@ impl SideTable {
         ensures glued { gluing_of self.new ≡ glue (side_of a) (side_of b) (gluing_of self.old) }
         ensures steps { steps.new ≡ steps.old + 1 }
     {
-        steps.tick();
-        // For the prover alone, who knows of the lists from here on that they fit together.
-        let _ = &self.faces;
-        let first = number_of(a);
-        let second = number_of(b);
-        self.across[first as usize] = second;
-        self.across[second as usize] = first;
+        let _ = steps.tick();
+        self.pair(a, b);
     }
 
     /// For each side, by its number 3f + k, the number of the side that it is glued to, and `FREE`
     /// where it is in no pair. Sides of faces for which there is room alone are free. The call counts as one
-    /// for each entry, that is three for each face for which there is room.
+    /// for each entry, that is three for each face for which there is room. What is lent may be looked at
+    /// again, and isn't counted again.
     pub fn across<L: Ledger>(&self, steps: &mut Steps<L>) -> &[u32]
         ensures entries { result.now ≡ self.now.entries }
         ensures steps { steps.new ≡ steps.old + length self.now.entries }
     {
-        steps.count(self.across.len() as u64);
-        self.across.as_slice()
+        let looks = steps.count(self.across.count());
+        self.across.lent(looks)
     }
 
     /// The side that `s` is glued to; None where `s` is free.
@@ -126,8 +134,8 @@ impl SideTable {
         ensures other { option_map side_of result ≡ gluing_of self.now (side_of s) }
         ensures steps { steps.new ≡ steps.old + 1 }
     {
-        steps.tick();
-        self.across_of(s)
+        let mut looks = steps.tick();
+        self.across_of(s, &mut looks)
     }
 
     /// The next corner to the left round the vertex of corner `c`: across the side of the corner
@@ -137,8 +145,8 @@ impl SideTable {
         ensures corner { option_map side_of result ≡ swing_left (gluing_of self.now) (side_of c) }
         ensures steps { steps.new ≡ steps.old + 1 }
     {
-        steps.tick();
-        match self.across_of(next_of(c)) {
+        let mut looks = steps.tick();
+        match self.across_of(next_of(c), &mut looks) {
             Some(found) => Some(next_of(found)),
             None => None,
         }
@@ -151,8 +159,8 @@ impl SideTable {
         ensures corner { option_map side_of result ≡ swing_right (gluing_of self.now) (side_of c) }
         ensures steps { steps.new ≡ steps.old + 1 }
     {
-        steps.tick();
-        match self.across_of(previous_of(c)) {
+        let mut looks = steps.tick();
+        match self.across_of(previous_of(c), &mut looks) {
             Some(found) => Some(previous_of(found)),
             None => None,
         }
@@ -161,8 +169,8 @@ impl SideTable {
     /// The same surface under new numbers: row i says which face the new face i is, and by how much it
     /// is turned, so that its corner k is corner k + turn, modulo 3, of that face. Its pairs are those
     /// of this table, renumbered, and no others. It has room for exactly these faces. A list of a number for
-    /// each side is made for it, and one more while it is made. Fails only when out of memory. All entries
-    /// are looked at, so the call counts as many steps as `across` does.
+    /// each side is made for it, and one more while it is made. Fails only when out of memory. Each entry of
+    /// a face is looked at once, and the call counts as many steps as `across` does.
     pub fn renumbered<L: Ledger>(
         &self,
         alloc: Global,
@@ -175,10 +183,11 @@ impl SideTable {
         ensures carried { IfOk result (λ t. IsCarried self.now.faces (gluing_of self.now) rows.now (gluing_of t)) }
         ensures steps { steps.new ≡ steps.old + length self.now.entries }
     {
-        steps.count(self.entry_count());
+        let looks = steps.count(self.entry_count());
         let faces = self.face_count();
         let places = places_of(alloc, faces, rows)?;
-        let across = carried(alloc, faces, rows, &places, &self.across)?;
+        let entries = carried(alloc, faces, rows, &places, &self.across, looks)?;
+        let across = Entries::from_vec(entries);
         Ok(SideTable { faces, across })
     }
 
@@ -186,17 +195,37 @@ impl SideTable {
     pub(crate) fn entry_count(&self) -> u64
         ensures { result ≡ length self.now.entries }
     {
-        self.across.len() as u64
+        self.across.count()
     }
 
-    /// The side that `s` is glued to.
-    fn across_of(&self, s: Side) -> Option<Side>
-        requires { s.face < self.now.faces }
-        ensures { option_map side_of result ≡ gluing_of self.now (side_of s) }
+    /// Writes a pair of two free sides of two faces, and looks at no entry.
+    pub(crate) fn pair(&mut self, a: Side, b: Side)
+        requires first { IsFreeIn self.old (side_of a) }
+        requires second { IsFreeIn self.old (side_of b) }
+        requires apart { a.face ≢ b.face }
+        ensures faces { self.new.faces ≡ self.old.faces }
+        ensures room { room_of self.new ≡ room_of self.old }
+        ensures entries { length self.new.entries ≡ length self.old.entries }
+        ensures glued { gluing_of self.new ≡ glue (side_of a) (side_of b) (gluing_of self.old) }
     {
         // For the prover alone, who knows of the lists from here on that they fit together.
         let _ = &self.faces;
-        let entry = self.across[number_of(s) as usize];
+        let first = number_of(a);
+        let second = number_of(b);
+        self.across.put(first, second);
+        self.across.put(second, first);
+    }
+
+    /// The side that `s` is glued to.
+    fn across_of(&self, s: Side, looks: &mut Looks) -> Option<Side>
+        requires within { s.face < self.now.faces }
+        requires look { 0 < looks.old.left }
+        ensures across { option_map side_of result ≡ gluing_of self.now (side_of s) }
+        ensures look { looks.new.left + 1 ≡ looks.old.left }
+    {
+        // For the prover alone, who knows of the lists from here on that they fit together.
+        let _ = &self.faces;
+        let entry = self.across.at(number_of(s), looks);
         if entry == FREE {
             None
         } else {
@@ -205,14 +234,16 @@ impl SideTable {
     }
 
     /// The next corner to the left round the vertex of a corner, by their numbers.
-    pub(crate) fn left_of(&self, corner: u32) -> Option<u32>
-        requires { corner < 3 * self.now.faces }
+    pub(crate) fn left_of(&self, corner: u32, looks: &mut Looks) -> Option<u32>
+        requires corner { corner < 3 * self.now.faces }
+        requires look { 0 < looks.old.left }
         ensures corner { option_map side_at result ≡ swing_left (gluing_of self.now) (side_at corner) }
         ensures within { IfSome result (λ n. n < 3 * self.now.faces) }
+        ensures look { looks.new.left + 1 ≡ looks.old.left }
     {
         // For the prover alone, who knows of the lists from here on that they fit together.
         let _ = &self.faces;
-        let side = entry_or_free(&self.across, next_number(corner));
+        let side = self.across.at(next_number(corner), looks);
         if side == FREE {
             None
         } else {
@@ -221,14 +252,16 @@ impl SideTable {
     }
 
     /// The next corner to the right round the vertex of a corner, by their numbers.
-    pub(crate) fn right_of(&self, corner: u32) -> Option<u32>
-        requires { corner < 3 * self.now.faces }
+    pub(crate) fn right_of(&self, corner: u32, looks: &mut Looks) -> Option<u32>
+        requires corner { corner < 3 * self.now.faces }
+        requires look { 0 < looks.old.left }
         ensures corner { option_map side_at result ≡ swing_right (gluing_of self.now) (side_at corner) }
         ensures within { IfSome result (λ n. n < 3 * self.now.faces) }
+        ensures look { looks.new.left + 1 ≡ looks.old.left }
     {
         // For the prover alone, who knows of the lists from here on that they fit together.
         let _ = &self.faces;
-        let side = entry_or_free(&self.across, previous_number(corner));
+        let side = self.across.at(previous_number(corner), looks);
         if side == FREE {
             None
         } else {

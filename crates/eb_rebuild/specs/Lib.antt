@@ -1,6 +1,7 @@
 pub mod Machine
 pub mod Closes
 pub mod Degree
+pub mod Calls
 pub mod Rebuilding
 pub mod Kept
 pub mod Linked

@@ -1,30 +1,9 @@
 //! The search for a face with two equal vertices.
 
-ghost use Rattle.std.specs.Prelude.{◌≡◌, ◌<◌, ◌≤◌, ◌*◌, ◌+◌, length, IfOk};
+ghost use Rattle.std.specs.Prelude.{◌≡◌, ◌<◌, ◌≤◌, ◌*◌, ◌+◌, length};
 ghost use Rattle.drc_base.specs.declared.limits.TheConstants.{MAX_FACES as most_faces};
-ghost use Rattle.corner_table.specs.Labels.{label_at, IsLabelled};
-ghost use Rattle.corner_table.specs.Table.{gluing_of};
+ghost use Rattle.corner_table.specs.Labels.{label_at};
 ghost use Rattle.eb_rebuild.specs.Alike.{is_alike, first_alike};
-
-use corner_table::{Classes, SideTable, Steps};
-use drc_base::Memory;
-use std::alloc::Global;
-use std::sync::ledger::{Blank, Ledger};
-
-/// The labels of a table's vertices, under a count of calls that nothing else takes part in.
-pub(crate) fn labels_of<L: Ledger>(
-    alloc: Global,
-    t: &SideTable,
-    blank: Blank,
-) -> Result<Classes, Memory>
-    requires name { blank.name ≡ L.name }
-    requires parts { blank.parts ≡ L.parts }
-    requires some { 0 < L.parts }
-    ensures { IfOk result (λ c. IsLabelled t.now.faces (gluing_of t.now) c.of_corner c.count c.ends) }
-{
-    let mut steps = Steps::<L>::new(blank);
-    t.label_vertices(alloc, &mut steps)
-}
 
 /// Whether two corners of a face have one label.
 fn has_equal_labels(labels: &[u32], face: u32) -> bool

@@ -11,7 +11,7 @@ ghost use Rattle.eb_rebuild.specs.Linked.{refused_by};
 
 use crate::beside::Beside;
 use crate::built::Built;
-use crate::degenerate::{first_equal, labels_of};
+use crate::degenerate::first_equal;
 use crate::kept_degrees::{
     beside_degrees, degree_at, end_degrees, no_degrees, split_degrees, tip_degrees,
 };
@@ -21,8 +21,8 @@ use crate::splits::Splits;
 use corner_table::{Event, LinkedTable, SideTable, Steps, Symbol, number_of, side_with};
 use drc_base::{Fault, Kind, Memory, Refusal, Side};
 use std::alloc::Global;
-use std::marker::{Brand, Model};
-use std::sync::ledger::{Blank, Ledger};
+use std::marker::Model;
+use std::sync::ledger::Ledger;
 
 /// Whether two sides are one.
 fn is_same(a: Side, b: Side) -> bool
@@ -145,7 +145,7 @@ impl LinkRebuild {
         ensures plan { self.new.plan ≡ self.old.plan }
         ensures room { OnOk result (room_of self.new.table ≡ room_of self.old.table) }
         ensures live { OnOk result (IsTrue (is_live self.new)) }
-        ensures cost { steps.new ≤ steps.old + 4 }
+        ensures cost { steps.new ≤ steps.old + 1 }
     {
         let face = self.table.add_face(steps);
         end_degrees(&mut self.degrees, face);
@@ -193,7 +193,7 @@ impl LinkRebuild {
         ensures room { OnOk result (room_of self.new.table ≡ room_of self.old.table) }
         ensures live { OnOk result (IsTrue (is_live self.new)) }
         ensures cost { steps.new ≤ steps.old + 6 }
-        ensures refused { OnErr result (steps.new ≤ steps.old + 4) }
+        ensures refused { OnErr result (steps.new ≤ steps.old + 2) }
     {
         // Not by `?` for the prover alone, who would have to follow how it converts the error.
         let a = match self.take_side(steps) {
@@ -247,7 +247,7 @@ impl LinkRebuild {
         ensures room { OnOk result (room_of self.new.table ≡ room_of self.old.table) }
         ensures live { OnOk result (IsTrue (is_live self.new)) }
         ensures cost { steps.new ≤ steps.old + 8 }
-        ensures refused { OnErr result (steps.new ≤ steps.old + 4) }
+        ensures refused { OnErr result (steps.new ≤ steps.old + 3) }
     {
         // Not by `?` for the prover alone, who would have to follow how it converts the error.
         let b = match self.take_side(steps) {
@@ -414,7 +414,7 @@ impl Rebuild for LinkRebuild {
         }
     }
 
-    fn finish(self, alloc: Global) -> Result<Built, Refusal> {
+    fn finish<L: Ledger>(self, alloc: Global, steps: &mut Steps<L>) -> Result<Built, Refusal> {
         let built = self.table.face_count();
         if built != self.faces {
             return Err(Refusal::Fault(Fault::new(Kind::FaceCount, u64::from(built))));
@@ -423,7 +423,7 @@ impl Rebuild for LinkRebuild {
             return Err(Refusal::Fault(Fault::new(Kind::VertexCount, u64::from(self.made))));
         }
         let table = finished_table(self);
-        let classes = labels_of::<Brand>(alloc, &table, Blank::new(1))?;
+        let classes = table.label_vertices(alloc, steps)?;
         match first_equal(classes.of_corner.as_slice(), built) {
             None => Ok(Built::new(table, classes, true)),
             Some(face) => Err(Refusal::Fault(Fault::new(Kind::Degenerate, u64::from(face)))),

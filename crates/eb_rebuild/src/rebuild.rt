@@ -4,6 +4,7 @@ ghost use Rattle.std.specs.Prelude.{◌≡◌, ◌≢◌, ℕ, ◌+◌, ◌*◌,
 ghost use Rattle.drc_base.specs.declared.limits.TheConstants.{MAX_FACES as most_faces};
 ghost use Rattle.drc_base.specs.declared.faults.Refusal.TheVariants as refusal;
 ghost use Rattle.eb_rebuild.specs.Machine.{Plan as MachinePlan, State as MachineState, start, step, close};
+ghost use Rattle.eb_rebuild.specs.Calls.{symbol_calls};
 ghost use Rattle.eb_rebuild.specs.Degree.{top_degree};
 ghost use Rattle.eb_rebuild.specs.Rebuilding.{Moves, Ends, IsEventOf};
 
@@ -16,7 +17,7 @@ use std::sync::ledger::Ledger;
 /// A rebuilding of a surface: the machine that is fed the symbols, the last first, and then closes the
 /// sides that are left (Isenburg and Snoeyink 2001; Draco Bitstream Specification 2.2, Edgebreaker).
 /// After a refusal the value is given up. Of a linked rebuilding `symbol` and `close` take no memory,
-/// and few table calls.
+/// and few table calls, and `finish` looks at the entries once.
 pub trait Rebuild: Sized + Drop {
     /// What is declared.
     ghost plan: { Self → MachinePlan };
@@ -60,7 +61,8 @@ pub trait Rebuild: Sized + Drop {
     /// loop. SamePoint: the two vertices that an S joins are one already. EventOrder: the last event
     /// left at an E, L or R is of a symbol taken before. Taken, this project's choice: its split has a
     /// side kept already. Memory, of a rebuilding that isn't linked: no room for the step. There has to be
-    /// room for the face.
+    /// room for the face. A linked rebuilding makes at most as many table calls as the symbol takes by its
+    /// kind, 1 for an E to 8 for an S, and at most 4 where it refuses.
     fn symbol<L: Ledger>(&mut self, symbol: Symbol, steps: &mut Steps<L>) -> Result<(), Refusal>
         requires live { IsTrue (live self.old) }
         requires more { (state self.old).built < (plan self.old).symbols }
@@ -71,7 +73,7 @@ pub trait Rebuild: Sized + Drop {
         ensures linked { OnOk result (linked self.new ≡ linked self.old) }
         ensures room { OnOk result (room self.new ≡ room self.old) }
         ensures memory { IsTrue (linked self.old) → result ≢ Err refusal.Memory }
-        ensures cost { IsTrue (linked self.old) → OnOk result (steps.new ≤ steps.old + 12) }
+        ensures cost { IsTrue (linked self.old) → OnOk result (steps.new ≤ steps.old + symbol_calls symbol) }
         ensures refused { IsTrue (linked self.old) → OnErr result (steps.new ≤ steps.old + 4) };
 
     /// The degree of the vertex at which the top side starts: the number of corners there, and one more
@@ -93,7 +95,8 @@ pub trait Rebuild: Sized + Drop {
     /// loop isn't of exactly three sides, at the number of symbols and closes before; then with FaceCount
     /// where all declared faces are built, at their number. Memory, of a rebuilding that isn't linked:
     /// no room for the face. There has to be room for one more of the declared faces, if any are left. That
-    /// the loop has to be exact is this project's choice.
+    /// the loop has to be exact is this project's choice. A linked rebuilding makes at most 8 table calls for
+    /// an interior face, 4 where it refuses, and none for a boundary.
     fn close<L: Ledger>(&mut self, interior: bool, steps: &mut Steps<L>) -> Result<(), Refusal>
         requires live { IsTrue (live self.old) }
         requires all { (plan self.old).symbols ≤ (state self.old).built }
@@ -104,7 +107,7 @@ pub trait Rebuild: Sized + Drop {
         ensures linked { OnOk result (linked self.new ≡ linked self.old) }
         ensures room { OnOk result (room self.new ≡ room self.old) }
         ensures memory { IsTrue (linked self.old) → result ≢ Err refusal.Memory }
-        ensures cost { IsTrue (linked self.old) → OnOk result (steps.new ≤ steps.old + 12) }
+        ensures cost { IsTrue (linked self.old) → OnOk result (steps.new ≤ steps.old + 8) }
         ensures none { IsTrue (linked self.old) → interior ≡ false → steps.new ≡ steps.old }
         ensures refused { IsTrue (linked self.old) → OnErr result (steps.new ≤ steps.old + 4) };
 
@@ -112,12 +115,14 @@ pub trait Rebuild: Sized + Drop {
     /// their number; VertexCount where more than `created` vertices were made, at their number;
     /// Degenerate where two corners of a face are one vertex, at the least such face (this project's
     /// choice). Memory where there is no room to distinguish the vertices. The table that is answered
-    /// has entries for no more than the declared faces.
-    fn finish(self, alloc: Global) -> Result<Built, Refusal>
+    /// has entries for no more than the declared faces. A linked rebuilding labels the vertices once, which
+    /// counts a step for each entry, three for each face for which there is room.
+    fn finish<L: Ledger>(self, alloc: Global, steps: &mut Steps<L>) -> Result<Built, Refusal>
         requires live { IsTrue (live self) }
         requires all { (plan self).symbols ≤ (state self).built }
         requires none { length (state self).stack ≡ 0 }
         ensures ends { Ends (plan self) (state self) result }
         ensures room { IfOk result (λ b. length b.table.entries ≤ 3 * (plan self).faces) }
-        ensures linked { IfOk result (λ b. b.linked ≡ linked self) };
+        ensures linked { IfOk result (λ b. b.linked ≡ linked self) }
+        ensures cost { IsTrue (linked self) → steps.new ≤ steps.old + 3 * room self };
 }

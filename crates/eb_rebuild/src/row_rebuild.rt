@@ -11,7 +11,6 @@ ghost use Rattle.corner_table.specs.Sides.{side_at, same};
 use crate::active_rows::Row;
 use crate::beside::Beside;
 use crate::built::Built;
-use crate::degenerate::labels_of;
 use crate::link_rebuild::refused;
 use crate::named_table::NamedTable;
 use crate::rebuild::Rebuild;
@@ -20,8 +19,8 @@ use crate::splits::Splits;
 use corner_table::{Event, Steps, Symbol};
 use drc_base::{Fault, Kind, Memory, Refusal};
 use std::alloc::Global;
-use std::marker::{Brand, Model};
-use std::sync::ledger::{Blank, Ledger};
+use std::marker::Model;
+use std::sync::ledger::Ledger;
 
 /// Whether two sides are one, by their numbers.
 fn is_one(a: u32, b: u32) -> bool
@@ -324,7 +323,7 @@ impl Rebuild for RowRebuild {
         }
     }
 
-    fn finish(self, alloc: Global) -> Result<Built, Refusal> {
+    fn finish<L: Ledger>(self, alloc: Global, steps: &mut Steps<L>) -> Result<Built, Refusal> {
         let built = self.named.face_count();
         if built != self.faces {
             return Err(Refusal::Fault(Fault::new(Kind::FaceCount, u64::from(built))));
@@ -336,7 +335,7 @@ impl Rebuild for RowRebuild {
         match self.named.first_degenerate() {
             None => {
                 let table = self.named.into_table();
-                let classes = labels_of::<Brand>(alloc, &table, Blank::new(1))?;
+                let classes = table.label_vertices(alloc, steps)?;
                 Ok(Built::new(table, classes, false))
             }
             Some(face) => Err(Refusal::Fault(Fault::new(Kind::Degenerate, u64::from(face)))),

@@ -88,7 +88,7 @@ fn rebuilt<R: Rebuild, L: Ledger>(
     let mut machine = R::new(alloc, plan.0, plan.1, count, plan.0, events)?;
     take_all(&mut machine, symbols, &mut steps)?;
     close_all(&mut machine, bits, &mut steps)?;
-    machine.finish(alloc)
+    machine.finish(alloc, &mut steps)
 }
 
 /// The rebuilding has the table that is listed.

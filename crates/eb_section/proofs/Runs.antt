@@ -11,13 +11,15 @@ use Rattle.drc_base.specs.Refusals.{Refuses}
 use Rattle.drc_base.specs.Steps.{◌>>=◌}
 use Rattle.drc_bits.proofs.Many.{one_fewer}
 use Rattle.corner_table.specs.declared.symbols.Symbol.{Symbol}
+use Rattle.corner_table.specs.declared.symbols.Symbol.TheVariants.{C, S, L, R, E}
 use Rattle.corner_table.specs.Sides.{Side}
 use Rattle.rans_binary.specs.Blocks.{Block, behind, bit_of, next_bit}
+use Rattle.eb_rebuild.specs.Calls.{symbol_calls}
 use Rattle.eb_rebuild.specs.Machine.{Plan, State, step, close, close_all, close_top, finish, must_be, fault, first_degenerate}
 use Rattle.eb_rebuild.specs.Rebuilding.{BuiltValue, Moves, Ends}
 use Rattle.eb_rebuild.proofs.Steps.{Next, fill_loop, fill_count, filled_state, loop_test}
 use Rattle.eb_rebuild.proofs.Counts.{If, if_ok, if_then, close_counts}
-use Rattle.eb_section.specs.Opening.{most_calls}
+use Rattle.eb_section.specs.Calls.{most_calls}
 use Rattle.eb_section.specs.Feeding.{Source, fed, rebuilt, EndsAs}
 
 -- ---- symbols
@@ -183,24 +185,69 @@ ended-faces p q s (Err e) same h = tt
 
 -- ---- table calls
 
--- each face takes twelve at most, and a refusal four
-within-most : (before between after count faces : ℕ) → count ≤ faces → between ≤ before + 12 * count → after + 12 * count ≤ between + 12 * faces + 4 →
-    (count ≡ 0 → after ≡ between) → after ≤ before + most_calls faces
-within-most before between after count zero few first second none = let k = none (omega arith) in omega arith
-within-most before between after count (suc f) few first second none =
-    let most : most_calls (suc f) ≡ 12 * suc f + 4 = cond-false _ _ _ (ne_eqb (suc f) 0 (λ e. omega arith)) in
-    let bound : after ≤ before + (12 * suc f + 4) = omega arith in
-    subst (λ (m : ℕ). after ≤ before + m) (sym most) bound
+-- a symbol takes eight at most
+pub few_calls : (x : Symbol) → symbol_calls x ≤ 8
+few_calls C = omega arith
+few_calls S = omega arith
+few_calls L = omega arith
+few_calls R = omega arith
+few_calls E = omega arith
 
-pub calls-within : (p q : Plan) (before between after count built : ℕ) → count ≤ p.faces → built ≡ count → q ≡ p → between ≤ before + 12 * count →
-    after + 12 * built ≤ between + 12 * q.faces + 4 → (count ≡ 0 → after ≡ between) → after ≤ before + most_calls p.faces
-calls-within p q before between after count built few all same first second none =
-    let faces = ap (λ (o : Plan). o.faces) same in
-    within-most before between after count p.faces few first (omega arith) none
+-- some faces take eleven each, and four more
+most_calls_are : (f : ℕ) → most_calls (suc f) ≡ 11 * suc f + 4
+most_calls_are f = cond-false _ _ _ (ne_eqb (suc f) 0 (λ e. omega arith))
+
+-- fewer faces take no more calls
+pub most_calls-le : (a b : ℕ) → a ≤ b → most_calls a ≤ most_calls b
+most_calls-le zero b h = omega arith
+most_calls-le (suc a) zero h = absurd (omega arith)
+most_calls-le (suc a) (suc b) h =
+    let bound : 11 * suc a + 4 ≤ 11 * suc b + 4 = omega arith in
+    subst (λ (m : ℕ). m ≤ most_calls (suc b)) (sym (most_calls_are a)) (subst (λ (m : ℕ). 11 * suc a + 4 ≤ m) (sym (most_calls_are b)) bound)
+
+-- what comes of so many faces and symbols
+pub built_from : (faces count : ℕ) → count ≤ faces → (count ≤ min faces (2 * count)) × (min faces (2 * count) ≤ 2 * count)
+built_from faces count few = (omega arith, omega arith)
+
+-- symbols that were refused
+pub symbols-within : (before after drawn faces room : ℕ) → after ≤ before + 8 * drawn → drawn ≤ faces → min faces (2 * drawn) ≤ room → after ≤ before + most_calls room
+symbols-within before after drawn faces zero cost few fits = let b = built_from faces drawn few in omega arith
+symbols-within before after drawn faces (suc room) cost few fits =
+    let b = built_from faces drawn few in
+    let most : after ≤ before + (11 * suc room + 4) = omega arith in
+    subst (λ (m : ℕ). after ≤ before + m) (sym (most_calls_are room)) most
+
+-- symbols, closes and the labelling, where there is room for what is built
+within-room : (before between after last count built room : ℕ) → between ≤ before + 8 * count → after + 8 * count ≤ between + 8 * built + 4 → last ≤ after + 3 * room →
+    count ≤ built → built ≤ room → (count ≡ 0 → after ≡ between) → last ≤ before + most_calls room
+within-room before between after last count built zero first second third few fits none = let k = none (omega arith) in omega arith
+within-room before between after last count built (suc room) first second third few fits none =
+    let most : last ≤ before + (11 * suc room + 4) = omega arith in
+    subst (λ (m : ℕ). last ≤ before + m) (sym (most_calls_are room)) most
+
+pub calls-within : (p q : Plan) (before between after last count built left room : ℕ) → count ≤ p.faces → built ≡ count → q ≡ p → count ≤ suc left →
+    between ≤ before + 8 * min count (suc left) → after + 8 * built ≤ between + 8 * min q.faces (2 * built) + 4 → last ≤ after + 3 * room →
+    min p.faces (2 * min count (suc left)) ≤ room → (count ≡ 0 → after ≡ between) → last ≤ before + most_calls room
+calls-within p q before between after last count built left room few all same came first second third fits none =
+    let n : min count (suc left) ≡ count = omega arith in
+    let faces : q.faces ≡ p.faces = ap (λ (o : Plan). o.faces) same in
+    let one : between ≤ before + 8 * count = subst (λ (m : ℕ). between ≤ before + 8 * m) n first in
+    let two : after + 8 * count ≤ between + 8 * min p.faces (2 * count) + 4 =
+    subst (λ (f : ℕ). after + 8 * count ≤ between + 8 * min f (2 * count) + 4) faces (subst (λ (b : ℕ). after + 8 * b ≤ between + 8 * min q.faces (2 * b) + 4) all second) in
+    let room_for : min p.faces (2 * count) ≤ room = subst (λ (m : ℕ). min p.faces (2 * m) ≤ room) n fits in
+    within-room before between after last count (min p.faces (2 * count)) room one two third (built_from p.faces count few).0 room_for none
+
+-- a labelling where there is this room
+pub labelled-within : (after last was is : ℕ) → was ≡ is → last ≤ after + 3 * was → last ≤ after + 3 * is
+labelled-within after last was is same h = omega arith
+
+-- none
+pub unlabelled : (after room : ℕ) → after ≤ after + 3 * room
+unlabelled after room = omega arith
 
 -- a close that builds no face takes no call
-pub closed-cost : (p : Plan) (b : Bool) (s t : State) (first before between after : ℕ) → CloseCounts p b s t → between + 12 * first ≤ before + 12 * s.built →
-    after ≤ between + 12 → (b ≡ false → after ≡ between) → after + 12 * first ≤ before + 12 * t.built
+pub closed-cost : (p : Plan) (b : Bool) (s t : State) (first before between after : ℕ) → CloseCounts p b s t → between + 8 * first ≤ before + 8 * s.built →
+    after ≤ between + 8 → (b ≡ false → after ≡ between) → after + 8 * first ≤ before + 8 * t.built
 closed-cost p false s t first before between after counts so most none = let e = none refl in let f = counts.built in omega arith
 closed-cost p true s t first before between after counts so most none = let f = counts.built.0 in omega arith
 

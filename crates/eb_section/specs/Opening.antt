@@ -1,6 +1,6 @@
 -- The numbers that open Edgebreaker connectivity (Draco Bitstream Specification 2.2, section "Edgebreaker Connectivity"; the limits
 -- and what is refused are this project's choice).
-use Rattle.std.specs.Prelude.{ℕ, ◌+◌, ◌*◌, ◌==◌, ◌||◌, Ok, Err, nat_le, cond}
+use Rattle.std.specs.Prelude.{ℕ, ◌+◌, ◌==◌, ◌||◌, Ok, nat_le}
 use Rattle.drc_base.specs.declared.kinds.Kind.TheVariants as kind
 use Rattle.drc_base.specs.declared.limits.TheConstants.{MAX_ATTRIBUTES}
 use Rattle.drc_base.specs.Profile.{Profile}
@@ -41,13 +41,3 @@ opening_at p c = do
 -- each declared split
 abbrev pub plan_of : Opening → Plan
 plan_of o = record { faces = o.faces; created = o.vertices + o.splits; symbols = o.symbols }
-
--- how many faces the opening declares, and none where it has a fault
-abbrev pub declared_faces : Item Opening → ℕ
-declared_faces (Ok o) = o.0.faces
-declared_faces (Err f) = 0
-
--- how many table calls a rebuilding of so many declared faces may make: twelve a face, and four where it ends with a fault; none for no
--- face
-abbrev pub most_calls : ℕ → ℕ
-most_calls faces = cond (faces == 0) 0 (12 * faces + 4)

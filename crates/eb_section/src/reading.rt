@@ -7,9 +7,10 @@ ghost use Rattle.drc_base.specs.declared.faults.Refusal.TheVariants as refusal;
 ghost use Rattle.drc_base.specs.Profile.{profile};
 ghost use Rattle.drc_bits.specs.Reading.{Gives};
 ghost use Rattle.eb_rebuild.specs.Rebuilding.{IsEventOf};
-ghost use Rattle.eb_section.specs.Opening.{declared_faces, most_calls, opening_at};
-ghost use Rattle.eb_section.specs.Events.{event_count_at};
-ghost use Rattle.eb_section.specs.Connectivity.{behind_at, connectivity_at, declared_at, meaning, standard_behind, valence_behind};
+ghost use Rattle.eb_section.specs.Calls.{declared_faces, faces_from, faces_there, lists_behind, most_calls, symbols_behind, symbols_in_bits, symbols_in_lists};
+ghost use Rattle.eb_section.specs.Opening.{opening_at};
+ghost use Rattle.eb_section.specs.Events.{event_count_at, events_at};
+ghost use Rattle.eb_section.specs.Connectivity.{behind_at, connectivity_at, declared_at, meaning, standard_at, standard_behind, valence_behind};
 
 use crate::blocks::read_blocks;
 use crate::contexts::read_contexts;
@@ -82,6 +83,7 @@ fn read_standard<'a, L: Ledger>(
     ensures attr_data { IfOk result (λ r. r.attr_data ≡ opening.attr_data) }
     ensures seams { IfOk result (λ r. length r.seams ≡ opening.attr_data) }
     ensures cost { steps.new ≤ steps.old + most_calls opening.faces }
+    ensures read_cost { steps.new ≤ steps.old + most_calls (faces_from opening.faces (symbols_in_bits opening.symbols (standard_at c.old))) }
 {
     let count = events.len() as u32;
     let source = BitSource::read(c)?;
@@ -93,7 +95,7 @@ fn read_standard<'a, L: Ledger>(
 
 /// Reads what is behind the events of the valence traversal: the block of start bits, those of seam bits,
 /// and the symbols of each context; then rebuilds the surface.
-#[tactic(auto, unfolding(crate::specs::Connectivity::valence_behind))]
+#[tactic(auto, unfolding(crate::specs::Connectivity::valence_behind, crate::specs::Calls::lists_behind))]
 fn read_valence<'a, L: Ledger>(
     alloc: Global,
     c: &mut Cursor<'a>,
@@ -114,6 +116,7 @@ fn read_valence<'a, L: Ledger>(
     ensures attr_data { IfOk result (λ r. r.attr_data ≡ opening.attr_data) }
     ensures seams { IfOk result (λ r. length r.seams ≡ opening.attr_data) }
     ensures cost { steps.new ≤ steps.old + most_calls opening.faces }
+    ensures read_cost { steps.new ≤ steps.old + most_calls (faces_from opening.faces (symbols_in_lists opening.symbols (lists_behind opening c.old))) }
 {
     let count = events.len() as u32;
     let starts = BitBlock::read(c)?;
@@ -143,6 +146,7 @@ fn read_behind<'a, L: Ledger>(
     ensures attr_data { IfOk result (λ r. r.attr_data ≡ opening.attr_data) }
     ensures seams { IfOk result (λ r. length r.seams ≡ opening.attr_data) }
     ensures cost { steps.new ≤ steps.old + most_calls opening.faces }
+    ensures read_cost { steps.new ≤ steps.old + most_calls (faces_from opening.faces (symbols_behind opening (events_at opening c.old))) }
 {
     let events = read_events(alloc, c, opening)?;
     if opening.valence {
@@ -159,8 +163,9 @@ fn read_behind<'a, L: Ledger>(
 /// first byte of the symbols where the bits of a symbol aren't there; `ContextEmpty` and `BadSymbol`, and
 /// those of the machine's rules, at the symbol's number in the order of decoding; and at the end
 /// `FaceCount`, `VertexCount` and `Degenerate`. Symbols, events, bits and coded bytes that are left over
-/// are passed. It makes at most 12 table calls for each declared face and 4 more, and none for no face.
-/// After a refusal the cursor is where it was.
+/// are passed. It makes at most 11 table calls for each face that can be built and 4 more, and none where no
+/// face can be: that many are declared, and there are no more than two for each symbol that the bits or the
+/// lists can give. After a refusal the cursor is where it was.
 #[tactic(auto, unfolding(crate::specs::Connectivity::connectivity_at, crate::specs::Connectivity::declared_at))]
 pub fn read_connectivity<'a, L: Ledger>(
     alloc: Global,
@@ -173,6 +178,7 @@ pub fn read_connectivity<'a, L: Ledger>(
     ensures unchanged { OnErr result (c.new ≡ c.old) }
     ensures linked { IfOk result (λ r. IsTrue r.sides.linked) }
     ensures cost { steps.new ≤ steps.old + most_calls (declared_faces (opening_at profile c.old)) }
+    ensures read_cost { steps.new ≤ steps.old + most_calls (faces_there (opening_at profile c.old)) }
     ensures room { IfOk result (λ r. length r.sides.table.entries ≤ 3 * r.sides.table.faces) }
     ensures faces { IfOk result (λ r. r.sides.table.faces ≤ most_faces) }
     ensures attr_data { IfOk result (λ r. r.attr_data ≤ most_attributes) }

@@ -6,7 +6,8 @@ ghost use Rattle.drc_base.specs.Refusals.{Answers};
 ghost use Rattle.rans_binary.specs.Blocks.{bit_of};
 ghost use Rattle.eb_rebuild.specs.Machine.{close_all, start};
 ghost use Rattle.eb_rebuild.specs.Rebuilding.{IsEventOf};
-ghost use Rattle.eb_section.specs.Opening.{plan_of, most_calls};
+ghost use Rattle.eb_section.specs.Opening.{plan_of};
+ghost use Rattle.eb_section.specs.Calls.{most_calls, faces_from};
 ghost use Rattle.eb_section.specs.Feeding.{fed, rebuilt, EndsAs};
 
 use crate::opening::Opening;
@@ -23,7 +24,7 @@ use std::sync::ledger::Ledger;
 fn most_built(faces: u32, symbols: u32) -> u32
     requires limit { faces ≤ most_faces }
     requires few { symbols ≤ faces }
-    ensures { result ≡ min faces (2 * symbols) }
+    ensures { result ≡ faces_from faces symbols }
 {
     faces.min(2 * symbols)
 }
@@ -49,7 +50,7 @@ fn take_symbols<R: Rebuild, F: SymbolSource, L: Ledger>(
     ensures unclosed { IfOk result (λ m. (R.state m).closes ≡ 0) }
     ensures room { IfOk result (λ m. R.room m ≡ R.room machine) }
     ensures came { IfOk result (λ m. count ≤ suc (F.left source)) }
-    ensures cost { IsTrue (R.linked machine) → steps.new ≤ steps.old + 12 * count }
+    ensures cost { IsTrue (R.linked machine) → steps.new ≤ steps.old + 8 * min count (suc (F.left source)) }
 {
     let mut machine = machine;
     let mut source = source;
@@ -77,7 +78,8 @@ fn close_sides<R: Rebuild, L: Ledger>(
     ensures linked { IfOk result (λ m. R.linked m ≡ R.linked machine) }
     ensures built { IfOk result (λ m. (R.plan machine).symbols ≤ (R.state m).built) }
     ensures none { IfOk result (λ m. length (R.state m).stack ≡ 0) }
-    ensures cost { IsTrue (R.linked machine) → steps.new + 12 * (R.state machine).built ≤ steps.old + 12 * (R.plan machine).faces + 4 }
+    ensures room { IfOk result (λ m. R.room m ≡ R.room machine) }
+    ensures cost { IsTrue (R.linked machine) → steps.new + 8 * (R.state machine).built ≤ steps.old + 8 * min (R.plan machine).faces (2 * (R.state machine).built) + 4 }
     ensures same { length (R.state machine).stack ≡ 0 → steps.new ≡ steps.old }
 {
     let mut machine = machine;
@@ -111,11 +113,11 @@ fn rebuild<R: Rebuild, F: SymbolSource, L: Ledger>(
     ensures faces { IfOk result (λ b. b.table.faces ≡ (R.plan machine).faces) }
     ensures room { IfOk result (λ b. length b.table.entries ≤ 3 * (R.plan machine).faces) }
     ensures linked { IfOk result (λ b. b.linked ≡ R.linked machine) }
-    ensures cost { IsTrue (R.linked machine) → steps.new ≤ steps.old + most_calls (R.plan machine).faces }
+    ensures cost { IsTrue (R.linked machine) → steps.new ≤ steps.old + most_calls (R.room machine) }
 {
     let grown = take_symbols(machine, source, count, steps)?;
     let closed = close_sides(grown, starts, steps)?;
-    closed.finish(alloc)
+    closed.finish(alloc, steps)
 }
 
 /// Rebuilds by links the surface that the opening of the section, its events, a source of symbols and a
@@ -138,6 +140,7 @@ pub(crate) fn rebuild_linked<F: SymbolSource, L: Ledger>(
     ensures room { IfOk result (λ b. length b.table.entries ≤ 3 * opening.faces) }
     ensures linked { IfOk result (λ b. IsTrue b.linked) }
     ensures cost { steps.new ≤ steps.old + most_calls opening.faces }
+    ensures read_cost { steps.new ≤ steps.old + most_calls (faces_from opening.faces (min opening.symbols (suc (F.whole source)))) }
 {
     let created = opening.vertices + opening.splits;
     let most = most_built(opening.faces, source.most(opening.symbols));

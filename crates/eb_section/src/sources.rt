@@ -22,10 +22,13 @@ pub(crate) trait SymbolSource: Drop {
     /// How many symbols can still come, beside the first of all.
     ghost left: { Self → ℕ };
 
+    /// How many symbols there were in all, beside the first.
+    ghost whole: { Self → ℕ };
+
     /// How many of so many symbols can come at most.
     fn most(&self, symbols: u32) -> u32
-        ensures enough { min symbols (suc (left self.now)) ≤ result }
-        ensures few { result ≤ symbols };
+        ensures most { result ≡ min symbols (suc (whole self.now)) }
+        ensures enough { left self.now ≤ whole self.now };
 
     /// Draws the symbol that the machine is to take next, which has this number. After a fault the source
     /// is given up. It takes no memory.
@@ -46,15 +49,14 @@ pub(crate) struct BitSource<'a> {
 }
 
 impl<'a> Model for BitSource<'a> {
-    ghost use Rattle.std.specs.Prelude.{◌*◌, ◌≤◌, length};
-    ghost use Rattle.drc_bits.specs.Bits.{bits_left};
+    ghost use Rattle.std.specs.Prelude.{◌≡◌, length};
     ghost use Rattle.eb_section.specs.Feeding.{Standard};
 
     ghost Value = { Standard };
 
     ghost view = { λ s. record { short = s.short; place = s.reader } };
 
-    ghost invariant = { λ s. length (bits_left s.reader.place) ≤ 8 * s.bytes };
+    ghost invariant = { λ s. s.bytes ≡ length s.reader.place.bytes };
 }
 
 impl<'a> BitSource<'a> {
@@ -77,10 +79,13 @@ impl<'a> BitSource<'a> {
 impl<'a> SymbolSource for BitSource<'a> {
     ghost use Rattle.std.specs.Prelude.{length};
     ghost use Rattle.drc_bits.specs.Bits.{bits_left};
+    ghost use Rattle.eb_section.specs.Calls.{bit_count};
 
     ghost gives = { standard };
 
     ghost left = { λ s. length (bits_left s.place.place) };
+
+    ghost whole = { bit_count };
 
     /// No more than there are bits, since a symbol takes one at least.
     fn most(&self, symbols: u32) -> u32 {
@@ -103,6 +108,8 @@ impl SymbolSource for ContextReader {
     ghost gives = { symbol_at };
 
     ghost left = { λ lists. sum_by length lists };
+
+    ghost whole = { λ lists. sum_by length lists };
 
     /// No more than the first and those in the lists of the contexts.
     fn most(&self, symbols: u32) -> u32 {

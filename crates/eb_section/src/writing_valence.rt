@@ -1,6 +1,6 @@
 //! Writing what lies behind the events under the valence traversal.
 
-ghost use Rattle.std.specs.Prelude.{◌≡◌, ◌<◌, ◌≤◌, ◌^◌, ◌++◌, OnOk, All, length, map, reverse};
+ghost use Rattle.std.specs.Prelude.{◌≡◌, ◌<◌, ◌≤◌, ◌^◌, ◌++◌, IfOk, OnOk, All, length, map, reverse};
 ghost use Rattle.std.specs.List.{flat_map};
 ghost use Rattle.rans_binary.specs.Blocks.{IsBlockOf, block};
 ghost use Rattle.eb_rebuild.specs.Machine.{start};
@@ -11,11 +11,14 @@ ghost use Rattle.eb_section.specs.Written.{list_bytes, valence_behind_bytes};
 ghost use Rattle.eb_section.specs.CodedBlocks.{AreBlocks, IsSymbolBlock};
 
 use crate::writing_blocks::{put_block, put_blocks};
+use corner_table::Steps;
 use drc_base::{MAX_FACES, Memory};
 use drc_bits::put_var32;
 use eb_trace::Traced;
 use eb_valence::{CONTEXTS, ContextLists, contexts_of};
 use std::alloc::Global;
+use std::marker::Brand;
+use std::sync::ledger::{Blank, Ledger};
 use symbol_coding::write_symbols;
 
 /// Appends the start bits, the seam bits and the symbols by their contexts.
@@ -50,9 +53,23 @@ fn put_contexts(alloc: Global, out: &mut Vec<u8>, t: &Traced) -> Result<(), Memo
     ensures bytes { OnOk result (out.new.items ≡ out.old.items ++ flat_map list_bytes (context_lists t.now.symbols t.now.events)) }
     ensures coded { OnOk result (All IsSymbolBlock (context_lists t.now.symbols t.now.events)) }
 {
-    let lists = contexts_of(alloc, t.symbols.as_slice(), t.events.as_slice())?;
+    let lists = lists_by::<Brand>(alloc, t, Blank::new(1))?;
     put_lists(alloc, out, &lists)?;
     Ok(())
+}
+
+/// The lists of contexts, under a count of table calls that nothing else takes part in.
+fn lists_by<L: Ledger>(alloc: Global, t: &Traced, blank: Blank) -> Result<ContextLists, Memory>
+    requires few { length t.now.symbols ≤ MAX_FACES }
+    requires events { All (IsEventOf (length t.now.symbols)) t.now.events }
+    requires takes { TakesWord (length t.now.symbols) (reverse t.now.symbols) (start (reverse t.now.events)) }
+    requires name { blank.name ≡ L.name }
+    requires parts { blank.parts ≡ L.parts }
+    requires some { 0 < L.parts }
+    ensures { IfOk result (λ lists. lists ≡ context_lists t.now.symbols t.now.events) }
+{
+    let mut steps = Steps::<L>::new(blank);
+    contexts_of(alloc, t.symbols.as_slice(), t.events.as_slice(), &mut steps)
 }
 
 /// Appends each list of numbers.

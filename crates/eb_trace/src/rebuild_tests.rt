@@ -104,7 +104,7 @@ fn rebuilt<R: Rebuild, L: Ledger>(
     let starts = traced.starts.as_slice();
     let closed = close_all(&mut machine, starts, &mut steps)?;
     assert!(rt; closed == starts.len());
-    machine.finish(alloc)
+    machine.finish(alloc, &mut steps)
 }
 
 /// Whether two tables have the same entries.

@@ -1,9 +1,10 @@
 -- What is noted in the order of decoding are the lists of the contexts, from back to front.
-use Rattle.std.proofs.Common.{◌≡◌, ◌≢◌, ℕ, ◌+◌, ◌-◌, ◌<◌, ◌≤◌, Bool, true, false, cond, ◌==◌, List, [], ◌∷◌, ◌++◌, length, map, reverse, replicate, take, get_or, slice_index_or, set, Result, Ok, Err, arith, refl, sym, ap, ◌∙◌, subst, inl, inr, append_assoc, eq-eqb, ne_eqb, zero-add}
+use Rattle.std.proofs.Common.{◌≡◌, ◌≢◌, ℕ, ◌+◌, ◌-◌, ◌<◌, ◌≤◌, Bool, true, false, cond, ◌==◌, List, [], ◌∷◌, ◌++◌, length, map, reverse, replicate, sum_by, take, get_or, slice_index_or, set, Result, Ok, Err, arith, refl, sym, ap, ◌∙◌, subst, inl, inr, append_assoc, eq-eqb, ne_eqb, zero-add}
 use Rattle.std.proofs.lemmas.Bool.{cases_eq}
 use Rattle.std.proofs.lemmas.List.{length-set, length-map, ext_get_or, get_or-map, get_or-replicate, get_or-set_other, append-nil, take_more, reverse-append}
 use Rattle.std.proofs.lemmas.Grind.{get_or-set_at}
 use Rattle.std.proofs.lemmas.List.FromFn.{length-map-range_with_len, get_or-map-range_with_len}
+use Rattle.std.proofs.lemmas.List.Sums.{sum_by_more}
 use Rattle.std.specs.List.{filter}
 use Rattle.eb_valence.specs.declared.context_lists.TheConstants.{CONTEXTS}
 use Rattle.corner_table.specs.declared.symbols.Symbol.{Symbol}
@@ -11,6 +12,7 @@ use Rattle.drc_base.specs.declared.faults.Fault.{Fault}
 use Rattle.drc_base.specs.declared.faults.Refusal.{Refusal}
 use Rattle.drc_base.specs.declared.faults.Refusal.TheVariants as refusal
 use Rattle.drc_base.specs.Steps.{◌>>=◌}
+use Rattle.eb_rebuild.specs.Calls.{symbol_calls}
 use Rattle.eb_rebuild.specs.Machine.{State, step, take_symbols}
 use Rattle.eb_rebuild.specs.Rebuilding.{Moves}
 use Rattle.eb_valence.specs.Numbers.{symbol_number}
@@ -74,6 +76,12 @@ pub word_at : (xs : List Symbol) (i : ℕ) (d : Symbol) → 0 < i → i ≤ leng
 word_at xs i d some within =
     let back : i - 1 + 1 ≡ i = omega arith in
     ap (λ k. reverse (take k xs)) (sym back) ∙ ap reverse (take_more xs (i - 1) d (omega arith)) ∙ reverse-append (take (i - 1) xs) (get_or xs (i - 1) d ∷ [])
+
+-- the calls of the symbols before a number are those of the ones before the last of these, and its own
+pub called : (xs : List Symbol) (i : ℕ) (d : Symbol) → 0 < i → i ≤ length xs → sum_by symbol_calls (take i xs) ≡ sum_by symbol_calls (take (i - 1) xs) + symbol_calls (slice_index_or xs (i - 1) d)
+called xs i d some within =
+    let back : i - 1 + 1 ≡ i = omega arith in
+    ap (λ k. sum_by symbol_calls (take k xs)) (sym back) ∙ sum_by_more symbol_calls xs (i - 1) d (omega arith)
 
 -- one symbol is taken
 pub takes_on : (n : ℕ) (word rest : List Symbol) (x : Symbol) (s t : State) → word ≡ x ∷ rest → step n x s ≡ Ok t → TakesWord n word s → TakesWord n rest t

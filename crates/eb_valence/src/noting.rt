@@ -3,8 +3,9 @@
 //! The symbols are fed to the machine of reverse decoding, the last first; before each the degree of the
 //! vertex at which the top side starts gives the context. What was noted then stands from back to front.
 
-ghost use Rattle.std.specs.Prelude.{◌≡◌, ◌==◌, ℕ, ◌<◌, ◌≤◌, List, All, IfOk, OnOk, length, map, reverse, replicate, [], IsTrue, true};
+ghost use Rattle.std.specs.Prelude.{◌≡◌, ◌==◌, ℕ, ◌+◌, ◌<◌, ◌≤◌, List, All, IfOk, OnOk, length, map, reverse, replicate, sum_by, [], IsTrue, true};
 ghost use Rattle.drc_base.specs.declared.limits.TheConstants.{MAX_FACES as most_faces};
+ghost use Rattle.eb_rebuild.specs.Calls.{symbol_calls};
 ghost use Rattle.eb_rebuild.specs.Machine.{start};
 ghost use Rattle.eb_rebuild.specs.Rebuilding.{IsEventOf};
 ghost use Rattle.eb_valence.specs.Contexts.{context_coded_at, coded, context_lists};
@@ -16,8 +17,7 @@ use corner_table::{Event, Steps, Symbol};
 use drc_base::Memory;
 use eb_rebuild::{LinkRebuild, Rebuild};
 use std::alloc::Global;
-use std::marker::Brand;
-use std::sync::ledger::{Blank, Ledger};
+use std::sync::ledger::Ledger;
 
 /// Notes the symbol that the machine takes next, unless it is the first.
 fn note<R: Rebuild>(
@@ -53,7 +53,8 @@ fn note_all<R: Rebuild, L: Ledger>(
     requires all { (R.plan machine).symbols ≡ length symbols.now }
     requires room { R.room machine ≡ length symbols.now }
     requires takes { TakesWord (length symbols.now) (reverse symbols.now) (R.state machine) }
-    ensures { OnOk result (lists.new ≡ noted lists.old (coded (length symbols.now) (reverse symbols.now) (R.state machine))) }
+    ensures lists { OnOk result (lists.new ≡ noted lists.old (coded (length symbols.now) (reverse symbols.now) (R.state machine))) }
+    ensures cost { steps.new ≤ steps.old + sum_by symbol_calls symbols.now }
 {
     for number in (0..symbols.len()).rev() {
         let symbol = symbols[number];
@@ -66,46 +67,28 @@ fn note_all<R: Rebuild, L: Ledger>(
     Ok(())
 }
 
-/// Notes all symbols, under a count of table calls that nothing else takes part in.
-fn lists_by<L: Ledger>(
-    alloc: Global,
-    symbols: &[Symbol],
-    events: Vec<Event>,
-    blank: Blank,
-) -> Result<ContextLists, Memory>
-    requires few { length symbols.now ≤ most_faces }
-    requires events { All (IsEventOf (length symbols.now)) events.items }
-    requires takes { TakesWord (length symbols.now) (reverse symbols.now) (start (reverse events.items)) }
-    requires name { blank.name ≡ L.name }
-    requires parts { blank.parts ≡ L.parts }
-    requires some { 0 < L.parts }
-    ensures { IfOk result (λ lists. lists ≡ context_lists symbols.now events.items) }
-{
-    let count = symbols.len() as u32;
-    let mut steps = Steps::<L>::new(blank);
-    let machine = LinkRebuild::new(alloc, count, 0, count, count, events)?;
-    let mut lists = ContextLists::none(alloc);
-    note_all(&mut lists, machine, symbols, &mut steps)?;
-    Ok(lists.turned_round())
-}
-
 /// The lists of the contexts of symbols, in which they are coded (Draco Bitstream Specification 2.2,
 /// Edgebreaker valence traversal): each symbol but the one that is decoded first stands in the list of the
 /// degree of the vertex at which the machine's top side starts before it. Symbols and events are in the
 /// order of the encoder; there are no more symbols than a mesh may have faces, and the machine of reverse
-/// decoding, fed the last symbol first, meets no fault on them. The machine makes at most 12 table calls for
-/// each symbol. Fails only when out of memory.
-pub fn contexts_of(
+/// decoding, fed the last symbol first, meets no fault on them. It makes at most as many table calls as these
+/// symbols take by their kinds; the degrees take none. Fails only when out of memory.
+pub fn contexts_of<L: Ledger>(
     alloc: Global,
     symbols: &[Symbol],
     events: &[Event],
+    steps: &mut Steps<L>,
 ) -> Result<ContextLists, Memory>
     requires few { length symbols.now ≤ most_faces }
     requires events { All (IsEventOf (length symbols.now)) events.now }
     requires takes { TakesWord (length symbols.now) (reverse symbols.now) (start (reverse events.now)) }
-    ensures { IfOk result (λ lists. lists ≡ context_lists symbols.now events.now) }
+    ensures lists { IfOk result (λ lists. lists ≡ context_lists symbols.now events.now) }
+    ensures cost { steps.new ≤ steps.old + sum_by symbol_calls symbols.now }
 {
     let events = events.to_vec(alloc)?;
-    let lists = lists_by::<Brand>(alloc, symbols, events, Blank::new(1))?;
-    Ok(lists)
+    let count = symbols.len() as u32;
+    let machine = LinkRebuild::new(alloc, count, 0, count, count, events)?;
+    let mut lists = ContextLists::none(alloc);
+    note_all(&mut lists, machine, symbols, steps)?;
+    Ok(lists.turned_round())
 }

@@ -1,12 +1,16 @@
 //! Lists of worked surfaces, noted and read.
 
+ghost use Rattle.std.specs.Prelude.{◌≡◌, ◌<◌};
+
 use crate::context_lists::ContextLists;
 use crate::context_reader::ContextReader;
 use crate::noting::contexts_of;
-use corner_table::Symbol;
+use corner_table::{Steps, Symbol};
 use drc_base::{Kind, Memory};
 use std::alloc::{AllocError, Global};
+use std::marker::Brand;
 use std::process::Abort;
+use std::sync::ledger::{Blank, Ledger};
 use std::test::Fail;
 use worked_surfaces::TORUS_EVENTS;
 
@@ -17,24 +21,35 @@ fn has_lists(rt: &impl Abort, lists: &ContextLists, wanted: [&[u32]; 6]) {
     }
 }
 
-#[test]
-fn notes_contexts_of_surfaces(rt: HostRuntime) -> Result<(), Fail> {
+/// Notes the symbols of worked surfaces, and compares their lists.
+fn notes<Count: Ledger>(rt: &impl Abort, alloc: Global, blank: Blank) -> Result<(), Memory>
+    requires name { blank.name ≡ Count.name }
+    requires parts { blank.parts ≡ Count.parts }
+    requires some { 0 < Count.parts }
+{
     use Symbol::{C, E, L, R, S};
-    let alloc = rt.alloc();
-    let none = contexts_of(alloc, &[], &[])?;
-    has_lists(&rt, &none, [&[], &[], &[], &[], &[], &[]]);
-    let tetrahedron = contexts_of(alloc, &[C, R, E], &[])?;
-    has_lists(&rt, &tetrahedron, [&[3], &[0], &[], &[], &[], &[]]);
+    let mut steps = Steps::<Count>::new(blank);
+    let none = contexts_of(alloc, &[], &[], &mut steps)?;
+    has_lists(rt, &none, [&[], &[], &[], &[], &[], &[]]);
+    let tetrahedron = contexts_of(alloc, &[C, R, E], &[], &mut steps)?;
+    has_lists(rt, &tetrahedron, [&[3], &[0], &[], &[], &[], &[]]);
     let torus = contexts_of(
         alloc,
         &[C, C, C, C, R, S, S, L, R, S, L, E, E],
         &TORUS_EVENTS,
+        &mut steps,
     )?;
     has_lists(
-        &rt,
+        rt,
         &torus,
         [&[1, 1, 2, 4], &[1, 3], &[2], &[3], &[0, 0, 0, 0], &[]],
     );
+    Ok(())
+}
+
+#[test]
+fn notes_contexts_of_surfaces(rt: HostRuntime) -> Result<(), Fail> {
+    notes::<Brand>(&rt, rt.alloc(), Blank::new(1))?;
     Ok(())
 }
 

@@ -21,6 +21,6 @@ invariant-loop-number g l =
       few : l.waiting ≤ first.built;
       room : g.R.Rebuild.room l.machine ≡ g.R.Rebuild.room l.fn.machine;
       within : now.built ≤ (g.R.Rebuild.plan l.fn.machine).faces;
-      cost : IsTrue (g.R.Rebuild.linked l.fn.machine) → l.steps + 12 * first.built ≤ l.fn.steps + 12 * now.built;
+      cost : IsTrue (g.R.Rebuild.linked l.fn.machine) → l.steps + 8 * first.built ≤ l.fn.steps + 8 * now.built;
       same : l.waiting ≡ 0 → l.steps ≡ l.fn.steps;
     }

@@ -3,7 +3,7 @@ use Rattle.std.proofs.Common.{◌≡◌, ◌∙◌, Bool, IsTrue, ap, sym, subst
 use Rattle.std.proofs.lemmas.Result.{err_from_is_err_and}
 use Rattle.eb_rebuild.specs.Machine.{State, Plan, step}
 use Rattle.eb_rebuild.proofs.Counts.{step_counts}
-use Rattle.eb_section.proofs.Runs.{came-on, fed-next, fed-missing, fed-refused, fed-end, moves-err}
+use Rattle.eb_section.proofs.Runs.{came-on, few_calls, fed-next, fed-missing, fed-refused, fed-end, moves-err}
 use Rattle.eb_section.proofs.rebuilding.take_symbols.Goals as goal
 
 pub returns-in_err-symbol-clause-fed : goal.returns-in_err-symbol-clause-fed
@@ -40,8 +40,17 @@ loop-number-preserved g c =
       cost = λ linked.
           let before = c.loop-number.invariant.cost linked in
           let one = c.in_ok-symbol-2.ensures.cost (subst (λ (b : Bool). IsTrue b) (sym c.loop-number.invariant.linked) linked) in
+          let eight = few_calls c.in_ok-symbol.symbol in
           omega arith;
     }
+
+pub returns-in_err-symbol-2-clause-cost : goal.returns-in_err-symbol-2-clause-cost
+returns-in_err-symbol-2-clause-cost g c = λ linked.
+    let before = c.loop-number.invariant.cost linked in
+    let four = c.in_err-symbol-2.ensures.refused (subst (λ (b : Bool). IsTrue b) (sym c.loop-number.invariant.linked) linked) in
+    let drawn = came-on c.loop-number.number _ _ _ c.in_ok-symbol.ensures.fewer c.loop-number.invariant.came c.loop-number.invariant.first in
+    let more = c.loop-number-test.true in
+    omega arith
 
 pub returns-clause-fed : goal.returns-clause-fed
 returns-clause-fed g c = fed-end g.F.SymbolSource.gives c.args.count c.loop-number.number c.loop-number.source (g.R.Rebuild.state c.loop-number.machine) _ c.loop-number.invariant.told c.loop-number-test.false

@@ -17,5 +17,5 @@ invariant-loop-number g l =
       room : g.R.Rebuild.room l.machine ≡ g.R.Rebuild.room l.fn.machine;
       came : l.number + g.F.SymbolSource.left l.source ≤ suc (g.F.SymbolSource.left l.fn.source);
       first : l.number ≡ 0 → g.F.SymbolSource.left l.source ≤ g.F.SymbolSource.left l.fn.source;
-      cost : IsTrue (g.R.Rebuild.linked l.fn.machine) → l.steps ≤ l.fn.steps + 12 * l.number;
+      cost : IsTrue (g.R.Rebuild.linked l.fn.machine) → l.steps ≤ l.fn.steps + 8 * l.number;
     }

@@ -5,7 +5,7 @@ use Rattle.corner_table.specs.declared.symbols.Symbol.TheVariants.{C}
 use Rattle.eb_rebuild.specs.Machine.{State, Plan, step}
 use Rattle.eb_rebuild.specs.Rebuilding.{Moves}
 use Rattle.eb_rebuild.proofs.Counts.{step_counts}
-use Rattle.eb_valence.proofs.Noted.{word_at, takes_on, told_on, told_all, takes_first}
+use Rattle.eb_valence.proofs.Noted.{word_at, called, takes_on, told_on, told_all, takes_first}
 use Rattle.eb_valence.proofs.noting.note_all.Goals as goal
 
 pub loop-number-preserved : goal.loop-number-preserved
@@ -27,6 +27,11 @@ loop-number-preserved g c =
       built = omega (arith, one, c.loop-number.invariant.built, c.loop-number-test.true);
       takes = takes_on _ _ _ x s t w stepped c.loop-number.invariant.takes;
       told = told_on _ _ _ x s t _ _ _ w stepped c.in_ok-note.ensures c.loop-number.invariant.told;
+      cost = (
+          let first = called c.args.symbols.now c.loop-number.number C c.loop-number-test.true c.loop-number.invariant.within in
+          let one = c.in-Ok.ensures.cost c.loop-number.invariant.linked in
+          let before = c.loop-number.invariant.cost in omega arith
+          );
     }
 
 pub unreachable-requires : goal.unreachable-requires
@@ -40,5 +45,5 @@ unreachable-requires g c =
     takes_first _ _ _ x s new live c.in-Err.field-0 w c.loop-number.invariant.takes (subst P c.loop-number.invariant.all c.in-Err.ensures.moves)
     (c.in-Err.ensures.memory c.loop-number.invariant.linked)
 
-pub returns : goal.returns
-returns g c = told_all _ c.loop-number.number c.args.symbols.now (g.R.Rebuild.state c.loop-number.machine) _ _ (omega (arith, c.loop-number-test.false)) c.loop-number.invariant.told
+pub returns-clause-lists : goal.returns-clause-lists
+returns-clause-lists g c = told_all _ c.loop-number.number c.args.symbols.now (g.R.Rebuild.state c.loop-number.machine) _ _ (omega (arith, c.loop-number-test.false)) c.loop-number.invariant.told

@@ -1,5 +1,6 @@
 -- The symbols from this number on are noted; the machine takes the others without a fault.
-use Rattle.std.proofs.Common.{◌≡◌, ◌+◌, ◌≤◌, ℕ, length, reverse, take, IsTrue}
+use Rattle.std.proofs.Common.{◌≡◌, ◌+◌, ◌≤◌, ℕ, length, reverse, sum_by, take, IsTrue}
+use Rattle.eb_rebuild.specs.Calls.{symbol_calls}
 use Rattle.eb_rebuild.specs.Machine.{State}
 use Rattle.eb_valence.specs.Contexts.{coded}
 use Rattle.eb_valence.specs.Noting.{noted, TakesWord}
@@ -19,4 +20,5 @@ invariant-loop-number g l =
       built : now.built + l.number ≡ n;
       takes : TakesWord n (reverse (take l.number l.symbols)) now;
       told : noted l.lists (coded n (reverse (take l.number l.symbols)) now) ≡ noted l.fn.lists (coded n (reverse l.symbols) (g.R.Rebuild.state l.fn.machine));
+      cost : l.steps + sum_by symbol_calls (take l.number l.symbols) ≤ l.fn.steps + sum_by symbol_calls l.symbols;
     }

@@ -28,5 +28,5 @@ pub invariant_of-self : goal.invariant_of-self
 invariant_of-self g c =
     let first = subst (λ (t : Table). IsFreeIn t (side_of c.args.a)) (sym c.self.view_is) c.requires.first in
     let second = subst (λ (t : Table). IsFreeIn t (side_of c.args.b)) (sym c.self.view_is) c.requires.second in
-    rw (c.glue.ensures.faces, c.relink.ensures.after, c.relink.ensures.before, c.number_of-first.ensures.number, c.number_of-second.ensures.number)
-    (links_glued (side_of c.args.a) (side_of c.args.b) c.self.invariant first second c.requires.apart c.glue.ensures.entries c.glue.ensures.glued)
+    rw (c.pair.ensures.faces, c.relink.ensures.after, c.relink.ensures.before, c.number_of-first.ensures.number, c.number_of-second.ensures.number)
+    (links_glued (side_of c.args.a) (side_of c.args.b) c.self.invariant first second c.requires.apart c.pair.ensures.entries c.pair.ensures.glued)

@@ -8,12 +8,12 @@ pub invariant_of-result : goal.invariant_of-result
 invariant_of-result g c =
     let now = ap (λ (t : Table). t.faces) c.self.view_is in
     let n = c.face_count-faces.ensures.count in
-    let made = renumbered_from c.self.invariant now n c.requires c.in_ok-places.ensures c.in_ok-across.ensures in
-    rw (n ∙ sym now) (table_carried made)
+    let made = renumbered_from c.self.invariant now n c.requires c.in_ok-places.ensures c.in_ok-entries.ensures in
+    rw (n ∙ sym now, c.from_vec-across.ensures) (table_carried made)
 
 pub returns-clause-carried : goal.returns-clause-carried
 returns-clause-carried g c =
     let now = ap (λ (t : Table). t.faces) c.self.view_is in
     let n = c.face_count-faces.ensures.count in
-    let made = renumbered_from c.self.invariant now n c.requires c.in_ok-places.ensures c.in_ok-across.ensures in
-    rw (← c.self.view_is) (gluing_carried made)
+    let made = renumbered_from c.self.invariant now n c.requires c.in_ok-places.ensures c.in_ok-entries.ensures in
+    rw (← c.self.view_is, c.from_vec-across.ensures) (gluing_carried made)

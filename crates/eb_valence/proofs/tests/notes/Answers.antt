@@ -2,7 +2,7 @@
 use Rattle.std.proofs.Common.{refl}
 use Rattle.eb_rebuild.specs.Machine.{take_symbols}
 use Rattle.eb_valence.proofs.Examples.{takes_tetrahedron, takes_torus}
-use Rattle.eb_valence.proofs.tests.notes_contexts_of_surfaces.Goals as goal
+use Rattle.eb_valence.proofs.tests.notes.Goals as goal
 
 pub contexts_of-requires-clause-takes : goal.contexts_of-requires-clause-takes
 unfolding take_symbols

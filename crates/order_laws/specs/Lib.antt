@@ -1,0 +1,3 @@
+pub mod Degree
+pub mod Laws
+pub mod Rounds

@@ -1,0 +1,4 @@
+pub mod NameShape
+pub mod HeaderShape
+pub mod TextShape
+pub mod Laws

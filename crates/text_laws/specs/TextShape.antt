@@ -1,0 +1,58 @@
+-- A whole PLY text as a shape of its lines (PLY 1.0, in this project's profile): a header, a line for each point, one for
+-- each face, and then nothing.
+use Rattle.std.specs.Prelude.{ℕ, ◌≡◌, ◌<◌, ◌++◌, ℤ, pos, IsTrue, List, [], ◌∷◌, length, map, Option, None, Some}
+use Rattle.std.specs.List.{AllZip, AllByRecursion}
+use Rattle.mesh_model.specs.declared.geometries.Geometry.{Geometry}
+use Rattle.mesh_model.specs.Head.{in_type}
+use Rattle.ply_text.specs.declared.headers.Header.{Header}
+use Rattle.ply_text.specs.Numbers.{integer_of}
+use Rattle.ply_mesh.specs.Read.{geometry_head, geometry_of}
+use Rattle.text_laws.specs.HeaderShape.{Line, IsHeaderOf}
+
+-- the token is the number v, which is in the range of the data type
+abbrev pub WritesNumber : ℕ → ℤ → List ℕ → Type 0
+WritesNumber dtype v token = (integer_of token ≡ Some v) × IsTrue (in_type dtype v)
+
+-- a point's line: a number for each property, of its type
+abbrev pub IsRowLine : List ℕ → List ℤ → Line → Type 0
+IsRowLine [] [] [] = Unit {0}
+IsRowLine (dtype ∷ dtypes) (v ∷ row) (token ∷ tokens) = WritesNumber dtype v token × IsRowLine dtypes row tokens
+IsRowLine dtypes row tokens = ⊥
+
+-- a face's line: 3, and then the numbers of its three points
+pub record IsFaceLine (types : ℕ × ℕ) (points : ℕ) (face : List ℕ) (line : Line) : Type 0 where
+  pub count : List ℕ
+  pub corners : Line
+  pub form : line ≡ count ∷ corners
+  pub three : WritesNumber types.0 (pos 3) count
+  pub long : length face ≡ 3
+  pub each : AllZip (λ point token. WritesNumber types.1 (pos point) token × (point < points)) face corners
+
+-- as many lines of faces as the header says
+pub record AreFaceLines (h : Header) (faces : List (List ℕ)) (lines : List Line) : Type 0 where
+  pub types : ℕ × ℕ
+  pub list : h.list ≡ Some types
+  pub count : h.faces ≡ Some (length faces)
+  pub each : AllZip (IsFaceLine types h.vertices) faces lines
+
+-- a cloud has no lines of faces
+abbrev pub MayHaveFaceLines : Header → Option (List (List ℕ)) → List Line → Type 0
+MayHaveFaceLines h None lines = (h.faces ≡ None) × (lines ≡ [])
+MayHaveFaceLines h (Some faces) lines = AreFaceLines h faces lines
+
+-- these lines are a text, and it says g: a header, the lines of points, those of faces, and then only lines without tokens
+pub record IsTextOf (g : Geometry) (lines : List Line) : Type 0 where
+  pub h : Header
+  pub header : List Line
+  pub rows : List Line
+  pub triangles : List Line
+  pub rest : List Line
+  pub whole : lines ≡ header ++ (rows ++ (triangles ++ rest))
+  pub is : IsHeaderOf h header
+  pub points : List (List ℤ)
+  pub count : length points ≡ h.vertices
+  pub each : AllZip (IsRowLine h.types) points rows
+  pub faces : Option (List (List ℕ))
+  pub face_lines : MayHaveFaceLines h faces triangles
+  pub blank : AllByRecursion (λ line. line ≡ []) rest
+  pub geometry : g ≡ geometry_of (map geometry_head h.heads) points faces
