@@ -9,8 +9,8 @@
 //   decoding   by libdrc; by libdraco, which leaves out the transform from integers to floats; by libdrc without room for the
 //              arrays, which is all of it but handing them out
 //   encoding   by libdrc from arrays; by libdraco from a mesh of its own, whose equal values and points are numbered alike
-//              before, as its encoder takes them; by libdrc from arrays whose first face is refused, which is the copies of the
-//              arrays and little else
+//              before, as its encoder takes them; by libdrc of a mesh that is refused where its arrays have been copied, and of one
+//              that is refused just before: the difference is the copies of the arrays
 // and the bytes of both streams. Each stream is decoded by both libraries before, and has to have the triangles that went in.
 #include <drc.h>
 #include <draco/compression/decode.h>
@@ -170,31 +170,45 @@ static void decoded_alone(const char *bytes, size_t length) {
     if (drc_decode_into((const uint8_t *)bytes, length, NULL, 0, NULL, 0, &shape, &fault) != DRC_NO_ROOM) fail("libdrc had room");
 }
 
-static uint32_t encode(const Arrays &mesh, const vector<uint32_t> &corners, uint32_t method, drc_stream &stream) {
-    drc_options options = {};
-    options.method = method;
-    drc_fault fault;
-    return drc_encode(1, mesh.heads.data(), mesh.heads.size(), corners.data(), mesh.faces(), mesh.values.data(), mesh.values.size(),
+static uint32_t encode(const Arrays &mesh, const drc_options &options, drc_stream &stream, drc_fault &fault) {
+    return drc_encode(1, mesh.heads.data(), mesh.heads.size(), mesh.corners.data(), mesh.faces(), mesh.values.data(), mesh.values.size(),
                       &options, &stream, &fault);
 }
 
 static drc_stream encoded(const Arrays &mesh, uint32_t method) {
+    drc_options options = {};
+    options.method = method;
     drc_stream stream;
-    if (encode(mesh, mesh.corners, method, stream) != DRC_DONE) fail("libdrc doesn't encode");
+    drc_fault fault;
+    if (encode(mesh, options, stream, fault) != DRC_DONE) fail("libdrc doesn't encode");
     return stream;
 }
 
-// The faces of a mesh, the first of which has a point that isn't there.
-static vector<uint32_t> broken(const Arrays &mesh) {
-    vector<uint32_t> corners = mesh.corners;
-    corners[0] = mesh.points();
-    return corners;
+// Has a mesh refused by this kind of fault, with another first number of its first face.
+static void refused(Arrays &mesh, const drc_options &options, uint32_t number, uint32_t kind) {
+    drc_stream stream;
+    drc_fault fault;
+    std::swap(mesh.corners[0], number);
+    const uint32_t status = encode(mesh, options, stream, fault);
+    std::swap(mesh.corners[0], number);
+    if (status != DRC_REFUSED || fault.kind != kind) fail("libdrc doesn't refuse as it should");
 }
 
-// Has such faces refused, which are looked at when the arrays are copied.
-static void refused(const Arrays &mesh, const vector<uint32_t> &corners, uint32_t method) {
-    drc_stream stream;
-    if (encode(mesh, corners, method, stream) != DRC_REFUSED) fail("libdrc encodes a point that isn't there");
+// Has a mesh refused where its arrays have been copied, if they are: by Edgebreaker at its first face, which has a point twice, and
+// else at its first face, which has a point that isn't there.
+static void refused_behind(Arrays &mesh, uint32_t method) {
+    drc_options options = {};
+    options.method = method;
+    if (method == DRC_METHOD_SEQUENTIAL) return refused(mesh, options, mesh.points(), DRC_FAULT_IndexRange);
+    refused(mesh, options, mesh.corners[1], DRC_FAULT_Degenerate);
+}
+
+// Has the same mesh refused just before: by Edgebreaker because of an index method, and else not at all.
+static void refused_before(Arrays &mesh, uint32_t method) {
+    drc_options options = {};
+    options.method = method;
+    options.index = DRC_INDEX_PLAIN;
+    if (method != DRC_METHOD_SEQUENTIAL) refused(mesh, options, mesh.corners[1], DRC_FAULT_Choice);
 }
 
 // libdraco.
@@ -277,7 +291,6 @@ static vector<double> least(int turns, size_t faces, const vector<std::function<
 // One mesh for both libraries, and its streams by one method.
 struct Entry {
     Arrays arrays;
-    vector<uint32_t> broken_corners;
     std::unique_ptr<draco::Mesh> there;
     drc_stream stream;
     draco::EncoderBuffer stream_there;
@@ -323,7 +336,8 @@ static void time_meshes(const char *name, int turns, const char *method_name, ui
             draco::EncoderBuffer buffer;
             encode_there(*it.there, method, buffer);
         }),
-        each([method](Entry &it) { refused(it.arrays, it.broken_corners, method); }),
+        each([method](Entry &it) { refused_behind(it.arrays, method); }),
+        each([method](Entry &it) { refused_before(it.arrays, method); }),
     });
     printf("%s %s %zu", name, method_name, faces);
     for (double time : times) printf(" %.2f", time);
@@ -335,7 +349,6 @@ static void time_meshes(const char *name, int turns, const char *method_name, ui
 static void add(vector<Entry> &entries, Arrays arrays) {
     entries.emplace_back();
     entries.back().there = numbered(arrays);
-    entries.back().broken_corners = broken(arrays);
     entries.back().arrays = std::move(arrays);
 }
 

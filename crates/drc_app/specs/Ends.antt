@@ -1,7 +1,8 @@
 -- What one call did to a source and to a sink (this project's choice).
-use Rattle.std.specs.Prelude.{◌≡◌, ℕ, ◌+◌, ◌<◌, ◌≤◌, Bool, true, List, length, Option, ◌⊎◌}
-use Rattle.std.specs.Io.KnownBytes.{Appends, Consumes, Keeps, IsAtEnd}
-use Rattle.drc_base.specs.Counters.{Rose, last_count}
+use Rattle.std.specs.Prelude.{◌≡◌, ℕ, ◌+◌, ◌≤◌, Bool, true, List, length, Option, ◌⊎◌}
+use Rattle.std.specs.Io.KnownBytes.{Appends, Keeps, IsAtEnd}
+use Rattle.drc_base.specs.Counters.{Rose}
+use Rattle.drc_base.specs.Sources.{Gave}
 use Rattle.drc_base.specs.Sinks.{AppendsPrefix}
 use Rattle.drc_base.specs.declared.limits.TheConstants.{MAX_INPUT_BYTES}
 
@@ -48,18 +49,23 @@ HasReadFault t = Rose t.faults t.faults_after
 abbrev pub HasWriteFault : Putting → Type 0
 HasWriteFault p = Rose p.faults p.faults_after
 
--- the source was read to its end
+-- the source gave these bytes and no others: of those that are left, where it shows them; its count says how many they were
+abbrev pub HasGiven : Taking → List ℕ → Type 0
+HasGiven t taken = Gave t.left t.left_after t.given t.given_after taken
+
+-- the source was read to its end, and gave no more bytes than a command reads
 pub record IsReadWhole (t : Taking) : Type 0 where
+  pub taken : List ℕ
+  pub few : length taken ≤ MAX_INPUT_BYTES
+  pub gave : HasGiven t taken
   pub ended : t.ended ≡ true
   pub none_left : IsAtEnd t.left_after
 
--- a byte past the most that a command reads was taken, and none after it: of the bytes, where the source shows them; its count says that
--- they were more
+-- the source gave one byte more than a command reads, and none after it
 pub record IsPastMost (t : Taking) : Type 0 where
   pub taken : List ℕ
   pub more : length taken ≡ MAX_INPUT_BYTES + 1
-  pub consumed : Consumes t.left t.left_after taken
-  pub counted : (t.given + MAX_INPUT_BYTES < t.given_after) ⊎ (last_count ≤ t.given_after)
+  pub gave : HasGiven t taken
 
 -- nothing was taken, and the count stands
 pub record IsUntaken (t : Taking) : Type 0 where

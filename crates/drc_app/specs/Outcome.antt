@@ -10,7 +10,7 @@ use Rattle.drc_verify.specs.declared.verdicts.Verdict.{Verdict}
 use Rattle.drc_verify.specs.declared.verdicts.Verdict.TheVariants as verdict
 use Rattle.drc_app.specs.Given.{Given, Written, Differs}
 use Rattle.drc_app.specs.Notes.{refused_note, bad_word_note, verdict_note, read_failed_note, write_failed_note, memory_note}
-use Rattle.drc_app.specs.Due.{reads, command_due}
+use Rattle.drc_app.specs.Due.{input_limit, reads, command_due}
 use Rattle.drc_app.specs.Kept.{KeepsGeometry}
 use Rattle.drc_app.specs.declared.commands.Command.{Command}
 use Rattle.drc_app.specs.declared.commands.Command.TheVariants as command
@@ -22,17 +22,17 @@ use Rattle.drc_app.specs.declared.outcomes.Due.{Due}
 use Rattle.drc_app.specs.declared.outcomes.Outcome.{Outcome}
 use Rattle.drc_app.specs.declared.outcomes.Outcome.TheVariants as outcome
 
--- the input was read to its end, or past the most bytes
-abbrev pub WasRead : Taking → Type 0
-WasRead input = IsReadWhole input ⊎ IsPastMost input
-
 -- the input was read to its end, where the command reads; else nothing was taken
 abbrev pub WasReadWhole : Command → Taking → Type 0
 WasReadWhole c input = MatchBool (reads c) (IsReadWhole input) (IsUntaken input)
 
--- the input was read to its end or past the most bytes, where the command reads; else nothing was taken
-abbrev pub WasReadEnough : Command → Taking → Type 0
-WasReadEnough c input = MatchBool (reads c) (WasRead input) (IsUntaken input)
+-- the input was read to its end and its bytes have this fault, or it was read past the most bytes and the fault says that
+abbrev pub ShowsFault : Command → Fault → Taking → Type 0
+ShowsFault c f input = ((whole : IsReadWhole input) × (command_due c whole.taken ≡ Err f)) ⊎ (IsPastMost input × (f ≡ input_limit))
+
+-- as much was read as shows this fault, where the command reads; else nothing was taken
+abbrev pub WasReadFor : Command → Fault → Taking → Type 0
+WasReadFor c f input = MatchBool (reads c) (ShowsFault c f input) (IsUntaken input)
 
 -- nothing was taken, where the command doesn't read
 abbrev pub IsUnreadBy : Command → Taking → Type 0
@@ -77,7 +77,7 @@ abbrev pub IsOutcome : Result Command ℕ → Taking → Outcome → Type 0
 IsOutcome line input (outcome.BadWord i) = (line ≡ Err i) × IsUntaken input
 IsOutcome line input outcome.ReadFailed = IsOkAnd line (λ c. IsTrue (reads c)) × HasReadFault input
 IsOutcome line input outcome.NoMemory = IsOkAnd line (λ c. IsUnreadBy c input)
-IsOutcome line input (outcome.Refused f) = IsOkAnd line (λ c. WasReadEnough c input × GivesFrom c input (Err f))
+IsOutcome line input (outcome.Refused f) = IsOkAnd line (λ c. WasReadFor c f input × GivesFrom c input (Err f))
 IsOutcome line input (outcome.Done d) = IsOkAnd line (λ c.
     WasReadWhole c input × GivesFrom c input (Ok (Written (due_bytes d))) × Kept c input (Written (due_bytes d)))
 IsOutcome line input (outcome.Differs v) = IsOkAnd line (λ c.

@@ -6,7 +6,7 @@ use Rattle.drc_verify.specs.declared.verdicts.Verdict.{Verdict}
 use Rattle.drc_app.specs.Given.{Written, Differs}
 use Rattle.drc_app.specs.Notes.{refused_note, bad_word_note, verdict_note, read_failed_note, memory_note}
 use Rattle.drc_app.specs.Due.{reads, command_due}
-use Rattle.drc_app.specs.Outcome.{WasReadWhole, WasReadEnough, IsUnreadBy, told_to, GivesFrom, Kept, MayDiffer, IsCutShort}
+use Rattle.drc_app.specs.Outcome.{WasReadWhole, WasReadFor, IsUnreadBy, told_to, GivesFrom, Kept, MayDiffer, IsCutShort}
 use Rattle.drc_app.specs.declared.commands.Command.{Command}
 
 -- the words are a command, the whole input was read where it reads, and all that it gives was written; what the command has to keep of its
@@ -17,9 +17,9 @@ IsDone c input output notes =
     × ((text : List ℕ) × (note : List ℕ) × GivesFrom c input (Ok (Written (text, note))) × Kept c input (Written (text, note))
     × IsWritten output text × IsWritten notes note)
 
--- the words are a command, all was read where it reads, and this is the first fault
+-- the words are a command, and this is the first fault, for which as much was read as shows it
 abbrev pub IsRefused : Command → Taking → Putting → Type 0
-IsRefused c input notes = WasReadEnough c input × ((f : Fault) × GivesFrom c input (Err f) × IsTried notes (refused_note f))
+IsRefused c input notes = (f : Fault) × WasReadFor c f input × GivesFrom c input (Err f) × IsTried notes (refused_note f)
 
 -- the words are `verify`, all was read, and this verdict, which isn't yes, is all that is due
 abbrev pub IsUnlike : Command → Taking → Putting → Type 0

@@ -3,13 +3,12 @@ use Rattle.std.proofs.Common.{◌≡◌, ◌≤◌, ◌<◌, ◌/◌, ℕ, ℤ, 
 use Rattle.std.proofs.lemmas.Bool.{eq-eqb}
 use Rattle.std.proofs.lemmas.List.{length-map, length-take-le}
 use Rattle.drc_base.specs.declared.faults.Fault.{Fault}
-use Rattle.drc_base.specs.Steps.{◌>>=◌}
 use Rattle.mesh_model.specs.declared.heads.Head.{Head}
 use Rattle.mesh_model.specs.declared.heads.Quant.{Quant}
 use Rattle.mesh_model.specs.FirstFault.{first_fault, value_unless}
-use Rattle.mesh_model.specs.declared.geometries.Geometry.TheVariants.{Mesh, Cloud}
 use Rattle.mesh_model.specs.Head.{has_minima, heads_fault, width_of}
-use Rattle.mesh_model.specs.Parts.{count_fault, faces_fault, index_fault, range_fault, mesh_fault, cloud_fault, mesh_of, cloud_of}
+use Rattle.mesh_model.specs.Parts.{count_fault, faces_fault, index_fault, range_fault, mesh_fault, cloud_fault}
+use Rattle.mesh_model.specs.Held.{geometry_of}
 use Rattle.mesh_model.proofs.Columns.{width_of-bounds}
 use Rattle.drc_c.specs.declared.heads.DrcHead.{DrcHead}
 use Rattle.drc_c.specs.Heads.{head_meant, quant_meant}
@@ -48,19 +47,19 @@ skipped None (Some x) rest f e = e
 skipped None None rest f e = absurd cc
 
 -- what has a fault is refused by it
-refused : {A B : Type 0} (fault : Option Fault) (x : A) (made : A → B) (f : Fault) → fault ≡ Some f → (value_unless fault x >>= λ y. Ok (made y)) ≡ Err f
-refused fault x made f e = rw e refl
+refused : {A : Type 0} (fault : Option Fault) (x : A) (f : Fault) → fault ≡ Some f → value_unless fault x ≡ Err f
+refused fault x f e = rw e refl
 
 -- the same of a mesh and of a cloud
 made_not : (is_mesh : Bool) (heads : List Head) (faces : List (List ℕ)) (cells : List ℤ) (f : Fault) →
     first_fault (heads_fault heads ∷ count_fault (length cells / width_of heads) (width_of heads) ∷ cond is_mesh (faces_fault faces) None ∷ []) ≡ Some f →
-    cond is_mesh (mesh_of heads cells faces >>= λ m. Ok (Mesh m)) (cloud_of heads cells >>= λ c. Ok (Cloud c)) ≡ Err f
+    geometry_of heads cells (cond is_mesh (Some faces) None) ≡ Err f
 made_not true heads faces cells f e =
     let points = length cells / width_of heads in
-    refused (mesh_fault heads cells faces) _ Mesh f
+    refused (mesh_fault heads cells faces) _ f
     (front (heads_fault heads ∷ count_fault points (width_of heads) ∷ faces_fault faces ∷ []) (index_fault points faces ∷ range_fault heads cells ∷ []) f e)
 made_not false heads faces cells f e =
-    refused (cloud_fault heads cells) _ Cloud f (skipped (heads_fault heads) (count_fault (length cells / width_of heads) (width_of heads)) _ f e)
+    refused (cloud_fault heads cells) _ f (skipped (heads_fault heads) (count_fault (length cells / width_of heads) (width_of heads)) _ f e)
 
 -- a fault that is found before memory is taken is the first of the arrays
 pub early_refused : (mesh : ℕ) (heads : List DrcHead) (corners : List (List ℕ)) (values : List ℤ) (f : Fault) →
@@ -68,3 +67,8 @@ pub early_refused : (mesh : ℕ) (heads : List DrcHead) (corners : List (List �
 unfolding arrays_early_fault geometry_made
 early_refused mesh heads corners values f e =
     made_not (eqb mesh 1) (map head_meant heads) corners values f (rw (sym (width_of-meant heads)) at e)
+
+-- where there is no such fault, what is answered is what is meant
+pub meant-there : {A : Type 0} (fault : Option Fault) (x y : A) → value_unless fault x ≡ Ok y → y ≡ x
+meant-there None x y e = cc
+meant-there (Some f) x y e = cc

@@ -3,5 +3,6 @@ pub mod Filling
 pub mod NumberedKinds
 pub mod WholeRows
 pub mod EarlyFaults
+pub mod EncodedArrays
 pub mod VerifiedArrays
 pub mod ToldHeads

@@ -1,12 +1,10 @@
 -- Geometries that arrays of C mean (this project's choice).
-use Rattle.std.specs.Prelude.{ℕ, ◌==◌, ◌&&◌, ◌||◌, ◌%◌, ℤ, Bool, true, List, length, map, sum_by, nat_lt, Result, Ok, if◌then◌else◌}
+use Rattle.std.specs.Prelude.{ℕ, ◌==◌, ◌&&◌, ◌||◌, ◌%◌, ℤ, Bool, true, List, length, map, sum_by, nat_lt, None, Some, Result, if◌then◌else◌}
 use Rattle.drc_base.specs.declared.faults.Fault.{Fault}
 use Rattle.drc_base.specs.declared.limits.TheConstants.{MAX_ATTRIBUTES}
-use Rattle.drc_base.specs.Steps.{◌>>=◌}
 use Rattle.mesh_model.specs.declared.heads.Head.{Head}
 use Rattle.mesh_model.specs.declared.geometries.Geometry.{Geometry}
-use Rattle.mesh_model.specs.declared.geometries.Geometry.TheVariants.{Mesh, Cloud}
-use Rattle.mesh_model.specs.Parts.{mesh_of, cloud_of}
+use Rattle.mesh_model.specs.Held.{geometry_of}
 use Rattle.drc_c.specs.declared.heads.DrcHead.{DrcHead}
 use Rattle.drc_c.specs.Heads.{head_meant}
 
@@ -26,8 +24,7 @@ do_fit mesh heads corners values = (mesh == 1 || (mesh == 0 && (length corners =
 
 -- the geometry of heads, faces and integers, or its first fault: 1 a mesh, else a cloud
 unfoldable pub geometry_made : ℕ → List Head → List (List ℕ) → List ℤ → Result Geometry Fault
-geometry_made mesh heads faces cells =
-    if mesh == 1 then (mesh_of heads cells faces >>= λ m. Ok (Mesh m)) else (cloud_of heads cells >>= λ c. Ok (Cloud c))
+geometry_made mesh heads faces cells = geometry_of heads cells (if mesh == 1 then Some faces else None)
 
 -- the geometry that arrays mean, or its first fault
 abbrev pub geometry_meant : ℕ → List DrcHead → List (List ℕ) → List ℤ → Result Geometry Fault

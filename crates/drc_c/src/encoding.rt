@@ -14,18 +14,18 @@ ghost use Rattle.drc_c.specs.Encoded.{encoded, IsEncoding, TakesChoice};
 
 use crate::faults::{DrcFault, refuse};
 use crate::heads::DrcHead;
-use crate::inputs::{do_fit, geometry_meant};
+use crate::inputs::{do_fit, geometry_lent, heads_tested};
 use crate::options::{DrcOptions, choice_meant};
 use crate::statuses::{BAD_ARGUMENT, DONE, NO_MEMORY, NO_ROOM, REFUSED};
 use crate::streams::{DrcLengths, DrcRow, DrcStream, rows_told};
 use crate::written::{Encoded, handed, place};
 use drc_base::Refusal;
-use drc_container::{Choice, encode};
+use drc_container::{Choice, encode_view};
 use std::alloc::Global;
 
 /// The stream of the geometry that arrays mean, coded as chosen, and its map; or the first fault of the arrays, then
 /// of the encoding.
-#[tactic(auto, unfolding(crate::specs::Encoded::encoded))]
+#[tactic(auto, unfolding(crate::specs::Encoded::encoded), using(crate::proofs::EarlyFaults::early_refused))]
 fn encode_arrays(
     alloc: Global,
     mesh: u32,
@@ -39,8 +39,9 @@ fn encode_arrays(
     ensures early { (f : AnyFault) → arrays_early_fault mesh heads.now corners.now values.now ≡ Some f → result ≡ Err (refusal.Fault f) }
     ensures means { IfOk result (λ e. IsEncoding mesh heads.now corners.now values.now choice.now e.bytes.items e.rows.items) }
 {
-    let g = geometry_meant(alloc, mesh, heads, corners, values)?;
-    let (bytes, renumber) = encode(alloc, &g, choice)?;
+    let heads = heads_tested(alloc, mesh, heads, corners, values)?;
+    let g = geometry_lent(mesh, heads.as_slice(), corners, values)?;
+    let (bytes, renumber) = encode_view(alloc, &g, choice)?;
     let rows = rows_told(alloc, &renumber)?;
     Ok(Encoded { bytes, rows })
 }

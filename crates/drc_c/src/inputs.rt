@@ -1,18 +1,19 @@
 //! Geometries from arrays of the caller.
 
-ghost use Rattle.std.specs.Prelude.{◌≡◌, ◌≤◌, true, Err, Some, length};
+ghost use Rattle.std.specs.Prelude.{◌≡◌, ◌≤◌, true, Err, Some, length, map};
 ghost use Rattle.drc_base.specs.declared.faults.Fault.{Fault as AnyFault};
 ghost use Rattle.drc_base.specs.declared.faults.Refusal.TheVariants as refusal;
 ghost use Rattle.drc_base.specs.Refusals.{Answers};
-ghost use Rattle.mesh_model.specs.FirstFault.{answer_of};
+ghost use Rattle.mesh_model.specs.FirstFault.{answer_of, value_unless};
 ghost use Rattle.mesh_model.specs.Parts.{AreRows};
 ghost use Rattle.drc_c.specs.Early.{arrays_early_fault};
+ghost use Rattle.drc_c.specs.Heads.{head_meant};
 ghost use Rattle.drc_c.specs.Inputs.{width_told, are_whole, do_fit, geometry_made, geometry_meant};
 
 use crate::early::test_early;
 use crate::heads::{DrcHead, heads_meant};
 use drc_base::{MAX_ATTRIBUTES, Refusal};
-use mesh_model::{Cloud, CornerMesh, Geometry, Head};
+use mesh_model::{Geometry, GeometryView, Head};
 use std::alloc::Global;
 
 /// The number of a cloud.
@@ -51,26 +52,43 @@ pub fn do_fit(mesh: u32, heads: &[DrcHead], corners: &[[u32; 3]], values: &[i32]
     (mesh == MESH || (mesh == CLOUD && corners.is_empty())) && are_whole(heads, values)
 }
 
-/// The geometry of heads, faces and integers, or its first fault. It takes no memory.
-#[tactic(auto, unfolding(crate::specs::Inputs::geometry_made))]
-fn geometry_made(
+/// The heads that arrays mean, or the first fault of the arrays that is found before memory is taken: of the heads, and of
+/// the numbers of points, values and faces.
+pub fn heads_tested(
+    alloc: Global,
     mesh: u32,
-    heads: Vec<Head>,
-    faces: Vec<[u32; 3]>,
-    cells: Vec<i32>,
-) -> Result<Geometry, Refusal>
-    requires { AreRows heads.items cells.items }
-    ensures { result ≡ answer_of (geometry_made mesh heads.items faces.items cells.items) }
+    heads: &[DrcHead],
+    corners: &[[u32; 3]],
+    values: &[i32],
+) -> Result<Vec<Head>, Refusal>
+    ensures answer { Answers (λ v. v.items) (value_unless (arrays_early_fault mesh heads.now corners.now values.now) (map head_meant heads.now)) result }
+    ensures early { (f : AnyFault) → arrays_early_fault mesh heads.now corners.now values.now ≡ Some f → result ≡ Err (refusal.Fault f) }
+{
+    test_early(mesh, heads, corners, values)?;
+    let heads = heads_meant(alloc, heads)?;
+    Ok(heads)
+}
+
+/// The geometry of heads and of the arrays, which are lent, or its first fault. It takes no memory.
+#[tactic(auto, unfolding(crate::specs::Inputs::geometry_made))]
+pub fn geometry_lent<'g>(
+    mesh: u32,
+    heads: &'g [Head],
+    corners: &'g [[u32; 3]],
+    values: &'g [i32],
+) -> Result<GeometryView<'g>, Refusal>
+    requires { AreRows heads.now values.now }
+    ensures { result ≡ answer_of (geometry_made mesh heads.now corners.now values.now) }
 {
     if mesh == MESH {
-        Ok(Geometry::Mesh(CornerMesh::new(heads, cells, faces)?))
+        GeometryView::new(heads, values, Some(corners))
     } else {
-        Ok(Geometry::Cloud(Cloud::new(heads, cells)?))
+        GeometryView::new(heads, values, None)
     }
 }
 
-/// The geometry that arrays mean, or its first fault. Faults of the heads, and of the numbers of points, values and faces,
-/// come before memory is taken.
+/// The geometry that arrays mean, of its own, or its first fault. Faults of the heads, and of the numbers of points, values
+/// and faces, come before memory is taken.
 #[tactic(auto, using(crate::proofs::EarlyFaults::early_refused))]
 pub fn geometry_meant(
     alloc: Global,
@@ -83,9 +101,8 @@ pub fn geometry_meant(
     ensures answer { Answers (λ g. g) (geometry_meant mesh heads.now corners.now values.now) result }
     ensures early { (f : AnyFault) → arrays_early_fault mesh heads.now corners.now values.now ≡ Some f → result ≡ Err (refusal.Fault f) }
 {
-    test_early(mesh, heads, corners, values)?;
-    let heads = heads_meant(alloc, heads)?;
-    let faces = Vec::from_slice(alloc, corners)?;
-    let cells = Vec::from_slice(alloc, values)?;
-    geometry_made(mesh, heads, faces, cells)
+    let heads = heads_tested(alloc, mesh, heads, corners, values)?;
+    let g = geometry_lent(mesh, heads.as_slice(), corners, values)?;
+    let copy = g.copied(alloc)?;
+    Ok(copy)
 }

@@ -6,7 +6,6 @@
 #![tactic(auto)]
 
 mod choice;
-mod contents;
 mod headers;
 mod laws;
 mod reading;
@@ -23,7 +22,7 @@ pub use reading::decoding::{decode, decode_whole};
 pub use reading::info::{AttrInfo, Decoded, StreamInfo};
 pub use surface::carried_surfaces::carried_surface;
 pub use surface::turned_meshes::renumbered_mesh;
-pub use writing::encoding::encode;
+pub use writing::encoding::{encode, encode_view};
 
 #[cfg(test)]
 mod tests;

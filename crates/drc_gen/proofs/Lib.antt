@@ -1,4 +1,5 @@
 pub mod Lists
 pub mod Walks
+pub mod Holes
 pub mod Meshes
 pub mod Proper

@@ -1,5 +1,5 @@
 -- Lists that are made piece by piece.
-use Rattle.std.proofs.Common.{◌≡◌, ℕ, ◌+◌, ◌*◌, ◌<◌, ◌≤◌, List, [], ◌∷◌, ◌++◌, length, refl, sym, ap, ◌∙◌, append-nil, zero-add, arith}
+use Rattle.std.proofs.Common.{◌≡◌, ℕ, ◌+◌, ◌*◌, ◌<◌, List, [], ◌∷◌, ◌++◌, length, refl, sym, ap, ◌∙◌, append-nil, zero-add, arith}
 use Rattle.std.specs.Prelude.{map, ℤ}
 use Rattle.std.specs.List.{All, flat_map, range_with_len}
 use Rattle.std.proofs.lemmas.List.{length-append}
@@ -28,11 +28,6 @@ cells_of-flat_map f (x ∷ xs) =
 pub length-pieces : {A B : Type 0} (f : A → List B) → (c : ℕ) → ((x : A) → length (f x) ≡ c) → (xs : List A) → length (flat_map f xs) ≡ length xs * c
 length-pieces f c same [] = omega arith
 length-pieces f c same (x ∷ xs) = length-append (f x) (flat_map f xs) ∙ omega (arith, same x, length-pieces f c same xs)
-
--- pieces of at most one length
-pub length-pieces-le : {A B : Type 0} (f : A → List B) → (c : ℕ) → ((x : A) → length (f x) ≤ c) → (xs : List A) → length (flat_map f xs) ≤ length xs * c
-length-pieces-le f c short [] = omega arith
-length-pieces-le f c short (x ∷ xs) = omega (arith, length-append (f x) (flat_map f xs), short x, length-pieces-le f c short xs)
 
 -- what holds of the items of each piece
 pub All-flat_map : {A B : Type 0} (P : A → Type 0) (Q : B → Type 0) (f : A → List B) → ((x : A) → P x → All Q (f x)) → (xs : List A) → All P xs → All Q (flat_map f xs)

@@ -18,7 +18,8 @@ use Rattle.drc_gen.specs.Draws.{draw}
 use Rattle.drc_gen.specs.Lattice.{pairs, pair_number, closed_number_of}
 use Rattle.drc_gen.specs.Generated.{position_head, label_head, generated_heads, lattice_point, lattice_points, fan_point, patch_point, patch, generated_points, triangles, cell_faces, is_hole, faces_but_holes, fan_face, patch_faces, generated_faces, generated}
 use Rattle.drc_gen.specs.GeneratedLaws.{IsSize, GeneratedIsMesh, generated_point_count, PointsAreCounted, FacesAreCounted}
-use Rattle.drc_gen.proofs.Lists.{length-pieces, length-pieces-le, All-flat_map, All-range}
+use Rattle.drc_gen.proofs.Lists.{length-pieces, All-flat_map, All-range}
+use Rattle.drc_gen.proofs.Holes.{length-holes}
 use Rattle.drc_gen.proofs.Walks.{length-pairs, pairs-below, draw-small}
 
 -- how many points there are
@@ -32,17 +33,12 @@ length-points Fans n seed =
 length-points Seams n seed =
     length-pieces (λ c. patch (draw seed (pair_number n c)) c) 4 (λ c. refl) (pairs n) ∙ omega (arith, length-pairs n)
 
-no_more : (b : Bool) (xs : List (List ℕ)) → length (cond b [] xs) ≤ length xs
-no_more true xs = omega arith
-no_more false xs = omega arith
-
 -- how many faces there are
 pub length-faces : (kind : GenKind) (n : ℕ) → FacesAreCounted kind n
 unfolding generated_faces
 length-faces Grid n = length-pieces (cell_faces (pair_number (n + 1))) 2 (λ c. refl) (pairs n) ∙ omega (arith, length-pairs n)
 length-faces Torus n = length-pieces (cell_faces (closed_number_of n)) 2 (λ c. refl) (pairs n) ∙ omega (arith, length-pairs n)
-length-faces Holes n =
-    omega (arith, length-pairs n, length-pieces-le (faces_but_holes n) 2 (λ c. no_more (is_hole n c) (cell_faces (pair_number (n + 1)) c)) (pairs n))
+length-faces Holes n = length-holes n
 length-faces Fans n = length-map (range_with_len 0 (n * n)) fan_face ∙ length-range_with_len 0 (n * n)
 length-faces Seams n = length-pieces (λ c. patch_faces (pair_number n c)) 2 (λ c. refl) (pairs n) ∙ omega (arith, length-pairs n)
 

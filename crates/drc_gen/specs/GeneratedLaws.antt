@@ -1,5 +1,5 @@
 -- What holds of generated meshes (this project's choice).
-use Rattle.std.specs.Prelude.{ℕ, ◌≡◌, ◌≢◌, ◌<◌, ◌≤◌, ◌+◌, ◌*◌, ◌^◌, ℤ, pos, ◌≤ℤ◌, ◌<ℤ◌, List, length, take}
+use Rattle.std.specs.Prelude.{ℕ, ◌≡◌, ◌≢◌, ◌<◌, ◌≤◌, ◌+◌, ◌-◌, ◌*◌, ◌/◌, ◌^◌, ℤ, pos, ◌≤ℤ◌, ◌<ℤ◌, List, length, take}
 use Rattle.std.specs.List.{All}
 use Rattle.mesh_model.specs.Parts.{MeshParts, IsMesh, corner}
 use Rattle.drc_gen.specs.declared.kinds.GenKind.{GenKind}
@@ -27,11 +27,11 @@ generated_point_count Seams n = 4 * (n * n)
 abbrev pub PointsAreCounted : Type 0
 PointsAreCounted = (kind : GenKind) (n seed : ℕ) → length (generated_points kind n seed) ≡ generated_point_count kind n
 
--- how many faces each kind has; where there are holes, no more
+-- how many faces each kind has: where there are holes, two for each cell but the (n - 1) / 2 each way that are left out
 abbrev pub FacesAreCounted : GenKind → ℕ → Type 0
 FacesAreCounted Grid n = length (generated_faces Grid n) ≡ 2 * (n * n)
 FacesAreCounted Torus n = length (generated_faces Torus n) ≡ 2 * (n * n)
-FacesAreCounted Holes n = length (generated_faces Holes n) ≤ 2 * (n * n)
+FacesAreCounted Holes n = length (generated_faces Holes n) ≡ 2 * (n * n - (n - 1) / 2 * ((n - 1) / 2))
 FacesAreCounted Fans n = length (generated_faces Fans n) ≡ n * n
 FacesAreCounted Seams n = length (generated_faces Seams n) ≡ 2 * (n * n)
 

@@ -6,8 +6,8 @@ ghost use Rattle.drc_gen.specs.GeneratedLaws.{GeneratedIsMesh, PointsAreCounted,
 
 /// Each kind is a mesh at each size from `LEAST_SIZE` to `MOST_SIZE`, whatever the seed, and at size n
 /// has these points and faces: a grid (n + 1)^2 and 2 n^2, a torus n^2 and 2 n^2, one with holes
-/// (n + 1)^2 and at most 2 n^2, a fan 2 n^2 + 1 and n^2, patches 4 n^2 and 2 n^2. This is the contract
-/// of a call that does nothing.
+/// (n + 1)^2 and 2 (n^2 - h^2), where h holes stand each way, (n - 1) div 2, a fan 2 n^2 + 1 and n^2,
+/// patches 4 n^2 and 2 n^2. This is the contract of a call that does nothing.
 pub fn generated_is_a_mesh()
     ensures mesh { GeneratedIsMesh }
     ensures points { PointsAreCounted }

@@ -9,6 +9,7 @@ pub mod FirstFaults
 pub mod Growing
 pub mod Indexes
 pub mod Made
+pub mod HeldRows
 pub mod Names
 pub mod NumberedFaces
 pub mod Pairs

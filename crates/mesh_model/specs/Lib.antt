@@ -4,6 +4,7 @@ pub mod Parts
 pub mod Stored
 pub mod Contents
 pub mod IsGeometry
+pub mod Held
 pub mod Same
 pub mod Renumbering
 pub mod SameLaws

@@ -1,7 +1,9 @@
 //! Point clouds.
 
-use crate::heads::{Head, test_heads};
-use crate::row_rules::{stored_row, test_counts, test_typed};
+use crate::geometry_rules::{RowShape, test_cloud};
+use crate::geometry_views::GeometryView;
+use crate::heads::Head;
+use crate::row_rules::stored_row;
 use drc_base::Refusal;
 use std::marker::Model;
 
@@ -30,9 +32,11 @@ impl Model for Cloud {
 
 impl Cloud {
     ghost use Rattle.std.specs.Prelude.{◌≡◌, ◌<◌, ◌≤◌, [], IsTrue, None, length, slice_index_or};
+    ghost use Rattle.mesh_model.specs.declared.geometries.Geometry.TheVariants as geometry;
     ghost use Rattle.mesh_model.specs.FirstFault.{answer_of};
     ghost use Rattle.mesh_model.specs.Head.{width_of};
-    ghost use Rattle.mesh_model.specs.Parts.{AreRows, IsCloud, cells_of, cloud_of, range_fault};
+    ghost use Rattle.mesh_model.specs.Parts.{AreRows, IsCloud, cells_of, cloud_of, range_fault, rows_of};
+    ghost use Rattle.mesh_model.specs.Stored.{AreStored};
 
     /// The cloud of these heads and points (row after row). It takes no memory. Refusals, the first
     /// that applies: NoAttribute and AttrLimit at the number of heads; AttrType, DataType,
@@ -62,16 +66,40 @@ impl Cloud {
         requires typed { IsTrue typed → range_fault heads.items points.items ≡ None }
         ensures { result ≡ answer_of (cloud_of heads.items points.items) }
     {
-        let width = test_heads(heads.as_slice())?;
-        let count = points.len() as u64 / width as u64;
-        test_counts(count, width)?;
-        test_typed(heads.as_slice(), width, points.as_slice(), typed)?;
+        let RowShape { width, count } = test_cloud(heads.as_slice(), points.as_slice(), typed)?;
         Ok(Cloud {
             heads,
             cells: points,
             width,
-            count: count as u32,
+            count,
         })
+    }
+
+    /// The cloud of these heads and rows, which are known to be one.
+    pub(crate) fn from_rows(heads: Vec<Head>, cells: Vec<i32>, width: u32, count: u32) -> Cloud
+        requires stored { AreStored heads.items cells.items width count }
+        requires sound { IsCloud (record { heads = heads.items; points = rows_of width cells.items }) }
+        ensures { result ≡ record { heads = heads.items; points = rows_of width cells.items } }
+    {
+        Cloud {
+            heads,
+            cells,
+            width,
+            count,
+        }
+    }
+
+    /// The cloud, lent. It takes no memory.
+    pub fn view(&self) -> GeometryView<'_>
+        ensures { result ≡ geometry.Cloud self.now }
+    {
+        GeometryView::from_rows(
+            self.heads.as_slice(),
+            self.cells.as_slice(),
+            None,
+            self.width,
+            self.count,
+        )
     }
 
     /// The heads of its attributes.

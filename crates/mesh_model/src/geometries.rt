@@ -1,6 +1,9 @@
 //! A mesh or a cloud.
 
+ghost use Rattle.std.specs.Prelude.{◌≡◌};
+
 use crate::clouds::Cloud;
+use crate::geometry_views::GeometryView;
 use crate::meshes::CornerMesh;
 
 /// A triangle mesh or a point cloud.
@@ -10,4 +13,16 @@ pub enum Geometry {
     Mesh(CornerMesh),
     /// A point cloud.
     Cloud(Cloud),
+}
+
+impl Geometry {
+    /// The geometry, lent. It takes no memory.
+    pub fn view(&self) -> GeometryView<'_>
+        ensures { result ≡ self.now }
+    {
+        match self {
+            Geometry::Mesh(mesh) => mesh.view(),
+            Geometry::Cloud(cloud) => cloud.view(),
+        }
+    }
 }

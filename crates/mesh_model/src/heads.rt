@@ -101,6 +101,17 @@ impl Head {
     }
 }
 
+/// Equal heads.
+pub fn copies_of(alloc: Global, heads: &[Head]) -> Result<Vec<Head>, Memory>
+    ensures { IfOk result (λ v. v.items ≡ heads.now) }
+{
+    let mut copies = Vec::new(alloc);
+    for head in heads {
+        copies.push(head.copy(alloc)?)?;
+    }
+    Ok(copies)
+}
+
 /// The first fault of head `k`.
 fn test_head(k: usize, head: &Head) -> Result<(), Fault>
     ensures tested { Tests (head_fault k head.now) result }

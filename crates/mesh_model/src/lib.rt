@@ -11,6 +11,8 @@ mod clouds;
 mod corners;
 mod data_types;
 mod geometries;
+mod geometry_rules;
+mod geometry_views;
 mod heads;
 mod items;
 mod laws;
@@ -31,7 +33,8 @@ pub use assembling::assemble;
 pub use clouds::Cloud;
 pub use data_types::{greatest_of, least_of};
 pub use geometries::Geometry;
-pub use heads::{Head, Quant};
+pub use geometry_views::GeometryView;
+pub use heads::{Head, Quant, copies_of};
 pub use laws::{
     distinct_rows_are_few, map_text_is_read_again, renumbered_is_a_mesh, same_is_an_equivalence,
 };

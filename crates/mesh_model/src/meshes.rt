@@ -1,7 +1,9 @@
 //! Triangle meshes.
 
-use crate::heads::{Head, test_heads};
-use crate::row_rules::{stored_row, test_counts, test_face_count, test_indices, test_typed};
+use crate::geometry_rules::{RowShape, test_mesh};
+use crate::geometry_views::GeometryView;
+use crate::heads::Head;
+use crate::row_rules::stored_row;
 use drc_base::Refusal;
 use std::marker::Model;
 
@@ -31,6 +33,7 @@ impl Model for CornerMesh {
 
 impl CornerMesh {
     ghost use Rattle.std.specs.Prelude.{◌≡◌, ◌<◌, ◌≤◌, [], All, IsTrue, None, length, slice_index_or};
+    ghost use Rattle.mesh_model.specs.declared.geometries.Geometry.TheVariants as geometry;
     ghost use Rattle.mesh_model.specs.FirstFault.{answer_of};
     ghost use Rattle.mesh_model.specs.Head.{width_of};
     ghost use Rattle.mesh_model.specs.Parts.{AreRows, IsMesh, cells_of, corner, mesh_of, range_fault, rows_of};
@@ -78,18 +81,18 @@ impl CornerMesh {
         requires typed { IsTrue typed → range_fault heads.items points.items ≡ None }
         ensures { result ≡ answer_of (mesh_of heads.items points.items faces.items) }
     {
-        let width = test_heads(heads.as_slice())?;
-        let count = points.len() as u64 / width as u64;
-        test_counts(count, width)?;
-        test_face_count(faces.as_slice())?;
-        test_indices(count as u32, faces.as_slice())?;
-        test_typed(heads.as_slice(), width, points.as_slice(), typed)?;
+        let RowShape { width, count } = test_mesh(
+            heads.as_slice(),
+            points.as_slice(),
+            faces.as_slice(),
+            typed,
+        )?;
         Ok(CornerMesh {
             heads,
             cells: points,
             faces,
             width,
-            count: count as u32,
+            count,
         })
     }
 
@@ -112,6 +115,19 @@ impl CornerMesh {
             width,
             count,
         }
+    }
+
+    /// The mesh, lent. It takes no memory.
+    pub fn view(&self) -> GeometryView<'_>
+        ensures { result ≡ geometry.Mesh self.now }
+    {
+        GeometryView::from_rows(
+            self.heads.as_slice(),
+            self.cells.as_slice(),
+            Some(self.faces.as_slice()),
+            self.width,
+            self.count,
+        )
     }
 
     /// The heads of its attributes.

@@ -260,6 +260,25 @@ fn refuses_a_map_at_its_first_faulty_line(rt: HostRuntime) -> Result<(), Fail> {
 }
 
 #[test]
+fn lends_a_mesh_and_a_cloud(rt: HostRuntime) -> Result<(), Fail> {
+    let alloc = rt.alloc();
+    let heads = vec![in alloc; positions(5)]?;
+    let faces = [[0, 1, 2], [0, 2, 3]];
+    let a = GeometryView::new(heads.as_slice(), &SQUARE, Some(faces.as_slice()))?;
+    assert_eq!(rt; (a.is_mesh(), a.point_count(), a.face_count(), a.width()), (true, 4, 2, 3));
+    assert_eq!(rt; (a.heads().len(), a.point(2)), (1, [1, 1, 0].as_slice()));
+    assert_eq!(rt; a.faces(), Some(faces.as_slice()));
+    let mesh = Geometry::Mesh(mesh(alloc, 5, &SQUARE, &faces)?);
+    assert!(rt; matches(alloc, &mesh, &a.copied(alloc)?, &rows(alloc, &[(0, 0), (1, 0)])?)?);
+    let b = GeometryView::new(heads.as_slice(), &SQUARE, None)?;
+    assert_eq!(rt; (b.is_mesh(), b.point_count(), b.face_count(), b.width()), (false, 4, 0, 3));
+    assert_eq!(rt; b.faces(), None);
+    let cloud = Geometry::Cloud(cloud(alloc, 5, &SQUARE)?);
+    assert!(rt; matches(alloc, &cloud, &b.copied(alloc)?, &rows(alloc, &IN_ORDER)?)?);
+    Ok(())
+}
+
+#[test]
 fn copies_a_quantised_head(rt: HostRuntime) -> Result<(), Fail> {
     let alloc = rt.alloc();
     let quant = Quant {

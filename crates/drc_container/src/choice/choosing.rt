@@ -8,23 +8,22 @@ ghost use Rattle.drc_container.specs.writing.Chosen.{coding_of};
 use crate::choice::choices::{Choice, Index, Walk};
 use crate::choice::codings::Coding;
 use crate::choice::methods::Method;
-use crate::contents::is_mesh;
-use mesh_model::Geometry;
+use mesh_model::GeometryView;
 use predict::Prediction;
 
 /// The method: Edgebreaker with standard symbols for a mesh and sequential for a cloud, where none is
 /// chosen.
-fn method_of(g: &Geometry, choice: &Choice) -> Method
+fn method_of(g: &GeometryView<'_>, choice: &Choice) -> Method
     ensures { result ≡ method_of g.now choice.now }
 {
     match choice.method {
         Some(method) => method,
-        None => { if is_mesh(g) { Method::Eb } else { Method::Seq } }
+        None => { if g.is_mesh() { Method::Eb } else { Method::Seq } }
     }
 }
 
 /// Whether the method is sequential.
-pub fn is_sequential(g: &Geometry, choice: &Choice) -> bool
+pub fn is_sequential(g: &GeometryView<'_>, choice: &Choice) -> bool
     ensures { result ≡ is_sequential (method_of g.now choice.now) }
 {
     match method_of(g, choice) {
@@ -34,7 +33,7 @@ pub fn is_sequential(g: &Geometry, choice: &Choice) -> bool
 }
 
 /// Whether symbols are coded by valence.
-fn is_valence(g: &Geometry, choice: &Choice) -> bool
+fn is_valence(g: &GeometryView<'_>, choice: &Choice) -> bool
     ensures { result ≡ is_valence (method_of g.now choice.now) }
 {
     match method_of(g, choice) {
@@ -64,7 +63,7 @@ pub fn packs(choice: &Choice) -> bool
 }
 
 /// How values are predicted.
-pub fn predict_of(g: &Geometry, choice: &Choice) -> Prediction
+pub fn predict_of(g: &GeometryView<'_>, choice: &Choice) -> Prediction
     ensures { result ≡ predict_chosen g.now choice.now }
 {
     match choice.predict {
@@ -80,7 +79,7 @@ pub fn predict_of(g: &Geometry, choice: &Choice) -> Prediction
 }
 
 /// How a geometry is coded by Edgebreaker.
-pub fn coding_of(g: &Geometry, choice: &Choice) -> Coding
+pub fn coding_of(g: &GeometryView<'_>, choice: &Choice) -> Coding
     ensures { result ≡ coding_of g.now choice.now }
 {
     Coding {

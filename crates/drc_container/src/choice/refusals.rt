@@ -9,10 +9,9 @@ ghost use Rattle.drc_container.specs.choice.Refused.{choice_fault, empty_fault, 
 
 use crate::choice::choices::Choice;
 use crate::choice::choosing::is_sequential;
-use crate::contents::{face_count, heads_in, is_mesh, point_count};
 use attr_section::{Values, range_of};
 use drc_base::{Fault, Kind};
-use mesh_model::{Geometry, Head};
+use mesh_model::{GeometryView, Head};
 use predict::Prediction;
 
 /// A fault of this kind with this number, where a test doesn't hold.
@@ -37,10 +36,10 @@ fn chooses_surface(choice: &Choice) -> bool
 }
 
 /// The first fault of a choice for this geometry.
-fn test_choice(g: &Geometry, choice: &Choice) -> Result<(), Fault>
+fn test_choice(g: &GeometryView<'_>, choice: &Choice) -> Result<(), Fault>
     ensures { Tests (choice_fault g.now choice.now) result }
 {
-    let is_mesh = is_mesh(g);
+    let is_mesh = g.is_mesh();
     let sequential = is_sequential(g, choice);
     unless(is_mesh || sequential, Kind::Choice, 0)?;
     unless(
@@ -53,13 +52,13 @@ fn test_choice(g: &Geometry, choice: &Choice) -> Result<(), Fault>
 }
 
 /// The fault of a geometry of which nothing is encoded.
-fn test_empty(g: &Geometry, choice: &Choice) -> Result<(), Fault>
+fn test_empty(g: &GeometryView<'_>, choice: &Choice) -> Result<(), Fault>
     ensures { Tests (empty_fault g.now choice.now) result }
 {
     let count = if is_sequential(g, choice) {
-        point_count(g)
+        g.point_count()
     } else {
-        face_count(g)
+        g.face_count()
     };
     unless(count > 0, Kind::Empty, 0)
 }
@@ -75,16 +74,16 @@ fn begins_with_position(heads: &[Head]) -> bool
 }
 
 /// The fault of a geometry without positions.
-fn test_position(g: &Geometry, choice: &Choice) -> Result<(), Fault>
+fn test_position(g: &GeometryView<'_>, choice: &Choice) -> Result<(), Fault>
     ensures { Tests (position_fault g.now choice.now) result }
 {
-    let holds = is_sequential(g, choice) || begins_with_position(heads_in(g));
+    let holds = is_sequential(g, choice) || begins_with_position(g.heads());
     unless(holds, Kind::NoPosition, 0)
 }
 
 /// The first fault that is found before memory is taken.
 #[tactic(auto, unfolding(crate::specs::choice::Refused::early_fault))]
-pub fn test_early(g: &Geometry, choice: &Choice) -> Result<(), Fault>
+pub fn test_early(g: &GeometryView<'_>, choice: &Choice) -> Result<(), Fault>
     ensures { Tests (early_fault g.now choice.now) result }
 {
     test_choice(g, choice)?;

@@ -1,7 +1,7 @@
 //! What no contract can say: that encoding succeeds, and that the definitions are the ones meant, on
 //! streams worked by hand.
 
-use crate::{Choice, Index, Method, Prediction, Walk, decode, encode};
+use crate::{Choice, Index, Method, Prediction, Walk, decode, encode, encode_view};
 use drc_base::{Fault, Kind, Refusal};
 use std::alloc::Global;
 use std::test::Fail;
@@ -140,6 +140,22 @@ fn what_is_written_is_read_back(rt: HostRuntime) -> Result<(), Fail> {
             at: 0
         }))
     );
+    Ok(())
+}
+
+#[test]
+fn lent_geometries_are_written_alike(rt: HostRuntime) -> Result<(), Fail> {
+    let alloc = rt.alloc();
+    for (bytes, choice) in [
+        (FLAT_FACE.as_slice(), SEQUENTIAL),
+        (FLAT_FACE.as_slice(), NOTHING),
+        (CLOUD.as_slice(), NOTHING),
+    ] {
+        let geometry = decode(alloc, bytes)?;
+        let (own, _) = encode(alloc, &geometry, &choice)?;
+        let (lent, _) = encode_view(alloc, &geometry.view(), &choice)?;
+        assert_eq!(rt; lent.as_slice(), own.as_slice());
+    }
     Ok(())
 }
 

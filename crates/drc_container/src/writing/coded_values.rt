@@ -7,20 +7,23 @@ ghost use Rattle.mesh_model.specs.Contents.{heads_in, points_in};
 ghost use Rattle.predict.specs.Schemes.{code_of};
 ghost use Rattle.drc_container.specs.writing.Written.{values_of};
 
-use crate::contents::{heads_in, point, point_count};
 use attr_section::Values;
 use drc_base::{Memory, Sequence};
-use mesh_model::Geometry;
+use mesh_model::GeometryView;
 use predict::Prediction;
 use std::alloc::Global;
 
 /// The coded values of each attribute with this prediction: its integers, point after point.
-pub fn values_of(alloc: Global, g: &Geometry, predict: Prediction) -> Result<Vec<Values>, Memory>
+pub fn values_of(
+    alloc: Global,
+    g: &GeometryView<'_>,
+    predict: Prediction,
+) -> Result<Vec<Values>, Memory>
     ensures { IfOk result (λ v. v.items ≡ values_of g.now (code_of predict)) }
 {
     let mut values = Vec::new(alloc);
     let mut start: usize = 0;
-    for head in heads_in(g) {
+    for head in g.heads() {
         let comps = head.comps as usize;
         let column = column_of(alloc, g, start, comps)?;
         values.push(predicted_column(predict, column))?;
@@ -41,14 +44,19 @@ pub fn predicted_column(predict: Prediction, column: Vec<i32>) -> Values
 }
 
 /// The `comps` integers of each point from integer `start` on, point after point.
-fn column_of(alloc: Global, g: &Geometry, start: usize, comps: usize) -> Result<Vec<i32>, Memory>
+fn column_of(
+    alloc: Global,
+    g: &GeometryView<'_>,
+    start: usize,
+    comps: usize,
+) -> Result<Vec<i32>, Memory>
     requires { start + comps ≤ width_of (heads_in g.now) }
     ensures { IfOk result (λ v. v.items ≡ flat_map (λ (row : List ℤ). take comps (drop start row)) (points_in g.now)) }
 {
-    let count = point_count(g);
+    let count = g.point_count();
     let mut column = Vec::with_capacity(alloc, count as usize * comps)?;
     for i in 0..count {
-        let row = point(g, i);
+        let row = g.point(i);
         put_piece(&mut column, &row[start..start + comps]);
     }
     Ok(column)

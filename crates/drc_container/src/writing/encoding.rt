@@ -1,6 +1,6 @@
 //! Encoding a geometry.
 
-ghost use Rattle.std.specs.Prelude.{◌≡◌, true, Ok, Err, Some, None, IfOk};
+ghost use Rattle.std.specs.Prelude.{◌≡◌, true, false, Ok, Err, Some, None, IfOk};
 ghost use Rattle.drc_base.specs.declared.faults.Fault.{Fault as AnyFault};
 ghost use Rattle.drc_base.specs.declared.faults.Refusal.TheVariants as refusal;
 ghost use Rattle.drc_base.specs.Refusals.{Answers};
@@ -16,13 +16,12 @@ ghost use Rattle.drc_container.specs.writing.Layout.{layout_of, layout_chosen};
 use crate::choice::choices::Choice;
 use crate::choice::choosing::{coding_of, is_sequential, predict_of};
 use crate::choice::refusals::{test_early, test_ranges};
-use crate::contents::point_count;
 use crate::writing::coded_values::values_of;
 use crate::writing::edgebreaker::encode_surface;
 use crate::writing::sequential::write_stream;
 use attr_section::Values;
 use drc_base::{Memory, Refusal, Sequence};
-use mesh_model::{Geometry, Renumber};
+use mesh_model::{Geometry, GeometryView, Renumber};
 use std::alloc::Global;
 
 /// The stream of a geometry, coded as chosen, and the rows by which its geometry is the one that is
@@ -52,25 +51,41 @@ pub fn encode(alloc: Global, g: &Geometry, choice: &Choice) -> Result<(Vec<u8>, 
     ensures means { IfOk result (λ r. Means g.now choice.now r.0.items r.1.rows) }
     ensures layout { IfOk result (λ r. layout_of r.0.items ≡ Ok (layout_chosen g.now choice.now)) }
 {
+    let view = g.view();
+    test_early(&view, choice)?;
+    if is_sequential(&view, choice) {
+        return encode_in_order(alloc, &view, choice);
+    }
+    encode_on_surface(alloc, g, choice)
+}
+
+/// The stream of a geometry that is lent, coded as chosen, and the rows by which its geometry is the one that is
+/// encoded, as `encode` gives them. The sequential method reads the lent lists themselves; for Edgebreaker they are
+/// copied.
+///
+/// Refusals: those of `encode`. Refusing with `Choice`, `Empty` or `NoPosition` takes no memory.
+pub fn encode_view(
+    alloc: Global,
+    g: &GeometryView<'_>,
+    choice: &Choice,
+) -> Result<(Vec<u8>, Renumber), Refusal>
+    ensures answer { Answers (λ r. (r.0.items, r.1.rows)) (encoding_due g.now choice.now) result }
+    ensures early { (f : AnyFault) → early_fault g.now choice.now ≡ Some f → result ≡ Err (refusal.Fault f) }
+    ensures means { IfOk result (λ r. Means g.now choice.now r.0.items r.1.rows) }
+    ensures layout { IfOk result (λ r. layout_of r.0.items ≡ Ok (layout_chosen g.now choice.now)) }
+{
     test_early(g, choice)?;
     if is_sequential(g, choice) {
         return encode_in_order(alloc, g, choice);
     }
-    match g {
-        Geometry::Mesh(mesh) => {
-            // For the prover alone: the call states what holds of every mesh.
-            let _faces = mesh.face_count();
-            let (bytes, rows) = encode_surface(alloc, mesh, &coding_of(g, choice))?;
-            Ok((bytes, Renumber { rows }))
-        }
-        Geometry::Cloud(_) => unreachable!(),
-    }
+    let copy = g.copied(alloc)?;
+    encode_on_surface(alloc, &copy, choice)
 }
 
 /// The stream of a geometry that has no earlier fault, by the sequential method.
 fn encode_in_order(
     alloc: Global,
-    g: &Geometry,
+    g: &GeometryView<'_>,
     choice: &Choice,
 ) -> Result<(Vec<u8>, Renumber), Refusal>
     requires early { early_fault g.now choice.now ≡ None }
@@ -90,15 +105,43 @@ fn encode_in_order(
     ))
 }
 
+/// The stream of a geometry that has no earlier fault, by Edgebreaker.
+fn encode_on_surface(
+    alloc: Global,
+    g: &Geometry,
+    choice: &Choice,
+) -> Result<(Vec<u8>, Renumber), Refusal>
+    requires early { early_fault g.now choice.now ≡ None }
+    requires surface { is_sequential (method_of g.now choice.now) ≡ false }
+    ensures answer { Answers (λ r. (r.0.items, r.1.rows)) (encoding_due g.now choice.now) result }
+    ensures degenerate { (f : AnyFault) → face_fault g.now choice.now ≡ Some f → result ≡ Err (refusal.Fault f) }
+    ensures means { IfOk result (λ r. Means g.now choice.now r.0.items r.1.rows) }
+    ensures layout { IfOk result (λ r. layout_of r.0.items ≡ Ok (layout_chosen g.now choice.now)) }
+{
+    match g {
+        Geometry::Mesh(mesh) => {
+            // For the prover alone: the call states what holds of every mesh.
+            let _faces = mesh.face_count();
+            let (bytes, rows) = encode_surface(alloc, mesh, &coding_of(&g.view(), choice))?;
+            Ok((bytes, Renumber { rows }))
+        }
+        Geometry::Cloud(_) => unreachable!(),
+    }
+}
+
 /// The values that the sequential method codes of a geometry that has no earlier fault.
-fn coded_values(alloc: Global, g: &Geometry, choice: &Choice) -> Result<Vec<Values>, Refusal>
+fn coded_values(
+    alloc: Global,
+    g: &GeometryView<'_>,
+    choice: &Choice,
+) -> Result<Vec<Values>, Refusal>
     requires early { early_fault g.now choice.now ≡ None }
     requires sequential { is_sequential (method_of g.now choice.now) ≡ true }
     ensures answer { Answers (λ v. v.items) (value_unless (refused g.now choice.now) (values_of g.now (chosen_code g.now choice.now))) result }
     ensures can { IfOk result (λ _. CanCode g.now choice.now) }
 {
     // For the prover alone: the call states what holds of every geometry.
-    let _count = point_count(g);
+    let _count = g.point_count();
     let predict = predict_of(g, choice);
     let values = values_of(alloc, g, predict)?;
     test_ranges(predict, values.as_slice())?;
@@ -106,12 +149,13 @@ fn coded_values(alloc: Global, g: &Geometry, choice: &Choice) -> Result<Vec<Valu
 }
 
 /// How many rows a renumbering of a geometry has: its faces, or the points of a cloud.
-fn row_count(g: &Geometry) -> u32
+fn row_count(g: &GeometryView<'_>) -> u32
     ensures { result ≡ count_of g.now }
 {
-    match g {
-        Geometry::Mesh(mesh) => mesh.face_count(),
-        Geometry::Cloud(cloud) => cloud.point_count(),
+    if g.is_mesh() {
+        g.face_count()
+    } else {
+        g.point_count()
     }
 }
 

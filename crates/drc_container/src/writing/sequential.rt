@@ -19,32 +19,18 @@ ghost use Rattle.drc_container.specs.writing.Layout.{layout_of, layout_chosen};
 
 use crate::choice::choices::Choice;
 use crate::choice::choosing::packs;
-use crate::contents::{heads_in, is_mesh, point_count};
 use crate::headers::{CLOUD, MESH, SEQUENTIAL, put_header};
 use attr_section::{DecoderHead, Values, write_decoder, write_heads};
 use drc_base::{MAX_POINTS, Memory, Sequence};
-use mesh_model::{CornerMesh, Geometry, Head};
+use mesh_model::{GeometryView, copies_of};
 use seq_section::write_indices;
 use std::alloc::Global;
 
 /// The geometry type of a geometry.
-fn geometry_type(g: &Geometry) -> u8
+fn geometry_type(g: &GeometryView<'_>) -> u8
     ensures { result ≡ geometry_type g.now }
 {
-    if is_mesh(g) { MESH } else { CLOUD }
-}
-
-/// Appends the indices of a mesh.
-fn put_mesh_connectivity(
-    alloc: Global,
-    out: &mut Vec<u8>,
-    mesh: &CornerMesh,
-    packed: bool,
-) -> Result<(), Memory>
-    ensures bytes { OnOk result (out.new.items ≡ out.old.items ++ sequential_connectivity_bytes packed (geometry.Mesh mesh.now)) }
-    ensures again { OnOk result (ConnectivitySpelled packed (geometry.Mesh mesh.now)) }
-{
-    write_indices(alloc, out, mesh.faces(), mesh.point_count(), packed)
+    if g.is_mesh() { MESH } else { CLOUD }
 }
 
 /// Appends the number of points of a cloud.
@@ -57,38 +43,28 @@ fn put_cloud_points(out: &mut Vec<u8>, points: u32) -> Result<(), Memory>
     Ok(())
 }
 
-/// Appends the connectivity of a geometry.
+/// Appends the connectivity of a geometry: the indices of a mesh, the number of points of a cloud.
 fn put_connectivity(
     alloc: Global,
     out: &mut Vec<u8>,
-    g: &Geometry,
+    g: &GeometryView<'_>,
     packed: bool,
 ) -> Result<(), Memory>
     ensures bytes { OnOk result (out.new.items ≡ out.old.items ++ sequential_connectivity_bytes packed g.now) }
     ensures again { OnOk result (ConnectivitySpelled packed g.now) }
 {
-    match g {
-        Geometry::Mesh(mesh) => put_mesh_connectivity(alloc, out, mesh, packed),
-        Geometry::Cloud(cloud) => put_cloud_points(out, cloud.point_count()),
+    let points = g.point_count();
+    match g.faces() {
+        Some(faces) => write_indices(alloc, out, faces, points, packed),
+        None => put_cloud_points(out, points),
     }
-}
-
-/// Equal heads.
-pub fn copies_of(alloc: Global, heads: &[Head]) -> Result<Vec<Head>, Memory>
-    ensures { IfOk result (λ v. v.items ≡ heads.now) }
-{
-    let mut copies = Vec::new(alloc);
-    for head in heads {
-        copies.push(head.copy(alloc)?)?;
-    }
-    Ok(copies)
 }
 
 /// The one decoder of all attributes.
-fn decoder_of(alloc: Global, g: &Geometry) -> Result<DecoderHead, Memory>
+fn decoder_of(alloc: Global, g: &GeometryView<'_>) -> Result<DecoderHead, Memory>
     ensures { IfOk result (λ d. d ≡ decoder_of g.now) }
 {
-    let heads = copies_of(alloc, heads_in(g))?;
+    let heads = copies_of(alloc, g.heads())?;
     Ok(DecoderHead {
         data_id: None,
         corner: false,
@@ -102,7 +78,7 @@ fn decoder_of(alloc: Global, g: &Geometry) -> Result<DecoderHead, Memory>
 fn put_attributes(
     alloc: Global,
     out: &mut Vec<u8>,
-    g: &Geometry,
+    g: &GeometryView<'_>,
     choice: &Choice,
     values: Vec<Values>,
 ) -> Result<(), Memory>
@@ -125,7 +101,7 @@ fn put_attributes(
 fn put_stream(
     alloc: Global,
     out: &mut Vec<u8>,
-    g: &Geometry,
+    g: &GeometryView<'_>,
     choice: &Choice,
     values: Vec<Values>,
 ) -> Result<(), Memory>
@@ -146,7 +122,7 @@ fn put_stream(
 /// coded as chosen.
 pub fn write_stream(
     alloc: Global,
-    g: &Geometry,
+    g: &GeometryView<'_>,
     choice: &Choice,
     values: Vec<Values>,
 ) -> Result<Vec<u8>, Memory>
@@ -157,7 +133,7 @@ pub fn write_stream(
     ensures layout { IfOk result (λ v. layout_of v.items ≡ Ok (layout_chosen g.now choice.now)) }
 {
     // For the prover alone: the call states what holds of every geometry.
-    let _count = point_count(g);
+    let _count = g.point_count();
     let mut out = Vec::new(alloc);
     put_stream(alloc, &mut out, g, choice, values)?;
     Ok(out)

@@ -34,24 +34,24 @@ unasked B true on = tt
 unasked B false on = absurd (false≢true on)
 
 -- what a command that reads came to on all bytes of its input is what its line came to
-whole-outcome : (c : Command) (input : Taking) (bytes : List ℕ) (o : Outcome) → reads c ≡ true → IsReadWhole input → IfSome input.left (λ xs. xs ≡ bytes)
-    → IsOutcomeAt c bytes o → IsOutcome (Ok c) input o
-whole-outcome c input bytes (outcome.BadWord i) on whole all at = absurd at
-whole-outcome c input bytes outcome.ReadFailed on whole all at = absurd at
-whole-outcome c input bytes outcome.NoMemory on whole all at = unasked (IsUntaken input) (reads c) on
-whole-outcome c input bytes (outcome.Refused f) on whole all at =
-    (on-true (IsUntaken input) (reads c) on (inl whole), told (reads c) input.left bytes (λ b. command_due c b ≡ Err f) on all at)
-whole-outcome c input bytes (outcome.Done d) on whole all at =
+whole-outcome : (c : Command) (input : Taking) (whole : IsReadWhole input) (o : Outcome) → reads c ≡ true → IfSome input.left (λ xs. xs ≡ whole.taken)
+    → IsOutcomeAt c whole.taken o → IsOutcome (Ok c) input o
+whole-outcome c input whole (outcome.BadWord i) on all at = absurd at
+whole-outcome c input whole outcome.ReadFailed on all at = absurd at
+whole-outcome c input whole outcome.NoMemory on all at = unasked (IsUntaken input) (reads c) on
+whole-outcome c input whole (outcome.Refused f) on all at =
+    (on-true (IsUntaken input) (reads c) on (inl (whole, at)), told (reads c) input.left whole.taken (λ b. command_due c b ≡ Err f) on all at)
+whole-outcome c input whole (outcome.Done d) on all at =
     let given = Written (due_bytes d) in (
       on-true (IsUntaken input) (reads c) on whole,
-      told (reads c) input.left bytes (λ b. command_due c b ≡ Ok given) on all at.0,
-      told (reads c) input.left bytes (λ b. KeepsGeometry c b given) on all at.1,
+      told (reads c) input.left whole.taken (λ b. command_due c b ≡ Ok given) on all at.0,
+      told (reads c) input.left whole.taken (λ b. KeepsGeometry c b given) on all at.1,
     )
-whole-outcome c input bytes (outcome.Differs v) on whole all at = (
+whole-outcome c input whole (outcome.Differs v) on all at = (
   at.0,
   on-true (IsUntaken input) (reads c) on whole,
-  told (reads c) input.left bytes (λ b. command_due c b ≡ Ok (Differs v)) on all at.1,
-  told (reads c) input.left bytes (λ b. KeepsGeometry c b (Differs v)) on all at.2,
+  told (reads c) input.left whole.taken (λ b. command_due c b ≡ Ok (Differs v)) on all at.1,
+  told (reads c) input.left whole.taken (λ b. KeepsGeometry c b (Differs v)) on all at.2,
 )
 
 pub returns-in-Ok-read_all-clause-outcome : goal.returns-in-Ok-read_all-clause-outcome
@@ -61,9 +61,15 @@ returns-in-Ok-read_all-clause-outcome g c =
     let gave = c.in-Ok-read_all.ensures.gave in
     let command = c.in-Ok.command in
     let on : reads command ≡ true = search rules in
-    let whole : IsReadWhole input = record { ended = c.in-Ok-read_all.ensures.ended; none_left = c.in-Ok-read_all.ensures.none_left } in
+    let whole : IsReadWhole input = record {
+      taken = gave.0;
+      few = gave.2.1;
+      gave = gave.1;
+      ended = c.in-Ok-read_all.ensures.ended;
+      none_left = c.in-Ok-read_all.ensures.none_left;
+    } in
     let taken : IfSome (source.left c.args.input.now) (λ xs. xs ≡ gave.0) =
     all-taken (source.left c.args.input.now) (source.left c.read_all.new.input) gave.0 gave.1.consumed c.in-Ok-read_all.ensures.none_left in
     let o = c.outcome_at-in-Ok-read_all.result in
-    subst (λ l. IsOutcome l input o) c.in-Ok.ensures.line (whole-outcome command input gave.0 o on whole taken
+    subst (λ l. IsOutcome l input o) c.in-Ok.ensures.line (whole-outcome command input whole o on taken
     (subst (λ bytes. IsOutcomeAt command bytes o) gave.2.0 c.outcome_at-in-Ok-read_all.ensures))

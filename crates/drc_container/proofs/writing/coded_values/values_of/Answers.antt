@@ -14,10 +14,10 @@ overflow_add-start c =
     let heads = heads_in c.args.g.now in
     let k = c.loop-head.head-index in
     let h = c.head-item.result in
-    let has : k < length heads = subst (λ hs. k < length hs) c.heads_in-head-items.ensures.heads c.loop-head-test.true in
-    let is : h ≡ get_or heads k h = c.head-item.is ∙ ap (λ hs. get_or hs k h) c.heads_in-head-items.ensures.heads in
+    let has : k < length heads = subst (λ hs. k < length hs) c.heads-head-items.ensures.heads c.loop-head-test.true in
+    let is : h ≡ get_or heads k h = c.head-item.is ∙ ap (λ hs. get_or hs k h) c.heads-head-items.ensures.heads in
     let next = width-next heads k c.loop-head.start h c.loop-head.invariant.1 has is in
-    let narrow : width_of heads ≤ 128 = (width_of-bounds heads c.heads_in-head-items.ensures.sound.heads_pass).1 in
+    let narrow : width_of heads ≤ 128 = (width_of-bounds heads c.heads-head-items.ensures.sound.heads_pass).1 in
     let small : c.loop-head.start + h.comps ≤ 128 = omega (arith, next, narrow) in
     omega (arith, small)
 
@@ -27,8 +27,8 @@ loop-head-preserved c =
     let points = points_in c.args.g.now in
     let k = c.loop-head.head-index in
     let h = c.head-item.result in
-    let has : k < length heads = subst (λ hs. k < length hs) c.heads_in-head-items.ensures.heads c.loop-head-test.true in
-    let is : h ≡ get_or heads k h = c.head-item.is ∙ ap (λ hs. get_or hs k h) c.heads_in-head-items.ensures.heads in (
+    let has : k < length heads = subst (λ hs. k < length hs) c.heads-head-items.ensures.heads c.loop-head-test.true in
+    let is : h ≡ get_or heads k h = c.head-item.is ∙ ap (λ hs. get_or hs k h) c.heads-head-items.ensures.heads in (
       rw (c.in_ok-push.ensures.items, c.predicted_column.ensures)
           (values-next _ heads points k c.loop-head.start h c.in_ok-column.column.items c.loop-head.values.items _ c.loop-head.invariant.0 has is c.in_ok-column.ensures),
       width-next heads k c.loop-head.start h c.loop-head.invariant.1 has is,
