@@ -36,10 +36,3 @@ pub use predict::{Prediction, Walked};
 pub use ranges::range_of;
 pub use value_reading::read_decoder;
 pub use values::Values;
-
-#[cfg(test)]
-mod tests;
-#[cfg(test)]
-mod walk_tests;
-#[cfg(test)]
-mod walk_writing_tests;

@@ -14,8 +14,6 @@ mod side_numbers;
 mod side_table;
 mod steps;
 mod symbols;
-#[cfg(test)]
-mod tests;
 
 pub use corner_lists::{Classes, Order};
 pub use entries::FREE;

@@ -37,6 +37,3 @@ pub use sources::Source;
 pub use std_sink::StdSink;
 pub use std_source::StdSource;
 pub use writing::write_all;
-
-#[cfg(test)]
-mod tests;

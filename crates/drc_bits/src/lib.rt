@@ -14,6 +14,3 @@ pub use bit_reader::BitReader;
 pub use bit_writer::BitWriter;
 pub use cursors::Cursor;
 pub use varints::{put_var32, put_var64};
-
-#[cfg(test)]
-mod tests;

@@ -23,6 +23,3 @@ pub use reading::info::{AttrInfo, Decoded, StreamInfo};
 pub use surface::carried_surfaces::carried_surface;
 pub use surface::turned_meshes::renumbered_mesh;
 pub use writing::encoding::{encode, encode_view};
-
-#[cfg(test)]
-mod tests;

@@ -12,8 +12,6 @@ mod kinds;
 mod laws;
 mod points;
 mod sizes;
-#[cfg(test)]
-mod tests;
 
 pub use generating::generate;
 pub use kinds::GenKind;

@@ -7,6 +7,3 @@ mod lines;
 mod reports;
 
 pub use reports::report;
-
-#[cfg(test)]
-mod tests;

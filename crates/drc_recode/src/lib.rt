@@ -19,6 +19,3 @@ pub use laws::the_first_order_comes_back;
 pub use packing::decode_packed;
 pub use recoding::recode;
 pub use restoring::restore;
-
-#[cfg(test)]
-mod tests;

@@ -11,8 +11,6 @@ mod laws;
 mod rows;
 mod sides;
 mod surfaces;
-#[cfg(test)]
-mod tests;
 mod verdicts;
 mod verifying;
 

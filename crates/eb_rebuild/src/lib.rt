@@ -16,8 +16,6 @@ mod rebuild;
 mod row_rebuild;
 mod side_stack;
 mod splits;
-#[cfg(test)]
-mod tests;
 
 pub use built::Built;
 pub use laws::{

@@ -9,16 +9,12 @@ mod contexts;
 mod events;
 mod opening;
 mod reading;
-#[cfg(test)]
-mod reading_tests;
 mod rebuilding;
 mod sources;
 mod writing;
 mod writing_blocks;
 mod writing_events;
 mod writing_standard;
-#[cfg(test)]
-mod writing_tests;
 mod writing_valence;
 
 pub use reading::{EbRead, read_connectivity};

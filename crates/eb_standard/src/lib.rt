@@ -4,8 +4,6 @@
 
 mod packing;
 mod symbol_reader;
-#[cfg(test)]
-mod tests;
 
 pub use packing::pack;
 pub use symbol_reader::SymbolReader;

@@ -14,8 +14,3 @@ mod walk;
 
 pub use laws::{fans_are_counted, readable_is_rebuilt, walk_keeps_surface};
 pub use tracing::{Traced, trace};
-
-#[cfg(test)]
-mod rebuild_tests;
-#[cfg(test)]
-mod tests;

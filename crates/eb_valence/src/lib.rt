@@ -8,8 +8,6 @@ mod context_reader;
 mod laws;
 mod noting;
 mod numbers;
-#[cfg(test)]
-mod tests;
 
 pub use context_lists::{CONTEXTS, ContextLists};
 pub use context_reader::ContextReader;

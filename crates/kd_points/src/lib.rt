@@ -20,6 +20,3 @@ mod trees;
 pub use decoding::kd_decode;
 pub use encoding::{kd_bits, kd_encode};
 pub use laws::{files_are_read_again, keys_tell_points, order_is_one};
-
-#[cfg(test)]
-mod tests;

@@ -8,8 +8,6 @@ mod keys;
 mod laws;
 mod reading;
 mod sorting;
-#[cfg(test)]
-mod tests;
 mod writing;
 
 pub use keys::{Keys, bit_in, with_bit};

@@ -26,8 +26,6 @@ mod renumberings;
 mod row_index;
 mod row_rules;
 mod tables;
-#[cfg(test)]
-mod tests;
 
 pub use assembling::assemble;
 pub use clouds::Cloud;

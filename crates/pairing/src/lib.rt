@@ -11,8 +11,6 @@ mod laws;
 mod numbering;
 mod positions;
 mod surfaces;
-#[cfg(test)]
-mod tests;
 
 pub use laws::carrying_keeps_pairs;
 pub use surfaces::pair;

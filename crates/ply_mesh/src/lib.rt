@@ -15,8 +15,6 @@ mod property_writer;
 mod reading;
 mod rows;
 mod rows_ahead;
-#[cfg(test)]
-mod tests;
 mod text_sink;
 mod texts;
 mod writing;

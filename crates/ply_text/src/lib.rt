@@ -19,8 +19,6 @@ mod line_tokens;
 mod name_runs;
 mod named_heads;
 mod statements;
-#[cfg(test)]
-mod tests;
 mod token_reader;
 mod words;
 

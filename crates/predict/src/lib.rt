@@ -33,8 +33,3 @@ pub use single::{correct_parallelogram, restore_parallelogram};
 pub use symbols::symbols_of;
 pub use walks::Walked;
 pub use wraps::Wrap;
-
-#[cfg(test)]
-mod surface_tests;
-#[cfg(test)]
-mod tests;

@@ -10,6 +10,3 @@ mod laws;
 pub use block_reader::BitBlock;
 pub use block_writer::write_block;
 pub use laws::bits_have_numbers;
-
-#[cfg(test)]
-mod tests;

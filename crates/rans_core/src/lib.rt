@@ -11,6 +11,3 @@ mod slots;
 pub use decoder::Decoder;
 pub use encoder::Encoder;
 pub use ends::{end_bytes, first_state, refill};
-
-#[cfg(test)]
-mod tests;

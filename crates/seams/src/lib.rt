@@ -10,8 +10,6 @@ mod differences;
 mod laws;
 mod reading;
 mod sides;
-#[cfg(test)]
-mod tests;
 mod writing;
 
 pub use cutting::{classes, unglued};

@@ -10,8 +10,6 @@ mod plain;
 mod plain_writing;
 mod quick;
 mod reading;
-#[cfg(test)]
-mod tests;
 mod writing;
 
 pub use reading::{SeqRead, read_indices};

@@ -11,6 +11,3 @@ mod writing;
 
 pub use reading::read_symbols;
 pub use writing::write_symbols;
-
-#[cfg(test)]
-mod tests;

@@ -13,6 +13,3 @@ mod writing;
 pub use counts::{greatest_in, used_in};
 pub use laws::every_spelling_is_read;
 pub use table::Table;
-
-#[cfg(test)]
-mod tests;

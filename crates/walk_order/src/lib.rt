@@ -13,6 +13,3 @@ mod surface;
 pub use degree_walk::prediction_degree;
 pub use depth_walk::depth_first;
 pub use laws::{orders_are_of_surfaces, orders_list_classes, walks_are_relations};
-
-#[cfg(test)]
-mod tests;

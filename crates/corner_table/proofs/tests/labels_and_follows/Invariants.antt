@@ -1,5 +1,0 @@
--- Each call counts in the ledger of its own blank.
-use Rattle.corner_table.proofs.tests.labels_and_follows.Given as goal
-
-abbrev pub ghosts-told : goal.ghosts-told
-ghosts-told g a = record { name = a.blank.name; parts = a.blank.parts }

@@ -1,8 +1,0 @@
--- The call counts in the ledger of its blank.
-use Rattle.eb_trace.proofs.rebuild_tests.comes_back.Given as goal
-
-abbrev pub ghosts-rebuilt : goal.ghosts-rebuilt
-ghosts-rebuilt g a = record { name = a.blank.name; parts = a.blank.parts }
-
-abbrev pub ghosts-have_same_entries : goal.ghosts-have_same_entries
-ghosts-have_same_entries g a = record { name = a.blank.name; parts = a.blank.parts }

@@ -1,0 +1,154 @@
+//! Values over a small surface, with ample memory: the bytes are those of a square of two triangles,
+//! whose predictions and flags were worked out by hand.
+
+ghost use Rattle.std.specs.Prelude.{◌≡◌, ◌<◌, ◌≤◌, IsTrue, length};
+ghost use Rattle.std.specs.List.{All};
+ghost use Rattle.predict.specs.Walked.{IsOver, walked};
+
+use crate::attr_section_tests::decoder_of;
+use attr_section::{Values, Walked, read_decoder};
+use corner_table::{Order, SideTable};
+use drc_base::{Fault, Kind, Refusal};
+use drc_bits::Cursor;
+use std::alloc::Global;
+use std::process::Abort;
+use std::test::Fail;
+use worked_surfaces::{glued, has_corners_of, order_of};
+
+/// The bytes of corrections: the transform, and twelve symbols of a byte each.
+const CORRECTIONS: [u8; 15] = [1, 0, 1, 0, 1, 0, 1, 2, 0, 0, 1, 0, 0, 0, 0];
+/// The range from 0 to 2.
+const RANGE: [u8; 8] = [0, 0, 0, 0, 2, 0, 0, 0];
+
+/// Whether an order is one over a table.
+fn is_over(t: &SideTable, o: &Order) -> bool
+    ensures { IsTrue result → IsOver t.now.faces (walked t.now o.now) }
+{
+    has_corners_of(o, t)
+}
+
+/// Two faces, and an order of their four corners in which the first face comes first.
+fn square(rt: &impl Abort, alloc: Global) -> (SideTable, Order)
+    ensures over { IsOver result.0.faces (walked result.0 result.1) }
+    ensures entries { length result.1.corner_of_entry ≡ 4 }
+{
+    let sides = glued(alloc, 2, &[(0, 4)]).expect(rt, "a table");
+    let order = order_of(alloc, &[1, 2, 0, 4], &[2, 0, 1, 0, 3, 1]).expect(rt, "an order");
+    assert!(rt; is_over(&sides, &order) && order.corner_of_entry.len() == 4);
+    (sides, order)
+}
+
+/// What is read over the square from a prediction byte, the corrections and these bytes: positions of
+/// this type.
+fn read_over(
+    rt: &impl Abort,
+    alloc: Global,
+    dtype: u8,
+    prediction: u8,
+    bytes: &[u8],
+) -> Result<Vec<Values>, Refusal> {
+    let (sides, order) = square(rt, alloc);
+    let walk = Walked {
+        sides: &sides,
+        order: &order,
+    };
+    let mut all = Vec::new(alloc);
+    all.push(prediction)?;
+    all.extend_from_slice(&CORRECTIONS)?;
+    all.extend_from_slice(bytes)?;
+    let mut h = decoder_of(alloc, dtype, 3)?;
+    let mut spent = 0;
+    let mut c = Cursor::new(all.as_slice());
+    read_decoder(alloc, &mut c, &mut h, 4, Some(&walk), &mut spent)
+}
+
+/// The flag lists of a row and the range from 0 to 2.
+fn with_range(alloc: Global, lists: &[u8]) -> Result<Vec<u8>, Refusal> {
+    let mut bytes = Vec::new(alloc);
+    bytes.extend_from_slice(lists)?;
+    bytes.extend_from_slice(&RANGE)?;
+    Ok(bytes)
+}
+
+#[test]
+fn values_stand_on_a_surface(rt: HostRuntime) -> Result<(), Fail> {
+    let alloc = rt.alloc();
+    let kept = [0, 2, 0, 2, 0, 0, 2, 2, 0, 0, 0, 0];
+    let left_out = [0, 2, 0, 2, 0, 0, 2, 2, 0, 2, 2, 0];
+    // No flags are read by one parallelogram; with several, the only entry that has one takes a flag of
+    // the first list, and flags that are left over count for nothing.
+    let rows: [(u8, &[u8], [i32; 12]); 5] = [
+        (1, &[], kept),
+        (4, &[1, 0xff, 1, 0x11, 0, 0, 0], kept),
+        (4, &[1, 1, 1, 0x10, 0, 0, 0], left_out),
+        (4, &[2, 0xff, 1, 0x22, 0, 0, 0], kept),
+        (4, &[1, 0xff, 1, 0x11, 0, 1, 1, 1, 0x10, 0], kept),
+    ];
+    for (prediction, lists, values) in rows {
+        let bytes = with_range(alloc, lists)?;
+        let read = read_over(&rt, alloc, 5, prediction, &bytes)?;
+        assert_eq!(rt; read.len(), 1);
+        assert!(rt;
+            read[0].values.as_slice() == values.as_slice(),
+            "{prediction} {lists:?}"
+        );
+        assert_eq!(rt; (read[0].predict, read[0].at), (prediction as i8, 0));
+    }
+    Ok(())
+}
+
+#[test]
+fn faults_over_a_surface(rt: HostRuntime) -> Result<(), Fail> {
+    let alloc = rt.alloc();
+    let rows: [(u8, u8, &[u8], Kind, u64); 9] = [
+        (5, 4, &[7], Kind::FlagCount, 16),
+        (5, 4, &[1, 0xff, 1, 0x11, 7], Kind::FlagCount, 20),
+        (5, 4, &[6, 0], Kind::BadProb, 17),
+        (5, 4, &[0, 0, 0], Kind::Short, 19),
+        (
+            5,
+            4,
+            &[0, 0, 0, 0, 0, 0, 0, 0, 2, 0, 0, 0],
+            Kind::FlagsShort,
+            0,
+        ),
+        // The flag is in another list than that of entries with one parallelogram.
+        (
+            5,
+            4,
+            &[0, 1, 0xff, 1, 0x11, 0, 0, 0, 0, 0, 0, 2, 0, 0, 0],
+            Kind::FlagsShort,
+            0,
+        ),
+        // A range is tested before the flags, and these before the values.
+        (
+            5,
+            4,
+            &[0, 0, 0, 0, 1, 0, 0, 0, 0, 0, 0, 0],
+            Kind::WrapRange,
+            20,
+        ),
+        (
+            2,
+            4,
+            &[0, 0, 0, 0, 0xff, 0xff, 0xff, 0xff, 2, 0, 0, 0],
+            Kind::FlagsShort,
+            0,
+        ),
+        (
+            2,
+            1,
+            &[0xff, 0xff, 0xff, 0xff, 2, 0, 0, 0],
+            Kind::ValueRange,
+            0,
+        ),
+    ];
+    for (dtype, prediction, bytes, kind, at) in rows {
+        let fault = match read_over(&rt, alloc, dtype, prediction, bytes) {
+            Err(Refusal::Fault(fault)) => Some(fault),
+            _ => None,
+        };
+        assert_eq!(rt; fault, Some(Fault { kind, at }), "{prediction} {bytes:?}");
+    }
+    Ok(())
+}

@@ -1,0 +1,86 @@
+//! Lists of worked surfaces, noted and read.
+
+ghost use Rattle.std.specs.Prelude.{◌≡◌, ◌<◌};
+
+use corner_table::{Steps, Symbol};
+use drc_base::{Kind, Memory};
+use eb_valence::{ContextLists, ContextReader, contexts_of};
+use std::alloc::{AllocError, Global};
+use std::marker::Brand;
+use std::process::Abort;
+use std::sync::ledger::{Blank, Ledger};
+use std::test::Fail;
+use worked_surfaces::TORUS_EVENTS;
+
+/// Compares the lists of all contexts.
+fn has_lists(rt: &impl Abort, lists: &ContextLists, wanted: [&[u32]; 6]) {
+    for context in 0..6 {
+        assert!(rt; lists.list(context) == wanted[context]);
+    }
+}
+
+/// Notes the symbols of worked surfaces, and compares their lists.
+fn notes<Count: Ledger>(rt: &impl Abort, alloc: Global, blank: Blank) -> Result<(), Memory>
+    requires name { blank.name ≡ Count.name }
+    requires parts { blank.parts ≡ Count.parts }
+    requires some { 0 < Count.parts }
+{
+    use Symbol::{C, E, L, R, S};
+    let mut steps = Steps::<Count>::new(blank);
+    let none = contexts_of(alloc, &[], &[], &mut steps)?;
+    has_lists(rt, &none, [&[], &[], &[], &[], &[], &[]]);
+    let tetrahedron = contexts_of(alloc, &[C, R, E], &[], &mut steps)?;
+    has_lists(rt, &tetrahedron, [&[3], &[0], &[], &[], &[], &[]]);
+    let torus = contexts_of(
+        alloc,
+        &[C, C, C, C, R, S, S, L, R, S, L, E, E],
+        &TORUS_EVENTS,
+        &mut steps,
+    )?;
+    has_lists(
+        rt,
+        &torus,
+        [&[1, 1, 2, 4], &[1, 3], &[2], &[3], &[0, 0, 0, 0], &[]],
+    );
+    Ok(())
+}
+
+#[test]
+fn notes_contexts_of_surfaces(rt: HostRuntime) -> Result<(), Fail> {
+    notes::<Brand>(&rt, rt.alloc(), Blank::new(1))?;
+    Ok(())
+}
+
+/// Lists of which two have symbols, and one has a number that stands for none in front.
+fn worked(alloc: Global) -> Result<ContextLists, AllocError> {
+    Ok(ContextLists::new([
+        vec![in alloc; 5, 1, 3]?,
+        vec![in alloc; 0]?,
+        Vec::new(alloc),
+        Vec::new(alloc),
+        Vec::new(alloc),
+        vec![in alloc; 4, 2]?,
+    ]))
+}
+
+#[test]
+fn reads_from_the_backs(rt: HostRuntime) -> Result<(), Fail> {
+    let mut reader = ContextReader::new(worked(rt.alloc())?);
+    for (degree, symbol) in [
+        (None, Ok(Symbol::E)),
+        (Some(2), Ok(Symbol::R)),
+        (Some(0), Ok(Symbol::S)),
+        (Some(3), Ok(Symbol::C)),
+        (Some(3), Err(Kind::ContextEmpty)),
+        (Some(4), Err(Kind::ContextEmpty)),
+        (Some(7), Ok(Symbol::L)),
+        (Some(900), Ok(Symbol::E)),
+        (Some(8), Err(Kind::ContextEmpty)),
+        (Some(1), Err(Kind::BadSymbol)),
+        (Some(2), Err(Kind::BadSymbol)),
+        (None, Ok(Symbol::E)),
+    ] {
+        assert!(&rt; reader.next(degree) == symbol);
+    }
+    Ok(())
+}

@@ -1,0 +1,27 @@
+//! Tests of surfaces: of the crates `corner_table`, `pairing`, `walk_order`, `seams`, `predict`, `eb_rebuild`, `eb_trace`,
+//! `eb_standard` and `eb_valence`, each in files of its name. They try what no clause says: that the calls answer with ample memory,
+//! and what they answer on worked surfaces, whose pairs, orders, seams, values and symbols were computed by plain programs or by hand.
+#![tactic(auto)]
+
+#[cfg(test)]
+mod corner_table_tests;
+#[cfg(test)]
+mod eb_rebuild_tests;
+#[cfg(test)]
+mod eb_standard_tests;
+#[cfg(test)]
+mod eb_trace_rebuild_tests;
+#[cfg(test)]
+mod eb_trace_tests;
+#[cfg(test)]
+mod eb_valence_tests;
+#[cfg(test)]
+mod pairing_tests;
+#[cfg(test)]
+mod predict_surface_tests;
+#[cfg(test)]
+mod predict_tests;
+#[cfg(test)]
+mod seams_tests;
+#[cfg(test)]
+mod walk_order_tests;

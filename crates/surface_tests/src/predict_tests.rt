@@ -1,0 +1,51 @@
+//! The wrap near the ends of 32 bits, and the table of predictions, with ample memory.
+
+use drc_base::Sequence;
+use predict::{Flags, Prediction, Wrap, correct, restore};
+use std::test::Fail;
+
+#[test]
+fn values_near_the_end_come_back(rt: HostRuntime) -> Result<(), Fail> {
+    let alloc = rt.alloc();
+    let wrap = Wrap::new(2147483637, 2147483647).ok_or("refused")?;
+    let values = [2147483647, 2147483637];
+    assert!(rt; values.iter().all(|x| 2147483637 <= *x && *x <= 2147483647));
+    let (symbols, flags) = correct(alloc, Prediction::Difference, &wrap, 1, None, &values)?;
+    assert_eq!(rt; symbols.as_slice(), [1, 2].as_slice());
+    let mut restored = [-1, 1];
+    let answer = restore(
+        Prediction::Difference,
+        &wrap,
+        1,
+        None,
+        &flags,
+        &mut restored,
+    );
+    assert!(rt; answer.is_ok());
+    assert_eq!(rt; restored, values);
+    Ok(())
+}
+
+#[test]
+fn ranges_near_the_limit(rt: HostRuntime) {
+    assert!(rt; Wrap::new(-0x4000_0000, 0x3fff_fffe).is_some());
+    assert!(rt; Wrap::new(-0x4000_0000, 0x3fff_ffff).is_none());
+    assert!(rt; Wrap::new(1, 0).is_none());
+}
+
+#[test]
+fn predictions_are_found(rt: HostRuntime) {
+    let rows = [
+        (254, -2, "none", Prediction::Off),
+        (0, 0, "diff", Prediction::Difference),
+        (1, 1, "para", Prediction::Parallelogram),
+        (4, 4, "multi", Prediction::Multi),
+    ];
+    for (byte, code, word, prediction) in rows {
+        assert!(&rt; Prediction::of_byte(byte) == Some(prediction), "{word}");
+        assert!(&rt; Prediction::of_code(code) == Some(prediction), "{word}");
+        assert!(&rt; Prediction::named(word) == Some(prediction), "{word}");
+    }
+    assert!(&rt; Prediction::of_byte(2).is_none() && Prediction::of_code(-1).is_none());
+    assert!(&rt; Prediction::named("off").is_none() && Prediction::named("").is_none());
+}
