@@ -11,7 +11,9 @@ use Rattle.attr_section.specs.declared.decoder_heads.DecoderHead.{DecoderHead}
 use Rattle.attr_section.specs.declared.values.Values.{Values}
 use Rattle.attr_section.specs.Heads.{heads_at, heads_bytes, bare_head, bare_decoder, DecodersPass, AreAcceptedLinks}
 use Rattle.attr_section.specs.Values.{integers_at, range_at, quantised_at, values_in, decoder_values_at}
-use Rattle.attr_section.specs.Written.{integers_bytes, range_bytes, quant_bytes, decoder_values_bytes, HasQuant, QuantFits, ValuesPass, DecoderValuesPass, values_placed, HaveEntries, MayHaveFewFlags, FlagsSpelled, ValuesSpelled}
+use Rattle.attr_section.specs.Written.{integers_bytes, range_bytes, quant_bytes, decoder_values_bytes, HasQuant, QuantFits}
+use Rattle.attr_section.specs.Written.{ValuesPass, DecoderValuesPass, values_placed, HaveEntries, MayHaveFewFlags}
+use Rattle.attr_section.specs.Written.{FlagsSpelled, ValuesSpelled}
 
 -- the numbers of a head that are written in up to four bytes have 32 bits: its id, and those of its quantisation
 pub record HeadFits (h : Head) : Type 0 where
@@ -42,12 +44,13 @@ QuantsAreRead = (h : Head) → HasQuant h h.quant → QuantFits h.quant → Spel
 -- the heads of decoders, without the quantisations: in a sequential stream, or beside so many attribute data
 abbrev pub HeadsAreRead : Type 0
 HeadsAreRead = (attr_data : Option ℕ) (decoders : List DecoderHead) → DecodersPass decoders → All (λ d. All HeadFits d.heads) decoders
-    → AreAcceptedLinks attr_data decoders → Spells (heads_at attr_data) (heads_bytes (is_some attr_data) decoders) (map bare_decoder decoders)
+    → AreAcceptedLinks attr_data decoders
+    → Spells (heads_at attr_data) (heads_bytes (is_some attr_data) decoders) (map bare_decoder decoders)
 
 -- the values of a decoder and its quantisations, wherever they begin
 abbrev pub DecoderValuesAreRead : Type 0
-DecoderValuesAreRead = (plain : Bool) (w : Option Walked) (d : DecoderHead) (attributes : List Values) → DecoderValuesPass w d.heads attributes
-    → All HeadFits d.heads → MayHaveFewFlags w → (entries spent place : ℕ) (rest : List ℕ)
+DecoderValuesAreRead = (plain : Bool) (w : Option Walked) (d : DecoderHead) (attributes : List Values)
+    → DecoderValuesPass w d.heads attributes → All HeadFits d.heads → MayHaveFewFlags w → (entries spent place : ℕ) (rest : List ℕ)
     → HaveEntries entries d.heads attributes → spent + values_in attributes ≤ MAX_VALUES
     → decoder_values_at profile w (bare_decoder d) entries spent
     (record { place = place; rest = decoder_values_bytes plain w d.heads attributes ++ rest })

@@ -1,4 +1,5 @@
--- How many table calls the reading of connectivity makes (this project's own): the bounds, and how many symbols and faces a section can give.
+-- How many table calls the reading of connectivity makes (this project's own): the bounds, and how many symbols and faces a section
+-- can give.
 use Rattle.std.specs.Prelude.{ℕ, suc, ◌+◌, ◌*◌, ◌==◌, min, cond, if◌then◌else◌, List, length, sum_by, Ok, Err}
 use Rattle.drc_base.specs.Steps.{◌>>=◌}
 use Rattle.drc_bits.specs.Reading.{Reading, Item, many_at}
@@ -47,7 +48,8 @@ symbols_in_lists symbols (Err f) = 0
 
 -- how many symbols can come behind the events; none where a fault comes before them
 abbrev pub symbols_behind : Opening → Item (List Event) → ℕ
-symbols_behind o (Ok events) = if o.valence then symbols_in_lists o.symbols (lists_behind o events.1) else symbols_in_bits o.symbols (standard_at events.1)
+symbols_behind o (Ok events) =
+    if o.valence then symbols_in_lists o.symbols (lists_behind o events.1) else symbols_in_bits o.symbols (standard_at events.1)
 symbols_behind o (Err f) = 0
 
 -- how many symbols the section can give, and none where its opening has a fault

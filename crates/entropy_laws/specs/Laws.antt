@@ -9,12 +9,13 @@ use Rattle.symbol_coding.specs.Block.{block_at, block_bytes}
 
 -- the table of probabilities for counts
 abbrev pub TablesAreRead : Type 0
-TablesAreRead = (counts : List ℕ) (bits : ℕ) → bits ≤ 20 → HasTable counts bits → Spells (table_at bits) (table_bytes (normal counts bits)) (normal counts bits)
+TablesAreRead = (counts : List ℕ) (bits : ℕ) → bits ≤ 20 → HasTable counts bits
+    → Spells (table_at bits) (table_bytes (normal counts bits)) (normal counts bits)
 
 -- the block of numbers of 32 bits, in groups of so many components
 abbrev pub SymbolBlocksAreRead : Type 0
-SymbolBlocksAreRead = (values : List ℕ) (comps : ℕ) → 0 < comps → length values % comps ≡ 0 → length values ≤ MAX_VALUES → All (λ v. v < 2 ^ 32) values
-    → Spells (block_at (length values) comps) (block_bytes values comps) values
+SymbolBlocksAreRead = (values : List ℕ) (comps : ℕ) → 0 < comps → length values % comps ≡ 0 → length values ≤ MAX_VALUES
+    → All (λ v. v < 2 ^ 32) values → Spells (block_at (length values) comps) (block_bytes values comps) values
 
 -- the block of bits
 abbrev pub BitBlocksAreRead : Type 0

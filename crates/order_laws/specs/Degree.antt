@@ -1,6 +1,7 @@
 -- The traversal by prediction degree as its rule says it, one sentence a case (Draco Bitstream Specification 2.2, prediction degree
 -- traversal). There are three stacks of corners, 0 to 2, a number best, and a count for each class of corners, 0 at the start of the mesh.
-use Rattle.std.specs.Prelude.{◌≡◌, ◌≢◌, ℕ, suc, ◌<◌, ◌≤◌, ◌⊎◌, ◌==◌, min, List, [], ◌∷◌, ◌++◌, map, count_by, Option, Some, None, All, Contains}
+use Rattle.std.specs.Prelude.{◌≡◌, ◌≢◌, ℕ, suc, ◌<◌, ◌≤◌, ◌⊎◌, ◌==◌, min, List, [], ◌∷◌, ◌++◌, map, count_by}
+use Rattle.std.specs.Prelude.{Option, Some, None, All, Contains}
 use Rattle.corner_table.specs.Sides.{Side, first, second, third, side, next, prev, Gluing}
 use Rattle.corner_table.specs.Labels.{label_at}
 
@@ -60,9 +61,11 @@ pub data Rates (labels : List ℕ) (c : Side) : Traversal → ℕ → Traversal 
   -- its rate is 0 where its class has an entry
   entry : {s : Traversal} → HasEntry labels s c → Rates labels c s 0 s
   -- else its class's count goes up by one, and the rate is 1 where the count is then above 1
-  again : {s : Traversal} → ¬ HasEntry labels s c → 1 < count_of (counted labels c s) (label_at labels c) → Rates labels c s 1 (counted labels c s)
+  again : {s : Traversal} → ¬ HasEntry labels s c → 1 < count_of (counted labels c s) (label_at labels c) →
+      Rates labels c s 1 (counted labels c s)
   -- and 2 otherwise
-  once : {s : Traversal} → ¬ HasEntry labels s c → count_of (counted labels c s) (label_at labels c) ≤ 1 → Rates labels c s 2 (counted labels c s)
+  once : {s : Traversal} → ¬ HasEntry labels s c → count_of (counted labels c s) (label_at labels c) ≤ 1 →
+      Rates labels c s 2 (counted labels c s)
 
 -- a corner is pushed with a rate: it goes on the stack of this number, and best becomes the rate where that is less
 abbrev pub pushed : ℕ → Side → Traversal → Traversal
@@ -125,7 +128,8 @@ pub data Leads (faces : ℕ) (g : Gluing) (labels : List ℕ) : ℕ → Step →
       IsVisited s (to_right g c) → k ≤ t.best → Leads faces g labels f (in_hand d) t q → Leads faces g labels f (left c) s q
   -- Otherwise push it with its rate.
   puts_left : {f k : ℕ} {c d : Side} {s t q : Traversal} → to_left g c ≡ Some d → ¬ Contains s.visited d.face → Rates labels d s k t →
-      (¬ IsVisited s (to_right g c)) ⊎ (t.best < k) → Leads faces g labels f (right c) (pushed k d t) q → Leads faces g labels f (left c) s q
+      (¬ IsVisited s (to_right g c)) ⊎ (t.best < k) → Leads faces g labels f (right c) (pushed k d t) q →
+      Leads faces g labels f (left c) s q
   -- 5. Where the right face is unvisited, rate the corner to the right.
   no_right : {f : ℕ} {c : Side} {s q : Traversal} → IsVisited s (to_right g c) → Leads faces g labels f next_corner s q →
       Leads faces g labels f (right c) s q
