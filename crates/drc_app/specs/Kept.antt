@@ -1,4 +1,4 @@
--- What encoding keeps: the stream that was written means the geometry that was read (this project's choice).
+-- What a command keeps: what was written means the geometry that was read (this project's choice).
 use Rattle.std.specs.Prelude.{◌≡◌, ◌↔◌, ◌++◌, ℕ, Bool, List, drop, Ok, IsOkAnd}
 use Rattle.mesh_model.specs.declared.geometries.Geometry.{Geometry}
 use Rattle.mesh_model.specs.Same.{Rows, Same}
@@ -11,6 +11,7 @@ use Rattle.drc_container.specs.writing.Layout.{layout_of, layout_chosen}
 use Rattle.drc_container.specs.reading.Meaning.{Meaning}
 use Rattle.drc_container.specs.reading.Stream.{stream, meaning_of}
 use Rattle.drc_recode.specs.Restored.{MeansInOrder}
+use Rattle.kd_points.specs.Meaning.{kd_meaning}
 use Rattle.kd_points.specs.Rows.{KdMeans}
 use Rattle.drc_verify.specs.Checked.{IsSame}
 use Rattle.drc_app.specs.Given.{Given, Written, Differs}
@@ -37,6 +38,10 @@ pub record IsKdCoded (bytes note : List ℕ) (g : Geometry) : Type 0 where
   pub means : (more : List ℕ) → KdMeans g (bytes ++ more) rows
   pub map : note ≡ map_text_of g rows
 
+-- the text means exactly the geometry
+abbrev pub IsReadAs : List ℕ → Geometry → Type 0
+IsReadAs text g = ply_read text ≡ Ok g
+
 -- what is given is a yes, and no verdict
 abbrev pub IsYes : Given → Type 0
 IsYes (Written answer) = Unit {0}
@@ -48,12 +53,15 @@ SaysWhetherSame surface input given = IsOkAnd (parts_of input) (λ parts. (g : G
     → ply_read parts.text ≡ Ok g → stream parts.stream ≡ Ok n
     → IsYes given ↔ IsSame surface parts.map.cloud parts.map.rows.rows g n)
 
--- what a command keeps of its input: encoding keeps the geometry that the text, or the stream, means; restoring gives the first order back;
--- verifying says whether all is the same; and a kd-tree file keeps the cloud that the text means
+-- what a command keeps of its input: encoding keeps the geometry that the text, or the stream, means; the text of a stream, or of a kd-tree
+-- file, is read as what that means; restoring gives the first order back; verifying says whether all is the same; and a kd-tree file keeps
+-- the cloud that the text means
 abbrev pub KeepsGeometry : Command → List ℕ → Given → Type 0
 KeepsGeometry (command.Enc choice) input (Written answer) = IsOkAnd (ply_read input) (IsCoded choice answer.0 answer.1)
 KeepsGeometry (command.Recode choice) input (Written answer) = IsOkAnd (meaning_of input) (IsCoded choice answer.0 answer.1)
+KeepsGeometry command.Dec input (Written answer) = IsOkAnd (meaning_of input) (IsReadAs answer.0)
 KeepsGeometry command.Restore input (Written answer) = IsInOrder input answer.0
 KeepsGeometry (command.Verify surface) input given = SaysWhetherSame surface input given
 KeepsGeometry command.KdEnc input (Written answer) = IsOkAnd (ply_read input) (IsKdCoded answer.0 answer.1)
+KeepsGeometry command.KdDec input (Written answer) = IsOkAnd (kd_meaning input) (IsReadAs answer.0)
 KeepsGeometry c input given = Unit {0}

@@ -6,7 +6,7 @@ ghost use Rattle.mesh_model.specs.MapText.{map_words};
 ghost use Rattle.ply_mesh.specs.Read.{ply_read};
 ghost use Rattle.kd_points.specs.Meaning.{kd_meaning};
 ghost use Rattle.drc_app.specs.Due.{kd_coded_due, text_kd_due, kd_text_due};
-ghost use Rattle.drc_app.specs.Kept.{IsKdCoded};
+ghost use Rattle.drc_app.specs.Kept.{IsKdCoded, IsReadAs};
 ghost use Rattle.drc_app.specs.Outcome.{output_bytes, due_bytes};
 
 use crate::outcomes::{Due, Output, text_read};
@@ -65,10 +65,12 @@ fn kd_coded_due(alloc: Global, geometry: Geometry) -> Result<Due, Refusal>
     })
 }
 
-/// The text of the cloud that a kd-tree file means, and no note. The file is freed before the text is made.
+/// The text of the cloud that a kd-tree file means, which is read as that cloud, and no note. The file is freed before the
+/// text is made.
 #[tactic(auto, unfolding(crate::specs::Due::kd_text_due))]
 pub fn kd_text_due(alloc: Global, file: Vec<u8>) -> Result<Due, Refusal>
-    ensures { Answers due_bytes (kd_text_due file.items) result }
+    ensures answer { Answers due_bytes (kd_text_due file.items) result }
+    ensures kept { IfOk result (λ d. IsOkAnd (kd_meaning file.items) (IsReadAs (output_bytes d.output))) }
 {
     let geometry = kd_file_read(alloc, file)?;
     let text = PlyText::new(alloc, geometry)?;

@@ -9,7 +9,7 @@ ghost use Rattle.drc_app.specs.Line.{IsSized};
 ghost use Rattle.drc_app.specs.Progress.{line_of};
 ghost use Rattle.drc_app.specs.Ends.{takes};
 ghost use Rattle.drc_app.specs.Due.{input_limit, reads, command_due, worked, coded_due, stream_due, recoded_due, text_due, report_due, summary_due};
-ghost use Rattle.drc_app.specs.Kept.{KeepsGeometry, IsCoded};
+ghost use Rattle.drc_app.specs.Kept.{KeepsGeometry, IsCoded, IsReadAs};
 ghost use Rattle.drc_app.specs.Outcome.{output_bytes, due_bytes, seen, MayAnswer, IsOutcome, IsOutcomeAt};
 
 use crate::command_lines::command_of;
@@ -171,10 +171,11 @@ pub fn text_read(alloc: Global, text: Vec<u8>) -> Result<Geometry, Refusal>
     read_ply(alloc, &text)
 }
 
-/// The text of the geometry that a stream means, and no note.
+/// The text of the geometry that a stream means, which is read as that geometry, and no note.
 #[tactic(auto, unfolding(crate::specs::Due::text_due))]
 fn text_due(alloc: Global, stream: Vec<u8>) -> Result<Due, Refusal>
-    ensures { Answers due_bytes (text_due stream.items) result }
+    ensures answer { Answers due_bytes (text_due stream.items) result }
+    ensures kept { IfOk result (λ d. IsOkAnd (meaning_of stream.items) (IsReadAs (output_bytes d.output))) }
 {
     let geometry = stream_read(alloc, stream)?;
     let text = PlyText::new(alloc, geometry)?;
