@@ -27,7 +27,8 @@ use Rattle.eb_rebuild.proofs.RowsOnce.{sound}
 use Rattle.eb_rebuild.proofs.Closes.{finish_keeps_state}
 use Rattle.eb_valence.specs.declared.context_lists.TheConstants.{CONTEXTS}
 use Rattle.eb_valence.specs.Contexts.{symbol_at}
-use Rattle.eb_section.specs.Opening.{traversal_at, opening_at, plan_of, declared_faces}
+use Rattle.eb_section.specs.Opening.{traversal_at, opening_at, plan_of}
+use Rattle.eb_section.specs.Calls.{declared_faces}
 use Rattle.eb_section.specs.Events.{events_at}
 use Rattle.eb_section.specs.Feeding.{Source, standard, fed, rebuilt}
 use Rattle.eb_section.specs.Connectivity.{Connectivity, section_of, standard_at, list_at, standard_behind, valence_behind, behind_at, connectivity_at}
