@@ -11,12 +11,13 @@ use Rattle.seq_section.specs.Indices.{indices_at, indices_bytes, IsFaceBelow}
 
 -- the indices of faces beside so many points, packed or each by itself: the faces, and how many points there are
 abbrev pub IndicesAreRead : Type 0
-IndicesAreRead = (packed : Bool) (faces : List (List ℕ)) (points : ℕ) → length faces ≤ MAX_FACES → points ≤ MAX_POINTS → All (IsFaceBelow points) faces
-    → Spells (indices_at profile) (indices_bytes packed faces points) (record { faces = faces; points = points })
+IndicesAreRead = (packed : Bool) (faces : List (List ℕ)) (points : ℕ) → length faces ≤ MAX_FACES → points ≤ MAX_POINTS
+    → All (IsFaceBelow points) faces → Spells (indices_at profile) (indices_bytes packed faces points) (record { faces = faces; points = points })
 
 -- the section of a trace of so many faces, with lists of seam bits, by either traversal: what the machine builds of the trace, and blocks
 -- that begin with these bits
 abbrev pub ConnectivityIsRead : Type 0
-ConnectivityIsRead = (valence : Bool) (faces : ℕ) (t : Traced) (seams : List (List Bool)) → IsWritable faces t.vertices t.symbols t.events t.starts
-    → faces ≤ MAX_FACES → t.vertices ≤ MAX_POINTS → length seams ≤ MAX_ATTRIBUTES → All (λ bits. length bits < 2 ^ 31) seams
+ConnectivityIsRead = (valence : Bool) (faces : ℕ) (t : Traced) (seams : List (List Bool))
+    → IsWritable faces t.vertices t.symbols t.events t.starts → faces ≤ MAX_FACES → t.vertices ≤ MAX_POINTS
+    → length seams ≤ MAX_ATTRIBUTES → All (λ bits. length bits < 2 ^ 31) seams
     → IsReadAgain valence faces t seams (connectivity_bytes valence faces t seams)

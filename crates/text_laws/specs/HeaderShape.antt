@@ -158,7 +158,8 @@ AreQuantLines k comps (Some q) lines = (line : Line) × (lines ≡ line ∷ []) 
 -- that is quantised, and no other; and each quant line stands somewhere behind the attr line of its head
 pub record Describe (heads : List PlyHead) (lines : List Line) : Type 0 where
   pub attrs : AreAttrLines 0 heads (filter is_attr lines)
-  pub quants : (k : ℕ) (head : PlyHead) → slice_get heads k ≡ Some head → AreQuantLines k head.comps head.quant (filter (is_quant_of k) lines)
+  pub quants : (k : ℕ) (head : PlyHead) → slice_get heads k ≡ Some head
+      → AreQuantLines k head.comps head.quant (filter (is_quant_of k) lines)
   pub behind : (before after : List Line) (line : Line) → lines ≡ before ++ line ∷ after → IsTrue (is_quant line) →
       (k : ℕ) × IsTrue (is_quant_of k line) × (k < length (filter is_attr before))
 

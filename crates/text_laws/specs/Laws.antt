@@ -22,7 +22,8 @@ TextHeadersAreShapes = (text : List ℕ) (h : Header) → (header_of text ≡ Ok
 
 -- the heads that names give are those of the pieces of the properties
 abbrev pub NamesAreShapes : Type 0
-NamesAreShapes = (properties : List PropertyParts) (heads : List PlyHead) → (heads ≡ named_heads 0 0 properties) ↔ NamesGive 0 properties heads
+NamesAreShapes = (properties : List PropertyParts) (heads : List PlyHead)
+    → (heads ≡ named_heads 0 0 properties) ↔ NamesGive 0 properties heads
 
 -- a text means a geometry exactly where its lines have the shape of a text, and it is what they say
 abbrev pub TextsAreShapes : Type 0

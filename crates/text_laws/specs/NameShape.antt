@@ -39,4 +39,5 @@ IsNamedHead k piece rest head = IsRowHead k piece rest head ⊎ IsPlainHead k pi
 -- the properties are pieces in a row, which give the heads from number k on
 abbrev pub NamesGive : ℕ → List PropertyParts → List PlyHead → Type 0
 NamesGive k properties [] = properties ≡ []
-NamesGive k properties (head ∷ heads) = (piece : List PropertyParts) × (rest : List PropertyParts) × (properties ≡ piece ++ rest) × IsNamedHead k piece rest head × NamesGive (k + 1) rest heads
+NamesGive k properties (head ∷ heads) = (piece : List PropertyParts) × (rest : List PropertyParts)
+    × (properties ≡ piece ++ rest) × IsNamedHead k piece rest head × NamesGive (k + 1) rest heads
