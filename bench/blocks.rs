@@ -149,6 +149,42 @@ struct Coded<'a> {
     number: u32,
 }
 
+/// Coded symbols, which are taken one after another.
+#[allow(dead_code)]
+pub struct Taken<'a> {
+    coded: Coded<'a>,
+    bits: u32,
+    number: u32,
+    left: usize,
+}
+
+#[allow(dead_code)]
+impl<'a> Taken<'a> {
+    /// Opens a block of symbols at the place `at`, which goes on behind it.
+    pub fn open(bytes: &'a [u8], at: &mut usize) -> Option<Taken<'a>> {
+        if get(bytes, at)? != 1 {
+            return None;
+        }
+        let bits = (3 * u32::from(get(bytes, at)?) / 2).clamp(12, 20);
+        let coded = read_coded(bytes, at, bits)?;
+        Some(Taken { bits, number: coded.number, left: coded.bytes.len(), coded })
+    }
+
+    /// The next symbol.
+    #[inline(always)]
+    pub fn next(&mut self) -> u32 {
+        let base = 4u32 << self.bits;
+        while self.number < base && self.left > 0 {
+            self.left -= 1;
+            self.number = self.number << 8 | u32::from(self.coded.bytes[self.left]);
+        }
+        let slot = self.number & ((1 << self.bits) - 1);
+        let s = self.coded.slots[slot as usize];
+        self.number = (self.number >> self.bits) * self.coded.probs[s as usize] + slot - self.coded.cums[s as usize];
+        s
+    }
+}
+
 fn read_coded<'a>(bytes: &'a [u8], at: &mut usize, bits: u32) -> Option<Coded<'a>> {
     let n = get_varint(bytes, at)? as usize;
     let mut probs: Vec<u32> = Vec::new();

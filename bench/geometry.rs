@@ -1,7 +1,7 @@
 //! Comparing and assembling a mesh in good safe Rust, beside the proved program of `geometry.txt`: a grid of
-//! 525,625 points and 1,048,352 faces, the same grid with its faces in reverse and turned, and tables of two
-//! attributes over its corners. The attributes and the width of a row are known only as the program runs. Writes
-//! `grid.ply` and `turned.ply` for both.
+//! 525,625 points and 1,048,352 faces, the same grid with its faces in reverse and turned, and an attribute over its
+//! corners, whose rows are all different (`assembled`) or not (`merged`). The attributes and the width of a row are
+//! known only as the program runs. Writes `grid.ply` and `turned.ply` for both.
 mod grids;
 
 use std::hint::black_box;
@@ -24,18 +24,12 @@ impl Mesh {
     }
 }
 
-/// The values of one attribute, `comps` to an entry, and the number of each corner's entry.
-struct Table {
-    comps: usize,
-    values: Vec<i32>,
+/// Attributes whose values stand at the same vertices: the vertex of each corner, the entry of each vertex, and of
+/// each attribute its components and the values, entry after entry.
+struct Group {
     of_corner: Vec<u32>,
-}
-
-impl Table {
-    fn entry(&self, corner: usize) -> &[i32] {
-        let start = self.of_corner[corner] as usize * self.comps;
-        &self.values[start..start + self.comps]
-    }
+    entry_of: Vec<u32>,
+    values: Vec<(usize, Vec<i32>)>,
 }
 
 fn grid() -> Mesh {
@@ -95,67 +89,124 @@ fn hash(row: &[i32]) -> u32 {
     hash ^ (hash >> 15)
 }
 
-/// Of each corner the latest one before it with the same entry of the first table, where the entries of the other
-/// tables are the same too.
-fn earlier(tables: &[Table], corners: usize) -> Vec<u32> {
-    let (first, others) = tables.split_first().unwrap();
-    let mut latest = vec![NONE; first.values.len() / first.comps];
-    let mut earlier = Vec::with_capacity(corners);
-    for corner in 0..corners {
-        let kept = &mut latest[first.of_corner[corner] as usize];
-        let same = |table: &Table| table.of_corner[*kept as usize] == table.of_corner[corner];
-        earlier.push(if *kept != NONE && others.iter().all(same) { *kept } else { NONE });
-        *kept = corner as u32;
-    }
-    earlier
+/// Puts a number into a set of bits, and answers whether it was there.
+fn put(words: &mut [u64], number: u32) -> bool {
+    let word = &mut words[(number / 64) as usize];
+    let was = *word >> (number % 64) & 1 == 1;
+    *word |= 1 << (number % 64);
+    was
 }
 
-/// The distinct rows of the corners, in order of first occurrence, and each corner's number. The row of a corner
-/// has the entries of all tables. A corner with the entries of an earlier one has its number; other rows are found
-/// by a hash, in lists of those with one hash.
+/// The rows that may be equal to others: those whose hash has its bit set by an earlier one, and those like them by
+/// another part of the hash.
+fn chosen(width: usize, cells: &[i32]) -> Vec<u32> {
+    let count = cells.len() / width;
+    let mut words = vec![0u64; (count / 4 + 1).next_power_of_two()];
+    let mask = (64 * words.len() - 1) as u32;
+    let rows = || cells.chunks_exact(width).enumerate();
+    let kept: Vec<u32> = rows()
+        .filter_map(|(i, row)| put(&mut words, hash(row) & mask).then_some(i as u32))
+        .collect();
+    if kept.is_empty() {
+        return kept;
+    }
+    let size = kept.len().next_power_of_two().min(words.len());
+    words[..size].fill(0);
+    let mask = (64 * size - 1) as u32;
+    let sieve = |row: &[i32]| hash(row).rotate_left(16) & mask;
+    for i in kept {
+        put(&mut words, sieve(&cells[i as usize * width..][..width]));
+    }
+    rows()
+        .filter(|(_, row)| {
+            let number = sieve(row);
+            words[(number / 64) as usize] >> (number % 64) & 1 == 1
+        })
+        .map(|(i, _)| i as u32)
+        .collect()
+}
+
+/// Of each row the latest earlier one that equals it, where any has one.
+fn twins(width: usize, cells: &[i32]) -> Option<Vec<u32>> {
+    let chosen = chosen(width, cells);
+    let row = |i: u32| &cells[i as usize * width..][..width];
+    let mut tops = vec![NONE; (chosen.len() + 1).next_power_of_two()];
+    let mask = tops.len() as u32 - 1;
+    let mut twins: Option<Vec<u32>> = None;
+    let mut links = Vec::with_capacity(chosen.len());
+    for (at, i) in chosen.iter().enumerate() {
+        let bucket = (hash(row(*i)) & mask) as usize;
+        let mut link: u32 = tops[bucket];
+        links.push(link);
+        tops[bucket] = at as u32;
+        while link != NONE && row(chosen[link as usize]) != row(*i) {
+            link = links[link as usize];
+        }
+        if link != NONE {
+            twins.get_or_insert_with(|| vec![NONE; cells.len() / width])[*i as usize] = chosen[link as usize];
+        }
+    }
+    twins
+}
+
+/// The distinct rows of the corners, in order of first occurrence, and each corner's number. The vertices are numbered
+/// as they come first, so that they are the points where no two rows are equal.
 #[inline(never)]
-fn assemble(tables: &[Table], face_count: usize) -> Mesh {
-    let width = tables.iter().map(|table| table.comps).sum();
-    let mut heads = vec![NONE; (3 * face_count / 4 + 1).next_power_of_two()];
-    let mask = heads.len() as u32 - 1;
-    let mut nexts: Vec<u32> = Vec::new();
-    let mut points: Vec<i32> = Vec::new();
-    let mut numbers = earlier(tables, 3 * face_count);
-    let mut row = Vec::with_capacity(width);
-    for corner in 0..3 * face_count {
-        if numbers[corner] != NONE {
-            numbers[corner] = numbers[numbers[corner] as usize];
+fn assemble(group: &Group, face_count: usize) -> Mesh {
+    let width = group.values.iter().map(|(comps, _)| comps).sum();
+    let mut count = 0;
+    let mut faces: Vec<[u32; 3]> = Vec::with_capacity(face_count);
+    for face in group.of_corner.chunks_exact(3) {
+        for vertex in face {
+            assert!(*vertex <= count);
+            count += u32::from(*vertex == count);
+        }
+        faces.push([face[0], face[1], face[2]]);
+    }
+    let mut cells = Vec::with_capacity(count as usize * width);
+    for entry in &group.entry_of[..count as usize] {
+        for (comps, values) in &group.values {
+            cells.extend_from_slice(&values[*entry as usize * comps..][..*comps]);
+        }
+    }
+    let Some(mut numbers) = twins(width, &cells) else {
+        return Mesh { width, points: cells, faces };
+    };
+    let mut points = Vec::with_capacity(cells.len());
+    for i in 0..numbers.len() {
+        if numbers[i] != NONE {
+            numbers[i] = numbers[numbers[i] as usize];
             continue;
         }
-        row.clear();
-        for table in tables {
-            row.extend_from_slice(table.entry(corner));
-        }
-        let bucket = (hash(&row) & mask) as usize;
-        let mut at = heads[bucket];
-        while at != NONE && points[at as usize * width..][..width] != row {
-            at = nexts[at as usize];
-        }
-        if at == NONE {
-            at = nexts.len() as u32;
-            points.extend_from_slice(&row);
-            nexts.push(heads[bucket]);
-            heads[bucket] = at;
-        }
-        numbers[corner] = at;
+        numbers[i] = (points.len() / width) as u32;
+        points.extend_from_slice(&cells[i * width..][..width]);
     }
-    let faces = numbers.chunks_exact(3).map(|face| [face[0], face[1], face[2]]).collect();
+    for face in &mut faces {
+        *face = face.map(|vertex| numbers[vertex as usize]);
+    }
     Mesh { width, points, faces }
 }
 
-/// A table of one attribute, with as many entries as the mesh has points.
-fn table(mesh: &Mesh, comps: usize) -> Table {
+/// An attribute of the grid, with the points as vertices, numbered as they come first, and the entries in reverse.
+fn group(mesh: &Mesh, some_equal: bool) -> Group {
     let count = mesh.points.len() / mesh.width;
-    Table {
-        comps: black_box(comps),
-        values: (0..(count * comps) as i32).map(|i| i % 0x10_0000).collect(),
-        of_corner: mesh.faces.iter().flatten().copied().collect(),
-    }
+    let mut names = vec![NONE; count];
+    let mut next = 0;
+    let of_corner = mesh.faces.iter().flatten().map(|point| {
+        let name = &mut names[*point as usize];
+        if *name == NONE {
+            *name = next;
+            next += 1;
+        }
+        *name
+    });
+    let of_corner = of_corner.collect();
+    let values = (0..count).flat_map(|entry| {
+        let place = if some_equal && entry % 150_000 == 7 { 7 } else { entry };
+        [place % SIDE, place / SIDE, place % 1021].map(|value| value as i32)
+    });
+    let values = vec![(black_box(3), values.collect())];
+    Group { of_corner, entry_of: (0..count as u32).rev().collect(), values }
 }
 
 fn main() {
@@ -170,10 +221,12 @@ fn main() {
         let same = matches(&mesh, &other, &rows);
         let picos = start.elapsed().as_nanos() * 1000 / count as u128;
         println!("matched {picos} ps an item, sum {}", u32::from(same));
-        let tables = [table(&mesh, 3), table(&mesh, 1)];
-        let start = Instant::now();
-        let assembled = assemble(&tables, count);
-        let picos = start.elapsed().as_nanos() * 1000 / count as u128;
-        println!("assembled {picos} ps an item, sum {}", assembled.points.len() / assembled.width);
+        for (part, some_equal) in [("assembled", false), ("merged", true)] {
+            let group = group(&mesh, some_equal);
+            let start = Instant::now();
+            let assembled = assemble(&group, count);
+            let picos = start.elapsed().as_nanos() * 1000 / count as u128;
+            println!("{part} {picos} ps an item, sum {}", assembled.points.len() / assembled.width);
+        }
     }
 }

@@ -41,11 +41,14 @@ fn fan() -> Vec<[u32; 3]> {
     (0..FAN).map(|f| [0, f + 1, (f + 1) % FAN + 1]).collect()
 }
 
-/// A surface, and an order over it.
+/// A surface, and an order over it, with the face across from each entry; `across` of it is `NONE` where there is no such
+/// face whose entries come before.
 struct Surface {
     across: Vec<u32>,
     corners: Vec<u32>,
-    entries: Vec<u32>,
+    labels: Vec<u32>,
+    entry_of_class: Vec<u32>,
+    faces: Vec<Face>,
 }
 
 fn surface(faces: &[[u32; 3]]) -> Surface {
@@ -64,15 +67,24 @@ fn surface(faces: &[[u32; 3]]) -> Surface {
     }
     let mut of_point = std::collections::HashMap::new();
     let mut corners = Vec::new();
-    let mut entries = Vec::new();
+    let mut labels = Vec::new();
     for corner in 0..across.len() as u32 {
         let entry = *of_point.entry(faces[corner as usize / 3][corner as usize % 3]).or_insert(corners.len() as u32);
         if entry as usize == corners.len() {
             corners.push(corner);
         }
-        entries.push(entry);
+        labels.push(entry);
     }
-    Surface { across, corners, entries }
+    let entry_of_class = (0..corners.len() as u32).collect();
+    let mut surface = Surface { across, corners, labels, entry_of_class, faces: Vec::new() };
+    let none = Face { across: NONE, after: NONE, before: NONE };
+    surface.faces = surface
+        .corners
+        .iter()
+        .enumerate()
+        .map(|(e, corner)| surface.at_corner(e as u32, *corner).unwrap_or(none))
+        .collect();
+    surface
 }
 
 #[derive(Clone, Copy, Default)]
@@ -88,12 +100,13 @@ impl Surface {
         if side == NONE {
             return None;
         }
-        let across = self.entries[side as usize];
+        let entry = |corner: u32| self.entry_of_class[self.labels[corner as usize] as usize];
+        let across = entry(side);
         if across >= e {
             return None;
         }
-        let after = self.entries[next(side) as usize];
-        let before = self.entries[previous(side) as usize];
+        let after = entry(next(side));
+        let before = entry(previous(side));
         (after < e && before < e).then_some(Face { across, after, before })
     }
 
@@ -191,20 +204,22 @@ fn correct_entry(v: &[i32], comps: usize, e: usize, faces: &[Face], out: &mut [i
 }
 
 fn restore_parallelogram(s: &Surface, comps: usize, v: &mut [i32]) {
-    for e in 0..s.corners.len() {
-        match s.at_corner(e as u32, s.corners[e]) {
-            None => restore_entry(v, comps, e, &[]),
-            Some(face) => restore_entry(v, comps, e, &[face]),
+    for (e, face) in s.faces.iter().enumerate() {
+        if face.across == NONE {
+            restore_entry(v, comps, e, &[]);
+        } else {
+            restore_entry(v, comps, e, &[*face]);
         }
     }
 }
 
 fn correct_parallelogram(s: &Surface, comps: usize, v: &[i32]) -> Vec<i32> {
     let mut out = vec![0; v.len()];
-    for e in 0..s.corners.len() {
-        match s.at_corner(e as u32, s.corners[e]) {
-            None => correct_entry(v, comps, e, &[], &mut out),
-            Some(face) => correct_entry(v, comps, e, &[face], &mut out),
+    for (e, face) in s.faces.iter().enumerate() {
+        if face.across == NONE {
+            correct_entry(v, comps, e, &[], &mut out);
+        } else {
+            correct_entry(v, comps, e, &[*face], &mut out);
         }
     }
     out

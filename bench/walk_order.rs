@@ -100,12 +100,23 @@ const NEW: u32 = u32::MAX;
 /// Kept for a class without an entry that meets a boundary.
 const NEW_AT_END: u32 = u32::MAX - 1;
 
+/// The entries of the face across from an entry; of none where there is no such face.
+#[derive(Clone, Copy)]
+struct Face {
+    across: u32,
+    after: u32,
+    before: u32,
+}
+
+const NO_FACE: Face = Face { across: NONE, after: NONE, before: NONE };
+
 struct Marks<'a> {
     across: &'a [u32],
     labels: &'a [u32],
     visited: Vec<bool>,
-    entries: Vec<(u32, u8)>,
+    entries: Vec<u32>,
     entry_of_class: Vec<u32>,
+    faces: Vec<Face>,
 }
 
 impl Marks<'_> {
@@ -116,7 +127,19 @@ impl Marks<'_> {
             visited: vec![false; across.len() / 3],
             entries: Vec::with_capacity(ends.len()),
             entry_of_class: ends.iter().map(|end| if *end { NEW_AT_END } else { NEW }).collect(),
+            faces: Vec::with_capacity(ends.len()),
         }
+    }
+
+    /// The face across the side of a corner, where there is one whose classes all have entries.
+    fn face_across(&self, corner: u32) -> Face {
+        let found = self.across[corner as usize];
+        if found == NONE {
+            return NO_FACE;
+        }
+        let entry = |corner: u32| self.entry_of_class[self.labels[corner as usize] as usize];
+        let (across, after, before) = (entry(found), entry(next(found)), entry(previous(found)));
+        if across.max(after).max(before) < NEW_AT_END { Face { across, after, before } } else { NO_FACE }
     }
 
     /// A corner becomes the next entry, if its class is new; what was kept for the class.
@@ -124,8 +147,10 @@ impl Marks<'_> {
         let class = self.labels[corner as usize] as usize;
         let kept = self.entry_of_class[class];
         if kept >= NEW_AT_END {
+            let face = self.face_across(corner);
             self.entry_of_class[class] = self.entries.len() as u32;
-            self.entries.push((corner / 3, (corner % 3) as u8));
+            self.entries.push(corner);
+            self.faces.push(face);
         }
         kept
     }
@@ -141,14 +166,14 @@ impl Marks<'_> {
     }
 
     fn order(self) -> Order {
-        let entry_of_corner = self.labels.iter().map(|class| self.entry_of_class[*class as usize]).collect();
-        Order { corner_of_entry: self.entries, entry_of_corner }
+        Order { corner_of_entry: self.entries, entry_of_class: self.entry_of_class, faces_across: self.faces }
     }
 }
 
 struct Order {
-    corner_of_entry: Vec<(u32, u8)>,
-    entry_of_corner: Vec<u32>,
+    corner_of_entry: Vec<u32>,
+    entry_of_class: Vec<u32>,
+    faces_across: Vec<Face>,
 }
 
 fn depth_first(across: &[u32], labels: &[u32], ends: &[bool]) -> Order {
@@ -271,15 +296,18 @@ fn prediction_degree(across: &[u32], labels: &[u32], ends: &[bool]) -> Order {
     ranks.marks.order()
 }
 
-/// A number that distinguishes orders, by some of their corners and entries.
+/// A number that distinguishes orders, by some of their corners, entries and faces.
 fn sum(order: &Order) -> u32 {
     let mut sum = 0u32;
     for i in 0..500 {
-        if let Some((face, _)) = order.corner_of_entry.get(500 * i) {
-            sum = sum.wrapping_mul(31).wrapping_add(*face);
+        if let Some(corner) = order.corner_of_entry.get(500 * i) {
+            sum = sum.wrapping_mul(31).wrapping_add(*corner);
         }
-        if let Some(entry) = order.entry_of_corner.get(3000 * i) {
+        if let Some(entry) = order.entry_of_class.get(500 * i) {
             sum = sum.wrapping_mul(31).wrapping_add(*entry);
+        }
+        if let Some(face) = order.faces_across.get(500 * i) {
+            sum = sum.wrapping_mul(31).wrapping_add(face.across ^ face.after ^ face.before);
         }
     }
     sum

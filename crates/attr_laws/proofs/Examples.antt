@@ -6,7 +6,7 @@ use Rattle.std.proofs.lemmas.List.Elements.{All-nil, All-cons}
 use Rattle.drc_base.specs.declared.limits.TheConstants.{MAX_VALUES}
 use Rattle.drc_bits.specs.Spells.{Spells}
 use Rattle.drc_bits.specs.Varint.{spelling}
-use Rattle.predict.specs.Walked.{Walked}
+use Rattle.corner_table.specs.Ordered.{Ordered}
 use Rattle.predict.specs.Restored.{corrections_behind}
 use Rattle.attr_section.specs.declared.decoder_heads.DecoderHead.{DecoderHead}
 use Rattle.attr_section.specs.declared.values.Values.{Values}
@@ -90,7 +90,7 @@ within true many = lit≤ tt
 within false many = lit≤ tt
 
 -- by parallelograms they are read over any such surface whose flags are few
-surface-again : (plain closed many : Bool) (w : Walked) → length w.corners ≡ 4 → HasFewFlags w → (place : ℕ) (rest : List ℕ)
+surface-again : (plain closed many : Bool) (w : Ordered) → length w.corners ≡ 4 → HasFewFlags w → (place : ℕ) (rest : List ℕ)
     → decoder_values_at profile (Some w) (bare_decoder surface_decoder) (length w.corners) 0
     (record { place = place; rest = decoder_values_bytes plain (Some w) surface_decoder.heads (surface_positions closed many ∷ []) ++ rest })
     ≡ Ok (

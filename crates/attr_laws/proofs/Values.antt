@@ -9,7 +9,7 @@ use Rattle.predict.specs.declared.schemes.Prediction.{Prediction}
 use Rattle.predict.specs.Schemes.{facts}
 use Rattle.predict.specs.Wrap.{Range}
 use Rattle.predict.specs.Restored.{corrections}
-use Rattle.predict.specs.Walked.{Walked}
+use Rattle.corner_table.specs.Ordered.{Ordered}
 use Rattle.predict.specs.Surfaces.{surface_or}
 use Rattle.predict.specs.Foretold.{foretold, marks_of}
 use Rattle.predict.proofs.Foretold.{length-marks, marks_enough}
@@ -25,11 +25,11 @@ use Rattle.attr_laws.proofs.Fitting.{fit_typed, fit_ends, fit_corrections}
 use Rattle.attr_laws.proofs.Parts.{flags_read, integers_read, ranges_read}
 
 -- values by a prediction that corrects
-corrected_read : (plain : Bool) (w : Option Walked) (q : Prediction) (comps : ℕ) (values : List ℤ) → (facts q).corrects ≡ true
+corrected_read : (plain : Bool) (w : Option Ordered) (q : Prediction) (comps : ℕ) (values : List ℤ) → (facts q).corrects ≡ true
     → 0 < comps → length values % comps ≡ 0 → length values ≤ MAX_VALUES → All (FitsSigned w32) values → CanPredict w comps values q → HasFewFlags (surface_or w) → (at : ℕ)
     → Spells (corrected_at at (surface_or w) q comps (length values)) (corrected_bytes plain (surface_or w) q comps values) values
 corrected_read plain w q comps values corrects some whole few fit can few_flags at =
-    let s : Walked = surface_or w in
+    let s : Ordered = surface_or w in
     let r : Range = range_of values in
     let lists : List (List Bool) = marks_of q s comps values in
     let f : List ℤ → ℤ = foretold q s comps lists in
@@ -44,7 +44,7 @@ corrected_read plain w q comps values corrects some whole few fit can few_flags 
     (ranges_read r wraps (fit_ends values fit)) (marks_enough q s comps values) (restored-corrections f r values wraps within fit)
 
 -- values by any prediction
-predicted_read : (plain : Bool) (w : Option Walked) (q : Prediction) (comps : ℕ) (values : List ℤ)
+predicted_read : (plain : Bool) (w : Option Ordered) (q : Prediction) (comps : ℕ) (values : List ℤ)
     → 0 < comps → length values % comps ≡ 0 → length values ≤ MAX_VALUES → All (FitsSigned w32) values → CanPredict w comps values q → PredictedSpelled plain w q comps values
 predicted_read plain w q comps values some whole few fit can = elim (cases_Bool (facts q).corrects) [
   | inl corrects ↦ record {

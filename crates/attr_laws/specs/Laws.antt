@@ -6,7 +6,7 @@ use Rattle.drc_base.specs.declared.limits.TheConstants.{MAX_VALUES}
 use Rattle.drc_bits.specs.Spells.{Spells}
 use Rattle.mesh_model.specs.declared.heads.Head.{Head}
 use Rattle.predict.specs.Wrap.{Range, CanWrap, HasEnds}
-use Rattle.predict.specs.Walked.{Walked}
+use Rattle.corner_table.specs.Ordered.{Ordered}
 use Rattle.attr_section.specs.declared.decoder_heads.DecoderHead.{DecoderHead}
 use Rattle.attr_section.specs.declared.values.Values.{Values}
 use Rattle.attr_section.specs.Heads.{heads_at, heads_bytes, bare_head, bare_decoder, DecodersPass, AreAcceptedLinks}
@@ -35,7 +35,7 @@ RangesAreRead = (r : Range) → CanWrap r → HasEnds r → Spells range_at (ran
 
 -- the values of an attribute, by any prediction that they may have, wherever they begin
 abbrev pub ValuesAreRead : Type 0
-ValuesAreRead = (plain : Bool) (w : Option Walked) (h : Head) (v : Values) → ValuesPass w h v → ValuesSpelled plain w h v
+ValuesAreRead = (plain : Bool) (w : Option Ordered) (h : Head) (v : Values) → ValuesPass w h v → ValuesSpelled plain w h v
 
 -- the quantisation of a head
 abbrev pub QuantsAreRead : Type 0
@@ -49,7 +49,7 @@ HeadsAreRead = (attr_data : Option ℕ) (decoders : List DecoderHead) → Decode
 
 -- the values of a decoder and its quantisations, wherever they begin
 abbrev pub DecoderValuesAreRead : Type 0
-DecoderValuesAreRead = (plain : Bool) (w : Option Walked) (d : DecoderHead) (attributes : List Values)
+DecoderValuesAreRead = (plain : Bool) (w : Option Ordered) (d : DecoderHead) (attributes : List Values)
     → DecoderValuesPass w d.heads attributes → All HeadFits d.heads → MayHaveFewFlags w → (entries spent place : ℕ) (rest : List ℕ)
     → HaveEntries entries d.heads attributes → spent + values_in attributes ≤ MAX_VALUES
     → decoder_values_at profile w (bare_decoder d) entries spent

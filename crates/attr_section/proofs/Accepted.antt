@@ -11,7 +11,7 @@ use Rattle.drc_bits.specs.Numbers.{number_at}
 use Rattle.drc_bits.proofs.Results.{Ok-injective, err≢ok}
 use Rattle.mesh_model.specs.declared.heads.Head.{Head}
 use Rattle.mesh_model.specs.Head.{in_type}
-use Rattle.predict.specs.Walked.{Walked}
+use Rattle.corner_table.specs.Ordered.{Ordered}
 use Rattle.predict.specs.declared.schemes.Prediction.{Prediction}
 use Rattle.predict.specs.declared.schemes.Prediction.TheVariants as prediction
 use Rattle.predict.specs.Schemes.{facts, code_of, prediction_of, prediction_coded}
@@ -33,7 +33,7 @@ passed true f r y is = (refl, is)
 passed false f r y is = absurd (err≢ok is)
 
 -- what the values of an attribute were read from: a prediction that the profile has, and values by it
-record Read (p : Profile) (w : Option Walked) (v : Values) : Type 0 where
+record Read (p : Profile) (w : Option Ordered) (v : Values) : Type 0 where
   prediction : Prediction
   known : nat_le (facts prediction).since p.number ≡ true
   code : code_of prediction ≡ v.predict
@@ -51,7 +51,7 @@ read_is_known p c after (Some q) y is =
     let t = passed (nat_le (facts q).since p.number) _ _ y is in
     ap (λ (z : Prediction × Reading). nat_le (facts z.0).since p.number) (sym (Ok-injective t.1)) ∙ t.0
 
-typed_read : (p : Profile) (w : Option Walked) (h : Head) (n : ℕ) (c : Reading) (y : Values × Reading) → typed_values_at p w h n c ≡ Ok y → Read p w y.0
+typed_read : (p : Profile) (w : Option Ordered) (h : Head) (n : ℕ) (c : Reading) (y : Values × Reading) → typed_values_at p w h n c ≡ Ok y → Read p w y.0
 unfolding typed_values_at prediction_at
 typed_read p w h n c y is =
     let a = parts (prediction_at p c) _ y is in
@@ -71,17 +71,17 @@ typed_read p w h n c y is =
       values = v.1;
     }
 
-read : (p : Profile) (w : Option Walked) (h : Head) (entries spent : ℕ) (c : Reading) (y : Values × Reading) → values_at p w h entries spent c ≡ Ok y → Read p w y.0
+read : (p : Profile) (w : Option Ordered) (h : Head) (entries spent : ℕ) (c : Reading) (y : Values × Reading) → values_at p w h entries spent c ≡ Ok y → Read p w y.0
 unfolding values_at
 read p w h entries spent c y is =
     let t = passed (nat_le (spent + entries * h.comps) p.values) _ _ y is in
     typed_read p w h (entries * h.comps) c y t.1
 
 -- what was read without a walk needs no surface
-without_walk : (q : Prediction) (at comps n : ℕ) (c : Reading) (y : List ℤ × Reading) → predicted_at at None q comps n c ≡ Ok y
+without_order : (q : Prediction) (at comps n : ℕ) (c : Reading) (y : List ℤ × Reading) → predicted_at at None q comps n c ≡ Ok y
     → (facts q).needs_surface ≡ false
 unfolding predicted_at
-without_walk q at comps n c y is = elim (cases_Bool (facts q).corrects) [
+without_order q at comps n c y is = elim (cases_Bool (facts q).corrects) [
   | inl corrects ↦ elim (cases_Bool (facts q).needs_surface) [
     | inl needs ↦ absurd (err≢ok (rw (corrects, needs) at is))
     | inr none ↦ none
@@ -112,7 +112,7 @@ pub accepted : PredictionsAreAccepted
 accepted = record {
   sequential = λ p h entries spent c y is.
       let r = read p None h entries spent c y is in
-      (r.prediction, sym r.code, without_walk r.prediction r.at r.comps r.count r.from r.to r.values);
+      (r.prediction, sym r.code, without_order r.prediction r.at r.comps r.count r.from r.to r.values);
   later = λ p w h entries spent c y q came is at.
       let r = read p w h entries spent c y is in
       not_later p q r.prediction came r.known (r.code ∙ at);

@@ -5,7 +5,7 @@ use Rattle.std.proofs.lemmas.Int.{ints}
 use Rattle.std.proofs.lemmas.List.Elements.{All-nil, All-cons}
 use Rattle.mesh_model.specs.Head.{in_type}
 use Rattle.predict.specs.Wrap.{CanWrap}
-use Rattle.predict.specs.Walked.{Walked}
+use Rattle.corner_table.specs.Ordered.{Ordered}
 use Rattle.predict.specs.Surfaces.{CanStand}
 use Rattle.predict.specs.declared.schemes.Prediction.TheVariants as prediction
 use Rattle.attr_section.specs.declared.values.Values.{Values}
@@ -53,14 +53,14 @@ surfaces-wrap true = record { ordered = omega (arith, ints); narrow = omega (ari
 surfaces-wrap false = record { ordered = omega (arith, ints); narrow = omega (arith, ints) }
 
 -- positions over a surface of four entries
-surface-passes : (closed many : Bool) (w : Walked) → length w.corners ≡ 4 → ValuesPass (Some w) example_head (surface_positions closed many)
+surface-passes : (closed many : Bool) (w : Ordered) → length w.corners ≡ 4 → ValuesPass (Some w) example_head (surface_positions closed many)
 unfolding in_type
 surface-passes true true w four = record { comps = lit< tt; some = lit< tt; few = lit≤ tt; whole = refl; typed = refl; predicted = (prediction.Multi, refl, record { wrap = λ _. surfaces-wrap true; stand = record { stand = λ _. ap (λ n. n * 3) (sym four) } }) }
 surface-passes true false w four = record { comps = lit< tt; some = lit< tt; few = lit≤ tt; whole = refl; typed = refl; predicted = (prediction.Parallelogram, refl, record { wrap = λ _. surfaces-wrap true; stand = record { stand = λ _. ap (λ n. n * 3) (sym four) } }) }
 surface-passes false true w four = record { comps = lit< tt; some = lit< tt; few = lit≤ tt; whole = refl; typed = refl; predicted = (prediction.Multi, refl, record { wrap = λ _. surfaces-wrap false; stand = record { stand = λ _. ap (λ n. n * 3) (sym four) } }) }
 surface-passes false false w four = record { comps = lit< tt; some = lit< tt; few = lit≤ tt; whole = refl; typed = refl; predicted = (prediction.Parallelogram, refl, record { wrap = λ _. surfaces-wrap false; stand = record { stand = λ _. ap (λ n. n * 3) (sym four) } }) }
 
-pub surface-values-pass : (closed many : Bool) (w : Walked) → length w.corners ≡ 4 → DecoderValuesPass (Some w) (example_head ∷ []) (surface_positions closed many ∷ [])
+pub surface-values-pass : (closed many : Bool) (w : Ordered) → length w.corners ≡ 4 → DecoderValuesPass (Some w) (example_head ∷ []) (surface_positions closed many ∷ [])
 surface-values-pass closed many w four = record {
   each_head = refl;
   quants = All-cons (λ h. HasQuant h h.quant) example_head [] refl (All-nil (λ h. HasQuant h h.quant));

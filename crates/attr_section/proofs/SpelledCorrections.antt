@@ -11,7 +11,7 @@ use Rattle.predict.specs.declared.schemes.Prediction.{Prediction}
 use Rattle.predict.specs.Schemes.{facts}
 use Rattle.predict.specs.Wrap.{Range}
 use Rattle.predict.specs.Restored.{restored, corrections}
-use Rattle.predict.specs.Walked.{Walked}
+use Rattle.corner_table.specs.Ordered.{Ordered}
 use Rattle.predict.specs.Surfaces.{surface_or, lacks_surface, CanStand}
 use Rattle.predict.specs.Foretold.{foretold, HasWanted}
 use Rattle.attr_section.specs.Values.{integers_at, range_at, transform_at, flag_lists_at, has_flags, with_flags, corrected_at, predicted_at}
@@ -24,7 +24,7 @@ passed : {A : Type 0} (test : Bool) (x y : A) → test ≡ true → (if test the
 passed test x y holds = rw holds refl
 
 -- the range and what the flags and the corrections restore
-Spells-restored : (at : ℕ) (w : Walked) (q : Prediction) (comps : ℕ) (lists : List (List Bool)) (r : Range) (cs values : List ℤ)
+Spells-restored : (at : ℕ) (w : Ordered) (q : Prediction) (comps : ℕ) (lists : List (List Bool)) (r : Range) (cs values : List ℤ)
     → HasWanted q w lists → restored (foretold q w comps lists) r cs ≡ values → Spells range_at (range_bytes r) r
     → Spells (λ c. range_at c >>= λ y. with_flags at w q comps lists y.0 cs y.1) (range_bytes r) values
 unfolding with_flags
@@ -37,7 +37,7 @@ Spells-restored at w q comps lists r cs values has back range = record {
 }
 
 -- values that are restored from corrections and flags
-pub Spells-flagged : (plain : Bool) (at : ℕ) (w : Walked) (q : Prediction) (comps : ℕ) (lists : List (List Bool)) (values : List ℤ)
+pub Spells-flagged : (plain : Bool) (at : ℕ) (w : Ordered) (q : Prediction) (comps : ℕ) (lists : List (List Bool)) (values : List ℤ)
     → Spells (integers_at comps (length (corrections (foretold q w comps lists) (range_of values) values))) (integers_bytes plain comps (corrections (foretold q w comps lists) (range_of values) values)) (corrections (foretold q w comps lists) (range_of values) values)
     → Spells (flag_lists_at (facts q).flag_lists w) (flat_map flags_bytes lists) lists
     → Spells range_at (range_bytes (range_of values)) (range_of values)
@@ -59,7 +59,7 @@ Spells-flagged plain at w q comps lists values integers flags range has back =
     (Spells-restored at w q comps lists r cs values has back range)))
 
 -- a prediction that can stand has the surface that it needs
-pub stands_there : (q : Prediction) (w : Option Walked) (comps n : ℕ) → CanStand q w comps n → lacks_surface q w ≡ false
+pub stands_there : (q : Prediction) (w : Option Ordered) (comps n : ℕ) → CanStand q w comps n → lacks_surface q w ≡ false
 stands_there q None comps n can = elim (cases_Bool (facts q).needs_surface) [
   | inl needs ↦ absurd (can.stand needs)
   | inr none ↦ none
@@ -67,14 +67,14 @@ stands_there q None comps n can = elim (cases_Bool (facts q).needs_surface) [
 stands_there q (Some w) comps n can = refl
 
 -- values of a prediction that corrects, and of one that doesn't
-pub Spells-corrected : (plain : Bool) (at : ℕ) (w : Option Walked) (q : Prediction) (comps : ℕ) (values : List ℤ)
+pub Spells-corrected : (plain : Bool) (at : ℕ) (w : Option Ordered) (q : Prediction) (comps : ℕ) (values : List ℤ)
     → (facts q).corrects ≡ true → lacks_surface q w ≡ false
     → Spells (corrected_at at (surface_or w) q comps (length values)) (corrected_bytes plain (surface_or w) q comps values) values
     → Spells (predicted_at at w q comps (length values)) (predicted_bytes plain w q comps values) values
 unfolding predicted_at predicted_bytes
 Spells-corrected plain at w q comps values corrects there spells = record { reads = λ place rest. rw (corrects, there) (spells.reads place rest) }
 
-pub Spells-uncorrected : (plain : Bool) (at : ℕ) (w : Option Walked) (q : Prediction) (comps : ℕ) (values : List ℤ)
+pub Spells-uncorrected : (plain : Bool) (at : ℕ) (w : Option Ordered) (q : Prediction) (comps : ℕ) (values : List ℤ)
     → (facts q).corrects ≡ false → Spells (integers_at comps (length values)) (integers_bytes plain comps values) values
     → Spells (predicted_at at w q comps (length values)) (predicted_bytes plain w q comps values) values
 unfolding predicted_at predicted_bytes

@@ -1,7 +1,7 @@
 -- Flags of predictions that are read back from their bytes, and how many there are.
 use Rattle.std.proofs.Common.{◌≡◌, ◌≢◌, ℕ, zero, suc, ◌+◌, ◌*◌, ◌^◌, ◌<◌, ◌≤◌, ◌==◌, nat_le, Bool, true, false, ◌&&◌, ℤ, List, [], ◌∷◌, ◌++◌, length, flat_map, get_or, if◌then◌else◌, inl, inr, Option, None, Some, Ok, rules, refl, sym, ◌∙◌, ap, subst, arith}
 use Rattle.std.specs.List.{All, list_all, range_with_len}
-use Rattle.std.proofs.lemmas.Bool.{cases_eq, cases_Bool, leb-true, false≢true}
+use Rattle.std.proofs.lemmas.Bool.{cond-true, cases_eq, cases_Bool, leb-true, false≢true}
 use Rattle.std.proofs.Math.Nat.{mul-le-mul_left}
 use Rattle.std.proofs.lemmas.List.{get_or_default, map-id}
 use Rattle.drc_base.specs.declared.kinds.Kind.TheVariants as kind
@@ -14,12 +14,14 @@ use Rattle.drc_bits.proofs.Spelled.{Spells-none, Spells-then, Spells-same, Spell
 use Rattle.rans_binary.specs.Blocks.{Block, first_bits, block, IsBlockOf, bit_block_at}
 use Rattle.predict.specs.declared.schemes.Prediction.{Prediction}
 use Rattle.predict.specs.Schemes.{facts}
-use Rattle.predict.specs.Walked.{Walked, IsOver}
+use Rattle.corner_table.specs.Ordered.{Ordered, IsOver}
 use Rattle.predict.specs.Surfaces.{surface_or, CanStand}
 use Rattle.predict.specs.Multi.{wanted}
-use Rattle.predict.specs.Foretold.{marks_of, wanted_of, HasWanted, LacksWanted}
+use Rattle.predict.specs.Wrap.{Range}
+use Rattle.predict.specs.Restored.{restored}
+use Rattle.predict.specs.Foretold.{foretold, marks_of, wanted_of, HasWanted, LacksWanted}
 use Rattle.predict.proofs.Foretold.{length-marks, length-mark, wanted_most, wanted_in, wanted_nowhere, flags_stand}
-use Rattle.attr_section.specs.Values.{flag_bits_at, flag_count_at, flags_at, flag_lists_at, has_flags}
+use Rattle.attr_section.specs.Values.{flag_bits_at, flag_count_at, flags_at, flag_lists_at, has_flags, with_flags}
 use Rattle.attr_section.specs.Written.{flag_bits_bytes, flags_bytes, HasFewFlags, MayHaveFewFlags, FlagsSpelled}
 use Rattle.attr_section.proofs.Spelling.{Spells-map}
 use Rattle.attr_section.proofs.SpelledIntegers.{Spells-all}
@@ -56,7 +58,7 @@ Spells-flags flags short bits = record {
 }
 
 -- so many lists of flags over a surface
-pub Spells-flag_lists : (count : ℕ) (w : Walked) (lists : List (List Bool)) → length lists ≡ count → All FlagsSpelled lists
+pub Spells-flag_lists : (count : ℕ) (w : Ordered) (lists : List (List Bool)) → length lists ≡ count → All FlagsSpelled lists
     → All (λ flags. length flags ≤ length w.entries) lists → Spells (flag_lists_at count w) (flat_map flags_bytes lists) lists
 unfolding flag_lists_at
 Spells-flag_lists count w lists same spelled few =
@@ -71,20 +73,20 @@ fewer_entries comps entries n some count few =
     omega arith
 
 -- where a prediction needs a surface, its entries are no more than values
-corners_few : (q : Prediction) (w : Option Walked) (comps n : ℕ) → 0 < comps → n ≤ MAX_VALUES → CanStand q w comps n → (facts q).needs_surface ≡ true
+corners_few : (q : Prediction) (w : Option Ordered) (comps n : ℕ) → 0 < comps → n ≤ MAX_VALUES → CanStand q w comps n → (facts q).needs_surface ≡ true
     → length (surface_or w).corners ≤ MAX_VALUES
 corners_few q None comps n some few stand needs = absurd (stand.stand needs)
 corners_few q (Some w) comps n some few stand needs = fewer_entries comps (length w.corners) n some (stand.stand needs) few
 
 -- a written list, and how many flags it has
-mark_is : (q : Prediction) (w : Walked) (comps : ℕ) (v : List ℤ) (k : ℕ) (d : List Bool) → k < length (marks_of q w comps v)
+mark_is : (q : Prediction) (w : Ordered) (comps : ℕ) (v : List ℤ) (k : ℕ) (d : List Bool) → k < length (marks_of q w comps v)
     → (k < (facts q).flag_lists) × (length (get_or (marks_of q w comps v) k d) ≡ wanted_of q w k)
 mark_is q w comps v k d low =
     let here : k < (facts q).flag_lists = omega (arith, length-marks q w comps v) in
     (here, ap (λ (l : List Bool). length l) (get_or_default (marks_of q w comps v) k d [] low) ∙ length-mark q w comps v k here)
 
 -- the written lists have fewer than 2^31 flags
-pub lists_short : (q : Prediction) (w : Option Walked) (comps : ℕ) (v : List ℤ) → 0 < comps → length v ≤ MAX_VALUES → CanStand q w comps (length v)
+pub lists_short : (q : Prediction) (w : Option Ordered) (comps : ℕ) (v : List ℤ) → 0 < comps → length v ≤ MAX_VALUES → CanStand q w comps (length v)
     → All (λ flags. length flags < 2 ^ 31) (marks_of q (surface_or w) comps v)
 lists_short q w comps v some few stand = λ k d low.
     let is = mark_is q (surface_or w) comps v k d low in
@@ -94,7 +96,7 @@ lists_short q w comps v some few stand = λ k d low.
     omega (arith, is.1)
 
 -- and, where few flags are wanted, no more than there are corners
-pub lists_few : (q : Prediction) (w : Walked) (comps : ℕ) (v : List ℤ) → HasFewFlags w → All (λ flags. length flags ≤ length w.entries) (marks_of q w comps v)
+pub lists_few : (q : Prediction) (w : Ordered) (comps : ℕ) (v : List ℤ) → HasFewFlags w → All (λ flags. length flags ≤ length w.entries) (marks_of q w comps v)
 lists_few q w comps v few = λ k d low.
     let is = mark_is q w comps v k d low in
     let wants = few.few q k is.0 in
@@ -125,24 +127,32 @@ le_passes : (a b : ℕ) → a ≤ b → nat_le a b ≡ true
 le_passes a b below = grind arith
 
 -- lists that have the wanted flags pass their test, and others don't
-pub flags_pass : (q : Prediction) (w : Walked) (lists : List (List Bool)) → HasWanted q w lists → has_flags q w lists ≡ true
+pub flags_pass : (q : Prediction) (w : Ordered) (lists : List (List Bool)) → HasWanted q w lists → has_flags q w lists ≡ true
 flags_pass q w lists has =
     all_pass (λ k. nat_le (wanted_of q w k) (length (get_or lists k []))) 0 (facts q).flag_lists
     (λ k from to. le_passes (wanted_of q w k) (length (get_or lists k [])) (has k (omega arith)))
 
-pub flags_passed : (q : Prediction) (w : Walked) (lists : List (List Bool)) → has_flags q w lists ≡ true → HasWanted q w lists
+pub flags_passed : (q : Prediction) (w : Ordered) (lists : List (List Bool)) → has_flags q w lists ≡ true → HasWanted q w lists
 flags_passed q w lists passes = λ k low.
     leb-true (wanted_of q w k) (length (get_or lists k []))
     (each_passes (λ k. nat_le (wanted_of q w k) (length (get_or lists k []))) 0 (facts q).flag_lists passes k (omega arith) (omega arith))
 
-pub flags_fail : (q : Prediction) (w : Walked) (lists : List (List Bool)) → LacksWanted q w lists → has_flags q w lists ≡ false
+pub flags_fail : (q : Prediction) (w : Ordered) (lists : List (List Bool)) → LacksWanted q w lists → has_flags q w lists ≡ false
 flags_fail q w lists (k, low, lacks) = elim (cases_Bool (has_flags q w lists)) [
   | inl passes ↦ let has = flags_passed q w lists passes k low in absurd (omega arith)
   | inr fails ↦ fails
 ]
 
+-- where a prediction has no flags, corrections have values
+pub without_flags : (at : ℕ) (w : Ordered) (q : Prediction) (comps : ℕ) (lists : List (List Bool)) (range : Range) (corrections source v : List ℤ) (after : Reading)
+    → (facts q).flag_lists ≡ 0 → corrections ≡ source → v ≡ restored (foretold q w comps lists) range source → with_flags at w q comps lists range corrections after ≡ Ok (v, after)
+unfolding with_flags
+without_flags at w q comps lists range corrections source v after none same is =
+    cond-true _ _ _ (flags_pass q w lists (λ k low. absurd (omega (arith, none, low))))
+    ∙ ap (λ (x : List ℤ). Ok (x, after)) (ap (restored (foretold q w comps lists) range) same ∙ sym is)
+
 -- no more flags are wanted than there are corners of faces
-pub few_in : (faces : ℕ) (w : Walked) → IsOver faces w → ((k : ℕ) → wanted w k (length w.corners) ≤ 3 * faces) → HasFewFlags w
+pub few_in : (faces : ℕ) (w : Ordered) → IsOver faces w → ((k : ℕ) → wanted w k (length w.corners) ≤ 3 * faces) → HasFewFlags w
 few_in faces w over few = record {
   few = λ q k low.
       let wants = wanted_in faces q w few k in
@@ -151,6 +161,6 @@ few_in faces w over few = record {
 }
 
 -- none are wanted where there is no surface
-pub few_or : (w : Option Walked) → MayHaveFewFlags w → HasFewFlags (surface_or w)
+pub few_or : (w : Option Ordered) → MayHaveFewFlags w → HasFewFlags (surface_or w)
 few_or None few = record { few = λ q k low. let none = wanted_nowhere q k in omega arith }
 few_or (Some w) few = few

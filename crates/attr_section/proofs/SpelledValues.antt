@@ -23,7 +23,7 @@ use Rattle.attr_section.specs.Heads.{bare_head, bare_decoder}
 use Rattle.predict.specs.declared.schemes.Prediction.{Prediction}
 use Rattle.predict.specs.declared.schemes.Prediction.TheVariants as prediction
 use Rattle.predict.specs.Schemes.{code_of, byte_of, prediction_of, prediction_coded}
-use Rattle.predict.specs.Walked.{Walked}
+use Rattle.corner_table.specs.Ordered.{Ordered}
 use Rattle.predict.proofs.Named.{by_byte, by_number}
 use Rattle.attr_section.specs.Values.{tested_prediction, prediction_at, predicted_at, typed_values_at, values_at, quant_bits_at, quant_at, quant_of_at, quantised_at, values_in, attributes_at, quants_at, decoder_values_at}
 use Rattle.attr_section.specs.Written.{predicted_bytes, prediction_bytes, values_bytes, quant_bytes, attributes_bytes, quants_bytes, decoder_values_bytes, HasQuant, QuantFits, values_placed, HaveEntries, MayHaveFewFlags, PredictedSpelled, ValuesSpelled}
@@ -48,7 +48,7 @@ Spells-prediction q = record {
 }
 
 -- values of a prediction, behind its byte
-typed_values : (w : Option Walked) (h : Head) (n : ℕ) (q : Prediction) (bytes : List ℕ) (values : List ℤ)
+typed_values : (w : Option Ordered) (h : Head) (n : ℕ) (q : Prediction) (bytes : List ℕ) (values : List ℤ)
     → ((at : ℕ) → Spells (predicted_at at w q h.comps n) bytes values) → list_all (in_type h.dtype) values ≡ true
     → (place : ℕ) (rest : List ℕ) → typed_values_at profile w h n (record { place = place; rest = (byte_of q ∷ bytes) ++ rest })
     ≡ Ok (record { values = values; predict = code_of q; at = place }, behind place (length (byte_of q ∷ bytes)) rest)
@@ -60,7 +60,7 @@ typed_values w h n q bytes values spells typed place rest =
     rw (first, second, typed, after) refl
 
 -- they are those of an attribute
-spelled_by : (plain : Bool) (w : Option Walked) (h : Head) (v : Values) (q : Prediction) (bytes : List ℕ) → code_of q ≡ v.predict
+spelled_by : (plain : Bool) (w : Option Ordered) (h : Head) (v : Values) (q : Prediction) (bytes : List ℕ) → code_of q ≡ v.predict
     → values_bytes plain w h.comps v ≡ byte_of q ∷ bytes
     → (MayHaveFewFlags w → (at : ℕ) → Spells (predicted_at at w q h.comps (length v.values)) bytes v.values)
     → list_all (in_type h.dtype) v.values ≡ true → ValuesSpelled plain w h v
@@ -87,18 +87,18 @@ pub coded_is : (q : Prediction) (code : ℤ) → code_of q ≡ code → predicti
 coded_is q code is = ap prediction_coded (sym is) ∙ by_number q
 
 -- the bytes of an attribute's values: the byte of their prediction, and what it says
-pub values_are : (plain : Bool) (w : Option Walked) (comps : ℕ) (v : Values) (q : Prediction) → code_of q ≡ v.predict
+pub values_are : (plain : Bool) (w : Option Ordered) (comps : ℕ) (v : Values) (q : Prediction) → code_of q ≡ v.predict
     → values_bytes plain w comps v ≡ byte_of q ∷ predicted_bytes plain w q comps v.values
 unfolding values_bytes
 values_are plain w comps v q is = ap (λ (p : Option Prediction). prediction_bytes plain w p comps v.values) (coded_is q v.predict is)
 
 -- values of a prediction, each in the data type
-pub predicted_spelled : (plain : Bool) (w : Option Walked) (h : Head) (v : Values) (q : Prediction) → code_of q ≡ v.predict
+pub predicted_spelled : (plain : Bool) (w : Option Ordered) (h : Head) (v : Values) (q : Prediction) → code_of q ≡ v.predict
     → PredictedSpelled plain w q h.comps v.values → list_all (in_type h.dtype) v.values ≡ true → ValuesSpelled plain w h v
 predicted_spelled plain w h v q is spelled typed = spelled_by plain w h v q (predicted_bytes plain w q h.comps v.values) is (values_are plain w h.comps v q is) spelled.again typed
 
 -- the values of attributes behind others
-attributes_spelled : (plain : Bool) (w : Option Walked) → MayHaveFewFlags w → (entries spent : ℕ) (front : List Values) (heads : List Head) (vs : List Values) → length vs ≡ length heads
+attributes_spelled : (plain : Bool) (w : Option Ordered) → MayHaveFewFlags w → (entries spent : ℕ) (front : List Values) (heads : List Head) (vs : List Values) → length vs ≡ length heads
     → All (λ (h, v). ValuesSpelled plain w h v) (zip heads vs) → HaveEntries entries heads vs → spent + values_in front + values_in vs ≤ MAX_VALUES → (place : ℕ) (rest : List ℕ)
     → each_at (λ before h. values_at profile w h entries (spent + values_in before)) front (map bare_head heads) (record { place = place; rest = attributes_bytes plain w heads vs ++ rest })
     ≡ Ok (front ++ values_placed plain w place heads vs, behind place (length (attributes_bytes plain w heads vs)) rest)
@@ -177,7 +177,7 @@ quants_spelled front (h ∷ heads) each =
     (quants_spelled (front ++ h ∷ []) heads (All-tail (λ h. Spells (quantised_at (bare_head h)) (quant_bytes h.quant) h) h heads each)))
 
 -- a decoder's values, and its quantisations
-pub decoder_spelled : (plain : Bool) (w : Option Walked) → MayHaveFewFlags w → (entries spent : ℕ) (d : DecoderHead) (vs : List Values) → length vs ≡ length d.heads
+pub decoder_spelled : (plain : Bool) (w : Option Ordered) → MayHaveFewFlags w → (entries spent : ℕ) (d : DecoderHead) (vs : List Values) → length vs ≡ length d.heads
     → All (λ (h, v). ValuesSpelled plain w h v) (zip d.heads vs) → All (λ h. Spells (quantised_at (bare_head h)) (quant_bytes h.quant) h) d.heads
     → HaveEntries entries d.heads vs → spent + values_in vs ≤ MAX_VALUES → (place : ℕ) (rest : List ℕ)
     → decoder_values_at profile w (bare_decoder d) entries spent (record { place = place; rest = decoder_values_bytes plain w d.heads vs ++ rest })

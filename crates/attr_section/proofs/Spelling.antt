@@ -110,22 +110,22 @@ Spells-decoders front (d ∷ ds) each few =
         push ∙ ap (λ n. attributes_of front + n) (length-map d.heads bare_head)
 
 -- a link of this element type and walk
-element_spelled : (attr_data : ℕ) (before : List Link) (id element walk : ℕ) → is_known_id attr_data id ≡ true → is_used_id before id ≡ false
-    → nat_le element (most_element id) ≡ true → nat_le walk (most_walk element) ≡ true
-    → Spells (link_at attr_data before) (id ∷ element ∷ walk ∷ []) (record { data_id = Some id; corner = (element == 1); degree = (walk == 1) })
+element_spelled : (attr_data : ℕ) (before : List Link) (id element on : ℕ) → is_known_id attr_data id ≡ true → is_used_id before id ≡ false
+    → nat_le element (most_element id) ≡ true → nat_le on (most_walk element) ≡ true
+    → Spells (link_at attr_data before) (id ∷ element ∷ on ∷ []) (record { data_id = Some id; corner = (element == 1); degree = (on == 1) })
 unfolding link_at
-element_spelled attr_data before id element walk known unused fits walks =
+element_spelled attr_data before id element on known unused fits walks =
     let new : (is_known_id attr_data id && not (is_used_id before id)) ≡ true = rw (known, unused) refl in
     Spells-then (must kind.DataId (λ id. is_known_id attr_data id && not (is_used_id before id)) (number_at 1))
     (λ i c. must kind.Element (λ e. nat_le e (most_element i)) (number_at 1) c >>= λ e. must kind.Walk (λ w. nat_le w (most_walk e.0)) (number_at 1) e.1 >>= λ w. Ok (record { data_id = Some i; corner = (e.0 == 1); degree = (w.0 == 1) }, w.1))
-    (id ∷ []) (element ∷ walk ∷ []) id (record { data_id = Some id; corner = (element == 1); degree = (walk == 1) })
+    (id ∷ []) (element ∷ on ∷ []) id (record { data_id = Some id; corner = (element == 1); degree = (on == 1) })
     (Spells-must kind.DataId (λ id. is_known_id attr_data id && not (is_used_id before id)) (number_at 1) (id ∷ []) id new (Spells-byte id))
     (Spells-then (must kind.Element (λ e. nat_le e (most_element id)) (number_at 1))
     (λ e c. must kind.Walk (λ w. nat_le w (most_walk e)) (number_at 1) c >>= λ w. Ok (record { data_id = Some id; corner = (e == 1); degree = (w.0 == 1) }, w.1))
-    (element ∷ []) (walk ∷ []) element (record { data_id = Some id; corner = (element == 1); degree = (walk == 1) })
+    (element ∷ []) (on ∷ []) element (record { data_id = Some id; corner = (element == 1); degree = (on == 1) })
     (Spells-must kind.Element (λ e. nat_le e (most_element id)) (number_at 1) (element ∷ []) element fits (Spells-byte element))
-    (Spells-map (λ w. record { data_id = Some id; corner = (element == 1); degree = (w == 1) }) (must kind.Walk (λ w. nat_le w (most_walk element)) (number_at 1)) (walk ∷ []) walk
-    (Spells-must kind.Walk (λ w. nat_le w (most_walk element)) (number_at 1) (walk ∷ []) walk walks (Spells-byte walk))))
+    (Spells-map (λ w. record { data_id = Some id; corner = (element == 1); degree = (w == 1) }) (must kind.Walk (λ w. nat_le w (most_walk element)) (number_at 1)) (on ∷ []) on
+    (Spells-must kind.Walk (λ w. nat_le w (most_walk element)) (number_at 1) (on ∷ []) on walks (Spells-byte on))))
 
 link_spelled : (attr_data : ℕ) (before : List Link) (id : ℕ) (corner degree : Bool) → is_known_id attr_data id ≡ true → is_used_id before id ≡ false
     → (id ≡ position_id → corner ≡ false) → (corner ≡ true → degree ≡ false)

@@ -44,7 +44,7 @@ is_used_id before id = list_any (λ l. is_id id l.data_id) before
 abbrev pub most_element : ℕ → ℕ
 most_element id = if id == position_id then 0 else 1
 
--- the greatest walk: entries of vertices alone may be walked by prediction degree
+-- the greatest walk: entries of vertices alone may be ordered by prediction degree
 abbrev pub most_walk : ℕ → ℕ
 most_walk element = if element == 0 then 1 else 0
 

@@ -4,3 +4,4 @@ pub mod Values
 pub mod ValueLaws
 pub mod Written
 pub mod Examples
+pub mod Opened

@@ -3,7 +3,7 @@ use Rattle.std.specs.Prelude.{◌≡◌, ◌<◌, ◌↔◌, ℕ, List, Bool, fa
 use Rattle.drc_base.specs.Profile.{Profile}
 use Rattle.drc_bits.specs.Reading.{Reading}
 use Rattle.mesh_model.specs.declared.heads.Head.{Head}
-use Rattle.predict.specs.Walked.{Walked, IsOver}
+use Rattle.corner_table.specs.Ordered.{Ordered, IsOver}
 use Rattle.corner_table.specs.Sides.{IsGluing}
 use Rattle.predict.specs.declared.schemes.Prediction.{Prediction}
 use Rattle.predict.specs.Schemes.{facts, code_of}
@@ -15,17 +15,17 @@ use Rattle.attr_section.specs.Written.{HasFewFlags}
 
 -- the test of flags is true exactly where each list has those that a prediction needs of it, and false where one has fewer
 pub record FlagsAreTested : Type 0 where
-  pub enough : (q : Prediction) (w : Walked) (lists : List (List Bool)) → IsTrue (has_flags q w lists) ↔ HasWanted q w lists
-  pub short : (q : Prediction) (w : Walked) (lists : List (List Bool)) → LacksWanted q w lists → has_flags q w lists ≡ false
+  pub enough : (q : Prediction) (w : Ordered) (lists : List (List Bool)) → IsTrue (has_flags q w lists) ↔ HasWanted q w lists
+  pub short : (q : Prediction) (w : Ordered) (lists : List (List Bool)) → LacksWanted q w lists → has_flags q w lists ≡ false
 
 -- in a sequential stream values have a prediction that needs no surface; and by a prediction that came later than a profile they are
 -- predicted nowhere in it
 pub record PredictionsAreAccepted : Type 0 where
   pub sequential : (p : Profile) (h : Head) (entries spent : ℕ) (c : Reading) (y : Values × Reading)
       → values_at p None h entries spent c ≡ Ok y → (q : Prediction) × (y.0.predict ≡ code_of q) × ((facts q).needs_surface ≡ false)
-  pub later : (p : Profile) (w : Option Walked) (h : Head) (entries spent : ℕ) (c : Reading) (y : Values × Reading)
+  pub later : (p : Profile) (w : Option Ordered) (h : Head) (entries spent : ℕ) (c : Reading) (y : Values × Reading)
       → (q : Prediction) → p.number < (facts q).since → values_at p w h entries spent c ≡ Ok y → ¬ (y.0.predict ≡ code_of q)
 
 -- where no two entries of an order over a table stand at one vertex, no list of flags has more of them than there are corners
 abbrev pub FlagsAreFew : Type 0
-FlagsAreFew = (faces : ℕ) (w : Walked) → IsGluing faces w.gluing → IsOver faces w → AreApart w → HasFewFlags w
+FlagsAreFew = (faces : ℕ) (w : Ordered) → IsGluing faces w.gluing → IsOver faces w → AreApart w → HasFewFlags w

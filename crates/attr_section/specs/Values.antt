@@ -1,6 +1,6 @@
 -- The values of attributes (Draco Bitstream Specification 2.2, sections "Sequential Attributes", "Prediction Decoder", "Mesh
 -- Parallelogram Prediction", "Mesh Constrained Multi Parallelogram Prediction" and "Quantization"; the limits and what is
--- refused are this project's choice). The values of a stream's decoder stand on the surface of its walk, where there is one:
+-- refused are this project's choice). The values of a stream's decoder stand on its ordered surface, where there is one:
 -- there is none in a sequential stream.
 use Rattle.std.specs.Prelude.{◌≡◌, ℕ, suc, ◌+◌, ◌-◌, ◌*◌, ◌/◌, ◌%◌, ◌^◌, ◌==◌, ◌&&◌, Bool, ℤ, pos, negsuc, ◌-ℤ◌, List, [], ◌∷◌}
 use Rattle.std.specs.Prelude.{length, get_or, map, Option, None, Some, Ok, Err, sum_by, nat_le, int_le, int_lt, if◌then◌else◌}
@@ -20,7 +20,7 @@ use Rattle.symbol_coding.specs.Block.{block_at}
 use Rattle.predict.specs.declared.schemes.Prediction.{Prediction}
 use Rattle.predict.specs.Schemes.{facts, code_of, prediction_of}
 use Rattle.predict.specs.Restored.{restored}
-use Rattle.predict.specs.Walked.{Walked}
+use Rattle.corner_table.specs.Ordered.{Ordered}
 use Rattle.predict.specs.Surfaces.{surface_or, lacks_surface}
 use Rattle.predict.specs.Foretold.{foretold, wanted_of}
 use Rattle.attr_section.specs.declared.decoder_heads.DecoderHead.{DecoderHead}
@@ -98,22 +98,22 @@ flags_at corners c = do
   flag_bits_at count.0 count.1
 
 -- so many lists of flags over a surface
-unfoldable pub flag_lists_at : ℕ → Walked → Reading → Item (List (List Bool))
+unfoldable pub flag_lists_at : ℕ → Ordered → Reading → Item (List (List Bool))
 flag_lists_at count w c = many_at (flags_at (length w.entries)) count c
 
 -- whether each list has the flags that a prediction needs of it
-abbrev pub has_flags : Prediction → Walked → List (List Bool) → Bool
+abbrev pub has_flags : Prediction → Ordered → List (List Bool) → Bool
 has_flags q w lists = list_all (λ k. nat_le (wanted_of q w k) (length (get_or lists k []))) (range_with_len 0 (facts q).flag_lists)
 
 -- the values of corrections and flags; where a flag is needed that isn't there, they are refused at this place
-unfoldable pub with_flags : ℕ → Walked → Prediction → ℕ → List (List Bool) → Range → List ℤ → Reading → Item (List ℤ)
+unfoldable pub with_flags : ℕ → Ordered → Prediction → ℕ → List (List Bool) → Range → List ℤ → Reading → Item (List ℤ)
 with_flags at w q comps lists range corrections after =
     if has_flags q w lists then Ok (restored (foretold q w comps lists) range corrections, after)
     else Err (record { kind = kind.FlagsShort; at = at })
 
 -- n values that are restored from corrections by this prediction, whose byte stands at this place, over a surface: the transform, the
 -- corrections, the lists of flags that the prediction has, and the range
-unfoldable pub corrected_at : ℕ → Walked → Prediction → ℕ → ℕ → Reading → Item (List ℤ)
+unfoldable pub corrected_at : ℕ → Ordered → Prediction → ℕ → ℕ → Reading → Item (List ℤ)
 corrected_at at w q comps n c = do
   transform ← transform_at c
   corrections ← integers_at comps n transform.1
@@ -122,14 +122,14 @@ corrected_at at w q comps n c = do
   with_flags at w q comps lists.0 range.0 corrections.0 range.1
 
 -- n values of this prediction, whose byte stands at this place; where it needs a surface that isn't there, they are refused at this place
-unfoldable pub predicted_at : ℕ → Option Walked → Prediction → ℕ → ℕ → Reading → Item (List ℤ)
+unfoldable pub predicted_at : ℕ → Option Ordered → Prediction → ℕ → ℕ → Reading → Item (List ℤ)
 predicted_at at w q comps n c =
     if (facts q).corrects
     then if lacks_surface q w then Err (record { kind = kind.Prediction; at = at }) else corrected_at at (surface_or w) q comps n c
     else integers_at comps n c
 
 -- n values of an attribute, each of which is in its data type
-unfoldable pub typed_values_at : Profile → Option Walked → Head → ℕ → Reading → Item Values
+unfoldable pub typed_values_at : Profile → Option Ordered → Head → ℕ → Reading → Item Values
 typed_values_at p w h n c = do
   predict ← prediction_at p c
   values ← predicted_at c.place w predict.0 h.comps n predict.1
@@ -138,7 +138,7 @@ typed_values_at p w h n c = do
       else fault_at kind.ValueRange c
 
 -- the values of an attribute for so many entries, behind so many values of other attributes
-unfoldable pub values_at : Profile → Option Walked → Head → ℕ → ℕ → Reading → Item Values
+unfoldable pub values_at : Profile → Option Ordered → Head → ℕ → ℕ → Reading → Item Values
 values_at p w h entries spent c =
     if nat_le (spent + entries * h.comps) p.values then typed_values_at p w h (entries * h.comps) c else fault_at kind.ValueLimit c
 
@@ -167,16 +167,16 @@ abbrev pub values_in : List Values → ℕ
 values_in attributes = sum_by (λ v. length v.values) attributes
 
 -- the values of these attributes for so many entries, behind so many other values
-unfoldable pub attributes_at : Profile → Option Walked → List Head → ℕ → ℕ → Reading → Item (List Values)
+unfoldable pub attributes_at : Profile → Option Ordered → List Head → ℕ → ℕ → Reading → Item (List Values)
 attributes_at p w heads entries spent c = each_at (λ before h. values_at p w h entries (spent + values_in before)) [] heads c
 
 -- these heads with their quantisations
 unfoldable pub quants_at : List Head → Reading → Item (List Head)
 quants_at heads c = each_at (λ _ h. quantised_at h) [] heads c
 
--- a decoder's values for so many entries on the surface of its walk, behind so many other values, and the decoder with its
+-- a decoder's values for so many entries on its ordered surface, behind so many other values, and the decoder with its
 -- quantisations
-unfoldable pub decoder_values_at : Profile → Option Walked → DecoderHead → ℕ → ℕ → Reading → Item (List Values × DecoderHead)
+unfoldable pub decoder_values_at : Profile → Option Ordered → DecoderHead → ℕ → ℕ → Reading → Item (List Values × DecoderHead)
 decoder_values_at p w d entries spent c = do
   values ← attributes_at p w d.heads entries spent c
   heads ← quants_at d.heads values.1

@@ -1,6 +1,6 @@
 -- The bytes of attributes' values (Draco Bitstream Specification 2.2, sections "Sequential Attributes", "Prediction
 -- Decoder", "Mesh Parallelogram Prediction", "Mesh Constrained Multi Parallelogram Prediction" and "Quantization"; which of
--- the allowed spellings is written is this project's choice). The values stand on the surface of a walk, where there is one.
+-- the allowed spellings is written is this project's choice). The values stand on an ordered surface, where there is one.
 use Rattle.drc_base.specs.Profile.{profile}
 use Rattle.std.specs.Prelude.{◌≡◌, ◌≤◌, ◌<◌, ℕ, suc, ◌+◌, ◌*◌, ◌%◌, ◌^◌, ◌==◌, Bool, true, false, ℤ, pos, negsuc}
 use Rattle.std.specs.Prelude.{List, [], ◌∷◌, ◌++◌, length, map, flat_map, fold, max, Option, None, Some, Ok, nat_lt, if◌then◌else◌, All}
@@ -19,7 +19,7 @@ use Rattle.predict.specs.declared.schemes.Prediction.{Prediction}
 use Rattle.predict.specs.Schemes.{facts, code_of, byte_of, prediction_coded}
 use Rattle.predict.specs.Symbols.{zigzag_of}
 use Rattle.predict.specs.Restored.{corrections}
-use Rattle.predict.specs.Walked.{Walked}
+use Rattle.corner_table.specs.Ordered.{Ordered}
 use Rattle.predict.specs.Surfaces.{surface_or, CanStand}
 use Rattle.predict.specs.Foretold.{foretold, marks_of, wanted_of}
 use Rattle.symbol_coding.specs.Block.{block_bytes}
@@ -69,27 +69,27 @@ unfoldable pub flags_bytes : List Bool → List ℕ
 flags_bytes flags = spelling 5 (length flags) ++ flag_bits_bytes flags
 
 -- values by this prediction over a surface, with these lists of flags: the transform, the corrections, the flags, the range
-unfoldable pub flagged_bytes : Bool → Walked → Prediction → ℕ → List (List Bool) → List ℤ → List ℕ
+unfoldable pub flagged_bytes : Bool → Ordered → Prediction → ℕ → List (List Bool) → List ℤ → List ℕ
 flagged_bytes plain w q comps lists values =
     1 ∷ (integers_bytes plain comps (corrections (foretold q w comps lists) (range_of values) values)
     ++ (flat_map flags_bytes lists ++ range_bytes (range_of values)))
 
 -- values by this prediction over a surface
-abbrev pub corrected_bytes : Bool → Walked → Prediction → ℕ → List ℤ → List ℕ
+abbrev pub corrected_bytes : Bool → Ordered → Prediction → ℕ → List ℤ → List ℕ
 corrected_bytes plain w q comps values = flagged_bytes plain w q comps (marks_of q w comps values) values
 
 -- values of this prediction, behind its byte
-unfoldable pub predicted_bytes : Bool → Option Walked → Prediction → ℕ → List ℤ → List ℕ
+unfoldable pub predicted_bytes : Bool → Option Ordered → Prediction → ℕ → List ℤ → List ℕ
 predicted_bytes plain w q comps values =
     if (facts q).corrects then corrected_bytes plain (surface_or w) q comps values else integers_bytes plain comps values
 
 -- values of a prediction, where there is one: its byte, and what it says
-abbrev pub prediction_bytes : Bool → Option Walked → Option Prediction → ℕ → List ℤ → List ℕ
+abbrev pub prediction_bytes : Bool → Option Ordered → Option Prediction → ℕ → List ℤ → List ℕ
 prediction_bytes plain w None comps values = []
 prediction_bytes plain w (Some q) comps values = byte_of q ∷ predicted_bytes plain w q comps values
 
 -- the values of an attribute of so many components: the byte of the prediction, and what it says
-unfoldable pub values_bytes : Bool → Option Walked → ℕ → Values → List ℕ
+unfoldable pub values_bytes : Bool → Option Ordered → ℕ → Values → List ℕ
 values_bytes plain w comps v = prediction_bytes plain w (prediction_coded v.predict) comps v.values
 
 -- a quantisation: the minima, the range, the bits
@@ -98,7 +98,7 @@ quant_bytes None = []
 quant_bytes (Some q) = flat_map (low_bytes 4) q.min ++ (low_bytes 4 q.range ++ q.bits ∷ [])
 
 -- the values of attributes, one after another
-abbrev pub attributes_bytes : Bool → Option Walked → List Head → List Values → List ℕ
+abbrev pub attributes_bytes : Bool → Option Ordered → List Head → List Values → List ℕ
 attributes_bytes plain w heads attributes = flat_map (λ (h, v). values_bytes plain w h.comps v) (zip heads attributes)
 
 -- the quantisations of heads
@@ -106,7 +106,7 @@ abbrev pub quants_bytes : List Head → List ℕ
 quants_bytes heads = flat_map (λ h. quant_bytes h.quant) heads
 
 -- a decoder's values and then its quantisations
-unfoldable pub decoder_values_bytes : Bool → Option Walked → List Head → List Values → List ℕ
+unfoldable pub decoder_values_bytes : Bool → Option Ordered → List Head → List Values → List ℕ
 decoder_values_bytes plain w heads attributes = attributes_bytes plain w heads attributes ++ quants_bytes heads
 
 -- a head has a quantisation exactly where its values are quantised floats, with a minimum for each component
@@ -121,12 +121,12 @@ QuantFits (Some q) = All (λ m. m < 2 ^ 32) q.min × (q.range < 2 ^ 32)
 
 -- values that may have this prediction: a range in which corrections wrap, where it corrects, and a surface, each entry of which has its
 -- values, where it needs one
-pub record CanPredict (w : Option Walked) (comps : ℕ) (values : List ℤ) (q : Prediction) : Type 0 where
+pub record CanPredict (w : Option Ordered) (comps : ℕ) (values : List ℤ) (q : Prediction) : Type 0 where
   pub wrap : (facts q).corrects ≡ true → CanWrap (range_of values)
   pub stand : CanStand q w comps (length values)
 
 -- values that an attribute may have: whole entries, at least one, each in the data type, and a prediction that they may have
-pub record ValuesPass (w : Option Walked) (h : Head) (v : Values) : Type 0 where
+pub record ValuesPass (w : Option Ordered) (h : Head) (v : Values) : Type 0 where
   pub comps : 0 < h.comps
   pub some : 0 < length v.values
   pub few : length v.values ≤ MAX_VALUES
@@ -135,13 +135,13 @@ pub record ValuesPass (w : Option Walked) (h : Head) (v : Values) : Type 0 where
   pub predicted : (q : Prediction) × (v.predict ≡ code_of q) × CanPredict w h.comps v.values q
 
 -- each attribute has its values, and quantisations stand where they are due
-pub record DecoderValuesPass (w : Option Walked) (heads : List Head) (attributes : List Values) : Type 0 where
+pub record DecoderValuesPass (w : Option Ordered) (heads : List Head) (attributes : List Values) : Type 0 where
   pub each_head : length attributes ≡ length heads
   pub quants : All (λ h. HasQuant h h.quant) heads
   pub each : All (λ (h, v). ValuesPass w h v) (zip heads attributes)
 
 -- the values with the places of their prediction bytes, where they are written from this place on
-abbrev pub values_placed : Bool → Option Walked → ℕ → List Head → List Values → List Values
+abbrev pub values_placed : Bool → Option Ordered → ℕ → List Head → List Values → List Values
 values_placed plain w place [] attributes = []
 values_placed plain w place (h ∷ heads) [] = []
 values_placed plain w place (h ∷ heads) (v ∷ attributes) =
@@ -152,11 +152,11 @@ abbrev pub HaveEntries : ℕ → List Head → List Values → Type 0
 HaveEntries entries heads attributes = All (λ (h, v). length v.values ≡ entries * h.comps) (zip heads attributes)
 
 -- of no prediction has a list of flags over a surface more of them than there are corners
-pub record HasFewFlags (w : Walked) : Type 0 where
+pub record HasFewFlags (w : Ordered) : Type 0 where
   pub few : (q : Prediction) (k : ℕ) → k < (facts q).flag_lists → wanted_of q w k ≤ length w.entries
 
 -- where there is a surface, no list of flags over it has more of them than there are corners
-abbrev pub MayHaveFewFlags : Option Walked → Type 0
+abbrev pub MayHaveFewFlags : Option Ordered → Type 0
 MayHaveFewFlags None = Unit {0}
 MayHaveFewFlags (Some w) = HasFewFlags w
 
@@ -165,12 +165,12 @@ pub record FlagsSpelled (flags : List Bool) : Type 0 where
   pub over : (corners : ℕ) → length flags ≤ corners → Spells (flags_at corners) (flags_bytes flags) flags
 
 -- values of this prediction, where they are read back
-pub record PredictedSpelled (plain : Bool) (w : Option Walked) (q : Prediction) (comps : ℕ) (values : List ℤ) : Type 0 where
+pub record PredictedSpelled (plain : Bool) (w : Option Ordered) (q : Prediction) (comps : ℕ) (values : List ℤ) : Type 0 where
   pub again : MayHaveFewFlags w → (at : ℕ)
       → Spells (predicted_at at w q comps (length values)) (predicted_bytes plain w q comps values) values
 
 -- the values of an attribute, where they are read from wherever they were written
-pub record ValuesSpelled (plain : Bool) (w : Option Walked) (h : Head) (v : Values) : Type 0 where
+pub record ValuesSpelled (plain : Bool) (w : Option Ordered) (h : Head) (v : Values) : Type 0 where
   pub reads : MayHaveFewFlags w → (entries spent place : ℕ) (rest : List ℕ)
       → length v.values ≡ entries * h.comps → spent + length v.values ≤ MAX_VALUES
       → values_at profile w (bare_head h) entries spent (record { place = place; rest = values_bytes plain w h.comps v ++ rest })

@@ -12,7 +12,7 @@ ghost use Rattle.attr_section.specs.Written.{range_of};
 
 use crate::ranges::wrap_of;
 use drc_base::{MAX_VALUES, Memory};
-use predict::{Flags, Prediction, Walked, correct};
+use predict::{Flags, Ordered, Prediction, correct};
 use std::alloc::Global;
 
 /// The symbols of the corrections of values in their range by a prediction that corrects, over the surface
@@ -20,7 +20,7 @@ use std::alloc::Global;
 pub fn corrected_symbols(
     alloc: Global,
     prediction: Prediction,
-    walk: Option<&Walked<'_>>,
+    on: Option<&Ordered<'_>>,
     values: &[i32],
     comps: u32,
     low: i32,
@@ -29,18 +29,18 @@ pub fn corrected_symbols(
     requires corrects { (facts prediction).corrects ≡ true }
     requires comps { 0 < comps }
     requires few { length values.now ≤ MAX_VALUES }
-    requires over { MayBeOver (option_map (λ t. t.now) walk) }
-    requires stand { CanStand prediction (surface_of (option_map (λ t. t.now) walk)) comps (length values.now) }
+    requires over { MayBeOver (option_map (λ t. t.now) on) }
+    requires stand { CanStand prediction (surface_of (option_map (λ t. t.now) on)) comps (length values.now) }
     requires range { range_of values.now ≡ record { low = low; high = high } }
     requires can_wrap { CanWrap (record { low = low; high = high }) }
-    ensures flags { IfOk result (λ s. s.1.lists ≡ marks_of prediction (surface_or (surface_of (option_map (λ t. t.now) walk.entry))) comps values.now) }
+    ensures flags { IfOk result (λ s. s.1.lists ≡ marks_of prediction (surface_or (surface_of (option_map (λ t. t.now) on.entry))) comps values.now) }
     ensures few { IfOk result (λ s. All (λ flags. length flags < 2 ^ 31) s.1.lists) }
-    ensures symbols { IfOk result (λ s. s.0.items ≡ map zigzag_of (corrections (foretold prediction (surface_or (surface_of (option_map (λ t. t.now) walk.entry))) comps s.1.lists) (range_of values.now) values.now)) }
+    ensures symbols { IfOk result (λ s. s.0.items ≡ map zigzag_of (corrections (foretold prediction (surface_or (surface_of (option_map (λ t. t.now) on.entry))) comps s.1.lists) (range_of values.now) values.now)) }
     ensures len { IfOk result (λ s. length s.0.items ≡ length values.now) }
-    ensures enough { IfOk result (λ s. HasWanted prediction (surface_or (surface_of (option_map (λ t. t.now) walk.entry))) s.1.lists) }
-    ensures restore { IfOk result (λ s. restored (foretold prediction (surface_or (surface_of (option_map (λ t. t.now) walk.entry))) comps s.1.lists) (range_of values.now) (corrections (foretold prediction (surface_or (surface_of (option_map (λ t. t.now) walk.entry))) comps s.1.lists) (range_of values.now) values.now) ≡ values.now) }
+    ensures enough { IfOk result (λ s. HasWanted prediction (surface_or (surface_of (option_map (λ t. t.now) on.entry))) s.1.lists) }
+    ensures restore { IfOk result (λ s. restored (foretold prediction (surface_or (surface_of (option_map (λ t. t.now) on.entry))) comps s.1.lists) (range_of values.now) (corrections (foretold prediction (surface_or (surface_of (option_map (λ t. t.now) on.entry))) comps s.1.lists) (range_of values.now) values.now) ≡ values.now) }
 {
     let wrap = wrap_of(low, high);
-    let (symbols, flags) = correct(alloc, prediction, &wrap, comps, walk, values)?;
+    let (symbols, flags) = correct(alloc, prediction, &wrap, comps, on, values)?;
     Ok((symbols, flags))
 }

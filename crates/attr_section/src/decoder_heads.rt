@@ -12,7 +12,7 @@ pub struct DecoderHead {
     pub data_id: Option<u8>,
     /// Whether values belong to corners, and not to vertices.
     pub corner: bool,
-    /// Whether entries are walked by prediction degree, and not depth first.
+    /// Whether entries are ordered by prediction degree, and not depth first.
     pub degree: bool,
     /// The heads of its attributes.
     pub heads: Sequence<Head>,

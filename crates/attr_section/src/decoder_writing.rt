@@ -16,28 +16,28 @@ use crate::value_writing::put_values;
 use crate::values::Values;
 use drc_base::{MAX_VALUES, Memory};
 use mesh_model::Head;
-use predict::Walked;
+use predict::Ordered;
 use std::alloc::Global;
 
 /// Appends the values of attributes.
 fn put_attributes(
     alloc: Global,
     out: &mut Vec<u8>,
-    walk: Option<&Walked<'_>>,
+    on: Option<&Ordered<'_>>,
     heads: &[Head],
     attributes: &[Values],
     plain: bool,
 ) -> Result<(), Memory>
     requires each_head { length attributes.now ≡ length heads.now }
-    requires each { All (λ (h, v). ValuesPass (surface_of (option_map (λ t. t.now) walk)) h v) (zip heads.now attributes.now) }
-    requires walk { MayBeOver (option_map (λ t. t.now) walk) }
-    ensures bytes { OnOk result (out.new.items ≡ out.old.items ++ attributes_bytes plain (surface_of (option_map (λ t. t.now) walk.entry)) heads.now attributes.now) }
-    ensures again { OnOk result (All (λ (h, v). ValuesSpelled plain (surface_of (option_map (λ t. t.now) walk.entry)) h v) (zip heads.now attributes.now)) }
+    requires each { All (λ (h, v). ValuesPass (surface_of (option_map (λ t. t.now) on)) h v) (zip heads.now attributes.now) }
+    requires on { MayBeOver (option_map (λ t. t.now) on) }
+    ensures bytes { OnOk result (out.new.items ≡ out.old.items ++ attributes_bytes plain (surface_of (option_map (λ t. t.now) on.entry)) heads.now attributes.now) }
+    ensures again { OnOk result (All (λ (h, v). ValuesSpelled plain (surface_of (option_map (λ t. t.now) on.entry)) h v) (zip heads.now attributes.now)) }
 {
     for i in 0..heads.len() {
         let head = &heads[i];
         let values = &attributes[i];
-        put_values(alloc, out, walk, head, values, plain)?;
+        put_values(alloc, out, on, head, values, plain)?;
     }
     Ok(())
 }
@@ -47,26 +47,26 @@ fn put_attributes(
 fn put_decoder(
     alloc: Global,
     out: &mut Vec<u8>,
-    walk: Option<&Walked<'_>>,
+    on: Option<&Ordered<'_>>,
     heads: &[Head],
     attributes: &[Values],
     plain: bool,
 ) -> Result<(), Memory>
-    requires values { DecoderValuesPass (surface_of (option_map (λ t. t.now) walk)) heads.now attributes.now }
-    requires walk { MayBeOver (option_map (λ t. t.now) walk) }
-    ensures bytes { OnOk result (out.new.items ≡ out.old.items ++ decoder_values_bytes plain (surface_of (option_map (λ t. t.now) walk.entry)) heads.now attributes.now) }
-    ensures again { OnOk result (All (λ (h, v). ValuesSpelled plain (surface_of (option_map (λ t. t.now) walk.entry)) h v) (zip heads.now attributes.now)) }
+    requires values { DecoderValuesPass (surface_of (option_map (λ t. t.now) on)) heads.now attributes.now }
+    requires on { MayBeOver (option_map (λ t. t.now) on) }
+    ensures bytes { OnOk result (out.new.items ≡ out.old.items ++ decoder_values_bytes plain (surface_of (option_map (λ t. t.now) on.entry)) heads.now attributes.now) }
+    ensures again { OnOk result (All (λ (h, v). ValuesSpelled plain (surface_of (option_map (λ t. t.now) on.entry)) h v) (zip heads.now attributes.now)) }
     ensures quants { OnOk result (All (λ h. Spells (quantised_at (bare_head h)) (quant_bytes h.quant) h) heads.now) }
 {
-    put_attributes(alloc, out, walk, heads, attributes, plain)?;
+    put_attributes(alloc, out, on, heads, attributes, plain)?;
     put_quants(out, heads)?;
     Ok(())
 }
 
 /// Appends the values `v` of the decoder `h`, attribute after attribute, and then its quantisations: as they
-/// are where `plain` says so, else in symbol blocks. `walk` is the surface that the values of an Edgebreaker
-/// stream stand on, in the order of the decoder's walk; None stands for a sequential stream. Attributes may be
-/// predicted by parallelograms, by one or by the mean of several, where there is a walk, and then have values
+/// are where `plain` says so, else in symbol blocks. `on` is the surface that the values of an Edgebreaker
+/// stream stand on, in the decoder's order; None stands for a sequential stream. Attributes may be
+/// predicted by parallelograms, by one or by the mean of several, where there is a surface, and then have values
 /// for each of its entries. They are read back over that surface, wherever they begin and whatever follows
 /// them, and take exactly the length of their bytes, for the number of entries that the values have, where the
 /// values of all decoders are within their limit, and no list of flags over the surface has more of them than
@@ -78,14 +78,14 @@ pub fn write_decoder(
     h: &DecoderHead,
     v: &[Values],
     plain: bool,
-    walk: Option<&Walked<'_>>,
+    on: Option<&Ordered<'_>>,
 ) -> Result<(), Memory>
-    requires values { DecoderValuesPass (surface_of (option_map (λ t. t.now) walk)) h.now.heads v.now }
-    requires walk { MayBeOver (option_map (λ t. t.now) walk) }
-    ensures bytes { OnOk result (out.new.items ≡ out.old.items ++ decoder_values_bytes plain (surface_of (option_map (λ t. t.now) walk.entry)) h.now.heads v.now) }
-    ensures again { OnOk result (let bytes = decoder_values_bytes plain (surface_of (option_map (λ t. t.now) walk.entry)) h.now.heads v.now in
-        MayHaveFewFlags (surface_of (option_map (λ t. t.now) walk.entry)) → (entries spent place : ℕ) (rest : List ℕ) → HaveEntries entries h.now.heads v.now → spent + values_in v.now ≤ MAX_VALUES → decoder_values_at profile (surface_of (option_map (λ t. t.now) walk.entry)) (bare_decoder h.now) entries spent (record { place = place; rest = bytes ++ rest }) ≡ Ok ((values_placed plain (surface_of (option_map (λ t. t.now) walk.entry)) place h.now.heads v.now, h.now), record { place = place + length bytes; rest = rest })) }
+    requires values { DecoderValuesPass (surface_of (option_map (λ t. t.now) on)) h.now.heads v.now }
+    requires on { MayBeOver (option_map (λ t. t.now) on) }
+    ensures bytes { OnOk result (out.new.items ≡ out.old.items ++ decoder_values_bytes plain (surface_of (option_map (λ t. t.now) on.entry)) h.now.heads v.now) }
+    ensures again { OnOk result (let bytes = decoder_values_bytes plain (surface_of (option_map (λ t. t.now) on.entry)) h.now.heads v.now in
+        MayHaveFewFlags (surface_of (option_map (λ t. t.now) on.entry)) → (entries spent place : ℕ) (rest : List ℕ) → HaveEntries entries h.now.heads v.now → spent + values_in v.now ≤ MAX_VALUES → decoder_values_at profile (surface_of (option_map (λ t. t.now) on.entry)) (bare_decoder h.now) entries spent (record { place = place; rest = bytes ++ rest }) ≡ Ok ((values_placed plain (surface_of (option_map (λ t. t.now) on.entry)) place h.now.heads v.now, h.now), record { place = place + length bytes; rest = rest })) }
 {
-    put_decoder(alloc, out, walk, h.heads.as_slice(), v, plain)?;
+    put_decoder(alloc, out, on, h.heads.as_slice(), v, plain)?;
     Ok(())
 }

@@ -3,14 +3,18 @@
 ghost use Rattle.std.specs.Prelude.{◌≡◌, ◌+◌, ◌*◌, ◌≤◌, ◌<◌, ◌%◌, Ok, IfOk, drop, length, map, take};
 ghost use Rattle.drc_bits.specs.Reading.{Reading, Reads, Gives, advanced, many_at};
 ghost use Rattle.drc_bits.specs.Numbers.{number_at, little_endian};
+ghost use Rattle.symbol_coding.specs.Opened.{values_of};
+ghost use Rattle.attr_section.specs.Opened.{integers_of};
 ghost use Rattle.attr_section.specs.Values.{signed_of, plain_value_at, byte_width_at, plain_values_at, compressed_values_at, integers_at};
 
+use crate::coded_integers::CodedIntegers;
 use drc_base::{Fault, Kind, MAX_VALUES, Memory, Refusal};
 use drc_bits::Cursor;
 use std::alloc::{AllocError, Global};
-use symbol_coding::read_symbols;
+use symbol_coding::{Symbols, open_symbols};
 
 /// The integer of a zigzag symbol.
+#[inline(always)]
 pub fn signed_of(symbol: u32) -> i32
     ensures { result ≡ signed_of symbol }
 {
@@ -169,27 +173,81 @@ fn signed_values(alloc: Global, symbols: &[u32]) -> Result<Vec<i32>, AllocError>
     symbols.iter().map(|s| signed_of(*s)).collect(alloc)
 }
 
-/// `n` integers of entries of `comps` components, in a symbol block.
+/// The integers of an attribute that were opened.
+#[derive(Drop)]
+pub enum Integers<'a> {
+    /// Those of coded symbols, which are taken one after another.
+    Coded(CodedIntegers<'a>),
+    /// Those that were read already.
+    Listed(Vec<i32>),
+}
+
+impl Integers<'_> {
+    /// All integers in a list.
+    pub fn into_list(self, alloc: Global) -> Result<Vec<i32>, Memory>
+        ensures { IfOk result (λ v. v.items ≡ integers_of self.entry) }
+    {
+        match self {
+            Integers::Coded(integers) => integers.into_list(alloc),
+            Integers::Listed(integers) => Ok(integers),
+        }
+    }
+}
+
+/// The integers of the symbols of a block.
+fn integers_of_symbols<'a>(alloc: Global, symbols: Symbols<'a>) -> Result<Integers<'a>, Memory>
+    ensures { IfOk result (λ i. integers_of i ≡ map signed_of (values_of symbols.entry)) }
+{
+    match symbols {
+        Symbols::Coded(symbols) => Ok(Integers::Coded(CodedIntegers::new(symbols))),
+        Symbols::Listed(symbols) => Ok(Integers::Listed(signed_values(alloc, &symbols)?)),
+    }
+}
+
+/// Opens `n` integers of entries of `comps` components, in a symbol block.
 #[tactic(auto, unfolding(crate::specs::Values::compressed_values_at))]
-fn read_compressed_values(
+fn open_compressed_values<'a>(
     alloc: Global,
-    c: &mut Cursor<'_>,
+    c: &mut Cursor<'a>,
     comps: u32,
     n: u32,
-) -> Result<Vec<i32>, Refusal>
+) -> Result<Integers<'a>, Refusal>
     requires some { 0 < comps }
     requires whole { n % comps ≡ 0 }
     requires few { n ≤ MAX_VALUES }
-    ensures item { Gives (λ v. v.items) (compressed_values_at comps n c.old) c.new result }
-    ensures len { IfOk result (λ v. length v.items ≡ n) }
+    ensures item { Gives integers_of (compressed_values_at comps n c.old) c.new result }
+    ensures len { IfOk result (λ i. length (integers_of i) ≡ n) }
 {
-    let symbols = read_symbols(alloc, c, n, comps)?;
-    let values = signed_values(alloc, &symbols)?;
-    Ok(values)
+    let symbols = open_symbols(alloc, c, n, comps)?;
+    let integers = integers_of_symbols(alloc, symbols)?;
+    Ok(integers)
 }
 
-/// `n` integers of entries of `comps` components: as they are, or compressed.
+/// Opens `n` integers of entries of `comps` components: as they are, or compressed. The cursor stands
+/// behind them then, also where they are still to come.
 #[tactic(auto, unfolding(crate::specs::Values::integers_at))]
+pub fn open_integers<'a>(
+    alloc: Global,
+    c: &mut Cursor<'a>,
+    comps: u32,
+    n: u32,
+) -> Result<Integers<'a>, Refusal>
+    requires some { 0 < comps }
+    requires whole { n % comps ≡ 0 }
+    requires few { n ≤ MAX_VALUES }
+    ensures item { Gives integers_of (integers_at comps n c.old) c.new result }
+    ensures len { IfOk result (λ i. length (integers_of i) ≡ n) }
+{
+    let compressed = c.get_u8()?;
+    if compressed == 0 {
+        let values = read_plain_values(alloc, c, n)?;
+        Ok(Integers::Listed(values))
+    } else {
+        open_compressed_values(alloc, c, comps, n)
+    }
+}
+
+/// Reads `n` integers of entries of `comps` components, all of them.
 pub fn read_integers(
     alloc: Global,
     c: &mut Cursor<'_>,
@@ -202,10 +260,7 @@ pub fn read_integers(
     ensures item { Gives (λ v. v.items) (integers_at comps n c.old) c.new result }
     ensures len { IfOk result (λ v. length v.items ≡ n) }
 {
-    let compressed = c.get_u8()?;
-    if compressed == 0 {
-        read_plain_values(alloc, c, n)
-    } else {
-        read_compressed_values(alloc, c, comps, n)
-    }
+    let integers = open_integers(alloc, c, comps, n)?;
+    let values = integers.into_list(alloc)?;
+    Ok(values)
 }

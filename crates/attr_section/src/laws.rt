@@ -14,7 +14,7 @@ pub fn predictions_are_accepted()
     ensures { PredictionsAreAccepted }
 {}
 
-/// Where no two entries of an order over a table stand at one vertex, as in the order of a walk, no list
+/// Where no two entries of an order over a table stand at one vertex, as in the order of a traversal, no list
 /// of flags that is written has more of them than there are corners, so reading accepts it. This is the
 /// contract of a call that does nothing.
 pub fn flags_are_few()

@@ -1,10 +1,11 @@
 //! Attributes of a stream: the heads of their decoders and their values. The contract above it: what
 //! is read is the attribute part of its definition at the cursor's place, or its first fault, and
 //! what is written is read back with exactly its length. The values of an Edgebreaker stream stand on the
-//! surface of a walk. After the Draco Bitstream Specification 2.2, sections "Attributes Decoder",
+//! ordered surface. After the Draco Bitstream Specification 2.2, sections "Attributes Decoder",
 //! "Sequential Attributes" and "Prediction Decoder".
 #![tactic(auto)]
 
+mod coded_integers;
 mod correcting;
 mod decoder_heads;
 mod decoder_writing;
@@ -32,7 +33,7 @@ pub use decoder_writing::write_decoder;
 pub use head_reading::read_heads;
 pub use head_writing::write_heads;
 pub use laws::{flags_are_few, flags_are_tested, predictions_are_accepted};
-pub use predict::{Prediction, Walked};
+pub use predict::{Ordered, Prediction};
 pub use ranges::range_of;
 pub use value_reading::read_decoder;
 pub use values::Values;

@@ -19,7 +19,7 @@ pub struct Link {
     pub data_id: Option<u8>,
     /// Whether values belong to corners, and not to vertices.
     pub corner: bool,
-    /// Whether entries are walked by prediction degree, and not depth first.
+    /// Whether entries are ordered by prediction degree, and not depth first.
     pub degree: bool,
 }
 
@@ -47,7 +47,7 @@ fn is_used_id(before: &[Link], id: u8) -> bool
 }
 
 /// The link behind those before: the data id, the element type and the walk. Entries of corners are
-/// walked depth first alone.
+/// ordered depth first alone.
 #[tactic(auto, unfolding(crate::specs::Heads::link_at))]
 fn read_link(c: &mut Cursor<'_>, attr_data: u8, before: &[Link]) -> Result<Link, Fault>
     ensures { Reads (λ l. l) (link_at attr_data before.now c.old) c.new result }

@@ -14,7 +14,7 @@ use crate::flag_writing::put_flag_lists;
 use crate::integer_writing::put_symbols;
 use crate::ranges::{put_range, range_of};
 use drc_base::{MAX_VALUES, Memory};
-use predict::{Prediction, Walked, symbols_of};
+use predict::{Ordered, Prediction, symbols_of};
 use std::alloc::Global;
 
 /// Appends values without a prediction.
@@ -37,13 +37,13 @@ fn put_integers(
     Ok(())
 }
 
-/// Appends values by a prediction that corrects, over the surface of a walk where it needs one: the
+/// Appends values by a prediction that corrects, over an ordered surface where it needs one: the
 /// corrections, and the flags beside them.
 #[tactic(auto, unfolding(crate::specs::Written::flagged_bytes, crate::specs::Written::integers_bytes))]
 fn put_corrected(
     alloc: Global,
     out: &mut Vec<u8>,
-    walk: Option<&Walked<'_>>,
+    on: Option<&Ordered<'_>>,
     prediction: Prediction,
     values: &[i32],
     comps: u32,
@@ -54,15 +54,15 @@ fn put_corrected(
     requires some { 0 < length values.now }
     requires whole { length values.now % comps ≡ 0 }
     requires few { length values.now ≤ MAX_VALUES }
-    requires over { MayBeOver (option_map (λ t. t.now) walk) }
-    requires stand { CanStand prediction (surface_of (option_map (λ t. t.now) walk)) comps (length values.now) }
+    requires over { MayBeOver (option_map (λ t. t.now) on) }
+    requires stand { CanStand prediction (surface_of (option_map (λ t. t.now) on)) comps (length values.now) }
     requires can_wrap { CanWrap (range_of values.now) }
-    ensures bytes { OnOk result (out.new.items ≡ out.old.items ++ corrected_bytes plain (surface_or (surface_of (option_map (λ t. t.now) walk.entry))) prediction comps values.now) }
-    ensures again { OnOk result (HasFewFlags (surface_or (surface_of (option_map (λ t. t.now) walk.entry))) → (at : ℕ) → Spells (corrected_at at (surface_or (surface_of (option_map (λ t. t.now) walk.entry))) prediction comps (length values.now)) (corrected_bytes plain (surface_or (surface_of (option_map (λ t. t.now) walk.entry))) prediction comps values.now) values.now) }
+    ensures bytes { OnOk result (out.new.items ≡ out.old.items ++ corrected_bytes plain (surface_or (surface_of (option_map (λ t. t.now) on.entry))) prediction comps values.now) }
+    ensures again { OnOk result (HasFewFlags (surface_or (surface_of (option_map (λ t. t.now) on.entry))) → (at : ℕ) → Spells (corrected_at at (surface_or (surface_of (option_map (λ t. t.now) on.entry))) prediction comps (length values.now)) (corrected_bytes plain (surface_or (surface_of (option_map (λ t. t.now) on.entry))) prediction comps values.now) values.now) }
 {
     let (least, greatest) = range_of(values);
     let (symbols, flags) = corrected_symbols(
-        alloc, prediction, walk, values, comps, least, greatest,
+        alloc, prediction, on, values, comps, least, greatest,
     )?;
     out.push(1)?;
     put_symbols(alloc, out, symbols, comps, plain)?;
@@ -76,7 +76,7 @@ fn put_corrected(
 pub fn put_predicted(
     alloc: Global,
     out: &mut Vec<u8>,
-    walk: Option<&Walked<'_>>,
+    on: Option<&Ordered<'_>>,
     prediction: Prediction,
     values: &[i32],
     comps: u32,
@@ -86,13 +86,13 @@ pub fn put_predicted(
     requires some { 0 < length values.now }
     requires whole { length values.now % comps ≡ 0 }
     requires few { length values.now ≤ MAX_VALUES }
-    requires walk { MayBeOver (option_map (λ t. t.now) walk) }
-    requires predicted { CanPredict (surface_of (option_map (λ t. t.now) walk)) comps values.now prediction }
-    ensures bytes { OnOk result (out.new.items ≡ out.old.items ++ predicted_bytes plain (surface_of (option_map (λ t. t.now) walk.entry)) prediction comps values.now) }
-    ensures again { OnOk result (PredictedSpelled plain (surface_of (option_map (λ t. t.now) walk.entry)) prediction comps values.now) }
+    requires on { MayBeOver (option_map (λ t. t.now) on) }
+    requires predicted { CanPredict (surface_of (option_map (λ t. t.now) on)) comps values.now prediction }
+    ensures bytes { OnOk result (out.new.items ≡ out.old.items ++ predicted_bytes plain (surface_of (option_map (λ t. t.now) on.entry)) prediction comps values.now) }
+    ensures again { OnOk result (PredictedSpelled plain (surface_of (option_map (λ t. t.now) on.entry)) prediction comps values.now) }
 {
     if prediction.facts().corrects {
-        put_corrected(alloc, out, walk, prediction, values, comps, plain)
+        put_corrected(alloc, out, on, prediction, values, comps, plain)
     } else {
         put_integers(alloc, out, values, comps, plain)
     }

@@ -5,14 +5,15 @@ ghost use Rattle.std.specs.Prelude.{◌≡◌, ℕ, ◌≤◌, ◌<◌, ◌*◌,
 ghost use Rattle.std.specs.Option.{option_map};
 ghost use Rattle.drc_bits.specs.Reading.{Reading, Reads, Gives};
 ghost use Rattle.predict.specs.Schemes.{facts};
-ghost use Rattle.predict.specs.Surfaces.{surface_of, surface_or, lacks_surface, MayBeWalkOf, MayBeOver, CanStand};
+ghost use Rattle.predict.specs.Surfaces.{surface_of, surface_or, lacks_surface, MayBeOrderedOf, MayBeOver, CanStand};
+ghost use Rattle.attr_section.specs.Opened.{integers_of};
 ghost use Rattle.attr_section.specs.Values.{prediction_at, range_at, transform_at, flag_lists_at, corrected_at, with_flags, predicted_at};
 
 use crate::flag_lists::read_flag_lists;
-use crate::integers::read_integers;
+use crate::integers::{Integers, open_integers, read_integers};
 use drc_base::{Fault, Kind, MAX_VALUES, Refusal};
 use drc_bits::Cursor;
-use predict::{Flags, Prediction, Walked, Wrap, restore};
+use predict::{Flags, Ordered, Prediction, Wrap, restore, restore_from};
 use std::alloc::Global;
 
 /// The prediction of an attribute.
@@ -47,32 +48,32 @@ fn read_range(c: &mut Cursor<'_>) -> Result<Wrap, Fault>
     Wrap::new(low, high).ok_or(fault)
 }
 
-/// The number of corners of the surface of a walk, none where there is no walk.
-fn corners_of(walk: Option<&Walked<'_>>) -> usize
-    ensures { result ≡ length (surface_or (surface_of (option_map (λ t. t.now) walk.entry))).entries }
+/// The number of corners of an ordered surface, none where there is no surface.
+fn corners_of(on: Option<&Ordered<'_>>) -> usize
+    ensures { result ≡ length (surface_or (surface_of (option_map (λ t. t.now) on.entry))).entries }
 {
-    match walk {
+    match on {
         None => 0,
-        Some(walk) => walk.order.entry_of_corner.len(),
+        Some(on) => on.classes.of_corner.len(),
     }
 }
 
-/// The lists of flags that a prediction has over the surface of a walk. `FlagCount` at the number of a list
+/// The lists of flags that a prediction has over an ordered surface. `FlagCount` at the number of a list
 /// that has more than three for each face, and the faults of their blocks.
 #[tactic(auto, unfolding(crate::specs::Values::flag_lists_at))]
 fn read_flags(
     alloc: Global,
     c: &mut Cursor<'_>,
-    walk: Option<&Walked<'_>>,
+    on: Option<&Ordered<'_>>,
     prediction: Prediction,
 ) -> Result<Flags, Refusal>
-    ensures { Gives (λ f. f.lists) (flag_lists_at (facts prediction).flag_lists (surface_or (surface_of (option_map (λ t. t.now) walk.entry))) c.old) c.new result }
+    ensures { Gives (λ f. f.lists) (flag_lists_at (facts prediction).flag_lists (surface_or (surface_of (option_map (λ t. t.now) on.entry))) c.old) c.new result }
 {
     let lists = prediction.facts().flag_lists;
-    read_flag_lists(alloc, c, corners_of(walk), lists)
+    read_flag_lists(alloc, c, corners_of(on), lists)
 }
 
-/// Turns corrections into values, in place, over the surface of a walk where their prediction needs one.
+/// Turns corrections into values, in place, over an ordered surface where their prediction needs one.
 /// Where a flag is needed that isn't there, `FlagsShort` at this place; the values are given up then.
 #[tactic(auto, unfolding(crate::specs::Values::with_flags), using(crate::proofs::SpelledFlags::flags_pass, crate::proofs::SpelledFlags::flags_fail))]
 fn restore_values(
@@ -80,31 +81,94 @@ fn restore_values(
     prediction: Prediction,
     wrap: &Wrap,
     comps: u32,
-    walk: Option<&Walked<'_>>,
+    on: Option<&Ordered<'_>>,
     flags: &Flags,
     values: &mut [i32],
 ) -> Result<(), Fault>
     requires corrects { (facts prediction).corrects ≡ true }
     requires some { 0 < comps }
     requires whole { length values.old % comps ≡ 0 }
-    requires over { MayBeOver (option_map (λ t. t.now) walk) }
-    requires stand { CanStand prediction (surface_of (option_map (λ t. t.now) walk)) comps (length values.old) }
-    ensures { (after : Reading) → Reads (λ _. values.new) (with_flags at (surface_or (surface_of (option_map (λ t. t.now) walk.entry))) prediction comps flags.now.lists wrap.now values.old after) after result }
+    requires over { MayBeOver (option_map (λ t. t.now) on) }
+    requires stand { CanStand prediction (surface_of (option_map (λ t. t.now) on)) comps (length values.old) }
+    ensures { (after : Reading) → Reads (λ _. values.new) (with_flags at (surface_or (surface_of (option_map (λ t. t.now) on.entry))) prediction comps flags.now.lists wrap.now values.old after) after result }
 {
-    match restore(prediction, wrap, comps, walk, flags, values) {
+    match restore(prediction, wrap, comps, on, flags, values) {
         Ok(()) => Ok(()),
         Err(kind) => Err(Fault::new(kind, at)),
     }
 }
 
+/// The values of a list of corrections, in its place.
+fn restored_list(
+    at: u64,
+    prediction: Prediction,
+    wrap: &Wrap,
+    comps: u32,
+    on: Option<&Ordered<'_>>,
+    flags: &Flags,
+    corrections: Vec<i32>,
+) -> Result<Vec<i32>, Fault>
+    requires corrects { (facts prediction).corrects ≡ true }
+    requires some { 0 < comps }
+    requires whole { length corrections.items % comps ≡ 0 }
+    requires over { MayBeOver (option_map (λ t. t.now) on) }
+    requires stand { CanStand prediction (surface_of (option_map (λ t. t.now) on)) comps (length corrections.items) }
+    ensures item { (after : Reading) → Reads (λ v. v.items) (with_flags at (surface_or (surface_of (option_map (λ t. t.now) on.entry))) prediction comps flags.now.lists wrap.now corrections.items after) after result }
+    ensures len { IfOk result (λ v. length v.items ≡ length corrections.items) }
+{
+    let mut values = corrections;
+    restore_values(
+        at,
+        prediction,
+        wrap,
+        comps,
+        on,
+        flags,
+        values.as_mut_slice(),
+    )?;
+    Ok(values)
+}
+
+/// The values of corrections that were opened: those of coded symbols are taken one after another while
+/// values are restored, unless flags choose their predictions.
+fn restored_values(
+    alloc: Global,
+    at: u64,
+    prediction: Prediction,
+    wrap: &Wrap,
+    comps: u32,
+    on: Option<&Ordered<'_>>,
+    flags: &Flags,
+    corrections: Integers<'_>,
+) -> Result<Vec<i32>, Refusal>
+    requires corrects { (facts prediction).corrects ≡ true }
+    requires some { 0 < comps }
+    requires whole { length (integers_of corrections) % comps ≡ 0 }
+    requires over { MayBeOver (option_map (λ t. t.now) on) }
+    requires stand { CanStand prediction (surface_of (option_map (λ t. t.now) on)) comps (length (integers_of corrections)) }
+    ensures item { (after : Reading) → Gives (λ v. v.items) (with_flags at (surface_or (surface_of (option_map (λ t. t.now) on.entry))) prediction comps flags.now.lists wrap.now (integers_of corrections.entry) after) after result }
+    ensures len { IfOk result (λ v. length v.items ≡ length (integers_of corrections.entry)) }
+{
+    if prediction.facts().flag_lists > 0 {
+        let list = corrections.into_list(alloc)?;
+        return Ok(restored_list(at, prediction, wrap, comps, on, flags, list)?);
+    }
+    match corrections {
+        Integers::Coded(source) => Ok(restore_from(alloc, prediction, wrap, comps, on, source)?),
+        Integers::Listed(list) => {
+            Ok(restored_list(at, prediction, wrap, comps, on, flags, list)?)
+        }
+    }
+}
+
 /// `n` values that are restored from corrections by this prediction, whose byte stands at `at`, over the
-/// surface of a walk where it needs one.
+/// ordered surface where it needs one.
 #[tactic(auto, unfolding(crate::specs::Values::corrected_at))]
 fn read_corrected(
     alloc: Global,
     c: &mut Cursor<'_>,
     at: u64,
-    walk: Option<&Walked<'_>>,
+    on: Option<&Ordered<'_>>,
     prediction: Prediction,
     comps: u32,
     n: u32,
@@ -113,32 +177,24 @@ fn read_corrected(
     requires some { 0 < comps }
     requires whole { n % comps ≡ 0 }
     requires few { n ≤ MAX_VALUES }
-    requires over { MayBeOver (option_map (λ t. t.now) walk) }
-    requires stand { CanStand prediction (surface_of (option_map (λ t. t.now) walk)) comps n }
-    ensures item { Gives (λ v. v.items) (corrected_at at (surface_or (surface_of (option_map (λ t. t.now) walk.entry))) prediction comps n c.old) c.new result }
+    requires over { MayBeOver (option_map (λ t. t.now) on) }
+    requires stand { CanStand prediction (surface_of (option_map (λ t. t.now) on)) comps n }
+    ensures item { Gives (λ v. v.items) (corrected_at at (surface_or (surface_of (option_map (λ t. t.now) on.entry))) prediction comps n c.old) c.new result }
     ensures len { IfOk result (λ v. length v.items ≡ n) }
 {
     read_transform(c)?;
-    let mut values = read_integers(alloc, c, comps, n)?;
-    let flags = read_flags(alloc, c, walk, prediction)?;
+    let integers = open_integers(alloc, c, comps, n)?;
+    let flags = read_flags(alloc, c, on, prediction)?;
     let wrap = read_range(c)?;
-    restore_values(
-        at,
-        prediction,
-        &wrap,
-        comps,
-        walk,
-        &flags,
-        values.as_mut_slice(),
-    )?;
+    let values = restored_values(alloc, at, prediction, &wrap, comps, on, &flags, integers)?;
     Ok(values)
 }
 
-/// Whether a prediction needs a surface where there is no walk.
-fn lacks_surface(prediction: Prediction, walk: Option<&Walked<'_>>) -> bool
-    ensures { result ≡ lacks_surface prediction (surface_of (option_map (λ t. t.now) walk.entry)) }
+/// Whether a prediction needs a surface where there is no surface.
+fn lacks_surface(prediction: Prediction, on: Option<&Ordered<'_>>) -> bool
+    ensures { result ≡ lacks_surface prediction (surface_of (option_map (λ t. t.now) on.entry)) }
 {
-    match walk {
+    match on {
         None => prediction.facts().needs_surface,
         Some(_) => false,
     }
@@ -150,7 +206,7 @@ pub fn read_predicted(
     alloc: Global,
     c: &mut Cursor<'_>,
     at: u64,
-    walk: Option<&Walked<'_>>,
+    on: Option<&Ordered<'_>>,
     prediction: Prediction,
     comps: u32,
     n: u32,
@@ -158,15 +214,15 @@ pub fn read_predicted(
     requires some { 0 < comps }
     requires whole { n % comps ≡ 0 }
     requires few { n ≤ MAX_VALUES }
-    requires walk { (entries : ℕ) × (n ≡ entries * comps) × MayBeWalkOf entries (option_map (λ t. t.now) walk) }
-    ensures item { Gives (λ v. v.items) (predicted_at at (surface_of (option_map (λ t. t.now) walk.entry)) prediction comps n c.old) c.new result }
+    requires on { (entries : ℕ) × (n ≡ entries * comps) × MayBeOrderedOf entries (option_map (λ t. t.now) on) }
+    ensures item { Gives (λ v. v.items) (predicted_at at (surface_of (option_map (λ t. t.now) on.entry)) prediction comps n c.old) c.new result }
     ensures len { IfOk result (λ v. length v.items ≡ n) }
 {
     if !prediction.facts().corrects {
         return read_integers(alloc, c, comps, n);
     }
-    if lacks_surface(prediction, walk) {
+    if lacks_surface(prediction, on) {
         return Err(Refusal::Fault(Fault::new(Kind::Prediction, at)));
     }
-    read_corrected(alloc, c, at, walk, prediction, comps, n)
+    read_corrected(alloc, c, at, on, prediction, comps, n)
 }

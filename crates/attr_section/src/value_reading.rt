@@ -7,7 +7,7 @@ ghost use Rattle.std.specs.List.{list_all};
 ghost use Rattle.drc_base.specs.Refusals.{Refuses};
 ghost use Rattle.drc_bits.specs.Reading.{Reads, Gives};
 ghost use Rattle.mesh_model.specs.Head.{in_type};
-ghost use Rattle.predict.specs.Surfaces.{surface_of, MayBeWalkOf};
+ghost use Rattle.predict.specs.Surfaces.{surface_of, MayBeOrderedOf};
 ghost use Rattle.attr_section.specs.Values.{typed_values_at, values_at, values_in, attributes_at, decoder_values_at, AreColumns};
 
 use crate::decoder_heads::DecoderHead;
@@ -18,7 +18,7 @@ use crate::values::Values;
 use drc_base::{Fault, Kind, MAX_VALUES, Refusal, Sequence};
 use drc_bits::Cursor;
 use mesh_model::Head;
-use predict::Walked;
+use predict::Ordered;
 use std::alloc::Global;
 
 /// `n` values of an attribute, each of which is in its data type.
@@ -26,20 +26,20 @@ use std::alloc::Global;
 fn read_typed_values(
     alloc: Global,
     c: &mut Cursor<'_>,
-    walk: Option<&Walked<'_>>,
+    on: Option<&Ordered<'_>>,
     head: &Head,
     n: u32,
 ) -> Result<Values, Refusal>
     requires some { 0 < head.now.comps }
     requires whole { n % head.now.comps ≡ 0 }
     requires few { n ≤ MAX_VALUES }
-    requires walk { (entries : ℕ) × (n ≡ entries * head.now.comps) × MayBeWalkOf entries (option_map (λ t. t.now) walk) }
-    ensures item { Gives (λ v. v) (typed_values_at profile (surface_of (option_map (λ t. t.now) walk.entry)) head.now n c.old) c.new result }
+    requires on { (entries : ℕ) × (n ≡ entries * head.now.comps) × MayBeOrderedOf entries (option_map (λ t. t.now) on) }
+    ensures item { Gives (λ v. v) (typed_values_at profile (surface_of (option_map (λ t. t.now) on.entry)) head.now n c.old) c.new result }
     ensures len { IfOk result (λ v. length v.values ≡ n) }
 {
     let at = c.place();
     let prediction = read_prediction(c)?;
-    let values = read_predicted(alloc, c, at, walk, prediction, head.comps as u32, n)?;
+    let values = read_predicted(alloc, c, at, on, prediction, head.comps as u32, n)?;
     if !are_in_type(head.dtype, &values) {
         return Err(Refusal::Fault(Fault::new(Kind::ValueRange, at)));
     }
@@ -55,15 +55,15 @@ fn read_typed_values(
 fn read_values(
     alloc: Global,
     c: &mut Cursor<'_>,
-    walk: Option<&Walked<'_>>,
+    on: Option<&Ordered<'_>>,
     head: &Head,
     entries: u32,
     spent: u64,
 ) -> Result<Values, Refusal>
     requires some { 0 < head.now.comps }
     requires spent { spent ≤ MAX_VALUES }
-    requires walk { MayBeWalkOf entries (option_map (λ t. t.now) walk) }
-    ensures item { Gives (λ v. v) (values_at profile (surface_of (option_map (λ t. t.now) walk.entry)) head.now entries spent c.old) c.new result }
+    requires on { MayBeOrderedOf entries (option_map (λ t. t.now) on) }
+    ensures item { Gives (λ v. v) (values_at profile (surface_of (option_map (λ t. t.now) on.entry)) head.now entries spent c.old) c.new result }
     ensures len { IfOk result (λ v. length v.values ≡ entries * head.now.comps) }
     ensures few { IfOk result (λ v. spent + length v.values ≤ MAX_VALUES) }
 {
@@ -71,29 +71,29 @@ fn read_values(
     if spent + n > MAX_VALUES as u64 {
         return Err(Refusal::Fault(c.fault(Kind::ValueLimit)));
     }
-    read_typed_values(alloc, c, walk, head, n as u32)
+    read_typed_values(alloc, c, on, head, n as u32)
 }
 
 /// The values of attributes for so many entries, behind so many other values.
 fn read_attributes(
     alloc: Global,
     c: &mut Cursor<'_>,
-    walk: Option<&Walked<'_>>,
+    on: Option<&Ordered<'_>>,
     heads: &[Head],
     entries: u32,
     spent: u64,
 ) -> Result<Vec<Values>, Refusal>
     requires some { All (λ h. 0 < h.comps) heads.now }
     requires spent { spent ≤ MAX_VALUES }
-    requires walk { MayBeWalkOf entries (option_map (λ t. t.now) walk) }
-    ensures item { Gives (λ v. v.items) (attributes_at profile (surface_of (option_map (λ t. t.now) walk.entry)) heads.now entries spent c.old) c.new result }
+    requires on { MayBeOrderedOf entries (option_map (λ t. t.now) on) }
+    ensures item { Gives (λ v. v.items) (attributes_at profile (surface_of (option_map (λ t. t.now) on.entry)) heads.now entries spent c.old) c.new result }
     ensures few { IfOk result (λ v. spent + values_in v.items ≤ MAX_VALUES) }
     ensures columns { IfOk result (λ v. AreColumns entries heads.now v.items) }
 {
     let mut total = spent;
     let mut attributes = Vec::new(alloc);
     for head in heads {
-        let values = read_values(alloc, c, walk, head, entries, total)?;
+        let values = read_values(alloc, c, on, head, entries, total)?;
         total += values.values.len() as u64;
         attributes.push(values)?;
     }
@@ -113,33 +113,33 @@ fn values_in(attributes: &[Values]) -> u64
 }
 
 /// The values of a decoder for so many entries, behind so many values of decoders before it; `spent`
-/// grows by the values read, and the decoder's heads get their quantisations. `walk` is the surface that
-/// the values of an Edgebreaker stream stand on, in the order of the decoder's walk, and `entries` is then
+/// grows by the values read, and the decoder's heads get their quantisations. `on` is the surface that
+/// the values of an Edgebreaker stream stand on, in the decoder's order, and `entries` is then
 /// the number of its entries; None stands for a sequential stream. The first fault of the bytes: for each
 /// attribute `ValueLimit` where it passes `MAX_VALUES` values in all, at its prediction byte; `Prediction`,
-/// also at a parallelogram where there is no walk; `Transform`, `ByteWidth`, the faults of a symbol block;
+/// also at a parallelogram where there is no surface; `Transform`, `ByteWidth`, the faults of a symbol block;
 /// with constrained multi-parallelogram prediction `FlagCount` at the number of flags where there are more
 /// than three for each face, and the faults of their blocks; `WrapRange` at a range's start, `FlagsShort`
 /// at the prediction byte where a flag is needed that isn't there, `ValueRange` at the prediction byte; then
-/// `QuantBits` at the quantisations; and `Short` and `Long`. Restoring the values takes no memory.
+/// `QuantBits` at the quantisations; and `Short` and `Long`. Restoring takes memory for the values alone.
 #[tactic(auto, unfolding(crate::specs::Values::decoder_values_at))]
 pub fn read_decoder(
     alloc: Global,
     c: &mut Cursor<'_>,
     h: &mut DecoderHead,
     entries: u32,
-    walk: Option<&Walked<'_>>,
+    on: Option<&Ordered<'_>>,
     spent: &mut u64,
 ) -> Result<Vec<Values>, Refusal>
     requires some { All (λ head. 0 < head.comps) h.old.heads }
     requires spent { spent.old ≤ MAX_VALUES }
-    requires walk { MayBeWalkOf entries (option_map (λ t. t.now) walk) }
-    ensures values { MatchResult result (λ v. decoder_values_at profile (surface_of (option_map (λ t. t.now) walk.entry)) h.old entries spent.old c.old ≡ Ok ((v.items, h.new), c.new)) (λ e. Refuses (decoder_values_at profile (surface_of (option_map (λ t. t.now) walk.entry)) h.old entries spent.old c.old) e) }
+    requires on { MayBeOrderedOf entries (option_map (λ t. t.now) on) }
+    ensures values { MatchResult result (λ v. decoder_values_at profile (surface_of (option_map (λ t. t.now) on.entry)) h.old entries spent.old c.old ≡ Ok ((v.items, h.new), c.new)) (λ e. Refuses (decoder_values_at profile (surface_of (option_map (λ t. t.now) on.entry)) h.old entries spent.old c.old) e) }
     ensures spent { IfOk result (λ v. spent.new ≡ spent.old + values_in v.items) }
     ensures few { IfOk result (λ v. spent.new ≤ MAX_VALUES) }
     ensures columns { IfOk result (λ v. AreColumns entries h.new.heads v.items) }
 {
-    let attributes = read_attributes(alloc, c, walk, h.heads.as_slice(), entries, *spent)?;
+    let attributes = read_attributes(alloc, c, on, h.heads.as_slice(), entries, *spent)?;
     let heads = read_quants(alloc, c, h.heads.as_slice())?;
     h.heads = Sequence::from_vec(heads);
     *spent += values_in(&attributes);

@@ -11,7 +11,7 @@ use crate::predicted_writing::put_predicted;
 use crate::values::Values;
 use drc_base::Memory;
 use mesh_model::Head;
-use predict::{Prediction, Walked};
+use predict::{Ordered, Prediction};
 use std::alloc::Global;
 
 /// The prediction of this number.
@@ -30,20 +30,20 @@ fn prediction_of(code: i8) -> Prediction
 pub fn put_values(
     alloc: Global,
     out: &mut Vec<u8>,
-    walk: Option<&Walked<'_>>,
+    on: Option<&Ordered<'_>>,
     head: &Head,
     v: &Values,
     plain: bool,
 ) -> Result<(), Memory>
-    requires values { ValuesPass (surface_of (option_map (λ t. t.now) walk)) head.now v.now }
-    requires walk { MayBeOver (option_map (λ t. t.now) walk) }
-    ensures bytes { OnOk result (out.new.items ≡ out.old.items ++ values_bytes plain (surface_of (option_map (λ t. t.now) walk.entry)) head.now.comps v.now) }
-    ensures again { OnOk result (ValuesSpelled plain (surface_of (option_map (λ t. t.now) walk.entry)) head.now v.now) }
+    requires values { ValuesPass (surface_of (option_map (λ t. t.now) on)) head.now v.now }
+    requires on { MayBeOver (option_map (λ t. t.now) on) }
+    ensures bytes { OnOk result (out.new.items ≡ out.old.items ++ values_bytes plain (surface_of (option_map (λ t. t.now) on.entry)) head.now.comps v.now) }
+    ensures again { OnOk result (ValuesSpelled plain (surface_of (option_map (λ t. t.now) on.entry)) head.now v.now) }
 {
     let comps = head.comps as u32;
     let values = v.values.as_slice();
     let prediction = prediction_of(v.predict);
     out.push(prediction.facts().byte)?;
-    put_predicted(alloc, out, walk, prediction, values, comps, plain)?;
+    put_predicted(alloc, out, on, prediction, values, comps, plain)?;
     Ok(())
 }

@@ -3,6 +3,8 @@ pub mod Numbers
 pub mod Walks
 pub mod Boundary
 pub mod Gluings
+pub mod Across
+pub mod Orders
 pub mod LinkSteps
 pub mod LinkLists
 pub mod TableSteps

@@ -6,6 +6,7 @@ pub mod Pairs
 pub mod Renumbering
 pub mod Links
 pub mod Table
+pub mod Ordered
 pub mod Looks
 pub mod Labels
 pub mod Labelling

@@ -1,6 +1,6 @@
-//! Lists that go by the number 3f + k of a corner.
+//! Lists that go by the numbers of corners, classes and entries.
 
-use drc_base::{Sequence, Side};
+use drc_base::Sequence;
 
 /// The classes of corners that are one vertex.
 #[derive(Debug, Drop)]
@@ -13,11 +13,26 @@ pub struct Classes {
     pub ends: Sequence<bool>,
 }
 
+/// The entries of a face across a side: that of its corner opposite to the side, and those of the
+/// corners after and before it.
+#[derive(Clone, Copy, Debug, Default)]
+pub struct FaceAcross {
+    /// The entry of the corner opposite to the side.
+    pub across: u32,
+    /// The entry of the corner after it in its face.
+    pub after: u32,
+    /// The entry of the corner before it in its face.
+    pub before: u32,
+}
+
 /// An order in which values are coded.
 #[derive(Debug, Drop)]
 pub struct Order {
-    /// For each entry a corner at which it stands.
-    pub corner_of_entry: Sequence<Side>,
-    /// The entry of each corner, by the corner's number.
-    pub entry_of_corner: Sequence<u32>,
+    /// For each entry a corner at which it stands, by its number 3f + k.
+    pub corner_of_entry: Sequence<u32>,
+    /// The entry of each class of corners.
+    pub entry_of_class: Sequence<u32>,
+    /// For each entry the face across the side of its corner, where there is one whose entries all
+    /// come before; else one whose `across` is `FREE`.
+    pub faces_across: Sequence<FaceAcross>,
 }

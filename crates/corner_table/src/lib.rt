@@ -5,6 +5,7 @@
 
 mod corner_lists;
 mod entries;
+mod faces_across;
 mod labels;
 mod laws;
 mod linked_table;
@@ -15,8 +16,9 @@ mod side_table;
 mod steps;
 mod symbols;
 
-pub use corner_lists::{Classes, Order};
+pub use corner_lists::{Classes, FaceAcross, Order};
 pub use entries::FREE;
+pub use faces_across::face_across;
 pub use laws::{
     a_fan_is_one_walk, fans_end_once, gluing_joins_fans, links_are_a_permutation,
     meeting_is_one_fan, pairs_have_one_bit_each, prefixes_have_gaps, renumbering_keeps_fans,

@@ -1,4 +1,5 @@
 pub mod Meaning
 pub mod OnSurface
+pub mod AsRead
 pub mod Stream
 pub mod Profiles

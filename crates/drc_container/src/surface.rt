@@ -3,8 +3,8 @@
 pub mod attribute_surfaces;
 pub mod carried_surfaces;
 pub mod ordered_surface;
+pub mod ordering;
 pub mod seam_lists;
 pub mod seamed_surface;
 pub mod traced_surfaces;
 pub mod turned_meshes;
-pub mod walking;

@@ -44,15 +44,16 @@ abbrev pub position_of : MeshParts → ℕ → ℕ → List ℤ
 position_of m f k = take 3 (corner m f k)
 
 -- no two corners of face f have one position
-abbrev pub IsProperFace : MeshParts → ℕ → Type 0
-IsProperFace m f =
+abbrev pub HasThreePositions : MeshParts → ℕ → Type 0
+HasThreePositions m f =
     (position_of m f 0 ≢ position_of m f 1)
     × (position_of m f 1 ≢ position_of m f 2)
     × (position_of m f 2 ≢ position_of m f 0)
 
 -- each face of each kind is so
 abbrev pub FacesAreProper : Type 0
-FacesAreProper = (kind : GenKind) (n seed f : ℕ) → IsSize n → f < length (generated_faces kind n) → IsProperFace (generated kind n seed) f
+FacesAreProper = (kind : GenKind) (n seed f : ℕ) → IsSize n → f < length (generated_faces kind n)
+    → HasThreePositions (generated kind n seed) f
 
 -- an integer that has no sign and at most 20 bits
 abbrev pub IsSmall : ℤ → Type 0

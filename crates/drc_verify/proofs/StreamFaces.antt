@@ -13,10 +13,9 @@ use Rattle.seq_section.specs.Indices.{indices_at}
 use Rattle.eb_section.specs.Connectivity.{Connectivity, connectivity_at}
 use Rattle.drc_container.specs.declared.headers.Form.{Form}
 use Rattle.drc_container.specs.declared.headers.Form.TheVariants as form
-use Rattle.drc_container.specs.declared.reading.surface_attributes.SurfaceAttributes.{SurfaceAttributes}
 use Rattle.drc_container.specs.Header.{header_at, cloud_points_at}
 use Rattle.drc_container.specs.reading.Meaning.{Surface, Meaning}
-use Rattle.drc_container.specs.reading.OnSurface.{at_end, counts_in, accepted, assembled_in, assembled_at, attributes_on}
+use Rattle.drc_container.specs.reading.OnSurface.{SurfaceAttributes, at_end, counts_in, accepted, assembled_in, assembled_at, attributes_on}
 use Rattle.drc_container.specs.reading.Stream.{points_behind, mesh_behind, mesh_at, cloud_behind, cloud_at, surface_behind, edgebreaker_at, body_at, stream_in}
 use Rattle.drc_container.proofs.lemmas.reading.Parted.{parts, given}
 use Rattle.drc_verify.specs.Checked.{HasFaces, SurfaceHasFaces}

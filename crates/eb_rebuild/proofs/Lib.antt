@@ -10,8 +10,10 @@ pub mod Counts
 pub mod Closes
 pub mod RowLists
 pub mod ManyGlued
+pub mod FaceNamed
 pub mod Naming
 pub mod NamedRules
+pub mod Roots
 pub mod NamedLaw
 pub mod RowsOnce
 mod NamedRows
@@ -24,3 +26,5 @@ pub mod NamesMade
 mod NameDegrees
 mod SymbolDegrees
 pub mod TableDegrees
+pub mod CornersNamed
+pub mod CornerLabels

@@ -2,9 +2,10 @@
 use Rattle.std.proofs.Common.{◌≡◌, ◌≢◌, ℕ, suc, ◌<◌, [], ◌∷◌, ◌⊎◌, inl, inr, refl, ap, ◌∙◌, subst, arith}
 use Rattle.std.proofs.lemmas.Bool.{cases_lt}
 use Rattle.corner_table.specs.Sides.{Side, Place, side, next, prev, Gluing, IsGluing, IsFree}
-use Rattle.corner_table.specs.Fans.{InFan}
+use Rattle.corner_table.specs.Fans.{InFan, here, leftwards, rightwards}
 use Rattle.eb_rebuild.specs.OneFaceMore.{Pairs, glue_all, IsOther, IsOtherPlace, PairsAreApart, Touches}
 use Rattle.corner_table.proofs.Places.{glue_other}
+use Rattle.corner_table.proofs.Walks.{left-within, right-within, left_crosses, right_crosses}
 use Rattle.corner_table.proofs.Gluings.{more_faces, new_free, glued_is, fan_stays, ends_join, starts_join, alike_after, free_before}
 
 old_other : (f : ℕ) (x : Side) (k : Place) → x.face < f → x ≢ side f k
@@ -41,6 +42,22 @@ all_gluing {f} {g} G (p ∷ ps) A =
 pub all_stay : {f : ℕ} {g : Gluing} → IsGluing f g → (ps : Pairs) → PairsAreApart f g ps → {c d : Side} → InFan g c d → InFan (glue_all f ps g) c d
 all_stay {f} {g} G [] A w = w
 all_stay {f} {g} G (p ∷ ps) A w = fan_stays {faces = suc f} {g = glue_all f ps g} (side f p.0) p.1 (new_is_free G ps p.0 A.3 A.2) (old_is_free f g ps p.1 A.0 A.1) (all_stay G ps A.3 w)
+
+-- a fan is one corner, or lies in the faces
+pub fan_within : {f : ℕ} {g : Gluing} → IsGluing f g → {c d : Side} → InFan g c d → (c ≡ d) ⊎ ((c.face < f) × (d.face < f))
+fan_within {f} {g} G here = inl refl
+fan_within {f} {g} G (leftwards {c = c} {d = x} {e = d} s w) =
+    let from : c.face < f = G.within (next c) (prev x) (left_crosses g c x s) in
+    elim (fan_within G w) [
+      | inl e ↦ inr (from, subst (λ (y : Side). y.face < f) e (left-within G c x s))
+      | inr t ↦ inr (from, t.1)
+    ]
+fan_within {f} {g} G (rightwards {c = c} {d = x} {e = d} s w) =
+    let from : c.face < f = G.within (prev c) (next x) (right_crosses g c x s) in
+    elim (fan_within G w) [
+      | inl e ↦ inr (from, subst (λ (y : Side). y.face < f) e (right-within G c x s))
+      | inr t ↦ inr (from, t.1)
+    ]
 
 -- a map of corners has the same value where two of them meet
 abbrev pub Meet : ℕ → (Side → ℕ) → Pairs → Type 0

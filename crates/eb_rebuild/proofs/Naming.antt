@@ -1,16 +1,15 @@
 -- Names stay the names of the fans when a face is added, some of whose sides are glued.
-use Rattle.std.proofs.Common.{◌≡◌, ◌≢◌, ℕ, zero, suc, ◌<◌, Bool, true, false, not, List, [], ◌∷◌, ◌++◌, length, get_or, map, ◌⊎◌, inl, inr, sym, refl, ap, ◌∙◌, subst, arith, length-append}
+use Rattle.std.proofs.Common.{◌≡◌, ◌≢◌, ℕ, zero, suc, ◌<◌, Bool, true, false, not, List, [], ◌∷◌, ◌++◌, length, get_or, map, inl, inr, sym, refl, ap, ◌∙◌, subst, arith, length-append}
 use Rattle.std.proofs.lemmas.Bool.{cases_lt}
 use Rattle.std.proofs.lemmas.List.{length-map}
 use Rattle.corner_table.specs.Sides.{Side, Place, first, second, third, side, same, next, prev, place_after, place_before, Gluing, IsGluing, IsFree}
-use Rattle.corner_table.specs.Fans.{InFan, here, leftwards, rightwards}
 use Rattle.corner_table.proofs.Places.{not_same, same_refl, same_tells}
-use Rattle.corner_table.proofs.Walks.{fan_trans, fan_sym, left-within, right-within, left_crosses, right_crosses}
 use Rattle.eb_rebuild.specs.Named.{Triangle, corner, no_triangle, Row, new_row, renamed_triangle, renamed_row}
 use Rattle.eb_rebuild.specs.Shown.{name_of, row_named, Among, AreNames}
 use Rattle.eb_rebuild.proofs.RowLists.{among_filter, from_filter, among_map, from_map, among_first, among_last, from_append}
 use Rattle.eb_rebuild.specs.OneFaceMore.{Pairs, glue_all, IsOther, PairsAreApart, more_triangles, without_all, new_rows, HasPlace, FitsNames, IsNewName, Grows}
-use Rattle.eb_rebuild.proofs.ManyGlued.{all_gluing, Meet, all_alike, Meeting, all_meet, free_tells, new_is_free, old_is_free}
+use Rattle.eb_rebuild.proofs.ManyGlued.{all_gluing, Meet, free_tells, new_is_free, old_is_free}
+use Rattle.eb_rebuild.proofs.FaceNamed.{IsAlone, NamesAround, alike_around, together_around}
 
 -- a list with one item more, read before the item and at it
 pub get_or-before_last : {A : Type 0} (xs : List A) (y d : A) (i : ℕ) → i < length xs → get_or (xs ++ (y ∷ [])) i d ≡ get_or xs i d
@@ -75,22 +74,6 @@ from_new : (f : ℕ) (t : Triangle) (r : Row) (ks : List Place) → Among r (new
 from_new f t r [] h = absurd h
 from_new f t r (j ∷ ks) h = elim h [ inl e ↦ (j, inl refl, e) | inr m ↦ (let u = from_new f t r ks m in (u.0, inr u.1, u.2)) ]
 
--- a fan is one corner, or lies in the faces
-fan_within : {f : ℕ} {g : Gluing} → IsGluing f g → {c d : Side} → InFan g c d → (c ≡ d) ⊎ ((c.face < f) × (d.face < f))
-fan_within {f} {g} G here = inl refl
-fan_within {f} {g} G (leftwards {c = c} {d = x} {e = d} s w) =
-    let from : c.face < f = G.within (next c) (prev x) (left_crosses g c x s) in
-    elim (fan_within G w) [
-      | inl e ↦ inr (from, subst (λ (y : Side). y.face < f) e (left-within G c x s))
-      | inr t ↦ inr (from, t.1)
-    ]
-fan_within {f} {g} G (rightwards {c = c} {d = x} {e = d} s w) =
-    let from : c.face < f = G.within (prev c) (next x) (right_crosses g c x s) in
-    elim (fan_within G w) [
-      | inl e ↦ inr (from, subst (λ (y : Side). y.face < f) e (right-within G c x s))
-      | inr t ↦ inr (from, t.1)
-    ]
-
 face_of : (f : ℕ) (x : Side) → x.face ≡ f → x ≡ side f x.place
 face_of f x e = ap (λ (n : ℕ). side n x.place) e
 
@@ -100,8 +83,8 @@ names_grow ts rows g made made' rename t ps ks W = record {
   gluing = subst (λ (n : ℕ). IsGluing n h) (sym long) G;
   rows_are = λ r m. let u = are r m in (subst (λ (n : ℕ). IsFree n h r.side) (sym long) u.0, u.1);
   sides_are = λ a A. become a (subst (λ (n : ℕ). IsFree n h a) long A);
-  one_name = alike;
-  one_fan = λ c d l k e. together c d (subst (λ (n : ℕ). c.face < n) long l) (subst (λ (n : ℕ). d.face < n) long k) e;
+  one_name = alike_around around;
+  one_fan = λ c d l k e. together_around around c d (subst (λ (n : ℕ). c.face < n) long l) (subst (λ (n : ℕ). d.face < n) long k) e;
   below = λ c l. under c (subst (λ (n : ℕ). c.face < n) long l);
 }
   where
@@ -123,13 +106,6 @@ names_grow ts rows g made made' rename t ps ks W = record {
     G : IsGluing (suc f) h
     G = all_gluing N.gluing ps W.apart
 
-    -- along the fans before
-    old_alike : (c d : Side) → InFan g c d → name_of new c ≡ name_of new d
-    old_alike c d w = elim (fan_within N.gluing w) [
-      | inl e ↦ ap (name_of new) e
-      | inr l ↦ name_old rename ts t c l.0 ∙ ap rename (N.one_name c d w) ∙ sym (name_old rename ts t d l.1)
-    ]
-
     meeting : (qs : Pairs) → PairsAreApart f g qs → FitsNames ts rename t qs → Meet f (name_of new) qs
     meeting [] A F = tt
     meeting (p ∷ qs) A F = (
@@ -138,17 +114,7 @@ names_grow ts rows g made made' rename t ps ks W = record {
       meeting qs A.3 F.2,
     )
 
-    meets : Meet f (name_of new) ps
-    meets = meeting ps W.apart W.fits
-
-    alike : (c d : Side) → InFan h c d → name_of new c ≡ name_of new d
-    alike = all_alike f (name_of new) ps old_alike meets
-
-    -- each corner is in a fan with an old one of its name, or has its name alone
-    Stands : Side → Type 0
-    Stands c = Meeting f h (name_of new) c ⊎ ((d : Side) → d.face < suc f → name_of new d ≡ name_of new c → c ≡ d)
-
-    alone : (k : Place) → IsNewName ts rename t k → (d : Side) → d.face < suc f → name_of new d ≡ name_of new (side f k) → side f k ≡ d
+    alone : (k : Place) → IsNewName ts rename t k → IsAlone f (name_of new) k
     alone k n d l e = elim (cases_lt d.face f) [
       | inl m ↦ absurd (n.0 d m (sym (name_old rename ts t d m) ∙ e ∙ name_new rename ts t k))
       | inr m ↦ (
@@ -159,33 +125,16 @@ names_grow ts rows g made made' rename t ps ks W = record {
           ])
     ]
 
-    stands_new : (k : Place) → Stands (side f k)
-    stands_new k = elim (W.corners k) [
-      | inl m ↦ inl (all_meet N.gluing (name_of new) ps W.apart meets k m)
-      | inr n ↦ inr (alone k n)
-    ]
-
-    stands : (c : Side) → c.face < suc f → Stands c
-    stands c l = elim (cases_lt c.face f) [
-      | inl m ↦ inl (record { old = c; within = m; in_fan = here; one_name = refl })
-      | inr m ↦ subst Stands (sym (face_of f c (omega arith))) (stands_new c.place)
-    ]
-
-    joined : (c d : Side) → Meeting f h (name_of new) c → Meeting f h (name_of new) d → name_of new c ≡ name_of new d → InFan h c d
-    joined c d m n e =
-        fan_trans m.in_fan
-        (fan_trans
-        (W.merged m.old n.old m.within n.within (sym (name_old rename ts t m.old m.within) ∙ sym m.one_name ∙ e ∙ n.one_name ∙ name_old rename ts t n.old n.within))
-        (fan_sym G n.in_fan))
-
-    together : (c d : Side) → c.face < suc f → d.face < suc f → name_of new c ≡ name_of new d → InFan h c d
-    together c d l k e = elim (stands c l) [
-      | inr n ↦ subst (InFan h c) (n d k (sym e)) here
-      | inl m ↦ elim (stands d k) [
-        | inr n ↦ subst (InFan h c) (sym (n c l e)) here
-        | inl n ↦ joined c d m n e
-      ]
-    ]
+    around : NamesAround f g (name_of ts) (name_of new) rename ps
+    around = record {
+      gluing = N.gluing;
+      apart = W.apart;
+      one_name = N.one_name;
+      stay = name_old rename ts t;
+      meets = meeting ps W.apart W.fits;
+      corners = λ k. elim (W.corners k) [ inl m ↦ inl m | inr n ↦ inr (alone k n) ];
+      merged = W.merged;
+    }
 
     under : (c : Side) → c.face < suc f → name_of new c < made'
     under c l = elim (cases_lt c.face f) [

@@ -1,5 +1,5 @@
 -- The degrees kept beside a table, after each symbol.
-use Rattle.std.proofs.Common.{◌≡◌, ◌≢◌, ℕ, suc, ◌+◌, ◌*◌, ◌^◌, ◌<◌, ◌≤◌, min, Bool, true, ◌==◌, cond, is_none, IsTrue, OnOk, Some, false, replicate, List, [], ◌∷◌, ◌++◌, length, get_or, map, None, Result, Ok, Err, inl, inr, sym, refl, ap, ◌∙◌, subst, arith, length-append, eq-eqb}
+use Rattle.std.proofs.Common.{◌≡◌, ◌≢◌, ℕ, suc, ◌+◌, ◌*◌, ◌<◌, ◌≤◌, min, Bool, true, ◌==◌, cond, is_none, IsTrue, OnOk, Some, false, replicate, List, [], ◌∷◌, ◌++◌, length, get_or, map, None, Result, Ok, Err, inl, inr, sym, refl, ap, ◌∙◌, subst, arith, length-append, eq-eqb}
 use Rattle.std.specs.List.{list_any}
 use Rattle.std.proofs.lemmas.Bool.{cases_Bool, cond-true, cond-false}
 use Rattle.std.proofs.lemmas.List.{length-map, length-replicate}
@@ -150,7 +150,7 @@ keeps_split old new made ds b a nb na W few e h B A ne G F room =
     (split_counts (side_at b) (side_at a) nb na V R ne ds (omega arith) (counts_of W few)))))
 
 -- so it is a small number
-pub small_at : {v : LinkValue} {ds : List ℕ} → IsLinkState v → v.table.faces < v.plan.symbols → KeepsDegrees v.table v.made ds → (s : Side) (n : ℕ) → n ≡ number s → IsFreeIn v.table s → get_or ds n 0 < 2 ^ 24
+pub small_at : {v : LinkValue} {ds : List ℕ} → IsLinkState v → v.table.faces < v.plan.symbols → KeepsDegrees v.table v.made ds → (s : Side) (n : ℕ) → n ≡ number s → IsFreeIn v.table s → get_or ds n 0 ≤ 3 * MAX_FACES
 small_at {v} {ds} I more W s n e S =
     let d = degree_small W I.made s S in
     let l = I.limit in

@@ -13,3 +13,5 @@ pub mod Rowed
 pub mod Counted
 pub mod Beside
 pub mod KeptDegrees
+pub mod JoinedNames
+pub mod CornerNames

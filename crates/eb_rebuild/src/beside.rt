@@ -15,7 +15,7 @@ pub(crate) enum Beside {
 }
 
 impl Beside {
-    ghost use Rattle.eb_rebuild.specs.Beside.{glued_place};
+    ghost use Rattle.eb_rebuild.specs.Beside.{glued_place, new_triangle};
 
     /// The side of the new face that is glued to the top side.
     #[inline(always)]
@@ -52,6 +52,17 @@ impl Beside {
         match self {
             Beside::Left => 3 * face,
             Beside::Right => 3 * face + 1,
+        }
+    }
+
+    /// The names of the new face's corners, where the top side runs from one vertex to another.
+    #[inline(always)]
+    pub(crate) fn triangle(self, from: u32, to: u32, vertex: u32) -> (u32, u32, u32)
+        ensures { result ≡ new_triangle self from to vertex }
+    {
+        match self {
+            Beside::Left => (from, vertex, to),
+            Beside::Right => (to, from, vertex),
         }
     }
 }

@@ -74,8 +74,8 @@ pub(crate) fn beside_degrees(degrees: &mut Vec<u32>, beside: Beside, face: u32, 
     requires room { 3 * face + 3 ≤ vec_len degrees.old }
     requires first { a < 3 * face }
     requires second { next < 3 * face }
-    requires small { get_or degrees.old.items a 0 < 2 ^ 24 }
-    requires small_next { get_or degrees.old.items next 0 < 2 ^ 24 }
+    requires small { get_or degrees.old.items a 0 ≤ 3 * most_faces }
+    requires small_next { get_or degrees.old.items next 0 ≤ 3 * most_faces }
     ensures len { vec_len degrees.new ≡ vec_len degrees.old }
     ensures items { degrees.new.items ≡ after_beside beside face a next degrees.old.items }
 {
@@ -91,8 +91,8 @@ pub(crate) fn tip_degrees(degrees: &mut Vec<u32>, face: u32, t: u32, next: u32)
     requires room { 3 * face + 3 ≤ vec_len degrees.old }
     requires first { t < 3 * face }
     requires second { next < 3 * face }
-    requires small { get_or degrees.old.items t 0 < 2 ^ 24 }
-    requires small_next { get_or degrees.old.items next 0 < 2 ^ 24 }
+    requires small { get_or degrees.old.items t 0 ≤ 3 * most_faces }
+    requires small_next { get_or degrees.old.items next 0 ≤ 3 * most_faces }
     ensures len { vec_len degrees.new ≡ vec_len degrees.old }
     ensures items { degrees.new.items ≡ after_tip face t next degrees.old.items }
 {
@@ -117,10 +117,10 @@ pub(crate) fn split_degrees(
     requires second { a < 3 * face }
     requires third { next_b < 3 * face }
     requires fourth { next_a < 3 * face }
-    requires small { get_or degrees.old.items b 0 < 2 ^ 24 }
-    requires small_second { get_or degrees.old.items a 0 < 2 ^ 24 }
-    requires small_third { get_or degrees.old.items next_b 0 < 2 ^ 24 }
-    requires small_fourth { get_or degrees.old.items next_a 0 < 2 ^ 24 }
+    requires small { get_or degrees.old.items b 0 ≤ 3 * most_faces }
+    requires small_second { get_or degrees.old.items a 0 ≤ 3 * most_faces }
+    requires small_third { get_or degrees.old.items next_b 0 ≤ 3 * most_faces }
+    requires small_fourth { get_or degrees.old.items next_a 0 ≤ 3 * most_faces }
     ensures len { vec_len degrees.new ≡ vec_len degrees.old }
     ensures items { degrees.new.items ≡ after_split face b a next_b next_a degrees.old.items }
 {

@@ -6,7 +6,9 @@
 mod active_rows;
 mod beside;
 mod built;
+mod corner_names;
 mod degenerate;
+mod joined_names;
 mod kept_degrees;
 mod kept_sides;
 mod laws;

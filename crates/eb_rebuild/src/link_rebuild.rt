@@ -2,15 +2,18 @@
 //!
 //! The rules ask only which side comes before a free side round the boundary, and whether a side is
 //! free; the table's links answer both at once. So a symbol takes a few table calls, whatever was
-//! built before. The degrees of vertices are kept at the free sides that start there.
+//! built before. The degrees of vertices are kept at the free sides that start there. Corners are named
+//! as faces are built, so that no fan is walked at the end.
 
-ghost use Rattle.std.specs.Prelude.{◌≡◌, not, ◌&&◌};
+ghost use Rattle.std.specs.Prelude.{◌≡◌, not, ◌&&◌, length};
 ghost use Rattle.corner_table.specs.Sides.{same};
-ghost use Rattle.corner_table.specs.Table.{side_of};
+ghost use Rattle.corner_table.specs.Table.{side_of, gluing_of};
+ghost use Rattle.eb_rebuild.specs.CornerNames.{IsNaming};
 ghost use Rattle.eb_rebuild.specs.Linked.{refused_by};
 
 use crate::beside::Beside;
 use crate::built::Built;
+use crate::corner_names::CornerNames;
 use crate::degenerate::first_equal;
 use crate::kept_degrees::{
     beside_degrees, degree_at, end_degrees, no_degrees, split_degrees, tip_degrees,
@@ -49,11 +52,13 @@ pub(crate) fn refused(done: Result<(), Fault>) -> Result<(), Refusal>
     }
 }
 
-/// The table of a rebuilding; all else that it keeps is freed.
-fn finished_table(rebuild: LinkRebuild) -> SideTable
-    ensures { result ≡ rebuild.table }
+/// The table of a rebuilding and the names of its corners; all else that it keeps is freed.
+fn finished_parts(rebuild: LinkRebuild) -> (SideTable, CornerNames)
+    ensures table { result.0 ≡ rebuild.table }
+    ensures naming { IsNaming rebuild.table.faces (gluing_of rebuild.table) result.1 }
+    ensures made { length result.1.up ≡ rebuild.made }
 {
-    rebuild.table.into_sides()
+    (rebuild.table.into_sides(), rebuild.names)
 }
 
 /// A rebuilding that keeps the boundary by links.
@@ -63,6 +68,7 @@ pub struct LinkRebuild {
     stack: SideStack,
     splits: Splits,
     degrees: Vec<u32>,
+    names: CornerNames,
     faces: u32,
     created: u32,
     symbols: u32,
@@ -71,8 +77,9 @@ pub struct LinkRebuild {
 }
 
 impl Model for LinkRebuild {
-    ghost use Rattle.std.specs.Prelude.{◌≡◌, ◌*◌, vec_len};
-    ghost use Rattle.corner_table.specs.Table.{room_of};
+    ghost use Rattle.std.specs.Prelude.{◌≡◌, ◌*◌, ◌≤◌, vec_len};
+    ghost use Rattle.corner_table.specs.Table.{room_of, gluing_of};
+    ghost use Rattle.eb_rebuild.specs.CornerNames.{KeepsNames};
     ghost use Rattle.eb_rebuild.specs.KeptDegrees.{KeepsDegrees};
     ghost use Rattle.eb_rebuild.specs.Linked.{LinkValue, IsLinkState};
 
@@ -94,7 +101,8 @@ impl Model for LinkRebuild {
       splits = r.splits;
       made = r.made;
       closes = r.closes;
-    }) × (vec_len r.degrees ≡ 3 * room_of r.table) × (r.closes ≡ 0 → KeepsDegrees r.table r.made r.degrees.items) };
+    }) × (vec_len r.degrees ≡ 3 * room_of r.table) × (r.closes ≡ 0 → KeepsDegrees r.table r.made r.degrees.items)
+        × KeepsNames r.table r.made r.names };
 }
 
 impl LinkRebuild {
@@ -149,6 +157,7 @@ impl LinkRebuild {
     {
         let face = self.table.add_face(steps);
         end_degrees(&mut self.degrees, face);
+        self.names.add_end(self.made);
         self.stack.push(3 * face);
         self.made += 3;
         self.splits.note(face)
@@ -177,6 +186,7 @@ impl LinkRebuild {
         let k = beside.glued();
         self.table.glue(Side { face, k }, top, steps);
         beside_degrees(&mut self.degrees, beside, face, a, number_of(next));
+        self.names.add_beside(beside, a, self.made);
         self.stack.push(3 * face);
         self.made += 1;
         self.splits.note(face)
@@ -209,7 +219,9 @@ impl LinkRebuild {
         let face = self.table.add_face(steps);
         self.table.glue(Side { face, k: 1 }, top, steps);
         self.table.glue(Side { face, k: 2 }, before, steps);
-        tip_degrees(&mut self.degrees, face, number_of(before), number_of(next));
+        let tip = number_of(before);
+        tip_degrees(&mut self.degrees, face, tip, number_of(next));
+        self.names.add_tip(a, tip);
         self.stack.push(3 * face);
         Ok(())
     }
@@ -276,6 +288,7 @@ impl LinkRebuild {
         let after_top = number_of(next_top);
         let after_second = number_of(next_second);
         split_degrees(&mut self.degrees, face, b, a, after_top, after_second);
+        self.names.add_split(b, a);
         self.stack.push(3 * face);
         Ok(())
     }
@@ -331,6 +344,7 @@ impl LinkRebuild {
         self.table.glue(Side { face, k: 0 }, top, steps);
         self.table.glue(Side { face, k: 1 }, second, steps);
         self.table.glue(Side { face, k: 2 }, third, steps);
+        self.names.fill(a, number_of(second));
         self.closes += 1;
         Ok(())
     }
@@ -363,11 +377,13 @@ impl Rebuild for LinkRebuild {
         let stack = SideStack::with_room(alloc, symbols.min(most))?;
         let splits = Splits::new(alloc, symbols, events)?;
         let degrees = no_degrees(alloc, most)?;
+        let names = CornerNames::with_room(alloc, most)?;
         Ok(LinkRebuild {
             table,
             stack,
             splits,
             degrees,
+            names,
             faces,
             created,
             symbols,
@@ -422,8 +438,10 @@ impl Rebuild for LinkRebuild {
         if self.created < self.made {
             return Err(Refusal::Fault(Fault::new(Kind::VertexCount, u64::from(self.made))));
         }
-        let table = finished_table(self);
-        let classes = table.label_vertices(alloc, steps)?;
+        let made = self.made;
+        let (table, names) = finished_parts(self);
+        let across = table.across(steps);
+        let classes = names.into_classes(alloc, across, built, made)?;
         match first_equal(classes.of_corner.as_slice(), built) {
             None => Ok(Built::new(table, classes, true)),
             Some(face) => Err(Refusal::Fault(Fault::new(Kind::Degenerate, u64::from(face)))),

@@ -49,10 +49,7 @@ impl Model for NamedTable {
 fn new_triangle(beside: Beside, a: Row, vertex: u32) -> (u32, u32, u32)
     ensures { result ≡ new_triangle beside a.from a.to vertex }
 {
-    match beside {
-        Beside::Left => (a.from, vertex, a.to),
-        Beside::Right => (a.to, a.from, vertex),
-    }
+    beside.triangle(a.from, a.to, vertex)
 }
 
 /// The row of the side that is free besides side 0, of a face with one side glued.

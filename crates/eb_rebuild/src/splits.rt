@@ -22,7 +22,8 @@ pub(crate) struct Splits {
 }
 
 impl Model for Splits {
-    ghost use Rattle.std.specs.Prelude.{◌<◌, ◌≤◌, ◌*◌, ◌^◌, vec_len, length, All};
+    ghost use Rattle.std.specs.Prelude.{◌<◌, ◌≤◌, ◌*◌, vec_len, length, All};
+    ghost use Rattle.drc_base.specs.declared.limits.TheConstants.{MAX_FACES as most_faces};
     ghost use Rattle.eb_rebuild.specs.Kept.{SplitsValue, counted_down, no_event, HasRoomFor};
     ghost use Rattle.eb_rebuild.specs.Rebuilding.{IsEventOf};
 
@@ -30,7 +31,7 @@ impl Model for Splits {
 
     ghost view = { λ s. record { kept = s.kept.sides; events = counted_down no_event s.left s.events.items } };
 
-    ghost invariant = { λ s. (s.left ≤ vec_len s.events) × (length s.kept.sides < 2 ^ 24) × All (IsEventOf (length s.kept.sides)) s.events.items
+    ghost invariant = { λ s. (s.left ≤ vec_len s.events) × (length s.kept.sides ≤ most_faces) × All (IsEventOf (length s.kept.sides)) s.events.items
         × All (HasRoomFor s.kept.numbers (length s.kept.sides)) s.events.items };
 }
 

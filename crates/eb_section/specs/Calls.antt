@@ -34,7 +34,7 @@ abbrev pub symbols_in_bits : ℕ → Item Standard → ℕ
 symbols_in_bits symbols (Ok s) = min symbols (suc (bit_count s.0))
 symbols_in_bits symbols (Err f) = 0
 
--- the symbols of each context, behind the start faces and the seams
+-- the symbols of each context, behind the start bits and the seam bits
 unfoldable pub lists_behind : Opening → Reading → Item (List (List ℕ))
 lists_behind o c = do
   starts ← bit_block_at c

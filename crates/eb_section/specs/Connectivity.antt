@@ -78,7 +78,7 @@ list_at symbols c = do
   count ← must kind.Count (λ n. nat_le n symbols) var32_at c
   symbols_at count.0 1 count.1
 
--- the section behind its events, standard: the symbols, the start faces, the seams of each attribute data; and the machine's surface
+-- the section behind its events, standard: the symbols, the start bits, the seam bits of each attribute data; and the machine's surface
 unfoldable pub standard_behind : Opening → List Event → Reading → Item Connectivity
 standard_behind o events c = do
   source ← standard_at c
@@ -87,7 +87,7 @@ standard_behind o events c = do
   s ← rebuilt standard (plan_of o) source.0 starts.0 (start (reverse events))
   Ok (section_of o events seams.0 s, seams.1)
 
--- the section behind its events, valence: the start faces, the seams, the symbols of each context; and the machine's surface
+-- the section behind its events, valence: the start bits, the seam bits, the symbols of each context; and the machine's surface
 unfoldable pub valence_behind : Opening → List Event → Reading → Item Connectivity
 valence_behind o events c = do
   starts ← bit_block_at c

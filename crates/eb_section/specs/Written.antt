@@ -59,11 +59,11 @@ list_bytes numbers = spelling 5 (length numbers) ++ block_bytes numbers 1
 abbrev pub blocks_bytes : List (List Bool) → List ℕ
 blocks_bytes lists = flat_map block lists
 
--- the symbols, start faces and seams of the standard traversal
+-- the symbols, start bits and seam bits of the standard traversal
 unfoldable pub standard_behind_bytes : Traced → List (List Bool) → List ℕ
 standard_behind_bytes t seams = standard_bytes t.symbols ++ block t.starts ++ blocks_bytes seams
 
--- the start faces and seams of the valence traversal, and the symbols by contexts
+-- the start bits and seam bits of the valence traversal, and the symbols by contexts
 unfoldable pub valence_behind_bytes : Traced → List (List Bool) → List ℕ
 valence_behind_bytes t seams = block t.starts ++ blocks_bytes seams ++ flat_map list_bytes (context_lists t.symbols t.events)
 

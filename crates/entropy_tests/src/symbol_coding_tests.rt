@@ -4,7 +4,7 @@ use drc_base::{Fault, Kind, MAX_VALUES, Refusal};
 use drc_bits::Cursor;
 use std::alloc::Global;
 use std::test::Fail;
-use symbol_coding::{read_symbols, write_symbols};
+use symbol_coding::{CodedSymbols, Symbols, open_symbols, read_symbols, write_symbols};
 
 /// Whether the values are written as these bytes, and these bytes with one more behind them are read as
 /// the values.
@@ -19,6 +19,34 @@ fn both_ways(alloc: Global, values: &[u32], comps: u32, bytes: &[u8]) -> Result<
     let mut c = Cursor::new(longer.as_slice());
     let read = read_symbols(alloc, &mut c, values.len() as u32, comps)?;
     Ok(block.as_slice() == bytes && read.as_slice() == values && c.rest().len() == 1)
+}
+
+/// Whether symbols that are taken one after another are these values.
+fn are_values(symbols: CodedSymbols<'_>, values: &[u32]) -> bool {
+    let mut symbols = symbols;
+    for value in values {
+        if symbols.len() == 0 || symbols.next() != *value {
+            return false;
+        }
+    }
+    symbols.len() == 0
+}
+
+/// Whether the symbols of a block, taken one after another, are these values, and the cursor stands behind
+/// the block before any is taken.
+fn are_taken(alloc: Global, block: &[u8], values: &[u32]) -> Result<bool, Refusal> {
+    if values.len() > MAX_VALUES as usize {
+        return Ok(false);
+    }
+    let mut c = Cursor::new(block);
+    let opened = open_symbols(alloc, &mut c, values.len() as u32, 1)?;
+    if c.rest().len() > 0 {
+        return Ok(false);
+    }
+    match opened {
+        Symbols::Coded(symbols) => Ok(are_values(symbols, values)),
+        Symbols::Listed(_values) => Ok(false),
+    }
 }
 
 /// The fault of a block of `n` values.
@@ -153,5 +181,6 @@ fn many_symbols(rt: HostRuntime) -> Result<(), Fail> {
     assert_eq!(rt; &block.as_slice()[..4], [1, 14, 128, 64].as_slice());
     let read = read_symbols(rt.alloc(), &mut Cursor::new(block.as_slice()), 24576, 1)?;
     assert!(rt; read.as_slice() == values.as_slice());
+    assert!(rt; are_taken(rt.alloc(), block.as_slice(), values.as_slice())?);
     Ok(())
 }

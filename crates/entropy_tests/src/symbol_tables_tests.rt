@@ -24,9 +24,24 @@ fn one_symbol_has_all_slots(rt: HostRuntime) -> Result<(), Fail> {
     let table = Table::read(rt.alloc(), &mut c, 12).map_err(|_| "a fault")?;
     assert_eq!(rt; table.len(), 1);
     assert_eq!(rt; table.prob(0), 4096);
-    assert_eq!(rt; table.slots().len(), 4096);
-    assert!(rt; table.slots().iter().all(|s| *s == 0));
-    assert_eq!(rt; table.find(4095), 0);
+    for slot in 0..4096u32 {
+        assert_eq!(rt; table.find(slot), 0);
+    }
+    Ok(())
+}
+
+/// A table of 70001 symbols, of which the last has all slots: more than have 16 bits.
+#[test]
+fn a_symbol_above_16_bits_has_slots(rt: HostRuntime) -> Result<(), Fail> {
+    let mut bytes = Vec::new(rt.alloc());
+    bytes.extend_from_slice(&[0xf1, 0xa2, 0x04])?;
+    bytes.resize(3 + 1093, 0xff)?;
+    bytes.extend_from_slice(&[0xbf, 0x01, 0x40])?;
+    let mut c = Cursor::new(bytes.as_slice());
+    let table = Table::read(rt.alloc(), &mut c, 12).map_err(|_| "a fault")?;
+    assert_eq!(rt; table.len(), 70001);
+    assert_eq!(rt; table.find(0), 70000);
+    assert_eq!(rt; table.find(4095), 70000);
     Ok(())
 }
 
@@ -59,10 +74,12 @@ fn round(
     rt: &(impl Abort + AllocGlobal),
     counts: &[u32],
     bits: u32,
+    slots: u32,
     wanted: &[u8],
 ) -> Result<(), Fail>
     requires low { 12 ≤ bits }
     requires high { bits ≤ 20 }
+    requires slots { slots ≡ 2 ^ bits }
     requires counts { HasTable counts.now bits }
 {
     let table = Table::of_counts(rt.alloc(), counts, bits)?;
@@ -72,21 +89,30 @@ fn round(
     let mut c = Cursor::new(bytes.as_slice());
     let again = Table::read(rt.alloc(), &mut c, bits).map_err(|_| "a fault")?;
     assert_eq!(rt; again.len(), table.len());
-    assert_eq!(rt; again.slots(), table.slots());
+    for slot in 0..slots {
+        assert_eq!(rt; again.find(slot), table.find(slot));
+    }
     Ok(())
 }
 
 /// Probabilities of one, two and three bytes.
 #[test]
 fn counts_have_tables(rt: HostRuntime) -> Result<(), Fail> {
-    round(&rt, &[3, 1], 12, &[0x02, 0x01, 0x30, 0x01, 0x10])?;
+    round(&rt, &[3, 1], 12, 4096, &[0x02, 0x01, 0x30, 0x01, 0x10])?;
     round(
         &rt,
         &[1, 0, 1, 1],
         12,
+        4096,
         &[0x04, 0x59, 0x15, 0x03, 0x55, 0x15, 0x55, 0x15],
     )?;
-    round(&rt, &[1, 1_000_000], 20, &[0x02, 0x08, 0xfa, 0xff, 0x3f])?;
+    round(
+        &rt,
+        &[1, 1_000_000],
+        20,
+        0x10_0000,
+        &[0x02, 0x08, 0xfa, 0xff, 0x3f],
+    )?;
     Ok(())
 }
 

@@ -12,7 +12,7 @@ use Rattle.rans_binary.specs.Blocks.{Block, first_bits}
 use Rattle.kd_tree.specs.Keys.{Key, KeyRows}
 use Rattle.kd_tree.specs.Trees.{digits}
 use Rattle.kd_tree.specs.Reading.{Streams, after_rest, behind_split_bits, boxes_of, keys_before, split_bits_number}
-use Rattle.kd_tree.specs.Turns.{AreNested, IsDescended, IsFewer, IsNext, IsBoxRefused, IsTaken, IsTurned, low_count, going, nodes_waiting, turns_left, waiting}
+use Rattle.kd_tree.specs.Turns.{AreNested, IsDescended, IsFewer, IsDueNext, IsBoxRefused, IsTaken, IsTurned, low_count, going, nodes_waiting, turns_left, waiting}
 use Rattle.kd_tree.specs.Walk.{nodes}
 use Rattle.kd_tree.specs.declared.reading.Pending.{Pending}
 use Rattle.kd_tree.proofs.Walks.{nodes-two}
@@ -116,16 +116,16 @@ pops fault depth path p rest keys s deep nested =
 
 -- a taken box keeps what is due
 pub taken-next : (fault : Fault) (depth : ℕ) (path : Key) (stack : List Pending) (after : Key) (rest : List Pending) (next : Option ℕ) (keys : List Key) (s : Streams) (deep : ℕ) →
-    deep ≤ length path → deep ≤ depth → AreNested deep stack → IsTaken path stack after rest next → IsNext fault depth (waiting fault depth path stack keys s) after rest keys s next
+    deep ≤ length path → deep ≤ depth → AreNested deep stack → IsTaken path stack after rest next → IsDueNext fault depth (waiting fault depth path stack keys s) after rest keys s next
 taken-next fault depth path [] after rest next keys s deep most few nested taken =
-    subst (IsNext fault depth (Ok (keys, s)) after rest keys s) (sym taken) refl
+    subst (IsDueNext fault depth (Ok (keys, s)) after rest keys s) (sym taken) refl
 taken-next fault depth path (p ∷ stack) after rest next keys s deep most few nested taken =
     let long : length (take p.depth path ++ true ∷ []) ≡ p.depth + 1 = length_push (take p.depth path) true ∙ (let l = length-take-le p.depth path (omega (arith, nested.0, most)) in omega (arith, l)) in
-    let at : IsNext fault depth (waiting fault depth path (p ∷ stack) keys s) (take p.depth path ++ true ∷ []) stack keys s (Some p.count) =
+    let at : IsDueNext fault depth (waiting fault depth path (p ∷ stack) keys s) (take p.depth path ++ true ∷ []) stack keys s (Some p.count) =
     (pops fault depth path p stack keys s (omega (arith, nested.0, most)) nested.1, omega (arith, long, nested.0, few), subst (λ n. AreNested n stack) (sym long) (deeper p.depth stack nested.1)) in
-    subst (IsNext fault depth (waiting fault depth path (p ∷ stack) keys s) after rest keys s) (sym taken.0)
-    (subst (λ k. IsNext fault depth (waiting fault depth path (p ∷ stack) keys s) k rest keys s (Some p.count)) (sym taken.1)
-    (subst (λ r. IsNext fault depth (waiting fault depth path (p ∷ stack) keys s) (take p.depth path ++ true ∷ []) r keys s (Some p.count)) (sym taken.2) at))
+    subst (IsDueNext fault depth (waiting fault depth path (p ∷ stack) keys s) after rest keys s) (sym taken.0)
+    (subst (λ k. IsDueNext fault depth (waiting fault depth path (p ∷ stack) keys s) k rest keys s (Some p.count)) (sym taken.1)
+    (subst (λ r. IsDueNext fault depth (waiting fault depth path (p ∷ stack) keys s) (take p.depth path ++ true ∷ []) r keys s (Some p.count)) (sym taken.2) at))
 
 -- the first box
 pub begins : (fault : Fault) (depth n : ℕ) (s : Streams) → boxes_of fault depth n [] s ≡ going fault depth n [] [] [] s
@@ -195,12 +195,12 @@ descended-turned fault depth n path stack keys split rest split' path' stack' (O
     let p : Pending = record { count = n - k; depth = length path } in
     let long : length low ≡ length path + 1 = length_push path false in
     let due : Result (List Key × Streams) Fault = going fault depth n path stack keys s in
-    let at : IsNext fault depth due low (p ∷ stack) keys (behind_split_bits (digits n) s) (Some k) =
+    let at : IsDueNext fault depth due low (p ∷ stack) keys (behind_split_bits (digits n) s) (Some k) =
     (descends fault depth n path stack keys s deep many h.0 nested, omega (arith, long, deep), (omega (arith, long), nested)) in
-    subst (IsNext fault depth due path' stack' keys (record { split = split'; rest = rest })) (sym h.1)
-    (subst (λ (b : Block). IsNext fault depth due path' stack' keys (record { split = b; rest = rest }) (Some k)) (sym h.2)
-    (subst (λ x. IsNext fault depth due x stack' keys (behind_split_bits (digits n) s) (Some k)) (sym h.3)
-    (subst (λ x. IsNext fault depth due low x keys (behind_split_bits (digits n) s) (Some k)) (sym h.4) at)))
+    subst (IsDueNext fault depth due path' stack' keys (record { split = split'; rest = rest })) (sym h.1)
+    (subst (λ (b : Block). IsDueNext fault depth due path' stack' keys (record { split = b; rest = rest }) (Some k)) (sym h.2)
+    (subst (λ x. IsDueNext fault depth due x stack' keys (behind_split_bits (digits n) s) (Some k)) (sym h.3)
+    (subst (λ x. IsDueNext fault depth due low x keys (behind_split_bits (digits n) s) (Some k)) (sym h.4) at)))
 descended-turned fault depth n path stack keys split rest split' path' stack' (Err e) deep many nested h =
     refused-turned fault depth n path stack keys (record { split = split; rest = rest }) e deep many h
 
@@ -217,10 +217,10 @@ descended-fewer fault depth n path stack split split' path' stack' (Err e) deep 
 
 -- before the first turn
 pub begins-next : (fault : Fault) (depth n : ℕ) (s : Streams) (path : Key) (stack : List Pending) (out : KeyRows) → path ≡ [] → stack ≡ [] → out ≡ record { depth = depth; rows = [] } →
-    IsNext fault depth (boxes_of fault depth n [] s) path (reverse stack) out.rows s (Some n)
+    IsDueNext fault depth (boxes_of fault depth n [] s) path (reverse stack) out.rows s (Some n)
 begins-next fault depth n s path stack out no_path no_stack no_keys =
     let due : Result (List Key × Streams) Fault = boxes_of fault depth n [] s in
-    let at : IsNext fault depth due [] [] [] s (Some n) = (begins fault depth n s, omega arith, tt) in
-    subst (λ p. IsNext fault depth due p (reverse stack) out.rows s (Some n)) (sym no_path)
-    (subst (λ (st : List Pending). IsNext fault depth due [] (reverse st) out.rows s (Some n)) (sym no_stack)
-    (subst (λ (k : KeyRows). IsNext fault depth due [] [] k.rows s (Some n)) (sym no_keys) at))
+    let at : IsDueNext fault depth due [] [] [] s (Some n) = (begins fault depth n s, omega arith, tt) in
+    subst (λ p. IsDueNext fault depth due p (reverse stack) out.rows s (Some n)) (sym no_path)
+    (subst (λ (st : List Pending). IsDueNext fault depth due [] (reverse st) out.rows s (Some n)) (sym no_stack)
+    (subst (λ (k : KeyRows). IsDueNext fault depth due [] [] k.rows s (Some n)) (sym no_keys) at))

@@ -31,15 +31,15 @@ AreNested deep [] = Unit {0}
 AreNested deep (p ∷ rest) = (p.depth < deep) × AreNested p.depth rest
 
 -- what is due after a turn: that of the box that comes next, if there is one, or the keys
-abbrev pub IsNext : Fault → ℕ → Result (List Key × Streams) Fault → Key → List Pending → List Key → Streams → Option ℕ → Type 0
-IsNext fault depth due path stack keys s (Some n) =
+abbrev pub IsDueNext : Fault → ℕ → Result (List Key × Streams) Fault → Key → List Pending → List Key → Streams → Option ℕ → Type 0
+IsDueNext fault depth due path stack keys s (Some n) =
     (due ≡ going fault depth n path stack keys s) × (length path ≤ depth) × AreNested (length path) stack
-IsNext fault depth due path stack keys s None = due ≡ Ok (keys, s)
+IsDueNext fault depth due path stack keys s None = due ≡ Ok (keys, s)
 
 -- a turn keeps what is due, or gives the fault that is due
 abbrev pub IsTurned : Fault → ℕ → Result (List Key × Streams) Fault → Key → List Pending → List Key → Streams
     → Result (Option ℕ) Refusal → Type 0
-IsTurned fault depth due path stack keys s (Ok next) = IsNext fault depth due path stack keys s next
+IsTurned fault depth due path stack keys s (Ok next) = IsDueNext fault depth due path stack keys s next
 IsTurned fault depth due path stack keys s (Err e) = Refuses due e
 
 -- the boxes that those that wait may fall into, and themselves

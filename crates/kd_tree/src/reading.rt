@@ -3,7 +3,7 @@
 ghost use Rattle.std.specs.Prelude.{◌≡◌, ℕ, ◌+◌, ◌-◌, ◌<◌, ◌≤◌, ◌^◌, List, [], ◌∷◌, ◌++◌, length, replicate, reverse, IfOk};
 ghost use Rattle.kd_tree.specs.Trees.{digits};
 ghost use Rattle.kd_tree.specs.Reading.{GivesTree, number_behind, tree_of};
-ghost use Rattle.kd_tree.specs.Turns.{AreNested, IsDescended, IsFewer, IsNext, IsTaken, IsTurned, going, nodes_waiting, turns_left, waiting};
+ghost use Rattle.kd_tree.specs.Turns.{AreNested, IsDescended, IsFewer, IsDueNext, IsTaken, IsTurned, going, nodes_waiting, turns_left, waiting};
 ghost use Rattle.kd_tree.specs.Walk.{nodes};
 ghost use Rattle.rans_binary.specs.Blocks.{Block, behind, first_bits};
 
@@ -183,7 +183,7 @@ fn end_box(
     requires deep { length path.old.items ≤ out.old.depth }
     requires nested { AreNested (length path.old.items) (reverse stack.old.items) }
     requires leaf { 2 ≤ count → length path.old.items ≡ out.old.depth }
-    ensures next { IfOk result (λ next. (fault : Fault) (split : Block) → IsNext fault out.old.depth
+    ensures next { IfOk result (λ next. (fault : Fault) (split : Block) → IsDueNext fault out.old.depth
         (going fault out.old.depth count path.old.items (reverse stack.old.items) out.old.rows (record { split = split; rest = rest.old }))
         path.new.items (reverse stack.new.items) out.new.rows (record { split = split; rest = rest.new }) next) }
     ensures fewer { IfOk result (λ next. turns_left out.old.depth path.new.items (reverse stack.new.items) next

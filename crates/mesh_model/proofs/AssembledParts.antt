@@ -10,7 +10,7 @@ use Rattle.std.proofs.lemmas.List.Quantifiers.{all_pairs_push}
 use Rattle.std.proofs.lemmas.List.Sums.{position_or_len_is}
 use Rattle.drc_base.specs.declared.faults.Fault.{Fault}
 use Rattle.mesh_model.specs.declared.heads.Head.{Head}
-use Rattle.mesh_model.specs.declared.tables.AttrTable.{AttrTable}
+use Rattle.mesh_model.specs.Groups.{AttrTable}
 use Rattle.mesh_model.specs.FirstFault.{value_unless}
 use Rattle.mesh_model.specs.Head.{width_of}
 use Rattle.mesh_model.specs.Parts.{MeshParts, count_fault, rows_of, RowFits, IsFaceOf, IsMesh}

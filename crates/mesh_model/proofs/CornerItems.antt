@@ -1,23 +1,25 @@
 -- The items of corners, with one more corner.
-use Rattle.std.proofs.Common.{◌≡◌, ◌≢◌, ℕ, ◌+◌, ◌-◌, ◌*◌, ◌/◌, ◌<◌, ◌≤◌, true, cond, List, [], ◌∷◌, ◌++◌, ℤ, length, get_or, map, take, drop, set, refl, sym, ap, ◌∙◌, subst, inl, inr, arith}
+use Rattle.std.proofs.Common.{◌≡◌, ◌≢◌, ℕ, ◌+◌, ◌-◌, ◌*◌, ◌<◌, ◌≤◌, true, cond, List, [], ◌∷◌, ◌++◌, ℤ, length, get_or, map, take, drop, set, refl, sym, ap, ◌∙◌, subst, inl, inr, arith}
 use Rattle.std.specs.List.{All, list_any, range_with_len, zip}
 use Rattle.std.proofs.lemmas.Bool.{cases_eq, cases_lt}
 use Rattle.std.proofs.lemmas.List.{get_or-set_same, get_or-set_other, get_or_past, get_or_push, get_or_append_left, get_or-map, length-map, length_push, map-append, take_all, same_lists}
-use Rattle.std.proofs.lemmas.List.Elements.{All-nil, All-cons, All-head, All-tail, All-take, All-drop}
+use Rattle.std.proofs.lemmas.List.Elements.{All-nil, All-cons, All-head, All-tail, All-append}
 use Rattle.std.proofs.lemmas.List.Folds.{list_any_at}
 use Rattle.std.proofs.lemmas.List.FromFn.{map-range_with_len_more, length-map-range_with_len, get_or-map-range_with_len}
-use Rattle.std.proofs.lemmas.Nat.{le-div}
 use Rattle.mesh_model.specs.declared.heads.Head.{Head}
-use Rattle.mesh_model.specs.declared.tables.AttrTable.{AttrTable}
-use Rattle.mesh_model.specs.Assembled.{Columns, corner_row, corner_rows, distinct, entry, column_entry, same_row, triple, IsAttrTable, AreAttrTables}
-use Rattle.mesh_model.specs.Items.{HaveSameEntries, first_entry, HoldsItems, KeepsRows, HaveItems}
+use Rattle.mesh_model.specs.Assembled.{Columns, corner_row, distinct, entry, column_entry, same_row, triple}
+use Rattle.mesh_model.specs.Groups.{AttrTable, GroupParts, corner_entries, tables_of, group_tables, HasVertices}
+use Rattle.mesh_model.specs.Items.{HaveSameVertices, first_vertex, AreFirstVertices, RowsFollowVertices, AreItems, AreLatest, HasItem, HaveItems, AreItemFaces}
 use Rattle.mesh_model.specs.RowIndex.{IsPointOf}
 use Rattle.mesh_model.proofs.DistinctRows.{any-distinct, distinct-push, same_row-refl, with_row}
 
--- ---- entries
+-- ---- corners with the same vertices
 
--- corners with the same entries have the same row
-pub corner_row-same : (heads : List Head) (tables : List AttrTable) (a b : ℕ) → HaveSameEntries tables a b → corner_row (zip heads tables) a ≡ corner_row (zip heads tables) b
+-- they have the same entry in each table
+abbrev HaveSameEntries : List AttrTable → ℕ → ℕ → Type 0
+HaveSameEntries tables a b = All (λ t. get_or t.of_corner a 0 ≡ get_or t.of_corner b 0) tables
+
+corner_row-same : (heads : List Head) (tables : List AttrTable) (a b : ℕ) → HaveSameEntries tables a b → corner_row (zip heads tables) a ≡ corner_row (zip heads tables) b
 corner_row-same [] tables a b same = refl
 corner_row-same (h ∷ heads) [] a b same = refl
 corner_row-same (h ∷ heads) (t ∷ tables) a b same =
@@ -26,197 +28,222 @@ corner_row-same (h ∷ heads) (t ∷ tables) a b same =
     ap (λ e. entry h.comps t.values e ++ corner_row (zip heads tables) a) here
     ∙ ap (λ row. column_entry b (h, t) ++ row) (corner_row-same heads tables a b rest)
 
--- the entries of a column are below the number of entries
-pub entries_below : (corners : ℕ) (h : Head) (t : AttrTable) → IsAttrTable corners (h, t) → 0 < h.comps → All (λ e. e < length t.values / h.comps) t.of_corner
-entries_below corners h t is some k d below =
-    omega (arith, le-div (get_or t.of_corner k d + 1) (length t.values) h.comps some (is.entries k d below))
+tables-same : (g : GroupParts) (values : List (List ℤ)) (a b : ℕ) → get_or (corner_entries g) a 0 ≡ get_or (corner_entries g) b 0 →
+    HaveSameEntries (map (λ vs. record { values = vs; of_corner = corner_entries g }) values) a b
+tables-same g [] a b same = All-nil (λ (u : AttrTable). get_or u.of_corner a 0 ≡ get_or u.of_corner b 0)
+tables-same g (vs ∷ values) a b same =
+    let rest : List AttrTable = map (λ (xs : List ℤ). record { values = xs; of_corner = corner_entries g }) values in
+    All-cons (λ (u : AttrTable). get_or u.of_corner a 0 ≡ get_or u.of_corner b 0) (record { values = vs; of_corner = corner_entries g }) rest same
+    (tables-same g values a b same)
 
--- the tables of columns have an entry for each corner
-tables_whole : (corners : ℕ) (heads : List Head) (tables : List AttrTable) → length tables ≡ length heads → All (IsAttrTable corners) (zip heads tables) → All (λ t. length t.of_corner ≡ corners) tables
-tables_whole corners heads [] each fit = All-nil (λ (t : AttrTable). length t.of_corner ≡ corners)
-tables_whole corners [] (t ∷ tables) each fit = absurd (omega arith)
-tables_whole corners (h ∷ heads) (t ∷ tables) each fit =
-    All-cons (λ (u : AttrTable). length u.of_corner ≡ corners) t tables
-    (All-head (IsAttrTable corners) (h, t) (zip heads tables) fit).each_corner
-    (tables_whole corners heads tables (omega arith) (All-tail (IsAttrTable corners) (h, t) (zip heads tables) fit))
+groups-same : (corners : ℕ) (groups : List GroupParts) (a b : ℕ) → All (HasVertices corners) groups → a < corners → b < corners → HaveSameVertices groups a b →
+    HaveSameEntries (group_tables groups) a b
+groups-same corners [] a b has at_a at_b same = All-nil (λ (u : AttrTable). get_or u.of_corner a 0 ≡ get_or u.of_corner b 0)
+groups-same corners (g ∷ groups) a b has at_a at_b same =
+    let here = All-head (HasVertices corners) g groups has in
+    let long = here.each_corner in
+    let f : ℕ → ℕ = λ v. get_or g.entry_of v 0 in
+    let vertex : get_or g.of_corner a 0 ≡ get_or g.of_corner b 0 = All-head (λ (x : GroupParts). get_or x.of_corner a 0 ≡ get_or x.of_corner b 0) g groups same in
+    let entries : get_or (corner_entries g) a 0 ≡ get_or (corner_entries g) b 0 =
+    get_or-map f g.of_corner a 0 0 (omega (arith, long)) ∙ ap f vertex ∙ sym (get_or-map f g.of_corner b 0 0 (omega (arith, long))) in
+    All-append (λ (u : AttrTable). get_or u.of_corner a 0 ≡ get_or u.of_corner b 0) (tables_of g) (group_tables groups) (tables-same g g.values a b entries)
+    (groups-same corners groups a b (All-tail (HasVertices corners) g groups has) at_a at_b
+    (All-tail (λ (x : GroupParts). get_or x.of_corner a 0 ≡ get_or x.of_corner b 0) g groups same))
 
--- and so have those after the first one
-pub others_whole : (corners : ℕ) (heads : List Head) (tables : List AttrTable) (n : ℕ) → AreAttrTables corners heads tables → All (λ t. length t.of_corner ≡ corners) (take n (drop 1 tables))
-others_whole corners heads tables n are =
-    All-take (λ (t : AttrTable). length t.of_corner ≡ corners) n (drop 1 tables)
-    (All-drop (λ (t : AttrTable). length t.of_corner ≡ corners) 1 tables (tables_whole corners heads tables are.each_head are.each_column))
+-- the rows of corners follow their vertices
+pub rows-follow : (corners : ℕ) (heads : List Head) (groups : List GroupParts) → All (HasVertices corners) groups →
+    RowsFollowVertices groups corners (corner_row (zip heads (group_tables groups)))
+rows-follow corners heads groups has a b at_a at_b same =
+    corner_row-same heads (group_tables groups) a b (groups-same corners groups a b has at_a at_b same)
 
--- and so has the first one
-pub first_whole : (corners : ℕ) (heads : List Head) (tables : List AttrTable) (t : AttrTable) (entries : List ℕ) → AreAttrTables corners heads tables → 0 < length tables → entries ≡ (get_or tables 0 t).of_corner → length entries ≡ corners
-first_whole corners heads tables t entries are some is =
-    ap length is ∙ tables_whole corners heads tables are.each_head are.each_column 0 t some
+-- the vertices of the first group
+pub first_vertex-at : (groups : List GroupParts) (g : GroupParts) (c : ℕ) → 0 < length groups → g ≡ get_or groups 0 g → get_or g.of_corner c 0 ≡ first_vertex groups c
+first_vertex-at [] g c some is = absurd (omega arith)
+first_vertex-at (x ∷ groups) g c some is = ap (λ (y : GroupParts). get_or y.of_corner c 0) is
 
--- the entries of the first table
-pub first_entry-at : (tables : List AttrTable) (t : AttrTable) (entries : List ℕ) (c : ℕ) → 0 < length tables → entries ≡ (get_or tables 0 t).of_corner → get_or entries c 0 ≡ first_entry tables c
-first_entry-at [] t entries c some is = absurd (omega arith)
-first_entry-at (u ∷ tables) t entries c some is = ap (λ (xs : List ℕ). get_or xs c 0) is
+-- each corner has a vertex of the first group, below the number of its entries
+pub first_vertices : (corners : ℕ) (groups : List GroupParts) (g : GroupParts) → All (HasVertices corners) groups → 0 < length groups → g ≡ get_or groups 0 g →
+    AreFirstVertices groups corners (length g.entry_of)
+first_vertices corners groups g has some is c below =
+    let here : HasVertices corners g = subst (HasVertices corners) (sym is) (has 0 g some) in
+    let under = here.entries c 0 (omega (arith, here.each_corner)) in
+    omega (arith, under, first_vertex-at groups g c some is)
 
--- corners with the same entry in the first table and in the others
-pub same_entries : (tables : List AttrTable) (a b n : ℕ) → length tables ≤ n + 1 → first_entry tables a ≡ first_entry tables b → HaveSameEntries (take n (drop 1 tables)) a b → HaveSameEntries tables a b
-same_entries [] a b n whole first others = All-nil (λ (t : AttrTable). get_or t.of_corner a 0 ≡ get_or t.of_corner b 0)
-same_entries (t ∷ tables) a b n whole first others =
-    All-cons (λ (u : AttrTable). get_or u.of_corner a 0 ≡ get_or u.of_corner b 0) t tables first
-    (subst (λ ts. HaveSameEntries ts a b) (take_all n tables (omega arith)) others)
-
--- ---- rows that are kept
-
-pub Keeps-same : (rows : List (List ℤ)) → KeepsRows rows rows
-Keeps-same rows = record { no_fewer = omega arith; kept = λ q below. refl }
-
-pub Keeps-push : (rows : List (List ℤ)) (row : List ℤ) → KeepsRows rows (rows ++ row ∷ [])
-Keeps-push rows row = record {
-  no_fewer = omega (arith, length_push rows row);
-  kept = λ q below. get_or_append_left rows (row ∷ []) [] q below;
-}
-
-pub IsPointOf-keeps : (before after : List (List ℤ)) (row : List ℤ) (p : ℕ) → KeepsRows before after → IsPointOf before row p → IsPointOf after row p
-IsPointOf-keeps before after row p keeps at = (omega (arith, at.0, keeps.no_fewer), keeps.kept p at.0 ∙ at.1)
+-- corners with the same vertex of the first group and of the others
+pub same_vertices : (groups : List GroupParts) (a b n : ℕ) → length groups ≤ n + 1 → first_vertex groups a ≡ first_vertex groups b → HaveSameVertices (take n (drop 1 groups)) a b → HaveSameVertices groups a b
+same_vertices [] a b n whole first others = All-nil (λ (g : GroupParts). get_or g.of_corner a 0 ≡ get_or g.of_corner b 0)
+same_vertices (g ∷ groups) a b n whole first others =
+    All-cons (λ (x : GroupParts). get_or x.of_corner a 0 ≡ get_or x.of_corner b 0) g groups first
+    (subst (λ gs. HaveSameVertices gs a b) (take_all n groups (omega arith)) others)
 
 -- ---- items
 
 -- a row that is there brings no distinct one
-distinct-there : (rows : List (List ℤ)) (row : List ℤ) (p : ℕ) → IsPointOf rows row p → with_row (distinct rows) row ≡ distinct rows
+pub distinct-there : (rows : List (List ℤ)) (row : List ℤ) (p : ℕ) → IsPointOf rows row p → with_row (distinct rows) row ≡ distinct rows
 distinct-there rows row p at =
     let found : list_any (same_row row) (distinct rows) ≡ true =
     any-distinct row rows ∙ list_any_at (same_row row) rows p [] at.0 (same_row-refl row (get_or rows p []) (sym at.1)) in
     ap (λ b. cond b (distinct rows) (distinct rows ++ row ∷ [])) found
 
 -- the distinct rows of one more corner
-distinct-corner : (columns : Columns) (c : ℕ) → distinct (corner_rows columns (c + 1)) ≡ with_row (distinct (corner_rows columns c)) (corner_row columns c)
-distinct-corner columns c =
-    ap distinct (map-range_with_len_more (corner_row columns) 0 c c (omega arith)) ∙ distinct-push (corner_rows columns c) (corner_row columns c)
+distinct-corner : (row : ℕ → List ℤ) (c : ℕ) → distinct (map row (range_with_len 0 (c + 1))) ≡ with_row (distinct (map row (range_with_len 0 c))) (row c)
+distinct-corner row c = ap distinct (map-range_with_len_more row 0 c c (omega arith)) ∙ distinct-push (map row (range_with_len 0 c)) (row c)
 
 -- no items
-pub HoldsItems-none : (heads : List Head) (tables : List AttrTable) (latest : List ℕ) (rows : List (List ℤ)) → All (λ item. item ≡ 0) latest → length rows ≡ 0 → HoldsItems heads tables 0 latest [] rows
-HoldsItems-none heads tables latest (row ∷ rows) zeros none = absurd (omega arith)
-HoldsItems-none heads tables latest [] zeros none = record {
-  rows_are = refl;
-  distinct_rows = refl;
+pub AreItems-none : (groups : List GroupParts) (corners : ℕ) → AreItems groups corners 0 []
+AreItems-none groups corners = record {
   few = omega arith;
   before = λ i below. absurd (omega arith);
-  latest_in = λ e. omega (arith, zero e);
-  latest_has = λ e some. absurd (omega (arith, zero e));
+  distinct_rows = λ row follow. refl;
+}
+
+pub AreLatest-none : (groups : List GroupParts) (latest : List ℕ) → All (λ item. item ≡ 0) latest → AreLatest groups latest []
+AreLatest-none groups latest zeros = record {
+  within = λ v. omega (arith, zero v);
+  has = λ v some. absurd (omega (arith, zero v));
 }
   where
-    zero : (e : ℕ) → get_or latest e 0 ≡ 0
-    zero e = elim (cases_lt e (length latest)) [ inl below ↦ zeros e 0 below | inr past ↦ get_or_past latest e 0 past ]
+    zero : (v : ℕ) → get_or latest v 0 ≡ 0
+    zero v = elim (cases_lt v (length latest)) [ inl below ↦ zeros v 0 below | inr past ↦ get_or_past latest v 0 past ]
 
--- an item has the row of its first corner
-pub IsPointOf-first : (heads : List Head) (tables : List AttrTable) (c : ℕ) (latest firsts : List ℕ) (rows : List (List ℤ)) (item : ℕ) → HoldsItems heads tables c latest firsts rows → item < length firsts → IsPointOf rows (corner_row (zip heads tables) (get_or firsts item 0)) item
-IsPointOf-first heads tables c latest firsts rows item holds below =
-    let columns = zip heads tables in
-    let many : length rows ≡ length firsts = ap length holds.rows_are ∙ length-map firsts (corner_row columns) in
-    (omega (arith, many), ap (λ rs. get_or rs item []) holds.rows_are ∙ get_or-map (corner_row columns) firsts item 0 [] below)
+-- a corner has the latest item with its vertex of the first group, where the others are the same
+pub HasItem-latest : (groups : List GroupParts) (latest firsts : List ℕ) (c shared n : ℕ) → AreLatest groups latest firsts → 0 < shared → shared ≡ get_or latest (first_vertex groups c) 0 →
+    length groups ≤ n + 1 → HaveSameVertices (take n (drop 1 groups)) (get_or firsts (shared - 1) 0) c → HasItem groups firsts c (shared - 1)
+HasItem-latest groups latest firsts c shared n are some is whole others =
+    let v = first_vertex groups c in
+    let below : shared - 1 < length firsts = omega (arith, are.within v) in
+    let first : first_vertex groups (get_or firsts (shared - 1) 0) ≡ v =
+    ap (λ l. first_vertex groups (get_or firsts (l - 1) 0)) is ∙ are.has v (omega arith) in
+    (below, same_vertices groups (get_or firsts (shared - 1) 0) c n whole first others)
 
--- a corner with the entries of an item
-pub IsPointOf-shared : (heads : List Head) (tables : List AttrTable) (c : ℕ) (latest firsts : List ℕ) (rows : List (List ℤ)) (item : ℕ) → HoldsItems heads tables c latest firsts rows → item < length firsts → HaveSameEntries tables (get_or firsts item 0) c → IsPointOf rows (corner_row (zip heads tables) c) item
-IsPointOf-shared heads tables c latest firsts rows item holds below same =
-    subst (λ row. IsPointOf rows row item) (corner_row-same heads tables (get_or firsts item 0) c same)
-    (IsPointOf-first heads tables c latest firsts rows item holds below)
-
--- a corner with the entry of the first table of the latest item that has it, and the same others
-pub IsPointOf-latest : (heads : List Head) (tables : List AttrTable) (c : ℕ) (latest firsts : List ℕ) (rows : List (List ℤ)) (shared n : ℕ) → HoldsItems heads tables c latest firsts rows → 0 < shared → shared ≡ get_or latest (first_entry tables c) 0 → length tables ≤ n + 1 → HaveSameEntries (take n (drop 1 tables)) (get_or firsts (shared - 1) 0) c → IsPointOf rows (corner_row (zip heads tables) c) (shared - 1)
-IsPointOf-latest heads tables c latest firsts rows shared n holds some is whole others =
-    let e = first_entry tables c in
-    let below : shared - 1 < length firsts = omega (arith, holds.latest_in e) in
-    let first : first_entry tables (get_or firsts (shared - 1) 0) ≡ e =
-    ap (λ l. first_entry tables (get_or firsts (l - 1) 0)) is ∙ holds.latest_has e (omega arith) in
-    IsPointOf-shared heads tables c latest firsts rows (shared - 1) holds below (same_entries tables (get_or firsts (shared - 1) 0) c n whole first others)
-
-pub HoldsItems-shared : (heads : List Head) (tables : List AttrTable) (c : ℕ) (latest firsts : List ℕ) (rows : List (List ℤ)) (item : ℕ) → HoldsItems heads tables c latest firsts rows → IsPointOf rows (corner_row (zip heads tables) c) item → HoldsItems heads tables (c + 1) latest firsts rows
-HoldsItems-shared heads tables c latest firsts rows item holds at =
-    let columns = zip heads tables in
-    let row = corner_row columns c in
-    record {
-      rows_are = holds.rows_are;
-      distinct_rows = sym (distinct-corner columns c ∙ ap (λ ds. with_row ds row) (sym holds.distinct_rows) ∙ distinct-there rows row item at);
-      few = omega (arith, holds.few);
-      before = λ i below. omega (arith, holds.before i below);
-      latest_in = holds.latest_in;
-      latest_has = holds.latest_has;
-    }
+-- a corner with an item that is there
+pub AreItems-shared : (groups : List GroupParts) (corners c item : ℕ) (firsts : List ℕ) → AreItems groups corners c firsts → c < corners → HasItem groups firsts c item →
+    AreItems groups corners (c + 1) firsts
+AreItems-shared groups corners c item firsts are inside has = record {
+  few = omega (arith, are.few);
+  before = λ i below. omega (arith, are.before i below);
+  distinct_rows = λ row follow.
+      let first = get_or firsts item 0 in
+      let low : first < corners = omega (arith, are.before item has.0) in
+      let same : row first ≡ row c = follow first c low inside has.1 in
+      let rows = map row firsts in
+      let at : get_or rows item [] ≡ row c = get_or-map row firsts item 0 [] has.0 ∙ same in
+      sym (distinct-there rows (row c) item (omega (arith, has.0, length-map firsts row), at))
+      ∙ ap (λ ds. with_row ds (row c)) (are.distinct_rows row follow)
+      ∙ sym (distinct-corner row c);
+}
 
 -- a corner with an item of its own
-pub HoldsItems-new : (heads : List Head) (tables : List AttrTable) (c e : ℕ) (latest firsts : List ℕ) (rows : List (List ℤ)) → HoldsItems heads tables c latest firsts rows → first_entry tables c ≡ e → e < length latest → HoldsItems heads tables (c + 1) (set latest e (length firsts + 1)) (firsts ++ c ∷ []) (rows ++ corner_row (zip heads tables) c ∷ [])
-HoldsItems-new heads tables c e latest firsts rows holds has inside = record {
-  rows_are = ap (λ rs. rs ++ row ∷ []) holds.rows_are ∙ sym (map-append (corner_row columns) firsts (c ∷ []));
-  distinct_rows = distinct-push rows row ∙ ap (λ ds. with_row ds row) holds.distinct_rows ∙ sym (distinct-corner columns c);
-  few = omega (arith, many, holds.few);
+pub AreItems-new : (groups : List GroupParts) (corners c : ℕ) (firsts : List ℕ) → AreItems groups corners c firsts → AreItems groups corners (c + 1) (firsts ++ c ∷ [])
+AreItems-new groups corners c firsts are = record {
+  few = omega (arith, length_push firsts c, are.few);
   before = λ i below. elim (cases_lt i (length firsts)) [
-    | inl early ↦ omega (arith, old i early, holds.before i early)
-    | inr past ↦ omega (arith, new i (omega (arith, many)))
+    | inl early ↦ omega (arith, get_or_append_left firsts (c ∷ []) 0 i early, are.before i early)
+    | inr past ↦ omega (arith, get_or_push firsts c 0 i (omega (arith, length_push firsts c)))
   ];
-  latest_in = λ d. elim (cases_eq d e) [
-    | inl same ↦ omega (arith, at_e d same, many)
-    | inr other ↦ omega (arith, at_other d other, holds.latest_in d, many)
+  distinct_rows = λ row follow.
+      ap distinct (map-append row firsts (c ∷ []))
+      ∙ distinct-push (map row firsts) (row c)
+      ∙ ap (λ ds. with_row ds (row c)) (are.distinct_rows row follow)
+      ∙ sym (distinct-corner row c);
+}
+
+pub AreLatest-new : (groups : List GroupParts) (latest firsts : List ℕ) (c v : ℕ) → AreLatest groups latest firsts → first_vertex groups c ≡ v → v < length latest →
+    AreLatest groups (set latest v (length firsts + 1)) (firsts ++ c ∷ [])
+AreLatest-new groups latest firsts c v are is inside = record {
+  within = λ d. elim (cases_eq d v) [
+    | inl same ↦ omega (arith, at_v d same, many)
+    | inr other ↦ omega (arith, at_other d other, are.within d, many)
   ];
-  latest_has = λ d some. elim (cases_eq d e) [
+  has = λ d some. elim (cases_eq d v) [
     | inl same ↦
-        let last : get_or (firsts ++ c ∷ []) (get_or (set latest e (length firsts + 1)) d 0 - 1) 0 ≡ c = new _ (omega (arith, at_e d same)) in
-        ap (first_entry tables) last ∙ has ∙ sym same
+        let last : get_or (firsts ++ c ∷ []) (get_or (set latest v (length firsts + 1)) d 0 - 1) 0 ≡ c = get_or_push firsts c 0 _ (omega (arith, at_v d same)) in
+        ap (first_vertex groups) last ∙ is ∙ sym same
     | inr other ↦
-        let here : get_or (set latest e (length firsts + 1)) d 0 ≡ get_or latest d 0 = at_other d other in
+        let here : get_or (set latest v (length firsts + 1)) d 0 ≡ get_or latest d 0 = at_other d other in
         let more : 0 < get_or latest d 0 = omega (arith, here) in
-        let low : get_or latest d 0 - 1 < length firsts = omega (arith, holds.latest_in d) in
-        ap (λ l. first_entry tables (get_or (firsts ++ c ∷ []) (l - 1) 0)) here
-        ∙ ap (first_entry tables) (old (get_or latest d 0 - 1) low)
-        ∙ holds.latest_has d more
+        let low : get_or latest d 0 - 1 < length firsts = omega (arith, are.within d) in
+        ap (λ l. first_vertex groups (get_or (firsts ++ c ∷ []) (l - 1) 0)) here
+        ∙ ap (first_vertex groups) (get_or_append_left firsts (c ∷ []) 0 (get_or latest d 0 - 1) low)
+        ∙ are.has d more
   ];
 }
   where
-    columns : Columns
-    columns = zip heads tables
-
-    row : List ℤ
-    row = corner_row (zip heads tables) c
-
     many : length (firsts ++ c ∷ []) ≡ length firsts + 1
     many = length_push firsts c
 
-    old : (i : ℕ) → i < length firsts → get_or (firsts ++ c ∷ []) i 0 ≡ get_or firsts i 0
-    old i below = get_or_append_left firsts (c ∷ []) 0 i below
+    at_v : (d : ℕ) → d ≡ v → get_or (set latest v (length firsts + 1)) d 0 ≡ length firsts + 1
+    at_v d same = ap (λ k. get_or (set latest v (length firsts + 1)) k 0) same ∙ get_or-set_same latest v (length firsts + 1) 0 inside
 
-    new : (i : ℕ) → length firsts ≡ i → get_or (firsts ++ c ∷ []) i 0 ≡ c
-    new i at = get_or_push firsts c 0 i at
+    at_other : (d : ℕ) → d ≢ v → get_or (set latest v (length firsts + 1)) d 0 ≡ get_or latest d 0
+    at_other d other = get_or-set_other latest v d (length firsts + 1) 0 other
 
-    at_e : (d : ℕ) → d ≡ e → get_or (set latest e (length firsts + 1)) d 0 ≡ length firsts + 1
-    at_e d same = ap (λ k. get_or (set latest e (length firsts + 1)) k 0) same ∙ get_or-set_same latest e (length firsts + 1) 0 inside
+-- items stay where there is one more
+pub HasItem-more : (groups : List GroupParts) (firsts : List ℕ) (new c item : ℕ) → HasItem groups firsts c item → HasItem groups (firsts ++ new ∷ []) c item
+HasItem-more groups firsts new c item has =
+    (omega (arith, has.0, length_push firsts new), subst (λ f. HaveSameVertices groups f c) (sym (get_or_append_left firsts (new ∷ []) 0 item has.0)) has.1)
 
-    at_other : (d : ℕ) → d ≢ e → get_or (set latest e (length firsts + 1)) d 0 ≡ get_or latest d 0
-    at_other d other = get_or-set_other latest e d (length firsts + 1) 0 other
+-- a corner has the item whose first corner it is
+pub HasItem-new : (groups : List GroupParts) (firsts : List ℕ) (c : ℕ) → HasItem groups (firsts ++ c ∷ []) c (length firsts)
+HasItem-new groups firsts c = (
+  omega (arith, length_push firsts c),
+  subst (λ f. HaveSameVertices groups f c) (sym (get_or_push firsts c 0 (length firsts) refl)) (λ k d below. refl),
+)
 
 -- ---- corners and faces
 
-pub HaveItems-none : (columns : Columns) (rows : List (List ℤ)) → HaveItems columns 0 [] rows
-HaveItems-none columns rows = record { each = refl; row = λ c below. absurd (omega arith) }
+pub HaveItems-none : (groups : List GroupParts) (firsts : List ℕ) → HaveItems groups 0 [] firsts
+HaveItems-none groups firsts = record { each = refl; item = λ c below. absurd (omega arith) }
 
-pub HaveItems-more : (columns : Columns) (c item : ℕ) (items : List ℕ) (before after : List (List ℤ)) → HaveItems columns c items before → KeepsRows before after → IsPointOf after (corner_row columns c) item → HaveItems columns (c + 1) (items ++ item ∷ []) after
-HaveItems-more columns c item items before after have keeps at = record {
+-- items that stay
+abbrev pub KeepItems : List GroupParts → List ℕ → List ℕ → Type 0
+KeepItems groups before after = (c item : ℕ) → HasItem groups before c item → HasItem groups after c item
+
+HaveItems-more : (groups : List GroupParts) (c item : ℕ) (items before after : List ℕ) → HaveItems groups c items before → KeepItems groups before after → HasItem groups after c item →
+    HaveItems groups (c + 1) (items ++ item ∷ []) after
+HaveItems-more groups c item items before after have keeps at = record {
   each = length_push items item ∙ ap (λ n. n + 1) have.each;
-  row = λ k below. elim (cases_lt k c) [
+  item = λ k below. elim (cases_lt k c) [
     | inl early ↦
-        subst (IsPointOf after (corner_row columns k)) (sym (get_or_append_left items (item ∷ []) 0 k (omega (arith, have.each))))
-        (IsPointOf-keeps before after (corner_row columns k) _ keeps (have.row k early))
+        subst (HasItem groups after k) (sym (get_or_append_left items (item ∷ []) 0 k (omega (arith, have.each)))) (keeps k (get_or items k 0) (have.item k early))
     | inr past ↦
         let same : c ≡ k = omega arith in
-        subst (IsPointOf after (corner_row columns k)) (sym (get_or_push items item 0 k (have.each ∙ same))) (subst (λ n. IsPointOf after (corner_row columns n) item) same at)
+        subst (HasItem groups after k) (sym (get_or_push items item 0 k (have.each ∙ same))) (subst (λ n. HasItem groups after n item) same at)
   ];
 }
 
 -- the corners of one more face
-pub HaveItems-face : (columns : Columns) (f a b c : ℕ) (items : List ℕ) (r0 r1 r2 r3 : List (List ℤ)) → HaveItems columns (3 * f) items r0 → KeepsRows r0 r1 → IsPointOf r1 (corner_row columns (3 * f)) a → KeepsRows r1 r2 → IsPointOf r2 (corner_row columns (3 * f + 1)) b → KeepsRows r2 r3 → IsPointOf r3 (corner_row columns (3 * f + 2)) c → HaveItems columns (3 * (f + 1)) (((items ++ a ∷ []) ++ b ∷ []) ++ c ∷ []) r3
-HaveItems-face columns f a b c items r0 r1 r2 r3 have k1 at_a k2 at_b k3 at_c =
+pub HaveItems-face : (groups : List GroupParts) (f a b c : ℕ) (items f0 f1 f2 f3 : List ℕ) → HaveItems groups (3 * f) items f0 → KeepItems groups f0 f1 → HasItem groups f1 (3 * f) a →
+    KeepItems groups f1 f2 → HasItem groups f2 (3 * f + 1) b → KeepItems groups f2 f3 → HasItem groups f3 (3 * f + 2) c →
+    HaveItems groups (3 * (f + 1)) (((items ++ a ∷ []) ++ b ∷ []) ++ c ∷ []) f3
+HaveItems-face groups f a b c items f0 f1 f2 f3 have k1 at_a k2 at_b k3 at_c =
     let two : 3 * f + 1 + 1 ≡ 3 * f + 2 = omega arith in
     let three : 3 * f + 2 + 1 ≡ 3 * (f + 1) = omega arith in
-    let first = HaveItems-more columns (3 * f) a items r0 r1 have k1 at_a in
-    let second = HaveItems-more columns (3 * f + 1) b (items ++ a ∷ []) r1 r2 first k2 at_b in
-    subst (λ n. HaveItems columns n (((items ++ a ∷ []) ++ b ∷ []) ++ c ∷ []) r3) three
-    (HaveItems-more columns (3 * f + 2) c ((items ++ a ∷ []) ++ b ∷ []) r2 r3 (subst (λ n. HaveItems columns n ((items ++ a ∷ []) ++ b ∷ []) r2) two second) k3 at_c)
+    let first = HaveItems-more groups (3 * f) a items f0 f1 have k1 at_a in
+    let second = HaveItems-more groups (3 * f + 1) b (items ++ a ∷ []) f1 f2 first k2 at_b in
+    subst (λ n. HaveItems groups n (((items ++ a ∷ []) ++ b ∷ []) ++ c ∷ []) f3) three
+    (HaveItems-more groups (3 * f + 2) c ((items ++ a ∷ []) ++ b ∷ []) f2 f3 (subst (λ n. HaveItems groups n ((items ++ a ∷ []) ++ b ∷ []) f2) two second) k3 at_c)
+
+-- faces by items, with the rows of these
+pub ItemFaces-corners : (columns : Columns) (groups : List GroupParts) (count : ℕ) (firsts items : List ℕ) (faces : List (List ℕ)) →
+    RowsFollowVertices groups (3 * count) (corner_row columns) → AreItems groups (3 * count) (3 * count) firsts → HaveItems groups (3 * count) items firsts →
+    faces ≡ map (triple items) (range_with_len 0 count) → AreItemFaces columns count faces (map (corner_row columns) firsts)
+ItemFaces-corners columns groups count firsts items faces follow are have made = record {
+  distinct_rows = are.distinct_rows (corner_row columns) follow;
+  few = omega (arith, length-map firsts (corner_row columns), are.few);
+  items = items;
+  have = record {
+    each = have.each;
+    row = λ c below.
+        let item = get_or items c 0 in
+        let has = have.item c below in
+        let first = get_or firsts item 0 in (
+          omega (arith, has.0, length-map firsts (corner_row columns)),
+          get_or-map (corner_row columns) firsts item 0 [] has.0 ∙ follow first c (are.before item has.0) below has.1,
+        );
+  };
+  are = made;
+}
 
 -- one more face
 pub faces-more : (items : List ℕ) (a b c f : ℕ) (faces : List (List ℕ)) → length items ≡ 3 * f → faces ≡ map (triple items) (range_with_len 0 f) → faces ++ (a ∷ b ∷ c ∷ []) ∷ [] ≡ map (triple (((items ++ a ∷ []) ++ b ∷ []) ++ c ∷ [])) (range_with_len 0 (f + 1))

@@ -2,15 +2,30 @@
 use Rattle.std.proofs.Common.{◌≡◌, ◌≢◌, ℕ, zero, suc, ◌+◌, ◌-◌, ◌<◌, ◌≤◌, true, false, cond, List, [], ◌∷◌, ◌++◌, length, get_or, set, take, ℤ, refl, sym, ap, ◌∙◌, subst, inl, inr, add-one, arith}
 use Rattle.std.specs.List.{list_any}
 use Rattle.std.proofs.lemmas.Bool.{cases_lt}
-use Rattle.std.proofs.lemmas.List.{length_push, length-take, get_or-set_same, get_or-set_other, get_or-take, take_more}
+use Rattle.std.proofs.lemmas.List.{length_push, length-take, get_or-set_same, get_or-set_other, get_or-take, get_or_append_left, take_more}
 use Rattle.std.proofs.lemmas.List.Elements.{All-from_get_or}
 use Rattle.std.proofs.lemmas.List.Folds.{list_any_at, list_any_none}
 use Rattle.mesh_model.specs.Assembled.{same_row, distinct}
-use Rattle.mesh_model.specs.Items.{KeepsRows}
 use Rattle.mesh_model.specs.RowIndex.{IsPointOf, IsTwin, AreUnlike, RowsAreNumbered}
 use Rattle.mesh_model.proofs.AssembledParts.{All-distinct}
-use Rattle.mesh_model.proofs.CornerItems.{Keeps-same, Keeps-push, IsPointOf-keeps}
 use Rattle.mesh_model.proofs.DistinctRows.{same_row-refl, same_row-apart, distinct-push, with_row}
+
+-- the rows before stay in their places, and others may have come behind them
+pub record KeepsRows (before after : List (List ℤ)) : Type 0 where
+  pub no_fewer : length before ≤ length after
+  pub kept : (q : ℕ) → q < length before → get_or after q [] ≡ get_or before q []
+
+Keeps-same : (rows : List (List ℤ)) → KeepsRows rows rows
+Keeps-same rows = record { no_fewer = omega arith; kept = λ q below. refl }
+
+Keeps-push : (rows : List (List ℤ)) (row : List ℤ) → KeepsRows rows (rows ++ row ∷ [])
+Keeps-push rows row = record {
+  no_fewer = omega (arith, length_push rows row);
+  kept = λ q below. get_or_append_left rows (row ∷ []) [] q below;
+}
+
+IsPointOf-keeps : (before after : List (List ℤ)) (row : List ℤ) (p : ℕ) → KeepsRows before after → IsPointOf before row p → IsPointOf after row p
+IsPointOf-keeps before after row p keeps at = (omega (arith, at.0, keeps.no_fewer), keeps.kept p at.0 ∙ at.1)
 
 -- points with one more, where its row is new
 pub record Grows (before after : List (List ℤ)) (row : List ℤ) : Type 0 where

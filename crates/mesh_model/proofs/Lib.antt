@@ -1,4 +1,11 @@
 pub mod Columns
+pub mod BitSets
+pub mod AttributeRows
+pub mod VertexItems
+pub mod StoredItems
+pub mod Filters
+pub mod Spreads
+pub mod Triples
 pub mod AssembledLaws
 pub mod AssembledParts
 pub mod CornerItems
@@ -17,6 +24,7 @@ pub mod Passing
 pub mod Places
 pub mod Ranges
 pub mod Rows
+pub mod RowNumbers
 pub mod SameLaws
 pub mod MapTexts
 pub mod Pigeonholes

@@ -2,7 +2,8 @@
 use Rattle.std.proofs.Common.{◌≡◌, ℕ, zero, suc, ◌+◌, ◌-◌, ◌*◌, ◌/◌, ◌%◌, ◌<◌, ◌≤◌, List, [], ◌∷◌, ◌++◌, length, get_or, take, drop, ℤ, refl, sym, ap, ◌∙◌, inl, inr, arith}
 use Rattle.std.specs.List.{All}
 use Rattle.std.proofs.lemmas.Bool.{cases_lt}
-use Rattle.std.proofs.lemmas.List.{length-append, length_push, length-take, length-drop, take_at, take_all, take-append-le, drop_at, drop-append-le, drop-drop, get_or-take, get_or-drop, get_or_append_left, get_or_push, same_lists, drop_more}
+use Rattle.std.proofs.lemmas.List.Concat.{flat_map-append}
+use Rattle.std.proofs.lemmas.List.{append-nil, length-append, length_push, length-take, length-drop, take_at, take_all, take-append-le, drop_at, drop-append-le, drop-drop, get_or-take, get_or-drop, get_or_append_left, get_or_push, same_lists, drop_more}
 use Rattle.std.proofs.lemmas.List.FromFn.{length-map-range_with_len, get_or-map-range_with_len}
 use Rattle.std.proofs.lemmas.List.Elements.{All-head, All-tail}
 use Rattle.std.proofs.lemmas.Nat.{mul-le, div-add-mod', mod_below, div_below}
@@ -27,6 +28,12 @@ length-stored_row width count cells i whole below =
     let fits : (i + 1) * width ≤ count * width = mul-le (i + 1) width count width (omega arith) (omega arith) in
     simp (length-take, length-drop) (omega arith)
 
+-- so it has as one of the rows
+pub row_long : (width count : ℕ) (cells : List ℤ) (i : ℕ) → 0 < width → length cells ≡ count * width → i < count → length (get_or (rows_of width cells) i []) ≡ width
+row_long width count cells i wide whole below =
+    ap length (get_or-rows_of width cells i [] (omega (arith, below, length-rows_of width cells, length-rows width count cells wide whole)))
+    ∙ length-stored_row width count cells i whole below
+
 -- cell j of row i
 pub get_or-stored_row : (width : ℕ) (cells : List ℤ) (i j : ℕ) (d : ℤ) → j < width → get_or (take width (drop (i * width) cells)) j d ≡ get_or cells (i * width + j) d
 get_or-stored_row width cells i j d below = get_or-take width (drop (i * width) cells) j d below ∙ get_or-drop (i * width) cells j d
@@ -38,6 +45,11 @@ length-cells_of width (row ∷ points) long =
     let here : length row ≡ width = All-head (λ (r : List ℤ). length r ≡ width) row points long in
     let more = length-cells_of width points (All-tail (λ (r : List ℤ). length r ≡ width) row points long) in
     length-append row (cells_of points) ∙ omega (arith, here, more)
+
+-- one more row
+pub cells_of-push : (points : List (List ℤ)) (row : List ℤ) → cells_of (points ++ row ∷ []) ≡ cells_of points ++ row
+cells_of-push points row =
+    flat_map-append (λ (r : List ℤ). r) points (row ∷ []) ∙ ap (λ xs. cells_of points ++ xs) (append-nil row)
 
 drop_nil : (n : ℕ) → drop {A = ℤ} n [] ≡ []
 drop_nil zero = refl

@@ -1,7 +1,7 @@
 -- A hash of rows, by which equal rows are found: any function of the row serves (this project's
 -- choice).
 use Rattle.std.specs.Prelude.{ℕ, ◌*◌, ◌/◌, ◌%◌, ◌^◌, ℤ, List, fold, bit_and, bit_xor}
-use Rattle.std.specs.Int.{w32, cast_unsigned}
+use Rattle.std.specs.Int.{w32, cast_unsigned, rotate_left}
 
 -- one more value
 unfoldable pub mixed : ℕ → ℤ → ℕ
@@ -11,6 +11,14 @@ mixed hash value = (bit_xor (bit_xor hash (hash / 2 ^ 16)) (cast_unsigned w32 va
 abbrev pub hash_from : ℕ → List ℤ → ℕ
 hash_from hash values = fold mixed hash values
 
+-- the hash of a row
+unfoldable pub row_hash : List ℤ → ℕ
+row_hash row = let hash = hash_from 0 row in bit_xor hash (hash / 2 ^ 15)
+
 -- the bucket of a row among mask + 1
 unfoldable pub bucket_of : ℕ → List ℤ → ℕ
-bucket_of mask row = let hash = hash_from 0 row in bit_and (bit_xor hash (hash / 2 ^ 15)) mask
+bucket_of mask row = bit_and (row_hash row) mask
+
+-- another bucket of a row among mask + 1, by the other half of its hash
+unfoldable pub sieve_of : ℕ → List ℤ → ℕ
+sieve_of mask row = bit_and (rotate_left w32 (row_hash row) 16) mask

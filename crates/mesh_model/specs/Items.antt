@@ -1,43 +1,53 @@
--- Items of corners: corners with the same entries may share an item, which has their row, and is known by
+-- Items of corners: corners with the same vertices may share an item, which has their row, and is known by
 -- the first of them (this project's choice).
-use Rattle.std.specs.Prelude.{ℕ, ◌≡◌, ◌<◌, ◌≤◌, ◌-◌, ◌*◌, ℤ, List, [], ◌∷◌, length, map, slice_index, slice_index_or, All}
-use Rattle.std.specs.List.{range_with_len, zip}
-use Rattle.mesh_model.specs.declared.heads.Head.{Head}
-use Rattle.mesh_model.specs.declared.tables.AttrTable.{AttrTable}
+use Rattle.std.specs.Prelude.{ℕ, ◌≡◌, ◌<◌, ◌≤◌, ◌-◌, ◌*◌, ℤ, List, [], ◌∷◌, length, map, slice_index, All}
+use Rattle.std.specs.List.{range_with_len}
 use Rattle.mesh_model.specs.Assembled.{Columns, corner_row, corner_rows, distinct, triple}
+use Rattle.mesh_model.specs.Groups.{GroupParts}
+use Rattle.mesh_model.specs.Parts.{rows_of}
 use Rattle.mesh_model.specs.RowIndex.{IsPointOf}
 
--- two corners have the same entry in each table
-abbrev pub HaveSameEntries : List AttrTable → ℕ → ℕ → Type 0
-HaveSameEntries tables a b = All (λ t. slice_index t.of_corner a ≡ slice_index t.of_corner b) tables
+-- two corners have the same vertex in each group
+abbrev pub HaveSameVertices : List GroupParts → ℕ → ℕ → Type 0
+HaveSameVertices groups a b = All (λ g. slice_index g.of_corner a ≡ slice_index g.of_corner b) groups
 
--- the entry of the first table at a corner
-abbrev pub first_entry : List AttrTable → ℕ → ℕ
-first_entry [] c = 0
-first_entry (t ∷ tables) c = slice_index t.of_corner c
+-- the vertex of the first group at a corner
+abbrev pub first_vertex : List GroupParts → ℕ → ℕ
+first_vertex [] c = 0
+first_vertex (g ∷ groups) c = slice_index g.of_corner c
 
--- each corner's entry of the first table is below a number
-abbrev pub AreFirstEntries : List AttrTable → ℕ → ℕ → Type 0
-AreFirstEntries tables corners entries = (c : ℕ) → c < corners → first_entry tables c < entries
+-- each corner's vertex of the first group is below a number
+abbrev pub AreFirstVertices : List GroupParts → ℕ → ℕ → Type 0
+AreFirstVertices groups corners vertices = (c : ℕ) → c < corners → first_vertex groups c < vertices
 
--- the rows are those of the items of the first `count` corners, and have each row of these; of each item its first
--- corner is known, and of each entry of the first table an item that has it, plus one, or 0
-pub record HoldsItems (heads : List Head) (tables : List AttrTable) (count : ℕ) (latest firsts : List ℕ)
-    (rows : List (List ℤ)) : Type 0 where
-  pub rows_are : rows ≡ map (corner_row (zip heads tables)) firsts
-  pub distinct_rows : distinct rows ≡ distinct (corner_rows (zip heads tables) count)
+-- corners with the same vertices have the same row
+abbrev pub RowsFollowVertices : List GroupParts → ℕ → (ℕ → List ℤ) → Type 0
+RowsFollowVertices groups corners row = (a b : ℕ) → a < corners → b < corners → HaveSameVertices groups a b → row a ≡ row b
+
+-- the items of the first `count` corners, each known by its first corner: whatever rows the vertices have, those of the
+-- items and those of the corners are the same distinct ones, in the same order
+pub record AreItems (groups : List GroupParts) (corners count : ℕ) (firsts : List ℕ) : Type 0 where
   pub few : length firsts ≤ count
   pub before : (i : ℕ) → i < length firsts → slice_index firsts i < count
-  pub latest_in : (e : ℕ) → slice_index latest e ≤ length firsts
-  pub latest_has : (e : ℕ) → 0 < slice_index latest e → first_entry tables (slice_index firsts (slice_index latest e - 1)) ≡ e
+  pub distinct_rows : (row : ℕ → List ℤ) → RowsFollowVertices groups corners row →
+      distinct (map row firsts) ≡ distinct (map row (range_with_len 0 count))
 
--- the rows before stay in their places, and others may have come behind them
-pub record KeepsRows (before after : List (List ℤ)) : Type 0 where
-  pub no_fewer : length before ≤ length after
-  pub kept : (q : ℕ) → q < length before → slice_index_or after q [] ≡ slice_index_or before q []
+-- of each vertex of the first group an item that has it is known, plus one, or 0
+pub record AreLatest (groups : List GroupParts) (latest firsts : List ℕ) : Type 0 where
+  pub within : (v : ℕ) → slice_index latest v ≤ length firsts
+  pub has : (v : ℕ) → 0 < slice_index latest v → first_vertex groups (slice_index firsts (slice_index latest v - 1)) ≡ v
+
+-- a corner has an item: it has the vertices of its first corner
+abbrev pub HasItem : List GroupParts → List ℕ → ℕ → ℕ → Type 0
+HasItem groups firsts c item = (item < length firsts) × HaveSameVertices groups (slice_index firsts item) c
+
+-- each of `count` corners has an item
+pub record HaveItems (groups : List GroupParts) (count : ℕ) (items firsts : List ℕ) : Type 0 where
+  pub each : length items ≡ count
+  pub item : (c : ℕ) → c < count → HasItem groups firsts c (slice_index items c)
 
 -- each of `count` corners has an item, whose row is the corner's
-pub record HaveItems (columns : Columns) (count : ℕ) (items : List ℕ) (rows : List (List ℤ)) : Type 0 where
+pub record HaveRows (columns : Columns) (count : ℕ) (items : List ℕ) (rows : List (List ℤ)) : Type 0 where
   pub each : length items ≡ count
   pub row : (c : ℕ) → c < count → IsPointOf rows (corner_row columns c) (slice_index items c)
 
@@ -46,5 +56,11 @@ pub record AreItemFaces (columns : Columns) (count : ℕ) (faces : List (List �
   pub distinct_rows : distinct rows ≡ distinct (corner_rows columns (3 * count))
   pub few : length rows ≤ 3 * count
   pub items : List ℕ
-  pub have : HaveItems columns (3 * count) items rows
+  pub have : HaveRows columns (3 * count) items rows
   pub are : faces ≡ map (triple items) (range_with_len 0 count)
+
+-- faces by items, whose rows are stored one after another
+pub record AreStoredItems (columns : Columns) (count width : ℕ) (faces : List (List ℕ)) (cells : List ℤ) (items : ℕ) : Type 0 where
+  pub faces_are : AreItemFaces columns count faces (rows_of width cells)
+  pub stored : length cells ≡ items * width
+  pub few : items ≤ 3 * count

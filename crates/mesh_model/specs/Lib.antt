@@ -9,9 +9,13 @@ pub mod Same
 pub mod Renumbering
 pub mod SameLaws
 pub mod MapText
+pub mod Groups
 pub mod Assembled
+pub mod Vertices
+pub mod BitSet
 pub mod Hash
 pub mod RowIndex
+pub mod RowNumbers
 pub mod Items
 pub mod RenumberingLaws
 pub mod NumberText

@@ -1,8 +1,8 @@
 -- Which rows are equal to earlier ones, how they are found, and the points that they are. Rows of one bucket
 -- are linked, each to the latest before it, and 0 ends a chain, so that a link to row p is p + 1 (this
 -- project's choice).
-use Rattle.std.specs.Prelude.{ℕ, ◌≡◌, ◌≢◌, ◌<◌, ◌≤◌, ◌+◌, ◌-◌, ◌*◌, [], ℤ, List, length, map, take, slice_index, slice_index_or}
-use Rattle.std.specs.List.{range_with_len}
+use Rattle.std.specs.Prelude.{ℕ, zero, suc, ◌≡◌, ◌≢◌, ◌<◌, ◌≤◌, ◌+◌, ◌-◌, ◌*◌, [], ℤ, List, length, map, take, slice_index, slice_index_or, All}
+use Rattle.std.specs.List.{range_with_len, Contains}
 use Rattle.mesh_model.specs.Assembled.{Columns, corner_row, corner_rows, distinct, triple}
 use Rattle.mesh_model.specs.Hash.{bucket_of}
 
@@ -21,6 +21,37 @@ pub record AreChains (rows : List (List ℤ)) (count : ℕ) (links : List ℕ) :
   pub mask : ℕ
   pub linked : AreChained rows mask count links
 
+-- rows by their numbers
+abbrev pub rows_at : List (List ℤ) → List ℕ → List (List ℤ)
+rows_at rows numbers = map (λ p. slice_index_or rows p []) numbers
+
+-- numbers of the first `count` rows, among which are all that equal an earlier one
+pub record AreKept (rows : List (List ℤ)) (count : ℕ) (kept : List ℕ) : Type 0 where
+  pub within : All (λ p. p < count) kept
+  pub all : (p q : ℕ) → p < count → q < p → slice_index_or rows q [] ≡ slice_index_or rows p [] → Contains kept p
+
+-- numbers that rise
+abbrev pub AreRising : List ℕ → Type 0
+AreRising numbers = (i j : ℕ) → i < j → j < length numbers → slice_index numbers i < slice_index numbers j
+
+-- numbers below `count`, rising, among which are all that pass
+pub record ArePassing (Passes : ℕ → Type 0) (count : ℕ) (chosen : List ℕ) : Type 0 where
+  pub few : length chosen ≤ count
+  pub within : All (λ p. p < count) chosen
+  pub rising : AreRising chosen
+  pub all : (p : ℕ) → p < count → Passes p → Contains chosen p
+
+-- a row equals another one of the first `count`
+pub record HasEqual (rows : List (List ℤ)) (count p : ℕ) : Type 0 where
+  pub other : ℕ
+  pub within : other < count
+  pub apart : other ≢ p
+  pub equal : slice_index_or rows other [] ≡ slice_index_or rows p []
+
+-- numbers of the first `count` rows, rising, among which are all that equal another one
+abbrev pub AreChosen : List (List ℤ) → ℕ → List ℕ → Type 0
+AreChosen rows count chosen = ArePassing (HasEqual rows count) count chosen
+
 -- a link from row p to an earlier row that is equal; 0 where there is none
 pub record IsTwin (rows : List (List ℤ)) (p link : ℕ) : Type 0 where
   pub back : link ≤ p
@@ -30,6 +61,16 @@ pub record IsTwin (rows : List (List ℤ)) (p link : ℕ) : Type 0 where
 -- each of the first `count` rows has such a link
 abbrev pub AreTwins : List (List ℤ) → ℕ → List ℕ → Type 0
 AreTwins rows count links = (p : ℕ) → p < count → IsTwin rows p (slice_index links p)
+
+-- the link to a row that stands at a place among the chosen ones, from the link to that place
+abbrev pub spread_link : List ℕ → ℕ → ℕ
+spread_link chosen zero = 0
+spread_link chosen (suc place) = slice_index chosen place + 1
+
+-- each of the first n chosen rows has its link among those of all rows, and no other row has one
+pub record AreSpread (chosen links twins : List ℕ) (n : ℕ) : Type 0 where
+  pub at : (j : ℕ) → j < n → slice_index twins (slice_index chosen j) ≡ spread_link chosen (slice_index links j)
+  pub other : (p : ℕ) → ((j : ℕ) → j < n → slice_index chosen j ≢ p) → slice_index twins p ≡ 0
 
 -- no two of the first `count` rows are equal
 abbrev pub AreUnlike : List (List ℤ) → ℕ → Type 0

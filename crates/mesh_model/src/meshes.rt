@@ -3,8 +3,10 @@
 use crate::geometry_rules::{RowShape, test_mesh};
 use crate::geometry_views::GeometryView;
 use crate::heads::Head;
+use crate::row_numbers::first_rows;
 use crate::row_rules::stored_row;
-use drc_base::Refusal;
+use drc_base::{Memory, Refusal};
+use std::alloc::Global;
 use std::marker::Model;
 
 /// A triangle mesh: heads, points and faces of three point numbers, within the limits. Contracts
@@ -32,11 +34,12 @@ impl Model for CornerMesh {
 }
 
 impl CornerMesh {
-    ghost use Rattle.std.specs.Prelude.{◌≡◌, ◌<◌, ◌≤◌, [], All, IsTrue, None, length, slice_index_or};
+    ghost use Rattle.std.specs.Prelude.{◌≡◌, ◌<◌, ◌≤◌, [], All, IfOk, IsTrue, None, length, slice_index_or};
     ghost use Rattle.mesh_model.specs.declared.geometries.Geometry.TheVariants as geometry;
     ghost use Rattle.mesh_model.specs.FirstFault.{answer_of};
     ghost use Rattle.mesh_model.specs.Head.{width_of};
     ghost use Rattle.mesh_model.specs.Parts.{AreRows, IsMesh, cells_of, corner, mesh_of, range_fault, rows_of};
+    ghost use Rattle.mesh_model.specs.RowNumbers.{AreFirstRows};
     ghost use Rattle.mesh_model.specs.Stored.{AreStored};
 
     /// The mesh of these heads, points (row after row) and faces. It takes no memory. Refusals, the
@@ -180,6 +183,16 @@ impl CornerMesh {
         ensures len { length result.now ≡ width_of self.now.heads }
     {
         stored_row(self.cells.as_slice(), self.width, self.count, i)
+    }
+
+    /// For each point the number of the first one with the same first `columns` integers, found in a few passes over
+    /// each column. Takes about five integers a point. The error is want of memory.
+    pub fn first_points(&self, alloc: Global, columns: u32) -> Result<Vec<u32>, Memory>
+        requires { columns ≤ width_of self.now.heads }
+        ensures { IfOk result (λ numbers. AreFirstRows self.now.points columns (length self.now.points) numbers.items) }
+    {
+        let cells = self.cells.as_slice();
+        first_rows(alloc, self.width, self.count, cells, columns)
     }
 
     /// How many faces there are.

@@ -1,19 +1,22 @@
 //! The points of a mesh that is given by the rows of its corners: equal rows are one point, and the
 //! points are numbered in the order in which their rows come first.
 
-ghost use Rattle.std.specs.Prelude.{◌≡◌, ◌*◌, ◌<◌, ◌≤◌, ℕ, [], All, None, length, map, slice_index, slice_index_or, zip, IfOk};
-ghost use Rattle.mesh_model.specs.Assembled.{AreAttrTables, Columns};
-ghost use Rattle.mesh_model.specs.Head.{heads_fault, width_of};
+ghost use Rattle.std.specs.Prelude.{◌≡◌, ◌*◌, ◌<◌, ℕ, [], All, length, map, slice_index, slice_index_or, zip, IfOk};
+ghost use Rattle.mesh_model.specs.Assembled.{Columns};
+ghost use Rattle.mesh_model.specs.Groups.{group_tables};
+ghost use Rattle.mesh_model.specs.Head.{width_of};
 ghost use Rattle.mesh_model.specs.Items.{AreItemFaces};
 ghost use Rattle.mesh_model.specs.Parts.{rows_of};
 ghost use Rattle.mesh_model.specs.RowIndex.{RowsAreNumbered, AreNumberedFaces, AreTwins};
+ghost use Rattle.mesh_model.specs.Vertices.{AreGroups};
 
+use crate::comparisons::Comparisons;
+use crate::groups::AttrGroup;
 use crate::heads::Head;
 use crate::items::{ItemFaces, items_of};
-use crate::row_index::{Twins, twins_of};
+use crate::row_index::twins_of;
 use crate::row_rules::stored_row;
-use crate::tables::AttrTable;
-use drc_base::{MAX_FACES, Memory};
+use drc_base::Memory;
 use std::alloc::Global;
 
 /// The points of a mesh, and its faces by their numbers.
@@ -89,19 +92,19 @@ fn merge_items(
     alloc: Global,
     width: u32,
     items: ItemFaces,
-    twins: Twins,
+    twins: Vec<u32>,
 ) -> Result<Numbering, Memory>
     requires whole { length items.cells.items ≡ items.count * width }
     requires wide { 0 < width }
     requires faces { All (λ face. All (λ item. item < items.count) face) items.faces.items }
-    requires long { length twins.links.items ≡ items.count }
-    requires twins { AreTwins (rows_of width items.cells.items) items.count twins.links.items }
+    requires long { length twins.items ≡ items.count }
+    requires twins { AreTwins (rows_of width items.cells.items) items.count twins.items }
     ensures numbering { IfOk result (λ n. (columns : Columns) (faces : ℕ) →
         AreItemFaces columns faces items.faces.items (rows_of width items.cells.items) →
         AreNumberedFaces columns faces n.faces.items (rows_of width n.cells.items)) }
     ensures stored { IfOk result (λ n. length n.cells.items ≡ n.count * width) }
 {
-    let mut numbers = twins.links;
+    let mut numbers = twins;
     let points = merge(
         alloc,
         width,
@@ -122,26 +125,24 @@ fn merge_items(
 pub(crate) fn number_corners(
     alloc: Global,
     heads: &[Head],
-    tables: &[AttrTable],
+    groups: &[AttrGroup<'_>],
     faces: u32,
     width: u32,
 ) -> Result<Numbering, Memory>
-    requires columns { AreAttrTables (3 * faces) heads.now tables.now }
-    requires pass { heads_fault heads.now ≡ None }
-    requires few { faces ≤ MAX_FACES }
+    requires groups { AreGroups heads.now groups.now faces }
     requires width { width ≡ width_of heads.now }
-    requires wide { 0 < width }
-    ensures numbering { IfOk result (λ n. AreNumberedFaces (zip heads.now tables.now) faces n.faces.items (rows_of width n.cells.items)) }
+    ensures numbering { IfOk result (λ n. AreNumberedFaces (zip heads.now (group_tables groups.now)) faces n.faces.items (rows_of width n.cells.items)) }
     ensures stored { IfOk result (λ n. length n.cells.items ≡ n.count * width) }
 {
-    let items = items_of(alloc, heads, tables, faces, width)?;
-    let twins = twins_of(alloc, width, items.count, items.cells.as_slice())?;
-    if twins.some {
-        return merge_items(alloc, width, items, twins);
+    let items = items_of(alloc, heads, groups, faces, width)?;
+    let mut comparisons = Comparisons::none();
+    let cells = items.cells.as_slice();
+    match twins_of(alloc, width, items.count, cells, &mut comparisons)? {
+        None => Ok(Numbering {
+            faces: items.faces,
+            cells: items.cells,
+            count: items.count,
+        }),
+        Some(twins) => merge_items(alloc, width, items, twins),
     }
-    Ok(Numbering {
-        faces: items.faces,
-        cells: items.cells,
-        count: items.count,
-    })
 }

@@ -1,140 +1,183 @@
 //! An index of rows: finds which rows are equal to earlier ones, in a few steps a row.
 
-ghost use Rattle.std.specs.Prelude.{◌≡◌, ◌+◌, ◌*◌, ◌<◌, ◌≤◌, ◌^◌, All, IfOk, false, length};
-ghost use Rattle.mesh_model.specs.Hash.{bucket_of, hash_from, mixed};
+ghost use Rattle.std.specs.Prelude.{◌≡◌, ◌+◌, ◌*◌, ◌<◌, ◌≤◌, ◌^◌, ℕ, [], All, IfOk, MatchOption, false, length, slice_index, slice_index_or};
 ghost use Rattle.mesh_model.specs.Parts.{rows_of};
-ghost use Rattle.mesh_model.specs.RowIndex.{AreChains, AreTwins, AreUnlike, IsTwin};
+ghost use Rattle.mesh_model.specs.RowIndex.{AreChains, AreRising, AreSpread, AreTwins, AreUnlike, IsTwin, rows_at};
 
-use crate::matching::same_row;
+use crate::comparisons::{COMPARISONS_A_ROW, Comparisons, MORE_COMPARISONS};
+use crate::row_filter::chosen_rows;
+use crate::row_hash::row_bucket;
+use crate::row_numbers::twins_by_columns;
 use crate::row_rules::stored_row;
 use drc_base::Memory;
 use std::alloc::Global;
 
-/// A hash with one more value. The upper half goes into the lower half first, since a product keeps what its
-/// factors have in common at their lower ends.
-#[tactic(auto, unfolding(crate::specs::Hash::mixed))]
-fn mix(hash: u32, value: i32) -> u32
-    ensures { result ≡ mixed hash value }
+/// Row `i` of the chosen ones.
+fn chosen_row<'a>(cells: &'a [i32], width: u32, count: u32, chosen: &[u32], i: u32) -> &'a [i32]
+    requires whole { length cells.now ≡ count * width }
+    requires wide { 0 < width }
+    requires chosen { All (λ p. p < count) chosen.now }
+    requires below { i < length chosen.now }
+    ensures { result.now ≡ slice_index_or (rows_at (rows_of width cells.now) chosen.now) i [] }
 {
-    (hash ^ (hash >> 16) ^ value.cast_unsigned()).wrapping_mul(0x9e37_79b1)
+    stored_row(cells, width, count, chosen[i as usize])
 }
 
-/// The hash of a row.
-fn hash_of(row: &[i32]) -> u32
-    ensures { result ≡ hash_from 0 row.now }
-{
-    let mut hash: u32 = 0;
-    for value in row {
-        hash = mix(hash, *value);
-    }
-    hash
-}
-
-/// The bucket of a row among `mask` + 1.
-#[tactic(auto, unfolding(crate::specs::Hash::bucket_of))]
-pub(crate) fn row_bucket(mask: u32, row: &[i32]) -> u32
-    ensures bucket { result ≡ bucket_of mask row.now }
-    ensures bound { result ≤ mask }
-{
-    let hash = hash_of(row);
-    (hash ^ (hash >> 15)) & mask
-}
-
-/// Links each row to the latest one before it in its bucket. No row is compared, so that no step waits for the
+/// Links each chosen row to the latest one before it in its bucket. No row is compared, so that no step waits for the
 /// one before. `tops`, which is 0 at first, has a place for each bucket.
 fn link_rows(
     alloc: Global,
     width: u32,
     count: u32,
     cells: &[i32],
+    chosen: &[u32],
     mask: u32,
     tops: &mut [u32],
 ) -> Result<Vec<u32>, Memory>
     requires whole { length cells.now ≡ count * width }
     requires wide { 0 < width }
-    requires few { count + 1 < 2 ^ 32 }
+    requires chosen { All (λ p. p < count) chosen.now }
+    requires few { length chosen.now + 1 < 2 ^ 32 }
     requires buckets { length tops.old ≡ mask + 1 }
     requires none { All (λ top. top ≡ 0) tops.old }
-    ensures chains { IfOk result (λ links. AreChains (rows_of width cells.now) count links.items) }
-    ensures long { IfOk result (λ links. length links.items ≡ count) }
+    ensures chains { IfOk result (λ links. AreChains (rows_at (rows_of width cells.now) chosen.now) (length chosen.now) links.items) }
+    ensures long { IfOk result (λ links. length links.items ≡ length chosen.now) }
 {
-    let mut links = Vec::with_capacity(alloc, count as usize)?;
-    for i in 0..count {
-        let bucket = row_bucket(mask, stored_row(cells, width, count, i)) as usize;
+    let mut links = Vec::with_capacity(alloc, chosen.len())?;
+    for i in 0..chosen.len() as u32 {
+        let bucket = row_bucket(mask, chosen_row(cells, width, count, chosen, i)) as usize;
         links.push_reserved(tops[bucket]);
         tops[bucket] = i + 1;
     }
     Ok(links)
 }
 
-/// A link to the latest row before row `i` that equals it, or none.
-fn twin_of(links: &[u32], width: u32, count: u32, cells: &[i32], i: u32) -> u32
+/// A link to the latest chosen row before chosen row `i` that equals it, or 0 where there is none; nothing where the
+/// comparisons are used up.
+fn twin_of(
+    links: &[u32],
+    width: u32,
+    count: u32,
+    cells: &[i32],
+    chosen: &[u32],
+    i: u32,
+    comparisons: &mut Comparisons,
+) -> Option<u32>
     requires whole { length cells.now ≡ count * width }
     requires wide { 0 < width }
-    requires below { i < count }
-    requires long { length links.now ≡ count }
-    requires chains { AreChains (rows_of width cells.now) (i + 1) links.now }
-    ensures { IsTwin (rows_of width cells.now) i result }
+    requires chosen { All (λ p. p < count) chosen.now }
+    requires below { i < length chosen.now }
+    requires long { length links.now ≡ length chosen.now }
+    requires chains { AreChains (rows_at (rows_of width cells.now) chosen.now) (i + 1) links.now }
+    requires allowed { comparisons.old.made ≤ comparisons.old.most }
+    ensures twin { MatchOption result (comparisons.new.made ≡ comparisons.new.most) (λ link. IsTwin (rows_at (rows_of width cells.now) chosen.now) i link) }
+    ensures cost { comparisons.new.made ≤ comparisons.new.most }
+    ensures most { comparisons.new.most ≡ comparisons.old.most }
 {
-    let row = stored_row(cells, width, count, i);
+    let row = chosen_row(cells, width, count, chosen, i);
     let mut link = links[i as usize];
     while link != 0 {
+        if comparisons.are_used_up() {
+            return None;
+        }
         let earlier = link - 1;
-        if same_row(stored_row(cells, width, count, earlier), row) {
-            return link;
+        if comparisons.same_row(chosen_row(cells, width, count, chosen, earlier), row) {
+            return Some(link);
         }
         link = links[earlier as usize];
     }
-    0
+    Some(0)
 }
 
-/// Puts in each link's place a link to the latest row before that is equal, or none, and answers whether there is
-/// such a row. The last rows come first, since a chain leads through the links of the rows before.
-fn keep_twins(links: &mut [u32], width: u32, count: u32, cells: &[i32]) -> bool
+/// Puts in each link's place a link to the latest chosen row before that is equal, or none, and answers whether there
+/// is such a row; nothing where the comparisons are used up. The last rows come first, since a chain leads through the
+/// links of the rows before.
+fn keep_twins(
+    links: &mut [u32],
+    width: u32,
+    count: u32,
+    cells: &[i32],
+    chosen: &[u32],
+    comparisons: &mut Comparisons,
+) -> Option<bool>
     requires whole { length cells.now ≡ count * width }
     requires wide { 0 < width }
-    requires long { length links.old ≡ count }
-    requires chains { AreChains (rows_of width cells.now) count links.old }
-    ensures twins { AreTwins (rows_of width cells.now) count links.new }
-    ensures none { result ≡ false → AreUnlike (rows_of width cells.now) count }
+    requires chosen { All (λ p. p < count) chosen.now }
+    requires few { length chosen.now < 2 ^ 32 }
+    requires long { length links.old ≡ length chosen.now }
+    requires chains { AreChains (rows_at (rows_of width cells.now) chosen.now) (length chosen.now) links.old }
+    requires allowed { comparisons.old.made ≤ comparisons.old.most }
+    ensures twins { MatchOption result (comparisons.new.made ≡ comparisons.new.most) (λ some.
+        AreTwins (rows_at (rows_of width cells.now) chosen.now) (length chosen.now) links.new
+        × (some ≡ false → AreUnlike (rows_at (rows_of width cells.now) chosen.now) (length chosen.now))) }
+    ensures cost { comparisons.new.made ≤ comparisons.new.most }
+    ensures most { comparisons.new.most ≡ comparisons.old.most }
 {
     let mut some = false;
-    for i in (0..count).rev() {
-        let twin = twin_of(links, width, count, cells, i);
+    for i in (0..chosen.len() as u32).rev() {
+        let twin = twin_of(links, width, count, cells, chosen, i, comparisons)?;
         links[i as usize] = twin;
         if twin != 0 {
             some = true;
         }
     }
-    some
+    Some(some)
 }
 
-/// Which rows are equal to earlier ones.
-#[derive(Drop)]
-pub(crate) struct Twins {
-    /// Of each row a link to the latest row before that equals it, or none: a link to row r is r + 1, and 0 is none.
-    pub links: Vec<u32>,
-    /// Whether any row has a link.
-    pub some: bool,
+/// The links of all `count` rows, from those of the chosen ones, which are links to places among these.
+fn spread(alloc: Global, count: u32, chosen: &[u32], links: &[u32]) -> Result<Vec<u32>, Memory>
+    requires chosen { All (λ p. p < count) chosen.now }
+    requires few { count < 2 ^ 27 }
+    requires rising { AreRising chosen.now }
+    requires long { length links.now ≡ length chosen.now }
+    requires back { (j : ℕ) → j < length chosen.now → slice_index links.now j ≤ j }
+    ensures spread { IfOk result (λ twins. AreSpread chosen.now links.now twins.items (length chosen.now)) }
+    ensures long { IfOk result (λ twins. length twins.items ≡ count) }
+{
+    let mut twins = vec![in alloc; 0; count as usize]?;
+    for i in 0..chosen.len() {
+        let link = links[i];
+        if link == 0 {
+            continue;
+        }
+        twins[chosen[i] as usize] = chosen[link as usize - 1] + 1;
+    }
+    Ok(twins)
 }
 
-/// The twins of `count` rows of `width` integers. Takes two integers a row, and about two for its bucket.
+/// Of each of `count` rows of `width` integers a link to an earlier row that equals it, or none: a link to row r is
+/// r + 1, and 0 is none. No links at all where no two rows are equal. Only the rows that are chosen by their hashes
+/// are compared, a few times for each at most: where rows that aren't equal share so many buckets that this isn't
+/// enough, all rows are numbered column by column instead.
 pub(crate) fn twins_of(
     alloc: Global,
     width: u32,
     count: u32,
     cells: &[i32],
-) -> Result<Twins, Memory>
+    comparisons: &mut Comparisons,
+) -> Result<Option<Vec<u32>>, Memory>
     requires whole { length cells.now ≡ count * width }
     requires wide { 0 < width }
-    requires few { count < 2 ^ 31 }
-    ensures twins { IfOk result (λ twins. AreTwins (rows_of width cells.now) count twins.links.items) }
-    ensures long { IfOk result (λ twins. length twins.links.items ≡ count) }
-    ensures none { IfOk result (λ twins. twins.some ≡ false → AreUnlike (rows_of width cells.now) count) }
+    requires few { count < 2 ^ 27 }
+    requires begun { comparisons.old.made < 2 ^ 62 }
+    ensures found { IfOk result (λ found. MatchOption found (AreUnlike (rows_of width cells.now) count)
+        (λ links. AreTwins (rows_of width cells.now) count links.items × (length links.items ≡ count))) }
+    ensures cost { comparisons.new.made ≤ comparisons.old.made + (COMPARISONS_A_ROW * count + MORE_COMPARISONS) }
 {
-    let buckets = (count + 1).next_power_of_two();
+    let chosen = chosen_rows(alloc, width, count, cells)?;
+    let chosen = chosen.as_slice();
+    let buckets = (chosen.len() as u32 + 1).next_power_of_two();
     let mut tops = vec![in alloc; 0; buckets as usize]?;
-    let mut links = link_rows(alloc, width, count, cells, buckets - 1, tops.as_mut_slice())?;
-    let some = keep_twins(links.as_mut_slice(), width, count, cells);
-    Ok(Twins { links, some })
+    let tops = tops.as_mut_slice();
+    let mut links = link_rows(alloc, width, count, cells, chosen, buckets - 1, tops)?;
+    let links = links.as_mut_slice();
+    comparisons.allow(chosen.len() as u32);
+    match keep_twins(links, width, count, cells, chosen, comparisons) {
+        None => Ok(twins_by_columns(alloc, width, count, cells)?),
+        Some(false) => Ok(None),
+        Some(true) => {
+            let twins = spread(alloc, count, chosen, links)?;
+            Ok(Some(twins))
+        }
+    }
 }

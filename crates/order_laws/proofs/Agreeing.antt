@@ -10,7 +10,7 @@ use Rattle.corner_table.specs.Labels.{label_at}
 use Rattle.walk_order.specs.Visits.{is_visited, is_new, with_entry}
 use Rattle.walk_order.specs.PredictionDegree.{Ranked, unranked, rate, rated, ranked_pushed}
 use Rattle.walk_order.proofs.Covering.{set_here}
-use Rattle.order_laws.specs.Degree.{Waiting, on_stack, Traversal, start, HasEntry, Enters, new, known, counted, Rates, entry, again, once, pushed, IsLast, off}
+use Rattle.order_laws.specs.Degree.{Waiting, on_stack, Traversal, start_of_mesh, HasEntry, Enters, new, known, with_rating, Rates, entry, again, once, pushed_on, IsLast, off}
 use Rattle.order_laws.proofs.Contained.{has, has_first, has_other, above_one, at_most_one, from_above_one, from_at_most_one, lacks_contains, not_lacks_contains, contains_not_lacks, not_contains_lacks}
 use Rattle.order_laws.proofs.Stacks.{corners_on, last_others, last_all, stack_of, left_on}
 
@@ -42,7 +42,7 @@ other_best A b = record {
 }
 
 -- at the start
-pub agrees_start : (faces count : ℕ) → Agrees faces count start (unranked faces count)
+pub agrees_start : (faces count : ℕ) → Agrees faces count start_of_mesh (unranked faces count)
 agrees_start faces count = record {
   sized = length-replicate faces false;
   visited = λ f h. get_or-replicate faces f false true h;
@@ -163,7 +163,7 @@ same_rated {faces} {count} {s} {r} A xs e = record {
 }
 
 agrees_counted : {faces count : ℕ} {s : Traversal} {r : Ranked} (labels : List ℕ) (d : Side) → Agrees faces count s r → label_at labels d < count → (xs : List Bool) → xs ≡ set r.rated (label_at labels d) true →
-    Agrees faces count (counted labels d s) (record r { rated = xs })
+    Agrees faces count (with_rating labels d s) (record r { rated = xs })
 agrees_counted {faces} {count} {s} {r} labels d A h xs e = record {
   sized = A.sized;
   visited = A.visited;
@@ -226,13 +226,13 @@ pub rates_some : {faces count : ℕ} {s : Traversal} {r : Ranked} (labels : List
 rates_some {faces} {count} {s} {r} labels d A = elim (cases_Bool (is_new labels r.walk.entries d)) [
   | inr f ↦ record { rate = 0; after = s; rates = entry (agrees_known labels d A f) }
   | inl t ↦ elim (cases_Bool (has (label_at labels d) s.rated)) [
-    | inl b ↦ record { rate = 1; after = counted labels d s; rates = again (agrees_new labels d A t) (above_one (label_at labels d) s.rated b) }
-    | inr b ↦ record { rate = 2; after = counted labels d s; rates = once (agrees_new labels d A t) (at_most_one (label_at labels d) s.rated b) }
+    | inl b ↦ record { rate = 1; after = with_rating labels d s; rates = again (agrees_new labels d A t) (above_one (label_at labels d) s.rated b) }
+    | inr b ↦ record { rate = 2; after = with_rating labels d s; rates = once (agrees_new labels d A t) (at_most_one (label_at labels d) s.rated b) }
   ]
 ]
 
 -- a corner is pushed
-pub agrees_pushed : {faces count : ℕ} {s : Traversal} {r : Ranked} (k : ℕ) (d : Side) → Agrees faces count s r → k ≤ 2 → d.face < faces → Agrees faces count (pushed k d s) (ranked_pushed k d r)
+pub agrees_pushed : {faces count : ℕ} {s : Traversal} {r : Ranked} (k : ℕ) (d : Side) → Agrees faces count s r → k ≤ 2 → d.face < faces → Agrees faces count (pushed_on k d s) (ranked_pushed k d r)
 agrees_pushed {faces} {count} {s} {r} zero d A l h = record {
   sized = A.sized;
   visited = A.visited;

@@ -8,8 +8,8 @@ use Rattle.corner_table.specs.Fans.{swing_left, swing_right, left_by, right_by, 
 use Rattle.corner_table.proofs.Places.{option_tells, same-true}
 use Rattle.corner_table.proofs.Walks.{left_none, left_by-zero, right_by-zero, left_last, left_split, right_split, left_back, left_then_right, Trail, trail}
 use Rattle.predict.specs.Gathered.{Turn, turn_at, turn_on, leftwards_from, round_from}
+use Rattle.predict.proofs.Rounds.{all_but_last, round_none, Near, round_is, apart_at, few_corners}
 use Rattle.order_laws.specs.Rounds.{ListsFan, RoundIsFan, RoundHasFuel}
-use Rattle.order_laws.proofs.Rounds.{all_but_last, round_none, Near, round_is, apart_at, few_corners}
 
 contains_first : (c : Side) (cs : List Side) (d : Side) → c ≡ d → Contains (c ∷ cs) d
 contains_first c cs d e = subst (λ (x : Side). Contains (c ∷ cs) x) e (Contains-get_or (c ∷ cs) 0 d (omega arith))

@@ -1,4 +1,3 @@
-pub mod Rounds
 pub mod Fan
 pub mod Contained
 pub mod Stacks

@@ -9,7 +9,7 @@ use Rattle.walk_order.specs.Visits.{Walk, is_visited, unvisited, entered}
 use Rattle.walk_order.specs.PredictionDegree.{Ranked, unranked, rated, ranked_pushed, ranked_taken, unvisited_across, turned_to, ranked_turned, visits, ranked}
 use Rattle.walk_order.proofs.Fuel.{one_fewer}
 use Rattle.walk_order.proofs.Ranking.{ranked_nothing, one_ranked}
-use Rattle.order_laws.specs.Degree.{Waiting, Traversal, start, to_right, IsVisited, pushed, IsNext, off, Step, next_face, next_corner, in_hand, left, right, Leads, over, passed, begun, emptied, dropped, taken, marked, no_left, goes_left, puts_left, no_right, goes_right, puts_right}
+use Rattle.order_laws.specs.Degree.{Waiting, Traversal, start_of_mesh, to_right, IsVisited, pushed_on, IsNext, off, Step, next_face, next_corner, in_hand, left, right, Leads, over, passed, begun, emptied, dropped, taken, marked, no_left, goes_left, puts_left, no_right, goes_right, puts_right}
 use Rattle.order_laws.specs.Laws.{RuleLeadsToOrder, RuleLeadsToNoOther}
 use Rattle.order_laws.proofs.Stacks.{corners_on, last_all, last_fewer, left_on, Least, least_of}
 use Rattle.order_laws.proofs.Agreeing.{Agrees, agrees_start, agrees_marked, agrees_entered, enters_some, rates_agree, rates_some, pushed_walk, left_on_walk}
@@ -117,10 +117,10 @@ module _ (faces : ℕ) (g : Gluing) (labels : List ℕ) (count : ℕ) (ends : Li
   all_walks : Rest faces 0 (unranked faces count) ≡ ranked faces g labels count faces
   all_walks = rest_is faces 0 (unranked faces count) (sym (ranked_nothing faces g labels count)) ∙ ap (ranked faces g labels count) (let z : faces + 0 ≡ faces = omega arith in z)
 
-  at_start : Meets next_face faces 0 start (unranked faces count)
+  at_start : Meets next_face faces 0 start_of_mesh (unranked faces count)
   at_start = record { turn = omega arith; agrees = agrees_start faces count; empty = refl }
 
-  pub alone : (q : Traversal) → Leads faces g labels 0 next_face start q → q.entries ≡ (ranked faces g labels count faces).walk.entries
+  pub alone : (q : Traversal) → Leads faces g labels 0 next_face start_of_mesh q → q.entries ≡ (ranked faces g labels count faces).walk.entries
   alone q K = sym (follows K faces (unranked faces count) at_start) ∙ with_entries _ _ all_walks
 
   -- what is left to do: each step makes it less
@@ -160,7 +160,7 @@ module _ (faces : ℕ) (g : Gluing) (labels : List ℕ) (count : ℕ) (ends : Li
   same_size : (n : ℕ) (p : Step) (s t : Traversal) (r q : Ranked) → t.waiting ≡ s.waiting → q.walk ≡ r.walk → (m : ℕ) → Size p n s r < m → Size p n t q < m
   same_size n p s t r q e w m h = (let a = ap (λ (ws : List Waiting). length ws) e in let b = unvisited_same q.walk r.walk w in omega arith)
 
-  more_size : (n : ℕ) (p : Step) (s t : Traversal) (r q : Ranked) (k : ℕ) (d : Side) → t.waiting ≡ s.waiting → q.walk ≡ r.walk → (m : ℕ) → suc (Size p n s r) < m → Size p n (pushed k d t) q < m
+  more_size : (n : ℕ) (p : Step) (s t : Traversal) (r q : Ranked) (k : ℕ) (d : Side) → t.waiting ≡ s.waiting → q.walk ≡ r.walk → (m : ℕ) → suc (Size p n s r) < m → Size p n (pushed_on k d t) q < m
   more_size n p s t r q k d e w m h = (let a = ap (λ (ws : List Waiting). length ws) e in let b = unvisited_same q.walk r.walk w in omega arith)
 
   leads : (m : ℕ) (p : Step) (n f : ℕ) (s : Traversal) (r : Ranked) → Meets p n f s r → Size p n s r < m → Reaches f p s
@@ -223,7 +223,7 @@ module _ (faces : ℕ) (g : Gluing) (labels : List ℕ) (count : ℕ) (ends : Li
               let x = leads m (in_hand d) n f S.after (rated labels r d) (goes_meets faces g labels count ends G L (prev c) d M e.0 e.1 X) (same_size n (in_hand d) s S.after r (rated labels r d) X.waiting refl m (omega arith)) in
               (x.0, goes_left e.0 e.1 S.rates w.0 w.1 x.1))
           | inr w ↦ (
-              let x = leads m (right c) n f (pushed S.rate d S.after) (ranked_pushed S.rate d (rated labels r d)) (puts_meets faces g labels count ends G L (prev c) d M e.0 X)
+              let x = leads m (right c) n f (pushed_on S.rate d S.after) (ranked_pushed S.rate d (rated labels r d)) (puts_meets faces g labels count ends G L (prev c) d M e.0 X)
               (more_size n (right c) s S.after r (ranked_pushed S.rate d (rated labels r d)) S.rate d X.waiting (pushed_walk S.rate d (rated labels r d)) m (omega arith)) in
               (x.0, puts_left e.0 e.1 S.rates w x.1))
         ])
@@ -242,14 +242,14 @@ module _ (faces : ℕ) (g : Gluing) (labels : List ℕ) (count : ℕ) (ends : Li
               let x = leads m (in_hand d) n f S.after (rated labels r d) (goes_meets faces g labels count ends G L (next c) d M e.0 e.1 X) (same_size n (in_hand d) s S.after r (rated labels r d) X.waiting refl m (omega arith)) in
               (x.0, goes_right e.0 e.1 S.rates l x.1))
           | inl l ↦ (
-              let x = leads m next_corner n f (pushed S.rate d S.after) (ranked_pushed S.rate d (rated labels r d)) (puts_meets faces g labels count ends G L (next c) d M e.0 X)
+              let x = leads m next_corner n f (pushed_on S.rate d S.after) (ranked_pushed S.rate d (rated labels r d)) (puts_meets faces g labels count ends G L (next c) d M e.0 X)
               (more_size n next_corner s S.after r (ranked_pushed S.rate d (rated labels r d)) S.rate d X.waiting (pushed_walk S.rate d (rated labels r d)) m (omega arith)) in
               (x.0, puts_right e.0 e.1 S.rates l x.1))
         ])
   ]
 
-  pub reaches : (q : Traversal) × Leads faces g labels 0 next_face start q × (q.entries ≡ (ranked faces g labels count faces).walk.entries)
-  reaches = let x = leads (suc (Size next_face faces start (unranked faces count))) next_face faces 0 start (unranked faces count) at_start (omega arith) in (x.0, x.1, alone x.0 x.1)
+  pub reaches : (q : Traversal) × Leads faces g labels 0 next_face start_of_mesh q × (q.entries ≡ (ranked faces g labels count faces).walk.entries)
+  reaches = let x = leads (suc (Size next_face faces start_of_mesh (unranked faces count))) next_face faces 0 start_of_mesh (unranked faces count) at_start (omega arith) in (x.0, x.1, alone x.0 x.1)
 
 pub rule_leads_to_order : RuleLeadsToOrder
 rule_leads_to_order faces g labels count ends G L = reaches faces g labels count ends G L

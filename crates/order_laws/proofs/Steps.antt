@@ -13,7 +13,7 @@ use Rattle.walk_order.specs.Laws.{last, on}
 use Rattle.walk_order.proofs.Fuel.{unvisited_few}
 use Rattle.walk_order.proofs.Covering.{entry_gives}
 use Rattle.walk_order.proofs.Rating.{visit_is, visits_are_relation, goes_there, goes_elsewhere}
-use Rattle.order_laws.specs.Degree.{Waiting, on_stack, Traversal, IsVisited, Enters, new, known, pushed, IsNext, off}
+use Rattle.order_laws.specs.Degree.{Waiting, on_stack, Traversal, IsVisited, Enters, new, known, pushed_on, IsNext, off}
 use Rattle.order_laws.proofs.Contained.{has_contains, has_not, contains_has, not_has}
 use Rattle.order_laws.proofs.Stacks.{corners_on, last_on, last_all, none_on, left_on, IsFirst, first_dropped, first_taken, nothing_taken}
 use Rattle.order_laws.proofs.Agreeing.{Agrees, other_best, stack_agrees, agrees_marked, with_entry_of, agrees_entered, Rated, agrees_pushed, pushed_best, pushed_walk, IsAbove, above_pushed, agrees_off, left_on_best, left_on_walk}
@@ -285,7 +285,7 @@ module _ (faces : ℕ) (g : Gluing) (labels : List ℕ) (count : ℕ) (ends : Li
       goes_there (λ c. Unit {0}) labels r d (le-leb (rate labels r d) r.best (let a = X.is in let b = X.best in let e = W.best in omega arith))
 
   -- a corner across is pushed
-  pub puts_meets : {n f k : ℕ} {s t : Traversal} {r : Ranked} (c d : Side) → Within n f s r → g c ≡ Some d → Rated labels d faces count s r k t → Within n f (pushed k d t) (ranked_pushed k d (rated labels r d))
+  pub puts_meets : {n f k : ℕ} {s t : Traversal} {r : Ranked} (c d : Side) → Within n f s r → g c ≡ Some d → Rated labels d faces count s r k t → Within n f (pushed_on k d t) (ranked_pushed k d (rated labels r d))
   puts_meets {n} {f} {k} {s} {t} {r} c d W e X = record {
     turn = W.turn;
     agrees = agrees_pushed k d X.agrees X.few (across_within c d e);

@@ -2,11 +2,11 @@
 use Rattle.std.proofs.Common.{◌≡◌, ℕ, [], ◌∷◌, replicate, refl}
 use Rattle.corner_table.specs.Sides.{first, third, side, Gluing}
 use Rattle.corner_table.specs.Table.{glued_in, free_entry}
-use Rattle.predict.specs.Walked.{Walked}
+use Rattle.corner_table.specs.Ordered.{Ordered}
 use Rattle.predict.specs.Gathered.{round_from, round}
 
 -- a surface with its gluing alone
-glued : Gluing → ℕ → Walked
+glued : Gluing → ℕ → Ordered
 glued g corners = record { gluing = g; corners = []; entries = replicate corners 0 }
 
 -- a closed fan: round a vertex of a tetrahedron

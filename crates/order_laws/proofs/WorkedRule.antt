@@ -10,7 +10,7 @@ use Rattle.walk_order.specs.Visits.{lacks}
 use Rattle.walk_order.specs.OfSurface.{fan_labels}
 use Rattle.corner_table.specs.Fans.{corners_of, walks_left, walks_right}
 use Rattle.walk_order.specs.PredictionDegree.{take_unvisited, visits, ranked, prediction_degree_order}
-use Rattle.order_laws.specs.Degree.{Waiting, Traversal, start, Enters, new, known, counted, Rates, entry, again, once, IsLast, top, under, IsNext, next_face, Leads, over, passed, begun, emptied, dropped, taken, marked, no_left, goes_left, puts_left, no_right, goes_right, puts_right}
+use Rattle.order_laws.specs.Degree.{Waiting, Traversal, start_of_mesh, Enters, new, known, with_rating, Rates, entry, again, once, IsLast, top, under, IsNext, next_face, Leads, over, passed, begun, emptied, dropped, taken, marked, no_left, goes_left, puts_left, no_right, goes_right, puts_right}
 use Rattle.order_laws.proofs.Contained.{has, has_contains, has_not, above_one, at_most_one, lacks_contains, not_lacks_contains}
 
 -- each condition of a step, by its test
@@ -35,10 +35,10 @@ old {labels} {c} {s} e = known (not_lacks_contains labels s.entries (label_at la
 met : {labels : List ℕ} {c : Side} {s : Traversal} → lacks labels s.entries (label_at labels c) ≡ false → Rates labels c s 0 s
 met {labels} {c} {s} e = entry (not_lacks_contains labels s.entries (label_at labels c) e)
 
-more : {labels : List ℕ} {c : Side} {s : Traversal} → lacks labels s.entries (label_at labels c) ≡ true → has (label_at labels c) s.rated ≡ true → Rates labels c s 1 (counted labels c s)
+more : {labels : List ℕ} {c : Side} {s : Traversal} → lacks labels s.entries (label_at labels c) ≡ true → has (label_at labels c) s.rated ≡ true → Rates labels c s 1 (with_rating labels c s)
 more {labels} {c} {s} e f = again (lacks_contains labels s.entries (label_at labels c) e) (above_one (label_at labels c) s.rated f)
 
-less : {labels : List ℕ} {c : Side} {s : Traversal} → lacks labels s.entries (label_at labels c) ≡ true → has (label_at labels c) s.rated ≡ false → Rates labels c s 2 (counted labels c s)
+less : {labels : List ℕ} {c : Side} {s : Traversal} → lacks labels s.entries (label_at labels c) ≡ true → has (label_at labels c) s.rated ≡ false → Rates labels c s 2 (with_rating labels c s)
 less {labels} {c} {s} e f = once (lacks_contains labels s.entries (label_at labels c) e) (at_most_one (label_at labels c) s.rated f)
 
 before_all : (b k : ℕ) (ws : List Waiting) → list_all (λ (w : Waiting). nat_lt w.stack b || nat_le k w.stack) ws ≡ true → All (λ (w : Waiting). (w.stack < b) ⊎ (k ≤ w.stack)) ws
@@ -73,7 +73,7 @@ tetrahedron_end = record {
   best = 2;
 }
 
-tetrahedron_rule : Leads 4 tetrahedron tetrahedron_labels 0 next_face start tetrahedron_end
+tetrahedron_rule : Leads 4 tetrahedron tetrahedron_labels 0 next_face start_of_mesh tetrahedron_end
 unfolding tetrahedron tetrahedron_labels tetrahedron_end lacks
 tetrahedron_rule =
     begun (below 0 4 refl) (unseen 0 [] refl) (fresh refl) (fresh refl) (fresh refl) (
@@ -124,7 +124,7 @@ five_end = record {
   best = 2;
 }
 
-five_rule : Leads 5 five five_labels 0 next_face start five_end
+five_rule : Leads 5 five five_labels 0 next_face start_of_mesh five_end
 unfolding five five_labels five_end lacks
 five_rule =
     begun (below 0 5 refl) (unseen 0 [] refl) (fresh refl) (fresh refl) (fresh refl) (

@@ -23,8 +23,8 @@ pub record Traversal : Type 0 where
   pub best : ℕ
 
 -- the start of the mesh
-abbrev pub start : Traversal
-start = record { visited = []; entries = []; rated = []; waiting = []; best = 0 }
+abbrev pub start_of_mesh : Traversal
+start_of_mesh = record { visited = []; entries = []; rated = []; waiting = []; best = 0 }
 
 -- the corner to the left: across the side before the corner
 abbrev pub to_left : Gluing → Side → Option Side
@@ -49,27 +49,27 @@ pub data Enters (labels : List ℕ) (c : Side) : Traversal → Traversal → Typ
   known : {s : Traversal} → HasEntry labels s c → Enters labels c s s
 
 -- the count of a class: how often it was rated
-abbrev pub count_of : Traversal → ℕ → ℕ
-count_of s class = count_by (λ k. k == class) s.rated
+abbrev pub times_rated : Traversal → ℕ → ℕ
+times_rated s class = count_by (λ k. k == class) s.rated
 
 -- the count of a corner's class goes up by one
-abbrev pub counted : List ℕ → Side → Traversal → Traversal
-counted labels c s = record s { rated = label_at labels c ∷ s.rated }
+abbrev pub with_rating : List ℕ → Side → Traversal → Traversal
+with_rating labels c s = record s { rated = label_at labels c ∷ s.rated }
 
 -- a corner is rated
 pub data Rates (labels : List ℕ) (c : Side) : Traversal → ℕ → Traversal → Type 0 where
   -- its rate is 0 where its class has an entry
   entry : {s : Traversal} → HasEntry labels s c → Rates labels c s 0 s
   -- else its class's count goes up by one, and the rate is 1 where the count is then above 1
-  again : {s : Traversal} → ¬ HasEntry labels s c → 1 < count_of (counted labels c s) (label_at labels c) →
-      Rates labels c s 1 (counted labels c s)
+  again : {s : Traversal} → ¬ HasEntry labels s c → 1 < times_rated (with_rating labels c s) (label_at labels c) →
+      Rates labels c s 1 (with_rating labels c s)
   -- and 2 otherwise
-  once : {s : Traversal} → ¬ HasEntry labels s c → count_of (counted labels c s) (label_at labels c) ≤ 1 →
-      Rates labels c s 2 (counted labels c s)
+  once : {s : Traversal} → ¬ HasEntry labels s c → times_rated (with_rating labels c s) (label_at labels c) ≤ 1 →
+      Rates labels c s 2 (with_rating labels c s)
 
 -- a corner is pushed with a rate: it goes on the stack of this number, and best becomes the rate where that is less
-abbrev pub pushed : ℕ → Side → Traversal → Traversal
-pushed k c s = record s { waiting = on_stack k c ∷ s.waiting; best = min s.best k }
+abbrev pub pushed_on : ℕ → Side → Traversal → Traversal
+pushed_on k c s = record s { waiting = on_stack k c ∷ s.waiting; best = min s.best k }
 
 -- the last corner on stack k, and all that waits but it
 pub data IsLast (k : ℕ) (c : Side) : List Waiting → List Waiting → Type 0 where
@@ -128,7 +128,7 @@ pub data Leads (faces : ℕ) (g : Gluing) (labels : List ℕ) : ℕ → Step →
       IsVisited s (to_right g c) → k ≤ t.best → Leads faces g labels f (in_hand d) t q → Leads faces g labels f (left c) s q
   -- Otherwise push it with its rate.
   puts_left : {f k : ℕ} {c d : Side} {s t q : Traversal} → to_left g c ≡ Some d → ¬ Contains s.visited d.face → Rates labels d s k t →
-      (¬ IsVisited s (to_right g c)) ⊎ (t.best < k) → Leads faces g labels f (right c) (pushed k d t) q →
+      (¬ IsVisited s (to_right g c)) ⊎ (t.best < k) → Leads faces g labels f (right c) (pushed_on k d t) q →
       Leads faces g labels f (left c) s q
   -- 5. Where the right face is unvisited, rate the corner to the right.
   no_right : {f : ℕ} {c : Side} {s q : Traversal} → IsVisited s (to_right g c) → Leads faces g labels f next_corner s q →
@@ -138,4 +138,4 @@ pub data Leads (faces : ℕ) (g : Gluing) (labels : List ℕ) : ℕ → Step →
       k ≤ t.best → Leads faces g labels f (in_hand d) t q → Leads faces g labels f (right c) s q
   -- Otherwise push it with its rate, and go on at step 2.
   puts_right : {f k : ℕ} {c d : Side} {s t q : Traversal} → to_right g c ≡ Some d → ¬ Contains s.visited d.face → Rates labels d s k t →
-      t.best < k → Leads faces g labels f next_corner (pushed k d t) q → Leads faces g labels f (right c) s q
+      t.best < k → Leads faces g labels f next_corner (pushed_on k d t) q → Leads faces g labels f (right c) s q

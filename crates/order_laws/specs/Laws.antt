@@ -3,16 +3,16 @@ use Rattle.std.specs.Prelude.{◌≡◌, ℕ, Bool, List}
 use Rattle.corner_table.specs.Sides.{Gluing, IsGluing}
 use Rattle.corner_table.specs.Labels.{IsLabelled}
 use Rattle.walk_order.specs.PredictionDegree.{prediction_degree_order}
-use Rattle.order_laws.specs.Degree.{Traversal, start, next_face, Leads}
+use Rattle.order_laws.specs.Degree.{Traversal, start_of_mesh, next_face, Leads}
 
 -- on every labelled surface the rule leads from the start to an end with the entries of this order
 abbrev pub RuleLeadsToOrder : Type 0
 RuleLeadsToOrder = (faces : ℕ) (g : Gluing) (labels : List ℕ) (count : ℕ) (ends : List Bool) → IsGluing faces g →
     IsLabelled faces g labels count ends →
-    (q : Traversal) × Leads faces g labels 0 next_face start q × (q.entries ≡ prediction_degree_order faces g labels count)
+    (q : Traversal) × Leads faces g labels 0 next_face start_of_mesh q × (q.entries ≡ prediction_degree_order faces g labels count)
 
 -- and to no end with other entries
 abbrev pub RuleLeadsToNoOther : Type 0
 RuleLeadsToNoOther = (faces : ℕ) (g : Gluing) (labels : List ℕ) (count : ℕ) (ends : List Bool) → IsGluing faces g →
-    IsLabelled faces g labels count ends → (q : Traversal) → Leads faces g labels 0 next_face start q →
+    IsLabelled faces g labels count ends → (q : Traversal) → Leads faces g labels 0 next_face start_of_mesh q →
     q.entries ≡ prediction_degree_order faces g labels count

@@ -3,7 +3,7 @@ use Rattle.std.specs.Prelude.{◌≡◌, ℕ, ◌<◌, ◌≤◌, ◌↔◌, tru
 use Rattle.std.specs.List.{Contains}
 use Rattle.corner_table.specs.Sides.{Side, Gluing, IsGluing}
 use Rattle.corner_table.specs.Fans.{InFan}
-use Rattle.predict.specs.Walked.{Walked, IsOver}
+use Rattle.corner_table.specs.Ordered.{Ordered, IsOver}
 use Rattle.predict.specs.Gathered.{turn_at, round_from, round}
 
 -- a list of the corners of the fan of c: each of them stands in it, no other does, and none stands there twice
@@ -13,10 +13,10 @@ pub record ListsFan (g : Gluing) (c : Side) (corners : List Side) : Type 0 where
 
 -- the way round is such a list
 abbrev pub RoundIsFan : Type 0
-RoundIsFan = (faces : ℕ) (w : Walked) → IsGluing faces w.gluing → IsOver faces w → (c : Side) → c.face < faces →
+RoundIsFan = (faces : ℕ) (w : Ordered) → IsGluing faces w.gluing → IsOver faces w → (c : Side) → c.face < faces →
     ListsFan w.gluing c (round w c)
 
 -- with more fuel the way round is the same
 abbrev pub RoundHasFuel : Type 0
-RoundHasFuel = (faces : ℕ) (w : Walked) → IsGluing faces w.gluing → IsOver faces w → (c : Side) → c.face < faces →
+RoundHasFuel = (faces : ℕ) (w : Ordered) → IsGluing faces w.gluing → IsOver faces w → (c : Side) → c.face < faces →
     (n : ℕ) → length w.entries ≤ n → round_from w.gluing c n (Some (turn_at c true)) ≡ round w c

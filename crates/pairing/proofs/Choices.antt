@@ -2,7 +2,7 @@
 use Rattle.std.proofs.Common.{◌≡◌, ℕ, ◌-◌, ◌^◌, ◌<◌, ◌≤◌, Bool, true, false, List, length, get_or, set, inl, inr, sym, ap, ◌∙◌, subst, arith, length-set, get_or-set_same, get_or-set_other}
 use Rattle.std.proofs.lemmas.List.{get_or_read}
 use Rattle.std.proofs.lemmas.Bool.{cases_eq, cases_lt, cases_order}
-use Rattle.pairing.specs.Classes.{AreLinked}
+use Rattle.first_items.specs.Chains.{AreLinked}
 use Rattle.pairing.specs.Choosing.{IsPassed, IsFirstLeft, ArePlaced, IsFirstFree, IsFirstOther, AreKnown}
 
 -- on the way along a class, at a side that is passed

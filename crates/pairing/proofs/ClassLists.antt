@@ -5,9 +5,9 @@ use Rattle.corner_table.specs.Sides.{next, prev, side_at}
 use Rattle.corner_table.proofs.Places.{next-next}
 use Rattle.corner_table.proofs.Numbers.{face-lt}
 use Rattle.pairing.specs.Positions.{position_in, AreTriangles}
-use Rattle.pairing.specs.FirstItems.{AreFirstItems}
+use Rattle.first_items.specs.FirstItems.{AreFirstItems}
 use Rattle.pairing.specs.Classes.{AreBounds, class_at, AreEdges, reversed, AreClasses}
-use Rattle.pairing.proofs.PairNumbers.{firsts_number}
+use Rattle.first_items.proofs.PairNumbers.{firsts_number}
 
 up_class : (edge start low : ℕ) → start ≡ low → class_at edge start low ≡ 2 * edge
 up_class edge start low e = cond-true (eqb start low) (2 * edge) (2 * edge + 1) (eq-eqb start low e)

@@ -1,9 +1,9 @@
 -- One side more has its edge.
 use Rattle.std.proofs.Common.{◌≡◌, ◌≢◌, ℕ, ◌+◌, ◌*◌, ◌/◌, ◌<◌, ◌≤◌, eqb, max, List, length, get_or, set, inl, inr, sym, ap, ◌∙◌, arith, get_or-set_same, get_or-set_other}
 use Rattle.std.proofs.lemmas.Bool.{cases_eq, cond-true, cond-false, eq-eqb, ne_eqb}
-use Rattle.pairing.specs.FirstItems.{AreFirstItems}
+use Rattle.first_items.specs.FirstItems.{AreFirstItems}
 use Rattle.pairing.specs.Classes.{class_at, AreEdges}
-use Rattle.pairing.proofs.PairNumbers.{one_first}
+use Rattle.first_items.proofs.PairNumbers.{one_first}
 
 -- the edge of a class is its half
 pub class_half : (edge start low : ℕ) → class_at edge start low / 2 ≡ edge

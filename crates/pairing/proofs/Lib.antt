@@ -4,11 +4,9 @@ pub mod Pushes
 pub mod Turns
 pub mod Proper
 pub mod Left
-pub mod PairNumbers
 pub mod PositionLists
 pub mod EdgeNumbers
 pub mod ClassLists
-pub mod ChainLists
 pub mod Choices
 pub mod Sides
 pub mod Starts

@@ -1,99 +1,23 @@
--- Positions by numbers, one integer after another, and those of corners.
-use Rattle.std.proofs.Common.{◌≡◌, ℕ, ◌+◌, ◌*◌, ◌%◌, ◌<◌, ◌≤◌, ℤ, pos, List, [], ◌∷◌, ◌++◌, length, get_or, take, replicate, inl, inr, sym, refl, ap, ◌∙◌, subst, arith, length-append}
-use Rattle.std.specs.Int.{w32, cast_signed, cast_unsigned}
-use Rattle.std.proofs.lemmas.List.{get_or_read, take_more_same, get_or_append_left, get_or_push, get_or-take, get_or-replicate, length-replicate, take-take}
+-- Positions by numbers, and those of corners.
+use Rattle.std.proofs.Common.{◌≡◌, ℕ, ◌+◌, ◌*◌, ◌%◌, ◌<◌, ℤ, List, [], ◌∷◌, ◌++◌, length, get_or, take, inl, inr, sym, refl, ap, ◌∙◌, subst, arith, length-append}
+use Rattle.std.proofs.lemmas.List.{get_or_read, get_or_append_left, get_or_push}
 use Rattle.std.proofs.lemmas.Bool.{cases_eq}
 use Rattle.mesh_model.specs.Parts.{MeshParts, IsMesh, IsFaceOf}
 use Rattle.corner_table.specs.Sides.{Side, Place, first, second, third, side, number, place_number}
 use Rattle.corner_table.proofs.Numbers.{number-lt}
 use Rattle.pairing.specs.Pairing.{first_width, corner_position}
-use Rattle.pairing.specs.FirstItems.{AreFirstItems}
-use Rattle.pairing.proofs.PairNumbers.{firsts_number}
-use Rattle.pairing.proofs.Pushes.{each_more}
-use Rattle.pairing.specs.Positions.{AreNumbered, IsColumn, ArePointNumbers, AreCornerNumbers, position_in}
+use Rattle.mesh_model.specs.RowNumbers.{AreFirstRows}
+use Rattle.mesh_model.proofs.RowNumbers.{one_first_row}
+use Rattle.pairing.specs.Positions.{ArePointNumbers, AreCornerNumbers, position_in}
 
--- by no integer do two points differ
-pub point_numbers_begin : (points : List (List ℤ)) (n : ℕ) → n ≡ length points → ArePointNumbers points 0 (replicate n 0)
-point_numbers_begin points n e = record {
-  each = length-replicate n 0 ∙ e;
-  below = λ p h. subst (λ (v : ℕ). v < length points) (sym (get_or-replicate n p 0 0 (omega arith))) (omega arith);
-  alike = λ p q h k s. get_or-replicate n p 0 0 (omega arith) ∙ sym (get_or-replicate n q 0 0 (omega arith));
-  apart = λ p q h k s. refl;
+-- points by the first ones like them
+pub points_numbered : (points : List (List ℤ)) (width : ℕ) (numbers : List ℕ) → AreFirstRows points width (length points) numbers → ArePointNumbers points width numbers
+points_numbered points width numbers F = record {
+  each = F.each;
+  below = λ p h. (let n = (F.first_is p h).no_later in omega arith);
+  alike = λ p q h k e. one_first_row (F.first_is p h) (F.first_is q k) e;
+  apart = λ p q h k e. sym (F.first_is p h).same ∙ ap (λ (v : ℕ). take width (get_or points v [])) e ∙ (F.first_is q k).same;
 }
-
--- one integer more
-pub record IsMore (points : List (List ℤ)) (j : ℕ) (old bits new : List ℕ) : Type 0 where
-  pub wide : (p : ℕ) → p < length points → j < length (get_or points p [])
-  pub before : ArePointNumbers points j old
-  pub column : IsColumn points j bits (length points)
-  pub numbered : AreFirstItems old bits new
-
-pub point_numbers_more : (points : List (List ℤ)) (j : ℕ) (old bits new : List ℕ) → IsMore points j old bits new → ArePointNumbers points (j + 1) new
-point_numbers_more points j old bits new M = record {
-  each = M.numbered.each ∙ M.before.each;
-  below = λ p h. (let l = M.before.each in let b = numbered.below p (omega arith) in omega arith);
-  alike = alike;
-  apart = apart;
-}
-  where
-    numbered : AreNumbered old bits new (length old)
-    numbered = firsts_number M.numbered
-
-    head : (p q : ℕ) → take (j + 1) (get_or points p []) ≡ take (j + 1) (get_or points q []) → take j (get_or points p []) ≡ take j (get_or points q [])
-    head p q e =
-        sym (take-take j (j + 1) (get_or points p []) (omega arith)) ∙ ap (take j) e ∙ take-take j (j + 1) (get_or points q []) (omega arith)
-
-    last : (p q : ℕ) → take (j + 1) (get_or points p []) ≡ take (j + 1) (get_or points q []) → get_or (get_or points p []) j (pos 0) ≡ get_or (get_or points q []) j (pos 0)
-    last p q e =
-        sym (get_or-take (j + 1) (get_or points p []) j (pos 0) (omega arith))
-        ∙ ap (λ (l : List ℤ). get_or l j (pos 0)) e
-        ∙ get_or-take (j + 1) (get_or points q []) j (pos 0) (omega arith)
-
-    alike : (p q : ℕ) → p < length points → q < length points → take (j + 1) (get_or points p []) ≡ take (j + 1) (get_or points q []) → get_or new p 0 ≡ get_or new q 0
-    alike p q h k e =
-        let l = M.before.each in
-        numbered.alike p q (omega arith) (omega arith) (M.before.alike p q h k (head p q e))
-        (M.column.bits_are p h ∙ ap (cast_unsigned w32) (last p q e) ∙ sym (M.column.bits_are q k))
-
-    apart : (p q : ℕ) → p < length points → q < length points → get_or new p 0 ≡ get_or new q 0 → take (j + 1) (get_or points p []) ≡ take (j + 1) (get_or points q [])
-    apart p q h k e =
-        let l = M.before.each in
-        let a = numbered.apart p q (omega arith) (omega arith) e in
-        take_more_same (get_or points p []) (get_or points q []) j (pos 0) (M.wide p h) (M.wide q k) (M.before.apart p q h k a.0)
-        (sym (M.column.values_are p h) ∙ ap (cast_signed w32) a.1 ∙ M.column.values_are q k)
-
--- points that are distinguished need no integer more
-pub apart_numbers : (points : List (List ℤ)) (j width : ℕ) (numbers : List ℕ) → j ≤ width → ArePointNumbers points j numbers → ((x : ℕ) → x < length numbers → get_or numbers x 0 ≡ x) → ArePointNumbers points width numbers
-apart_numbers points j width numbers m P own = record {
-  each = P.each;
-  below = P.below;
-  alike = λ p q h k e. P.alike p q h k (sym (take-take j width (get_or points p []) m) ∙ ap (take j) e ∙ take-take j width (get_or points q []) m);
-  apart = λ p q h k e. (
-      let l = P.each in
-      let a = own p (omega arith) in
-      let b = own q (omega arith) in
-      let s : p ≡ q = omega arith in
-      ap (λ (i : ℕ). take width (get_or points i [])) s);
-}
-
--- the integer of one point more
-pub column_more : (points : List (List ℤ)) (j : ℕ) (bits : List ℕ) (p b : ℕ) → IsColumn points j bits p → b ≡ cast_unsigned w32 (get_or (get_or points p []) j (pos 0)) → cast_signed w32 b ≡ get_or (get_or points p []) j (pos 0) →
-    IsColumn points j (bits ++ b ∷ []) (p + 1)
-column_more points j bits p b C e v = record {
-  each = length-append bits (b ∷ []) ∙ (let l = C.each in omega arith);
-  bits_are = each_more (λ (k : ℕ). cast_unsigned w32 (get_or (get_or points k []) j (pos 0))) bits p b C.each e C.bits_are;
-  values_are = values_are;
-}
-  where
-    values_are : (k : ℕ) → k < p + 1 → cast_signed w32 (get_or (bits ++ b ∷ []) k 0) ≡ get_or (get_or points k []) j (pos 0)
-    values_are k h = elim (cases_eq k p) [
-      | inl q ↦
-          ap (λ (i : ℕ). cast_signed w32 (get_or (bits ++ b ∷ []) i 0)) q
-          ∙ ap (cast_signed w32) (get_or_push bits b 0 p C.each) ∙ v ∙ ap (λ (i : ℕ). get_or (get_or points i []) j (pos 0)) (sym q)
-      | inr n ↦ (
-          let l = C.each in
-          ap (cast_signed w32) (get_or_append_left bits (b ∷ []) 0 k (omega arith)) ∙ C.values_are k (omega arith))
-    ]
 
 -- the number of a corner's point
 abbrev pub point_number : List (List ℕ) → List ℕ → Side → ℕ

@@ -12,7 +12,8 @@ use Rattle.corner_table.proofs.Numbers.{face-lt, number-side_at}
 use Rattle.pairing.specs.Pairing.{corner_position, same_position, may_pair, paired, pairing, PairsFit, NoneIsLeft}
 use Rattle.pairing.specs.Degenerate.{is_degenerate_face, degenerate_fault}
 use Rattle.pairing.specs.Positions.{position_in, same_in, AreCornerNumbers, AreTriangles}
-use Rattle.pairing.specs.Classes.{AreClasses, AreLinked, AreFirsts}
+use Rattle.pairing.specs.Classes.{AreClasses}
+use Rattle.first_items.specs.Chains.{AreLinked, AreFirsts}
 use Rattle.pairing.specs.Turns.{AreSides, IsUpTo}
 use Rattle.pairing.proofs.Least.{found, missing, least_tells}
 use Rattle.pairing.proofs.Turns.{ArePairs, paired-congr, pairs_are, tells-may_pair}

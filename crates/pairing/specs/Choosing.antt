@@ -1,7 +1,7 @@
 -- How the least free side of a class is found: two places in the class that only move forward
 -- (this project's choice).
 use Rattle.std.specs.Prelude.{◌≡◌, ◌≢◌, ℕ, ◌-◌, ◌^◌, ◌<◌, ◌≤◌, ◌⊎◌, Bool, true, false, List, length, get_or, Option, Some, None}
-use Rattle.pairing.specs.Classes.{AreLinked}
+use Rattle.first_items.specs.Chains.{AreLinked}
 
 -- side z is taken, or its third position is the one to skip
 abbrev pub IsPassed : List ℕ → List Bool → ℕ → ℕ → Type 0

@@ -1,7 +1,6 @@
 pub mod Pairing
 pub mod Degenerate
 pub mod Positions
-pub mod FirstItems
 pub mod Classes
 pub mod Choosing
 pub mod Turns

@@ -1,24 +1,8 @@
 -- Numbers for positions: equal numbers for equal positions, and only for them (this project's choice).
-use Rattle.std.specs.Prelude.{◌≡◌, ◌≢◌, ℕ, ◌*◌, ◌<◌, Bool, eqb, ℤ, pos, List, [], length, take, get_or}
-use Rattle.std.specs.Int.{w32, cast_signed, cast_unsigned}
+use Rattle.std.specs.Prelude.{◌≡◌, ◌≢◌, ℕ, ◌*◌, ◌<◌, Bool, eqb, ℤ, List, [], length, take, get_or}
 use Rattle.mesh_model.specs.Parts.{MeshParts}
 use Rattle.corner_table.specs.Sides.{Side, next, number}
 use Rattle.pairing.specs.Pairing.{corner_position}
-
--- items have one number exactly where both lists have one entry each for them
-pub record AreNumbered (firsts seconds numbers : List ℕ) (count : ℕ) : Type 0 where
-  pub each : length numbers ≡ length firsts
-  pub below : (i : ℕ) → i < length firsts → get_or numbers i 0 < count
-  pub alike : (i j : ℕ) → i < length firsts → j < length firsts → get_or firsts i 0 ≡ get_or firsts j 0 →
-      get_or seconds i 0 ≡ get_or seconds j 0 → get_or numbers i 0 ≡ get_or numbers j 0
-  pub apart : (i j : ℕ) → i < length firsts → j < length firsts → get_or numbers i 0 ≡ get_or numbers j 0 →
-      (get_or firsts i 0 ≡ get_or firsts j 0) × (get_or seconds i 0 ≡ get_or seconds j 0)
-
--- integer j of the first points, by its bits
-pub record IsColumn (points : List (List ℤ)) (j : ℕ) (bits : List ℕ) (count : ℕ) : Type 0 where
-  pub each : length bits ≡ count
-  pub bits_are : (p : ℕ) → p < count → get_or bits p 0 ≡ cast_unsigned w32 (get_or (get_or points p []) j (pos 0))
-  pub values_are : (p : ℕ) → p < count → cast_signed w32 (get_or bits p 0) ≡ get_or (get_or points p []) j (pos 0)
 
 -- the numbers of points by their first `width` integers
 pub record ArePointNumbers (points : List (List ℤ)) (width : ℕ) (numbers : List ℕ) : Type 0 where

@@ -6,10 +6,10 @@
 //! be another, the other one. A side that hasn't had its turn is free; what is found there is none.
 
 ghost use Rattle.std.specs.Prelude.{◌≡◌, ℕ, ◌<◌, ◌≤◌, ◌^◌, ◌≢◌, Bool, false, length, slice_index, slice_index_or, vec_len, IsTrue};
-ghost use Rattle.pairing.specs.Classes.{AreLinked};
+ghost use Rattle.first_items.specs.Chains.{AreLinked};
 ghost use Rattle.pairing.specs.Choosing.{AreKnown, IsPassed, IsFirstLeft, IsFirstFree, IsFirstOther, ArePlaced, IsChosen};
 
-use crate::chains::NONE;
+use first_items::NONE;
 
 /// What is known of the sides: their third positions, their classes, and the links of these.
 #[derive(Drop)]

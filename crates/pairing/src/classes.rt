@@ -9,8 +9,8 @@ ghost use Rattle.corner_table.specs.Sides.{first, second, third, side, next, pre
 ghost use Rattle.pairing.specs.Positions.{position_in, AreTriangles};
 ghost use Rattle.pairing.specs.Classes.{class_at, reversed, AreBounds, AreClasses};
 
-use crate::numbering::number_pairs;
 use drc_base::Memory;
+use first_items::number_pairs;
 use std::alloc::Global;
 
 /// The position at which side `x` starts: that of the next corner.

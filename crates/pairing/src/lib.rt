@@ -3,12 +3,10 @@
 //! so that each corner of a face is in a fan of its own. The choice of pairs is this project's own.
 #![tactic(auto)]
 
-mod chains;
 mod choosing;
 mod classes;
 mod degenerate;
 mod laws;
-mod numbering;
 mod positions;
 mod surfaces;
 

@@ -16,13 +16,13 @@ ghost use Rattle.pairing.specs.Degenerate.{degenerate_fault};
 ghost use Rattle.pairing.specs.Positions.{AreCornerNumbers, same_in};
 ghost use Rattle.pairing.specs.Turns.{AreSides, IsUpTo};
 
-use crate::chains::chains_of;
 use crate::choosing::{Places, Sides, choose};
 use crate::classes::{classes_of, reversed};
 use crate::degenerate::test_faces;
 use crate::positions::corner_numbers;
 use corner_table::{FREE, SideTable};
 use drc_base::{Memory, Refusal};
+use first_items::chains_of;
 use mesh_model::CornerMesh;
 use std::alloc::Global;
 

@@ -9,7 +9,7 @@ use Rattle.drc_base.specs.Steps.{◌>>=◌}
 use Rattle.mesh_model.specs.declared.geometries.Geometry.TheVariants.{Mesh, Cloud}
 use Rattle.ply_text.specs.declared.headers.Header.{Header}
 use Rattle.ply_mesh.specs.Body.{row_read, face_of, items_from, ends}
-use Rattle.ply_mesh.specs.Read.{geometry_head, geometry_of, body_of, ply_read}
+use Rattle.ply_mesh.specs.Read.{geometry_head, geometry_of_rows, body_of, ply_read}
 use Rattle.std.specs.Str.Lines.{lines}
 use Rattle.std.proofs.lemmas.List.{drop-map}
 use Rattle.ply_text.specs.Tokens.{tokens_of, token_lines}
@@ -36,7 +36,7 @@ pub mesh_from : (h : Header) (lines rest : Rest) (rows : List (List ℤ)) (count
     → body_of h lines ≡ (items_from (face_of (unwrap_or h.list (0, 0)) h.vertices) count (h.body_line + h.vertices) rest >>= λ (faces : List (List ℕ) × Rest). ends (Mesh (record { heads = map geometry_head h.heads; points = rows; faces = faces.0 })) (h.body_line + h.vertices + count) faces.1)
 unfolding body_of
 mesh_from h lines rest rows count some e = rw (e, some) (through (items_from (face_of (unwrap_or h.list (0, 0)) h.vertices) count (h.body_line + h.vertices) rest)) where
-  through : (r : Result (List (List ℕ) × Rest) Fault) → ((r >>= λ (faces : List (List ℕ) × Rest). Ok (Some faces.0, faces.1)) >>= λ (faces : Option (List (List ℕ)) × Rest). ends (geometry_of (map geometry_head h.heads) rows faces.0) (h.body_line + h.vertices + count) faces.1)
+  through : (r : Result (List (List ℕ) × Rest) Fault) → ((r >>= λ (faces : List (List ℕ) × Rest). Ok (Some faces.0, faces.1)) >>= λ (faces : Option (List (List ℕ)) × Rest). ends (geometry_of_rows (map geometry_head h.heads) rows faces.0) (h.body_line + h.vertices + count) faces.1)
       ≡ (r >>= λ (faces : List (List ℕ) × Rest). ends (Mesh (record { heads = map geometry_head h.heads; points = rows; faces = faces.0 })) (h.body_line + h.vertices + count) faces.1)
   through (Ok x) = refl
   through (Err f) = refl

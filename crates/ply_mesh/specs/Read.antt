@@ -25,14 +25,14 @@ geometry_head h =
     record { usage = h.usage; dtype = h.dtype; comps = h.comps; normalized = h.normalized; id = h.id; quant = quant }
 
 -- the geometry of a header, points and faces: without an element of faces it is a cloud
-abbrev pub geometry_of : List Head → List (List ℤ) → Option (List (List ℕ)) → Geometry
-geometry_of heads points None = Cloud (record { heads = heads; points = points })
-geometry_of heads points (Some faces) = Mesh (record { heads = heads; points = points; faces = faces })
+abbrev pub geometry_of_rows : List Head → List (List ℤ) → Option (List (List ℕ)) → Geometry
+geometry_of_rows heads points None = Cloud (record { heads = heads; points = points })
+geometry_of_rows heads points (Some faces) = Mesh (record { heads = heads; points = points; faces = faces })
 
 -- the faces, where there is an element of them, and the lines after them
-abbrev pub faces_from : Header → ℕ → List (List (List ℕ)) → Option ℕ → Result (Option (List (List ℕ)) × List (List (List ℕ))) Fault
-faces_from h at lines None = Ok (None, lines)
-faces_from h at lines (Some count) = do
+abbrev pub face_items_from : Header → ℕ → List (List (List ℕ)) → Option ℕ → Result (Option (List (List ℕ)) × List (List (List ℕ))) Fault
+face_items_from h at lines None = Ok (None, lines)
+face_items_from h at lines (Some count) = do
   faces ← items_from (face_of (unwrap_or h.list (0, 0)) h.vertices) count at lines
   Ok (Some faces.0, faces.1)
 
@@ -40,8 +40,8 @@ faces_from h at lines (Some count) = do
 unfoldable pub body_of : Header → List (List (List ℕ)) → Result Geometry Fault
 body_of h lines = do
   points ← items_from (row_read h.types) h.vertices h.body_line lines
-  faces ← faces_from h (h.body_line + h.vertices) points.1 h.faces
-  ends (geometry_of (map geometry_head h.heads) points.0 faces.0) (h.body_line + h.vertices + unwrap_or h.faces 0) faces.1
+  faces ← face_items_from h (h.body_line + h.vertices) points.1 h.faces
+  ends (geometry_of_rows (map geometry_head h.heads) points.0 faces.0) (h.body_line + h.vertices + unwrap_or h.faces 0) faces.1
 
 -- the geometry of a PLY text, or its first fault
 unfoldable pub ply_read : List ℕ → Result Geometry Fault

@@ -8,12 +8,12 @@ use Rattle.std.proofs.lemmas.List.Elements.{All-nil, All-cons, All-append, All-s
 use Rattle.corner_table.specs.Sides.{Side, side_at, same, number, Gluing}
 use Rattle.corner_table.proofs.Numbers.{number-side_at}
 use Rattle.corner_table.proofs.Places.{same_refl, not_same}
-use Rattle.predict.specs.declared.surface.FaceAcross.{FaceAcross}
-use Rattle.predict.specs.Walked.{Walked, IsBelow, is_below, only_below, face_entries, corner_at, at_corner}
+use Rattle.corner_table.specs.declared.corner_lists.FaceAcross.{FaceAcross}
+use Rattle.corner_table.specs.Ordered.{Ordered, IsBelow, is_below, only_below, face_entries, corner_at, at_corner}
 use Rattle.predict.specs.Gathered.{Turn, turn_at, turn_on, round_from, round, gathered}
 
 -- the start
-pub gathered_start : (w : Walked) (e : ℕ) (c : Side) (n : ℕ) (found : List FaceAcross) → found ≡ [] → c ≡ corner_at w e → n ≡ length w.entries
+pub gathered_start : (w : Ordered) (e : ℕ) (c : Side) (n : ℕ) (found : List FaceAcross) → found ≡ [] → c ≡ corner_at w e → n ≡ length w.entries
     → take 4 (found ++ filter_map (at_corner w e) (round_from w.gluing c n (Some (turn_at c true)))) ≡ gathered w e
 unfolding gathered
 gathered_start w e c n found none at fuel = rw (none, at, fuel) refl
@@ -64,7 +64,7 @@ gathered_stop f g start zero t found whole few e so = sym (take_all 4 found few)
 gathered_stop f g start (suc n) t found whole few e so = absurd (omega arith)
 
 -- what is gathered
-pub gathered_is : (w : Walked) (e : ℕ) (found : List FaceAcross) → found ≡ take 4 (filter_map (at_corner w e) (round w (corner_at w e))) → found ≡ gathered w e
+pub gathered_is : (w : Ordered) (e : ℕ) (found : List FaceAcross) → found ≡ take 4 (filter_map (at_corner w e) (round w (corner_at w e))) → found ≡ gathered w e
 unfolding gathered
 gathered_is w e found is = is
 
@@ -88,7 +88,7 @@ only_below-below e t = elim (cases_Bool (is_below e t)) [
         let q = and_parts (nat_lt t.after e) (nat_lt t.before e) p.1 in
         record { across = ltb-true _ _ p.0; after = ltb-true _ _ q.0; before = ltb-true _ _ q.1 }
 
-pub at_corner-below : (w : Walked) (e : ℕ) (c : Side) → IfSome (at_corner w e c) (IsBelow e)
+pub at_corner-below : (w : Ordered) (e : ℕ) (c : Side) → IfSome (at_corner w e c) (IsBelow e)
 unfolding at_corner
 at_corner-below w e c = of (w.gluing c)
   where
@@ -111,14 +111,14 @@ pub found_more : (o : Option FaceAcross) (found now : List FaceAcross) → now �
 found_more None found now push = omega (arith, ap (λ (l : List FaceAcross). length l) push, length-append found [])
 found_more (Some t) found now push = omega (arith, ap (λ (l : List FaceAcross). length l) push, length-append found (t ∷ []))
 
-pub gathered_below : (w : Walked) (e : ℕ) → All (IsBelow e) (gathered w e)
+pub gathered_below : (w : Ordered) (e : ℕ) → All (IsBelow e) (gathered w e)
 unfolding gathered
 gathered_below w e = All-take (IsBelow e) 4 (filter_map (at_corner w e) (round w (corner_at w e))) (all_found (at_corner w e) e (at_corner-below w e) (round w (corner_at w e)))
 
 -- faces that are those gathered
-pub all_gathered : (w : Walked) (e : ℕ) (found : List FaceAcross) → found ≡ gathered w e → All (IsBelow e) found
+pub all_gathered : (w : Ordered) (e : ℕ) (found : List FaceAcross) → found ≡ gathered w e → All (IsBelow e) found
 all_gathered w e found is = All-same (IsBelow e) found (gathered w e) is (gathered_below w e)
 
-pub gathered_few : (w : Walked) (e : ℕ) → length (gathered w e) ≤ 4
+pub gathered_few : (w : Ordered) (e : ℕ) → length (gathered w e) ≤ 4
 unfolding gathered
 gathered_few w e = omega (arith, length-take 4 (filter_map (at_corner w e) (round w (corner_at w e))))

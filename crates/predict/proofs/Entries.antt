@@ -1,12 +1,14 @@
 -- Entry after entry: where its components stand, what predicts them, and what one more of them does.
-use Rattle.std.proofs.Common.{◌≡◌, ℕ, zero, suc, ◌+◌, ◌-◌, ◌*◌, ◌/◌, ◌%◌, ◌<◌, ◌≤◌, ℤ, pos, List, [], ◌∷◌, ◌++◌, length, take, drop, get_or, set, refl, sym, subst, ◌∙◌, ap, arith, add-zero}
+use Rattle.std.proofs.Common.{◌≡◌, ℕ, zero, suc, ◌+◌, ◌-◌, ◌*◌, ◌/◌, ◌%◌, ◌<◌, ◌≤◌, ℤ, pos, List, [], ◌∷◌, ◌++◌, length, take, drop, get_or, set, refl, sym, subst, ◌∙◌, ap, arith, add-zero, ◌≢◌, eqb, eqb-true, eq-eqb, Option, Some, None, inl, inr}
+use Rattle.std.proofs.lemmas.Bool.{cases_Bool, cond-true, cond-false}
 use Rattle.std.proofs.Math.Nat.{mul-le-mul_right}
 use Rattle.std.proofs.lemmas.Nat.{div-mul-add, mod-mul-add}
 use Rattle.std.proofs.lemmas.List.{length-take-le, get_or-take, take_more_set, take_all}
-use Rattle.predict.specs.declared.surface.FaceAcross.{FaceAcross}
+use Rattle.corner_table.specs.declared.corner_lists.FaceAcross.{FaceAcross}
 use Rattle.predict.specs.Wrap.{Range, restored_value, correction_of}
 use Rattle.predict.specs.Restored.{restored, restored_behind, corrections, entry_before}
-use Rattle.predict.specs.Walked.{Walked, IsBelow, corner_at, at_corner}
+use Rattle.corner_table.specs.Table.{free_entry}
+use Rattle.corner_table.specs.Ordered.{Ordered, IsBelow, corner_at, at_corner, kept_face}
 use Rattle.predict.specs.Parallelogram.{component, fourth, by_one, parallelogram}
 use Rattle.predict.specs.Entry.{Foretells, Goes, Corrected}
 use Rattle.predict.proofs.Restoring.{restored_behind-more, restored_behind-end, take-corrections, length-corrections, entry_before-first, entry_before-later}
@@ -103,7 +105,7 @@ corrected_end f r v out k room done so =
     sym (take_all k out (omega arith)) ∙ so ∙ take_all k (corrections f r v) (omega (arith, length-corrections f r v))
 
 -- the parallelogram foretells an entry from the face at its corner
-pub foretells_one : (w : Walked) (comps e : ℕ) → Foretells (parallelogram w comps) comps e (by_one comps (at_corner w e (corner_at w e)))
+pub foretells_one : (w : Ordered) (comps e : ℕ) → Foretells (parallelogram w comps) comps e (by_one comps (at_corner w e (corner_at w e)))
 unfolding parallelogram
 foretells_one w comps e j before h len =
     let k : length before / comps ≡ e = entry_of comps e j (length before) h len in
@@ -150,3 +152,10 @@ corrected_start f r v out comps = let z : 0 * comps ≡ 0 = omega arith in rw z 
 -- all entries are passed
 pub all_entries : (n e comps len : ℕ) → n ≤ e → len ≡ n * comps → len ≤ e * comps
 all_entries n e comps len h is = let m : n * comps ≤ e * comps = mul-le-mul_right comps h in omega arith
+
+-- a face that is kept, and none
+pub kept_some : (t : FaceAcross) → t.across ≢ free_entry → kept_face t ≡ Some t
+kept_some t h = elim (cases_Bool (eqb t.across free_entry)) [ inl e ↦ absurd (h (eqb-true t.across free_entry e)) | inr n ↦ cond-false _ _ _ n ]
+
+pub kept_nothing : (t : FaceAcross) → t.across ≡ free_entry → kept_face t ≡ None
+kept_nothing t h = cond-true _ _ _ (eq-eqb t.across free_entry h)

@@ -5,8 +5,8 @@ use Rattle.std.specs.List.{All}
 use Rattle.std.proofs.lemmas.Bool.{cond-true, cond-false, cases_Bool, cases_eq}
 use Rattle.std.proofs.lemmas.List.{take_all, length-take, length-append, length-map, drop_at, take_at, map_more, get_or_default, get_or-set_same, get_or-set_other}
 use Rattle.std.proofs.lemmas.List.Elements.{All-nil, All-cons, All-head, All-tail}
-use Rattle.predict.specs.declared.surface.FaceAcross.{FaceAcross}
-use Rattle.predict.specs.Walked.{Walked, IsBelow}
+use Rattle.corner_table.specs.declared.corner_lists.FaceAcross.{FaceAcross}
+use Rattle.corner_table.specs.Ordered.{Ordered, IsBelow}
 use Rattle.predict.specs.Gathered.{gathered}
 use Rattle.predict.specs.Multi.{by_many, kept, wanted, flags_for, multi, marks, marked, AreMarked, HasFlags, LacksFlags, off_by, is_left_out}
 use Rattle.predict.specs.Entry.{Foretells, AreUsed, LacksNext, ForetellsAll, flags_put}
@@ -58,21 +58,21 @@ not_eq : (a b : ℕ) → a ≢ b → eqb a b ≡ false
 not_eq a b n = elim (cases_Bool (eqb a b)) [ inl t ↦ absurd (n (eqb-true a b t)) | inr f ↦ f ]
 
 -- one entry more needs flags of the list of its number of faces, and of no other
-pub wanted_here : (w : Walked) (k e : ℕ) → length (gathered w e) ≡ k → wanted w k (suc e) ≡ wanted w k e + k
+pub wanted_here : (w : Ordered) (k e : ℕ) → length (gathered w e) ≡ k → wanted w k (suc e) ≡ wanted w k e + k
 unfolding wanted
 wanted_here w k e h = ap (λ (n : ℕ). wanted w k e + n) (cond-true (nat_eq (length (gathered w e)) k) k 0 (eq-eqb (length (gathered w e)) k h))
 
-pub wanted_there : (w : Walked) (k e : ℕ) → length (gathered w e) ≢ k → wanted w k (suc e) ≡ wanted w k e
+pub wanted_there : (w : Ordered) (k e : ℕ) → length (gathered w e) ≢ k → wanted w k (suc e) ≡ wanted w k e
 unfolding wanted
 wanted_there w k e h =
     ap (λ (n : ℕ). wanted w k e + n) (cond-false (nat_eq (length (gathered w e)) k) k 0 (not_eq (length (gathered w e)) k h)) ∙ (let z : wanted w k e + 0 ≡ wanted w k e = omega arith in z)
 
-pub wanted_none : (w : Walked) (k : ℕ) → wanted w k 0 ≡ 0
+pub wanted_none : (w : Ordered) (k : ℕ) → wanted w k 0 ≡ 0
 unfolding wanted
 wanted_none w k = refl
 
 -- more entries need no fewer flags
-pub wanted_grows : (w : Walked) (k e n : ℕ) → e ≤ n → wanted w k e ≤ wanted w k n
+pub wanted_grows : (w : Ordered) (k e n : ℕ) → e ≤ n → wanted w k e ≤ wanted w k n
 wanted_grows w k e zero h = let z : e ≡ zero = omega arith in rw z (omega arith)
 wanted_grows w k e (suc n) h = elim (cases_eq e (suc n)) [
   | inl q ↦ rw q (omega arith)
@@ -85,7 +85,7 @@ wanted_grows w k e (suc n) h = elim (cases_eq e (suc n)) [
 ]
 
 -- the prediction with flags foretells an entry from the faces that its flags keep
-pub foretells_many : (w : Walked) (comps : ℕ) (lists : List (List Bool)) (e : ℕ) → Foretells (multi w comps lists) comps e (by_many comps (kept (flags_for w lists e) (gathered w e)))
+pub foretells_many : (w : Ordered) (comps : ℕ) (lists : List (List Bool)) (e : ℕ) → Foretells (multi w comps lists) comps e (by_many comps (kept (flags_for w lists e) (gathered w e)))
 unfolding multi
 foretells_many w comps lists e j before h len =
     let k : length before / comps ≡ e = entry_of comps e j (length before) h len in
@@ -102,17 +102,17 @@ pub apart_is : (a b p x : ℤ) (d : ℕ) → d ≡ unsigned_abs (a -ℤ b) → a
 apart_is a b p x d is q r = is ∙ ap (λ (z : ℤ). unsigned_abs (z -ℤ b)) q ∙ ap (λ (z : ℤ). unsigned_abs (p -ℤ z)) r
 
 -- the marks that are put for one entry more
-pub marked_here : (w : Walked) (comps : ℕ) (v : List ℤ) (k e : ℕ) → length (gathered w e) ≡ k → marked w comps v k (suc e) ≡ marked w comps v k e ++ marks w comps v e
+pub marked_here : (w : Ordered) (comps : ℕ) (v : List ℤ) (k e : ℕ) → length (gathered w e) ≡ k → marked w comps v k (suc e) ≡ marked w comps v k e ++ marks w comps v e
 unfolding marked
 marked_here w comps v k e h = ap (λ (l : List Bool). marked w comps v k e ++ l) (cond-true (nat_eq (length (gathered w e)) k) (marks w comps v e) [] (eq-eqb (length (gathered w e)) k h))
 
-pub marked_there : (w : Walked) (comps : ℕ) (v : List ℤ) (k e : ℕ) → length (gathered w e) ≢ k → marked w comps v k (suc e) ≡ marked w comps v k e
+pub marked_there : (w : Ordered) (comps : ℕ) (v : List ℤ) (k e : ℕ) → length (gathered w e) ≢ k → marked w comps v k (suc e) ≡ marked w comps v k e
 unfolding marked
 marked_there w comps v k e h =
     ap (λ (l : List Bool). marked w comps v k e ++ l) (cond-false (nat_eq (length (gathered w e)) k) (marks w comps v e) [] (not_eq (length (gathered w e)) k h)) ∙ append-nil (marked w comps v k e)
 
 -- there are as many marks as flags are wanted
-pub length-marked : (w : Walked) (comps : ℕ) (v : List ℤ) (k e : ℕ) → length (marked w comps v k e) ≡ wanted w k e
+pub length-marked : (w : Ordered) (comps : ℕ) (v : List ℤ) (k e : ℕ) → length (marked w comps v k e) ≡ wanted w k e
 unfolding marked wanted
 length-marked w comps v k zero = refl
 length-marked w comps v k (suc e) =
@@ -125,7 +125,7 @@ length-marked w comps v k (suc e) =
     of false h = refl
 
 -- the marks of the entries before stay in front
-pub marked_front : (w : Walked) (comps : ℕ) (v : List ℤ) (k e n : ℕ) → e ≤ n → (rest : List Bool) × (marked w comps v k n ≡ marked w comps v k e ++ rest)
+pub marked_front : (w : Ordered) (comps : ℕ) (v : List ℤ) (k e n : ℕ) → e ≤ n → (rest : List Bool) × (marked w comps v k n ≡ marked w comps v k e ++ rest)
 marked_front w comps v k e zero h = let z : zero ≡ e = omega arith in ([], ap (marked w comps v k) z ∙ sym (append-nil (marked w comps v k e)))
 marked_front w comps v k e (suc n) h = elim (cases_eq e (suc n)) [
   | inl q ↦ ([], ap (marked w comps v k) (sym q) ∙ sym (append-nil (marked w comps v k e)))
@@ -141,7 +141,7 @@ marked_front w comps v k e (suc n) h = elim (cases_eq e (suc n)) [
 ]
 
 -- of the written lists, an entry takes only its own marks
-pub flags_are : (w : Walked) (comps : ℕ) (v : List ℤ) (lists : List (List Bool)) (e n : ℕ) → AreMarked w comps v lists n → e < n → flags_for w lists e ≡ marks w comps v e
+pub flags_are : (w : Ordered) (comps : ℕ) (v : List ℤ) (lists : List (List Bool)) (e n : ℕ) → AreMarked w comps v lists n → e < n → flags_for w lists e ≡ marks w comps v e
 flags_are w comps v lists e n marked_lists h = at (length (gathered w e)) refl
   where
     at : (k : ℕ) → length (gathered w e) ≡ k → take k (drop (wanted w k e) (get_or lists (k - 1) [])) ≡ marks w comps v e
@@ -173,14 +173,14 @@ pub kept_all : (flags : List Bool) (faces : List FaceAcross) (i : ℕ) → lengt
 kept_all flags faces i same done = ap (λ (fs : List Bool). kept fs (take i faces)) (take_all i flags (omega arith)) ∙ ap (kept flags) (take_all i faces done)
 
 -- no flag is taken yet
-pub used_none : (w : Walked) (lists : List (List Bool)) (used : List ℕ) → ((k : ℕ) → k < 4 → get_or used k 0 ≡ 0) → AreUsed w lists 0 used
+pub used_none : (w : Ordered) (lists : List (List Bool)) (used : List ℕ) → ((k : ℕ) → k < 4 → get_or used k 0 ≡ 0) → AreUsed w lists 0 used
 used_none w lists used zeros = record {
   count = λ k h. zeros k h ∙ sym (wanted_none w (suc k));
   enough = λ k h. let z = wanted_none w (suc k) in omega arith;
 }
 
 -- an entry without faces takes no flags
-pub used_same : (w : Walked) (lists : List (List Bool)) (e : ℕ) (used : List ℕ) → length (gathered w e) ≡ 0 → AreUsed w lists e used → AreUsed w lists (suc e) used
+pub used_same : (w : Ordered) (lists : List (List Bool)) (e : ℕ) (used : List ℕ) → length (gathered w e) ≡ 0 → AreUsed w lists e used → AreUsed w lists (suc e) used
 used_same w lists e used none U = record {
   count = λ k h. U.count k h ∙ sym (same_wanted k);
   enough = λ k h. let u = U.enough k h in let s = same_wanted k in omega arith;
@@ -190,7 +190,7 @@ used_same w lists e used none U = record {
     same_wanted k = wanted_there w (suc k) e (λ q. (let z = none in omega arith))
 
 -- an entry takes its flags
-pub used_more : (w : Walked) (lists : List (List Bool)) (e k : ℕ) (used new : List ℕ) → length used ≡ 4 → k < 4 → length (gathered w e) ≡ suc k
+pub used_more : (w : Ordered) (lists : List (List Bool)) (e k : ℕ) (used new : List ℕ) → length used ≡ 4 → k < 4 → length (gathered w e) ≡ suc k
     → new ≡ set used k (get_or used k 0 + suc k) → get_or used k 0 + suc k ≤ length (get_or lists k []) → AreUsed w lists e used → AreUsed w lists (suc e) new
 used_more w lists e k used new four low here write has U = record {
   count = λ i h. elim (cases_eq i k) [
@@ -209,13 +209,13 @@ used_more w lists e k used new four low here write has U = record {
     other i q = wanted_there w (suc i) e (λ z. q (let a = here in omega arith))
 
 -- an entry finds too few flags
-pub lacks_next : (w : Walked) (lists : List (List Bool)) (e k : ℕ) (used : List ℕ) → k < 4 → length (gathered w e) ≡ suc k
+pub lacks_next : (w : Ordered) (lists : List (List Bool)) (e k : ℕ) (used : List ℕ) → k < 4 → length (gathered w e) ≡ suc k
     → length (get_or lists k []) < get_or used k 0 + suc k → AreUsed w lists e used → LacksNext w lists e
 lacks_next w lists e k used low here short U =
     (k, low, (let s = wanted_here w (suc k) e here in let c = U.count k low in omega arith))
 
 -- the flags that an entry takes
-pub taken_are : (w : Walked) (lists : List (List Bool)) (e k : ℕ) (used : List ℕ) → k < 4 → length (gathered w e) ≡ suc k → AreUsed w lists e used
+pub taken_are : (w : Ordered) (lists : List (List Bool)) (e k : ℕ) (used : List ℕ) → k < 4 → length (gathered w e) ≡ suc k → AreUsed w lists e used
     → take (suc k) (drop (get_or used k 0) (get_or lists k [])) ≡ flags_for w lists e
 taken_are w lists e k used low here U =
     let less : suc k - 1 ≡ k = omega arith in
@@ -224,15 +224,15 @@ taken_are w lists e k used low here U =
     ∙ ap (λ (n : ℕ). take n (drop (wanted w n e) (get_or lists (n - 1) []))) (sym here)
 
 -- a list lacks flags as soon as one entry finds too few
-pub lacks_flags : (w : Walked) (lists : List (List Bool)) (e : ℕ) → e < length w.corners → LacksNext w lists e → LacksFlags w lists
+pub lacks_flags : (w : Ordered) (lists : List (List Bool)) (e : ℕ) → e < length w.corners → LacksNext w lists e → LacksFlags w lists
 lacks_flags w lists e h (k, low, short) = (k, low, (let g = wanted_grows w (suc k) (suc e) (length w.corners) (omega arith) in omega arith))
 
 -- and none does once all entries have taken theirs
-pub has_flags : (w : Walked) (lists : List (List Bool)) (e : ℕ) (used : List ℕ) → length w.corners ≡ e → AreUsed w lists e used → HasFlags w lists
+pub has_flags : (w : Ordered) (lists : List (List Bool)) (e : ℕ) (used : List ℕ) → length w.corners ≡ e → AreUsed w lists e used → HasFlags w lists
 has_flags w lists e used all U k h = subst (λ (n : ℕ). wanted w (suc k) n ≤ length (get_or lists k [])) (sym all) (U.enough k h)
 
 -- the marks of one entry more, put behind those of their list
-pub marked_more : (w : Walked) (comps : ℕ) (v : List ℤ) (lists new : List (List Bool)) (e : ℕ) → length lists ≡ 4
+pub marked_more : (w : Ordered) (comps : ℕ) (v : List ℤ) (lists new : List (List Bool)) (e : ℕ) → length lists ≡ 4
     → new ≡ flags_put (marks w comps v e) lists → AreMarked w comps v lists e → AreMarked w comps v new (suc e)
 marked_more w comps v lists new e four write M k h = at (length (gathered w e)) refl
   where
@@ -260,18 +260,18 @@ marked_more w comps v lists new e four write M k h = at (length (gathered w e)) 
         ]
 
 -- what is written is enough
-pub marked_enough : (w : Walked) (comps : ℕ) (v : List ℤ) (lists : List (List Bool)) → AreMarked w comps v lists (length w.corners) → HasFlags w lists
+pub marked_enough : (w : Ordered) (comps : ℕ) (v : List ℤ) (lists : List (List Bool)) → AreMarked w comps v lists (length w.corners) → HasFlags w lists
 marked_enough w comps v lists M k h =
     let len = ap (λ (l : List Bool). length l) (M k h) ∙ length-marked w comps v (suc k) (length w.corners) in
     omega arith
 
 -- and with it the prediction foretells each entry from the faces that its marks keep
-pub foretells_all : (w : Walked) (comps : ℕ) (v : List ℤ) (lists : List (List Bool)) (n : ℕ) → AreMarked w comps v lists n → ForetellsAll (multi w comps lists) w comps v n
+pub foretells_all : (w : Ordered) (comps : ℕ) (v : List ℤ) (lists : List (List Bool)) (n : ℕ) → AreMarked w comps v lists n → ForetellsAll (multi w comps lists) w comps v n
 foretells_all w comps v lists n M e h =
     subst (λ (l : List Bool). Foretells (multi w comps lists) comps e (by_many comps (kept l (gathered w e)))) (flags_are w comps v lists e n M h) (foretells_many w comps lists e)
 
 -- no marks yet
-pub marked_none : (w : Walked) (comps : ℕ) (v : List ℤ) (lists : List (List Bool)) → ((k : ℕ) → k < 4 → get_or lists k [] ≡ []) → AreMarked w comps v lists 0
+pub marked_none : (w : Ordered) (comps : ℕ) (v : List ℤ) (lists : List (List Bool)) → ((k : ℕ) → k < 4 → get_or lists k [] ≡ []) → AreMarked w comps v lists 0
 unfolding marked
 marked_none w comps v lists none k h = none k h
 

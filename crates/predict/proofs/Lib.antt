@@ -4,8 +4,10 @@ pub mod Restoring
 pub mod Corrections
 pub mod Surfaces
 pub mod Entries
+pub mod Faces
 pub mod Means
 pub mod Around
 pub mod Kept
 pub mod Foretold
 pub mod Rounds
+pub mod Behind

@@ -6,8 +6,8 @@ use Rattle.std.specs.Int.{w32, int_wrap}
 use Rattle.std.specs.List.{All}
 use Rattle.std.proofs.lemmas.Int.{ints, int_wrap_fits, SFits-int_wrap, int_wrap-add_left}
 use Rattle.std.proofs.lemmas.List.Elements.{All-head, All-tail}
-use Rattle.predict.specs.declared.surface.FaceAcross.{FaceAcross}
-use Rattle.predict.specs.Walked.{IsBelow}
+use Rattle.corner_table.specs.declared.corner_lists.FaceAcross.{FaceAcross}
+use Rattle.corner_table.specs.Ordered.{IsBelow}
 use Rattle.predict.specs.Parallelogram.{component, fourth, by_one}
 use Rattle.predict.specs.Multi.{by_many}
 use Rattle.predict.specs.Restored.{entry_before}

@@ -8,9 +8,10 @@ use Rattle.corner_table.specs.Sides.{Side, first, side, same, number, Gluing, Is
 use Rattle.corner_table.specs.Fans.{swing_left, swing_right, left_by, right_by, InFan}
 use Rattle.corner_table.proofs.Numbers.{no_room, number-lt, number_injective}
 use Rattle.corner_table.proofs.Places.{option_tells, Some_injective, same-false}
-use Rattle.corner_table.proofs.Walks.{left_none, right_none, left_by-zero, right_by-zero, left_last, right_last, left_split, right_split, right_back, left_by-fan, right_by-fan, left-within, right-within, left_count, left_more, left_then_right, fan_trans, fan_sym}
-use Rattle.predict.specs.declared.surface.FaceAcross.{FaceAcross}
-use Rattle.predict.specs.Walked.{Walked, IsOver, corner_at, at_corner}
+use Rattle.corner_table.proofs.Walks.{left_none, right_none, left_by-zero, left_last, right_last, left_split, right_back, left_by-fan, right_by-fan, left_count, left_more, left_then_right, fan_trans, fan_sym}
+use Rattle.corner_table.proofs.Boundary.{left_by-within, right_by-within}
+use Rattle.corner_table.specs.declared.corner_lists.FaceAcross.{FaceAcross}
+use Rattle.corner_table.specs.Ordered.{Ordered, IsOver, corner_at, at_corner}
 use Rattle.predict.specs.Gathered.{Turn, turn_at, rightwards, leftwards_from, round_from, round, gathered}
 use Rattle.predict.specs.Multi.{wanted}
 use Rattle.predict.specs.Laws.{AreApart, FlagsAreFew}
@@ -25,7 +26,7 @@ left_add g (suc m) n c d e p q =
     rw (← z) (left_more g (m + n) c s.0 e s.1 (left_add g m n s.0 d e s.2 q))
 
 -- d is met on the way to the left, after i swings with no return
-record LeftAt (g : Gluing) (s : Side) (i : ℕ) (d : Side) : Type 0 where
+pub record LeftAt (g : Gluing) (s : Side) (i : ℕ) (d : Side) : Type 0 where
   pub met : left_by g i s ≡ Some d
   pub new : (j : ℕ) → 0 < j → j ≤ i → left_by g j s ≡ Some s → ⊥
 
@@ -57,7 +58,7 @@ no_ring g s n E p q =
     absurd (omega arith)
 
 -- all but the last swing of a walk
-all_but_last : (g : Gluing) (n : ℕ) (c e : Side) → left_by g (suc n) c ≡ Some e → (m : Side) × (left_by g n c ≡ Some m) × (swing_left g m ≡ Some e)
+pub all_but_last : (g : Gluing) (n : ℕ) (c e : Side) → left_by g (suc n) c ≡ Some e → (m : Side) × (left_by g n c ≡ Some m) × (swing_left g m ≡ Some e)
 all_but_last g zero c e h = let t = left_split g zero c e h in (c, left_none g c, t.1 ∙ ap {A = Side} Some (left_by-zero g t.0 e t.2))
 all_but_last g (suc n) c e h =
     let t = left_split g (suc n) c e h in
@@ -89,30 +90,19 @@ left_apart {faces} {g} G s d e i D (inr x) same_corner =
 right_apart : {faces : ℕ} {g : Gluing} → IsGluing faces g → (s d e : Side) (i : ℕ) → RightAt g s i d → FromRight g s (suc i) e → d ≢ e
 right_apart {faces} {g} G s d e i D x same_corner =
     let E = x.2 in
+    let F = E.open_fan in
     let here_left : left_by g i d ≡ Some s = right_back G i s d D.met in
-    let far : left_by g x.0 d ≡ Some s = ap (left_by g x.0) same_corner ∙ right_back G x.0 s e E.met in
-    no_ring g s (x.0 - i) E.open_fan (omega (arith, x.1)) (ring here_left far)
-  where
-    ring : left_by g i d ≡ Some s → left_by g x.0 d ≡ Some s → left_by g (x.0 - i) s ≡ Some s
-    ring p q =
-        let t = split_at (x.0 - i) i d s (let z : i + (x.0 - i) ≡ x.0 = omega (arith, x.1) in ap (λ (n : ℕ). left_by g n d) z ∙ q) in
-        let e : t.0 ≡ s = Some_injective _ _ (sym t.1 ∙ p) in
-        ap (left_by g (x.0 - i)) (sym e) ∙ t.2
-      where
-        split_at : (n m : ℕ) (c e : Side) → left_by g (m + n) c ≡ Some e → (u : Side) × (left_by g m c ≡ Some u) × (left_by g n u ≡ Some e)
-        split_at n zero c e h = (c, left_none g c, (let z : n ≡ zero + n = omega arith in ap (λ (k : ℕ). left_by g k c) z ∙ h))
-        split_at n (suc m) c e h =
-            let t = left_split g (m + n) c e ((let z : suc (m + n) ≡ suc m + n = omega arith in ap (λ (k : ℕ). left_by g k c) z) ∙ h) in
-            let u = split_at n m t.0 e t.2 in
-            (u.0, left_more g m c t.0 u.0 t.1 u.1, u.2)
+    let z : (x.0 - i) + i ≡ x.0 = omega (arith, x.1) in
+    let far : left_by g ((x.0 - i) + i) d ≡ Some s = ap (λ (n : ℕ). left_by g n d) z ∙ ap (left_by g x.0) same_corner ∙ right_back G x.0 s e E.met in
+    no_ring g d (x.0 - i) (record { swings = i + F.swings; last = F.last; met = left_add g i F.swings d s F.last here_left F.met; ends = F.ends }) (omega (arith, x.1)) (left_twice G i (x.0 - i) d s here_left far)
 
 -- lists with no item twice
-abbrev Apart : List Side → Type 0
+abbrev pub Apart : List Side → Type 0
 Apart [] = Unit {0}
 Apart (c ∷ cs) = All (λ d. c ≢ d) cs × Apart cs
 
 -- no corner is left
-round_none : (g : Gluing) (s : Side) (n : ℕ) → round_from g s n None ≡ []
+pub round_none : (g : Gluing) (s : Side) (n : ℕ) → round_from g s n None ≡ []
 unfolding round_from
 round_none g s zero = refl
 round_none g s (suc n) = refl
@@ -189,32 +179,41 @@ left_round {faces} {g} G s c i (suc n) L = with_rest (rest (λ d D. left_round G
         weaker d (inr x) = inr x
 
 -- a corner of the fan of s, of one of the faces
-record Near (faces : ℕ) (g : Gluing) (s d : Side) : Type 0 where
+pub record Near (faces : ℕ) (g : Gluing) (s d : Side) : Type 0 where
   pub in_fan : InFan g s d
   pub within : d.face < faces
 
-near_left : {faces : ℕ} {g : Gluing} → IsGluing faces g → (n : ℕ) (s d : Side) → s.face < faces → left_by g n s ≡ Some d → d.face < faces
-near_left {faces} {g} G zero s d h p = subst (λ (x : Side). x.face < faces) (left_by-zero g s d p) h
-near_left {faces} {g} G (suc n) s d h p = let m = left_split g n s d p in near_left G n m.0 d (left-within G s m.0 m.1) m.2
-
-near_right : {faces : ℕ} {g : Gluing} → IsGluing faces g → (n : ℕ) (s d : Side) → s.face < faces → right_by g n s ≡ Some d → d.face < faces
-near_right {faces} {g} G zero s d h p = subst (λ (x : Side). x.face < faces) (right_by-zero g s d p) h
-near_right {faces} {g} G (suc n) s d h p = let m = right_split g n s d p in near_right G n m.0 d (right-within G s m.0 m.1) m.2
-
 near : {faces : ℕ} {g : Gluing} → IsGluing faces g → (s d : Side) → s.face < faces → FromLeft g s 0 d → Near faces g s d
-near {faces} {g} G s d h (inl x) = let L = x.2 in record { in_fan = left_by-fan g x.0 s d L.met; within = near_left G x.0 s d h L.met }
-near {faces} {g} G s d h (inr x) = let R = x.2 in record { in_fan = right_by-fan g x.0 s d R.met; within = near_right G x.0 s d h R.met }
+near {faces} {g} G s d h (inl x) = let L = x.2 in record { in_fan = left_by-fan g x.0 s d L.met; within = left_by-within G x.0 s d h L.met }
+near {faces} {g} G s d h (inr x) = let R = x.2 in record { in_fan = right_by-fan g x.0 s d R.met; within = right_by-within G x.0 s d h R.met }
 
 -- the corners round a vertex: of one fan, none of them twice
-record IsRound (faces : ℕ) (g : Gluing) (s : Side) (cs : List Side) : Type 0 where
+pub record IsRound (faces : ℕ) (g : Gluing) (s : Side) (cs : List Side) : Type 0 where
   pub near : All (Near faces g s) cs
   pub apart : Apart cs
 
-round_is : {faces : ℕ} (w : Walked) → IsGluing faces w.gluing → (s : Side) → s.face < faces → IsRound faces w.gluing s (round w s)
-round_is {faces} w G s h =
-    let start : LeftAt w.gluing s 0 s = record { met = left_none w.gluing s; new = λ j p q r. absurd (omega arith) } in
-    let good = left_round G s s 0 (length w.entries) start in
-    record { near = All-weaker (FromLeft w.gluing s 0) (Near faces w.gluing s) (λ d x. near G s d h x) (round w s) good.met; apart = good.apart }
+pub round_is : {faces : ℕ} {g : Gluing} → IsGluing faces g → (s : Side) → s.face < faces → (n : ℕ) → IsRound faces g s (round_from g s n (Some (turn_at s true)))
+round_is {faces} {g} G s h n =
+    let start : LeftAt g s 0 s = record { met = left_none g s; new = λ j p q r. absurd (omega arith) } in
+    let good = left_round G s s 0 n start in
+    record { near = All-weaker (FromLeft g s 0) (Near faces g s) (λ d x. near G s d h x) (round_from g s n (Some (turn_at s true))) good.met; apart = good.apart }
+
+-- lists with no item twice, by their places
+pub apart_at : (xs : List Side) (i j : ℕ) (d : Side) → Apart xs → i < length xs → j < length xs → get_or xs i d ≡ get_or xs j d → i ≡ j
+apart_at [] i j d A p q e = absurd (omega arith)
+apart_at (x ∷ xs) zero zero d A p q e = refl
+apart_at (x ∷ xs) zero (suc j) d A p q e = absurd (All-get_or (λ y. x ≢ y) xs j d (omega arith) A.0 e)
+apart_at (x ∷ xs) (suc i) zero d A p q e = absurd (All-get_or (λ y. x ≢ y) xs i d (omega arith) A.0 (sym e))
+apart_at (x ∷ xs) (suc i) (suc j) d A p q e = ap suc (apart_at xs i j d A.1 (omega arith) (omega arith) e)
+
+-- a list of corners of the faces, none twice, is no longer than there are corners
+pub few_corners : (faces : ℕ) (xs : List Side) → All (λ c. c.face < faces) xs → Apart xs → length xs ≤ 3 * faces
+few_corners faces xs within apart = elim (cases_lt (3 * faces) (length xs)) [
+  | inr h ↦ h
+  | inl h ↦ absurd (no_room (3 * faces) (λ i. number (get_or xs i (side 0 first)))
+      (λ i p. number-lt (get_or xs i (side 0 first)) faces (All-get_or (λ c. c.face < faces) xs i (side 0 first) (omega arith) within))
+      (λ i j p q e. apart_at xs i j (side 0 first) apart (omega arith) (omega arith) (number_injective _ _ e)))
+]
 
 -- lists with nothing in common, one after the other
 Apart-append : (xs ys : List Side) → Apart xs → Apart ys → All (λ x. All (λ y. x ≢ y) ys) xs → Apart (xs ++ ys)
@@ -225,25 +224,25 @@ Apart-append (x ∷ xs) ys X Y between = (
 )
 
 -- the corners round the vertices of the entries before e
-rounds : Walked → ℕ → List Side
+rounds : Ordered → ℕ → List Side
 rounds w zero = []
 rounds w (suc e) = rounds w e ++ round w (corner_at w e)
 
 -- each is near the corner of an entry before e
-abbrev NearSome : ℕ → Walked → ℕ → Side → Type 0
+abbrev NearSome : ℕ → Ordered → ℕ → Side → Type 0
 NearSome faces w e d = (i : ℕ) × (i < e) × Near faces w.gluing (corner_at w i) d
 
-record AreRounds (faces : ℕ) (w : Walked) (e : ℕ) : Type 0 where
+record AreRounds (faces : ℕ) (w : Ordered) (e : ℕ) : Type 0 where
   pub near : All (NearSome faces w e) (rounds w e)
   pub apart : Apart (rounds w e)
 
-rounds_are : {faces : ℕ} (w : Walked) → IsGluing faces w.gluing → IsOver faces w → AreApart w → (e : ℕ) → e ≤ length w.corners → AreRounds faces w e
+rounds_are : {faces : ℕ} (w : Ordered) → IsGluing faces w.gluing → IsOver faces w → AreApart w → (e : ℕ) → e ≤ length w.corners → AreRounds faces w e
 unfolding rounds
 rounds_are {faces} w G O A zero h = record { near = All-nil (NearSome faces w zero); apart = tt }
 rounds_are {faces} w G O A (suc e) h =
     let before = rounds_are w G O A e (omega arith) in
     let within : (corner_at w e).face < faces = All-get_or (λ c. c.face < faces) w.corners e (side 0 first) (omega arith) O.corners in
-    let r = round_is w G (corner_at w e) within in
+    let r = round_is G (corner_at w e) within (length w.entries) in
     record {
       near = All-append (NearSome faces w (suc e)) (rounds w e) (round w (corner_at w e))
           (All-weaker (NearSome faces w e) (NearSome faces w (suc e)) (λ d x. (x.0, (let b = x.1 in omega arith), x.2)) (rounds w e) before.near)
@@ -261,23 +260,6 @@ rounds_are {faces} w G O A (suc e) h =
         let one = A i e (let b = X.1 in omega arith) (omega arith) (fan_trans there (fan_sym G Y.in_fan)) in
         (let b = X.1 in omega arith)
 
--- lists with no item twice, by their places
-apart_at : (xs : List Side) (i j : ℕ) (d : Side) → Apart xs → i < length xs → j < length xs → get_or xs i d ≡ get_or xs j d → i ≡ j
-apart_at [] i j d A p q e = absurd (omega arith)
-apart_at (x ∷ xs) zero zero d A p q e = refl
-apart_at (x ∷ xs) zero (suc j) d A p q e = absurd (All-get_or (λ y. x ≢ y) xs j d (omega arith) A.0 e)
-apart_at (x ∷ xs) (suc i) zero d A p q e = absurd (All-get_or (λ y. x ≢ y) xs i d (omega arith) A.0 (sym e))
-apart_at (x ∷ xs) (suc i) (suc j) d A p q e = ap suc (apart_at xs i j d A.1 (omega arith) (omega arith) e)
-
--- a list of corners of the faces, none twice, is no longer than there are corners
-pub few_corners : (faces : ℕ) (xs : List Side) → All (λ c. c.face < faces) xs → Apart xs → length xs ≤ 3 * faces
-few_corners faces xs within apart = elim (cases_lt (3 * faces) (length xs)) [
-  | inr h ↦ h
-  | inl h ↦ absurd (no_room (3 * faces) (λ i. number (get_or xs i (side 0 first)))
-      (λ i p. number-lt (get_or xs i (side 0 first)) faces (All-get_or (λ c. c.face < faces) xs i (side 0 first) (omega arith) within))
-      (λ i j p q e. apart_at xs i j (side 0 first) apart (omega arith) (omega arith) (number_injective _ _ e)))
-]
-
 -- no more faces are gathered than there are corners
 found_few : (f : Side → Option FaceAcross) (cs : List Side) → length (filter_map f cs) ≤ length cs
 found_few f [] = omega arith
@@ -288,14 +270,14 @@ found_few f (c ∷ cs) =
     let one : length (filter_map f (c ∷ [])) ≤ 1 = elim (f c) as (λ (o : Option FaceAcross). length (filter_map (λ (x : Side). o) (c ∷ [])) ≤ 1) [ None ↦ omega arith | Some x ↦ omega arith ] in
     omega arith
 
-gathered_within : (w : Walked) (e : ℕ) → length (gathered w e) ≤ length (round w (corner_at w e))
+gathered_within : (w : Ordered) (e : ℕ) → length (gathered w e) ≤ length (round w (corner_at w e))
 unfolding gathered
 gathered_within w e =
     let h = found_few (at_corner w e) (round w (corner_at w e)) in
     let t = length-take 4 (filter_map (at_corner w e) (round w (corner_at w e))) in
     omega arith
 
-wanted_within : (w : Walked) (k e : ℕ) → wanted w k e ≤ length (rounds w e)
+wanted_within : (w : Ordered) (k e : ℕ) → wanted w k e ≤ length (rounds w e)
 unfolding rounds wanted
 wanted_within w k zero = omega arith
 wanted_within w k (suc e) =

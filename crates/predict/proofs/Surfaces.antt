@@ -1,47 +1,48 @@
--- What lies across a side of a stored surface.
-use Rattle.std.proofs.Common.{◌≡◌, ◌≢◌, ℕ, ◌*◌, ◌/◌, ◌<◌, ◌≤◌, List, length, get_or, map, eqb, eqb-true, Some, inl, inr, sym, subst, ap, ◌∙◌, arith}
-use Rattle.std.proofs.lemmas.Bool.{cases_Bool, cond-false}
+-- The lists of an ordered surface.
+use Rattle.std.proofs.Common.{◌≡◌, ℕ, ◌*◌, ◌/◌, ◌<◌, ◌≤◌, List, length, get_or, map, sym, subst, ap, ◌∙◌, arith}
+use Rattle.std.specs.List.{All}
 use Rattle.std.proofs.lemmas.List.{length-map, get_or-map}
 use Rattle.drc_base.specs.declared.limits.TheConstants.{MAX_FACES}
-use Rattle.drc_base.specs.declared.sides.Side.{Side as NumberedSide}
 use Rattle.corner_table.specs.declared.corner_lists.Order.{Order}
-use Rattle.corner_table.specs.Sides.{Side, number, side_at, IsGluing}
-use Rattle.corner_table.specs.Table.{Table, free_entry, other_at, glued_in, gluing_of, room_of, side_of}
+use Rattle.corner_table.specs.Sides.{Side, side_at, IsGluing}
+use Rattle.corner_table.specs.Table.{Table, glued_in, gluing_of, room_of}
+use Rattle.corner_table.specs.Ordered.{FitTogether, IsOrdered}
 use Rattle.predict.specs.declared.surface.Surface.{Surface}
-use Rattle.predict.specs.Walked.{IsOver, walked}
 use Rattle.predict.specs.Stored.{IsOrderedSurface}
 
--- an entry that isn't free is a side of one of the faces
-pub found_within : {faces : ℕ} (across : List ℕ) → IsGluing faces (glued_in across) → (x : Side) (v : ℕ)
-    → v ≡ get_or across (number x) free_entry → v ≢ free_entry → v / 3 < faces
-found_within {faces} across G x v e h =
-    let is : glued_in across x ≡ Some (side_at v) =
-    ap other_at (sym e) ∙ (elim (cases_Bool (eqb v free_entry)) [ inl t ↦ absurd (h (eqb-true v free_entry t)) | inr t ↦ cond-false _ _ _ t ]) in
-    G.within (side_at v) x (G.paired x (side_at v) is)
+-- there are as many classes of corners as corners
+corners_whole : (t : Table) (labels : List ℕ) (o : Order) → IsOrdered t labels o → length labels ≡ 3 * t.faces
+corners_whole t labels o O = sym (length-map labels (λ (k : ℕ). get_or o.entry_of_class k 0)) ∙ O.over.each_corner
 
--- the lists of a table and of an order over it are a surface
-pub surface_is : (s : Surface) (t : Table) (o : Order) → s.across.now ≡ t.entries → s.corners.now ≡ o.corner_of_entry → s.entries.now ≡ o.entry_of_corner
-    → t.faces ≤ room_of t → room_of t ≤ MAX_FACES → IsGluing t.faces (gluing_of t) → IsOver t.faces (walked t o) → IsOrderedSurface s
-surface_is s t o across corners entries room limit G over = record {
-  limit = let f = faces in omega arith;
-  whole = let f = faces in let n = count in omega arith;
-  long = let n = count in let l = as_long in omega arith;
-  gluing = subst (λ (n : ℕ). IsGluing n (glued_in s.across.now)) (sym faces) (subst (λ (l : List ℕ). IsGluing t.faces (glued_in l)) (sym across) G);
-  corners = λ k d h.
-      let has : k < length o.corner_of_entry = omega (arith, ap (λ (l : List NumberedSide). length l) corners) in
-      let far : k < length (map side_of o.corner_of_entry) = omega (arith, length-map o.corner_of_entry side_of) in
-      let is : get_or (map side_of o.corner_of_entry) k (side_of d) ≡ side_of (get_or o.corner_of_entry k d) = get_or-map side_of o.corner_of_entry k d (side_of d) has in
-      let below : (get_or (map side_of o.corner_of_entry) k (side_of d)).face < t.faces = over.corners k (side_of d) far in
-      let face : (get_or (map side_of o.corner_of_entry) k (side_of d)).face ≡ (get_or o.corner_of_entry k d).face = ap (λ (x : Side). x.face) is in
-      let same : (get_or s.corners.now k d).face ≡ (get_or o.corner_of_entry k d).face = ap (λ (l : List NumberedSide). (get_or l k d).face) corners in
-      let f = faces in omega arith;
+-- the corners of entries are numbers of corners
+corners_within : (t : Table) (labels : List ℕ) (o : Order) → IsOrdered t labels o → All (λ (c : ℕ). c < length labels) o.corner_of_entry
+corners_within t labels o O k d h =
+    let w = corners_whole t labels o O in
+    let far : k < length (map side_at o.corner_of_entry) = omega (arith, length-map o.corner_of_entry side_at) in
+    let is : get_or (map side_at o.corner_of_entry) k (side_at d) ≡ side_at (get_or o.corner_of_entry k d) = get_or-map side_at o.corner_of_entry k d (side_at d) h in
+    let below : (get_or (map side_at o.corner_of_entry) k (side_at d)).face < t.faces = O.over.corners k (side_at d) far in
+    let face : (get_or (map side_at o.corner_of_entry) k (side_at d)).face ≡ get_or o.corner_of_entry k d / 3 = ap (λ (x : Side). x.face) is in
+    omega arith
+
+-- the lists of a table, of the classes of its corners and of an order over them are a surface
+pub surface_is : (s : Surface) (t : Table) (labels : List ℕ) (o : Order) → s.across.now ≡ t.entries → s.labels.now ≡ labels
+    → s.entry_of_class.now ≡ o.entry_of_class → s.corners.now ≡ o.corner_of_entry → length t.entries ≡ 3 * room_of t
+    → t.faces ≤ room_of t → room_of t ≤ MAX_FACES → IsGluing t.faces (gluing_of t) → IsOrdered t labels o → IsOrderedSurface s
+surface_is s t labels o across is entries corners full room limit G O = record {
+  fit = subst (λ (n : ℕ). FitTogether n s.across.now s.labels.now s.entry_of_class.now) faces (record {
+    limit = omega arith;
+    whole = whole;
+    long = let l = ap (λ (x : List ℕ). length x) across in omega arith;
+    gluing = subst (λ (l : List ℕ). IsGluing t.faces (glued_in l)) (sym across) G;
+    classes = subst (λ (l : List ℕ). All (λ (k : ℕ). k < length s.entry_of_class.now) l) (sym is)
+        (subst (λ (l : List ℕ). All (λ (k : ℕ). k < length l) labels) (sym entries) O.classes);
+  });
+  corners = subst (λ (l : List ℕ). All (λ (c : ℕ). c < length l) s.corners.now) (sym is)
+      (subst (All (λ (c : ℕ). c < length labels)) (sym corners) (corners_within t labels o O));
 }
   where
-    count : length s.entries.now ≡ 3 * t.faces
-    count = ap (λ (l : List ℕ). length l) entries ∙ over.each_corner
+    whole : length s.labels.now ≡ 3 * t.faces
+    whole = ap (λ (l : List ℕ). length l) is ∙ corners_whole t labels o O
 
-    faces : length s.entries.now / 3 ≡ t.faces
-    faces = let h = count in omega arith
-
-    as_long : length s.across.now ≡ length t.entries
-    as_long = ap (λ (l : List ℕ). length l) across
+    faces : t.faces ≡ length s.labels.now / 3
+    faces = let w = whole in omega arith

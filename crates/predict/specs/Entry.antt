@@ -4,7 +4,7 @@ use Rattle.std.specs.Prelude.{◌≡◌, ℕ, suc, ◌+◌, ◌-◌, ◌*◌, �
 use Rattle.std.specs.Prelude.{get_or, set}
 use Rattle.predict.specs.Wrap.{Range}
 use Rattle.predict.specs.Restored.{restored_behind, corrections}
-use Rattle.predict.specs.Walked.{Walked}
+use Rattle.corner_table.specs.Ordered.{Ordered}
 use Rattle.predict.specs.Gathered.{gathered}
 use Rattle.predict.specs.Multi.{wanted, by_many, kept, marks}
 
@@ -21,12 +21,12 @@ abbrev pub Corrected : (List ℤ → ℤ) → Range → List ℤ → List ℤ �
 Corrected f r v out k = take k out ≡ take k (corrections f r v)
 
 -- the flags of the entries before e are taken: so many of each list
-pub record AreUsed (w : Walked) (lists : List (List Bool)) (e : ℕ) (used : List ℕ) : Type 0 where
+pub record AreUsed (w : Ordered) (lists : List (List Bool)) (e : ℕ) (used : List ℕ) : Type 0 where
   pub count : (k : ℕ) → k < 4 → get_or used k 0 ≡ wanted w (suc k) e
   pub enough : (k : ℕ) → k < 4 → wanted w (suc k) e ≤ length (get_or lists k [])
 
 -- entry e needs more flags of a list than it has
-abbrev pub LacksNext : Walked → List (List Bool) → ℕ → Type 0
+abbrev pub LacksNext : Ordered → List (List Bool) → ℕ → Type 0
 LacksNext w lists e = (k : ℕ) × (k < 4) × (length (get_or lists k []) < wanted w (suc k) (suc e))
 
 -- the flags of one entry, put behind those of their list
@@ -34,5 +34,5 @@ abbrev pub flags_put : List Bool → List (List Bool) → List (List Bool)
 flags_put flags lists = cond (nat_eq (length flags) 0) lists (set lists (length flags - 1) (get_or lists (length flags - 1) [] ++ flags))
 
 -- a prediction foretells each entry before e from the faces that its written flags keep
-abbrev pub ForetellsAll : (List ℤ → ℤ) → Walked → ℕ → List ℤ → ℕ → Type 0
+abbrev pub ForetellsAll : (List ℤ → ℤ) → Ordered → ℕ → List ℤ → ℕ → Type 0
 ForetellsAll f w comps v n = (e : ℕ) → e < n → Foretells f comps e (by_many comps (kept (marks w comps v e) (gathered w e)))

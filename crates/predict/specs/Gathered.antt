@@ -4,8 +4,8 @@ use Rattle.std.specs.Prelude.{ℕ, zero, suc, Bool, true, false, cond, List, [],
 use Rattle.std.specs.List.{filter_map}
 use Rattle.corner_table.specs.Sides.{Side, same, Gluing}
 use Rattle.corner_table.specs.Fans.{swing_left, swing_right}
-use Rattle.predict.specs.declared.surface.FaceAcross.{FaceAcross}
-use Rattle.predict.specs.Walked.{Walked, corner_at, at_corner}
+use Rattle.corner_table.specs.declared.corner_lists.FaceAcross.{FaceAcross}
+use Rattle.corner_table.specs.Ordered.{Ordered, corner_at, at_corner}
 
 -- a corner that is met on the way round a vertex, and whether the way goes on to the left
 pub record Turn : Type 0 where
@@ -36,9 +36,9 @@ round_from g start (suc n) (Some t) = t.at ∷ round_from g start n (turn_on g s
 
 -- the corners round the vertex of a corner: to the left until it comes again, or to the left and then to its right; there are no more than
 -- corners of faces
-abbrev pub round : Walked → Side → List Side
+abbrev pub round : Ordered → Side → List Side
 round w c = round_from w.gluing c (length w.entries) (Some (turn_at c true))
 
 -- the first four faces, across the sides of these corners, that entry e can be predicted from
-unfoldable pub gathered : Walked → ℕ → List FaceAcross
+unfoldable pub gathered : Ordered → ℕ → List FaceAcross
 gathered w e = take 4 (filter_map (at_corner w e) (round w (corner_at w e)))

@@ -5,7 +5,7 @@ use Rattle.corner_table.specs.Sides.{IsGluing}
 use Rattle.corner_table.specs.Fans.{InFan}
 use Rattle.predict.specs.Wrap.{Range, CanWrap, least_correction, greatest_correction}
 use Rattle.predict.specs.Restored.{restored, corrections}
-use Rattle.predict.specs.Walked.{Walked, IsOver, corner_at}
+use Rattle.corner_table.specs.Ordered.{Ordered, IsOver, corner_at}
 use Rattle.predict.specs.Multi.{wanted}
 
 -- values that have 32 bits and lie in the range
@@ -24,10 +24,10 @@ CorrectionsAreSmall = (predicted : List ℤ → ℤ) (r : Range) (values : List 
     All (λ x. (least_correction r ≤ℤ x) × (x ≤ℤ greatest_correction r)) (corrections predicted r values)
 
 -- no two entries stand at one vertex
-abbrev pub AreApart : Walked → Type 0
+abbrev pub AreApart : Ordered → Type 0
 AreApart w = (i j : ℕ) → i < length w.corners → j < length w.corners → InFan w.gluing (corner_at w i) (corner_at w j) → i ≡ j
 
 -- then no list has to have more flags than there are corners
 abbrev pub FlagsAreFew : Type 0
-FlagsAreFew = (faces : ℕ) (w : Walked) → IsGluing faces w.gluing → IsOver faces w → AreApart w → (k : ℕ) →
+FlagsAreFew = (faces : ℕ) (w : Ordered) → IsGluing faces w.gluing → IsOver faces w → AreApart w → (k : ℕ) →
     wanted w k (length w.corners) ≤ 3 * faces

@@ -2,7 +2,6 @@ pub mod Schemes
 pub mod Wrap
 pub mod Restored
 pub mod Symbols
-pub mod Walked
 pub mod Surfaces
 pub mod Parallelogram
 pub mod Gathered

@@ -2,9 +2,9 @@
 -- two's complement).
 use Rattle.std.specs.Prelude.{ℕ, ◌+◌, ◌*◌, ◌/◌, ◌%◌, ℤ, pos, ◌+ℤ◌, ◌-ℤ◌, List, length, slice_index_or, Option, Some, None}
 use Rattle.std.specs.Int.{w32, int_wrap}
-use Rattle.predict.specs.declared.surface.FaceAcross.{FaceAcross}
+use Rattle.corner_table.specs.declared.corner_lists.FaceAcross.{FaceAcross}
 use Rattle.predict.specs.Restored.{entry_before}
-use Rattle.predict.specs.Walked.{Walked, corner_at, at_corner}
+use Rattle.corner_table.specs.Ordered.{Ordered, corner_at, at_corner}
 
 -- component j of the value of entry k
 abbrev pub component : ℕ → List ℤ → ℕ → ℕ → ℤ
@@ -20,7 +20,7 @@ by_one comps None j before = entry_before comps before
 by_one comps (Some t) j before = fourth comps t j before
 
 -- the prediction by parallelogram, from the values before
-unfoldable pub parallelogram : Walked → ℕ → List ℤ → ℤ
+unfoldable pub parallelogram : Ordered → ℕ → List ℤ → ℤ
 parallelogram w comps before =
     let e = length before / comps in
     by_one comps (at_corner w e (corner_at w e)) (length before % comps) before

@@ -1,16 +1,16 @@
 //! One entry, restored or corrected: its components one after another.
 
-ghost use Rattle.std.specs.Prelude.{◌≡◌, ℕ, ◌+◌, ◌*◌, ◌<◌, ◌≤◌, ◌≤ℤ◌, ℤ, List, length, take, pos, slice_index_or, IfSome, Option};
+ghost use Rattle.std.specs.Prelude.{◌≡◌, ℕ, ◌+◌, ◌*◌, ◌<◌, ◌≤◌, ◌≤ℤ◌, ℤ, List, length, take, pos, slice_index_or, IfSome};
 ghost use Rattle.std.specs.List.{All};
 ghost use Rattle.predict.specs.Wrap.{restored_value, correction_of};
-ghost use Rattle.predict.specs.Walked.{IsBelow};
+ghost use Rattle.corner_table.specs.Ordered.{IsBelow, kept_face};
 ghost use Rattle.predict.specs.Parallelogram.{by_one};
 ghost use Rattle.predict.specs.Multi.{by_many};
 ghost use Rattle.predict.specs.Entry.{Foretells, Goes, Corrected};
 
 use crate::parallelograms::predicted;
-use crate::surface::FaceAcross;
 use crate::wraps::Wrap;
+use corner_table::{FREE, FaceAcross};
 
 /// Component `j` of entry `e`, from its correction and the entries before.
 fn component_restored(
@@ -87,42 +87,39 @@ pub(crate) fn correct_entry(
     }
 }
 
-/// Turns the corrections of entry `e` into its values, predicted from the parallelogram over a face
-/// where there is one.
-pub(crate) fn restore_by_one(
-    w: &Wrap,
-    v: &mut [i32],
-    comps: usize,
-    e: usize,
-    face: Option<FaceAcross>,
-)
-    requires below { IfSome face (IsBelow e) }
+/// Turns the corrections of entry `e` into its values, predicted from the parallelogram over the face
+/// that is kept for it, where there is one.
+pub(crate) fn restore_by_one(w: &Wrap, v: &mut [i32], comps: usize, e: usize, face: FaceAcross)
+    requires below { IfSome (kept_face face) (IsBelow e) }
     requires within { e * comps + comps ≤ length v.old }
-    ensures { (f : List ℤ → ℤ) → Foretells f comps e (by_one comps face) → Goes f w.now v.old (e * comps) v.new (e * comps + comps) }
+    ensures { (f : List ℤ → ℤ) → Foretells f comps e (by_one comps (kept_face face)) → Goes f w.now v.old (e * comps) v.new (e * comps + comps) }
 {
-    match face {
-        None => restore_entry(w, v, comps, e, &[]),
-        Some(t) => restore_entry(w, v, comps, e, &[t]),
+    if face.across == FREE {
+        restore_entry(w, v, comps, e, &[]);
+    } else {
+        restore_entry(w, v, comps, e, &[face]);
     }
 }
 
-/// Puts the corrections of entry `e`, predicted from the parallelogram over a face where there is one.
+/// Puts the corrections of entry `e`, predicted from the parallelogram over the face that is kept for
+/// it, where there is one.
 pub(crate) fn correct_by_one(
     w: &Wrap,
     v: &[i32],
     comps: usize,
     e: usize,
-    face: Option<FaceAcross>,
+    face: FaceAcross,
     out: &mut [i32],
 )
-    requires below { IfSome face (IsBelow e) }
+    requires below { IfSome (kept_face face) (IsBelow e) }
     requires within { e * comps + comps ≤ length v.now }
     requires range { All (λ x. (w.now.low ≤ℤ x) × (x ≤ℤ w.now.high)) v.now }
     requires room { length out.old ≡ length v.now }
-    ensures { (f : List ℤ → ℤ) → Foretells f comps e (by_one comps face) → Corrected f w.now v.now out.old (e * comps) → Corrected f w.now v.now out.new (e * comps + comps) }
+    ensures { (f : List ℤ → ℤ) → Foretells f comps e (by_one comps (kept_face face)) → Corrected f w.now v.now out.old (e * comps) → Corrected f w.now v.now out.new (e * comps + comps) }
 {
-    match face {
-        None => correct_entry(w, v, comps, e, &[], out),
-        Some(t) => correct_entry(w, v, comps, e, &[t], out),
+    if face.across == FREE {
+        correct_entry(w, v, comps, e, &[], out);
+    } else {
+        correct_entry(w, v, comps, e, &[face], out);
     }
 }

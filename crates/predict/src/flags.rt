@@ -3,13 +3,13 @@
 
 ghost use Rattle.std.specs.Prelude.{◌≡◌, ℕ, suc, ◌+◌, ◌-◌, ◌*◌, ◌^◌, ◌<◌, ◌≤◌, [], ◌∷◌, ◌++◌, cond, nat_eq, nat_lt, unsigned_abs, ◌-ℤ◌, List, Bool, length, map, take, drop, get_or, IfOk, IfSome, MatchOption, IsTrue, ◌↔◌};
 ghost use Rattle.std.specs.List.{All};
-ghost use Rattle.predict.specs.Walked.{IsBelow};
+ghost use Rattle.corner_table.specs.Ordered.{IsBelow};
 ghost use Rattle.predict.specs.Parallelogram.{component, fourth};
 ghost use Rattle.predict.specs.Multi.{kept, off_by, is_left_out};
 
 use crate::parallelograms::{fourth, value_at};
-use crate::surface::FaceAcross;
 use arrayvec::ArrayVec;
+use corner_table::FaceAcross;
 use drc_base::{Memory, Sequence};
 
 /// The flags of a prediction, in the order in which they are taken.

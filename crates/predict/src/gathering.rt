@@ -5,13 +5,13 @@ ghost use Rattle.std.specs.List.{All};
 ghost use Rattle.std.specs.Option.{option_map, option_to_list};
 ghost use Rattle.corner_table.specs.Sides.{side_at};
 ghost use Rattle.corner_table.specs.Fans.{swing_left, swing_right};
-ghost use Rattle.predict.specs.Walked.{IsBelow, corner_at, at_corner};
+ghost use Rattle.corner_table.specs.Ordered.{IsBelow, corner_at, at_corner};
 ghost use Rattle.predict.specs.Gathered.{gathered, turn_on, rightwards};
-ghost use Rattle.predict.specs.Stored.{IsOrderedSurface, walked_in, stored_turn};
+ghost use Rattle.predict.specs.Stored.{IsOrderedSurface, ordered_in, stored_turn};
 
-use crate::surface::{FaceAcross, Surface};
+use crate::surface::Surface;
 use arrayvec::ArrayVec;
-use corner_table::{next_number, previous_number};
+use corner_table::{FaceAcross, next_number, previous_number};
 
 /// A corner that is met on the way round a vertex, and whether the way goes on to the left.
 #[derive(Clone, Copy, Debug)]
@@ -24,9 +24,9 @@ impl Surface<'_> {
     /// The next corner to the left round a corner's vertex.
     fn left_of(&self, corner: u32) -> Option<u32>
         requires surface { IsOrderedSurface self.now }
-        requires corner { corner < length self.now.entries.now }
-        ensures corner { option_map side_at result ≡ swing_left (walked_in self.now).gluing (side_at corner) }
-        ensures within { IfSome result (λ n. n < length self.now.entries.now) }
+        requires corner { corner < length self.now.labels.now }
+        ensures corner { option_map side_at result ≡ swing_left (ordered_in self.now).gluing (side_at corner) }
+        ensures within { IfSome result (λ n. n < length self.now.labels.now) }
     {
         match self.across_of(next_number(corner)) {
             None => None,
@@ -37,9 +37,9 @@ impl Surface<'_> {
     /// The next corner to the right round a corner's vertex, as a turn.
     fn rightwards(&self, corner: u32) -> Option<Turn>
         requires surface { IsOrderedSurface self.now }
-        requires corner { corner < length self.now.entries.now }
-        ensures turn { option_map stored_turn result ≡ rightwards (walked_in self.now).gluing (side_at corner) }
-        ensures within { IfSome result (λ t. t.at < length self.now.entries.now) }
+        requires corner { corner < length self.now.labels.now }
+        ensures turn { option_map stored_turn result ≡ rightwards (ordered_in self.now).gluing (side_at corner) }
+        ensures within { IfSome result (λ t. t.at < length self.now.labels.now) }
     {
         match self.across_of(previous_number(corner)) {
             None => None,
@@ -53,10 +53,10 @@ impl Surface<'_> {
     /// What comes after a corner on the way round from `start`.
     fn turn_on(&self, start: u32, turn: Turn) -> Option<Turn>
         requires surface { IsOrderedSurface self.now }
-        requires start { start < length self.now.entries.now }
-        requires corner { turn.at < length self.now.entries.now }
-        ensures turn { option_map stored_turn result ≡ turn_on (walked_in self.now).gluing (side_at start) (stored_turn turn) }
-        ensures within { IfSome result (λ t. t.at < length self.now.entries.now) }
+        requires start { start < length self.now.labels.now }
+        requires corner { turn.at < length self.now.labels.now }
+        ensures turn { option_map stored_turn result ≡ turn_on (ordered_in self.now).gluing (side_at start) (stored_turn turn) }
+        ensures within { IfSome result (λ t. t.at < length self.now.labels.now) }
     {
         if !turn.leftwards {
             return self.rightwards(turn.at);
@@ -80,9 +80,9 @@ impl Surface<'_> {
     /// from it.
     fn gather_corner(&self, e: usize, corner: u32, found: &mut ArrayVec<FaceAcross, 4>)
         requires surface { IsOrderedSurface self.now }
-        requires corner { corner < length self.now.entries.now }
+        requires corner { corner < length self.now.labels.now }
         requires room { length found.old.items < 4 }
-        ensures { found.new.items ≡ found.old.items ++ option_to_list (at_corner (walked_in self.now) e (side_at corner)) }
+        ensures { found.new.items ≡ found.old.items ++ option_to_list (at_corner (ordered_in self.now) e (side_at corner)) }
     {
         match self.at_corner(e, corner) {
             None => {}
@@ -94,7 +94,7 @@ impl Surface<'_> {
     pub(crate) fn gather(&self, e: usize) -> ArrayVec<FaceAcross, 4>
         requires surface { IsOrderedSurface self.now }
         requires entry { e < length self.now.corners.now }
-        ensures faces { result.items ≡ gathered (walked_in self.now) e }
+        ensures faces { result.items ≡ gathered (ordered_in self.now) e }
         ensures below { All (IsBelow e) result.items }
         ensures few { length result.items ≤ 4 }
     {
@@ -104,7 +104,7 @@ impl Surface<'_> {
             at: start,
             leftwards: true,
         });
-        for step in 0..self.entries.len() {
+        for step in 0..self.labels.len() {
             match turn {
                 None => return found,
                 Some(now) => {

@@ -16,7 +16,7 @@ pub fn corrections_restore()
     ensures small { CorrectionsAreSmall }
 {}
 
-/// Where no two entries of an order stand at one vertex, as in the order of a walk, the flags that are
+/// Where no two entries of an order stand at one vertex, as in the order of a traversal, the flags that are
 /// needed of a list are no more than three times the faces. This is the contract of a call that does
 /// nothing.
 pub fn flags_are_few()

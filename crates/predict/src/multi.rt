@@ -4,18 +4,20 @@ ghost use Rattle.std.specs.Prelude.{◌≡◌, ℕ, ℤ, suc, ◌+◌, ◌-◌, 
 ghost use Rattle.std.specs.List.{All};
 ghost use Rattle.predict.specs.Wrap.{CanWrap, HasEnds, least_correction, greatest_correction};
 ghost use Rattle.predict.specs.Restored.{restored, corrections};
-ghost use Rattle.predict.specs.Walked.{Walked, IsBelow, IsOver, walked};
+ghost use Rattle.corner_table.specs.Ordered.{Ordered as AnyOrdered, IsBelow};
+ghost use Rattle.predict.specs.Surfaces.{surface, IsOverTable};
 ghost use Rattle.predict.specs.Gathered.{gathered};
 ghost use Rattle.predict.specs.Multi.{by_many, kept, multi, wanted, flags_for, HasFlags, LacksFlags, AreMarked, marks, is_left_out};
 ghost use Rattle.predict.specs.Entry.{Foretells, Goes, Corrected, AreUsed, LacksNext, ForetellsAll, flags_put};
-ghost use Rattle.predict.specs.Stored.{IsOrderedSurface, walked_in};
+ghost use Rattle.predict.specs.Stored.{IsOrderedSurface, ordered_in};
 
 use crate::entry::{correct_entry, restore_entry};
 use crate::flags::{Flags, keep, marks_of};
-use crate::surface::{FaceAcross, Surface, surface_of};
+use crate::orders::Ordered;
+use crate::surface::{Surface, surface_of};
 use crate::wraps::Wrap;
 use arrayvec::ArrayVec;
-use corner_table::{Order, SideTable};
+use corner_table::FaceAcross;
 use drc_base::{Kind, Memory, Sequence};
 use std::alloc::Global;
 
@@ -39,7 +41,7 @@ fn take_flags(
     requires few { length found.now ≤ 4 }
     requires used { length used.old ≡ 4 }
     ensures long { length used.new ≡ 4 }
-    ensures faces { (w : Walked) (e : ℕ) → found.now ≡ gathered w e → AreUsed w flags.now.lists e used.old → MatchOption result (LacksNext w flags.now.lists e) (λ faces. (faces.items ≡ kept (flags_for w flags.now.lists e) found.now) × AreUsed w flags.now.lists (suc e) used.new) }
+    ensures faces { (w : AnyOrdered) (e : ℕ) → found.now ≡ gathered w e → AreUsed w flags.now.lists e used.old → MatchOption result (LacksNext w flags.now.lists e) (λ faces. (faces.items ≡ kept (flags_for w flags.now.lists e) found.now) × AreUsed w flags.now.lists (suc e) used.new) }
     ensures few { IfSome result (λ faces. length faces.items ≤ 4) }
     ensures below { (e : ℕ) → All (IsBelow e) found.now → IfSome result (λ faces. All (IsBelow e) faces.items) }
 {
@@ -57,26 +59,24 @@ fn take_flags(
 }
 
 /// Turns the corrections `v` of entries of `comps` components into their values, in place, each
-/// predicted by the mean of those parallelograms that its flags keep. The order `o` is one over the
-/// table `t`, and `v` has `comps` values for each of its entries. It takes no memory. `FlagsShort`
-/// exactly where more flags of a list are needed than it has; `v` is given up then. Flags that are
-/// left over are ignored.
+/// predicted by the mean of those parallelograms that its flags keep. `v` has `comps` values for each
+/// entry of the ordered surface. It takes no memory. `FlagsShort` exactly where more flags of a list are
+/// needed than it has; `v` is given up then. Flags that are left over are ignored.
 pub fn restore_multi(
     w: &Wrap,
     comps: u32,
-    t: &SideTable,
-    o: &Order,
+    on: &Ordered<'_>,
     flags: &Flags,
     v: &mut [i32],
 ) -> Result<(), Kind>
     requires some { 0 < comps }
-    requires order { IsOver t.now.faces (walked t.now o.now) }
-    requires whole { length v.old ≡ length o.now.corner_of_entry * comps }
-    ensures values { IfOk result (λ _. v.new ≡ restored (multi (walked t.now o.now) comps flags.now.lists) w.now v.old) }
-    ensures flags { MatchResult result (λ _. HasFlags (walked t.now o.now) flags.now.lists) (λ k. (k ≡ Kind.FlagsShort) × LacksFlags (walked t.now o.now) flags.now.lists) }
+    requires over { IsOverTable on.now }
+    requires whole { length v.old ≡ length on.now.order.now.corner_of_entry * comps }
+    ensures values { IfOk result (λ _. v.new ≡ restored (multi (surface on.now) comps flags.now.lists) w.now v.old) }
+    ensures flags { MatchResult result (λ _. HasFlags (surface on.now) flags.now.lists) (λ k. (k ≡ Kind.FlagsShort) × LacksFlags (surface on.now) flags.now.lists) }
 {
     let wrap = w.copy();
-    let surface = surface_of(t, o);
+    let surface = surface_of(on);
     let comps = comps as usize;
     let mut used = [0usize; 4];
     for e in 0..surface.corners.len() {
@@ -121,8 +121,8 @@ fn correct_entries(
     requires four { length lists.old ≡ 4 }
     requires none { (k : ℕ) → k < 4 → get_or lists.old k [] ≡ [] }
     ensures long { length lists.new ≡ 4 }
-    ensures marked { IfOk result (λ _. AreMarked (walked_in surface.now) comps v.now lists.new (length surface.now.corners.now)) }
-    ensures corrections { IfOk result (λ _. (f : List ℤ → ℤ) → ForetellsAll f (walked_in surface.now) comps v.now (length surface.now.corners.now) → out.new ≡ corrections f w.now v.now) }
+    ensures marked { IfOk result (λ _. AreMarked (ordered_in surface.now) comps v.now lists.new (length surface.now.corners.now)) }
+    ensures corrections { IfOk result (λ _. (f : List ℤ → ℤ) → ForetellsAll f (ordered_in surface.now) comps v.now (length surface.now.corners.now) → out.new ≡ corrections f w.now v.now) }
 {
     for e in 0..surface.corners.len() {
         let found = surface.gather(e);
@@ -162,10 +162,10 @@ fn correct_with_flags(
     requires can_wrap { CanWrap w.now }
     requires ends { HasEnds w.now }
     ensures four { IfOk result (λ x. length x.lists ≡ 4) }
-    ensures flags { IfOk result (λ x. AreMarked (walked_in surface.now) comps v.now x.lists (length surface.now.corners.now)) }
-    ensures enough { IfOk result (λ x. HasFlags (walked_in surface.now) x.lists) }
-    ensures corrections { IfOk result (λ x. out.new ≡ corrections (multi (walked_in surface.now) comps x.lists) w.now v.now) }
-    ensures restores { IfOk result (λ x. restored (multi (walked_in surface.now) comps x.lists) w.now out.new ≡ v.now) }
+    ensures flags { IfOk result (λ x. AreMarked (ordered_in surface.now) comps v.now x.lists (length surface.now.corners.now)) }
+    ensures enough { IfOk result (λ x. HasFlags (ordered_in surface.now) x.lists) }
+    ensures corrections { IfOk result (λ x. out.new ≡ corrections (multi (ordered_in surface.now) comps x.lists) w.now v.now) }
+    ensures restores { IfOk result (λ x. restored (multi (ordered_in surface.now) comps x.lists) w.now out.new ≡ v.now) }
     ensures small { IfOk result (λ x. All (λ c. (least_correction w.now ≤ℤ c) × (c ≤ℤ greatest_correction w.now)) out.new) }
 {
     let mut lists = [
@@ -183,29 +183,28 @@ fn correct_with_flags(
 /// those parallelograms that its flags keep, and the flags: each correction is of at most half a span,
 /// and from both the values are restored. A flag is set, and leaves its parallelogram out, exactly
 /// where the entry before is nearer to the entry, by the sums of the distances of their components.
-/// The order `o` is one over the table `t`, and `v` has `comps` values for each of its entries. It
-/// takes memory for the corrections and the flags, and fails only when out of memory.
+/// `v` has `comps` values for each entry of the ordered surface. It takes memory for the corrections and
+/// the flags, and fails only when out of memory.
 pub fn correct_multi(
     alloc: Global,
     w: &Wrap,
     comps: u32,
-    t: &SideTable,
-    o: &Order,
+    on: &Ordered<'_>,
     v: &[i32],
 ) -> Result<(Vec<i32>, Flags), Memory>
     requires some { 0 < comps }
-    requires order { IsOver t.now.faces (walked t.now o.now) }
-    requires whole { length v.now ≡ length o.now.corner_of_entry * comps }
+    requires over { IsOverTable on.now }
+    requires whole { length v.now ≡ length on.now.order.now.corner_of_entry * comps }
     requires within { All (λ x. (w.now.low ≤ℤ x) × (x ≤ℤ w.now.high)) v.now }
     ensures four { IfOk result (λ c. length c.1.lists ≡ 4) }
-    ensures flags { IfOk result (λ c. AreMarked (walked t.now o.now) comps v.now c.1.lists (length o.now.corner_of_entry)) }
-    ensures enough { IfOk result (λ c. HasFlags (walked t.now o.now) c.1.lists) }
-    ensures corrections { IfOk result (λ c. c.0.items ≡ corrections (multi (walked t.now o.now) comps c.1.lists) w.now v.now) }
-    ensures restores { IfOk result (λ c. restored (multi (walked t.now o.now) comps c.1.lists) w.now c.0.items ≡ v.now) }
+    ensures flags { IfOk result (λ c. AreMarked (surface on.now) comps v.now c.1.lists (length on.now.order.now.corner_of_entry)) }
+    ensures enough { IfOk result (λ c. HasFlags (surface on.now) c.1.lists) }
+    ensures corrections { IfOk result (λ c. c.0.items ≡ corrections (multi (surface on.now) comps c.1.lists) w.now v.now) }
+    ensures restores { IfOk result (λ c. restored (multi (surface on.now) comps c.1.lists) w.now c.0.items ≡ v.now) }
     ensures small { IfOk result (λ c. All (λ x. (least_correction w.now ≤ℤ x) × (x ≤ℤ greatest_correction w.now)) c.0.items) }
 {
     let wrap = w.copy();
-    let surface = surface_of(t, o);
+    let surface = surface_of(on);
     let mut out = vec![in alloc; 0i32; v.len()]?;
     let flags = correct_with_flags(
         alloc,

@@ -4,12 +4,12 @@ ghost use Rattle.std.specs.Prelude.{◌≡◌, ◌+◌, ◌*◌, ◌<◌, ◌≤
 ghost use Rattle.std.specs.Int.{w32, int_wrap};
 ghost use Rattle.std.specs.List.{All};
 ghost use Rattle.predict.specs.Restored.{entry_before};
-ghost use Rattle.predict.specs.Walked.{IsBelow};
+ghost use Rattle.corner_table.specs.Ordered.{IsBelow};
 ghost use Rattle.predict.specs.Parallelogram.{component, fourth};
 ghost use Rattle.predict.specs.Multi.{by_many};
 
-use crate::surface::FaceAcross;
 use crate::wholes::{half, quarter, third, wrapping_difference, wrapping_sum};
+use corner_table::FaceAcross;
 
 /// Component `j` of entry `k`, which is before entry `e`.
 pub(crate) fn value_at(v: &[i32], comps: usize, e: usize, k: usize, j: usize) -> i32

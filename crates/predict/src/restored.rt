@@ -10,44 +10,42 @@ ghost use Rattle.predict.specs.Foretold.{foretold, HasWanted, LacksWanted};
 use crate::differences::restore_difference;
 use crate::flags::Flags;
 use crate::multi::restore_multi;
+use crate::orders::Ordered;
 use crate::schemes::Prediction;
 use crate::single::restore_parallelogram;
-use crate::walks::Walked;
 use crate::wraps::Wrap;
 use drc_base::Kind;
 
 /// Turns the corrections `v` of entries of `comps` components into their values, in place, by a
-/// prediction that corrects, over the surface of a walk where it needs one. It takes no memory.
+/// prediction that corrects, over an ordered surface where it needs one. It takes no memory.
 /// `FlagsShort` exactly where more flags of a list are needed than it has; `v` is given up then. Flags that
 /// are left over are ignored.
 pub fn restore(
     prediction: Prediction,
     w: &Wrap,
     comps: u32,
-    walk: Option<&Walked<'_>>,
+    on: Option<&Ordered<'_>>,
     flags: &Flags,
     v: &mut [i32],
 ) -> Result<(), Kind>
     requires corrects { (facts prediction).corrects ≡ true }
     requires some { 0 < comps }
     requires whole { length v.old % comps ≡ 0 }
-    requires over { MayBeOver (option_map (λ t. t.now) walk) }
-    requires stand { CanStand prediction (surface_of (option_map (λ t. t.now) walk)) comps (length v.old) }
-    ensures values { IfOk result (λ _. v.new ≡ restored (foretold prediction (surface_or (surface_of (option_map (λ t. t.now) walk.entry))) comps flags.now.lists) w.now v.old) }
-    ensures flags { MatchResult result (λ _. HasWanted prediction (surface_or (surface_of (option_map (λ t. t.now) walk.entry))) flags.now.lists) (λ k. (k ≡ Kind.FlagsShort) × LacksWanted prediction (surface_or (surface_of (option_map (λ t. t.now) walk.entry))) flags.now.lists) }
+    requires over { MayBeOver (option_map (λ t. t.now) on) }
+    requires stand { CanStand prediction (surface_of (option_map (λ t. t.now) on)) comps (length v.old) }
+    ensures values { IfOk result (λ _. v.new ≡ restored (foretold prediction (surface_or (surface_of (option_map (λ t. t.now) on.entry))) comps flags.now.lists) w.now v.old) }
+    ensures flags { MatchResult result (λ _. HasWanted prediction (surface_or (surface_of (option_map (λ t. t.now) on.entry))) flags.now.lists) (λ k. (k ≡ Kind.FlagsShort) × LacksWanted prediction (surface_or (surface_of (option_map (λ t. t.now) on.entry))) flags.now.lists) }
 {
-    match (prediction, walk) {
+    match (prediction, on) {
         (Prediction::Difference, _) => {
             restore_difference(w, comps, v);
             Ok(())
         }
-        (Prediction::Parallelogram, Some(walk)) => {
-            restore_parallelogram(w, comps, walk.sides, walk.order, v);
+        (Prediction::Parallelogram, Some(on)) => {
+            restore_parallelogram(w, comps, on, v);
             Ok(())
         }
-        (Prediction::Multi, Some(walk)) => {
-            restore_multi(w, comps, walk.sides, walk.order, flags, v)
-        }
+        (Prediction::Multi, Some(on)) => restore_multi(w, comps, on, flags, v),
         (Prediction::Off, _) | (Prediction::Parallelogram | Prediction::Multi, None) => {
             unreachable!()
         }

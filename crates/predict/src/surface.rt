@@ -1,33 +1,26 @@
-//! A surface as predictions read it: the side across each side, the corner of each entry, and the
-//! entry of each corner.
+//! A surface as the predictions by several parallelograms read it: the side across each side, the class
+//! of each corner, the entry of each class, and the corner of each entry.
 
 ghost use Rattle.std.specs.Prelude.{◌≡◌, ◌<◌, ◌≤◌, IfSome, length, get_or};
 ghost use Rattle.std.specs.Option.{option_map};
 ghost use Rattle.corner_table.specs.Sides.{side_at};
-ghost use Rattle.corner_table.specs.Table.{gluing_of, free_entry};
-ghost use Rattle.predict.specs.Walked.{IsOver, IsBelow, walked, corner_at, face_entries, only_below, at_corner};
-ghost use Rattle.predict.specs.Stored.{IsOrderedSurface, walked_in};
+ghost use Rattle.corner_table.specs.Table.{free_entry};
+ghost use Rattle.corner_table.specs.Ordered.{IsBelow, corner_at, at_corner};
+ghost use Rattle.predict.specs.Stored.{IsOrderedSurface, ordered_in};
+ghost use Rattle.predict.specs.Surfaces.{surface, IsOverTable};
 
-use corner_table::{FREE, Order, SideTable, Steps, next_number, number_of, previous_number};
-use drc_base::Side;
+use crate::orders::Ordered;
+use corner_table::{FREE, FaceAcross, SideTable, Steps, face_across};
 use std::marker::Brand;
 use std::sync::ledger::{Blank, Ledger};
 
-/// The entries of a face across a side: that of its corner opposite to the side, and those of the
-/// corners after and before it.
-#[derive(Clone, Copy, Debug, Default)]
-pub(crate) struct FaceAcross {
-    pub(crate) across: u32,
-    pub(crate) after: u32,
-    pub(crate) before: u32,
-}
-
-/// A surface by lists that go by the numbers of its sides, its entries and its corners.
+/// A surface by lists that go by the numbers of its sides, its corners, its classes and its entries.
 #[derive(Drop)]
 pub(crate) struct Surface<'t> {
     pub(crate) across: &'t [u32],
-    pub(crate) corners: &'t [Side],
-    pub(crate) entries: &'t [u32],
+    pub(crate) labels: &'t [u32],
+    pub(crate) entry_of_class: &'t [u32],
+    pub(crate) corners: &'t [u32],
 }
 
 /// The entries of a table, under a count of calls that nothing else takes part in.
@@ -41,19 +34,20 @@ fn entries_of<'t, L: Ledger>(t: &'t SideTable, blank: Blank) -> &'t [u32]
     t.across(&mut steps)
 }
 
-/// A surface, from its table and an order over it.
-pub(crate) fn surface_of<'t>(t: &'t SideTable, o: &'t Order) -> Surface<'t>
-    requires { IsOver t.now.faces (walked t.now o.now) }
+/// The lists of an ordered surface.
+pub(crate) fn surface_of<'t>(on: &Ordered<'t>) -> Surface<'t>
+    requires { IsOverTable on.now }
     ensures surface { IsOrderedSurface result }
-    ensures walked { walked_in result ≡ walked t.now o.now }
-    ensures count { length result.corners.now ≡ length o.now.corner_of_entry }
+    ensures ordered { ordered_in result ≡ surface on.now }
+    ensures count { length result.corners.now ≡ length on.now.order.now.corner_of_entry }
 {
     // For the prover alone: the entries of a table are a gluing, with three for each face.
-    let _faces = t.face_count();
+    let _faces = on.sides.face_count();
     Surface {
-        across: entries_of::<Brand>(t, Blank::new(1)),
-        corners: o.corner_of_entry.as_slice(),
-        entries: o.entry_of_corner.as_slice(),
+        across: entries_of::<Brand>(on.sides, Blank::new(1)),
+        labels: on.classes.of_corner.as_slice(),
+        entry_of_class: on.order.entry_of_class.as_slice(),
+        corners: on.order.corner_of_entry.as_slice(),
     }
 }
 
@@ -65,71 +59,35 @@ fn entry_or_free(entries: &[u32], number: u32) -> u32
     entries[number as usize]
 }
 
-/// The entry of a corner.
-fn entry_of(entries: &[u32], corner: u32) -> u32
-    requires { corner < length entries.now }
-    ensures { result ≡ get_or entries.now corner 0 }
-{
-    entries[corner as usize]
-}
-
 impl Surface<'_> {
     /// The corner of an entry.
     pub(crate) fn corner_of(&self, e: usize) -> u32
         requires surface { IsOrderedSurface self.now }
         requires entry { e < length self.now.corners.now }
-        ensures corner { side_at result ≡ corner_at (walked_in self.now) e }
-        ensures within { result < length self.now.entries.now }
+        ensures corner { side_at result ≡ corner_at (ordered_in self.now) e }
+        ensures within { result < length self.now.labels.now }
     {
-        number_of(self.corners[e])
+        self.corners[e]
     }
 
     /// The side across.
     pub(crate) fn across_of(&self, side: u32) -> Option<u32>
         requires surface { IsOrderedSurface self.now }
-        requires side { side < length self.now.entries.now }
-        ensures other { option_map side_at result ≡ (walked_in self.now).gluing (side_at side) }
-        ensures within { IfSome result (λ n. n < length self.now.entries.now) }
+        requires side { side < length self.now.labels.now }
+        ensures other { option_map side_at result ≡ (ordered_in self.now).gluing (side_at side) }
+        ensures within { IfSome result (λ n. n < length self.now.labels.now) }
     {
         let found = entry_or_free(self.across, side);
         if found == FREE { None } else { Some(found) }
     }
 
-    /// The face of a corner, where its entries come before entry `e`. That of the corner itself is
-    /// tested before the other two are read.
-    fn face_below(&self, e: usize, corner: u32) -> Option<FaceAcross>
-        requires surface { IsOrderedSurface self.now }
-        requires corner { corner < length self.now.entries.now }
-        ensures { result ≡ only_below e (face_entries (walked_in self.now) (side_at corner)) }
-    {
-        let across = entry_of(self.entries, corner);
-        if across as usize >= e {
-            return None;
-        }
-        let after = entry_of(self.entries, next_number(corner));
-        let before = entry_of(self.entries, previous_number(corner));
-        if (after as usize) < e && (before as usize) < e {
-            Some(FaceAcross {
-                across,
-                after,
-                before,
-            })
-        } else {
-            None
-        }
-    }
-
     /// The face across the side of a corner, where there is one whose entries come before entry `e`.
-    #[tactic(auto, unfolding(crate::specs::Walked::at_corner))]
     pub(crate) fn at_corner(&self, e: usize, corner: u32) -> Option<FaceAcross>
         requires surface { IsOrderedSurface self.now }
-        requires corner { corner < length self.now.entries.now }
-        ensures face { result ≡ at_corner (walked_in self.now) e (side_at corner) }
+        requires corner { corner < length self.now.labels.now }
+        ensures face { result ≡ at_corner (ordered_in self.now) e (side_at corner) }
         ensures below { IfSome result (IsBelow e) }
     {
-        match self.across_of(corner) {
-            None => None,
-            Some(found) => self.face_below(e, found),
-        }
+        face_across(self.across, self.labels, self.entry_of_class, e, corner)
     }
 }

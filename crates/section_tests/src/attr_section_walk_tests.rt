@@ -1,41 +1,34 @@
 //! Values over a small surface, with ample memory: the bytes are those of a square of two triangles,
 //! whose predictions and flags were worked out by hand.
 
-ghost use Rattle.std.specs.Prelude.{◌≡◌, ◌<◌, ◌≤◌, IsTrue, length};
-ghost use Rattle.std.specs.List.{All};
-ghost use Rattle.predict.specs.Walked.{IsOver, walked};
+ghost use Rattle.std.specs.Prelude.{◌≡◌, ◌<◌, ◌≤◌, length};
+ghost use Rattle.corner_table.specs.Ordered.{IsOrdered};
 
 use crate::attr_section_tests::decoder_of;
-use attr_section::{Values, Walked, read_decoder};
-use corner_table::{Order, SideTable};
+use attr_section::{Ordered, Values, read_decoder};
+use corner_table::{Classes, Order, SideTable};
 use drc_base::{Fault, Kind, Refusal};
 use drc_bits::Cursor;
 use std::alloc::Global;
 use std::process::Abort;
 use std::test::Fail;
-use worked_surfaces::{glued, has_corners_of, order_of};
+use worked_surfaces::{glued, order_of};
 
 /// The bytes of corrections: the transform, and twelve symbols of a byte each.
 const CORRECTIONS: [u8; 15] = [1, 0, 1, 0, 1, 0, 1, 2, 0, 0, 1, 0, 0, 0, 0];
 /// The range from 0 to 2.
 const RANGE: [u8; 8] = [0, 0, 0, 0, 2, 0, 0, 0];
 
-/// Whether an order is one over a table.
-fn is_over(t: &SideTable, o: &Order) -> bool
-    ensures { IsTrue result → IsOver t.now.faces (walked t.now o.now) }
-{
-    has_corners_of(o, t)
-}
-
 /// Two faces, and an order of their four corners in which the first face comes first.
-fn square(rt: &impl Abort, alloc: Global) -> (SideTable, Order)
-    ensures over { IsOver result.0.faces (walked result.0 result.1) }
-    ensures entries { length result.1.corner_of_entry ≡ 4 }
+fn square(rt: &impl Abort, alloc: Global) -> (SideTable, Classes, Order)
+    ensures over { IsOrdered result.0 result.1.of_corner result.2 }
+    ensures entries { length result.2.corner_of_entry ≡ 4 }
 {
     let sides = glued(alloc, 2, &[(0, 4)]).expect(rt, "a table");
-    let order = order_of(alloc, &[1, 2, 0, 4], &[2, 0, 1, 0, 3, 1]).expect(rt, "an order");
-    assert!(rt; is_over(&sides, &order) && order.corner_of_entry.len() == 4);
-    (sides, order)
+    let order = order_of(alloc, &sides, &[1, 2, 0, 4]).expect(rt, "ample memory");
+    let (classes, order) = order.expect(rt, "corners of the table");
+    assert!(rt; order.corner_of_entry.len() == 4);
+    (sides, classes, order)
 }
 
 /// What is read over the square from a prediction byte, the corrections and these bytes: positions of
@@ -47,9 +40,10 @@ fn read_over(
     prediction: u8,
     bytes: &[u8],
 ) -> Result<Vec<Values>, Refusal> {
-    let (sides, order) = square(rt, alloc);
-    let walk = Walked {
+    let (sides, classes, order) = square(rt, alloc);
+    let on = Ordered {
         sides: &sides,
+        classes: &classes,
         order: &order,
     };
     let mut all = Vec::new(alloc);
@@ -59,7 +53,7 @@ fn read_over(
     let mut h = decoder_of(alloc, dtype, 3)?;
     let mut spent = 0;
     let mut c = Cursor::new(all.as_slice());
-    read_decoder(alloc, &mut c, &mut h, 4, Some(&walk), &mut spent)
+    read_decoder(alloc, &mut c, &mut h, 4, Some(&on), &mut spent)
 }
 
 /// The flag lists of a row and the range from 0 to 2.

@@ -1,29 +1,16 @@
 //! Values over small surfaces are written as their bytes, and read back, with ample memory.
 
-ghost use Rattle.std.specs.Prelude.{◌≡◌, ◌<◌, ◌≤◌, [], ◌∷◌, IfOk, IsTrue, length};
-ghost use Rattle.std.specs.List.{All};
-ghost use Rattle.predict.specs.Walked.{IsOver};
-ghost use Rattle.predict.specs.Surfaces.{surface};
+ghost use Rattle.std.specs.Prelude.{◌≡◌, ◌<◌, ◌≤◌, [], ◌∷◌, IfOk, length};
+ghost use Rattle.predict.specs.Surfaces.{IsOverTable};
 ghost use Rattle.attr_section.specs.Examples.{example_head, surface_values, surface_prediction, surface_positions, surface_decoder};
 
-use attr_section::{DecoderHead, Values, Walked, read_decoder, write_decoder};
+use attr_section::{DecoderHead, Ordered, Values, read_decoder, write_decoder};
 use drc_base::{Refusal, Sequence};
 use drc_bits::Cursor;
 use mesh_model::Head;
 use std::alloc::{AllocError, Global};
 use std::test::Fail;
-use worked_surfaces::{TETRAHEDRON_PAIRS, glued, has_corners_of, order_of};
-
-/// Whether a walk is one over its table, of four entries.
-fn is_over(walk: &Walked<'_>) -> bool
-    ensures over { IsTrue result → IsOver walk.now.sides.now.faces (surface walk.now) }
-    ensures four { IsTrue result → length walk.now.order.now.corner_of_entry ≡ 4 }
-{
-    if walk.order.corner_of_entry.len() != 4 {
-        return false;
-    }
-    has_corners_of(walk.order, walk.sides)
-}
+use worked_surfaces::{TETRAHEDRON_PAIRS, glued, order_of};
 
 /// The positions of two triangles, or of a tetrahedron, by one parallelogram or by the mean of several.
 fn positions(alloc: Global, closed: bool, many: bool) -> Result<Values, AllocError>
@@ -61,28 +48,30 @@ fn decoder(alloc: Global) -> Result<DecoderHead, AllocError>
     })
 }
 
-/// Whether the positions are written over the surface of a walk as these bytes, and these bytes with one
+/// Whether the positions are written over an ordered surface as these bytes, and these bytes with one
 /// more behind them are read as the positions.
 fn values_both_ways(
     alloc: Global,
-    walk: &Walked<'_>,
+    on: &Ordered<'_>,
     closed: bool,
     many: bool,
     bytes: &[u8],
-) -> Result<bool, Refusal> {
-    if !is_over(walk) {
+) -> Result<bool, Refusal>
+    requires { IsOverTable on.now }
+{
+    if on.order.corner_of_entry.len() != 4 {
         return Ok(false);
     }
     let mut h = decoder(alloc)?;
     let given = vec![in alloc; positions(alloc, closed, many)?]?;
     let mut written = Vec::new(alloc);
-    write_decoder(alloc, &mut written, &h, &given, true, Some(walk))?;
+    write_decoder(alloc, &mut written, &h, &given, true, Some(on))?;
     let mut longer = Vec::new(alloc);
     longer.extend_from_slice(bytes)?;
     longer.push(0xff)?;
     let mut c = Cursor::new(longer.as_slice());
     let mut spent = 5;
-    let read = read_decoder(alloc, &mut c, &mut h, 4, Some(walk), &mut spent)?;
+    let read = read_decoder(alloc, &mut c, &mut h, 4, Some(on), &mut spent)?;
     if written.as_slice() != bytes || c.rest().len() != 1 || spent != 17 || read.len() != 1 {
         return Ok(false);
     }
@@ -94,24 +83,23 @@ fn values_both_ways(
 fn one_parallelogram_is_kept(rt: HostRuntime) -> Result<(), Fail> {
     let alloc = rt.alloc();
     let sides = glued(alloc, 2, &[(0, 4)])?;
-    let order = order_of(alloc, &[1, 2, 0, 4], &[2, 0, 1, 0, 3, 1])?;
-    let walk = Walked {
+    let order = order_of(alloc, &sides, &[1, 2, 0, 4])?;
+    let (classes, order) = order.expect(&rt, "corners of the table");
+    let on = Ordered {
         sides: &sides,
+        classes: &classes,
         order: &order,
     };
     let one = [
         1, 1, 0, 1, 0, 1, 0, 1, 2, 0, 0, 1, 0, 0, 0, 0, 0, 0, 0, 0, 2, 0, 0, 0,
     ];
-    assert!(&rt;
-        values_both_ways(alloc, &walk, false, false, &one)?,
-        "by one"
-    );
+    assert!(&rt; values_both_ways(alloc, &on, false, false, &one)?, "by one");
     let many = [
         4, 1, 0, 1, 0, 1, 0, 1, 2, 0, 0, 1, 0, 0, 0, 0, 1, 255, 1, 17, 0, 0, 0, 0, 0, 0, 0, 2, 0,
         0, 0,
     ];
     assert!(&rt;
-        values_both_ways(alloc, &walk, false, true, &many)?,
+        values_both_ways(alloc, &on, false, true, &many)?,
         "by the mean"
     );
     Ok(())
@@ -121,25 +109,23 @@ fn one_parallelogram_is_kept(rt: HostRuntime) -> Result<(), Fail> {
 fn three_parallelograms_are_left_out(rt: HostRuntime) -> Result<(), Fail> {
     let alloc = rt.alloc();
     let sides = glued(alloc, 4, &TETRAHEDRON_PAIRS)?;
-    let entries = [2, 0, 1, 1, 0, 3, 0, 2, 3, 1, 3, 2];
-    let order = order_of(alloc, &[1, 2, 0, 10], &entries)?;
-    let walk = Walked {
+    let order = order_of(alloc, &sides, &[1, 2, 0, 10])?;
+    let (classes, order) = order.expect(&rt, "corners of the table");
+    let on = Ordered {
         sides: &sides,
+        classes: &classes,
         order: &order,
     };
     let one = [
         1, 1, 0, 1, 0, 0, 1, 0, 1, 1, 0, 1, 0, 1, 1, 0, 0, 0, 0, 0, 1, 0, 0, 0,
     ];
-    assert!(&rt;
-        values_both_ways(alloc, &walk, true, false, &one)?,
-        "by one"
-    );
+    assert!(&rt; values_both_ways(alloc, &on, true, false, &one)?, "by one");
     let many = [
         4, 1, 0, 1, 0, 0, 1, 0, 1, 1, 0, 1, 0, 1, 0, 0, 0, 0, 3, 1, 1, 48, 0, 0, 0, 0, 0, 1, 0, 0,
         0,
     ];
     assert!(&rt;
-        values_both_ways(alloc, &walk, true, true, &many)?,
+        values_both_ways(alloc, &on, true, true, &many)?,
         "by the mean"
     );
     Ok(())

@@ -16,7 +16,7 @@ use Rattle.drc_container.specs.choice.Refused.{early_fault, surface_fault, verti
 use Rattle.drc_container.specs.writing.Written.{values_of}
 use Rattle.drc_container.specs.writing.WrittenOnSurface.{traced, decoded, coded_values}
 use Rattle.drc_container.specs.writing.Chosen.{coding_of, values_chosen}
-use Rattle.drc_container.specs.writing.Encoded.{CanCode, CanCodeSurface}
+use Rattle.drc_container.specs.writing.Encoded.{CanCodeInOrder, CanCodeSurface}
 use Rattle.drc_container.proofs.lemmas.choice.FirstRefusals.{later-can, refused-later}
 use Rattle.drc_container.proofs.lemmas.choice.SurfaceDue.{IsForSurface, some-face, refused-on_surface}
 use Rattle.drc_container.proofs.lemmas.writing.SurfaceEncoded.{IsTracedTo, traced-to, values-can, surface-can}
@@ -30,10 +30,10 @@ early-none g choice none =
 
 -- ---- by the sequential method
 
-pub can-code : (g : Geometry) (choice : Choice) → ArePoints (heads_in g) (points_in g) → refused g choice ≡ None → is_sequential (method_of g choice) ≡ true → CanCode g choice
+pub can-code : (g : Geometry) (choice : Choice) → ArePoints (heads_in g) (points_in g) → refused g choice ≡ None → is_sequential (method_of g choice) ≡ true → CanCodeInOrder g choice
 can-code g choice are none on =
     let early = early-none g choice none in
-    later-can g choice (predict_chosen g choice) (values_of g (chosen_code g choice)) early on refl refl (sym (refused-later g choice are early on) ∙ none)
+    later-can g choice (predict_chosen g choice) (values_of g (chosen_code g choice)) are early on refl refl (sym (refused-later g choice are early on) ∙ none)
 
 -- ---- by Edgebreaker
 
@@ -61,7 +61,7 @@ coding-can coding m is some none =
     let t : IsTracedTo m (traced m) (decoded m) = traced-to m (traced m) (decoded m) is (ap (λ f. value_unless f (traced m)) each.surface) refl in
     let values : List Values = coded_values coding (decoded m) in
     surface-can coding m (traced m) (decoded m) t some
-    (values-can coding (decoded m) values (rw t.faces some) (ap (λ f. value_unless f values) each.values))
+    (values-can coding (decoded m) values (ap (λ f. value_unless f values) each.values))
 
 pub can-code_surface : (m : MeshParts) (choice : Choice) → IsMesh m → refused (Mesh m) choice ≡ None → is_sequential (method_of (Mesh m) choice) ≡ false
     → CanCodeSurface (coding_of (Mesh m) choice) m

@@ -25,7 +25,7 @@ use Rattle.drc_container.specs.declared.choice.choices.Choice.{Choice}
 use Rattle.drc_container.specs.choice.Choice.{chosen_code}
 use Rattle.drc_container.specs.Header.{cloud_points_at}
 use Rattle.drc_container.specs.writing.Written.{decoder_of, values_of}
-use Rattle.drc_container.specs.writing.Encoded.{CanCode, ConnectivitySpelled, AttributesSpelled}
+use Rattle.drc_container.specs.writing.Encoded.{CanCodeInOrder, ConnectivitySpelled, AttributesSpelled}
 use Rattle.drc_container.proofs.lemmas.writing.Again.{attributes_spelled}
 use Rattle.drc_container.proofs.lemmas.writing.Attributed.{decoder_passes, decoder_values_pass, columns_of_geometry}
 
@@ -47,7 +47,7 @@ connectivity-spelled read packed (Cloud c) is = points-spelled (length c.points)
 
 -- ---- the attributes
 
-pub attributes-spelled : HeadsAreRead → DecoderValuesAreRead → (g : Geometry) (choice : Choice) → IsGeometry g → All HeadFits (heads_in g) → CanCode g choice
+pub attributes-spelled : HeadsAreRead → DecoderValuesAreRead → (g : Geometry) (choice : Choice) → IsGeometry g → All HeadFits (heads_in g) → CanCodeInOrder g choice
     → AttributesSpelled choice.plain_values g (chosen_code g choice)
 attributes-spelled heads values g choice is fit can =
     let are = points-are g is in

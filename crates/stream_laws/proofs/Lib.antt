@@ -1,6 +1,6 @@
 pub mod Accepted
 pub mod Connected
-pub mod Walked
+pub mod Ordered
 pub mod OnSurface
 pub mod InOrder
 pub mod Whole

@@ -11,13 +11,13 @@ use Rattle.attr_section.specs.declared.decoder_heads.DecoderHead.{DecoderHead}
 use Rattle.attr_section.specs.Heads.{bare_decoder, heads_at}
 use Rattle.attr_laws.specs.Laws.{HeadFits, HeadsAreRead, DecoderValuesAreRead}
 use Rattle.drc_container.specs.declared.choice.codings.Coding.{Coding}
-use Rattle.drc_container.specs.writing.WrittenOnSurface.{GluedMesh, decoded, surface_walk, coded_by, decoder_for, decoders_for, decoder_heads_bytes}
+use Rattle.drc_container.specs.writing.WrittenOnSurface.{coded_values, GluedMesh, decoded, surface_order, coded_by, decoder_for, decoders_for, decoder_heads_bytes}
 use Rattle.drc_container.specs.writing.Encoded.{CanCodeSurface, AttributeSpelled}
-use Rattle.drc_container.specs.surface.AttributeSurfaces.{CanCodeValues}
+use Rattle.drc_container.specs.choice.CanCode.{CanCode}
 use Rattle.drc_container.proofs.lemmas.surface.Decoded.{decoded-keeps}
 use Rattle.drc_container.proofs.lemmas.writing.SurfaceLinks.{are-linked}
 use Rattle.drc_container.proofs.lemmas.writing.SurfaceParts.{decoders-pass, decoder-values-pass, decoder-entries}
-use Rattle.stream_laws.proofs.Walked.{walk-few}
+use Rattle.stream_laws.proofs.Ordered.{walk-few}
 
 -- ---- the heads
 
@@ -48,15 +48,16 @@ surface_heads-again read coding m is can fit =
 -- ---- the values
 
 -- the values of attribute k
-values-again : DecoderValuesAreRead → (coding : Coding) (d : GluedMesh) → IsMesh d.mesh → IsGluing (length d.mesh.faces) d.pairs → CanCodeValues coding d
+values-again : DecoderValuesAreRead → (coding : Coding) (d : GluedMesh) → IsMesh d.mesh → IsGluing (length d.mesh.faces) d.pairs → 0 < length d.mesh.faces
+    → CanCode coding.predict (coded_values coding d)
     → All HeadFits d.mesh.heads → (k : ℕ) (e : Head) → k < length d.mesh.heads → AttributeSpelled coding d k (get_or d.mesh.heads k e)
-values-again read coding d is G can fit k e has =
+values-again read coding d is G faces can fit k e has =
     let h = get_or d.mesh.heads k e in
-    let w = surface_walk coding d k in
+    let w = surface_order coding d k in
     let fits : All HeadFits (h ∷ []) = All-cons HeadFits h [] (All-get_or HeadFits d.mesh.heads k e has fit) (All-nil HeadFits) in
     record {
       reads = λ spent place rest few.
-          read coding.plain (Some w) (decoder_for coding d k h) (coded_by coding d k ∷ []) (decoder-values-pass coding d is G can k e has) fits
+          read coding.plain (Some w) (decoder_for coding d k h) (coded_by coding d k ∷ []) (decoder-values-pass coding d is G faces can k e has) fits
           (walk-few coding d k G) (length w.corners) spent place rest (decoder-entries coding d is k e has) few;
     }
 
@@ -72,7 +73,7 @@ pub surface_values-again : DecoderValuesAreRead → (coding : Coding) (m : MeshP
 surface_values-again read coding m is can fit =
     let d = decoded m in
     let D = decoded-keeps m is can.proper in
-    let can_values : CanCodeValues coding d = record { some = omega (arith, D.faces, can.some); few = can.few_values; near = can.near } in
+    let some : 0 < length d.mesh.faces = omega (arith, D.faces, can.some) in
     subst (λ (hs : List Head). All (λ (k, h). AttributeSpelled coding d k h) (enumerate_from 0 hs)) D.heads
     (numbered-all (λ (k, h). AttributeSpelled coding d k h) d.mesh.heads
-    (values-again read coding d D.mesh D.gluing can_values (subst (All HeadFits) (sym D.heads) fit)))
+    (values-again read coding d D.mesh D.gluing some can.values (subst (All HeadFits) (sym D.heads) fit)))

@@ -3,7 +3,7 @@
 
 ghost use Rattle.std.specs.Prelude.{◌≡◌, ◌<◌};
 
-use corner_table::{Order, Steps, side_with};
+use corner_table::{Classes, Order, Steps};
 use drc_base::MAX_FACES;
 use std::alloc::Global;
 use std::marker::Brand;
@@ -190,11 +190,15 @@ const GRID: Case = Case {
     ),
 };
 
-/// Whether an order has these corners and entries.
-fn is_order(order: &Order, due: (&[u32], &[u32])) -> bool {
-    let corners = order.corner_of_entry.as_slice();
-    let alike = corners.iter().zip(due.0).all(|(c, n)| *c == side_with(*n));
-    corners.len() == due.0.len() && alike && order.entry_of_corner.as_slice() == due.1
+/// Whether an order has these corners of entries, and these entries of the corners, by their classes.
+fn is_order(order: &Order, classes: &Classes, due: (&[u32], &[u32])) -> bool {
+    let labels = classes.of_corner.as_slice();
+    let entries = order.entry_of_class.as_slice();
+    let alike = labels
+        .iter()
+        .zip(due.1)
+        .all(|(k, e)| entries.get(*k as usize) == Some(e));
+    order.corner_of_entry.as_slice() == due.0 && labels.len() == due.1.len() && alike
 }
 
 /// Both orders of a surface are those that are due.
@@ -208,9 +212,9 @@ fn has_orders<L: Ledger>(rt: &impl Abort, alloc: Global, case: &Case, blank: Bla
     let table = glued(alloc, case.faces, case.pairs).expect(rt, "a table");
     let classes = table.label_vertices(alloc, &mut steps).expect(rt, "labels");
     let depth = depth_first(alloc, &table, &classes).expect(rt, "depth first");
-    assert!(rt; is_order(&depth, case.depth_first));
+    assert!(rt; is_order(&depth, &classes, case.depth_first));
     let degree = prediction_degree(alloc, &table, &classes).expect(rt, "by prediction degree");
-    assert!(rt; is_order(&degree, case.prediction_degree));
+    assert!(rt; is_order(&degree, &classes, case.prediction_degree));
 }
 
 #[test]

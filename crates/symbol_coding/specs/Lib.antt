@@ -1,2 +1,3 @@
 pub mod Symbols
 pub mod Block
+pub mod Opened

@@ -1,15 +1,13 @@
 //! Coded symbols: the bytes of a range coder behind their number.
 
-ghost use Rattle.std.specs.Prelude.{◌≡◌, ℕ, ◌+◌, ◌*◌, ◌/◌, ◌^◌, ◌<◌, ◌≤◌, length, max, min, sum, slice_index, IfOk};
+ghost use Rattle.std.specs.Prelude.{◌≡◌, ℕ, ◌+◌, ◌*◌, ◌/◌, ◌^◌, ◌<◌, ◌≤◌, max, min, sum, IfOk};
 ghost use Rattle.drc_bits.specs.Reading.{Reads};
-ghost use Rattle.symbol_tables.specs.Tables.{HasSymbol};
 ghost use Rattle.symbol_coding.specs.Block.{precision};
-ghost use Rattle.symbol_coding.specs.Symbols.{state_behind_symbol, coded_at, refilled_symbol, next_symbols};
+ghost use Rattle.symbol_coding.specs.Symbols.{coded_at, refilled_symbol, state_behind_symbol};
 
-use drc_base::{Fault, Kind, Memory};
+use drc_base::{Fault, Kind};
 use drc_bits::Cursor;
 use rans_core::Decoder;
-use std::alloc::Global;
 use symbol_tables::Table;
 
 /// The precision in bits of a coder for symbols of so many bits.
@@ -41,38 +39,15 @@ pub fn read_coded<'a>(c: &mut Cursor<'a>, bits: u32) -> Result<(Decoder<'a>, u64
     }
 }
 
-/// Pulls the next symbol. `slots` is the symbol of each slot.
-#[tactic(auto, using(crate::proofs::Slots::within))]
-pub fn pull(decoder: &mut Decoder<'_>, table: &Table, slots: &[u32]) -> u32
-    requires whole { sum table.now ≡ 2 ^ decoder.old.bits }
-    requires len { length slots.now ≡ sum table.now }
-    requires slots { (slot : ℕ) → slot < sum table.now → HasSymbol table.now slot (slice_index slots.now slot) }
+/// Pulls the next symbol.
+#[inline(always)]
+pub fn pull(decoder: &mut Decoder<'_>, table: &Table) -> u32
+    requires { sum table.now ≡ 2 ^ decoder.old.bits }
     ensures symbol { result ≡ refilled_symbol decoder.old.bits table.now decoder.old.state }
     ensures after { decoder.new ≡ record { bits = decoder.old.bits; state = state_behind_symbol decoder.old.bits table.now decoder.old.state } }
 {
     let slot = decoder.slot();
-    let symbol = slots[slot as usize];
+    let symbol = table.find(slot);
     decoder.take(table.cum(symbol), table.prob(symbol));
     symbol
-}
-
-/// Pulls the next `n` symbols.
-pub fn pull_all(
-    alloc: Global,
-    decoder: Decoder<'_>,
-    table: &Table,
-    n: u32,
-) -> Result<Vec<u32>, Memory>
-    requires { sum table.now ≡ 2 ^ decoder.bits }
-    ensures symbols { IfOk result (λ v. v.items ≡ next_symbols n decoder.entry.bits table.now decoder.entry.state) }
-    ensures len { IfOk result (λ v. length v.items ≡ n) }
-{
-    let mut decoder = decoder;
-    let slots = table.slots();
-    let mut symbols = Vec::with_capacity(alloc, n as usize)?;
-    for _k in 0..n {
-        let symbol = pull(&mut decoder, table, slots);
-        symbols.push_reserved(symbol);
-    }
-    Ok(symbols)
 }

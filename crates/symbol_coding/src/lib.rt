@@ -7,7 +7,9 @@
 mod coded;
 mod costs;
 mod reading;
+mod symbols;
 mod writing;
 
-pub use reading::read_symbols;
+pub use reading::{Symbols, open_symbols, read_symbols};
+pub use symbols::CodedSymbols;
 pub use writing::write_symbols;

@@ -8,20 +8,43 @@ ghost use Rattle.drc_bits.specs.Bits.{bits_left, bits_of, bytes_for};
 ghost use Rattle.drc_bits.specs.Reading.{Gives};
 ghost use Rattle.symbol_tables.specs.Tables.{count_at};
 ghost use Rattle.symbol_coding.specs.Block.{block_at, block_opening_at, raw_at, raw_opening_at, tagged_at, values_in_groups, widths, with_values};
+ghost use Rattle.symbol_coding.specs.Opened.{values_of};
 ghost use Rattle.symbol_coding.specs.Symbols.{next_symbols};
 
-use crate::coded::{precision, pull, pull_all, read_coded};
-use drc_base::{Fault, Kind, MAX_VALUES, Refusal};
+use crate::coded::{precision, pull, read_coded};
+use crate::symbols::CodedSymbols;
+use drc_base::{Fault, Kind, MAX_VALUES, Memory, Refusal};
 use drc_bits::{BitReader, Cursor};
 use rans_core::Decoder;
 use std::alloc::Global;
 use symbol_tables::Table;
 
-/// Reads a block whose values are symbols, behind its scheme.
+/// The values of a block that was opened.
+#[derive(Drop)]
+pub enum Symbols<'a> {
+    /// Those of a block whose values are symbols, which are taken one after another.
+    Coded(CodedSymbols<'a>),
+    /// Those of a block of groups, whose faults come while it is read; and no values.
+    Listed(Vec<u32>),
+}
+
+impl Symbols<'_> {
+    /// All values in a list.
+    pub fn into_list(self, alloc: Global) -> Result<Vec<u32>, Memory>
+        ensures { IfOk result (λ v. v.items ≡ values_of self.entry) }
+    {
+        match self {
+            Symbols::Coded(symbols) => symbols.into_list(alloc),
+            Symbols::Listed(values) => Ok(values),
+        }
+    }
+}
+
+/// Opens a block of `n` values that are symbols, behind its scheme.
 #[tactic(auto, unfolding(crate::specs::Block::raw_at, crate::specs::Block::raw_opening_at))]
-fn read_raw(alloc: Global, c: &mut Cursor<'_>, n: u32) -> Result<Vec<u32>, Refusal>
-    ensures block { Gives (λ v. v.items) (raw_at n c.old) c.new result }
-    ensures len { IfOk result (λ v. length v.items ≡ n) }
+fn open_raw<'a>(alloc: Global, c: &mut Cursor<'a>, n: u32) -> Result<CodedSymbols<'a>, Refusal>
+    ensures block { Gives (λ s. s) (raw_at n c.old) c.new result }
+    ensures len { IfOk result (λ s. length s ≡ n) }
     ensures early { (f : TheFault) → raw_opening_at c.old ≡ Err f → result ≡ Err (Refusal.Fault f) }
 {
     let bad_length = c.fault(Kind::Length);
@@ -32,7 +55,7 @@ fn read_raw(alloc: Global, c: &mut Cursor<'_>, n: u32) -> Result<Vec<u32>, Refus
     let bits = precision(length);
     let table = Table::read(alloc, c, bits)?;
     let (decoder, _) = read_coded(c, bits)?;
-    Ok(pull_all(alloc, decoder, &table, n)?)
+    Ok(CodedSymbols::new(decoder, table, n))
 }
 
 /// Reads the values of a group of this bit length. Their bits and the room for them are there.
@@ -89,10 +112,9 @@ fn read_groups(
 {
     let mut decoder = decoder;
     let mut reader = BitReader::new(bytes);
-    let slots = table.slots();
     let mut values = Vec::with_capacity(alloc, room_for(groups * comps, bytes.len()))?;
     for g in 0..groups {
-        let width = pull(&mut decoder, table, slots);
+        let width = pull(&mut decoder, table);
         if width > 32 {
             return Err(Refusal::Fault(long));
         }
@@ -130,35 +152,67 @@ fn read_tagged(
     Ok(values)
 }
 
-/// Reads a block that has values, in groups of `comps` components.
+/// Opens a block that has values, in groups of `comps` components.
 #[tactic(auto, unfolding(crate::specs::Block::block_at, crate::specs::Block::block_opening_at))]
-fn read_block(alloc: Global, c: &mut Cursor<'_>, n: u32, comps: u32) -> Result<Vec<u32>, Refusal>
+fn open_block<'a>(
+    alloc: Global,
+    c: &mut Cursor<'a>,
+    n: u32,
+    comps: u32,
+) -> Result<Symbols<'a>, Refusal>
     requires some { 0 < n }
     requires comps { 0 < comps }
     requires divides { n % comps ≡ 0 }
     requires few { n ≤ MAX_VALUES }
-    ensures block { Gives (λ v. v.items) (block_at n comps c.old) c.new result }
-    ensures len { IfOk result (λ v. length v.items ≡ n) }
+    ensures block { Gives values_of (block_at n comps c.old) c.new result }
+    ensures len { IfOk result (λ s. length (values_of s) ≡ n) }
     ensures early { (f : TheFault) → block_opening_at n c.old ≡ Err f → result ≡ Err (Refusal.Fault f) }
 {
     let no_scheme = c.fault(Kind::Scheme);
     let scheme = c.get_u8()?;
     if scheme == 0 {
-        return read_tagged(alloc, c, n / comps, comps);
+        let values = read_tagged(alloc, c, n / comps, comps)?;
+        return Ok(Symbols::Listed(values));
     }
     if scheme == 1 {
-        return read_raw(alloc, c, n);
+        let symbols = open_raw(alloc, c, n)?;
+        return Ok(Symbols::Coded(symbols));
     }
     Err(Refusal::Fault(no_scheme))
 }
 
-/// Reads a block of `n` values in groups of `comps` components; `n` is a multiple of `comps`. `Scheme`
-/// where the scheme is none; for symbols `Length` where their bit length isn't 1 to 18; the faults of
-/// the table and of the coded bytes; for groups `Length` at the first coded byte where a group's bit
-/// length is above 32, and `Short` where the bits of the values begin if they run out. The faults up to
-/// the table's number of symbols come before any memory is taken. After a refusal the cursor is where
-/// it was.
+/// Opens a block of `n` values in groups of `comps` components; `n` is a multiple of `comps`. The cursor
+/// stands behind the block then, also where its values are still to come. `Scheme` where the scheme is
+/// none; for symbols `Length` where their bit length isn't 1 to 18; the faults of the table and of the
+/// coded bytes; for groups `Length` at the first coded byte where a group's bit length is above 32, and
+/// `Short` where the bits of the values begin if they run out. The faults up to the table's number of
+/// symbols come before any memory is taken. After a refusal the cursor is where it was.
 #[tactic(auto, unfolding(crate::specs::Block::block_at, crate::specs::Block::block_opening_at))]
+pub fn open_symbols<'a>(
+    alloc: Global,
+    c: &mut Cursor<'a>,
+    n: u32,
+    comps: u32,
+) -> Result<Symbols<'a>, Refusal>
+    requires comps { 0 < comps }
+    requires divides { n % comps ≡ 0 }
+    requires few { n ≤ MAX_VALUES }
+    ensures block { Gives values_of (block_at n comps c.old) c.new result }
+    ensures len { IfOk result (λ s. length (values_of s) ≡ n) }
+    ensures early { (f : TheFault) → block_opening_at n c.old ≡ Err f → result ≡ Err (Refusal.Fault f) }
+    ensures unchanged { OnErr result (c.new ≡ c.old) }
+{
+    if n == 0 {
+        return Ok(Symbols::Listed(Vec::new(alloc)));
+    }
+    let mut ahead = c.copy();
+    let symbols = open_block(alloc, &mut ahead, n, comps)?;
+    *c = ahead;
+    Ok(symbols)
+}
+
+/// Reads a block of `n` values in groups of `comps` components, all of them; `n` is a multiple of `comps`.
+/// The faults are those of opening it. After a refusal the cursor is where it was.
 pub fn read_symbols(
     alloc: Global,
     c: &mut Cursor<'_>,
@@ -173,11 +227,9 @@ pub fn read_symbols(
     ensures early { (f : TheFault) → block_opening_at n c.old ≡ Err f → result ≡ Err (Refusal.Fault f) }
     ensures unchanged { OnErr result (c.new ≡ c.old) }
 {
-    if n == 0 {
-        return Ok(Vec::new(alloc));
-    }
     let mut ahead = c.copy();
-    let values = read_block(alloc, &mut ahead, n, comps)?;
+    let symbols = open_symbols(alloc, &mut ahead, n, comps)?;
+    let values = symbols.into_list(alloc)?;
     *c = ahead;
     Ok(values)
 }

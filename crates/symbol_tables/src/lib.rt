@@ -7,6 +7,7 @@
 mod counts;
 mod laws;
 mod reading;
+mod slots;
 mod table;
 mod writing;
 

@@ -4,6 +4,7 @@ ghost use Rattle.std.specs.Prelude.{◌≡◌, ℕ, ◌+◌, ◌*◌, ◌^◌, �
 ghost use Rattle.drc_base.specs.declared.limits.TheConstants.{MAX_TABLE_SYMBOLS as most_symbols};
 ghost use Rattle.symbol_tables.specs.Tables.{HasSymbol, cum_of};
 
+use crate::slots::Slots;
 use drc_base::Memory;
 use std::alloc::Global;
 use std::marker::Model;
@@ -15,18 +16,19 @@ use std::marker::Model;
 pub struct Table {
     probs: Vec<u32>,
     cums: Vec<u32>,
-    slots: Vec<u32>,
+    slots: Slots,
 }
 
 impl Model for Table {
     ghost use Rattle.std.specs.Prelude.{ℕ, List};
+    ghost use Rattle.symbol_tables.specs.Slots.{symbols_in};
     ghost use Rattle.symbol_tables.specs.Tables.{IsTable};
 
     ghost Value = { List ℕ };
 
     ghost view = { λ t. t.probs.items };
 
-    ghost invariant = { λ t. IsTable t.probs.items t.cums.items t.slots.items };
+    ghost invariant = { λ t. IsTable t.probs.items t.cums.items (symbols_in t.slots) };
 }
 
 /// How many slots lie below those of each symbol.
@@ -44,21 +46,6 @@ fn cums_of(alloc: Global, probs: &[u32]) -> Result<Vec<u32>, Memory>
     Ok(cums)
 }
 
-/// The symbol of each slot.
-fn slots_of(alloc: Global, probs: &[u32]) -> Result<Vec<u32>, Memory>
-    requires few { length probs.now ≤ most_symbols }
-    requires small { sum probs.now ≤ 2 ^ 20 }
-    ensures len { IfOk result (λ v. length v.items ≡ sum probs.now) }
-    ensures slots { IfOk result (λ v. (slot : ℕ) → slot < sum probs.now → HasSymbol probs.now slot (slice_index v.items slot)) }
-{
-    let mut slots = Vec::new(alloc);
-    for s in 0..probs.len() {
-        let end = slots.len() + probs[s] as usize;
-        slots.resize(end, s as u32)?;
-    }
-    Ok(slots)
-}
-
 impl Table {
     /// The table of these probabilities.
     pub(crate) fn build(alloc: Global, probs: Vec<u32>) -> Result<Table, Memory>
@@ -68,7 +55,7 @@ impl Table {
         ensures { IfOk result (λ t. t ≡ probs.items) }
     {
         let cums = cums_of(alloc, probs.as_slice())?;
-        let slots = slots_of(alloc, probs.as_slice())?;
+        let slots = Slots::of_probs(alloc, probs.as_slice())?;
         Ok(Table { probs, cums, slots })
     }
 
@@ -91,6 +78,7 @@ impl Table {
     }
 
     /// How many slots lie below those of symbol `s`.
+    #[inline(always)]
     pub fn cum(&self, s: u32) -> u32
         requires { s < length self.now }
         ensures { result ≡ cum_of self.now s }
@@ -99,6 +87,7 @@ impl Table {
     }
 
     /// How many slots symbol `s` has.
+    #[inline(always)]
     pub fn prob(&self, s: u32) -> u32
         requires { s < length self.now }
         ensures { result ≡ slice_index self.now s }
@@ -106,21 +95,13 @@ impl Table {
         self.probs[s as usize]
     }
 
-    /// The symbol of each slot, as many as there are slots. It takes no memory.
-    pub fn slots(&self) -> &[u32]
-        ensures len { length result.now ≡ sum self.now }
-        ensures slots { (slot : ℕ) → slot < sum self.now → HasSymbol self.now slot (slice_index result.now slot) }
-    {
-        self.slots.as_slice()
-    }
-
     /// The one symbol that has slot `r`.
+    #[inline(always)]
     pub fn find(&self, r: u32) -> u32
         requires { r < sum self.now }
         ensures symbol { HasSymbol self.now r result }
         ensures only { (s : ℕ) → HasSymbol self.now r s → s ≡ result }
     {
-        let slots = self.slots();
-        slots[r as usize]
+        self.slots.symbol(r)
     }
 }

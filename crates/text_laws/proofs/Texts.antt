@@ -9,7 +9,7 @@ use Rattle.ply_text.specs.declared.headers.Header.{Header}
 use Rattle.ply_text.specs.Header.{header_of}
 use Rattle.ply_text.specs.Tokens.{token_lines}
 use Rattle.ply_mesh.specs.Body.{row_read, face_of, items_from}
-use Rattle.ply_mesh.specs.Read.{geometry_head, geometry_of, faces_from, body_of, ply_read}
+use Rattle.ply_mesh.specs.Read.{geometry_head, geometry_of_rows, face_items_from, body_of, ply_read}
 use Rattle.text_laws.specs.HeaderShape.{Line, MayDeclareFaces, IsHeaderOf, BeginWithHeader}
 use Rattle.text_laws.specs.TextShape.{IsRowLine, IsFaceLine, MayHaveFaceLines, IsTextOf}
 use Rattle.text_laws.specs.Laws.{TextsAreShapes}
@@ -34,7 +34,7 @@ record Faces (h : Header) (faces : Option (List (List ℕ))) (lines rest : List 
   cut : lines ≡ triangles ++ rest
   are : MayHaveFaceLines h faces triangles
 
-faces_say : (h : Header) (at : ℕ) (lines : List Line) (o : Option ℕ) (p : Option (List (List ℕ)) × List Line) → ((k : ℕ) → o ≡ Some k → (t : ℕ × ℕ) × (h.list ≡ Some t)) → h.faces ≡ o → faces_from h at lines o ≡ Ok p → Faces h p.0 lines p.1
+faces_say : (h : Header) (at : ℕ) (lines : List Line) (o : Option ℕ) (p : Option (List (List ℕ)) × List Line) → ((k : ℕ) → o ≡ Some k → (t : ℕ × ℕ) × (h.list ≡ Some t)) → h.faces ≡ o → face_items_from h at lines o ≡ Ok p → Faces h p.0 lines p.1
 faces_say h at lines None p typed same e =
     let s : ◌≡◌ {A = Option (List (List ℕ)) × List Line} (None, lines) p = cc e in
     let none : Faces h None lines lines = record { triangles = []; cut = refl; are = (same, refl) } in
@@ -53,11 +53,11 @@ faces_say h at lines (Some k) p typed same e =
     } in
     subst (λ (p : Option (List (List ℕ)) × List Line). Faces h p.0 lines p.1) s some
 
-faces_read : (h : Header) (at : ℕ) (faces : Option (List (List ℕ))) (triangles rest : List Line) → MayHaveFaceLines h faces triangles → faces_from h at (triangles ++ rest) h.faces ≡ Ok (faces, rest)
+faces_read : (h : Header) (at : ℕ) (faces : Option (List (List ℕ))) (triangles rest : List Line) → MayHaveFaceLines h faces triangles → face_items_from h at (triangles ++ rest) h.faces ≡ Ok (faces, rest)
 faces_read h at None triangles rest are = rw (are.0, are.1) refl
 faces_read h at (Some faces) triangles rest are =
     let r = items_read (IsFaceLine are.types h.vertices) (face_of are.types h.vertices) (λ at face line is. face_line_read are.types h.vertices at face line is) at faces triangles rest are.each in
-    ap (faces_from h at (triangles ++ rest)) are.count
+    ap (face_items_from h at (triangles ++ rest)) are.count
     ∙ ap (λ (o : Option (ℕ × ℕ)). items_from (face_of (unwrap_or o (0, 0)) h.vertices) (length faces) at (triangles ++ rest) >>= λ (p : List (List ℕ) × List Line). Ok (Some p.0, p.1)) are.list
     ∙ step_on (items_from (face_of are.types h.vertices) (length faces) at (triangles ++ rest)) _ (faces, rest) r
 
@@ -75,14 +75,14 @@ record Body (h : Header) (g : Geometry) (lines : List Line) : Type 0 where
   faces : Option (List (List ℕ))
   face_lines : MayHaveFaceLines h faces triangles
   blank : AllByRecursion (λ line. line ≡ []) rest
-  geometry : g ≡ geometry_of (map geometry_head h.heads) points faces
+  geometry : g ≡ geometry_of_rows (map geometry_head h.heads) points faces
 
 body_says : (h : Header) (lines : List Line) (g : Geometry) → ((k : ℕ) → h.faces ≡ Some k → (t : ℕ × ℕ) × (h.list ≡ Some t)) → body_of h lines ≡ Ok g → Body h g lines
 unfolding body_of
 body_says h lines g typed e =
     let p = step_ok (items_from (row_read h.types) h.vertices h.body_line lines) _ g e in
-    let q = step_ok (faces_from h (h.body_line + h.vertices) p.0.1 h.faces) _ g p.2 in
-    let r = ends_say (geometry_of (map geometry_head h.heads) p.0.0 q.0.0) g _ q.0.1 q.2 in
+    let q = step_ok (face_items_from h (h.body_line + h.vertices) p.0.1 h.faces) _ g p.2 in
+    let r = ends_say (geometry_of_rows (map geometry_head h.heads) p.0.0 q.0.0) g _ q.0.1 q.2 in
     let i = items_say (IsRowLine h.types) (row_read h.types) (λ at line row e. row_says h.types at line row e) h.vertices h.body_line lines p.0 p.1 in
     let f = faces_say h (h.body_line + h.vertices) p.0.1 h.faces q.0 typed refl q.1 in
     record {
@@ -108,8 +108,8 @@ body_read h lines g b =
     ap (items_from (row_read h.types) h.vertices h.body_line) b.whole ∙ ap (λ n. items_from (row_read h.types) n h.body_line (b.rows ++ tail)) (sym b.count)
     ∙ items_read (IsRowLine h.types) (row_read h.types) (λ at row line is. row_line_read h.types at row line is) h.body_line b.points b.rows tail b.each in
     step_on (items_from (row_read h.types) h.vertices h.body_line lines) _ (b.points, tail) a
-    ∙ step_on (faces_from h (h.body_line + h.vertices) tail h.faces) _ (b.faces, b.rest) (faces_read h (h.body_line + h.vertices) b.faces b.triangles b.rest b.face_lines)
-    ∙ ends_read (geometry_of heads b.points b.faces) (h.body_line + h.vertices + unwrap_or h.faces 0) b.rest b.blank
+    ∙ step_on (face_items_from h (h.body_line + h.vertices) tail h.faces) _ (b.faces, b.rest) (faces_read h (h.body_line + h.vertices) b.faces b.triangles b.rest b.face_lines)
+    ∙ ends_read (geometry_of_rows heads b.points b.faces) (h.body_line + h.vertices + unwrap_or h.faces 0) b.rest b.blank
     ∙ ap Ok (sym b.geometry)
 
 -- ---- the text

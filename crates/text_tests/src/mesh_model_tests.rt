@@ -1,12 +1,12 @@
 //! What no contract can say: that the calls succeed, and that the definitions are the ones meant, on
 //! examples worked by hand.
 
-ghost use Rattle.std.specs.Prelude.{◌≡◌, ◌%◌, length, IfOk};
-ghost use Rattle.mesh_model.specs.Assembled.{AreTables};
+ghost use Rattle.std.specs.Prelude.{◌≡◌, ◌%◌, length, nat_lt, IfOk, IsTrue};
+ghost use Rattle.std.specs.List.{list_all};
 
 use drc_base::{Fault, Kind, Refusal, Sequence};
 use mesh_model::{
-    AttrTable, Cloud, CornerMesh, Geometry, GeometryView, Head, Quant, Renumber, assemble,
+    AttrGroup, Cloud, CornerMesh, Geometry, GeometryView, Head, Quant, Renumber, assemble,
     map_text, matches, read_map,
 };
 use std::alloc::{AllocError, Global};
@@ -136,11 +136,54 @@ fn counts_equal_points_of_clouds(rt: HostRuntime) -> Result<(), Fail> {
     Ok(())
 }
 
-/// The square of two faces, with labels that part its third point, and its second face once more, with a fifth
-/// entry that equals the first and the label of the third point that it had at first.
-fn square_tables(alloc: Global) -> Result<(Vec<Head>, Vec<AttrTable>), AllocError>
-    ensures { IfOk result (λ p. AreTables p.0.items p.1.items 3) }
+/// The places of the corners of a square, and the first one again.
+fn places(alloc: Global) -> Result<Sequence<i32>, AllocError>
+    ensures { IfOk result (λ s. s ≡ PLACES) }
 {
+    Ok(Sequence::from_vec(PLACES.to_vec(alloc)?))
+}
+
+const PLACES: [i32; 15] = [0, 0, 0, 1, 0, 0, 1, 1, 0, 0, 1, 0, 0, 0, 0];
+
+/// The mesh of three faces whose corners have these vertices, and the vertices these entries of the places.
+fn placed(alloc: Global, of_corner: &[u32], entry_of: &[u32]) -> Result<CornerMesh, Refusal>
+    requires corners { length of_corner.now ≡ 9 }
+    requires vertices { IsTrue (list_all (λ v. nat_lt v (length entry_of.now)) of_corner.now) }
+    requires entries { IsTrue (list_all (λ e. nat_lt e 5) entry_of.now) }
+{
+    let heads = vec![in alloc; positions(5)]?;
+    let values = vec![in alloc; places(alloc)?]?;
+    let group = AttrGroup {
+        of_corner,
+        entry_of,
+        values: values.as_slice(),
+    };
+    let groups = vec![in alloc; group]?;
+    assemble(alloc, heads, groups.as_slice(), 3)
+}
+
+#[test]
+fn merges_equal_rows_in_order_of_first_occurrence(rt: HostRuntime) -> Result<(), Fail> {
+    let alloc = rt.alloc();
+    // Vertices in the order of their first corners, of entries in two orders; and in another order.
+    let ordered = [0, 1, 2, 0, 2, 3, 4, 2, 3];
+    for (m, second) in [
+        (placed(alloc, &ordered, &[0, 1, 2, 3, 4])?, [1, 0, 0]),
+        (placed(alloc, &ordered, &[4, 3, 2, 1, 0])?, [0, 1, 0]),
+        (
+            placed(alloc, &[4, 1, 2, 4, 2, 3, 0, 2, 3], &[0, 1, 2, 3, 4])?,
+            [1, 0, 0],
+        ),
+    ] {
+        assert_eq!(rt; m.faces(), [[0, 1, 2], [0, 2, 3], [0, 2, 3]].as_slice());
+        assert_eq!(rt; m.point_count(), 4);
+        assert_eq!(rt; m.point(1), second.as_slice());
+    }
+    Ok(())
+}
+
+/// The faces of the places in order, with labels that part the third point.
+fn labelled(alloc: Global) -> Result<CornerMesh, Refusal> {
     let label = Head {
         usage: 4,
         dtype: 2,
@@ -149,28 +192,27 @@ fn square_tables(alloc: Global) -> Result<(Vec<Head>, Vec<AttrTable>), AllocErro
         id: 1,
         quant: None,
     };
-    let places = AttrTable {
-        values: Sequence::from_vec(vec![in alloc; 0, 0, 0, 1, 0, 0, 1, 1, 0, 0, 1, 0, 0, 0, 0]?),
-        of_corner: Sequence::from_vec(vec![in alloc; 0, 1, 2, 0, 2, 3, 4, 2, 3]?),
-    };
-    let labels = AttrTable {
-        values: Sequence::from_vec(vec![in alloc; 7, 9]?),
-        of_corner: Sequence::from_vec(vec![in alloc; 0, 0, 0, 0, 1, 0, 0, 0, 0]?),
-    };
     let heads = vec![in alloc; positions(5), label]?;
-    let tables = vec![in alloc; places, labels]?;
-    Ok((heads, tables))
+    let values = vec![in alloc; places(alloc)?]?;
+    let labels = vec![in alloc; Sequence::from_vec(vec![in alloc; 7, 9]?)]?;
+    let placed = AttrGroup {
+        of_corner: &[0, 1, 2, 0, 2, 3, 4, 2, 3],
+        entry_of: &[0, 1, 2, 3, 4],
+        values: values.as_slice(),
+    };
+    let parted = AttrGroup {
+        of_corner: &[0, 0, 0, 0, 1, 0, 0, 0, 0],
+        entry_of: &[0, 1],
+        values: labels.as_slice(),
+    };
+    let groups = vec![in alloc; placed, parted]?;
+    assemble(alloc, heads, groups.as_slice(), 3)
 }
 
 #[test]
-fn merges_equal_rows_in_order_of_first_occurrence(rt: HostRuntime) -> Result<(), Fail> {
-    let alloc = rt.alloc();
-    let (heads, tables) = square_tables(alloc)?;
-    let m = assemble(alloc, heads, tables, 3)?;
-    assert_eq!(rt; m.face_count(), 3);
-    assert_eq!(rt; m.face(0), [0, 1, 2]);
-    assert_eq!(rt; m.face(1), [0, 3, 4]);
-    assert_eq!(rt; m.face(2), [0, 2, 4]);
+fn parts_points_where_groups_part_corners(rt: HostRuntime) -> Result<(), Fail> {
+    let m = labelled(rt.alloc())?;
+    assert_eq!(rt; m.faces(), [[0, 1, 2], [0, 3, 4], [0, 2, 4]].as_slice());
     assert_eq!(rt; m.point_count(), 5);
     assert_eq!(rt; m.point(2), [1, 1, 0, 7].as_slice());
     assert_eq!(rt; m.point(3), [1, 1, 0, 9].as_slice());

@@ -1,6 +1,7 @@
 pub mod Fuel
 pub mod Tables
 pub mod Surfaces
+pub mod Faces
 pub mod Stored
 pub mod Turns
 pub mod Covering

@@ -64,6 +64,10 @@ pub mark_is : (b : Bool) → is_mark (new_mark b) ≡ true
 mark_is true = refl
 mark_is false = refl
 
+pub mark_high : (b : Bool) → 4294967294 ≤ new_mark b
+mark_high true = omega arith
+mark_high false = omega arith
+
 pub number_no_mark : (v : ℕ) → v < 4294967294 → is_mark v ≡ false
 number_no_mark v h = lt-leb 4294967294 v h
 
@@ -174,7 +178,3 @@ kept_new labels ends entries table T few k v h e = (
     | inr f ↦ f
   ],
 )
-  where
-    mark_high : (b : Bool) → 4294967294 ≤ new_mark b
-    mark_high true = omega arith
-    mark_high false = omega arith

@@ -6,7 +6,7 @@ use Rattle.corner_table.specs.Sides.{Side, number, next, prev, Gluing, IsGluing}
 use Rattle.corner_table.specs.Fans.{meets, corners_of}
 use Rattle.corner_table.specs.Labels.{IsLabelled}
 use Rattle.corner_table.specs.declared.corner_lists.Order.{Order}
-use Rattle.walk_order.specs.Orders.{corners_in, IsOrderOf}
+use Rattle.walk_order.specs.Orders.{corners_in, entries_in, IsOrderOf}
 use Rattle.walk_order.specs.DepthFirst.{depth_first_order}
 use Rattle.walk_order.specs.PredictionDegree.{prediction_degree_order}
 
@@ -70,4 +70,4 @@ OrdersAreOfSurface = (faces : ℕ) (g : Gluing) (labels : List ℕ) (count : ℕ
 -- and the entries of corners in an order of its classes are determined by the corners of the entries
 abbrev pub EntriesAreOfSurface : Type 0
 EntriesAreOfSurface = (faces : ℕ) (g : Gluing) (labels : List ℕ) (count : ℕ) (ends : List Bool) (o : Order) → IsGluing faces g →
-    IsLabelled faces g labels count ends → IsOrderOf faces labels count o → o.entry_of_corner ≡ entries_of faces g (corners_in o)
+    IsLabelled faces g labels count ends → IsOrderOf faces labels count o → entries_in labels o ≡ entries_of faces g (corners_in o)

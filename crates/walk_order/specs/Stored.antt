@@ -1,11 +1,11 @@
 -- How a walk lies in the lists of the code.
 use Rattle.std.specs.Prelude.{◌≡◌, ℕ, ◌+◌, ◌*◌, ◌<◌, ◌≤◌, Bool, true, false, cond, nat_le, Option, Some, None}
 use Rattle.std.specs.Prelude.{List, [], ◌∷◌, length, get_or, map, count_by, All, vec_len}
-use Rattle.drc_base.specs.declared.sides.Side.{Side as NumberedSide}
 use Rattle.drc_base.specs.declared.limits.TheConstants.{MAX_FACES}
 use Rattle.corner_table.specs.Sides.{Side, next, prev, side_at, Gluing, IsGluing}
-use Rattle.corner_table.specs.Table.{side_of, glued_in}
+use Rattle.corner_table.specs.Table.{glued_in}
 use Rattle.corner_table.specs.Labels.{IsLabelled, label_at}
+use Rattle.corner_table.specs.Ordered.{Ordered, AreFaces, ordered_from}
 use Rattle.walk_order.specs.declared.surface.Surface.{Surface}
 use Rattle.walk_order.specs.declared.marks.Marks.{Marks}
 use Rattle.walk_order.specs.declared.marks.TheConstants.{NEW, NEW_AT_END}
@@ -46,17 +46,22 @@ pub record IsEntryTable (labels : List ℕ) (ends : List Bool) (entries : List S
 
 -- the entries so far, as the walk has them
 abbrev pub marked_entries : Marks → List Side
-marked_entries m = map side_of m.entries.items
+marked_entries m = map side_at m.entries.items
 
 -- the walk that the marks stand for
 abbrev pub marked_walk : Marks → Walk
 marked_walk m = record { visited = m.visited.items; entries = marked_entries m }
 
+-- the surface with the entries so far; what is kept for a class without an entry is above their numbers
+abbrev pub ordered_so_far : Surface → Marks → Ordered
+ordered_so_far s m = ordered_from s.across.now s.labels.now m.entry_of_class.items (marked_entries m)
+
 -- a walk as it is stored
 pub record IsStored (s : Surface) (m : Marks) : Type 0 where
   pub sized : vec_len m.visited ≡ s.faces
   pub table : IsEntryTable s.labels.now s.ends.now (marked_entries m) m.entry_of_class.items
-  pub corners : All (λ (e : NumberedSide). e.face < s.faces) m.entries.items
+  pub corners : All (λ (c : ℕ). c < 3 * s.faces) m.entries.items
+  pub faces : AreFaces (ordered_so_far s m) m.faces_across.items
 
 -- every class has an entry
 abbrev pub AllHaveEntries : List ℕ → List Side → ℕ → Type 0

@@ -10,6 +10,7 @@ ghost use Rattle.std.specs.Option.{option_map};
 ghost use Rattle.corner_table.specs.Sides.{side_at};
 ghost use Rattle.corner_table.specs.Labels.{IsLabelled};
 ghost use Rattle.corner_table.specs.Table.{gluing_of};
+ghost use Rattle.corner_table.specs.Ordered.{IsOrdered};
 ghost use Rattle.walk_order.specs.PredictionDegree.{rate, rated, ranked_pushed, take_unvisited, taken2, taken1, taken0, ranked_taken, unvisited_across, turned_to, ranked_turned, ranked_visit, visits, ranked_from, ranked, unranked, prediction_degree_order};
 ghost use Rattle.walk_order.specs.Orders.{corners_in, IsOrderOf};
 ghost use Rattle.walk_order.specs.Stored.{gluing_in, marked_walk, IsSurface, IsStored};
@@ -319,14 +320,16 @@ fn rank_all(alloc: Global, s: &Surface<'_>) -> Result<Ranks, Memory>
 /// of the best stack, and else puts it on its stack, which becomes the best where it comes before it; then,
 /// as where there is none, the next corner is the last one of an unvisited face on the first stack from the
 /// best on, and that stack becomes the best. Each class has one entry, the entry of each corner is of the
-/// corner's class, and lists are as long as there are classes and corners. Takes memory in proportion to the
-/// corners, and fails only when out of memory.
+/// corner's class, and for each entry the face across the side of its corner is kept, where there is one
+/// whose entries all come before. Takes memory in proportion to the faces and the classes, and fails only
+/// when out of memory.
 pub fn prediction_degree(alloc: Global, t: &SideTable, c: &Classes) -> Result<Order, Memory>
     requires { IsLabelled t.now.faces (gluing_of t.now) c.now.of_corner c.now.count c.now.ends }
     ensures entries { IfOk result (λ o. corners_in o ≡ prediction_degree_order t.now.faces (gluing_of t.now) c.now.of_corner c.now.count) }
     ensures classes { IfOk result (λ o. IsOrderOf t.now.faces c.now.of_corner c.now.count o) }
+    ensures ordered { IfOk result (λ o. IsOrdered t.now c.now.of_corner o) }
 {
     let s = surface_of(t, c);
     let ranks = rank_all(alloc, &s)?;
-    order_of(alloc, &s, ranks.marks)
+    Ok(order_of(&s, ranks.marks))
 }

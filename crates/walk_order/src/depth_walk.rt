@@ -9,6 +9,7 @@ ghost use Rattle.std.specs.Option.{option_map};
 ghost use Rattle.corner_table.specs.Sides.{side_at};
 ghost use Rattle.corner_table.specs.Labels.{IsLabelled};
 ghost use Rattle.corner_table.specs.Table.{gluing_of};
+ghost use Rattle.corner_table.specs.Ordered.{IsOrdered};
 ghost use Rattle.walk_order.specs.DepthFirst.{walk, walked_from, depth_walked, depth_first_order};
 ghost use Rattle.walk_order.specs.Orders.{corners_in, IsOrderOf};
 ghost use Rattle.walk_order.specs.Stored.{gluing_in, marked_walk, before, turn_step, IsSurface, IsStored};
@@ -130,14 +131,16 @@ fn walk_all(alloc: Global, s: &Surface<'_>) -> Result<Marks, Memory>
 /// with this corner; the walk goes on at the corner across the side after it, and after all that this
 /// leads to at the corner across the side before it. To the right alone it goes from a corner whose
 /// class was new and that no free side meets. Each class has one entry, the entry of each corner is of
-/// the corner's class, and lists are as long as there are classes and corners. Takes memory in proportion
-/// to the corners, and fails only when out of memory.
+/// the corner's class, and for each entry the face across the side of its corner is kept, where there is
+/// one whose entries all come before. Takes memory in proportion to the faces and the classes, and fails
+/// only when out of memory.
 pub fn depth_first(alloc: Global, t: &SideTable, c: &Classes) -> Result<Order, Memory>
     requires { IsLabelled t.now.faces (gluing_of t.now) c.now.of_corner c.now.count c.now.ends }
     ensures entries { IfOk result (λ o. corners_in o ≡ depth_first_order t.now.faces (gluing_of t.now) c.now.of_corner c.now.ends) }
     ensures classes { IfOk result (λ o. IsOrderOf t.now.faces c.now.of_corner c.now.count o) }
+    ensures ordered { IfOk result (λ o. IsOrdered t.now c.now.of_corner o) }
 {
     let s = surface_of(t, c);
     let marks = walk_all(alloc, &s)?;
-    order_of(alloc, &s, marks)
+    Ok(order_of(&s, marks))
 }

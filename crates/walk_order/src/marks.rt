@@ -1,15 +1,16 @@
 //! What a walk has visited, and the entries so far.
 
-ghost use Rattle.std.specs.Prelude.{◌≡◌, ◌+◌, ◌*◌, ◌<◌, ◌++◌, ◌∷◌, [], true, IfOk, OnOk, map, vec_len, get_or};
+ghost use Rattle.std.specs.Prelude.{◌≡◌, ◌+◌, ◌*◌, ◌<◌, ◌++◌, ◌∷◌, [], true, IfOk, OnOk, length, map, vec_len, get_or};
 ghost use Rattle.corner_table.specs.Sides.{side_at};
 ghost use Rattle.corner_table.specs.Labels.{label_at};
+ghost use Rattle.corner_table.specs.Ordered.{at_corner, kept_face};
 ghost use Rattle.walk_order.specs.Visits.{is_visited, is_new, with_entry, entered, unwalked};
 ghost use Rattle.walk_order.specs.DepthFirst.{goes_right_alone};
-ghost use Rattle.walk_order.specs.Stored.{new_mark, marked_entries, marked_walk, IsSurface, IsStored};
+ghost use Rattle.walk_order.specs.Stored.{new_mark, marked_entries, marked_walk, ordered_so_far, IsSurface, IsStored};
 
 use crate::surface::Surface;
-use corner_table::side_with;
-use drc_base::{Memory, Side};
+use corner_table::{FaceAcross, face_across};
+use drc_base::Memory;
 use std::alloc::Global;
 
 /// Kept for a class without an entry that no free side meets.
@@ -18,13 +19,14 @@ pub(crate) const NEW: u32 = u32::MAX;
 /// Kept for a class without an entry that a free side meets.
 pub(crate) const NEW_AT_END: u32 = u32::MAX - 1;
 
-/// Which faces are visited, the corners of the entries in order, and for each class the number of its
-/// entry.
+/// Which faces are visited, the corners of the entries in order, for each class the number of its entry,
+/// and for each entry the face across.
 #[derive(Drop)]
 pub(crate) struct Marks {
     pub(crate) visited: Vec<bool>,
-    pub(crate) entries: Vec<Side>,
+    pub(crate) entries: Vec<u32>,
     pub(crate) entry_of_class: Vec<u32>,
+    pub(crate) faces_across: Vec<FaceAcross>,
 }
 
 /// What is kept for a class without an entry.
@@ -50,10 +52,12 @@ pub(crate) fn no_marks(alloc: Global, s: &Surface<'_>) -> Result<Marks, Memory>
     let visited = vec![in alloc; false; s.faces as usize]?;
     let entries = Vec::with_capacity(alloc, s.ends.len())?;
     let entry_of_class = new_marks(alloc, s.ends)?;
+    let faces_across = Vec::with_capacity(alloc, s.ends.len())?;
     Ok(Marks {
         visited,
         entries,
         entry_of_class,
+        faces_across,
     })
 }
 
@@ -84,7 +88,19 @@ impl Marks {
         self.mark_of(s.class_of(corner)) >= NEW_AT_END
     }
 
-    /// A class without an entry gets the next one.
+    /// The face across the side of a corner, where there is one whose classes all have entries.
+    fn face_across(&self, s: &Surface<'_>, corner: u32) -> FaceAcross
+        requires surface { IsSurface s.now }
+        requires corner { corner < 3 * s.now.faces }
+        requires stored { IsStored s.now self.now }
+        ensures { kept_face result ≡ at_corner (ordered_so_far s.now self.now) (length (marked_entries self.now)) (side_at corner) }
+    {
+        let next = self.entries.len();
+        let table = self.entry_of_class.as_slice();
+        FaceAcross::kept(face_across(s.across, s.labels, table, next, corner))
+    }
+
+    /// A class without an entry gets the next one, with the face across the side of its corner.
     fn give_entry(&mut self, s: &Surface<'_>, corner: u32, class: u32) -> Result<(), Memory>
         requires surface { IsSurface s.now }
         requires corner { corner < 3 * s.now.faces }
@@ -96,7 +112,9 @@ impl Marks {
         ensures entries { OnOk result (marked_entries self.new ≡ marked_entries self.old ++ (side_at corner ∷ [])) }
     {
         let number = self.entries.len() as u32;
-        self.entries.push(side_with(corner))?;
+        let face = self.face_across(s, corner);
+        self.entries.push(corner)?;
+        self.faces_across.push(face)?;
         self.entry_of_class[class as usize] = number;
         Ok(())
     }

@@ -13,5 +13,6 @@ pub mod ProfileCounts
 pub mod Widened
 pub mod Linked
 pub mod Tabled
+pub mod AsRead
 pub mod DecodersOnSurface
 pub mod HeadsBeside

@@ -34,7 +34,7 @@ abbrev pub is_packed : Index → Bool
 is_packed indexed.Plain = false
 is_packed indexed.Packed = true
 
--- whether vertices are walked by prediction degree: depth first, where nothing is chosen
+-- whether vertices are ordered by prediction degree: depth first, where nothing is chosen
 abbrev pub is_degree : Option Walk → Bool
 is_degree None = false
 is_degree (Some walk.Depth) = false

@@ -8,7 +8,7 @@ use Rattle.drc_base.specs.Profile.{Profile}
 use Rattle.drc_base.specs.Steps.{◌>>=◌}
 use Rattle.drc_bits.specs.Reading.{Reading, Item}
 use Rattle.mesh_model.specs.declared.heads.Head.{Head}
-use Rattle.mesh_model.specs.declared.tables.AttrTable.{AttrTable}
+use Rattle.mesh_model.specs.Groups.{AttrTable}
 use Rattle.mesh_model.specs.FirstFault.{unless, first_fault, value_unless}
 use Rattle.mesh_model.specs.Head.{width_of}
 use Rattle.mesh_model.specs.Parts.{MeshParts}
@@ -18,26 +18,26 @@ use Rattle.rans_binary.specs.Blocks.{Block}
 use Rattle.walk_order.specs.OfSurface.{depth_first_of, prediction_degree_of, entries_of}
 use Rattle.seams.specs.Seams.{flag_at, unseamed}
 use Rattle.seams.specs.SeamBits.{flags_of_bits}
-use Rattle.predict.specs.Walked.{Walked}
+use Rattle.corner_table.specs.Ordered.{Ordered}
 use Rattle.attr_section.specs.declared.decoder_heads.DecoderHead.{DecoderHead}
 use Rattle.attr_section.specs.declared.values.Values.{Values}
 use Rattle.attr_section.specs.Heads.{heads_at}
 use Rattle.attr_section.specs.Values.{decoder_values_at}
 use Rattle.eb_section.specs.Connectivity.{Connectivity}
-use Rattle.drc_container.specs.declared.reading.surface_attributes.SurfaceAttributes.{SurfaceAttributes}
+use Rattle.drc_container.specs.declared.reading.info.AttrInfo.{AttrInfo}
 use Rattle.drc_container.specs.reading.Meaning.{attr_infos}
 
--- the order of entries by which a surface is walked: depth first, or by prediction degree
+-- the order of entries of a surface: depth first, or by prediction degree
 abbrev pub order_by : Bool → ℕ → Gluing → List Side
 order_by degree faces g = if degree then prediction_degree_of faces g else depth_first_of faces g
 
--- a surface walked in this order
-abbrev pub in_order : ℕ → Gluing → List Side → Walked
+-- a surface in this order
+abbrev pub in_order : ℕ → Gluing → List Side → Ordered
 in_order faces g order = record { gluing = g; corners = order; entries = entries_of faces g order }
 
--- a surface as it is walked
-unfoldable pub walked_by : Bool → ℕ → Gluing → Walked
-walked_by degree faces g = in_order faces g (order_by degree faces g)
+-- a surface in its order
+unfoldable pub ordered_by : Bool → ℕ → Gluing → Ordered
+ordered_by degree faces g = in_order faces g (order_by degree faces g)
 
 -- what stands for the seams of an attribute data that isn't there
 abbrev pub no_block : Block
@@ -62,9 +62,15 @@ cut_at faces g block = unseamed (flag_at (flags_of_bits faces g block)) g
 abbrev pub cut_for : Connectivity → DecoderHead → Gluing
 cut_for s d = if d.corner then cut_at s.faces s.glued (seams_of s.seams d.data_id) else s.glued
 
--- this surface as the decoder walks it
-abbrev pub walked_for : Connectivity → DecoderHead → Walked
-walked_for s d = walked_by d.degree s.faces (cut_for s d)
+-- this surface in the order of the decoder
+abbrev pub ordered_for : Connectivity → DecoderHead → Ordered
+ordered_for s d = ordered_by d.degree s.faces (cut_for s d)
+
+-- attributes on a surface: what each one is, its values with the entry of each corner, and what is known of it beside these
+pub record SurfaceAttributes : Type 0 where
+  pub heads : List Head
+  pub tables : List AttrTable
+  pub info : List AttrInfo
 
 -- no attributes
 abbrev pub no_attributes : SurfaceAttributes
@@ -74,8 +80,8 @@ no_attributes = record { heads = []; tables = []; info = [] }
 abbrev pub tables_of : List ℕ → List Values → List AttrTable
 tables_of entries values = map (λ v. record { values = v.values; of_corner = entries }) values
 
--- the attributes of a decoder that walks a surface so
-abbrev pub decoder_attributes : Walked → DecoderHead → List Values → SurfaceAttributes
+-- the attributes of a decoder over a surface in this order
+abbrev pub decoder_attributes : Ordered → DecoderHead → List Values → SurfaceAttributes
 decoder_attributes w d values = record {
   heads = d.heads;
   tables = tables_of w.entries values;
@@ -90,15 +96,15 @@ attributes_joined a b = record { heads = a.heads ++ b.heads; tables = a.tables +
 abbrev pub values_on : List AttrTable → ℕ
 values_on tables = sum_by (λ t. length t.values) tables
 
--- the attributes of a decoder that walks a surface so, behind so many values of other attributes
-unfoldable pub decoder_on : Profile → Walked → DecoderHead → ℕ → Reading → Item SurfaceAttributes
+-- the attributes of a decoder over a surface in this order, behind so many values of other attributes
+unfoldable pub decoder_on : Profile → Ordered → DecoderHead → ℕ → Reading → Item SurfaceAttributes
 decoder_on p w d spent c = decoder_values_at p (Some w) d (length w.corners) spent c >>= λ x. Ok (decoder_attributes w x.0.1 x.0.0, x.1)
 
 -- the attributes of these decoders in turn, behind others
 unfoldable pub surface_decoders_at : Profile → Connectivity → SurfaceAttributes → List DecoderHead → Reading → Item SurfaceAttributes
 surface_decoders_at p s before [] c = Ok (before, c)
 surface_decoders_at p s before (d ∷ decoders) c =
-    decoder_on p (walked_for s d) d (values_on before.tables) c >>= λ x. surface_decoders_at p s (attributes_joined before x.0) decoders x.1
+    decoder_on p (ordered_for s d) d (values_on before.tables) c >>= λ x. surface_decoders_at p s (attributes_joined before x.0) decoders x.1
 
 -- all attributes of an Edgebreaker mesh: the heads of its decoders, and the values of each decoder in turn
 unfoldable pub attributes_on : Profile → Connectivity → Reading → Item SurfaceAttributes

@@ -27,7 +27,7 @@ coding_of g choice = record {
   plain = choice.plain_values;
 }
 
--- the values that are coded of each attribute: those of the points in order, or those of the entries of its walk
+-- the values that are coded of each attribute: those of the points in order, or those of the entries of its order
 unfoldable pub values_chosen : Geometry → Choice → List Values
 values_chosen g choice =
     if is_sequential (method_of g choice) then values_of g (chosen_code g choice)

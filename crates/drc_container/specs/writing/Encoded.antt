@@ -18,14 +18,13 @@ use Rattle.pairing.specs.Pairing.{pairing}
 use Rattle.pairing.specs.Degenerate.{degenerate_fault}
 use Rattle.eb_trace.specs.Trace.{fan_count}
 use Rattle.eb_section.specs.ReadAgain.{IsReadAgain}
-use Rattle.predict.specs.Wrap.{CanWrap}
-use Rattle.predict.specs.Walked.{Walked}
+use Rattle.corner_table.specs.Ordered.{Ordered}
 use Rattle.seq_section.specs.Indices.{indices_at}
 use Rattle.attr_section.specs.declared.decoder_heads.DecoderHead.{DecoderHead}
 use Rattle.attr_section.specs.declared.values.Values.{Values}
 use Rattle.attr_section.specs.Heads.{bare_decoder, heads_at}
 use Rattle.attr_section.specs.Values.{values_in, decoder_values_at}
-use Rattle.attr_section.specs.Written.{range_of, values_placed, decoder_values_bytes}
+use Rattle.attr_section.specs.Written.{values_placed, decoder_values_bytes}
 use Rattle.drc_container.specs.declared.choice.codings.Coding.{Coding}
 use Rattle.drc_container.specs.declared.choice.choices.Choice.{Choice}
 use Rattle.predict.specs.Schemes.{facts}
@@ -36,8 +35,9 @@ use Rattle.drc_container.specs.Header.{cloud_points_at}
 use Rattle.drc_container.specs.choice.Choice.{method_of, is_sequential, predict_chosen, chosen_code}
 use Rattle.drc_container.specs.reading.Stream.{stream, sequential_attributes_at}
 use Rattle.drc_container.specs.choice.Refused.{refused, coding_fault}
+use Rattle.drc_container.specs.choice.CanCode.{CanCode}
 use Rattle.drc_container.specs.writing.Written.{sequential_connectivity_bytes, decoder_of, attribute_heads_bytes, sequential_attributes_bytes, values_of}
-use Rattle.drc_container.specs.writing.WrittenOnSurface.{traced, GluedMesh, decoded, surface_walk, coded_by, coded_values, decoder_for, decoders_for}
+use Rattle.drc_container.specs.writing.WrittenOnSurface.{traced, GluedMesh, decoded, surface_order, coded_by, coded_values, decoder_for, decoders_for}
 use Rattle.drc_container.specs.writing.WrittenOnSurface.{seam_lists, decoder_heads_bytes, connectivity_of, edgebreaker_bytes}
 use Rattle.drc_container.specs.writing.Chosen.{mesh_in, written}
 
@@ -69,13 +69,12 @@ pub record Means (g : Geometry) (choice : Choice) (bytes : List ℕ) (rows : Row
   pub beside : KeepsBeside (is_sequential (method_of g choice)) g decoded rows
   pub whole : decoded.info.end ≡ length bytes
 
--- this geometry can be coded by this choice, sequentially: there is a point, the prediction needs no surface, and values that are corrected
--- lie near enough
-pub record CanCode (g : Geometry) (choice : Choice) : Type 0 where
+-- this geometry can be coded by this choice, sequentially: there is a point, the prediction needs no surface, and the values can be coded
+pub record CanCodeInOrder (g : Geometry) (choice : Choice) : Type 0 where
   pub sequential : method_of g choice ≡ method.Seq
   pub some : 0 < length (points_in g)
   pub alone : (facts (predict_chosen g choice)).needs_surface ≡ false
-  pub near : (facts (predict_chosen g choice)).corrects ≡ true → All (λ v. CanWrap (range_of v.values)) (values_of g (chosen_code g choice))
+  pub values : CanCode (predict_chosen g choice) (values_of g (chosen_code g choice))
 
 -- the connectivity is read back: the faces of a mesh and its number of points, or the number of points of a cloud
 abbrev pub ConnectivitySpelled : Bool → Geometry → Type 0
@@ -101,17 +100,15 @@ pub record AttributesSpelled (plain : Bool) (g : Geometry) (predict : ℤ) : Typ
         record { place = place + length (sequential_attributes_bytes plain g predict); rest = rest },
       )
 
--- this mesh can be coded so by Edgebreaker: it has faces, none of which is degenerate; its vertices and its coded values are few; and
--- values that are corrected lie near enough
+-- this mesh can be coded so by Edgebreaker: it has faces, none of which is degenerate; its vertices are few; and its values can be coded
 pub record CanCodeSurface (coding : Coding) (m : MeshParts) : Type 0 where
   pub some : 0 < length m.faces
   pub proper : degenerate_fault m ≡ None
   pub few_vertices : fan_count (length m.faces) (pairing m) ≤ MAX_POINTS
-  pub few_values : values_in (coded_values coding (decoded m)) ≤ MAX_VALUES
-  pub near : (facts coding.predict).corrects ≡ true → All (λ v. CanWrap (range_of v.values)) (coded_values coding (decoded m))
+  pub values : CanCode coding.predict (coded_values coding (decoded m))
 
--- the values of a decoder over a surface that is walked so are read back, wherever they stand and whatever follows them
-pub record AreReadAgain (plain : Bool) (w : Walked) (d : DecoderHead) (values : List Values) : Type 0 where
+-- the values of a decoder over a surface in this order are read back, wherever they stand and whatever follows them
+pub record AreReadAgain (plain : Bool) (w : Ordered) (d : DecoderHead) (values : List Values) : Type 0 where
   pub reads : (spent place : ℕ) (rest : List ℕ) → spent + values_in values ≤ MAX_VALUES
       → decoder_values_at profile (Some w) (bare_decoder d) (length w.corners) spent
       (record { place = place; rest = decoder_values_bytes plain (Some w) d.heads values ++ rest })
@@ -122,7 +119,7 @@ pub record AreReadAgain (plain : Bool) (w : Walked) (d : DecoderHead) (values : 
 
 -- the values of attribute k, which has this head, are read back
 abbrev pub AttributeSpelled : Coding → GluedMesh → ℕ → Head → Type 0
-AttributeSpelled coding d k h = AreReadAgain coding.plain (surface_walk coding d k) (decoder_for coding d k h) (coded_by coding d k ∷ [])
+AttributeSpelled coding d k h = AreReadAgain coding.plain (surface_order coding d k) (decoder_for coding d k h) (coded_by coding d k ∷ [])
 
 -- the connectivity of a mesh is read back
 abbrev pub ConnectivityReadAgain : Bool → MeshParts → Type 0

@@ -142,7 +142,7 @@ attr_coded g choice element walk = record {
   compressed = if choice.plain_values then 0 else 1;
 }
 
--- how attribute k is coded by Edgebreaker: its values belong to corners where it has seams, and else may be walked by prediction degree
+-- how attribute k is coded by Edgebreaker: its values belong to corners where it has seams, and else may be ordered by prediction degree
 abbrev pub attr_on_surface : Geometry → Choice → ℕ → AttrLayout
 attr_on_surface g choice k =
     let d = decoded (mesh_in g) in

@@ -17,14 +17,14 @@ use Rattle.eb_section.specs.Written.{connectivity_bytes}
 use Rattle.seams.specs.Seams.{unseamed}
 use Rattle.seams.specs.SeamBits.{seam_bits}
 use Rattle.seams.specs.Values.{piece, is_seam}
-use Rattle.predict.specs.Walked.{Walked}
+use Rattle.corner_table.specs.Ordered.{Ordered}
 use Rattle.predict.specs.Schemes.{code_of}
 use Rattle.attr_section.specs.declared.decoder_heads.DecoderHead.{DecoderHead}
 use Rattle.attr_section.specs.declared.values.Values.{Values}
 use Rattle.attr_section.specs.Heads.{position_id, heads_bytes}
 use Rattle.attr_section.specs.Written.{decoder_values_bytes}
 use Rattle.drc_container.specs.declared.choice.codings.Coding.{Coding}
-use Rattle.drc_container.specs.reading.OnSurface.{walked_by}
+use Rattle.drc_container.specs.reading.OnSurface.{ordered_by}
 use Rattle.drc_container.specs.writing.Written.{header_bytes}
 
 -- the trace of a mesh's pairs: symbols, events and start bits in the order of the walk, the faces in the order of decoding
@@ -60,18 +60,18 @@ is_cornered d k = nat_lt 0 k && list_any (λ bit. bit) (seam_bits_of d k)
 abbrev pub cut_of : GluedMesh → ℕ → Gluing
 cut_of d k = if is_cornered d k then unseamed (is_seam d.mesh k d.pairs) d.pairs else d.pairs
 
--- whether the entries of attribute k are walked by prediction degree: where it is chosen, and they belong to vertices
+-- whether the entries of attribute k are ordered by prediction degree: where it is chosen, and they belong to vertices
 abbrev pub is_by_degree : Coding → GluedMesh → ℕ → Bool
 is_by_degree coding d k = coding.degree && not (is_cornered d k)
 
--- this surface as it is walked
-unfoldable pub surface_walk : Coding → GluedMesh → ℕ → Walked
-surface_walk coding d k = walked_by (is_by_degree coding d k) (length d.mesh.faces) (cut_of d k)
+-- this surface in its order
+unfoldable pub surface_order : Coding → GluedMesh → ℕ → Ordered
+surface_order coding d k = ordered_by (is_by_degree coding d k) (length d.mesh.faces) (cut_of d k)
 
 -- the values of attribute k: of each entry, in the order of the walk
 abbrev pub coded_by : Coding → GluedMesh → ℕ → Values
 coded_by coding d k =
-    record { values = flat_map (piece d.mesh k) (surface_walk coding d k).corners; predict = code_of coding.predict; at = 0 }
+    record { values = flat_map (piece d.mesh k) (surface_order coding d k).corners; predict = code_of coding.predict; at = 0 }
 
 -- the values of each attribute
 unfoldable pub coded_values : Coding → GluedMesh → List Values
@@ -96,7 +96,7 @@ seam_lists d = map (seam_bits_of d) (range_with_len 1 (length d.mesh.heads - 1))
 
 -- the values of attribute k, which has this head
 abbrev pub attribute_bytes : Coding → GluedMesh → ℕ → Head → List ℕ
-attribute_bytes coding d k h = decoder_values_bytes coding.plain (Some (surface_walk coding d k)) (h ∷ []) (coded_by coding d k ∷ [])
+attribute_bytes coding d k h = decoder_values_bytes coding.plain (Some (surface_order coding d k)) (h ∷ []) (coded_by coding d k ∷ [])
 
 -- the values of each attribute in turn
 abbrev pub values_bytes_on : Coding → GluedMesh → List ℕ

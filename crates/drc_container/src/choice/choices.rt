@@ -12,7 +12,7 @@ pub enum Index {
     Packed,
 }
 
-/// The order in which Edgebreaker's entries are walked.
+/// The order in which Edgebreaker's entries are ordered.
 #[derive(Clone, Copy, Debug, PartialEq, Eq)]
 pub enum Walk {
     /// Depth first.

@@ -42,7 +42,7 @@ fn is_valence(g: &GeometryView<'_>, choice: &Choice) -> bool
     }
 }
 
-/// Whether entries of vertices are walked by prediction degree.
+/// Whether entries of vertices are ordered by prediction degree.
 fn is_degree(choice: &Choice) -> bool
     ensures { result ≡ is_degree choice.now.walk }
 {

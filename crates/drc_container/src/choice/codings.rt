@@ -7,7 +7,7 @@ use predict::Prediction;
 pub struct Coding {
     /// Whether symbols are coded by valence, and not as standard symbols.
     pub valence: bool,
-    /// Whether entries of vertices are walked by prediction degree, and not depth first.
+    /// Whether entries of vertices are ordered by prediction degree, and not depth first.
     pub degree: bool,
     /// How values are predicted.
     pub predict: Prediction,

@@ -1,55 +1,66 @@
 //! The attributes of an Edgebreaker mesh, decoder after decoder.
 
 ghost use Rattle.drc_base.specs.Profile.{profile};
-ghost use Rattle.std.specs.Prelude.{◌≡◌, ◌<◌, ◌≤◌, ◌+◌, ◌*◌, ◌^◌, true, IfOk, All, length, Some};
+ghost use Rattle.std.specs.Prelude.{◌≡◌, ◌<◌, ◌≤◌, ◌+◌, ◌*◌, ◌^◌, ℕ, List, None, map, true, IfOk, All, length, Some};
 ghost use Rattle.drc_base.specs.declared.limits.TheConstants.{MAX_VALUES as most_values, MAX_FACES as most_faces};
 ghost use Rattle.drc_bits.specs.Reading.{Gives};
 ghost use Rattle.corner_table.specs.Table.{gluing_of};
 ghost use Rattle.mesh_model.specs.Assembled.{AreAttrTables, AreTables};
 ghost use Rattle.attr_section.specs.Heads.{HeadPasses};
 ghost use Rattle.walk_order.specs.Orders.{IsOrderOver};
-ghost use Rattle.predict.specs.Walked.{walked};
+ghost use Rattle.corner_table.specs.Ordered.{ordered, IsOrdered};
 ghost use Rattle.eb_section.specs.Connectivity.{meaning};
-ghost use Rattle.drc_container.specs.reading.OnSurface.{HasSeams, seams_of, walked_by, walked_for, decoder_on, surface_decoders_at, no_attributes, values_on, attributes_on};
+ghost use Rattle.drc_container.specs.reading.OnSurface.{HasSeams, cut_at as surface_cut_at, seams_of, ordered_by, ordered_for, decoder_on, surface_decoders_at, no_attributes, values_on, attributes_on};
+ghost use Rattle.drc_container.specs.reading.AsRead.{classes_of, built_classes, group_over, attributes_over, group_on, decoder_read_on, tables_on, attributes_read_on};
+ghost use Rattle.mesh_model.specs.Groups.{tables_of, HasVertices};
 
-use crate::reading::surface_attributes::{SurfaceAttributes, decoder_attributes};
-use crate::surface::walking::{cut_at, order_of, order_over};
-use attr_section::{DecoderHead, Walked, read_decoder, read_heads};
-use corner_table::{Order, SideTable};
+use crate::reading::surface_attributes::{
+    AttributesRead, DecoderRead, decoder_attributes, over_cut,
+};
+use crate::surface::ordering::{cut_at, order_over};
+use attr_section::{DecoderHead, Ordered, read_decoder, read_heads};
+use corner_table::{Classes, Order, SideTable};
 use drc_base::{Refusal, Sequence};
 use drc_bits::Cursor;
+use eb_rebuild::Built;
 use eb_section::EbRead;
 use rans_binary::BitBlock;
+use seams::classes;
 use std::alloc::Global;
 
-/// Reads the attributes of a decoder, whose values stand on a table's surface that is walked in this order;
+/// Reads the attributes of a decoder, whose values stand on a table's surface with these classes, in this order;
 /// `spent` grows by the number of its values.
 #[tactic(auto, unfolding(crate::specs::reading::OnSurface::decoder_on))]
 fn read_on(
     alloc: Global,
     c: &mut Cursor<'_>,
     t: &SideTable,
+    labels: &Classes,
     order: Order,
     decoder: DecoderHead,
     spent: &mut u64,
-) -> Result<SurfaceAttributes, Refusal>
-    requires walked { walked t.now order ≡ walked_by decoder.degree t.now.faces (gluing_of t.now) }
-    requires over { IsOrderOver t.now.faces order }
+) -> Result<DecoderRead, Refusal>
+    requires ordered { ordered t.now labels.now.of_corner order ≡ ordered_by decoder.degree t.now.faces (gluing_of t.now) }
+    requires over { IsOrderOver t.now.faces labels.now.of_corner order }
+    requires is { IsOrdered t.now labels.now.of_corner order }
     requires few { length order.corner_of_entry < 2 ^ 32 }
     requires heads { All HeadPasses decoder.heads }
     requires spent { spent.old ≤ most_values }
-    ensures item { Gives (λ p. p) (decoder_on profile (walked_by decoder.degree t.now.faces (gluing_of t.now)) decoder spent.old c.old) c.new result }
-    ensures spent { IfOk result (λ p. spent.new ≡ spent.old + values_on p.tables) }
+    ensures item { Gives (attributes_over labels.now.of_corner) (decoder_on profile (ordered_by decoder.degree t.now.faces (gluing_of t.now)) decoder spent.old c.old) c.new result }
+    ensures spent { IfOk result (λ p. spent.new ≡ spent.old + values_on (tables_of (group_over labels.now.of_corner p.values))) }
     ensures few { IfOk result (λ _. spent.new ≤ most_values) }
-    ensures columns { IfOk result (λ p. AreAttrTables (3 * t.now.faces) p.heads p.tables) }
+    ensures columns { IfOk result (λ p. AreAttrTables (3 * t.now.faces) p.heads (tables_of (group_over labels.now.of_corner p.values))) }
+    ensures vertices { IfOk result (λ p. HasVertices (3 * t.now.faces) (group_over labels.now.of_corner p.values)) }
+    ensures whole { IfOk result (λ p. p.values.cut ≡ None) }
 {
     let entries = order.corner_of_entry.len() as u32;
-    let walk = Walked {
+    let on = Ordered {
         sides: t,
+        classes: labels,
         order: &order,
     };
     let mut decoder = decoder;
-    let values = read_decoder(alloc, c, &mut decoder, entries, Some(&walk), spent)?;
+    let values = read_decoder(alloc, c, &mut decoder, entries, Some(&on), spent)?;
     let attributes = decoder_attributes(alloc, order, decoder, values)?;
     Ok(attributes)
 }
@@ -62,6 +73,54 @@ fn seams_of<'a>(blocks: &[BitBlock<'a>], id: u8) -> BitBlock<'a>
     blocks[id as usize].copy()
 }
 
+/// Reads the attributes of a decoder that stand on the stream's surface cut at the seams of a block.
+fn read_on_cut(
+    alloc: Global,
+    c: &mut Cursor<'_>,
+    t: &SideTable,
+    block: BitBlock<'_>,
+    decoder: DecoderHead,
+    spent: &mut u64,
+) -> Result<DecoderRead, Refusal>
+    requires heads { All HeadPasses decoder.heads }
+    requires spent { spent.old ≤ most_values }
+    ensures item { (whole : List ℕ) → Gives (decoder_read_on whole) (decoder_on profile (ordered_by decoder.degree t.now.faces (surface_cut_at t.now.faces (gluing_of t.now) block.entry)) decoder spent.old c.old) c.new result }
+    ensures spent { IfOk result (λ p. (whole : List ℕ) → spent.new ≡ spent.old + values_on (tables_of (group_on whole p.values))) }
+    ensures few { IfOk result (λ _. spent.new ≤ most_values) }
+    ensures columns { IfOk result (λ p. (whole : List ℕ) → AreAttrTables (3 * t.now.faces) p.heads (tables_of (group_on whole p.values))) }
+    ensures vertices { IfOk result (λ p. (whole : List ℕ) → HasVertices (3 * t.now.faces) (group_on whole p.values)) }
+{
+    let cut = cut_at(alloc, t, block)?;
+    let labels = classes(alloc, &cut, None)?;
+    let order = order_over(alloc, &cut, &labels, decoder.degree)?;
+    let read = read_on(alloc, c, &cut, &labels, order, decoder, spent)?;
+    Ok(over_cut(read, labels))
+}
+
+/// Reads the attributes of a decoder that stand on the stream's surface as it is.
+fn read_on_whole(
+    alloc: Global,
+    c: &mut Cursor<'_>,
+    sides: &Built,
+    decoder: DecoderHead,
+    spent: &mut u64,
+) -> Result<DecoderRead, Refusal>
+    requires heads { All HeadPasses decoder.heads }
+    requires spent { spent.old ≤ most_values }
+    ensures item { Gives (decoder_read_on (built_classes sides.now)) (decoder_on profile (ordered_by decoder.degree sides.now.table.faces (gluing_of sides.now.table)) decoder spent.old c.old) c.new result }
+    ensures spent { IfOk result (λ p. spent.new ≡ spent.old + values_on (tables_of (group_on (built_classes sides.now) p.values))) }
+    ensures few { IfOk result (λ _. spent.new ≤ most_values) }
+    ensures columns { IfOk result (λ p. AreAttrTables (3 * sides.now.table.faces) p.heads (tables_of (group_on (built_classes sides.now) p.values))) }
+    ensures vertices { IfOk result (λ p. HasVertices (3 * sides.now.table.faces) (group_on (built_classes sides.now) p.values)) }
+{
+    let table = sides.table();
+    // For the prover alone: the call states that the table is a surface.
+    let _faces = table.face_count();
+    let labels = sides.classes();
+    let order = order_over(alloc, table, labels, decoder.degree)?;
+    read_on(alloc, c, table, labels, order, decoder, spent)
+}
+
 /// Reads the attributes of a decoder, on the surface of the stream, cut at the seams of the decoder's
 /// attribute data where values belong to corners.
 fn read_for(
@@ -70,26 +129,23 @@ fn read_for(
     surface: &EbRead<'_>,
     decoder: DecoderHead,
     spent: &mut u64,
-) -> Result<SurfaceAttributes, Refusal>
+) -> Result<DecoderRead, Refusal>
     requires heads { All HeadPasses decoder.heads }
     requires seams { decoder.corner ≡ true → HasSeams (length surface.now.seams) decoder }
     requires spent { spent.old ≤ most_values }
-    ensures item { Gives (λ p. p) (decoder_on profile (walked_for (meaning surface.now) decoder) decoder spent.old c.old) c.new result }
-    ensures spent { IfOk result (λ p. spent.new ≡ spent.old + values_on p.tables) }
+    ensures item { Gives (decoder_read_on (classes_of (meaning surface.now))) (decoder_on profile (ordered_for (meaning surface.now) decoder) decoder spent.old c.old) c.new result }
+    ensures spent { IfOk result (λ p. spent.new ≡ spent.old + values_on (tables_of (group_on (classes_of (meaning surface.now)) p.values))) }
     ensures few { IfOk result (λ _. spent.new ≤ most_values) }
-    ensures columns { IfOk result (λ p. AreAttrTables (3 * surface.now.sides.table.faces) p.heads p.tables) }
+    ensures columns { IfOk result (λ p. AreAttrTables (3 * surface.now.sides.table.faces) p.heads (tables_of (group_on (classes_of (meaning surface.now)) p.values))) }
+    ensures vertices { IfOk result (λ p. HasVertices (3 * surface.now.sides.table.faces) (group_on (classes_of (meaning surface.now)) p.values)) }
 {
     if decoder.corner
         && let Some(id) = decoder.data_id
     {
         let block = seams_of(surface.seams.as_slice(), id);
-        let cut = cut_at(alloc, surface.sides.table(), block)?;
-        let order = order_of(alloc, &cut, decoder.degree)?;
-        return read_on(alloc, c, &cut, order, decoder, spent);
+        return read_on_cut(alloc, c, surface.sides.table(), block, decoder, spent);
     }
-    let sides = &surface.sides;
-    let order = order_over(alloc, sides.table(), sides.classes(), decoder.degree)?;
-    read_on(alloc, c, sides.table(), order, decoder, spent)
+    read_on_whole(alloc, c, &surface.sides, decoder, spent)
 }
 
 /// Reads the attributes of these decoders in turn.
@@ -98,25 +154,26 @@ fn read_each(
     c: &mut Cursor<'_>,
     surface: &EbRead<'_>,
     decoders: Vec<DecoderHead>,
-) -> Result<SurfaceAttributes, Refusal>
+) -> Result<AttributesRead, Refusal>
     requires heads { All (λ d. All HeadPasses d.heads) decoders.items }
     requires seams { All (λ d. d.corner ≡ true → HasSeams (length surface.now.seams) d) decoders.items }
-    ensures item { Gives (λ p. p) (surface_decoders_at profile (meaning surface.now) no_attributes decoders.items c.old) c.new result }
-    ensures columns { IfOk result (λ p. AreAttrTables (3 * surface.now.sides.table.faces) p.heads p.tables) }
+    ensures item { Gives (attributes_read_on (classes_of (meaning surface.now))) (surface_decoders_at profile (meaning surface.now) no_attributes decoders.items c.old) c.new result }
+    ensures columns { IfOk result (λ p. AreAttrTables (3 * surface.now.sides.table.faces) p.heads (tables_on (classes_of (meaning surface.now)) p.decoders)) }
+    ensures vertices { IfOk result (λ p. All (HasVertices (3 * surface.now.sides.table.faces)) (map (group_on (classes_of (meaning surface.now))) p.decoders)) }
 {
     let mut heads = Vec::new(alloc);
-    let mut tables = Vec::new(alloc);
+    let mut values = Vec::new(alloc);
     let mut info = Vec::new(alloc);
     let mut spent: u64 = 0;
     for decoder in decoders {
-        let attributes = read_for(alloc, c, surface, decoder, &mut spent)?;
-        heads.append(&mut attributes.heads.into_vec())?;
-        tables.append(&mut attributes.tables.into_vec())?;
-        info.append(&mut attributes.info.into_vec())?;
+        let read = read_for(alloc, c, surface, decoder, &mut spent)?;
+        heads.append(&mut read.heads.into_vec())?;
+        values.push(read.values)?;
+        info.append(&mut read.info.into_vec())?;
     }
-    Ok(SurfaceAttributes {
+    Ok(AttributesRead {
         heads: Sequence::from_vec(heads),
-        tables: Sequence::from_vec(tables),
+        decoders: Sequence::from_vec(values),
         info: Sequence::from_vec(info),
     })
 }
@@ -128,11 +185,12 @@ pub fn read_attributes_on(
     alloc: Global,
     c: &mut Cursor<'_>,
     surface: &EbRead<'_>,
-) -> Result<SurfaceAttributes, Refusal>
+) -> Result<AttributesRead, Refusal>
     requires faces { surface.now.sides.table.faces ≤ most_faces }
     requires seams { length surface.now.seams ≡ surface.now.attr_data }
-    ensures item { Gives (λ p. p) (attributes_on profile (meaning surface.now) c.old) c.new result }
-    ensures tables { IfOk result (λ p. AreTables p.heads p.tables surface.now.sides.table.faces) }
+    ensures item { Gives (attributes_read_on (classes_of (meaning surface.now))) (attributes_on profile (meaning surface.now) c.old) c.new result }
+    ensures tables { IfOk result (λ p. AreTables p.heads (tables_on (classes_of (meaning surface.now)) p.decoders) surface.now.sides.table.faces) }
+    ensures vertices { IfOk result (λ p. All (HasVertices (3 * surface.now.sides.table.faces)) (map (group_on (classes_of (meaning surface.now))) p.decoders)) }
 {
     let decoders = read_heads(alloc, c, Some(surface.attr_data))?;
     let attributes = read_each(alloc, c, surface, decoders)?;

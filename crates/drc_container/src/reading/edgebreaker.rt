@@ -1,28 +1,31 @@
 //! Decoding an Edgebreaker mesh behind its header.
 
 ghost use Rattle.drc_base.specs.Profile.{profile};
-ghost use Rattle.std.specs.Prelude.{◌≡◌, ◌<◌, ◌≤◌, Err, IfOk, IfSome, IsTrue, Some, length};
+ghost use Rattle.std.specs.Prelude.{◌≡◌, ◌*◌, ◌<◌, ◌≤◌, Err, IfOk, IfSome, IsTrue, Some, length, map, All};
 ghost use Rattle.drc_base.specs.declared.faults.Fault.{Fault as AnyFault};
 ghost use Rattle.drc_base.specs.declared.faults.Refusal.TheVariants as refusal;
 ghost use Rattle.drc_base.specs.declared.limits.TheConstants.{MAX_FACES as most_faces};
 ghost use Rattle.drc_base.specs.Refusals.{Answers};
 ghost use Rattle.drc_bits.specs.Reading.{Gives};
 ghost use Rattle.mesh_model.specs.Assembled.{AreTables};
+ghost use Rattle.mesh_model.specs.Groups.{group_tables, HasVertices};
 ghost use Rattle.eb_section.specs.Connectivity.{connectivity_at, declared_at, meaning};
 ghost use Rattle.drc_container.specs.reading.Meaning.{told_by, edgebreaker_info};
 ghost use Rattle.drc_container.specs.reading.OnSurface.{at_end, assembled_in};
+ghost use Rattle.drc_container.specs.reading.AsRead.{group_on, tables_on, built_classes};
 ghost use Rattle.drc_container.specs.reading.Stream.{edgebreaker_at, surface_behind};
 
 use crate::reading::decoders::read_attributes_on;
 use crate::reading::info::{
     AttrInfo, ConnectivityInfo, Decoded, StreamInfo, method_read, stream_info,
 };
-use crate::reading::surface_attributes::SurfaceAttributes;
+use crate::reading::surface_attributes::{AttributesRead, DecoderValues, groups_of};
 use corner_table::Steps;
 use drc_base::{Fault, Refusal, Sequence};
 use drc_bits::Cursor;
+use eb_rebuild::Built;
 use eb_section::{EbRead, read_connectivity};
-use mesh_model::{AttrTable, CornerMesh, Geometry, Head, assemble};
+use mesh_model::{AttrGroup, CornerMesh, Geometry, Head, assemble};
 use std::alloc::Global;
 use std::marker::Brand;
 use std::sync::ledger::{Blank, Ledger};
@@ -72,12 +75,14 @@ fn read_behind(
     ensures sides { IfOk result (λ d. d.sides ≡ Some surface.entry.sides) }
 {
     let to = c.place();
-    let attributes = read_attributes_on(alloc, c, &surface)?;
-    let faces = surface.sides.table().face_count();
-    let info = edgebreaker_info(c, from, to, &surface, attributes.info);
-    let heads = attributes.heads.into_vec();
-    let tables = attributes.tables.into_vec();
-    let mesh = assemble_at(alloc, c.place(), heads, tables, faces)?;
+    let AttributesRead {
+        heads,
+        decoders,
+        info,
+    } = read_attributes_on(alloc, c, &surface)?;
+    let info = edgebreaker_info(c, from, to, &surface, info);
+    let heads = heads.into_vec();
+    let mesh = assemble_on(alloc, c.place(), &surface.sides, heads, decoders.as_slice())?;
     Ok(Decoded {
         geometry: Geometry::Mesh(mesh),
         sides: Some(surface.sides),
@@ -85,18 +90,38 @@ fn read_behind(
     })
 }
 
-/// The mesh of attributes on a surface; its faults are at the end of the stream, which stands at `end`.
+/// The mesh of these decoders' attributes on a finished surface; its faults are at the end of the stream, which stands
+/// at `end`.
+fn assemble_on(
+    alloc: Global,
+    end: u64,
+    sides: &Built,
+    heads: Vec<Head>,
+    decoders: &[DecoderValues],
+) -> Result<CornerMesh, Refusal>
+    requires tables { AreTables heads.items (tables_on (built_classes sides.now) decoders.now) sides.now.table.faces }
+    requires vertices { All (HasVertices (3 * sides.now.table.faces)) (map (group_on (built_classes sides.now)) decoders.now) }
+    ensures { Answers (λ m. m) (at_end end (assembled_in profile heads.items (tables_on (built_classes sides.now) decoders.now) sides.now.table.faces)) result }
+{
+    let faces = sides.table().face_count();
+    let whole = sides.classes().of_corner.as_slice();
+    let groups = groups_of(alloc, whole, decoders)?;
+    assemble_at(alloc, end, heads, groups.as_slice(), faces)
+}
+
+/// The mesh of groups of attributes; its faults are at the end of the stream, which stands at `end`.
 fn assemble_at(
     alloc: Global,
     end: u64,
     heads: Vec<Head>,
-    tables: Vec<AttrTable>,
+    groups: &[AttrGroup<'_>],
     faces: u32,
 ) -> Result<CornerMesh, Refusal>
-    requires { AreTables heads.items tables.items faces }
-    ensures { Answers (λ m. m) (at_end end (assembled_in profile heads.items tables.items faces)) result }
+    requires tables { AreTables heads.items (group_tables groups.now) faces }
+    requires vertices { All (HasVertices (3 * faces)) groups.now }
+    ensures { Answers (λ m. m) (at_end end (assembled_in profile heads.items (group_tables groups.now) faces)) result }
 {
-    match assemble(alloc, heads, tables, faces) {
+    match assemble(alloc, heads, groups, faces) {
         Ok(mesh) => Ok(mesh),
         Err(Refusal::Fault(fault)) => Err(Refusal::Fault(Fault::new(fault.kind, end))),
         Err(Refusal::Memory) => Err(Refusal::Memory),

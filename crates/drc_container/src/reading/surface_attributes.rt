@@ -1,83 +1,144 @@
-//! Attributes on a surface.
+//! Attributes on a surface, as they are kept.
+//!
+//! The attributes of a decoder stand at the same vertices. So of each decoder the entry of each vertex is kept once, and
+//! no list of the entry of each corner is made: a corner's vertex is its class, in the surface of the stream or, where a
+//! decoder has seams, in the surface that is cut at these, whose classes are kept with the decoder's values.
 
-ghost use Rattle.std.specs.Prelude.{◌≡◌, ◌<◌, ◌^◌, map, IfOk, length};
-ghost use Rattle.drc_container.specs.reading.OnSurface.{decoder_attributes, tables_of};
-ghost use Rattle.predict.specs.Walked.{Walked as AnyWalk};
-ghost use Rattle.corner_table.specs.Table.{side_of};
+ghost use Rattle.std.specs.Prelude.{◌≡◌, ◌<◌, ◌^◌, ℕ, List, None, Some, map, IfOk, length};
+ghost use Rattle.corner_table.specs.Ordered.{Ordered as AnyOrdered, entries_by};
+ghost use Rattle.corner_table.specs.Sides.{side_at};
+ghost use Rattle.drc_container.specs.reading.OnSurface.{decoder_attributes};
+ghost use Rattle.drc_container.specs.reading.AsRead.{attributes_over, group_on};
 
-use crate::reading::attributes::heads_of;
 use crate::reading::info::{AttrInfo, attr_infos};
 use attr_section::{DecoderHead, Values};
-use corner_table::Order;
+use corner_table::{Classes, Order};
 use drc_base::{Memory, Sequence};
-use mesh_model::{AttrTable, Head};
+use mesh_model::{AttrGroup, Head};
 use std::alloc::Global;
 
-/// Attributes on a surface.
+/// The values of a decoder's attributes, and the vertices at which they stand.
 #[derive(Debug, Drop)]
-pub struct SurfaceAttributes {
+pub struct DecoderValues {
+    /// The class of each corner of the surface that is cut at the decoder's seams; None where it isn't cut, and the
+    /// classes are those of the stream's surface.
+    pub cut: Option<Sequence<u32>>,
+    /// The entry of each class.
+    pub entry_of_class: Sequence<u32>,
+    /// The values of each attribute, entry after entry.
+    pub values: Vec<Sequence<i32>>,
+}
+
+/// The attributes of a decoder, as they were read.
+#[derive(Debug, Drop)]
+pub struct DecoderRead {
     /// What each attribute is.
     pub heads: Sequence<Head>,
-    /// The values of each attribute, with the entry of each corner.
-    pub tables: Sequence<AttrTable>,
+    /// The values of the attributes.
+    pub values: DecoderValues,
     /// What is known of each attribute beside its values.
     pub info: Sequence<AttrInfo>,
 }
 
-/// The attributes of a decoder with these values, in the order of its walk.
+/// The attributes on a surface, as they were read.
+#[derive(Debug, Drop)]
+pub struct AttributesRead {
+    /// What each attribute is.
+    pub heads: Sequence<Head>,
+    /// The values of each decoder's attributes.
+    pub decoders: Sequence<DecoderValues>,
+    /// What is known of each attribute beside its values.
+    pub info: Sequence<AttrInfo>,
+}
+
+/// The values of each attribute.
+fn values_alone(alloc: Global, values: Vec<Values>) -> Result<Vec<Sequence<i32>>, Memory>
+    ensures { IfOk result (λ v. v.items ≡ map (λ x. x.values) values.items) }
+{
+    let mut alone = Vec::with_capacity(alloc, values.len())?;
+    for of_one in values {
+        alone.push(of_one.values)?;
+    }
+    Ok(alone)
+}
+
+/// The attributes of a decoder with these values, in its order over a surface that isn't cut.
 pub fn decoder_attributes(
     alloc: Global,
     order: Order,
     decoder: DecoderHead,
     values: Vec<Values>,
-) -> Result<SurfaceAttributes, Memory>
+) -> Result<DecoderRead, Memory>
     requires { length order.corner_of_entry < 2 ^ 32 }
-    ensures { IfOk result (λ p. (w : AnyWalk) → w.corners ≡ map side_of order.corner_of_entry → w.entries ≡ order.entry_of_corner → p ≡ decoder_attributes w decoder values.items) }
+    ensures over { IfOk result (λ p. (labels : List ℕ) (w : AnyOrdered) → w.corners ≡ map side_at order.corner_of_entry → w.entries ≡ entries_by labels order.entry_of_class → attributes_over labels p ≡ decoder_attributes w decoder values.items) }
+    ensures entries { IfOk result (λ p. p.values.entry_of_class ≡ order.entry_of_class) }
+    ensures whole { IfOk result (λ p. p.values.cut ≡ None) }
 {
     let entries = order.corner_of_entry.len() as u32;
     let info = attr_infos(alloc, entries, decoder.heads.as_slice(), &values)?;
-    let tables = tables_of(alloc, order.entry_of_corner, values)?;
-    Ok(SurfaceAttributes {
+    let alone = values_alone(alloc, values)?;
+    Ok(DecoderRead {
         heads: decoder.heads,
-        tables: Sequence::from_vec(tables),
+        values: DecoderValues {
+            cut: None,
+            entry_of_class: order.entry_of_class,
+            values: alone,
+        },
         info: Sequence::from_vec(info),
     })
 }
 
-/// The tables of attributes, each with the entries of the corners; the last one gets the list itself.
-fn tables_of(
-    alloc: Global,
-    entries: Sequence<u32>,
-    values: Vec<Values>,
-) -> Result<Vec<AttrTable>, Memory>
-    ensures { IfOk result (λ v. v.items ≡ tables_of entries values.items) }
+/// The attributes of a decoder, over a surface that is cut at its seams, whose corners have these classes.
+pub fn over_cut(read: DecoderRead, classes: Classes) -> DecoderRead
+    ensures { result ≡ record read { values = record read.values { cut = Some classes.of_corner } } }
 {
-    let mut values = values;
-    let last = values.pop();
-    let mut tables = copied_tables(alloc, entries.as_slice(), values)?;
-    if let Some(last) = last {
-        tables.push(AttrTable {
-            values: last.values,
-            of_corner: entries,
-        })?;
+    let DecoderRead {
+        heads,
+        values,
+        info,
+    } = read;
+    let DecoderValues {
+        cut: _,
+        entry_of_class,
+        values,
+    } = values;
+    DecoderRead {
+        heads,
+        values: DecoderValues {
+            cut: Some(classes.of_corner),
+            entry_of_class,
+            values,
+        },
+        info,
     }
-    Ok(tables)
 }
 
-/// The tables of attributes, each with a copy of the entries of the corners.
-fn copied_tables(
-    alloc: Global,
-    entries: &[u32],
-    values: Vec<Values>,
-) -> Result<Vec<AttrTable>, Memory>
-    ensures { IfOk result (λ v. v.items ≡ tables_of entries.now values.items) }
+/// The attributes of a decoder as a group; `whole` has the classes of the stream's surface.
+fn group_of<'t>(whole: &'t [u32], decoder: &'t DecoderValues) -> AttrGroup<'t>
+    ensures { result ≡ group_on whole.now decoder.now }
 {
-    let mut tables = Vec::new(alloc);
-    for of_one in values {
-        tables.push(AttrTable {
-            values: of_one.values,
-            of_corner: Sequence::from_vec(entries.to_vec(alloc)?),
-        })?;
+    let of_corner = match &decoder.cut {
+        Some(cut) => cut.as_slice(),
+        None => whole,
+    };
+    AttrGroup {
+        of_corner,
+        entry_of: decoder.entry_of_class.as_slice(),
+        values: decoder.values.as_slice(),
     }
-    Ok(tables)
+}
+
+/// The groups of the attributes of these decoders; `whole` has the classes of the stream's surface.
+pub fn groups_of<'t>(
+    alloc: Global,
+    whole: &'t [u32],
+    decoders: &'t [DecoderValues],
+) -> Result<Vec<AttrGroup<'t>>, Memory>
+    ensures { IfOk result (λ v. v.items ≡ map (group_on whole.now) decoders.now) }
+{
+    let mut groups = Vec::with_capacity(alloc, decoders.len())?;
+    for decoder in decoders {
+        groups.push(group_of(whole, decoder))?;
+    }
+    Ok(groups)
 }

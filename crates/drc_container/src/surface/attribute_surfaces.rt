@@ -5,16 +5,16 @@ ghost use Rattle.std.specs.Prelude.{◌≡◌, ◌<◌, Bool, false, map, length
 ghost use Rattle.std.specs.Option.{option_map};
 ghost use Rattle.corner_table.specs.Table.{gluing_of};
 ghost use Rattle.seams.specs.Seams.{AreFlags};
-ghost use Rattle.drc_container.specs.reading.OnSurface.{walked_by};
+ghost use Rattle.drc_container.specs.reading.OnSurface.{ordered_by};
 ghost use Rattle.drc_container.specs.writing.WrittenOnSurface.{is_cornered};
-ghost use Rattle.drc_container.specs.surface.AttributeSurfaces.{glued_by, glued_on, flag_lists, walk_in, walk_at, walk_cut, AreAttributeSurfaces};
+ghost use Rattle.drc_container.specs.surface.AttributeSurfaces.{glued_by, glued_on, flag_lists, order_in, order_at, order_cut, AreAttributeSurfaces};
 
 use crate::surface::ordered_surface::OrderedSurface;
+use crate::surface::ordering::order_over;
 use crate::surface::turned_meshes::TurnedMesh;
-use crate::surface::walking::order_of;
 use corner_table::SideTable;
 use drc_base::Memory;
-use seams::unglued;
+use seams::{classes, unglued};
 use std::alloc::Global;
 
 /// A mesh as it is decoded, and for each of its attributes the surface that the values stand on.
@@ -28,25 +28,30 @@ pub struct AttributeSurfaces<'m> {
     pub cut: Vec<Option<OrderedSurface>>,
 }
 
-/// A surface, walked by prediction degree or depth first.
+/// A surface, ordered by prediction degree or depth first.
 fn surface_in_order(alloc: Global, sides: SideTable, degree: bool) -> Result<OrderedSurface, Memory>
     ensures sides { IfOk result (λ s. s.sides ≡ sides) }
-    ensures walk { IfOk result (λ s. walk_in s ≡ walked_by degree sides.faces (gluing_of sides)) }
+    ensures order { IfOk result (λ s. order_in s ≡ ordered_by degree sides.faces (gluing_of sides)) }
 {
     // For the prover alone: the call states that the table is a surface.
     let _faces = sides.face_count();
-    let order = order_of(alloc, &sides, degree)?;
-    Ok(OrderedSurface { sides, order })
+    let classes = classes(alloc, &sides, None)?;
+    let order = order_over(alloc, &sides, &classes, degree)?;
+    Ok(OrderedSurface {
+        sides,
+        classes,
+        order,
+    })
 }
 
-/// A surface cut at its seams, walked depth first, where there are any.
+/// A surface cut at its seams, ordered depth first, where there are any.
 fn cut_surface(
     alloc: Global,
     sides: &SideTable,
     flags: Option<Vec<bool>>,
 ) -> Result<Option<OrderedSurface>, Memory>
     requires { IfSome flags (λ v. AreFlags sides.now.faces (gluing_of sides.now) v.items) }
-    ensures { IfOk result (λ o. option_map walk_in o ≡ option_map (walk_cut sides.now) (option_map (λ v. v.items) flags)) }
+    ensures { IfOk result (λ o. option_map order_in o ≡ option_map (order_cut sides.now) (option_map (λ v. v.items) flags)) }
 {
     match flags {
         None => Ok(None),
@@ -64,7 +69,7 @@ fn cuts_of(
     flags: Vec<Option<Vec<bool>>>,
 ) -> Result<Vec<Option<OrderedSurface>>, Memory>
     requires { All (λ o. IfSome o (λ v. AreFlags sides.now.faces (gluing_of sides.now) v.items)) flags.items }
-    ensures { IfOk result (λ v. map (option_map walk_in) v.items ≡ map (option_map (walk_cut sides.now)) (map (option_map (λ v. v.items)) flags.items)) }
+    ensures { IfOk result (λ v. map (option_map order_in) v.items ≡ map (option_map (order_cut sides.now)) (map (option_map (λ v. v.items)) flags.items)) }
 {
     let mut cuts = Vec::new(alloc);
     for flags in flags {
@@ -74,7 +79,7 @@ fn cuts_of(
 }
 
 /// The surfaces that the values of a mesh's attributes stand on, from its own and the seams; entries of vertices are
-/// walked by prediction degree or depth first.
+/// ordered by prediction degree or depth first.
 pub fn surfaces_of<'m>(
     alloc: Global,
     mesh: TurnedMesh<'m>,
@@ -97,7 +102,7 @@ pub fn surfaces_of<'m>(
 /// The surface that the values of an attribute stand on.
 pub fn surface_at<'s>(s: &'s AttributeSurfaces<'_>, attr: usize) -> &'s OrderedSurface
     requires { attr < length s.now.cut.items }
-    ensures { walk_in result.now ≡ walk_at s.now attr }
+    ensures { order_in result.now ≡ order_at s.now attr }
 {
     match &s.cut[attr] {
         Some(surface) => surface,

@@ -5,14 +5,15 @@ ghost use Rattle.std.specs.List.{enumerate_from};
 ghost use Rattle.drc_bits.specs.Spells.{Spells};
 ghost use Rattle.attr_section.specs.Heads.{bare_decoder, heads_at};
 ghost use Rattle.attr_section.specs.Written.{decoder_values_bytes, DecoderValuesPass, HaveEntries};
-ghost use Rattle.drc_container.specs.writing.WrittenOnSurface.{surface_walk, coded_values, data_id_of, decoder_for, decoders_for, values_bytes_on, decoder_heads_bytes};
+ghost use Rattle.drc_container.specs.writing.WrittenOnSurface.{surface_order, coded_values, data_id_of, decoder_for, decoders_for, values_bytes_on, decoder_heads_bytes};
+ghost use Rattle.drc_container.specs.choice.CanCode.{CanCode};
 ghost use Rattle.drc_container.specs.writing.Encoded.{AttributeSpelled, AreReadAgain};
-ghost use Rattle.drc_container.specs.surface.AttributeSurfaces.{glued_on, walk_in, AreAttributeSurfaces, CanCodeValues};
+ghost use Rattle.drc_container.specs.surface.AttributeSurfaces.{glued_on, order_in, AreAttributeSurfaces};
 
 use crate::choice::codings::Coding;
 use crate::surface::attribute_surfaces::{AttributeSurfaces, is_cut_at, surface_at};
 use crate::surface::ordered_surface::OrderedSurface;
-use attr_section::{DecoderHead, Values, Walked, write_decoder, write_heads};
+use attr_section::{DecoderHead, Ordered, Values, write_decoder, write_heads};
 use drc_base::{Memory, Sequence};
 use mesh_model::Head;
 use std::alloc::Global;
@@ -94,16 +95,17 @@ fn put_values_over(
     values: &[Values],
     plain: bool,
 ) -> Result<(), Memory>
-    requires values { DecoderValuesPass (Some (walk_in surface.now)) decoder.now.heads values.now }
-    requires entries { HaveEntries (length (walk_in surface.now).corners) decoder.now.heads values.now }
-    ensures bytes { OnOk result (out.new.items ≡ out.old.items ++ decoder_values_bytes plain (Some (walk_in surface.now)) decoder.now.heads values.now) }
-    ensures again { OnOk result (AreReadAgain plain (walk_in surface.now) decoder.now values.now) }
+    requires values { DecoderValuesPass (Some (order_in surface.now)) decoder.now.heads values.now }
+    requires entries { HaveEntries (length (order_in surface.now).corners) decoder.now.heads values.now }
+    ensures bytes { OnOk result (out.new.items ≡ out.old.items ++ decoder_values_bytes plain (Some (order_in surface.now)) decoder.now.heads values.now) }
+    ensures again { OnOk result (AreReadAgain plain (order_in surface.now) decoder.now values.now) }
 {
-    let walk = Walked {
+    let on = Ordered {
         sides: &surface.sides,
+        classes: &surface.classes,
         order: &surface.order,
     };
-    write_decoder(alloc, out, decoder, values, plain, Some(&walk))?;
+    write_decoder(alloc, out, decoder, values, plain, Some(&on))?;
     Ok(())
 }
 
@@ -119,10 +121,10 @@ fn put_decoder_values(
 ) -> Result<(), Memory>
     requires stands { AreAttributeSurfaces coding.now.degree s.now }
     requires attribute { attr < length s.now.mesh.heads }
-    requires values { DecoderValuesPass (Some (surface_walk coding.now (glued_on s.now) attr)) decoder.now.heads values.now }
-    requires entries { HaveEntries (length (surface_walk coding.now (glued_on s.now) attr).corners) decoder.now.heads values.now }
-    ensures bytes { OnOk result (out.new.items ≡ out.old.items ++ decoder_values_bytes coding.now.plain (Some (surface_walk coding.now (glued_on s.now) attr)) decoder.now.heads values.now) }
-    ensures again { OnOk result (AreReadAgain coding.now.plain (surface_walk coding.now (glued_on s.now) attr) decoder.now values.now) }
+    requires values { DecoderValuesPass (Some (surface_order coding.now (glued_on s.now) attr)) decoder.now.heads values.now }
+    requires entries { HaveEntries (length (surface_order coding.now (glued_on s.now) attr).corners) decoder.now.heads values.now }
+    ensures bytes { OnOk result (out.new.items ≡ out.old.items ++ decoder_values_bytes coding.now.plain (Some (surface_order coding.now (glued_on s.now) attr)) decoder.now.heads values.now) }
+    ensures again { OnOk result (AreReadAgain coding.now.plain (surface_order coding.now (glued_on s.now) attr) decoder.now values.now) }
 {
     let surface = surface_at(s, attr);
     put_values_over(alloc, out, surface, decoder, values, coding.plain)?;
@@ -139,7 +141,8 @@ fn put_values(
     values: &[Values],
 ) -> Result<(), Memory>
     requires stands { AreAttributeSurfaces coding.now.degree s.now }
-    requires can { CanCodeValues coding.now (glued_on s.now) }
+    requires some { 0 < length s.now.mesh.faces }
+    requires can { CanCode coding.now.predict (coded_values coding.now (glued_on s.now)) }
     requires decoders { decoders.now ≡ decoders_for coding.now (glued_on s.now) }
     requires values { values.now ≡ coded_values coding.now (glued_on s.now) }
     ensures bytes { OnOk result (out.new.items ≡ out.old.items ++ values_bytes_on coding.now (glued_on s.now)) }
@@ -164,7 +167,8 @@ pub fn write_attributes(
     values: &[Values],
 ) -> Result<(), Memory>
     requires stands { AreAttributeSurfaces coding.now.degree s.now }
-    requires can { CanCodeValues coding.now (glued_on s.now) }
+    requires some { 0 < length s.now.mesh.faces }
+    requires can { CanCode coding.now.predict (coded_values coding.now (glued_on s.now)) }
     requires values { values.now ≡ coded_values coding.now (glued_on s.now) }
     ensures bytes { OnOk result (out.new.items ≡ out.old.items ++ (decoder_heads_bytes coding.now (glued_on s.now) ++ values_bytes_on coding.now (glued_on s.now))) }
     ensures heads { OnOk result (Spells (heads_at (Some (length s.now.mesh.heads - 1))) (decoder_heads_bytes coding.now (glued_on s.now)) (map bare_decoder (decoders_for coding.now (glued_on s.now)))) }

@@ -12,8 +12,9 @@ ghost use Rattle.mesh_model.specs.Same.{Rows};
 ghost use Rattle.pairing.specs.Degenerate.{degenerate_fault};
 ghost use Rattle.attr_section.specs.Heads.{bare_decoder, heads_at};
 ghost use Rattle.drc_container.specs.choice.Refused.{values_fault};
-ghost use Rattle.drc_container.specs.writing.WrittenOnSurface.{decoders_for, decoder_heads_bytes, values_bytes_on};
-ghost use Rattle.drc_container.specs.surface.AttributeSurfaces.{glued_by, flag_lists, CanCodeValues};
+ghost use Rattle.drc_container.specs.choice.CanCode.{CanCode};
+ghost use Rattle.drc_container.specs.writing.WrittenOnSurface.{coded_values, decoders_for, decoder_heads_bytes, values_bytes_on};
+ghost use Rattle.drc_container.specs.surface.AttributeSurfaces.{glued_by, flag_lists};
 ghost use Rattle.drc_container.specs.writing.Encoded.{due_on_surface, CanCodeSurface, AttributeSpelled, SurfaceSpelled};
 
 use crate::choice::codings::Coding;
@@ -44,7 +45,7 @@ fn put_attributes(
     requires some { 0 < length mesh.faces }
     ensures answer { let d = glued_by mesh.entry sides in
         Answers (λ _. out.new.items) (value_unless (values_fault coding.now d) (out.old.items ++ (decoder_heads_bytes coding.now d ++ values_bytes_on coding.now d))) result }
-    ensures can { OnOk result (CanCodeValues coding.now (glued_by mesh.entry sides)) }
+    ensures can { OnOk result (CanCode coding.now.predict (coded_values coding.now (glued_by mesh.entry sides))) }
     ensures heads { let d = glued_by mesh.entry sides in
         OnOk result (Spells (heads_at (Some (length mesh.entry.heads - 1))) (decoder_heads_bytes coding.now d) (map bare_decoder (decoders_for coding.now d))) }
     ensures again { OnOk result (All (λ (k, h). AttributeSpelled coding.now (glued_by mesh.entry sides) k h) (enumerate_from 0 mesh.entry.heads)) }

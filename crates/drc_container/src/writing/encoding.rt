@@ -10,7 +10,7 @@ ghost use Rattle.mesh_model.specs.SameLaws.{count_of};
 ghost use Rattle.drc_container.specs.choice.Choice.{method_of, is_sequential, chosen_code};
 ghost use Rattle.drc_container.specs.choice.Refused.{early_fault, face_fault, refused};
 ghost use Rattle.drc_container.specs.writing.Written.{values_of};
-ghost use Rattle.drc_container.specs.writing.Encoded.{encoding_due, CanCode, Means};
+ghost use Rattle.drc_container.specs.writing.Encoded.{encoding_due, CanCodeInOrder, Means};
 ghost use Rattle.drc_container.specs.writing.Layout.{layout_of, layout_chosen};
 
 use crate::choice::choices::Choice;
@@ -138,7 +138,7 @@ fn coded_values(
     requires early { early_fault g.now choice.now ≡ None }
     requires sequential { is_sequential (method_of g.now choice.now) ≡ true }
     ensures answer { Answers (λ v. v.items) (value_unless (refused g.now choice.now) (values_of g.now (chosen_code g.now choice.now))) result }
-    ensures can { IfOk result (λ _. CanCode g.now choice.now) }
+    ensures can { IfOk result (λ _. CanCodeInOrder g.now choice.now) }
 {
     // For the prover alone: the call states what holds of every geometry.
     let _count = g.point_count();

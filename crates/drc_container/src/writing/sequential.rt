@@ -14,7 +14,7 @@ ghost use Rattle.seq_section.specs.Indices.{indices_at};
 ghost use Rattle.drc_container.specs.choice.Choice.{chosen_code, index_of, is_packed};
 ghost use Rattle.drc_container.specs.Header.{cloud_points_at};
 ghost use Rattle.drc_container.specs.writing.Written.{geometry_type, sequential_connectivity_bytes, sequential_attributes_bytes, decoder_of, values_of, stream_bytes};
-ghost use Rattle.drc_container.specs.writing.Encoded.{CanCode, ConnectivitySpelled, AttributesSpelled, Means};
+ghost use Rattle.drc_container.specs.writing.Encoded.{CanCodeInOrder, ConnectivitySpelled, AttributesSpelled, Means};
 ghost use Rattle.drc_container.specs.writing.Layout.{layout_of, layout_chosen};
 
 use crate::choice::choices::Choice;
@@ -82,7 +82,7 @@ fn put_attributes(
     choice: &Choice,
     values: Vec<Values>,
 ) -> Result<(), Memory>
-    requires can { CanCode g.now choice.now }
+    requires can { CanCodeInOrder g.now choice.now }
     requires sound { ArePoints (heads_in g.now) (points_in g.now) }
     requires values { values.items ≡ values_of g.now (chosen_code g.now choice.now) }
     ensures bytes { OnOk result (out.new.items ≡ out.old.items ++ sequential_attributes_bytes choice.now.plain_values g.now (chosen_code g.now choice.now)) }
@@ -105,7 +105,7 @@ fn put_stream(
     choice: &Choice,
     values: Vec<Values>,
 ) -> Result<(), Memory>
-    requires can { CanCode g.now choice.now }
+    requires can { CanCodeInOrder g.now choice.now }
     requires sound { ArePoints (heads_in g.now) (points_in g.now) }
     requires values { values.items ≡ values_of g.now (chosen_code g.now choice.now) }
     ensures bytes { OnOk result (out.new.items ≡ out.old.items ++ stream_bytes g.now choice.now) }
@@ -126,7 +126,7 @@ pub fn write_stream(
     choice: &Choice,
     values: Vec<Values>,
 ) -> Result<Vec<u8>, Memory>
-    requires can { CanCode g.now choice.now }
+    requires can { CanCodeInOrder g.now choice.now }
     requires values { values.items ≡ values_of g.now (chosen_code g.now choice.now) }
     ensures bytes { IfOk result (λ v. v.items ≡ stream_bytes g.now choice.now) }
     ensures means { IfOk result (λ v. Means g.now choice.now v.items (plain (count_of g.now))) }

@@ -1,10 +1,10 @@
-//! The values of a mesh's attributes, each in the order of its walk.
+//! The values of a mesh's attributes, each in its order.
 
 ghost use Rattle.std.specs.Prelude.{◌≡◌, ◌+◌, ◌<◌, ◌≤◌, ◌*◌, ◌^◌, map, take, drop, flat_map, length, All, IfOk};
 ghost use Rattle.drc_base.specs.Refusals.{Answers};
 ghost use Rattle.mesh_model.specs.FirstFault.{value_unless};
 ghost use Rattle.mesh_model.specs.Head.{width_of};
-ghost use Rattle.corner_table.specs.Table.{side_of};
+ghost use Rattle.corner_table.specs.Sides.{side_at};
 ghost use Rattle.seams.specs.Values.{piece};
 ghost use Rattle.attr_section.specs.Values.{values_in};
 ghost use Rattle.drc_container.specs.choice.Refused.{values_fault};
@@ -17,10 +17,11 @@ use crate::surface::attribute_surfaces::{AttributeSurfaces, surface_at};
 use crate::surface::turned_meshes::TurnedMesh;
 use crate::writing::coded_values::{predicted_column, put_piece};
 use attr_section::Values;
-use drc_base::{Kind, MAX_VALUES, Memory, Refusal, Side};
+use corner_table::side_with;
+use drc_base::{Kind, MAX_VALUES, Memory, Refusal};
 use std::alloc::Global;
 
-/// How many values are coded: of each attribute its integers at each entry of its walk.
+/// How many values are coded: of each attribute its integers at each entry of its order.
 fn value_count(s: &AttributeSurfaces<'_>, coding: &Coding) -> u64
     requires { AreAttributeSurfaces coding.now.degree s.now }
     ensures { result ≡ values_in (coded_values coding.now (glued_on s.now)) }
@@ -33,33 +34,34 @@ fn value_count(s: &AttributeSurfaces<'_>, coding: &Coding) -> u64
     count
 }
 
-/// The integers of attribute `attr`, which are the `comps` from integer `start` of a point on, at each of these corners.
+/// The integers of attribute `attr`, which are the `comps` from integer `start` of a point on, at each of these corners
+/// (by their numbers 3f + k).
 fn column_at(
     alloc: Global,
     mesh: &TurnedMesh<'_>,
-    corners: &[Side],
+    corners: &[u32],
     attr: usize,
     start: usize,
     comps: usize,
 ) -> Result<Vec<i32>, Memory>
-    requires corners { All (λ c. c.face < length mesh.now.faces) corners.now }
+    requires corners { All (λ c. c < 3 * length mesh.now.faces) corners.now }
     requires few { length corners.now < 2 ^ 32 }
     requires start { start ≡ width_of (take attr mesh.now.heads) }
     requires comps { comps ≡ width_of (take 1 (drop attr mesh.now.heads)) }
     requires within { start + comps ≤ width_of mesh.now.heads }
-    ensures { IfOk result (λ v. v.items ≡ flat_map (piece mesh.now attr) (map side_of corners.now)) }
+    ensures { IfOk result (λ v. v.items ≡ flat_map (piece mesh.now attr) (map side_at corners.now)) }
 {
     // For the prover alone: a row has at most 128 integers.
     let _width = mesh.width();
     let mut column = Vec::with_capacity(alloc, corners.len() * comps)?;
     for corner in corners {
-        let row = mesh.corner(*corner);
+        let row = mesh.corner(side_with(*corner));
         put_piece(&mut column, &row[start..start + comps]);
     }
     Ok(column)
 }
 
-/// The values of each attribute, in the order of its walk.
+/// The values of each attribute, in its order.
 fn columns_on(
     alloc: Global,
     s: &AttributeSurfaces<'_>,
@@ -80,7 +82,7 @@ fn columns_on(
     Ok(values)
 }
 
-/// The values of each attribute, in the order of its walk. Refusals: ValueLimit at the number of values, before
+/// The values of each attribute, in its order. Refusals: ValueLimit at the number of values, before
 /// room is taken for them; Range at the first attribute whose values can't be predicted.
 pub fn values_on(
     alloc: Global,

@@ -18,7 +18,7 @@ use Rattle.predict.specs.Restored.{corrections}
 use Rattle.predict.specs.Schemes.{facts, byte_of, prediction_coded}
 use Rattle.predict.specs.Surfaces.{surface_or}
 use Rattle.predict.specs.Symbols.{zigzag_of}
-use Rattle.predict.specs.Walked.{Walked}
+use Rattle.corner_table.specs.Ordered.{Ordered}
 use Rattle.attr_section.specs.declared.decoder_heads.DecoderHead.{DecoderHead}
 use Rattle.attr_section.specs.declared.values.Values.{Values}
 use Rattle.attr_section.specs.Heads.{type_coding, id_byte, link_bytes, head_bytes, decoder_bytes, links_bytes, heads_bytes}
@@ -124,7 +124,7 @@ flags-bytes : (flags : List Bool) → AreBytes (flags_bytes flags)
 unfolding flags_bytes
 flags-bytes flags = joined (spelling 5 (length flags)) (flag_bits_bytes flags) (spelled 5 (length flags)) (flag_bits-bytes flags)
 
-flagged-bytes : (plain : Bool) (w : Walked) (q : Prediction) (comps : ℕ) (lists : List (List Bool)) (values : List ℤ) → AreBytes (flagged_bytes plain w q comps lists values)
+flagged-bytes : (plain : Bool) (w : Ordered) (q : Prediction) (comps : ℕ) (lists : List (List Bool)) (values : List ℤ) → AreBytes (flagged_bytes plain w q comps lists values)
 unfolding flagged_bytes
 flagged-bytes plain w q comps lists values =
     let r = range_of values in
@@ -134,7 +134,7 @@ flagged-bytes plain w q comps lists values =
     (joined (flat_map flags_bytes lists) (range_bytes r) (each-of flags_bytes flags-bytes lists)
     (joined (signed_bytes r.low) (signed_bytes r.high) (low 4 _) (low 4 _))))
 
-predicted-bytes : (plain : Bool) (w : Option Walked) (q : Prediction) (comps : ℕ) (values : List ℤ) → AreBytes (predicted_bytes plain w q comps values)
+predicted-bytes : (plain : Bool) (w : Option Ordered) (q : Prediction) (comps : ℕ) (values : List ℤ) → AreBytes (predicted_bytes plain w q comps values)
 unfolding predicted_bytes
 predicted-bytes plain w q comps values = elim (cases_Bool (facts q).corrects) [
   | inl t ↦ rw (cond-true _ _ _ t) (flagged-bytes plain (surface_or w) q comps (marks_of q (surface_or w) comps values) values)
@@ -143,15 +143,13 @@ predicted-bytes plain w q comps values = elim (cases_Bool (facts q).corrects) [
 
 byte-of : (q : Prediction) → byte_of q < 256
 byte-of prediction.Off = omega arith
-byte-of prediction.Difference = omega arith
-byte-of prediction.Parallelogram = omega arith
-byte-of prediction.Multi = omega arith
+byte-of _ = omega arith
 
-prediction-bytes : (plain : Bool) (w : Option Walked) (o : Option Prediction) (comps : ℕ) (values : List ℤ) → AreBytes (prediction_bytes plain w o comps values)
+prediction-bytes : (plain : Bool) (w : Option Ordered) (o : Option Prediction) (comps : ℕ) (values : List ℤ) → AreBytes (prediction_bytes plain w o comps values)
 prediction-bytes plain w None comps values = no-bytes
 prediction-bytes plain w (Some q) comps values = byte-then (byte_of q) (predicted_bytes plain w q comps values) (byte-of q) (predicted-bytes plain w q comps values)
 
-attribute-bytes : (plain : Bool) (w : Option Walked) (comps : ℕ) (v : Values) → AreBytes (values_bytes plain w comps v)
+attribute-bytes : (plain : Bool) (w : Option Ordered) (comps : ℕ) (v : Values) → AreBytes (values_bytes plain w comps v)
 unfolding values_bytes
 attribute-bytes plain w comps v = prediction-bytes plain w (prediction_coded v.predict) comps v.values
 
@@ -167,7 +165,7 @@ quant-bytes (Some q) is =
 
 -- ---- a decoder's values and quantisations
 
-pub values-bytes : (plain : Bool) (w : Option Walked) (heads : List Head) (attributes : List Values) → All HeadSays heads → AreBytes (decoder_values_bytes plain w heads attributes)
+pub values-bytes : (plain : Bool) (w : Option Ordered) (heads : List Head) (attributes : List Values) → All HeadSays heads → AreBytes (decoder_values_bytes plain w heads attributes)
 unfolding decoder_values_bytes
 values-bytes plain w heads attributes say =
     joined (attributes_bytes plain w heads attributes) (quants_bytes heads)

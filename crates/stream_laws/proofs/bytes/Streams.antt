@@ -21,7 +21,7 @@ use Rattle.drc_container.specs.declared.choice.choices.Choice.{Choice}
 use Rattle.drc_container.specs.choice.Choice.{method_of, is_sequential, index_of, is_packed, chosen_code}
 use Rattle.drc_container.specs.Header.{magic}
 use Rattle.drc_container.specs.writing.Written.{header_bytes, sequential_connectivity_bytes, decoder_of, values_of, attribute_heads_bytes, sequential_attributes_bytes, stream_bytes}
-use Rattle.drc_container.specs.writing.WrittenOnSurface.{traced, GluedMesh, decoded, seam_bits_of, surface_walk, coded_by, data_id_of, decoder_for, decoders_for, seam_lists, attribute_bytes, values_bytes_on, decoder_heads_bytes, connectivity_of, edgebreaker_bytes}
+use Rattle.drc_container.specs.writing.WrittenOnSurface.{traced, GluedMesh, decoded, seam_bits_of, surface_order, coded_by, data_id_of, decoder_for, decoders_for, seam_lists, attribute_bytes, values_bytes_on, decoder_heads_bytes, connectivity_of, edgebreaker_bytes}
 use Rattle.drc_container.specs.writing.Chosen.{mesh_in, coding_of}
 use Rattle.drc_container.proofs.lemmas.surface.Traced.{decoded-heads}
 use Rattle.drc_container.proofs.lemmas.writing.SurfaceParts.{decoders-each}
@@ -119,7 +119,7 @@ values-from coding d k [] are = no-bytes
 values-from coding d k (h ∷ heads) are =
     let one : IsSpelled h = All-head IsSpelled h heads are in
     joined (attribute_bytes coding d k h) (flat_map (λ (j, e). attribute_bytes coding d j e) (enumerate_from (k + 1) heads))
-    (values-bytes coding.plain (Some (surface_walk coding d k)) (h ∷ []) (coded_by coding d k ∷ []) (All-cons HeadSays h [] one.says (All-nil HeadSays)))
+    (values-bytes coding.plain (Some (surface_order coding d k)) (h ∷ []) (coded_by coding d k ∷ []) (All-cons HeadSays h [] one.says (All-nil HeadSays)))
     (values-from coding d (k + 1) heads (All-tail IsSpelled h heads are))
 
 lists-few : (d : GluedMesh) → AreSpelled d.mesh.heads → length (seam_lists d) < 256

@@ -20,7 +20,7 @@ use Rattle.ply_mesh.specs.Fields.{QuantFields, HasFields}
 use Rattle.predict.specs.declared.schemes.Prediction.{Prediction}
 use Rattle.predict.specs.Schemes.{facts, prediction_of}
 use Rattle.predict.specs.Surfaces.{surface_or, lacks_surface}
-use Rattle.predict.specs.Walked.{Walked}
+use Rattle.corner_table.specs.Ordered.{Ordered}
 use Rattle.predict.specs.Wrap.{Range}
 use Rattle.attr_section.specs.declared.decoder_heads.DecoderHead.{DecoderHead}
 use Rattle.attr_section.specs.declared.links.Link.{Link}
@@ -153,7 +153,7 @@ range-leaves c here =
     let r : Range = record { low = a.0; high = b.0 } in
     either-leaves (can_wrap r) _ _ (ok-leaves r b.1 hb) (fault-leaves kind.WrapRange c)))
 
-corrected-leaves : (at : ℕ) (w : Walked) (q : Prediction) (comps n : ℕ) (c : Reading) → BytesAhead c → LeavesBytes (corrected_at at w q comps n c)
+corrected-leaves : (at : ℕ) (w : Ordered) (q : Prediction) (comps n : ℕ) (c : Reading) → BytesAhead c → LeavesBytes (corrected_at at w q comps n c)
 unfolding corrected_at flag_lists_at with_flags
 corrected-leaves at w q comps n c here =
     then-leaves (transform_at c) _ (must-leaves kind.Transform (λ t. t == 1) (number_at 1) c (number-leaves 1 c here)) (λ a ha.
@@ -162,7 +162,7 @@ corrected-leaves at w q comps n c here =
     then-leaves (range_at d.1) _ (range-leaves d.1 hd) (λ e he.
     either-leaves (has_flags q w d.0) _ _ (ok-leaves _ e.1 he) (λ y is. absurd (err≢ok is))))))
 
-typed-leaves : (p : Profile) (w : Option Walked) (h : Head) (n : ℕ) (c : Reading) → BytesAhead c → LeavesBytes (typed_values_at p w h n c)
+typed-leaves : (p : Profile) (w : Option Ordered) (h : Head) (n : ℕ) (c : Reading) → BytesAhead c → LeavesBytes (typed_values_at p w h n c)
 unfolding typed_values_at predicted_at
 typed-leaves p w h n c here =
     then-leaves (prediction_at p c) _ (prediction-leaves p c here) (λ a ha.
@@ -172,7 +172,7 @@ typed-leaves p w h n c here =
     (integers-leave h.comps n a.1 ha))
     (λ b hb. either-leaves (list_all (in_type h.dtype) b.0) _ _ (ok-leaves _ b.1 hb) (fault-leaves kind.ValueRange c)))
 
-values-leave : (p : Profile) (w : Option Walked) (h : Head) (entries spent : ℕ) (c : Reading) → BytesAhead c → LeavesBytes (values_at p w h entries spent c)
+values-leave : (p : Profile) (w : Option Ordered) (h : Head) (entries spent : ℕ) (c : Reading) → BytesAhead c → LeavesBytes (values_at p w h entries spent c)
 unfolding values_at
 values-leave p w h entries spent c here =
     either-leaves (nat_le (spent + entries * h.comps) p.values) _ _ (typed-leaves p w h (entries * h.comps) c here) (fault-leaves kind.ValueLimit c)
@@ -214,7 +214,7 @@ quantised-fields h bare c here y is =
     (record { normalized = bare.normalized; id = bare.id; quant = fields.0 }, fields.1)
 
 -- a decoder's values, and its heads with their quantisations
-pub decoder_values-fields : (p : Profile) (w : Option Walked) (d : DecoderHead) (entries spent : ℕ) → HeadsHaveBareFields d → (c : Reading) → BytesAhead c
+pub decoder_values-fields : (p : Profile) (w : Option Ordered) (d : DecoderHead) (entries spent : ℕ) → HeadsHaveBareFields d → (c : Reading) → BytesAhead c
     → Leaves (λ x. All HasFields x.1.heads) (decoder_values_at p w d entries spent c)
 unfolding decoder_values_at columns_at quants_at
 decoder_values-fields p w d entries spent bare c here y is =

@@ -9,7 +9,7 @@ use Rattle.drc_bits.specs.Reading.{Reading, bytes_at}
 use Rattle.drc_bits.specs.Numbers.{number_at}
 use Rattle.mesh_model.specs.declared.heads.Head.{Head}
 use Rattle.mesh_model.specs.declared.geometries.Geometry.TheVariants as geometry
-use Rattle.mesh_model.specs.declared.tables.AttrTable.{AttrTable}
+use Rattle.mesh_model.specs.Groups.{AttrTable}
 use Rattle.mesh_model.specs.Contents.{heads_in}
 use Rattle.mesh_model.specs.Parts.{MeshParts, CloudParts, mesh_fault, cloud_fault, mesh_of, cloud_of}
 use Rattle.mesh_model.specs.Assembled.{assembled_parts, assembled}
@@ -21,7 +21,7 @@ use Rattle.attr_section.specs.Values.{decoder_values_at, values_in}
 use Rattle.eb_section.specs.Connectivity.{Connectivity, connectivity_at}
 use Rattle.drc_container.specs.Header.{form_said, magic_at, header_at, cloud_points_at}
 use Rattle.drc_container.specs.reading.Meaning.{Meaning}
-use Rattle.drc_container.specs.reading.OnSurface.{walked_for, decoder_attributes, attributes_joined, values_on, decoder_on, no_attributes, surface_decoders_at, attributes_on, assembled_in, assembled_at}
+use Rattle.drc_container.specs.reading.OnSurface.{ordered_for, decoder_attributes, attributes_joined, values_on, decoder_on, no_attributes, surface_decoders_at, attributes_on, assembled_in, assembled_at}
 use Rattle.drc_container.specs.reading.Stream.{decoders_values_at, sequential_attributes_at, points_behind, mesh_behind, mesh_at, cloud_behind, cloud_at, surface_behind, edgebreaker_at, stream}
 use Rattle.drc_container.proofs.lemmas.reading.Parted.{given, parts}
 use Rattle.drc_container.proofs.lemmas.reading.ProfileCounts.{assembled-two}
@@ -73,7 +73,7 @@ surface-fields : (s : Connectivity) (ds : List DecoderHead) → All HeadsHaveBar
 unfolding surface_decoders_at decoder_on
 surface-fields s [] bare before c y is here have = given-of (before, c) y is (λ z. All HasFields z.0.heads) have
 surface-fields s (d ∷ ds) bare before c y is here have =
-    let w = walked_for s d in
+    let w = ordered_for s d in
     let n = length w.corners in
     let spent = values_on before.tables in
     let p = parts (decoder_on profile w d spent c) _ y is in

@@ -7,7 +7,7 @@ use Rattle.std.proofs.lemmas.List.Elements.{All-from_get_or, All-nil, All-cons}
 use Rattle.std.proofs.lemmas.List.FromFn.{length-map-range_with_len, get_or-map-range_with_len}
 use Rattle.drc_base.specs.declared.faults.Fault.{Fault}
 use Rattle.mesh_model.specs.declared.heads.Head.{Head}
-use Rattle.mesh_model.specs.declared.tables.AttrTable.{AttrTable}
+use Rattle.mesh_model.specs.Groups.{AttrTable}
 use Rattle.mesh_model.specs.FirstFault.{value_unless}
 use Rattle.mesh_model.specs.Head.{width_of, heads_fault}
 use Rattle.mesh_model.specs.Parts.{MeshParts, CloudParts, rows_of, count_fault, faces_fault, index_fault, range_fault, mesh_fault, cloud_fault, mesh_of, cloud_of, AreRows, RowFits, IsFaceOf, IsMesh, IsCloud}

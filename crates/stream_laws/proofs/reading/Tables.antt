@@ -8,7 +8,7 @@ use Rattle.std.proofs.lemmas.List.Elements.{All-nil, All-head, All-tail, All-fro
 use Rattle.drc_base.specs.declared.limits.TheConstants.{MAX_VALUES}
 use Rattle.drc_bits.specs.Reading.{Reading}
 use Rattle.mesh_model.specs.declared.heads.Head.{Head}
-use Rattle.mesh_model.specs.declared.tables.AttrTable.{AttrTable}
+use Rattle.mesh_model.specs.Groups.{AttrTable}
 use Rattle.mesh_model.specs.Assembled.{IsAttrTable, AreAttrTables, AreTables}
 use Rattle.corner_table.specs.Sides.{side_at, Gluing, IsGluing}
 use Rattle.corner_table.proofs.Numbers.{number-side_at, face-lt}
@@ -18,13 +18,13 @@ use Rattle.seams.specs.Seams.{flag_at}
 use Rattle.seams.specs.SeamBits.{flags_of_bits}
 use Rattle.seams.proofs.Chains.{cut_is_gluing}
 use Rattle.seams.proofs.Values.{told_are_flags}
-use Rattle.predict.specs.Walked.{Walked}
+use Rattle.corner_table.specs.Ordered.{Ordered}
 use Rattle.attr_section.specs.declared.decoder_heads.DecoderHead.{DecoderHead}
 use Rattle.attr_section.specs.declared.values.Values.{Values}
 use Rattle.attr_section.specs.Heads.{HeadPasses, heads_at}
 use Rattle.attr_section.specs.Values.{quants_at, decoder_values_at, attributes_at as columns_at, values_in}
 use Rattle.eb_section.specs.Connectivity.{Connectivity}
-use Rattle.drc_container.specs.reading.OnSurface.{order_by, walked_by, seams_of, cut_at, cut_for, walked_for, decoder_attributes, attributes_joined, values_on, decoder_on, no_attributes, surface_decoders_at, attributes_on}
+use Rattle.drc_container.specs.reading.OnSurface.{order_by, ordered_by, seams_of, cut_at, cut_for, ordered_for, decoder_attributes, attributes_joined, values_on, decoder_on, no_attributes, surface_decoders_at, attributes_on}
 use Rattle.drc_container.proofs.lemmas.reading.Parted.{given, parts}
 use Rattle.drc_container.proofs.lemmas.reading.Headed.{shapes, quants-passed, DecoderRead, heads-read}
 use Rattle.drc_container.proofs.lemmas.reading.Whole.{AreTyped, AreColumns, columns-from}
@@ -46,12 +46,12 @@ entries-within degree faces g gluing =
     subst (λ n. below (get_or entries n 0)) (number-side_at i) has.within)
 
 -- a surface that is walked
-record IsWalked (faces : ℕ) (w : Walked) : Type 0 where
+record IsOrdered (faces : ℕ) (w : Ordered) : Type 0 where
   each_corner : length w.entries ≡ 3 * faces
   entries : All (λ (e : ℕ). e < length w.corners) w.entries
 
-walk-entries : (degree : Bool) (faces : ℕ) (g : Gluing) → IsGluing faces g → IsWalked faces (walked_by degree faces g)
-unfolding walked_by
+walk-entries : (degree : Bool) (faces : ℕ) (g : Gluing) → IsGluing faces g → IsOrdered faces (ordered_by degree faces g)
+unfolding ordered_by
 walk-entries degree faces g gluing = record {
   each_corner = entries-each faces g (order_by degree faces g);
   entries = entries-within degree faces g gluing;
@@ -66,7 +66,7 @@ either-gluing : (faces : ℕ) (cut : Bool) (g h : Gluing) → IsGluing faces g �
 either-gluing faces true g h one other = one
 either-gluing faces false g h one other = other
 
-walk-for : (s : Connectivity) (d : DecoderHead) → IsGluing s.faces s.glued → IsWalked s.faces (walked_for s d)
+walk-for : (s : Connectivity) (d : DecoderHead) → IsGluing s.faces s.glued → IsOrdered s.faces (ordered_for s d)
 walk-for s d gluing =
     let cut = cut_at s.faces s.glued (seams_of s.seams d.data_id) in
     walk-entries d.degree s.faces (cut_for s d)
@@ -77,7 +77,7 @@ pub record IsDecoderRead (n spent : ℕ) (x : List Values × DecoderHead) : Type
   pub typed : AreTyped n (shapes x.1.heads) x.0
   pub few : spent + values_in x.0 ≤ MAX_VALUES
 
-pub decoder-columns : (w : Option Walked) (d : DecoderHead) (n spent : ℕ) → spent ≤ MAX_VALUES → All HeadPasses d.heads
+pub decoder-columns : (w : Option Ordered) (d : DecoderHead) (n spent : ℕ) → spent ≤ MAX_VALUES → All HeadPasses d.heads
     → (c : Reading) (y : (List Values × DecoderHead) × Reading) → decoder_values_at profile w d n spent c ≡ Ok y → IsDecoderRead n spent y.0
 unfolding decoder_values_at columns_at
 decoder-columns w d n spent few passes c y is =
@@ -101,15 +101,15 @@ decoders-placed : (s : Connectivity) → IsGluing s.faces s.glued → (ds : List
 unfolding surface_decoders_at decoder_on
 decoders-placed s gluing [] read before c y is are = given-of (before, c) y is (λ z. AreOnSurface (3 * s.faces) z.0.heads z.0.tables) are
 decoders-placed s gluing (d ∷ ds) read before c y is are =
-    let w = walked_for s d in
-    let walked = walk-for s d gluing in
+    let w = ordered_for s d in
+    let ordered = walk-for s d gluing in
     let corners = 3 * s.faces in
     let spent = values_on before.tables in
     let p = parts (decoder_on profile w d spent c) _ y is in
     let q = parts (decoder_values_at profile (Some w) d (length w.corners) spent c) _ p.0 p.1 in
     let here = decoder-columns (Some w) d (length w.corners) spent are.few (All-head DecoderRead d ds read).heads c q.0 q.1 in
     let a = decoder_attributes w q.0.0.1 q.0.0.0 in
-    let columns = columns-tables corners (length w.corners) w.entries walked.each_corner walked.entries q.0.0.1.heads q.0.0.0 here.typed in
+    let columns = columns-tables corners (length w.corners) w.entries ordered.each_corner ordered.entries q.0.0.1.heads q.0.0.0 here.typed in
     let joined : AreOnSurface corners (attributes_joined before a).heads (attributes_joined before a).tables = record {
       columns = columns-joined corners before.heads a.heads before.tables a.tables are.columns columns;
       few = omega (arith, here.few, values_on-append before.tables a.tables, values_on-tables w.entries q.0.0.0);

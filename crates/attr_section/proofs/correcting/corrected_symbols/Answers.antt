@@ -26,13 +26,13 @@ correct-requires-clause-within c = rw (wrap_is c.before) (range_of-bounds c.args
 
 pub returns-clause-few : goal.returns-clause-few
 returns-clause-few c =
-    let w = surface_of (option_map (λ t. t.now) c.args.walk) in
+    let w = surface_of (option_map (λ t. t.now) c.args.on) in
     All-same (λ (flags : List Bool). length flags < 2 ^ 31) c.in_ok-symbols.flags.lists (marks_of c.args.prediction (surface_or w) c.args.comps c.args.values.now)
     c.in_ok-symbols.ensures.flags (lists_short c.args.prediction w c.args.comps c.args.values.now c.requires.comps c.requires.few c.requires.stand)
 
 pub returns-clause-len : goal.returns-clause-len
 returns-clause-len c =
-    let w = surface_or (surface_of (option_map (λ t. t.now) c.args.walk)) in
+    let w = surface_or (surface_of (option_map (λ t. t.now) c.args.on)) in
     let f : List ℤ → ℤ = foretold c.args.prediction w c.args.comps c.in_ok-symbols.flags.lists in
     ap length c.in_ok-symbols.ensures.symbols
     ∙ length-map (corrections f c.wrap_of-wrap.result c.args.values.now) zigzag_of

@@ -22,8 +22,8 @@ loop-i-preserved c =
     let pairs = zip c.args.heads.now c.args.attributes.now in
     let here : c.loop-i.i < length pairs = omega (arith, length-zipped c.args.heads.now c.args.attributes.now c.requires.each_head) in
     let at = zipped c.args.heads.now c.args.attributes.now c.loop-i.i h v c.requires.each_head c.loop-i-test.true c.index-heads-i.is c.index-attributes-i.is in (
-      appended-more (λ (h, v). values_bytes c.args.plain (surface_of (option_map (λ t. t.now) c.args.walk)) h.comps v) pairs c.loop-i.i (h, v) c.args.out.now.items c.loop-i.out.items c.put_values.new.out.items here at c.loop-i.invariant.0 c.in_ok-put_values.ensures.bytes,
-      all-more (λ (h, v). ValuesSpelled c.args.plain (surface_of (option_map (λ t. t.now) c.args.walk)) h v) pairs c.loop-i.i (h, v) here at c.loop-i.invariant.1 c.in_ok-put_values.ensures.again,
+      appended-more (λ (h, v). values_bytes c.args.plain (surface_of (option_map (λ t. t.now) c.args.on)) h.comps v) pairs c.loop-i.i (h, v) c.args.out.now.items c.loop-i.out.items c.put_values.new.out.items here at c.loop-i.invariant.0 c.in_ok-put_values.ensures.bytes,
+      all-more (λ (h, v). ValuesSpelled c.args.plain (surface_of (option_map (λ t. t.now) c.args.on)) h v) pairs c.loop-i.i (h, v) here at c.loop-i.invariant.1 c.in_ok-put_values.ensures.again,
     )
 
 pub returns-clause-bytes : goal.returns-clause-bytes

@@ -26,7 +26,7 @@ unfolding flagged_bytes integers_bytes
 returns-clause-bytes c =
     let low : FitsSigned w32 c.range_of-least.result.0 = search rules in
     let high : FitsSigned w32 c.range_of-least.result.1 = search rules in
-    let w = surface_or (surface_of (option_map (λ t. t.now) c.args.walk)) in
+    let w = surface_or (surface_of (option_map (λ t. t.now) c.args.on)) in
     let bytes : c.put_range.new.out.items ≡ c.args.out.now.items ++ flagged_bytes c.args.plain w c.args.prediction c.args.comps c.in_ok-symbols.flags.lists c.args.values.now =
     rw (← c.in_ok-symbols.ensures.symbols, c.range_of-least.ensures)
     (joined c.args.out.now.items c.push.new.self.items c.put_symbols.new.out.items c.put_flag_lists.new.out.items c.put_range.new.out.items _ _ _
@@ -39,7 +39,7 @@ returns-clause-again c = λ few at.
     let low : FitsSigned w32 c.range_of-least.result.0 = search rules in
     let high : FitsSigned w32 c.range_of-least.result.1 = search rules in
     let range = simp to_z-of_z at c.in_ok-put_range.ensures.again in
-    let w = surface_or (surface_of (option_map (λ t. t.now) c.args.walk)) in
+    let w = surface_or (surface_of (option_map (λ t. t.now) c.args.on)) in
     let q = c.args.prediction in
     let values = c.args.values.now in
     let lists : List (List Bool) = c.in_ok-symbols.flags.lists in

@@ -14,7 +14,7 @@ on_ok (Err e) f p = p
 
 pub returns-then-facts-clause-again : goal.returns-then-facts-clause-again
 returns-then-facts-clause-again c =
-    let w = surface_of (option_map (λ t. t.now) c.args.walk) in
+    let w = surface_of (option_map (λ t. t.now) c.args.on) in
     let q = c.args.prediction in
     let corrects : (facts q).corrects ≡ true = sym (ap (λ (f : Facts). f.corrects) c.facts.ensures) ∙ c.if-facts.true in
     on_ok c.put_corrected.result
@@ -25,7 +25,7 @@ returns-then-facts-clause-again c =
 
 pub returns-else-facts-clause-again : goal.returns-else-facts-clause-again
 returns-else-facts-clause-again c =
-    let w = surface_of (option_map (λ t. t.now) c.args.walk) in
+    let w = surface_of (option_map (λ t. t.now) c.args.on) in
     let q = c.args.prediction in
     let none : (facts q).corrects ≡ false = sym (ap (λ (f : Facts). f.corrects) c.facts.ensures) ∙ c.if-facts.false in
     on_ok c.put_integers.result

@@ -17,8 +17,8 @@ pub returns-in_err-values-clause-item : goal.returns-in_err-values-clause-item
 unfolding attributes_at
 returns-in_err-values-clause-item c =
     let p = err_from_is_err_and c.from_residual.result c.from_residual.ensures.1 in
-    rw (p.1, p.2) (each_at-refuses (λ before h. values_at profile (surface_of (option_map (λ t. t.now) c.args.walk)) h c.args.entries (c.args.spent + values_in before)) c.args.heads.now c.loop-head.head-index c.head-item.result c.loop-head.attributes.items c.loop-head.c c.in_err-values.field-0.0
-    (attributes_at profile (surface_of (option_map (λ t. t.now) c.args.walk)) c.args.heads.now c.args.entries c.args.spent c.args.c.now) c.loop-head.invariant.0 (omega arith) c.head-item.is
+    rw (p.1, p.2) (each_at-refuses (λ before h. values_at profile (surface_of (option_map (λ t. t.now) c.args.on)) h c.args.entries (c.args.spent + values_in before)) c.args.heads.now c.loop-head.head-index c.head-item.result c.loop-head.attributes.items c.loop-head.c c.in_err-values.field-0.0
+    (attributes_at profile (surface_of (option_map (λ t. t.now) c.args.on)) c.args.heads.now c.args.entries c.args.spent c.args.c.now) c.loop-head.invariant.0 (omega arith) c.head-item.is
     (rw c.loop-head.invariant.1 at c.in_err-values.ensures.item))
 
 pub loop-head-preserved : goal.loop-head-preserved
@@ -26,8 +26,8 @@ unfolding attributes_at
 loop-head-preserved c =
     let count : c.len.result ≡ length c.in_ok-values.values.values = c.len.ensures in
     rw (c.in_ok-push.ensures.items, values_in-push, count) (
-      each_at-next (λ before h. values_at profile (surface_of (option_map (λ t. t.now) c.args.walk)) h c.args.entries (c.args.spent + values_in before)) c.args.heads.now c.loop-head.head-index c.head-item.result c.loop-head.attributes.items c.loop-head.c c.read_values.new.c c.in_ok-values.values
-          (attributes_at profile (surface_of (option_map (λ t. t.now) c.args.walk)) c.args.heads.now c.args.entries c.args.spent c.args.c.now) c.loop-head.invariant.0 (omega arith) c.head-item.is
+      each_at-next (λ before h. values_at profile (surface_of (option_map (λ t. t.now) c.args.on)) h c.args.entries (c.args.spent + values_in before)) c.args.heads.now c.loop-head.head-index c.head-item.result c.loop-head.attributes.items c.loop-head.c c.read_values.new.c c.in_ok-values.values
+          (attributes_at profile (surface_of (option_map (λ t. t.now) c.args.on)) c.args.heads.now c.args.entries c.args.spent c.args.c.now) c.loop-head.invariant.0 (omega arith) c.head-item.is
           (rw c.loop-head.invariant.1 at c.in_ok-values.ensures.item),
       omega (arith, c.loop-head.invariant.1),
       c.in_ok-values.ensures.few,
@@ -37,4 +37,4 @@ loop-head-preserved c =
 pub returns-clause-item : goal.returns-clause-item
 unfolding attributes_at
 returns-clause-item c =
-    each_at-end (λ before h. values_at profile (surface_of (option_map (λ t. t.now) c.args.walk)) h c.args.entries (c.args.spent + values_in before)) c.args.heads.now c.loop-head.head-index c.loop-head.attributes.items c.loop-head.c (attributes_at profile (surface_of (option_map (λ t. t.now) c.args.walk)) c.args.heads.now c.args.entries c.args.spent c.args.c.now) c.loop-head.invariant.0 (omega arith)
+    each_at-end (λ before h. values_at profile (surface_of (option_map (λ t. t.now) c.args.on)) h c.args.entries (c.args.spent + values_in before)) c.args.heads.now c.loop-head.head-index c.loop-head.attributes.items c.loop-head.c (attributes_at profile (surface_of (option_map (λ t. t.now) c.args.on)) c.args.heads.now c.args.entries c.args.spent c.args.c.now) c.loop-head.invariant.0 (omega arith)

@@ -9,8 +9,8 @@ use Rattle.attr_section.proofs.value_reading.read_attributes.Given as goal
 
 abbrev pub invariant-loop-head : goal.invariant-loop-head
 invariant-loop-head l =
-    (each_at (λ before h. values_at profile (surface_of (option_map (λ t. t.now) l.walk)) h l.entries (l.spent + values_in before)) l.attributes.items (drop l.head-index l.heads) l.c
-    ≡ each_at (λ before h. values_at profile (surface_of (option_map (λ t. t.now) l.walk)) h l.entries (l.spent + values_in before)) [] l.heads l.fn.c)
+    (each_at (λ before h. values_at profile (surface_of (option_map (λ t. t.now) l.on)) h l.entries (l.spent + values_in before)) l.attributes.items (drop l.head-index l.heads) l.c
+    ≡ each_at (λ before h. values_at profile (surface_of (option_map (λ t. t.now) l.on)) h l.entries (l.spent + values_in before)) [] l.heads l.fn.c)
     × (l.total ≡ l.spent + values_in l.attributes.items)
     × (l.total ≤ MAX_VALUES)
     × AreColumns l.entries (take l.head-index l.heads) l.attributes.items

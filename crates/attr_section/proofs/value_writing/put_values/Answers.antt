@@ -12,7 +12,7 @@ use Rattle.attr_section.proofs.value_writing.put_values.Goals as goal
 
 pub put_predicted-requires-clause-predicted : goal.put_predicted-requires-clause-predicted
 put_predicted-requires-clause-predicted c =
-    let w = surface_of (option_map (λ t. t.now) c.args.walk) in
+    let w = surface_of (option_map (λ t. t.now) c.args.on) in
     let p = c.prediction_of-prediction.result in
     let (q, told, can) = c.requires.values.predicted in
     let same : p ≡ q = same_code p q (code_told q c.args.v.now.predict (code_of p) c.prediction_of-prediction.ensures told ∙ told) in
@@ -22,7 +22,7 @@ put_predicted-requires-clause-predicted c =
 
 pub returns-clause-bytes : goal.returns-clause-bytes
 returns-clause-bytes c =
-    let w = surface_of (option_map (λ t. t.now) c.args.walk) in
+    let w = surface_of (option_map (λ t. t.now) c.args.on) in
     let comps = c.args.head.now.comps in
     let p = c.prediction_of-prediction.result in
     let out : List ℕ = c.args.out.now.items in
@@ -39,6 +39,6 @@ returns-clause-bytes c =
 
 pub returns-clause-again : goal.returns-clause-again
 returns-clause-again c =
-    predicted_spelled c.args.plain (surface_of (option_map (λ t. t.now) c.args.walk)) c.args.head.now c.args.v.now c.prediction_of-prediction.result
+    predicted_spelled c.args.plain (surface_of (option_map (λ t. t.now) c.args.on)) c.args.head.now c.args.v.now c.prediction_of-prediction.result
     (let (q, told, can) = c.requires.values.predicted in code_told q c.args.v.now.predict (code_of c.prediction_of-prediction.result) c.prediction_of-prediction.ensures told)
     (rw c.as_slice-values.ensures.items at c.in_ok-put_predicted.ensures.again) c.requires.values.typed

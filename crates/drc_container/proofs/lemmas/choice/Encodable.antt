@@ -31,7 +31,7 @@ use Rattle.drc_container.specs.choice.Choice.{method_of, is_sequential, predict_
 use Rattle.drc_container.specs.writing.Chosen.{coding_of}
 use Rattle.drc_container.specs.Columns.{columns_of}
 use Rattle.drc_container.specs.writing.Written.{values_of}
-use Rattle.drc_container.specs.writing.WrittenOnSurface.{decoded, surface_walk, coded_by, coded_values}
+use Rattle.drc_container.specs.writing.WrittenOnSurface.{decoded, surface_order, coded_by, coded_values}
 use Rattle.drc_container.specs.choice.Refused.{begins_with_position, choice_fault, empty_fault, position_fault, early_fault, vertices_fault, limit_fault, spans_fault, predicted_range_fault, coding_fault}
 use Rattle.drc_container.specs.choice.Encodable.{IsProperFace, IsIn, IsEncodable, EncodableIsEncoded}
 use Rattle.drc_container.proofs.lemmas.choice.FirstRefusals.{refused-later}
@@ -130,7 +130,7 @@ entries-near m coding is proper =
     let each : (k : ℕ) → Wraps (coded_by coding d k) =
     λ k. can-wrap is.range (coded_by coding d k).values is.can_wrap
     (All-pieces (λ (c : Side). Unit {0}) (IsIn is.range) (piece d.mesh k) (λ c _. piece-near d.mesh (IsIn is.range) m.points is.near D.points k c)
-    (surface_walk coding d k).corners (λ i c below. tt)) in
+    (surface_order coding d k).corners (λ i c below. tt)) in
     All-map Wraps (coded_by coding d) (range_with_len 0 (length d.mesh.heads)) (λ i k below. each (get_or (range_with_len 0 (length d.mesh.heads)) i k))
 
 limit-none : (m : MeshParts) (coding : Coding) → IsEncodable m → degenerate_fault m ≡ None → limit_fault (coded_values coding (decoded m)) ≡ None

@@ -24,7 +24,7 @@ use Rattle.eb_trace.specs.Trace.{fan_count}
 use Rattle.attr_section.specs.Values.{values_in}
 use Rattle.drc_container.specs.declared.choice.codings.Coding.{Coding}
 use Rattle.drc_container.specs.reading.OnSurface.{order_by}
-use Rattle.drc_container.specs.writing.WrittenOnSurface.{GluedMesh, cut_of, is_by_degree, surface_walk, coded_by, coded_values}
+use Rattle.drc_container.specs.writing.WrittenOnSurface.{GluedMesh, cut_of, is_by_degree, surface_order, coded_by, coded_values}
 use Rattle.drc_container.proofs.lemmas.surface.Walks.{order-on, order-lists}
 use Rattle.drc_container.proofs.lemmas.writing.SurfaceColumns.{walk-corners, cut-gluing}
 use Rattle.drc_container.proofs.lemmas.writing.SurfaceParts.{values-long, values-more, one-width}
@@ -67,7 +67,7 @@ order-few degree faces g G =
     omega (arith, many, few, few_labels L)
 
 -- so are those of the walk of an attribute
-pub entries-few : (coding : Coding) (d : GluedMesh) (k : ℕ) → IsGluing (length d.mesh.faces) d.pairs → length (surface_walk coding d k).corners ≤ 3 * length d.mesh.faces
+pub entries-few : (coding : Coding) (d : GluedMesh) (k : ℕ) → IsGluing (length d.mesh.faces) d.pairs → length (surface_order coding d k).corners ≤ 3 * length d.mesh.faces
 entries-few coding d k G =
     subst (λ (order : List Side). length order ≤ 3 * length d.mesh.faces) (sym (walk-corners coding d k))
     (order-few (is_by_degree coding d k) (length d.mesh.faces) (cut_of d k) (cut-gluing d k G))
@@ -88,7 +88,7 @@ first-few coding d is G zero within = omega arith
 first-few coding d is G (suc k) within =
     let heads = d.mesh.heads in
     let t = 3 * length d.mesh.faces in
-    let n = length (surface_walk coding d k).corners in
+    let n = length (surface_order coding d k).corners in
     let h = get_or heads k no_head in
     let has : k < length heads = omega (arith, within) in
     let before = first-few coding d is G k (omega (arith, within)) in

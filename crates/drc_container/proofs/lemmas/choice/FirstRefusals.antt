@@ -33,7 +33,7 @@ use Rattle.drc_container.specs.choice.Choice.{method_of, is_sequential, predict_
 use Rattle.drc_container.specs.choice.Refused.{chooses_surface, choice_fault, empty_fault, position_fault, early_fault, surface_fault, limit_fault, spans_fault, predicted_range_fault, refused}
 use Rattle.drc_container.specs.writing.Written.{values_of, stream_bytes}
 use Rattle.drc_container.specs.writing.Chosen.{values_chosen}
-use Rattle.drc_container.specs.writing.Encoded.{encoding_due, CanCode}
+use Rattle.drc_container.specs.writing.Encoded.{encoding_due, CanCodeInOrder}
 use Rattle.drc_container.proofs.lemmas.writing.Codable.{columns-total}
 
 -- the first of a fault and others
@@ -50,11 +50,14 @@ unfolding refused
 refused-early g choice f is = first_fault-some (early_fault g choice) f _ is
 
 -- a geometry has no more values than may be coded
+values-few : (g : Geometry) (predict : ℤ) → ArePoints (heads_in g) (points_in g) → values_in (values_of g predict) ≤ MAX_VALUES
+values-few g predict are =
+    subst (λ k. k ≤ MAX_VALUES) (sym (columns-total predict (heads_in g) (points_in g) are.rows_fit)) are.few_values
+
 limit-none : (g : Geometry) (predict : ℤ) → ArePoints (heads_in g) (points_in g) → limit_fault (values_of g predict) ≡ None
 limit-none g predict are =
     let n = values_in (values_of g predict) in
-    let total : n ≡ length (points_in g) * width_of (heads_in g) = columns-total predict (heads_in g) (points_in g) are.rows_fit in
-    unless-true (leb n MAX_VALUES) ValueLimit n (le-leb n MAX_VALUES (subst (λ k. k ≤ MAX_VALUES) (sym total) are.few_values))
+    unless-true (leb n MAX_VALUES) ValueLimit n (le-leb n MAX_VALUES (values-few g predict are))
 
 -- the sequential method codes the values of the points, and takes every surface
 values-in_order : (g : Geometry) (choice : Choice) → is_sequential (method_of g choice) ≡ true → values_chosen g choice ≡ values_of g (chosen_code g choice)
@@ -154,16 +157,16 @@ wraps values e =
     (not-false (can_wrap (range_of (get_or values i d).values)) (position-none_back test values (at_place-none Range (position test values) e) i d below)))
 
 -- a geometry that isn't refused can be coded
-pub can-code : (g : Geometry) (choice : Choice) → early_fault g choice ≡ None → is_sequential (method_of g choice) ≡ true
-    → predicted_range_fault (predict_chosen g choice) (values_of g (chosen_code g choice)) ≡ None → CanCode g choice
-can-code g choice early on none =
+pub can-code : (g : Geometry) (choice : Choice) → ArePoints (heads_in g) (points_in g) → early_fault g choice ≡ None → is_sequential (method_of g choice) ≡ true
+    → predicted_range_fault (predict_chosen g choice) (values_of g (chosen_code g choice)) ≡ None → CanCodeInOrder g choice
+can-code g choice are early on none =
     let p = early_passes g choice early in
     let sequential = sequential-is (method_of g choice) on in
     record {
       sequential = sequential;
       some = subst (λ b. 0 < (if b then length (points_in g) else length (faces_in g))) on p.some;
       alone = chosen-alone g choice sequential (neither (chooses_surface choice.predict) (is_sequential (method_of g choice)) p.no_surface on);
-      near = λ corrects. wraps (values_of g (chosen_code g choice)) (rw corrects at none);
+      values = record { few = values-few g (chosen_code g choice) are; near = λ corrects. wraps (values_of g (chosen_code g choice)) (rw corrects at none) };
     }
   where
     neither : (a b : Bool) → not (a && b) ≡ true → b ≡ true → a ≡ false
@@ -196,6 +199,6 @@ later-gives g choice p values are early on is_p is_values none =
     ∙ ap Ok (sym (is_values ∙ ap (λ (q : Prediction). values_of g (code_of q)) is_p))
 
 -- and their geometry can be coded
-pub later-can : (g : Geometry) (choice : Choice) (p : Prediction) (values : List Values) → early_fault g choice ≡ None → is_sequential (method_of g choice) ≡ true
-    → p ≡ predict_chosen g choice → values ≡ values_of g (code_of p) → predicted_range_fault p values ≡ None → CanCode g choice
-later-can g choice p values early on is_p is_values none = can-code g choice early on (none-there g choice p values is_p is_values none)
+pub later-can : (g : Geometry) (choice : Choice) (p : Prediction) (values : List Values) → ArePoints (heads_in g) (points_in g) → early_fault g choice ≡ None → is_sequential (method_of g choice) ≡ true
+    → p ≡ predict_chosen g choice → values ≡ values_of g (code_of p) → predicted_range_fault p values ≡ None → CanCodeInOrder g choice
+later-can g choice p values are early on is_p is_values none = can-code g choice are early on (none-there g choice p values is_p is_values none)

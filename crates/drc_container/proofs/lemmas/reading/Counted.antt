@@ -22,7 +22,7 @@ use Rattle.mesh_model.specs.declared.heads.Head.{Head}
 use Rattle.mesh_model.specs.Head.{in_type}
 use Rattle.predict.specs.Wrap.{Range, restored_value}
 use Rattle.predict.specs.Restored.{restored_behind}
-use Rattle.predict.specs.Walked.{Walked}
+use Rattle.corner_table.specs.Ordered.{Ordered}
 use Rattle.predict.specs.Surfaces.{surface_or, lacks_surface}
 use Rattle.predict.specs.Foretold.{foretold}
 use Rattle.predict.specs.declared.schemes.Prediction.{Prediction}
@@ -102,7 +102,7 @@ length-restored predicted r before (c ∷ corrections) =
     let v = restored_value r (predicted before) c in
     length-restored predicted r (before ++ v ∷ []) corrections ∙ omega (arith, length-append before (v ∷ []))
 
-corrected-counted : (at : ℕ) (w : Walked) (q : Prediction) (comps n : ℕ) → n % comps ≡ 0 → (c : Reading) (y : List ℤ × Reading)
+corrected-counted : (at : ℕ) (w : Ordered) (q : Prediction) (comps n : ℕ) → n % comps ≡ 0 → (c : Reading) (y : List ℤ × Reading)
     → corrected_at at w q comps n c ≡ Ok y → length y.0 ≡ n
 unfolding corrected_at with_flags
 corrected-counted at w q comps n whole c y is =
@@ -116,7 +116,7 @@ corrected-counted at w q comps n whole c y is =
     ∙ omega (arith, integers-counted comps n whole p.0.1 x.0 x.1)
 
 -- however they are predicted, values are as many as were asked for
-predicted-counted : (at : ℕ) (w : Option Walked) (q : Prediction) (comps n : ℕ) → n % comps ≡ 0 → (c : Reading) (y : List ℤ × Reading)
+predicted-counted : (at : ℕ) (w : Option Ordered) (q : Prediction) (comps n : ℕ) → n % comps ≡ 0 → (c : Reading) (y : List ℤ × Reading)
     → predicted_at at w q comps n c ≡ Ok y → length y.0 ≡ n
 unfolding predicted_at
 predicted-counted at w q comps n whole c y is =
@@ -129,7 +129,7 @@ pub record IsColumn (n dtype : ℕ) (v : Values) : Type 0 where
   pub long : length v.values ≡ n
   pub typed : list_all (in_type dtype) v.values ≡ true
 
-typed-column : (w : Option Walked) (h : Head) (n : ℕ) → n % h.comps ≡ 0 → (c : Reading) (y : Values × Reading)
+typed-column : (w : Option Ordered) (h : Head) (n : ℕ) → n % h.comps ≡ 0 → (c : Reading) (y : Values × Reading)
     → typed_values_at profile w h n c ≡ Ok y → IsColumn n h.dtype y.0
 unfolding typed_values_at
 typed-column w h n whole c y is =
@@ -141,7 +141,7 @@ typed-column w h n whole c y is =
     given (λ (z : Values × Reading). IsColumn n h.dtype z.0) (v, q.0.1) y t.1 (record { long = long; typed = t.0 })
 
 -- the values of an attribute are a column within the limit
-pub values-column : (w : Option Walked) (h : Head) (entries spent : ℕ) (c : Reading) (y : Values × Reading)
+pub values-column : (w : Option Ordered) (h : Head) (entries spent : ℕ) (c : Reading) (y : Values × Reading)
     → values_at profile w h entries spent c ≡ Ok y → IsColumn (entries * h.comps) h.dtype y.0 × (spent + entries * h.comps ≤ MAX_VALUES)
 unfolding values_at
 values-column w h entries spent c y is =

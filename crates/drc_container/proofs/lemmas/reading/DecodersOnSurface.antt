@@ -13,19 +13,18 @@ use Rattle.corner_table.specs.Table.{Table, gluing_of}
 use Rattle.rans_binary.specs.Blocks.{Block}
 use Rattle.attr_section.specs.declared.decoder_heads.DecoderHead.{DecoderHead}
 use Rattle.eb_section.specs.Connectivity.{Connectivity}
-use Rattle.drc_container.specs.declared.reading.surface_attributes.SurfaceAttributes.{SurfaceAttributes}
-use Rattle.drc_container.specs.reading.OnSurface.{seams_of, cut_at, walked_by, walked_for, attributes_joined, values_on, decoder_on, surface_decoders_at}
+use Rattle.drc_container.specs.reading.OnSurface.{SurfaceAttributes, seams_of, cut_at, ordered_by, ordered_for, attributes_joined, values_on, decoder_on, surface_decoders_at}
 
 -- the next decoder was read
 pub surface_decoders_at-next : (s : Connectivity) (before x : SurfaceAttributes) (d : DecoderHead) (ds rest : List DecoderHead) (c next : Reading) (whole : Item SurfaceAttributes)
-    → surface_decoders_at profile s before ds c ≡ whole → ds ≡ d ∷ rest → decoder_on profile (walked_for s d) d (values_on before.tables) c ≡ Ok (x, next)
+    → surface_decoders_at profile s before ds c ≡ whole → ds ≡ d ∷ rest → decoder_on profile (ordered_for s d) d (values_on before.tables) c ≡ Ok (x, next)
     → surface_decoders_at profile s (attributes_joined before x) rest next ≡ whole
 unfolding surface_decoders_at
 surface_decoders_at-next s before x d ds rest c next whole so is read = sym (rw (is, read) refl) ∙ so
 
 -- the next decoder is refused
 pub surface_decoders_at-refuses : (s : Connectivity) (before : SurfaceAttributes) (d : DecoderHead) (ds rest : List DecoderHead) (c : Reading) (r : Refusal) (whole : Item SurfaceAttributes)
-    → surface_decoders_at profile s before ds c ≡ whole → ds ≡ d ∷ rest → Refuses (decoder_on profile (walked_for s d) d (values_on before.tables) c) r
+    → surface_decoders_at profile s before ds c ≡ whole → ds ≡ d ∷ rest → Refuses (decoder_on profile (ordered_for s d) d (values_on before.tables) c) r
     → Refuses whole r
 unfolding surface_decoders_at
 surface_decoders_at-refuses s before d ds rest c refusal.Memory whole so is refuses = tt
@@ -37,17 +36,23 @@ pub surface_decoders_at-end : (s : Connectivity) (before : SurfaceAttributes) (d
 unfolding surface_decoders_at
 surface_decoders_at-end s before ds c whole so none = sym so ∙ rw none refl
 
--- a table that was cut at the seams of a decoder's attribute data is the surface that the decoder walks
-pub walked-cut : (s : Connectivity) (d : DecoderHead) (id : ℕ) (block : Block) (t u : Table) → d.corner ≡ true → d.data_id ≡ Some id
+-- a table that was cut at the seams of a block is ordered as the cut surface
+pub ordered-cut : (degree : Bool) (t u : Table) (block : Block) → u.faces ≡ t.faces → gluing_of u ≡ cut_at t.faces (gluing_of t) block
+    → ordered_by degree u.faces (gluing_of u) ≡ ordered_by degree t.faces (cut_at t.faces (gluing_of t) block)
+ordered-cut degree t u block same pairs =
+    ap (λ (n : ℕ). ordered_by degree n (gluing_of u)) same ∙ ap (ordered_by degree t.faces) pairs
+
+-- the surface that is cut at the seams of a decoder's attribute data is that of the decoder
+pub ordered-seams : (s : Connectivity) (d : DecoderHead) (id : ℕ) (block : Block) (t : Table) → d.corner ≡ true → d.data_id ≡ Some id
     → block ≡ seams_of s.seams (Some id) → t.faces ≡ s.faces → gluing_of t ≡ s.glued
-    → u.faces ≡ t.faces → gluing_of u ≡ cut_at t.faces (gluing_of t) block → walked_by d.degree u.faces (gluing_of u) ≡ walked_for s d
-walked-cut s d id block t u corner is seams faces glued same pairs =
+    → ordered_by d.degree t.faces (cut_at t.faces (gluing_of t) block) ≡ ordered_for s d
+ordered-seams s d id block t corner is seams faces glued =
     let whole : Gluing = cut_at s.faces s.glued (seams_of s.seams d.data_id) in
-    let cut : gluing_of u ≡ whole =
-    pairs ∙ ap (λ (n : ℕ). cut_at n (gluing_of t) block) faces ∙ ap (λ (g : Gluing). cut_at s.faces g block) glued
+    let cut : cut_at t.faces (gluing_of t) block ≡ whole =
+    ap (λ (n : ℕ). cut_at n (gluing_of t) block) faces ∙ ap (λ (g : Gluing). cut_at s.faces g block) glued
     ∙ ap (λ (b : Block). cut_at s.faces s.glued b) (seams ∙ ap (seams_of s.seams) (sym is)) in
     let chosen : Bool → Gluing = λ c. if c then whole else s.glued in
-    ap (λ (n : ℕ). walked_by d.degree n (gluing_of u)) (same ∙ faces) ∙ ap (walked_by d.degree s.faces) (cut ∙ ap chosen (sym corner))
+    ap (λ (n : ℕ). ordered_by d.degree n (cut_at t.faces (gluing_of t) block)) faces ∙ ap (ordered_by d.degree s.faces) (cut ∙ ap chosen (sym corner))
 
 -- what holds of each item's image holds of that of the first
 pub first-of : {A B : Type 0} (P : B → Type 0) (f : A → B) (xs : List A) (x : A) (ys : List B) → All P (map f xs) → map f xs ≡ ys → 0 < length ys

@@ -1,24 +1,26 @@
 -- The attributes of an Edgebreaker mesh that were read are tables for assembling.
 use Rattle.drc_base.specs.Profile.{profile}
-use Rattle.std.proofs.Common.{◌≡◌, ℕ, suc, ◌+◌, ◌*◌, ◌<◌, ◌≤◌, true, List, [], ◌∷◌, ◌++◌, length, Option, Some, Ok, refl, sym, ◌∙◌, ap, arith, length-append}
+use Rattle.std.proofs.Common.{◌≡◌, ℕ, suc, ◌+◌, ◌*◌, ◌<◌, ◌≤◌, true, List, [], ◌∷◌, ◌++◌, length, get_or, Option, Some, Ok, refl, sym, ◌∙◌, ap, arith, length-append}
 use Rattle.std.specs.List.{All, zip, list_all}
 use Rattle.std.proofs.Math.Nat.{mul-le-mul_right}
+use Rattle.std.proofs.lemmas.List.{length-map}
 use Rattle.std.proofs.lemmas.List.Sums.{sum_by-cons, sum_by-append, AllPass-from_list_all}
-use Rattle.std.proofs.lemmas.List.Elements.{All-nil, All-cons, All-head, All-tail, All-append}
+use Rattle.std.proofs.lemmas.List.Elements.{All-nil, All-cons, All-head, All-tail, All-append, All-map, All-weaker, All-get_or}
 use Rattle.drc_base.specs.declared.limits.TheConstants.{MAX_FACES, MAX_VALUES}
 use Rattle.drc_bits.specs.Reading.{Reading, Item}
 use Rattle.mesh_model.specs.declared.heads.Head.{Head}
-use Rattle.mesh_model.specs.declared.tables.AttrTable.{AttrTable}
+use Rattle.mesh_model.specs.Groups.{AttrTable}
 use Rattle.mesh_model.specs.Head.{in_type}
 use Rattle.mesh_model.specs.Assembled.{IsAttrTable, AreAttrTables, AreTables}
-use Rattle.predict.specs.Walked.{Walked}
+use Rattle.corner_table.specs.declared.corner_lists.Order.{Order}
+use Rattle.corner_table.specs.Ordered.{Ordered, entries_by}
+use Rattle.walk_order.specs.Orders.{IsOrderOver}
 use Rattle.attr_section.specs.declared.decoder_heads.DecoderHead.{DecoderHead}
 use Rattle.attr_section.specs.declared.values.Values.{Values}
 use Rattle.attr_section.specs.Heads.{HeadPasses, attributes_of, heads_at}
 use Rattle.attr_section.specs.Values.{quants_at, decoder_values_at, attributes_at as columns_at, values_in}
 use Rattle.eb_section.specs.Connectivity.{Connectivity}
-use Rattle.drc_container.specs.declared.reading.surface_attributes.SurfaceAttributes.{SurfaceAttributes}
-use Rattle.drc_container.specs.reading.OnSurface.{walked_for, tables_of, decoder_attributes, attributes_joined, values_on, decoder_on, no_attributes, surface_decoders_at}
+use Rattle.drc_container.specs.reading.OnSurface.{SurfaceAttributes, ordered_for, tables_of, decoder_attributes, attributes_joined, values_on, decoder_on, no_attributes, surface_decoders_at}
 use Rattle.drc_container.proofs.lemmas.reading.Parted.{given, parts}
 use Rattle.drc_container.proofs.lemmas.reading.Headed.{IsHead, shapes, quants-passed, DecoderRead, heads-read, heads-none}
 use Rattle.drc_container.proofs.lemmas.reading.Whole.{AreTyped, AreColumns as ColumnsWithin, columns-from, shapes-length}
@@ -29,7 +31,7 @@ pub record IsDecoded (n : ℕ) (d : DecoderHead) (x : List Values × DecoderHead
   pub same : length x.1.heads ≡ length d.heads
   pub typed : AreTyped n (shapes x.1.heads) x.0
 
-pub decoder-read : (w : Option Walked) (d : DecoderHead) (n spent : ℕ) → spent ≤ MAX_VALUES → All HeadPasses d.heads
+pub decoder-read : (w : Option Ordered) (d : DecoderHead) (n spent : ℕ) → spent ≤ MAX_VALUES → All HeadPasses d.heads
     → (c : Reading) (y : (List Values × DecoderHead) × Reading) → decoder_values_at profile w d n spent c ≡ Ok y → IsDecoded n d y.0
 unfolding decoder_values_at columns_at
 decoder-read w d n spent few passes c y is =
@@ -43,7 +45,7 @@ decoder-read w d n spent few passes c y is =
     (record { heads = heads.each; same = shapes-length r.0.0 d.heads heads.same; typed = rw heads.same here.typed })
 
 -- the heads of a decoder alone
-decoder-heads : (w : Option Walked) (d : DecoderHead) (n spent : ℕ) → All HeadPasses d.heads
+decoder-heads : (w : Option Ordered) (d : DecoderHead) (n spent : ℕ) → All HeadPasses d.heads
     → (c : Reading) (y : (List Values × DecoderHead) × Reading) → decoder_values_at profile w d n spent c ≡ Ok y
     → All IsHead y.0.1.heads × (length y.0.1.heads ≡ length d.heads)
 unfolding decoder_values_at
@@ -95,6 +97,17 @@ columns-joined corners heads others tables more are also = record {
       (All-append (IsAttrTable corners) (zip heads tables) (zip others more) are.each_column also.each_column);
 }
 
+-- in an order over a table each corner has an entry, and entries are those of the order
+pub entries-by : (faces : ℕ) (labels : List ℕ) (o : Order) → IsOrderOver faces labels o
+    → (length (entries_by labels o.entry_of_class) ≡ 3 * faces) × All (λ (e : ℕ). e < length o.corner_of_entry) (entries_by labels o.entry_of_class)
+entries-by faces labels o is =
+    let entry : ℕ → ℕ = λ (k : ℕ). get_or o.entry_of_class k 0 in (
+      length-map labels entry ∙ is.each_corner,
+      All-map (λ (e : ℕ). e < length o.corner_of_entry) entry labels
+          (All-weaker (λ (k : ℕ). k < length o.entry_of_class) (λ (k : ℕ). entry k < length o.corner_of_entry)
+          (λ k below. All-get_or (λ (e : ℕ). e < length o.corner_of_entry) o.entry_of_class k 0 below is.entries) labels is.classes),
+    )
+
 -- the values of tables, and of tables behind others
 pub values_on-tables : (entries : List ℕ) (values : List Values) → values_on (tables_of entries values) ≡ values_in values
 values_on-tables entries [] = refl
@@ -116,7 +129,7 @@ heads-placed s [] read before are c y is =
     let same : length before.heads ≡ length before.heads + 0 = omega arith in
     given (λ (z : SurfaceAttributes × Reading). All IsHead z.0.heads × (length z.0.heads ≡ length before.heads + 0)) (before, c) y is (are, same)
 heads-placed s (d ∷ ds) read before are c y is =
-    let w = walked_for s d in
+    let w = ordered_for s d in
     let spent = values_on before.tables in
     let passes = (All-head DecoderRead d ds read).heads in
     let next : SurfaceAttributes × Reading → Item SurfaceAttributes = λ x. surface_decoders_at profile s (attributes_joined before x.0) ds x.1 in

@@ -18,7 +18,7 @@ use Rattle.mesh_model.specs.declared.heads.Head.{Head}
 use Rattle.mesh_model.specs.Head.{width_of, types_of, in_type, heads_fault}
 use Rattle.mesh_model.specs.Parts.{RowFits, ArePoints, cells_of, range_fault, mesh_fault, cloud_fault}
 use Rattle.mesh_model.proofs.Made.{range_fault-cells_of, mesh_of-IsMesh, cloud_of-IsCloud}
-use Rattle.predict.specs.Walked.{Walked}
+use Rattle.corner_table.specs.Ordered.{Ordered}
 use Rattle.attr_section.specs.declared.decoder_heads.DecoderHead.{DecoderHead}
 use Rattle.attr_section.specs.declared.values.Values.{Values}
 use Rattle.attr_section.specs.Each.{each_at}
@@ -55,7 +55,7 @@ pub record AreColumns (n spent : ℕ) (shape : List (ℕ × ℕ)) (values : List
   pub typed : AreTyped n shape values
   pub few : spent + values_in values ≤ MAX_VALUES
 
-pub columns-from : (w : Option Walked) (n spent : ℕ) (heads : List Head) (s : List (ℕ × ℕ)) (front : List Values) → AreColumns n spent s front
+pub columns-from : (w : Option Ordered) (n spent : ℕ) (heads : List Head) (s : List (ℕ × ℕ)) (front : List Values) → AreColumns n spent s front
     → (c : Reading) (y : List Values × Reading)
     → each_at (λ before h. values_at profile w h n (spent + values_in before)) front heads c ≡ Ok y → AreColumns n spent (s ++ shapes heads) y.0
 unfolding each_at

@@ -7,7 +7,7 @@ use Rattle.drc_bits.specs.Reading.{Reading, must, start_of}
 use Rattle.drc_bits.specs.Numbers.{number_at}
 use Rattle.drc_bits.specs.Varint.{var32_at}
 use Rattle.mesh_model.specs.declared.heads.Head.{Head}
-use Rattle.predict.specs.Walked.{Walked}
+use Rattle.corner_table.specs.Ordered.{Ordered}
 use Rattle.seq_section.specs.declared.reading.SeqRead.{SeqRead}
 use Rattle.seq_section.specs.Indices.{indices_opening_at, indices_at}
 use Rattle.eb_section.specs.Opening.{traversal_at, opening_at as edgebreaker_opening_at}
@@ -22,8 +22,7 @@ use Rattle.drc_container.specs.declared.headers.Form.TheVariants as form
 use Rattle.drc_container.specs.declared.reading.attributes.Attributes.{Attributes}
 use Rattle.drc_container.specs.Header.{header_at, cloud_points_at}
 use Rattle.drc_container.specs.reading.Stream.{decoders_values_at, sequential_attributes_at, points_behind, mesh_behind, mesh_at, cloud_behind, cloud_at, surface_behind, edgebreaker_at, body_at, stream_in}
-use Rattle.drc_container.specs.declared.reading.surface_attributes.SurfaceAttributes.{SurfaceAttributes}
-use Rattle.drc_container.specs.reading.OnSurface.{walked_for, attributes_joined, values_on, no_attributes, decoder_on, surface_decoders_at, attributes_on, assembled_at}
+use Rattle.drc_container.specs.reading.OnSurface.{SurfaceAttributes, ordered_for, attributes_joined, values_on, no_attributes, decoder_on, surface_decoders_at, attributes_on, assembled_at}
 use Rattle.drc_container.specs.reading.Profiles.{IsWider, WiderMeansTheSame, OldFilesMeanTheSame}
 use Rattle.drc_container.proofs.lemmas.reading.Parted.{parts, passed}
 use Rattle.drc_container.proofs.lemmas.reading.Keeping.{Keeps, keeps-must, keeps-each}
@@ -67,21 +66,21 @@ prediction_read p q wider c y is =
     let a = parts (number_at 1 c) (λ b. tested_prediction p c (prediction_of b.0) b.1) y is in
     rw a.1 (tested p q wider c a.0.1 (prediction_of a.0.0) y a.2)
 
-typed_values : (p q : Profile) → IsWider p q → (w : Option Walked) (h : Head) (n : ℕ) (c : Reading)
+typed_values : (p q : Profile) → IsWider p q → (w : Option Ordered) (h : Head) (n : ℕ) (c : Reading)
     → Keeps (typed_values_at p w h n c) (typed_values_at q w h n c)
 unfolding typed_values_at
 typed_values p q wider w h n c y is =
     let a = parts (prediction_at p c) _ y is in
     rw (prediction_read p q wider c a.0 a.1) a.2
 
-values : (p q : Profile) → IsWider p q → (w : Option Walked) (h : Head) (entries spent : ℕ) (c : Reading)
+values : (p q : Profile) → IsWider p q → (w : Option Ordered) (h : Head) (entries spent : ℕ) (c : Reading)
     → Keeps (values_at p w h entries spent c) (values_at q w h entries spent c)
 unfolding values_at
 values p q wider w h entries spent c y is =
     let t = passed (nat_le (spent + entries * h.comps) p.values) _ _ y is in
     rw (within (spent + entries * h.comps) p.values q.values wider.values t.0) (typed_values p q wider w h (entries * h.comps) c y t.1)
 
-columns : (p q : Profile) → IsWider p q → (w : Option Walked) (heads : List Head) (entries spent : ℕ) (c : Reading)
+columns : (p q : Profile) → IsWider p q → (w : Option Ordered) (heads : List Head) (entries spent : ℕ) (c : Reading)
     → Keeps (columns_at p w heads entries spent c) (columns_at q w heads entries spent c)
 unfolding columns_at
 columns p q wider w heads entries spent c y is =
@@ -89,7 +88,7 @@ columns p q wider w heads entries spent c y is =
     (λ before h c. values p q wider w h entries (spent + values_in before) c) [] heads c y is
 
 -- the values of a decoder, over any walk
-decoder_values : (p q : Profile) → IsWider p q → (w : Option Walked) (d : DecoderHead) (entries spent : ℕ) (c : Reading)
+decoder_values : (p q : Profile) → IsWider p q → (w : Option Ordered) (d : DecoderHead) (entries spent : ℕ) (c : Reading)
     → Keeps (decoder_values_at p w d entries spent c) (decoder_values_at q w d entries spent c)
 unfolding decoder_values_at
 decoder_values p q wider w d entries spent c y is =
@@ -161,7 +160,7 @@ connectivity p q wider c y is =
     rw (edgebreaker_opening p q wider c a.0 a.1) a.2
 
 -- the attributes of a decoder on a surface
-decoder_values_on : (p q : Profile) → IsWider p q → (w : Walked) (d : DecoderHead) (spent : ℕ) (c : Reading)
+decoder_values_on : (p q : Profile) → IsWider p q → (w : Ordered) (d : DecoderHead) (spent : ℕ) (c : Reading)
     → Keeps (decoder_on p w d spent c) (decoder_on q w d spent c)
 unfolding decoder_on
 decoder_values_on p q wider w d spent c y is =
@@ -174,8 +173,8 @@ unfolding surface_decoders_at
 placed p q wider s [] before c y is = is
 placed p q wider s (d ∷ ds) before c y is =
     let spent = values_on before.tables in
-    let a = parts (decoder_on p (walked_for s d) d spent c) (λ x. surface_decoders_at p s (attributes_joined before x.0) ds x.1) y is in
-    rw (decoder_values_on p q wider (walked_for s d) d spent c a.0 a.1) (placed p q wider s ds (attributes_joined before a.0.0) a.0.1 y a.2)
+    let a = parts (decoder_on p (ordered_for s d) d spent c) (λ x. surface_decoders_at p s (attributes_joined before x.0) ds x.1) y is in
+    rw (decoder_values_on p q wider (ordered_for s d) d spent c a.0 a.1) (placed p q wider s ds (attributes_joined before a.0.0) a.0.1 y a.2)
 
 on_surface : (p q : Profile) → IsWider p q → (s : Connectivity) (c : Reading) → Keeps (attributes_on p s c) (attributes_on q s c)
 unfolding attributes_on

@@ -25,7 +25,7 @@ use Rattle.seams.specs.Laws.{AreAlike}
 use Rattle.seams.proofs.Chains.{class_is_fan}
 use Rattle.seams.proofs.Values.{seams_are_alike, seam_glued, class_has_one_value}
 use Rattle.drc_container.specs.declared.choice.codings.Coding.{Coding}
-use Rattle.drc_container.specs.writing.WrittenOnSurface.{GluedMesh, seam_bits_of, is_cornered, cut_of, is_by_degree, surface_walk, coded_by}
+use Rattle.drc_container.specs.writing.WrittenOnSurface.{GluedMesh, seam_bits_of, is_cornered, cut_of, is_by_degree, surface_order, coded_by}
 use Rattle.walk_order.specs.OfSurface.{entries_of}
 use Rattle.drc_container.proofs.lemmas.surface.Walks.{AreOf, HasEntry, has_entry}
 use Rattle.drc_container.proofs.lemmas.surface.Decoded.{row_of}
@@ -143,7 +143,7 @@ entry-of {X} f n (y ∷ xs) (suc i) x has long =
 -- the entry of a corner in the values of attribute k is its value
 pub corner-entry : (coding : Coding) (d : GluedMesh) (k : ℕ) (h : Head) → k < length d.mesh.heads → IsMesh d.mesh → IsGluing (length d.mesh.faces) d.pairs
     → PairsFit (same_position d.mesh) d.pairs → (c : Side) → c.face < length d.mesh.faces
-    → entry (get_or d.mesh.heads k h).comps (coded_by coding d k).values (get_or (surface_walk coding d k).entries (number c) 0) ≡ piece d.mesh k c
+    → entry (get_or d.mesh.heads k h).comps (coded_by coding d k).values (get_or (surface_order coding d k).entries (number c) 0) ≡ piece d.mesh k c
 corner-entry coding d k h has is G fits c within =
     let faces = length d.mesh.faces in
     let order = order_for coding d k in
@@ -152,7 +152,7 @@ corner-entry coding d k h has is G fits c within =
     let at : HasEntry faces (cut_of d k) order c e = has_entry (is_by_degree coding d k) faces (cut_of d k) (cut-gluing d k G) c within in
     let on : AreOf faces order = subst (AreOf faces) (walk-corners coding d k) (walk-on coding d k) in
     let long : All (λ (x : Side). length (piece d.mesh k x) ≡ n) order = λ i y l. (piece-is d.mesh is k h has (get_or order i y) (on i y l)).long in
-    ap (λ (corners : List Side). entry n (flat_map (piece d.mesh k) corners) (get_or (surface_walk coding d k).entries (number c) 0)) (walk-corners coding d k)
+    ap (λ (corners : List Side). entry n (flat_map (piece d.mesh k) corners) (get_or (surface_order coding d k).entries (number c) 0)) (walk-corners coding d k)
     ∙ ap (λ (entries : List ℕ). entry n (flat_map (piece d.mesh k) order) (get_or entries (number c) 0)) (walk-entries coding d k)
     ∙ entry-of (piece d.mesh k) n order e (side_at 0) at.within long
     ∙ sym (fan-value d k has G fits c (get_or order e (side_at 0)) at.fan)

@@ -21,9 +21,9 @@ use Rattle.seams.proofs.Listing.{flag_at-listed}
 use Rattle.seams.proofs.Values.{seams_are_flags}
 use Rattle.drc_container.specs.declared.surface.attribute_surfaces.AttributeSurfaces.{AttributeSurfaces}
 use Rattle.drc_container.specs.declared.surface.seam_lists.SeamLists.{SeamLists}
-use Rattle.drc_container.specs.reading.OnSurface.{walked_by}
+use Rattle.drc_container.specs.reading.OnSurface.{ordered_by}
 use Rattle.drc_container.specs.writing.WrittenOnSurface.{GluedMesh, seam_bits_of, is_cornered}
-use Rattle.drc_container.specs.surface.AttributeSurfaces.{glued_on, corner_flags_of, flag_lists, cut_walk, walk_cut, walk_in, AreAttributeSurfaces}
+use Rattle.drc_container.specs.surface.AttributeSurfaces.{glued_on, corner_flags_of, flag_lists, cut_order, order_cut, order_in, AreAttributeSurfaces}
 use Rattle.drc_container.proofs.lemmas.surface.Seams.{map-agree}
 
 map-alike : (f g : Side → Bool) (xs : List Side) → All (λ x. f x ≡ g x) xs → map f xs ≡ map g xs
@@ -81,9 +81,9 @@ no-flags d (Ok s) one is = ap (map (option_map (λ (v : Vec Bool Global). v.item
 no-flags d (Err e) one is = tt
 
 -- a surface that is cut at the flags of an attribute is walked as the attribute's surface
-pub cut-walked : (d : GluedMesh) (t : Table) (k : ℕ) → IsGluing t.faces (gluing_of t) → t.faces ≡ length d.mesh.faces → gluing_of t ≡ d.pairs
-    → option_map (walk_cut t) (corner_flags_of d k) ≡ cut_walk d k
-cut-walked d t k G one is = at (is_cornered d k)
+pub cut-ordered : (d : GluedMesh) (t : Table) (k : ℕ) → IsGluing t.faces (gluing_of t) → t.faces ≡ length d.mesh.faces → gluing_of t ≡ d.pairs
+    → option_map (order_cut t) (corner_flags_of d k) ≡ cut_order d k
+cut-ordered d t k G one is = at (is_cornered d k)
   where
     faces : ℕ
     faces = length d.mesh.faces
@@ -94,14 +94,14 @@ cut-walked d t k G one is = at (is_cornered d k)
     H : IsGluing faces d.pairs
     H = subst (λ (n : ℕ). IsGluing n d.pairs) one (subst (IsGluing t.faces) is G)
 
-    cut : walk_cut t (flags_listed faces seam) ≡ walked_by false faces (unseamed seam d.pairs)
+    cut : order_cut t (flags_listed faces seam) ≡ ordered_by false faces (unseamed seam d.pairs)
     cut =
-        ap (λ (n : ℕ). walked_by false n (unseamed (flag_at (flags_listed faces seam)) (gluing_of t))) one
-        ∙ ap (λ (g : Gluing). walked_by false faces (unseamed (flag_at (flags_listed faces seam)) g)) is
-        ∙ ap (walked_by false faces) (list_cuts_alike faces d.pairs seam H)
+        ap (λ (n : ℕ). ordered_by false n (unseamed (flag_at (flags_listed faces seam)) (gluing_of t))) one
+        ∙ ap (λ (g : Gluing). ordered_by false faces (unseamed (flag_at (flags_listed faces seam)) g)) is
+        ∙ ap (ordered_by false faces) (list_cuts_alike faces d.pairs seam H)
 
-    at : (b : Bool) → option_map (walk_cut t) (if b then Some (flags_listed faces seam) else None)
-        ≡ (if b then Some (walked_by false faces (if b then unseamed seam d.pairs else d.pairs)) else None)
+    at : (b : Bool) → option_map (order_cut t) (if b then Some (flags_listed faces seam) else None)
+        ≡ (if b then Some (ordered_by false faces (if b then unseamed seam d.pairs else d.pairs)) else None)
     at true = ap Some cut
     at false = refl
 
@@ -139,12 +139,12 @@ flags-more d k = map-range_with_len_more (corner_flags_of d) 0 k k (omega arith)
 -- ---- all together
 
 -- the surfaces that are cut at the flags of each attribute
-pub cuts-walked : (d : GluedMesh) (t : Table) → IsGluing t.faces (gluing_of t) → t.faces ≡ length d.mesh.faces → gluing_of t ≡ d.pairs
-    → map (option_map (walk_cut t)) (flag_lists d) ≡ map (cut_walk d) (range_with_len 0 (length d.mesh.heads))
-cuts-walked d t G one is =
+pub cuts-ordered : (d : GluedMesh) (t : Table) → IsGluing t.faces (gluing_of t) → t.faces ≡ length d.mesh.faces → gluing_of t ≡ d.pairs
+    → map (option_map (order_cut t)) (flag_lists d) ≡ map (cut_order d) (range_with_len 0 (length d.mesh.heads))
+cuts-ordered d t G one is =
     let attrs = range_with_len 0 (length d.mesh.heads) in
-    map-map (option_map (walk_cut t)) (corner_flags_of d) attrs
-    ∙ map-agree (λ (k : ℕ). option_map (walk_cut t) (corner_flags_of d k)) (cut_walk d) attrs (λ i k below. cut-walked d t (get_or attrs i k) G one is)
+    map-map (option_map (order_cut t)) (corner_flags_of d) attrs
+    ∙ map-agree (λ (k : ℕ). option_map (order_cut t) (corner_flags_of d k)) (cut_order d) attrs (λ i k below. cut-ordered d t (get_or attrs i k) G one is)
 
 -- each list that is kept is one of flags
 pub each-flags : (d : GluedMesh) (t : Table) (lists : List (Option (Vec Bool Global))) → IsGluing t.faces (gluing_of t) → t.faces ≡ length d.mesh.faces → gluing_of t ≡ d.pairs
@@ -164,11 +164,11 @@ each-flags d t lists G one is told i o below =
 
 -- what is kept for a mesh and its pairs
 pub are-attribute-surfaces : (degree : Bool) (s : AttributeSurfaces) (d : GluedMesh) → glued_on s ≡ d
-    → walk_in s.whole ≡ walked_by degree (length d.mesh.faces) d.pairs
-    → map (option_map walk_in) s.cut.items ≡ map (cut_walk d) (range_with_len 0 (length d.mesh.heads)) → AreAttributeSurfaces degree s
+    → order_in s.whole ≡ ordered_by degree (length d.mesh.faces) d.pairs
+    → map (option_map order_in) s.cut.items ≡ map (cut_order d) (range_with_len 0 (length d.mesh.heads)) → AreAttributeSurfaces degree s
 are-attribute-surfaces degree s d is whole cut =
     let P : GluedMesh → Type 0 = λ (e : GluedMesh).
-    (walk_in s.whole ≡ walked_by degree (length e.mesh.faces) e.pairs)
-    × (map (option_map walk_in) s.cut.items ≡ map (cut_walk e) (range_with_len 0 (length e.mesh.heads))) in
+    (order_in s.whole ≡ ordered_by degree (length e.mesh.faces) e.pairs)
+    × (map (option_map order_in) s.cut.items ≡ map (cut_order e) (range_with_len 0 (length e.mesh.heads))) in
     let all : P (glued_on s) = subst P (sym is) (whole, cut) in
     record { whole = all.0; cut = all.1 }

@@ -25,8 +25,8 @@ use Rattle.seams.proofs.Chains.{list_cuts_alike}
 use Rattle.attr_section.specs.Heads.{position_id, bare_decoder}
 use Rattle.eb_section.specs.ReadAgain.{BeginsWith, BeginWith}
 use Rattle.drc_container.specs.declared.choice.codings.Coding.{Coding}
-use Rattle.drc_container.specs.reading.OnSurface.{no_block, seams_of, cut_at, cut_for, walked_by, walked_for}
-use Rattle.drc_container.specs.writing.WrittenOnSurface.{GluedMesh, decoded, seam_bits_of, is_cornered, cut_of, is_by_degree, surface_walk, data_id_of, decoder_for, seam_lists}
+use Rattle.drc_container.specs.reading.OnSurface.{no_block, seams_of, cut_at, cut_for, ordered_by, ordered_for}
+use Rattle.drc_container.specs.writing.WrittenOnSurface.{GluedMesh, decoded, seam_bits_of, is_cornered, cut_of, is_by_degree, surface_order, data_id_of, decoder_for, seam_lists}
 use Rattle.drc_container.proofs.lemmas.surface.Traced.{decoded-proper, decoded-faces, decoded-heads}
 use Rattle.drc_container.proofs.lemmas.writing.SurfaceConnectivity.{connectivity_written}
 
@@ -107,11 +107,11 @@ cut-read coding m blocks k h is none begin below =
     ∙ cut-told (length d.mesh.faces) d.pairs d.mesh k (get_or blocks (k - 1) no_block) gluing begins)
 
 -- and walked as it was written
-pub walked-read : (coding : Coding) (m : MeshParts) (blocks : List Block) (k : ℕ) (h : Head) → IsMesh m → degenerate_fault m ≡ None
+pub ordered-read : (coding : Coding) (m : MeshParts) (blocks : List Block) (k : ℕ) (h : Head) → IsMesh m → degenerate_fault m ≡ None
     → BeginWith (seam_lists (decoded m)) blocks → k < length m.heads
-    → walked_for (connectivity_written coding m blocks) (bare_decoder (decoder_for coding (decoded m) k h)) ≡ surface_walk coding (decoded m) k
-unfolding surface_walk
-walked-read coding m blocks k h is none begin below =
+    → ordered_for (connectivity_written coding m blocks) (bare_decoder (decoder_for coding (decoded m) k h)) ≡ surface_order coding (decoded m) k
+unfolding surface_order
+ordered-read coding m blocks k h is none begin below =
     let d : GluedMesh = decoded m in
-    ap (walked_by (is_by_degree coding d k) (length m.faces)) (cut-read coding m blocks k h is none begin below)
-    ∙ ap (λ (n : ℕ). walked_by (is_by_degree coding d k) n (cut_of d k)) (sym (decoded-faces m is none))
+    ap (ordered_by (is_by_degree coding d k) (length m.faces)) (cut-read coding m blocks k h is none begin below)
+    ∙ ap (λ (n : ℕ). ordered_by (is_by_degree coding d k) n (cut_of d k)) (sym (decoded-faces m is none))

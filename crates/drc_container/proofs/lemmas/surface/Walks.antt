@@ -1,4 +1,4 @@
--- The orders in which a surface is walked: their entries are corners of its faces, and each corner is in the fan of one of them.
+-- The orders of the entries of a surface: their entries are corners of its faces, and each corner is in the fan of one of them.
 use Rattle.std.proofs.Common.{◌≡◌, ℕ, zero, suc, ◌*◌, ◌<◌, ◌≤◌, Bool, true, false, List, [], ◌∷◌, ◌++◌, length, get_or, Option, Some, None, inl, inr, sym, ap, ◌∙◌, subst, arith, length-set}
 use Rattle.std.specs.List.{All, position_or_len}
 use Rattle.std.proofs.lemmas.Bool.{cases_Bool, cases_lt, cond-true, cond-false, false≢true}
@@ -71,11 +71,11 @@ from-on faces g labels ends f w within is = elim (cases_Bool (is_visited w f)) [
       (walk-on faces g labels ends faces (with_base labels w f) (Some (side f first)) (base-on faces labels w f within is))
 ]
 
-walked-on : (faces : ℕ) (g : Gluing) (labels : List ℕ) (ends : List Bool) (n : ℕ) → n ≤ faces → StaysOn faces (depth_walked faces g labels ends n)
+ordered-on : (faces : ℕ) (g : Gluing) (labels : List ℕ) (ends : List Bool) (n : ℕ) → n ≤ faces → StaysOn faces (depth_walked faces g labels ends n)
 unfolding depth_walked
-walked-on faces g labels ends zero few = record { each_face = length-replicate faces false; corners = All-nil (λ (x : Side). x.face < faces) }
-walked-on faces g labels ends (suc n) few =
-    from-on faces g labels ends n (depth_walked faces g labels ends n) (omega arith) (walked-on faces g labels ends n (omega arith))
+ordered-on faces g labels ends zero few = record { each_face = length-replicate faces false; corners = All-nil (λ (x : Side). x.face < faces) }
+ordered-on faces g labels ends (suc n) few =
+    from-on faces g labels ends n (depth_walked faces g labels ends n) (omega arith) (ordered-on faces g labels ends n (omega arith))
 
 -- ---- by prediction degree
 
@@ -107,7 +107,7 @@ ranked-on faces g labels classes (suc n) few =
 
 -- the entries of an order are corners of the faces, on any surface
 pub order-on : (degree : Bool) (faces : ℕ) (g : Gluing) → AreOf faces (order_by degree faces g)
-order-on false faces g = (walked-on faces g (fan_labels faces g) (fan_ends faces g) faces (omega arith)).corners
+order-on false faces g = (ordered-on faces g (fan_labels faces g) (fan_ends faces g) faces (omega arith)).corners
 order-on true faces g = (ranked-on faces g (fan_labels faces g) (fans_of faces g) faces (omega arith)).corners
 
 -- the entries of an order are a list of the fans

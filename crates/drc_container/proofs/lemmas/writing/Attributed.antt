@@ -18,7 +18,7 @@ use Rattle.attr_section.specs.Written.{HasQuant, DecoderValuesPass}
 use Rattle.drc_container.specs.declared.choice.choices.Choice.{Choice}
 use Rattle.drc_container.specs.choice.Choice.{predict_chosen, chosen_code}
 use Rattle.drc_container.specs.writing.Written.{decoder_of, values_of}
-use Rattle.drc_container.specs.writing.Encoded.{CanCode}
+use Rattle.drc_container.specs.writing.Encoded.{CanCodeInOrder}
 use Rattle.drc_container.proofs.lemmas.writing.Codable.{ColumnsPass, columns_pass}
 use Rattle.drc_container.proofs.lemmas.reading.Rows.{range_more}
 
@@ -59,13 +59,13 @@ decoder_passes g are =
     }
 
 -- the values pass
-pub columns_of_geometry : (g : Geometry) (choice : Choice) → CanCode g choice → ArePoints (heads_in g) (points_in g)
+pub columns_of_geometry : (g : Geometry) (choice : Choice) → CanCodeInOrder g choice → ArePoints (heads_in g) (points_in g)
     → ColumnsPass (length (points_in g)) (heads_in g) (values_of g (chosen_code g choice))
 columns_of_geometry g choice can are =
     columns_pass (predict_chosen g choice) (heads_in g) (points_in g) (heads_say (heads_in g) are.heads_pass).each are.rows_fit can.some are.few_values
-    (record { alone = can.alone; near = can.near })
+    (record { alone = can.alone; near = can.values.near })
 
-pub decoder_values_pass : (g : Geometry) (choice : Choice) → CanCode g choice → ArePoints (heads_in g) (points_in g)
+pub decoder_values_pass : (g : Geometry) (choice : Choice) → CanCodeInOrder g choice → ArePoints (heads_in g) (points_in g)
     → DecoderValuesPass None (heads_in g) (values_of g (chosen_code g choice))
 decoder_values_pass g choice can are =
     let pass = columns_of_geometry g choice can are in

@@ -25,7 +25,7 @@ use Rattle.seq_section.specs.Indices.{method_at, indices_opening_at, indices_ope
 use Rattle.predict.specs.declared.schemes.Prediction.{Prediction}
 use Rattle.predict.specs.Schemes.{facts, byte_of, code_of, prediction_coded}
 use Rattle.predict.specs.Restored.{corrections}
-use Rattle.predict.specs.Walked.{Walked}
+use Rattle.corner_table.specs.Ordered.{Ordered}
 use Rattle.predict.specs.Surfaces.{surface_or}
 use Rattle.predict.specs.Foretold.{foretold, marks_of}
 use Rattle.predict.proofs.Named.{by_number}
@@ -39,7 +39,7 @@ use Rattle.drc_container.specs.Columns.{columns_of}
 use Rattle.drc_container.specs.choice.Choice.{method_of, predict_chosen, chosen_code, index_of, is_packed}
 use Rattle.drc_container.specs.reading.Meaning.{attr_infos}
 use Rattle.drc_container.specs.writing.Written.{header_bytes, sequential_connectivity_bytes, decoder_of, attribute_heads_bytes, sequential_attributes_bytes, values_of, stream_bytes}
-use Rattle.drc_container.specs.writing.Encoded.{CanCode, ConnectivitySpelled, AttributesSpelled}
+use Rattle.drc_container.specs.writing.Encoded.{CanCodeInOrder, ConnectivitySpelled, AttributesSpelled}
 use Rattle.drc_container.specs.writing.Layout.{compressed_behind, AttrLayout, Layout, attr_layouts, links_of, attr_data_of, links_layout, traversal_layout, traversal_of, index_layout, opening_method, layout_by, layout_of, method_byte, attr_coded, attributes_chosen, layout_chosen}
 use Rattle.drc_container.proofs.lemmas.writing.Meanings.{connectivity_place, attributes_place, info_written, stream-written}
 
@@ -54,7 +54,7 @@ integers-first true comps values rest = refl
 integers-first false comps values rest = refl
 
 -- corrections begin with it behind the byte of their transform
-corrected-first : (plain : Bool) (w : Walked) (q : Prediction) (comps : ℕ) (lists : List (List Bool)) (values : List ℤ) (rest : List ℕ)
+corrected-first : (plain : Bool) (w : Ordered) (q : Prediction) (comps : ℕ) (lists : List (List Bool)) (values : List ℤ) (rest : List ℕ)
     → get_or (flagged_bytes plain w q comps lists values ++ rest) 1 0 ≡ compressed_byte plain
 unfolding flagged_bytes
 corrected-first plain w q comps lists values rest =
@@ -62,7 +62,7 @@ corrected-first plain w q comps lists values rest =
     let back = flat_map flags_bytes lists ++ range_bytes (range_of values) in
     ap (λ bytes. get_or bytes 0 0) (append_assoc (integers_bytes plain comps cs) back rest) ∙ integers-first plain comps cs (back ++ rest)
 
-predicted-first : (plain : Bool) (w : Option Walked) (comps : ℕ) (values : List ℤ) (q : Prediction) (rest : List ℕ)
+predicted-first : (plain : Bool) (w : Option Ordered) (comps : ℕ) (values : List ℤ) (q : Prediction) (rest : List ℕ)
     → get_or ((byte_of q ∷ predicted_bytes plain w q comps values) ++ rest) (compressed_behind (Some q)) 0 ≡ compressed_byte plain
 unfolding predicted_bytes
 predicted-first plain w comps values q rest = elim (cases_Bool (facts q).corrects) [
@@ -71,7 +71,7 @@ predicted-first plain w comps values q rest = elim (cases_Bool (facts q).correct
 ]
 
 -- where it stands in the values of an attribute
-pub values-first : (plain : Bool) (w : Option Walked) (comps : ℕ) (values : List ℤ) (q : Prediction) (rest : List ℕ)
+pub values-first : (plain : Bool) (w : Option Ordered) (comps : ℕ) (values : List ℤ) (q : Prediction) (rest : List ℕ)
     → get_or (values_bytes plain w comps (record { values = values; predict = code_of q; at = 0 }) ++ rest) (compressed_behind (prediction_coded (code_of q))) 0 ≡ compressed_byte plain
 values-first plain w comps values q rest =
     let v : Values = record { values = values; predict = code_of q; at = 0 } in
@@ -176,7 +176,7 @@ index-chosen (Cloud c) choice sequential = refl
 attributes-in_order : (g : Geometry) (choice : Choice) → method_of g choice ≡ method.Seq → attributes_chosen g choice ≡ map (λ _. attr_coded g choice 0 0) (heads_in g)
 attributes-in_order g choice sequential = rw sequential refl
 
-attributes-written : (g : Geometry) (choice : Choice) → CanCode g choice → length (values_of g (chosen_code g choice)) ≡ length (heads_in g)
+attributes-written : (g : Geometry) (choice : Choice) → CanCodeInOrder g choice → length (values_of g (chosen_code g choice)) ≡ length (heads_in g)
     → attr_layouts (stream_bytes g choice) (replicate (length (heads_in g)) unlinked) (info_written g choice).attrs ≡ (layout_chosen g choice).attributes
 attributes-written g choice can same =
     let h = header_bytes 0 g in
@@ -224,7 +224,7 @@ links-written g choice attributes =
     ∙ links-there g (h ++ c) v place attributes.heads at
 
 -- a written stream is coded as chosen
-pub layout-written : (g : Geometry) (choice : Choice) → CanCode g choice → IsGeometry g → ConnectivitySpelled (is_packed (index_of choice)) g
+pub layout-written : (g : Geometry) (choice : Choice) → CanCodeInOrder g choice → IsGeometry g → ConnectivitySpelled (is_packed (index_of choice)) g
     → AttributesSpelled choice.plain_values g (chosen_code g choice) → length (values_of g (chosen_code g choice)) ≡ length (heads_in g)
     → layout_of (stream_bytes g choice) ≡ Ok (layout_chosen g choice)
 layout-written g choice can is connectivity attributes same =

@@ -12,8 +12,8 @@ use Rattle.seams.proofs.Chains.{cut_is_gluing}
 use Rattle.seams.proofs.Values.{seams_are_alike}
 use Rattle.walk_order.specs.OfSurface.{entries_of}
 use Rattle.drc_container.specs.declared.choice.codings.Coding.{Coding}
-use Rattle.drc_container.specs.reading.OnSurface.{order_by, walked_by}
-use Rattle.drc_container.specs.writing.WrittenOnSurface.{GluedMesh, decoded, is_cornered, cut_of, is_by_degree, surface_walk, coded_by}
+use Rattle.drc_container.specs.reading.OnSurface.{order_by, ordered_by}
+use Rattle.drc_container.specs.writing.WrittenOnSurface.{GluedMesh, decoded, is_cornered, cut_of, is_by_degree, surface_order, coded_by}
 use Rattle.drc_container.specs.writing.Encoded.{CanCodeSurface}
 use Rattle.drc_container.proofs.lemmas.surface.Walks.{AreOf, order-on, order-some}
 use Rattle.drc_container.proofs.lemmas.surface.Decoded.{decoded-keeps}
@@ -24,13 +24,13 @@ abbrev pub order_for : Coding → GluedMesh → ℕ → List Side
 order_for coding d k = order_by (is_by_degree coding d k) (length d.mesh.faces) (cut_of d k)
 
 -- the corners of the entries stand in it
-pub walk-corners : (coding : Coding) (d : GluedMesh) (k : ℕ) → (surface_walk coding d k).corners ≡ order_for coding d k
-unfolding surface_walk walked_by
+pub walk-corners : (coding : Coding) (d : GluedMesh) (k : ℕ) → (surface_order coding d k).corners ≡ order_for coding d k
+unfolding surface_order ordered_by
 walk-corners coding d k = refl
 
 -- and give the entry of each corner
-pub walk-entries : (coding : Coding) (d : GluedMesh) (k : ℕ) → (surface_walk coding d k).entries ≡ entries_of (length d.mesh.faces) (cut_of d k) (order_for coding d k)
-unfolding surface_walk walked_by
+pub walk-entries : (coding : Coding) (d : GluedMesh) (k : ℕ) → (surface_order coding d k).entries ≡ entries_of (length d.mesh.faces) (cut_of d k) (order_for coding d k)
+unfolding surface_order ordered_by
 walk-entries coding d k = refl
 
 -- cut at seams or not, it is a surface
@@ -45,12 +45,12 @@ cut-gluing d k G =
     at false faces g h G H = H
 
 -- the corners of the entries are corners of the faces
-pub walk-on : (coding : Coding) (d : GluedMesh) (k : ℕ) → AreOf (length d.mesh.faces) (surface_walk coding d k).corners
+pub walk-on : (coding : Coding) (d : GluedMesh) (k : ℕ) → AreOf (length d.mesh.faces) (surface_order coding d k).corners
 walk-on coding d k =
     subst (AreOf (length d.mesh.faces)) (sym (walk-corners coding d k)) (order-on (is_by_degree coding d k) (length d.mesh.faces) (cut_of d k))
 
 -- there is an entry
-pub walk-some : (coding : Coding) (m : MeshParts) → IsMesh m → CanCodeSurface coding m → (k : ℕ) → 0 < length (surface_walk coding (decoded m) k).corners
+pub walk-some : (coding : Coding) (m : MeshParts) → IsMesh m → CanCodeSurface coding m → (k : ℕ) → 0 < length (surface_order coding (decoded m) k).corners
 walk-some coding m is can k =
     let d = decoded m in
     let D = decoded-keeps m is can.proper in
@@ -65,14 +65,14 @@ columns-typed coding m is can k h has =
     let D = decoded-keeps m is can.proper in
     let within : k < length d.mesh.heads = subst (λ (heads : List Head). k < length heads) (sym D.heads) has in
     subst (λ (heads : List Head). list_all (in_type (get_or heads k h).dtype) (coded_by coding d k).values ≡ true) D.heads
-    (pieces-typed d.mesh D.mesh k h within (surface_walk coding d k).corners (walk-on coding d k))
+    (pieces-typed d.mesh D.mesh k h within (surface_order coding d k).corners (walk-on coding d k))
 
 -- and as many as its entries have components
 pub columns-long : (coding : Coding) (m : MeshParts) → IsMesh m → CanCodeSurface coding m → (k : ℕ) (h : Head) → k < length m.heads
-    → length (coded_by coding (decoded m) k).values ≡ length (surface_walk coding (decoded m) k).corners * (get_or m.heads k h).comps
+    → length (coded_by coding (decoded m) k).values ≡ length (surface_order coding (decoded m) k).corners * (get_or m.heads k h).comps
 columns-long coding m is can k h has =
     let d = decoded m in
     let D = decoded-keeps m is can.proper in
     let within : k < length d.mesh.heads = subst (λ (heads : List Head). k < length heads) (sym D.heads) has in
-    subst (λ (heads : List Head). length (coded_by coding d k).values ≡ length (surface_walk coding d k).corners * (get_or heads k h).comps) D.heads
-    (pieces-long d.mesh D.mesh k h within (surface_walk coding d k).corners (walk-on coding d k))
+    subst (λ (heads : List Head). length (coded_by coding d k).values ≡ length (surface_order coding d k).corners * (get_or heads k h).comps) D.heads
+    (pieces-long d.mesh D.mesh k h within (surface_order coding d k).corners (walk-on coding d k))

@@ -10,7 +10,7 @@ use Rattle.drc_base.specs.declared.limits.TheConstants.{MAX_VALUES}
 use Rattle.drc_base.specs.Steps.{◌>>=◌}
 use Rattle.drc_bits.specs.Reading.{Reading}
 use Rattle.mesh_model.specs.declared.heads.Head.{Head}
-use Rattle.mesh_model.specs.declared.tables.AttrTable.{AttrTable}
+use Rattle.mesh_model.specs.Groups.{AttrTable}
 use Rattle.mesh_model.specs.Parts.{MeshParts, IsMesh}
 use Rattle.attr_section.specs.declared.decoder_heads.DecoderHead.{DecoderHead}
 use Rattle.attr_section.specs.declared.values.Values.{Values}
@@ -18,15 +18,14 @@ use Rattle.attr_section.specs.Heads.{bare_decoder, heads_at}
 use Rattle.attr_section.specs.Values.{values_in}
 use Rattle.eb_section.specs.Connectivity.{Connectivity}
 use Rattle.drc_container.specs.declared.choice.codings.Coding.{Coding}
-use Rattle.drc_container.specs.declared.reading.surface_attributes.SurfaceAttributes.{SurfaceAttributes}
 use Rattle.drc_container.specs.declared.reading.info.AttrInfo.{AttrInfo}
-use Rattle.drc_container.specs.reading.OnSurface.{walked_for, no_attributes, decoder_attributes, attributes_joined, values_on, decoder_on, surface_decoders_at, attributes_on}
-use Rattle.drc_container.specs.writing.WrittenOnSurface.{GluedMesh, decoded, surface_walk, coded_by, coded_values, decoder_for, decoders_for, seam_bits_of, seam_lists, attribute_bytes, values_bytes_on, decoder_heads_bytes}
+use Rattle.drc_container.specs.reading.OnSurface.{SurfaceAttributes, ordered_for, no_attributes, decoder_attributes, attributes_joined, values_on, decoder_on, surface_decoders_at, attributes_on}
+use Rattle.drc_container.specs.writing.WrittenOnSurface.{GluedMesh, decoded, surface_order, coded_by, coded_values, decoder_for, decoders_for, seam_bits_of, seam_lists, attribute_bytes, values_bytes_on, decoder_heads_bytes}
 use Rattle.drc_container.specs.writing.Encoded.{CanCodeSurface, AttributeSpelled, SurfaceSpelled}
 use Rattle.drc_container.proofs.lemmas.writing.SurfaceWritten.{attrs_written, table_written}
 use Rattle.drc_container.proofs.lemmas.surface.Traced.{decoded-heads}
 use Rattle.drc_container.proofs.lemmas.writing.SurfaceConnectivity.{connectivity_written}
-use Rattle.drc_container.proofs.lemmas.surface.Seams.{walked-read}
+use Rattle.drc_container.proofs.lemmas.surface.Seams.{ordered-read}
 
 -- the attributes that are read of these, the first of which begins at this place
 abbrev pub attributes_written : Coding → GluedMesh → ℕ → List (ℕ × Head) → SurfaceAttributes
@@ -40,11 +39,11 @@ attributes_written coding d place xs = record {
 
 decoder-read : (coding : Coding) (d : GluedMesh) (k : ℕ) (h : Head) (spent place : ℕ) (rest : List ℕ) → AttributeSpelled coding d k h
     → spent + length (coded_by coding d k).values ≤ MAX_VALUES
-    → decoder_on profile (surface_walk coding d k) (bare_decoder (decoder_for coding d k h)) spent (record { place = place; rest = attribute_bytes coding d k h ++ rest })
+    → decoder_on profile (surface_order coding d k) (bare_decoder (decoder_for coding d k h)) spent (record { place = place; rest = attribute_bytes coding d k h ++ rest })
     ≡ Ok (attributes_written coding d place ((k, h) ∷ []), record { place = place + length (attribute_bytes coding d k h); rest = rest })
 unfolding decoder_on
 decoder-read coding d k h spent place rest spelled few =
-    ap (λ x. x >>= λ x. Ok (decoder_attributes (surface_walk coding d k) x.0.1 x.0.0, x.1))
+    ap (λ x. x >>= λ x. Ok (decoder_attributes (surface_order coding d k) x.0.1 x.0.0, x.1))
     (spelled.reads spent place rest (omega (arith, few, sum_by-cons (λ (v : Values). length v.values) (coded_by coding d k) [])))
 
 -- ---- several
@@ -63,7 +62,7 @@ joined-assoc a b c =
 
 -- an attribute is spelled, and its decoder walks the surface as it was written
 abbrev IsSpelled : Coding → GluedMesh → Connectivity → ℕ × Head → Type 0
-IsSpelled coding d s x = AttributeSpelled coding d x.0 x.1 × (walked_for s (bare_decoder (decoder_for coding d x.0 x.1)) ≡ surface_walk coding d x.0)
+IsSpelled coding d s x = AttributeSpelled coding d x.0 x.1 × (ordered_for s (bare_decoder (decoder_for coding d x.0 x.1)) ≡ surface_order coding d x.0)
 
 -- how many values an attribute has
 abbrev count_written : Coding → GluedMesh → ℕ × Head → ℕ
@@ -96,7 +95,7 @@ decoders-read coding d s (x ∷ xs) before place rest spelled few =
     let counted = sum_by-cons (count_written coding d) x xs in
     let more : values_on (attributes_joined before one).tables ≡ values_on before.tables + count_written coding d x = sum_by_push (λ (t : AttrTable). length t.values) before.tables (table_written coding d k) in
     let end : place + length bytes + length others ≡ place + length (bytes ++ others) = omega (arith, length-append bytes others) in
-    ap (λ after. decoder_on profile (walked_for s (bare_decoder (decoder_for coding d k h))) (bare_decoder (decoder_for coding d k h)) (values_on before.tables) (record { place = place; rest = after }) >>= next)
+    ap (λ after. decoder_on profile (ordered_for s (bare_decoder (decoder_for coding d k h))) (bare_decoder (decoder_for coding d k h)) (values_on before.tables) (record { place = place; rest = after }) >>= next)
     (append_assoc bytes others rest)
     ∙ ap (λ w. decoder_on profile w (bare_decoder (decoder_for coding d k h)) (values_on before.tables) (record { place = place; rest = bytes ++ (others ++ rest) }) >>= next) here.1
     ∙ ap (λ y. y >>= next) (decoder-read coding d k h (values_on before.tables) place (others ++ rest) here.0 (omega (arith, few, counted)))
@@ -148,10 +147,10 @@ attributes-read coding m is can parts place rest =
     let values : List ℕ = values_bytes_on coding d in
     let spelled : All (IsSpelled coding d s) xs = λ i y below. (
       subst (λ (l : List Head). All (λ (k, h). AttributeSpelled coding d k h) (enumerate_from 0 l)) (sym same) parts.values i y below,
-      numbered-all (λ x. walked_for s (bare_decoder (decoder_for coding d x.0 x.1)) ≡ surface_walk coding d x.0) d.mesh.heads
-          (λ k h inside. walked-read coding m parts.connectivity.blocks k h is can.proper parts.connectivity.seam_bits (subst (λ (l : List Head). k < length l) same inside)) i y below,
+      numbered-all (λ x. ordered_for s (bare_decoder (decoder_for coding d x.0 x.1)) ≡ surface_order coding d x.0) d.mesh.heads
+          (λ k h inside. ordered-read coding m parts.connectivity.blocks k h is can.proper parts.connectivity.seam_bits (subst (λ (l : List Head). k < length l) same inside)) i y below,
     ) in
     ap (λ n. heads_at (Some n) (record { place = place; rest = heads ++ (values ++ rest) }) >>= λ decoders. surface_decoders_at profile s no_attributes decoders.0 decoders.1) count
     ∙ ap (λ y. y >>= λ decoders. surface_decoders_at profile s no_attributes decoders.0 decoders.1) (parts.heads.reads place (values ++ rest))
-    ∙ decoders-read coding d s xs no_attributes (place + length heads) rest spelled (omega (arith, few-written coding d can.few_values))
+    ∙ decoders-read coding d s xs no_attributes (place + length heads) rest spelled (omega (arith, few-written coding d can.values.few))
     ∙ ap (λ (l : List Head). Ok (attributes_written coding d (place + length heads) (enumerate_from 0 l), record { place = place + length heads + length values; rest = rest })) same

@@ -36,7 +36,8 @@ use Rattle.drc_container.specs.writing.Written.{header_bytes}
 use Rattle.drc_container.specs.writing.WrittenOnSurface.{traced, GluedMesh, decoded, coded_values, decoders_for, seam_lists, values_bytes_on, decoder_heads_bytes, connectivity_of, edgebreaker_bytes}
 use Rattle.drc_container.specs.choice.Refused.{vertices_fault, limit_fault, predicted_range_fault, tracing_fault, values_fault, coding_fault}
 use Rattle.drc_container.specs.writing.Encoded.{CanCodeSurface, AttributeSpelled, SurfaceSpelled}
-use Rattle.drc_container.specs.surface.AttributeSurfaces.{glued_by, CanCodeValues}
+use Rattle.drc_container.specs.choice.CanCode.{CanCode}
+use Rattle.drc_container.specs.surface.AttributeSurfaces.{glued_by}
 use Rattle.drc_container.proofs.lemmas.choice.FirstRefusals.{refuses-alike, value-given, wraps}
 use Rattle.drc_container.proofs.lemmas.surface.Decoded.{decoded-keeps}
 
@@ -102,28 +103,25 @@ values-refuse {A} {B} coding m t d x y e is refuses =
 may-wrap : (p : Prediction) (values : List Values) → predicted_range_fault p values ≡ None → (facts p).corrects ≡ true → All (λ v. CanWrap (range_of v.values)) values
 may-wrap p values none corrects = wraps values (rw corrects at none)
 
-pub values-can : (coding : Coding) (d : GluedMesh) (values : List Values) → 0 < length d.mesh.faces
-    → value_unless (values_fault coding d) (coded_values coding d) ≡ Ok values → CanCodeValues coding d
-values-can coding d values some given =
+pub values-can : (coding : Coding) (d : GluedMesh) (values : List Values)
+    → value_unless (values_fault coding d) (coded_values coding d) ≡ Ok values → CanCode coding.predict (coded_values coding d)
+values-can coding d values given =
     let vs = coded_values coding d in
     let none : values_fault coding d ≡ None = value-given (values_fault coding d) vs values given in
     let first = first_fault-none (limit_fault vs) (predicted_range_fault coding.predict vs ∷ []) none in
     let second = first_fault-none (predicted_range_fault coding.predict vs) [] first.1 in
     record {
-      some = some;
       few = leb-true (values_in vs) MAX_VALUES (unless-none (nat_le (values_in vs) MAX_VALUES) ValueLimit (values_in vs) first.0);
       near = may-wrap coding.predict vs second.0;
     }
 
-pub surface-can : (coding : Coding) (m : MeshParts) (t : Traced) (d : GluedMesh) → IsTracedTo m t d → 0 < length m.faces → CanCodeValues coding d → CanCodeSurface coding m
+pub surface-can : (coding : Coding) (m : MeshParts) (t : Traced) (d : GluedMesh) → IsTracedTo m t d → 0 < length m.faces → CanCode coding.predict (coded_values coding d) → CanCodeSurface coding m
 surface-can coding m t d is some can =
-    let own : CanCodeValues coding (decoded m) = subst (CanCodeValues coding) is.decoded can in
     record {
       some = some;
       proper = is.proper;
       few_vertices = fans-few m is.few;
-      few_values = own.few;
-      near = own.near;
+      values = subst (λ (g : GluedMesh). CanCode coding.predict (coded_values coding g)) is.decoded can;
     }
 
 -- ---- the stream is written

@@ -10,7 +10,7 @@ use Rattle.mesh_model.specs.declared.heads.Head.{Head}
 use Rattle.mesh_model.specs.declared.geometries.Geometry.TheVariants.{Mesh}
 use Rattle.mesh_model.specs.Parts.{MeshParts, IsMesh}
 use Rattle.mesh_model.proofs.Passing.{heads_say}
-use Rattle.predict.specs.Walked.{Walked}
+use Rattle.corner_table.specs.Ordered.{Ordered}
 use Rattle.eb_section.specs.Written.{connectivity_bytes, opening_bytes}
 use Rattle.predict.specs.declared.schemes.Prediction.{Prediction}
 use Rattle.predict.specs.Schemes.{code_of, prediction_coded}
@@ -24,7 +24,7 @@ use Rattle.drc_container.specs.declared.choice.choices.Choice.{Choice}
 use Rattle.drc_container.specs.choice.Choice.{method_of, is_sequential, is_valence}
 use Rattle.drc_container.specs.reading.Stream.{stream}
 use Rattle.drc_container.specs.writing.Written.{header_bytes}
-use Rattle.drc_container.specs.writing.WrittenOnSurface.{GluedMesh, decoded, is_cornered, is_by_degree, surface_walk, coded_by, decoder_for, decoders_for, attribute_bytes, values_bytes_on, decoder_heads_bytes, connectivity_of, edgebreaker_bytes}
+use Rattle.drc_container.specs.writing.WrittenOnSurface.{GluedMesh, decoded, is_cornered, is_by_degree, surface_order, coded_by, decoder_for, decoders_for, attribute_bytes, values_bytes_on, decoder_heads_bytes, connectivity_of, edgebreaker_bytes}
 use Rattle.drc_container.specs.writing.Chosen.{coding_of}
 use Rattle.drc_container.specs.writing.Encoded.{CanCodeSurface, SurfaceSpelled}
 use Rattle.drc_container.specs.writing.Layout.{compressed_behind, AttrLayout, Layout, attr_layouts, links_of, attr_data_of, links_layout, traversal_layout, traversal_of, index_layout, layout_by, layout_of, method_byte, bit_byte, attr_coded, attr_on_surface, layout_chosen}
@@ -37,7 +37,7 @@ abbrev skipped : ℤ → ℕ
 skipped predict = compressed_behind (prediction_coded predict)
 
 -- where it stands in the values of a decoder, and of an attribute
-column-first : (plain : Bool) (w : Walked) (h : Head) (values : List ℤ) (predict : ℤ) (q : Prediction) (rest : List ℕ) → predict ≡ code_of q
+column-first : (plain : Bool) (w : Ordered) (h : Head) (values : List ℤ) (predict : ℤ) (q : Prediction) (rest : List ℕ) → predict ≡ code_of q
     → get_or (decoder_values_bytes plain (Some w) (h ∷ []) (record { values = values; predict = predict; at = 0 } ∷ []) ++ rest) (skipped predict) 0 ≡ compressed_byte plain
 unfolding decoder_values_bytes
 column-first plain w h values predict q rest is =
@@ -51,7 +51,7 @@ column-first plain w h values predict q rest is =
 attribute-first : (coding : Coding) (d : GluedMesh) (k : ℕ) (h : Head) (rest : List ℕ)
     → get_or (attribute_bytes coding d k h ++ rest) (skipped (code_of coding.predict)) 0 ≡ compressed_byte coding.plain
 attribute-first coding d k h rest =
-    column-first coding.plain (surface_walk coding d k) h (coded_by coding d k).values (code_of coding.predict) (coding.predict) rest refl
+    column-first coding.plain (surface_order coding d k) h (coded_by coding d k).values (code_of coding.predict) (coding.predict) rest refl
 
 -- the element type and the walk of attribute k
 abbrev linked : Coding → GluedMesh → ℕ → ℕ × ℕ

@@ -5,7 +5,7 @@ use Rattle.std.proofs.lemmas.List.{length-drop, drop-drop, drop_more, drop_all, 
 use Rattle.std.proofs.lemmas.List.FromFn.{length-map-range_with_len}
 use Rattle.std.proofs.Math.Nat.{mul-le-mul_right}
 use Rattle.mesh_model.specs.declared.heads.Head.{Head}
-use Rattle.mesh_model.specs.declared.tables.AttrTable.{AttrTable}
+use Rattle.mesh_model.specs.Groups.{AttrTable}
 use Rattle.mesh_model.specs.Head.{width_of}
 use Rattle.mesh_model.specs.FirstFault.{value_unless}
 use Rattle.mesh_model.specs.Parts.{MeshParts, corner, IsMesh, count_fault}

@@ -15,7 +15,7 @@ use Rattle.mesh_model.specs.Head.{width_of}
 use Rattle.mesh_model.specs.Parts.{MeshParts, corner, IsMesh}
 use Rattle.mesh_model.proofs.Passing.{HeadSays, heads_say}
 use Rattle.drc_base.specs.declared.sides.Side.{Side as NumberedSide}
-use Rattle.corner_table.specs.Sides.{Side, place_of, place_number, Gluing, IsGluing}
+use Rattle.corner_table.specs.Sides.{Side, place_of, place_number, side_at, Gluing, IsGluing}
 use Rattle.corner_table.specs.Fans.{corners_of}
 use Rattle.corner_table.specs.Pairs.{has_bit, bit_sides}
 use Rattle.corner_table.specs.Table.{side_of, gluing_of}
@@ -23,7 +23,7 @@ use Rattle.corner_table.proofs.PairLaws.{length-corners_of}
 use Rattle.seams.specs.Values.{piece, is_seam}
 use Rattle.seams.proofs.Values.{width_part}
 use Rattle.predict.specs.Wrap.{CanWrap}
-use Rattle.predict.specs.Walked.{Walked}
+use Rattle.corner_table.specs.Ordered.{Ordered}
 use Rattle.predict.specs.declared.schemes.Prediction.{Prediction}
 use Rattle.predict.specs.Schemes.{code_of}
 use Rattle.attr_section.specs.declared.decoder_heads.DecoderHead.{DecoderHead}
@@ -34,9 +34,10 @@ use Rattle.attr_section.specs.Written.{range_of, HasQuant, CanPredict, ValuesPas
 use Rattle.drc_container.specs.declared.choice.codings.Coding.{Coding}
 use Rattle.drc_container.specs.declared.surface.ordered_surface.OrderedSurface.{OrderedSurface}
 use Rattle.drc_container.specs.declared.surface.attribute_surfaces.AttributeSurfaces.{AttributeSurfaces}
-use Rattle.drc_container.specs.reading.OnSurface.{order_by, walked_by}
-use Rattle.drc_container.specs.writing.WrittenOnSurface.{GluedMesh, seam_bits_of, cut_of, is_by_degree, surface_walk, coded_by, coded_values, decoder_for, decoders_for, seam_lists}
-use Rattle.drc_container.specs.surface.AttributeSurfaces.{glued_on, walk_in, walk_at, AreAttributeSurfaces, CanCodeValues}
+use Rattle.drc_container.specs.choice.CanCode.{CanCode}
+use Rattle.drc_container.specs.reading.OnSurface.{order_by, ordered_by}
+use Rattle.drc_container.specs.writing.WrittenOnSurface.{GluedMesh, seam_bits_of, cut_of, is_by_degree, surface_order, coded_by, coded_values, decoder_for, decoders_for, seam_lists}
+use Rattle.drc_container.specs.surface.AttributeSurfaces.{glued_on, order_in, order_at, AreAttributeSurfaces}
 use Rattle.drc_container.proofs.lemmas.writing.Attributed.{head_passes, head_quant}
 use Rattle.drc_container.proofs.lemmas.surface.Pieces.{width-more, pieces-typed, pieces-long}
 use Rattle.drc_container.proofs.lemmas.writing.SurfaceColumns.{order_for, walk-on, walk-corners, walk-entries, cut-gluing}
@@ -59,8 +60,8 @@ enumerate-more {A} n (x ∷ xs) (suc i) d has =
 
 -- how many values an attribute has
 pub values-long : (coding : Coding) (d : GluedMesh) → IsMesh d.mesh → (k : ℕ) (h : Head) → k < length d.mesh.heads
-    → length (coded_by coding d k).values ≡ length (surface_walk coding d k).corners * (get_or d.mesh.heads k h).comps
-values-long coding d is k h has = pieces-long d.mesh is k h has (surface_walk coding d k).corners (walk-on coding d k)
+    → length (coded_by coding d k).values ≡ length (surface_order coding d k).corners * (get_or d.mesh.heads k h).comps
+values-long coding d is k h has = pieces-long d.mesh is k h has (surface_order coding d k).corners (walk-on coding d k)
 
 -- the values of one attribute more
 pub values-more : (coding : Coding) (d : GluedMesh) (k : ℕ)
@@ -85,9 +86,9 @@ some-values : (n comps : ℕ) → 0 < n → 1 ≤ comps → 0 < n * comps
 some-values n comps some one = let more : n * 1 ≤ n * comps = mul-le-mul_left n one in omega (arith, more, some)
 
 -- values that lie near enough may be predicted
-may-predict : (coding : Coding) (d : GluedMesh) (k comps : ℕ) → CanCodeValues coding d → k < length d.mesh.heads
-    → length (coded_by coding d k).values ≡ length (surface_walk coding d k).corners * comps
-    → (q : Prediction) × (code_of coding.predict ≡ code_of q) × CanPredict (Some (surface_walk coding d k)) comps (coded_by coding d k).values q
+may-predict : (coding : Coding) (d : GluedMesh) (k comps : ℕ) → CanCode coding.predict (coded_values coding d) → k < length d.mesh.heads
+    → length (coded_by coding d k).values ≡ length (surface_order coding d k).corners * comps
+    → (q : Prediction) × (code_of coding.predict ≡ code_of q) × CanPredict (Some (surface_order coding d k)) comps (coded_by coding d k).values q
 may-predict coding d k comps can has long = (
   coding.predict,
   refl,
@@ -104,16 +105,16 @@ may-predict coding d k comps can has long = (
         subst P (values-at coding d k v has) (All-get_or P (coded_values coding d) k v (omega (arith, has, values-each coding d)) all)
 
 -- the values of an attribute pass
-values-pass : (coding : Coding) (d : GluedMesh) → IsMesh d.mesh → IsGluing (length d.mesh.faces) d.pairs → CanCodeValues coding d
-    → (k : ℕ) (e : Head) → k < length d.mesh.heads → ValuesPass (Some (surface_walk coding d k)) (get_or d.mesh.heads k e) (coded_by coding d k)
-values-pass coding d is G can k e has =
+values-pass : (coding : Coding) (d : GluedMesh) → IsMesh d.mesh → IsGluing (length d.mesh.faces) d.pairs → 0 < length d.mesh.faces → CanCode coding.predict (coded_values coding d)
+    → (k : ℕ) (e : Head) → k < length d.mesh.heads → ValuesPass (Some (surface_order coding d k)) (get_or d.mesh.heads k e) (coded_by coding d k)
+values-pass coding d is G faces can k e has =
     let h = get_or d.mesh.heads k e in
     let v = coded_by coding d k in
     let says : HeadSays h = All-get_or HeadSays d.mesh.heads k e has (heads_say d.mesh.heads is.points.heads_pass).each in
-    let n = length (surface_walk coding d k).corners in
+    let n = length (surface_order coding d k).corners in
     let long : length v.values ≡ n * h.comps = values-long coding d is k e has in
     let entries : 0 < n = subst (λ (order : List Side). 0 < length order) (sym (walk-corners coding d k))
-    (order-some (is_by_degree coding d k) (length d.mesh.faces) _ (cut-gluing d k G) can.some) in
+    (order-some (is_by_degree coding d k) (length d.mesh.faces) _ (cut-gluing d k G) faces) in
     let some : 0 < n * h.comps = some-values n h.comps entries says.some in
     let here : length v.values ≤ values_in (coded_values coding d) =
     subst (λ (x : Values). length x.values ≤ values_in (coded_values coding d)) (values-at coding d k v has)
@@ -123,30 +124,30 @@ values-pass coding d is G can k e has =
       some = omega (arith, long, some);
       few = omega (arith, here, can.few);
       whole = rw long (mul-mod_left n h.comps);
-      typed = pieces-typed d.mesh is k e has (surface_walk coding d k).corners (walk-on coding d k);
+      typed = pieces-typed d.mesh is k e has (surface_order coding d k).corners (walk-on coding d k);
       predicted = may-predict coding d k h.comps can has long;
     }
 
 -- and so do those of its decoder
-pub decoder-values-pass : (coding : Coding) (d : GluedMesh) → IsMesh d.mesh → IsGluing (length d.mesh.faces) d.pairs → CanCodeValues coding d
+pub decoder-values-pass : (coding : Coding) (d : GluedMesh) → IsMesh d.mesh → IsGluing (length d.mesh.faces) d.pairs → 0 < length d.mesh.faces → CanCode coding.predict (coded_values coding d)
     → (k : ℕ) (e : Head) → k < length d.mesh.heads
-    → DecoderValuesPass (Some (surface_walk coding d k)) (get_or d.mesh.heads k e ∷ []) (coded_by coding d k ∷ [])
-decoder-values-pass coding d is G can k e has =
+    → DecoderValuesPass (Some (surface_order coding d k)) (get_or d.mesh.heads k e ∷ []) (coded_by coding d k ∷ [])
+decoder-values-pass coding d is G faces can k e has =
     let h = get_or d.mesh.heads k e in
     let v = coded_by coding d k in
-    let w = Some (surface_walk coding d k) in
+    let w = Some (surface_order coding d k) in
     let says : HeadSays h = All-get_or HeadSays d.mesh.heads k e has (heads_say d.mesh.heads is.points.heads_pass).each in
     record {
       each_head = refl;
       quants = All-cons (λ (x : Head). HasQuant x x.quant) h [] (head_quant h says) (All-nil (λ (x : Head). HasQuant x x.quant));
-      each = All-cons (λ (x, y). ValuesPass w x y) (h, v) [] (values-pass coding d is G can k e has) (All-nil (λ (x, y). ValuesPass w x y));
+      each = All-cons (λ (x, y). ValuesPass w x y) (h, v) [] (values-pass coding d is G faces can k e has) (All-nil (λ (x, y). ValuesPass w x y));
     }
 
 -- it has values for each entry
 pub decoder-entries : (coding : Coding) (d : GluedMesh) → IsMesh d.mesh → (k : ℕ) (e : Head) → k < length d.mesh.heads
-    → HaveEntries (length (surface_walk coding d k).corners) (get_or d.mesh.heads k e ∷ []) (coded_by coding d k ∷ [])
+    → HaveEntries (length (surface_order coding d k).corners) (get_or d.mesh.heads k e ∷ []) (coded_by coding d k ∷ [])
 decoder-entries coding d is k e has =
-    let n = length (surface_walk coding d k).corners in
+    let n = length (surface_order coding d k).corners in
     All-cons (λ (h, v). length v.values ≡ n * h.comps) (get_or d.mesh.heads k e, coded_by coding d k) [] (values-long coding d is k e has) (All-nil (λ (h, v). length v.values ≡ n * h.comps))
 
 -- ---- decoders
@@ -216,13 +217,14 @@ bits-few d k =
 -- ---- a column, corner after corner
 
 -- the value at one corner more
-pub column-more : (m : MeshParts) (k : ℕ) (corners : List NumberedSide) (i : ℕ) (c : NumberedSide) → i < length corners → c ≡ get_or corners i c
-    → flat_map (piece m k) (map side_of (take (i + 1) corners)) ≡ flat_map (piece m k) (map side_of (take i corners)) ++ piece m k (side_of c)
-column-more m k corners i c has is =
-    ap (λ (l : List NumberedSide). flat_map (piece m k) (map side_of l)) (take_more corners i c has)
-    ∙ ap (flat_map (piece m k)) (map-append side_of (take i corners) (get_or corners i c ∷ []))
-    ∙ flat_map-append (piece m k) (map side_of (take i corners)) (side_of (get_or corners i c) ∷ [])
-    ∙ ap (λ (l : List ℤ). flat_map (piece m k) (map side_of (take i corners)) ++ l) (append-nil (piece m k (side_of (get_or corners i c))) ∙ ap (λ (x : NumberedSide). piece m k (side_of x)) (sym is))
+pub column-more : (m : MeshParts) (k : ℕ) (corners : List ℕ) (i : ℕ) → i < length corners
+    → flat_map (piece m k) (map side_at (take (i + 1) corners)) ≡ flat_map (piece m k) (map side_at (take i corners)) ++ piece m k (side_at (get_or corners i 0))
+column-more m k corners i has =
+    let c = get_or corners i 0 in
+    ap (λ (l : List ℕ). flat_map (piece m k) (map side_at l)) (take_more corners i 0 has)
+    ∙ ap (flat_map (piece m k)) (map-append side_at (take i corners) (c ∷ []))
+    ∙ flat_map-append (piece m k) (map side_at (take i corners)) (side_at c ∷ [])
+    ∙ ap (λ (l : List ℤ). flat_map (piece m k) (map side_at (take i corners)) ++ l) (append-nil (piece m k (side_at c)))
 
 -- the number of a place
 place-is : (k : ℕ) → k < 3 → place_number (place_of k) ≡ k
@@ -244,16 +246,16 @@ piece-read m attr start comps c row low is from many =
 -- ---- over the surface that is kept
 
 -- what is kept for an attribute is what its values stand on
-pub kept-walk : (coding : Coding) (s : AttributeSurfaces) (k : ℕ) (t : OrderedSurface) → AreAttributeSurfaces coding.degree s → k < length s.mesh.heads → walk_in t ≡ walk_at s k
-    → walk_in t ≡ surface_walk coding (glued_on s) k
+pub kept-walk : (coding : Coding) (s : AttributeSurfaces) (k : ℕ) (t : OrderedSurface) → AreAttributeSurfaces coding.degree s → k < length s.mesh.heads → order_in t ≡ order_at s k
+    → order_in t ≡ surface_order coding (glued_on s) k
 kept-walk coding s k t are has is = is ∙ walk-at coding s k are has
 
 -- how many values an attribute has there
 pub kept-long : (coding : Coding) (s : AttributeSurfaces) (k : ℕ) (t : OrderedSurface) (h : Head) → AreAttributeSurfaces coding.degree s → IsMesh s.mesh → k < length s.mesh.heads
-    → walk_in t ≡ walk_at s k → h ≡ get_or s.mesh.heads k h → length (coded_by coding (glued_on s) k).values ≡ length t.order.corner_of_entry * h.comps
+    → order_in t ≡ order_at s k → h ≡ get_or s.mesh.heads k h → length (coded_by coding (glued_on s) k).values ≡ length t.order.corner_of_entry * h.comps
 kept-long coding s k t h are mesh has is named =
-    let entries : length (surface_walk coding (glued_on s) k).corners ≡ length t.order.corner_of_entry =
-    ap (λ (w : Walked). length w.corners) (sym (kept-walk coding s k t are has is)) ∙ length-map t.order.corner_of_entry side_of in
+    let entries : length (surface_order coding (glued_on s) k).corners ≡ length t.order.corner_of_entry =
+    ap (λ (w : Ordered). length w.corners) (sym (kept-walk coding s k t are has is)) ∙ length-map t.order.corner_of_entry side_at in
     values-long coding (glued_on s) mesh k h has
     ∙ ap (λ (n : ℕ). n * (get_or s.mesh.heads k h).comps) entries
     ∙ ap (λ (x : Head). length t.order.corner_of_entry * x.comps) (sym named)
@@ -269,33 +271,35 @@ pub product-few : (n comps : ℕ) → n < 2 ^ 32 → comps ≤ 8 → n * comps �
 product-few n comps few narrow = let most : n * comps ≤ n * 8 = mul-le-mul_left n narrow in omega (arith, most, few)
 
 -- the surface that is kept for an attribute has the faces of the mesh
-pub kept-faces : (coding : Coding) (s : AttributeSurfaces) (k : ℕ) (t : OrderedSurface) → AreAttributeSurfaces coding.degree s → k < length s.mesh.heads → walk_in t ≡ walk_at s k
+pub kept-faces : (coding : Coding) (s : AttributeSurfaces) (k : ℕ) (t : OrderedSurface) → AreAttributeSurfaces coding.degree s → k < length s.mesh.heads → order_in t ≡ order_at s k
     → t.sides.faces ≡ length s.mesh.faces
 kept-faces coding s k t are has is =
     let d = glued_on s in
-    let entries : length t.order.entry_of_corner ≡ 3 * length s.mesh.faces =
-    ap (λ (w : Walked). length w.entries) (kept-walk coding s k t are has is)
+    let labels : List ℕ = t.classes.of_corner in
+    let entries : length labels ≡ 3 * length s.mesh.faces =
+    sym (length-map labels (λ (c : ℕ). get_or t.order.entry_of_class c 0))
+    ∙ ap (λ (w : Ordered). length w.entries) (kept-walk coding s k t are has is)
     ∙ ap length (walk-entries coding d k)
     ∙ entries-each (length d.mesh.faces) (cut_of d k) (order_for coding d k) in
     omega (arith, entries, t.over.each_corner)
 
 -- and the corners of its entries are corners of them
-pub kept-corners : (coding : Coding) (s : AttributeSurfaces) (k : ℕ) (t : OrderedSurface) (corners : List NumberedSide) → AreAttributeSurfaces coding.degree s → k < length s.mesh.heads
-    → walk_in t ≡ walk_at s k → corners ≡ t.order.corner_of_entry → All (λ (c : NumberedSide). c.face < length s.mesh.faces) corners
+pub kept-corners : (coding : Coding) (s : AttributeSurfaces) (k : ℕ) (t : OrderedSurface) (corners : List ℕ) → AreAttributeSurfaces coding.degree s → k < length s.mesh.heads
+    → order_in t ≡ order_at s k → corners ≡ t.order.corner_of_entry → All (λ (c : ℕ). c < 3 * length s.mesh.faces) corners
 kept-corners coding s k t corners are has is same =
-    subst (λ (l : List NumberedSide). All (λ (c : NumberedSide). c.face < length s.mesh.faces) l) (sym same)
-    (subst (λ (n : ℕ). All (λ (c : NumberedSide). c.face < n) t.order.corner_of_entry) (kept-faces coding s k t are has is) t.over.corners)
+    subst (λ (l : List ℕ). All (λ (c : ℕ). c < 3 * length s.mesh.faces) l) (sym same)
+    (subst (λ (n : ℕ). All (λ (c : ℕ). c < 3 * n) t.order.corner_of_entry) (kept-faces coding s k t are has is) t.over.corners)
 
 -- the values at them are those of the attribute
-pub kept-values : (coding : Coding) (s : AttributeSurfaces) (k : ℕ) (t : OrderedSurface) (corners : List NumberedSide) (column : List ℤ) → AreAttributeSurfaces coding.degree s → k < length s.mesh.heads
-    → walk_in t ≡ walk_at s k → corners ≡ t.order.corner_of_entry → column ≡ flat_map (piece s.mesh k) (map side_of corners)
+pub kept-values : (coding : Coding) (s : AttributeSurfaces) (k : ℕ) (t : OrderedSurface) (corners : List ℕ) (column : List ℤ) → AreAttributeSurfaces coding.degree s → k < length s.mesh.heads
+    → order_in t ≡ order_at s k → corners ≡ t.order.corner_of_entry → column ≡ flat_map (piece s.mesh k) (map side_at corners)
     → record { values = column; predict = code_of coding.predict; at = 0 } ≡ coded_by coding (glued_on s) k
 kept-values coding s k t corners column are has is same at_corners =
     let make : List ℤ → Values = λ (l : List ℤ). record { values = l; predict = code_of coding.predict; at = 0 } in
     ap make (
     at_corners
-    ∙ ap (λ (l : List NumberedSide). flat_map (piece s.mesh k) (map side_of l)) same
-    ∙ ap (λ (w : Walked). flat_map (piece s.mesh k) w.corners) (kept-walk coding s k t are has is))
+    ∙ ap (λ (l : List ℕ). flat_map (piece s.mesh k) (map side_at l)) same
+    ∙ ap (λ (w : Ordered). flat_map (piece s.mesh k) w.corners) (kept-walk coding s k t are has is))
 
 -- ---- where the integers of an attribute stand in a row
 
@@ -339,16 +343,18 @@ lists-short d bits is told = λ k v below.
 
 -- ---- the surface of the mesh
 
-walked-entries : (degree : Bool) (faces : ℕ) (g : Gluing) → length (walked_by degree faces g).entries ≡ 3 * faces
-unfolding walked_by
-walked-entries degree faces g = entries-each faces g (order_by degree faces g)
+ordered-entries : (degree : Bool) (faces : ℕ) (g : Gluing) → length (ordered_by degree faces g).entries ≡ 3 * faces
+unfolding ordered_by
+ordered-entries degree faces g = entries-each faces g (order_by degree faces g)
 
 -- it has the faces of the mesh
 pub whole-faces : (degree : Bool) (s : AttributeSurfaces) → AreAttributeSurfaces degree s → s.whole.sides.faces ≡ length s.mesh.faces
 whole-faces degree s are =
     let d = glued_on s in
-    let entries : length s.whole.order.entry_of_corner ≡ 3 * length s.mesh.faces =
-    ap (λ (w : Walked). length w.entries) are.whole ∙ walked-entries degree (length d.mesh.faces) d.pairs in
+    let labels : List ℕ = s.whole.classes.of_corner in
+    let entries : length labels ≡ 3 * length s.mesh.faces =
+    sym (length-map labels (λ (c : ℕ). get_or s.whole.order.entry_of_class c 0))
+    ∙ ap (λ (w : Ordered). length w.entries) are.whole ∙ ordered-entries degree (length d.mesh.faces) d.pairs in
     omega (arith, entries, s.whole.over.each_corner)
 
 -- and is a surface

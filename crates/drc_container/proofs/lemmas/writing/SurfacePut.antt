@@ -12,9 +12,9 @@ use Rattle.attr_section.specs.declared.decoder_heads.DecoderHead.{DecoderHead}
 use Rattle.attr_section.specs.declared.values.Values.{Values}
 use Rattle.attr_section.specs.Written.{DecoderValuesPass, HaveEntries, decoder_values_bytes}
 use Rattle.drc_container.specs.declared.choice.codings.Coding.{Coding}
-use Rattle.drc_container.specs.writing.WrittenOnSurface.{GluedMesh, surface_walk, coded_by, coded_values, decoder_for, decoders_for, attribute_bytes, values_bytes_on}
+use Rattle.drc_container.specs.writing.WrittenOnSurface.{GluedMesh, surface_order, coded_by, coded_values, decoder_for, decoders_for, attribute_bytes, values_bytes_on}
 use Rattle.drc_container.specs.writing.Encoded.{AttributeSpelled, AreReadAgain}
-use Rattle.drc_container.specs.surface.AttributeSurfaces.{CanCodeValues}
+use Rattle.drc_container.specs.choice.CanCode.{CanCode}
 use Rattle.drc_container.proofs.lemmas.writing.SurfaceParts.{enumerate-more, values-at, values-each, decoder-at, decoders-each, decoder-values-pass, decoder-entries}
 
 -- what stands for the head of an attribute that isn't there
@@ -45,34 +45,35 @@ is-at coding d decoders values k x same_decoders same_values below is =
     }
 
 -- they pass
-pub put-pass : (coding : Coding) (d : GluedMesh) (k : ℕ) (x : DecoderHead) (part : List Values) → IsMesh d.mesh → IsGluing (length d.mesh.faces) d.pairs → CanCodeValues coding d
-    → IsAt coding d k x part → DecoderValuesPass (Some (surface_walk coding d k)) x.heads part
-put-pass coding d k x part is G can at =
-    let w = Some (surface_walk coding d k) in
+pub put-pass : (coding : Coding) (d : GluedMesh) (k : ℕ) (x : DecoderHead) (part : List Values) → IsMesh d.mesh → IsGluing (length d.mesh.faces) d.pairs
+    → 0 < length d.mesh.faces → CanCode coding.predict (coded_values coding d)
+    → IsAt coding d k x part → DecoderValuesPass (Some (surface_order coding d k)) x.heads part
+put-pass coding d k x part is G faces can at =
+    let w = Some (surface_order coding d k) in
     subst (λ (l : List Values). DecoderValuesPass w x.heads l) (sym at.values)
-    (subst (λ (y : DecoderHead). DecoderValuesPass w y.heads (coded_by coding d k ∷ [])) (sym at.decoder) (decoder-values-pass coding d is G can k no_head at.has))
+    (subst (λ (y : DecoderHead). DecoderValuesPass w y.heads (coded_by coding d k ∷ [])) (sym at.decoder) (decoder-values-pass coding d is G faces can k no_head at.has))
 
 -- and are those of each entry
 pub put-entries : (coding : Coding) (d : GluedMesh) (k : ℕ) (x : DecoderHead) (part : List Values) → IsMesh d.mesh
-    → IsAt coding d k x part → HaveEntries (length (surface_walk coding d k).corners) x.heads part
+    → IsAt coding d k x part → HaveEntries (length (surface_order coding d k).corners) x.heads part
 put-entries coding d k x part is at =
-    let n = length (surface_walk coding d k).corners in
+    let n = length (surface_order coding d k).corners in
     subst (λ (l : List Values). HaveEntries n x.heads l) (sym at.values)
     (subst (λ (y : DecoderHead). HaveEntries n y.heads (coded_by coding d k ∷ [])) (sym at.decoder) (decoder-entries coding d is k no_head at.has))
 
 -- what is written of them is the attribute's bytes
 pub put-bytes : (coding : Coding) (d : GluedMesh) (k : ℕ) (x : DecoderHead) (part : List Values) → IsAt coding d k x part
-    → decoder_values_bytes coding.plain (Some (surface_walk coding d k)) x.heads part ≡ attribute_bytes coding d k (head_at d k)
+    → decoder_values_bytes coding.plain (Some (surface_order coding d k)) x.heads part ≡ attribute_bytes coding d k (head_at d k)
 put-bytes coding d k x part at =
-    let w = Some (surface_walk coding d k) in
+    let w = Some (surface_order coding d k) in
     ap (λ (l : List Values). decoder_values_bytes coding.plain w x.heads l) at.values
     ∙ ap (λ (y : DecoderHead). decoder_values_bytes coding.plain w y.heads (coded_by coding d k ∷ [])) at.decoder
 
 -- which is read back as the attribute
 pub put-again : (coding : Coding) (d : GluedMesh) (k : ℕ) (x : DecoderHead) (part : List Values) → IsAt coding d k x part
-    → AreReadAgain coding.plain (surface_walk coding d k) x part → AttributeSpelled coding d k (head_at d k)
+    → AreReadAgain coding.plain (surface_order coding d k) x part → AttributeSpelled coding d k (head_at d k)
 put-again coding d k x part at again =
-    let w = surface_walk coding d k in
+    let w = surface_order coding d k in
     subst (λ (y : DecoderHead). AreReadAgain coding.plain w y (coded_by coding d k ∷ [])) at.decoder
     (subst (λ (l : List Values). AreReadAgain coding.plain w x l) at.values again)
 
@@ -92,7 +93,7 @@ bytes-more coding d k has =
 
 -- behind what was there
 pub put-more : (coding : Coding) (d : GluedMesh) (k : ℕ) (x : DecoderHead) (part : List Values) (old new front : List ℕ) → IsAt coding d k x part
-    → new ≡ front ++ decoder_values_bytes coding.plain (Some (surface_walk coding d k)) x.heads part
+    → new ≡ front ++ decoder_values_bytes coding.plain (Some (surface_order coding d k)) x.heads part
     → front ≡ old ++ flat_map (λ (j, h). attribute_bytes coding d j h) (enumerate_from 0 (take k d.mesh.heads))
     → new ≡ old ++ flat_map (λ (j, h). attribute_bytes coding d j h) (enumerate_from 0 (take (k + 1) d.mesh.heads))
 put-more coding d k x part old new front at more so =

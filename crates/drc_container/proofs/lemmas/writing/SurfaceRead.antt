@@ -19,9 +19,8 @@ use Rattle.eb_section.specs.Connectivity.{Connectivity}
 use Rattle.drc_container.specs.declared.choice.codings.Coding.{Coding}
 use Rattle.drc_container.specs.declared.headers.Form.{Form}
 use Rattle.drc_container.specs.declared.headers.Form.TheVariants as form
-use Rattle.drc_container.specs.declared.reading.surface_attributes.SurfaceAttributes.{SurfaceAttributes}
 use Rattle.drc_container.specs.Header.{magic, magic_at, minor_of, form_said, header_at}
-use Rattle.drc_container.specs.reading.OnSurface.{at_end, assembled_in, assembled_at, attributes_on}
+use Rattle.drc_container.specs.reading.OnSurface.{SurfaceAttributes, at_end, assembled_in, assembled_at, attributes_on}
 use Rattle.drc_container.specs.reading.Stream.{stream, stream_in, body_at, edgebreaker_at, surface_behind}
 use Rattle.drc_container.specs.reading.Meaning.{Meaning, edgebreaker_info}
 use Rattle.drc_container.specs.writing.Written.{geometry_type, header_bytes}

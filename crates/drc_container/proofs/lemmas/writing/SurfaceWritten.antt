@@ -3,7 +3,7 @@ use Rattle.std.proofs.Common.{ℕ, ◌+◌, List, [], ◌∷◌, map, length, So
 use Rattle.std.specs.Prelude.{count_by, if◌then◌else◌}
 use Rattle.std.specs.List.{enumerate_from}
 use Rattle.mesh_model.specs.declared.heads.Head.{Head}
-use Rattle.mesh_model.specs.declared.tables.AttrTable.{AttrTable}
+use Rattle.mesh_model.specs.Groups.{AttrTable}
 use Rattle.mesh_model.specs.declared.geometries.Geometry.TheVariants as geometry
 use Rattle.mesh_model.specs.Parts.{MeshParts}
 use Rattle.mesh_model.specs.Assembled.{assembled_parts}
@@ -14,7 +14,7 @@ use Rattle.drc_container.specs.declared.choice.methods.Method.TheVariants as met
 use Rattle.drc_container.specs.declared.reading.info.AttrInfo.{AttrInfo}
 use Rattle.drc_container.specs.declared.reading.info.StreamInfo.{StreamInfo}
 use Rattle.drc_container.specs.reading.Meaning.{Meaning}
-use Rattle.drc_container.specs.writing.WrittenOnSurface.{traced, GluedMesh, decoded, surface_walk, coded_by, attribute_bytes, decoder_heads_bytes, connectivity_of, edgebreaker_bytes}
+use Rattle.drc_container.specs.writing.WrittenOnSurface.{traced, GluedMesh, decoded, surface_order, coded_by, attribute_bytes, decoder_heads_bytes, connectivity_of, edgebreaker_bytes}
 
 -- where connectivity begins: behind the eleven bytes of the header
 abbrev pub surface_place : ℕ
@@ -24,12 +24,12 @@ surface_place = 11
 abbrev pub attrs_written : Coding → GluedMesh → ℕ → List (ℕ × Head) → List AttrInfo
 attrs_written coding d place [] = []
 attrs_written coding d place (x ∷ more) =
-    record { head = x.1; predict = code_of coding.predict; entries = length (surface_walk coding d x.0).corners; at = place }
+    record { head = x.1; predict = code_of coding.predict; entries = length (surface_order coding d x.0).corners; at = place }
     ∷ attrs_written coding d (place + length (attribute_bytes coding d x.0 x.1)) more
 
 -- the values of an attribute, with the entries of the corners
 abbrev pub table_written : Coding → GluedMesh → ℕ → AttrTable
-table_written coding d k = record { values = (coded_by coding d k).values; of_corner = (surface_walk coding d k).entries }
+table_written coding d k = record { values = (coded_by coding d k).values; of_corner = (surface_order coding d k).entries }
 
 -- the tables of all attributes
 abbrev pub tables_written : Coding → MeshParts → List AttrTable

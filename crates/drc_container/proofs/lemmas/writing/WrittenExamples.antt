@@ -149,9 +149,9 @@ cloud_by_parallelogram : early_fault cloud (chosen None None (Some prediction.Pa
 unfolding early_fault
 cloud_by_parallelogram = refl
 
-walked_cloud : early_fault no_points (chosen None None None (Some walk.Depth)) ≡ Some (record { kind = kind.Choice; at = 3 })
+ordered_cloud : early_fault no_points (chosen None None None (Some walk.Depth)) ≡ Some (record { kind = kind.Choice; at = 3 })
 unfolding early_fault
-walked_cloud = refl
+ordered_cloud = refl
 
 -- no points
 empty_cloud : early_fault no_points (chosen None None None None) ≡ Some (record { kind = kind.Empty; at = 0 })

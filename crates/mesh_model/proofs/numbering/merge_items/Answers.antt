@@ -17,7 +17,7 @@ returns-clause-numbering c = λ columns count are.
     let after = c.renumber.new.faces in
     let given : c.as_mut_slice-2.result.now ≡ faces = c.as_mut_slice-2.ensures.value in
     let used : c.as_slice-2.result.now ≡ numbers =
-    c.as_slice-2.ensures.value ∙ take_at numbers (drop (length numbers) c.args.twins.links.items) c.args.twins.links.len (search rules) in
+    c.as_slice-2.ensures.value ∙ take_at numbers (drop (length numbers) c.args.twins.items) c.args.twins.len (search rules) in
     let long : length after ≡ length faces = search rules in
     let many : length rows ≡ items.count = length-rows w items.count items.cells.items c.requires.wide c.requires.whole in
     let each : (f : ℕ) → f < length faces → get_or after f [] ≡ map (λ item. get_or numbers item 0) (get_or faces f []) = λ f below.

@@ -1,24 +1,38 @@
-use Rattle.std.proofs.Common.{◌≡◌, ◌<◌, List, ℤ, length, subst}
+use Rattle.std.proofs.Common.{◌≡◌, ◌<◌, List, ℤ, length, sym, subst, arith}
 use Rattle.std.specs.List.{All, zip}
+use Rattle.mesh_model.specs.Groups.{group_tables}
 use Rattle.mesh_model.specs.Parts.{rows_of}
 use Rattle.mesh_model.specs.RowIndex.{AreUnlike}
+use Rattle.mesh_model.proofs.Columns.{width_of-bounds}
 use Rattle.mesh_model.proofs.NumberedFaces.{items-fit, faces-unlike}
 use Rattle.mesh_model.proofs.Rows.{length-rows}
 use Rattle.mesh_model.proofs.numbering.number_corners.Goals as goal
+
+pub twins_of-requires-clause-wide : goal.twins_of-requires-clause-wide
+twins_of-requires-clause-wide c = subst (λ w. 0 < w) (sym c.requires.width) (width_of-bounds c.args.heads.now c.requires.groups.tables.heads_pass).0
+
+pub twins_of-requires-clause-few : goal.twins_of-requires-clause-few
+twins_of-requires-clause-few c = omega (arith, c.in_ok-items.ensures.few, c.requires.groups.tables.few_faces)
+
+pub merge_items-requires-clause-wide : goal.merge_items-requires-clause-wide
+merge_items-requires-clause-wide c = subst (λ w. 0 < w) (sym c.requires.width) (width_of-bounds c.args.heads.now c.requires.groups.tables.heads_pass).0
 
 pub merge_items-requires-clause-faces : goal.merge_items-requires-clause-faces
 merge_items-requires-clause-faces c =
     let items = c.in_ok-items.items in
     let rows = rows_of c.args.width items.cells.items in
-    let many : length rows ≡ items.count = length-rows c.args.width items.count items.cells.items c.requires.wide c.in_ok-items.ensures.stored in
+    let wide : 0 < c.args.width = subst (λ w. 0 < w) (sym c.requires.width) (width_of-bounds c.args.heads.now c.requires.groups.tables.heads_pass).0 in
+    let many : length rows ≡ items.count = length-rows c.args.width items.count items.cells.items wide c.in_ok-items.ensures.stored in
     subst (λ n. All (λ face. All (λ item. item < n) face) items.faces.items) many
-    (items-fit (zip c.args.heads.now c.args.tables.now) c.args.faces items.faces.items rows c.in_ok-items.ensures.faces)
+    (items-fit (zip c.args.heads.now (group_tables c.args.groups.now)) c.args.faces items.faces.items rows c.in_ok-items.ensures.faces_are)
 
-pub returns-clause-numbering : goal.returns-clause-numbering
-returns-clause-numbering c =
+pub returns-in-None-clause-numbering : goal.returns-in-None-clause-numbering
+returns-in-None-clause-numbering c =
     let items = c.in_ok-items.items in
     let rows = rows_of c.args.width items.cells.items in
-    let many : length rows ≡ items.count = length-rows c.args.width items.count items.cells.items c.requires.wide c.in_ok-items.ensures.stored in
+    let wide : 0 < c.args.width = subst (λ w. 0 < w) (sym c.requires.width) (width_of-bounds c.args.heads.now c.requires.groups.tables.heads_pass).0 in
+    let many : length rows ≡ items.count = length-rows c.args.width items.count items.cells.items wide c.in_ok-items.ensures.stored in
+    let none = rw c.in-None.is at c.in_ok-twins_of.ensures.found in
     let unlike : AreUnlike rows items.count =
-    subst (λ (cells : List ℤ). AreUnlike (rows_of c.args.width cells) items.count) c.as_slice.ensures.value (c.in_ok-twins.ensures.none c.if-twins.false) in
-    faces-unlike (zip c.args.heads.now c.args.tables.now) c.args.faces items.count items.faces.items rows c.in_ok-items.ensures.faces many unlike
+    subst (λ (cells : List ℤ). AreUnlike (rows_of c.args.width cells) items.count) c.as_slice-cells.ensures.value none in
+    faces-unlike (zip c.args.heads.now (group_tables c.args.groups.now)) c.args.faces items.count items.faces.items rows c.in_ok-items.ensures.faces_are many unlike

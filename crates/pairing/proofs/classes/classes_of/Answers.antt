@@ -3,7 +3,7 @@ use Rattle.std.proofs.Common.{◌≡◌, ℕ, ◌/◌, ◌<◌, ◌≤◌, subst
 use Rattle.std.proofs.lemmas.List.{get_or_read}
 use Rattle.corner_table.specs.Sides.{next, side_at}
 use Rattle.pairing.specs.Positions.{position_in}
-use Rattle.pairing.specs.FirstItems.{AreFirstItems}
+use Rattle.first_items.specs.FirstItems.{AreFirstItems}
 use Rattle.pairing.specs.Classes.{class_at, AreEdges}
 use Rattle.pairing.proofs.Pushes.{rest_unwritten}
 use Rattle.pairing.proofs.EdgeNumbers.{IsNextEdge, class_half, edge_counted, edges_more, classed_more}

@@ -10,18 +10,18 @@ use Rattle.predict.proofs.corrected.correct.Goals as goal
 
 pub returns-clause-enough : goal.returns-clause-enough
 returns-clause-enough c =
-    let w = surface_or (surface_of (option_map (λ t. t.now) c.args.walk)) in
+    let w = surface_or (surface_of (option_map (λ t. t.now) c.args.on)) in
     subst (λ (lists : List (List Bool)). HasWanted c.args.prediction w lists) (sym c.in_ok-symbols.ensures.flags) (marks_enough c.args.prediction w c.args.comps c.args.v.now)
 
 pub returns-clause-restores : goal.returns-clause-restores
 returns-clause-restores c =
-    let w = surface_or (surface_of (option_map (λ t. t.now) c.args.walk)) in
+    let w = surface_or (surface_of (option_map (λ t. t.now) c.args.on)) in
     let f : List ℤ → ℤ = foretold c.args.prediction w c.args.comps c.in_ok-symbols.flags.lists in
     let fits : All (FitsSigned w32) c.args.v.now = fit_within c.args.w.now c.args.v.now c.copy-wrap.ensures.ends c.requires.within in
     restored-corrections f c.args.w.now c.args.v.now c.copy-wrap.ensures.can_wrap c.requires.within fits
 
 pub returns-clause-small : goal.returns-clause-small
 returns-clause-small c =
-    let w = surface_or (surface_of (option_map (λ t. t.now) c.args.walk)) in
+    let w = surface_or (surface_of (option_map (λ t. t.now) c.args.on)) in
     let f : List ℤ → ℤ = foretold c.args.prediction w c.args.comps c.in_ok-symbols.flags.lists in
     small-corrections f c.args.w.now c.args.v.now c.copy-wrap.ensures.can_wrap c.requires.within

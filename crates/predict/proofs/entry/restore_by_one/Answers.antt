@@ -1,17 +1,19 @@
+-- The face that is kept is the one that foretells the entry.
 use Rattle.std.proofs.Common.{[], ◌∷◌, Option, ap, ◌∙◌}
-use Rattle.predict.specs.declared.surface.FaceAcross.{FaceAcross}
+use Rattle.corner_table.specs.declared.corner_lists.FaceAcross.{FaceAcross}
+use Rattle.corner_table.specs.Ordered.{kept_face}
 use Rattle.predict.specs.Parallelogram.{by_one}
 use Rattle.predict.specs.Multi.{by_many}
-use Rattle.predict.proofs.Entries.{foretells_alike}
+use Rattle.predict.proofs.Entries.{foretells_alike, kept_nothing, kept_some}
 use Rattle.predict.proofs.Means.{mean_of_one}
 use Rattle.predict.proofs.entry.restore_by_one.Goals as goal
 
-pub returns-in-None : goal.returns-in-None
-returns-in-None c = λ f foretells. c.restore_entry.ensures f
-    (foretells_alike f c.args.comps c.args.e (by_one c.args.comps c.args.face) (by_many c.args.comps [])
-    (λ j before. ap (λ (o : Option FaceAcross). by_one c.args.comps o j before) c.in-None.is) foretells)
+pub returns-then-face-eq-FREE : goal.returns-then-face-eq-FREE
+returns-then-face-eq-FREE c = λ f foretells. c.restore_entry.ensures f
+    (foretells_alike f c.args.comps c.args.e (by_one c.args.comps (kept_face c.args.face)) (by_many c.args.comps [])
+    (λ j before. ap (λ (o : Option FaceAcross). by_one c.args.comps o j before) (kept_nothing c.args.face c.if-face-eq-FREE.true)) foretells)
 
-pub returns-in-Some : goal.returns-in-Some
-returns-in-Some c = λ f foretells. c.restore_entry-in-Some.ensures f
-    (foretells_alike f c.args.comps c.args.e (by_one c.args.comps c.args.face) (by_many c.args.comps (c.in-Some.t ∷ []))
-    (λ j before. ap (λ (o : Option FaceAcross). by_one c.args.comps o j before) c.in-Some.is ∙ mean_of_one c.args.comps c.in-Some.t j before) foretells)
+pub returns-else-face-eq-FREE : goal.returns-else-face-eq-FREE
+returns-else-face-eq-FREE c = λ f foretells. c.restore_entry-else-face-eq-FREE.ensures f
+    (foretells_alike f c.args.comps c.args.e (by_one c.args.comps (kept_face c.args.face)) (by_many c.args.comps (c.args.face ∷ []))
+    (λ j before. ap (λ (o : Option FaceAcross). by_one c.args.comps o j before) (kept_some c.args.face c.if-face-eq-FREE.false) ∙ mean_of_one c.args.comps c.args.face j before) foretells)

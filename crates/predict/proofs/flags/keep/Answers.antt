@@ -1,6 +1,6 @@
 use Rattle.std.proofs.Common.{◌≡◌, take, ◌<◌, ◌+◌, length, ◌∙◌, arith}
 use Rattle.std.proofs.lemmas.List.Elements.{All-same}
-use Rattle.predict.specs.Walked.{IsBelow}
+use Rattle.corner_table.specs.Ordered.{IsBelow}
 use Rattle.predict.specs.Multi.{kept}
 use Rattle.predict.proofs.Kept.{keep_more, kept_all, kept_below, kept_long}
 use Rattle.predict.proofs.flags.keep.Goals as goal

@@ -1,5 +1,5 @@
 use Rattle.std.proofs.Common.{◌<◌, ◌-◌, nat_lt, length, ℕ, ap, ◌∙◌, arith}
-use Rattle.predict.specs.declared.surface.FaceAcross.{FaceAcross}
+use Rattle.corner_table.specs.declared.corner_lists.FaceAcross.{FaceAcross}
 use Rattle.predict.specs.Multi.{off_by, is_left_out}
 use Rattle.predict.specs.Parallelogram.{component}
 use Rattle.predict.proofs.Kept.{mark_more}

@@ -1,12 +1,12 @@
 -- Entry after entry is corrected, and its flags are put.
 use Rattle.std.proofs.Common.{◌≡◌, ◌≤◌, ◌*◌, ℕ, Bool, List, length, map, ap, ◌∙◌, sym, subst, arith, add-one}
 use Rattle.std.proofs.lemmas.List.Elements.{All-same}
-use Rattle.predict.specs.declared.surface.FaceAcross.{FaceAcross}
-use Rattle.predict.specs.Walked.{IsBelow}
+use Rattle.corner_table.specs.declared.corner_lists.FaceAcross.{FaceAcross}
+use Rattle.corner_table.specs.Ordered.{IsBelow}
 use Rattle.predict.specs.Gathered.{gathered}
 use Rattle.predict.specs.Multi.{by_many, kept, marks, is_left_out, AreMarked}
 use Rattle.predict.specs.Entry.{Foretells, flags_put}
-use Rattle.predict.specs.Stored.{walked_in}
+use Rattle.predict.specs.Stored.{ordered_in}
 use Rattle.predict.proofs.Entries.{corrected_start, corrected_on, corrected_end, all_entries}
 use Rattle.predict.proofs.Kept.{marked_none, marked_more}
 use Rattle.predict.proofs.multi.correct_entries.Goals as goal
@@ -14,7 +14,7 @@ use Rattle.predict.proofs.multi.correct_entries.Goals as goal
 pub loop-e-init : goal.loop-e-init
 loop-e-init c = record {
   long = c.requires.four;
-  marked = marked_none (walked_in c.args.surface.now) c.args.comps c.args.v.now c.args.lists.now c.requires.none;
+  marked = marked_none (ordered_in c.args.surface.now) c.args.comps c.args.v.now c.args.lists.now c.requires.none;
   corrected = λ f foretells. corrected_start f c.args.w.now c.args.v.now c.args.out.now c.args.comps;
 }
 
@@ -25,7 +25,7 @@ correct_entry-requires-clause-below c =
 
 pub loop-e-preserved : goal.loop-e-preserved
 loop-e-preserved c =
-    let w = walked_in c.args.surface.now in
+    let w = ordered_in c.args.surface.now in
     let e = c.loop-e.e in
     let comps = c.args.comps in
     let v = c.args.v.now in

@@ -1,5 +1,5 @@
 use Rattle.std.proofs.Common.{◌≡◌, ◌<◌, ◌≤◌, ◌-◌, ◌+◌, suc, ℕ, Bool, List, [], length, take, drop, get_or, set, ap, ◌∙◌, sym, arith}
-use Rattle.predict.specs.declared.surface.FaceAcross.{FaceAcross}
+use Rattle.corner_table.specs.declared.corner_lists.FaceAcross.{FaceAcross}
 use Rattle.predict.specs.Gathered.{gathered}
 use Rattle.predict.specs.Multi.{kept, flags_for}
 use Rattle.predict.proofs.Kept.{kept_nothing, used_same, used_more, lacks_next, taken_are}

@@ -1,6 +1,7 @@
 use Rattle.std.proofs.Common.{subst, sym}
 use Rattle.std.specs.List.{All}
 use Rattle.eb_section.specs.Connectivity.{meaning}
+use Rattle.drc_container.specs.reading.AsRead.{classes_of, attributes_read_on}
 use Rattle.drc_container.proofs.lemmas.reading.Headed.{heads-read}
 use Rattle.drc_container.proofs.lemmas.reading.Linked.{IsCut, heads-linked}
 use Rattle.drc_container.proofs.lemmas.reading.Tabled.{tables-whole}
@@ -18,5 +19,6 @@ read_each-requires-clause-seams c =
 
 pub returns-clause-tables : goal.returns-clause-tables
 returns-clause-tables c =
-    tables-whole (meaning c.args.surface.now) c.args.c.now _ _ c.in_ok-decoders.decoders.items c.in_ok-attributes.attributes
+    let s = meaning c.args.surface.now in
+    tables-whole s c.args.c.now _ _ c.in_ok-decoders.decoders.items (attributes_read_on (classes_of s) c.in_ok-attributes.attributes)
     c.in_ok-decoders.ensures.item c.in_ok-attributes.ensures.item c.requires.faces c.in_ok-attributes.ensures.columns

@@ -24,7 +24,7 @@ pub put_decoder_values-requires-clause-values : goal.put_decoder_values-requires
 put_decoder_values-requires-clause-values c =
     let s = c.args.s.now in
     put-pass c.args.coding.now (glued_on s) c.loop-attr.attr c.index-decoders-attr.result _ c.heads-heads.ensures.sound
-    (whole-gluing c.args.coding.now.degree s c.requires.stands c.face_count-faces.ensures.gluing) c.requires.can
+    (whole-gluing c.args.coding.now.degree s c.requires.stands c.face_count-faces.ensures.gluing) c.requires.some c.requires.can
     (at_hand (goal.at.put_decoder_values-requires-clause-values c).After-index-decoders-attr)
 
 pub put_decoder_values-requires-clause-entries : goal.put_decoder_values-requires-clause-entries

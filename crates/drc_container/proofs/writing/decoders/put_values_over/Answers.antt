@@ -1,11 +1,10 @@
-use Rattle.drc_container.proofs.lemmas.surface.Orders.{over-table}
 use Rattle.drc_container.proofs.writing.decoders.put_values_over.Goals as goal
 
 pub write_decoder-requires-clause-values : goal.write_decoder-requires-clause-values
 write_decoder-requires-clause-values c = c.requires.values
 
-pub write_decoder-requires-clause-walk : goal.write_decoder-requires-clause-walk
-write_decoder-requires-clause-walk c = over-table c.args.surface.now.sides c.args.surface.now.order c.args.surface.now.over
+pub write_decoder-requires-clause-on : goal.write_decoder-requires-clause-on
+write_decoder-requires-clause-on c = c.args.surface.now.is_ordered
 
 pub returns-clause-bytes : goal.returns-clause-bytes
 returns-clause-bytes c = c.in_ok-write_decoder.ensures.bytes

@@ -4,7 +4,8 @@ use Rattle.drc_base.specs.Refusals.{Refuses}
 use Rattle.mesh_model.specs.FirstFault.{value_unless}
 use Rattle.drc_container.specs.choice.Refused.{values_fault}
 use Rattle.drc_container.specs.writing.WrittenOnSurface.{GluedMesh, coded_values, decoder_heads_bytes, values_bytes_on}
-use Rattle.drc_container.specs.surface.AttributeSurfaces.{glued_by, glued_on, CanCodeValues}
+use Rattle.drc_container.specs.surface.AttributeSurfaces.{glued_by, glued_on}
+use Rattle.drc_container.specs.choice.CanCode.{CanCode}
 use Rattle.drc_container.proofs.lemmas.choice.FirstRefusals.{refuses-alike}
 use Rattle.drc_container.proofs.lemmas.writing.SurfaceEncoded.{values-can}
 use Rattle.drc_container.proofs.writing.edgebreaker.put_attributes.Goals.{In_ok-values}
@@ -20,15 +21,16 @@ returns-in_err-values-clause-answer c =
     (subst (λ (g : GluedMesh). Refuses (value_unless (values_fault coding g) (coded_values coding g)) c.in_err-values.field-0.0) c.in_ok-surfaces.ensures.glued c.in_err-values.ensures))
 
 -- the values can be coded
-can : (c : In_ok-values) → CanCodeValues c.args.coding.now (glued_on c.in_ok-surfaces.surfaces)
-can c =
-    let s = c.in_ok-surfaces.surfaces in
-    let faces = ap (λ (g : GluedMesh). length g.mesh.faces) c.in_ok-surfaces.ensures.glued in
-    let some : 0 < length s.mesh.faces = omega (arith, c.requires.some, faces) in
-    values-can c.args.coding.now (glued_on s) c.in_ok-values.values.items some c.in_ok-values.ensures
+can : (c : In_ok-values) → CanCode c.args.coding.now.predict (coded_values c.args.coding.now (glued_on c.in_ok-surfaces.surfaces))
+can c = values-can c.args.coding.now (glued_on c.in_ok-surfaces.surfaces) c.in_ok-values.values.items c.in_ok-values.ensures
+
+pub write_attributes-requires-clause-some : goal.write_attributes-requires-clause-some
+write_attributes-requires-clause-some c =
+    omega (arith, c.requires.some, ap (λ (g : GluedMesh). length g.mesh.faces) c.in_ok-surfaces.ensures.glued)
 
 pub write_attributes-requires-clause-can : goal.write_attributes-requires-clause-can
 write_attributes-requires-clause-can c = can (goal.at.write_attributes-requires-clause-can c).In_ok-values
 
 pub returns-clause-can : goal.returns-clause-can
-returns-clause-can c = subst (CanCodeValues c.args.coding.now) c.in_ok-surfaces.ensures.glued (can (goal.at.returns-clause-can c).In_ok-values)
+returns-clause-can c =
+    subst (λ (g : GluedMesh). CanCode c.args.coding.now.predict (coded_values c.args.coding.now g)) c.in_ok-surfaces.ensures.glued (can (goal.at.returns-clause-can c).In_ok-values)

@@ -17,5 +17,5 @@ returns-clause-answer c =
 
 pub returns-clause-can : goal.returns-clause-can
 returns-clause-can c =
-    later-can c.args.g.now c.args.choice.now _ _ c.requires.early c.requires.sequential
+    later-can c.args.g.now c.args.choice.now _ _ c.point_count-count.ensures.sound c.requires.early c.requires.sequential
     c.predict_of-predict.ensures (c.as_slice.ensures.value ∙ c.in_ok-values.ensures) c.in_ok-test_ranges.ensures

@@ -12,6 +12,7 @@ use Rattle.eb_rebuild.specs.KeptDegrees.{KeepsDegrees, after_beside}
 use Rattle.eb_rebuild.proofs.Linking.{link_grown, beside_does, first_apart, still_free, Taken, taken_free}
 use Rattle.eb_rebuild.proofs.TableDegrees.{keeps_beside, small_at, live_top}
 use Rattle.eb_rebuild.proofs.Steps.{beside_no_top}
+use Rattle.eb_rebuild.proofs.CornersNamed.{names_beside, names_corners, names_vertices, has_face, is_real}
 use Rattle.eb_rebuild.proofs.link_rebuild.LinkRebuild.take_beside.Goals as goal
 
 pub returns-in-Err-clause-does : goal.returns-in-Err-clause-does
@@ -59,6 +60,8 @@ invariant_of-self g c =
       c.beside_degrees.ensures.len ∙ c.self.invariant.1 ∙ ap (λ (n : ℕ). 3 * n) (sym as_wide),
       λ e. subst (KeepsDegrees c.glue.new.self (c.self.inside.made + 1)) (sym items)
           (keeps_beside c.args.beside c.self.inside.table c.glue.new.self c.self.inside.made c.self.inside.degrees.items c.in-Ok.a (side_of c.next_open-next.result) W c.self.invariant.0.made faces glued (taken_free T) follows (omega arith)),
+      names_beside c.args.beside c.self.inside.table c.glue.new.self c.self.inside.made c.self.inside.names c.add_beside.new.self (side_at c.in-Ok.a) c.self.invariant.3 faces glued as_wide (taken_free T)
+          c.add_beside.ensures.names c.add_beside.ensures.up c.add_beside.ensures.room,
     )
 
 pub returns-clause-does : goal.returns-clause-does
@@ -115,3 +118,24 @@ returns-clause-live g c =
     c.glue.ensures.faces c.glue.ensures.glued (c.add_face-face.ensures.free first)
     (λ e. first_apart c.args.beside (ap (λ (x : Side). x.place) e ∙ c.glued-k.ensures.place))
     (face_apart _ _ (λ e. (let no : c.add_face-face.result ≡ c.side_with-top.result.face = e in absurd (omega arith))))).free
+
+pub add_beside-requires-clause-next : goal.add_beside-requires-clause-next
+add_beside-requires-clause-next g c = sym c.self.invariant.3.as_many
+
+pub add_beside-requires-clause-real : goal.add_beside-requires-clause-real
+add_beside-requires-clause-real g c =
+    let whole = c.self.view_is ∙ c.take_side.ensures.rest in
+    is_real c.self.invariant.0 c.in-Ok.a (subst (λ (v : LinkValue). c.in-Ok.a < 3 * v.table.faces) (sym whole) c.in-Ok.ensures.ok.2) (subst (λ (v : LinkValue). v.table.faces < room_of v.table) (sym whole) c.requires.room)
+
+pub add_beside-requires-clause-face : goal.add_beside-requires-clause-face
+add_beside-requires-clause-face g c =
+    has_face c.self.invariant.3 c.in-Ok.a (subst (λ (v : LinkValue). c.in-Ok.a < 3 * v.table.faces) (sym (c.self.view_is ∙ c.take_side.ensures.rest)) c.in-Ok.ensures.ok.2)
+
+pub add_beside-requires-clause-corners : goal.add_beside-requires-clause-corners
+add_beside-requires-clause-corners g c =
+    names_corners c.self.invariant.3 (subst (λ (v : LinkValue). v.table.faces < room_of v.table) (sym (c.self.view_is ∙ c.take_side.ensures.rest)) c.requires.room)
+
+pub add_beside-requires-clause-vertices : goal.add_beside-requires-clause-vertices
+add_beside-requires-clause-vertices g c =
+    let r = names_vertices c.self.invariant.3 c.self.invariant.0.made (subst (λ (v : LinkValue). v.table.faces < room_of v.table) (sym (c.self.view_is ∙ c.take_side.ensures.rest)) c.requires.room) in
+    omega arith

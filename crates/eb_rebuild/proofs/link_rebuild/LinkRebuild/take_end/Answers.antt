@@ -8,6 +8,7 @@ use Rattle.eb_rebuild.specs.KeptDegrees.{KeepsDegrees, after_end}
 use Rattle.eb_rebuild.proofs.Steps.{same_state, end_steps, end_refused}
 use Rattle.eb_rebuild.proofs.Linking.{link_grown, noted_does, side_at_first}
 use Rattle.eb_rebuild.proofs.TableDegrees.{keeps_end, live_top}
+use Rattle.eb_rebuild.proofs.CornersNamed.{names_end, names_corners, names_vertices}
 use Rattle.eb_rebuild.proofs.link_rebuild.LinkRebuild.take_end.Goals as goal
 
 pub invariant_of-self : goal.invariant_of-self
@@ -38,6 +39,8 @@ invariant_of-self g c =
       c.end_degrees.ensures.len ∙ c.self.invariant.1 ∙ ap (λ (n : ℕ). 3 * n) (sym as_wide),
       λ e. subst (KeepsDegrees c.add_face-face.new.self (c.self.inside.made + 3)) (sym items)
           (keeps_end c.self.inside.table c.add_face-face.new.self c.self.inside.made c.self.inside.degrees.items W c.self.invariant.0.made (c.add_face-face.ensures.faces ∙ add-one _) (ap glued_in c.add_face-face.ensures.entries) (omega arith)),
+      names_end c.self.inside.table c.add_face-face.new.self c.self.inside.made c.self.inside.names c.add_end.new.self c.self.invariant.3 (c.add_face-face.ensures.faces ∙ add-one _) (ap glued_in c.add_face-face.ensures.entries) as_wide
+          c.add_end.ensures.names c.add_end.ensures.up c.add_end.ensures.room,
     )
 
 pub returns-clause-does : goal.returns-clause-does
@@ -54,3 +57,22 @@ returns-clause-does g c =
 pub returns-clause-live : goal.returns-clause-live
 returns-clause-live g c =
     live_top c.add_face-face.new.self c.push.new.self.sides c.self.inside.closes c.add_face-face.result c.self.inside.stack.sides c.note.result c.push.ensures.sides (c.add_face-face.ensures.free first).free
+
+pub add_end-requires-clause-next : goal.add_end-requires-clause-next
+add_end-requires-clause-next g c = sym c.self.invariant.3.as_many
+
+pub add_end-requires-clause-limit : goal.add_end-requires-clause-limit
+add_end-requires-clause-limit g c =
+    let m = c.self.invariant.0.made in
+    let l = c.self.invariant.0.limit in
+    let r = c.self.invariant.0.room in
+    let f = subst (λ (v : LinkValue). v.table.faces < room_of v.table) (sym c.self.view_is) c.requires.room in
+    omega arith
+
+pub add_end-requires-clause-corners : goal.add_end-requires-clause-corners
+add_end-requires-clause-corners g c =
+    names_corners c.self.invariant.3 (subst (λ (v : LinkValue). v.table.faces < room_of v.table) (sym c.self.view_is) c.requires.room)
+
+pub add_end-requires-clause-vertices : goal.add_end-requires-clause-vertices
+add_end-requires-clause-vertices g c =
+    names_vertices c.self.invariant.3 c.self.invariant.0.made (subst (λ (v : LinkValue). v.table.faces < room_of v.table) (sym c.self.view_is) c.requires.room)

@@ -9,6 +9,7 @@ invariant_of-self g c = (
       c.take.new.self c.self.invariant.0 c.take.ensures.long (c.take.ensures.below _ c.self.invariant.0.kept),
   c.self.invariant.1,
   c.self.invariant.2,
+  c.self.invariant.3,
 )
 
 pub invariant_of-self-in-Some : goal.invariant_of-self-in-Some
@@ -18,4 +19,5 @@ invariant_of-self-in-Some g c = (
       c.take.new.self c.self.invariant.0 c.take.ensures.long (c.take.ensures.below _ c.self.invariant.0.kept),
   c.self.invariant.1,
   c.self.invariant.2,
+  c.self.invariant.3,
 )

@@ -11,6 +11,7 @@ use Rattle.eb_rebuild.proofs.Steps.{split_no_top}
 use Rattle.eb_rebuild.proofs.Noting.{kept_below_more}
 use Rattle.eb_rebuild.proofs.Linking.{link_grown, split_does, split_no_second_does, split_one_side_does, split_one_point_does, still_free, free_grown, first_is_free, second_is_free, TakenTwo}
 use Rattle.eb_rebuild.proofs.TableDegrees.{keeps_split, small_at, live_top}
+use Rattle.eb_rebuild.proofs.CornersNamed.{names_split, names_corners, has_face, is_real, start_below, end_below}
 use Rattle.eb_rebuild.proofs.link_rebuild.LinkRebuild.take_split.Goals as goal
 
 pub returns-in-Err-clause-does : goal.returns-in-Err-clause-does
@@ -150,6 +151,9 @@ invariant_of-self g c =
       λ e. subst (KeepsDegrees c.glue-2.new.self c.self.inside.made) (sym items)
           (keeps_split c.self.inside.table c.glue-2.new.self c.self.inside.made ds b a nb na W c.self.invariant.0.made faces glued (first_is_free T) (second_is_free T)
           (λ q. same-false _ _ (sym c.is_same.ensures ∙ c.if-is_same.false) (c.side_with-second.ensures.side ∙ sym q ∙ sym c.side_with-top.ensures.side)) after_b after_a (omega arith)),
+      names_split c.self.inside.table c.glue-2.new.self c.self.inside.made c.self.inside.names c.add_split.new.self (side_at b) (side_at a) c.self.invariant.3 faces glued as_wide (first_is_free T) (second_is_free T)
+          (λ q. same-false _ _ (sym c.is_same.ensures ∙ c.if-is_same.false) (c.side_with-second.ensures.side ∙ sym q ∙ sym c.side_with-top.ensures.side))
+          c.add_split.ensures.names c.add_split.ensures.len c.add_split.ensures.falls c.add_split.ensures.roots c.add_split.ensures.room,
     )
 
 pub returns-clause-does : goal.returns-clause-does
@@ -292,3 +296,52 @@ returns-clause-live g c =
     (face_apart _ _ (λ e. (let no : c.add_face-face.result ≡ c.side_with-second.result.face = e in absurd (omega arith)))))
     (λ e. (let no = ap (λ (x : Side). x.place) e in cc))
     (face_apart _ _ (λ e. (let no : c.add_face-face.result ≡ c.side_with-top.result.face = e in absurd (omega arith))))).free
+
+pub add_split-requires-clause-real : goal.add_split-requires-clause-real
+add_split-requires-clause-real g c =
+    let two = ap (λ (v : LinkValue). v.table.faces) (c.self.view_is ∙ c.take_second.ensures.rest) in
+    let one = ap (λ (v : LinkValue). v.table.faces) c.take_side.ensures.rest in
+    let l = c.in-Ok.ensures.ok.2 in
+    is_real c.self.invariant.0 c.in-Ok.b (omega arith)
+    (subst (λ (v : LinkValue). v.table.faces < room_of v.table) (sym (c.self.view_is ∙ c.take_second.ensures.rest)) (subst (λ (v : LinkValue). v.table.faces < room_of v.table) (sym c.take_side.ensures.rest) c.requires.room))
+
+pub add_split-requires-clause-real_second : goal.add_split-requires-clause-real_second
+add_split-requires-clause-real_second g c =
+    let two = ap (λ (v : LinkValue). v.table.faces) (c.self.view_is ∙ c.take_second.ensures.rest) in
+    let one = ap (λ (v : LinkValue). v.table.faces) c.take_side.ensures.rest in
+    let l = c.in-Ok-take_second.ensures.ok.2 in
+    is_real c.self.invariant.0 c.in-Ok-take_second.a (omega arith)
+    (subst (λ (v : LinkValue). v.table.faces < room_of v.table) (sym (c.self.view_is ∙ c.take_second.ensures.rest)) (subst (λ (v : LinkValue). v.table.faces < room_of v.table) (sym c.take_side.ensures.rest) c.requires.room))
+
+pub add_split-requires-clause-face : goal.add_split-requires-clause-face
+add_split-requires-clause-face g c =
+    let two = ap (λ (v : LinkValue). v.table.faces) (c.self.view_is ∙ c.take_second.ensures.rest) in
+    let one = ap (λ (v : LinkValue). v.table.faces) c.take_side.ensures.rest in
+    let l = c.in-Ok.ensures.ok.2 in
+    has_face c.self.invariant.3 c.in-Ok.b (omega arith)
+
+pub add_split-requires-clause-face_second : goal.add_split-requires-clause-face_second
+add_split-requires-clause-face_second g c =
+    let two = ap (λ (v : LinkValue). v.table.faces) (c.self.view_is ∙ c.take_second.ensures.rest) in
+    let one = ap (λ (v : LinkValue). v.table.faces) c.take_side.ensures.rest in
+    let l = c.in-Ok-take_second.ensures.ok.2 in
+    has_face c.self.invariant.3 c.in-Ok-take_second.a (omega arith)
+
+pub add_split-requires-clause-below : goal.add_split-requires-clause-below
+add_split-requires-clause-below g c =
+    let two = ap (λ (v : LinkValue). v.table.faces) (c.self.view_is ∙ c.take_second.ensures.rest) in
+    let one = ap (λ (v : LinkValue). v.table.faces) c.take_side.ensures.rest in
+    let l = c.in-Ok.ensures.ok.2 in
+    start_below c.self.invariant.3 c.in-Ok.b (omega arith)
+
+pub add_split-requires-clause-below_second : goal.add_split-requires-clause-below_second
+add_split-requires-clause-below_second g c =
+    let two = ap (λ (v : LinkValue). v.table.faces) (c.self.view_is ∙ c.take_second.ensures.rest) in
+    let one = ap (λ (v : LinkValue). v.table.faces) c.take_side.ensures.rest in
+    let l = c.in-Ok-take_second.ensures.ok.2 in
+    end_below c.self.invariant.3 c.in-Ok-take_second.a (omega arith)
+
+pub add_split-requires-clause-corners : goal.add_split-requires-clause-corners
+add_split-requires-clause-corners g c =
+    names_corners c.self.invariant.3
+    (subst (λ (v : LinkValue). v.table.faces < room_of v.table) (sym (c.self.view_is ∙ c.take_second.ensures.rest)) (subst (λ (v : LinkValue). v.table.faces < room_of v.table) (sym c.take_side.ensures.rest) c.requires.room))

@@ -1,6 +1,6 @@
 -- A face more, glued to the top side and to the side before it.
 use Rattle.std.proofs.Common.{◌≡◌, ℕ, Ok, ◌*◌, ◌/◌, ◌<◌, ◌∷◌, List, length, sym, refl, ap, ◌∙◌, subst, arith, add-one}
-use Rattle.corner_table.specs.Sides.{Side, side, side_at, number, first, second, third, glue}
+use Rattle.corner_table.specs.Sides.{Side, side, side_at, number, next, prev, first, second, third, glue}
 use Rattle.corner_table.specs.Fans.{side_before, Follows}
 use Rattle.corner_table.specs.Table.{side_of, glued_in, gluing_of, room_of}
 use Rattle.corner_table.proofs.Places.{same-true, same-false, face_apart}
@@ -10,6 +10,9 @@ use Rattle.eb_rebuild.proofs.Steps.{tip_no_top}
 use Rattle.eb_rebuild.proofs.Noting.{kept_below_more}
 use Rattle.eb_rebuild.proofs.Linking.{link_grown, tip_does, tip_alone_does, still_free, free_grown, Taken, taken_free}
 use Rattle.eb_rebuild.proofs.TableDegrees.{keeps_tip, small_at, live_top}
+use Rattle.eb_rebuild.proofs.CornersNamed.{names_tip, names_corners, has_face, is_real}
+use Rattle.eb_rebuild.specs.CornerNames.{with_face, name_at}
+use Rattle.corner_table.proofs.Numbers.{side_at-number, number-lt}
 use Rattle.eb_rebuild.proofs.link_rebuild.LinkRebuild.take_tip.Goals as goal
 
 pub returns-in-Err-clause-does : goal.returns-in-Err-clause-does
@@ -69,9 +72,9 @@ invariant_of-self g c =
     ∙ ap (λ (x : Side). glue (side c.self.inside.table.faces third) before (glue (side c.self.inside.table.faces second) x (gluing_of c.self.inside.table))) c.side_with-top.ensures.side in
     let follows = subst (λ (x : Side). Follows c.self.inside.table.faces (gluing_of c.self.inside.table) x (side_of c.next_open-next.result)) c.side_with-top.ensures.side c.next_open-next.ensures.follows in
     let comes = subst (Follows c.self.inside.table.faces (gluing_of c.self.inside.table) before) c.side_with-top.ensures.side c.prev_open-before.ensures.follows in
-    let items = c.tip_degrees.ensures.items ∙ ap (λ (n : ℕ). after_tip n c.number_of.result c.number_of-2.result c.self.inside.degrees.items) F
-    ∙ ap (λ (n : ℕ). after_tip c.self.inside.table.faces n c.number_of-2.result c.self.inside.degrees.items) c.number_of.ensures.number
-    ∙ ap (λ (n : ℕ). after_tip c.self.inside.table.faces (number before) n c.self.inside.degrees.items) c.number_of-2.ensures.number in (
+    let items = c.tip_degrees.ensures.items ∙ ap (λ (n : ℕ). after_tip n c.number_of-tip.result c.number_of.result c.self.inside.degrees.items) F
+    ∙ ap (λ (n : ℕ). after_tip c.self.inside.table.faces n c.number_of.result c.self.inside.degrees.items) c.number_of-tip.ensures.number
+    ∙ ap (λ (n : ℕ). after_tip c.self.inside.table.faces (number before) n c.self.inside.degrees.items) c.number_of.ensures.number in (
       link_grown c.self.invariant.0 (record {
         plan = refl;
         more = more;
@@ -91,6 +94,10 @@ invariant_of-self g c =
       λ e. subst (KeepsDegrees c.glue-2.new.self c.self.inside.made) (sym items)
           (keeps_tip c.self.inside.table c.glue-2.new.self c.self.inside.made c.self.inside.degrees.items (side_at c.in-Ok.a) before (side_of c.next_open-next.result) W c.self.invariant.0.made faces glued (taken_free T) c.prev_open-before.ensures.free
           (λ q. same-false _ _ (sym c.is_same.ensures ∙ c.if-is_same.false) (q ∙ sym c.side_with-top.ensures.side)) comes follows (omega arith)),
+      names_tip c.self.inside.table c.glue-2.new.self c.self.inside.made c.self.inside.names c.add_tip.new.self (side_at c.in-Ok.a) before c.self.invariant.3 faces glued as_wide (taken_free T) c.prev_open-before.ensures.free
+          (λ q. same-false _ _ (sym c.is_same.ensures ∙ c.if-is_same.false) (q ∙ sym c.side_with-top.ensures.side)) comes
+          (c.add_tip.ensures ∙ ap (λ (x : Side). record c.self.inside.names { names = with_face c.self.inside.names.names (name_at c.self.inside.names (next (side_at c.in-Ok.a)), name_at c.self.inside.names (next x), name_at c.self.inside.names (prev (side_at c.in-Ok.a))) })
+          (ap side_at c.number_of-tip.ensures.number ∙ side_at-number before)),
     )
 
 pub returns-clause-does : goal.returns-clause-does
@@ -122,7 +129,7 @@ tip_degrees-requires-clause-small g c =
     let whole = c.self.view_is ∙ c.take_side.ensures.rest in
     let more : value.table.faces < value.plan.symbols = subst (λ (v : LinkValue). v.table.faces < v.plan.symbols) (sym whole) c.requires.more in
     let W = c.self.invariant.2 (ap (λ (v : LinkValue). v.closes) whole ∙ c.requires.unclosed) in
-    small_at {v = value} c.self.invariant.0 more W (side_of c.prev_open-before.result) c.number_of.result c.number_of.ensures.number c.prev_open-before.ensures.free
+    small_at {v = value} c.self.invariant.0 more W (side_of c.prev_open-before.result) c.number_of-tip.result c.number_of-tip.ensures.number c.prev_open-before.ensures.free
 
 pub tip_degrees-requires-clause-small_next : goal.tip_degrees-requires-clause-small_next
 tip_degrees-requires-clause-small_next g c =
@@ -132,7 +139,7 @@ tip_degrees-requires-clause-small_next g c =
     let whole = c.self.view_is ∙ c.take_side.ensures.rest in
     let more : value.table.faces < value.plan.symbols = subst (λ (v : LinkValue). v.table.faces < v.plan.symbols) (sym whole) c.requires.more in
     let W = c.self.invariant.2 (ap (λ (v : LinkValue). v.closes) whole ∙ c.requires.unclosed) in
-    small_at {v = value} c.self.invariant.0 more W (side_of c.next_open-next.result) c.number_of-2.result c.number_of-2.ensures.number c.next_open-next.ensures.follows.free
+    small_at {v = value} c.self.invariant.0 more W (side_of c.next_open-next.result) c.number_of.result c.number_of.ensures.number c.next_open-next.ensures.follows.free
 
 pub returns-clause-live : goal.returns-clause-live
 returns-clause-live g c =
@@ -150,3 +157,26 @@ returns-clause-live g c =
     (face_apart _ _ (λ e. (let no : c.add_face-face.result ≡ c.side_with-top.result.face = e in absurd (omega arith)))))
     (λ e. (let no = ap (λ (x : Side). x.place) e in cc))
     (face_apart _ _ (λ e. (let no : c.add_face-face.result ≡ c.prev_open-before.result.face = e in absurd (omega arith))))).free
+
+pub add_tip-requires-clause-real : goal.add_tip-requires-clause-real
+add_tip-requires-clause-real g c =
+    let whole = c.self.view_is ∙ c.take_side.ensures.rest in
+    is_real c.self.invariant.0 c.in-Ok.a (subst (λ (v : LinkValue). c.in-Ok.a < 3 * v.table.faces) (sym whole) c.in-Ok.ensures.ok.2) (subst (λ (v : LinkValue). v.table.faces < room_of v.table) (sym whole) c.requires.room)
+
+pub add_tip-requires-clause-real_before : goal.add_tip-requires-clause-real_before
+add_tip-requires-clause-real_before g c =
+    let whole = c.self.view_is ∙ c.take_side.ensures.rest in
+    is_real c.self.invariant.0 c.number_of-tip.result (subst (λ (n : ℕ). n < 3 * c.self.inside.table.faces) (sym c.number_of-tip.ensures.number) (number-lt (side_of c.prev_open-before.result) c.self.inside.table.faces c.prev_open-before.ensures.free.within))
+    (subst (λ (v : LinkValue). v.table.faces < room_of v.table) (sym whole) c.requires.room)
+
+pub add_tip-requires-clause-face : goal.add_tip-requires-clause-face
+add_tip-requires-clause-face g c =
+    has_face c.self.invariant.3 c.in-Ok.a (subst (λ (v : LinkValue). c.in-Ok.a < 3 * v.table.faces) (sym (c.self.view_is ∙ c.take_side.ensures.rest)) c.in-Ok.ensures.ok.2)
+
+pub add_tip-requires-clause-face_before : goal.add_tip-requires-clause-face_before
+add_tip-requires-clause-face_before g c =
+    has_face c.self.invariant.3 c.number_of-tip.result (subst (λ (n : ℕ). n < 3 * c.self.inside.table.faces) (sym c.number_of-tip.ensures.number) (number-lt (side_of c.prev_open-before.result) c.self.inside.table.faces c.prev_open-before.ensures.free.within))
+
+pub add_tip-requires-clause-corners : goal.add_tip-requires-clause-corners
+add_tip-requires-clause-corners g c =
+    names_corners c.self.invariant.3 (subst (λ (v : LinkValue). v.table.faces < room_of v.table) (sym (c.self.view_is ∙ c.take_side.ensures.rest)) c.requires.room)

@@ -1,6 +1,7 @@
 -- Nothing is built.
 use Rattle.std.proofs.Common.{ℕ, ◌*◌, min, reverse, ap, sym, ◌∙◌, arith}
 use Rattle.eb_rebuild.proofs.TableDegrees.{keeps_start, start_state, start_link}
+use Rattle.eb_rebuild.proofs.CornersNamed.{names_start}
 use Rattle.eb_rebuild.proofs.link_rebuild.LinkRebuildRebuild.new.Goals as goal
 
 pub invariant_of-result : goal.invariant_of-result
@@ -10,6 +11,7 @@ invariant_of-result c = (
       (c.in_ok-stack.ensures.room ∙ c.min.ensures ∙ ap (min c.args.symbols) (sym c.in_ok-table.ensures.room)) c.in_ok-splits.ensures.kept,
   c.in_ok-degrees.ensures ∙ ap (λ (n : ℕ). 3 * n) (sym c.in_ok-table.ensures.room),
   λ e. keeps_start c.in_ok-table.table c.in_ok-degrees.degrees.items c.in_ok-table.ensures.none c.in_ok-table.ensures.unglued,
+  names_start c.in_ok-table.table c.in_ok-names.names c.args.most c.in_ok-table.ensures.none c.in_ok-table.ensures.unglued c.in_ok-table.ensures.room c.in_ok-names.ensures.names c.in_ok-names.ensures.none c.in_ok-names.ensures.room,
 )
 
 pub returns-clause-state : goal.returns-clause-state

@@ -1,5 +1,6 @@
 -- What is left to note, with what is kept so far, comes to the same.
-use Rattle.std.proofs.Common.{◌≡◌, suc, ◌^◌, ◌<◌, ◌≤◌, length, vec_len, All}
+use Rattle.std.proofs.Common.{◌≡◌, suc, ◌≤◌, length, vec_len, All}
+use Rattle.drc_base.specs.declared.limits.TheConstants.{MAX_FACES}
 use Rattle.eb_rebuild.specs.Machine.{note_events}
 use Rattle.eb_rebuild.specs.Kept.{counted_down, no_event, kept_in, HasRoomFor, AreKeptBelow}
 use Rattle.eb_rebuild.specs.Rebuilding.{IsEventOf}
@@ -8,7 +9,7 @@ use Rattle.eb_rebuild.proofs.splits.Splits.note.Given as goal
 abbrev pub invariant-noting : goal.invariant-noting
 invariant-noting l = record {
   left : l.self-inside.left ≤ vec_len l.self-inside.events;
-  small : length l.self-inside.kept.sides < 2 ^ 24;
+  small : length l.self-inside.kept.sides ≤ MAX_FACES;
   valid : All (IsEventOf (length l.self-inside.kept.sides)) l.self-inside.events.items;
   roomy : All (HasRoomFor l.self-inside.kept.numbers (length l.self-inside.kept.sides)) l.self-inside.events.items;
   long : length l.self-inside.kept.sides ≡ l.symbols;

@@ -1,0 +1,6 @@
+use Rattle.drc_container.proofs.lemmas.surface.Orders.{ordered-depth}
+use Rattle.drc_container.proofs.surface.ordering.depth_order.Goals as goal
+
+pub returns-clause-ordered : goal.returns-clause-ordered
+returns-clause-ordered c =
+    ordered-depth c.args.t.now _ _ _ c.in_ok-order.order c.face_count-faces.ensures.gluing c.requires c.in_ok-order.ensures.classes c.in_ok-order.ensures.entries

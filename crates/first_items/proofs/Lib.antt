@@ -1,0 +1,2 @@
+pub mod ChainLists
+pub mod PairNumbers

@@ -1,7 +1,0 @@
-use Rattle.std.proofs.Common.{◌≡◌, take}
-use Rattle.mesh_model.specs.Hash.{hash_from}
-use Rattle.mesh_model.proofs.row_index.hash_of.Given as goal
-
--- the values so far are mixed
-abbrev pub invariant-loop-value : goal.invariant-loop-value
-invariant-loop-value l = l.hash ≡ hash_from 0 (take l.value-index l.row)

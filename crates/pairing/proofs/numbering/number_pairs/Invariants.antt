@@ -1,5 +1,0 @@
--- The numbers take the places of the second entries.
-use Rattle.pairing.proofs.numbering.number_pairs.Given as goal
-
-abbrev pub ghost-number_lists : goal.ghost-number_lists
-ghost-number_lists a = a.numbers.now

@@ -1,6 +1,0 @@
--- The numbers so far.
-use Rattle.std.proofs.Common.{◌≡◌, ℕ, ◌<◌, get_or}
-use Rattle.pairing.proofs.positions.are_apart.Given as goal
-
-abbrev pub invariant-loop-x : goal.invariant-loop-x
-invariant-loop-x l = (k : ℕ) → k < l.x → get_or l.numbers k 0 ≡ k

@@ -1,0 +1,18 @@
+use Rattle.std.proofs.Common.{◌≡◌, ◌+◌, ◌*◌, length, rules, ap, sym, ◌∙◌, FitsSigned, w32, arith}
+use Rattle.std.proofs.lemmas.Int.{to_z-of_z}
+use Rattle.predict.specs.Restored.{entry_before}
+use Rattle.predict.proofs.from_source.put_by_difference.Goals as goal
+
+pub loop-j-preserved : goal.loop-j-preserved
+loop-j-preserved g c =
+    let fits : FitsSigned w32 c.value_before-foretold.result = search rules in
+    let put = simp to_z-of_z at c.put_value.ensures.values in
+    let same : length c.as_slice.result.now ≡ length c.loop-j.values.items = ap (λ xs. length xs) c.as_slice.ensures.value in
+    let len : length c.loop-j.values.items ≡ c.args.e * c.args.comps + c.loop-j._j = omega (arith, same, c.as_slice.ensures.len, c.loop-j.invariant.len) in
+    record {
+      values = λ f foretells. put f (foretells c.loop-j._j c.loop-j.values.items c.loop-j-test.true len ∙ ap (entry_before c.args.comps) (sym c.as_slice.ensures.value) ∙ sym c.value_before-foretold.ensures)
+          ∙ c.loop-j.invariant.values f foretells;
+      left = omega (arith, c.loop-j.invariant.left, c.put_value.ensures.left);
+      len = omega (arith, c.loop-j.invariant.len, c.put_value.ensures.len);
+      capacity = c.put_value.ensures.capacity ∙ c.loop-j.invariant.capacity;
+    }

@@ -1,0 +1,233 @@
+//! Restoring values from a source of corrections: each value is put behind those before it, which foretell it, so that no
+//! list of corrections is made.
+
+ghost use Rattle.std.specs.Prelude.{◌≡◌, ℕ, ℤ, ◌+◌, ◌*◌, ◌%◌, ◌<◌, ◌≤◌, true, Bool, List, Some, None, length, IfOk, IfSome, vec_len, vec_capacity};
+ghost use Rattle.std.specs.Option.{option_map};
+ghost use Rattle.corner_table.specs.Ordered.{IsBelow, kept_face};
+ghost use Rattle.predict.specs.Schemes.{facts};
+ghost use Rattle.predict.specs.Restored.{restored, restored_behind, entry_before};
+ghost use Rattle.predict.specs.Parallelogram.{by_one, parallelogram};
+ghost use Rattle.predict.specs.Entry.{Foretells};
+ghost use Rattle.predict.specs.Surfaces.{surface, surface_of, surface_or, IsOverTable, MayBeOver, CanStand};
+ghost use Rattle.predict.specs.Foretold.{foretold};
+
+use crate::orders::Ordered;
+use crate::parallelograms::fourth;
+use crate::schemes::Prediction;
+use crate::sources::CorrectionSource;
+use crate::wraps::Wrap;
+use corner_table::{FREE, FaceAcross};
+use drc_base::Memory;
+use std::alloc::Global;
+
+/// What the difference foretells behind these values: the same component of the entry before, and 0 in
+/// the first entry.
+#[inline(always)]
+fn value_before(values: &[i32], comps: usize) -> i32
+    requires { 0 < comps }
+    ensures { result ≡ entry_before comps values.now }
+{
+    let n = values.len();
+    if n < comps { 0 } else { values[n - comps] }
+}
+
+/// Puts the value of the next correction behind the others, from what is foretold of it.
+#[inline(always)]
+fn put_value<C: CorrectionSource>(w: &Wrap, foretold: i32, values: &mut Vec<i32>, source: &mut C)
+    requires some { 0 < length (C.left source.old) }
+    requires room { vec_len values.old < vec_capacity values.old }
+    ensures values { (f : List ℤ → ℤ) → f values.old.items ≡ foretold
+        → restored_behind f w.now values.new.items (C.left source.new) ≡ restored_behind f w.now values.old.items (C.left source.old) }
+    ensures left { length (C.left source.old) ≡ length (C.left source.new) + 1 }
+    ensures len { vec_len values.new ≡ vec_len values.old + 1 }
+    ensures capacity { vec_capacity values.new ≡ vec_capacity values.old }
+{
+    let value = w.restored(foretold, source.next());
+    values.push_reserved(value);
+}
+
+/// Puts the values of entry `e`, foretold by the entry before.
+#[inline(always)]
+fn put_by_difference<C: CorrectionSource>(
+    w: &Wrap,
+    comps: usize,
+    e: usize,
+    values: &mut Vec<i32>,
+    source: &mut C,
+)
+    requires some { 0 < comps }
+    requires here { vec_len values.old ≡ e * comps }
+    requires room { vec_len values.old + comps ≤ vec_capacity values.old }
+    requires enough { comps ≤ length (C.left source.old) }
+    ensures values { (f : List ℤ → ℤ) → Foretells f comps e (by_one comps None)
+        → restored_behind f w.now values.new.items (C.left source.new) ≡ restored_behind f w.now values.old.items (C.left source.old) }
+    ensures left { length (C.left source.old) ≡ length (C.left source.new) + comps }
+    ensures len { vec_len values.new ≡ vec_len values.old + comps }
+    ensures capacity { vec_capacity values.new ≡ vec_capacity values.old }
+{
+    for _j in 0..comps {
+        let foretold = value_before(values.as_slice(), comps);
+        put_value(w, foretold, values, source);
+    }
+}
+
+/// Puts the values of entry `e`, foretold by the parallelogram over a face.
+#[inline(always)]
+fn put_by_parallelogram<C: CorrectionSource>(
+    w: &Wrap,
+    comps: usize,
+    e: usize,
+    face: FaceAcross,
+    values: &mut Vec<i32>,
+    source: &mut C,
+)
+    requires below { IsBelow e face }
+    requires here { vec_len values.old ≡ e * comps }
+    requires room { vec_len values.old + comps ≤ vec_capacity values.old }
+    requires enough { comps ≤ length (C.left source.old) }
+    ensures values { (f : List ℤ → ℤ) → Foretells f comps e (by_one comps (Some face))
+        → restored_behind f w.now values.new.items (C.left source.new) ≡ restored_behind f w.now values.old.items (C.left source.old) }
+    ensures left { length (C.left source.old) ≡ length (C.left source.new) + comps }
+    ensures len { vec_len values.new ≡ vec_len values.old + comps }
+    ensures capacity { vec_capacity values.new ≡ vec_capacity values.old }
+{
+    for j in 0..comps {
+        let foretold = fourth(values.as_slice(), comps, e, face, j);
+        put_value(w, foretold, values, source);
+    }
+}
+
+/// Puts the values of entry `e`, foretold by the parallelogram over the face across that is kept for it,
+/// else by the entry before.
+#[inline(always)]
+fn put_entry<C: CorrectionSource>(
+    w: &Wrap,
+    comps: usize,
+    e: usize,
+    face: FaceAcross,
+    values: &mut Vec<i32>,
+    source: &mut C,
+)
+    requires some { 0 < comps }
+    requires below { IfSome (kept_face face) (IsBelow e) }
+    requires here { vec_len values.old ≡ e * comps }
+    requires room { vec_len values.old + comps ≤ vec_capacity values.old }
+    requires enough { comps ≤ length (C.left source.old) }
+    ensures values { (f : List ℤ → ℤ) → Foretells f comps e (by_one comps (kept_face face))
+        → restored_behind f w.now values.new.items (C.left source.new) ≡ restored_behind f w.now values.old.items (C.left source.old) }
+    ensures left { length (C.left source.old) ≡ length (C.left source.new) + comps }
+    ensures len { vec_len values.new ≡ vec_len values.old + comps }
+    ensures capacity { vec_capacity values.new ≡ vec_capacity values.old }
+{
+    if face.across == FREE {
+        put_by_difference(w, comps, e, values, source);
+    } else {
+        put_by_parallelogram(w, comps, e, face, values, source);
+    }
+}
+
+/// The values that corrections restore, each foretold by the entry before.
+#[inline(always)]
+fn by_difference<C: CorrectionSource>(
+    alloc: Global,
+    w: &Wrap,
+    comps: usize,
+    source: C,
+) -> Result<Vec<i32>, Memory>
+    requires some { 0 < comps }
+    ensures values { IfOk result (λ v. v.items ≡ restored (entry_before comps) w.now (C.left source)) }
+    ensures len { IfOk result (λ v. length v.items ≡ length (C.left source)) }
+{
+    let wrap = w.copy();
+    let mut source = source;
+    let n = source.len();
+    let mut values = Vec::with_capacity(alloc, n)?;
+    for _i in 0..n {
+        let foretold = value_before(values.as_slice(), comps);
+        put_value(&wrap, foretold, &mut values, &mut source);
+    }
+    Ok(values)
+}
+
+/// The values that corrections restore, each foretold by the parallelogram over the face across that the
+/// order keeps for its entry.
+#[inline(always)]
+fn by_parallelogram<C: CorrectionSource>(
+    alloc: Global,
+    w: &Wrap,
+    comps: usize,
+    on: &Ordered<'_>,
+    source: C,
+) -> Result<Vec<i32>, Memory>
+    requires some { 0 < comps }
+    requires over { IsOverTable on.now }
+    requires whole { length (C.left source) ≡ length on.now.order.now.corner_of_entry * comps }
+    ensures values { IfOk result (λ v. v.items ≡ restored (parallelogram (surface on.now) comps) w.now (C.left source)) }
+    ensures len { IfOk result (λ v. length v.items ≡ length (C.left source)) }
+{
+    let wrap = w.copy();
+    let mut source = source;
+    let faces = on.order.faces_across.as_slice();
+    let n = source.len();
+    let mut values = Vec::with_capacity(alloc, n)?;
+    for e in 0..faces.len() {
+        put_entry(&wrap, comps, e, faces[e], &mut values, &mut source);
+    }
+    Ok(values)
+}
+
+/// The values that corrections restore, of entries of `comps` components, by a prediction that corrects
+/// and has no flags.
+#[inline(always)]
+fn restored_by<C: CorrectionSource>(
+    alloc: Global,
+    prediction: Prediction,
+    w: &Wrap,
+    comps: usize,
+    on: Option<&Ordered<'_>>,
+    source: C,
+) -> Result<Vec<i32>, Memory>
+    requires corrects { (facts prediction).corrects ≡ true }
+    requires no_flags { (facts prediction).flag_lists ≡ 0 }
+    requires some { 0 < comps }
+    requires over { MayBeOver (option_map (λ t. t.now) on) }
+    requires stand { CanStand prediction (surface_of (option_map (λ t. t.now) on)) comps (length (C.left source)) }
+    ensures values { (lists : List (List Bool)) → IfOk result (λ v. v.items ≡ restored (foretold prediction (surface_or (surface_of (option_map (λ t. t.now) on.entry))) comps lists) w.now (C.left source)) }
+    ensures len { IfOk result (λ v. length v.items ≡ length (C.left source)) }
+{
+    match (prediction, on) {
+        (Prediction::Difference, _) => by_difference(alloc, w, comps, source),
+        (Prediction::Parallelogram, Some(on)) => by_parallelogram(alloc, w, comps, on, source),
+        (Prediction::Off | Prediction::Multi, _) | (Prediction::Parallelogram, None) => {
+            unreachable!()
+        }
+    }
+}
+
+/// The values that the corrections of a source restore, of entries of `comps` components, by a prediction
+/// that corrects and has no flags, over an ordered surface where it needs one. Each correction is taken
+/// when its value is put behind those before. It takes memory for the values, and fails only when out of
+/// memory.
+pub fn restore_from<C: CorrectionSource>(
+    alloc: Global,
+    prediction: Prediction,
+    w: &Wrap,
+    comps: u32,
+    on: Option<&Ordered<'_>>,
+    source: C,
+) -> Result<Vec<i32>, Memory>
+    requires corrects { (facts prediction).corrects ≡ true }
+    requires no_flags { (facts prediction).flag_lists ≡ 0 }
+    requires some { 0 < comps }
+    requires over { MayBeOver (option_map (λ t. t.now) on) }
+    requires stand { CanStand prediction (surface_of (option_map (λ t. t.now) on)) comps (length (C.left source)) }
+    ensures values { (lists : List (List Bool)) → IfOk result (λ v. v.items ≡ restored (foretold prediction (surface_or (surface_of (option_map (λ t. t.now) on.entry))) comps lists) w.now (C.left source)) }
+    ensures len { IfOk result (λ v. length v.items ≡ length (C.left source)) }
+{
+    match comps {
+        1 => restored_by(alloc, prediction, w, 1, on, source),
+        2 => restored_by(alloc, prediction, w, 2, on, source),
+        3 => restored_by(alloc, prediction, w, 3, on, source),
+        _ => restored_by(alloc, prediction, w, comps as usize, on, source),
+    }
+}
