@@ -227,6 +227,7 @@ impl CornerNames {
     }
 
     /// S: the vertex at which side b starts becomes the one at which side a ends.
+    #[inline(always)]
     pub(crate) fn add_split(&mut self, b: u32, a: u32)
         requires real { b < free_entry }
         requires real_second { a < free_entry }

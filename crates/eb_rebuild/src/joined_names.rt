@@ -48,6 +48,7 @@ fn put(list: &mut Vec<u32>, name: u32, number: u32)
 }
 
 /// The root of a name. Each name on the way is joined to the one beyond the next, so that ways get shorter.
+#[inline(always)]
 fn find(up: &mut Vec<u32>, name: u32) -> u32
     requires falls { Falls up.old.items }
     requires within { name < vec_len up.old }
@@ -135,6 +136,7 @@ impl JoinedNames {
     }
 
     /// Joins two names.
+    #[inline(always)]
     pub(crate) fn join(&mut self, a: u32, b: u32)
         requires first { a < length self.old.up }
         requires second { b < length self.old.up }

@@ -55,6 +55,7 @@ fn raise(degrees: &mut Vec<u32>, side: u32, more: u32)
 }
 
 /// E: face `face` has three vertices of its own.
+#[inline(always)]
 pub(crate) fn end_degrees(degrees: &mut Vec<u32>, face: u32)
     requires limit { face < most_faces }
     requires room { 3 * face + 3 ≤ vec_len degrees.old }
@@ -86,6 +87,7 @@ pub(crate) fn beside_degrees(degrees: &mut Vec<u32>, beside: Beside, face: u32, 
 }
 
 /// C: face `face` is glued to a side that side `next` follows, and to side t, which comes before it.
+#[inline(always)]
 pub(crate) fn tip_degrees(degrees: &mut Vec<u32>, face: u32, t: u32, next: u32)
     requires limit { face < most_faces }
     requires room { 3 * face + 3 ≤ vec_len degrees.old }
@@ -103,6 +105,7 @@ pub(crate) fn tip_degrees(degrees: &mut Vec<u32>, face: u32, t: u32, next: u32)
 
 /// S: face `face` is glued to sides b and a, which sides `next_b` and `next_a` follow. The vertex at
 /// which b starts becomes the one at which `next_a` starts, and brings its corners.
+#[inline(always)]
 pub(crate) fn split_degrees(
     degrees: &mut Vec<u32>,
     face: u32,

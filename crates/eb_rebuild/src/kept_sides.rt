@@ -46,6 +46,7 @@ fn risen(numbers: Vec<u32>) -> Vec<u32>
 }
 
 /// The place of a number in a list that rises; None where it isn't there.
+#[inline(always)]
 fn place_of(numbers: &Vec<u32>, number: u32) -> Option<usize>
     requires { IsStrictlyIncreasing numbers.now.items }
     ensures there { IfSome result (λ i. (i < length numbers.now.items) × (get_or numbers.now.items i 0 ≡ number)) }

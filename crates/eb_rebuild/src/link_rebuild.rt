@@ -129,6 +129,7 @@ impl LinkRebuild {
     }
 
     /// Takes the top side off, which has to be free.
+    #[inline(always)]
     fn take_side<L: Ledger>(&mut self, steps: &mut Steps<L>) -> Result<u32, Fault>
         ensures ok { IfOk result (λ a. (self.old.stack.sides ≡ a ∷ self.new.stack.sides) × (gluing_of self.old.table (side_at a) ≡ None) × (a < 3 * self.old.table.faces)) }
         ensures err { IfErr result (λ f. top self.old.table.faces (gluing_of self.old.table) (map side_at self.old.stack.sides) ≡ Err f) }
@@ -145,6 +146,7 @@ impl LinkRebuild {
     }
 
     /// E: a new face, no side of which is glued.
+    #[inline(always)]
     fn take_end<L: Ledger>(&mut self, steps: &mut Steps<L>) -> Result<(), Fault>
         requires more { self.old.table.faces < self.old.plan.symbols }
         requires room { self.old.table.faces < room_of self.old.table }
@@ -194,6 +196,7 @@ impl LinkRebuild {
 
     /// C: the new face closes the vertex at which the top side starts. Its side 1 is glued to the top
     /// side, its side 2 to the free side before that.
+    #[inline(always)]
     fn take_tip<L: Ledger>(&mut self, steps: &mut Steps<L>) -> Result<(), Fault>
         requires more { self.old.table.faces < self.old.plan.symbols }
         requires room { self.old.table.faces < room_of self.old.table }
@@ -228,6 +231,7 @@ impl LinkRebuild {
 
     /// The second side of an S: the one that an event keeps for it, else the top side. It has to be
     /// free.
+    #[inline(always)]
     fn take_second<L: Ledger>(&mut self, steps: &mut Steps<L>) -> Result<u32, Fault>
         requires { self.old.table.faces < self.old.plan.symbols }
         ensures ok { IfOk result (λ a. (top self.old.table.faces (gluing_of self.old.table) (pushed (kept_in self.old.splits.kept self.old.table.faces) (map side_at self.old.stack.sides)) ≡ Ok (side_at a, map side_at self.new.stack.sides))
@@ -250,6 +254,7 @@ impl LinkRebuild {
 
     /// S: the new face joins the top side and the second side. Its side 1 is glued to the top side, its
     /// side 2 to the second.
+    #[inline(always)]
     fn take_split<L: Ledger>(&mut self, steps: &mut Steps<L>) -> Result<(), Fault>
         requires more { self.old.table.faces < self.old.plan.symbols }
         requires room { self.old.table.faces < room_of self.old.table }
@@ -393,6 +398,7 @@ impl Rebuild for LinkRebuild {
     }
 
     #[tactic(auto, using(crate::proofs::TableDegrees::moves_of))]
+    #[inline(always)]
     fn symbol<L: Ledger>(&mut self, symbol: Symbol, steps: &mut Steps<L>) -> Result<(), Refusal> {
         let taken = match symbol {
             Symbol::C => self.take_tip(steps),

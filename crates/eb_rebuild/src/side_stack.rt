@@ -17,6 +17,7 @@ pub(crate) struct SideStack {
 }
 
 /// Puts a side above the first `height` ones, for which there is room.
+#[inline(always)]
 fn put(sides: &mut Vec<u32>, height: u32, side: u32)
     requires within { height ≤ vec_len sides.old }
     requires room { height < vec_capacity sides.old }
@@ -68,6 +69,7 @@ impl SideStack {
     }
 
     /// Puts a side on top.
+    #[inline(always)]
     pub(crate) fn push(&mut self, side: u32)
         requires { length self.old.sides < self.old.room }
         ensures sides { self.new.sides ≡ side ∷ self.old.sides }
@@ -89,6 +91,7 @@ impl SideStack {
     }
 
     /// Takes the top side off; None where none waits.
+    #[inline(always)]
     pub(crate) fn pop(&mut self) -> Option<u32>
         ensures top { MatchOption result ((self.old.sides ≡ []) × (self.new.sides ≡ [])) (λ side. self.old.sides ≡ side ∷ self.new.sides) }
         ensures room { self.new.room ≡ self.old.room }

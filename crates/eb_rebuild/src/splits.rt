@@ -97,6 +97,7 @@ impl Splits {
 
     /// Notes the events of a symbol, whose face has its number: each keeps a side of the face for the
     /// symbol that it names.
+    #[inline(always)]
     pub(crate) fn note(&mut self, face: u32) -> Result<(), Fault>
         requires face { face < length self.old.kept }
         requires limit { length self.old.kept ≤ most_faces }
@@ -129,6 +130,7 @@ impl Splits {
     }
 
     /// The side kept for a symbol, which is kept no more.
+    #[inline(always)]
     pub(crate) fn take(&mut self, symbol: u32) -> Option<u32>
         requires { symbol < length self.old.kept }
         ensures side { option_map side_at result ≡ kept_in self.old.kept symbol }

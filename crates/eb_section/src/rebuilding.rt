@@ -31,6 +31,7 @@ fn most_built(faces: u32, symbols: u32) -> u32
 
 /// Feeds the machine so many symbols of a source, which are all that it is to take, or refuses with the
 /// first fault: one of the source comes behind those of the symbols before.
+#[inline(always)]
 fn take_symbols<R: Rebuild, F: SymbolSource, L: Ledger>(
     machine: R,
     source: F,
