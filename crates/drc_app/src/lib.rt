@@ -21,10 +21,9 @@ mod summaries;
 mod verifying;
 mod words;
 
+pub use command_lines::command_of;
 pub use commands::{Command, GenMesh};
 pub use delivery::out_of_memory;
 pub use laws::{generated_meshes_are_encoded, words_say_one_thing};
+pub use options::no_choice;
 pub use running::run;
-
-#[cfg(test)]
-mod tests;

@@ -1,8 +1,8 @@
+//! What no contract can say of the commands, on inputs worked by hand.
+
 ghost use Rattle.std.specs.Prelude.{◌<◌};
 
-use super::*;
-use crate::command_lines::command_of;
-use crate::options::no_choice;
+use drc_app::{Command, GenMesh, command_of, no_choice, run};
 use drc_base::{MemSink, MemSource, Refusal, Sequence, Sink};
 use drc_container::{Choice, Method, Prediction, Walk, decode_whole, encode};
 use drc_gen::{GenKind, generate};
