@@ -50,11 +50,11 @@ note_more n i e es kept h k =
     note_due n i e es kept h ∙ ap (λ (o : Option Side). must_be (is_none o) kind.Taken i >>= λ v. note_events n i es (reserve (n - suc e.split) (side i (event_place e.right)) kept)) k
 
 -- a kept entry that is none, and one that is a side
-pub kept-none : (kept : List ℕ) (k v : ℕ) → v ≡ get_or kept k free_entry → v ≡ free_entry → kept_in kept k ≡ None
-kept-none kept k v e h = ap other_at (sym e ∙ h)
+pub kept-none : (kept : List ℕ) (k : ℕ) → get_or kept k free_entry ≡ free_entry → kept_in kept k ≡ None
+kept-none kept k h = ap other_at h
 
-pub kept-some : (kept : List ℕ) (k v : ℕ) → v ≡ get_or kept k free_entry → v ≢ free_entry → kept_in kept k ≡ Some (side_at v)
-kept-some kept k v e h = ap other_at (sym e) ∙ (elim (cases_Bool (eqb v free_entry)) [ inl t ↦ absurd (h (eqb-true v free_entry t)) | inr t ↦ cond-false _ _ _ t ])
+pub kept-some : (kept : List ℕ) (k : ℕ) → get_or kept k free_entry ≢ free_entry → kept_in kept k ≡ Some (side_at (get_or kept k free_entry))
+kept-some kept k h = elim (cases_Bool (eqb (get_or kept k free_entry) free_entry)) [ inl t ↦ absurd (h (eqb-true (get_or kept k free_entry) free_entry t)) | inr t ↦ cond-false _ _ _ t ]
 
 -- a write keeps a side for one symbol
 pub kept_in-set : (kept : List ℕ) (j : ℕ) (a : Side) → j < length kept → a.face < MAX_FACES → kept_in (set kept j (number a)) ≡ reserve j a (kept_in kept)
@@ -115,23 +115,23 @@ left_passed n i left events kept e h q l =
     let P : List Event → Type 0 = λ es. note_events n i es (kept_in kept) ≡ Err (fault kind.EventOrder i) in
     subst P (sym (last_event left events e h q)) (note_passed n i e (counted_down no_event (left - 1) events) (kept_in kept) (omega arith))
 
-pub left_taken : (n i left : ℕ) (events : List Event) (kept : List ℕ) (e : Event) (j v : ℕ) → (left ≡ 0 → ⊥) → e ≡ get_or events (left - 1) no_event → (e.source < n - 1 - i → ⊥) → (n - 1 - i < e.source → ⊥) →
-    j ≡ split_number n e → v ≡ get_or kept j free_entry → v ≢ free_entry → note_events n i (counted_down no_event left events) (kept_in kept) ≡ Err (fault kind.Taken i)
-left_taken n i left events kept e j v h q l m s r f =
+pub left_taken : (n i left : ℕ) (events : List Event) (kept : List ℕ) (e : Event) (j : ℕ) → (left ≡ 0 → ⊥) → e ≡ get_or events (left - 1) no_event → (e.source < n - 1 - i → ⊥) → (n - 1 - i < e.source → ⊥) →
+    j ≡ split_number n e → get_or kept j free_entry ≢ free_entry → note_events n i (counted_down no_event left events) (kept_in kept) ≡ Err (fault kind.Taken i)
+left_taken n i left events kept e j h q l m s f =
     let P : List Event → Type 0 = λ es. note_events n i es (kept_in kept) ≡ Err (fault kind.Taken i) in
     let w : j ≡ n - suc e.split = omega arith in
     subst P (sym (last_event left events e h q))
-    (note_taken n i e (counted_down no_event (left - 1) events) (kept_in kept) (side_at v) (omega arith) (ap (kept_in kept) (sym w) ∙ kept-some kept j v r f))
+    (note_taken n i e (counted_down no_event (left - 1) events) (kept_in kept) (side_at (get_or kept j free_entry)) (omega arith) (ap (kept_in kept) (sym w) ∙ kept-some kept j f))
 
-pub left_more : (n i left : ℕ) (events : List Event) (kept more : List ℕ) (e : Event) (j v w : ℕ) → (left ≡ 0 → ⊥) → e ≡ get_or events (left - 1) no_event → (e.source < n - 1 - i → ⊥) → (n - 1 - i < e.source → ⊥) →
-    j ≡ split_number n e → v ≡ get_or kept j free_entry → v ≡ free_entry → w ≡ number (side i (event_place e.right)) → more ≡ set kept j w → j < length kept → i < MAX_FACES →
+pub left_more : (n i left : ℕ) (events : List Event) (kept more : List ℕ) (e : Event) (j w : ℕ) → (left ≡ 0 → ⊥) → e ≡ get_or events (left - 1) no_event → (e.source < n - 1 - i → ⊥) → (n - 1 - i < e.source → ⊥) →
+    j ≡ split_number n e → get_or kept j free_entry ≡ free_entry → w ≡ number (side i (event_place e.right)) → more ≡ set kept j w → j < length kept → i < MAX_FACES →
     note_events n i (counted_down no_event left events) (kept_in kept) ≡ note_events n i (counted_down no_event (left - 1) events) (kept_in more)
-left_more n i left events kept more e j v w h q l m p r f s d t u =
+left_more n i left events kept more e j w h q l m p f s d t u =
     let k : n - suc e.split ≡ j = omega arith in
     let rest = counted_down no_event (left - 1) events in
     let a = side i (event_place e.right) in
     ap (λ (es : List Event). note_events n i es (kept_in kept)) (last_event left events e h q)
-    ∙ note_more n i e rest (kept_in kept) (omega arith) (ap (kept_in kept) k ∙ kept-none kept j v r f)
+    ∙ note_more n i e rest (kept_in kept) (omega arith) (ap (kept_in kept) k ∙ kept-none kept j f)
     ∙ ap (λ (x : ℕ). note_events n i rest (reserve x a (kept_in kept))) k
     ∙ ap (note_events n i rest) (sym (kept_in-set kept j a t u))
     ∙ ap (λ (x : ℕ). note_events n i rest (kept_in (set kept j x))) (sym s)

@@ -16,11 +16,18 @@ use std::marker::Model;
 pub(crate) const NONE: u32 = u32::MAX;
 
 /// The sides kept for symbols, with room for the symbols that it is made for.
+///
+/// Symbols mostly come in rising order, both where sides are kept and where they are taken. So the
+/// next symbol's place is looked for behind the last one first.
 #[derive(Debug, Drop)]
 pub(crate) struct KeptSides {
     symbols: u32,
     numbers: Vec<u32>,
     sides: Vec<u32>,
+    /// The place behind the last one where a side was kept.
+    next_kept: usize,
+    /// The place behind the last one whose side was taken.
+    next_taken: usize,
 }
 
 impl Model for KeptSides {
@@ -58,8 +65,22 @@ fn place_of(numbers: &Vec<u32>, number: u32) -> Option<usize>
     }
 }
 
+/// The place of a number in a list that rises, looked for at the place `near` first; None where it
+/// isn't there.
+fn place_near(numbers: &Vec<u32>, near: usize, number: u32) -> Option<usize>
+    requires { IsStrictlyIncreasing numbers.now.items }
+    ensures there { IfSome result (λ i. (i < length numbers.now.items) × (get_or numbers.now.items i 0 ≡ number)) }
+    ensures none { IfNone result (Lacks numbers.now.items number) }
+{
+    if near < numbers.len() && numbers[near] == number {
+        Some(near)
+    } else {
+        place_of(numbers, number)
+    }
+}
+
 impl KeptSides {
-    ghost use Rattle.std.specs.Prelude.{◌≢◌, set, replicate, All, IfOk};
+    ghost use Rattle.std.specs.Prelude.{◌↔◌, IsTrue, MatchBool, set, replicate, All, IfOk};
     ghost use Rattle.corner_table.specs.Table.{free_entry};
 
     /// No side kept, for so many symbols, with room for those that have these numbers.
@@ -74,6 +95,8 @@ impl KeptSides {
             symbols,
             numbers,
             sides,
+            next_kept: 0,
+            next_taken: 0,
         })
     }
 
@@ -84,26 +107,37 @@ impl KeptSides {
         self.symbols
     }
 
-    /// The side kept for a symbol, else `NONE`.
-    pub(crate) fn side_for(&self, symbol: u32) -> u32
-        ensures side { result ≡ get_or self.now.sides symbol free_entry }
-        ensures there { result ≢ free_entry → Contains self.now.numbers symbol }
+    /// Keeps a side for a symbol that there is room for, if none is kept for it; whether none was.
+    pub(crate) fn keep(&mut self, symbol: u32, side: u32) -> bool
+        requires { Contains self.old.numbers symbol }
+        ensures free { IsTrue result ↔ (get_or self.old.sides symbol free_entry ≡ free_entry) }
+        ensures sides { MatchBool result (self.new.sides ≡ set self.old.sides symbol side) (self.new.sides ≡ self.old.sides) }
+        ensures numbers { self.new.numbers ≡ self.old.numbers }
     {
-        match place_of(&self.numbers, symbol) {
-            None => NONE,
-            Some(place) => self.sides[place],
+        match place_near(&self.numbers, self.next_kept, symbol) {
+            Some(place) if self.sides[place] == NONE => {
+                self.sides[place] = side;
+                self.next_kept = place + 1;
+                true
+            }
+            _ => false,
         }
     }
 
-    /// Keeps a side, or `NONE`, for a symbol that there is room for.
-    pub(crate) fn keep(&mut self, symbol: u32, side: u32)
-        requires { Contains self.old.numbers symbol }
-        ensures sides { self.new.sides ≡ set self.old.sides symbol side }
+    /// The side kept for a symbol, which is kept no more; else `NONE`.
+    pub(crate) fn take(&mut self, symbol: u32) -> u32
+        ensures side { result ≡ get_or self.old.sides symbol free_entry }
+        ensures sides { self.new.sides ≡ set self.old.sides symbol free_entry }
         ensures numbers { self.new.numbers ≡ self.old.numbers }
     {
-        match place_of(&self.numbers, symbol) {
-            None => (),
-            Some(place) => self.sides[place] = side,
+        match place_near(&self.numbers, self.next_taken, symbol) {
+            None => NONE,
+            Some(place) => {
+                let side = self.sides[place];
+                self.sides[place] = NONE;
+                self.next_taken = place + 1;
+                side
+            }
         }
     }
 }

@@ -107,6 +107,26 @@ impl Splits {
         ensures long { length self.new.kept ≡ length self.old.kept }
         ensures below { AreKeptBelow face self.old.kept → AreKeptBelow (suc face) self.new.kept }
     {
+        if self.left == 0 {
+            return Ok(());
+        }
+        let due = self.kept.symbols() - 1 - face;
+        if event_at(&self.events, self.left - 1).source < due {
+            return Ok(());
+        }
+        self.note_due(face)
+    }
+
+    /// Notes the events of a symbol one by one, from the last one left.
+    fn note_due(&mut self, face: u32) -> Result<(), Fault>
+        requires face { face < length self.old.kept }
+        requires limit { length self.old.kept ≤ most_faces }
+        ensures noted { MatchResult result
+            (λ _. note_events (length self.old.kept) face self.old.events (kept_in self.old.kept) ≡ Ok (self.new.events, kept_in self.new.kept))
+            (λ f. note_events (length self.old.kept) face self.old.events (kept_in self.old.kept) ≡ Err f) }
+        ensures long { length self.new.kept ≡ length self.old.kept }
+        ensures below { AreKeptBelow face self.old.kept → AreKeptBelow (suc face) self.new.kept }
+    {
         let symbols = self.kept.symbols();
         let due = symbols - 1 - face;
         'noting: loop {
@@ -121,10 +141,9 @@ impl Splits {
                 return Err(Fault::new(Kind::EventOrder, u64::from(face)));
             }
             let split = split_number(symbols, event);
-            if self.kept.side_for(split) != NONE {
+            if !self.kept.keep(split, event_side(face, event.right)) {
                 return Err(Fault::new(Kind::Taken, u64::from(face)));
             }
-            self.kept.keep(split, event_side(face, event.right));
             self.left -= 1;
         }
     }
@@ -140,12 +159,7 @@ impl Splits {
         ensures below { (faces : ℕ) → AreKeptBelow faces self.old.kept → AreKeptBelow faces self.new.kept }
         ensures within { (faces : ℕ) → AreKeptBelow faces self.old.kept → IfSome result (λ side. side < 3 * faces) }
     {
-        let side = self.kept.side_for(symbol);
-        if side == NONE {
-            None
-        } else {
-            self.kept.keep(symbol, NONE);
-            Some(side)
-        }
+        let side = self.kept.take(symbol);
+        if side == NONE { None } else { Some(side) }
     }
 }

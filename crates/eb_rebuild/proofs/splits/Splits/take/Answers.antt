@@ -7,7 +7,7 @@ use Rattle.eb_rebuild.proofs.splits.Splits.take.Goals as goal
 pub invariant_of-self : goal.invariant_of-self
 invariant_of-self c =
     let old = c.self.inside.kept.sides in
-    let more = c.keep.new.self.sides in
-    let long : length more ≡ length old = ap (λ (l : List ℕ). length l) c.keep.ensures.sides ∙ length-set old c.args.symbol 4294967295 in
+    let more = c.take-side.new.self.sides in
+    let long : length more ≡ length old = ap (λ (l : List ℕ). length l) c.take-side.ensures.sides ∙ length-set old c.args.symbol 4294967295 in
     let small = c.self.invariant.1 in
-    (c.self.invariant.0, omega arith, still_events old more _ long c.self.invariant.2, still_room old more _ _ _ long c.keep.ensures.numbers c.self.invariant.3)
+    (c.self.invariant.0, omega arith, still_events old more _ long c.self.invariant.2, still_room old more _ _ _ long c.take-side.ensures.numbers c.self.invariant.3)

@@ -4,7 +4,7 @@ use Rattle.drc_base.specs.declared.limits.TheConstants.{MAX_FACES}
 use Rattle.eb_rebuild.specs.Machine.{note_events}
 use Rattle.eb_rebuild.specs.Kept.{counted_down, no_event, kept_in, HasRoomFor, AreKeptBelow}
 use Rattle.eb_rebuild.specs.Rebuilding.{IsEventOf}
-use Rattle.eb_rebuild.proofs.splits.Splits.note.Given as goal
+use Rattle.eb_rebuild.proofs.splits.Splits.note_due.Given as goal
 
 abbrev pub invariant-noting : goal.invariant-noting
 invariant-noting l = record {
