@@ -8,6 +8,7 @@ pub mod Orders
 pub mod LinkSteps
 pub mod LinkLists
 pub mod TableSteps
+pub mod Replacing
 pub mod Labelling
 pub mod LabelAll
 pub mod Meeting

@@ -15,13 +15,13 @@ use Rattle.corner_table.proofs.LinkSteps.{number_apart, read_here, read_else}
 use Rattle.corner_table.proofs.LinkLists.{relinked_linked}
 
 -- free among more faces, and not in the new one: free among those before
-free_old : {faces : ℕ} {g : Gluing} (x : Side) → x.face < faces → IsFree (suc faces) g x → IsFree faces g x
+pub free_old : {faces : ℕ} {g : Gluing} (x : Side) → x.face < faces → IsFree (suc faces) g x → IsFree faces g x
 free_old x h X = record { within = h; free = X.free }
 
-free_more : {faces : ℕ} {g : Gluing} (x : Side) → IsFree faces g x → IsFree (suc faces) g x
+pub free_more : {faces : ℕ} {g : Gluing} (x : Side) → IsFree faces g x → IsFree (suc faces) g x
 free_more x X = record { within = (let h = X.within in omega arith); free = X.free }
 
-follows_more : {faces : ℕ} {g : Gluing} (x y : Side) → Follows faces g x y → Follows (suc faces) g x y
+pub follows_more : {faces : ℕ} {g : Gluing} (x y : Side) → Follows faces g x y → Follows (suc faces) g x y
 follows_more x y F = record { free = free_more y F.free; meets = F.meets }
 
 -- one more face changes no side's neighbours
@@ -38,7 +38,7 @@ before_more {faces} {g} G x X =
 pub new_side : {faces : ℕ} {g : Gluing} → IsGluing faces g → (k : Place) → IsFree (suc faces) g (side faces k)
 new_side {faces} G k = record { within = omega arith; free = new_free G (side faces k) (omega arith) }
 
-new_follows : {faces : ℕ} {g : Gluing} → IsGluing faces g → (j k : Place) → prev (side faces j) ≡ next (side faces k) → Follows (suc faces) g (side faces j) (side faces k)
+pub new_follows : {faces : ℕ} {g : Gluing} → IsGluing faces g → (j k : Place) → prev (side faces j) ≡ next (side faces k) → Follows (suc faces) g (side faces j) (side faces k)
 new_follows {faces} {g} G j k e = record { free = new_side G k; meets = subst (InFan g (prev (side faces j))) e here }
 
 pub new_after : {faces : ℕ} {g : Gluing} → IsGluing faces g → (j k : Place) → prev (side faces j) ≡ next (side faces k) → side_after (suc faces) g (side faces j) ≡ side faces k

@@ -35,3 +35,21 @@ new_loop f links =
     let y = number (side f second) in
     let z = number (side f third) in
     joined z x (joined y z (joined x y links))
+
+-- sides x and y take the place of side t, where its neighbours are next and before. Where it is alone in its loop, the two are the loop
+abbrev pub put_for : ℕ → ℕ → ℕ → ℕ → ℕ → List ℕ × List ℕ → List ℕ × List ℕ
+put_for next before t x y links =
+    joined y (cond (eqb next t) x next) (joined (cond (eqb next t) y before) x (joined x y links))
+
+-- the same with the neighbours that the links give
+abbrev pub replaced : ℕ → ℕ → ℕ → List ℕ × List ℕ → List ℕ × List ℕ
+replaced t x y links = put_for (get_or links.0 t 0) (get_or links.1 t 0) t x y links
+
+-- side x takes the place of side t and of side b before it, where the side after t is next and the one before b is earlier. Where the two
+-- are the whole loop, x is alone in it
+abbrev pub put_for_two : ℕ → ℕ → ℕ → ℕ → List ℕ × List ℕ → List ℕ × List ℕ
+put_for_two next earlier b x links = joined x (cond (eqb next b) x next) (joined (cond (eqb next b) x earlier) x links)
+
+-- the same with the neighbours that the links give
+abbrev pub closed_up : ℕ → ℕ → ℕ → List ℕ × List ℕ → List ℕ × List ℕ
+closed_up t b x links = put_for_two (get_or links.0 t 0) (get_or links.1 b 0) b x links

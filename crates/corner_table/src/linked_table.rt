@@ -5,8 +5,8 @@
 //! use for them, and is given back without.
 
 use crate::entries::Entries;
-use crate::links::{link_face, relink};
-use crate::side_numbers::{number_of, side_with};
+use crate::links::{close_up, link_face, relink, replace};
+use crate::side_numbers::{next_of, number_of, previous_of, side_with};
 use crate::side_table::SideTable;
 use crate::steps::Steps;
 use drc_base::{Memory, Side};
@@ -46,7 +46,7 @@ impl LinkedTable {
     ghost use Rattle.std.specs.Prelude.{◌≡◌, ◌≢◌, ◌+◌, ◌*◌, ◌<◌, ◌≤◌, IfOk, length};
     ghost use Rattle.std.specs.Option.{option_map};
     ghost use Rattle.drc_base.specs.declared.limits.TheConstants.{MAX_FACES as most_faces};
-    ghost use Rattle.corner_table.specs.Sides.{Side as side_value, Place, side, unglued, glue, IsGluing};
+    ghost use Rattle.corner_table.specs.Sides.{Side as side_value, Place, first, second, third, side, place_of, unglued, glue, IsGluing};
     ghost use Rattle.corner_table.specs.Fans.{side_after, side_before, Follows};
     ghost use Rattle.corner_table.specs.Table.{side_of, gluing_of, room_of, IsFreeIn};
 
@@ -112,6 +112,68 @@ impl LinkedTable {
         let second = number_of(b);
         relink(&mut self.after, &mut self.before, first, second, looks);
         self.sides.pair(a, b);
+    }
+
+    /// Adds a face, whose side `k` is glued to the free side `top`, and answers its number. Its two other
+    /// sides are free.
+    pub fn add_beside<L: Ledger>(&mut self, k: u8, top: Side, steps: &mut Steps<L>) -> u32
+        requires place { k < 3 }
+        requires more { self.old.faces < room_of self.old }
+        requires top { IsFreeIn self.old (side_of top) }
+        ensures face { result ≡ self.old.faces }
+        ensures faces { self.new.faces ≡ self.old.faces + 1 }
+        ensures room { room_of self.new ≡ room_of self.old }
+        ensures glued { gluing_of self.new ≡ glue (side result (place_of k)) (side_of top) (gluing_of self.old) }
+        ensures free { (j : Place) → j ≢ place_of k → IsFreeIn self.new (side result j) }
+        ensures steps { steps.new ≡ steps.old + 1 }
+    {
+        let looks = steps.tick();
+        let face = self.sides.grow();
+        let glued = Side { face, k };
+        let first = number_of(next_of(glued));
+        let second = number_of(previous_of(glued));
+        let across = number_of(top);
+        replace(
+            &mut self.after,
+            &mut self.before,
+            across,
+            first,
+            second,
+            looks,
+        );
+        self.sides.pair(glued, top);
+        face
+    }
+
+    /// Adds a face, whose side 1 is glued to the free side `top` and whose side 2 to `previous`, another
+    /// side, which comes before `top` round the boundary. Answers its number; its side 0 is free.
+    pub fn add_tip<L: Ledger>(&mut self, top: Side, previous: Side, steps: &mut Steps<L>) -> u32
+        requires more { self.old.faces < room_of self.old }
+        requires top { IsFreeIn self.old (side_of top) }
+        requires previous { side_of previous ≡ side_before self.old.faces (gluing_of self.old) (side_of top) }
+        requires apart { side_of previous ≢ side_of top }
+        ensures face { result ≡ self.old.faces }
+        ensures faces { self.new.faces ≡ self.old.faces + 1 }
+        ensures room { room_of self.new ≡ room_of self.old }
+        ensures glued { gluing_of self.new ≡ glue (side result third) (side_of previous) (glue (side result second) (side_of top) (gluing_of self.old)) }
+        ensures free { IsFreeIn self.new (side result first) }
+        ensures steps { steps.new ≡ steps.old + 1 }
+    {
+        let looks = steps.tick();
+        let face = self.sides.grow();
+        let left = number_of(top);
+        let right = number_of(previous);
+        close_up(
+            &mut self.after,
+            &mut self.before,
+            left,
+            right,
+            3 * face,
+            looks,
+        );
+        self.sides.pair(Side { face, k: 1 }, top);
+        self.sides.pair(Side { face, k: 2 }, previous);
+        face
     }
 
     /// The side that `s` is glued to; None where `s` is free.

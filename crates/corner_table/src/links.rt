@@ -2,7 +2,7 @@
 
 ghost use Rattle.std.specs.Prelude.{◌≡◌, ◌+◌, ◌*◌, ◌<◌, ◌≤◌, get_or, set, length};
 ghost use Rattle.drc_base.specs.declared.limits.TheConstants.{MAX_FACES as most_faces};
-ghost use Rattle.corner_table.specs.Links.{relinked, new_loop};
+ghost use Rattle.corner_table.specs.Links.{relinked, new_loop, replaced, closed_up};
 
 use crate::entries::Entries;
 use crate::steps::Looks;
@@ -67,4 +67,69 @@ pub(crate) fn relink(after: &mut Entries, before: &mut Entries, a: u32, b: u32, 
         join(after, before, previous_a, next_b);
         join(after, before, previous_b, next_a);
     }
+}
+
+/// Puts two sides in the place of a free side of the boundary, the second after the first. Where that
+/// side is alone in its loop, the two are the loop.
+pub(crate) fn replace(
+    after: &mut Entries,
+    before: &mut Entries,
+    top: u32,
+    first: u32,
+    second: u32,
+    mut looks: Looks,
+)
+    requires looks { 2 ≤ looks.left }
+    requires top_after { top < length after.old }
+    requires top_before { top < length before.old }
+    requires first_after { first < length after.old }
+    requires first_before { first < length before.old }
+    requires second_after { second < length after.old }
+    requires second_before { second < length before.old }
+    requires next { get_or after.old top 0 < length before.old }
+    requires previous { get_or before.old top 0 < length after.old }
+    ensures after_len { length after.new ≡ length after.old }
+    ensures before_len { length before.new ≡ length before.old }
+    ensures after { after.new ≡ (replaced top first second (after.old, before.old)).0 }
+    ensures before { before.new ≡ (replaced top first second (after.old, before.old)).1 }
+{
+    let next = after.at(top, &mut looks);
+    let previous = before.at(top, &mut looks);
+    let alone = next == top;
+    let ahead = if alone { second } else { previous };
+    let behind = if alone { first } else { next };
+    join(after, before, first, second);
+    join(after, before, ahead, first);
+    join(after, before, second, behind);
+}
+
+/// Puts a side in the place of the free side `top` and of the one before it. Where these are the whole
+/// loop, the side is alone in it.
+pub(crate) fn close_up(
+    after: &mut Entries,
+    before: &mut Entries,
+    top: u32,
+    previous: u32,
+    side: u32,
+    mut looks: Looks,
+)
+    requires looks { 2 ≤ looks.left }
+    requires top { top < length after.old }
+    requires previous { previous < length before.old }
+    requires side_after { side < length after.old }
+    requires side_before { side < length before.old }
+    requires next { get_or after.old top 0 < length before.old }
+    requires earlier { get_or before.old previous 0 < length after.old }
+    ensures after_len { length after.new ≡ length after.old }
+    ensures before_len { length before.new ≡ length before.old }
+    ensures after { after.new ≡ (closed_up top previous side (after.old, before.old)).0 }
+    ensures before { before.new ≡ (closed_up top previous side (after.old, before.old)).1 }
+{
+    let next = after.at(top, &mut looks);
+    let earlier = before.at(previous, &mut looks);
+    let whole = next == previous;
+    let ahead = if whole { side } else { earlier };
+    let behind = if whole { side } else { next };
+    join(after, before, ahead, side);
+    join(after, before, side, behind);
 }

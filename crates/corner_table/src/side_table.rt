@@ -96,9 +96,7 @@ impl SideTable {
         ensures steps { steps.new ≡ steps.old + 1 }
     {
         let _ = steps.tick();
-        let face = self.faces;
-        self.faces = face + 1;
-        face
+        self.grow()
     }
 
     /// Glues two free sides of two faces.
@@ -196,6 +194,19 @@ impl SideTable {
         ensures { result ≡ length self.now.entries }
     {
         self.across.count()
+    }
+
+    /// Adds a face, no side of which is glued, and looks at no entry.
+    pub(crate) fn grow(&mut self) -> u32
+        requires { self.old.faces < room_of self.old }
+        ensures face { result ≡ self.old.faces }
+        ensures faces { self.new.faces ≡ self.old.faces + 1 }
+        ensures entries { self.new.entries ≡ self.old.entries }
+        ensures free { (k : Place) → IsFreeIn self.new (side result k) }
+    {
+        let face = self.faces;
+        self.faces = face + 1;
+        face
     }
 
     /// Writes a pair of two free sides of two faces, and looks at no entry.
