@@ -184,9 +184,8 @@ impl LinkRebuild {
         };
         let top = side_with(a);
         let next = self.table.next_open(top, steps);
-        let face = self.table.add_face(steps);
         let k = beside.glued();
-        self.table.glue(Side { face, k }, top, steps);
+        let face = self.table.add_beside(k, top, steps);
         beside_degrees(&mut self.degrees, beside, face, a, number_of(next));
         self.names.add_beside(beside, a, self.made);
         self.stack.push(3 * face);
@@ -219,9 +218,7 @@ impl LinkRebuild {
             return Err(Fault::new(Kind::Alone, u64::from(self.table.face_count())));
         }
         let next = self.table.next_open(top, steps);
-        let face = self.table.add_face(steps);
-        self.table.glue(Side { face, k: 1 }, top, steps);
-        self.table.glue(Side { face, k: 2 }, before, steps);
+        let face = self.table.add_tip(top, before, steps);
         let tip = number_of(before);
         tip_degrees(&mut self.degrees, face, tip, number_of(next));
         self.names.add_tip(a, tip);

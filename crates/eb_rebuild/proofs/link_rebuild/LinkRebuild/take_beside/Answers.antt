@@ -1,15 +1,14 @@
 -- A face more, glued to the top side, its side 0 on top, and its events noted.
-use Rattle.std.proofs.Common.{◌≡◌, ℕ, suc, ◌+◌, ◌*◌, ◌/◌, ◌<◌, ◌∷◌, List, length, sym, refl, ap, ◌∙◌, subst, arith, add-one}
+use Rattle.std.proofs.Common.{◌≡◌, ℕ, suc, ◌+◌, ◌*◌, ◌<◌, ◌∷◌, length, sym, refl, ap, ◌∙◌, subst, arith, add-one}
 use Rattle.corner_table.specs.Sides.{Side, Place, side, side_at, first, place_of, glue}
-use Rattle.corner_table.specs.Table.{side_of, glued_in, gluing_of, room_of}
+use Rattle.corner_table.specs.Table.{side_of, gluing_of, room_of}
 use Rattle.corner_table.specs.Fans.{Follows}
-use Rattle.corner_table.proofs.Places.{face_apart}
 use Rattle.corner_table.proofs.Numbers.{number-side_at}
 use Rattle.eb_rebuild.specs.Beside.{glued_place}
 use Rattle.eb_rebuild.specs.Linked.{LinkValue, state_of}
 use Rattle.eb_rebuild.specs.Kept.{AreKeptBelow}
 use Rattle.eb_rebuild.specs.KeptDegrees.{KeepsDegrees, after_beside}
-use Rattle.eb_rebuild.proofs.Linking.{link_grown, beside_does, first_apart, still_free, Taken, taken_free}
+use Rattle.eb_rebuild.proofs.Linking.{link_grown, beside_does, first_apart, Taken, taken_free}
 use Rattle.eb_rebuild.proofs.TableDegrees.{keeps_beside, small_at, live_top}
 use Rattle.eb_rebuild.proofs.Steps.{beside_no_top}
 use Rattle.eb_rebuild.proofs.CornersNamed.{names_beside, names_corners, names_vertices, has_face, is_real}
@@ -17,9 +16,6 @@ use Rattle.eb_rebuild.proofs.link_rebuild.LinkRebuild.take_beside.Goals as goal
 
 pub returns-in-Err-clause-does : goal.returns-in-Err-clause-does
 returns-in-Err-clause-does g c = beside_no_top c.args.beside _ (state_of c.args.self.now) _ c.in-Err.ensures.err
-
-pub glue-requires-clause-first : goal.glue-requires-clause-first
-glue-requires-clause-first g c = c.add_face-face.ensures.free (place_of c.glued-k.result)
 
 pub invariant_of-self : goal.invariant_of-self
 invariant_of-self g c =
@@ -29,13 +25,13 @@ invariant_of-self g c =
     let whole = c.self.view_is ∙ c.take_side.ensures.rest in
     let more : value.table.faces < value.plan.symbols = subst (λ (v : LinkValue). v.table.faces < v.plan.symbols) (sym whole) c.requires.more in
     let W = c.self.invariant.2 (ap (λ (v : LinkValue). v.closes) whole ∙ c.requires.unclosed) in
-    let F = c.add_face-face.ensures.face in
+    let F = c.add_beside-face.ensures.face in
     let long = c.self.inside.degrees.ok.0 in
     let room = c.self.invariant.1 in
     let wide = subst (λ (v : LinkValue). v.table.faces < room_of v.table) (sym whole) c.requires.room in
-    let as_wide : room_of c.glue.new.self ≡ room_of c.self.inside.table = c.glue.ensures.room ∙ ap (λ (l : List ℕ). length l / 3) c.add_face-face.ensures.entries in
-    let faces = c.glue.ensures.faces ∙ c.add_face-face.ensures.faces ∙ add-one _ in
-    let glued = c.glue.ensures.glued ∙ ap (λ (l : List ℕ). glue (side c.add_face-face.result (place_of c.glued-k.result)) (side_of c.side_with-top.result) (glued_in l)) c.add_face-face.ensures.entries
+    let as_wide : room_of c.add_beside-face.new.self ≡ room_of c.self.inside.table = c.add_beside-face.ensures.room in
+    let faces = c.add_beside-face.ensures.faces ∙ add-one _ in
+    let glued = c.add_beside-face.ensures.glued
     ∙ ap (λ (n : ℕ). glue (side n (place_of c.glued-k.result)) (side_of c.side_with-top.result) (gluing_of c.self.inside.table)) F
     ∙ ap (λ (k : Place). glue (side c.self.inside.table.faces k) (side_of c.side_with-top.result) (gluing_of c.self.inside.table)) c.glued-k.ensures.place
     ∙ ap (λ (x : Side). glue (side c.self.inside.table.faces (glued_place c.args.beside)) x (gluing_of c.self.inside.table)) c.side_with-top.ensures.side in
@@ -45,22 +41,22 @@ invariant_of-self g c =
       link_grown c.self.invariant.0 (record {
         plan = refl;
         more = more;
-        faces = c.glue.ensures.faces ∙ c.add_face-face.ensures.faces ∙ add-one _;
+        faces = c.add_beside-face.ensures.faces ∙ add-one _;
         room = as_wide;
         stack_room = c.push.ensures.room;
         rest = c.self.inside.stack.sides;
         below = c.self.invariant.0.sides;
         shorter = omega arith;
-        sides = c.push.ensures.sides ∙ ap (λ (n : ℕ). (3 * n) ∷ c.self.inside.stack.sides) c.add_face-face.ensures.face;
+        sides = c.push.ensures.sides ∙ ap (λ (n : ℕ). (3 * n) ∷ c.self.inside.stack.sides) c.add_beside-face.ensures.face;
         slots = c.note.ensures.long;
-        kept = subst (λ (n : ℕ). AreKeptBelow (suc n) c.note.new.self.kept) c.add_face-face.ensures.face (c.note.ensures.below (subst (λ (n : ℕ). AreKeptBelow n c.self.inside.splits.kept) (sym c.add_face-face.ensures.face) c.self.invariant.0.kept));
+        kept = subst (λ (n : ℕ). AreKeptBelow (suc n) c.note.new.self.kept) c.add_beside-face.ensures.face (c.note.ensures.below (subst (λ (n : ℕ). AreKeptBelow n c.self.inside.splits.kept) (sym c.add_beside-face.ensures.face) c.self.invariant.0.kept));
         made = omega arith;
         closes = refl;
       }),
       c.beside_degrees.ensures.len ∙ c.self.invariant.1 ∙ ap (λ (n : ℕ). 3 * n) (sym as_wide),
-      λ e. subst (KeepsDegrees c.glue.new.self (c.self.inside.made + 1)) (sym items)
-          (keeps_beside c.args.beside c.self.inside.table c.glue.new.self c.self.inside.made c.self.inside.degrees.items c.in-Ok.a (side_of c.next_open-next.result) W c.self.invariant.0.made faces glued (taken_free T) follows (omega arith)),
-      names_beside c.args.beside c.self.inside.table c.glue.new.self c.self.inside.made c.self.inside.names c.add_beside.new.self (side_at c.in-Ok.a) c.self.invariant.3 faces glued as_wide (taken_free T)
+      λ e. subst (KeepsDegrees c.add_beside-face.new.self (c.self.inside.made + 1)) (sym items)
+          (keeps_beside c.args.beside c.self.inside.table c.add_beside-face.new.self c.self.inside.made c.self.inside.degrees.items c.in-Ok.a (side_of c.next_open-next.result) W c.self.invariant.0.made faces glued (taken_free T) follows (omega arith)),
+      names_beside c.args.beside c.self.inside.table c.add_beside-face.new.self c.self.inside.made c.self.inside.names c.add_beside.new.self (side_at c.in-Ok.a) c.self.invariant.3 faces glued as_wide (taken_free T)
           c.add_beside.ensures.names c.add_beside.ensures.up c.add_beside.ensures.room,
     )
 
@@ -69,23 +65,23 @@ returns-clause-does g c =
     let taken = c.in-Ok.ensures.ok in
     beside_does c.args.beside c.args.self.now c.take_side.new.self
     (record { plan = record { faces = c.self.inside.faces; created = c.self.inside.created; symbols = c.self.inside.symbols }; table = c.self.inside.table; stack = c.self.inside.stack; splits = c.self.inside.splits; made = c.self.inside.made; closes = c.self.inside.closes })
-    (record { plan = record { faces = c.self.inside.faces; created = c.self.inside.created; symbols = c.self.inside.symbols }; table = c.glue.new.self; stack = c.push.new.self; splits = c.note.new.self; made = c.self.inside.made + 1; closes = c.self.inside.closes })
+    (record { plan = record { faces = c.self.inside.faces; created = c.self.inside.created; symbols = c.self.inside.symbols }; table = c.add_beside-face.new.self; stack = c.push.new.self; splits = c.note.new.self; made = c.self.inside.made + 1; closes = c.self.inside.closes })
     c.in-Ok.a
     (record {
       rest = c.take_side.ensures.rest;
       view = c.self.view_is;
       sides = taken.0;
       free = taken.1;
-      faces = c.glue.ensures.faces ∙ c.add_face-face.ensures.faces ∙ add-one _;
-      glued = c.glue.ensures.glued ∙ ap (λ (l : List ℕ). glue (side c.add_face-face.result (place_of c.glued-k.result)) (side_of c.side_with-top.result) (glued_in l)) c.add_face-face.ensures.entries
-          ∙ ap (λ (n : ℕ). glue (side n (place_of c.glued-k.result)) (side_of c.side_with-top.result) (gluing_of c.self.inside.table)) c.add_face-face.ensures.face
+      faces = c.add_beside-face.ensures.faces ∙ add-one _;
+      glued = c.add_beside-face.ensures.glued
+          ∙ ap (λ (n : ℕ). glue (side n (place_of c.glued-k.result)) (side_of c.side_with-top.result) (gluing_of c.self.inside.table)) c.add_beside-face.ensures.face
           ∙ ap (λ (k : Place). glue (side c.self.inside.table.faces k) (side_of c.side_with-top.result) (gluing_of c.self.inside.table)) c.glued-k.ensures.place
           ∙ ap (λ (x : Side). glue (side c.self.inside.table.faces (glued_place c.args.beside)) x (gluing_of c.self.inside.table)) c.side_with-top.ensures.side;
-      stack = c.push.ensures.sides ∙ ap (λ (n : ℕ). (3 * n) ∷ c.self.inside.stack.sides) c.add_face-face.ensures.face;
+      stack = c.push.ensures.sides ∙ ap (λ (n : ℕ). (3 * n) ∷ c.self.inside.stack.sides) c.add_beside-face.ensures.face;
       made = refl;
       closes = refl;
     })
-    (length c.self.inside.splits.kept) c.add_face-face.result c.note.result c.self.invariant.0.slots c.add_face-face.ensures.face c.note.ensures.noted
+    (length c.self.inside.splits.kept) c.add_beside-face.result c.note.result c.self.invariant.0.slots c.add_beside-face.ensures.face c.note.ensures.noted
 
 pub beside_degrees-requires-clause-small : goal.beside_degrees-requires-clause-small
 beside_degrees-requires-clause-small g c =
@@ -109,15 +105,12 @@ beside_degrees-requires-clause-small_next g c =
 
 pub returns-clause-live : goal.returns-clause-live
 returns-clause-live g c =
-    let f = c.add_face-face.ensures.face in
+    let f = c.add_beside-face.ensures.face in
     let below = c.in-Ok.ensures.ok.2 in
     let is = ap (λ (v : LinkValue). v.table.faces) (c.self.view_is ∙ c.take_side.ensures.rest) in
     let at = c.side_with-top.ensures.face in
-    live_top c.glue.new.self c.push.new.self.sides c.self.inside.closes c.add_face-face.result c.self.inside.stack.sides c.note.result c.push.ensures.sides
-    (still_free c.add_face-face.new.self.faces (gluing_of c.add_face-face.new.self) c.glue.new.self (side c.add_face-face.result (place_of c.glued-k.result)) (side_of c.side_with-top.result) (side c.add_face-face.result first)
-    c.glue.ensures.faces c.glue.ensures.glued (c.add_face-face.ensures.free first)
-    (λ e. first_apart c.args.beside (ap (λ (x : Side). x.place) e ∙ c.glued-k.ensures.place))
-    (face_apart _ _ (λ e. (let no : c.add_face-face.result ≡ c.side_with-top.result.face = e in absurd (omega arith))))).free
+    live_top c.add_beside-face.new.self c.push.new.self.sides c.self.inside.closes c.add_beside-face.result c.self.inside.stack.sides c.note.result c.push.ensures.sides
+    (c.add_beside-face.ensures.free first (λ e. first_apart c.args.beside (e ∙ c.glued-k.ensures.place))).free
 
 pub add_beside-requires-clause-next : goal.add_beside-requires-clause-next
 add_beside-requires-clause-next g c = sym c.self.invariant.3.as_many

@@ -1,14 +1,14 @@
 -- A face more, glued to the top side and to the side before it.
-use Rattle.std.proofs.Common.{◌≡◌, ℕ, Ok, ◌*◌, ◌/◌, ◌<◌, ◌∷◌, List, length, sym, refl, ap, ◌∙◌, subst, arith, add-one}
-use Rattle.corner_table.specs.Sides.{Side, side, side_at, number, next, prev, first, second, third, glue}
+use Rattle.std.proofs.Common.{◌≡◌, ℕ, Ok, ◌*◌, ◌<◌, ◌∷◌, sym, refl, ap, ◌∙◌, subst, arith, add-one}
+use Rattle.corner_table.specs.Sides.{Side, side, side_at, number, next, prev, second, third, glue}
 use Rattle.corner_table.specs.Fans.{side_before, Follows}
-use Rattle.corner_table.specs.Table.{side_of, glued_in, gluing_of, room_of}
-use Rattle.corner_table.proofs.Places.{same-true, same-false, face_apart}
+use Rattle.corner_table.specs.Table.{side_of, gluing_of, room_of}
+use Rattle.corner_table.proofs.Places.{same-true, same-false}
 use Rattle.eb_rebuild.specs.KeptDegrees.{KeepsDegrees, after_tip}
 use Rattle.eb_rebuild.specs.Linked.{LinkValue, state_of}
 use Rattle.eb_rebuild.proofs.Steps.{tip_no_top}
 use Rattle.eb_rebuild.proofs.Noting.{kept_below_more}
-use Rattle.eb_rebuild.proofs.Linking.{link_grown, tip_does, tip_alone_does, still_free, free_grown, Taken, taken_free}
+use Rattle.eb_rebuild.proofs.Linking.{link_grown, tip_does, tip_alone_does, Taken, taken_free}
 use Rattle.eb_rebuild.proofs.TableDegrees.{keeps_tip, small_at, live_top}
 use Rattle.eb_rebuild.proofs.CornersNamed.{names_tip, names_corners, has_face, is_real}
 use Rattle.eb_rebuild.specs.CornerNames.{with_face, name_at}
@@ -29,29 +29,6 @@ returns-then-is_same-clause-does g c =
     (same-true _ _ (sym c.is_same.ensures ∙ c.if-is_same.true) ∙ c.side_with-top.ensures.side)
     (c.from.ensures ∙ c.face_count.ensures.count))
 
-pub glue-requires-clause-first : goal.glue-requires-clause-first
-glue-requires-clause-first g c = c.add_face-face.ensures.free second
-
-pub glue-requires-2-clause-first : goal.glue-requires-2-clause-first
-glue-requires-2-clause-first g c =
-    let f = c.add_face-face.ensures.face in
-    let below = c.in-Ok.ensures.ok.2 in
-    let is = ap (λ (v : LinkValue). v.table.faces) (c.self.view_is ∙ c.take_side.ensures.rest) in
-    let at = c.side_with-top.ensures.face in
-    still_free c.add_face-face.new.self.faces (gluing_of c.add_face-face.new.self) c.glue.new.self (side c.add_face-face.result second) (side_of c.side_with-top.result) (side c.add_face-face.result third)
-    c.glue.ensures.faces c.glue.ensures.glued (c.add_face-face.ensures.free third)
-    (λ e. (let no = ap (λ (x : Side). x.place) e in cc))
-    (face_apart _ _ (λ e. (let no : c.add_face-face.result ≡ c.side_with-top.result.face = e in absurd (omega arith))))
-
-pub glue-requires-2-clause-second : goal.glue-requires-2-clause-second
-glue-requires-2-clause-second g c =
-    let f = c.add_face-face.ensures.face in
-    let w = c.prev_open-before.ensures.free.within in
-    still_free c.add_face-face.new.self.faces (gluing_of c.add_face-face.new.self) c.glue.new.self (side c.add_face-face.result second) (side_of c.side_with-top.result) (side_of c.prev_open-before.result)
-    c.glue.ensures.faces c.glue.ensures.glued (free_grown c.self.inside.table c.add_face-face.new.self (side_of c.prev_open-before.result) c.add_face-face.ensures.faces c.add_face-face.ensures.entries c.prev_open-before.ensures.free)
-    (face_apart _ _ (λ e. (let no : c.prev_open-before.result.face ≡ c.add_face-face.result = e in absurd (omega arith))))
-    (same-false _ _ (sym c.is_same.ensures ∙ c.if-is_same.false))
-
 pub invariant_of-self : goal.invariant_of-self
 invariant_of-self g c =
     let taken = c.in-Ok.ensures.ok in
@@ -60,14 +37,14 @@ invariant_of-self g c =
     let whole = c.self.view_is ∙ c.take_side.ensures.rest in
     let more : value.table.faces < value.plan.symbols = subst (λ (v : LinkValue). v.table.faces < v.plan.symbols) (sym whole) c.requires.more in
     let W = c.self.invariant.2 (ap (λ (v : LinkValue). v.closes) whole ∙ c.requires.unclosed) in
-    let F = c.add_face-face.ensures.face in
+    let F = c.add_tip-face.ensures.face in
     let long = c.self.inside.degrees.ok.0 in
     let room = c.self.invariant.1 in
     let wide = subst (λ (v : LinkValue). v.table.faces < room_of v.table) (sym whole) c.requires.room in
-    let as_wide : room_of c.glue-2.new.self ≡ room_of c.self.inside.table = c.glue-2.ensures.room ∙ c.glue.ensures.room ∙ ap (λ (l : List ℕ). length l / 3) c.add_face-face.ensures.entries in
+    let as_wide : room_of c.add_tip-face.new.self ≡ room_of c.self.inside.table = c.add_tip-face.ensures.room in
     let before = side_of c.prev_open-before.result in
-    let faces = c.glue-2.ensures.faces ∙ c.glue.ensures.faces ∙ c.add_face-face.ensures.faces ∙ add-one _ in
-    let glued = c.glue-2.ensures.glued ∙ ap (glue (side c.add_face-face.result third) before) (c.glue.ensures.glued ∙ ap (λ (l : List ℕ). glue (side c.add_face-face.result second) (side_of c.side_with-top.result) (glued_in l)) c.add_face-face.ensures.entries)
+    let faces = c.add_tip-face.ensures.faces ∙ add-one _ in
+    let glued = c.add_tip-face.ensures.glued
     ∙ ap (λ (n : ℕ). glue (side n third) before (glue (side n second) (side_of c.side_with-top.result) (gluing_of c.self.inside.table))) F
     ∙ ap (λ (x : Side). glue (side c.self.inside.table.faces third) before (glue (side c.self.inside.table.faces second) x (gluing_of c.self.inside.table))) c.side_with-top.ensures.side in
     let follows = subst (λ (x : Side). Follows c.self.inside.table.faces (gluing_of c.self.inside.table) x (side_of c.next_open-next.result)) c.side_with-top.ensures.side c.next_open-next.ensures.follows in
@@ -78,23 +55,23 @@ invariant_of-self g c =
       link_grown c.self.invariant.0 (record {
         plan = refl;
         more = more;
-        faces = c.glue-2.ensures.faces ∙ c.glue.ensures.faces ∙ c.add_face-face.ensures.faces ∙ add-one _;
+        faces = c.add_tip-face.ensures.faces ∙ add-one _;
         room = as_wide;
         stack_room = c.push.ensures.room;
         rest = c.self.inside.stack.sides;
         below = c.self.invariant.0.sides;
         shorter = omega arith;
-        sides = c.push.ensures.sides ∙ ap (λ (n : ℕ). (3 * n) ∷ c.self.inside.stack.sides) c.add_face-face.ensures.face;
+        sides = c.push.ensures.sides ∙ ap (λ (n : ℕ). (3 * n) ∷ c.self.inside.stack.sides) c.add_tip-face.ensures.face;
         slots = refl;
         kept = kept_below_more _ _ c.self.invariant.0.kept;
         made = omega arith;
         closes = refl;
       }),
       c.tip_degrees.ensures.len ∙ c.self.invariant.1 ∙ ap (λ (n : ℕ). 3 * n) (sym as_wide),
-      λ e. subst (KeepsDegrees c.glue-2.new.self c.self.inside.made) (sym items)
-          (keeps_tip c.self.inside.table c.glue-2.new.self c.self.inside.made c.self.inside.degrees.items (side_at c.in-Ok.a) before (side_of c.next_open-next.result) W c.self.invariant.0.made faces glued (taken_free T) c.prev_open-before.ensures.free
+      λ e. subst (KeepsDegrees c.add_tip-face.new.self c.self.inside.made) (sym items)
+          (keeps_tip c.self.inside.table c.add_tip-face.new.self c.self.inside.made c.self.inside.degrees.items (side_at c.in-Ok.a) before (side_of c.next_open-next.result) W c.self.invariant.0.made faces glued (taken_free T) c.prev_open-before.ensures.free
           (λ q. same-false _ _ (sym c.is_same.ensures ∙ c.if-is_same.false) (q ∙ sym c.side_with-top.ensures.side)) comes follows (omega arith)),
-      names_tip c.self.inside.table c.glue-2.new.self c.self.inside.made c.self.inside.names c.add_tip.new.self (side_at c.in-Ok.a) before c.self.invariant.3 faces glued as_wide (taken_free T) c.prev_open-before.ensures.free
+      names_tip c.self.inside.table c.add_tip-face.new.self c.self.inside.made c.self.inside.names c.add_tip.new.self (side_at c.in-Ok.a) before c.self.invariant.3 faces glued as_wide (taken_free T) c.prev_open-before.ensures.free
           (λ q. same-false _ _ (sym c.is_same.ensures ∙ c.if-is_same.false) (q ∙ sym c.side_with-top.ensures.side)) comes
           (c.add_tip.ensures ∙ ap (λ (x : Side). record c.self.inside.names { names = with_face c.self.inside.names.names (name_at c.self.inside.names (next (side_at c.in-Ok.a)), name_at c.self.inside.names (next x), name_at c.self.inside.names (prev (side_at c.in-Ok.a))) })
           (ap side_at c.number_of-tip.ensures.number ∙ side_at-number before)),
@@ -105,15 +82,15 @@ returns-clause-does g c =
     let taken = c.in-Ok.ensures.ok in
     tip_does c.args.self.now c.take_side.new.self
     (record { plan = record { faces = c.self.inside.faces; created = c.self.inside.created; symbols = c.self.inside.symbols }; table = c.self.inside.table; stack = c.self.inside.stack; splits = c.self.inside.splits; made = c.self.inside.made; closes = c.self.inside.closes })
-    (record { plan = record { faces = c.self.inside.faces; created = c.self.inside.created; symbols = c.self.inside.symbols }; table = c.glue-2.new.self; stack = c.push.new.self; splits = c.self.inside.splits; made = c.self.inside.made; closes = c.self.inside.closes })
+    (record { plan = record { faces = c.self.inside.faces; created = c.self.inside.created; symbols = c.self.inside.symbols }; table = c.add_tip-face.new.self; stack = c.push.new.self; splits = c.self.inside.splits; made = c.self.inside.made; closes = c.self.inside.closes })
     c.in-Ok.a (side_of c.prev_open-before.result)
     (record { rest = c.take_side.ensures.rest; view = c.self.view_is; sides = taken.0; free = taken.1; below = taken.2 })
     (record {
-      faces = c.glue-2.ensures.faces ∙ c.glue.ensures.faces ∙ c.add_face-face.ensures.faces ∙ add-one _;
-      glued = c.glue-2.ensures.glued ∙ ap (glue (side c.add_face-face.result third) (side_of c.prev_open-before.result)) (c.glue.ensures.glued ∙ ap (λ (l : List ℕ). glue (side c.add_face-face.result second) (side_of c.side_with-top.result) (glued_in l)) c.add_face-face.ensures.entries)
-          ∙ ap (λ (n : ℕ). glue (side n third) (side_of c.prev_open-before.result) (glue (side n second) (side_of c.side_with-top.result) (gluing_of c.self.inside.table))) c.add_face-face.ensures.face
+      faces = c.add_tip-face.ensures.faces ∙ add-one _;
+      glued = c.add_tip-face.ensures.glued
+          ∙ ap (λ (n : ℕ). glue (side n third) (side_of c.prev_open-before.result) (glue (side n second) (side_of c.side_with-top.result) (gluing_of c.self.inside.table))) c.add_tip-face.ensures.face
           ∙ ap (λ (x : Side). glue (side c.self.inside.table.faces third) (side_of c.prev_open-before.result) (glue (side c.self.inside.table.faces second) x (gluing_of c.self.inside.table))) c.side_with-top.ensures.side;
-      stack = c.push.ensures.sides ∙ ap (λ (n : ℕ). (3 * n) ∷ c.self.inside.stack.sides) c.add_face-face.ensures.face;
+      stack = c.push.ensures.sides ∙ ap (λ (n : ℕ). (3 * n) ∷ c.self.inside.stack.sides) c.add_tip-face.ensures.face;
       splits = refl;
       made = refl;
       closes = refl;
@@ -143,20 +120,13 @@ tip_degrees-requires-clause-small_next g c =
 
 pub returns-clause-live : goal.returns-clause-live
 returns-clause-live g c =
-    let f = c.add_face-face.ensures.face in
+    let f = c.add_tip-face.ensures.face in
     let below = c.in-Ok.ensures.ok.2 in
     let is = ap (λ (v : LinkValue). v.table.faces) (c.self.view_is ∙ c.take_side.ensures.rest) in
     let at = c.side_with-top.ensures.face in
     let w = c.prev_open-before.ensures.free.within in
-    live_top c.glue-2.new.self c.push.new.self.sides c.self.inside.closes c.add_face-face.result c.self.inside.stack.sides (Ok tt) c.push.ensures.sides
-    (still_free c.glue.new.self.faces (gluing_of c.glue.new.self) c.glue-2.new.self (side c.add_face-face.result third) (side_of c.prev_open-before.result) (side c.add_face-face.result first)
-    c.glue-2.ensures.faces c.glue-2.ensures.glued
-    (still_free c.add_face-face.new.self.faces (gluing_of c.add_face-face.new.self) c.glue.new.self (side c.add_face-face.result second) (side_of c.side_with-top.result) (side c.add_face-face.result first)
-    c.glue.ensures.faces c.glue.ensures.glued (c.add_face-face.ensures.free first)
-    (λ e. (let no = ap (λ (x : Side). x.place) e in cc))
-    (face_apart _ _ (λ e. (let no : c.add_face-face.result ≡ c.side_with-top.result.face = e in absurd (omega arith)))))
-    (λ e. (let no = ap (λ (x : Side). x.place) e in cc))
-    (face_apart _ _ (λ e. (let no : c.add_face-face.result ≡ c.prev_open-before.result.face = e in absurd (omega arith))))).free
+    live_top c.add_tip-face.new.self c.push.new.self.sides c.self.inside.closes c.add_tip-face.result c.self.inside.stack.sides (Ok tt) c.push.ensures.sides
+    c.add_tip-face.ensures.free.free
 
 pub add_tip-requires-clause-real : goal.add_tip-requires-clause-real
 add_tip-requires-clause-real g c =
