@@ -4,14 +4,14 @@ use Rattle.std.proofs.Common.{◌≡◌, ◌≢◌, ℕ, suc, ◌+◌, ◌*◌, 
 use Rattle.std.proofs.lemmas.Bool.{cases_Bool, eqb-false, cases_eq}
 use Rattle.corner_table.specs.Sides.{Side, Place, first, second, third, side, number, place_after, place_before, Gluing, glue, IsGluing, IsFree}
 use Rattle.corner_table.specs.Fans.{side_before, side_after, Follows}
-use Rattle.corner_table.specs.Links.{IsLinked, put_for, replaced, put_for_two, closed_up}
+use Rattle.corner_table.specs.Links.{IsLinked, new_loop, grown, put_for, replaced, put_for_two, closed_up}
 use Rattle.corner_table.specs.Table.{glued_in, IsLinkedTable}
 use Rattle.corner_table.proofs.Places.{face_apart, same_tells, after-before, before-after, after-after, before-before}
 use Rattle.corner_table.proofs.Numbers.{number_injective}
 use Rattle.corner_table.proofs.Boundary.{side_after-follows, side_after_only, side_before-follows, side_before_only}
 use Rattle.corner_table.proofs.Gluings.{more_faces, glued_is, free_before, free_after, follows_kept, follows_over_first, follows_over_second, follows_past_second}
 use Rattle.corner_table.proofs.LinkSteps.{read_here, read_else, after-before as there_back, before-after as back_there, after_free, before_free, after_injective}
-use Rattle.corner_table.proofs.TableSteps.{free_old, free_more, follows_more, new_side, new_follows}
+use Rattle.corner_table.proofs.TableSteps.{free_old, free_more, follows_more, after_more, before_more, new_side, new_follows, links_grown}
 
 place_tells : (j k : Place) → (j ≡ k) ⊎ ((j ≡ place_after k) ⊎ (j ≡ place_before k))
 place_tells first first = inl refl
@@ -58,6 +58,13 @@ forth G u v U F = sym (side_after_only G u v U F)
 
 back : {faces : ℕ} {h : Gluing} → IsGluing faces h → (u v : Side) → IsFree faces h u → Follows faces h u v → side_before faces h v ≡ u
 back G u v U F = sym (side_before_only G u v U F)
+
+-- links of more faces are those of fewer
+fewer : {f : ℕ} {g : Gluing} {A B : List ℕ} → IsGluing f g → IsLinked (suc f) g A B → IsLinked f g A B
+fewer G N = record {
+  after_is = λ x X. N.after_is x (free_more x X) ∙ ap number (after_more G x X);
+  before_is = λ x X. N.before_is x (free_more x X) ∙ ap number (before_more G x X);
+}
 
 -- a new face, one side n of which is glued to the free side t: its other sides are x, after n, and y, before n
 module _ (f : ℕ) (g : Gluing) (k : Place) (t : Side) (G : IsGluing f g) (T : IsFree f g t) where
@@ -156,63 +163,60 @@ module _ (f : ℕ) (g : Gluing) (k : Place) (t : Side) (G : IsGluing f g) (T : I
   lone_before e = ap (side_before f g) (sym e) ∙ back_there G t T
 
   -- the links, where p comes before x and q after y
-  module _ (A B : List ℕ) (L : IsLinked f g A B) (ra : 3 * suc f ≤ length A) (rb : 3 * suc f ≤ length B) (p q : Side) where
-    abbrev A1 : List ℕ
-    A1 = set A (number x) (number y)
-
+  module _ (A B : List ℕ) (N0 : IsLinked (suc f) g A B) (ra : 3 * suc f ≤ length A) (rb : 3 * suc f ≤ length B) (p q : Side) where
     abbrev A2 : List ℕ
-    A2 = set A1 (number p) (number x)
+    A2 = set A (number p) (number x)
 
     abbrev pub A3 : List ℕ
     A3 = set A2 (number y) (number q)
 
-    abbrev B1 : List ℕ
-    B1 = set B (number y) (number x)
-
     abbrev B2 : List ℕ
-    B2 = set B1 (number x) (number p)
+    B2 = set B (number x) (number p)
 
     abbrev pub B3 : List ℕ
     B3 = set B2 (number q) (number y)
 
-    long_a1 : 3 * suc f ≤ length A1
-    long_a1 = let e = length-set A (number x) (number y) in omega arith
+    L : IsLinked f g A B
+    L = fewer G N0
+
+    at_x : get_or A (number x) 0 ≡ number y
+    at_x = N0.after_is x (new_side G (place_after k)) ∙ ap number (forth G1 x y (new_side G (place_after k)) after_x)
+
+    at_y : get_or B (number y) 0 ≡ number x
+    at_y = N0.before_is y (new_side G (place_before k)) ∙ ap number (back G1 x y (new_side G (place_after k)) after_x)
 
     long_a2 : 3 * suc f ≤ length A2
-    long_a2 = let e = length-set A1 (number p) (number x) in let h = long_a1 in omega arith
-
-    long_b1 : 3 * suc f ≤ length B1
-    long_b1 = let e = length-set B (number y) (number x) in omega arith
+    long_a2 = let e = length-set A (number p) (number x) in omega arith
 
     long_b2 : 3 * suc f ≤ length B2
-    long_b2 = let e = length-set B1 (number x) (number p) in let h = long_b1 in omega arith
+    long_b2 = let e = length-set B (number x) (number p) in omega arith
 
     x_not_y : x ≢ y
     x_not_y e = place_apart f (place_before k) (place_after k) (before_not_after k) (sym e)
 
     a_at_x : x ≢ p → get_or A3 (number x) 0 ≡ number y
-    a_at_x h = read_else A2 y x (number q) x_not_y ∙ read_else A1 p x (number x) h ∙ read_here A x (number y) (suc f) (omega arith) ra
+    a_at_x h = read_else A2 y x (number q) x_not_y ∙ read_else A p x (number x) h ∙ at_x
 
     a_at_y : get_or A3 (number y) 0 ≡ number q
     a_at_y = read_here A2 y (number q) (suc f) (omega arith) long_a2
 
     a_at_p : p ≢ y → p.face < suc f → get_or A3 (number p) 0 ≡ number x
-    a_at_p h w = read_else A2 y p (number q) h ∙ read_here A1 p (number x) (suc f) w long_a1
+    a_at_p h w = read_else A2 y p (number q) h ∙ read_here A p (number x) (suc f) w ra
 
     a_else : (z : Side) → z ≢ x → z ≢ y → z ≢ p → get_or A3 (number z) 0 ≡ get_or A (number z) 0
-    a_else z h i j = read_else A2 y z (number q) i ∙ read_else A1 p z (number x) j ∙ read_else A x z (number y) h
+    a_else z h i j = read_else A2 y z (number q) i ∙ read_else A p z (number x) j
 
     b_at_x : x ≢ q → get_or B3 (number x) 0 ≡ number p
-    b_at_x h = read_else B2 q x (number y) h ∙ read_here B1 x (number p) (suc f) (omega arith) long_b1
+    b_at_x h = read_else B2 q x (number y) h ∙ read_here B x (number p) (suc f) (omega arith) rb
 
     b_at_y : y ≢ q → get_or B3 (number y) 0 ≡ number x
-    b_at_y h = read_else B2 q y (number y) h ∙ read_else B1 x y (number p) (λ e. x_not_y (sym e)) ∙ read_here B y (number x) (suc f) (omega arith) rb
+    b_at_y h = read_else B2 q y (number y) h ∙ read_else B x y (number p) (λ e. x_not_y (sym e)) ∙ at_y
 
     b_at_q : q.face < suc f → get_or B3 (number q) 0 ≡ number y
     b_at_q w = read_here B2 q (number y) (suc f) w long_b2
 
     b_else : (z : Side) → z ≢ x → z ≢ y → z ≢ q → get_or B3 (number z) 0 ≡ get_or B (number z) 0
-    b_else z h i j = read_else B2 q z (number y) j ∙ read_else B1 x z (number p) h ∙ read_else B y z (number x) i
+    b_else z h i j = read_else B2 q z (number y) j ∙ read_else B x z (number p) h
 
     away : (j : Place) (z : Side) → IsFree f g z → z ≢ side f j
     away j z Z e = new_apart j z Z.within (sym e)
@@ -331,15 +335,15 @@ module _ (f : ℕ) (g : Gluing) (k : Place) (t : Side) (G : IsGluing f g) (T : I
 abbrev AreLinks : ℕ → Gluing → List ℕ × List ℕ → Type 0
 AreLinks faces h links = IsLinked faces h links.0 links.1
 
-pub replaced_linked : (f : ℕ) (g : Gluing) (k : Place) (t : Side) (A B : List ℕ) → IsGluing f g → IsFree f g t → IsLinked f g A B → 3 * suc f ≤ length A → 3 * suc f ≤ length B →
+pub replaced_linked : (f : ℕ) (g : Gluing) (k : Place) (t : Side) (A B : List ℕ) → IsGluing f g → IsFree f g t → IsLinked (suc f) g A B → 3 * suc f ≤ length A → 3 * suc f ≤ length B →
     AreLinks (suc f) (glue (side f k) t g) (replaced (number t) (number (side f (place_after k))) (number (side f (place_before k))) (A, B))
 replaced_linked f g k t A B G T L ra rb =
     subst (AreLinks (suc f) (glue (side f k) t g)) (sym known_is) (go (cases_Bool (eqb (number (side_after f g t)) (number t))))
   where
     known_is : replaced (number t) (number (side f (place_after k))) (number (side f (place_before k))) (A, B) ≡ put_for (number (side_after f g t)) (number (side_before f g t)) (number t) (number (side f (place_after k))) (number (side f (place_before k))) (A, B)
     known_is =
-        ap (λ (m : ℕ). put_for m (get_or B (number t) 0) (number t) (number (side f (place_after k))) (number (side f (place_before k))) (A, B)) (L.after_is t T)
-        ∙ ap (λ (m : ℕ). put_for (number (side_after f g t)) m (number t) (number (side f (place_after k))) (number (side f (place_before k))) (A, B)) (L.before_is t T)
+        ap (λ (m : ℕ). put_for m (get_or B (number t) 0) (number t) (number (side f (place_after k))) (number (side f (place_before k))) (A, B)) ((fewer G L).after_is t T)
+        ∙ ap (λ (m : ℕ). put_for (number (side_after f g t)) m (number t) (number (side f (place_after k))) (number (side f (place_before k))) (A, B)) ((fewer G L).before_is t T)
 
     go : (eqb (number (side_after f g t)) (number t) ≡ true) ⊎ (eqb (number (side_after f g t)) (number t) ≡ false) →
         AreLinks (suc f) (glue (side f k) t g) (put_for (number (side_after f g t)) (number (side_before f g t)) (number t) (number (side f (place_after k))) (number (side f (place_before k))) (A, B))
@@ -349,7 +353,7 @@ replaced_linked f g k t A B G T L ra rb =
 -- the table with the new face
 pub links_beside : {f : ℕ} {across now after before : List ℕ} (k : Place) (t : Side) → IsLinkedTable f across after before → IsFree f (glued_in across) t → 3 * suc f ≤ length across →
     length now ≡ length across → glued_in now ≡ glue (side f k) t (glued_in across) →
-    IsLinkedTable (suc f) now (replaced (number t) (number (side f (place_after k))) (number (side f (place_before k))) (after, before)).0 (replaced (number t) (number (side f (place_after k))) (number (side f (place_before k))) (after, before)).1
+    IsLinkedTable (suc f) now (replaced (number t) (number (side f (place_after k))) (number (side f (place_before k))) (new_loop f (grown (after, before)))).0 (replaced (number t) (number (side f (place_after k))) (number (side f (place_before k))) (new_loop f (grown (after, before)))).1
 links_beside {f} {across} {now} {after} {before} k t M T h long same = record {
   table = record {
     limit = (let l = M.table.limit in omega arith);
@@ -357,10 +361,10 @@ links_beside {f} {across} {now} {after} {before} k t M T h long same = record {
     fits = omega arith;
     gluing = subst (IsGluing (suc f)) (sym same) (beside_is f (glued_in across) k t M.table.gluing T);
   };
-  after_room = length-set _ _ _ ∙ length-set _ _ _ ∙ length-set _ _ _ ∙ M.after_room ∙ sym long;
-  before_room = length-set _ _ _ ∙ length-set _ _ _ ∙ length-set _ _ _ ∙ M.before_room ∙ sym long;
-  linked = subst (λ (g : Gluing). AreLinks (suc f) g (replaced (number t) (number (side f (place_after k))) (number (side f (place_before k))) (after, before))) (sym same)
-      (replaced_linked f (glued_in across) k t after before M.table.gluing T M.linked (let e = M.after_room in omega arith) (let e = M.before_room in omega arith));
+  each_after = length-set _ _ _ ∙ length-set _ _ _ ∙ (links_grown M h).each_after;
+  each_before = length-set _ _ _ ∙ length-set _ _ _ ∙ (links_grown M h).each_before;
+  linked = subst (λ (g : Gluing). AreLinks (suc f) g (replaced (number t) (number (side f (place_after k))) (number (side f (place_before k))) (new_loop f (grown (after, before))))) (sym same)
+      (replaced_linked f (glued_in across) k t (new_loop f (grown (after, before))).0 (new_loop f (grown (after, before))).1 M.table.gluing T (links_grown M h).linked (let e = (links_grown M h).each_after in omega arith) (let e = (links_grown M h).each_before in omega arith));
 }
 
 -- a new face, whose side 1 is glued to the free side t and its side 2 to side b before it: its side 0 takes the place of both
@@ -450,7 +454,7 @@ module _ (f : ℕ) (g : Gluing) (t : Side) (G : IsGluing f g) (T : IsFree f g t)
       ]
 
   -- the links, where p comes before the side and q after it
-  module _ (A B : List ℕ) (L : IsLinked f g A B) (ra : 3 * suc f ≤ length A) (rb : 3 * suc f ≤ length B) (p q : Side) where
+  module _ (A B : List ℕ) (N0 : IsLinked (suc f) g A B) (ra : 3 * suc f ≤ length A) (rb : 3 * suc f ≤ length B) (p q : Side) where
     abbrev C1 : List ℕ
     C1 = set A (number p) (number s)
 
@@ -462,6 +466,9 @@ module _ (f : ℕ) (g : Gluing) (t : Side) (G : IsGluing f g) (T : IsFree f g t)
 
     abbrev pub D2 : List ℕ
     D2 = set D1 (number q) (number s)
+
+    links : IsLinked f g A B
+    links = fewer G N0
 
     long_c1 : 3 * suc f ≤ length C1
     long_c1 = let e = length-set A (number p) (number s) in omega arith
@@ -512,7 +519,7 @@ module _ (f : ℕ) (g : Gluing) (t : Side) (G : IsGluing f g) (T : IsFree f g t)
         goes z Z = elim (both_tells z Z) [
           | inl e ↦ goes_to z s s e (c_at_s ∙ ap number at_q) (forth tip_is s s s_free (lone_follows whole))
           | inr F ↦
-              c_else z (off z F.2) (λ r. off z F.2 (r ∙ at_p)) ∙ L.after_is z F.2
+              c_else z (off z F.2) (λ r. off z F.2 (r ∙ at_p)) ∙ links.after_is z F.2
               ∙ ap number (sym (forth tip_is z (side_after f g z) (kept_free z F.2 F.0 F.1)
               (kept_follows z F.2 (λ e. F.1 (before_is f g second t G T z F.2 e)) (λ e. F.0 (after_injective G z t F.2 T (e ∙ sym whole))))))
         ]
@@ -521,7 +528,7 @@ module _ (f : ℕ) (g : Gluing) (t : Side) (G : IsGluing f g) (T : IsFree f g t)
         comes z Z = elim (both_tells z Z) [
           | inl e ↦ comes_from z s s e (ap (λ (w : Side). get_or D2 (number w) 0) (sym at_q) ∙ d_at_q (subst (λ (w : Side). w.face < suc f) (sym at_q) (omega arith))) (back tip_is s s s_free (lone_follows whole))
           | inr F ↦
-              d_else z (off z F.2) (λ r. off z F.2 (r ∙ at_q)) ∙ L.before_is z F.2
+              d_else z (off z F.2) (λ r. off z F.2 (r ∙ at_q)) ∙ links.before_is z F.2
               ∙ ap number (sym (behind_kept z F.2 F.0 F.1 (λ e. F.1 (after_is f g second t G T z F.2 e ∙ whole))))
         ]
 
@@ -548,7 +555,7 @@ module _ (f : ℕ) (g : Gluing) (t : Side) (G : IsGluing f g) (T : IsFree f g t)
                 (ap (λ (w : Side). get_or C2 (number w) 0) (sym at_p) ∙ c_at_p (λ r. off (side_before f g b) P (sym at_p ∙ r)) (let w = P.within in subst (λ (x : Side). x.face < suc f) (sym at_p) (omega arith)))
                 (forth tip_is (side_before f g b) s earlier_free earlier_follows)
             | inr i ↦
-                c_else z (off z F.2) (λ r. i (ap (side_after f g) (r ∙ at_p) ∙ to_b)) ∙ L.after_is z F.2
+                c_else z (off z F.2) (λ r. i (ap (side_after f g) (r ∙ at_p) ∙ to_b)) ∙ links.after_is z F.2
                 ∙ ap number (sym (forth tip_is z (side_after f g z) (kept_free z F.2 F.0 F.1) (kept_follows z F.2 (λ e. F.1 (before_is f g second t G T z F.2 e)) i)))
           ]
         ]
@@ -561,20 +568,20 @@ module _ (f : ℕ) (g : Gluing) (t : Side) (G : IsGluing f g) (T : IsFree f g t)
                 (ap (λ (w : Side). get_or D2 (number w) 0) (sym at_q) ∙ d_at_q (let w = Q.within in subst (λ (x : Side). x.face < suc f) (sym at_q) (omega arith)))
                 (back tip_is s (side_after f g t) s_free (onward_follows more))
             | inr i ↦
-                d_else z (off z F.2) (λ r. i (ap (side_before f g) (r ∙ at_q) ∙ back_there G t T)) ∙ L.before_is z F.2
+                d_else z (off z F.2) (λ r. i (ap (side_before f g) (r ∙ at_q) ∙ back_there G t T)) ∙ links.before_is z F.2
                 ∙ ap number (sym (behind_kept z F.2 F.0 F.1 i))
           ]
         ]
 
-pub closed_up_linked : (f : ℕ) (g : Gluing) (t : Side) (A B : List ℕ) → IsGluing f g → IsFree f g t → side_before f g t ≢ t → IsLinked f g A B → 3 * suc f ≤ length A → 3 * suc f ≤ length B →
+pub closed_up_linked : (f : ℕ) (g : Gluing) (t : Side) (A B : List ℕ) → IsGluing f g → IsFree f g t → side_before f g t ≢ t → IsLinked (suc f) g A B → 3 * suc f ≤ length A → 3 * suc f ≤ length B →
     AreLinks (suc f) (glue (side f third) (side_before f g t) (glue (side f second) t g)) (closed_up (number t) (number (side_before f g t)) (number (side f first)) (A, B))
 closed_up_linked f g t A B G T h L ra rb =
     subst (AreLinks (suc f) (glue (side f third) (side_before f g t) (glue (side f second) t g))) (sym known_is) (go (cases_Bool (eqb (number (side_after f g t)) (number (side_before f g t)))))
   where
     known_is : closed_up (number t) (number (side_before f g t)) (number (side f first)) (A, B) ≡ put_for_two (number (side_after f g t)) (number (side_before f g (side_before f g t))) (number (side_before f g t)) (number (side f first)) (A, B)
     known_is =
-        ap (λ (m : ℕ). put_for_two m (get_or B (number (side_before f g t)) 0) (number (side_before f g t)) (number (side f first)) (A, B)) (L.after_is t T)
-        ∙ ap (λ (m : ℕ). put_for_two (number (side_after f g t)) m (number (side_before f g t)) (number (side f first)) (A, B)) (L.before_is (side_before f g t) (before_free G t T))
+        ap (λ (m : ℕ). put_for_two m (get_or B (number (side_before f g t)) 0) (number (side_before f g t)) (number (side f first)) (A, B)) ((fewer G L).after_is t T)
+        ∙ ap (λ (m : ℕ). put_for_two (number (side_after f g t)) m (number (side_before f g t)) (number (side f first)) (A, B)) ((fewer G L).before_is (side_before f g t) (before_free G t T))
 
     go : (eqb (number (side_after f g t)) (number (side_before f g t)) ≡ true) ⊎ (eqb (number (side_after f g t)) (number (side_before f g t)) ≡ false) →
         AreLinks (suc f) (glue (side f third) (side_before f g t) (glue (side f second) t g)) (put_for_two (number (side_after f g t)) (number (side_before f g (side_before f g t))) (number (side_before f g t)) (number (side f first)) (A, B))
@@ -583,7 +590,7 @@ closed_up_linked f g t A B G T h L ra rb =
 
 pub links_tip : {f : ℕ} {across now after before : List ℕ} (t b : Side) → IsLinkedTable f across after before → IsFree f (glued_in across) t → b ≡ side_before f (glued_in across) t → b ≢ t → 3 * suc f ≤ length across →
     length now ≡ length across → glued_in now ≡ glue (side f third) b (glue (side f second) t (glued_in across)) →
-    IsLinkedTable (suc f) now (closed_up (number t) (number b) (number (side f first)) (after, before)).0 (closed_up (number t) (number b) (number (side f first)) (after, before)).1
+    IsLinkedTable (suc f) now (closed_up (number t) (number b) (number (side f first)) (new_loop f (grown (after, before)))).0 (closed_up (number t) (number b) (number (side f first)) (new_loop f (grown (after, before)))).1
 links_tip {f} {across} {now} {after} {before} t b M T is h room long same = record {
   table = record {
     limit = (let l = M.table.limit in omega arith);
@@ -591,11 +598,11 @@ links_tip {f} {across} {now} {after} {before} t b M T is h room long same = reco
     fits = omega arith;
     gluing = subst (IsGluing (suc f)) (sym told) (tip_is f (glued_in across) t M.table.gluing T other);
   };
-  after_room = length-set _ _ _ ∙ length-set _ _ _ ∙ M.after_room ∙ sym long;
-  before_room = length-set _ _ _ ∙ length-set _ _ _ ∙ M.before_room ∙ sym long;
-  linked = subst (λ (g : Gluing). AreLinks (suc f) g (closed_up (number t) (number b) (number (side f first)) (after, before))) (sym told)
-      (subst (λ (x : Side). AreLinks (suc f) (glue (side f third) (side_before f (glued_in across) t) (glue (side f second) t (glued_in across))) (closed_up (number t) (number x) (number (side f first)) (after, before))) (sym is)
-      (closed_up_linked f (glued_in across) t after before M.table.gluing T other M.linked (let e = M.after_room in omega arith) (let e = M.before_room in omega arith)));
+  each_after = length-set _ _ _ ∙ length-set _ _ _ ∙ (links_grown M room).each_after;
+  each_before = length-set _ _ _ ∙ length-set _ _ _ ∙ (links_grown M room).each_before;
+  linked = subst (λ (g : Gluing). AreLinks (suc f) g (closed_up (number t) (number b) (number (side f first)) (new_loop f (grown (after, before))))) (sym told)
+      (subst (λ (x : Side). AreLinks (suc f) (glue (side f third) (side_before f (glued_in across) t) (glue (side f second) t (glued_in across))) (closed_up (number t) (number x) (number (side f first)) (new_loop f (grown (after, before))))) (sym is)
+      (closed_up_linked f (glued_in across) t (new_loop f (grown (after, before))).0 (new_loop f (grown (after, before))).1 M.table.gluing T other (links_grown M room).linked (let e = (links_grown M room).each_after in omega arith) (let e = (links_grown M room).each_before in omega arith)));
 }
   where
     other : side_before f (glued_in across) t ≢ t

@@ -1,11 +1,13 @@
 -- What a new face and a gluing do to the lists of a table.
-use Rattle.std.proofs.Common.{◌≡◌, ◌≢◌, ℕ, zero, suc, ◌*◌, ◌/◌, ◌<◌, ◌≤◌, Bool, true, false, cond, eqb, List, length, get_or, set, replicate, Some, inl, inr, sym, refl, ap, ◌∙◌, subst, arith, length-set, get_or-set_other, get_or-set_same, eqb-true}
+use Rattle.std.proofs.Common.{◌≡◌, ◌≢◌, ℕ, zero, suc, ◌+◌, ◌-◌, ◌*◌, ◌/◌, ◌<◌, ◌≤◌, Bool, true, false, cond, eqb, List, [], ◌∷◌, ◌++◌, length, length-append, get_or, set, replicate, Some, inl, inr, sym, refl, ap, ◌∙◌, subst, arith, length-set, get_or-set_other, get_or-set_same, eqb-true}
+use Rattle.std.proofs.lemmas.List.{get_or_append_left, set-append_right}
 use Rattle.std.proofs.lemmas.Bool.{cases_Bool, cond-false, cases_eq}
 use mathlib.Core.Path.{fun_ext}
 use Rattle.drc_base.specs.declared.limits.TheConstants.{MAX_FACES}
 use Rattle.corner_table.specs.Sides.{Side, Place, first, second, third, side, next, prev, number, side_at, Gluing, unglued, glue, IsGluing, IsFree}
 use Rattle.corner_table.specs.Fans.{InFan, here, side_before, side_after, Follows}
-use Rattle.corner_table.specs.Links.{IsLinked, joined, relinked, new_loop}
+use Rattle.corner_table.specs.Links.{IsLinked, joined, relinked, new_loop, grown}
+use Rattle.corner_table.specs.Entries.{with_three}
 use Rattle.corner_table.specs.Table.{free_entry, other_at, glued_in, IsSideTable, IsLinkedTable}
 use Rattle.corner_table.proofs.Places.{face_apart, glue_tells, at_first, at_second, elsewhere}
 use Rattle.corner_table.proofs.Numbers.{number-lt, side_at-number}
@@ -173,14 +175,43 @@ previous_within T x X = let e = T.linked.before_is x X in let n = number-lt (sid
 pub table_grown : {faces : ℕ} {across : List ℕ} → IsSideTable faces across → 3 * suc faces ≤ length across → IsSideTable (suc faces) across
 table_grown {faces} T h = record { limit = T.limit; whole = T.whole; fits = h; gluing = more_faces (suc faces) (omega arith) T.gluing }
 
+-- more room leaves the links as they are
+links_roomier : {f : ℕ} {g : Gluing} {A B : List ℕ} → IsLinked f g A B → length A ≡ 3 * f → length B ≡ 3 * f → IsLinked f g (with_three A 0 0 0) (with_three B 0 0 0)
+links_roomier {f} {g} {A} {B} N a b = record {
+  after_is = λ x X. get_or_append_left A _ 0 (number x) (let n = number-lt x f X.within in omega arith) ∙ N.after_is x X;
+  before_is = λ x X. get_or_append_left B _ 0 (number x) (let n = number-lt x f X.within in omega arith) ∙ N.before_is x X;
+}
+
+length-three : (l : List ℕ) (a b d n : ℕ) → length l ≡ n → length (with_three l a b d) ≡ n + 3
+length-three l a b d n e = let h = length-append l (a ∷ b ∷ d ∷ []) in omega arith
+
+-- the entries of a new face, added or written into the room for them
+set_in : (l m : List ℕ) (n i j v : ℕ) → length l ≡ n → i ≡ n + j → set (l ++ m) i v ≡ l ++ set m j v
+set_in l m n i j v e h = set-append_right l m n i v e (omega arith) ∙ ap (λ (k : ℕ). l ++ set m k v) (let r : i - n ≡ j = omega arith in r)
+
+pub after_added : (f : ℕ) (A B : List ℕ) → length A ≡ 3 * f → with_three A (3 * f + 1) (3 * f + 2) (3 * f) ≡ (new_loop f (grown (A, B))).0
+after_added f A B e =
+    sym (ap (λ (l : List ℕ). set (set l (number (side f second)) (number (side f third))) (number (side f third)) (number (side f first))) (set_in A (0 ∷ 0 ∷ 0 ∷ []) (3 * f) (number (side f first)) 0 (3 * f + 1) e (omega arith))
+    ∙ ap (λ (l : List ℕ). set l (number (side f third)) (number (side f first))) (set_in A ((3 * f + 1) ∷ 0 ∷ 0 ∷ []) (3 * f) (number (side f second)) 1 (3 * f + 2) e (omega arith))
+    ∙ set_in A ((3 * f + 1) ∷ (3 * f + 2) ∷ 0 ∷ []) (3 * f) (number (side f third)) 2 (number (side f first)) e (omega arith)
+    ∙ ap (with_three A (3 * f + 1) (3 * f + 2)) (let r : number (side f first) ≡ 3 * f = omega arith in r))
+
+pub before_added : (f : ℕ) (A B : List ℕ) → length B ≡ 3 * f → with_three B (3 * f + 2) (3 * f) (3 * f + 1) ≡ (new_loop f (grown (A, B))).1
+before_added f A B e =
+    sym (ap (λ (l : List ℕ). set (set l (number (side f third)) (number (side f second))) (number (side f first)) (number (side f third))) (set_in B (0 ∷ 0 ∷ 0 ∷ []) (3 * f) (number (side f second)) 1 (number (side f first)) e (omega arith))
+    ∙ ap (λ (l : List ℕ). set l (number (side f first)) (number (side f third))) (set_in B (0 ∷ number (side f first) ∷ 0 ∷ []) (3 * f) (number (side f third)) 2 (3 * f + 1) e (omega arith))
+    ∙ set_in B (0 ∷ number (side f first) ∷ (3 * f + 1) ∷ []) (3 * f) (number (side f first)) 0 (3 * f + 2) e (omega arith)
+    ∙ ap (λ (n : ℕ). with_three B (3 * f + 2) n (3 * f + 1)) (let r : number (side f first) ≡ 3 * f = omega arith in r))
+
 -- and with its links
 pub links_grown : {faces : ℕ} {across after before : List ℕ} → IsLinkedTable faces across after before → 3 * suc faces ≤ length across →
-    IsLinkedTable (suc faces) across (new_loop faces (after, before)).0 (new_loop faces (after, before)).1
+    IsLinkedTable (suc faces) across (new_loop faces (grown (after, before))).0 (new_loop faces (grown (after, before))).1
 links_grown {faces} {across} {after} {before} T h = record {
   table = table_grown T.table h;
-  after_room = length-set _ _ _ ∙ length-set _ _ _ ∙ length-set _ _ _ ∙ T.after_room;
-  before_room = length-set _ _ _ ∙ length-set _ _ _ ∙ length-set _ _ _ ∙ T.before_room;
-  linked = new_loop_linked faces (glued_in across) after before T.table.gluing T.linked (let e = T.after_room in omega arith) (let e = T.before_room in omega arith);
+  each_after = length-set _ _ _ ∙ length-set _ _ _ ∙ length-set _ _ _ ∙ length-three after 0 0 0 (3 * faces) T.each_after ∙ (omega arith);
+  each_before = length-set _ _ _ ∙ length-set _ _ _ ∙ length-set _ _ _ ∙ length-three before 0 0 0 (3 * faces) T.each_before ∙ (omega arith);
+  linked = new_loop_linked faces (glued_in across) (with_three after 0 0 0) (with_three before 0 0 0) T.table.gluing (links_roomier T.linked T.each_after T.each_before)
+      (let e = length-three after 0 0 0 (3 * faces) T.each_after in omega arith) (let e = length-three before 0 0 0 (3 * faces) T.each_before in omega arith);
 }
 
 abbrev same_lengths : ℕ → List ℕ × List ℕ → Type 0
@@ -225,8 +256,8 @@ links_glued {faces} {across} {now} {after} {before} a b T A B h long same = reco
     fits = (let l = T.table.fits in omega arith);
     gluing = subst (IsGluing faces) (sym same) (glued_is a b T.table.gluing A B h);
   };
-  after_room = (relinked-lengths (length across) _ _ (after, before) (T.after_room, T.before_room)).0 ∙ sym long;
-  before_room = (relinked-lengths (length across) _ _ (after, before) (T.after_room, T.before_room)).1 ∙ sym long;
+  each_after = (relinked-lengths (3 * faces) _ _ (after, before) (T.each_after, T.each_before)).0;
+  each_before = (relinked-lengths (3 * faces) _ _ (after, before) (T.each_after, T.each_before)).1;
   linked = subst (λ (g : Gluing). IsLinked faces g (relinked (number a) (number b) (after, before)).0 (relinked (number a) (number b) (after, before)).1) (sym same)
       (relinked_linked faces (glued_in across) a b after before (record {
         gluing = T.table.gluing;
@@ -234,8 +265,8 @@ links_glued {faces} {across} {now} {after} {before} a b T A B h long same = reco
         second_free = B;
         apart = h;
         linked = T.linked;
-        room_after = (let e = T.after_room in let l = T.table.fits in omega arith);
-        room_before = (let e = T.before_room in let l = T.table.fits in omega arith);
+        room_after = (let e = T.each_after in omega arith);
+        room_before = (let e = T.each_before in omega arith);
       }));
 }
 
@@ -265,11 +296,11 @@ table_empty room h = record {
 }
 
 -- with links, where it has no faces
-pub links_empty : {faces : ℕ} {across after before : List ℕ} → IsSideTable faces across → faces ≡ 0 → length after ≡ length across → length before ≡ length across → IsLinkedTable faces across after before
+pub links_empty : {faces : ℕ} {across after before : List ℕ} → IsSideTable faces across → faces ≡ 0 → length after ≡ 0 → length before ≡ 0 → IsLinkedTable faces across after before
 links_empty T none a b = record {
   table = T;
-  after_room = a;
-  before_room = b;
+  each_after = omega arith;
+  each_before = omega arith;
   linked = record { after_is = λ x X. absurd (let w = X.within in omega arith); before_is = λ x X. absurd (let w = X.within in omega arith) };
 }
 

@@ -8,6 +8,7 @@ pub mod Links
 pub mod Table
 pub mod Ordered
 pub mod Looks
+pub mod Entries
 pub mod Labels
 pub mod Labelling
 pub mod Laws

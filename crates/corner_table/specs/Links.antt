@@ -1,6 +1,7 @@
 -- The boundary kept as links: for each free side the one that follows it and the one before it (loops of sides that are linked forth
 -- and back, after Rossignac 1999).
 use Rattle.std.specs.Prelude.{◌≡◌, ℕ, cond, eqb, List, get_or, set}
+use Rattle.corner_table.specs.Entries.{with_three}
 use Rattle.corner_table.specs.Sides.{Side, side, first, second, third, number, Gluing, IsFree}
 use Rattle.corner_table.specs.Fans.{side_before, side_after}
 
@@ -36,10 +37,15 @@ new_loop f links =
     let z = number (side f third) in
     joined z x (joined y z (joined x y links))
 
--- sides x and y take the place of side t, where its neighbours are next and before. Where it is alone in its loop, the two are the loop
+-- the lists with room for the three sides of a new face
+abbrev pub grown : List ℕ × List ℕ → List ℕ × List ℕ
+grown links = (with_three links.0 0 0 0, with_three links.1 0 0 0)
+
+-- sides x and y, which is linked after x, take the place of side t, where its neighbours are next and before. Where it is alone in its loop,
+-- the two are the loop
 abbrev pub put_for : ℕ → ℕ → ℕ → ℕ → ℕ → List ℕ × List ℕ → List ℕ × List ℕ
 put_for next before t x y links =
-    joined y (cond (eqb next t) x next) (joined (cond (eqb next t) y before) x (joined x y links))
+    joined y (cond (eqb next t) x next) (joined (cond (eqb next t) y before) x links)
 
 -- the same with the neighbours that the links give
 abbrev pub replaced : ℕ → ℕ → ℕ → List ℕ × List ℕ → List ℕ × List ℕ

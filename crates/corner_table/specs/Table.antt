@@ -45,9 +45,9 @@ pub record IsSideTable (faces : ℕ) (across : List ℕ) : Type 0 where
   pub fits : 3 * faces ≤ length across
   pub gluing : IsGluing faces (glued_in across)
 
--- the lists of a table with links fit together: beside the entries the links are those of the boundary
+-- the lists of a table with links fit together: beside the entries stand the links of the boundary, one each for each side of a face
 pub record IsLinkedTable (faces : ℕ) (across after before : List ℕ) : Type 0 where
   pub table : IsSideTable faces across
-  pub after_room : length after ≡ length across
-  pub before_room : length before ≡ length across
+  pub each_after : length after ≡ 3 * faces
+  pub each_before : length before ≡ 3 * faces
   pub linked : IsLinked faces (glued_in across) after before

@@ -25,13 +25,15 @@ pub struct LinkedTable {
 }
 
 impl Model for LinkedTable {
+    ghost use Rattle.std.specs.Prelude.{◌≤◌, length};
     ghost use Rattle.corner_table.specs.Table.{Table, IsLinkedTable};
 
     ghost Value = { Table };
 
     ghost view = { λ t. t.sides };
 
-    ghost invariant = { λ t. IsLinkedTable t.sides.faces t.sides.entries t.after t.before };
+    ghost invariant = { λ t. IsLinkedTable t.sides.faces t.sides.entries t.after.items t.before.items
+        × (length t.sides.entries ≤ t.after.room) × (length t.sides.entries ≤ t.before.room) };
 }
 
 impl Debug for LinkedTable {
@@ -61,8 +63,8 @@ impl LinkedTable {
         let sides = SideTable::with_room(alloc, faces)?;
         // For the prover alone, who knows from here on how many entries there are.
         let _ = sides.face_count();
-        let after = Entries::filled(alloc, 0, 3 * faces as usize)?;
-        let before = Entries::filled(alloc, 0, 3 * faces as usize)?;
+        let after = Entries::with_room(alloc, 3 * faces as usize)?;
+        let before = Entries::with_room(alloc, 3 * faces as usize)?;
         Ok(LinkedTable {
             sides,
             after,
@@ -133,6 +135,7 @@ impl LinkedTable {
         let first = number_of(next_of(glued));
         let second = number_of(previous_of(glued));
         let across = number_of(top);
+        link_face(&mut self.after, &mut self.before, face);
         replace(
             &mut self.after,
             &mut self.before,
@@ -163,14 +166,9 @@ impl LinkedTable {
         let face = self.sides.grow();
         let left = number_of(top);
         let right = number_of(previous);
-        close_up(
-            &mut self.after,
-            &mut self.before,
-            left,
-            right,
-            3 * face,
-            looks,
-        );
+        let open = number_of(Side { face, k: 0 });
+        link_face(&mut self.after, &mut self.before, face);
+        close_up(&mut self.after, &mut self.before, left, right, open, looks);
         self.sides.pair(Side { face, k: 1 }, top);
         self.sides.pair(Side { face, k: 2 }, previous);
         face

@@ -76,9 +76,9 @@ fn entry_of(
 ) -> u32
     requires face { face < most_faces }
     requires places { (k < 3) × (turn < 3) }
-    requires within { 3 * face + 3 ≤ length entries.now }
+    requires within { 3 * face + 3 ≤ length entries.now.items }
     requires look { 0 < looks.old.left }
-    ensures becomes { result ≡ becomes places.now.items entries.now (side face (turned turn (place_of k))) }
+    ensures becomes { result ≡ becomes places.now.items entries.now.items (side face (turned turn (place_of k))) }
     ensures look { looks.new.left + 1 ≡ looks.old.left }
 {
     entry_now(places, entries.at(source_of(face, k, turn), looks))
@@ -95,9 +95,9 @@ pub(crate) fn carried(
 ) -> Result<Vec<u32>, Memory>
     requires rows { IsRenumbering faces rows.now }
     requires few { faces ≤ most_faces }
-    requires fits { 3 * faces ≤ length entries.now }
+    requires fits { 3 * faces ≤ length entries.now.items }
     requires looks { 3 * faces ≤ looks.left }
-    ensures { IfOk result (λ v. AreCarried faces rows.now places.now.items entries.now v.items) }
+    ensures { IfOk result (λ v. AreCarried faces rows.now places.now.items entries.now.items v.items) }
 {
     let mut now = Vec::with_capacity(alloc, 3 * rows.len())?;
     for (face, turn) in rows {

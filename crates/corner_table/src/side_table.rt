@@ -26,9 +26,9 @@ impl Model for SideTable {
 
     ghost Value = { Table };
 
-    ghost view = { λ t. record { faces = t.faces; entries = t.across } };
+    ghost view = { λ t. record { faces = t.faces; entries = t.across.items } };
 
-    ghost invariant = { λ t. IsSideTable t.faces t.across };
+    ghost invariant = { λ t. IsSideTable t.faces t.across.items };
 }
 
 impl Debug for SideTable {

@@ -10,5 +10,5 @@ abbrev pub invariant-loop-face : goal.invariant-loop-face
 invariant-loop-face l = record {
   looks : 3 * (length l.rows) ≤ l.looks.left + 3 * l.face-index;
   long : length l.now.items ≡ 3 * l.face-index;
-  entry : (x : Side) → x.face < l.face-index → get_or l.now.items (number x) free_entry ≡ becomes l.places.items l.entries (carry l.rows x);
+  entry : (x : Side) → x.face < l.face-index → get_or l.now.items (number x) free_entry ≡ becomes l.places.items l.entries.items (carry l.rows x);
 }

@@ -7,7 +7,7 @@ use Rattle.corner_table.proofs.side_table.SideTable.right_of.Goals as goal
 
 pub returns-else-side-clause-within : goal.returns-else-side-clause-within
 returns-else-side-clause-within c =
-    let is = c.at-side.ensures.side ∙ ap (λ (n : ℕ). get_or c.self.inside.across n free_entry) c.previous_number.ensures.number in
+    let is = c.at-side.ensures.side ∙ ap (λ (n : ℕ). get_or c.self.inside.across.items n free_entry) c.previous_number.ensures.number in
     let w = entry_within c.self.invariant (prev (side_at c.args.corner)) c.at-side.result is c.if-side.false in
     let f = c.previous_number-else-side.ensures.face in
     rw (← c.self.view_is) (omega arith)
