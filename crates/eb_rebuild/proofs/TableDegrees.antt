@@ -2,7 +2,7 @@
 use Rattle.std.proofs.Common.{◌≡◌, ◌≢◌, ℕ, suc, ◌+◌, ◌*◌, ◌<◌, ◌≤◌, min, Bool, true, ◌==◌, cond, is_none, IsTrue, OnOk, Some, false, replicate, List, [], ◌∷◌, ◌++◌, length, get_or, map, None, Result, Ok, Err, inl, inr, sym, refl, ap, ◌∙◌, subst, arith, length-append, eq-eqb}
 use Rattle.std.specs.List.{list_any}
 use Rattle.std.proofs.lemmas.Bool.{cases_Bool, cond-true, cond-false}
-use Rattle.std.proofs.lemmas.List.{length-map, length-replicate}
+use Rattle.std.proofs.lemmas.List.{get_or_append_left, length-map, length-replicate}
 use Rattle.drc_base.specs.declared.faults.Fault.{Fault}
 use Rattle.drc_base.specs.declared.faults.Refusal.{Refusal}
 use Rattle.drc_base.specs.declared.limits.TheConstants.{MAX_FACES}
@@ -10,14 +10,14 @@ use Rattle.corner_table.specs.Sides.{Side, first, second, third, side, side_at, 
 use Rattle.corner_table.specs.Fans.{Follows}
 use Rattle.corner_table.specs.declared.symbols.Event.{Event}
 use Rattle.corner_table.specs.Table.{Table, gluing_of, room_of, IsFreeIn, free_entry, other_at}
-use Rattle.corner_table.proofs.Numbers.{number-side_at, face-lt}
+use Rattle.corner_table.proofs.Numbers.{number-lt, number-side_at, face-lt}
 use Rattle.corner_table.proofs.Places.{option_tells}
 use Rattle.corner_table.proofs.TableSteps.{get_or-replicate}
 use Rattle.eb_rebuild.specs.declared.beside.Beside.{Beside}
 use Rattle.eb_rebuild.specs.Beside.{glued_place, new_triangle}
 use Rattle.eb_rebuild.specs.Degree.{degree, top_degree}
 use Rattle.eb_rebuild.specs.Kept.{StackValue, SplitsValue, kept_in, AreSidesBelow, first_side}
-use Rattle.eb_rebuild.specs.KeptDegrees.{KeepsDegrees, after_end, after_beside, after_tip, after_split}
+use Rattle.eb_rebuild.specs.KeptDegrees.{KeepsDegrees, with_room, after_end, after_beside, after_tip, after_split}
 use Rattle.eb_rebuild.specs.Linked.{LinkValue, IsLinkState, state_of, is_top_free, is_live, Does, refused_by}
 use Rattle.eb_rebuild.specs.Machine.{State, Plan, start}
 use Rattle.eb_rebuild.specs.Named.{Triangle, Row, renamed, renamed_triangle}
@@ -70,6 +70,19 @@ degree_small {table} W few s S =
     let b = count_small (name_of W.triangles (next s)) W.triangles in
     let l = W.long in
     omega arith
+
+-- places for the sides of a face more change no degree
+pub long_room : (faces : ℕ) (ds : List ℕ) → length ds ≡ 3 * faces → length (with_room ds) ≡ 3 * suc faces
+long_room faces ds e = let h = length-append ds (2 ∷ 2 ∷ 2 ∷ []) in omega arith
+
+pub keeps_room : {table : Table} {made : ℕ} {ds : List ℕ} → KeepsDegrees table made ds → length ds ≡ 3 * table.faces → KeepsDegrees table made (with_room ds)
+keeps_room {table} {made} {ds} W e = record {
+  triangles = W.triangles;
+  rows = W.rows;
+  long = W.long;
+  names = W.names;
+  kept = λ s S. get_or_append_left ds _ 0 (number s) (let n = number-lt s table.faces S.within in omega arith) ∙ W.kept s S;
+}
 
 -- nothing is built
 pub keeps_start : (table : Table) (ds : List ℕ) → table.faces ≡ 0 → gluing_of table ≡ unglued → KeepsDegrees table 0 ds

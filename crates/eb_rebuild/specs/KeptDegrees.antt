@@ -1,6 +1,6 @@
 -- The degrees that a rebuilding by links keeps: a number for each free side, the degree of the vertex at which it starts, and what each
 -- symbol changes. Sides are given by their numbers. These are the code's own tables, from no source; what a degree is stands in Degree.
-use Rattle.std.specs.Prelude.{◌≡◌, ℕ, ◌+◌, ◌*◌, List, length, get_or, set}
+use Rattle.std.specs.Prelude.{◌≡◌, ℕ, ◌+◌, ◌*◌, List, [], ◌∷◌, ◌++◌, length, get_or, set}
 use Rattle.corner_table.specs.Sides.{Side, side, next, prev, number}
 use Rattle.corner_table.specs.Table.{Table, gluing_of, IsFreeIn}
 use Rattle.eb_rebuild.specs.declared.beside.Beside.{Beside}
@@ -8,6 +8,10 @@ use Rattle.eb_rebuild.specs.Beside.{glued_place}
 use Rattle.eb_rebuild.specs.Degree.{degree}
 use Rattle.eb_rebuild.specs.Named.{Triangle, Row}
 use Rattle.eb_rebuild.specs.Shown.{AreNames}
+
+-- the list with places for the sides of a face more
+abbrev pub with_room : List ℕ → List ℕ
+with_room degrees = degrees ++ (2 ∷ 2 ∷ 2 ∷ [])
 
 -- the degree at a side rises
 abbrev pub degree_raised : ℕ → ℕ → List ℕ → List ℕ

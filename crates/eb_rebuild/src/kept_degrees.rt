@@ -7,9 +7,9 @@
 //! side follows itself, both its ends are one vertex, and the degree rises twice: so what follows is
 //! raised first, and read after.
 
-ghost use Rattle.std.specs.Prelude.{◌≡◌, ℕ, ◌+◌, ◌*◌, ◌^◌, ◌<◌, ◌≤◌, get_or, set, vec_len, IfOk};
+ghost use Rattle.std.specs.Prelude.{◌≡◌, ℕ, ◌+◌, ◌*◌, ◌^◌, ◌<◌, ◌≤◌, get_or, set, vec_len, vec_capacity, IfOk};
 ghost use Rattle.drc_base.specs.declared.limits.TheConstants.{MAX_FACES as most_faces};
-ghost use Rattle.eb_rebuild.specs.KeptDegrees.{degree_raised, after_end, after_beside, after_tip, after_split};
+ghost use Rattle.eb_rebuild.specs.KeptDegrees.{degree_raised, with_room, after_end, after_beside, after_tip, after_split};
 
 use crate::beside::Beside;
 use drc_base::Memory;
@@ -21,9 +21,22 @@ const OF_ONE: u32 = 2;
 /// No degree yet, and room for the sides of `faces` faces.
 pub(crate) fn no_degrees(alloc: Global, faces: u32) -> Result<Vec<u32>, Memory>
     requires { faces ≤ most_faces }
-    ensures { IfOk result (λ v. vec_len v ≡ 3 * faces) }
+    ensures none { IfOk result (λ v. vec_len v ≡ 0) }
+    ensures room { IfOk result (λ v. vec_capacity v ≡ 3 * faces) }
 {
-    Ok(vec![in alloc; 0; 3 * faces as usize]?)
+    Ok(Vec::with_capacity(alloc, 3 * faces as usize)?)
+}
+
+/// Adds places for the sides of a face more.
+pub(crate) fn add_places(degrees: &mut Vec<u32>)
+    requires { vec_len degrees.old + 3 ≤ vec_capacity degrees.old }
+    ensures len { vec_len degrees.new ≡ vec_len degrees.old + 3 }
+    ensures capacity { vec_capacity degrees.new ≡ vec_capacity degrees.old }
+    ensures items { degrees.new.items ≡ with_room degrees.old.items }
+{
+    degrees.push_reserved(OF_ONE);
+    degrees.push_reserved(OF_ONE);
+    degrees.push_reserved(OF_ONE);
 }
 
 /// The degree kept at a side.
@@ -38,6 +51,7 @@ pub(crate) fn degree_at(degrees: &Vec<u32>, side: u32) -> u32
 fn keep(degrees: &mut Vec<u32>, side: u32, degree: u32)
     requires { side < vec_len degrees.old }
     ensures len { vec_len degrees.new ≡ vec_len degrees.old }
+    ensures capacity { vec_capacity degrees.new ≡ vec_capacity degrees.old }
     ensures items { degrees.new.items ≡ set degrees.old.items side degree }
 {
     degrees[side as usize] = degree;
@@ -48,6 +62,7 @@ fn raise(degrees: &mut Vec<u32>, side: u32, more: u32)
     requires room { side < vec_len degrees.old }
     requires small { get_or degrees.old.items side 0 + more < 2 ^ 32 }
     ensures len { vec_len degrees.new ≡ vec_len degrees.old }
+    ensures capacity { vec_capacity degrees.new ≡ vec_capacity degrees.old }
     ensures items { degrees.new.items ≡ degree_raised side more degrees.old.items }
 {
     let degree = degree_at(degrees, side) + more;
@@ -60,6 +75,7 @@ pub(crate) fn end_degrees(degrees: &mut Vec<u32>, face: u32)
     requires limit { face < most_faces }
     requires room { 3 * face + 3 ≤ vec_len degrees.old }
     ensures len { vec_len degrees.new ≡ vec_len degrees.old }
+    ensures capacity { vec_capacity degrees.new ≡ vec_capacity degrees.old }
     ensures items { degrees.new.items ≡ after_end face degrees.old.items }
 {
     keep(degrees, 3 * face, OF_ONE);
@@ -78,6 +94,7 @@ pub(crate) fn beside_degrees(degrees: &mut Vec<u32>, beside: Beside, face: u32, 
     requires small { get_or degrees.old.items a 0 ≤ 3 * most_faces }
     requires small_next { get_or degrees.old.items next 0 ≤ 3 * most_faces }
     ensures len { vec_len degrees.new ≡ vec_len degrees.old }
+    ensures capacity { vec_capacity degrees.new ≡ vec_capacity degrees.old }
     ensures items { degrees.new.items ≡ after_beside beside face a next degrees.old.items }
 {
     raise(degrees, next, 1);
@@ -96,6 +113,7 @@ pub(crate) fn tip_degrees(degrees: &mut Vec<u32>, face: u32, t: u32, next: u32)
     requires small { get_or degrees.old.items t 0 ≤ 3 * most_faces }
     requires small_next { get_or degrees.old.items next 0 ≤ 3 * most_faces }
     ensures len { vec_len degrees.new ≡ vec_len degrees.old }
+    ensures capacity { vec_capacity degrees.new ≡ vec_capacity degrees.old }
     ensures items { degrees.new.items ≡ after_tip face t next degrees.old.items }
 {
     raise(degrees, next, 1);
@@ -125,6 +143,7 @@ pub(crate) fn split_degrees(
     requires small_third { get_or degrees.old.items next_b 0 ≤ 3 * most_faces }
     requires small_fourth { get_or degrees.old.items next_a 0 ≤ 3 * most_faces }
     ensures len { vec_len degrees.new ≡ vec_len degrees.old }
+    ensures capacity { vec_capacity degrees.new ≡ vec_capacity degrees.old }
     ensures items { degrees.new.items ≡ after_split face b a next_b next_a degrees.old.items }
 {
     raise(degrees, next_b, 1);

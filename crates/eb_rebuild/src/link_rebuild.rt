@@ -16,7 +16,7 @@ use crate::built::Built;
 use crate::corner_names::CornerNames;
 use crate::degenerate::first_equal;
 use crate::kept_degrees::{
-    beside_degrees, degree_at, end_degrees, no_degrees, split_degrees, tip_degrees,
+    add_places, beside_degrees, degree_at, end_degrees, no_degrees, split_degrees, tip_degrees,
 };
 use crate::rebuild::Rebuild;
 use crate::side_stack::SideStack;
@@ -77,7 +77,7 @@ pub struct LinkRebuild {
 }
 
 impl Model for LinkRebuild {
-    ghost use Rattle.std.specs.Prelude.{◌≡◌, ◌*◌, ◌≤◌, vec_len};
+    ghost use Rattle.std.specs.Prelude.{◌≡◌, ◌*◌, ◌≤◌, vec_len, vec_capacity};
     ghost use Rattle.corner_table.specs.Table.{room_of, gluing_of};
     ghost use Rattle.eb_rebuild.specs.CornerNames.{KeepsNames};
     ghost use Rattle.eb_rebuild.specs.KeptDegrees.{KeepsDegrees};
@@ -101,7 +101,7 @@ impl Model for LinkRebuild {
       splits = r.splits;
       made = r.made;
       closes = r.closes;
-    }) × (vec_len r.degrees ≡ 3 * room_of r.table) × (r.closes ≡ 0 → KeepsDegrees r.table r.made r.degrees.items)
+    }) × ((vec_len r.degrees ≡ 3 * r.table.faces) × (3 * room_of r.table ≤ vec_capacity r.degrees)) × (r.closes ≡ 0 → KeepsDegrees r.table r.made r.degrees.items)
         × KeepsNames r.table r.made r.names };
 }
 
@@ -158,6 +158,7 @@ impl LinkRebuild {
         ensures cost { steps.new ≤ steps.old + 1 }
     {
         let face = self.table.add_face(steps);
+        add_places(&mut self.degrees);
         end_degrees(&mut self.degrees, face);
         self.names.add_end(self.made);
         self.stack.push(3 * face);
@@ -186,6 +187,7 @@ impl LinkRebuild {
         let next = self.table.next_open(top, steps);
         let k = beside.glued();
         let face = self.table.add_beside(k, top, steps);
+        add_places(&mut self.degrees);
         beside_degrees(&mut self.degrees, beside, face, a, number_of(next));
         self.names.add_beside(beside, a, self.made);
         self.stack.push(3 * face);
@@ -220,6 +222,7 @@ impl LinkRebuild {
         let next = self.table.next_open(top, steps);
         let face = self.table.add_tip(top, before, steps);
         let tip = number_of(before);
+        add_places(&mut self.degrees);
         tip_degrees(&mut self.degrees, face, tip, number_of(next));
         self.names.add_tip(a, tip);
         self.stack.push(3 * face);
@@ -289,6 +292,7 @@ impl LinkRebuild {
         self.table.glue(Side { face, k: 1 }, top, steps);
         let after_top = number_of(next_top);
         let after_second = number_of(next_second);
+        add_places(&mut self.degrees);
         split_degrees(&mut self.degrees, face, b, a, after_top, after_second);
         self.names.add_split(b, a);
         self.stack.push(3 * face);
@@ -346,6 +350,7 @@ impl LinkRebuild {
         self.table.glue(Side { face, k: 0 }, top, steps);
         self.table.glue(Side { face, k: 1 }, second, steps);
         self.table.glue(Side { face, k: 2 }, third, steps);
+        add_places(&mut self.degrees);
         self.names.fill(a, number_of(second));
         self.closes += 1;
         Ok(())

@@ -147,7 +147,7 @@ invariant_of-self-2 g c =
           as_wide more refl c.pop.ensures.room refl refl (add-one _)
           (subst (λ (n : ℕ). AreSidesBelow n c.pop.new.self.sides) (sym (more ∙ add-one _)) (sides_below_more _ _ below.1))
           (subst (λ (n : ℕ). AreKeptBelow n c.self.inside.splits.kept) (sym (more ∙ add-one _)) (kept_below_more _ _ c.self.invariant.0.kept)),
-      c.self.invariant.1 ∙ ap (λ (n : ℕ). 3 * n) (sym as_wide),
+      ((let b = c.add_places.ensures.len in let e = c.self.invariant.1.0 in omega arith), (let b = c.add_places.ensures.capacity in let e = c.self.invariant.1.1 in omega arith)),
       λ e. absurd (omega arith),
       names_fill c.self.inside.table c.glue-3.new.self c.self.inside.made c.self.inside.names c.fill.new.self A B D c.self.invariant.3 (more ∙ add-one _) glued as_wide free c.prev_open-second.ensures.free c.prev_open-third.ensures.free
           (λ e. tells.0 (e ∙ sym c.side_with-top.ensures.side)) (λ e. tells.1 (e ∙ sym c.side_with-top.ensures.side)) third_apart
@@ -226,3 +226,15 @@ fill-requires-clause-corners g c =
     let low : c.self.inside.table.faces < c.self.inside.faces = omega arith in
     let room = subst (λ (v : LinkValue). v.table.faces < v.plan.faces → v.table.faces < room_of v.table) (sym c.self.view_is) c.requires.room low in
     names_corners c.self.invariant.3 room
+
+pub add_places-requires : goal.add_places-requires
+add_places-requires g c =
+    let count = c.face_count-built.ensures.count in
+    let fits = c.face_count-built.ensures.room in
+    let ne = c.if-built-self.false in
+    let wide = c.self.invariant.0.room in
+    let low : c.self.inside.table.faces < c.self.inside.faces = omega arith in
+    let room = subst (λ (v : LinkValue). v.table.faces < v.plan.faces → v.table.faces < room_of v.table) (sym c.self.view_is) c.requires.room low in
+    let long = c.self.invariant.1.0 in
+    let much = c.self.invariant.1.1 in
+    omega arith

@@ -1,5 +1,5 @@
 -- A face more, glued to the top side, its side 0 on top, and its events noted.
-use Rattle.std.proofs.Common.{◌≡◌, ℕ, suc, ◌+◌, ◌*◌, ◌<◌, ◌∷◌, length, sym, refl, ap, ◌∙◌, subst, arith, add-one}
+use Rattle.std.proofs.Common.{◌≡◌, ℕ, suc, ◌+◌, ◌*◌, ◌<◌, ◌∷◌, List, length, sym, refl, ap, ◌∙◌, subst, arith, add-one}
 use Rattle.corner_table.specs.Sides.{Side, Place, side, side_at, first, place_of, glue}
 use Rattle.corner_table.specs.Table.{side_of, gluing_of, room_of}
 use Rattle.corner_table.specs.Fans.{Follows}
@@ -7,9 +7,9 @@ use Rattle.corner_table.proofs.Numbers.{number-side_at}
 use Rattle.eb_rebuild.specs.Beside.{glued_place}
 use Rattle.eb_rebuild.specs.Linked.{LinkValue, state_of}
 use Rattle.eb_rebuild.specs.Kept.{AreKeptBelow}
-use Rattle.eb_rebuild.specs.KeptDegrees.{KeepsDegrees, after_beside}
+use Rattle.eb_rebuild.specs.KeptDegrees.{KeepsDegrees, with_room, after_beside}
 use Rattle.eb_rebuild.proofs.Linking.{link_grown, beside_does, first_apart, Taken, taken_free}
-use Rattle.eb_rebuild.proofs.TableDegrees.{keeps_beside, small_at, live_top}
+use Rattle.eb_rebuild.proofs.TableDegrees.{keeps_room, long_room, keeps_beside, small_at, live_top}
 use Rattle.eb_rebuild.proofs.Steps.{beside_no_top}
 use Rattle.eb_rebuild.proofs.CornersNamed.{names_beside, names_corners, names_vertices, has_face, is_real}
 use Rattle.eb_rebuild.proofs.link_rebuild.LinkRebuild.take_beside.Goals as goal
@@ -24,10 +24,10 @@ invariant_of-self g c =
     let T : Taken c.args.self.now c.take_side.new.self value c.in-Ok.a = record { rest = c.take_side.ensures.rest; view = c.self.view_is; sides = taken.0; free = taken.1; below = taken.2 } in
     let whole = c.self.view_is ∙ c.take_side.ensures.rest in
     let more : value.table.faces < value.plan.symbols = subst (λ (v : LinkValue). v.table.faces < v.plan.symbols) (sym whole) c.requires.more in
-    let W = c.self.invariant.2 (ap (λ (v : LinkValue). v.closes) whole ∙ c.requires.unclosed) in
+    let W = keeps_room (c.self.invariant.2 (ap (λ (v : LinkValue). v.closes) whole ∙ c.requires.unclosed)) (let n = c.self.inside.degrees.ok.0 in let e = c.self.invariant.1.0 in omega arith) in
     let F = c.add_beside-face.ensures.face in
     let long = c.self.inside.degrees.ok.0 in
-    let room = c.self.invariant.1 in
+    let room = long_room c.self.inside.table.faces c.self.inside.degrees.items (let n = c.self.inside.degrees.ok.0 in let e = c.self.invariant.1.0 in omega arith) in
     let wide = subst (λ (v : LinkValue). v.table.faces < room_of v.table) (sym whole) c.requires.room in
     let as_wide : room_of c.add_beside-face.new.self ≡ room_of c.self.inside.table = c.add_beside-face.ensures.room in
     let faces = c.add_beside-face.ensures.faces ∙ add-one _ in
@@ -36,8 +36,8 @@ invariant_of-self g c =
     ∙ ap (λ (k : Place). glue (side c.self.inside.table.faces k) (side_of c.side_with-top.result) (gluing_of c.self.inside.table)) c.glued-k.ensures.place
     ∙ ap (λ (x : Side). glue (side c.self.inside.table.faces (glued_place c.args.beside)) x (gluing_of c.self.inside.table)) c.side_with-top.ensures.side in
     let follows = subst (λ (x : Side). Follows c.self.inside.table.faces (gluing_of c.self.inside.table) x (side_of c.next_open-next.result)) c.side_with-top.ensures.side c.next_open-next.ensures.follows in
-    let items = c.beside_degrees.ensures.items ∙ ap (λ (n : ℕ). after_beside c.args.beside n c.in-Ok.a c.number_of.result c.self.inside.degrees.items) F
-    ∙ ap (λ (n : ℕ). after_beside c.args.beside c.self.inside.table.faces c.in-Ok.a n c.self.inside.degrees.items) c.number_of.ensures.number in (
+    let items = c.beside_degrees.ensures.items ∙ ap (λ (l : List ℕ). after_beside c.args.beside c.add_beside-face.result c.in-Ok.a c.number_of.result l) c.add_places.ensures.items ∙ ap (λ (n : ℕ). after_beside c.args.beside n c.in-Ok.a c.number_of.result (with_room c.self.inside.degrees.items)) F
+    ∙ ap (λ (n : ℕ). after_beside c.args.beside c.self.inside.table.faces c.in-Ok.a n (with_room c.self.inside.degrees.items)) c.number_of.ensures.number in (
       link_grown c.self.invariant.0 (record {
         plan = refl;
         more = more;
@@ -53,9 +53,9 @@ invariant_of-self g c =
         made = omega arith;
         closes = refl;
       }),
-      c.beside_degrees.ensures.len ∙ c.self.invariant.1 ∙ ap (λ (n : ℕ). 3 * n) (sym as_wide),
+      ((let a = c.beside_degrees.ensures.len in let b = c.add_places.ensures.len in let e = c.self.invariant.1.0 in let f = c.add_beside-face.ensures.faces in omega arith), (let a = c.beside_degrees.ensures.capacity in let b = c.add_places.ensures.capacity in let e = c.self.invariant.1.1 in omega arith)),
       λ e. subst (KeepsDegrees c.add_beside-face.new.self (c.self.inside.made + 1)) (sym items)
-          (keeps_beside c.args.beside c.self.inside.table c.add_beside-face.new.self c.self.inside.made c.self.inside.degrees.items c.in-Ok.a (side_of c.next_open-next.result) W c.self.invariant.0.made faces glued (taken_free T) follows (omega arith)),
+          (keeps_beside c.args.beside c.self.inside.table c.add_beside-face.new.self c.self.inside.made (with_room c.self.inside.degrees.items) c.in-Ok.a (side_of c.next_open-next.result) W c.self.invariant.0.made faces glued (taken_free T) follows (omega arith)),
       names_beside c.args.beside c.self.inside.table c.add_beside-face.new.self c.self.inside.made c.self.inside.names c.add_beside.new.self (side_at c.in-Ok.a) c.self.invariant.3 faces glued as_wide (taken_free T)
           c.add_beside.ensures.names c.add_beside.ensures.up c.add_beside.ensures.room,
     )
@@ -90,8 +90,8 @@ beside_degrees-requires-clause-small g c =
     let T : Taken c.args.self.now c.take_side.new.self value c.in-Ok.a = record { rest = c.take_side.ensures.rest; view = c.self.view_is; sides = taken.0; free = taken.1; below = taken.2 } in
     let whole = c.self.view_is ∙ c.take_side.ensures.rest in
     let more : value.table.faces < value.plan.symbols = subst (λ (v : LinkValue). v.table.faces < v.plan.symbols) (sym whole) c.requires.more in
-    let W = c.self.invariant.2 (ap (λ (v : LinkValue). v.closes) whole ∙ c.requires.unclosed) in
-    small_at {v = value} c.self.invariant.0 more W (side_at c.in-Ok.a) c.in-Ok.a (sym (number-side_at c.in-Ok.a)) (taken_free T)
+    let W = keeps_room (c.self.invariant.2 (ap (λ (v : LinkValue). v.closes) whole ∙ c.requires.unclosed)) (let n = c.self.inside.degrees.ok.0 in let e = c.self.invariant.1.0 in omega arith) in
+    rw c.add_places.ensures.items (small_at {v = value} c.self.invariant.0 more W (side_at c.in-Ok.a) c.in-Ok.a (sym (number-side_at c.in-Ok.a)) (taken_free T))
 
 pub beside_degrees-requires-clause-small_next : goal.beside_degrees-requires-clause-small_next
 beside_degrees-requires-clause-small_next g c =
@@ -100,8 +100,8 @@ beside_degrees-requires-clause-small_next g c =
     let T : Taken c.args.self.now c.take_side.new.self value c.in-Ok.a = record { rest = c.take_side.ensures.rest; view = c.self.view_is; sides = taken.0; free = taken.1; below = taken.2 } in
     let whole = c.self.view_is ∙ c.take_side.ensures.rest in
     let more : value.table.faces < value.plan.symbols = subst (λ (v : LinkValue). v.table.faces < v.plan.symbols) (sym whole) c.requires.more in
-    let W = c.self.invariant.2 (ap (λ (v : LinkValue). v.closes) whole ∙ c.requires.unclosed) in
-    small_at {v = value} c.self.invariant.0 more W (side_of c.next_open-next.result) c.number_of.result c.number_of.ensures.number c.next_open-next.ensures.follows.free
+    let W = keeps_room (c.self.invariant.2 (ap (λ (v : LinkValue). v.closes) whole ∙ c.requires.unclosed)) (let n = c.self.inside.degrees.ok.0 in let e = c.self.invariant.1.0 in omega arith) in
+    rw c.add_places.ensures.items (small_at {v = value} c.self.invariant.0 more W (side_of c.next_open-next.result) c.number_of.result c.number_of.ensures.number c.next_open-next.ensures.follows.free)
 
 pub returns-clause-live : goal.returns-clause-live
 returns-clause-live g c =

@@ -4,23 +4,23 @@ use Rattle.corner_table.specs.Sides.{side_at, first}
 use Rattle.corner_table.specs.Table.{glued_in, room_of}
 use Rattle.eb_rebuild.specs.Linked.{LinkValue}
 use Rattle.eb_rebuild.specs.Kept.{AreKeptBelow}
-use Rattle.eb_rebuild.specs.KeptDegrees.{KeepsDegrees, after_end}
+use Rattle.eb_rebuild.specs.KeptDegrees.{KeepsDegrees, with_room, after_end}
 use Rattle.eb_rebuild.proofs.Steps.{same_state, end_steps, end_refused}
 use Rattle.eb_rebuild.proofs.Linking.{link_grown, noted_does, side_at_first}
-use Rattle.eb_rebuild.proofs.TableDegrees.{keeps_end, live_top}
+use Rattle.eb_rebuild.proofs.TableDegrees.{keeps_room, long_room, keeps_end, live_top}
 use Rattle.eb_rebuild.proofs.CornersNamed.{names_end, names_corners, names_vertices}
 use Rattle.eb_rebuild.proofs.link_rebuild.LinkRebuild.take_end.Goals as goal
 
 pub invariant_of-self : goal.invariant_of-self
 invariant_of-self g c =
     let more = subst (λ (v : LinkValue). v.table.faces < v.plan.symbols) (sym c.self.view_is) c.requires.more in
-    let W = c.self.invariant.2 (ap (λ (v : LinkValue). v.closes) c.self.view_is ∙ c.requires.unclosed) in
+    let W = keeps_room (c.self.invariant.2 (ap (λ (v : LinkValue). v.closes) c.self.view_is ∙ c.requires.unclosed)) (let n = c.self.inside.degrees.ok.0 in let e = c.self.invariant.1.0 in omega arith) in
     let F = c.add_face-face.ensures.face in
     let long = c.self.inside.degrees.ok.0 in
-    let room = c.self.invariant.1 in
+    let room = long_room c.self.inside.table.faces c.self.inside.degrees.items (let n = c.self.inside.degrees.ok.0 in let e = c.self.invariant.1.0 in omega arith) in
     let wide = subst (λ (v : LinkValue). v.table.faces < room_of v.table) (sym c.self.view_is) c.requires.room in
     let as_wide : room_of c.add_face-face.new.self ≡ room_of c.self.inside.table = ap (λ (l : List ℕ). length l / 3) c.add_face-face.ensures.entries in
-    let items = c.end_degrees.ensures.items ∙ ap (λ (n : ℕ). after_end n c.self.inside.degrees.items) F in (
+    let items = c.end_degrees.ensures.items ∙ ap (λ (l : List ℕ). after_end c.add_face-face.result l) c.add_places.ensures.items ∙ ap (λ (n : ℕ). after_end n (with_room c.self.inside.degrees.items)) F in (
       link_grown c.self.invariant.0 (record {
         plan = refl;
         more = more;
@@ -36,9 +36,9 @@ invariant_of-self g c =
         made = omega arith;
         closes = refl;
       }),
-      c.end_degrees.ensures.len ∙ c.self.invariant.1 ∙ ap (λ (n : ℕ). 3 * n) (sym as_wide),
+      ((let a = c.end_degrees.ensures.len in let b = c.add_places.ensures.len in let e = c.self.invariant.1.0 in let f = c.add_face-face.ensures.faces in omega arith), (let a = c.end_degrees.ensures.capacity in let b = c.add_places.ensures.capacity in let e = c.self.invariant.1.1 in omega arith)),
       λ e. subst (KeepsDegrees c.add_face-face.new.self (c.self.inside.made + 3)) (sym items)
-          (keeps_end c.self.inside.table c.add_face-face.new.self c.self.inside.made c.self.inside.degrees.items W c.self.invariant.0.made (c.add_face-face.ensures.faces ∙ add-one _) (ap glued_in c.add_face-face.ensures.entries) (omega arith)),
+          (keeps_end c.self.inside.table c.add_face-face.new.self c.self.inside.made (with_room c.self.inside.degrees.items) W c.self.invariant.0.made (c.add_face-face.ensures.faces ∙ add-one _) (ap glued_in c.add_face-face.ensures.entries) (omega arith)),
       names_end c.self.inside.table c.add_face-face.new.self c.self.inside.made c.self.inside.names c.add_end.new.self c.self.invariant.3 (c.add_face-face.ensures.faces ∙ add-one _) (ap glued_in c.add_face-face.ensures.entries) as_wide
           c.add_end.ensures.names c.add_end.ensures.up c.add_end.ensures.room,
     )

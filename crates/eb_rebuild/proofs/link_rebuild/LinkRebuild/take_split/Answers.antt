@@ -5,12 +5,12 @@ use Rattle.corner_table.specs.Fans.{side_before, Follows}
 use Rattle.corner_table.specs.Table.{side_of, glued_in, gluing_of, room_of}
 use Rattle.corner_table.proofs.Places.{same-true, same-false, face_apart}
 use Rattle.corner_table.proofs.Numbers.{number-side_at}
-use Rattle.eb_rebuild.specs.KeptDegrees.{KeepsDegrees, after_split}
+use Rattle.eb_rebuild.specs.KeptDegrees.{KeepsDegrees, with_room, after_split}
 use Rattle.eb_rebuild.specs.Linked.{LinkValue, state_of}
 use Rattle.eb_rebuild.proofs.Steps.{split_no_top}
 use Rattle.eb_rebuild.proofs.Noting.{kept_below_more}
 use Rattle.eb_rebuild.proofs.Linking.{link_grown, split_does, split_no_second_does, split_one_side_does, split_one_point_does, still_free, free_grown, first_is_free, second_is_free, TakenTwo}
-use Rattle.eb_rebuild.proofs.TableDegrees.{keeps_split, small_at, live_top}
+use Rattle.eb_rebuild.proofs.TableDegrees.{keeps_room, long_room, keeps_split, small_at, live_top}
 use Rattle.eb_rebuild.proofs.CornersNamed.{names_split, names_corners, has_face, is_real, start_below, end_below}
 use Rattle.eb_rebuild.proofs.link_rebuild.LinkRebuild.take_split.Goals as goal
 
@@ -110,10 +110,10 @@ invariant_of-self g c =
     let whole = c.self.view_is ∙ c.take_second.ensures.rest in
     let more : value.table.faces < value.plan.symbols =
     subst (λ (v : LinkValue). v.table.faces < v.plan.symbols) (sym whole) (subst (λ (v : LinkValue). v.table.faces < v.plan.symbols) (sym c.take_side.ensures.rest) c.requires.more) in
-    let W = c.self.invariant.2 (ap (λ (v : LinkValue). v.closes) whole ∙ ap (λ (v : LinkValue). v.closes) c.take_side.ensures.rest ∙ c.requires.unclosed) in
+    let W = keeps_room (c.self.invariant.2 (ap (λ (v : LinkValue). v.closes) whole ∙ ap (λ (v : LinkValue). v.closes) c.take_side.ensures.rest ∙ c.requires.unclosed)) (let n = c.self.inside.degrees.ok.0 in let e = c.self.invariant.1.0 in omega arith) in
     let F = c.add_face-face.ensures.face in
     let long = c.self.inside.degrees.ok.0 in
-    let room = c.self.invariant.1 in
+    let room = long_room c.self.inside.table.faces c.self.inside.degrees.items (let n = c.self.inside.degrees.ok.0 in let e = c.self.invariant.1.0 in omega arith) in
     let wide = subst (λ (v : LinkValue). v.table.faces < room_of v.table) (sym whole) (subst (λ (v : LinkValue). v.table.faces < room_of v.table) (sym c.take_side.ensures.rest) c.requires.room) in
     let as_wide : room_of c.glue-2.new.self ≡ room_of c.self.inside.table = c.glue-2.ensures.room ∙ c.glue.ensures.room ∙ ap (λ (l : List ℕ). length l / 3) c.add_face-face.ensures.entries in
     let b = c.in-Ok.b in
@@ -121,7 +121,7 @@ invariant_of-self g c =
     let nb = side_of c.next_open-next_top.result in
     let na = side_of c.next_open-next_second.result in
     let f = c.self.inside.table.faces in
-    let ds = c.self.inside.degrees.items in
+    let ds = (with_room c.self.inside.degrees.items) in
     let faces = c.glue-2.ensures.faces ∙ c.glue.ensures.faces ∙ c.add_face-face.ensures.faces ∙ add-one _ in
     let glued = c.glue-2.ensures.glued ∙ ap (glue (side c.add_face-face.result second) (side_of c.side_with-top.result)) (c.glue.ensures.glued ∙ ap (λ (l : List ℕ). glue (side c.add_face-face.result third) (side_of c.side_with-second.result) (glued_in l)) c.add_face-face.ensures.entries)
     ∙ ap (λ (n : ℕ). glue (side n second) (side_of c.side_with-top.result) (glue (side n third) (side_of c.side_with-second.result) (gluing_of c.self.inside.table))) F
@@ -129,7 +129,7 @@ invariant_of-self g c =
     ∙ ap (λ (x : Side). glue (side f second) (side_at b) (glue (side f third) x (gluing_of c.self.inside.table))) c.side_with-second.ensures.side in
     let after_b = subst (λ (x : Side). Follows f (gluing_of c.self.inside.table) x nb) c.side_with-top.ensures.side c.next_open-next_top.ensures.follows in
     let after_a = subst (λ (x : Side). Follows f (gluing_of c.self.inside.table) x na) c.side_with-second.ensures.side c.next_open-next_second.ensures.follows in
-    let items = c.split_degrees.ensures.items ∙ ap (λ (n : ℕ). after_split n b a c.number_of-after_top.result c.number_of-after_second.result ds) F
+    let items = c.split_degrees.ensures.items ∙ ap (λ (l : List ℕ). after_split c.add_face-face.result b a c.number_of-after_top.result c.number_of-after_second.result l) c.add_places.ensures.items ∙ ap (λ (n : ℕ). after_split n b a c.number_of-after_top.result c.number_of-after_second.result ds) F
     ∙ ap (λ (n : ℕ). after_split f b a n c.number_of-after_second.result ds) c.number_of-after_top.ensures.number
     ∙ ap (λ (n : ℕ). after_split f b a (number nb) n ds) c.number_of-after_second.ensures.number in (
       link_grown c.self.invariant.0 (record {
@@ -147,7 +147,7 @@ invariant_of-self g c =
         made = omega arith;
         closes = refl;
       }),
-      c.split_degrees.ensures.len ∙ c.self.invariant.1 ∙ ap (λ (n : ℕ). 3 * n) (sym as_wide),
+      ((let a = c.split_degrees.ensures.len in let b = c.add_places.ensures.len in let e = c.self.invariant.1.0 in let f = faces in omega arith), (let a = c.split_degrees.ensures.capacity in let b = c.add_places.ensures.capacity in let e = c.self.invariant.1.1 in omega arith)),
       λ e. subst (KeepsDegrees c.glue-2.new.self c.self.inside.made) (sym items)
           (keeps_split c.self.inside.table c.glue-2.new.self c.self.inside.made ds b a nb na W c.self.invariant.0.made faces glued (first_is_free T) (second_is_free T)
           (λ q. same-false _ _ (sym c.is_same.ensures ∙ c.if-is_same.false) (c.side_with-second.ensures.side ∙ sym q ∙ sym c.side_with-top.ensures.side)) after_b after_a (omega arith)),
@@ -218,8 +218,8 @@ split_degrees-requires-clause-small g c =
     let whole = c.self.view_is ∙ c.take_second.ensures.rest in
     let more : value.table.faces < value.plan.symbols =
     subst (λ (v : LinkValue). v.table.faces < v.plan.symbols) (sym whole) (subst (λ (v : LinkValue). v.table.faces < v.plan.symbols) (sym c.take_side.ensures.rest) c.requires.more) in
-    let W = c.self.invariant.2 (ap (λ (v : LinkValue). v.closes) whole ∙ ap (λ (v : LinkValue). v.closes) c.take_side.ensures.rest ∙ c.requires.unclosed) in
-    small_at {v = value} c.self.invariant.0 more W (side_at c.in-Ok.b) c.in-Ok.b (sym (number-side_at c.in-Ok.b)) (first_is_free T)
+    let W = keeps_room (c.self.invariant.2 (ap (λ (v : LinkValue). v.closes) whole ∙ ap (λ (v : LinkValue). v.closes) c.take_side.ensures.rest ∙ c.requires.unclosed)) (let n = c.self.inside.degrees.ok.0 in let e = c.self.invariant.1.0 in omega arith) in
+    rw c.add_places.ensures.items (small_at {v = value} c.self.invariant.0 more W (side_at c.in-Ok.b) c.in-Ok.b (sym (number-side_at c.in-Ok.b)) (first_is_free T))
 
 pub split_degrees-requires-clause-small_second : goal.split_degrees-requires-clause-small_second
 split_degrees-requires-clause-small_second g c =
@@ -237,8 +237,8 @@ split_degrees-requires-clause-small_second g c =
     let whole = c.self.view_is ∙ c.take_second.ensures.rest in
     let more : value.table.faces < value.plan.symbols =
     subst (λ (v : LinkValue). v.table.faces < v.plan.symbols) (sym whole) (subst (λ (v : LinkValue). v.table.faces < v.plan.symbols) (sym c.take_side.ensures.rest) c.requires.more) in
-    let W = c.self.invariant.2 (ap (λ (v : LinkValue). v.closes) whole ∙ ap (λ (v : LinkValue). v.closes) c.take_side.ensures.rest ∙ c.requires.unclosed) in
-    small_at {v = value} c.self.invariant.0 more W (side_at c.in-Ok-take_second.a) c.in-Ok-take_second.a (sym (number-side_at c.in-Ok-take_second.a)) (second_is_free T)
+    let W = keeps_room (c.self.invariant.2 (ap (λ (v : LinkValue). v.closes) whole ∙ ap (λ (v : LinkValue). v.closes) c.take_side.ensures.rest ∙ c.requires.unclosed)) (let n = c.self.inside.degrees.ok.0 in let e = c.self.invariant.1.0 in omega arith) in
+    rw c.add_places.ensures.items (small_at {v = value} c.self.invariant.0 more W (side_at c.in-Ok-take_second.a) c.in-Ok-take_second.a (sym (number-side_at c.in-Ok-take_second.a)) (second_is_free T))
 
 pub split_degrees-requires-clause-small_third : goal.split_degrees-requires-clause-small_third
 split_degrees-requires-clause-small_third g c =
@@ -256,8 +256,8 @@ split_degrees-requires-clause-small_third g c =
     let whole = c.self.view_is ∙ c.take_second.ensures.rest in
     let more : value.table.faces < value.plan.symbols =
     subst (λ (v : LinkValue). v.table.faces < v.plan.symbols) (sym whole) (subst (λ (v : LinkValue). v.table.faces < v.plan.symbols) (sym c.take_side.ensures.rest) c.requires.more) in
-    let W = c.self.invariant.2 (ap (λ (v : LinkValue). v.closes) whole ∙ ap (λ (v : LinkValue). v.closes) c.take_side.ensures.rest ∙ c.requires.unclosed) in
-    small_at {v = value} c.self.invariant.0 more W (side_of c.next_open-next_top.result) c.number_of-after_top.result c.number_of-after_top.ensures.number c.next_open-next_top.ensures.follows.free
+    let W = keeps_room (c.self.invariant.2 (ap (λ (v : LinkValue). v.closes) whole ∙ ap (λ (v : LinkValue). v.closes) c.take_side.ensures.rest ∙ c.requires.unclosed)) (let n = c.self.inside.degrees.ok.0 in let e = c.self.invariant.1.0 in omega arith) in
+    rw c.add_places.ensures.items (small_at {v = value} c.self.invariant.0 more W (side_of c.next_open-next_top.result) c.number_of-after_top.result c.number_of-after_top.ensures.number c.next_open-next_top.ensures.follows.free)
 
 pub split_degrees-requires-clause-small_fourth : goal.split_degrees-requires-clause-small_fourth
 split_degrees-requires-clause-small_fourth g c =
@@ -275,8 +275,8 @@ split_degrees-requires-clause-small_fourth g c =
     let whole = c.self.view_is ∙ c.take_second.ensures.rest in
     let more : value.table.faces < value.plan.symbols =
     subst (λ (v : LinkValue). v.table.faces < v.plan.symbols) (sym whole) (subst (λ (v : LinkValue). v.table.faces < v.plan.symbols) (sym c.take_side.ensures.rest) c.requires.more) in
-    let W = c.self.invariant.2 (ap (λ (v : LinkValue). v.closes) whole ∙ ap (λ (v : LinkValue). v.closes) c.take_side.ensures.rest ∙ c.requires.unclosed) in
-    small_at {v = value} c.self.invariant.0 more W (side_of c.next_open-next_second.result) c.number_of-after_second.result c.number_of-after_second.ensures.number c.next_open-next_second.ensures.follows.free
+    let W = keeps_room (c.self.invariant.2 (ap (λ (v : LinkValue). v.closes) whole ∙ ap (λ (v : LinkValue). v.closes) c.take_side.ensures.rest ∙ c.requires.unclosed)) (let n = c.self.inside.degrees.ok.0 in let e = c.self.invariant.1.0 in omega arith) in
+    rw c.add_places.ensures.items (small_at {v = value} c.self.invariant.0 more W (side_of c.next_open-next_second.result) c.number_of-after_second.result c.number_of-after_second.ensures.number c.next_open-next_second.ensures.follows.free)
 
 pub returns-clause-live : goal.returns-clause-live
 returns-clause-live g c =

@@ -1,15 +1,15 @@
 -- A face more, glued to the top side and to the side before it.
-use Rattle.std.proofs.Common.{◌≡◌, ℕ, Ok, ◌*◌, ◌<◌, ◌∷◌, sym, refl, ap, ◌∙◌, subst, arith, add-one}
+use Rattle.std.proofs.Common.{◌≡◌, ℕ, Ok, ◌*◌, ◌<◌, ◌∷◌, List, sym, refl, ap, ◌∙◌, subst, arith, add-one}
 use Rattle.corner_table.specs.Sides.{Side, side, side_at, number, next, prev, second, third, glue}
 use Rattle.corner_table.specs.Fans.{side_before, Follows}
 use Rattle.corner_table.specs.Table.{side_of, gluing_of, room_of}
 use Rattle.corner_table.proofs.Places.{same-true, same-false}
-use Rattle.eb_rebuild.specs.KeptDegrees.{KeepsDegrees, after_tip}
+use Rattle.eb_rebuild.specs.KeptDegrees.{KeepsDegrees, with_room, after_tip}
 use Rattle.eb_rebuild.specs.Linked.{LinkValue, state_of}
 use Rattle.eb_rebuild.proofs.Steps.{tip_no_top}
 use Rattle.eb_rebuild.proofs.Noting.{kept_below_more}
 use Rattle.eb_rebuild.proofs.Linking.{link_grown, tip_does, tip_alone_does, Taken, taken_free}
-use Rattle.eb_rebuild.proofs.TableDegrees.{keeps_tip, small_at, live_top}
+use Rattle.eb_rebuild.proofs.TableDegrees.{keeps_room, long_room, keeps_tip, small_at, live_top}
 use Rattle.eb_rebuild.proofs.CornersNamed.{names_tip, names_corners, has_face, is_real}
 use Rattle.eb_rebuild.specs.CornerNames.{with_face, name_at}
 use Rattle.corner_table.proofs.Numbers.{side_at-number, number-lt}
@@ -36,10 +36,10 @@ invariant_of-self g c =
     let T : Taken c.args.self.now c.take_side.new.self value c.in-Ok.a = record { rest = c.take_side.ensures.rest; view = c.self.view_is; sides = taken.0; free = taken.1; below = taken.2 } in
     let whole = c.self.view_is ∙ c.take_side.ensures.rest in
     let more : value.table.faces < value.plan.symbols = subst (λ (v : LinkValue). v.table.faces < v.plan.symbols) (sym whole) c.requires.more in
-    let W = c.self.invariant.2 (ap (λ (v : LinkValue). v.closes) whole ∙ c.requires.unclosed) in
+    let W = keeps_room (c.self.invariant.2 (ap (λ (v : LinkValue). v.closes) whole ∙ c.requires.unclosed)) (let n = c.self.inside.degrees.ok.0 in let e = c.self.invariant.1.0 in omega arith) in
     let F = c.add_tip-face.ensures.face in
     let long = c.self.inside.degrees.ok.0 in
-    let room = c.self.invariant.1 in
+    let room = long_room c.self.inside.table.faces c.self.inside.degrees.items (let n = c.self.inside.degrees.ok.0 in let e = c.self.invariant.1.0 in omega arith) in
     let wide = subst (λ (v : LinkValue). v.table.faces < room_of v.table) (sym whole) c.requires.room in
     let as_wide : room_of c.add_tip-face.new.self ≡ room_of c.self.inside.table = c.add_tip-face.ensures.room in
     let before = side_of c.prev_open-before.result in
@@ -49,9 +49,9 @@ invariant_of-self g c =
     ∙ ap (λ (x : Side). glue (side c.self.inside.table.faces third) before (glue (side c.self.inside.table.faces second) x (gluing_of c.self.inside.table))) c.side_with-top.ensures.side in
     let follows = subst (λ (x : Side). Follows c.self.inside.table.faces (gluing_of c.self.inside.table) x (side_of c.next_open-next.result)) c.side_with-top.ensures.side c.next_open-next.ensures.follows in
     let comes = subst (Follows c.self.inside.table.faces (gluing_of c.self.inside.table) before) c.side_with-top.ensures.side c.prev_open-before.ensures.follows in
-    let items = c.tip_degrees.ensures.items ∙ ap (λ (n : ℕ). after_tip n c.number_of-tip.result c.number_of.result c.self.inside.degrees.items) F
-    ∙ ap (λ (n : ℕ). after_tip c.self.inside.table.faces n c.number_of.result c.self.inside.degrees.items) c.number_of-tip.ensures.number
-    ∙ ap (λ (n : ℕ). after_tip c.self.inside.table.faces (number before) n c.self.inside.degrees.items) c.number_of.ensures.number in (
+    let items = c.tip_degrees.ensures.items ∙ ap (λ (l : List ℕ). after_tip c.add_tip-face.result c.number_of-tip.result c.number_of.result l) c.add_places.ensures.items ∙ ap (λ (n : ℕ). after_tip n c.number_of-tip.result c.number_of.result (with_room c.self.inside.degrees.items)) F
+    ∙ ap (λ (n : ℕ). after_tip c.self.inside.table.faces n c.number_of.result (with_room c.self.inside.degrees.items)) c.number_of-tip.ensures.number
+    ∙ ap (λ (n : ℕ). after_tip c.self.inside.table.faces (number before) n (with_room c.self.inside.degrees.items)) c.number_of.ensures.number in (
       link_grown c.self.invariant.0 (record {
         plan = refl;
         more = more;
@@ -67,9 +67,9 @@ invariant_of-self g c =
         made = omega arith;
         closes = refl;
       }),
-      c.tip_degrees.ensures.len ∙ c.self.invariant.1 ∙ ap (λ (n : ℕ). 3 * n) (sym as_wide),
+      ((let a = c.tip_degrees.ensures.len in let b = c.add_places.ensures.len in let e = c.self.invariant.1.0 in let f = c.add_tip-face.ensures.faces in omega arith), (let a = c.tip_degrees.ensures.capacity in let b = c.add_places.ensures.capacity in let e = c.self.invariant.1.1 in omega arith)),
       λ e. subst (KeepsDegrees c.add_tip-face.new.self c.self.inside.made) (sym items)
-          (keeps_tip c.self.inside.table c.add_tip-face.new.self c.self.inside.made c.self.inside.degrees.items (side_at c.in-Ok.a) before (side_of c.next_open-next.result) W c.self.invariant.0.made faces glued (taken_free T) c.prev_open-before.ensures.free
+          (keeps_tip c.self.inside.table c.add_tip-face.new.self c.self.inside.made (with_room c.self.inside.degrees.items) (side_at c.in-Ok.a) before (side_of c.next_open-next.result) W c.self.invariant.0.made faces glued (taken_free T) c.prev_open-before.ensures.free
           (λ q. same-false _ _ (sym c.is_same.ensures ∙ c.if-is_same.false) (q ∙ sym c.side_with-top.ensures.side)) comes follows (omega arith)),
       names_tip c.self.inside.table c.add_tip-face.new.self c.self.inside.made c.self.inside.names c.add_tip.new.self (side_at c.in-Ok.a) before c.self.invariant.3 faces glued as_wide (taken_free T) c.prev_open-before.ensures.free
           (λ q. same-false _ _ (sym c.is_same.ensures ∙ c.if-is_same.false) (q ∙ sym c.side_with-top.ensures.side)) comes
@@ -105,8 +105,8 @@ tip_degrees-requires-clause-small g c =
     let T : Taken c.args.self.now c.take_side.new.self value c.in-Ok.a = record { rest = c.take_side.ensures.rest; view = c.self.view_is; sides = taken.0; free = taken.1; below = taken.2 } in
     let whole = c.self.view_is ∙ c.take_side.ensures.rest in
     let more : value.table.faces < value.plan.symbols = subst (λ (v : LinkValue). v.table.faces < v.plan.symbols) (sym whole) c.requires.more in
-    let W = c.self.invariant.2 (ap (λ (v : LinkValue). v.closes) whole ∙ c.requires.unclosed) in
-    small_at {v = value} c.self.invariant.0 more W (side_of c.prev_open-before.result) c.number_of-tip.result c.number_of-tip.ensures.number c.prev_open-before.ensures.free
+    let W = keeps_room (c.self.invariant.2 (ap (λ (v : LinkValue). v.closes) whole ∙ c.requires.unclosed)) (let n = c.self.inside.degrees.ok.0 in let e = c.self.invariant.1.0 in omega arith) in
+    rw c.add_places.ensures.items (small_at {v = value} c.self.invariant.0 more W (side_of c.prev_open-before.result) c.number_of-tip.result c.number_of-tip.ensures.number c.prev_open-before.ensures.free)
 
 pub tip_degrees-requires-clause-small_next : goal.tip_degrees-requires-clause-small_next
 tip_degrees-requires-clause-small_next g c =
@@ -115,8 +115,8 @@ tip_degrees-requires-clause-small_next g c =
     let T : Taken c.args.self.now c.take_side.new.self value c.in-Ok.a = record { rest = c.take_side.ensures.rest; view = c.self.view_is; sides = taken.0; free = taken.1; below = taken.2 } in
     let whole = c.self.view_is ∙ c.take_side.ensures.rest in
     let more : value.table.faces < value.plan.symbols = subst (λ (v : LinkValue). v.table.faces < v.plan.symbols) (sym whole) c.requires.more in
-    let W = c.self.invariant.2 (ap (λ (v : LinkValue). v.closes) whole ∙ c.requires.unclosed) in
-    small_at {v = value} c.self.invariant.0 more W (side_of c.next_open-next.result) c.number_of.result c.number_of.ensures.number c.next_open-next.ensures.follows.free
+    let W = keeps_room (c.self.invariant.2 (ap (λ (v : LinkValue). v.closes) whole ∙ c.requires.unclosed)) (let n = c.self.inside.degrees.ok.0 in let e = c.self.invariant.1.0 in omega arith) in
+    rw c.add_places.ensures.items (small_at {v = value} c.self.invariant.0 more W (side_of c.next_open-next.result) c.number_of.result c.number_of.ensures.number c.next_open-next.ensures.follows.free)
 
 pub returns-clause-live : goal.returns-clause-live
 returns-clause-live g c =

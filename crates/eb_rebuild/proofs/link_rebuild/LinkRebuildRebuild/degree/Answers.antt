@@ -12,7 +12,7 @@ degree_at-requires c =
     let count = c.face_count-room.ensures.count in
     let fits = c.face_count-room.ensures.room in
     let room = c.self.invariant.0.room in
-    let long = c.self.invariant.1 in
+    let long = c.self.invariant.1.0 in
     omega arith
 
 pub returns-in-Some : goal.returns-in-Some
