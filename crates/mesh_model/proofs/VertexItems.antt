@@ -1,5 +1,5 @@
 -- Vertices that are numbered as they come first, with one more corner, and the faces by them.
-use Rattle.std.proofs.Common.{◌≡◌, ℕ, ◌+◌, ◌*◌, ◌<◌, List, [], ℤ, length, get_or, map, refl, sym, ap, ◌∙◌, inl, inr, arith}
+use Rattle.std.proofs.Common.{◌≡◌, ℕ, ◌+◌, ◌*◌, ◌<◌, ◌≤◌, List, [], ℤ, length, get_or, map, max, refl, sym, subst, ap, ◌∙◌, inl, inr, arith}
 use Rattle.std.specs.List.{range_with_len}
 use Rattle.std.proofs.lemmas.Bool.{cases_lt}
 use Rattle.std.proofs.lemmas.List.{same_lists}
@@ -63,6 +63,15 @@ InOrder-known vertices c n are known = record {
       ∙ ap (λ ds. with_row ds (row v)) (are.distinct_rows row)
       ∙ sym (corner-more vertices row c);
 }
+
+-- a corner whose vertex is known or the next number
+pub InOrder-max : (vertices : List ℕ) (c n : ℕ) → AreInOrder vertices c n → get_or vertices c 0 ≤ n → AreInOrder vertices (c + 1) (max n (get_or vertices c 0 + 1))
+InOrder-max vertices c n are most = elim (cases_lt (get_or vertices c 0) n) [
+  | inl known ↦ subst (AreInOrder vertices (c + 1)) (omega (arith, known)) (InOrder-known vertices c n are known)
+  | inr past ↦
+      let is : get_or vertices c 0 ≡ n = omega (arith, most, past) in
+      subst (AreInOrder vertices (c + 1)) (omega (arith, is)) (InOrder-next vertices c n are is)
+]
 
 -- functions that agree below a number
 pub map-range_same : {X : Type 0} (f g : ℕ → X) (n : ℕ) → ((k : ℕ) → k < n → f k ≡ g k) → map f (range_with_len 0 n) ≡ map g (range_with_len 0 n)

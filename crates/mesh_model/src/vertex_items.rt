@@ -48,7 +48,7 @@ fn count_with(vertices: &[u32], corner: u32, count: u32) -> Option<u32>
     if vertex > count {
         return None;
     }
-    Some(if vertex == count { count + 1 } else { count })
+    Some(count.max(vertex + 1))
 }
 
 /// Faces by the vertices of their corners.
