@@ -83,6 +83,27 @@ pub(crate) fn triple_at(head: &Head, attribute: &Attribute<'_>, vertex: u32) -> 
     [values[0], values[1], values[2]]
 }
 
+/// Appends values: a few one by one, which costs less than a call that copies.
+#[inline(always)]
+fn put_values(cells: &mut Vec<i32>, values: &[i32]) -> Result<(), Memory>
+    ensures { OnOk result (cells.new.items ≡ cells.old.items ++ values.now) }
+{
+    match values {
+        [a] => cells.push(*a)?,
+        [a, b] => {
+            cells.push(*a)?;
+            cells.push(*b)?;
+        }
+        [a, b, d] => {
+            cells.push(*a)?;
+            cells.push(*b)?;
+            cells.push(*d)?;
+        }
+        _ => cells.extend_from_slice(values)?,
+    }
+    Ok(())
+}
+
 /// Appends the row of a vertex.
 pub(crate) fn put_vertex(
     cells: &mut Vec<i32>,
@@ -95,7 +116,7 @@ pub(crate) fn put_vertex(
     ensures { OnOk result (cells.new.items ≡ cells.old.items ++ vertex_row (zip heads.now attributes.now) vertex) }
 {
     for j in 0..heads.len() {
-        cells.extend_from_slice(values_at(&heads[j], &attributes[j], vertex))?;
+        put_values(cells, values_at(&heads[j], &attributes[j], vertex))?;
     }
     Ok(())
 }
@@ -131,7 +152,7 @@ pub(crate) fn put_corner(
     ensures { OnOk result (cells.new.items ≡ cells.old.items ++ corner_row (zip heads.now (map table_of attributes.now)) corner) }
 {
     for j in 0..heads.len() {
-        cells.extend_from_slice(values_of(heads, attributes, corners, j, corner))?;
+        put_values(cells, values_of(heads, attributes, corners, j, corner))?;
     }
     Ok(())
 }

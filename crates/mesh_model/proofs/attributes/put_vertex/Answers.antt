@@ -24,7 +24,7 @@ loop-j-preserved c =
     let old = c.args.cells.now.items in
     let piece = c.values_at.result.now in
     let before = vertex_row (take j (zip heads attributes)) v in
-    c.in_ok-extend_from_slice.ensures.items
+    c.in_ok-put_values.ensures
     ∙ ap (λ xs. xs ++ piece) c.loop-j.invariant
     ∙ append_assoc old before piece
     ∙ ap (λ xs. old ++ xs) (ap (λ xs. before ++ xs) c.values_at.ensures.values
