@@ -12,18 +12,26 @@ fn mix(hash: u32, value: i32) -> u32
     (hash ^ (hash >> 16) ^ value.cast_unsigned()).wrapping_mul(0x9e37_79b1)
 }
 
-/// The values of a row, mixed.
-fn hash_of(row: &[i32]) -> u32
+/// The values of a row, mixed one by one.
+fn hash_by_values(row: &[i32]) -> u32
     ensures { result ≡ hash_from 0 row.now }
 {
-    if row.len() == 3 {
-        return mix(mix(mix(0, row[0]), row[1]), row[2]);
-    }
     let mut hash: u32 = 0;
     for value in row {
         hash = mix(hash, *value);
     }
     hash
+}
+
+/// The values of a row, mixed. Rows of three and of four are those of most meshes.
+fn hash_of(row: &[i32]) -> u32
+    ensures { result ≡ hash_from 0 row.now }
+{
+    match row {
+        [a, b, d] => mix(mix(mix(0, *a), *b), *d),
+        [a, b, d, e] => mix(mix(mix(mix(0, *a), *b), *d), *e),
+        _ => hash_by_values(row),
+    }
 }
 
 /// The hash of a row.
