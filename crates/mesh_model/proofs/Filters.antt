@@ -1,47 +1,47 @@
--- The rows that are kept by a set of their buckets, and those that share another bucket with a kept one.
-use Rattle.std.proofs.Common.{◌≡◌, ◌≢◌, ℕ, ◌+◌, ◌<◌, ◌≤◌, List, [], ◌∷◌, ◌++◌, ℤ, length, get_or, sym, ap, ◌∙◌, subst, inl, inr, arith}
+-- The hashes that are kept by a set of their buckets, and those that share another bucket with a kept one.
+use Rattle.std.proofs.Common.{◌≡◌, ◌≢◌, ℕ, ◌+◌, ◌<◌, ◌≤◌, List, [], ◌∷◌, ◌++◌, length, get_or, sym, ap, ◌∙◌, subst, inl, inr, arith}
 use Rattle.std.specs.List.{All, Contains}
 use Rattle.std.proofs.lemmas.Bool.{cases_lt}
 use Rattle.std.proofs.lemmas.List.{length_push, get_or_push, get_or_append_left}
 use Rattle.std.proofs.lemmas.List.Elements.{All-nil, All-push, All-weaker, All-contains, Contains-append_left, Contains-push}
 use Rattle.mesh_model.specs.BitSet.{HasBit}
 use Rattle.mesh_model.specs.Hash.{bucket_of, sieve_of}
-use Rattle.mesh_model.specs.RowIndex.{AreKept, ArePassing, AreChosen}
+use Rattle.mesh_model.specs.RowIndex.{AreKept, ArePassing, AreChosenHashes}
 
--- ---- rows that are kept
+-- ---- hashes that are kept
 
--- the buckets of the first rows are in the set, and those of them that equal an earlier one are kept
-pub record KeepsRows (rows : List (List ℤ)) (mask i : ℕ) (words kept : List ℕ) : Type 0 where
-  pub bits : (q : ℕ) → q < i → HasBit words (bucket_of mask (get_or rows q []))
-  pub kept_rows : AreKept rows i kept
+-- the buckets of the first hashes are in the set, and those of them that equal an earlier one are kept
+pub record KeepsHashes (hashes : List ℕ) (mask i : ℕ) (words kept : List ℕ) : Type 0 where
+  pub bits : (q : ℕ) → q < i → HasBit words (bucket_of mask (get_or hashes q 0))
+  pub are_kept : AreKept hashes i kept
   pub few : length kept ≤ i
 
-pub KeepsRows-none : (rows : List (List ℤ)) (mask : ℕ) (words : List ℕ) → KeepsRows rows mask 0 words []
-KeepsRows-none rows mask words = record {
+pub KeepsHashes-none : (hashes : List ℕ) (mask : ℕ) (words : List ℕ) → KeepsHashes hashes mask 0 words []
+KeepsHashes-none hashes mask words = record {
   bits = λ q below. absurd (omega arith);
-  kept_rows = record { within = All-nil (λ p. p < 0); all = λ p q below. absurd (omega arith) };
+  are_kept = record { within = All-nil (λ p. p < 0); all = λ p q below. absurd (omega arith) };
   few = omega arith;
 }
 
 -- the set has one more bucket
-bits-more : (rows : List (List ℤ)) (mask i : ℕ) (words after : List ℕ) → ((q : ℕ) → q < i → HasBit words (bucket_of mask (get_or rows q []))) →
-    ((n : ℕ) → HasBit words n → HasBit after n) → HasBit after (bucket_of mask (get_or rows i [])) → (q : ℕ) → q < i + 1 → HasBit after (bucket_of mask (get_or rows q []))
-bits-more rows mask i words after bits others there q below = elim (cases_lt q i) [
-  | inl early ↦ others (bucket_of mask (get_or rows q [])) (bits q early)
+bits-more : (hashes : List ℕ) (mask i : ℕ) (words after : List ℕ) → ((q : ℕ) → q < i → HasBit words (bucket_of mask (get_or hashes q 0))) →
+    ((n : ℕ) → HasBit words n → HasBit after n) → HasBit after (bucket_of mask (get_or hashes i 0)) → (q : ℕ) → q < i + 1 → HasBit after (bucket_of mask (get_or hashes q 0))
+bits-more hashes mask i words after bits others there q below = elim (cases_lt q i) [
+  | inl early ↦ others (bucket_of mask (get_or hashes q 0)) (bits q early)
   | inr past ↦
       let same : i ≡ q = omega arith in
-      subst (λ k. HasBit after (bucket_of mask (get_or rows k []))) same there
+      subst (λ k. HasBit after (bucket_of mask (get_or hashes k 0))) same there
 ]
 
--- a row whose bucket is in the set is kept
-pub KeepsRows-kept : (rows : List (List ℤ)) (mask i : ℕ) (words after kept : List ℕ) → KeepsRows rows mask i words kept →
-    ((n : ℕ) → HasBit words n → HasBit after n) → HasBit after (bucket_of mask (get_or rows i [])) → KeepsRows rows mask (i + 1) after (kept ++ i ∷ [])
-KeepsRows-kept rows mask i words after kept keeps others there = record {
-  bits = bits-more rows mask i words after keeps.bits others there;
-  kept_rows = record {
-    within = All-push (λ p. p < i + 1) kept i (All-weaker (λ p. p < i) (λ p. p < i + 1) (λ p low. omega arith) kept keeps.kept_rows.within) (omega arith);
+-- a hash whose bucket is in the set is kept
+pub KeepsHashes-kept : (hashes : List ℕ) (mask i : ℕ) (words after kept : List ℕ) → KeepsHashes hashes mask i words kept →
+    ((n : ℕ) → HasBit words n → HasBit after n) → HasBit after (bucket_of mask (get_or hashes i 0)) → KeepsHashes hashes mask (i + 1) after (kept ++ i ∷ [])
+KeepsHashes-kept hashes mask i words after kept keeps others there = record {
+  bits = bits-more hashes mask i words after keeps.bits others there;
+  are_kept = record {
+    within = All-push (λ p. p < i + 1) kept i (All-weaker (λ p. p < i) (λ p. p < i + 1) (λ p low. omega arith) kept keeps.are_kept.within) (omega arith);
     all = λ p q below before equal. elim (cases_lt p i) [
-      | inl early ↦ Contains-append_left kept (i ∷ []) p (keeps.kept_rows.all p q early before equal)
+      | inl early ↦ Contains-append_left kept (i ∷ []) p (keeps.are_kept.all p q early before equal)
       | inr past ↦
           let same : i ≡ p = omega arith in
           subst (Contains (kept ++ i ∷ [])) same (Contains-push kept i)
@@ -50,21 +50,21 @@ KeepsRows-kept rows mask i words after kept keeps others there = record {
   few = omega (arith, length_push kept i, keeps.few);
 }
 
--- another row equals no earlier one
-pub KeepsRows-new : (rows : List (List ℤ)) (mask i : ℕ) (words after kept : List ℕ) → KeepsRows rows mask i words kept →
-    ((n : ℕ) → HasBit words n → HasBit after n) → HasBit after (bucket_of mask (get_or rows i [])) → (HasBit words (bucket_of mask (get_or rows i [])) → ⊥) →
-    KeepsRows rows mask (i + 1) after kept
-KeepsRows-new rows mask i words after kept keeps others there new = record {
-  bits = bits-more rows mask i words after keeps.bits others there;
-  kept_rows = record {
-    within = All-weaker (λ p. p < i) (λ p. p < i + 1) (λ p low. omega arith) kept keeps.kept_rows.within;
+-- another hash equals no earlier one
+pub KeepsHashes-new : (hashes : List ℕ) (mask i : ℕ) (words after kept : List ℕ) → KeepsHashes hashes mask i words kept →
+    ((n : ℕ) → HasBit words n → HasBit after n) → HasBit after (bucket_of mask (get_or hashes i 0)) → (HasBit words (bucket_of mask (get_or hashes i 0)) → ⊥) →
+    KeepsHashes hashes mask (i + 1) after kept
+KeepsHashes-new hashes mask i words after kept keeps others there new = record {
+  bits = bits-more hashes mask i words after keeps.bits others there;
+  are_kept = record {
+    within = All-weaker (λ p. p < i) (λ p. p < i + 1) (λ p low. omega arith) kept keeps.are_kept.within;
     all = λ p q below before equal. elim (cases_lt p i) [
-      | inl early ↦ keeps.kept_rows.all p q early before equal
+      | inl early ↦ keeps.are_kept.all p q early before equal
       | inr past ↦
           let same : p ≡ i = omega arith in
           let low : q < i = omega arith in
-          let at : get_or rows q [] ≡ get_or rows i [] = equal ∙ ap (λ k. get_or rows k []) same in
-          absurd (new (subst (λ row. HasBit words (bucket_of mask row)) at (keeps.bits q low)))
+          let at : get_or hashes q 0 ≡ get_or hashes i 0 = equal ∙ ap (λ k. get_or hashes k 0) same in
+          absurd (new (subst (λ hash. HasBit words (bucket_of mask hash)) at (keeps.bits q low)))
     ];
   };
   few = omega (arith, keeps.few);
@@ -115,29 +115,29 @@ Passing-other Passes i chosen are fails = record {
   ];
 }
 
--- ---- rows that are chosen
+-- ---- hashes that are chosen
 
--- where the other buckets of kept rows are in a set, each row that equals another one has its bucket there
-pub Chosen-passing : (rows : List (List ℤ)) (count mask : ℕ) (words kept chosen : List ℕ) → AreKept rows count kept →
-    All (λ p. HasBit words (sieve_of mask (get_or rows p []))) kept → ArePassing (λ p. HasBit words (sieve_of mask (get_or rows p []))) count chosen → AreChosen rows count chosen
-Chosen-passing rows count mask words kept chosen are bits passing = record {
+-- where the other buckets of kept hashes are in a set, each hash that equals another one has its bucket there
+pub Chosen-passing : (hashes : List ℕ) (count mask : ℕ) (words kept chosen : List ℕ) → AreKept hashes count kept →
+    All (λ p. HasBit words (sieve_of mask (get_or hashes p 0))) kept → ArePassing (λ p. HasBit words (sieve_of mask (get_or hashes p 0))) count chosen → AreChosenHashes hashes count chosen
+Chosen-passing hashes count mask words kept chosen are bits passing = record {
   few = passing.few;
   within = passing.within;
   rising = passing.rising;
   all = λ p below equal. passing.all p below (elim (cases_lt equal.other p) [
-    | inl before ↦ All-contains (λ k. HasBit words (sieve_of mask (get_or rows k []))) kept p bits (are.all p equal.other below before equal.equal)
+    | inl before ↦ All-contains (λ k. HasBit words (sieve_of mask (get_or hashes k 0))) kept p bits (are.all p equal.other below before equal.equal)
     | inr behind ↦
         let q = equal.other in
         let apart : p ≢ q = λ e. equal.apart (sym e) in
         let before : p < q = omega arith in
-        subst (λ row. HasBit words (sieve_of mask row)) equal.equal
-        (All-contains (λ k. HasBit words (sieve_of mask (get_or rows k []))) kept q bits (are.all q p equal.within before (sym equal.equal)))
+        subst (λ hash. HasBit words (sieve_of mask hash)) equal.equal
+        (All-contains (λ k. HasBit words (sieve_of mask (get_or hashes k 0))) kept q bits (are.all q p equal.within before (sym equal.equal)))
   ]);
 }
 
--- where no row is kept, none equals another one
-pub Chosen-none : (rows : List (List ℤ)) (count : ℕ) (kept : List ℕ) → AreKept rows count kept → length kept ≡ 0 → AreChosen rows count kept
-Chosen-none rows count kept are none = record {
+-- where no hash is kept, none equals another one
+pub Chosen-none : (hashes : List ℕ) (count : ℕ) (kept : List ℕ) → AreKept hashes count kept → length kept ≡ 0 → AreChosenHashes hashes count kept
+Chosen-none hashes count kept are none = record {
   few = omega (arith, none);
   within = are.within;
   rising = λ i j before below. absurd (omega arith);

@@ -3,7 +3,7 @@ use Rattle.std.proofs.Common.{◌≡◌, ◌≢◌, ℕ, ◌+◌, ◌-◌, ◌<�
 use Rattle.std.specs.List.{All}
 use Rattle.std.proofs.lemmas.Bool.{cases_eq, cases_lt}
 use Rattle.std.proofs.lemmas.List.{length_push, get_or_push, get_or_append_left, get_or-set_same, get_or-set_other}
-use Rattle.mesh_model.specs.Hash.{bucket_of}
+use Rattle.mesh_model.specs.Hash.{bucket_of, row_hash}
 use Rattle.mesh_model.specs.RowIndex.{row_bucket, AreChained, AreChains, IsTwin}
 
 -- the first `count` rows are linked, and of each bucket the latest of them is known
@@ -112,7 +112,7 @@ Walks-first rows links i are = record {
   linked = are.linked;
   back = are.linked.back i (omega arith);
   same = λ some. are.linked.same i (omega arith) some;
-  all = λ q before equal. are.linked.all i q (omega arith) before (ap (bucket_of are.mask) equal);
+  all = λ q before equal. are.linked.all i q (omega arith) before (ap (λ row. bucket_of are.mask (row_hash row)) equal);
 }
 
 -- it still has behind a row that is another one
@@ -129,7 +129,7 @@ Walks-next rows links i link walks some other =
       all = λ q before equal.
           let kept : q < link = walks.all q before equal in
           let apart : q ≢ p = λ e. other (ap (λ n. get_or rows n []) (sym e) ∙ equal) in
-          walks.linked.all p q (omega arith) (omega arith) (ap (bucket_of walks.mask) equal ∙ sym key);
+          walks.linked.all p q (omega arith) (omega arith) (ap (λ row. bucket_of walks.mask (row_hash row)) equal ∙ sym key);
     }
 
 -- where a row of the chain equals row i

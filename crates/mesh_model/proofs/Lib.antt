@@ -16,6 +16,7 @@ pub mod FirstFaults
 pub mod Growing
 pub mod Indexes
 pub mod Made
+pub mod Hashes
 pub mod HeldRows
 pub mod Names
 pub mod NumberedFaces

@@ -15,10 +15,10 @@ hash_from hash values = fold mixed hash values
 unfoldable pub row_hash : List ℤ → ℕ
 row_hash row = let hash = hash_from 0 row in bit_xor hash (hash / 2 ^ 15)
 
--- the bucket of a row among mask + 1
-unfoldable pub bucket_of : ℕ → List ℤ → ℕ
-bucket_of mask row = bit_and (row_hash row) mask
+-- the bucket of a hash among mask + 1
+unfoldable pub bucket_of : ℕ → ℕ → ℕ
+bucket_of mask hash = bit_and hash mask
 
--- another bucket of a row among mask + 1, by the other half of its hash
-unfoldable pub sieve_of : ℕ → List ℤ → ℕ
-sieve_of mask row = bit_and (rotate_left w32 (row_hash row) 16) mask
+-- another bucket of a hash among mask + 1, by its other half
+unfoldable pub sieve_of : ℕ → ℕ → ℕ
+sieve_of mask hash = bit_and (rotate_left w32 hash 16) mask

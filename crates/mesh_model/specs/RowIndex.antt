@@ -4,11 +4,16 @@
 use Rattle.std.specs.Prelude.{ℕ, zero, suc, ◌≡◌, ◌≢◌, ◌<◌, ◌≤◌, ◌+◌, ◌-◌, ◌*◌, [], ℤ, List, length, map, take, slice_index, slice_index_or, All}
 use Rattle.std.specs.List.{range_with_len, Contains}
 use Rattle.mesh_model.specs.Assembled.{Columns, corner_row, corner_rows, distinct, triple}
-use Rattle.mesh_model.specs.Hash.{bucket_of}
+use Rattle.mesh_model.specs.Hash.{bucket_of, row_hash}
+
+-- the hashes of the first `count` rows
+pub record AreHashes (rows : List (List ℤ)) (count : ℕ) (hashes : List ℕ) : Type 0 where
+  pub each : length hashes ≡ count
+  pub at : (p : ℕ) → p < count → slice_index hashes p ≡ row_hash (slice_index_or rows p [])
 
 -- the bucket of row p
 abbrev pub row_bucket : List (List ℤ) → ℕ → ℕ → ℕ
-row_bucket rows mask p = bucket_of mask (slice_index_or rows p [])
+row_bucket rows mask p = bucket_of mask (row_hash (slice_index_or rows p []))
 
 -- the chain of each of the first `count` rows has every earlier row of its bucket, of mask + 1 buckets
 pub record AreChained (rows : List (List ℤ)) (mask count : ℕ) (links : List ℕ) : Type 0 where
@@ -25,10 +30,10 @@ pub record AreChains (rows : List (List ℤ)) (count : ℕ) (links : List ℕ) :
 abbrev pub rows_at : List (List ℤ) → List ℕ → List (List ℤ)
 rows_at rows numbers = map (λ p. slice_index_or rows p []) numbers
 
--- numbers of the first `count` rows, among which are all that equal an earlier one
-pub record AreKept (rows : List (List ℤ)) (count : ℕ) (kept : List ℕ) : Type 0 where
+-- numbers of the first `count` hashes, among which are all that equal an earlier one
+pub record AreKept (hashes : List ℕ) (count : ℕ) (kept : List ℕ) : Type 0 where
   pub within : All (λ p. p < count) kept
-  pub all : (p q : ℕ) → p < count → q < p → slice_index_or rows q [] ≡ slice_index_or rows p [] → Contains kept p
+  pub all : (p q : ℕ) → p < count → q < p → slice_index hashes q ≡ slice_index hashes p → Contains kept p
 
 -- numbers that rise
 abbrev pub AreRising : List ℕ → Type 0
@@ -40,6 +45,17 @@ pub record ArePassing (Passes : ℕ → Type 0) (count : ℕ) (chosen : List ℕ
   pub within : All (λ p. p < count) chosen
   pub rising : AreRising chosen
   pub all : (p : ℕ) → p < count → Passes p → Contains chosen p
+
+-- a hash equals another one of the first `count`
+pub record HasEqualHash (hashes : List ℕ) (count p : ℕ) : Type 0 where
+  pub other : ℕ
+  pub within : other < count
+  pub apart : other ≢ p
+  pub equal : slice_index hashes other ≡ slice_index hashes p
+
+-- numbers of the first `count` hashes, rising, among which are all that equal another one
+abbrev pub AreChosenHashes : List ℕ → ℕ → List ℕ → Type 0
+AreChosenHashes hashes count chosen = ArePassing (HasEqualHash hashes count) count chosen
 
 -- a row equals another one of the first `count`
 pub record HasEqual (rows : List (List ℤ)) (count p : ℕ) : Type 0 where

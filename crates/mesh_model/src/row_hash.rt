@@ -1,7 +1,13 @@
 //! Hashes of rows.
 
-ghost use Rattle.std.specs.Prelude.{◌≡◌, ◌≤◌};
+ghost use Rattle.std.specs.Prelude.{◌≡◌, ◌*◌, ◌<◌, ◌≤◌, IfOk, length};
 ghost use Rattle.mesh_model.specs.Hash.{bucket_of, hash_from, mixed, row_hash, sieve_of};
+ghost use Rattle.mesh_model.specs.Parts.{rows_of};
+ghost use Rattle.mesh_model.specs.RowIndex.{AreHashes};
+
+use crate::row_rules::stored_row;
+use drc_base::Memory;
+use std::alloc::Global;
 
 /// A hash with one more value. The upper half goes into the lower half first, since a product keeps what its
 /// factors have in common at their lower ends.
@@ -43,20 +49,38 @@ fn row_hash(row: &[i32]) -> u32
     hash ^ (hash >> 15)
 }
 
-/// The bucket of a row among `mask` + 1.
-#[tactic(auto, unfolding(crate::specs::Hash::bucket_of))]
-pub(crate) fn row_bucket(mask: u32, row: &[i32]) -> u32
-    ensures bucket { result ≡ bucket_of mask row.now }
-    ensures bound { result ≤ mask }
+/// The hash of each row.
+pub(crate) fn row_hashes(
+    alloc: Global,
+    width: u32,
+    count: u32,
+    cells: &[i32],
+) -> Result<Vec<u32>, Memory>
+    requires whole { length cells.now ≡ count * width }
+    requires wide { 0 < width }
+    ensures { IfOk result (λ hashes. AreHashes (rows_of width cells.now) count hashes.items) }
 {
-    row_hash(row) & mask
+    let mut hashes = Vec::with_capacity(alloc, count as usize)?;
+    for i in 0..count {
+        hashes.push_reserved(row_hash(stored_row(cells, width, count, i)));
+    }
+    Ok(hashes)
 }
 
-/// Another bucket of a row among `mask` + 1: two rows of one bucket seldom share this one too.
-#[tactic(auto, unfolding(crate::specs::Hash::sieve_of))]
-pub(crate) fn row_sieve(mask: u32, row: &[i32]) -> u32
-    ensures bucket { result ≡ sieve_of mask row.now }
+/// The bucket of a hash among `mask` + 1.
+#[tactic(auto, unfolding(crate::specs::Hash::bucket_of))]
+pub(crate) fn bucket_of(mask: u32, hash: u32) -> u32
+    ensures bucket { result ≡ bucket_of mask hash }
     ensures bound { result ≤ mask }
 {
-    row_hash(row).rotate_left(16) & mask
+    hash & mask
+}
+
+/// Another bucket of a hash among `mask` + 1: two hashes of one bucket seldom share this one too.
+#[tactic(auto, unfolding(crate::specs::Hash::sieve_of))]
+pub(crate) fn sieve_of(mask: u32, hash: u32) -> u32
+    ensures bucket { result ≡ sieve_of mask hash }
+    ensures bound { result ≤ mask }
+{
+    hash.rotate_left(16) & mask
 }

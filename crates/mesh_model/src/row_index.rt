@@ -1,12 +1,12 @@
 //! An index of rows: finds which rows are equal to earlier ones, in a few steps a row.
 
-ghost use Rattle.std.specs.Prelude.{◌≡◌, ◌+◌, ◌*◌, ◌<◌, ◌≤◌, ◌^◌, ℕ, [], All, IfOk, MatchOption, false, length, slice_index, slice_index_or};
+ghost use Rattle.std.specs.Prelude.{◌≡◌, ◌+◌, ◌*◌, ◌<◌, ◌≤◌, ◌^◌, ℕ, ℤ, List, [], All, IfOk, MatchOption, false, length, slice_index, slice_index_or};
 ghost use Rattle.mesh_model.specs.Parts.{rows_of};
-ghost use Rattle.mesh_model.specs.RowIndex.{AreChains, AreRising, AreSpread, AreTwins, AreUnlike, IsTwin, rows_at};
+ghost use Rattle.mesh_model.specs.RowIndex.{AreChains, AreHashes, AreRising, AreSpread, AreTwins, AreUnlike, IsTwin, rows_at};
 
 use crate::comparisons::{COMPARISONS_A_ROW, Comparisons, MORE_COMPARISONS};
-use crate::row_filter::chosen_rows;
-use crate::row_hash::row_bucket;
+use crate::row_filter::chosen_hashes;
+use crate::row_hash::{bucket_of, row_hashes};
 use crate::row_numbers::twins_by_columns;
 use crate::row_rules::stored_row;
 use drc_base::Memory;
@@ -23,29 +23,27 @@ fn chosen_row<'a>(cells: &'a [i32], width: u32, count: u32, chosen: &[u32], i: u
     stored_row(cells, width, count, chosen[i as usize])
 }
 
-/// Links each chosen row to the latest one before it in its bucket. No row is compared, so that no step waits for the
-/// one before. `tops`, which is 0 at first, has a place for each bucket.
+/// Links each chosen row to the latest one before it in the bucket of its hash. No row is looked at, so that no step
+/// waits for the one before. `tops`, which is 0 at first, has a place for each bucket.
 fn link_rows(
     alloc: Global,
-    width: u32,
-    count: u32,
-    cells: &[i32],
+    hashes: &[u32],
     chosen: &[u32],
     mask: u32,
     tops: &mut [u32],
 ) -> Result<Vec<u32>, Memory>
-    requires whole { length cells.now ≡ count * width }
-    requires wide { 0 < width }
-    requires chosen { All (λ p. p < count) chosen.now }
+    requires chosen { All (λ p. p < length hashes.now) chosen.now }
     requires few { length chosen.now + 1 < 2 ^ 32 }
     requires buckets { length tops.old ≡ mask + 1 }
     requires none { All (λ top. top ≡ 0) tops.old }
-    ensures chains { IfOk result (λ links. AreChains (rows_at (rows_of width cells.now) chosen.now) (length chosen.now) links.items) }
+    ensures chains { IfOk result (λ links. (rows : List (List ℤ)) → AreHashes rows (length hashes.now) hashes.now →
+        AreChains (rows_at rows chosen.now) (length chosen.now) links.items) }
     ensures long { IfOk result (λ links. length links.items ≡ length chosen.now) }
 {
     let mut links = Vec::with_capacity(alloc, chosen.len())?;
     for i in 0..chosen.len() as u32 {
-        let bucket = row_bucket(mask, chosen_row(cells, width, count, chosen, i)) as usize;
+        let row = chosen[i as usize];
+        let bucket = bucket_of(mask, hashes[row as usize]) as usize;
         links.push_reserved(tops[bucket]);
         tops[bucket] = i + 1;
     }
@@ -164,12 +162,14 @@ pub(crate) fn twins_of(
         (λ links. AreTwins (rows_of width cells.now) count links.items × (length links.items ≡ count))) }
     ensures cost { comparisons.new.made ≤ comparisons.old.made + (COMPARISONS_A_ROW * count + MORE_COMPARISONS) }
 {
-    let chosen = chosen_rows(alloc, width, count, cells)?;
+    let hashes = row_hashes(alloc, width, count, cells)?;
+    let hashes = hashes.as_slice();
+    let chosen = chosen_hashes(alloc, hashes)?;
     let chosen = chosen.as_slice();
     let buckets = (chosen.len() as u32 + 1).next_power_of_two();
     let mut tops = vec![in alloc; 0; buckets as usize]?;
     let tops = tops.as_mut_slice();
-    let mut links = link_rows(alloc, width, count, cells, chosen, buckets - 1, tops)?;
+    let mut links = link_rows(alloc, hashes, chosen, buckets - 1, tops)?;
     let links = links.as_mut_slice();
     comparisons.allow(chosen.len() as u32);
     match keep_twins(links, width, count, cells, chosen, comparisons) {
