@@ -1,5 +1,5 @@
 -- What a step of the code makes of a stored walk.
-use Rattle.std.proofs.Common.{◌≡◌, ℕ, ◌*◌, ◌/◌, ◌<◌, ◌≤◌, Bool, true, false, not, ◌&&◌, nat_eq, nat_le, List, [], ◌∷◌, ◌++◌, length, get_or, set, map, All, inl, inr, sym, refl, ap, ◌∙◌, subst, arith, vec_len, eq-eqb, ne_eqb}
+use Rattle.std.proofs.Common.{◌≡◌, ℕ, ◌*◌, ◌/◌, ◌<◌, ◌≤◌, Bool, true, false, not, ◌&&◌, nat_eq, nat_le, List, [], ◌∷◌, ◌++◌, length, get_or, set, map, All, inl, inr, sym, refl, ap, ◌∙◌, subst, arith, vec_len, vec_capacity, eq-eqb, ne_eqb}
 use Rattle.std.proofs.lemmas.Bool.{cases_lt, le-leb, lt-leb}
 use Rattle.std.proofs.lemmas.List.{length-map, map-append}
 use Rattle.std.proofs.lemmas.List.Elements.{All-nil, All-push}
@@ -14,7 +14,7 @@ use Rattle.walk_order.specs.Visits.{is_new}
 use Rattle.walk_order.specs.DepthFirst.{goes_right_alone}
 use Rattle.walk_order.specs.Stored.{new_mark, IsSurface, IsStored, IsEntryTable, marked_entries, marked_walk, ordered_so_far}
 use Rattle.walk_order.proofs.Surfaces.{few_classes, labels_within}
-use Rattle.walk_order.proofs.Tables.{table_more, table_none, kept_new, mark_high}
+use Rattle.walk_order.proofs.Tables.{table_more, table_none, kept_new, mark_high, length-last}
 use Rattle.walk_order.proofs.Faces.{faces_none, faces_more}
 
 -- the numbers of entries fit
@@ -32,13 +32,41 @@ few_in_table : {s : Surface} {m : Marks} → IsSurface s → IsStored s m → le
 few_in_table S M = let f = few_classes S in let l = M.table.long in omega arith
 
 -- before the walk
-pub nothing_stored : (s : Surface) (m : Marks) → vec_len m.visited ≡ s.faces → m.entries.items ≡ [] → m.entry_of_class.items ≡ map new_mark s.ends.now → m.faces_across.items ≡ [] → IsStored s m
-nothing_stored s m z e t f = record {
+pub nothing_stored : (s : Surface) (m : Marks) → vec_len m.visited ≡ s.faces → m.entries.items ≡ [] → m.entry_of_class.items ≡ map new_mark s.ends.now → m.faces_across.items ≡ [] →
+    length s.ends.now ≤ vec_capacity m.entries → length s.ends.now ≤ vec_capacity m.faces_across → IsStored s m
+nothing_stored s m z e t f room room_across = record {
   sized = z;
   table = subst (λ (es : List ℕ). IsEntryTable s.labels.now s.ends.now (map side_at es) m.entry_of_class.items) (sym e) (table_none s.labels.now s.ends.now m.entry_of_class.items t);
   corners = subst (All (λ (c : ℕ). c < 3 * s.faces)) (sym e) (All-nil (λ (c : ℕ). c < 3 * s.faces));
   faces = faces_none (ordered_so_far s m) m.faces_across.items f (ap (map side_at) e);
+  room = room;
+  room_across = room_across;
 }
+
+-- while a class is new, there are fewer entries than classes
+fewer_than_classes : {s : Surface} {m : Marks} → IsSurface s → IsStored s m → (corner : ℕ) → corner < 3 * s.faces → is_new s.labels.now (marked_entries m) (side_at corner) ≡ true → length (marked_entries m) < length s.ends.now
+fewer_than_classes {s} {m} S M corner h new =
+    let more = table_more s.labels.now s.ends.now (marked_entries m) m.entry_of_class.items (side_at corner) M.table (class_within S M corner h) (few_in_table S M) new in
+    let counted = more.counted in
+    let long = more.long in
+    let last = length-last (marked_entries m) (side_at corner) in
+    omega arith
+
+-- so there is room for its entry
+pub room_for_entry : {s : Surface} {m : Marks} → IsSurface s → IsStored s m → (corner : ℕ) → corner < 3 * s.faces → is_new s.labels.now (marked_entries m) (side_at corner) ≡ true → length m.entries.items < vec_capacity m.entries
+room_for_entry {s} {m} S M corner h new =
+    let few = fewer_than_classes S M corner h new in
+    let l = length-map m.entries.items side_at in
+    let room = M.room in
+    omega arith
+
+-- and for its face across
+pub room_for_face : {s : Surface} {m : Marks} → IsSurface s → IsStored s m → (corner : ℕ) → corner < 3 * s.faces → is_new s.labels.now (marked_entries m) (side_at corner) ≡ true → length m.faces_across.items < vec_capacity m.faces_across
+room_for_face {s} {m} S M corner h new =
+    let few = fewer_than_classes S M corner h new in
+    let l = M.faces.each_entry in
+    let room = M.room_across in
+    omega arith
 
 -- the lists that a face across is read from fit together
 pub fit_together : {s : Surface} {m : Marks} → IsSurface s → IsStored s m → FitTogether (length s.labels.now / 3) s.across.now s.labels.now m.entry_of_class.items
@@ -58,8 +86,8 @@ pub entry_stored : (s : Surface) (m n : Marks) (corner class count : ℕ) (face 
     is_new s.labels.now (marked_entries m) (side_at corner) ≡ true → vec_len n.visited ≡ s.faces → count ≡ length m.entries.items →
     kept_face face ≡ at_corner (ordered_so_far s m) (length (marked_entries m)) (side_at corner) →
     n.entries.items ≡ m.entries.items ++ (corner ∷ []) → n.faces_across.items ≡ m.faces_across.items ++ (face ∷ []) → n.entry_of_class.items ≡ set m.entry_of_class.items class count →
-    IsStored s n
-entry_stored s m n corner class count face S M h k new z l f i j t = record {
+    vec_capacity n.entries ≡ vec_capacity m.entries → vec_capacity n.faces_across ≡ vec_capacity m.faces_across → IsStored s n
+entry_stored s m n corner class count face S M h k new z l f i j t same same_across = record {
   sized = z;
   table = subst (λ (es : List Side). IsEntryTable s.labels.now s.ends.now es n.entry_of_class.items) (sym entries)
       (subst (IsEntryTable s.labels.now s.ends.now (marked_entries m ++ (side_at corner ∷ []))) (sym table)
@@ -70,6 +98,8 @@ entry_stored s m n corner class count face S M h k new z l f i j t = record {
       (subst (AreFaces (ordered_from s.across.now s.labels.now (set m.entry_of_class.items (label_at s.labels.now (side_at corner)) (length (marked_entries m))) (marked_entries m ++ (side_at corner ∷ [])))) (sym j)
       (faces_more s.across.now s.labels.now m.entry_of_class.items (marked_entries m) m.faces_across.items (side_at corner) (label_at s.labels.now (side_at corner)) face
       (class_within S M corner h) mark M.faces f)));
+  room = let room = M.room in omega arith;
+  room_across = let room = M.room_across in omega arith;
 }
   where
     entries : marked_entries n ≡ marked_entries m ++ (side_at corner ∷ [])

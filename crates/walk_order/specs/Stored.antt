@@ -1,6 +1,6 @@
 -- How a walk lies in the lists of the code.
 use Rattle.std.specs.Prelude.{◌≡◌, ℕ, ◌+◌, ◌*◌, ◌<◌, ◌≤◌, Bool, true, false, cond, nat_le, Option, Some, None}
-use Rattle.std.specs.Prelude.{List, [], ◌∷◌, length, get_or, map, count_by, All, vec_len}
+use Rattle.std.specs.Prelude.{List, [], ◌∷◌, length, get_or, map, count_by, All, vec_len, vec_capacity}
 use Rattle.drc_base.specs.declared.limits.TheConstants.{MAX_FACES}
 use Rattle.corner_table.specs.Sides.{Side, next, prev, side_at, Gluing, IsGluing}
 use Rattle.corner_table.specs.Table.{glued_in}
@@ -56,12 +56,14 @@ marked_walk m = record { visited = m.visited.items; entries = marked_entries m }
 abbrev pub ordered_so_far : Surface → Marks → Ordered
 ordered_so_far s m = ordered_from s.across.now s.labels.now m.entry_of_class.items (marked_entries m)
 
--- a walk as it is stored
+-- a walk as it is stored, with room for an entry of each class
 pub record IsStored (s : Surface) (m : Marks) : Type 0 where
   pub sized : vec_len m.visited ≡ s.faces
   pub table : IsEntryTable s.labels.now s.ends.now (marked_entries m) m.entry_of_class.items
   pub corners : All (λ (c : ℕ). c < 3 * s.faces) m.entries.items
   pub faces : AreFaces (ordered_so_far s m) m.faces_across.items
+  pub room : length s.ends.now ≤ vec_capacity m.entries
+  pub room_across : length s.ends.now ≤ vec_capacity m.faces_across
 
 -- every class has an entry
 abbrev pub AllHaveEntries : List ℕ → List Side → ℕ → Type 0

@@ -254,7 +254,7 @@ impl Ranks {
         ensures within { IfOk result (λ next. IfSome next (λ n. n < 3 * s.now.faces)) }
         ensures visit { IfOk result (λ next. (ranked_of self.new, option_map side_at next) ≡ ranked_visit (gluing_in s.now) s.now.labels.now (ranked_of self.old) (side_at at)) }
     {
-        self.marks.enter(s, at)?;
+        self.marks.enter(s, at);
         let left = self.unvisited_across(s, previous_number(at));
         let right = self.unvisited_across(s, next_number(at));
         self.turn(s, left, right)
@@ -289,8 +289,8 @@ impl Ranks {
         if self.marks.is_visited(face) {
             return Ok(());
         }
-        self.marks.add_entry(s, 3 * face + 1)?;
-        self.marks.add_entry(s, 3 * face + 2)?;
+        self.marks.add_entry(s, 3 * face + 1);
+        self.marks.add_entry(s, 3 * face + 2);
         self.best = 0;
         self.visits(s, 3 * face)?;
         Ok(())

@@ -52,7 +52,7 @@ fn visit(
     if marks.is_visited(at / 3) {
         return Ok(None);
     }
-    let alone = marks.enter(s, at)?;
+    let alone = marks.enter(s, at);
     if !alone {
         keep(stack, s.across_of(previous_number(at)))?;
     }
@@ -104,8 +104,8 @@ fn walk_from(
     if marks.is_visited(face) {
         return Ok(());
     }
-    marks.add_entry(s, 3 * face + 1)?;
-    marks.add_entry(s, 3 * face + 2)?;
+    marks.add_entry(s, 3 * face + 1);
+    marks.add_entry(s, 3 * face + 2);
     walk_on(s, marks, stack, 3 * face)?;
     Ok(())
 }

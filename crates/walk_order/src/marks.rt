@@ -1,6 +1,6 @@
 //! What a walk has visited, and the entries so far.
 
-ghost use Rattle.std.specs.Prelude.{◌≡◌, ◌+◌, ◌*◌, ◌<◌, ◌++◌, ◌∷◌, [], true, IfOk, OnOk, length, map, vec_len, get_or};
+ghost use Rattle.std.specs.Prelude.{◌≡◌, ◌+◌, ◌*◌, ◌<◌, ◌++◌, ◌∷◌, [], true, IfOk, length, map, vec_len, get_or};
 ghost use Rattle.corner_table.specs.Sides.{side_at};
 ghost use Rattle.corner_table.specs.Labels.{label_at};
 ghost use Rattle.corner_table.specs.Ordered.{at_corner, kept_face};
@@ -20,7 +20,7 @@ pub(crate) const NEW: u32 = u32::MAX;
 pub(crate) const NEW_AT_END: u32 = u32::MAX - 1;
 
 /// Which faces are visited, the corners of the entries in order, for each class the number of its entry,
-/// and for each entry the face across.
+/// and for each entry the face across. There is room for an entry of each class.
 #[derive(Drop)]
 pub(crate) struct Marks {
     pub(crate) visited: Vec<bool>,
@@ -101,66 +101,64 @@ impl Marks {
     }
 
     /// A class without an entry gets the next one, with the face across the side of its corner.
-    fn give_entry(&mut self, s: &Surface<'_>, corner: u32, class: u32) -> Result<(), Memory>
+    fn give_entry(&mut self, s: &Surface<'_>, corner: u32, class: u32)
         requires surface { IsSurface s.now }
         requires corner { corner < 3 * s.now.faces }
         requires stored { IsStored s.now self.old }
         requires class { class ≡ label_at s.now.labels.now (side_at corner) }
         requires new { is_new s.now.labels.now (marked_entries self.old) (side_at corner) ≡ true }
-        ensures stored { OnOk result (IsStored s.now self.new) }
-        ensures visited { OnOk result (self.new.visited ≡ self.old.visited) }
-        ensures entries { OnOk result (marked_entries self.new ≡ marked_entries self.old ++ (side_at corner ∷ [])) }
+        ensures stored { IsStored s.now self.new }
+        ensures visited { self.new.visited ≡ self.old.visited }
+        ensures entries { marked_entries self.new ≡ marked_entries self.old ++ (side_at corner ∷ []) }
     {
         let number = self.entries.len() as u32;
         let face = self.face_across(s, corner);
-        self.entries.push(corner)?;
-        self.faces_across.push(face)?;
+        self.entries.push_reserved(corner);
+        self.faces_across.push_reserved(face);
         self.entry_of_class[class as usize] = number;
-        Ok(())
     }
 
     /// A corner becomes the next entry, if its class is new; what was kept for the class.
-    fn take_entry(&mut self, s: &Surface<'_>, corner: u32) -> Result<u32, Memory>
+    fn take_entry(&mut self, s: &Surface<'_>, corner: u32) -> u32
         requires surface { IsSurface s.now }
         requires corner { corner < 3 * s.now.faces }
         requires stored { IsStored s.now self.old }
-        ensures stored { OnOk result (IsStored s.now self.new) }
-        ensures visited { OnOk result (self.new.visited ≡ self.old.visited) }
-        ensures entries { OnOk result (marked_entries self.new ≡ with_entry s.now.labels.now (marked_entries self.old) (side_at corner)) }
-        ensures kept { IfOk result (λ v. v ≡ get_or self.old.entry_of_class.items (label_at s.now.labels.now (side_at corner)) 0) }
+        ensures stored { IsStored s.now self.new }
+        ensures visited { self.new.visited ≡ self.old.visited }
+        ensures entries { marked_entries self.new ≡ with_entry s.now.labels.now (marked_entries self.old) (side_at corner) }
+        ensures kept { result ≡ get_or self.old.entry_of_class.items (label_at s.now.labels.now (side_at corner)) 0 }
     {
         let class = s.class_of(corner);
         let kept = self.mark_of(class);
         if kept >= NEW_AT_END {
-            self.give_entry(s, corner, class)?;
+            self.give_entry(s, corner, class);
         }
-        Ok(kept)
+        kept
     }
 
     /// A corner becomes the next entry, if its class is new.
-    pub(crate) fn add_entry(&mut self, s: &Surface<'_>, corner: u32) -> Result<(), Memory>
+    pub(crate) fn add_entry(&mut self, s: &Surface<'_>, corner: u32)
         requires surface { IsSurface s.now }
         requires corner { corner < 3 * s.now.faces }
         requires stored { IsStored s.now self.old }
-        ensures stored { OnOk result (IsStored s.now self.new) }
-        ensures visited { OnOk result (self.new.visited ≡ self.old.visited) }
-        ensures entries { OnOk result (marked_entries self.new ≡ with_entry s.now.labels.now (marked_entries self.old) (side_at corner)) }
+        ensures stored { IsStored s.now self.new }
+        ensures visited { self.new.visited ≡ self.old.visited }
+        ensures entries { marked_entries self.new ≡ with_entry s.now.labels.now (marked_entries self.old) (side_at corner) }
     {
-        self.take_entry(s, corner)?;
-        Ok(())
+        self.take_entry(s, corner);
     }
 
     /// Enters the face of a corner; whether the depth-first walk goes right alone.
-    pub(crate) fn enter(&mut self, s: &Surface<'_>, corner: u32) -> Result<bool, Memory>
+    pub(crate) fn enter(&mut self, s: &Surface<'_>, corner: u32) -> bool
         requires surface { IsSurface s.now }
         requires corner { corner < 3 * s.now.faces }
         requires stored { IsStored s.now self.old }
-        ensures stored { OnOk result (IsStored s.now self.new) }
-        ensures walk { OnOk result (marked_walk self.new ≡ entered s.now.labels.now (marked_walk self.old) (side_at corner)) }
-        ensures alone { IfOk result (λ a. a ≡ goes_right_alone s.now.labels.now s.now.ends.now (marked_walk self.old) (side_at corner)) }
+        ensures stored { IsStored s.now self.new }
+        ensures walk { marked_walk self.new ≡ entered s.now.labels.now (marked_walk self.old) (side_at corner) }
+        ensures alone { result ≡ goes_right_alone s.now.labels.now s.now.ends.now (marked_walk self.old) (side_at corner) }
     {
-        let kept = self.take_entry(s, corner)?;
+        let kept = self.take_entry(s, corner);
         self.visited[(corner / 3) as usize] = true;
-        Ok(kept == NEW)
+        kept == NEW
     }
 }

@@ -7,7 +7,7 @@ use Rattle.walk_order.proofs.marks.Marks.take_entry.Goals as goal
 pub give_entry-requires-clause-new : goal.give_entry-requires-clause-new
 give_entry-requires-clause-new c = class_new c.requires.surface c.requires.stored _ _ _ c.requires.corner c.class_of-class.ensures.class c.mark_of-kept.ensures c.if-kept-ge-NEW_AT_END.true
 
-pub returns-in_ok-give_entry-clause-entries : goal.returns-in_ok-give_entry-clause-entries
-returns-in_ok-give_entry-clause-entries c =
-    c.in_ok-give_entry.ensures.entries
+pub returns-then-kept-ge-NEW_AT_END-clause-entries : goal.returns-then-kept-ge-NEW_AT_END-clause-entries
+returns-then-kept-ge-NEW_AT_END-clause-entries c =
+    c.give_entry.ensures.entries
     ∙ sym (cond-true _ _ _ (class_new c.requires.surface c.requires.stored _ _ _ c.requires.corner c.class_of-class.ensures.class c.mark_of-kept.ensures c.if-kept-ge-NEW_AT_END.true))
