@@ -1,7 +1,7 @@
 -- Flags of predictions that are read back from their bytes, and how many there are.
 use Rattle.std.proofs.Common.{◌≡◌, ◌≢◌, ℕ, zero, suc, ◌+◌, ◌*◌, ◌^◌, ◌<◌, ◌≤◌, ◌==◌, nat_le, Bool, true, false, ◌&&◌, ℤ, List, [], ◌∷◌, ◌++◌, length, flat_map, get_or, if◌then◌else◌, inl, inr, Option, None, Some, Ok, rules, refl, sym, ◌∙◌, ap, subst, arith}
 use Rattle.std.specs.List.{All, list_all, range_with_len}
-use Rattle.std.proofs.lemmas.Bool.{cond-true, cases_eq, cases_Bool, leb-true, false≢true}
+use Rattle.std.proofs.lemmas.Bool.{cases_eq, cases_Bool, leb-true, false≢true}
 use Rattle.std.proofs.Math.Nat.{mul-le-mul_left}
 use Rattle.std.proofs.lemmas.List.{get_or_default, map-id}
 use Rattle.drc_base.specs.declared.kinds.Kind.TheVariants as kind
@@ -17,11 +17,9 @@ use Rattle.predict.specs.Schemes.{facts}
 use Rattle.corner_table.specs.Ordered.{Ordered, IsOver}
 use Rattle.predict.specs.Surfaces.{surface_or, CanStand}
 use Rattle.predict.specs.Multi.{wanted}
-use Rattle.predict.specs.Wrap.{Range}
-use Rattle.predict.specs.Restored.{restored}
-use Rattle.predict.specs.Foretold.{foretold, marks_of, wanted_of, HasWanted, LacksWanted}
+use Rattle.predict.specs.Foretold.{marks_of, wanted_of, HasWanted, LacksWanted}
 use Rattle.predict.proofs.Foretold.{length-marks, length-mark, wanted_most, wanted_in, wanted_nowhere, flags_stand}
-use Rattle.attr_section.specs.Values.{flag_bits_at, flag_count_at, flags_at, flag_lists_at, has_flags, with_flags}
+use Rattle.attr_section.specs.Values.{flag_bits_at, flag_count_at, flags_at, flag_lists_at, has_flags}
 use Rattle.attr_section.specs.Written.{flag_bits_bytes, flags_bytes, HasFewFlags, MayHaveFewFlags, FlagsSpelled}
 use Rattle.attr_section.proofs.Spelling.{Spells-map}
 use Rattle.attr_section.proofs.SpelledIntegers.{Spells-all}
@@ -142,14 +140,6 @@ flags_fail q w lists (k, low, lacks) = elim (cases_Bool (has_flags q w lists)) [
   | inl passes ↦ let has = flags_passed q w lists passes k low in absurd (omega arith)
   | inr fails ↦ fails
 ]
-
--- where a prediction has no flags, corrections have values
-pub without_flags : (at : ℕ) (w : Ordered) (q : Prediction) (comps : ℕ) (lists : List (List Bool)) (range : Range) (corrections source v : List ℤ) (after : Reading)
-    → (facts q).flag_lists ≡ 0 → corrections ≡ source → v ≡ restored (foretold q w comps lists) range source → with_flags at w q comps lists range corrections after ≡ Ok (v, after)
-unfolding with_flags
-without_flags at w q comps lists range corrections source v after none same is =
-    cond-true _ _ _ (flags_pass q w lists (λ k low. absurd (omega (arith, none, low))))
-    ∙ ap (λ (x : List ℤ). Ok (x, after)) (ap (restored (foretold q w comps lists) range) same ∙ sym is)
 
 -- no more flags are wanted than there are corners of faces
 pub few_in : (faces : ℕ) (w : Ordered) → IsOver faces w → ((k : ℕ) → wanted w k (length w.corners) ≤ 3 * faces) → HasFewFlags w

@@ -9,11 +9,12 @@ ghost use Rattle.predict.specs.Surfaces.{surface_of, surface_or, lacks_surface, 
 ghost use Rattle.attr_section.specs.Opened.{integers_of};
 ghost use Rattle.attr_section.specs.Values.{prediction_at, range_at, transform_at, flag_lists_at, corrected_at, with_flags, predicted_at};
 
+use crate::coded_integers::CodedIntegers;
 use crate::flag_lists::read_flag_lists;
 use crate::integers::{Integers, open_integers, read_integers};
 use drc_base::{Fault, Kind, MAX_VALUES, Refusal};
 use drc_bits::Cursor;
-use predict::{Flags, Ordered, Prediction, Wrap, restore, restore_from};
+use predict::{Flags, Ordered, Prediction, Wrap, restore, restore_with_flags};
 use std::alloc::Global;
 
 /// The prediction of an attribute.
@@ -129,8 +130,34 @@ fn restored_list(
     Ok(values)
 }
 
+/// The values of coded corrections, which are taken one after another while values are restored. Where a
+/// flag is needed that isn't there, `FlagsShort` at this place.
+#[tactic(auto, unfolding(crate::specs::Values::with_flags), using(crate::proofs::SpelledFlags::flags_pass, crate::proofs::SpelledFlags::flags_fail))]
+fn restored_coded(
+    alloc: Global,
+    at: u64,
+    prediction: Prediction,
+    wrap: &Wrap,
+    comps: u32,
+    on: Option<&Ordered<'_>>,
+    flags: &Flags,
+    corrections: CodedIntegers<'_>,
+) -> Result<Vec<i32>, Refusal>
+    requires corrects { (facts prediction).corrects ≡ true }
+    requires some { 0 < comps }
+    requires over { MayBeOver (option_map (λ t. t.now) on) }
+    requires stand { CanStand prediction (surface_of (option_map (λ t. t.now) on)) comps (length corrections) }
+    ensures item { (after : Reading) → Gives (λ v. v.items) (with_flags at (surface_or (surface_of (option_map (λ t. t.now) on.entry))) prediction comps flags.now.lists wrap.now corrections.entry after) after result }
+    ensures len { IfOk result (λ v. length v.items ≡ length corrections.entry) }
+{
+    match restore_with_flags(alloc, prediction, wrap, comps, on, flags, corrections)? {
+        Ok(values) => Ok(values),
+        Err(kind) => Err(Refusal::Fault(Fault::new(kind, at))),
+    }
+}
+
 /// The values of corrections that were opened: those of coded symbols are taken one after another while
-/// values are restored, unless flags choose their predictions.
+/// values are restored.
 fn restored_values(
     alloc: Global,
     at: u64,
@@ -149,12 +176,10 @@ fn restored_values(
     ensures item { (after : Reading) → Gives (λ v. v.items) (with_flags at (surface_or (surface_of (option_map (λ t. t.now) on.entry))) prediction comps flags.now.lists wrap.now (integers_of corrections.entry) after) after result }
     ensures len { IfOk result (λ v. length v.items ≡ length (integers_of corrections.entry)) }
 {
-    if prediction.facts().flag_lists > 0 {
-        let list = corrections.into_list(alloc)?;
-        return Ok(restored_list(at, prediction, wrap, comps, on, flags, list)?);
-    }
     match corrections {
-        Integers::Coded(source) => Ok(restore_from(alloc, prediction, wrap, comps, on, source)?),
+        Integers::Coded(source) => {
+            restored_coded(alloc, at, prediction, wrap, comps, on, flags, source)
+        }
         Integers::Listed(list) => {
             Ok(restored_list(at, prediction, wrap, comps, on, flags, list)?)
         }

@@ -33,7 +33,12 @@ fn value_before(values: &[i32], comps: usize) -> i32
 
 /// Puts the value of the next correction behind the others, from what is foretold of it.
 #[inline(always)]
-fn put_value<C: CorrectionSource>(w: &Wrap, foretold: i32, values: &mut Vec<i32>, source: &mut C)
+pub(crate) fn put_value<C: CorrectionSource>(
+    w: &Wrap,
+    foretold: i32,
+    values: &mut Vec<i32>,
+    source: &mut C,
+)
     requires some { 0 < length (C.left source.old) }
     requires room { vec_len values.old < vec_capacity values.old }
     ensures values { (f : List ℤ → ℤ) → f values.old.items ≡ foretold
@@ -48,7 +53,7 @@ fn put_value<C: CorrectionSource>(w: &Wrap, foretold: i32, values: &mut Vec<i32>
 
 /// Puts the values of entry `e`, foretold by the entry before.
 #[inline(always)]
-fn put_by_difference<C: CorrectionSource>(
+pub(crate) fn put_by_difference<C: CorrectionSource>(
     w: &Wrap,
     comps: usize,
     e: usize,

@@ -33,7 +33,7 @@ fn list_at(flags: &Flags, k: usize) -> &[bool]
 
 /// The faces of an entry that its flags keep; `used` has how many flags of each list are taken. None
 /// where the list has too few.
-fn take_flags(
+pub(crate) fn take_flags(
     flags: &Flags,
     used: &mut [usize; 4],
     found: &[FaceAcross],

@@ -97,6 +97,24 @@ fn from_before(v: &[i32], comps: usize, e: usize, j: usize) -> i32
     }
 }
 
+/// Component `j` of entry `e`, predicted by the mean of the parallelograms over these faces.
+#[inline(always)]
+pub(crate) fn mean_of(v: &[i32], comps: usize, e: usize, faces: &[FaceAcross], j: usize) -> i32
+    requires component { j < comps }
+    requires below { All (IsBelow e) faces.now }
+    requires within { e * comps ≤ length v.now }
+    requires some { 0 < length faces.now }
+    requires few { length faces.now ≤ 4 }
+    ensures { result ≡ by_many comps faces.now j (take (e * comps + j) v.now) }
+{
+    match faces.len() {
+        1 => fourth_of(v, comps, e, faces, 0, j),
+        2 => half(sum_of_two(v, comps, e, faces, j)),
+        3 => third(sum_of_three(v, comps, e, faces, j)),
+        _ => quarter(sum_of_four(v, comps, e, faces, j)),
+    }
+}
+
 /// Component `j` of entry `e`, predicted from the entries before: from the parallelograms over these
 /// faces, or from the entry before where there is none.
 pub(crate) fn predicted(v: &[i32], comps: usize, e: usize, faces: &[FaceAcross], j: usize) -> i32
@@ -106,11 +124,9 @@ pub(crate) fn predicted(v: &[i32], comps: usize, e: usize, faces: &[FaceAcross],
     requires few { length faces.now ≤ 4 }
     ensures { result ≡ by_many comps faces.now j (take (e * comps + j) v.now) }
 {
-    match faces.len() {
-        0 => from_before(v, comps, e, j),
-        1 => fourth_of(v, comps, e, faces, 0, j),
-        2 => half(sum_of_two(v, comps, e, faces, j)),
-        3 => third(sum_of_three(v, comps, e, faces, j)),
-        _ => quarter(sum_of_four(v, comps, e, faces, j)),
+    if faces.len() == 0 {
+        from_before(v, comps, e, j)
+    } else {
+        mean_of(v, comps, e, faces, j)
     }
 }

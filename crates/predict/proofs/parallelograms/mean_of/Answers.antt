@@ -1,7 +1,7 @@
 use Rattle.std.proofs.Common.{rules, ◌≡◌, length, FitsSigned, w32, arith}
 use Rattle.std.proofs.lemmas.Int.{to_z-of_z}
 use Rattle.predict.proofs.Means.{predicted_one, predicted_two, predicted_three, predicted_four}
-use Rattle.predict.proofs.parallelograms.predicted.Goals as goal
+use Rattle.predict.proofs.parallelograms.mean_of.Goals as goal
 
 pub returns-in-1 : goal.returns-in-1
 returns-in-1 c =
