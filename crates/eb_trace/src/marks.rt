@@ -104,6 +104,7 @@ impl Marks {
     }
 
     /// The symbol at a corner.
+    #[inline(always)]
     pub(crate) fn symbol_at(&self, s: &Surface<'_>, corner: u32) -> Symbol
         requires surface { IsTracedSurface s.now }
         requires sized { AreSized s.now self.now }
@@ -117,6 +118,7 @@ impl Marks {
     }
 
     /// The number of the S of the face of a side, if it has one.
+    #[inline(always)]
     pub(crate) fn split_of(&self, s: &Surface<'_>, side: Option<u32>) -> u32
         requires sized { AreSized s.now self.now }
         requires side { IfSome side (λ n. n < 3 * s.now.faces) }
@@ -144,6 +146,7 @@ impl Marks {
     }
 
     /// Marks a face and its vertices.
+    #[inline(always)]
     pub(crate) fn mark(&mut self, s: &Surface<'_>, face: u32)
         requires surface { IsTracedSurface s.now }
         requires sized { AreSized s.now self.old }

@@ -42,6 +42,7 @@ pub(crate) fn no_notes(alloc: Global, faces: u32) -> Result<Notes, Memory>
 }
 
 /// Notes the event by a symbol of an S, if there is one.
+#[inline(always)]
 pub(crate) fn note_event(
     events: &mut Vec<Event>,
     source: u32,

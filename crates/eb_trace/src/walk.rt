@@ -29,6 +29,7 @@ fn split_entry(number: u32, symbol: Symbol) -> u32
 }
 
 /// Enters a face.
+#[inline(always)]
 fn enter(
     s: &Surface<'_>,
     marks: &mut Marks,
@@ -51,6 +52,7 @@ fn enter(
 }
 
 /// Notes the events of a face about to be entered.
+#[inline(always)]
 fn note_events(s: &Surface<'_>, marks: &Marks, notes: &mut Notes, corner: u32) -> Result<(), Memory>
     requires surface { IsTracedSurface s.now }
     requires corner { corner < 3 * s.now.faces }
@@ -67,6 +69,7 @@ fn note_events(s: &Surface<'_>, marks: &Marks, notes: &mut Notes, corner: u32) -
 }
 
 /// Keeps the corner across, if there is one.
+#[inline(always)]
 fn keep(notes: &mut Notes, side: Option<u32>) -> Result<(), Memory>
     ensures rest { OnOk result (notes.new ≡ record notes.old { kept = notes.new.kept }) }
     ensures kept { OnOk result (map side_at (reverse notes.new.kept.items) ≡ pushed (option_map side_at side) (map side_at (reverse notes.old.kept.items))) }
@@ -80,6 +83,7 @@ fn keep(notes: &mut Notes, side: Option<u32>) -> Result<(), Memory>
 }
 
 /// Takes kept corners off, up to and with the first of an unvisited face.
+#[inline(always)]
 fn take_kept(s: &Surface<'_>, marks: &Marks, notes: &mut Notes) -> Option<u32>
     requires stored { IsTraceStored s.now marks.now notes.old }
     ensures stored { IsTraceStored s.now marks.now notes.new }
@@ -99,6 +103,7 @@ fn take_kept(s: &Surface<'_>, marks: &Marks, notes: &mut Notes) -> Option<u32>
 }
 
 /// What a symbol does at a corner, and where the run goes on.
+#[inline(always)]
 fn after_symbol(
     s: &Surface<'_>,
     marks: &mut Marks,
@@ -145,6 +150,7 @@ fn after_symbol(
 }
 
 /// Visits the face of a corner, and answers where the run goes on.
+#[inline(always)]
 fn visit(
     s: &Surface<'_>,
     marks: &mut Marks,
@@ -164,6 +170,7 @@ fn visit(
 }
 
 /// A run from a corner.
+#[inline(always)]
 fn run(s: &Surface<'_>, marks: &mut Marks, notes: &mut Notes, corner: u32) -> Result<(), Memory>
     requires surface { IsTracedSurface s.now }
     requires corner { corner < 3 * s.now.faces }

@@ -22,6 +22,7 @@ use drc_base::Memory;
 use std::alloc::Global;
 
 /// A corner waits, if there is one.
+#[inline(always)]
 fn keep(stack: &mut Vec<u32>, corner: Option<u32>) -> Result<(), Memory>
     ensures kept { OnOk result (map side_at (reverse stack.new.items) ≡ before (option_map side_at corner) (map side_at (reverse stack.old.items))) }
     ensures within { OnOk result ((corners : ℕ) → IfSome corner (λ n. n < corners) → All (λ (k : ℕ). k < corners) stack.old.items → All (λ (k : ℕ). k < corners) stack.new.items) }
@@ -34,6 +35,7 @@ fn keep(stack: &mut Vec<u32>, corner: Option<u32>) -> Result<(), Memory>
 }
 
 /// One turn at a corner; the corner to go on at.
+#[inline(always)]
 fn visit(
     s: &Surface<'_>,
     marks: &mut Marks,
@@ -60,6 +62,7 @@ fn visit(
 }
 
 /// The walk from a corner.
+#[inline(always)]
 fn walk_on(
     s: &Surface<'_>,
     marks: &mut Marks,

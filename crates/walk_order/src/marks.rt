@@ -89,6 +89,7 @@ impl Marks {
     }
 
     /// The face across the side of a corner, where there is one whose classes all have entries.
+    #[inline(always)]
     fn face_across(&self, s: &Surface<'_>, corner: u32) -> FaceAcross
         requires surface { IsSurface s.now }
         requires corner { corner < 3 * s.now.faces }
@@ -101,6 +102,7 @@ impl Marks {
     }
 
     /// A class without an entry gets the next one, with the face across the side of its corner.
+    #[inline(always)]
     fn give_entry(&mut self, s: &Surface<'_>, corner: u32, class: u32)
         requires surface { IsSurface s.now }
         requires corner { corner < 3 * s.now.faces }
@@ -119,6 +121,7 @@ impl Marks {
     }
 
     /// A corner becomes the next entry, if its class is new; what was kept for the class.
+    #[inline(always)]
     fn take_entry(&mut self, s: &Surface<'_>, corner: u32) -> u32
         requires surface { IsSurface s.now }
         requires corner { corner < 3 * s.now.faces }
@@ -149,6 +152,7 @@ impl Marks {
     }
 
     /// Enters the face of a corner; whether the depth-first walk goes right alone.
+    #[inline(always)]
     pub(crate) fn enter(&mut self, s: &Surface<'_>, corner: u32) -> bool
         requires surface { IsSurface s.now }
         requires corner { corner < 3 * s.now.faces }
