@@ -69,11 +69,24 @@ fn put_row(
     Ok(())
 }
 
-/// Appends `comps` integers of a column, from `start` on.
+/// Appends `comps` integers of a column, from `start` on: up to three one by one, which costs less than a
+/// call that copies.
 fn put_piece(cells: &mut Vec<i32>, column: &[i32], start: usize, comps: usize) -> Result<(), Memory>
     requires { start + comps ≤ length column.now }
     ensures { OnOk result (cells.new.items ≡ cells.old.items ++ take comps (drop start column.now)) }
 {
-    cells.extend_from_slice(&column[start..start + comps])?;
+    match &column[start..start + comps] {
+        [a] => cells.push(*a)?,
+        [a, b] => {
+            cells.push(*a)?;
+            cells.push(*b)?;
+        }
+        [a, b, d] => {
+            cells.push(*a)?;
+            cells.push(*b)?;
+            cells.push(*d)?;
+        }
+        values => cells.extend_from_slice(values)?,
+    }
     Ok(())
 }
