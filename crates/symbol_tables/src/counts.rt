@@ -73,9 +73,9 @@ fn shares_of(alloc: Global, counts: &[u32], slots: u32) -> Result<Vec<u32>, Memo
 {
     let all = total_of(counts);
     let others = slots - used_in(counts) as u32;
-    let mut given = Vec::new(alloc);
+    let mut given = Vec::with_capacity(alloc, counts.len())?;
     for n in counts {
-        given.push(share(others, all, *n))?;
+        given.push_reserved(share(others, all, *n));
     }
     Ok(given)
 }

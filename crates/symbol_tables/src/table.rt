@@ -37,10 +37,10 @@ fn cums_of(alloc: Global, probs: &[u32]) -> Result<Vec<u32>, Memory>
     ensures len { IfOk result (λ v. length v.items ≡ length probs.now) }
     ensures cums { IfOk result (λ v. (s : ℕ) → s < length probs.now → slice_index v.items s ≡ cum_of probs.now s) }
 {
-    let mut cums = Vec::new(alloc);
+    let mut cums = Vec::with_capacity(alloc, probs.len())?;
     let mut cum = 0u32;
     for s in 0..probs.len() {
-        cums.push(cum)?;
+        cums.push_reserved(cum);
         cum += probs[s];
     }
     Ok(cums)
