@@ -1,7 +1,7 @@
 -- Numbers for pairs of numbers, one list of items after another.
 use Rattle.std.proofs.Common.{◌≡◌, ◌≢◌, ℕ, ◌+◌, ◌/◌, ◌%◌, ◌^◌, ◌<◌, ◌≤◌, List, length, get_or, set, map, inl, inr, sym, ap, ◌∙◌, subst, arith, get_or-set_same, get_or-set_other}
 use Rattle.std.proofs.lemmas.Bool.{cases_eq, cases_lt}
-use Rattle.std.proofs.lemmas.List.{get_or-map}
+use Rattle.std.proofs.lemmas.List.{get_or-map, length-map}
 use Rattle.first_items.specs.Chains.{AreLinked}
 use Rattle.first_items.specs.FirstItems.{AreNumbered}
 use Rattle.first_items.specs.FirstItems.{IsFirstWith, AreFirstItems, AreNumberedBelow, AreKeptTo}
@@ -93,11 +93,18 @@ firsts_number {firsts} {seconds} {numbers} F = record {
 }
 
 -- halves are below 2^16
-pub upper_small : (seconds : List ℕ) → ((x : ℕ) → x < length seconds → get_or seconds x 0 < 2 ^ 32) → (x : ℕ) → x < length seconds → get_or (map (λ (b : ℕ). b / 65536) seconds) x 0 < 65536
-upper_small seconds h x k = let e = get_or-map (λ (b : ℕ). b / 65536) seconds x 0 0 k in let f = h x k in omega arith
+pub upper_small : (seconds : List ℕ) → ((x : ℕ) → x < length seconds → get_or seconds x 0 < 2 ^ 32) → (x : ℕ) → x < length (map (λ (b : ℕ). b / 65536) seconds) → get_or (map (λ (b : ℕ). b / 65536) seconds) x 0 < 65536
+upper_small seconds h x k =
+    let l = length-map seconds (λ (b : ℕ). b / 65536) in
+    let e = get_or-map (λ (b : ℕ). b / 65536) seconds x 0 0 (omega arith) in
+    let f = h x (omega arith) in
+    omega arith
 
-pub lower_small : (seconds : List ℕ) (x : ℕ) → x < length seconds → get_or (map (λ (b : ℕ). b % 65536) seconds) x 0 < 65536
-lower_small seconds x k = let e = get_or-map (λ (b : ℕ). b % 65536) seconds x 0 0 k in omega arith
+pub lower_small : (seconds : List ℕ) (x : ℕ) → x < length (map (λ (b : ℕ). b % 65536) seconds) → get_or (map (λ (b : ℕ). b % 65536) seconds) x 0 < 65536
+lower_small seconds x k =
+    let l = length-map seconds (λ (b : ℕ). b % 65536) in
+    let e = get_or-map (λ (b : ℕ). b % 65536) seconds x 0 0 (omega arith) in
+    omega arith
 
 -- by the upper halves, and then by the lower ones
 pub halves_first : {firsts seconds halfway numbers : List ℕ} → length seconds ≡ length firsts → AreFirstItems firsts (map (λ (b : ℕ). b / 65536) seconds) halfway →

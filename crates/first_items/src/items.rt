@@ -1,7 +1,7 @@
 //! Numbers for items by an earlier number and an integer of 32 bits, which is taken by its upper and its lower bits, for which there
 //! are lists.
 
-ghost use Rattle.std.specs.Prelude.{◌≡◌, ℕ, ◌-◌, ◌/◌, ◌%◌, ◌^◌, ◌<◌, ◌↔◌, map, IfOk, IsTrue, length, slice_index};
+ghost use Rattle.std.specs.Prelude.{◌≡◌, ℕ, ◌-◌, ◌/◌, ◌%◌, ◌^◌, ◌<◌, ◌≤◌, ◌↔◌, map, IfOk, IsTrue, length, slice_index};
 ghost use Rattle.first_items.specs.FirstItems.{AreFirstItems};
 
 use crate::numbering::number_pairs;
@@ -34,6 +34,19 @@ fn are_alike(bits: &[u32]) -> bool
     true
 }
 
+/// One above the greatest of numbers of 16 bits, or 1.
+fn bound_of(numbers: &[u32]) -> u32
+    requires { (x : ℕ) → x < length numbers.now → slice_index numbers.now x < 2 ^ 16 }
+    ensures above { (x : ℕ) → x < length numbers.now → slice_index numbers.now x < result }
+    ensures most { result ≤ 2 ^ 16 }
+{
+    let mut most = 0;
+    for x in 0..numbers.len() {
+        most = most.max(numbers[x]);
+    }
+    most + 1
+}
+
 /// Whether each item is its own number, so that all are distinguished.
 pub fn are_apart(numbers: &[u32]) -> bool
     ensures { IsTrue result ↔ ((x : ℕ) → x < length numbers.now → slice_index numbers.now x ≡ x) }
@@ -47,7 +60,7 @@ pub fn are_apart(numbers: &[u32]) -> bool
 }
 
 /// Numbers items by their entries in two lists, the first of which are below `bound`: each by the first one with both of its
-/// entries. Takes about four numbers an item, one for each number below `bound`, and 2^16. The error is want of memory.
+/// entries. Takes about four numbers an item, one for each number below `bound`, and at most 2^16. The error is want of memory.
 pub fn number_items(
     alloc: Global,
     firsts: &[u32],
@@ -61,13 +74,16 @@ pub fn number_items(
 {
     if are_alike(seconds) {
         let lower = lower_halves(alloc, seconds)?;
-        let numbers = number_pairs(alloc, firsts, lower, (bound, 0x1_0000))?;
+        let above = bound_of(lower.as_slice());
+        let numbers = number_pairs(alloc, firsts, lower, (bound, above))?;
         return Ok(numbers);
     }
     let upper = upper_halves(alloc, seconds)?;
-    let halfway = number_pairs(alloc, firsts, upper, (bound, 0x1_0000))?;
+    let above_upper = bound_of(upper.as_slice());
+    let halfway = number_pairs(alloc, firsts, upper, (bound, above_upper))?;
     let lower = lower_halves(alloc, seconds)?;
+    let above_lower = bound_of(lower.as_slice());
     let count = firsts.len() as u32;
-    let numbers = number_pairs(alloc, halfway.as_slice(), lower, (count, 0x1_0000))?;
+    let numbers = number_pairs(alloc, halfway.as_slice(), lower, (count, above_lower))?;
     Ok(numbers)
 }
