@@ -41,10 +41,10 @@ pub fn lengths_in(alloc: Global, values: &[u32], comps: u32) -> Result<Vec<u32>,
     ensures { IfOk result (λ v. v.items ≡ lengths_of comps values.now) }
 {
     let size = comps as usize;
-    let mut lengths = Vec::new(alloc);
+    let mut lengths = Vec::with_capacity(alloc, values.len() / size)?;
     for g in 0..values.len() / size {
         let start = g * size;
-        lengths.push(length_of_group(&values[start..start + size]))?;
+        lengths.push_reserved(length_of_group(&values[start..start + size]));
     }
     Ok(lengths)
 }
