@@ -175,9 +175,21 @@ static uint32_t encode(const Arrays &mesh, const drc_options &options, drc_strea
                       &options, &stream, &fault);
 }
 
-static drc_stream encoded(const Arrays &mesh, uint32_t method) {
+// How meshes are coded: the name of the row, and the options; 0 is the library's choice.
+struct Coding {
+    const char *name;
+    uint32_t method, predict;
+};
+
+static drc_options options_of(const Coding &coding) {
     drc_options options = {};
-    options.method = method;
+    options.method = coding.method;
+    options.predict = coding.predict;
+    return options;
+}
+
+static drc_stream encoded(const Arrays &mesh, const Coding &coding) {
+    const drc_options options = options_of(coding);
     drc_stream stream;
     drc_fault fault;
     if (encode(mesh, options, stream, fault) != DRC_DONE) fail("libdrc doesn't encode");
@@ -196,19 +208,17 @@ static void refused(Arrays &mesh, const drc_options &options, uint32_t number, u
 
 // Has a mesh refused where its arrays have been copied, if they are: by Edgebreaker at its first face, which has a point twice, and
 // else at its first face, which has a point that isn't there.
-static void refused_behind(Arrays &mesh, uint32_t method) {
-    drc_options options = {};
-    options.method = method;
-    if (method == DRC_METHOD_SEQUENTIAL) return refused(mesh, options, mesh.points(), DRC_FAULT_IndexRange);
+static void refused_behind(Arrays &mesh, const Coding &coding) {
+    const drc_options options = options_of(coding);
+    if (coding.method == DRC_METHOD_SEQUENTIAL) return refused(mesh, options, mesh.points(), DRC_FAULT_IndexRange);
     refused(mesh, options, mesh.corners[1], DRC_FAULT_Degenerate);
 }
 
 // Has the same mesh refused just before: by Edgebreaker because of an index method, and else not at all.
-static void refused_before(Arrays &mesh, uint32_t method) {
-    drc_options options = {};
-    options.method = method;
+static void refused_before(Arrays &mesh, const Coding &coding) {
+    drc_options options = options_of(coding);
     options.index = DRC_INDEX_PLAIN;
-    if (method != DRC_METHOD_SEQUENTIAL) refused(mesh, options, mesh.corners[1], DRC_FAULT_Choice);
+    if (coding.method != DRC_METHOD_SEQUENTIAL) refused(mesh, options, mesh.corners[1], DRC_FAULT_Choice);
 }
 
 // libdraco.
@@ -257,14 +267,16 @@ static std::unique_ptr<draco::Mesh> numbered(const Arrays &arrays) {
 }
 
 // Encodes by the method, at the speed at which `draco_encoder` writes it, and the prediction that goes with it.
-static void encode_there(const draco::Mesh &mesh, uint32_t method, draco::EncoderBuffer &buffer) {
-    const bool is_valence = method == DRC_METHOD_VALENCE, is_sequential = method == DRC_METHOD_SEQUENTIAL;
+static void encode_there(const draco::Mesh &mesh, const Coding &coding, draco::EncoderBuffer &buffer) {
+    const bool is_valence = coding.method == DRC_METHOD_VALENCE, is_sequential = coding.method == DRC_METHOD_SEQUENTIAL;
     draco::Encoder encoder;
     encoder.SetEncodingMethod(is_sequential ? draco::MESH_SEQUENTIAL_ENCODING : draco::MESH_EDGEBREAKER_ENCODING);
     const int speed = is_sequential ? 10 : is_valence ? 3 : 5;
     encoder.SetSpeedOptions(speed, speed);
     encoder.options().SetGlobalInt("edgebreaker_method",
                                    is_valence ? draco::MESH_EDGEBREAKER_VALENCE_ENCODING : draco::MESH_EDGEBREAKER_STANDARD_ENCODING);
+    if (coding.predict == DRC_PREDICT_MULTI)
+        encoder.SetAttributePredictionScheme(draco::GeometryAttribute::POSITION, draco::MESH_PREDICTION_CONSTRAINED_MULTI_PARALLELOGRAM);
     if (!encoder.EncodeMeshToBuffer(mesh, &buffer).ok()) fail("libdraco doesn't encode");
 }
 
@@ -308,13 +320,13 @@ static void check(const Entry &entry) {
     }
 }
 
-// Encodes meshes by a method, and writes the line of their times.
-static void time_meshes(const char *name, int turns, const char *method_name, uint32_t method, vector<Entry> &entries) {
+// Encodes meshes in one way, and writes the line of their times.
+static void time_meshes(const char *name, int turns, const Coding &coding, vector<Entry> &entries) {
     size_t faces = 0, bytes = 0, bytes_there = 0;
     for (Entry &it : entries) {
-        it.stream = encoded(it.arrays, method);
+        it.stream = encoded(it.arrays, coding);
         it.stream_there.Clear();
-        encode_there(*it.there, method, it.stream_there);
+        encode_there(*it.there, coding, it.stream_there);
         check(it);
         faces += it.arrays.faces();
         bytes += it.stream.lengths.bytes;
@@ -328,18 +340,18 @@ static void time_meshes(const char *name, int turns, const char *method_name, ui
         }),
         each([](Entry &it) { decoded_there((const char *)it.stream.bytes, it.stream.lengths.bytes); }),
         each([](Entry &it) { decoded_alone((const char *)it.stream.bytes, it.stream.lengths.bytes); }),
-        each([method](Entry &it) {
-            drc_stream stream = encoded(it.arrays, method);
+        each([coding](Entry &it) {
+            drc_stream stream = encoded(it.arrays, coding);
             drc_free_stream(&stream);
         }),
-        each([method](Entry &it) {
+        each([coding](Entry &it) {
             draco::EncoderBuffer buffer;
-            encode_there(*it.there, method, buffer);
+            encode_there(*it.there, coding, buffer);
         }),
-        each([method](Entry &it) { refused_behind(it.arrays, method); }),
-        each([method](Entry &it) { refused_before(it.arrays, method); }),
+        each([coding](Entry &it) { refused_behind(it.arrays, coding); }),
+        each([coding](Entry &it) { refused_before(it.arrays, coding); }),
     });
-    printf("%s %s %zu", name, method_name, faces);
+    printf("%s %s %zu", name, coding.name, faces);
     for (double time : times) printf(" %.2f", time);
     printf(" %zu %zu\n", bytes, bytes_there);
     fflush(stdout);
@@ -355,15 +367,15 @@ static void add(vector<Entry> &entries, Arrays arrays) {
 int main(int count, char **words) {
     if (count != 4) fail("usage: library TURNS SIDE SMALL");
     const int turns = atoi(words[1]), side = atoi(words[2]), small = atoi(words[3]);
-    const struct {
-        const char *name;
-        uint32_t number;
-    } methods[] = {{"seq", DRC_METHOD_SEQUENTIAL}, {"eb", DRC_METHOD_EDGEBREAKER}, {"valence", DRC_METHOD_VALENCE}};
+    const Coding codings[] = {{"seq", DRC_METHOD_SEQUENTIAL, 0},
+                              {"eb", DRC_METHOD_EDGEBREAKER, 0},
+                              {"valence", DRC_METHOD_VALENCE, 0},
+                              {"multi", DRC_METHOD_EDGEBREAKER, DRC_PREDICT_MULTI}};
     for (int kind = 0; kind <= 4; kind++) {
         vector<Entry> entries;
         if (kind < 4) add(entries, mesh_of(kind, side, 1));
         for (int seed = 0; kind == 4 && seed < small; seed++) add(entries, mesh_of(seed % 4, 16, seed));
-        for (const auto &method : methods) time_meshes(kind < 4 ? KINDS[kind] : "small", turns, method.name, method.number, entries);
+        for (const Coding &coding : codings) time_meshes(kind < 4 ? KINDS[kind] : "small", turns, coding, entries);
     }
     return 0;
 }
