@@ -73,7 +73,17 @@ have_vertices =
 
 pub assemble-requires-clause-tables : goal.assemble-requires-clause-tables
 assemble-requires-clause-tables c =
-    rw (c.in_ok-heads.ensures.items, c.positions.ensures, c.as_slice-3.ensures.value, c.in_ok-groups.ensures.items, c.as_slice.ensures.value,
-      c.in_ok-values.ensures.items, c.in_ok-places.ensures, c.as_slice-2.ensures.value, c.in_ok-labels.ensures.items, c.from_vec.ensures,
-      c.in_ok-vec.ensures.items)
+    rw (
+      c.in_ok-heads.ensures.items,
+      c.positions.ensures,
+      c.as_slice-3.ensures.value,
+      c.in_ok-groups.ensures.items,
+      c.as_slice.ensures.value,
+      c.in_ok-values.ensures.items,
+      c.in_ok-places.ensures,
+      c.as_slice-2.ensures.value,
+      c.in_ok-labels.ensures.items,
+      c.from_vec.ensures,
+      c.in_ok-vec.ensures.items,
+    )
     are_tables
