@@ -237,7 +237,7 @@ fn main() {
         show("read_seams", 3 * FACES, start, set_in(&again));
         let start = Instant::now();
         let cut = unglued(&across, &flags);
-        show("unglued", 3 * FACES, start, cut.len() as u64 / 3);
+        show("unseamed", 3 * FACES, start, cut.len() as u64 / 3);
         let start = Instant::now();
         let (_, ends) = label(&unglued(&across, &flags));
         show("classes", 3 * FACES, start, ends.len() as u64);

@@ -178,8 +178,10 @@ fn signed_values(alloc: Global, symbols: &[u32]) -> Result<Vec<i32>, AllocError>
 pub enum Integers<'a> {
     /// Those of coded symbols, which are taken one after another.
     Coded(CodedIntegers<'a>),
-    /// Those that were read already.
-    Listed(Vec<i32>),
+    /// Those of zigzag symbols that were read already.
+    Symbols(Vec<u32>),
+    /// Those that were read as they are.
+    Plain(Vec<i32>),
 }
 
 impl Integers<'_> {
@@ -189,18 +191,19 @@ impl Integers<'_> {
     {
         match self {
             Integers::Coded(integers) => integers.into_list(alloc),
-            Integers::Listed(integers) => Ok(integers),
+            Integers::Symbols(symbols) => Ok(signed_values(alloc, &symbols)?),
+            Integers::Plain(integers) => Ok(integers),
         }
     }
 }
 
 /// The integers of the symbols of a block.
-fn integers_of_symbols<'a>(alloc: Global, symbols: Symbols<'a>) -> Result<Integers<'a>, Memory>
-    ensures { IfOk result (λ i. integers_of i ≡ map signed_of (values_of symbols.entry)) }
+fn integers_of_symbols<'a>(symbols: Symbols<'a>) -> Integers<'a>
+    ensures { integers_of result ≡ map signed_of (values_of symbols.entry) }
 {
     match symbols {
-        Symbols::Coded(symbols) => Ok(Integers::Coded(CodedIntegers::new(symbols))),
-        Symbols::Listed(symbols) => Ok(Integers::Listed(signed_values(alloc, &symbols)?)),
+        Symbols::Coded(symbols) => Integers::Coded(CodedIntegers::new(symbols)),
+        Symbols::Listed(symbols) => Integers::Symbols(symbols),
     }
 }
 
@@ -219,8 +222,7 @@ fn open_compressed_values<'a>(
     ensures len { IfOk result (λ i. length (integers_of i) ≡ n) }
 {
     let symbols = open_symbols(alloc, c, n, comps)?;
-    let integers = integers_of_symbols(alloc, symbols)?;
-    Ok(integers)
+    Ok(integers_of_symbols(symbols))
 }
 
 /// Opens `n` integers of entries of `comps` components: as they are, or compressed. The cursor stands
@@ -241,7 +243,7 @@ pub fn open_integers<'a>(
     let compressed = c.get_u8()?;
     if compressed == 0 {
         let values = read_plain_values(alloc, c, n)?;
-        Ok(Integers::Listed(values))
+        Ok(Integers::Plain(values))
     } else {
         open_compressed_values(alloc, c, comps, n)
     }

@@ -8,8 +8,8 @@ use drc_base::{Fault, Kind, Refusal};
 use drc_bits::Cursor;
 use std::alloc::{AllocError, Global};
 
-/// The connectivity of the positions.
-const POSITION_ID: u8 = 255;
+/// The data id of the connectivity of the positions (Draco Bitstream Specification 2.2, section "Attributes Decoder").
+pub const POSITION_ID: u8 = 255;
 
 /// How a decoder is linked to the connectivity.
 #[derive(Clone, Copy, Debug)]

@@ -9,12 +9,12 @@ ghost use Rattle.predict.specs.Surfaces.{surface_of, surface_or, lacks_surface, 
 ghost use Rattle.attr_section.specs.Opened.{integers_of};
 ghost use Rattle.attr_section.specs.Values.{prediction_at, range_at, transform_at, flag_lists_at, corrected_at, with_flags, predicted_at};
 
-use crate::coded_integers::CodedIntegers;
 use crate::flag_lists::read_flag_lists;
 use crate::integers::{Integers, open_integers, read_integers};
+use crate::listed::Listed;
 use drc_base::{Fault, Kind, MAX_VALUES, Refusal};
 use drc_bits::Cursor;
-use predict::{Flags, Ordered, Prediction, Wrap, restore, restore_with_flags};
+use predict::{CorrectionSource, Flags, Ordered, Prediction, Wrap, restore_with_flags};
 use std::alloc::Global;
 
 /// The prediction of an attribute.
@@ -74,66 +74,10 @@ fn read_flags(
     read_flag_lists(alloc, c, corners_of(on), lists)
 }
 
-/// Turns corrections into values, in place, over an ordered surface where their prediction needs one.
-/// Where a flag is needed that isn't there, `FlagsShort` at this place; the values are given up then.
+/// The values of the corrections of a source, which are taken one after another while values are restored.
+/// Where a flag is needed that isn't there, `FlagsShort` at this place.
 #[tactic(auto, unfolding(crate::specs::Values::with_flags), using(crate::proofs::SpelledFlags::flags_pass, crate::proofs::SpelledFlags::flags_fail))]
-fn restore_values(
-    at: u64,
-    prediction: Prediction,
-    wrap: &Wrap,
-    comps: u32,
-    on: Option<&Ordered<'_>>,
-    flags: &Flags,
-    values: &mut [i32],
-) -> Result<(), Fault>
-    requires corrects { (facts prediction).corrects ≡ true }
-    requires some { 0 < comps }
-    requires whole { length values.old % comps ≡ 0 }
-    requires over { MayBeOver (option_map (λ t. t.now) on) }
-    requires stand { CanStand prediction (surface_of (option_map (λ t. t.now) on)) comps (length values.old) }
-    ensures { (after : Reading) → Reads (λ _. values.new) (with_flags at (surface_or (surface_of (option_map (λ t. t.now) on.entry))) prediction comps flags.now.lists wrap.now values.old after) after result }
-{
-    match restore(prediction, wrap, comps, on, flags, values) {
-        Ok(()) => Ok(()),
-        Err(kind) => Err(Fault::new(kind, at)),
-    }
-}
-
-/// The values of a list of corrections, in its place.
-fn restored_list(
-    at: u64,
-    prediction: Prediction,
-    wrap: &Wrap,
-    comps: u32,
-    on: Option<&Ordered<'_>>,
-    flags: &Flags,
-    corrections: Vec<i32>,
-) -> Result<Vec<i32>, Fault>
-    requires corrects { (facts prediction).corrects ≡ true }
-    requires some { 0 < comps }
-    requires whole { length corrections.items % comps ≡ 0 }
-    requires over { MayBeOver (option_map (λ t. t.now) on) }
-    requires stand { CanStand prediction (surface_of (option_map (λ t. t.now) on)) comps (length corrections.items) }
-    ensures item { (after : Reading) → Reads (λ v. v.items) (with_flags at (surface_or (surface_of (option_map (λ t. t.now) on.entry))) prediction comps flags.now.lists wrap.now corrections.items after) after result }
-    ensures len { IfOk result (λ v. length v.items ≡ length corrections.items) }
-{
-    let mut values = corrections;
-    restore_values(
-        at,
-        prediction,
-        wrap,
-        comps,
-        on,
-        flags,
-        values.as_mut_slice(),
-    )?;
-    Ok(values)
-}
-
-/// The values of coded corrections, which are taken one after another while values are restored. Where a
-/// flag is needed that isn't there, `FlagsShort` at this place.
-#[tactic(auto, unfolding(crate::specs::Values::with_flags), using(crate::proofs::SpelledFlags::flags_pass, crate::proofs::SpelledFlags::flags_fail))]
-fn restored_coded(
+fn restored_from<C: CorrectionSource>(
     alloc: Global,
     at: u64,
     prediction: Prediction,
@@ -141,14 +85,14 @@ fn restored_coded(
     comps: u32,
     on: Option<&Ordered<'_>>,
     flags: &Flags,
-    corrections: CodedIntegers<'_>,
+    corrections: C,
 ) -> Result<Vec<i32>, Refusal>
     requires corrects { (facts prediction).corrects ≡ true }
     requires some { 0 < comps }
     requires over { MayBeOver (option_map (λ t. t.now) on) }
-    requires stand { CanStand prediction (surface_of (option_map (λ t. t.now) on)) comps (length corrections) }
-    ensures item { (after : Reading) → Gives (λ v. v.items) (with_flags at (surface_or (surface_of (option_map (λ t. t.now) on.entry))) prediction comps flags.now.lists wrap.now corrections.entry after) after result }
-    ensures len { IfOk result (λ v. length v.items ≡ length corrections.entry) }
+    requires stand { CanStand prediction (surface_of (option_map (λ t. t.now) on)) comps (length (C.left corrections)) }
+    ensures item { (after : Reading) → Gives (λ v. v.items) (with_flags at (surface_or (surface_of (option_map (λ t. t.now) on.entry))) prediction comps flags.now.lists wrap.now (C.left corrections) after) after result }
+    ensures len { IfOk result (λ v. length v.items ≡ length (C.left corrections)) }
 {
     match restore_with_flags(alloc, prediction, wrap, comps, on, flags, corrections)? {
         Ok(values) => Ok(values),
@@ -156,8 +100,7 @@ fn restored_coded(
     }
 }
 
-/// The values of corrections that were opened: those of coded symbols are taken one after another while
-/// values are restored.
+/// The values of corrections that were opened, which are taken one after another.
 fn restored_values(
     alloc: Global,
     at: u64,
@@ -170,7 +113,6 @@ fn restored_values(
 ) -> Result<Vec<i32>, Refusal>
     requires corrects { (facts prediction).corrects ≡ true }
     requires some { 0 < comps }
-    requires whole { length (integers_of corrections) % comps ≡ 0 }
     requires over { MayBeOver (option_map (λ t. t.now) on) }
     requires stand { CanStand prediction (surface_of (option_map (λ t. t.now) on)) comps (length (integers_of corrections)) }
     ensures item { (after : Reading) → Gives (λ v. v.items) (with_flags at (surface_or (surface_of (option_map (λ t. t.now) on.entry))) prediction comps flags.now.lists wrap.now (integers_of corrections.entry) after) after result }
@@ -178,10 +120,15 @@ fn restored_values(
 {
     match corrections {
         Integers::Coded(source) => {
-            restored_coded(alloc, at, prediction, wrap, comps, on, flags, source)
+            restored_from(alloc, at, prediction, wrap, comps, on, flags, source)
         }
-        Integers::Listed(list) => {
-            Ok(restored_list(at, prediction, wrap, comps, on, flags, list)?)
+        Integers::Symbols(symbols) => {
+            let source = Listed::new(symbols);
+            restored_from(alloc, at, prediction, wrap, comps, on, flags, source)
+        }
+        Integers::Plain(integers) => {
+            let source = Listed::new(integers);
+            restored_from(alloc, at, prediction, wrap, comps, on, flags, source)
         }
     }
 }

@@ -121,7 +121,8 @@ fn values_in(attributes: &[Values]) -> u64
 /// with constrained multi-parallelogram prediction `FlagCount` at the number of flags where there are more
 /// than three for each face, and the faults of their blocks; `WrapRange` at a range's start, `FlagsShort`
 /// at the prediction byte where a flag is needed that isn't there, `ValueRange` at the prediction byte; then
-/// `QuantBits` at the quantisations; and `Short` and `Long`. Restoring takes memory for the values alone.
+/// `QuantBits` at the quantisations; and `Short` and `Long`. Beside the table or the list that a block was
+/// opened as, restoring takes memory for the values alone.
 #[tactic(auto, unfolding(crate::specs::Values::decoder_values_at))]
 pub fn read_decoder(
     alloc: Global,

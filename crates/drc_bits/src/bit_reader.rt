@@ -120,6 +120,7 @@ impl<'a> BitReader<'a> {
 
     /// The next `n` bits, at most 32, as a number whose lowest bit comes first. `None` exactly where
     /// fewer bits are left; then the reader is unchanged. It takes no memory.
+    #[inline(always)]
     pub fn bits(&mut self, n: u32) -> Option<u32>
         requires { n ≤ 32 }
         ensures value { result ≡ next_bits n self.old }

@@ -3,3 +3,4 @@ pub mod OnSurface
 pub mod AsRead
 pub mod Stream
 pub mod Profiles
+pub mod Unassembled

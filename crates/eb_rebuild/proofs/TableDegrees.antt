@@ -1,8 +1,8 @@
 -- The degrees kept beside a table, after each symbol.
-use Rattle.std.proofs.Common.{◌≡◌, ◌≢◌, ℕ, suc, ◌+◌, ◌*◌, ◌<◌, ◌≤◌, min, Bool, true, ◌==◌, cond, is_none, IsTrue, OnOk, Some, false, replicate, List, [], ◌∷◌, ◌++◌, length, get_or, map, None, Result, Ok, Err, inl, inr, sym, refl, ap, ◌∙◌, subst, arith, length-append, eq-eqb}
+use Rattle.std.proofs.Common.{◌≡◌, ◌≢◌, ℕ, suc, ◌+◌, ◌*◌, ◌<◌, ◌≤◌, min, Bool, true, ◌==◌, cond, is_none, IsTrue, OnOk, Some, false, replicate, List, [], ◌∷◌, ◌++◌, length, get_or, set, map, None, Result, Ok, Err, inl, inr, sym, refl, ap, ◌∙◌, subst, arith, length-append, eq-eqb}
 use Rattle.std.specs.List.{list_any}
 use Rattle.std.proofs.lemmas.Bool.{cases_Bool, cond-true, cond-false}
-use Rattle.std.proofs.lemmas.List.{get_or_append_left, length-map, length-replicate}
+use Rattle.std.proofs.lemmas.List.{get_or_append_left, length-map, length-set, length-replicate}
 use Rattle.drc_base.specs.declared.faults.Fault.{Fault}
 use Rattle.drc_base.specs.declared.faults.Refusal.{Refusal}
 use Rattle.drc_base.specs.declared.limits.TheConstants.{MAX_FACES}
@@ -17,7 +17,7 @@ use Rattle.eb_rebuild.specs.declared.beside.Beside.{Beside}
 use Rattle.eb_rebuild.specs.Beside.{glued_place, new_triangle}
 use Rattle.eb_rebuild.specs.Degree.{degree, top_degree}
 use Rattle.eb_rebuild.specs.Kept.{StackValue, SplitsValue, kept_in, AreSidesBelow, first_side}
-use Rattle.eb_rebuild.specs.KeptDegrees.{KeepsDegrees, with_room, after_end, after_beside, after_tip, after_split}
+use Rattle.eb_rebuild.specs.KeptDegrees.{degree_raised, KeepsDegrees, KeepsList, DegreesValue, IsReady, NotesBeside, NotesTip, NotesSplit, with_room, after_end, after_beside, after_tip, after_split}
 use Rattle.eb_rebuild.specs.Linked.{LinkValue, IsLinkState, state_of, is_top_free, is_live, Does, refused_by}
 use Rattle.eb_rebuild.specs.Machine.{State, Plan, start}
 use Rattle.eb_rebuild.specs.Named.{Triangle, Row, renamed, renamed_triangle}
@@ -171,6 +171,91 @@ small_at {v} {ds} I more W s n e S =
     let i = ap (λ (m : ℕ). get_or ds m 0) e in
     omega arith
 
+-- there is a place for the sides of a face more
+pub ready_at : {v : LinkValue} {d : DegreesValue} → IsLinkState v → v.table.faces < v.plan.symbols → v.table.faces < room_of v.table → KeepsList v.table v.made d → IsReady v.table d
+ready_at {v} {d} I more wide W = record {
+  places = (W.long, (let r = W.room in omega arith));
+  small = λ s S. small_at I more W.keeps s (number s) refl S;
+}
+
+-- nor is one too great once there are these places
+pub small_ready : {table : Table} {d : DegreesValue} → IsReady table d → (s : Side) (n : ℕ) → n ≡ number s → IsFreeIn table s → (items : List ℕ) → items ≡ with_room d.list → get_or items n 0 ≤ 3 * MAX_FACES
+small_ready {table} {d} I s n at S items is =
+    let low = number-lt s table.faces S.within in
+    let long = I.places.0 in
+    let same = ap (λ (l : List ℕ). get_or l n 0) is ∙ get_or_append_left d.list (2 ∷ 2 ∷ 2 ∷ []) 0 n (omega arith) ∙ ap (λ (m : ℕ). get_or d.list m 0) at in
+    let small = I.small s S in
+    omega arith
+
+pub list_start : (table : Table) (d : DegreesValue) → table.faces ≡ 0 → gluing_of table ≡ unglued → d.list ≡ [] → 3 * room_of table ≤ d.room → KeepsList table 0 d
+list_start table d e h none room = record {
+  long = (let n = ap {A = List ℕ} length none in omega arith);
+  room = room;
+  keeps = keeps_start table d.list e h;
+}
+
+-- a list with places for a face more, some of which are written
+long_places : (faces n : ℕ) (ds es : List ℕ) → length ds ≡ 3 * faces → n ≡ suc faces → length es ≡ length (with_room ds) → length es ≡ 3 * n
+long_places faces n ds es l e h = let r = long_room faces ds l in omega arith
+
+pub list_end : (old new : Table) (made : ℕ) (d e : DegreesValue) → KeepsList old made d → made ≤ 3 * old.faces → new.faces ≡ suc old.faces → gluing_of new ≡ gluing_of old → room_of new ≡ room_of old → e.room ≡ d.room →
+    e.list ≡ after_end old.faces (with_room d.list) → KeepsList new (made + 3) e
+list_end old new made d e W few f g wide room is =
+    let r = with_room d.list in
+    let one = set r (3 * old.faces) 2 in
+    let two = set one (3 * old.faces + 1) 2 in
+    record {
+      long = long_places old.faces new.faces d.list e.list W.long f (ap {A = List ℕ} length is ∙ length-set two (3 * old.faces + 2) 2 ∙ length-set one (3 * old.faces + 1) 2 ∙ length-set r (3 * old.faces) 2);
+      room = (let w = W.room in omega arith);
+      keeps = subst (KeepsDegrees new (made + 3)) (sym is)
+          (keeps_end old new made r (keeps_room W.keeps W.long) few f g (let l = long_room old.faces d.list W.long in omega arith));
+    }
+
+pub list_beside : (b : Beside) (old new : Table) (made : ℕ) (d e : DegreesValue) (a : ℕ) → KeepsList old made d → made ≤ 3 * old.faces → new.faces ≡ suc old.faces →
+    gluing_of new ≡ glue (side old.faces (glued_place b)) (side_at a) (gluing_of old) → room_of new ≡ room_of old → IsFreeIn old (side_at a) → e.room ≡ d.room → NotesBeside old b a d e → KeepsList new (made + 1) e
+list_beside b old new made d e a W few f g wide A room (na, F, is) =
+    let r = with_room d.list in
+    let more = degree_raised (number na) 1 r in
+    let start = get_or more a 0 + 1 in
+    let glued = side old.faces (glued_place b) in
+    let one = set more (number (next glued)) start in
+    record {
+      long = long_places old.faces new.faces d.list e.list W.long f
+          (ap {A = List ℕ} length is ∙ length-set one (number (prev glued)) 2 ∙ length-set more (number (next glued)) start ∙ length-set r (number na) (get_or r (number na) 0 + 1));
+      room = (let w = W.room in omega arith);
+      keeps = subst (KeepsDegrees new (made + 1)) (sym is)
+          (keeps_beside b old new made r a na (keeps_room W.keeps W.long) few f g A F (let l = long_room old.faces d.list W.long in omega arith));
+    }
+
+pub list_tip : (old new : Table) (made : ℕ) (d e : DegreesValue) (a t : ℕ) (b : Side) → t ≡ number b → KeepsList old made d → made ≤ 3 * old.faces → new.faces ≡ suc old.faces →
+    gluing_of new ≡ glue (side old.faces third) b (glue (side old.faces second) (side_at a) (gluing_of old)) → room_of new ≡ room_of old → IsFreeIn old (side_at a) → IsFreeIn old b → b ≢ side_at a →
+    Follows old.faces (gluing_of old) b (side_at a) → e.room ≡ d.room → NotesTip old a t d e → KeepsList new made e
+list_tip old new made d e a t b at W few f g wide A B ne before room (na, F, is) =
+    let r = with_room d.list in
+    let more = degree_raised (number na) 1 r in
+    record {
+      long = long_places old.faces new.faces d.list e.list W.long f
+          (ap {A = List ℕ} length is ∙ length-set more (3 * old.faces) (get_or more t 0 + 1) ∙ length-set r (number na) (get_or r (number na) 0 + 1));
+      room = (let w = W.room in omega arith);
+      keeps = subst (KeepsDegrees new made) (sym (is ∙ ap (λ (n : ℕ). after_tip old.faces n (number na) r) at))
+          (keeps_tip old new made r (side_at a) b na (keeps_room W.keeps W.long) few f g A B ne before F (let l = long_room old.faces d.list W.long in omega arith));
+    }
+
+pub list_split : (old new : Table) (made : ℕ) (d e : DegreesValue) (b a : ℕ) → KeepsList old made d → made ≤ 3 * old.faces → new.faces ≡ suc old.faces →
+    gluing_of new ≡ glue (side old.faces second) (side_at b) (glue (side old.faces third) (side_at a) (gluing_of old)) → room_of new ≡ room_of old → IsFreeIn old (side_at b) → IsFreeIn old (side_at a) → side_at b ≢ side_at a →
+    e.room ≡ d.room → NotesSplit old b a d e → KeepsList new made e
+list_split old new made d e b a W few f g wide B A ne room (nb, na, G, F, is) =
+    let r = with_room d.list in
+    let one = degree_raised (number nb) 1 r in
+    let merged = degree_raised (number na) (get_or one b 0) one in
+    record {
+      long = long_places old.faces new.faces d.list e.list W.long f
+          (ap {A = List ℕ} length is ∙ length-set merged (3 * old.faces) (get_or merged a 0 + 1) ∙ length-set one (number na) (get_or one (number na) 0 + get_or one b 0) ∙ length-set r (number nb) (get_or r (number nb) 0 + 1));
+      room = (let w = W.room in omega arith);
+      keeps = subst (KeepsDegrees new made) (sym is)
+          (keeps_split old new made r b a nb na (keeps_room W.keeps W.long) few f g B A ne G F (let l = long_room old.faces d.list W.long in omega arith));
+    }
+
 -- the top side after a symbol is side 0 of its face
 pub live_top : (table : Table) (sides : List ℕ) (closes f : ℕ) (rest : List ℕ) (r : Result (Unit {0}) Fault) → sides ≡ (3 * f) ∷ rest → gluing_of table (side f first) ≡ None →
     OnOk r (IsTrue (cond (closes == 0) (is_top_free (gluing_of table) sides) true))
@@ -213,9 +298,9 @@ pub start_state : (table : Table) (sides kept : List ℕ) (left events : List Ev
     ◌≡◌ {A = State} (record { built = table.faces; glued = gluing_of table; stack = map side_at sides; reserved = kept_in kept; events = left; made = 0; closes = 0 }) (start events)
 start_state table sides kept left events n a b c d e = same_state a b (ap (map side_at) c) (ap kept_in d ∙ (λ i k. none_kept n k i)) e refl refl
 
-pub start_link : (plan : Plan) (table : Table) (stack : StackValue) (splits : SplitsValue) → plan.faces ≤ MAX_FACES → plan.symbols ≤ plan.faces → room_of table ≤ plan.faces → stack.sides ≡ [] → stack.room ≡ min plan.symbols (room_of table) → splits.kept ≡ replicate plan.symbols free_entry →
-    IsLinkState (record { plan = plan; table = table; stack = stack; splits = splits; made = 0; closes = 0 })
-start_link plan table stack splits limit fewer room none wide kept =
+pub start_link : (plan : Plan) (table : Table) (stack : StackValue) (splits : SplitsValue) (has_degrees : Bool) → plan.faces ≤ MAX_FACES → plan.symbols ≤ plan.faces → room_of table ≤ plan.faces → stack.sides ≡ [] → stack.room ≡ min plan.symbols (room_of table) → splits.kept ≡ replicate plan.symbols free_entry →
+    IsLinkState (record { plan = plan; table = table; stack = stack; splits = splits; made = 0; closes = 0; has_degrees = has_degrees })
+start_link plan table stack splits has_degrees limit fewer room none wide kept =
     let l = ap {A = List ℕ} length none in
     record {
       limit = limit;

@@ -16,6 +16,7 @@ pub record LinkValue : Type 0 where
   pub splits : SplitsValue
   pub made : ℕ
   pub closes : ℕ
+  pub has_degrees : Bool
 
 -- the machine's state
 abbrev pub state_of : LinkValue → State

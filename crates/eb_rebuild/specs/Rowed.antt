@@ -1,5 +1,5 @@
 -- What a rebuilding that keeps its rows in a list holds, and the machine's state that it stands for: the code's own, from no source.
-use Rattle.std.specs.Prelude.{◌≡◌, ℕ, ◌*◌, ◌≤◌, List, length, map, Some, Result, Ok, Err}
+use Rattle.std.specs.Prelude.{◌≡◌, ℕ, ◌*◌, ◌≤◌, true, List, length, map, Some, Result, Ok, Err}
 use Rattle.drc_base.specs.declared.faults.Fault.{Fault}
 use Rattle.drc_base.specs.declared.faults.Refusal.{Refusal}
 use Rattle.drc_base.specs.declared.faults.Refusal.TheVariants as refusal
@@ -50,7 +50,15 @@ pub record RowValue : Type 0 where
 
 -- the value without names
 abbrev pub plain_of : RowValue → LinkValue
-plain_of v = record { plan = v.plan; table = v.named.table; stack = v.stack; splits = v.splits; made = v.named.made; closes = v.closes }
+plain_of v = record {
+  plan = v.plan;
+  table = v.named.table;
+  stack = v.stack;
+  splits = v.splits;
+  made = v.named.made;
+  closes = v.closes;
+  has_degrees = true;
+}
 
 -- a step of the machine that is a fault, succeeds or runs out of memory
 abbrev pub Tries : Result State Fault → State → Result (Unit {0}) Refusal → Type 0

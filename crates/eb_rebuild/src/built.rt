@@ -56,6 +56,13 @@ impl Built {
         &self.classes
     }
 
+    /// The classes of the table's corners alone: the table is freed.
+    pub fn into_classes(self) -> Classes
+        ensures { IsLabelled self.table.faces (gluing_of self.table) result.of_corner result.count result.ends }
+    {
+        self.classes
+    }
+
     /// The table, given back.
     pub fn into_table(self) -> SideTable
         ensures { result ≡ self.table }

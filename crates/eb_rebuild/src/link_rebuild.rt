@@ -2,8 +2,8 @@
 //!
 //! The rules ask only which side comes before a free side round the boundary, and whether a side is
 //! free; the table's links answer both at once. So a symbol takes a few table calls, whatever was
-//! built before. The degrees of vertices are kept at the free sides that start there. Corners are named
-//! as faces are built, so that no fan is walked at the end.
+//! built before. Where the degrees of vertices will be asked for, they are kept at the free sides that start
+//! there. Corners are named as faces are built, so that no fan is walked at the end.
 
 ghost use Rattle.std.specs.Prelude.{◌≡◌, not, ◌&&◌, length};
 ghost use Rattle.corner_table.specs.Sides.{same};
@@ -15,9 +15,7 @@ use crate::beside::Beside;
 use crate::built::Built;
 use crate::corner_names::CornerNames;
 use crate::degenerate::first_equal;
-use crate::kept_degrees::{
-    add_places, beside_degrees, degree_at, end_degrees, no_degrees, split_degrees, tip_degrees,
-};
+use crate::kept_degrees::KeptDegrees;
 use crate::rebuild::Rebuild;
 use crate::side_stack::SideStack;
 use crate::splits::Splits;
@@ -67,7 +65,7 @@ pub struct LinkRebuild {
     table: LinkedTable,
     stack: SideStack,
     splits: Splits,
-    degrees: Vec<u32>,
+    degrees: KeptDegrees,
     names: CornerNames,
     faces: u32,
     created: u32,
@@ -77,10 +75,9 @@ pub struct LinkRebuild {
 }
 
 impl Model for LinkRebuild {
-    ghost use Rattle.std.specs.Prelude.{◌≡◌, ◌*◌, ◌≤◌, vec_len, vec_capacity};
-    ghost use Rattle.corner_table.specs.Table.{room_of, gluing_of};
+    ghost use Rattle.std.specs.Prelude.{◌≡◌, IsTrue};
     ghost use Rattle.eb_rebuild.specs.CornerNames.{KeepsNames};
-    ghost use Rattle.eb_rebuild.specs.KeptDegrees.{KeepsDegrees};
+    ghost use Rattle.eb_rebuild.specs.KeptDegrees.{KeepsList};
     ghost use Rattle.eb_rebuild.specs.Linked.{LinkValue, IsLinkState};
 
     ghost Value = { LinkValue };
@@ -92,6 +89,7 @@ impl Model for LinkRebuild {
       splits = r.splits;
       made = r.made;
       closes = r.closes;
+      has_degrees = r.degrees.kept;
     } };
 
     ghost invariant = { λ r. IsLinkState (record {
@@ -101,7 +99,8 @@ impl Model for LinkRebuild {
       splits = r.splits;
       made = r.made;
       closes = r.closes;
-    }) × ((vec_len r.degrees ≡ 3 * r.table.faces) × (3 * room_of r.table ≤ vec_capacity r.degrees)) × (r.closes ≡ 0 → KeepsDegrees r.table r.made r.degrees.items)
+      has_degrees = r.degrees.kept;
+    }) × (IsTrue r.degrees.kept → r.closes ≡ 0 → KeepsList r.table r.made r.degrees)
         × KeepsNames r.table r.made r.names };
 }
 
@@ -154,12 +153,12 @@ impl LinkRebuild {
         ensures does { Does (step self.old.plan.symbols kinds.E (state_of self.old)) (state_of self.new) result }
         ensures plan { self.new.plan ≡ self.old.plan }
         ensures room { OnOk result (room_of self.new.table ≡ room_of self.old.table) }
+        ensures degrees { OnOk result (self.new.has_degrees ≡ self.old.has_degrees) }
         ensures live { OnOk result (IsTrue (is_live self.new)) }
         ensures cost { steps.new ≤ steps.old + 1 }
     {
         let face = self.table.add_face(steps);
-        add_places(&mut self.degrees);
-        end_degrees(&mut self.degrees, face);
+        self.degrees.note_end(face);
         self.names.add_end(self.made);
         self.stack.push(3 * face);
         self.made += 3;
@@ -175,6 +174,7 @@ impl LinkRebuild {
         ensures does { Does (step self.old.plan.symbols (symbol_in beside) (state_of self.old)) (state_of self.new) result }
         ensures plan { self.new.plan ≡ self.old.plan }
         ensures room { OnOk result (room_of self.new.table ≡ room_of self.old.table) }
+        ensures degrees { OnOk result (self.new.has_degrees ≡ self.old.has_degrees) }
         ensures live { OnOk result (IsTrue (is_live self.new)) }
         ensures cost { steps.new ≤ steps.old + 4 }
     {
@@ -184,11 +184,9 @@ impl LinkRebuild {
             Err(fault) => return Err(fault),
         };
         let top = side_with(a);
-        let next = self.table.next_open(top, steps);
+        self.degrees.note_beside(&self.table, beside, a, steps);
         let k = beside.glued();
         let face = self.table.add_beside(k, top, steps);
-        add_places(&mut self.degrees);
-        beside_degrees(&mut self.degrees, beside, face, a, number_of(next));
         self.names.add_beside(beside, a, self.made);
         self.stack.push(3 * face);
         self.made += 1;
@@ -205,6 +203,7 @@ impl LinkRebuild {
         ensures does { Does (step self.old.plan.symbols kinds.C (state_of self.old)) (state_of self.new) result }
         ensures plan { self.new.plan ≡ self.old.plan }
         ensures room { OnOk result (room_of self.new.table ≡ room_of self.old.table) }
+        ensures degrees { OnOk result (self.new.has_degrees ≡ self.old.has_degrees) }
         ensures live { OnOk result (IsTrue (is_live self.new)) }
         ensures cost { steps.new ≤ steps.old + 6 }
         ensures refused { OnErr result (steps.new ≤ steps.old + 2) }
@@ -219,11 +218,9 @@ impl LinkRebuild {
         if is_same(before, top) {
             return Err(Fault::new(Kind::Alone, u64::from(self.table.face_count())));
         }
-        let next = self.table.next_open(top, steps);
-        let face = self.table.add_tip(top, before, steps);
         let tip = number_of(before);
-        add_places(&mut self.degrees);
-        tip_degrees(&mut self.degrees, face, tip, number_of(next));
+        self.degrees.note_tip(&self.table, a, tip, steps);
+        let face = self.table.add_tip(top, before, steps);
         self.names.add_tip(a, tip);
         self.stack.push(3 * face);
         Ok(())
@@ -262,6 +259,7 @@ impl LinkRebuild {
         ensures does { Does (step self.old.plan.symbols kinds.S (state_of self.old)) (state_of self.new) result }
         ensures plan { self.new.plan ≡ self.old.plan }
         ensures room { OnOk result (room_of self.new.table ≡ room_of self.old.table) }
+        ensures degrees { OnOk result (self.new.has_degrees ≡ self.old.has_degrees) }
         ensures live { OnOk result (IsTrue (is_live self.new)) }
         ensures cost { steps.new ≤ steps.old + 8 }
         ensures refused { OnErr result (steps.new ≤ steps.old + 3) }
@@ -285,15 +283,10 @@ impl LinkRebuild {
         if is_same(before, second) {
             return Err(Fault::new(Kind::SamePoint, u64::from(self.table.face_count())));
         }
-        let next_top = self.table.next_open(top, steps);
-        let next_second = self.table.next_open(second, steps);
+        self.degrees.note_split(&self.table, b, a, steps);
         let face = self.table.add_face(steps);
         self.table.glue(Side { face, k: 2 }, second, steps);
         self.table.glue(Side { face, k: 1 }, top, steps);
-        let after_top = number_of(next_top);
-        let after_second = number_of(next_second);
-        add_places(&mut self.degrees);
-        split_degrees(&mut self.degrees, face, b, a, after_top, after_second);
         self.names.add_split(b, a);
         self.stack.push(3 * face);
         Ok(())
@@ -350,7 +343,6 @@ impl LinkRebuild {
         self.table.glue(Side { face, k: 0 }, top, steps);
         self.table.glue(Side { face, k: 1 }, second, steps);
         self.table.glue(Side { face, k: 2 }, third, steps);
-        add_places(&mut self.degrees);
         self.names.fill(a, number_of(second));
         self.closes += 1;
         Ok(())
@@ -370,6 +362,8 @@ impl Rebuild for LinkRebuild {
 
     ghost linked = { λ _. true };
 
+    ghost has_degrees = { λ r. r.has_degrees };
+
     ghost room = { λ r. room_of r.table };
 
     fn new(
@@ -379,11 +373,12 @@ impl Rebuild for LinkRebuild {
         symbols: u32,
         most: u32,
         events: Vec<Event>,
+        degrees: bool,
     ) -> Result<LinkRebuild, Memory> {
         let table = LinkedTable::with_room(alloc, most)?;
         let stack = SideStack::with_room(alloc, symbols.min(most))?;
         let splits = Splits::new(alloc, symbols, events)?;
-        let degrees = no_degrees(alloc, most)?;
+        let degrees = KeptDegrees::none(alloc, most, degrees)?;
         let names = CornerNames::with_room(alloc, most)?;
         Ok(LinkRebuild {
             table,
@@ -420,7 +415,7 @@ impl Rebuild for LinkRebuild {
         let _room = self.table.face_count();
         match self.stack.top() {
             None => 0,
-            Some(a) => degree_at(&self.degrees, a),
+            Some(a) => self.degrees.at(a),
         }
     }
 

@@ -31,13 +31,17 @@ pub trait Rebuild: Sized + Drop {
     /// Whether the boundary is kept by links.
     ghost linked: { Self → Bool };
 
+    /// Whether degrees of vertices can be asked for.
+    ghost has_degrees: { Self → Bool };
+
     /// How many faces there is room for.
     ghost room: { Self → ℕ };
 
     /// Nothing rebuilt yet, of `faces` declared faces, at most `created` vertices made (the declared
     /// vertices and splits together) and `symbols` symbols, with events in the encoder's order. Room is
     /// taken for `most` faces only and for the sides that the events keep, however much is declared.
-    /// Memory where there is none.
+    /// `degrees` says whether the degrees of vertices will be asked for; where they won't, a linked
+    /// rebuilding keeps none. Memory where there is none.
     fn new(
         alloc: Global,
         faces: u32,
@@ -45,6 +49,7 @@ pub trait Rebuild: Sized + Drop {
         symbols: u32,
         most: u32,
         events: Vec<Event>,
+        degrees: bool,
     ) -> Result<Self, Memory>
         requires faces { faces ≤ most_faces }
         requires symbols { symbols ≤ faces }
@@ -53,7 +58,8 @@ pub trait Rebuild: Sized + Drop {
         ensures plan { IfOk result (λ r. plan r ≡ record { faces = faces; created = created; symbols = symbols }) }
         ensures state { IfOk result (λ r. state r ≡ start (reverse events.items)) }
         ensures live { IfOk result (λ r. IsTrue (live r)) }
-        ensures room { IfOk result (λ r. room r ≡ most) };
+        ensures room { IfOk result (λ r. room r ≡ most) }
+        ensures degrees { IfOk result (λ r. IsTrue degrees → IsTrue (has_degrees r)) };
 
     /// Takes the next symbol and builds its face, or refuses at the symbol's number, counted from 0 in
     /// the order of decoding. NoActive: C, L, R or S finds no side on the stack. Gone: the side that it
@@ -72,14 +78,16 @@ pub trait Rebuild: Sized + Drop {
         ensures plan { OnOk result (plan self.new ≡ plan self.old) }
         ensures linked { OnOk result (linked self.new ≡ linked self.old) }
         ensures room { OnOk result (room self.new ≡ room self.old) }
+        ensures degrees { OnOk result (has_degrees self.new ≡ has_degrees self.old) }
         ensures memory { IsTrue (linked self.old) → result ≢ Err refusal.Memory }
         ensures cost { IsTrue (linked self.old) → OnOk result (steps.new ≤ steps.old + symbol_calls symbol) }
         ensures refused { IsTrue (linked self.old) → OnErr result (steps.new ≤ steps.old + 4) };
 
     /// The degree of the vertex at which the top side starts: the number of corners there, and one more
-    /// where a free side starts there; 0 where no side waits.
+    /// where a free side starts there; 0 where no side waits. The rebuilding was made to be asked for it.
     fn degree(&self) -> u32
         requires live { IsTrue (live self.now) }
+        requires degrees { IsTrue (has_degrees self.now) }
         requires unclosed { (state self.now).closes ≡ 0 }
         ensures { result ≡ top_degree (state self.now) };
 

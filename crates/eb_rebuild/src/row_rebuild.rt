@@ -269,6 +269,8 @@ impl Rebuild for RowRebuild {
 
     ghost linked = { λ _. false };
 
+    ghost has_degrees = { λ _. true };
+
     ghost room = { λ r. room_of r.named.table };
 
     fn new(
@@ -278,6 +280,7 @@ impl Rebuild for RowRebuild {
         symbols: u32,
         most: u32,
         events: Vec<Event>,
+        degrees: bool,
     ) -> Result<RowRebuild, Memory> {
         let named = NamedTable::with_room(alloc, most)?;
         let stack = SideStack::with_room(alloc, symbols.min(most))?;

@@ -42,6 +42,7 @@ fn take_symbols<R: Rebuild, F: SymbolSource, L: Ledger>(
     requires none { (R.state machine).built ≡ 0 }
     requires unclosed { (R.state machine).closes ≡ 0 }
     requires all { (R.plan machine).symbols ≡ count }
+    requires degrees { IsTrue F.asks → IsTrue (R.has_degrees machine) }
     requires room { min count (suc (F.left source)) ≤ R.room machine }
     ensures fed { Answers R.state (fed F.gives count count source (R.state machine)) result }
     ensures live { IfOk result (λ m. IsTrue (R.live m)) }
@@ -109,6 +110,7 @@ fn rebuild<R: Rebuild, F: SymbolSource, L: Ledger>(
     requires empty { length (R.state machine).stack ≡ 0 }
     requires all { (R.plan machine).symbols ≡ count }
     requires within { count ≤ (R.plan machine).faces }
+    requires degrees { IsTrue F.asks → IsTrue (R.has_degrees machine) }
     requires room { min (R.plan machine).faces (2 * min count (suc (F.left source))) ≤ R.room machine }
     ensures ends { EndsAs (rebuilt F.gives (R.plan machine) source starts.entry (R.state machine)) result }
     ensures faces { IfOk result (λ b. b.table.faces ≡ (R.plan machine).faces) }
@@ -122,7 +124,8 @@ fn rebuild<R: Rebuild, F: SymbolSource, L: Ledger>(
 }
 
 /// Rebuilds by links the surface that the opening of the section, its events, a source of symbols and a
-/// block of start bits give. Room is taken for no more faces than the symbols that can come may build.
+/// block of start bits give. Room is taken for no more faces than the symbols that can come may build, and
+/// for the degrees of vertices only where the source asks for them.
 pub(crate) fn rebuild_linked<F: SymbolSource, L: Ledger>(
     alloc: Global,
     opening: Opening,
@@ -145,6 +148,15 @@ pub(crate) fn rebuild_linked<F: SymbolSource, L: Ledger>(
 {
     let created = opening.vertices + opening.splits;
     let most = most_built(opening.faces, source.most(opening.symbols));
-    let machine = LinkRebuild::new(alloc, opening.faces, created, opening.symbols, most, events)?;
+    let degrees = source.asks_degrees();
+    let machine = LinkRebuild::new(
+        alloc,
+        opening.faces,
+        created,
+        opening.symbols,
+        most,
+        events,
+        degrees,
+    )?;
     rebuild(alloc, machine, source, starts, opening.symbols, steps)
 }

@@ -1,6 +1,6 @@
 //! Where the symbols come from that the machine of reverse decoding is fed: bits, or lists of contexts.
 
-ghost use Rattle.std.specs.Prelude.{◌≡◌, ℕ, suc, ◌+◌, ◌≤◌, min, IsTrue, OnOk};
+ghost use Rattle.std.specs.Prelude.{◌≡◌, ℕ, suc, ◌+◌, ◌≤◌, min, Bool, IsTrue, OnOk};
 ghost use Rattle.drc_bits.specs.Reading.{Reads};
 ghost use Rattle.eb_valence.specs.Contexts.{symbol_at};
 ghost use Rattle.eb_section.specs.Feeding.{Source, standard, Draws};
@@ -25,6 +25,13 @@ pub(crate) trait SymbolSource: Drop {
     /// How many symbols there were in all, beside the first.
     ghost whole: { Self → ℕ };
 
+    /// Whether the machine is asked for the degrees of vertices.
+    ghost asks: { Bool };
+
+    /// Whether the machine will be asked for the degrees of vertices.
+    fn asks_degrees(&self) -> bool
+        ensures { result ≡ asks };
+
     /// How many of so many symbols can come at most.
     fn most(&self, symbols: u32) -> u32
         ensures most { result ≡ min symbols (suc (whole self.now)) }
@@ -35,6 +42,7 @@ pub(crate) trait SymbolSource: Drop {
     fn draw<R: Rebuild>(&mut self, machine: &R, number: u32) -> Result<Symbol, Fault>
         requires live { IsTrue (R.live machine.now) }
         requires unclosed { (R.state machine.now).closes ≡ 0 }
+        requires degrees { IsTrue asks → IsTrue (R.has_degrees machine.now) }
         requires number { number ≡ (R.state machine.now).built }
         ensures draws { Draws (gives self.old (R.state machine.now)) self.new result }
         ensures fewer { OnOk result (left self.new + min number 1 ≤ left self.old) };
@@ -77,7 +85,7 @@ impl<'a> BitSource<'a> {
 }
 
 impl<'a> SymbolSource for BitSource<'a> {
-    ghost use Rattle.std.specs.Prelude.{length};
+    ghost use Rattle.std.specs.Prelude.{length, false};
     ghost use Rattle.drc_bits.specs.Bits.{bits_left};
     ghost use Rattle.eb_section.specs.Calls.{bit_count};
 
@@ -86,6 +94,13 @@ impl<'a> SymbolSource for BitSource<'a> {
     ghost left = { λ s. length (bits_left s.place.place) };
 
     ghost whole = { bit_count };
+
+    ghost asks = { false };
+
+    /// Bits need no degrees.
+    fn asks_degrees(&self) -> bool {
+        false
+    }
 
     /// No more than there are bits, since a symbol takes one at least.
     fn most(&self, symbols: u32) -> u32 {
@@ -103,13 +118,20 @@ impl<'a> SymbolSource for BitSource<'a> {
 }
 
 impl SymbolSource for ContextReader {
-    ghost use Rattle.std.specs.Prelude.{length, sum_by};
+    ghost use Rattle.std.specs.Prelude.{length, sum_by, true};
 
     ghost gives = { symbol_at };
 
     ghost left = { λ lists. sum_by length lists };
 
     ghost whole = { λ lists. sum_by length lists };
+
+    ghost asks = { true };
+
+    /// The degree gives the context.
+    fn asks_degrees(&self) -> bool {
+        true
+    }
 
     /// No more than the first and those in the lists of the contexts.
     fn most(&self, symbols: u32) -> u32 {

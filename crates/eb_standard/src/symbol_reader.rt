@@ -82,6 +82,7 @@ impl<'a> SymbolReader<'a> {
     }
 
     /// The symbol of the next two bits.
+    #[inline(always)]
     fn longer(&mut self) -> Option<Symbol>
         ensures symbol { result ≡ longer self.old.place }
         ensures after { self.new ≡ after_longer self.old.place }

@@ -28,6 +28,7 @@ fn note<R: Rebuild>(
 ) -> Result<(), Memory>
     requires live { IsTrue (R.live machine.now) }
     requires unclosed { (R.state machine.now).closes ≡ 0 }
+    requires degrees { IsTrue (R.has_degrees machine.now) }
     requires first { first ≡ ((R.state machine.now).built == 0) }
     ensures { OnOk result (lists.new ≡ noted lists.old (context_coded_at (R.state machine.now) symbol)) }
 {
@@ -50,6 +51,7 @@ fn note_all<R: Rebuild, L: Ledger>(
     requires linked { IsTrue (R.linked machine) }
     requires none { (R.state machine).built ≡ 0 }
     requires unclosed { (R.state machine).closes ≡ 0 }
+    requires degrees { IsTrue (R.has_degrees machine) }
     requires all { (R.plan machine).symbols ≡ length symbols.now }
     requires room { R.room machine ≡ length symbols.now }
     requires takes { TakesWord (length symbols.now) (reverse symbols.now) (R.state machine) }
@@ -87,7 +89,7 @@ pub fn contexts_of<L: Ledger>(
 {
     let events = events.to_vec(alloc)?;
     let count = symbols.len() as u32;
-    let machine = LinkRebuild::new(alloc, count, 0, count, count, events)?;
+    let machine = LinkRebuild::new(alloc, count, 0, count, count, events, true)?;
     let mut lists = ContextLists::none(alloc);
     note_all(&mut lists, machine, symbols, steps)?;
     Ok(lists.turned_round())

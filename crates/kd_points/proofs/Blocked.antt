@@ -3,6 +3,7 @@ use Rattle.std.proofs.Common.{◌≡◌, ℕ, zero, suc, ◌+◌, ◌-◌, ◌*�
 use Rattle.std.specs.Prelude.{nat_lt, if◌then◌else◌}
 use Rattle.std.proofs.Math.Nat.{mul-le-mul_left, mul_assoc, mul_comm}
 use Rattle.std.proofs.lemmas.List.{length-map, length-reverse}
+use Rattle.drc_base.specs.declared.limits.TheConstants.{MAX_KD_VALUES}
 use Rattle.rans_core.specs.Coder.{Interval, CoderState, all_pushed, drained, end_bytes, low_bytes, state_pushed}
 use Rattle.rans_binary.specs.Blocks.{IsBlockOf, block, coded_bits, bit_interval, zeros_for}
 use Rattle.rans_binary.proofs.Again.{block-again}
@@ -53,7 +54,7 @@ pub few-again : (bits : List Bool) → length bits ≤ 2 ^ 27 → IsBlockOf bits
 few-again bits few = block-again bits (omega (arith, few, length-coded_bits (zeros_for bits) bits))
 
 -- as many bits as keys have together are few
-pub bits_few : (n depth width bits : ℕ) → bits ≤ n * depth → depth ≤ 32 * width → n * width ≤ 2 ^ 22 → bits ≤ 2 ^ 27
+pub bits_few : (n depth width bits : ℕ) → bits ≤ n * depth → depth ≤ 32 * width → n * width ≤ MAX_KD_VALUES → bits ≤ 2 ^ 27
 bits_few n depth width bits most deep values =
     let product : n * depth ≤ n * (32 * width) = mul-le-mul_left n deep in
     let same : n * (32 * width) ≡ 32 * (n * width) = sym (mul_assoc n 32 width) ∙ ap (λ m. m * width) (mul_comm n 32) ∙ mul_assoc 32 n width in

@@ -6,6 +6,7 @@ use Rattle.std.proofs.lemmas.List.{length-map, length-replicate, get_or-map, get
 use Rattle.std.proofs.lemmas.List.FromFn.{length-range_with_len, get_or-range_with_len, length-map-range_with_len}
 use Rattle.std.proofs.lemmas.List.Folds.{list_all_at}
 use Rattle.std.proofs.lemmas.List.Sums.{list_all-from_AllPass, sum_by-cons}
+use Rattle.drc_base.specs.declared.limits.TheConstants.{MAX_KD_POINTS, MAX_KD_VALUES}
 use Rattle.drc_base.specs.declared.kinds.Kind.TheVariants as kind
 use Rattle.mesh_model.specs.declared.heads.Head.{Head}
 use Rattle.mesh_model.specs.FirstFault.{at_place, value_unless}
@@ -78,7 +79,7 @@ typed_at heads at points r first some =
 
 -- the points of keys within extents, where none is outside, fit their heads
 pub fit_points : (heads : List Head) (extents : List Extent) (keys : List Key) (r : ℕ) → heads_fault heads ≡ None → length extents ≡ width_of heads
-    → length keys ≤ 2 ^ 20 → length keys * width_of heads ≤ 2 ^ 22
+    → length keys ≤ MAX_KD_POINTS → length keys * width_of heads ≤ MAX_KD_VALUES
     → FirstOutside (types_of heads) (map (row_within extents) keys) r → r ≡ width_of heads → ArePoints heads (map (row_within extents) keys)
 fit_points heads extents keys r pass wide few values first all =
     let points : List (List ℤ) = map (row_within extents) keys in
@@ -121,7 +122,7 @@ pub record AreFit (heads : List Head) (extents : List Extent) (keys : List Key) 
   pub cells_are : cells ≡ cells_of (map (row_within extents) keys)
 
 pub fit_cells : (heads seen_heads : List Head) (extents seen : List Extent) (keys : List Key) (cells : List ℤ) (r : ℕ) → seen_heads ≡ heads → seen ≡ extents
-    → heads_fault heads ≡ None → length extents ≡ width_of heads → length keys ≤ 2 ^ 20 → length keys * width_of heads ≤ 2 ^ 22
+    → heads_fault heads ≡ None → length extents ≡ width_of heads → length keys ≤ MAX_KD_POINTS → length keys * width_of heads ≤ MAX_KD_VALUES
     → FirstOutside (types_of seen_heads) (map (row_within seen) keys) r → (r ≡ width_of seen_heads → cells ≡ cells_of (map (row_within seen) keys))
     → width_of heads ≤ r → AreFit heads extents keys cells r
 fit_cells heads seen_heads extents seen keys cells r same_heads same pass wide few values first put most =

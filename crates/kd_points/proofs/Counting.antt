@@ -3,6 +3,7 @@ use Rattle.std.proofs.Common.{◌≡◌, ◌<◌, ◌≤◌, ◌*◌, ◌^◌, �
 use Rattle.std.specs.List.{All, range_with_len}
 use Rattle.std.proofs.lemmas.List.Sorted.{length_permutation}
 use Rattle.std.proofs.lemmas.List.{length-map, get_or-map}
+use Rattle.drc_base.specs.declared.limits.TheConstants.{MAX_KD_VALUES}
 use Rattle.mesh_model.specs.declared.geometries.Geometry.{Geometry}
 use Rattle.mesh_model.specs.declared.geometries.Geometry.TheVariants.{Cloud}
 use Rattle.mesh_model.specs.FirstFault.{value_unless}
@@ -46,7 +47,7 @@ sorted_length keys order is =
     length-map order (key_at keys) ∙ length_permutation (range_with_len 0 (length keys)) order is.each ∙ length-range_with_len 0 (length keys)
 
 -- as many bits as keys have together are few
-pub bits_short : (n depth width bits : ℕ) → bits ≤ n * depth → depth ≤ 32 * width → n * width ≤ 2 ^ 22 → bits < 2 ^ 31
+pub bits_short : (n depth width bits : ℕ) → bits ≤ n * depth → depth ≤ 32 * width → n * width ≤ MAX_KD_VALUES → bits < 2 ^ 31
 bits_short n depth width bits most deep values =
     let product : n * depth ≤ n * (32 * width) = mul-le-mul_left n deep in
     let same : n * (32 * width) ≡ 32 * (n * width) = sym (mul_assoc n 32 width) ∙ ap (λ m. m * width) (mul_comm n 32) ∙ mul_assoc 32 n width in

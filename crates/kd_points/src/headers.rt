@@ -55,8 +55,8 @@ fn read_point_count(c: &mut Cursor<'_>, width: u32) -> Result<u32, Fault>
     requires { width ≤ 128 }
     ensures item { Reads (λ n. n) (point_count_at width c.old) c.new result }
     ensures some { IfOk result (λ n. 0 < n) }
-    ensures few { IfOk result (λ n. n ≤ 2 ^ 20) }
-    ensures values { IfOk result (λ n. n * width ≤ 2 ^ 22) }
+    ensures few { IfOk result (λ n. n ≤ MAX_KD_POINTS) }
+    ensures values { IfOk result (λ n. n * width ≤ MAX_KD_VALUES) }
 {
     let at = c.place();
     let n = c.var32()?;
@@ -127,8 +127,8 @@ pub fn read_header(alloc: Global, c: &mut Cursor<'_>) -> Result<Header, Refusal>
     ensures most { IfOk result (λ h. width_of h.heads ≤ 128) }
     ensures bits { IfOk result (λ h. All (λ e. e.bits ≤ 32) h.extents) }
     ensures room { IfOk result (λ h. h.at + 5 * width_of h.heads < 2 ^ 64) }
-    ensures few { IfOk result (λ h. h.count ≤ 2 ^ 20) }
-    ensures values { IfOk result (λ h. h.count * width_of h.heads ≤ 2 ^ 22) }
+    ensures few { IfOk result (λ h. h.count ≤ MAX_KD_POINTS) }
+    ensures values { IfOk result (λ h. h.count * width_of h.heads ≤ MAX_KD_VALUES) }
 {
     read_opening(c)?;
     let heads = read_heads(alloc, c)?;

@@ -14,7 +14,7 @@ ghost use Rattle.kd_points.specs.Meaning.{cloud_of_keys, FirstOutside};
 use crate::axes::Axis;
 use crate::extents::Extent;
 use crate::headers::Header;
-use drc_base::{Fault, Kind, Memory, Refusal};
+use drc_base::{Fault, Kind, MAX_KD_POINTS, MAX_KD_VALUES, Memory, Refusal};
 use kd_tree::{Keys, bit_in};
 use mesh_model::{Cloud, Head, greatest_of, least_of};
 use std::alloc::Global;
@@ -239,8 +239,8 @@ pub fn cloud_of_keys(
     requires room { header.at + 5 * width_of header.heads < 2 ^ 64 }
     requires axes { axes.now ≡ axes_over header.extents }
     requires depth { keys.now.depth ≡ depth_of header.extents }
-    requires few { length keys.now.rows ≤ 2 ^ 20 }
-    requires values { length keys.now.rows * width_of header.heads ≤ 2 ^ 22 }
+    requires few { length keys.now.rows ≤ MAX_KD_POINTS }
+    requires values { length keys.now.rows * width_of header.heads ≤ MAX_KD_VALUES }
     ensures { Answers (λ c. c) (cloud_of_keys header keys.now.rows) result }
 {
     let Header {

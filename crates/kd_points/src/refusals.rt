@@ -14,8 +14,8 @@ use mesh_model::{Cloud, Geometry};
 fn test_counts(c: &Cloud) -> Result<(), Fault>
     ensures fault { MatchResult result (λ _. kd_fault (cloud c.now) ≡ None) (λ f. kd_fault (cloud c.now) ≡ Some f) }
     ensures some { OnOk result (0 < length c.now.points) }
-    ensures few { OnOk result (length c.now.points ≤ 2 ^ 20) }
-    ensures values { OnOk result (length c.now.points * width_of c.now.heads ≤ 2 ^ 22) }
+    ensures few { OnOk result (length c.now.points ≤ MAX_KD_POINTS) }
+    ensures values { OnOk result (length c.now.points * width_of c.now.heads ≤ MAX_KD_VALUES) }
     ensures sound { OnOk result (IsCloud c.now) }
 {
     let points = c.point_count();
@@ -37,8 +37,8 @@ fn test_counts(c: &Cloud) -> Result<(), Fault>
 pub fn cloud_to_write(g: &Geometry) -> Result<&Cloud, Fault>
     ensures fault { MatchResult result (λ c. (kd_fault g.now ≡ None) × (g.now ≡ cloud c.now)) (λ f. kd_fault g.now ≡ Some f) }
     ensures some { IfOk result (λ c. 0 < length c.now.points) }
-    ensures few { IfOk result (λ c. length c.now.points ≤ 2 ^ 20) }
-    ensures values { IfOk result (λ c. length c.now.points * width_of c.now.heads ≤ 2 ^ 22) }
+    ensures few { IfOk result (λ c. length c.now.points ≤ MAX_KD_POINTS) }
+    ensures values { IfOk result (λ c. length c.now.points * width_of c.now.heads ≤ MAX_KD_VALUES) }
     ensures sound { IfOk result (λ c. IsCloud c.now) }
 {
     match g {

@@ -9,7 +9,7 @@ ghost use Rattle.kd_tree.specs.Order.{IsKdOrder};
 use crate::axes::{axes_over, depth_of};
 use crate::extents::{Extent, extents_of};
 use crate::keys::keys_of;
-use drc_base::{Memory, Sequence};
+use drc_base::{MAX_KD_POINTS, MAX_KD_VALUES, Memory, Sequence};
 use kd_tree::{sort_keys, write_tree};
 use mesh_model::Cloud;
 use std::alloc::Global;
@@ -30,8 +30,8 @@ pub struct Tree {
 /// The tree of a cloud.
 pub fn tree_of(alloc: Global, cloud: &Cloud) -> Result<Tree, Memory>
     requires some { 0 < length cloud.now.points }
-    requires few { length cloud.now.points ≤ 2 ^ 20 }
-    requires values { length cloud.now.points * width_of cloud.now.heads ≤ 2 ^ 22 }
+    requires few { length cloud.now.points ≤ MAX_KD_POINTS }
+    requires values { length cloud.now.points * width_of cloud.now.heads ≤ MAX_KD_VALUES }
     ensures extents { IfOk result (λ t. t.extents ≡ extents_of cloud.now) }
     ensures order { IfOk result (λ t. IsKdOrder (keys_of cloud.now) t.order) }
     ensures split { IfOk result (λ t. t.split ≡ kd_split_of cloud.now) }

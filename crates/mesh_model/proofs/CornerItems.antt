@@ -1,15 +1,15 @@
 -- The items of corners, with one more corner.
-use Rattle.std.proofs.Common.{◌≡◌, ◌≢◌, ℕ, ◌+◌, ◌-◌, ◌*◌, ◌<◌, ◌≤◌, true, cond, List, [], ◌∷◌, ◌++◌, ℤ, length, get_or, map, take, drop, set, refl, sym, ap, ◌∙◌, subst, inl, inr, arith}
+use Rattle.std.proofs.Common.{◌≡◌, ℕ, ◌+◌, ◌*◌, ◌<◌, true, cond, List, [], ◌∷◌, ◌++◌, ℤ, length, get_or, map, set, refl, sym, ap, ◌∙◌, subst, inl, inr, arith}
 use Rattle.std.specs.List.{All, list_any, range_with_len, zip}
 use Rattle.std.proofs.lemmas.Bool.{cases_eq, cases_lt}
-use Rattle.std.proofs.lemmas.List.{get_or-set_same, get_or-set_other, get_or_past, get_or_push, get_or_append_left, get_or-map, length-map, length_push, map-append, take_all, same_lists}
+use Rattle.std.proofs.lemmas.List.{get_or-set_same, get_or-set_other, get_or_past, get_or_push, get_or_append_left, get_or-map, length-map, length_push, map-append, same_lists}
 use Rattle.std.proofs.lemmas.List.Elements.{All-nil, All-cons, All-head, All-tail, All-append}
 use Rattle.std.proofs.lemmas.List.Folds.{list_any_at}
 use Rattle.std.proofs.lemmas.List.FromFn.{map-range_with_len_more, length-map-range_with_len, get_or-map-range_with_len}
 use Rattle.mesh_model.specs.declared.heads.Head.{Head}
 use Rattle.mesh_model.specs.Assembled.{Columns, corner_row, distinct, entry, column_entry, same_row, triple}
 use Rattle.mesh_model.specs.Groups.{AttrTable, GroupParts, corner_entries, tables_of, group_tables, HasVertices}
-use Rattle.mesh_model.specs.Items.{HaveSameVertices, first_vertex, AreFirstVertices, RowsFollowVertices, AreItems, AreLatest, HasItem, HaveItems, AreItemFaces}
+use Rattle.mesh_model.specs.Items.{HaveSameVertices, RowsFollowVertices, AreItems, AreLatest, HasItem, HaveItems, AreItemFaces}
 use Rattle.mesh_model.specs.RowIndex.{IsPointOf}
 use Rattle.mesh_model.proofs.DistinctRows.{any-distinct, distinct-push, same_row-refl, with_row}
 
@@ -56,26 +56,6 @@ pub rows-follow : (corners : ℕ) (heads : List Head) (groups : List GroupParts)
 rows-follow corners heads groups has a b at_a at_b same =
     corner_row-same heads (group_tables groups) a b (groups-same corners groups a b has at_a at_b same)
 
--- the vertices of the first group
-pub first_vertex-at : (groups : List GroupParts) (g : GroupParts) (c : ℕ) → 0 < length groups → g ≡ get_or groups 0 g → get_or g.of_corner c 0 ≡ first_vertex groups c
-first_vertex-at [] g c some is = absurd (omega arith)
-first_vertex-at (x ∷ groups) g c some is = ap (λ (y : GroupParts). get_or y.of_corner c 0) is
-
--- each corner has a vertex of the first group, below the number of its entries
-pub first_vertices : (corners : ℕ) (groups : List GroupParts) (g : GroupParts) → All (HasVertices corners) groups → 0 < length groups → g ≡ get_or groups 0 g →
-    AreFirstVertices groups corners (length g.entry_of)
-first_vertices corners groups g has some is c below =
-    let here : HasVertices corners g = subst (HasVertices corners) (sym is) (has 0 g some) in
-    let under = here.entries c 0 (omega (arith, here.each_corner)) in
-    omega (arith, under, first_vertex-at groups g c some is)
-
--- corners with the same vertex of the first group and of the others
-pub same_vertices : (groups : List GroupParts) (a b n : ℕ) → length groups ≤ n + 1 → first_vertex groups a ≡ first_vertex groups b → HaveSameVertices (take n (drop 1 groups)) a b → HaveSameVertices groups a b
-same_vertices [] a b n whole first others = All-nil (λ (g : GroupParts). get_or g.of_corner a 0 ≡ get_or g.of_corner b 0)
-same_vertices (g ∷ groups) a b n whole first others =
-    All-cons (λ (x : GroupParts). get_or x.of_corner a 0 ≡ get_or x.of_corner b 0) g groups first
-    (subst (λ gs. HaveSameVertices gs a b) (take_all n groups (omega arith)) others)
-
 -- ---- items
 
 -- a row that is there brings no distinct one
@@ -97,24 +77,8 @@ AreItems-none groups corners = record {
   distinct_rows = λ row follow. refl;
 }
 
-pub AreLatest-none : (groups : List GroupParts) (latest : List ℕ) → All (λ item. item ≡ 0) latest → AreLatest groups latest []
-AreLatest-none groups latest zeros = record {
-  within = λ v. omega (arith, zero v);
-  has = λ v some. absurd (omega (arith, zero v));
-}
-  where
-    zero : (v : ℕ) → get_or latest v 0 ≡ 0
-    zero v = elim (cases_lt v (length latest)) [ inl below ↦ zeros v 0 below | inr past ↦ get_or_past latest v 0 past ]
-
--- a corner has the latest item with its vertex of the first group, where the others are the same
-pub HasItem-latest : (groups : List GroupParts) (latest firsts : List ℕ) (c shared n : ℕ) → AreLatest groups latest firsts → 0 < shared → shared ≡ get_or latest (first_vertex groups c) 0 →
-    length groups ≤ n + 1 → HaveSameVertices (take n (drop 1 groups)) (get_or firsts (shared - 1) 0) c → HasItem groups firsts c (shared - 1)
-HasItem-latest groups latest firsts c shared n are some is whole others =
-    let v = first_vertex groups c in
-    let below : shared - 1 < length firsts = omega (arith, are.within v) in
-    let first : first_vertex groups (get_or firsts (shared - 1) 0) ≡ v =
-    ap (λ l. first_vertex groups (get_or firsts (l - 1) 0)) is ∙ are.has v (omega arith) in
-    (below, same_vertices groups (get_or firsts (shared - 1) 0) c n whole first others)
+pub AreLatest-none : (latest : List ℕ) → All (λ item. item ≡ 0) latest → AreLatest latest []
+AreLatest-none latest zeros v = elim (cases_lt v (length latest)) [ inl below ↦ omega (arith, zeros v 0 below) | inr past ↦ omega (arith, get_or_past latest v 0 past) ]
 
 -- a corner with an item that is there
 pub AreItems-shared : (groups : List GroupParts) (corners c item : ℕ) (firsts : List ℕ) → AreItems groups corners c firsts → c < corners → HasItem groups firsts c item →
@@ -148,35 +112,13 @@ AreItems-new groups corners c firsts are = record {
       ∙ sym (distinct-corner row c);
 }
 
-pub AreLatest-new : (groups : List GroupParts) (latest firsts : List ℕ) (c v : ℕ) → AreLatest groups latest firsts → first_vertex groups c ≡ v → v < length latest →
-    AreLatest groups (set latest v (length firsts + 1)) (firsts ++ c ∷ [])
-AreLatest-new groups latest firsts c v are is inside = record {
-  within = λ d. elim (cases_eq d v) [
-    | inl same ↦ omega (arith, at_v d same, many)
-    | inr other ↦ omega (arith, at_other d other, are.within d, many)
-  ];
-  has = λ d some. elim (cases_eq d v) [
-    | inl same ↦
-        let last : get_or (firsts ++ c ∷ []) (get_or (set latest v (length firsts + 1)) d 0 - 1) 0 ≡ c = get_or_push firsts c 0 _ (omega (arith, at_v d same)) in
-        ap (first_vertex groups) last ∙ is ∙ sym same
-    | inr other ↦
-        let here : get_or (set latest v (length firsts + 1)) d 0 ≡ get_or latest d 0 = at_other d other in
-        let more : 0 < get_or latest d 0 = omega (arith, here) in
-        let low : get_or latest d 0 - 1 < length firsts = omega (arith, are.within d) in
-        ap (λ l. first_vertex groups (get_or (firsts ++ c ∷ []) (l - 1) 0)) here
-        ∙ ap (first_vertex groups) (get_or_append_left firsts (c ∷ []) 0 (get_or latest d 0 - 1) low)
-        ∙ are.has d more
-  ];
-}
-  where
-    many : length (firsts ++ c ∷ []) ≡ length firsts + 1
-    many = length_push firsts c
-
-    at_v : (d : ℕ) → d ≡ v → get_or (set latest v (length firsts + 1)) d 0 ≡ length firsts + 1
-    at_v d same = ap (λ k. get_or (set latest v (length firsts + 1)) k 0) same ∙ get_or-set_same latest v (length firsts + 1) 0 inside
-
-    at_other : (d : ℕ) → d ≢ v → get_or (set latest v (length firsts + 1)) d 0 ≡ get_or latest d 0
-    at_other d other = get_or-set_other latest v d (length firsts + 1) 0 other
+pub AreLatest-new : (latest firsts : List ℕ) (c v : ℕ) → AreLatest latest firsts → v < length latest → AreLatest (set latest v (length firsts + 1)) (firsts ++ c ∷ [])
+AreLatest-new latest firsts c v are inside d =
+    let many : length (firsts ++ c ∷ []) ≡ length firsts + 1 = length_push firsts c in
+    elim (cases_eq d v) [
+      | inl same ↦ omega (arith, ap (λ k. get_or (set latest v (length firsts + 1)) k 0) same ∙ get_or-set_same latest v (length firsts + 1) 0 inside, many)
+      | inr other ↦ omega (arith, get_or-set_other latest v d (length firsts + 1) 0 other, are d, many)
+    ]
 
 -- items stay where there is one more
 pub HasItem-more : (groups : List GroupParts) (firsts : List ℕ) (new c item : ℕ) → HasItem groups firsts c item → HasItem groups (firsts ++ new ∷ []) c item

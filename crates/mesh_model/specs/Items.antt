@@ -1,6 +1,6 @@
 -- Items of corners: corners with the same vertices may share an item, which has their row, and is known by
 -- the first of them (this project's choice).
-use Rattle.std.specs.Prelude.{ℕ, ◌≡◌, ◌<◌, ◌≤◌, ◌-◌, ◌*◌, ℤ, List, [], ◌∷◌, length, map, slice_index, All}
+use Rattle.std.specs.Prelude.{ℕ, ◌≡◌, ◌<◌, ◌≤◌, ◌*◌, ℤ, List, length, map, slice_index, All}
 use Rattle.std.specs.List.{range_with_len}
 use Rattle.mesh_model.specs.Assembled.{Columns, corner_row, corner_rows, distinct, triple}
 use Rattle.mesh_model.specs.Groups.{GroupParts}
@@ -10,15 +10,6 @@ use Rattle.mesh_model.specs.RowIndex.{IsPointOf}
 -- two corners have the same vertex in each group
 abbrev pub HaveSameVertices : List GroupParts → ℕ → ℕ → Type 0
 HaveSameVertices groups a b = All (λ g. slice_index g.of_corner a ≡ slice_index g.of_corner b) groups
-
--- the vertex of the first group at a corner
-abbrev pub first_vertex : List GroupParts → ℕ → ℕ
-first_vertex [] c = 0
-first_vertex (g ∷ groups) c = slice_index g.of_corner c
-
--- each corner's vertex of the first group is below a number
-abbrev pub AreFirstVertices : List GroupParts → ℕ → ℕ → Type 0
-AreFirstVertices groups corners vertices = (c : ℕ) → c < corners → first_vertex groups c < vertices
 
 -- corners with the same vertices have the same row
 abbrev pub RowsFollowVertices : List GroupParts → ℕ → (ℕ → List ℤ) → Type 0
@@ -32,10 +23,9 @@ pub record AreItems (groups : List GroupParts) (corners count : ℕ) (firsts : L
   pub distinct_rows : (row : ℕ → List ℤ) → RowsFollowVertices groups corners row →
       distinct (map row firsts) ≡ distinct (map row (range_with_len 0 count))
 
--- of each vertex of the first group an item that has it is known, plus one, or 0
-pub record AreLatest (groups : List GroupParts) (latest firsts : List ℕ) : Type 0 where
-  pub within : (v : ℕ) → slice_index latest v ≤ length firsts
-  pub has : (v : ℕ) → 0 < slice_index latest v → first_vertex groups (slice_index firsts (slice_index latest v - 1)) ≡ v
+-- of each vertex an item is kept, plus one, or 0
+abbrev pub AreLatest : List ℕ → List ℕ → Type 0
+AreLatest latest firsts = (v : ℕ) → slice_index latest v ≤ length firsts
 
 -- a corner has an item: it has the vertices of its first corner
 abbrev pub HasItem : List GroupParts → List ℕ → ℕ → ℕ → Type 0

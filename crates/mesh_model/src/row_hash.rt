@@ -50,6 +50,7 @@ fn row_hash(row: &[i32]) -> u32
 }
 
 /// The hash of each row.
+#[inline(never)]
 pub(crate) fn row_hashes(
     alloc: Global,
     width: u32,

@@ -61,6 +61,7 @@ pub(crate) struct VertexFaces {
 }
 
 /// The faces of corners whose vertices go 0, 1, 2, .. as they come first; none where they don't.
+#[inline(never)]
 pub(crate) fn vertex_faces(
     alloc: Global,
     vertices: &[u32],
@@ -95,6 +96,7 @@ pub(crate) fn vertex_faces(
 }
 
 /// The values of the first `count` vertices of an attribute of three components, one after another.
+#[inline(never)]
 fn triple_cells(
     alloc: Global,
     head: &Head,

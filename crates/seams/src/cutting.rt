@@ -47,7 +47,7 @@ fn kept_pairs(alloc: Global, across: &[u32], faces: u32, seam: &[bool]) -> Resul
 
 /// The surface cut at its seams: a table with as many faces whose pairs are those that are no seam. Its
 /// boundary has the sides of the seams. Fails only when out of memory (this project's choice).
-pub fn unglued(alloc: Global, t: &SideTable, seam: &[bool]) -> Result<SideTable, Memory>
+pub fn unseamed(alloc: Global, t: &SideTable, seam: &[bool]) -> Result<SideTable, Memory>
     requires { AreFlags t.now.faces (gluing_of t.now) seam.now }
     ensures faces { IfOk result (λ u. u.faces ≡ t.now.faces) }
     ensures pairs { IfOk result (λ u. gluing_of u ≡ unseamed (flag_at seam.now) (gluing_of t.now)) }
@@ -80,7 +80,7 @@ pub fn classes(alloc: Global, t: &SideTable, seam: Option<&[bool]>) -> Result<Cl
     match seam {
         None => labels_of::<Brand>(alloc, t, Blank::new(1)),
         Some(flags) => {
-            let cut = unglued(alloc, t, flags)?;
+            let cut = unseamed(alloc, t, flags)?;
             labels_of::<Brand>(alloc, &cut, Blank::new(1))
         }
     }

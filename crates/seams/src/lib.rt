@@ -12,7 +12,7 @@ mod reading;
 mod sides;
 mod writing;
 
-pub use cutting::{classes, unglued};
+pub use cutting::{classes, unseamed};
 pub use differences::seams_of;
 pub use laws::{bits_tell_seams, classes_are_chains, classes_have_one_value};
 pub use reading::read_seams;

@@ -29,6 +29,7 @@ fn take_all<R: Rebuild, L: Ledger>(
     ensures built { OnOk result ((R.state machine.new).built ≡ length symbols.now) }
     ensures plan { OnOk result (R.plan machine.new ≡ R.plan machine.old) }
     ensures room { OnOk result (R.room machine.new ≡ R.room machine.old) }
+    ensures degrees { OnOk result (R.has_degrees machine.new ≡ R.has_degrees machine.old) }
 {
     for symbol in symbols {
         match machine.symbol(*symbol, steps) {
@@ -82,7 +83,7 @@ fn rebuilt<R: Rebuild, L: Ledger>(
 {
     let mut steps = Steps::<L>::new(blank);
     let count = symbols.len() as u32;
-    let mut machine = R::new(alloc, plan.0, plan.1, count, plan.0, events)?;
+    let mut machine = R::new(alloc, plan.0, plan.1, count, plan.0, events, false)?;
     take_all(&mut machine, symbols, &mut steps)?;
     close_all(&mut machine, bits, &mut steps)?;
     machine.finish(alloc, &mut steps)
@@ -273,7 +274,7 @@ fn degree_after<R: Rebuild, L: Ledger>(
 {
     let count = symbols.len() as u32;
     let mut steps = Steps::<L>::new(blank);
-    let mut machine = R::new(alloc, MAX_FACES, 9, MAX_FACES, count, events)?;
+    let mut machine = R::new(alloc, MAX_FACES, 9, MAX_FACES, count, events, true)?;
     take_all(&mut machine, symbols, &mut steps)?;
     Ok(machine.degree())
 }

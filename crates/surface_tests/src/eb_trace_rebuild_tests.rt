@@ -99,7 +99,7 @@ fn rebuilt<R: Rebuild, L: Ledger>(
     let events = traced.events.as_slice().to_vec(alloc)?;
     let created = traced.vertices.saturating_add(split_count(symbols));
     let mut steps = Steps::<L>::new(blank);
-    let mut machine = R::new(alloc, faces, created, count, faces, events)?;
+    let mut machine = R::new(alloc, faces, created, count, faces, events, false)?;
     take_all(&mut machine, symbols, &mut steps)?;
     let starts = traced.starts.as_slice();
     let closed = close_all(&mut machine, starts, &mut steps)?;

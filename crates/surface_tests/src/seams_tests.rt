@@ -10,7 +10,7 @@ use drc_base::{MAX_FACES, Memory, Refusal};
 use drc_bits::Cursor;
 use mesh_model::{CornerMesh, Head};
 use rans_binary::{BitBlock, write_block};
-use seams::{classes, read_seams, seam_bits, seams_of, unglued};
+use seams::{classes, read_seams, seam_bits, seams_of, unseamed};
 use std::alloc::Global;
 use std::marker::Brand;
 use std::process::Abort;
@@ -150,7 +150,7 @@ fn is_told(rt: &impl Abort, alloc: Global, worked: Worked<'_>) -> Result<(), Fai
     let uncut = classes(alloc, &t, Some(whole.as_slice()))?;
     assert!(rt; vertices.of_corner.as_slice() == uncut.of_corner.as_slice());
     assert!(rt; vertices.ends.as_slice() == uncut.ends.as_slice());
-    let cut = unglued(alloc, &t, flags.as_slice())?;
+    let cut = unseamed(alloc, &t, flags.as_slice())?;
     assert!(rt; is_cut(&cut, &t, flags.as_slice()));
     Ok(())
 }

@@ -1,6 +1,9 @@
 -- What a stream means: its geometry, the surface of an Edgebreaker mesh, and what is known of it beside them (Draco Bitstream
 -- Specification 2.2, section "Draco Decoder"; what is answered beside the geometry is this project's choice).
-use Rattle.std.specs.Prelude.{ℕ, ◌-◌, List, [], ◌∷◌, length, Option, option_map, if◌then◌else◌}
+use Rattle.std.specs.Prelude.{ℕ, ◌-◌, List, [], ◌∷◌, length, Option, option_map, Result, Ok, if◌then◌else◌}
+use Rattle.drc_base.specs.declared.faults.Fault.{Fault}
+use Rattle.drc_base.specs.declared.faults.Refusal.{Refusal}
+use Rattle.drc_base.specs.Steps.{◌>>=◌}
 use Rattle.drc_bits.specs.Reading.{Reading}
 use Rattle.mesh_model.specs.declared.heads.Head.{Head}
 use Rattle.mesh_model.specs.declared.geometries.Geometry.{Geometry}
@@ -35,6 +38,14 @@ surface_in b = record { faces = b.table.faces; glued = gluing_of b.table }
 -- what was decoded, as the stream says it: the surface is that of the table
 abbrev pub told_by : Decoded → Meaning
 told_by d = record { geometry = d.geometry; surface = option_map surface_in d.sides; info = d.info }
+
+-- the geometry of what is due
+abbrev pub geometry_due : Result Meaning Fault → Result Geometry Fault
+geometry_due due = due >>= λ m. Ok m.geometry
+
+-- the geometry of what was decoded
+abbrev pub geometry_read : Result Decoded Refusal → Result Geometry Refusal
+geometry_read read = read >>= λ d. Ok d.geometry
 
 -- what is known of these attributes, which have so many entries
 abbrev pub attr_infos : ℕ → List Head → List Values → List AttrInfo

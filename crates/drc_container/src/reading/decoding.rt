@@ -5,7 +5,7 @@ ghost use Rattle.std.specs.Prelude.{◌≡◌, None, Err, IfOk, IfSome, IsTrue};
 ghost use Rattle.drc_base.specs.declared.faults.Fault.{Fault as AnyFault};
 ghost use Rattle.drc_base.specs.declared.faults.Refusal.TheVariants as refusal;
 ghost use Rattle.drc_base.specs.Refusals.{Answers};
-ghost use Rattle.drc_container.specs.reading.Meaning.{told_by};
+ghost use Rattle.drc_container.specs.reading.Meaning.{geometry_read, told_by};
 ghost use Rattle.drc_container.specs.reading.Stream.{stream, meaning_of, points_behind, mesh_at, cloud_at, declared_of};
 ghost use Rattle.mesh_model.specs.Parts.{AreRows, range_fault};
 ghost use Rattle.drc_container.specs.Header.{cloud_points_at};
@@ -13,7 +13,7 @@ ghost use Rattle.seq_section.specs.Indices.{indices_opening_at};
 
 use crate::headers::{Form, read_cloud_points, read_header};
 use crate::reading::attributes::{Attributes, read_attributes};
-use crate::reading::edgebreaker::read_edgebreaker;
+use crate::reading::edgebreaker::{read_edgebreaker, read_edgebreaker_mesh};
 use crate::reading::info::{Decoded, StreamInfo, sequential_info};
 use crate::reading::points::points_of;
 use drc_base::{Refusal, Sequence};
@@ -26,15 +26,29 @@ use std::alloc::Global;
 /// say otherwise. Bytes after the stream's end are ignored. Faults of the header, of the two numbers
 /// and the method of sequential connectivity, and of the numbers that Edgebreaker connectivity declares,
 /// come before memory is taken.
+#[tactic(auto, unfolding(crate::specs::reading::Stream::stream_in))]
 pub fn decode(alloc: Global, bytes: &[u8]) -> Result<Geometry, Refusal>
     ensures meaning { Answers (λ g. g) (meaning_of bytes.now) result }
     ensures early { (f : AnyFault) → declared_of bytes.now ≡ Err f → result ≡ Err (refusal.Fault f) }
+{
+    let mut c = Cursor::new(bytes);
+    let form = read_header(&mut c)?;
+    match form {
+        Form::SequentialMesh => geometry_alone(read_mesh(alloc, &mut c)),
+        Form::Cloud => geometry_alone(read_cloud(alloc, &mut c)),
+        Form::EdgebreakerMesh => read_edgebreaker_mesh(alloc, &mut c),
+    }
+}
+
+/// The geometry alone of what was decoded.
+fn geometry_alone(read: Result<Decoded, Refusal>) -> Result<Geometry, Refusal>
+    ensures { result ≡ geometry_read read }
 {
     let Decoded {
         geometry,
         sides: _,
         info: _,
-    } = decode_whole(alloc, bytes)?;
+    } = read?;
     Ok(geometry)
 }
 

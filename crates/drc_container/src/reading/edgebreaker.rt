@@ -1,7 +1,7 @@
 //! Decoding an Edgebreaker mesh behind its header.
 
 ghost use Rattle.drc_base.specs.Profile.{profile};
-ghost use Rattle.std.specs.Prelude.{◌≡◌, ◌*◌, ◌<◌, ◌≤◌, Err, IfOk, IfSome, IsTrue, Some, length, map, All};
+ghost use Rattle.std.specs.Prelude.{◌≡◌, ◌*◌, ◌<◌, ◌≤◌, Err, IfOk, IfSome, IsTrue, length, map, All};
 ghost use Rattle.drc_base.specs.declared.faults.Fault.{Fault as AnyFault};
 ghost use Rattle.drc_base.specs.declared.faults.Refusal.TheVariants as refusal;
 ghost use Rattle.drc_base.specs.declared.limits.TheConstants.{MAX_FACES as most_faces};
@@ -10,17 +10,18 @@ ghost use Rattle.drc_bits.specs.Reading.{Gives};
 ghost use Rattle.mesh_model.specs.Assembled.{AreTables};
 ghost use Rattle.mesh_model.specs.Groups.{group_tables, HasVertices};
 ghost use Rattle.eb_section.specs.Connectivity.{connectivity_at, declared_at, meaning};
-ghost use Rattle.drc_container.specs.reading.Meaning.{told_by, edgebreaker_info};
+ghost use Rattle.drc_container.specs.reading.Meaning.{geometry_due, told_by, edgebreaker_info};
 ghost use Rattle.drc_container.specs.reading.OnSurface.{at_end, assembled_in};
 ghost use Rattle.drc_container.specs.reading.AsRead.{group_on, tables_on, built_classes};
 ghost use Rattle.drc_container.specs.reading.Stream.{edgebreaker_at, surface_behind};
+ghost use Rattle.drc_container.specs.reading.Unassembled.{Leaves, meaning_left};
 
 use crate::reading::decoders::read_attributes_on;
 use crate::reading::info::{
     AttrInfo, ConnectivityInfo, Decoded, StreamInfo, method_read, stream_info,
 };
 use crate::reading::surface_attributes::{AttributesRead, DecoderValues, groups_of};
-use corner_table::Steps;
+use corner_table::{Classes, Steps};
 use drc_base::{Fault, Refusal, Sequence};
 use drc_bits::Cursor;
 use eb_rebuild::Built;
@@ -30,12 +31,96 @@ use std::alloc::Global;
 use std::marker::Brand;
 use std::sync::ledger::{Blank, Ledger};
 
+/// An Edgebreaker mesh as it was read, with the attributes that it is assembled from.
+#[derive(Drop)]
+struct SurfaceRead {
+    /// The surface, its faces in the order of decoding.
+    sides: Built,
+    /// What each attribute is.
+    heads: Sequence<Head>,
+    /// The values of each decoder's attributes.
+    decoders: Sequence<DecoderValues>,
+    /// What is known of the stream beside them.
+    info: StreamInfo,
+}
+
 /// Reads an Edgebreaker mesh behind its header.
-#[tactic(auto, unfolding(crate::specs::reading::Stream::edgebreaker_at))]
 pub fn read_edgebreaker(alloc: Global, c: &mut Cursor<'_>) -> Result<Decoded, Refusal>
     ensures mesh { Answers told_by (edgebreaker_at profile c.old) result }
     ensures early { (f : AnyFault) → declared_at profile c.old ≡ Err f → result ≡ Err (refusal.Fault f) }
     ensures linked { IfOk result (λ d. IfSome d.sides (λ b. IsTrue b.linked)) }
+{
+    let SurfaceRead {
+        sides,
+        heads,
+        decoders,
+        info,
+    } = read_unassembled(alloc, c)?;
+    let faces = sides.table().face_count();
+    let whole = classes_lent(&sides);
+    let mesh = assemble_on(alloc, info.end, faces, whole, heads, decoders.as_slice())?;
+    Ok(Decoded {
+        geometry: Geometry::Mesh(mesh),
+        sides: Some(sides),
+        info,
+    })
+}
+
+/// Reads an Edgebreaker mesh behind its header, without its surface: the table of glued sides is freed before the mesh
+/// is assembled.
+pub fn read_edgebreaker_mesh(alloc: Global, c: &mut Cursor<'_>) -> Result<Geometry, Refusal>
+    ensures mesh { Answers (λ g. g) (geometry_due (edgebreaker_at profile c.old)) result }
+    ensures early { (f : AnyFault) → declared_at profile c.old ≡ Err f → result ≡ Err (refusal.Fault f) }
+{
+    let SurfaceRead {
+        sides,
+        heads,
+        decoders,
+        info,
+    } = read_unassembled(alloc, c)?;
+    let faces = sides.table().face_count();
+    let whole = classes_alone(sides);
+    let mesh = assemble_on(
+        alloc,
+        info.end,
+        faces,
+        whole.as_slice(),
+        heads,
+        decoders.as_slice(),
+    )?;
+    Ok(Geometry::Mesh(mesh))
+}
+
+/// The classes of the corners of a finished surface.
+fn classes_lent(sides: &Built) -> &[u32]
+    ensures { result.now ≡ built_classes sides.now }
+{
+    // For the prover alone: the call states that the table is a surface.
+    let _faces = sides.table().face_count();
+    sides.classes().of_corner.as_slice()
+}
+
+/// The classes of the corners of a finished surface, which is freed.
+fn classes_alone(sides: Built) -> Sequence<u32>
+    ensures { result ≡ built_classes sides }
+{
+    let _faces = sides.table().face_count();
+    let Classes {
+        of_corner,
+        count: _,
+        ends: _,
+    } = sides.into_classes();
+    of_corner
+}
+
+/// Reads an Edgebreaker mesh behind its header, but doesn't assemble it.
+#[tactic(auto, unfolding(crate::specs::reading::Stream::edgebreaker_at))]
+fn read_unassembled(alloc: Global, c: &mut Cursor<'_>) -> Result<SurfaceRead, Refusal>
+    ensures mesh { Leaves meaning_left (edgebreaker_at profile c.old) result }
+    ensures early { (f : AnyFault) → declared_at profile c.old ≡ Err f → result ≡ Err (refusal.Fault f) }
+    ensures linked { IfOk result (λ r. IsTrue r.sides.linked) }
+    ensures tables { IfOk result (λ r. AreTables r.heads (tables_on (built_classes r.sides) r.decoders) r.sides.table.faces) }
+    ensures vertices { IfOk result (λ r. All (HasVertices (3 * r.sides.table.faces)) (map (group_on (built_classes r.sides)) r.decoders)) }
 {
     let from = c.place();
     let surface = read_surface::<Brand>(alloc, c, Blank::new(1))?;
@@ -61,18 +146,20 @@ fn read_surface<'a, L: Ledger>(
     read_connectivity(alloc, c, &mut steps)
 }
 
-/// Reads the attributes behind connectivity that begins at `from`, and assembles the mesh.
+/// Reads the attributes behind connectivity that begins at `from`.
 #[tactic(auto, unfolding(crate::specs::reading::Stream::surface_behind))]
 fn read_behind(
     alloc: Global,
     c: &mut Cursor<'_>,
     from: u64,
     surface: EbRead<'_>,
-) -> Result<Decoded, Refusal>
+) -> Result<SurfaceRead, Refusal>
     requires faces { surface.sides.table.faces ≤ most_faces }
     requires seams { length surface.seams ≡ surface.attr_data }
-    ensures mesh { Answers told_by (surface_behind profile from (meaning surface.entry) c.old) result }
-    ensures sides { IfOk result (λ d. d.sides ≡ Some surface.entry.sides) }
+    ensures mesh { Leaves meaning_left (surface_behind profile from (meaning surface.entry) c.old) result }
+    ensures sides { IfOk result (λ r. r.sides ≡ surface.entry.sides) }
+    ensures tables { IfOk result (λ r. AreTables r.heads (tables_on (built_classes r.sides) r.decoders) r.sides.table.faces) }
+    ensures vertices { IfOk result (λ r. All (HasVertices (3 * r.sides.table.faces)) (map (group_on (built_classes r.sides)) r.decoders)) }
 {
     let to = c.place();
     let AttributesRead {
@@ -81,32 +168,30 @@ fn read_behind(
         info,
     } = read_attributes_on(alloc, c, &surface)?;
     let info = edgebreaker_info(c, from, to, &surface, info);
-    let heads = heads.into_vec();
-    let mesh = assemble_on(alloc, c.place(), &surface.sides, heads, decoders.as_slice())?;
-    Ok(Decoded {
-        geometry: Geometry::Mesh(mesh),
-        sides: Some(surface.sides),
+    Ok(SurfaceRead {
+        sides: surface.sides,
+        heads,
+        decoders,
         info,
     })
 }
 
-/// The mesh of these decoders' attributes on a finished surface; its faults are at the end of the stream, which stands
-/// at `end`.
+/// The mesh of these decoders' attributes on a surface of so many faces, whose corners have these classes; its faults are
+/// at the end of the stream, which stands at `end`.
 fn assemble_on(
     alloc: Global,
     end: u64,
-    sides: &Built,
-    heads: Vec<Head>,
+    faces: u32,
+    whole: &[u32],
+    heads: Sequence<Head>,
     decoders: &[DecoderValues],
 ) -> Result<CornerMesh, Refusal>
-    requires tables { AreTables heads.items (tables_on (built_classes sides.now) decoders.now) sides.now.table.faces }
-    requires vertices { All (HasVertices (3 * sides.now.table.faces)) (map (group_on (built_classes sides.now)) decoders.now) }
-    ensures { Answers (λ m. m) (at_end end (assembled_in profile heads.items (tables_on (built_classes sides.now) decoders.now) sides.now.table.faces)) result }
+    requires tables { AreTables heads (tables_on whole.now decoders.now) faces }
+    requires vertices { All (HasVertices (3 * faces)) (map (group_on whole.now) decoders.now) }
+    ensures { Answers (λ m. m) (at_end end (assembled_in profile heads (tables_on whole.now decoders.now) faces)) result }
 {
-    let faces = sides.table().face_count();
-    let whole = sides.classes().of_corner.as_slice();
     let groups = groups_of(alloc, whole, decoders)?;
-    assemble_at(alloc, end, heads, groups.as_slice(), faces)
+    assemble_at(alloc, end, heads.into_vec(), groups.as_slice(), faces)
 }
 
 /// The mesh of groups of attributes; its faults are at the end of the stream, which stands at `end`.

@@ -14,7 +14,7 @@ use crate::surface::ordering::order_over;
 use crate::surface::turned_meshes::TurnedMesh;
 use corner_table::SideTable;
 use drc_base::Memory;
-use seams::{classes, unglued};
+use seams::{classes, unseamed};
 use std::alloc::Global;
 
 /// A mesh as it is decoded, and for each of its attributes the surface that the values stand on.
@@ -56,7 +56,7 @@ fn cut_surface(
     match flags {
         None => Ok(None),
         Some(flags) => {
-            let cut = unglued(alloc, sides, flags.as_slice())?;
+            let cut = unseamed(alloc, sides, flags.as_slice())?;
             Ok(Some(surface_in_order(alloc, cut, false)?))
         }
     }

@@ -10,7 +10,7 @@ ghost use Rattle.drc_container.specs.reading.OnSurface.{cut_at, ordered_by};
 use corner_table::{Classes, Order, SideTable};
 use drc_base::Memory;
 use rans_binary::BitBlock;
-use seams::{read_seams, unglued};
+use seams::{read_seams, unseamed};
 use std::alloc::Global;
 use walk_order::{depth_first, prediction_degree};
 
@@ -70,5 +70,5 @@ pub fn cut_at(alloc: Global, t: &SideTable, block: BitBlock<'_>) -> Result<SideT
 {
     let mut blocks = [block];
     let flags = read_seams(alloc, t, &mut blocks)?;
-    unglued(alloc, t, flags[0].as_slice())
+    unseamed(alloc, t, flags[0].as_slice())
 }

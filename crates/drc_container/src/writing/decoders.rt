@@ -13,20 +13,17 @@ ghost use Rattle.drc_container.specs.surface.AttributeSurfaces.{glued_on, order_
 use crate::choice::codings::Coding;
 use crate::surface::attribute_surfaces::{AttributeSurfaces, is_cut_at, surface_at};
 use crate::surface::ordered_surface::OrderedSurface;
-use attr_section::{DecoderHead, Ordered, Values, write_decoder, write_heads};
+use attr_section::{DecoderHead, Ordered, POSITION_ID, Values, write_decoder, write_heads};
 use drc_base::{Memory, Sequence};
 use mesh_model::Head;
 use std::alloc::Global;
-
-/// The data id of the surface itself.
-const POSITIONS: u8 = 255;
 
 /// The data id of an attribute: the first one has the surface itself, each other one an attribute data of
 /// its own.
 fn data_id_of(attr: u8) -> u8
     ensures { result ≡ data_id_of attr }
 {
-    if attr == 0 { POSITIONS } else { attr - 1 }
+    if attr == 0 { POSITION_ID } else { attr - 1 }
 }
 
 /// The decoder of an attribute, which has this head.

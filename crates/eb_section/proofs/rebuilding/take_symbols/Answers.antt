@@ -34,6 +34,7 @@ loop-number-preserved g c =
       linked = c.in_ok-symbol-2.ensures.linked ∙ c.loop-number.invariant.linked;
       built = counts.0 ∙ (let b = c.loop-number.invariant.built in omega arith);
       unclosed = counts.1 ∙ c.loop-number.invariant.unclosed;
+      degrees = λ asks. subst (λ (b : Bool). IsTrue b) (sym c.in_ok-symbol-2.ensures.degrees) (c.loop-number.invariant.degrees asks);
       room = c.in_ok-symbol-2.ensures.room ∙ c.loop-number.invariant.room;
       came = came-on c.loop-number.number _ _ _ c.in_ok-symbol.ensures.fewer c.loop-number.invariant.came c.loop-number.invariant.first;
       first = λ none. absurd (omega arith);

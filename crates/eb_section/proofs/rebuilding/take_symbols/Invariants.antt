@@ -14,6 +14,7 @@ invariant-loop-number g l =
       linked : g.R.Rebuild.linked l.machine ≡ g.R.Rebuild.linked l.fn.machine;
       built : now.built ≡ l.number;
       unclosed : now.closes ≡ 0;
+      degrees : IsTrue g.F.SymbolSource.asks → IsTrue (g.R.Rebuild.has_degrees l.machine);
       room : g.R.Rebuild.room l.machine ≡ g.R.Rebuild.room l.fn.machine;
       came : l.number + g.F.SymbolSource.left l.source ≤ suc (g.F.SymbolSource.left l.fn.source);
       first : l.number ≡ 0 → g.F.SymbolSource.left l.source ≤ g.F.SymbolSource.left l.fn.source;

@@ -21,6 +21,7 @@ loop-number-preserved g c =
       live = c.in-Ok.ensures.moves.1;
       linked = subst (λ (b : Bool). IsTrue b) (sym c.in-Ok.ensures.linked) c.loop-number.invariant.linked;
       unclosed = counts.1 ∙ c.loop-number.invariant.unclosed;
+      degrees = subst (λ (b : Bool). IsTrue b) (sym c.in-Ok.ensures.degrees) c.loop-number.invariant.degrees;
       all = ap (λ (p : Plan). p.symbols) c.in-Ok.ensures.plan ∙ c.loop-number.invariant.all;
       room = c.in-Ok.ensures.room ∙ c.loop-number.invariant.room;
       within = omega (arith, c.loop-number.invariant.within);

@@ -14,6 +14,7 @@ invariant-loop-number g l =
       live : IsTrue (g.R.Rebuild.live l.machine);
       linked : IsTrue (g.R.Rebuild.linked l.machine);
       unclosed : now.closes ≡ 0;
+      degrees : IsTrue (g.R.Rebuild.has_degrees l.machine);
       all : (g.R.Rebuild.plan l.machine).symbols ≡ n;
       room : g.R.Rebuild.room l.machine ≡ n;
       within : l.number ≤ n;

@@ -19,7 +19,7 @@ loop-f-preserved c =
     record {
       items = subst (λ n. AreItems groups (3 * c.args.faces) n last.firsts.items) next three.items;
       latest = three.latest;
-      vertices = λ k below. omega (arith, so_far.vertices k below, one.vertices, two.vertices, three.vertices);
+      vertices = λ k d below. omega (arith, so_far.vertices k d below, one.vertices, two.vertices, three.vertices);
       faces = (
         ((items ++ c.in_ok-first.first ∷ []) ++ c.in_ok-second.second ∷ []) ++ c.in_ok-third.third ∷ [],
         HaveItems-face groups f c.in_ok-first.first c.in_ok-second.second c.in_ok-third.third items c.loop-f.items.firsts.items c.item_of.new.items.firsts.items c.item_of-in-loop-f.new.items.firsts.items last.firsts.items

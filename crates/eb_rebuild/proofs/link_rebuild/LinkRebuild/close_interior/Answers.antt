@@ -16,7 +16,7 @@ use Rattle.eb_rebuild.proofs.link_rebuild.LinkRebuild.close_interior.Goals as go
 pub returns-in-Some-other-clause-does : goal.returns-in-Some-other-clause-does
 returns-in-Some-other-clause-does g c =
     rw (← c.self.view_is, c.new.ensures) (fill_gone_does
-    (record { plan = record { faces = c.self.inside.faces; created = c.self.inside.created; symbols = c.self.inside.symbols }; table = c.self.inside.table; stack = c.self.inside.stack; splits = c.self.inside.splits; made = c.self.inside.made; closes = c.self.inside.closes })
+    (record { plan = record { faces = c.self.inside.faces; created = c.self.inside.created; symbols = c.self.inside.symbols }; table = c.self.inside.table; stack = c.self.inside.stack; splits = c.self.inside.splits; made = c.self.inside.made; closes = c.self.inside.closes; has_degrees = c.self.inside.degrees.kept })
     c.in-Some.a c.pop.new.self.sides _ _ c.in-Some.ensures.top
     (ap (gluing_of c.self.inside.table) (sym c.side_with-top.ensures.side) ∙ sym c.in-Some-other.ensures.other)
     (ap (λ (n : ℕ). n + c.from-2.result) c.from.ensures ∙ ap (λ (n : ℕ). c.self.inside.symbols + n) c.from-2.ensures))
@@ -24,7 +24,7 @@ returns-in-Some-other-clause-does g c =
 pub returns-then-not-is_loop-clause-does : goal.returns-then-not-is_loop-clause-does
 returns-then-not-is_loop-clause-does g c =
     rw (← c.self.view_is, c.new-then-not-is_loop.ensures) (fill_no_loop_does
-    (record { plan = record { faces = c.self.inside.faces; created = c.self.inside.created; symbols = c.self.inside.symbols }; table = c.self.inside.table; stack = c.self.inside.stack; splits = c.self.inside.splits; made = c.self.inside.made; closes = c.self.inside.closes })
+    (record { plan = record { faces = c.self.inside.faces; created = c.self.inside.created; symbols = c.self.inside.symbols }; table = c.self.inside.table; stack = c.self.inside.stack; splits = c.self.inside.splits; made = c.self.inside.made; closes = c.self.inside.closes; has_degrees = c.self.inside.degrees.kept })
     c.in-Some.a c.pop.new.self.sides (side_of c.prev_open-second.result) (side_of c.prev_open-third.result) (side_of c.prev_open-last.result) c.is_loop.result _
     (record {
       stack = c.in-Some.ensures.top;
@@ -40,7 +40,7 @@ returns-then-not-is_loop-clause-does g c =
 pub returns-then-built-self-clause-does : goal.returns-then-built-self-clause-does
 returns-then-built-self-clause-does g c =
     rw (← c.self.view_is, c.new-then-built-self.ensures) (fill_full_does
-    (record { plan = record { faces = c.self.inside.faces; created = c.self.inside.created; symbols = c.self.inside.symbols }; table = c.self.inside.table; stack = c.self.inside.stack; splits = c.self.inside.splits; made = c.self.inside.made; closes = c.self.inside.closes })
+    (record { plan = record { faces = c.self.inside.faces; created = c.self.inside.created; symbols = c.self.inside.symbols }; table = c.self.inside.table; stack = c.self.inside.stack; splits = c.self.inside.splits; made = c.self.inside.made; closes = c.self.inside.closes; has_degrees = c.self.inside.degrees.kept })
     c.in-Some.a c.pop.new.self.sides (side_of c.prev_open-second.result) (side_of c.prev_open-third.result) (side_of c.prev_open-last.result) c.is_loop.result _
     (record {
       stack = c.in-Some.ensures.top;
@@ -105,7 +105,7 @@ glue-requires-3-clause-second g c =
     tells.1)
     (face_apart _ _ (λ e. (let no : c.prev_open-third.result.face ≡ c.add_face-face.result = e in absurd (omega arith))))
     (loop_apart
-    (record { plan = record { faces = c.self.inside.faces; created = c.self.inside.created; symbols = c.self.inside.symbols }; table = c.self.inside.table; stack = c.self.inside.stack; splits = c.self.inside.splits; made = c.self.inside.made; closes = c.self.inside.closes })
+    (record { plan = record { faces = c.self.inside.faces; created = c.self.inside.created; symbols = c.self.inside.symbols }; table = c.self.inside.table; stack = c.self.inside.stack; splits = c.self.inside.splits; made = c.self.inside.made; closes = c.self.inside.closes; has_degrees = c.self.inside.degrees.kept })
     c.in-Some.a c.pop.new.self.sides (side_of c.prev_open-second.result) (side_of c.prev_open-third.result) (side_of c.prev_open-last.result)
     (record {
       stack = c.in-Some.ensures.top;
@@ -130,7 +130,7 @@ invariant_of-self-2 g c =
     let open_top = ap T (sym c.side_with-top.ensures.side) ∙ sym c.in-None-other.ensures.other in
     let free : IsFree f T A = record { within = face-lt c.in-Some.a f below.0; free = open_top } in
     let third_apart = loop_apart
-    (record { plan = record { faces = c.self.inside.faces; created = c.self.inside.created; symbols = c.self.inside.symbols }; table = c.self.inside.table; stack = c.self.inside.stack; splits = c.self.inside.splits; made = c.self.inside.made; closes = c.self.inside.closes })
+    (record { plan = record { faces = c.self.inside.faces; created = c.self.inside.created; symbols = c.self.inside.symbols }; table = c.self.inside.table; stack = c.self.inside.stack; splits = c.self.inside.splits; made = c.self.inside.made; closes = c.self.inside.closes; has_degrees = c.self.inside.degrees.kept })
     c.in-Some.a c.pop.new.self.sides B D (side_of c.prev_open-last.result)
     (record {
       stack = c.in-Some.ensures.top;
@@ -143,13 +143,12 @@ invariant_of-self-2 g c =
     let glued = c.glue-3.ensures.glued ∙ ap (glue (side c.add_face-face.result third) D) (c.glue-2.ensures.glued ∙ ap (glue (side c.add_face-face.result second) B) (c.glue.ensures.glued ∙ ap (λ (l : List ℕ). glue (side c.add_face-face.result first) (side_of c.side_with-top.result) (glued_in l)) c.add_face-face.ensures.entries))
     ∙ ap (λ (n : ℕ). glue (side n third) D (glue (side n second) B (glue (side n first) (side_of c.side_with-top.result) T))) c.add_face-face.ensures.face
     ∙ ap (λ (x : Side). glue (side f third) D (glue (side f second) B (glue (side f first) x T))) c.side_with-top.ensures.side in (
-      link_closed {v = (record { plan = record { faces = c.self.inside.faces; created = c.self.inside.created; symbols = c.self.inside.symbols }; table = c.self.inside.table; stack = c.self.inside.stack; splits = c.self.inside.splits; made = c.self.inside.made; closes = c.self.inside.closes })} c.self.invariant.0 c.in-Some.a c.pop.new.self.sides 1 c.in-Some.ensures.top refl
+      link_closed {v = (record { plan = record { faces = c.self.inside.faces; created = c.self.inside.created; symbols = c.self.inside.symbols }; table = c.self.inside.table; stack = c.self.inside.stack; splits = c.self.inside.splits; made = c.self.inside.made; closes = c.self.inside.closes; has_degrees = c.self.inside.degrees.kept })} c.self.invariant.0 c.in-Some.a c.pop.new.self.sides 1 c.in-Some.ensures.top refl
           as_wide more refl c.pop.ensures.room refl refl (add-one _)
           (subst (λ (n : ℕ). AreSidesBelow n c.pop.new.self.sides) (sym (more ∙ add-one _)) (sides_below_more _ _ below.1))
           (subst (λ (n : ℕ). AreKeptBelow n c.self.inside.splits.kept) (sym (more ∙ add-one _)) (kept_below_more _ _ c.self.invariant.0.kept)),
-      ((let b = c.add_places.ensures.len in let e = c.self.invariant.1.0 in omega arith), (let b = c.add_places.ensures.capacity in let e = c.self.invariant.1.1 in omega arith)),
-      λ e. absurd (omega arith),
-      names_fill c.self.inside.table c.glue-3.new.self c.self.inside.made c.self.inside.names c.fill.new.self A B D c.self.invariant.3 (more ∙ add-one _) glued as_wide free c.prev_open-second.ensures.free c.prev_open-third.ensures.free
+      λ t e. absurd (omega arith),
+      names_fill c.self.inside.table c.glue-3.new.self c.self.inside.made c.self.inside.names c.fill.new.self A B D c.self.invariant.2 (more ∙ add-one _) glued as_wide free c.prev_open-second.ensures.free c.prev_open-third.ensures.free
           (λ e. tells.0 (e ∙ sym c.side_with-top.ensures.side)) (λ e. tells.1 (e ∙ sym c.side_with-top.ensures.side)) third_apart
           (subst (Follows f T B) c.side_with-top.ensures.side c.prev_open-second.ensures.follows) c.prev_open-third.ensures.follows
           (subst (λ (x : Side). Follows f T x D) (tells.2 ∙ c.side_with-top.ensures.side) c.prev_open-last.ensures.follows)
@@ -163,8 +162,8 @@ returns-clause-does g c =
     let B = side_of c.prev_open-second.result in
     let D = side_of c.prev_open-third.result in
     rw (← c.self.view_is) (fill_does
-    (record { plan = record { faces = c.self.inside.faces; created = c.self.inside.created; symbols = c.self.inside.symbols }; table = c.self.inside.table; stack = c.self.inside.stack; splits = c.self.inside.splits; made = c.self.inside.made; closes = c.self.inside.closes })
-    (record { plan = record { faces = c.self.inside.faces; created = c.self.inside.created; symbols = c.self.inside.symbols }; table = c.glue-3.new.self; stack = c.pop.new.self; splits = c.self.inside.splits; made = c.self.inside.made; closes = c.self.inside.closes + 1 })
+    (record { plan = record { faces = c.self.inside.faces; created = c.self.inside.created; symbols = c.self.inside.symbols }; table = c.self.inside.table; stack = c.self.inside.stack; splits = c.self.inside.splits; made = c.self.inside.made; closes = c.self.inside.closes; has_degrees = c.self.inside.degrees.kept })
+    (record { plan = record { faces = c.self.inside.faces; created = c.self.inside.created; symbols = c.self.inside.symbols }; table = c.glue-3.new.self; stack = c.pop.new.self; splits = c.self.inside.splits; made = c.self.inside.made; closes = c.self.inside.closes + 1; has_degrees = c.self.inside.degrees.kept })
     c.in-Some.a c.pop.new.self.sides (side_of c.prev_open-second.result) (side_of c.prev_open-third.result) (side_of c.prev_open-last.result) c.is_loop.result
     (record {
       stack = c.in-Some.ensures.top;
@@ -211,11 +210,11 @@ fill-requires-clause-real_before g c =
 pub fill-requires-clause-face : goal.fill-requires-clause-face
 fill-requires-clause-face g c =
     let below = sides_rest c.self.inside.table.faces c.self.inside.stack.sides c.in-Some.a c.pop.new.self.sides c.in-Some.ensures.top c.self.invariant.0.sides in
-    has_face c.self.invariant.3 c.in-Some.a below.0
+    has_face c.self.invariant.2 c.in-Some.a below.0
 
 pub fill-requires-clause-face_before : goal.fill-requires-clause-face_before
 fill-requires-clause-face_before g c =
-    has_face c.self.invariant.3 c.number_of.result (subst (λ (n : ℕ). n < 3 * c.self.inside.table.faces) (sym c.number_of.ensures.number) (number-lt (side_of c.prev_open-second.result) c.self.inside.table.faces c.prev_open-second.ensures.free.within))
+    has_face c.self.invariant.2 c.number_of.result (subst (λ (n : ℕ). n < 3 * c.self.inside.table.faces) (sym c.number_of.ensures.number) (number-lt (side_of c.prev_open-second.result) c.self.inside.table.faces c.prev_open-second.ensures.free.within))
 
 pub fill-requires-clause-corners : goal.fill-requires-clause-corners
 fill-requires-clause-corners g c =
@@ -225,16 +224,4 @@ fill-requires-clause-corners g c =
     let wide = c.self.invariant.0.room in
     let low : c.self.inside.table.faces < c.self.inside.faces = omega arith in
     let room = subst (λ (v : LinkValue). v.table.faces < v.plan.faces → v.table.faces < room_of v.table) (sym c.self.view_is) c.requires.room low in
-    names_corners c.self.invariant.3 room
-
-pub add_places-requires : goal.add_places-requires
-add_places-requires g c =
-    let count = c.face_count-built.ensures.count in
-    let fits = c.face_count-built.ensures.room in
-    let ne = c.if-built-self.false in
-    let wide = c.self.invariant.0.room in
-    let low : c.self.inside.table.faces < c.self.inside.faces = omega arith in
-    let room = subst (λ (v : LinkValue). v.table.faces < v.plan.faces → v.table.faces < room_of v.table) (sym c.self.view_is) c.requires.room low in
-    let long = c.self.invariant.1.0 in
-    let much = c.self.invariant.1.1 in
-    omega arith
+    names_corners c.self.invariant.2 room

@@ -1,16 +1,14 @@
 -- A face more, glued to the top side and to the second side.
-use Rattle.std.proofs.Common.{◌≡◌, ℕ, Ok, ◌*◌, ◌/◌, ◌<◌, ◌∷◌, List, length, sym, refl, ap, ◌∙◌, subst, arith, add-one}
-use Rattle.corner_table.specs.Sides.{Side, side_at, number, side, first, second, third, glue, IsFree}
-use Rattle.corner_table.specs.Fans.{side_before, Follows}
+use Rattle.std.proofs.Common.{◌≡◌, ℕ, Bool, IsTrue, Ok, ◌*◌, ◌/◌, ◌<◌, ◌∷◌, List, length, sym, refl, ap, ◌∙◌, subst, arith, add-one}
+use Rattle.corner_table.specs.Sides.{Side, side_at, side, first, second, third, glue, IsFree}
+use Rattle.corner_table.specs.Fans.{side_before}
 use Rattle.corner_table.specs.Table.{side_of, glued_in, gluing_of, room_of}
 use Rattle.corner_table.proofs.Places.{same-true, same-false, face_apart}
-use Rattle.corner_table.proofs.Numbers.{number-side_at}
-use Rattle.eb_rebuild.specs.KeptDegrees.{KeepsDegrees, with_room, after_split}
 use Rattle.eb_rebuild.specs.Linked.{LinkValue, state_of}
 use Rattle.eb_rebuild.proofs.Steps.{split_no_top}
 use Rattle.eb_rebuild.proofs.Noting.{kept_below_more}
 use Rattle.eb_rebuild.proofs.Linking.{link_grown, split_does, split_no_second_does, split_one_side_does, split_one_point_does, still_free, free_grown, first_is_free, second_is_free, TakenTwo}
-use Rattle.eb_rebuild.proofs.TableDegrees.{keeps_room, long_room, keeps_split, small_at, live_top}
+use Rattle.eb_rebuild.proofs.TableDegrees.{ready_at, list_split, live_top}
 use Rattle.eb_rebuild.proofs.CornersNamed.{names_split, names_corners, has_face, is_real, start_below, end_below}
 use Rattle.eb_rebuild.proofs.link_rebuild.LinkRebuild.take_split.Goals as goal
 
@@ -24,7 +22,7 @@ returns-in-Err-take_second-clause-does g c = split_no_second_does c.args.self.no
 pub returns-then-is_same-clause-does : goal.returns-then-is_same-clause-does
 returns-then-is_same-clause-does g c =
     rw c.new.ensures (split_one_side_does c.args.self.now c.take_side.new.self c.take_second.new.self
-    (record { plan = record { faces = c.self.inside.faces; created = c.self.inside.created; symbols = c.self.inside.symbols }; table = c.self.inside.table; stack = c.self.inside.stack; splits = c.self.inside.splits; made = c.self.inside.made; closes = c.self.inside.closes })
+    (record { plan = record { faces = c.self.inside.faces; created = c.self.inside.created; symbols = c.self.inside.symbols }; table = c.self.inside.table; stack = c.self.inside.stack; splits = c.self.inside.splits; made = c.self.inside.made; closes = c.self.inside.closes; has_degrees = c.self.inside.degrees.kept })
     c.in-Ok.b c.in-Ok-take_second.a c.from.result
     (record {
       first_taken = record { rest = c.take_side.ensures.rest; view = refl; sides = c.in-Ok.ensures.ok.0; free = c.in-Ok.ensures.ok.1; below = c.in-Ok.ensures.ok.2 };
@@ -42,7 +40,7 @@ returns-then-is_same-clause-does g c =
 pub returns-then-is_same-2-clause-does : goal.returns-then-is_same-2-clause-does
 returns-then-is_same-2-clause-does g c =
     rw c.new-then-is_same-2.ensures (split_one_point_does c.args.self.now c.take_side.new.self c.take_second.new.self
-    (record { plan = record { faces = c.self.inside.faces; created = c.self.inside.created; symbols = c.self.inside.symbols }; table = c.self.inside.table; stack = c.self.inside.stack; splits = c.self.inside.splits; made = c.self.inside.made; closes = c.self.inside.closes })
+    (record { plan = record { faces = c.self.inside.faces; created = c.self.inside.created; symbols = c.self.inside.symbols }; table = c.self.inside.table; stack = c.self.inside.stack; splits = c.self.inside.splits; made = c.self.inside.made; closes = c.self.inside.closes; has_degrees = c.self.inside.degrees.kept })
     c.in-Ok.b c.in-Ok-take_second.a (side_of c.prev_open-before.result) c.from-then-is_same-2.result
     (record {
       first_taken = record { rest = c.take_side.ensures.rest; view = refl; sides = c.in-Ok.ensures.ok.0; free = c.in-Ok.ensures.ok.1; below = c.in-Ok.ensures.ok.2 };
@@ -78,7 +76,7 @@ glue-requires-2-clause-second g c =
     let f = c.add_face-face.ensures.face in
     let free : IsFree c.self.inside.table.faces (gluing_of c.self.inside.table) (side_of c.side_with-top.result) =
     subst (IsFree c.self.inside.table.faces (gluing_of c.self.inside.table)) (sym c.side_with-top.ensures.side)
-    (first_is_free {old = c.args.self.now} {one = c.take_side.new.self} {two = c.take_second.new.self} {value = (record { plan = record { faces = c.self.inside.faces; created = c.self.inside.created; symbols = c.self.inside.symbols }; table = c.self.inside.table; stack = c.self.inside.stack; splits = c.self.inside.splits; made = c.self.inside.made; closes = c.self.inside.closes })} {b = c.in-Ok.b} {a = c.in-Ok-take_second.a} (record {
+    (first_is_free {old = c.args.self.now} {one = c.take_side.new.self} {two = c.take_second.new.self} {value = (record { plan = record { faces = c.self.inside.faces; created = c.self.inside.created; symbols = c.self.inside.symbols }; table = c.self.inside.table; stack = c.self.inside.stack; splits = c.self.inside.splits; made = c.self.inside.made; closes = c.self.inside.closes; has_degrees = c.self.inside.degrees.kept })} {b = c.in-Ok.b} {a = c.in-Ok-take_second.a} (record {
       first_taken = record { rest = c.take_side.ensures.rest; view = refl; sides = c.in-Ok.ensures.ok.0; free = c.in-Ok.ensures.ok.1; below = c.in-Ok.ensures.ok.2 };
       second_top = c.in-Ok-take_second.ensures.ok.0;
       second_free = c.in-Ok-take_second.ensures.ok.1;
@@ -96,7 +94,7 @@ glue-requires-2-clause-second g c =
 
 pub invariant_of-self : goal.invariant_of-self
 invariant_of-self g c =
-    let value : LinkValue = (record { plan = record { faces = c.self.inside.faces; created = c.self.inside.created; symbols = c.self.inside.symbols }; table = c.self.inside.table; stack = c.self.inside.stack; splits = c.self.inside.splits; made = c.self.inside.made; closes = c.self.inside.closes }) in
+    let value : LinkValue = (record { plan = record { faces = c.self.inside.faces; created = c.self.inside.created; symbols = c.self.inside.symbols }; table = c.self.inside.table; stack = c.self.inside.stack; splits = c.self.inside.splits; made = c.self.inside.made; closes = c.self.inside.closes; has_degrees = c.self.inside.degrees.kept }) in
     let T : TakenTwo c.args.self.now c.take_side.new.self c.take_second.new.self value c.in-Ok.b c.in-Ok-take_second.a = record {
       first_taken = record { rest = c.take_side.ensures.rest; view = refl; sides = c.in-Ok.ensures.ok.0; free = c.in-Ok.ensures.ok.1; below = c.in-Ok.ensures.ok.2 };
       second_top = c.in-Ok-take_second.ensures.ok.0;
@@ -110,28 +108,17 @@ invariant_of-self g c =
     let whole = c.self.view_is ∙ c.take_second.ensures.rest in
     let more : value.table.faces < value.plan.symbols =
     subst (λ (v : LinkValue). v.table.faces < v.plan.symbols) (sym whole) (subst (λ (v : LinkValue). v.table.faces < v.plan.symbols) (sym c.take_side.ensures.rest) c.requires.more) in
-    let W = keeps_room (c.self.invariant.2 (ap (λ (v : LinkValue). v.closes) whole ∙ ap (λ (v : LinkValue). v.closes) c.take_side.ensures.rest ∙ c.requires.unclosed)) (let n = c.self.inside.degrees.ok.0 in let e = c.self.invariant.1.0 in omega arith) in
     let F = c.add_face-face.ensures.face in
-    let long = c.self.inside.degrees.ok.0 in
-    let room = long_room c.self.inside.table.faces c.self.inside.degrees.items (let n = c.self.inside.degrees.ok.0 in let e = c.self.invariant.1.0 in omega arith) in
     let wide = subst (λ (v : LinkValue). v.table.faces < room_of v.table) (sym whole) (subst (λ (v : LinkValue). v.table.faces < room_of v.table) (sym c.take_side.ensures.rest) c.requires.room) in
     let as_wide : room_of c.glue-2.new.self ≡ room_of c.self.inside.table = c.glue-2.ensures.room ∙ c.glue.ensures.room ∙ ap (λ (l : List ℕ). length l / 3) c.add_face-face.ensures.entries in
     let b = c.in-Ok.b in
     let a = c.in-Ok-take_second.a in
-    let nb = side_of c.next_open-next_top.result in
-    let na = side_of c.next_open-next_second.result in
     let f = c.self.inside.table.faces in
-    let ds = (with_room c.self.inside.degrees.items) in
     let faces = c.glue-2.ensures.faces ∙ c.glue.ensures.faces ∙ c.add_face-face.ensures.faces ∙ add-one _ in
     let glued = c.glue-2.ensures.glued ∙ ap (glue (side c.add_face-face.result second) (side_of c.side_with-top.result)) (c.glue.ensures.glued ∙ ap (λ (l : List ℕ). glue (side c.add_face-face.result third) (side_of c.side_with-second.result) (glued_in l)) c.add_face-face.ensures.entries)
     ∙ ap (λ (n : ℕ). glue (side n second) (side_of c.side_with-top.result) (glue (side n third) (side_of c.side_with-second.result) (gluing_of c.self.inside.table))) F
     ∙ ap (λ (x : Side). glue (side f second) x (glue (side f third) (side_of c.side_with-second.result) (gluing_of c.self.inside.table))) c.side_with-top.ensures.side
-    ∙ ap (λ (x : Side). glue (side f second) (side_at b) (glue (side f third) x (gluing_of c.self.inside.table))) c.side_with-second.ensures.side in
-    let after_b = subst (λ (x : Side). Follows f (gluing_of c.self.inside.table) x nb) c.side_with-top.ensures.side c.next_open-next_top.ensures.follows in
-    let after_a = subst (λ (x : Side). Follows f (gluing_of c.self.inside.table) x na) c.side_with-second.ensures.side c.next_open-next_second.ensures.follows in
-    let items = c.split_degrees.ensures.items ∙ ap (λ (l : List ℕ). after_split c.add_face-face.result b a c.number_of-after_top.result c.number_of-after_second.result l) c.add_places.ensures.items ∙ ap (λ (n : ℕ). after_split n b a c.number_of-after_top.result c.number_of-after_second.result ds) F
-    ∙ ap (λ (n : ℕ). after_split f b a n c.number_of-after_second.result ds) c.number_of-after_top.ensures.number
-    ∙ ap (λ (n : ℕ). after_split f b a (number nb) n ds) c.number_of-after_second.ensures.number in (
+    ∙ ap (λ (x : Side). glue (side f second) (side_at b) (glue (side f third) x (gluing_of c.self.inside.table))) c.side_with-second.ensures.side in (
       link_grown c.self.invariant.0 (record {
         plan = refl;
         more = more;
@@ -147,11 +134,10 @@ invariant_of-self g c =
         made = omega arith;
         closes = refl;
       }),
-      ((let a = c.split_degrees.ensures.len in let b = c.add_places.ensures.len in let e = c.self.invariant.1.0 in let f = faces in omega arith), (let a = c.split_degrees.ensures.capacity in let b = c.add_places.ensures.capacity in let e = c.self.invariant.1.1 in omega arith)),
-      λ e. subst (KeepsDegrees c.glue-2.new.self c.self.inside.made) (sym items)
-          (keeps_split c.self.inside.table c.glue-2.new.self c.self.inside.made ds b a nb na W c.self.invariant.0.made faces glued (first_is_free T) (second_is_free T)
-          (λ q. same-false _ _ (sym c.is_same.ensures ∙ c.if-is_same.false) (c.side_with-second.ensures.side ∙ sym q ∙ sym c.side_with-top.ensures.side)) after_b after_a (omega arith)),
-      names_split c.self.inside.table c.glue-2.new.self c.self.inside.made c.self.inside.names c.add_split.new.self (side_at b) (side_at a) c.self.invariant.3 faces glued as_wide (first_is_free T) (second_is_free T)
+      λ t e. (let u = subst (λ (x : Bool). IsTrue x) c.note_split.ensures.kept t in
+          list_split c.self.inside.table c.glue-2.new.self c.self.inside.made c.self.inside.degrees c.note_split.new.self b a (c.self.invariant.1 u e) c.self.invariant.0.made faces glued as_wide (first_is_free T) (second_is_free T)
+          (λ q. same-false _ _ (sym c.is_same.ensures ∙ c.if-is_same.false) (c.side_with-second.ensures.side ∙ sym q ∙ sym c.side_with-top.ensures.side)) c.note_split.ensures.room (c.note_split.ensures.list u)),
+      names_split c.self.inside.table c.glue-2.new.self c.self.inside.made c.self.inside.names c.add_split.new.self (side_at b) (side_at a) c.self.invariant.2 faces glued as_wide (first_is_free T) (second_is_free T)
           (λ q. same-false _ _ (sym c.is_same.ensures ∙ c.if-is_same.false) (c.side_with-second.ensures.side ∙ sym q ∙ sym c.side_with-top.ensures.side))
           c.add_split.ensures.names c.add_split.ensures.len c.add_split.ensures.falls c.add_split.ensures.roots c.add_split.ensures.room,
     )
@@ -159,8 +145,8 @@ invariant_of-self g c =
 pub returns-clause-does : goal.returns-clause-does
 returns-clause-does g c =
     split_does c.args.self.now c.take_side.new.self c.take_second.new.self
-    (record { plan = record { faces = c.self.inside.faces; created = c.self.inside.created; symbols = c.self.inside.symbols }; table = c.self.inside.table; stack = c.self.inside.stack; splits = c.self.inside.splits; made = c.self.inside.made; closes = c.self.inside.closes })
-    (record { plan = record { faces = c.self.inside.faces; created = c.self.inside.created; symbols = c.self.inside.symbols }; table = c.glue-2.new.self; stack = c.push.new.self; splits = c.self.inside.splits; made = c.self.inside.made; closes = c.self.inside.closes })
+    (record { plan = record { faces = c.self.inside.faces; created = c.self.inside.created; symbols = c.self.inside.symbols }; table = c.self.inside.table; stack = c.self.inside.stack; splits = c.self.inside.splits; made = c.self.inside.made; closes = c.self.inside.closes; has_degrees = c.self.inside.degrees.kept })
+    (record { plan = record { faces = c.self.inside.faces; created = c.self.inside.created; symbols = c.self.inside.symbols }; table = c.glue-2.new.self; stack = c.push.new.self; splits = c.self.inside.splits; made = c.self.inside.made; closes = c.self.inside.closes; has_degrees = c.self.inside.degrees.kept })
     c.in-Ok.b c.in-Ok-take_second.a (side_of c.prev_open-before.result)
     (record {
       first_taken = record { rest = c.take_side.ensures.rest; view = refl; sides = c.in-Ok.ensures.ok.0; free = c.in-Ok.ensures.ok.1; below = c.in-Ok.ensures.ok.2 };
@@ -187,24 +173,9 @@ returns-clause-does g c =
     (c.prev_open-before.ensures.previous ∙ ap (side_before c.self.inside.table.faces (gluing_of c.self.inside.table)) c.side_with-top.ensures.side)
     (λ e. same-false _ _ (sym c.is_same-2.ensures ∙ c.if-is_same-2.false) (e ∙ sym c.side_with-second.ensures.side))
 
-pub split_degrees-requires-clause-first : goal.split_degrees-requires-clause-first
-split_degrees-requires-clause-first g c =
-    let one = ap (λ (v : LinkValue). v.table.faces) (c.self.view_is ∙ c.take_second.ensures.rest) in
-    let zero = ap (λ (v : LinkValue). v.table.faces) c.take_side.ensures.rest in
-    let f = c.add_face-face.ensures.face in
-    let below = c.in-Ok.ensures.ok.2 in
-    omega arith
-
-pub split_degrees-requires-clause-second : goal.split_degrees-requires-clause-second
-split_degrees-requires-clause-second g c =
-    let one = ap (λ (v : LinkValue). v.table.faces) (c.self.view_is ∙ c.take_second.ensures.rest) in
-    let f = c.add_face-face.ensures.face in
-    let below = c.in-Ok-take_second.ensures.ok.2 in
-    omega arith
-
-pub split_degrees-requires-clause-small : goal.split_degrees-requires-clause-small
-split_degrees-requires-clause-small g c =
-    let value : LinkValue = (record { plan = record { faces = c.self.inside.faces; created = c.self.inside.created; symbols = c.self.inside.symbols }; table = c.self.inside.table; stack = c.self.inside.stack; splits = c.self.inside.splits; made = c.self.inside.made; closes = c.self.inside.closes }) in
+pub note_split-requires-clause-free : goal.note_split-requires-clause-free
+note_split-requires-clause-free g c =
+    let value : LinkValue = (record { plan = record { faces = c.self.inside.faces; created = c.self.inside.created; symbols = c.self.inside.symbols }; table = c.self.inside.table; stack = c.self.inside.stack; splits = c.self.inside.splits; made = c.self.inside.made; closes = c.self.inside.closes; has_degrees = c.self.inside.degrees.kept }) in
     let T : TakenTwo c.args.self.now c.take_side.new.self c.take_second.new.self value c.in-Ok.b c.in-Ok-take_second.a = record {
       first_taken = record { rest = c.take_side.ensures.rest; view = refl; sides = c.in-Ok.ensures.ok.0; free = c.in-Ok.ensures.ok.1; below = c.in-Ok.ensures.ok.2 };
       second_top = c.in-Ok-take_second.ensures.ok.0;
@@ -215,15 +186,11 @@ split_degrees-requires-clause-small g c =
       rest = c.take_second.ensures.rest;
       view = c.self.view_is;
     } in
-    let whole = c.self.view_is ∙ c.take_second.ensures.rest in
-    let more : value.table.faces < value.plan.symbols =
-    subst (λ (v : LinkValue). v.table.faces < v.plan.symbols) (sym whole) (subst (λ (v : LinkValue). v.table.faces < v.plan.symbols) (sym c.take_side.ensures.rest) c.requires.more) in
-    let W = keeps_room (c.self.invariant.2 (ap (λ (v : LinkValue). v.closes) whole ∙ ap (λ (v : LinkValue). v.closes) c.take_side.ensures.rest ∙ c.requires.unclosed)) (let n = c.self.inside.degrees.ok.0 in let e = c.self.invariant.1.0 in omega arith) in
-    rw c.add_places.ensures.items (small_at {v = value} c.self.invariant.0 more W (side_at c.in-Ok.b) c.in-Ok.b (sym (number-side_at c.in-Ok.b)) (first_is_free T))
+    first_is_free T
 
-pub split_degrees-requires-clause-small_second : goal.split_degrees-requires-clause-small_second
-split_degrees-requires-clause-small_second g c =
-    let value : LinkValue = (record { plan = record { faces = c.self.inside.faces; created = c.self.inside.created; symbols = c.self.inside.symbols }; table = c.self.inside.table; stack = c.self.inside.stack; splits = c.self.inside.splits; made = c.self.inside.made; closes = c.self.inside.closes }) in
+pub note_split-requires-clause-free_second : goal.note_split-requires-clause-free_second
+note_split-requires-clause-free_second g c =
+    let value : LinkValue = (record { plan = record { faces = c.self.inside.faces; created = c.self.inside.created; symbols = c.self.inside.symbols }; table = c.self.inside.table; stack = c.self.inside.stack; splits = c.self.inside.splits; made = c.self.inside.made; closes = c.self.inside.closes; has_degrees = c.self.inside.degrees.kept }) in
     let T : TakenTwo c.args.self.now c.take_side.new.self c.take_second.new.self value c.in-Ok.b c.in-Ok-take_second.a = record {
       first_taken = record { rest = c.take_side.ensures.rest; view = refl; sides = c.in-Ok.ensures.ok.0; free = c.in-Ok.ensures.ok.1; below = c.in-Ok.ensures.ok.2 };
       second_top = c.in-Ok-take_second.ensures.ok.0;
@@ -234,49 +201,16 @@ split_degrees-requires-clause-small_second g c =
       rest = c.take_second.ensures.rest;
       view = c.self.view_is;
     } in
-    let whole = c.self.view_is ∙ c.take_second.ensures.rest in
-    let more : value.table.faces < value.plan.symbols =
-    subst (λ (v : LinkValue). v.table.faces < v.plan.symbols) (sym whole) (subst (λ (v : LinkValue). v.table.faces < v.plan.symbols) (sym c.take_side.ensures.rest) c.requires.more) in
-    let W = keeps_room (c.self.invariant.2 (ap (λ (v : LinkValue). v.closes) whole ∙ ap (λ (v : LinkValue). v.closes) c.take_side.ensures.rest ∙ c.requires.unclosed)) (let n = c.self.inside.degrees.ok.0 in let e = c.self.invariant.1.0 in omega arith) in
-    rw c.add_places.ensures.items (small_at {v = value} c.self.invariant.0 more W (side_at c.in-Ok-take_second.a) c.in-Ok-take_second.a (sym (number-side_at c.in-Ok-take_second.a)) (second_is_free T))
+    second_is_free T
 
-pub split_degrees-requires-clause-small_third : goal.split_degrees-requires-clause-small_third
-split_degrees-requires-clause-small_third g c =
-    let value : LinkValue = (record { plan = record { faces = c.self.inside.faces; created = c.self.inside.created; symbols = c.self.inside.symbols }; table = c.self.inside.table; stack = c.self.inside.stack; splits = c.self.inside.splits; made = c.self.inside.made; closes = c.self.inside.closes }) in
-    let T : TakenTwo c.args.self.now c.take_side.new.self c.take_second.new.self value c.in-Ok.b c.in-Ok-take_second.a = record {
-      first_taken = record { rest = c.take_side.ensures.rest; view = refl; sides = c.in-Ok.ensures.ok.0; free = c.in-Ok.ensures.ok.1; below = c.in-Ok.ensures.ok.2 };
-      second_top = c.in-Ok-take_second.ensures.ok.0;
-      second_free = c.in-Ok-take_second.ensures.ok.1;
-      second_below = c.in-Ok-take_second.ensures.ok.2;
-      kept = c.take_second.ensures.kept;
-      events = c.take_second.ensures.events;
-      rest = c.take_second.ensures.rest;
-      view = c.self.view_is;
-    } in
-    let whole = c.self.view_is ∙ c.take_second.ensures.rest in
-    let more : value.table.faces < value.plan.symbols =
-    subst (λ (v : LinkValue). v.table.faces < v.plan.symbols) (sym whole) (subst (λ (v : LinkValue). v.table.faces < v.plan.symbols) (sym c.take_side.ensures.rest) c.requires.more) in
-    let W = keeps_room (c.self.invariant.2 (ap (λ (v : LinkValue). v.closes) whole ∙ ap (λ (v : LinkValue). v.closes) c.take_side.ensures.rest ∙ c.requires.unclosed)) (let n = c.self.inside.degrees.ok.0 in let e = c.self.invariant.1.0 in omega arith) in
-    rw c.add_places.ensures.items (small_at {v = value} c.self.invariant.0 more W (side_of c.next_open-next_top.result) c.number_of-after_top.result c.number_of-after_top.ensures.number c.next_open-next_top.ensures.follows.free)
-
-pub split_degrees-requires-clause-small_fourth : goal.split_degrees-requires-clause-small_fourth
-split_degrees-requires-clause-small_fourth g c =
-    let value : LinkValue = (record { plan = record { faces = c.self.inside.faces; created = c.self.inside.created; symbols = c.self.inside.symbols }; table = c.self.inside.table; stack = c.self.inside.stack; splits = c.self.inside.splits; made = c.self.inside.made; closes = c.self.inside.closes }) in
-    let T : TakenTwo c.args.self.now c.take_side.new.self c.take_second.new.self value c.in-Ok.b c.in-Ok-take_second.a = record {
-      first_taken = record { rest = c.take_side.ensures.rest; view = refl; sides = c.in-Ok.ensures.ok.0; free = c.in-Ok.ensures.ok.1; below = c.in-Ok.ensures.ok.2 };
-      second_top = c.in-Ok-take_second.ensures.ok.0;
-      second_free = c.in-Ok-take_second.ensures.ok.1;
-      second_below = c.in-Ok-take_second.ensures.ok.2;
-      kept = c.take_second.ensures.kept;
-      events = c.take_second.ensures.events;
-      rest = c.take_second.ensures.rest;
-      view = c.self.view_is;
-    } in
-    let whole = c.self.view_is ∙ c.take_second.ensures.rest in
-    let more : value.table.faces < value.plan.symbols =
-    subst (λ (v : LinkValue). v.table.faces < v.plan.symbols) (sym whole) (subst (λ (v : LinkValue). v.table.faces < v.plan.symbols) (sym c.take_side.ensures.rest) c.requires.more) in
-    let W = keeps_room (c.self.invariant.2 (ap (λ (v : LinkValue). v.closes) whole ∙ ap (λ (v : LinkValue). v.closes) c.take_side.ensures.rest ∙ c.requires.unclosed)) (let n = c.self.inside.degrees.ok.0 in let e = c.self.invariant.1.0 in omega arith) in
-    rw c.add_places.ensures.items (small_at {v = value} c.self.invariant.0 more W (side_of c.next_open-next_second.result) c.number_of-after_second.result c.number_of-after_second.ensures.number c.next_open-next_second.ensures.follows.free)
+pub note_split-requires-clause-ready : goal.note_split-requires-clause-ready
+note_split-requires-clause-ready g c =
+    let value : LinkValue = (record { plan = record { faces = c.self.inside.faces; created = c.self.inside.created; symbols = c.self.inside.symbols }; table = c.self.inside.table; stack = c.self.inside.stack; splits = c.self.inside.splits; made = c.self.inside.made; closes = c.self.inside.closes; has_degrees = c.self.inside.degrees.kept }) in
+    let before = c.self.view_is ∙ c.take_second.ensures.rest in
+    λ t. ready_at {v = value} c.self.invariant.0
+    (subst (λ (v : LinkValue). v.table.faces < v.plan.symbols) (sym before) (subst (λ (v : LinkValue). v.table.faces < v.plan.symbols) (sym c.take_side.ensures.rest) c.requires.more))
+    (subst (λ (v : LinkValue). v.table.faces < room_of v.table) (sym before) (subst (λ (v : LinkValue). v.table.faces < room_of v.table) (sym c.take_side.ensures.rest) c.requires.room))
+    (c.self.invariant.1 t (ap (λ (v : LinkValue). v.closes) before ∙ ap (λ (v : LinkValue). v.closes) c.take_side.ensures.rest ∙ c.requires.unclosed))
 
 pub returns-clause-live : goal.returns-clause-live
 returns-clause-live g c =
@@ -318,30 +252,30 @@ add_split-requires-clause-face g c =
     let two = ap (λ (v : LinkValue). v.table.faces) (c.self.view_is ∙ c.take_second.ensures.rest) in
     let one = ap (λ (v : LinkValue). v.table.faces) c.take_side.ensures.rest in
     let l = c.in-Ok.ensures.ok.2 in
-    has_face c.self.invariant.3 c.in-Ok.b (omega arith)
+    has_face c.self.invariant.2 c.in-Ok.b (omega arith)
 
 pub add_split-requires-clause-face_second : goal.add_split-requires-clause-face_second
 add_split-requires-clause-face_second g c =
     let two = ap (λ (v : LinkValue). v.table.faces) (c.self.view_is ∙ c.take_second.ensures.rest) in
     let one = ap (λ (v : LinkValue). v.table.faces) c.take_side.ensures.rest in
     let l = c.in-Ok-take_second.ensures.ok.2 in
-    has_face c.self.invariant.3 c.in-Ok-take_second.a (omega arith)
+    has_face c.self.invariant.2 c.in-Ok-take_second.a (omega arith)
 
 pub add_split-requires-clause-below : goal.add_split-requires-clause-below
 add_split-requires-clause-below g c =
     let two = ap (λ (v : LinkValue). v.table.faces) (c.self.view_is ∙ c.take_second.ensures.rest) in
     let one = ap (λ (v : LinkValue). v.table.faces) c.take_side.ensures.rest in
     let l = c.in-Ok.ensures.ok.2 in
-    start_below c.self.invariant.3 c.in-Ok.b (omega arith)
+    start_below c.self.invariant.2 c.in-Ok.b (omega arith)
 
 pub add_split-requires-clause-below_second : goal.add_split-requires-clause-below_second
 add_split-requires-clause-below_second g c =
     let two = ap (λ (v : LinkValue). v.table.faces) (c.self.view_is ∙ c.take_second.ensures.rest) in
     let one = ap (λ (v : LinkValue). v.table.faces) c.take_side.ensures.rest in
     let l = c.in-Ok-take_second.ensures.ok.2 in
-    end_below c.self.invariant.3 c.in-Ok-take_second.a (omega arith)
+    end_below c.self.invariant.2 c.in-Ok-take_second.a (omega arith)
 
 pub add_split-requires-clause-corners : goal.add_split-requires-clause-corners
 add_split-requires-clause-corners g c =
-    names_corners c.self.invariant.3
+    names_corners c.self.invariant.2
     (subst (λ (v : LinkValue). v.table.faces < room_of v.table) (sym (c.self.view_is ∙ c.take_second.ensures.rest)) (subst (λ (v : LinkValue). v.table.faces < room_of v.table) (sym c.take_side.ensures.rest) c.requires.room))

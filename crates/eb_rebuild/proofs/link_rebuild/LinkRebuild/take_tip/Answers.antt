@@ -1,15 +1,14 @@
 -- A face more, glued to the top side and to the side before it.
-use Rattle.std.proofs.Common.{◌≡◌, ℕ, Ok, ◌*◌, ◌<◌, ◌∷◌, List, sym, refl, ap, ◌∙◌, subst, arith, add-one}
-use Rattle.corner_table.specs.Sides.{Side, side, side_at, number, next, prev, second, third, glue}
+use Rattle.std.proofs.Common.{◌≡◌, ℕ, Bool, IsTrue, Ok, ◌*◌, ◌<◌, ◌∷◌, sym, refl, ap, ◌∙◌, subst, arith, add-one}
+use Rattle.corner_table.specs.Sides.{Side, side, side_at, next, prev, second, third, glue, IsFree}
 use Rattle.corner_table.specs.Fans.{side_before, Follows}
 use Rattle.corner_table.specs.Table.{side_of, gluing_of, room_of}
 use Rattle.corner_table.proofs.Places.{same-true, same-false}
-use Rattle.eb_rebuild.specs.KeptDegrees.{KeepsDegrees, with_room, after_tip}
 use Rattle.eb_rebuild.specs.Linked.{LinkValue, state_of}
 use Rattle.eb_rebuild.proofs.Steps.{tip_no_top}
 use Rattle.eb_rebuild.proofs.Noting.{kept_below_more}
 use Rattle.eb_rebuild.proofs.Linking.{link_grown, tip_does, tip_alone_does, Taken, taken_free}
-use Rattle.eb_rebuild.proofs.TableDegrees.{keeps_room, long_room, keeps_tip, small_at, live_top}
+use Rattle.eb_rebuild.proofs.TableDegrees.{ready_at, list_tip, live_top}
 use Rattle.eb_rebuild.proofs.CornersNamed.{names_tip, names_corners, has_face, is_real}
 use Rattle.eb_rebuild.specs.CornerNames.{with_face, name_at}
 use Rattle.corner_table.proofs.Numbers.{side_at-number, number-lt}
@@ -22,7 +21,7 @@ pub returns-then-is_same-clause-does : goal.returns-then-is_same-clause-does
 returns-then-is_same-clause-does g c =
     let taken = c.in-Ok.ensures.ok in
     rw c.new.ensures (tip_alone_does c.args.self.now c.take_side.new.self
-    (record { plan = record { faces = c.self.inside.faces; created = c.self.inside.created; symbols = c.self.inside.symbols }; table = c.self.inside.table; stack = c.self.inside.stack; splits = c.self.inside.splits; made = c.self.inside.made; closes = c.self.inside.closes })
+    (record { plan = record { faces = c.self.inside.faces; created = c.self.inside.created; symbols = c.self.inside.symbols }; table = c.self.inside.table; stack = c.self.inside.stack; splits = c.self.inside.splits; made = c.self.inside.made; closes = c.self.inside.closes; has_degrees = c.self.inside.degrees.kept })
     c.in-Ok.a (side_of c.prev_open-before.result) c.from.result
     (record { rest = c.take_side.ensures.rest; view = c.self.view_is; sides = taken.0; free = taken.1; below = taken.2 })
     (c.prev_open-before.ensures.previous ∙ ap (side_before c.self.inside.table.faces (gluing_of c.self.inside.table)) c.side_with-top.ensures.side)
@@ -32,14 +31,11 @@ returns-then-is_same-clause-does g c =
 pub invariant_of-self : goal.invariant_of-self
 invariant_of-self g c =
     let taken = c.in-Ok.ensures.ok in
-    let value : LinkValue = (record { plan = record { faces = c.self.inside.faces; created = c.self.inside.created; symbols = c.self.inside.symbols }; table = c.self.inside.table; stack = c.self.inside.stack; splits = c.self.inside.splits; made = c.self.inside.made; closes = c.self.inside.closes }) in
+    let value : LinkValue = (record { plan = record { faces = c.self.inside.faces; created = c.self.inside.created; symbols = c.self.inside.symbols }; table = c.self.inside.table; stack = c.self.inside.stack; splits = c.self.inside.splits; made = c.self.inside.made; closes = c.self.inside.closes; has_degrees = c.self.inside.degrees.kept }) in
     let T : Taken c.args.self.now c.take_side.new.self value c.in-Ok.a = record { rest = c.take_side.ensures.rest; view = c.self.view_is; sides = taken.0; free = taken.1; below = taken.2 } in
     let whole = c.self.view_is ∙ c.take_side.ensures.rest in
     let more : value.table.faces < value.plan.symbols = subst (λ (v : LinkValue). v.table.faces < v.plan.symbols) (sym whole) c.requires.more in
-    let W = keeps_room (c.self.invariant.2 (ap (λ (v : LinkValue). v.closes) whole ∙ c.requires.unclosed)) (let n = c.self.inside.degrees.ok.0 in let e = c.self.invariant.1.0 in omega arith) in
     let F = c.add_tip-face.ensures.face in
-    let long = c.self.inside.degrees.ok.0 in
-    let room = long_room c.self.inside.table.faces c.self.inside.degrees.items (let n = c.self.inside.degrees.ok.0 in let e = c.self.invariant.1.0 in omega arith) in
     let wide = subst (λ (v : LinkValue). v.table.faces < room_of v.table) (sym whole) c.requires.room in
     let as_wide : room_of c.add_tip-face.new.self ≡ room_of c.self.inside.table = c.add_tip-face.ensures.room in
     let before = side_of c.prev_open-before.result in
@@ -47,11 +43,7 @@ invariant_of-self g c =
     let glued = c.add_tip-face.ensures.glued
     ∙ ap (λ (n : ℕ). glue (side n third) before (glue (side n second) (side_of c.side_with-top.result) (gluing_of c.self.inside.table))) F
     ∙ ap (λ (x : Side). glue (side c.self.inside.table.faces third) before (glue (side c.self.inside.table.faces second) x (gluing_of c.self.inside.table))) c.side_with-top.ensures.side in
-    let follows = subst (λ (x : Side). Follows c.self.inside.table.faces (gluing_of c.self.inside.table) x (side_of c.next_open-next.result)) c.side_with-top.ensures.side c.next_open-next.ensures.follows in
-    let comes = subst (Follows c.self.inside.table.faces (gluing_of c.self.inside.table) before) c.side_with-top.ensures.side c.prev_open-before.ensures.follows in
-    let items = c.tip_degrees.ensures.items ∙ ap (λ (l : List ℕ). after_tip c.add_tip-face.result c.number_of-tip.result c.number_of.result l) c.add_places.ensures.items ∙ ap (λ (n : ℕ). after_tip n c.number_of-tip.result c.number_of.result (with_room c.self.inside.degrees.items)) F
-    ∙ ap (λ (n : ℕ). after_tip c.self.inside.table.faces n c.number_of.result (with_room c.self.inside.degrees.items)) c.number_of-tip.ensures.number
-    ∙ ap (λ (n : ℕ). after_tip c.self.inside.table.faces (number before) n (with_room c.self.inside.degrees.items)) c.number_of.ensures.number in (
+    let comes = subst (Follows c.self.inside.table.faces (gluing_of c.self.inside.table) before) c.side_with-top.ensures.side c.prev_open-before.ensures.follows in (
       link_grown c.self.invariant.0 (record {
         plan = refl;
         more = more;
@@ -67,11 +59,10 @@ invariant_of-self g c =
         made = omega arith;
         closes = refl;
       }),
-      ((let a = c.tip_degrees.ensures.len in let b = c.add_places.ensures.len in let e = c.self.invariant.1.0 in let f = c.add_tip-face.ensures.faces in omega arith), (let a = c.tip_degrees.ensures.capacity in let b = c.add_places.ensures.capacity in let e = c.self.invariant.1.1 in omega arith)),
-      λ e. subst (KeepsDegrees c.add_tip-face.new.self c.self.inside.made) (sym items)
-          (keeps_tip c.self.inside.table c.add_tip-face.new.self c.self.inside.made (with_room c.self.inside.degrees.items) (side_at c.in-Ok.a) before (side_of c.next_open-next.result) W c.self.invariant.0.made faces glued (taken_free T) c.prev_open-before.ensures.free
-          (λ q. same-false _ _ (sym c.is_same.ensures ∙ c.if-is_same.false) (q ∙ sym c.side_with-top.ensures.side)) comes follows (omega arith)),
-      names_tip c.self.inside.table c.add_tip-face.new.self c.self.inside.made c.self.inside.names c.add_tip.new.self (side_at c.in-Ok.a) before c.self.invariant.3 faces glued as_wide (taken_free T) c.prev_open-before.ensures.free
+      λ t e. (let u = subst (λ (b : Bool). IsTrue b) c.note_tip.ensures.kept t in
+          list_tip c.self.inside.table c.add_tip-face.new.self c.self.inside.made c.self.inside.degrees c.note_tip.new.self c.in-Ok.a c.number_of-tip.result before c.number_of-tip.ensures.number (c.self.invariant.1 u e) c.self.invariant.0.made faces glued as_wide (taken_free T) c.prev_open-before.ensures.free
+          (λ q. same-false _ _ (sym c.is_same.ensures ∙ c.if-is_same.false) (q ∙ sym c.side_with-top.ensures.side)) comes c.note_tip.ensures.room (c.note_tip.ensures.list u)),
+      names_tip c.self.inside.table c.add_tip-face.new.self c.self.inside.made c.self.inside.names c.add_tip.new.self (side_at c.in-Ok.a) before c.self.invariant.2 faces glued as_wide (taken_free T) c.prev_open-before.ensures.free
           (λ q. same-false _ _ (sym c.is_same.ensures ∙ c.if-is_same.false) (q ∙ sym c.side_with-top.ensures.side)) comes
           (c.add_tip.ensures ∙ ap (λ (x : Side). record c.self.inside.names { names = with_face c.self.inside.names.names (name_at c.self.inside.names (next (side_at c.in-Ok.a)), name_at c.self.inside.names (next x), name_at c.self.inside.names (prev (side_at c.in-Ok.a))) })
           (ap side_at c.number_of-tip.ensures.number ∙ side_at-number before)),
@@ -81,8 +72,8 @@ pub returns-clause-does : goal.returns-clause-does
 returns-clause-does g c =
     let taken = c.in-Ok.ensures.ok in
     tip_does c.args.self.now c.take_side.new.self
-    (record { plan = record { faces = c.self.inside.faces; created = c.self.inside.created; symbols = c.self.inside.symbols }; table = c.self.inside.table; stack = c.self.inside.stack; splits = c.self.inside.splits; made = c.self.inside.made; closes = c.self.inside.closes })
-    (record { plan = record { faces = c.self.inside.faces; created = c.self.inside.created; symbols = c.self.inside.symbols }; table = c.add_tip-face.new.self; stack = c.push.new.self; splits = c.self.inside.splits; made = c.self.inside.made; closes = c.self.inside.closes })
+    (record { plan = record { faces = c.self.inside.faces; created = c.self.inside.created; symbols = c.self.inside.symbols }; table = c.self.inside.table; stack = c.self.inside.stack; splits = c.self.inside.splits; made = c.self.inside.made; closes = c.self.inside.closes; has_degrees = c.self.inside.degrees.kept })
+    (record { plan = record { faces = c.self.inside.faces; created = c.self.inside.created; symbols = c.self.inside.symbols }; table = c.add_tip-face.new.self; stack = c.push.new.self; splits = c.self.inside.splits; made = c.self.inside.made; closes = c.self.inside.closes; has_degrees = c.self.inside.degrees.kept })
     c.in-Ok.a (side_of c.prev_open-before.result)
     (record { rest = c.take_side.ensures.rest; view = c.self.view_is; sides = taken.0; free = taken.1; below = taken.2 })
     (record {
@@ -98,25 +89,23 @@ returns-clause-does g c =
     (c.prev_open-before.ensures.previous ∙ ap (side_before c.self.inside.table.faces (gluing_of c.self.inside.table)) c.side_with-top.ensures.side)
     (λ e. same-false _ _ (sym c.is_same.ensures ∙ c.if-is_same.false) (e ∙ sym c.side_with-top.ensures.side))
 
-pub tip_degrees-requires-clause-small : goal.tip_degrees-requires-clause-small
-tip_degrees-requires-clause-small g c =
+pub note_tip-requires-clause-free : goal.note_tip-requires-clause-free
+note_tip-requires-clause-free g c =
     let taken = c.in-Ok.ensures.ok in
-    let value : LinkValue = (record { plan = record { faces = c.self.inside.faces; created = c.self.inside.created; symbols = c.self.inside.symbols }; table = c.self.inside.table; stack = c.self.inside.stack; splits = c.self.inside.splits; made = c.self.inside.made; closes = c.self.inside.closes }) in
+    let value : LinkValue = (record { plan = record { faces = c.self.inside.faces; created = c.self.inside.created; symbols = c.self.inside.symbols }; table = c.self.inside.table; stack = c.self.inside.stack; splits = c.self.inside.splits; made = c.self.inside.made; closes = c.self.inside.closes; has_degrees = c.self.inside.degrees.kept }) in
     let T : Taken c.args.self.now c.take_side.new.self value c.in-Ok.a = record { rest = c.take_side.ensures.rest; view = c.self.view_is; sides = taken.0; free = taken.1; below = taken.2 } in
-    let whole = c.self.view_is ∙ c.take_side.ensures.rest in
-    let more : value.table.faces < value.plan.symbols = subst (λ (v : LinkValue). v.table.faces < v.plan.symbols) (sym whole) c.requires.more in
-    let W = keeps_room (c.self.invariant.2 (ap (λ (v : LinkValue). v.closes) whole ∙ c.requires.unclosed)) (let n = c.self.inside.degrees.ok.0 in let e = c.self.invariant.1.0 in omega arith) in
-    rw c.add_places.ensures.items (small_at {v = value} c.self.invariant.0 more W (side_of c.prev_open-before.result) c.number_of-tip.result c.number_of-tip.ensures.number c.prev_open-before.ensures.free)
+    taken_free T
 
-pub tip_degrees-requires-clause-small_next : goal.tip_degrees-requires-clause-small_next
-tip_degrees-requires-clause-small_next g c =
-    let taken = c.in-Ok.ensures.ok in
-    let value : LinkValue = (record { plan = record { faces = c.self.inside.faces; created = c.self.inside.created; symbols = c.self.inside.symbols }; table = c.self.inside.table; stack = c.self.inside.stack; splits = c.self.inside.splits; made = c.self.inside.made; closes = c.self.inside.closes }) in
-    let T : Taken c.args.self.now c.take_side.new.self value c.in-Ok.a = record { rest = c.take_side.ensures.rest; view = c.self.view_is; sides = taken.0; free = taken.1; below = taken.2 } in
+pub note_tip-requires-clause-ready : goal.note_tip-requires-clause-ready
+note_tip-requires-clause-ready g c =
+    let value : LinkValue = (record { plan = record { faces = c.self.inside.faces; created = c.self.inside.created; symbols = c.self.inside.symbols }; table = c.self.inside.table; stack = c.self.inside.stack; splits = c.self.inside.splits; made = c.self.inside.made; closes = c.self.inside.closes; has_degrees = c.self.inside.degrees.kept }) in
     let whole = c.self.view_is ∙ c.take_side.ensures.rest in
-    let more : value.table.faces < value.plan.symbols = subst (λ (v : LinkValue). v.table.faces < v.plan.symbols) (sym whole) c.requires.more in
-    let W = keeps_room (c.self.invariant.2 (ap (λ (v : LinkValue). v.closes) whole ∙ c.requires.unclosed)) (let n = c.self.inside.degrees.ok.0 in let e = c.self.invariant.1.0 in omega arith) in
-    rw c.add_places.ensures.items (small_at {v = value} c.self.invariant.0 more W (side_of c.next_open-next.result) c.number_of.result c.number_of.ensures.number c.next_open-next.ensures.follows.free)
+    λ t. ready_at {v = value} c.self.invariant.0 (subst (λ (v : LinkValue). v.table.faces < v.plan.symbols) (sym whole) c.requires.more) (subst (λ (v : LinkValue). v.table.faces < room_of v.table) (sym whole) c.requires.room)
+    (c.self.invariant.1 t (ap (λ (v : LinkValue). v.closes) whole ∙ c.requires.unclosed))
+
+pub note_tip-requires-clause-free_before : goal.note_tip-requires-clause-free_before
+note_tip-requires-clause-free_before g c =
+    subst (IsFree c.self.inside.table.faces (gluing_of c.self.inside.table)) (sym (ap side_at c.number_of-tip.ensures.number ∙ side_at-number (side_of c.prev_open-before.result))) c.prev_open-before.ensures.free
 
 pub returns-clause-live : goal.returns-clause-live
 returns-clause-live g c =
@@ -141,12 +130,12 @@ add_tip-requires-clause-real_before g c =
 
 pub add_tip-requires-clause-face : goal.add_tip-requires-clause-face
 add_tip-requires-clause-face g c =
-    has_face c.self.invariant.3 c.in-Ok.a (subst (λ (v : LinkValue). c.in-Ok.a < 3 * v.table.faces) (sym (c.self.view_is ∙ c.take_side.ensures.rest)) c.in-Ok.ensures.ok.2)
+    has_face c.self.invariant.2 c.in-Ok.a (subst (λ (v : LinkValue). c.in-Ok.a < 3 * v.table.faces) (sym (c.self.view_is ∙ c.take_side.ensures.rest)) c.in-Ok.ensures.ok.2)
 
 pub add_tip-requires-clause-face_before : goal.add_tip-requires-clause-face_before
 add_tip-requires-clause-face_before g c =
-    has_face c.self.invariant.3 c.number_of-tip.result (subst (λ (n : ℕ). n < 3 * c.self.inside.table.faces) (sym c.number_of-tip.ensures.number) (number-lt (side_of c.prev_open-before.result) c.self.inside.table.faces c.prev_open-before.ensures.free.within))
+    has_face c.self.invariant.2 c.number_of-tip.result (subst (λ (n : ℕ). n < 3 * c.self.inside.table.faces) (sym c.number_of-tip.ensures.number) (number-lt (side_of c.prev_open-before.result) c.self.inside.table.faces c.prev_open-before.ensures.free.within))
 
 pub add_tip-requires-clause-corners : goal.add_tip-requires-clause-corners
 add_tip-requires-clause-corners g c =
-    names_corners c.self.invariant.3 (subst (λ (v : LinkValue). v.table.faces < room_of v.table) (sym (c.self.view_is ∙ c.take_side.ensures.rest)) c.requires.room)
+    names_corners c.self.invariant.2 (subst (λ (v : LinkValue). v.table.faces < room_of v.table) (sym (c.self.view_is ∙ c.take_side.ensures.rest)) c.requires.room)

@@ -1,16 +1,16 @@
 -- Nothing is built.
-use Rattle.std.proofs.Common.{min, reverse, ap, sym, ◌∙◌, arith}
-use Rattle.eb_rebuild.proofs.TableDegrees.{keeps_start, start_state, start_link}
+use Rattle.std.proofs.Common.{Bool, IsTrue, min, reverse, ap, sym, subst, ◌∙◌, arith}
+use Rattle.eb_rebuild.proofs.TableDegrees.{list_start, start_state, start_link}
 use Rattle.eb_rebuild.proofs.CornersNamed.{names_start}
 use Rattle.eb_rebuild.proofs.link_rebuild.LinkRebuildRebuild.new.Goals as goal
 
 pub invariant_of-result : goal.invariant_of-result
 invariant_of-result c = (
-  start_link (record { faces = c.args.faces; created = c.args.created; symbols = c.args.symbols }) c.in_ok-table.table c.in_ok-stack.stack c.in_ok-splits.splits c.requires.faces c.requires.symbols
+  start_link (record { faces = c.args.faces; created = c.args.created; symbols = c.args.symbols }) c.in_ok-table.table c.in_ok-stack.stack c.in_ok-splits.splits c.in_ok-degrees.degrees.kept c.requires.faces c.requires.symbols
       (let m = c.requires.most in let r = c.in_ok-table.ensures.room in omega arith) c.in_ok-stack.ensures.sides
       (c.in_ok-stack.ensures.room ∙ c.min.ensures ∙ ap (min c.args.symbols) (sym c.in_ok-table.ensures.room)) c.in_ok-splits.ensures.kept,
-  ((let a = c.in_ok-degrees.ensures.none in let b = c.in_ok-table.ensures.none in omega arith), (let a = c.in_ok-degrees.ensures.room in let b = c.in_ok-table.ensures.room in omega arith)),
-  λ e. keeps_start c.in_ok-table.table c.in_ok-degrees.degrees.items c.in_ok-table.ensures.none c.in_ok-table.ensures.unglued,
+  λ t e. list_start c.in_ok-table.table c.in_ok-degrees.degrees c.in_ok-table.ensures.none c.in_ok-table.ensures.unglued c.in_ok-degrees.ensures.none
+      (let r = c.in_ok-table.ensures.room in let d = c.in_ok-degrees.ensures.room (subst (λ (b : Bool). IsTrue b) c.in_ok-degrees.ensures.kept t) in omega arith),
   names_start c.in_ok-table.table c.in_ok-names.names c.args.most c.in_ok-table.ensures.none c.in_ok-table.ensures.unglued c.in_ok-table.ensures.room c.in_ok-names.ensures.names c.in_ok-names.ensures.none c.in_ok-names.ensures.room,
 )
 
