@@ -11,6 +11,7 @@
 //   encoding   by libdrc from arrays; by libdraco from a mesh of its own, whose equal values and points are numbered alike
 //              before, as its encoder takes them; by libdrc of a mesh that is refused where its arrays have been copied, and of one
 //              that is refused just before: the difference is the copies of the arrays
+//   numbering  the making of libdraco's mesh from the same arrays, with equal values and points numbered alike: of one turn
 // and the bytes of both streams. Each stream is decoded by both libraries before, and has to have the triangles that went in.
 #include <drc.h>
 #include <draco/compression/decode.h>
@@ -304,6 +305,7 @@ static vector<double> least(int turns, size_t faces, const vector<std::function<
 struct Entry {
     Arrays arrays;
     std::unique_ptr<draco::Mesh> there;
+    double seconds_of_numbering;
     drc_stream stream;
     draco::EncoderBuffer stream_there;
 };
@@ -323,12 +325,14 @@ static void check(const Entry &entry) {
 // Encodes meshes in one way, and writes the line of their times.
 static void time_meshes(const char *name, int turns, const Coding &coding, vector<Entry> &entries) {
     size_t faces = 0, bytes = 0, bytes_there = 0;
+    double numbering = 0;
     for (Entry &it : entries) {
         it.stream = encoded(it.arrays, coding);
         it.stream_there.Clear();
         encode_there(*it.there, coding, it.stream_there);
         check(it);
         faces += it.arrays.faces();
+        numbering += it.seconds_of_numbering;
         bytes += it.stream.lengths.bytes;
         bytes_there += it.stream_there.size();
     }
@@ -353,14 +357,16 @@ static void time_meshes(const char *name, int turns, const Coding &coding, vecto
     });
     printf("%s %s %zu", name, coding.name, faces);
     for (double time : times) printf(" %.2f", time);
-    printf(" %zu %zu\n", bytes, bytes_there);
+    printf(" %.2f %zu %zu\n", numbering * 1e9 / faces, bytes, bytes_there);
     fflush(stdout);
     for (Entry &it : entries) drc_free_stream(&it.stream);
 }
 
 static void add(vector<Entry> &entries, Arrays arrays) {
     entries.emplace_back();
+    const double begin = processor_seconds();
     entries.back().there = numbered(arrays);
+    entries.back().seconds_of_numbering = processor_seconds() - begin;
     entries.back().arrays = std::move(arrays);
 }
 
