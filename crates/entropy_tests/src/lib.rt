@@ -1,6 +1,6 @@
 //! Tests of bytes, bits and the entropy codings: of the crates `drc_base`, `drc_bits`, `rans_core`, `rans_binary`, `symbol_tables`,
 //! `symbol_coding` and `kd_tree`, each in a file of its name. They try what no clause says: that the calls answer with ample memory,
-//! and give the bytes that were worked out by hand or that another program gave.
+//! and give the bytes that were worked out by hand or that another program gave. What several of them ask stands in `shown`.
 #![tactic(auto)]
 
 #[cfg(test)]
@@ -13,6 +13,8 @@ mod kd_tree_tests;
 mod rans_binary_tests;
 #[cfg(test)]
 mod rans_core_tests;
+#[cfg(test)]
+mod shown;
 #[cfg(test)]
 mod symbol_coding_tests;
 #[cfg(test)]
