@@ -4,6 +4,7 @@
 use drc_base::{Fault, Kind, Refusal};
 use drc_container::{Choice, Index, Method, Prediction, Walk, decode, encode, encode_view};
 use std::alloc::Global;
+use std::process::Abort;
 use std::test::Fail;
 use worked_surfaces::streams::{CLOUD, FLAT_FACE, NO_POINTS, TRIANGLE};
 
@@ -31,14 +32,16 @@ const LABELLED: [u8; 75] = [
     18, 200, 0, 0, 0, 0, 0, 0, 0, 0, 0, 0, 128, 191, 0, 0, 128, 63, 11,
 ];
 
-/// A cloud of two points of one component, not predicted, from the symbols of its values.
-fn pair(alloc: Global, first: u32, second: u32) -> Result<Vec<u8>, Refusal> {
-    let front = [
-        68u8, 82, 65, 67, 79, 2, 3, 0, 0, 0, 0, 2, 0, 0, 0, 1, 1, 0, 5, 1, 0, 0, 1, 254, 0, 4,
-    ];
-    let mut bytes = Vec::from_slice(alloc, &front)?;
-    bytes.extend_from_slice(&first.to_le_bytes())?;
-    bytes.extend_from_slice(&second.to_le_bytes())?;
+/// The front of the stream of a cloud of two points of one component, not predicted.
+const FRONT: [u8; 26] = [
+    68, 82, 65, 67, 79, 2, 3, 0, 0, 0, 0, 2, 0, 0, 0, 1, 1, 0, 5, 1, 0, 0, 1, 254, 0, 4,
+];
+
+/// The stream of that cloud from the symbols of its values.
+fn pair(alloc: Global, values: (u32, u32)) -> Result<Vec<u8>, Refusal> {
+    let mut bytes = Vec::from_slice(alloc, &FRONT)?;
+    bytes.extend_from_slice(&values.0.to_le_bytes())?;
+    bytes.extend_from_slice(&values.1.to_le_bytes())?;
     Ok(bytes)
 }
 
@@ -69,6 +72,18 @@ const AS_THEY_ARE: Choice = Choice {
     plain_values: true,
 };
 
+/// Values as they are, and nothing else chosen.
+const PLAIN: Choice = Choice {
+    plain_values: true,
+    ..NOTHING
+};
+
+/// The sequential method with numbers of points in few bytes.
+const PACKED: Choice = Choice {
+    index: Some(Index::Packed),
+    ..SEQUENTIAL
+};
+
 /// What is written of what a stream means.
 fn recoded(alloc: Global, bytes: &[u8], choice: &Choice) -> Result<Vec<u8>, Refusal> {
     let geometry = decode(alloc, bytes)?;
@@ -89,118 +104,152 @@ fn fault(alloc: Global, bytes: &[u8], choice: &Choice) -> Option<Refusal> {
     recoded(alloc, bytes, choice).err()
 }
 
+/// A stream, a choice, and what is written of what the stream means.
+static WRITTEN: [(&[u8], Choice, &[u8]); 4] = [
+    (&TRIANGLE, AS_THEY_ARE, &FLAT_FACE),
+    (&CLOUD, PLAIN, &CLOUD),
+    (&REPEATED, AS_THEY_ARE, &REPEATED),
+    (&LABELLED, AS_THEY_ARE, &LABELLED),
+];
+
 #[test]
 fn writes_the_bytes_worked_by_hand(rt: HostRuntime) -> Result<(), Fail> {
-    let alloc = rt.alloc();
-    let plain = Choice {
-        plain_values: true,
-        ..NOTHING
-    };
-    assert_eq!(rt;
-        recoded(alloc, &TRIANGLE, &AS_THEY_ARE)?.as_slice(),
-        FLAT_FACE.as_slice()
-    );
-    assert_eq!(rt;
-        recoded(alloc, &CLOUD, &plain)?.as_slice(),
-        CLOUD.as_slice()
-    );
-    assert_eq!(rt;
-        recoded(alloc, &REPEATED, &AS_THEY_ARE)?.as_slice(),
-        REPEATED.as_slice()
-    );
-    assert_eq!(rt;
-        recoded(alloc, &LABELLED, &AS_THEY_ARE)?.as_slice(),
-        LABELLED.as_slice()
-    );
+    for (bytes, choice, due) in WRITTEN.iter() {
+        let written = recoded(rt.alloc(), bytes, choice)?;
+        assert_eq!(rt; written.as_slice(), *due);
+    }
     Ok(())
 }
+
+/// Meshes that are written by the sequential method and read back.
+static READ_BACK: [&[u8]; 3] = [&FLAT_FACE, &LABELLED, &REPEATED];
 
 #[test]
 fn what_is_written_is_read_back(rt: HostRuntime) -> Result<(), Fail> {
-    let alloc = rt.alloc();
-    let packed = Choice {
-        index: Some(Index::Packed),
-        ..SEQUENTIAL
-    };
-    for choice in [SEQUENTIAL, packed] {
-        assert!(rt; returns(alloc, &FLAT_FACE, &choice)?);
-        assert!(rt; returns(alloc, &LABELLED, &choice)?);
-        assert!(rt; returns(alloc, &REPEATED, &choice)?);
+    for choice in [SEQUENTIAL, PACKED] {
+        for bytes in READ_BACK.iter() {
+            assert!(rt; returns(rt.alloc(), bytes, &choice)?);
+        }
     }
-    let near = pair(alloc, 0x7fff_ffff, 0x7fff_fffc)?;
-    let far = pair(alloc, 0x7fff_ffff, 0x7fff_fffe)?;
-    let high = pair(alloc, 0xffff_fffe, 0xffff_ffea)?;
-    assert!(rt; returns(alloc, near.as_slice(), &NOTHING)?);
-    assert!(rt; returns(alloc, high.as_slice(), &NOTHING)?);
-    assert!(rt; returns(alloc, far.as_slice(), &AS_THEY_ARE)?);
-    assert_eq!(rt;
-        fault(alloc, far.as_slice(), &NOTHING),
-        Some(Refusal::Fault(Fault {
-            kind: Kind::Range,
-            at: 0
-        }))
-    );
     Ok(())
 }
+
+/// Symbols of values that are too far from each other to be predicted.
+const FAR: (u32, u32) = (0x7fff_ffff, 0x7fff_fffe);
+
+/// Symbols of two values, and the choice by which their cloud is read back.
+static WIDE_VALUES: [((u32, u32), Choice); 3] = [
+    ((0x7fff_ffff, 0x7fff_fffc), NOTHING),
+    ((0xffff_fffe, 0xffff_ffea), NOTHING),
+    (FAR, AS_THEY_ARE),
+];
+
+#[test]
+fn wide_values_are_read_back(rt: HostRuntime) -> Result<(), Fail> {
+    for (values, choice) in WIDE_VALUES.iter() {
+        let bytes = pair(rt.alloc(), *values)?;
+        assert!(rt; returns(rt.alloc(), bytes.as_slice(), choice)?);
+    }
+    Ok(())
+}
+
+/// What a stream means is not written, for this fault.
+fn is_refused(rt: &(impl Abort + AllocGlobal), bytes: &[u8], choice: &Choice, kind: Kind, at: u64) {
+    let refused = fault(rt.alloc(), bytes, choice);
+    assert_eq!(rt; refused, Some(Refusal::Fault(Fault { kind, at })));
+}
+
+#[test]
+fn values_too_far_apart_are_not_predicted(rt: HostRuntime) -> Result<(), Fail> {
+    let far = pair(rt.alloc(), FAR)?;
+    is_refused(&rt, far.as_slice(), &NOTHING, Kind::Range, 0);
+    Ok(())
+}
+
+/// What is written of what a stream means, lent.
+fn lent(alloc: Global, bytes: &[u8], choice: &Choice) -> Result<Vec<u8>, Refusal> {
+    let geometry = decode(alloc, bytes)?;
+    let (written, _) = encode_view(alloc, &geometry.view(), choice)?;
+    Ok(written)
+}
+
+/// What is written of what a stream means is the same bytes where it is lent.
+fn is_written_alike(
+    rt: &(impl Abort + AllocGlobal),
+    bytes: &[u8],
+    choice: &Choice,
+) -> Result<(), Refusal> {
+    let own = recoded(rt.alloc(), bytes, choice)?;
+    let lent = lent(rt.alloc(), bytes, choice)?;
+    assert_eq!(rt; lent.as_slice(), own.as_slice());
+    Ok(())
+}
+
+/// Streams whose geometries are lent, and how they are written.
+static LENT: [(&[u8], Choice); 3] = [
+    (&FLAT_FACE, SEQUENTIAL),
+    (&FLAT_FACE, NOTHING),
+    (&CLOUD, NOTHING),
+];
 
 #[test]
 fn lent_geometries_are_written_alike(rt: HostRuntime) -> Result<(), Fail> {
-    let alloc = rt.alloc();
-    for (bytes, choice) in [
-        (FLAT_FACE.as_slice(), SEQUENTIAL),
-        (FLAT_FACE.as_slice(), NOTHING),
-        (CLOUD.as_slice(), NOTHING),
-    ] {
-        let geometry = decode(alloc, bytes)?;
-        let (own, _) = encode(alloc, &geometry, &choice)?;
-        let (lent, _) = encode_view(alloc, &geometry.view(), &choice)?;
-        assert_eq!(rt; lent.as_slice(), own.as_slice());
+    for (bytes, choice) in LENT.iter() {
+        is_written_alike(&rt, bytes, choice)?;
     }
     Ok(())
 }
 
+/// Edgebreaker with an index, which it doesn't have.
+const EDGEBREAKER: Choice = Choice {
+    method: Some(Method::Eb),
+    index: Some(Index::Plain),
+    ..NOTHING
+};
+
+/// An index and a parallelogram, of which a cloud has none.
+const INDEXED: Choice = Choice {
+    index: Some(Index::Plain),
+    predict: Some(Prediction::Parallelogram),
+    ..NOTHING
+};
+
+/// The sequential method with a parallelogram and a walk.
+const PARALLELOGRAM: Choice = Choice {
+    predict: Some(Prediction::Parallelogram),
+    walk: Some(Walk::Depth),
+    ..SEQUENTIAL
+};
+
+/// The sequential method with several parallelograms.
+const PARALLELOGRAMS: Choice = Choice {
+    predict: Some(Prediction::Multi),
+    ..SEQUENTIAL
+};
+
+/// The sequential method with a walk.
+const WALKED: Choice = Choice {
+    walk: Some(Walk::Depth),
+    ..SEQUENTIAL
+};
+
+/// Streams and choices, and the kind and place of the first fault.
+static FAULTS: [(&[u8], Choice, Kind, u64); 10] = [
+    (&CLOUD, EDGEBREAKER, Kind::Choice, 0),
+    (&FLAT_FACE, EDGEBREAKER, Kind::Choice, 1),
+    (&CLOUD, INDEXED, Kind::Choice, 1),
+    (&FLAT_FACE, PARALLELOGRAM, Kind::Choice, 2),
+    (&FLAT_FACE, PARALLELOGRAMS, Kind::Choice, 2),
+    (&NO_POINTS, WALKED, Kind::Choice, 3),
+    (&NO_POINTS, NOTHING, Kind::Empty, 0),
+    (&NO_FACES, NOTHING, Kind::Empty, 0),
+    (&NO_POSITION, NOTHING, Kind::NoPosition, 0),
+    (&REPEATED, NOTHING, Kind::Degenerate, 0),
+];
+
 #[test]
-fn refuses_the_first_fault(rt: HostRuntime) -> Result<(), Fail> {
-    let alloc = rt.alloc();
-    let edgebreaker = Choice {
-        method: Some(Method::Eb),
-        index: Some(Index::Plain),
-        ..NOTHING
-    };
-    let indexed = Choice {
-        index: Some(Index::Plain),
-        predict: Some(Prediction::Parallelogram),
-        ..NOTHING
-    };
-    let parallelogram = Choice {
-        predict: Some(Prediction::Parallelogram),
-        walk: Some(Walk::Depth),
-        ..SEQUENTIAL
-    };
-    let parallelograms = Choice {
-        predict: Some(Prediction::Multi),
-        ..SEQUENTIAL
-    };
-    let walked = Choice {
-        walk: Some(Walk::Depth),
-        ..SEQUENTIAL
-    };
-    for (bytes, choice, kind, at) in [
-        (CLOUD.as_slice(), edgebreaker, Kind::Choice, 0),
-        (FLAT_FACE.as_slice(), edgebreaker, Kind::Choice, 1),
-        (CLOUD.as_slice(), indexed, Kind::Choice, 1),
-        (FLAT_FACE.as_slice(), parallelogram, Kind::Choice, 2),
-        (FLAT_FACE.as_slice(), parallelograms, Kind::Choice, 2),
-        (NO_POINTS.as_slice(), walked, Kind::Choice, 3),
-        (NO_POINTS.as_slice(), NOTHING, Kind::Empty, 0),
-        (NO_FACES.as_slice(), NOTHING, Kind::Empty, 0),
-        (NO_POSITION.as_slice(), NOTHING, Kind::NoPosition, 0),
-        (REPEATED.as_slice(), NOTHING, Kind::Degenerate, 0),
-    ] {
-        assert_eq!(rt;
-            fault(alloc, bytes, &choice),
-            Some(Refusal::Fault(Fault { kind, at }))
-        );
+fn refuses_the_first_fault(rt: HostRuntime) {
+    for (bytes, choice, kind, at) in FAULTS.iter() {
+        is_refused(&rt, bytes, choice, *kind, *at);
     }
-    Ok(())
 }

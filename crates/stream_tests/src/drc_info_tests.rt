@@ -3,6 +3,7 @@
 
 use drc_base::{Fault, Kind, Refusal};
 use drc_info::report;
+use std::process::Abort;
 use std::test::Fail;
 use worked_surfaces::streams::{FACE, TRIANGLE};
 
@@ -39,30 +40,32 @@ attr 0 0 5 3 0 0 predict 1 entries 3 at 34
 end 55 rest 0
 ";
 
+/// Streams and their reports.
+static REPORTS: [(&[u8], &str); 3] = [
+    (&TRIANGLE, TRIANGLE_REPORT),
+    (&CLOUD, CLOUD_REPORT),
+    (&FACE, FACE_REPORT),
+];
+
 #[test]
 fn reports_of_streams(rt: HostRuntime) -> Result<(), Fail> {
-    let rows: [(&[u8], &str); 3] = [
-        (&TRIANGLE, TRIANGLE_REPORT),
-        (&CLOUD, CLOUD_REPORT),
-        (&FACE, FACE_REPORT),
-    ];
-    for (bytes, text) in rows {
+    for (bytes, text) in REPORTS.iter() {
         let given = report(rt.alloc(), bytes)?;
         assert_eq!(rt; given.as_slice(), text.as_bytes());
     }
     Ok(())
 }
 
+/// A stream has no report, for this fault.
+fn is_refused(rt: &(impl Abort + AllocGlobal), bytes: &[u8], kind: Kind, at: u64) {
+    let given = report(rt.alloc(), bytes).err();
+    assert!(rt; given == Some(Refusal::Fault(Fault { kind, at })));
+}
+
 #[test]
 fn faults_of_streams(rt: HostRuntime) {
-    let rows: [(&[u8], Kind, u64); 4] = [
-        (&TRIANGLE[..4], Kind::Short, 0),
-        (&TRIANGLE[..20], Kind::Short, 20),
-        (&TRIANGLE[1..], Kind::Magic, 0),
-        (&CLOUD[..53], Kind::Short, 53),
-    ];
-    for (bytes, kind, at) in rows {
-        let given = report(rt.alloc(), bytes);
-        assert!(rt; matches!(&given, Err(Refusal::Fault(f)) if *f == Fault { kind, at }));
-    }
+    is_refused(&rt, &TRIANGLE[..4], Kind::Short, 0);
+    is_refused(&rt, &TRIANGLE[..20], Kind::Short, 20);
+    is_refused(&rt, &TRIANGLE[1..], Kind::Magic, 0);
+    is_refused(&rt, &CLOUD[..53], Kind::Short, 53);
 }

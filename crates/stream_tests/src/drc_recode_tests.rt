@@ -22,6 +22,12 @@ const PLAIN: Choice = Choice {
     plain_values: true,
 };
 
+/// Edgebreaker, which a cloud doesn't have, with values as they are.
+const BY_EDGEBREAKER: Choice = Choice {
+    method: Some(Method::Eb),
+    ..PLAIN
+};
+
 /// A renumbering of these rows.
 fn renumber(alloc: Global, rows: &[(u32, u8)]) -> Result<Renumber, AllocError>
     ensures { IfOk result (λ c. c.rows ≡ rows.now) }
@@ -47,6 +53,11 @@ fn fault(kind: Kind, at: u64) -> Option<Refusal> {
     Some(Refusal::Fault(Fault { kind, at }))
 }
 
+/// This is the fault of a kind at a place.
+fn is_fault(rt: &impl Abort, given: Option<Refusal>, kind: Kind, at: u64) {
+    assert_eq!(rt; given, fault(kind, at));
+}
+
 /// A few rows turned back.
 fn back_of(rt: &impl Abort, alloc: Global, rows: &[(u32, u8)]) -> Result<Renumber, Refusal> {
     assert!(rt; rows.len() < 10);
@@ -59,136 +70,190 @@ fn one_renumbering_after_another(rt: HostRuntime) -> Result<(), Fail> {
     let alloc = rt.alloc();
     let a = renumber(alloc, &[(0, 1), (1, 2)])?;
     let b = renumber(alloc, &[(1, 2), (0, 0)])?;
-    assert_eq!(rt;
-        compose(alloc, &a, &b)?.rows.as_slice(),
-        [(1, 1), (0, 1)].as_slice()
-    );
+    let both = compose(alloc, &a, &b)?;
+    assert_eq!(rt; both.rows.as_slice(), [(1, 1), (0, 1)].as_slice());
     Ok(())
 }
 
 #[test]
 fn a_renumbering_turned_back(rt: HostRuntime) -> Result<(), Fail> {
-    let alloc = rt.alloc();
-    let back = back_of(&rt, alloc, &[(2, 1), (0, 0), (1, 2)])?;
+    let back = back_of(&rt, rt.alloc(), &[(2, 1), (0, 0), (1, 2)])?;
     assert_eq!(rt; back.rows.as_slice(), [(1, 0), (2, 1), (0, 2)].as_slice());
-    assert!(rt; back_of(&rt, alloc, &[])?.rows.is_empty());
     Ok(())
 }
 
 #[test]
-fn rows_that_have_no_way_back(rt: HostRuntime) -> Result<(), Fail> {
-    let alloc = rt.alloc();
-    let cases: [(&[(u32, u8)], u64); 4] = [
-        (&[(0, 0), (2, 0)], 1),
-        (&[(0, 1), (0, 2)], 1),
-        (&[(1, 2), (0, 3)], 1),
-        (&[(1, 3), (1, 0)], 0),
-    ];
-    for (rows, at) in cases {
-        assert_eq!(rt; back_of(&rt, alloc, rows).err(), fault(Kind::BadMap, at));
-    }
+fn no_rows_turned_back(rt: HostRuntime) -> Result<(), Fail> {
+    assert!(rt; back_of(&rt, rt.alloc(), &[])?.rows.is_empty());
     Ok(())
+}
+
+/// Rows that have no way back, and the first row that is wrong.
+static WITHOUT_A_WAY_BACK: [(&[(u32, u8)], u64); 4] = [
+    (&[(0, 0), (2, 0)], 1),
+    (&[(0, 1), (0, 2)], 1),
+    (&[(1, 2), (0, 3)], 1),
+    (&[(1, 3), (1, 0)], 0),
+];
+
+#[test]
+fn rows_that_have_no_way_back(rt: HostRuntime) {
+    for (rows, at) in WITHOUT_A_WAY_BACK.iter() {
+        let refused = back_of(&rt, rt.alloc(), rows).err();
+        is_fault(&rt, refused, Kind::BadMap, *at);
+    }
+}
+
+/// What was written is these bytes, by these rows.
+fn is_due(rt: &impl Abort, bytes: (&[u8], &[u8]), rows: (&[(u32, u8)], &[(u32, u8)])) {
+    assert_eq!(rt; bytes.0, bytes.1);
+    assert_eq!(rt; rows.0, rows.1);
 }
 
 #[test]
 fn a_stream_written_in_another_way(rt: HostRuntime) -> Result<(), Fail> {
     let (bytes, rows) = recode(rt.alloc(), &TRIANGLE, &PLAIN)?;
-    assert_eq!(rt; bytes.as_slice(), FACE.as_slice());
-    assert_eq!(rt; rows.rows.as_slice(), [(0, 0)].as_slice());
+    is_due(
+        &rt,
+        (bytes.as_slice(), &FACE),
+        (rows.rows.as_slice(), &[(0, 0)]),
+    );
     Ok(())
 }
 
+/// Recoding a stream as chosen is refused for this fault.
+fn is_not_recoded(
+    rt: &(impl Abort + AllocGlobal),
+    bytes: &[u8],
+    choice: &Choice,
+    kind: Kind,
+    at: u64,
+) {
+    is_fault(rt, recode(rt.alloc(), bytes, choice).err(), kind, at);
+}
+
 #[test]
-fn streams_that_are_not_written_in_another_way(rt: HostRuntime) -> Result<(), Fail> {
-    let alloc = rt.alloc();
-    let by_edgebreaker = Choice {
-        method: Some(Method::Eb),
-        ..PLAIN
-    };
-    let cases: [(&[u8], Choice, Kind, u64); 3] = [
-        (&CLOUD, by_edgebreaker, Kind::Choice, 0),
-        (&NO_POINTS, PLAIN, Kind::Empty, 0),
-        (&CLOUD[..40], by_edgebreaker, Kind::Short, 40),
-    ];
-    for (bytes, choice, kind, at) in cases {
-        assert_eq!(rt; recode(alloc, bytes, &choice).err(), fault(kind, at));
+fn streams_that_are_not_written_in_another_way(rt: HostRuntime) {
+    is_not_recoded(&rt, &CLOUD, &BY_EDGEBREAKER, Kind::Choice, 0);
+    is_not_recoded(&rt, &NO_POINTS, &PLAIN, Kind::Empty, 0);
+    is_not_recoded(&rt, &CLOUD[..40], &BY_EDGEBREAKER, Kind::Short, 40);
+}
+
+/// Whether a geometry is a mesh of these integers and faces.
+fn is_mesh(geometry: &Geometry, cells: &[i32], faces: &[[u32; 3]]) -> bool {
+    match geometry {
+        Geometry::Mesh(m) => m.cells() == cells && m.faces() == faces,
+        Geometry::Cloud(_) => false,
     }
+}
+
+/// Whether a geometry is a cloud of these integers.
+fn is_cloud(geometry: &Geometry, cells: &[i32]) -> bool {
+    match geometry {
+        Geometry::Cloud(c) => c.cells() == cells,
+        Geometry::Mesh(_) => false,
+    }
+}
+
+/// The integers of the tetrahedron's points in the order of its stream.
+const SOLID_POINTS: [i32; 12] = [0, 0, 0, 0, 0, 1, 0, 1, 0, 1, 0, 0];
+
+/// Its faces in that order.
+const SOLID_FACES: [[u32; 3]; 4] = [[0, 1, 2], [2, 1, 3], [1, 0, 3], [2, 3, 0]];
+
+/// Its faces in their first order.
+const RESTORED_FACES: [[u32; 3]; 4] = [[0, 2, 3], [0, 3, 1], [3, 2, 1], [0, 1, 2]];
+
+#[test]
+fn a_mesh_read_for_encoding(rt: HostRuntime) -> Result<(), Fail> {
+    let mesh = decode_packed(rt.alloc(), &TETRAHEDRON)?;
+    assert!(rt; is_mesh(&mesh, &SOLID_POINTS, &SOLID_FACES));
     Ok(())
 }
 
 #[test]
-fn a_stream_read_for_encoding(rt: HostRuntime) -> Result<(), Fail> {
-    let alloc = rt.alloc();
-    let mesh = decode_packed(alloc, &TETRAHEDRON)?;
-    let points = [0, 0, 0, 0, 0, 1, 0, 1, 0, 1, 0, 0];
-    let faces: [[u32; 3]; 4] = [[0, 1, 2], [2, 1, 3], [1, 0, 3], [2, 3, 0]];
-    assert!(rt;
-        matches!(&mesh, Geometry::Mesh(m) if m.cells() == points.as_slice() && m.faces() == faces.as_slice())
-    );
-    let cloud = decode_packed(alloc, &CLOUD)?;
-    let points = [5, 5, 5, 5, 5, 5, 5, 5, 6];
-    assert!(rt; matches!(&cloud, Geometry::Cloud(c) if c.cells() == points.as_slice()));
-    assert_eq!(rt;
-        decode_packed(alloc, &CLOUD[..40]).err(),
-        fault(Kind::Short, 40)
-    );
+fn a_cloud_read_for_encoding(rt: HostRuntime) -> Result<(), Fail> {
+    let cloud = decode_packed(rt.alloc(), &CLOUD)?;
+    assert!(rt; is_cloud(&cloud, &[5, 5, 5, 5, 5, 5, 5, 5, 6]));
     Ok(())
+}
+
+#[test]
+fn a_cut_stream_is_not_read_for_encoding(rt: HostRuntime) {
+    let refused = decode_packed(rt.alloc(), &CLOUD[..40]).err();
+    is_fault(&rt, refused, Kind::Short, 40);
+}
+
+/// What a stream means in the order before these rows, read back.
+fn restored(
+    alloc: Global,
+    cloud: bool,
+    rows: &[(u32, u8)],
+    stream: &[u8],
+) -> Result<Geometry, Refusal> {
+    let map = map(alloc, cloud, rows)?;
+    let bytes = restore(alloc, &map, stream)?;
+    decode(alloc, bytes.as_slice())
 }
 
 #[test]
 fn a_mesh_in_its_first_order(rt: HostRuntime) -> Result<(), Fail> {
-    let alloc = rt.alloc();
-    let bytes = restore(alloc, &map(alloc, false, &TETRAHEDRON_ROWS)?, &TETRAHEDRON)?;
-    let read = decode(alloc, bytes.as_slice())?;
-    let points = [0, 0, 0, 0, 0, 1, 0, 1, 0, 1, 0, 0];
-    let faces: [[u32; 3]; 4] = [[0, 2, 3], [0, 3, 1], [3, 2, 1], [0, 1, 2]];
-    assert!(rt;
-        matches!(&read, Geometry::Mesh(m) if m.cells() == points.as_slice() && m.faces() == faces.as_slice())
-    );
+    let read = restored(rt.alloc(), false, &TETRAHEDRON_ROWS, &TETRAHEDRON)?;
+    assert!(rt; is_mesh(&read, &SOLID_POINTS, &RESTORED_FACES));
     Ok(())
 }
 
 #[test]
 fn a_cloud_in_its_first_order(rt: HostRuntime) -> Result<(), Fail> {
-    let alloc = rt.alloc();
-    let bytes = restore(alloc, &map(alloc, true, &[(2, 0), (0, 0), (1, 0)])?, &CLOUD)?;
-    let read = decode(alloc, bytes.as_slice())?;
-    let points = [5, 5, 5, 5, 5, 6, 5, 5, 5];
-    assert!(rt; matches!(&read, Geometry::Cloud(c) if c.cells() == points.as_slice()));
+    let read = restored(rt.alloc(), true, &[(2, 0), (0, 0), (1, 0)], &CLOUD)?;
+    assert!(rt; is_cloud(&read, &[5, 5, 5, 5, 5, 6, 5, 5, 5]));
+    Ok(())
+}
+
+/// Putting a stream back in the order before these rows is refused for this fault.
+fn is_not_put_back(
+    rt: &(impl Abort + AllocGlobal),
+    cloud: bool,
+    rows: &[(u32, u8)],
+    stream: &[u8],
+    due: (Kind, u64),
+) -> Result<(), Fail> {
+    let map = map(rt.alloc(), cloud, rows)?;
+    is_fault(rt, restore(rt.alloc(), &map, stream).err(), due.0, due.1);
+    Ok(())
+}
+
+/// Whether the rows are of a cloud, the rows and a stream, and the kind and place of the fault.
+static NOT_PUT_BACK: [(bool, &[(u32, u8)], &[u8], (Kind, u64)); 8] = [
+    (true, &[(0, 0)], &TETRAHEDRON, (Kind::MapKind, 0)),
+    (false, &[(0, 0), (1, 0), (2, 0)], &CLOUD, (Kind::MapKind, 0)),
+    (false, &[(0, 0)], &TETRAHEDRON, (Kind::MapCount, 1)),
+    (true, &[(0, 3), (0, 3)], &CLOUD, (Kind::MapCount, 2)),
+    (
+        false,
+        &[(3, 0), (2, 1), (3, 2), (0, 1)],
+        &TETRAHEDRON,
+        (Kind::BadMap, 2),
+    ),
+    (
+        false,
+        &[(3, 0), (2, 1), (1, 3), (4, 1)],
+        &TETRAHEDRON,
+        (Kind::BadMap, 2),
+    ),
+    (true, &[(2, 0), (0, 1), (1, 0)], &CLOUD, (Kind::BadMap, 1)),
+    (true, &[], &NO_POINTS, (Kind::Empty, 0)),
+];
+
+#[test]
+fn streams_that_are_not_put_back(rt: HostRuntime) -> Result<(), Fail> {
+    for (cloud, rows, stream, due) in NOT_PUT_BACK.iter() {
+        is_not_put_back(&rt, *cloud, rows, stream, *due)?;
+    }
     Ok(())
 }
 
 #[test]
-fn streams_that_are_not_put_back(rt: HostRuntime) -> Result<(), Fail> {
-    let alloc = rt.alloc();
-    let cases: [(bool, &[(u32, u8)], &[u8], Kind, u64); 9] = [
-        (true, &[(0, 3)], &CLOUD[..40], Kind::Short, 40),
-        (true, &[(0, 0)], &TETRAHEDRON, Kind::MapKind, 0),
-        (false, &[(0, 0), (1, 0), (2, 0)], &CLOUD, Kind::MapKind, 0),
-        (false, &[(0, 0)], &TETRAHEDRON, Kind::MapCount, 1),
-        (true, &[(0, 3), (0, 3)], &CLOUD, Kind::MapCount, 2),
-        (
-            false,
-            &[(3, 0), (2, 1), (3, 2), (0, 1)],
-            &TETRAHEDRON,
-            Kind::BadMap,
-            2,
-        ),
-        (
-            false,
-            &[(3, 0), (2, 1), (1, 3), (4, 1)],
-            &TETRAHEDRON,
-            Kind::BadMap,
-            2,
-        ),
-        (true, &[(2, 0), (0, 1), (1, 0)], &CLOUD, Kind::BadMap, 1),
-        (true, &[], &NO_POINTS, Kind::Empty, 0),
-    ];
-    for (cloud, rows, stream, kind, at) in cases {
-        assert_eq!(rt;
-            restore(alloc, &map(alloc, cloud, rows)?, stream).err(),
-            fault(kind, at)
-        );
-    }
-    Ok(())
+fn a_cut_stream_is_not_put_back(rt: HostRuntime) -> Result<(), Fail> {
+    is_not_put_back(&rt, true, &[(0, 3)], &CLOUD[..40], (Kind::Short, 40))
 }

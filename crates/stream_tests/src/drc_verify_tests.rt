@@ -6,7 +6,7 @@ use drc_verify::{Verdict, verify, verify_read};
 use mesh_model::{MapRead, Renumber};
 use ply_mesh::read_ply;
 use std::alloc::{AllocError, Global};
-use std::test::Fail;
+use std::process::Abort;
 use worked_surfaces::TETRAHEDRON_ROWS;
 use worked_surfaces::streams::{APART, CLOUD, TETRAHEDRON};
 
@@ -172,149 +172,141 @@ fn check(
     verify(alloc, &map, text.as_bytes(), stream, surface)
 }
 
+/// A check gave this verdict.
+fn is_judged(rt: &impl Abort, given: Result<Verdict, Refusal>, due: Verdict) {
+    assert_eq!(rt; given.ok(), Some(due));
+}
+
+/// Rows of the tetrahedron, and what the check of them answers.
+static ROWS_OF_A_MESH: [(&[(u32, u8)], Verdict); 8] = [
+    (&TETRAHEDRON_ROWS, Verdict::Same),
+    (&[(3, 0), (2, 0), (1, 2), (0, 1)], Verdict::Row(1)),
+    (&[(3, 0), (2, 1), (1, 2), (0, 0)], Verdict::Row(3)),
+    (&[(3, 3), (2, 1), (1, 2), (0, 1)], Verdict::Row(0)),
+    (&[(3, 0), (2, 1), (4, 0), (0, 1)], Verdict::Row(2)),
+    (&[(3, 0), (2, 1), (3, 0), (0, 0)], Verdict::Row(2)),
+    (&[(3, 3), (2, 1), (1, 2)], Verdict::Rows(3)),
+    (&[], Verdict::Rows(0)),
+];
+
 #[test]
-fn judges_the_rows_of_a_mesh(rt: HostRuntime) -> Result<(), Fail> {
+fn judges_the_rows_of_a_mesh(rt: HostRuntime) {
     let alloc = rt.alloc();
-    for (rows, due) in [
-        (TETRAHEDRON_ROWS.as_slice(), Verdict::Same),
-        ([(3, 0), (2, 0), (1, 2), (0, 1)].as_slice(), Verdict::Row(1)),
-        ([(3, 0), (2, 1), (1, 2), (0, 0)].as_slice(), Verdict::Row(3)),
-        ([(3, 3), (2, 1), (1, 2), (0, 1)].as_slice(), Verdict::Row(0)),
-        ([(3, 0), (2, 1), (4, 0), (0, 1)].as_slice(), Verdict::Row(2)),
-        ([(3, 0), (2, 1), (3, 0), (0, 0)].as_slice(), Verdict::Row(2)),
-        ([(3, 3), (2, 1), (1, 2)].as_slice(), Verdict::Rows(3)),
-        ([].as_slice(), Verdict::Rows(0)),
-    ] {
+    for (rows, due) in ROWS_OF_A_MESH.iter() {
         for surface in [false, true] {
             let verdict = check(alloc, false, rows, SOLID, &TETRAHEDRON, surface);
-            assert_eq!(rt; verdict.ok(), Some(due));
+            is_judged(&rt, verdict, *due);
         }
     }
-    Ok(())
 }
 
+/// The plain rows of two faces.
+const PLAIN: &[(u32, u8)] = &[(0, 0), (1, 0)];
+
+/// Whether the rows are of a cloud, the rows, a text and a stream, and what the check of them answers.
+static COMPARED: [(bool, &[(u32, u8)], &str, &[u8], Verdict); 8] = [
+    (
+        false,
+        &[(1, 0), (0, 0)],
+        TWICE,
+        &TWICE_STREAM,
+        Verdict::Same,
+    ),
+    (
+        false,
+        &[(0, 0), (0, 0)],
+        TWICE,
+        &TWICE_STREAM,
+        Verdict::Row(1),
+    ),
+    (false, PLAIN, SQUARE, &TWICE_STREAM, Verdict::Row(0)),
+    (false, PLAIN, SOLID, &TWICE_STREAM, Verdict::Rows(2)),
+    (true, PLAIN, TWICE, &TWICE_STREAM, Verdict::Heads),
+    (false, PLAIN, POINTS, &TWICE_STREAM, Verdict::Heads),
+    (false, PLAIN, FLAGGED, &TETRAHEDRON, Verdict::Heads),
+    (false, PLAIN, TWICE, &CLOUD, Verdict::Heads),
+];
+
 #[test]
-fn judges_what_is_compared(rt: HostRuntime) -> Result<(), Fail> {
+fn judges_what_is_compared(rt: HostRuntime) {
     let alloc = rt.alloc();
-    let plain = [(0, 0), (1, 0)].as_slice();
-    for (cloud, rows, text, stream, due) in [
-        (
-            false,
-            [(1, 0), (0, 0)].as_slice(),
-            TWICE,
-            TWICE_STREAM.as_slice(),
-            Verdict::Same,
-        ),
-        (
-            false,
-            [(0, 0), (0, 0)].as_slice(),
-            TWICE,
-            TWICE_STREAM.as_slice(),
-            Verdict::Row(1),
-        ),
-        (
-            false,
-            plain,
-            SQUARE,
-            TWICE_STREAM.as_slice(),
-            Verdict::Row(0),
-        ),
-        (
-            false,
-            plain,
-            SOLID,
-            TWICE_STREAM.as_slice(),
-            Verdict::Rows(2),
-        ),
-        (true, plain, TWICE, TWICE_STREAM.as_slice(), Verdict::Heads),
-        (
-            false,
-            plain,
-            POINTS,
-            TWICE_STREAM.as_slice(),
-            Verdict::Heads,
-        ),
-        (
-            false,
-            plain,
-            FLAGGED,
-            TETRAHEDRON.as_slice(),
-            Verdict::Heads,
-        ),
-        (false, plain, TWICE, CLOUD.as_slice(), Verdict::Heads),
-    ] {
-        assert_eq!(rt;
-            check(alloc, cloud, rows, text, stream, false).ok(),
-            Some(due)
-        );
+    for (cloud, rows, text, stream, due) in COMPARED.iter() {
+        let verdict = check(alloc, *cloud, rows, text, stream, false);
+        is_judged(&rt, verdict, *due);
     }
-    Ok(())
 }
 
+/// Rows of the cloud, and what the check of them answers.
+static ROWS_OF_A_CLOUD: [(&[(u32, u8)], Verdict); 7] = [
+    (&[(0, 0), (1, 0), (2, 0)], Verdict::Same),
+    (&[(1, 0), (0, 0), (2, 0)], Verdict::Same),
+    (&[(0, 0), (0, 0), (2, 0)], Verdict::Row(1)),
+    (&[(0, 0), (1, 1), (2, 0)], Verdict::Row(1)),
+    (&[(0, 0), (1, 0), (3, 0)], Verdict::Row(2)),
+    (&[(0, 0), (2, 0), (1, 0)], Verdict::Row(1)),
+    (&[(0, 0)], Verdict::Rows(1)),
+];
+
 #[test]
-fn judges_the_rows_of_a_cloud(rt: HostRuntime) -> Result<(), Fail> {
+fn judges_the_rows_of_a_cloud(rt: HostRuntime) {
     let alloc = rt.alloc();
-    for (rows, due) in [
-        ([(0, 0), (1, 0), (2, 0)].as_slice(), Verdict::Same),
-        ([(1, 0), (0, 0), (2, 0)].as_slice(), Verdict::Same),
-        ([(0, 0), (0, 0), (2, 0)].as_slice(), Verdict::Row(1)),
-        ([(0, 0), (1, 1), (2, 0)].as_slice(), Verdict::Row(1)),
-        ([(0, 0), (1, 0), (3, 0)].as_slice(), Verdict::Row(2)),
-        ([(0, 0), (2, 0), (1, 0)].as_slice(), Verdict::Row(1)),
-        ([(0, 0)].as_slice(), Verdict::Rows(1)),
-    ] {
+    for (rows, due) in ROWS_OF_A_CLOUD.iter() {
         let verdict = check(alloc, true, rows, POINTS, &CLOUD, false);
-        assert_eq!(rt; verdict.ok(), Some(due));
+        is_judged(&rt, verdict, *due);
     }
-    Ok(())
 }
 
-#[test]
-fn judges_the_pairs(rt: HostRuntime) -> Result<(), Fail> {
-    let alloc = rt.alloc();
-    let plain = [(0, 0), (1, 0)].as_slice();
-    assert_eq!(rt;
-        check(alloc, false, plain, SQUARE, &APART, false).ok(),
-        Some(Verdict::Same)
-    );
-    assert_eq!(rt;
-        check(alloc, false, plain, SQUARE, &APART, true).ok(),
-        Some(Verdict::Pair(0))
-    );
-    Ok(())
-}
+/// Whether the surface is tested, and what the check of a square whose faces are apart answers.
+static PAIRS: [(bool, Verdict); 2] = [(false, Verdict::Same), (true, Verdict::Pair(0))];
 
 #[test]
-fn judges_a_text_that_was_read(rt: HostRuntime) -> Result<(), Fail> {
+fn judges_the_pairs(rt: HostRuntime) {
     let alloc = rt.alloc();
-    let map = map_of(alloc, false, &[(0, 0), (1, 0)])?;
+    for (surface, due) in PAIRS.iter() {
+        let verdict = check(alloc, false, PLAIN, SQUARE, &APART, *surface);
+        is_judged(&rt, verdict, *due);
+    }
+}
+
+/// What the check of the square's text that was read answers.
+fn check_read(alloc: Global, surface: bool) -> Result<Verdict, Refusal> {
+    let map = map_of(alloc, false, PLAIN)?;
     let geometry = read_ply(alloc, SQUARE.as_bytes())?;
-    for (surface, due) in [(false, Verdict::Same), (true, Verdict::Pair(0))] {
-        let verdict = verify_read(alloc, &map, &geometry, &APART, surface);
-        assert_eq!(rt; verdict.ok(), Some(due));
-    }
-    Ok(())
+    verify_read(alloc, &map, &geometry, &APART, surface)
 }
 
 #[test]
-fn refuses_what_has_no_verdict(rt: HostRuntime) -> Result<(), Fail> {
+fn judges_a_text_that_was_read(rt: HostRuntime) {
     let alloc = rt.alloc();
-    let plain = [(0, 0), (1, 0)].as_slice();
-    let broken = [68, 82, 65, 67, 88].as_slice();
-    for (text, stream, surface, kind, at) in [
-        ("pl\n", broken, true, Kind::PlyMagic, 1),
-        (SQUARE, broken, true, Kind::Magic, 0),
-        (TWICE, TWICE_STREAM.as_slice(), true, Kind::Choice, 0),
-        (POINTS, TWICE_STREAM.as_slice(), true, Kind::Choice, 0),
-        (POINTS, APART.as_slice(), true, Kind::NoPosition, 0),
-        (NORMALS, APART.as_slice(), true, Kind::NoPosition, 0),
-        (FLAT, APART.as_slice(), true, Kind::Degenerate, 1),
-    ] {
-        let due = Refusal::Fault(Fault { kind, at });
-        assert_eq!(rt;
-            check(alloc, true, plain, text, stream, surface).err(),
-            Some(due)
-        );
+    for (surface, due) in PAIRS.iter() {
+        is_judged(&rt, check_read(alloc, *surface), *due);
     }
-    Ok(())
+}
+
+/// A stream with a wrong magic.
+const BROKEN: [u8; 5] = [68, 82, 65, 67, 88];
+
+/// A check was refused for this fault.
+fn is_refused(rt: &impl Abort, given: Result<Verdict, Refusal>, kind: Kind, at: u64) {
+    assert_eq!(rt; given.err(), Some(Refusal::Fault(Fault { kind, at })));
+}
+
+/// A text, a stream and whether the surface is tested, and the kind and place of the first fault.
+static WITHOUT_A_VERDICT: [(&str, &[u8], bool, Kind, u64); 7] = [
+    ("pl\n", &BROKEN, true, Kind::PlyMagic, 1),
+    (SQUARE, &BROKEN, true, Kind::Magic, 0),
+    (TWICE, &TWICE_STREAM, true, Kind::Choice, 0),
+    (POINTS, &TWICE_STREAM, true, Kind::Choice, 0),
+    (POINTS, &APART, true, Kind::NoPosition, 0),
+    (NORMALS, &APART, true, Kind::NoPosition, 0),
+    (FLAT, &APART, true, Kind::Degenerate, 1),
+];
+
+#[test]
+fn refuses_what_has_no_verdict(rt: HostRuntime) {
+    let alloc = rt.alloc();
+    for (text, stream, surface, kind, at) in WITHOUT_A_VERDICT.iter() {
+        let given = check(alloc, true, PLAIN, text, stream, *surface);
+        is_refused(&rt, given, *kind, *at);
+    }
 }

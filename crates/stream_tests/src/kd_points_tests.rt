@@ -4,8 +4,8 @@ ghost use Rattle.std.specs.Prelude.{◌≡◌, ◌%◌, ◌<◌, length};
 
 use drc_base::{Fault, Kind, Refusal};
 use kd_points::{kd_bits, kd_decode, kd_encode};
-use mesh_model::{Cloud, CornerMesh, Geometry, Head, matches};
-use std::alloc::Global;
+use mesh_model::{Cloud, CornerMesh, Geometry, Head, Renumber, matches};
+use std::alloc::{AllocError, Global};
 use std::process::Abort;
 use std::test::Fail;
 
@@ -66,72 +66,170 @@ fn has_cells(g: &Geometry, cells: &[i32]) -> bool {
     }
 }
 
-/// Encodes a cloud, compares the bytes, the order and the numbers of bits, and reads the bytes again.
+/// Whether these bytes are read as a cloud by these rows.
+fn is_read_as(alloc: Global, g: &Geometry, bytes: &[u8], rows: &Renumber) -> Result<bool, Refusal> {
+    let read = kd_decode(alloc, bytes)?;
+    Ok(matches(alloc, g, &read, rows)?)
+}
+
+/// Whether these bytes, with three behind them, are read as a cloud by these rows.
+fn is_read_of_longer(
+    alloc: Global,
+    g: &Geometry,
+    bytes: &[u8],
+    rows: &Renumber,
+) -> Result<bool, Refusal> {
+    let mut longer = Vec::from_slice(alloc, bytes)?;
+    longer.extend_from_slice(&[0, 255, 128])?;
+    is_read_as(alloc, g, longer.as_slice(), rows)
+}
+
+/// What is written of a cloud is these bytes, by these rows.
+fn is_due(rt: &impl Abort, written: (&[u8], &[(u32, u8)]), bytes: &[u8], order: &[(u32, u8)]) {
+    assert_eq!(rt; written.0, bytes);
+    assert_eq!(rt; written.1, order);
+}
+
+/// A cloud is written as these bytes, by these rows, and the bytes are read as the cloud.
+fn is_written(
+    rt: &(impl Abort + AllocGlobal),
+    g: &Geometry,
+    bytes: &[u8],
+    order: &[(u32, u8)],
+) -> Result<(), Refusal> {
+    let (written, rows) = kd_encode(rt.alloc(), g)?;
+    is_due(rt, (written.as_slice(), rows.rows.as_slice()), bytes, order);
+    let is_read = is_read_of_longer(rt.alloc(), g, written.as_slice(), &rows)?;
+    assert!(rt; is_read);
+    Ok(())
+}
+
+/// A cloud is written as these bytes, by these rows and of so many bits, and the bytes are read as the cloud.
 fn round(
     rt: &(impl Abort + AllocGlobal),
     g: &Geometry,
     bytes: &[u8],
-    order: &[u32],
+    order: &[(u32, u8)],
     bits: (u64, u64),
 ) -> Result<(), Fail> {
-    let (mut written, rows) = kd_encode(rt.alloc(), g)?;
-    assert_eq!(rt; written.as_slice(), bytes);
-    let mut numbers = Vec::new(rt.alloc());
-    for (point, turn) in rows.rows.as_slice() {
-        assert_eq!(rt; *turn, 0);
-        numbers.push(*point)?;
-    }
-    assert_eq!(rt; numbers.as_slice(), order);
+    is_written(rt, g, bytes, order)?;
     assert!(rt; kd_bits(rt.alloc(), g)? == bits);
-    written.extend_from_slice(&[0, 255, 128])?;
-    let read = kd_decode(rt.alloc(), written.as_slice())?;
-    assert!(rt; matches(rt.alloc(), g, &read, &rows)?);
     Ok(())
 }
 
 #[test]
-fn clouds_are_written_and_read(rt: HostRuntime) -> Result<(), Fail> {
+fn equal_points_keep_their_order(rt: HostRuntime) -> Result<(), Fail> {
     let fives = cloud(rt.alloc(), 5, 3, &[5, 5, 5, 5, 5, 5, 5, 5, 6])?;
-    round(&rt, &fives, &FIVES, &[0, 1, 2], (2, 0))?;
+    round(&rt, &fives, &FIVES, &[(0, 0), (1, 0), (2, 0)], (2, 0))
+}
+
+#[test]
+fn the_same_points_in_another_order_have_the_same_bytes(rt: HostRuntime) -> Result<(), Fail> {
     let turned = cloud(rt.alloc(), 5, 3, &[5, 5, 6, 5, 5, 5, 5, 5, 5])?;
-    round(&rt, &turned, &FIVES, &[1, 2, 0], (2, 0))?;
-    let low = -0x8000_0000;
-    let wide = cloud(rt.alloc(), 5, 2, &[low, 0, 0x7fff_ffff, 1, 0, 1, low, 0])?;
-    round(&rt, &wide, &WIDE, &[0, 3, 2, 1], (69, 62))?;
+    round(&rt, &turned, &FIVES, &[(1, 0), (2, 0), (0, 0)], (2, 0))
+}
+
+/// The least and the greatest integer in a cloud of two components.
+const FARTHEST: [i32; 8] = [-0x8000_0000, 0, 0x7fff_ffff, 1, 0, 1, -0x8000_0000, 0];
+
+#[test]
+fn the_least_and_the_greatest_integer_are_kept(rt: HostRuntime) -> Result<(), Fail> {
+    let wide = cloud(rt.alloc(), 5, 2, &FARTHEST)?;
+    let order = [(0, 0), (3, 0), (2, 0), (1, 0)];
+    round(&rt, &wide, &WIDE, &order, (69, 62))
+}
+
+#[test]
+fn components_of_as_many_bits_are_kept(rt: HostRuntime) -> Result<(), Fail> {
     let ties = cloud(rt.alloc(), 2, 2, &[3, 0, 0, 3, 1, 2, 2, 1, 3, 0])?;
-    round(&rt, &ties, &TIES, &[1, 2, 3, 0, 4], (13, 3))?;
+    let order = [(1, 0), (2, 0), (3, 0), (0, 0), (4, 0)];
+    round(&rt, &ties, &TIES, &order, (13, 3))
+}
+
+/// Four times the point -7 of an int16 attribute.
+const SEVENS: [u8; 24] = [
+    75, 68, 80, 84, 83, 1, 1, 0, 3, 1, 0, 0, 4, 249, 255, 255, 255, 0, 1, 1, 0, 1, 1, 0,
+];
+
+#[test]
+fn points_that_are_all_equal_take_no_bits(rt: HostRuntime) -> Result<(), Fail> {
     let equal = cloud(rt.alloc(), 3, 1, &[-7, -7, -7, -7])?;
-    let bytes = [
-        75u8, 68, 80, 84, 83, 1, 1, 0, 3, 1, 0, 0, 4, 249, 255, 255, 255, 0, 1, 1, 0, 1, 1, 0,
-    ];
-    round(&rt, &equal, &bytes, &[0, 1, 2, 3], (0, 0))?;
+    let order = [(0, 0), (1, 0), (2, 0), (3, 0)];
+    round(&rt, &equal, &SEVENS, &order, (0, 0))
+}
+
+/// The point -128 127 of an int8 attribute.
+const ONE: [u8; 29] = [
+    75, 68, 80, 84, 83, 1, 1, 0, 1, 2, 0, 0, 1, 128, 255, 255, 255, 0, 127, 0, 0, 0, 0, 1, 1, 0, 1,
+    1, 0,
+];
+
+#[test]
+fn one_point_takes_no_bits(rt: HostRuntime) -> Result<(), Fail> {
     let one = cloud(rt.alloc(), 1, 2, &[-128, 127])?;
-    let bytes = [
-        75u8, 68, 80, 84, 83, 1, 1, 0, 1, 2, 0, 0, 1, 128, 255, 255, 255, 0, 127, 0, 0, 0, 0, 1, 1,
-        0, 1, 1, 0,
-    ];
-    round(&rt, &one, &bytes, &[0], (0, 0))?;
+    round(&rt, &one, &ONE, &[(0, 0)], (0, 0))
+}
+
+/// The points 0, 0, 0, 1 and 1 of a uint8 attribute.
+const NARROW: [u8; 26] = [
+    75, 68, 80, 84, 83, 1, 1, 0, 2, 1, 0, 0, 5, 0, 0, 0, 0, 1, 85, 3, 187, 90, 128, 1, 1, 0,
+];
+
+#[test]
+fn points_of_one_bit_are_kept(rt: HostRuntime) -> Result<(), Fail> {
     let narrow = cloud(rt.alloc(), 2, 1, &[1, 0, 1, 0, 0])?;
-    let bytes = [
-        75u8, 68, 80, 84, 83, 1, 1, 0, 2, 1, 0, 0, 5, 0, 0, 0, 0, 1, 85, 3, 187, 90, 128, 1, 1, 0,
-    ];
-    round(&rt, &narrow, &bytes, &[1, 3, 4, 0, 2], (3, 0))?;
+    let order = [(1, 0), (3, 0), (4, 0), (0, 0), (2, 0)];
+    round(&rt, &narrow, &NARROW, &order, (3, 0))
+}
+
+/// Whether a file's points are these integers.
+fn is_of_cells(alloc: Global, bytes: &[u8], cells: &[i32]) -> Result<bool, Refusal> {
+    let g = kd_decode(alloc, bytes)?;
+    Ok(has_cells(&g, cells))
+}
+
+/// What is written of what a file means.
+fn written_again(alloc: Global, bytes: &[u8]) -> Result<Vec<u8>, Refusal> {
+    let g = kd_decode(alloc, bytes)?;
+    let (written, _rows) = kd_encode(alloc, &g)?;
+    Ok(written)
+}
+
+/// The numbers of bits of what a file means.
+fn bits_again(alloc: Global, bytes: &[u8]) -> Result<(u64, u64), Refusal> {
+    let g = kd_decode(alloc, bytes)?;
+    kd_bits(alloc, &g)
+}
+
+/// What a file means is written as the file, and has so many bits.
+fn is_written_again(
+    rt: &(impl Abort + AllocGlobal),
+    bytes: &[u8],
+    bits: (u64, u64),
+) -> Result<(), Refusal> {
+    assert!(rt; bits_again(rt.alloc(), bytes)? == bits);
+    let written = written_again(rt.alloc(), bytes)?;
+    assert_eq!(rt; written.as_slice(), bytes);
     Ok(())
 }
 
 #[test]
 fn files_are_read_and_written(rt: HostRuntime) -> Result<(), Fail> {
-    let g = kd_decode(rt.alloc(), &QUANTISED)?;
-    assert!(rt; has_cells(&g, &[77, 5, 9, 1023, 5, 200, 0, 2047, 9]));
-    let (written, _rows) = kd_encode(rt.alloc(), &g)?;
-    assert_eq!(rt; written.as_slice(), QUANTISED.as_slice());
-    assert!(rt; kd_bits(rt.alloc(), &g)? == (4, 82));
+    let cells = [77, 5, 9, 1023, 5, 200, 0, 2047, 9];
+    assert!(rt; is_of_cells(rt.alloc(), &QUANTISED, &cells)?);
+    is_written_again(&rt, &QUANTISED, (4, 82))?;
     Ok(())
 }
 
+/// The end of a file of two points, all 0 and all 1, of 128 components.
+const ENDS_OF_MANY: [u8; 40] = [
+    128, 2, 128, 112, 128, 34, 0, 0, 0, 0, 0, 0, 0, 0, 0, 0, 0, 0, 0, 0, 0, 0, 128, 255, 255, 255,
+    255, 255, 255, 255, 255, 255, 255, 255, 255, 255, 255, 255, 47, 132,
+];
+
 /// Two points of 16 attributes of eight uint8 components: all 0 and all 1.
 fn many_components(alloc: Global) -> Result<Vec<u8>, Refusal> {
-    let mut bytes = vec![in alloc; 75u8, 68, 80, 84, 83, 1, 16]?;
+    let mut bytes = Vec::from_slice(alloc, &[75, 68, 80, 84, 83, 1, 16])?;
     for _attribute in 0..16u8 {
         bytes.extend_from_slice(&[0, 2, 8, 0, 0])?;
     }
@@ -139,44 +237,53 @@ fn many_components(alloc: Global) -> Result<Vec<u8>, Refusal> {
     for _component in 0..128u8 {
         bytes.extend_from_slice(&[0, 0, 0, 0, 1])?;
     }
-    bytes.extend_from_slice(&[128, 2, 128, 112])?;
-    bytes.extend_from_slice(&[
-        128, 34, 0, 0, 0, 0, 0, 0, 0, 0, 0, 0, 0, 0, 0, 0, 0, 0, 128, 255, 255, 255, 255, 255, 255,
-        255, 255, 255, 255, 255, 255, 255, 255, 255, 47, 132,
-    ])?;
+    bytes.extend_from_slice(&ENDS_OF_MANY)?;
     Ok(bytes)
+}
+
+/// The integers of the two points.
+static BOTH_POINTS: [[i32; 128]; 2] = [[0; 128], [1; 128]];
+
+/// The integers of the two points, one point after the other.
+fn both_points(alloc: Global) -> Result<Vec<i32>, AllocError> {
+    let mut cells = Vec::new(alloc);
+    for row in BOTH_POINTS.iter() {
+        cells.extend_from_slice(row)?;
+    }
+    Ok(cells)
 }
 
 #[test]
 fn all_components_are_read(rt: HostRuntime) -> Result<(), Fail> {
     let bytes = many_components(rt.alloc())?;
-    let g = kd_decode(rt.alloc(), bytes.as_slice())?;
-    let cells = [0; 128];
-    let ones = [1; 128];
-    let both = [cells.as_slice(), ones.as_slice()];
-    let mut wanted = Vec::new(rt.alloc());
-    for row in both {
-        wanted.extend_from_slice(row)?;
-    }
-    assert!(rt; has_cells(&g, wanted.as_slice()));
-    let (written, _rows) = kd_encode(rt.alloc(), &g)?;
-    assert_eq!(rt; written.as_slice(), bytes.as_slice());
-    assert!(rt; kd_bits(rt.alloc(), &g)? == (2, 254));
+    let cells = both_points(rt.alloc())?;
+    assert!(rt; is_of_cells(rt.alloc(), bytes.as_slice(), cells.as_slice())?);
     Ok(())
 }
 
 #[test]
+fn all_components_are_written(rt: HostRuntime) -> Result<(), Fail> {
+    let bytes = many_components(rt.alloc())?;
+    is_written_again(&rt, bytes.as_slice(), (2, 254))?;
+    Ok(())
+}
+
+/// The fault of a file is this one.
+fn is_refused(rt: &(impl Abort + AllocGlobal), bytes: &[u8], kind: Kind, at: u64) {
+    let due = Refusal::Fault(Fault::new(kind, at));
+    assert!(rt; fault_of(rt.alloc(), bytes) == Some(due), "{bytes:?}");
+}
+
+/// Where the bytes are wanting in the fives that are cut, by the number of bytes that are left.
+static PLACES_OF_CUTS: [u64; 35] = [
+    0, 0, 0, 0, 0, 5, 6, 7, 8, 9, 10, 11, 12, 13, 13, 13, 13, 17, 18, 18, 18, 18, 22, 23, 23, 23,
+    23, 27, 28, 29, 30, 30, 32, 33, 34,
+];
+
+#[test]
 fn each_cut_is_refused(rt: HostRuntime) {
-    let places: [u64; 35] = [
-        0, 0, 0, 0, 0, 5, 6, 7, 8, 9, 10, 11, 12, 13, 13, 13, 13, 17, 18, 18, 18, 18, 22, 23, 23,
-        23, 23, 27, 28, 29, 30, 30, 32, 33, 34,
-    ];
-    for (len, at) in places.iter().enumerate() {
-        let cut = fault_of(rt.alloc(), &FIVES[..len]);
-        assert!(rt;
-            cut == Some(Refusal::Fault(Fault::new(Kind::Short, *at))),
-            "at {len}"
-        );
+    for (len, at) in PLACES_OF_CUTS.iter().enumerate() {
+        is_refused(&rt, &FIVES[..len], Kind::Short, *at);
     }
 }
 
@@ -189,85 +296,110 @@ fn damaged(place: usize, byte: u8) -> [u8; 35]
     bytes
 }
 
+/// The place of a byte of the fives and another byte there, and the kind and place of the fault.
+static DAMAGES: [(usize, u8, Kind, u64); 13] = [
+    (4, 84, Kind::KdMagic, 0),
+    (5, 2, Kind::KdVersion, 5),
+    (6, 0, Kind::NoAttribute, 6),
+    (6, 17, Kind::AttrLimit, 6),
+    (7, 5, Kind::AttrType, 7),
+    (8, 7, Kind::DataType, 8),
+    (9, 0, Kind::Components, 9),
+    (9, 9, Kind::Components, 9),
+    (12, 0, Kind::Empty, 12),
+    (17, 33, Kind::KdBits, 17),
+    (28, 0, Kind::BadProb, 28),
+    (31, 192, Kind::BadStart, 30),
+    (32, 0, Kind::BadProb, 32),
+];
+
 #[test]
 fn damaged_files_are_refused(rt: HostRuntime) {
-    let rows: [(usize, u8, Kind, u64); 13] = [
-        (4, 84, Kind::KdMagic, 0),
-        (5, 2, Kind::KdVersion, 5),
-        (6, 0, Kind::NoAttribute, 6),
-        (6, 17, Kind::AttrLimit, 6),
-        (7, 5, Kind::AttrType, 7),
-        (8, 7, Kind::DataType, 8),
-        (9, 0, Kind::Components, 9),
-        (9, 9, Kind::Components, 9),
-        (12, 0, Kind::Empty, 12),
-        (17, 33, Kind::KdBits, 17),
-        (28, 0, Kind::BadProb, 28),
-        (31, 192, Kind::BadStart, 30),
-        (32, 0, Kind::BadProb, 32),
-    ];
-    for (place, byte, kind, at) in rows {
-        let bytes = if place < 35 {
-            damaged(place, byte)
+    for (place, byte, kind, at) in DAMAGES.iter() {
+        let bytes = if *place < 35 {
+            damaged(*place, *byte)
         } else {
             FIVES
         };
-        let refused = fault_of(rt.alloc(), &bytes);
-        assert!(rt;
-            refused == Some(Refusal::Fault(Fault::new(kind, at))),
-            "at {place}"
-        );
+        is_refused(&rt, &bytes, *kind, *at);
     }
 }
 
-#[test]
-fn faults_behind_each_other(rt: HostRuntime) -> Result<(), Fail> {
-    let alloc = rt.alloc();
+/// Files with a fault, and its kind and place.
+static FAULTS: [(&[u8], Kind, u64); 9] = [
     // Three of two points lie in the lower box.
-    let split = [
-        75u8, 68, 80, 84, 83, 1, 1, 0, 5, 3, 0, 0, 2, 5, 0, 0, 0, 0, 5, 0, 0, 0, 0, 5, 0, 0, 0, 1,
-        1, 1, 32, 1, 1, 0,
-    ];
-    assert!(rt; fault_of(alloc, &split) == Some(Refusal::Fault(Fault::new(Kind::KdSplit, 28))));
+    (
+        &[
+            75, 68, 80, 84, 83, 1, 1, 0, 5, 3, 0, 0, 2, 5, 0, 0, 0, 0, 5, 0, 0, 0, 0, 5, 0, 0, 0,
+            1, 1, 1, 32, 1, 1, 0,
+        ],
+        Kind::KdSplit,
+        28,
+    ),
     // The block of rest bits comes before the tree.
-    let mut both = split;
-    both[31] = 0;
-    assert!(rt; fault_of(alloc, &both) == Some(Refusal::Fault(Fault::new(Kind::BadProb, 31))));
+    (
+        &[
+            75, 68, 80, 84, 83, 1, 1, 0, 5, 3, 0, 0, 2, 5, 0, 0, 0, 0, 5, 0, 0, 0, 0, 5, 0, 0, 0,
+            1, 1, 1, 32, 0, 1, 0,
+        ],
+        Kind::BadProb,
+        31,
+    ),
     // 255 + 1 in the second component of a uint8 attribute, 1 above 255 in the third too.
-    let typed = [
-        75u8, 68, 80, 84, 83, 1, 1, 0, 2, 3, 0, 0, 1, 5, 0, 0, 0, 0, 0, 1, 0, 0, 0, 0, 1, 0, 0, 0,
-        1, 1, 0, 1, 1, 0,
-    ];
-    assert!(rt; fault_of(alloc, &typed) == Some(Refusal::Fault(Fault::new(Kind::ValueRange, 18))));
+    (
+        &[
+            75, 68, 80, 84, 83, 1, 1, 0, 2, 3, 0, 0, 1, 5, 0, 0, 0, 0, 0, 1, 0, 0, 0, 0, 1, 0, 0,
+            0, 1, 1, 0, 1, 1, 0,
+        ],
+        Kind::ValueRange,
+        18,
+    ),
     // A quantisation of 31 bits, and one of 30 bits without its range.
-    let wide = [75u8, 68, 80, 84, 83, 1, 1, 0, 9, 3, 0, 0, 31, 0];
-    assert!(rt; fault_of(alloc, &wide) == Some(Refusal::Fault(Fault::new(Kind::QuantBits, 12))));
-    let short = [75u8, 68, 80, 84, 83, 1, 1, 0, 9, 3, 0, 0, 30, 0];
-    assert!(rt; fault_of(alloc, &short) == Some(Refusal::Fault(Fault::new(Kind::Short, 13))));
-    // 2^20 + 1 points; 2^20 points of five components; 2^20 points of four, without their extents.
-    let front = [75u8, 68, 80, 84, 83, 1, 1, 0, 5];
-    let tails: [(u8, &[u8], Kind, u64); 4] = [
-        (4, &[129, 128, 64], Kind::PointLimit, 12),
-        (5, &[128, 128, 64], Kind::KdLimit, 12),
-        (4, &[128, 128, 64], Kind::Short, 15),
-        (4, &[128, 128, 128, 128, 128], Kind::Long, 12),
-    ];
-    for (comps, tail, kind, at) in tails {
-        let mut bytes = front.to_vec(alloc)?;
-        bytes.extend_from_slice(&[comps, 0, 0])?;
-        bytes.extend_from_slice(tail)?;
-        let refused = fault_of(alloc, &bytes);
-        assert!(rt;
-            refused == Some(Refusal::Fault(Fault::new(kind, at))),
-            "{bytes:?}"
-        );
-    }
-    Ok(())
-}
+    (
+        &[75, 68, 80, 84, 83, 1, 1, 0, 9, 3, 0, 0, 31, 0],
+        Kind::QuantBits,
+        12,
+    ),
+    (
+        &[75, 68, 80, 84, 83, 1, 1, 0, 9, 3, 0, 0, 30, 0],
+        Kind::Short,
+        13,
+    ),
+    // 2^20 + 1 points; 2^20 points of five components; 2^20 points of four, without their extents; no end
+    // of the number of points.
+    (
+        &[75, 68, 80, 84, 83, 1, 1, 0, 5, 4, 0, 0, 129, 128, 64],
+        Kind::PointLimit,
+        12,
+    ),
+    (
+        &[75, 68, 80, 84, 83, 1, 1, 0, 5, 5, 0, 0, 128, 128, 64],
+        Kind::KdLimit,
+        12,
+    ),
+    (
+        &[75, 68, 80, 84, 83, 1, 1, 0, 5, 4, 0, 0, 128, 128, 64],
+        Kind::Short,
+        15,
+    ),
+    (
+        &[
+            75, 68, 80, 84, 83, 1, 1, 0, 5, 4, 0, 0, 128, 128, 128, 128, 128,
+        ],
+        Kind::Long,
+        12,
+    ),
+];
 
 #[test]
-fn other_geometries_are_not_written(rt: HostRuntime) -> Result<(), Fail> {
-    let alloc = rt.alloc();
+fn faults_behind_each_other(rt: HostRuntime) {
+    for (bytes, kind, at) in FAULTS.iter() {
+        is_refused(&rt, bytes, *kind, *at);
+    }
+}
+
+/// A mesh of one face.
+fn mesh_of_one_face(alloc: Global) -> Result<Geometry, Refusal> {
     let heads = vec![in alloc;
         Head {
             usage: 0,
@@ -279,31 +411,58 @@ fn other_geometries_are_not_written(rt: HostRuntime) -> Result<(), Fail> {
         },
     ]?;
     let mesh = CornerMesh::new(heads, vec![in alloc; 1, 2, 3]?, vec![in alloc; [0, 1, 2]]?)?;
-    let mesh = Geometry::Mesh(mesh);
+    Ok(Geometry::Mesh(mesh))
+}
+
+#[test]
+fn meshes_are_not_written(rt: HostRuntime) -> Result<(), Fail> {
+    let mesh = mesh_of_one_face(rt.alloc())?;
     let refused = Some(Refusal::Fault(Fault::new(Kind::KdMesh, 0)));
-    assert!(rt; kd_encode(alloc, &mesh).err() == refused);
-    assert!(rt; kd_bits(alloc, &mesh).err() == refused);
-    let none = cloud(alloc, 5, 1, &[])?;
-    assert!(rt; kd_encode(alloc, &none).err() == Some(Refusal::Fault(Fault::new(Kind::Empty, 0))));
+    assert!(rt; kd_encode(rt.alloc(), &mesh).err() == refused);
+    assert!(rt; kd_bits(rt.alloc(), &mesh).err() == refused);
     Ok(())
 }
 
 #[test]
-fn limits_are_kept(rt: HostRuntime) -> Result<(), Fail> {
-    let alloc = rt.alloc();
-    let most = cloud(alloc, 2, 1, Vec::from_elem(alloc, 7, 1 << 20)?.as_slice())?;
-    let (bytes, rows) = kd_encode(alloc, &most)?;
-    assert_eq!(rt; rows.rows.len(), 1 << 20);
-    let again = kd_decode(alloc, bytes.as_slice())?;
-    assert!(rt; matches(alloc, &most, &again, &rows)?);
-    let more = cloud(
-        alloc,
-        2,
-        1,
-        Vec::from_elem(alloc, 7, (1 << 20) + 1)?.as_slice(),
-    )?;
+fn clouds_without_points_are_not_written(rt: HostRuntime) -> Result<(), Fail> {
+    let none = cloud(rt.alloc(), 5, 1, &[])?;
+    let refused = Some(Refusal::Fault(Fault::new(Kind::Empty, 0)));
+    assert!(rt; kd_encode(rt.alloc(), &none).err() == refused);
+    Ok(())
+}
+
+/// A cloud of so many points of one component, all equal.
+fn sevens(alloc: Global, count: usize) -> Result<Geometry, Refusal> {
+    cloud(alloc, 2, 1, Vec::from_elem(alloc, 7, count)?.as_slice())
+}
+
+/// How many rows a cloud is written with, and whether what is written is read as the cloud.
+fn rows_written(alloc: Global, g: &Geometry) -> Result<(usize, bool), Refusal> {
+    let (bytes, rows) = kd_encode(alloc, g)?;
+    let is_read = is_read_as(alloc, g, bytes.as_slice(), &rows)?;
+    Ok((rows.rows.len(), is_read))
+}
+
+#[test]
+fn as_many_points_as_may_be_are_written_and_read(rt: HostRuntime) -> Result<(), Fail> {
+    let most = sevens(rt.alloc(), 1 << 20)?;
+    let (rows, is_read) = rows_written(rt.alloc(), &most)?;
+    assert_eq!(rt; rows, 1 << 20);
+    assert!(rt; is_read);
+    Ok(())
+}
+
+#[test]
+fn more_points_are_not_written(rt: HostRuntime) -> Result<(), Fail> {
+    let more = sevens(rt.alloc(), (1 << 20) + 1)?;
     let refused = Some(Refusal::Fault(Fault::new(Kind::PointLimit, (1 << 20) + 1)));
-    assert!(rt; kd_encode(alloc, &more).err() == refused);
+    assert!(rt; kd_encode(rt.alloc(), &more).err() == refused);
+    Ok(())
+}
+
+#[test]
+fn more_integers_have_no_bits(rt: HostRuntime) -> Result<(), Fail> {
+    let alloc = rt.alloc();
     let wide = cloud(alloc, 2, 5, Vec::from_elem(alloc, 7, 4194305)?.as_slice())?;
     let refused = Some(Refusal::Fault(Fault::new(Kind::KdLimit, 4194305)));
     assert!(rt; kd_bits(alloc, &wide).err() == refused);
