@@ -1,14 +1,18 @@
 //! Values over small surfaces are written as their bytes, and read back, with ample memory.
 
 ghost use Rattle.std.specs.Prelude.{◌≡◌, ◌<◌, ◌≤◌, [], ◌∷◌, IfOk, length};
+ghost use Rattle.corner_table.specs.Ordered.{IsOrdered};
 ghost use Rattle.predict.specs.Surfaces.{IsOverTable};
 ghost use Rattle.attr_section.specs.Examples.{example_head, surface_values, surface_prediction, surface_positions, surface_decoder};
 
+use crate::attr_section_tests::with_one_behind;
 use attr_section::{DecoderHead, Ordered, Values, read_decoder, write_decoder};
-use drc_base::{Refusal, Sequence};
+use corner_table::{Classes, Order, SideTable};
+use drc_base::{MAX_FACES, Refusal, Sequence};
 use drc_bits::Cursor;
 use mesh_model::Head;
 use std::alloc::{AllocError, Global};
+use std::process::Abort;
 use std::test::Fail;
 use worked_surfaces::{TETRAHEDRON_PAIRS, glued, order_of};
 
@@ -48,6 +52,60 @@ fn decoder(alloc: Global) -> Result<DecoderHead, AllocError>
     })
 }
 
+/// Whether the positions are written over an ordered surface as these bytes.
+fn values_are_written(
+    alloc: Global,
+    on: &Ordered<'_>,
+    closed: bool,
+    many: bool,
+    bytes: &[u8],
+) -> Result<bool, Refusal>
+    requires over { IsOverTable on.now }
+    requires entries { length on.now.order.now.corner_of_entry ≡ 4 }
+{
+    let h = decoder(alloc)?;
+    let given = vec![in alloc; positions(alloc, closed, many)?]?;
+    let mut written = Vec::new(alloc);
+    write_decoder(alloc, &mut written, &h, &given, true, Some(on))?;
+    Ok(written.as_slice() == bytes)
+}
+
+/// Whether these are the positions alone.
+fn are_positions(
+    alloc: Global,
+    closed: bool,
+    many: bool,
+    read: &[Values],
+) -> Result<bool, AllocError> {
+    if read.len() != 1 {
+        return Ok(false);
+    }
+    let given = positions(alloc, closed, many)?;
+    let prediction = (read[0].predict, read[0].at) == (given.predict, 0);
+    Ok(prediction && read[0].values.as_slice() == given.values.as_slice())
+}
+
+/// Whether these bytes, but for the last one, are read over an ordered surface as the positions.
+fn values_are_read(
+    alloc: Global,
+    on: &Ordered<'_>,
+    closed: bool,
+    many: bool,
+    bytes: &[u8],
+) -> Result<bool, Refusal>
+    requires over { IsOverTable on.now }
+    requires entries { length on.now.order.now.corner_of_entry ≡ 4 }
+{
+    let mut h = decoder(alloc)?;
+    let mut c = Cursor::new(bytes);
+    let mut spent = 5;
+    let read = read_decoder(alloc, &mut c, &mut h, 4, Some(on), &mut spent)?;
+    if c.rest().len() != 1 || spent != 17 {
+        return Ok(false);
+    }
+    Ok(are_positions(alloc, closed, many, read.as_slice())?)
+}
+
 /// Whether the positions are written over an ordered surface as these bytes, and these bytes with one
 /// more behind them are read as the positions.
 fn values_both_ways(
@@ -62,71 +120,99 @@ fn values_both_ways(
     if on.order.corner_of_entry.len() != 4 {
         return Ok(false);
     }
-    let mut h = decoder(alloc)?;
-    let given = vec![in alloc; positions(alloc, closed, many)?]?;
-    let mut written = Vec::new(alloc);
-    write_decoder(alloc, &mut written, &h, &given, true, Some(on))?;
-    let mut longer = Vec::new(alloc);
-    longer.extend_from_slice(bytes)?;
-    longer.push(0xff)?;
-    let mut c = Cursor::new(longer.as_slice());
-    let mut spent = 5;
-    let read = read_decoder(alloc, &mut c, &mut h, 4, Some(on), &mut spent)?;
-    if written.as_slice() != bytes || c.rest().len() != 1 || spent != 17 || read.len() != 1 {
+    if !values_are_written(alloc, on, closed, many, bytes)? {
         return Ok(false);
     }
-    let prediction = (read[0].predict, read[0].at) == (given[0].predict, 0);
-    Ok(prediction && read[0].values.as_slice() == given[0].values.as_slice())
+    let longer = with_one_behind(alloc, bytes)?;
+    values_are_read(alloc, on, closed, many, longer.as_slice())
 }
 
-#[test]
-fn one_parallelogram_is_kept(rt: HostRuntime) -> Result<(), Fail> {
-    let alloc = rt.alloc();
-    let sides = glued(alloc, 2, &[(0, 4)])?;
-    let order = order_of(alloc, &sides, &[1, 2, 0, 4])?;
-    let (classes, order) = order.expect(&rt, "corners of the table");
+/// A surface by its pairs of sides, and an order of entries by the corners at which these stand.
+struct Surface {
+    faces: u32,
+    pairs: &'static [(u32, u32)],
+    corners: &'static [u32],
+}
+
+/// Two triangles.
+static TRIANGLES: Surface = Surface {
+    faces: 2,
+    pairs: &[(0, 4)],
+    corners: &[1, 2, 0, 4],
+};
+
+/// A tetrahedron.
+static TETRAHEDRON: Surface = Surface {
+    faces: 4,
+    pairs: &TETRAHEDRON_PAIRS,
+    corners: &[1, 2, 0, 10],
+};
+
+/// The table of a surface, the classes of its corners and its order.
+fn ordered(rt: &impl Abort, alloc: Global, surface: &Surface) -> (SideTable, Classes, Order)
+    ensures { IsOrdered result.0 result.1.of_corner result.2 }
+{
+    assert!(rt; surface.faces <= MAX_FACES && surface.corners.len() < 100);
+    let sides = glued(alloc, surface.faces, surface.pairs).expect(rt, "a table");
+    let order = order_of(alloc, &sides, surface.corners).expect(rt, "ample memory");
+    let (classes, order) = order.expect(rt, "corners of the table");
+    (sides, classes, order)
+}
+
+/// The same over a surface.
+fn both_ways_over(
+    rt: &impl Abort,
+    alloc: Global,
+    surface: &Surface,
+    closed: bool,
+    many: bool,
+    bytes: &[u8],
+) -> Result<bool, Refusal> {
+    let (sides, classes, order) = ordered(rt, alloc, surface);
     let on = Ordered {
         sides: &sides,
         classes: &classes,
         order: &order,
     };
-    let one = [
-        1, 1, 0, 1, 0, 1, 0, 1, 2, 0, 0, 1, 0, 0, 0, 0, 0, 0, 0, 0, 2, 0, 0, 0,
-    ];
-    assert!(&rt; values_both_ways(alloc, &on, false, false, &one)?, "by one");
-    let many = [
-        4, 1, 0, 1, 0, 1, 0, 1, 2, 0, 0, 1, 0, 0, 0, 0, 1, 255, 1, 17, 0, 0, 0, 0, 0, 0, 0, 2, 0,
-        0, 0,
-    ];
-    assert!(&rt;
-        values_both_ways(alloc, &on, false, true, &many)?,
-        "by the mean"
-    );
+    values_both_ways(alloc, &on, closed, many, bytes)
+}
+
+/// The bytes of the positions of two triangles by one parallelogram.
+static KEPT_BY_ONE: [u8; 24] = [
+    1, 1, 0, 1, 0, 1, 0, 1, 2, 0, 0, 1, 0, 0, 0, 0, 0, 0, 0, 0, 2, 0, 0, 0,
+];
+
+/// The bytes of the same by the mean of several.
+static KEPT_BY_MEAN: [u8; 31] = [
+    4, 1, 0, 1, 0, 1, 0, 1, 2, 0, 0, 1, 0, 0, 0, 0, 1, 255, 1, 17, 0, 0, 0, 0, 0, 0, 0, 2, 0, 0, 0,
+];
+
+/// The bytes of the positions of a tetrahedron by one parallelogram.
+static LEFT_OUT_BY_ONE: [u8; 24] = [
+    1, 1, 0, 1, 0, 0, 1, 0, 1, 1, 0, 1, 0, 1, 1, 0, 0, 0, 0, 0, 1, 0, 0, 0,
+];
+
+/// The bytes of the same by the mean of several.
+static LEFT_OUT_BY_MEAN: [u8; 31] = [
+    4, 1, 0, 1, 0, 0, 1, 0, 1, 1, 0, 1, 0, 1, 0, 0, 0, 0, 3, 1, 1, 48, 0, 0, 0, 0, 0, 1, 0, 0, 0,
+];
+
+#[test]
+fn one_parallelogram_is_kept(rt: HostRuntime) -> Result<(), Fail> {
+    let alloc = rt.alloc();
+    let is_so = both_ways_over(&rt, alloc, &TRIANGLES, false, false, &KEPT_BY_ONE)?;
+    assert!(&rt; is_so, "by one");
+    let is_so = both_ways_over(&rt, alloc, &TRIANGLES, false, true, &KEPT_BY_MEAN)?;
+    assert!(&rt; is_so, "by the mean");
     Ok(())
 }
 
 #[test]
 fn three_parallelograms_are_left_out(rt: HostRuntime) -> Result<(), Fail> {
     let alloc = rt.alloc();
-    let sides = glued(alloc, 4, &TETRAHEDRON_PAIRS)?;
-    let order = order_of(alloc, &sides, &[1, 2, 0, 10])?;
-    let (classes, order) = order.expect(&rt, "corners of the table");
-    let on = Ordered {
-        sides: &sides,
-        classes: &classes,
-        order: &order,
-    };
-    let one = [
-        1, 1, 0, 1, 0, 0, 1, 0, 1, 1, 0, 1, 0, 1, 1, 0, 0, 0, 0, 0, 1, 0, 0, 0,
-    ];
-    assert!(&rt; values_both_ways(alloc, &on, true, false, &one)?, "by one");
-    let many = [
-        4, 1, 0, 1, 0, 0, 1, 0, 1, 1, 0, 1, 0, 1, 0, 0, 0, 0, 3, 1, 1, 48, 0, 0, 0, 0, 0, 1, 0, 0,
-        0,
-    ];
-    assert!(&rt;
-        values_both_ways(alloc, &on, true, true, &many)?,
-        "by the mean"
-    );
+    let is_so = both_ways_over(&rt, alloc, &TETRAHEDRON, true, false, &LEFT_OUT_BY_ONE)?;
+    assert!(&rt; is_so, "by one");
+    let is_so = both_ways_over(&rt, alloc, &TETRAHEDRON, true, true, &LEFT_OUT_BY_MEAN)?;
+    assert!(&rt; is_so, "by the mean");
     Ok(())
 }

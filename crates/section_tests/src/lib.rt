@@ -14,4 +14,6 @@ mod eb_section_reading_tests;
 #[cfg(test)]
 mod eb_section_writing_tests;
 #[cfg(test)]
+mod faults;
+#[cfg(test)]
 mod seq_section_tests;

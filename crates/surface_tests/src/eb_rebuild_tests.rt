@@ -4,6 +4,7 @@ ghost use Rattle.std.specs.Prelude.{◌≡◌, ◌<◌, ◌≤◌, length, All, 
 ghost use Rattle.drc_base.specs.declared.limits.TheConstants.{MAX_FACES as most_faces};
 ghost use Rattle.eb_rebuild.specs.Rebuilding.{IsEventOf};
 
+use corner_table::Symbol::{C, E, L, R as Right, S};
 use corner_table::{Event, FREE, Steps, Symbol};
 use drc_base::{Fault, Kind, MAX_FACES, Refusal};
 use eb_rebuild::{Built, LinkRebuild, Rebuild, RowRebuild};
@@ -12,6 +13,9 @@ use std::marker::Brand;
 use std::process::Abort;
 use std::sync::ledger::{Blank, Ledger};
 use worked_surfaces::{RING_DECODED, TETRAHEDRON_DECODED, TORUS_DECODED, has_entries};
+
+/// The symbols of a ring with a hole, as they are decoded.
+const RING_SYMBOLS: [Symbol; 6] = [E, Right, L, Right, L, S];
 
 /// Takes symbols, for which there is room, and no more than are declared.
 fn take_all<R: Rebuild, L: Ledger>(
@@ -89,6 +93,46 @@ fn rebuilt<R: Rebuild, L: Ledger>(
     machine.finish(alloc, &mut steps)
 }
 
+/// The events of a stream of so many symbols, each of which has to be one of it.
+fn events_of(rt: &impl Abort, alloc: Global, listed: &[Event], symbols: u32) -> Vec<Event>
+    ensures { All (IsEventOf symbols) result.items }
+{
+    let mut events = Vec::new(alloc);
+    for event in listed {
+        let event = *event;
+        assert!(rt; event.source < symbols && event.split <= event.source);
+        events.push(event).expect(rt, "room");
+    }
+    events
+}
+
+/// A stream: how many faces and vertices it declares, its symbols, its events, and the bits of its closes.
+struct Stream {
+    plan: (u32, u32),
+    symbols: &'static [Symbol],
+    events: &'static [Event],
+    bits: &'static [bool],
+}
+
+/// What a stream is rebuilt to.
+fn rebuilt_from<R: Rebuild>(
+    rt: &impl Abort,
+    alloc: Global,
+    stream: &Stream,
+) -> Result<Built, Refusal> {
+    let symbols = stream.symbols;
+    assert!(rt; stream.plan.0 <= MAX_FACES && symbols.len() <= stream.plan.0 as usize);
+    let events = events_of(rt, alloc, stream.events, symbols.len() as u32);
+    rebuilt::<R, Brand>(
+        alloc,
+        stream.plan,
+        symbols,
+        events,
+        stream.bits,
+        Blank::new(1),
+    )
+}
+
 /// The rebuilding has the table that is listed.
 fn has_table(rt: &impl Abort, done: Result<Built, Refusal>, across: &[u32]) {
     match done {
@@ -109,153 +153,284 @@ fn told(rt: &impl Abort, done: Result<Built, Refusal>) -> Option<(Kind, u64)> {
     }
 }
 
-/// One event.
-fn one_event(rt: &impl Abort, alloc: Global, source: u32, split: u32, right: bool) -> Vec<Event>
-    ensures { All (λ e. (e.source ≡ source) × (e.split ≡ split)) result.items }
-{
-    let mut events = Vec::new(alloc);
-    let event = Event {
-        source,
-        split,
-        right,
-    };
-    events.push(event).expect(rt, "room");
-    events
-}
-
-/// Surfaces with the tables that they have.
-fn rebuilds<R: Rebuild>(rt: &impl Abort, alloc: Global) {
-    use Symbol::{C, E, L, R as Right, S};
+/// Streams, and the tables of the surfaces that they give.
+static SURFACES: [(Stream, &[u32]); 5] = [
     // A tetrahedron with an interior start face.
-    let none = Vec::new(alloc);
-    let done = rebuilt::<R, Brand>(alloc, (4, 4), &[E, Right, C], none, &[true], Blank::new(1));
-    has_table(rt, done, &TETRAHEDRON_DECODED);
+    (
+        Stream {
+            plan: (4, 4),
+            symbols: &[E, Right, C],
+            events: &[],
+            bits: &[true],
+        },
+        &TETRAHEDRON_DECODED,
+    ),
     // A ring with a hole, which needs an event.
-    let ring = [E, Right, L, Right, L, S];
-    let events = one_event(rt, alloc, 5, 0, true);
-    let done = rebuilt::<R, Brand>(alloc, (6, 7), &ring, events, &[false], Blank::new(1));
-    has_table(rt, done, &RING_DECODED);
+    (
+        Stream {
+            plan: (6, 7),
+            symbols: &RING_SYMBOLS,
+            events: &[Event {
+                source: 5,
+                split: 0,
+                right: true,
+            }],
+            bits: &[false],
+        },
+        &RING_DECODED,
+    ),
     // A torus, which needs two.
-    let torus = [E, E, L, S, Right, L, S, S, Right, C, C, C, C];
-    let mut events = one_event(rt, alloc, 11, 6, false);
-    let second = Event {
-        source: 12,
-        split: 5,
-        right: true,
-    };
-    events.push(second).expect(rt, "room");
-    let done = rebuilt::<R, Brand>(alloc, (14, 10), &torus, events, &[true], Blank::new(1));
-    has_table(rt, done, &TORUS_DECODED);
+    (
+        Stream {
+            plan: (14, 10),
+            symbols: &[E, E, L, S, Right, L, S, S, Right, C, C, C, C],
+            events: &[
+                Event {
+                    source: 11,
+                    split: 6,
+                    right: false,
+                },
+                Event {
+                    source: 12,
+                    split: 5,
+                    right: true,
+                },
+            ],
+            bits: &[true],
+        },
+        &TORUS_DECODED,
+    ),
     // Two faces apart, and a third at one of them.
-    let none = Vec::new(alloc);
-    let done = rebuilt::<R, Brand>(alloc, (2, 6), &[E, E], none, &[], Blank::new(1));
-    has_table(rt, done, &[FREE, FREE, FREE, FREE, FREE, FREE]);
-    let none = Vec::new(alloc);
-    let done = rebuilt::<R, Brand>(alloc, (3, 7), &[E, E, Right], none, &[], Blank::new(1));
-    let across = [FREE, FREE, FREE, 8, FREE, FREE, FREE, FREE, 3];
-    has_table(rt, done, &across);
-}
+    (
+        Stream {
+            plan: (2, 6),
+            symbols: &[E, E],
+            events: &[],
+            bits: &[],
+        },
+        &[FREE, FREE, FREE, FREE, FREE, FREE],
+    ),
+    (
+        Stream {
+            plan: (3, 7),
+            symbols: &[E, E, Right],
+            events: &[],
+            bits: &[],
+        },
+        &[FREE, FREE, FREE, 8, FREE, FREE, FREE, FREE, 3],
+    ),
+];
 
 /// Streams with one fault each at a symbol.
-fn refuses_symbols<R: Rebuild>(rt: &impl Abort, alloc: Global) {
-    use Symbol::{C, E, L, R as Right, S};
+static FAULTS_AT_SYMBOLS: [(Stream, (Kind, u64)); 7] = [
     // A ring with a hole, without its event.
-    let ring = [E, Right, L, Right, L, S];
-    let none = Vec::new(alloc);
-    let done = rebuilt::<R, Brand>(alloc, (6, 7), &ring, none, &[false], Blank::new(1));
-    assert!(rt; told(rt, done) == Some((Kind::NoActive, 5)));
+    (
+        Stream {
+            plan: (6, 7),
+            symbols: &RING_SYMBOLS,
+            events: &[],
+            bits: &[false],
+        },
+        (Kind::NoActive, 5),
+    ),
     // An S without an event, over a stack of one side.
-    let none = Vec::new(alloc);
-    let done = rebuilt::<R, Brand>(alloc, (2, 5), &[E, S], none, &[], Blank::new(1));
-    assert!(rt; told(rt, done) == Some((Kind::NoActive, 1)));
+    (
+        Stream {
+            plan: (2, 5),
+            symbols: &[E, S],
+            events: &[],
+            bits: &[],
+        },
+        (Kind::NoActive, 1),
+    ),
     // Two events that keep a side for one S.
-    let mut events = one_event(rt, alloc, 5, 0, true);
-    let again = Event {
-        source: 5,
-        split: 0,
-        right: true,
-    };
-    events.push(again).expect(rt, "room");
-    let done = rebuilt::<R, Brand>(alloc, (6, 7), &ring, events, &[], Blank::new(1));
-    assert!(rt; told(rt, done) == Some((Kind::Taken, 0)));
+    (
+        Stream {
+            plan: (6, 7),
+            symbols: &RING_SYMBOLS,
+            events: &[
+                Event {
+                    source: 5,
+                    split: 0,
+                    right: true,
+                },
+                Event {
+                    source: 5,
+                    split: 0,
+                    right: true,
+                },
+            ],
+            bits: &[],
+        },
+        (Kind::Taken, 0),
+    ),
     // A side that is kept is one with the top.
-    let events = one_event(rt, alloc, 1, 0, false);
-    let done = rebuilt::<R, Brand>(alloc, (2, 4), &[E, S], events, &[], Blank::new(1));
-    assert!(rt; told(rt, done) == Some((Kind::SamePoint, 1)));
+    (
+        Stream {
+            plan: (2, 4),
+            symbols: &[E, S],
+            events: &[Event {
+                source: 1,
+                split: 0,
+                right: false,
+            }],
+            bits: &[],
+        },
+        (Kind::SamePoint, 1),
+    ),
     // The kept side is glued when it is needed.
-    let events = one_event(rt, alloc, 2, 0, false);
-    let done = rebuilt::<R, Brand>(alloc, (3, 4), &[E, C, S], events, &[], Blank::new(1));
-    assert!(rt; told(rt, done) == Some((Kind::Gone, 2)));
+    (
+        Stream {
+            plan: (3, 4),
+            symbols: &[E, C, S],
+            events: &[Event {
+                source: 2,
+                split: 0,
+                right: false,
+            }],
+            bits: &[],
+        },
+        (Kind::Gone, 2),
+    ),
     // An event that is due before its symbol.
-    let events = one_event(rt, alloc, 1, 0, false);
-    let done = rebuilt::<R, Brand>(alloc, (3, 5), &[E, C, Right], events, &[], Blank::new(1));
-    assert!(rt; told(rt, done) == Some((Kind::EventOrder, 2)));
+    (
+        Stream {
+            plan: (3, 5),
+            symbols: &[E, C, Right],
+            events: &[Event {
+                source: 1,
+                split: 0,
+                right: false,
+            }],
+            bits: &[],
+        },
+        (Kind::EventOrder, 2),
+    ),
     // The top side is alone in its loop.
-    let none = Vec::new(alloc);
-    let done = rebuilt::<R, Brand>(alloc, (4, 3), &[E, C, C, C], none, &[], Blank::new(1));
-    assert!(rt; told(rt, done) == Some((Kind::Alone, 3)));
-}
+    (
+        Stream {
+            plan: (4, 3),
+            symbols: &[E, C, C, C],
+            events: &[],
+            bits: &[],
+        },
+        (Kind::Alone, 3),
+    ),
+];
 
 /// Streams with one fault each at a close or at the end.
-fn refuses_ends<R: Rebuild>(rt: &impl Abort, alloc: Global) {
-    use Symbol::{C, E, L, R as Right, S};
+static FAULTS_AT_ENDS: [(Stream, (Kind, u64)); 9] = [
     // An interior face over a loop of four sides.
-    let none = Vec::new(alloc);
-    let done = rebuilt::<R, Brand>(alloc, (3, 4), &[E, Right], none, &[true], Blank::new(1));
-    assert!(rt; told(rt, done) == Some((Kind::Loop, 2)));
+    (
+        Stream {
+            plan: (3, 4),
+            symbols: &[E, Right],
+            events: &[],
+            bits: &[true],
+        },
+        (Kind::Loop, 2),
+    ),
     // The same over a ring, with the event of the other side.
-    let ring = [E, Right, L, Right, L, S];
-    let events = one_event(rt, alloc, 5, 0, false);
-    let done = rebuilt::<R, Brand>(alloc, (6, 7), &ring, events, &[true], Blank::new(1));
-    assert!(rt; told(rt, done) == Some((Kind::Loop, 6)));
+    (
+        Stream {
+            plan: (6, 7),
+            symbols: &RING_SYMBOLS,
+            events: &[Event {
+                source: 5,
+                split: 0,
+                right: false,
+            }],
+            bits: &[true],
+        },
+        (Kind::Loop, 6),
+    ),
     // A side that waits to be closed is one that an event kept, and that an S glued.
-    let events = one_event(rt, alloc, 3, 1, true);
-    let done = rebuilt::<R, Brand>(
-        alloc,
-        (5, 20),
-        &[E, E, S, C],
-        events,
-        &[false, true],
-        Blank::new(1),
-    );
-    assert!(rt; told(rt, done) == Some((Kind::Gone, 5)));
+    (
+        Stream {
+            plan: (5, 20),
+            symbols: &[E, E, S, C],
+            events: &[Event {
+                source: 3,
+                split: 1,
+                right: true,
+            }],
+            bits: &[false, true],
+        },
+        (Kind::Gone, 5),
+    ),
     // An interior face more than are declared.
-    let none = Vec::new(alloc);
-    let done = rebuilt::<R, Brand>(alloc, (3, 4), &[E, Right, C], none, &[true], Blank::new(1));
-    assert!(rt; told(rt, done) == Some((Kind::FaceCount, 3)));
+    (
+        Stream {
+            plan: (3, 4),
+            symbols: &[E, Right, C],
+            events: &[],
+            bits: &[true],
+        },
+        (Kind::FaceCount, 3),
+    ),
     // Two corners of a face are one vertex, with a lone side glued; and the same without the last
     // symbol, its loop to be filled.
-    let none = Vec::new(alloc);
-    let done = rebuilt::<R, Brand>(
-        alloc,
-        (5, 9),
-        &[E, C, C, Right, C],
-        none,
-        &[],
-        Blank::new(1),
-    );
-    assert!(rt; told(rt, done) == Some((Kind::Degenerate, 2)));
-    let none = Vec::new(alloc);
-    let done = rebuilt::<R, Brand>(
-        alloc,
-        (4, 9),
-        &[E, C, C, Right],
-        none,
-        &[true],
-        Blank::new(1),
-    );
-    assert!(rt; told(rt, done) == Some((Kind::Loop, 4)));
+    (
+        Stream {
+            plan: (5, 9),
+            symbols: &[E, C, C, Right, C],
+            events: &[],
+            bits: &[],
+        },
+        (Kind::Degenerate, 2),
+    ),
+    (
+        Stream {
+            plan: (4, 9),
+            symbols: &[E, C, C, Right],
+            events: &[],
+            bits: &[true],
+        },
+        (Kind::Loop, 4),
+    ),
     // The same face by fewer symbols.
-    let none = Vec::new(alloc);
-    let done = rebuilt::<R, Brand>(alloc, (3, 3), &[E, C, C], none, &[false], Blank::new(1));
-    assert!(rt; told(rt, done) == Some((Kind::Degenerate, 2)));
+    (
+        Stream {
+            plan: (3, 3),
+            symbols: &[E, C, C],
+            events: &[],
+            bits: &[false],
+        },
+        (Kind::Degenerate, 2),
+    ),
     // Fewer faces than are declared, and more vertices.
-    let none = Vec::new(alloc);
-    let done = rebuilt::<R, Brand>(alloc, (2, 3), &[E], none, &[false], Blank::new(1));
-    assert!(rt; told(rt, done) == Some((Kind::FaceCount, 1)));
-    let none = Vec::new(alloc);
-    let done = rebuilt::<R, Brand>(alloc, (1, 2), &[E], none, &[false], Blank::new(1));
-    assert!(rt; told(rt, done) == Some((Kind::VertexCount, 3)));
+    (
+        Stream {
+            plan: (2, 3),
+            symbols: &[E],
+            events: &[],
+            bits: &[false],
+        },
+        (Kind::FaceCount, 1),
+    ),
+    (
+        Stream {
+            plan: (1, 2),
+            symbols: &[E],
+            events: &[],
+            bits: &[false],
+        },
+        (Kind::VertexCount, 3),
+    ),
+];
+
+/// Streams give the tables of their surfaces.
+fn rebuilds<R: Rebuild>(rt: &impl Abort, alloc: Global) {
+    for (stream, across) in SURFACES.iter() {
+        has_table(rt, rebuilt_from::<R>(rt, alloc, stream), across);
+    }
+}
+
+/// Streams are refused, each for the fault that is listed.
+fn refuses<R: Rebuild>(rt: &impl Abort, alloc: Global, faults: &[(Stream, (Kind, u64))]) {
+    for (stream, fault) in faults {
+        assert!(rt; told(rt, rebuilt_from::<R>(rt, alloc, stream)) == Some(*fault));
+    }
 }
 
 /// The degree of the vertex at which the top side starts, after some symbols. As many faces and symbols
@@ -288,7 +463,6 @@ fn degree_of<R: Rebuild>(alloc: Global, symbols: &[Symbol]) -> Result<u32, Refus
 
 /// Degrees after a few symbols.
 fn counts_degrees<R: Rebuild>(rt: &impl Abort, alloc: Global) {
-    use Symbol::{C, E, L, R as Right, S};
     assert!(rt; degree_of::<R>(alloc, &[E]) == Ok(2));
     assert!(rt; degree_of::<R>(alloc, &[E, Right]) == Ok(3));
     assert!(rt; degree_of::<R>(alloc, &[E, Right, L]) == Ok(2));
@@ -339,13 +513,13 @@ fn rows_count_degrees(rt: HostRuntime) {
 #[test]
 fn links_rebuild_and_refuse(rt: HostRuntime) {
     rebuilds::<LinkRebuild>(&rt, rt.alloc());
-    refuses_symbols::<LinkRebuild>(&rt, rt.alloc());
-    refuses_ends::<LinkRebuild>(&rt, rt.alloc());
+    refuses::<LinkRebuild>(&rt, rt.alloc(), &FAULTS_AT_SYMBOLS);
+    refuses::<LinkRebuild>(&rt, rt.alloc(), &FAULTS_AT_ENDS);
 }
 
 #[test]
 fn rows_rebuild_and_refuse(rt: HostRuntime) {
     rebuilds::<RowRebuild>(&rt, rt.alloc());
-    refuses_symbols::<RowRebuild>(&rt, rt.alloc());
-    refuses_ends::<RowRebuild>(&rt, rt.alloc());
+    refuses::<RowRebuild>(&rt, rt.alloc(), &FAULTS_AT_SYMBOLS);
+    refuses::<RowRebuild>(&rt, rt.alloc(), &FAULTS_AT_ENDS);
 }

@@ -3,10 +3,13 @@
 
 ghost use Rattle.std.specs.Prelude.{◌≡◌, ◌<◌, ◌≤◌, ℕ, All, OnOk, IsTrue, length};
 ghost use Rattle.drc_base.specs.declared.limits.TheConstants.{MAX_FACES as most_faces};
+ghost use Rattle.corner_table.specs.Carried.{IsRenumbering};
+ghost use Rattle.corner_table.specs.Fans.{IsProper};
+ghost use Rattle.corner_table.specs.Table.{gluing_of};
 ghost use Rattle.eb_rebuild.specs.Rebuilding.{IsEventOf};
 
 use corner_table::{SideTable, Steps, Symbol};
-use drc_base::Refusal;
+use drc_base::{Memory, Refusal};
 use eb_rebuild::{Built, Rebuild, RowRebuild};
 use eb_trace::{Traced, trace};
 use pairing::pair;
@@ -117,65 +120,167 @@ fn have_same_entries<L: Ledger>(a: &SideTable, b: &SideTable, blank: Blank) -> b
     a.across(&mut steps) == b.across(&mut steps)
 }
 
-/// Walks over a surface, rebuilds it, and compares both tables and the numbers of vertices.
-fn comes_back<L: Ledger>(
+/// A table has so many vertices.
+fn has_vertices<L: Ledger>(
     rt: &impl Abort,
     alloc: Global,
-    points: u8,
-    faces: &[[u32; 3]],
+    table: &SideTable,
+    vertices: u32,
     blank: Blank,
-) -> Result<(), Refusal>
+) -> Result<(), Memory>
     requires name { blank.name ≡ L.name }
     requires parts { blank.parts ≡ L.parts }
     requires some { 0 < L.parts }
 {
     let mut steps = Steps::<L>::new(blank);
-    let table = pair(alloc, &mesh_of(alloc, points, faces)?)?;
-    let traced = trace(alloc, &table)?;
-    let turned = table.renumbered(alloc, traced.order.as_slice(), &mut steps)?;
-    let count = table.face_count();
-    let built = rebuilt::<RowRebuild, Brand>(rt, alloc, count, &traced, Blank::new(1))?;
-    assert!(rt; have_same_entries::<Brand>(built.table(), &turned, Blank::new(1)));
-    let classes = built.table().label_vertices(alloc, &mut steps)?;
-    assert!(rt; classes.count == traced.vertices);
+    let classes = table.label_vertices(alloc, &mut steps)?;
+    assert!(rt; classes.count == vertices);
     Ok(())
 }
+
+/// A table under other numbers, by the rows that list its faces.
+fn turned<L: Ledger>(
+    alloc: Global,
+    table: &SideTable,
+    rows: &[(u32, u8)],
+    blank: Blank,
+) -> Result<SideTable, Memory>
+    requires rows { IsRenumbering table.now.faces rows.now }
+    requires name { blank.name ≡ L.name }
+    requires parts { blank.parts ≡ L.parts }
+    requires some { 0 < L.parts }
+{
+    let mut steps = Steps::<L>::new(blank);
+    table.renumbered(alloc, rows, &mut steps)
+}
+
+/// What a walk noted of so many faces is rebuilt to a table that has the entries of this one and the walk's number
+/// of vertices.
+fn is_rebuilt(
+    rt: &impl Abort,
+    alloc: Global,
+    faces: u32,
+    traced: &Traced,
+    due: &SideTable,
+) -> Result<(), Refusal>
+    requires faces { faces ≤ most_faces }
+    requires few { length traced.now.symbols ≤ faces }
+    requires events { All (IsEventOf (length traced.now.symbols)) traced.now.events }
+{
+    let built = rebuilt::<RowRebuild, Brand>(rt, alloc, faces, traced, Blank::new(1))?;
+    let table = built.table();
+    assert!(rt; have_same_entries::<Brand>(table, due, Blank::new(1)));
+    has_vertices::<Brand>(rt, alloc, table, traced.vertices, Blank::new(1))?;
+    Ok(())
+}
+
+/// Walks over a surface, rebuilds it, and compares both tables and the numbers of vertices.
+fn table_comes_back(rt: &impl Abort, alloc: Global, table: &SideTable) -> Result<(), Refusal>
+    requires { IsProper table.now.faces (gluing_of table.now) }
+{
+    let traced = trace(alloc, table)?;
+    let due = turned::<Brand>(alloc, table, traced.order.as_slice(), Blank::new(1))?;
+    let faces = table.face_count();
+    is_rebuilt(rt, alloc, faces, &traced, &due)
+}
+
+/// Pairs the sides of faces, and the surface comes back.
+fn comes_back(
+    rt: &impl Abort,
+    alloc: Global,
+    points: u8,
+    faces: &[[u32; 3]],
+) -> Result<(), Refusal> {
+    let table = pair(alloc, &mesh_of(alloc, points, faces)?)?;
+    table_comes_back(rt, alloc, &table)
+}
+
+/// An octahedron.
+const OCTAHEDRON: [[u32; 3]; 8] = [
+    [0, 2, 4],
+    [2, 1, 4],
+    [1, 3, 4],
+    [3, 0, 4],
+    [2, 0, 5],
+    [1, 2, 5],
+    [3, 1, 5],
+    [0, 3, 5],
+];
+
+/// Surfaces by the number of their points and their faces.
+static LISTED: [(u8, &[[u32; 3]]); 8] = [
+    (3, &[[0, 1, 2]]),
+    (4, &SQUARE),
+    // Two parts share a point.
+    (5, &[[0, 1, 2], [2, 3, 4]]),
+    (4, &TETRAHEDRON),
+    (6, &OCTAHEDRON),
+    (7, &TORUS),
+    (6, &RING),
+    (5, &BOOK),
+];
 
 #[test]
 fn surfaces_come_back(rt: HostRuntime) -> Result<(), Fail> {
     let alloc = rt.alloc();
-    let octahedron = [
-        [0, 2, 4],
-        [2, 1, 4],
-        [1, 3, 4],
-        [3, 0, 4],
-        [2, 0, 5],
-        [1, 2, 5],
-        [3, 1, 5],
-        [0, 3, 5],
-    ];
+    for (points, faces) in LISTED.iter() {
+        comes_back(&rt, alloc, *points, faces)?;
+    }
+    Ok(())
+}
+
+#[test]
+fn a_fan_comes_back(rt: HostRuntime) -> Result<(), Fail> {
+    let alloc = rt.alloc();
     let around = fan(alloc, 40)?;
-    let plain = grid(alloc, (5, 4), (4, 3), &[])?;
-    let closed = grid(alloc, (3, 4), (3, 4), &[])?;
-    let four_holes = grid(alloc, (6, 6), (5, 5), &[(1, 1), (3, 1), (1, 3), (3, 3)])?;
-    let three_holes = grid(alloc, (8, 4), (7, 3), &[(1, 1), (3, 1), (5, 1)])?;
-    for (points, faces) in [
-        (3u8, [[0, 1, 2]].as_slice()),
-        (4, &SQUARE),
-        // Two parts share a point.
-        (5, &[[0, 1, 2], [2, 3, 4]]),
-        (4, &TETRAHEDRON),
-        (6, &octahedron),
-        (7, &TORUS),
-        (6, &RING),
-        (5, &BOOK),
-        (41, around.as_slice()),
-        (20, plain.as_slice()),
-        (12, closed.as_slice()),
-        (36, four_holes.as_slice()),
-        (32, three_holes.as_slice()),
-    ] {
-        comes_back::<Brand>(&rt, alloc, points, faces, Blank::new(1))?;
+    comes_back(&rt, alloc, 41, around.as_slice())?;
+    Ok(())
+}
+
+/// A grid by its columns and rows of points and of cells and its holes.
+struct Grid {
+    points: (u8, u8),
+    cells: (u8, u8),
+    holes: &'static [(u8, u8)],
+}
+
+/// Grids: a plain one, one that closes round in both directions, and with four and three holes.
+static GRIDS: [Grid; 4] = [
+    Grid {
+        points: (5, 4),
+        cells: (4, 3),
+        holes: &[],
+    },
+    Grid {
+        points: (3, 4),
+        cells: (3, 4),
+        holes: &[],
+    },
+    Grid {
+        points: (6, 6),
+        cells: (5, 5),
+        holes: &[(1, 1), (3, 1), (1, 3), (3, 3)],
+    },
+    Grid {
+        points: (8, 4),
+        cells: (7, 3),
+        holes: &[(1, 1), (3, 1), (5, 1)],
+    },
+];
+
+/// A grid comes back.
+fn grid_comes_back(rt: &impl Abort, alloc: Global, told: &Grid) -> Result<(), Refusal> {
+    let (columns, rows) = told.points;
+    assert!(rt; 0 < columns && columns < 16 && 0 < rows && rows < 16);
+    let faces = grid(alloc, told.points, told.cells, told.holes)?;
+    comes_back(rt, alloc, columns * rows, faces.as_slice())
+}
+
+#[test]
+fn grids_come_back(rt: HostRuntime) -> Result<(), Fail> {
+    let alloc = rt.alloc();
+    for told in GRIDS.iter() {
+        grid_comes_back(&rt, alloc, told)?;
     }
     Ok(())
 }

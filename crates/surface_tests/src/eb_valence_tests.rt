@@ -13,11 +13,20 @@ use std::test::Fail;
 use worked_surfaces::TORUS_EVENTS;
 
 /// Compares the lists of all contexts.
-fn has_lists(rt: &impl Abort, lists: &ContextLists, wanted: [&[u32]; 6]) {
+fn has_lists(rt: &impl Abort, lists: &ContextLists, wanted: &[&[u32]; 6]) {
     for context in 0..6 {
         assert!(rt; lists.list(context) == wanted[context]);
     }
 }
+
+/// The lists of no symbols.
+static NO_LISTS: [&[u32]; 6] = [&[], &[], &[], &[], &[], &[]];
+
+/// The lists of a tetrahedron.
+static TETRAHEDRON_LISTS: [&[u32]; 6] = [&[3], &[0], &[], &[], &[], &[]];
+
+/// The lists of a torus.
+static TORUS_LISTS: [&[u32]; 6] = [&[1, 1, 2, 4], &[1, 3], &[2], &[3], &[0, 0, 0, 0], &[]];
 
 /// Notes the symbols of worked surfaces, and compares their lists.
 fn notes<Count: Ledger>(rt: &impl Abort, alloc: Global, blank: Blank) -> Result<(), Memory>
@@ -28,20 +37,16 @@ fn notes<Count: Ledger>(rt: &impl Abort, alloc: Global, blank: Blank) -> Result<
     use Symbol::{C, E, L, R, S};
     let mut steps = Steps::<Count>::new(blank);
     let none = contexts_of(alloc, &[], &[], &mut steps)?;
-    has_lists(rt, &none, [&[], &[], &[], &[], &[], &[]]);
+    has_lists(rt, &none, &NO_LISTS);
     let tetrahedron = contexts_of(alloc, &[C, R, E], &[], &mut steps)?;
-    has_lists(rt, &tetrahedron, [&[3], &[0], &[], &[], &[], &[]]);
+    has_lists(rt, &tetrahedron, &TETRAHEDRON_LISTS);
     let torus = contexts_of(
         alloc,
         &[C, C, C, C, R, S, S, L, R, S, L, E, E],
         &TORUS_EVENTS,
         &mut steps,
     )?;
-    has_lists(
-        rt,
-        &torus,
-        [&[1, 1, 2, 4], &[1, 3], &[2], &[3], &[0, 0, 0, 0], &[]],
-    );
+    has_lists(rt, &torus, &TORUS_LISTS);
     Ok(())
 }
 
@@ -63,24 +68,27 @@ fn worked(alloc: Global) -> Result<ContextLists, AllocError> {
     ]))
 }
 
+/// The degrees that are asked for in turn, and what is answered to each.
+static ANSWERS: [(Option<u32>, Result<Symbol, Kind>); 12] = [
+    (None, Ok(Symbol::E)),
+    (Some(2), Ok(Symbol::R)),
+    (Some(0), Ok(Symbol::S)),
+    (Some(3), Ok(Symbol::C)),
+    (Some(3), Err(Kind::ContextEmpty)),
+    (Some(4), Err(Kind::ContextEmpty)),
+    (Some(7), Ok(Symbol::L)),
+    (Some(900), Ok(Symbol::E)),
+    (Some(8), Err(Kind::ContextEmpty)),
+    (Some(1), Err(Kind::BadSymbol)),
+    (Some(2), Err(Kind::BadSymbol)),
+    (None, Ok(Symbol::E)),
+];
+
 #[test]
 fn reads_from_the_backs(rt: HostRuntime) -> Result<(), Fail> {
     let mut reader = ContextReader::new(worked(rt.alloc())?);
-    for (degree, symbol) in [
-        (None, Ok(Symbol::E)),
-        (Some(2), Ok(Symbol::R)),
-        (Some(0), Ok(Symbol::S)),
-        (Some(3), Ok(Symbol::C)),
-        (Some(3), Err(Kind::ContextEmpty)),
-        (Some(4), Err(Kind::ContextEmpty)),
-        (Some(7), Ok(Symbol::L)),
-        (Some(900), Ok(Symbol::E)),
-        (Some(8), Err(Kind::ContextEmpty)),
-        (Some(1), Err(Kind::BadSymbol)),
-        (Some(2), Err(Kind::BadSymbol)),
-        (None, Ok(Symbol::E)),
-    ] {
-        assert!(&rt; reader.next(degree) == symbol);
+    for (degree, symbol) in ANSWERS.iter() {
+        assert!(&rt; reader.next(*degree) == *symbol);
     }
     Ok(())
 }

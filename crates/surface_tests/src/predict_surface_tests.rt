@@ -2,9 +2,11 @@
 
 ghost use Rattle.std.specs.Prelude.{◌≡◌, ◌*◌, ◌<◌, ◌≤◌, ◌≤ℤ◌, IsTrue, length};
 ghost use Rattle.std.specs.List.{All};
+ghost use Rattle.corner_table.specs.Ordered.{IsOrdered};
 ghost use Rattle.predict.specs.Surfaces.{IsOverTable};
 
-use drc_base::{Kind, Sequence};
+use corner_table::{Classes, Order, SideTable};
+use drc_base::{Kind, MAX_FACES, Sequence};
 use predict::{
     Flags, Ordered, Wrap, correct_multi, correct_parallelogram, restore_multi,
     restore_parallelogram,
@@ -29,8 +31,98 @@ fn all_within(v: &[i32], low: i32, high: i32) -> bool
     true
 }
 
+/// A surface by its pairs of sides, and an order of entries by the corners at which these stand.
+struct Surface {
+    faces: u32,
+    pairs: &'static [(u32, u32)],
+    corners: &'static [u32],
+}
+
+/// A tetrahedron.
+static TETRAHEDRON: Surface = Surface {
+    faces: 4,
+    pairs: &[(0, 8), (1, 11), (2, 5), (3, 10), (4, 6), (7, 9)],
+    corners: &[1, 2, 0, 5],
+};
+
+/// Two faces, of which the parallelogram comes before the last entry.
+static EARLIER: Surface = Surface {
+    faces: 2,
+    pairs: &[(0, 4)],
+    corners: &[1, 2, 0, 4],
+};
+
+/// Two faces, of which the parallelogram comes later.
+static LATER: Surface = Surface {
+    faces: 2,
+    pairs: &[(0, 4)],
+    corners: &[1, 2, 4, 0],
+};
+
+/// The table of a surface, the classes of its corners and its order.
+fn ordered(rt: &impl Abort, alloc: Global, surface: &Surface) -> (SideTable, Classes, Order)
+    ensures { IsOrdered result.0 result.1.of_corner result.2 }
+{
+    assert!(rt; surface.faces <= MAX_FACES && surface.corners.len() < 100);
+    let sides = glued(alloc, surface.faces, surface.pairs).expect(rt, "a table");
+    let order = order_of(alloc, &sides, surface.corners).expect(rt, "ample memory");
+    let (classes, order) = order.expect(rt, "corners of the table");
+    (sides, classes, order)
+}
+
+/// Values are restored from their corrections by one parallelogram.
+fn come_back_by_one(
+    rt: &impl Abort,
+    alloc: Global,
+    on: &Ordered<'_>,
+    wrap: &Wrap,
+    comps: u32,
+    corrections: &[i32],
+    v: &[i32],
+)
+    requires some { 0 < comps }
+    requires over { IsOverTable on.now }
+    requires whole { length v.now ≡ length on.now.order.now.corner_of_entry * comps }
+{
+    let mut again = Vec::from_slice(alloc, corrections).expect(rt, "a copy");
+    assert!(rt; again.len() == v.len());
+    restore_parallelogram(wrap, comps, on, again.as_mut_slice());
+    assert!(rt; again.as_slice() == v);
+}
+
+/// Values are restored from their corrections by several parallelograms, with these flags.
+fn come_back_by_several(
+    rt: &impl Abort,
+    alloc: Global,
+    on: &Ordered<'_>,
+    wrap: &Wrap,
+    comps: u32,
+    flags: &Flags,
+    corrections: &[i32],
+    v: &[i32],
+)
+    requires some { 0 < comps }
+    requires over { IsOverTable on.now }
+    requires whole { length v.now ≡ length on.now.order.now.corner_of_entry * comps }
+{
+    let mut again = Vec::from_slice(alloc, corrections).expect(rt, "a copy");
+    assert!(rt; again.len() == v.len());
+    assert!(rt; restore_multi(wrap, comps, on, flags, again.as_mut_slice()).is_ok());
+    assert!(rt; again.as_slice() == v);
+}
+
+/// How many values there are over an order, with so many of each entry.
+fn count_of(rt: &impl Abort, on: &Ordered<'_>, comps: u32) -> usize
+    ensures some { 0 < comps }
+    ensures count { result ≡ length on.now.order.now.corner_of_entry * comps }
+{
+    let entries = on.order.corner_of_entry.len();
+    assert!(rt; comps > 0 && comps < 9 && entries < 100);
+    entries * comps as usize
+}
+
 /// The corrections by one and by several parallelograms and the flags, after it was seen that the
-/// values are restored from them, with flags left over too, and that missing flags are refused.
+/// values are restored from them.
 fn told(
     rt: &impl Abort,
     alloc: Global,
@@ -43,21 +135,30 @@ fn told(
 {
     let wrap = Wrap::new(range.0, range.1).expect(rt, "a range");
     assert!(rt; all_within(v, range.0, range.1));
-    let entries = on.order.corner_of_entry.len();
-    assert!(rt; comps > 0 && comps < 9 && entries < 100);
-    let count = entries * comps as usize;
-    assert!(rt; v.len() == count);
+    assert!(rt; v.len() == count_of(rt, on, comps));
     let one = correct_parallelogram(alloc, &wrap, comps, on, v).expect(rt, "corrections");
-    let mut again = Vec::from_slice(alloc, &one).expect(rt, "a copy");
-    assert!(rt; again.len() == count);
-    restore_parallelogram(&wrap, comps, on, again.as_mut_slice());
-    assert!(rt; again.as_slice() == v);
+    come_back_by_one(rt, alloc, on, &wrap, comps, one.as_slice(), v);
     let (many, flags) = correct_multi(alloc, &wrap, comps, on, v).expect(rt, "corrections");
-    let mut again = Vec::from_slice(alloc, &many).expect(rt, "a copy");
-    assert!(rt; again.len() == count);
-    assert!(rt; restore_multi(&wrap, comps, on, &flags, again.as_mut_slice()).is_ok());
-    assert!(rt; again.as_slice() == v);
+    come_back_by_several(rt, alloc, on, &wrap, comps, &flags, many.as_slice(), v);
     (one, many, flags)
+}
+
+/// The same over a surface.
+fn told_over(
+    rt: &impl Abort,
+    alloc: Global,
+    surface: &Surface,
+    range: (i32, i32),
+    comps: u32,
+    v: &[i32],
+) -> (Vec<i32>, Vec<i32>, Flags) {
+    let (sides, classes, order) = ordered(rt, alloc, surface);
+    let on = Ordered {
+        sides: &sides,
+        classes: &classes,
+        order: &order,
+    };
+    told(rt, alloc, &on, range, comps, v)
 }
 
 /// The lists of some flags, three lists of which are empty.
@@ -104,72 +205,75 @@ fn answer(
     (answer, again)
 }
 
-#[test]
-fn parallelograms_round_a_tetrahedron_are_left_out(rt: HostRuntime) {
-    let alloc = rt.alloc();
-    let pairs = [(0, 8), (1, 11), (2, 5), (3, 10), (4, 6), (7, 9)];
-    let t = glued(alloc, 4, &pairs).expect(&rt, "a table");
-    let order = order_of(alloc, &t, &[1, 2, 0, 5]).expect(&rt, "ample memory");
-    let (classes, order) = order.expect(&rt, "corners of the table");
+/// The same over two faces, of which the parallelogram comes before the last entry.
+fn answer_over(
+    rt: &impl Abort,
+    alloc: Global,
+    flags: &Flags,
+    corrections: &[i32],
+) -> (Result<(), Kind>, Vec<i32>) {
+    let (sides, classes, order) = ordered(rt, alloc, &EARLIER);
     let on = Ordered {
-        sides: &t,
+        sides: &sides,
         classes: &classes,
         order: &order,
     };
+    answer(rt, alloc, &on, flags, corrections)
+}
+
+/// Values on two faces, of which the parallelogram comes before the last entry.
+static VALUES: [i32; 12] = [0, 2, 0, 2, 0, 0, 2, 2, 0, 0, 0, 0];
+
+/// The corrections of these values, by one parallelogram and by several.
+static CORRECTIONS: [i32; 12] = [0, -1, 0, -1, 1, 0, 0, -1, 0, 0, 0, 0];
+
+#[test]
+fn parallelograms_round_a_tetrahedron_are_left_out(rt: HostRuntime) {
     let values = [0, 0, 1, 0, 1, 0, 0, 0, 0, 1, 0, 0];
-    let (_, many, flags) = told(&rt, alloc, &on, (0, 1), 3, &values);
+    let (_, many, flags) = told_over(&rt, rt.alloc(), &TETRAHEDRON, (0, 1), 3, &values);
     assert!(&rt; many.as_slice() == [0, 0, -1, 0, -1, -1, 0, -1, 0, -1, 0, 0].as_slice());
     assert!(&rt; has_list(&flags, &[true; 3], 2));
 }
 
 #[test]
 fn one_parallelogram_is_kept_where_it_comes_before(rt: HostRuntime) {
-    let alloc = rt.alloc();
-    let t = glued(alloc, 2, &[(0, 4)]).expect(&rt, "a table");
-    let order = order_of(alloc, &t, &[1, 2, 0, 4]).expect(&rt, "ample memory");
-    let (classes, order) = order.expect(&rt, "corners of the table");
-    let on = Ordered {
-        sides: &t,
-        classes: &classes,
-        order: &order,
-    };
-    let values = [0, 2, 0, 2, 0, 0, 2, 2, 0, 0, 0, 0];
-    let (one, many, flags) = told(&rt, alloc, &on, (0, 2), 3, &values);
-    let corrections = [0, -1, 0, -1, 1, 0, 0, -1, 0, 0, 0, 0];
-    assert!(&rt;
-        one.as_slice() == corrections.as_slice() && many.as_slice() == corrections.as_slice()
-    );
+    let (one, many, flags) = told_over(&rt, rt.alloc(), &EARLIER, (0, 2), 3, &VALUES);
+    assert!(&rt; one.as_slice() == CORRECTIONS.as_slice());
+    assert!(&rt; many.as_slice() == CORRECTIONS.as_slice());
     assert!(&rt; has_list(&flags, &[false], 0));
-    let over = with_list(&rt, alloc, &[false, true], 0);
-    let (read, again) = answer(&rt, alloc, &on, &over, &corrections);
-    assert!(&rt; read.is_ok() && again.as_slice() == values.as_slice());
-    let short = with_list(&rt, alloc, &[false], 1);
-    let (read, _) = answer(&rt, alloc, &on, &short, &corrections);
+}
+
+#[test]
+fn flags_that_are_left_over_count_for_nothing(rt: HostRuntime) {
+    let over = with_list(&rt, rt.alloc(), &[false, true], 0);
+    let (read, again) = answer_over(&rt, rt.alloc(), &over, &CORRECTIONS);
+    assert!(&rt; read.is_ok() && again.as_slice() == VALUES.as_slice());
+}
+
+#[test]
+fn missing_flags_are_refused(rt: HostRuntime) {
+    let short = with_list(&rt, rt.alloc(), &[false], 1);
+    let (read, _) = answer_over(&rt, rt.alloc(), &short, &CORRECTIONS);
     assert!(&rt; read == Err(Kind::FlagsShort));
-    let order = order_of(alloc, &t, &[1, 2, 4, 0]).expect(&rt, "ample memory");
-    let (classes, order) = order.expect(&rt, "corners of the table");
-    let later = Ordered {
-        sides: &t,
-        classes: &classes,
-        order: &order,
-    };
+}
+
+#[test]
+fn one_parallelogram_is_left_out_where_it_comes_later(rt: HostRuntime) {
     let values = [0, 2, 0, 2, 0, 0, 0, 0, 0, 2, 2, 0];
-    let (one, _, _) = told(&rt, alloc, &later, (0, 2), 3, &values);
+    let (one, _, _) = told_over(&rt, rt.alloc(), &LATER, (0, 2), 3, &values);
     assert!(&rt; one.as_slice() == [0, -1, 0, -1, 1, 0, 1, 0, 0, 0, 0, 0].as_slice());
 }
 
 #[test]
 fn parallelograms_pass_32_bits(rt: HostRuntime) {
-    let alloc = rt.alloc();
-    let t = glued(alloc, 2, &[(0, 4)]).expect(&rt, "a table");
-    let order = order_of(alloc, &t, &[1, 2, 0, 4]).expect(&rt, "ample memory");
-    let (classes, order) = order.expect(&rt, "corners of the table");
-    let on = Ordered {
-        sides: &t,
-        classes: &classes,
-        order: &order,
-    };
     let values = [2147483647, 2147483647, 2147483637, 2147483637];
-    let (one, _, _) = told(&rt, alloc, &on, (2147483637, 2147483647), 1, &values);
+    let (one, _, _) = told_over(
+        &rt,
+        rt.alloc(),
+        &EARLIER,
+        (2147483637, 2147483647),
+        1,
+        &values,
+    );
     assert!(&rt; one.as_slice() == [-1, 0, 1, 0].as_slice());
 }

@@ -2,6 +2,7 @@
 
 use drc_base::Sequence;
 use predict::{Flags, Prediction, Wrap, correct, restore};
+use std::process::Abort;
 use std::test::Fail;
 
 #[test]
@@ -33,18 +34,25 @@ fn ranges_near_the_limit(rt: HostRuntime) {
     assert!(rt; Wrap::new(1, 0).is_none());
 }
 
+/// Predictions by their byte, their code and their word.
+static PREDICTIONS: [(u8, i8, &str, Prediction); 4] = [
+    (254, -2, "none", Prediction::Off),
+    (0, 0, "diff", Prediction::Difference),
+    (1, 1, "para", Prediction::Parallelogram),
+    (4, 4, "multi", Prediction::Multi),
+];
+
+/// A prediction is found by its byte, its code and its word.
+fn is_found(rt: &impl Abort, byte: u8, code: i8, word: &str, prediction: Prediction) {
+    assert!(rt; Prediction::of_byte(byte) == Some(prediction), "{word}");
+    assert!(rt; Prediction::of_code(code) == Some(prediction), "{word}");
+    assert!(rt; Prediction::named(word) == Some(prediction), "{word}");
+}
+
 #[test]
 fn predictions_are_found(rt: HostRuntime) {
-    let rows = [
-        (254, -2, "none", Prediction::Off),
-        (0, 0, "diff", Prediction::Difference),
-        (1, 1, "para", Prediction::Parallelogram),
-        (4, 4, "multi", Prediction::Multi),
-    ];
-    for (byte, code, word, prediction) in rows {
-        assert!(&rt; Prediction::of_byte(byte) == Some(prediction), "{word}");
-        assert!(&rt; Prediction::of_code(code) == Some(prediction), "{word}");
-        assert!(&rt; Prediction::named(word) == Some(prediction), "{word}");
+    for (byte, code, word, prediction) in PREDICTIONS.iter() {
+        is_found(&rt, *byte, *code, word, *prediction);
     }
     assert!(&rt; Prediction::of_byte(2).is_none() && Prediction::of_code(-1).is_none());
     assert!(&rt; Prediction::named("off").is_none() && Prediction::named("").is_none());

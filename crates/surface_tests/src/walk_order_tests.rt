@@ -2,8 +2,10 @@
 //! with sets and recursion.
 
 ghost use Rattle.std.specs.Prelude.{◌≡◌, ◌<◌};
+ghost use Rattle.corner_table.specs.Labels.{IsLabelled};
+ghost use Rattle.corner_table.specs.Table.{gluing_of};
 
-use corner_table::{Classes, Order, Steps};
+use corner_table::{Classes, Order, SideTable, Steps};
 use drc_base::MAX_FACES;
 use std::alloc::Global;
 use std::marker::Brand;
@@ -201,6 +203,34 @@ fn is_order(order: &Order, classes: &Classes, due: (&[u32], &[u32])) -> bool {
     order.corner_of_entry.as_slice() == due.0 && labels.len() == due.1.len() && alike
 }
 
+/// The order of depth first is the one that is due.
+fn has_depth_first(
+    rt: &impl Abort,
+    alloc: Global,
+    table: &SideTable,
+    classes: &Classes,
+    due: (&[u32], &[u32]),
+)
+    requires { IsLabelled table.now.faces (gluing_of table.now) classes.now.of_corner classes.now.count classes.now.ends }
+{
+    let order = depth_first(alloc, table, classes).expect(rt, "depth first");
+    assert!(rt; is_order(&order, classes, due));
+}
+
+/// The order by prediction degree is the one that is due.
+fn has_prediction_degree(
+    rt: &impl Abort,
+    alloc: Global,
+    table: &SideTable,
+    classes: &Classes,
+    due: (&[u32], &[u32]),
+)
+    requires { IsLabelled table.now.faces (gluing_of table.now) classes.now.of_corner classes.now.count classes.now.ends }
+{
+    let order = prediction_degree(alloc, table, classes).expect(rt, "by prediction degree");
+    assert!(rt; is_order(&order, classes, due));
+}
+
 /// Both orders of a surface are those that are due.
 fn has_orders<L: Ledger>(rt: &impl Abort, alloc: Global, case: &Case, blank: Blank)
     requires name { blank.name ≡ L.name }
@@ -211,16 +241,20 @@ fn has_orders<L: Ledger>(rt: &impl Abort, alloc: Global, case: &Case, blank: Bla
     assert!(rt; case.faces <= MAX_FACES);
     let table = glued(alloc, case.faces, case.pairs).expect(rt, "a table");
     let classes = table.label_vertices(alloc, &mut steps).expect(rt, "labels");
-    let depth = depth_first(alloc, &table, &classes).expect(rt, "depth first");
-    assert!(rt; is_order(&depth, &classes, case.depth_first));
-    let degree = prediction_degree(alloc, &table, &classes).expect(rt, "by prediction degree");
-    assert!(rt; is_order(&degree, &classes, case.prediction_degree));
+    has_depth_first(rt, alloc, &table, &classes, case.depth_first);
+    has_prediction_degree(rt, alloc, &table, &classes, case.prediction_degree);
 }
+
+/// Surfaces of at most six faces.
+static SMALL: [&Case; 6] = [&FIVE, &TETRAHEDRON, &FAN, &CUT_VERTEX, &NOTHING, &APART];
+
+/// Surfaces of twelve faces and more.
+static LARGER: [&Case; 3] = [&CUBE, &TORUS, &GRID];
 
 #[test]
 fn small_surfaces(rt: HostRuntime) {
     let alloc = rt.alloc();
-    for case in [&FIVE, &TETRAHEDRON, &FAN, &CUT_VERTEX, &NOTHING, &APART] {
+    for case in SMALL.iter() {
         has_orders::<Brand>(&rt, alloc, case, Blank::new(1));
     }
 }
@@ -228,7 +262,7 @@ fn small_surfaces(rt: HostRuntime) {
 #[test]
 fn larger_surfaces(rt: HostRuntime) {
     let alloc = rt.alloc();
-    for case in [&CUBE, &TORUS, &GRID] {
+    for case in LARGER.iter() {
         has_orders::<Brand>(&rt, alloc, case, Blank::new(1));
     }
 }

@@ -6,7 +6,7 @@ use Rattle.attr_section.specs.declared.values.Values.{Values}
 use Rattle.predict.specs.Surfaces.{surface}
 use Rattle.attr_section.specs.Examples.{example_head, surface_positions}
 use Rattle.attr_section.proofs.Examples.{surface-values-pass}
-use Rattle.section_tests.proofs.attr_section_walk_writing_tests.values_both_ways.Goals as goal
+use Rattle.section_tests.proofs.attr_section_walk_writing_tests.values_are_written.Goals as goal
 
 pub write_decoder-requires-clause-values : goal.write_decoder-requires-clause-values
 write_decoder-requires-clause-values c =

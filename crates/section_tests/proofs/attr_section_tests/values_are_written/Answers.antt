@@ -2,7 +2,7 @@ use Rattle.std.proofs.Common.{◌≡◌, ◌∙◌, [], ◌∷◌, ap, refl}
 use Rattle.attr_section.specs.declared.decoder_heads.DecoderHead.{DecoderHead}
 use Rattle.attr_section.specs.Examples.{example_head, texture_head, position_values, texture_values, example_prediction}
 use Rattle.attr_section.proofs.Examples.{values-pass}
-use Rattle.section_tests.proofs.attr_section_tests.values_both_ways.Goals as goal
+use Rattle.section_tests.proofs.attr_section_tests.values_are_written.Goals as goal
 
 pub write_decoder-requires-clause-values : goal.write_decoder-requires-clause-values
 write_decoder-requires-clause-values c =

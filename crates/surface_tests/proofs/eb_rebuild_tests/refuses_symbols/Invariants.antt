@@ -1,5 +1,0 @@
--- Each call counts in the ledger of its own blank.
-use Rattle.surface_tests.proofs.eb_rebuild_tests.refuses_symbols.Given as goal
-
-abbrev pub ghosts-rebuilt : goal.ghosts-rebuilt
-ghosts-rebuilt g a = record { name = a.blank.name; parts = a.blank.parts }
