@@ -14,21 +14,20 @@ use drc_bits::Cursor;
 use std::alloc::Global;
 use std::process::Abort;
 use std::test::Fail;
-use worked_surfaces::{glued, order_of};
+use worked_surfaces::{SQUARE_ORDER, ordered};
 
 /// The bytes of corrections: the transform, and twelve symbols of a byte each.
 const CORRECTIONS: [u8; 15] = [1, 0, 1, 0, 1, 0, 1, 2, 0, 0, 1, 0, 0, 0, 0];
 /// The range from 0 to 2.
 const RANGE: [u8; 8] = [0, 0, 0, 0, 2, 0, 0, 0];
 
-/// Two faces, and an order of their four corners in which the first face comes first.
+/// The table of a square, the classes of its corners and its order.
 fn square(rt: &impl Abort, alloc: Global) -> (SideTable, Classes, Order)
     ensures over { IsOrdered result.0 result.1.of_corner result.2 }
     ensures entries { length result.2.corner_of_entry ≡ 4 }
 {
-    let sides = glued(alloc, 2, &[(0, 4)]).expect(rt, "a table");
-    let order = order_of(alloc, &sides, &[1, 2, 0, 4]).expect(rt, "ample memory");
-    let (classes, order) = order.expect(rt, "corners of the table");
+    let worked = ordered(alloc, &SQUARE_ORDER).expect(rt, "ample memory");
+    let (sides, classes, order) = worked.expect(rt, "corners of the table");
     assert!(rt; order.corner_of_entry.len() == 4);
     (sides, classes, order)
 }

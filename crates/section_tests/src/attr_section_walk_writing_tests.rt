@@ -1,20 +1,18 @@
 //! Values over small surfaces are written as their bytes, and read back, with ample memory.
 
 ghost use Rattle.std.specs.Prelude.{◌≡◌, ◌<◌, ◌≤◌, [], ◌∷◌, IfOk, length};
-ghost use Rattle.corner_table.specs.Ordered.{IsOrdered};
 ghost use Rattle.predict.specs.Surfaces.{IsOverTable};
 ghost use Rattle.attr_section.specs.Examples.{example_head, surface_values, surface_prediction, surface_positions, surface_decoder};
 
 use crate::attr_section_tests::with_one_behind;
 use attr_section::{DecoderHead, Ordered, Values, read_decoder, write_decoder};
-use corner_table::{Classes, Order, SideTable};
-use drc_base::{MAX_FACES, Refusal, Sequence};
+use drc_base::{Refusal, Sequence};
 use drc_bits::Cursor;
 use mesh_model::Head;
 use std::alloc::{AllocError, Global};
 use std::process::Abort;
 use std::test::Fail;
-use worked_surfaces::{TETRAHEDRON_PAIRS, glued, order_of};
+use worked_surfaces::{SQUARE_ORDER, TETRAHEDRON_PAIRS, WorkedOrder, ordered};
 
 /// The positions of two triangles, or of a tetrahedron, by one parallelogram or by the mean of several.
 fn positions(alloc: Global, closed: bool, many: bool) -> Result<Values, AllocError>
@@ -127,48 +125,24 @@ fn values_both_ways(
     values_are_read(alloc, on, closed, many, longer.as_slice())
 }
 
-/// A surface by its pairs of sides, and an order of entries by the corners at which these stand.
-struct Surface {
-    faces: u32,
-    pairs: &'static [(u32, u32)],
-    corners: &'static [u32],
-}
-
-/// Two triangles.
-static TRIANGLES: Surface = Surface {
-    faces: 2,
-    pairs: &[(0, 4)],
-    corners: &[1, 2, 0, 4],
-};
-
 /// A tetrahedron.
-static TETRAHEDRON: Surface = Surface {
+static TETRAHEDRON: WorkedOrder = WorkedOrder {
     faces: 4,
     pairs: &TETRAHEDRON_PAIRS,
     corners: &[1, 2, 0, 10],
 };
 
-/// The table of a surface, the classes of its corners and its order.
-fn ordered(rt: &impl Abort, alloc: Global, surface: &Surface) -> (SideTable, Classes, Order)
-    ensures { IsOrdered result.0 result.1.of_corner result.2 }
-{
-    assert!(rt; surface.faces <= MAX_FACES && surface.corners.len() < 100);
-    let sides = glued(alloc, surface.faces, surface.pairs).expect(rt, "a table");
-    let order = order_of(alloc, &sides, surface.corners).expect(rt, "ample memory");
-    let (classes, order) = order.expect(rt, "corners of the table");
-    (sides, classes, order)
-}
-
 /// The same over a surface.
 fn both_ways_over(
     rt: &impl Abort,
     alloc: Global,
-    surface: &Surface,
+    surface: &WorkedOrder,
     closed: bool,
     many: bool,
     bytes: &[u8],
 ) -> Result<bool, Refusal> {
-    let (sides, classes, order) = ordered(rt, alloc, surface);
+    let worked = ordered(alloc, surface).expect(rt, "ample memory");
+    let (sides, classes, order) = worked.expect(rt, "corners of the table");
     let on = Ordered {
         sides: &sides,
         classes: &classes,
@@ -200,9 +174,9 @@ static LEFT_OUT_BY_MEAN: [u8; 31] = [
 #[test]
 fn one_parallelogram_is_kept(rt: HostRuntime) -> Result<(), Fail> {
     let alloc = rt.alloc();
-    let is_so = both_ways_over(&rt, alloc, &TRIANGLES, false, false, &KEPT_BY_ONE)?;
+    let is_so = both_ways_over(&rt, alloc, &SQUARE_ORDER, false, false, &KEPT_BY_ONE)?;
     assert!(&rt; is_so, "by one");
-    let is_so = both_ways_over(&rt, alloc, &TRIANGLES, false, true, &KEPT_BY_MEAN)?;
+    let is_so = both_ways_over(&rt, alloc, &SQUARE_ORDER, false, true, &KEPT_BY_MEAN)?;
     assert!(&rt; is_so, "by the mean");
     Ok(())
 }

@@ -2,18 +2,16 @@
 
 ghost use Rattle.std.specs.Prelude.{◌≡◌, ◌*◌, ◌<◌, ◌≤◌, ◌≤ℤ◌, IsTrue, length};
 ghost use Rattle.std.specs.List.{All};
-ghost use Rattle.corner_table.specs.Ordered.{IsOrdered};
 ghost use Rattle.predict.specs.Surfaces.{IsOverTable};
 
-use corner_table::{Classes, Order, SideTable};
-use drc_base::{Kind, MAX_FACES, Sequence};
+use drc_base::{Kind, Sequence};
 use predict::{
     Flags, Ordered, Wrap, correct_multi, correct_parallelogram, restore_multi,
     restore_parallelogram,
 };
 use std::alloc::Global;
 use std::process::Abort;
-use worked_surfaces::{glued, order_of};
+use worked_surfaces::{SQUARE_ORDER, WorkedOrder, ordered};
 
 /// Whether all values lie in a range.
 fn all_within(v: &[i32], low: i32, high: i32) -> bool
@@ -31,44 +29,19 @@ fn all_within(v: &[i32], low: i32, high: i32) -> bool
     true
 }
 
-/// A surface by its pairs of sides, and an order of entries by the corners at which these stand.
-struct Surface {
-    faces: u32,
-    pairs: &'static [(u32, u32)],
-    corners: &'static [u32],
-}
-
 /// A tetrahedron.
-static TETRAHEDRON: Surface = Surface {
+static TETRAHEDRON: WorkedOrder = WorkedOrder {
     faces: 4,
     pairs: &[(0, 8), (1, 11), (2, 5), (3, 10), (4, 6), (7, 9)],
     corners: &[1, 2, 0, 5],
 };
 
-/// Two faces, of which the parallelogram comes before the last entry.
-static EARLIER: Surface = Surface {
-    faces: 2,
-    pairs: &[(0, 4)],
-    corners: &[1, 2, 0, 4],
-};
-
 /// Two faces, of which the parallelogram comes later.
-static LATER: Surface = Surface {
+static LATER: WorkedOrder = WorkedOrder {
     faces: 2,
     pairs: &[(0, 4)],
     corners: &[1, 2, 4, 0],
 };
-
-/// The table of a surface, the classes of its corners and its order.
-fn ordered(rt: &impl Abort, alloc: Global, surface: &Surface) -> (SideTable, Classes, Order)
-    ensures { IsOrdered result.0 result.1.of_corner result.2 }
-{
-    assert!(rt; surface.faces <= MAX_FACES && surface.corners.len() < 100);
-    let sides = glued(alloc, surface.faces, surface.pairs).expect(rt, "a table");
-    let order = order_of(alloc, &sides, surface.corners).expect(rt, "ample memory");
-    let (classes, order) = order.expect(rt, "corners of the table");
-    (sides, classes, order)
-}
 
 /// Values are restored from their corrections by one parallelogram.
 fn come_back_by_one(
@@ -147,12 +120,13 @@ fn told(
 fn told_over(
     rt: &impl Abort,
     alloc: Global,
-    surface: &Surface,
+    surface: &WorkedOrder,
     range: (i32, i32),
     comps: u32,
     v: &[i32],
 ) -> (Vec<i32>, Vec<i32>, Flags) {
-    let (sides, classes, order) = ordered(rt, alloc, surface);
+    let worked = ordered(alloc, surface).expect(rt, "ample memory");
+    let (sides, classes, order) = worked.expect(rt, "corners of the table");
     let on = Ordered {
         sides: &sides,
         classes: &classes,
@@ -212,7 +186,8 @@ fn answer_over(
     flags: &Flags,
     corrections: &[i32],
 ) -> (Result<(), Kind>, Vec<i32>) {
-    let (sides, classes, order) = ordered(rt, alloc, &EARLIER);
+    let worked = ordered(alloc, &SQUARE_ORDER).expect(rt, "ample memory");
+    let (sides, classes, order) = worked.expect(rt, "corners of the table");
     let on = Ordered {
         sides: &sides,
         classes: &classes,
@@ -237,7 +212,7 @@ fn parallelograms_round_a_tetrahedron_are_left_out(rt: HostRuntime) {
 
 #[test]
 fn one_parallelogram_is_kept_where_it_comes_before(rt: HostRuntime) {
-    let (one, many, flags) = told_over(&rt, rt.alloc(), &EARLIER, (0, 2), 3, &VALUES);
+    let (one, many, flags) = told_over(&rt, rt.alloc(), &SQUARE_ORDER, (0, 2), 3, &VALUES);
     assert!(&rt; one.as_slice() == CORRECTIONS.as_slice());
     assert!(&rt; many.as_slice() == CORRECTIONS.as_slice());
     assert!(&rt; has_list(&flags, &[false], 0));
@@ -270,7 +245,7 @@ fn parallelograms_pass_32_bits(rt: HostRuntime) {
     let (one, _, _) = told_over(
         &rt,
         rt.alloc(),
-        &EARLIER,
+        &SQUARE_ORDER,
         (2147483637, 2147483647),
         1,
         &values,

@@ -1,12 +1,13 @@
-//! Orders of entries, by the corners at which these stand.
+//! Orders of entries, by the corners at which these stand, and surfaces with them.
 
 ghost use Rattle.std.specs.Prelude.{◌≡◌, ◌*◌, ◌/◌, ◌<◌, All, IfOk, IfSome, IsTrue, length, map};
 ghost use Rattle.corner_table.specs.Sides.{side_at};
 ghost use Rattle.corner_table.specs.Table.{free_entry};
 ghost use Rattle.corner_table.specs.Ordered.{AreFaces, FitTogether, IsOrdered, ordered_from};
 
+use crate::tables::glued;
 use corner_table::{Classes, FREE, FaceAcross, Order, SideTable, Steps, face_across};
-use drc_base::{Memory, Sequence};
+use drc_base::{MAX_FACES, Memory, Sequence};
 use std::alloc::Global;
 use std::marker::Brand;
 use std::sync::ledger::{Blank, Ledger};
@@ -94,7 +95,7 @@ fn order_by<L: Ledger>(
 
 /// The classes of a table's corners, and the order of entries that stand at these corners, by their numbers. None where
 /// one isn't a corner of the table. Fails only when out of memory.
-pub fn order_of(
+fn order_of(
     alloc: Global,
     t: &SideTable,
     corners: &[u32],
@@ -103,4 +104,36 @@ pub fn order_of(
     ensures { IfOk result (λ o. IfSome o (λ p. IsOrdered t.now p.0.of_corner p.1)) }
 {
     order_by::<Brand>(alloc, t, corners, Blank::new(1))
+}
+
+/// A surface by its pairs of sides, and an order of entries by the corners at which these stand, all by their numbers.
+pub struct WorkedOrder {
+    pub faces: u32,
+    pub pairs: &'static [(u32, u32)],
+    pub corners: &'static [u32],
+}
+
+/// Two faces of a square, and an order of their four corners in which the first face comes first.
+pub static SQUARE_ORDER: WorkedOrder = WorkedOrder {
+    faces: 2,
+    pairs: &[(0, 4)],
+    corners: &[1, 2, 0, 4],
+};
+
+/// The table of a surface, the classes of its corners and its order. None where it has more faces than a table, or as
+/// many entries as `FREE`, or one isn't at a corner of it. Fails only when out of memory.
+pub fn ordered(
+    alloc: Global,
+    surface: &WorkedOrder,
+) -> Result<Option<(SideTable, Classes, Order)>, Memory>
+    ensures { IfOk result (λ o. IfSome o (λ p. IsOrdered p.0 p.1.of_corner p.2)) }
+{
+    if surface.faces > MAX_FACES || surface.corners.len() >= FREE as usize {
+        return Ok(None);
+    }
+    let sides = glued(alloc, surface.faces, surface.pairs)?;
+    match order_of(alloc, &sides, surface.corners)? {
+        Some((classes, order)) => Ok(Some((sides, classes, order))),
+        None => Ok(None),
+    }
 }
