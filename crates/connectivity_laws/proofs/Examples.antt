@@ -13,8 +13,8 @@ use Rattle.symbol_coding.specs.Block.{block_bytes}
 use Rattle.corner_table.specs.Sides.{unglued}
 use Rattle.corner_table.specs.Fans.{corners_of, leftmost, walks_left, walks_right}
 use Rattle.corner_table.specs.declared.symbols.Symbol.TheVariants.{E}
-use Rattle.eb_rebuild.specs.Machine.{State, step, note_events, take_symbols, close, close_all, finish, first_degenerate, rebuild}
-use Rattle.eb_rebuild.specs.Rebuilding.{IsEventOf}
+use Rattle.eb_machine.specs.Machine.{State, step, note_events, take_symbols, close, close_all, finish, first_degenerate, rebuild}
+use Rattle.eb_machine.specs.Events.{IsEventOf}
 use Rattle.eb_trace.specs.declared.tracing.Traced.{Traced}
 use Rattle.eb_valence.specs.Contexts.{coded, context_list}
 use Rattle.eb_trace.specs.Writable.{AsManyWait, IsWritable}

@@ -7,7 +7,7 @@ use Rattle.drc_base.specs.declared.faults.Fault.{Fault}
 use Rattle.corner_table.specs.declared.symbols.Symbol.{Symbol}
 use Rattle.corner_table.specs.declared.symbols.Symbol.TheVariants.{C, S, L, R, E}
 use Rattle.corner_table.specs.declared.symbols.Event.{Event}
-use Rattle.eb_rebuild.specs.Machine.{State, start, step}
+use Rattle.eb_machine.specs.Machine.{State, start, step}
 use Rattle.eb_valence.specs.declared.context_lists.TheConstants.{CONTEXTS}
 use Rattle.eb_valence.specs.Numbers.{symbol_number}
 use Rattle.eb_valence.specs.Contexts.{CodedSymbol, context, coded, context_coded_at, context_list, context_lists}

@@ -8,14 +8,14 @@ use Rattle.std.proofs.lemmas.List.Folds.{list_any-append}
 use Rattle.corner_table.specs.Sides.{Side, Place, first, second, third, side, next, Gluing, IsFree}
 use Rattle.corner_table.specs.Fans.{meets, corners_of}
 use Rattle.corner_table.specs.Table.{gluing_of}
-use Rattle.eb_rebuild.specs.Degree.{degree}
-use Rattle.eb_rebuild.specs.Named.{Triangle, no_triangle, Row, NamedState}
-use Rattle.eb_rebuild.specs.Shown.{name_of, row_named, Among}
+use Rattle.eb_machine.specs.Degree.{degree}
+use Rattle.eb_machine.specs.Named.{Triangle, no_triangle, Row, NamedState}
+use Rattle.eb_machine.specs.Shown.{name_of, row_named, Among}
 use Rattle.eb_rebuild.specs.Counted.{times_in}
 use Rattle.eb_rebuild.specs.declared.active_rows.Row.{Row as NumberedRow}
 use Rattle.eb_rebuild.specs.Rowed.{NamedTable, IsNamedTable, all_listed}
 use Rattle.corner_table.proofs.Places.{option_tells}
-use Rattle.eb_rebuild.proofs.NamedLaw.{Stands, name_test}
+use Rattle.eb_machine.proofs.NamedLaw.{Stands, name_test}
 use Rattle.eb_rebuild.proofs.RowTables.{alone, stands_alone}
 
 corners_of-suc : (m : ℕ) → corners_of (suc m) ≡ corners_of m ++ (side m first ∷ side m second ∷ side m third ∷ [])

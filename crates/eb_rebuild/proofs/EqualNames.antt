@@ -1,7 +1,7 @@
 -- The search for a triangle with two equal names, one triangle at a time.
 use Rattle.std.proofs.Common.{◌≡◌, ℕ, zero, suc, ◌≤◌, true, false, List, get_or, Some, None, inl, inr, sym, refl, ap, ◌∙◌, arith}
 use Rattle.std.proofs.lemmas.Bool.{cases_eq, cond-true, cond-false}
-use Rattle.eb_rebuild.specs.Named.{Triangle, no_triangle, has_equal, first_with_equal}
+use Rattle.eb_machine.specs.Named.{Triangle, no_triangle, has_equal, first_with_equal}
 
 pub equal_zero : (ts : List Triangle) → first_with_equal ts zero ≡ None
 unfolding first_with_equal

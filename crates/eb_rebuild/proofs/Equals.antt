@@ -5,7 +5,7 @@ use Rattle.corner_table.specs.Sides.{Side, Place, first, second, third, side, Gl
 use Rattle.corner_table.specs.Fans.{meets}
 use Rattle.corner_table.specs.Labels.{label_at, IsLabelled}
 use Rattle.corner_table.proofs.Meeting.{fan_meets, meets-fan}
-use Rattle.eb_rebuild.specs.Machine.{is_degenerate, first_degenerate}
+use Rattle.eb_machine.specs.Machine.{is_degenerate, first_degenerate}
 use Rattle.eb_rebuild.specs.Alike.{is_alike, first_alike}
 
 pub alike_zero : (labels : List ℕ) → first_alike labels zero ≡ None

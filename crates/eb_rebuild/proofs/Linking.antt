@@ -12,13 +12,13 @@ use Rattle.corner_table.proofs.Gluings.{free_after}
 use Rattle.drc_base.specs.declared.kinds.Kind.TheVariants as kind
 use Rattle.corner_table.specs.Table.{Table, gluing_of, glued_in, room_of}
 use Rattle.corner_table.proofs.Numbers.{side_at-number}
-use Rattle.eb_rebuild.specs.declared.beside.Beside.{Beside}
-use Rattle.eb_rebuild.specs.declared.beside.Beside.TheVariants.{Left, Right}
-use Rattle.eb_rebuild.specs.Beside.{symbol_in, glued_place}
-use Rattle.eb_rebuild.specs.Machine.{State, Plan, close, fill, top, pushed, release, note_events, step, fault}
+use Rattle.eb_machine.specs.declared.beside.Beside.{Beside}
+use Rattle.eb_machine.specs.declared.beside.Beside.TheVariants.{Left, Right}
+use Rattle.eb_machine.specs.Beside.{symbol_in, glued_place}
+use Rattle.eb_machine.specs.Machine.{State, Plan, close, fill, top, pushed, release, note_events, step, fault}
 use Rattle.eb_rebuild.specs.Kept.{StackValue, SplitsValue, kept_in, AreSidesBelow, AreKeptBelow}
 use Rattle.eb_rebuild.specs.Linked.{LinkValue, IsLinkState, state_of, Does}
-use Rattle.eb_rebuild.proofs.Steps.{close_boundary, close_interior, loop_test, fill_gone, fill_no_loop, fill_full, fill_steps, split_no_second, split_one_side, split_one_point, split_steps, tip_alone, tip_steps, Next, top_free, the_state, same_state, beside_steps, beside_refused}
+use Rattle.eb_machine.proofs.Steps.{close_boundary, close_interior, loop_test, fill_gone, fill_no_loop, fill_full, fill_steps, split_no_second, split_one_side, split_one_point, split_steps, tip_alone, tip_steps, Next, top_free, the_state, same_state, beside_steps, beside_refused}
 
 -- side 0 of a face
 pub side_at_first : (f : ℕ) → side_at (3 * f) ≡ side f first

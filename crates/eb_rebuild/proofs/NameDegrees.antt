@@ -10,9 +10,9 @@ use Rattle.corner_table.proofs.Walks.{starts_once, ends_once}
 use Rattle.corner_table.proofs.Boundary.{free-left, free-right}
 use Rattle.eb_rebuild.specs.Counted.{times_in}
 use Rattle.eb_rebuild.specs.KeptDegrees.{degree_raised}
-use Rattle.eb_rebuild.specs.Named.{Triangle, Row, no_triangle, renamed, renamed_triangle}
-use Rattle.eb_rebuild.specs.Shown.{name_of, AreNames}
-use Rattle.eb_rebuild.proofs.NamedRules.{renamed_from, renamed_case}
+use Rattle.eb_machine.specs.Named.{Triangle, Row, no_triangle, renamed, renamed_triangle}
+use Rattle.eb_machine.specs.Shown.{name_of, AreNames}
+use Rattle.eb_machine.proofs.NamedRules.{renamed_from, renamed_case}
 
 -- 1 where two names are one
 abbrev pub bit : ℕ → ℕ → ℕ

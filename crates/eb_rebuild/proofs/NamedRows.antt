@@ -7,8 +7,8 @@ use Rattle.drc_base.specs.declared.faults.Fault.{Fault}
 use Rattle.corner_table.specs.declared.symbols.Symbol.{Symbol}
 use Rattle.corner_table.specs.declared.symbols.Symbol.TheVariants.{C, S, L, R, E}
 use Rattle.corner_table.specs.declared.symbols.Event.{Event}
-use Rattle.eb_rebuild.specs.Machine.{fault, note_events}
-use Rattle.eb_rebuild.specs.Named.{Triangle, NamedState, named_rebuild, named_symbols, named_rule, named_close, named_closes, named_finish, first_with_equal}
+use Rattle.eb_machine.specs.Machine.{fault, note_events}
+use Rattle.eb_machine.specs.Named.{Triangle, NamedState, named_rebuild, named_symbols, named_rule, named_close, named_closes, named_finish, first_with_equal}
 
 told : Result NamedState Fault → Result (ℕ × List Triangle) Fault
 told (Ok x) = Ok (x.made, x.triangles)

@@ -1,4 +1,4 @@
--- How the machine notes events, one at a time, and what that does to a list of kept sides.
+-- What noting events does to a list of kept sides.
 use Rattle.std.proofs.Common.{◌≡◌, ◌≢◌, ℕ, zero, suc, ◌+◌, ◌-◌, ◌*◌, ◌<◌, Bool, true, false, not, cond, eqb, is_none, List, [], ◌∷◌, length, get_or, set, All, Option, Some, None, Result, Ok, Err, inl, inr, sym, refl, ap, ◌∙◌, subst, arith, get_or-set_other, get_or-set_same, lt-ltb, le-ltb, eq-eqb, ne_eqb, eqb-true}
 use Rattle.std.proofs.lemmas.Bool.{cases_Bool, cases_eq, cond-true, cond-false}
 use mathlib.Core.Path.{fun_ext}
@@ -10,44 +10,10 @@ use Rattle.corner_table.specs.declared.symbols.Event.{Event}
 use Rattle.corner_table.specs.Sides.{Side, side, number, side_at}
 use Rattle.corner_table.specs.Table.{other_at, free_entry}
 use Rattle.corner_table.proofs.TableSteps.{entry_taken}
-use Rattle.eb_rebuild.specs.Machine.{note_events, must_be, fault, reserve, event_place}
+use Rattle.eb_machine.specs.Machine.{note_events, must_be, fault, reserve, event_place}
 use Rattle.eb_rebuild.specs.Kept.{counted_down, no_event, kept_in, split_number, HasRoomFor, AreKeptBelow}
-use Rattle.eb_rebuild.specs.Rebuilding.{IsEventOf}
-
-abbrev pub Noted : Type 0
-Noted = Result (List Event × (ℕ → Option Side)) Fault
-
--- nothing is left
-pub note_none : (n i : ℕ) (kept : ℕ → Option Side) → note_events n i [] kept ≡ Ok ([], kept)
-unfolding note_events
-note_none n i kept = refl
-
--- the last event is due later
-pub note_later : (n i : ℕ) (e : Event) (es : List Event) (kept : ℕ → Option Side) → e.source < n - suc i → note_events n i (e ∷ es) kept ≡ Ok (e ∷ es, kept)
-unfolding note_events
-note_later n i e es kept h = cond-true _ _ _ (lt-ltb e.source (n - suc i) h)
-
--- its source is passed
-pub note_passed : (n i : ℕ) (e : Event) (es : List Event) (kept : ℕ → Option Side) → n - suc i < e.source → note_events n i (e ∷ es) kept ≡ Err (fault kind.EventOrder i)
-unfolding note_events
-note_passed n i e es kept h =
-    cond-false _ _ _ (le-ltb e.source (n - suc i) (omega arith))
-    ∙ ap (λ (t : Bool). must_be (not t) kind.EventOrder i >>= λ u. must_be (is_none (kept (n - suc e.split))) kind.Taken i >>= λ v. note_events n i es (reserve (n - suc e.split) (side i (event_place e.right)) kept)) (lt-ltb (n - suc i) e.source h)
-
--- it is due: what is kept for its split decides
-pub note_due : (n i : ℕ) (e : Event) (es : List Event) (kept : ℕ → Option Side) → e.source ≡ n - suc i → note_events n i (e ∷ es) kept ≡ (must_be (is_none (kept (n - suc e.split))) kind.Taken i >>= λ v. note_events n i es (reserve (n - suc e.split) (side i (event_place e.right)) kept))
-unfolding note_events
-note_due n i e es kept h =
-    cond-false _ _ _ (le-ltb e.source (n - suc i) (omega arith))
-    ∙ ap (λ (t : Bool). must_be (not t) kind.EventOrder i >>= λ u. must_be (is_none (kept (n - suc e.split))) kind.Taken i >>= λ v. note_events n i es (reserve (n - suc e.split) (side i (event_place e.right)) kept)) (le-ltb (n - suc i) e.source (omega arith))
-
-pub note_taken : (n i : ℕ) (e : Event) (es : List Event) (kept : ℕ → Option Side) (a : Side) → e.source ≡ n - suc i → kept (n - suc e.split) ≡ Some a → note_events n i (e ∷ es) kept ≡ Err (fault kind.Taken i)
-note_taken n i e es kept a h k =
-    note_due n i e es kept h ∙ ap (λ (o : Option Side). must_be (is_none o) kind.Taken i >>= λ v. note_events n i es (reserve (n - suc e.split) (side i (event_place e.right)) kept)) k
-
-pub note_more : (n i : ℕ) (e : Event) (es : List Event) (kept : ℕ → Option Side) → e.source ≡ n - suc i → kept (n - suc e.split) ≡ None → note_events n i (e ∷ es) kept ≡ note_events n i es (reserve (n - suc e.split) (side i (event_place e.right)) kept)
-note_more n i e es kept h k =
-    note_due n i e es kept h ∙ ap (λ (o : Option Side). must_be (is_none o) kind.Taken i >>= λ v. note_events n i es (reserve (n - suc e.split) (side i (event_place e.right)) kept)) k
+use Rattle.eb_machine.specs.Events.{IsEventOf}
+use Rattle.eb_machine.proofs.NotedEvents.{note_none, note_later, note_passed, note_taken, note_more}
 
 -- a kept entry that is none, and one that is a side
 pub kept-none : (kept : List ℕ) (k : ℕ) → get_or kept k free_entry ≡ free_entry → kept_in kept k ≡ None

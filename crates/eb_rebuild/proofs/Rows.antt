@@ -8,7 +8,7 @@ use Rattle.corner_table.specs.declared.symbols.Symbol.TheVariants.{C, S, L, R, E
 use Rattle.corner_table.specs.declared.symbols.Event.{Event}
 use Rattle.corner_table.specs.Sides.{Side, number}
 use Rattle.corner_table.specs.Fans.{corners_of, leftmost, walks_left, walks_right}
-use Rattle.eb_rebuild.specs.Machine.{State, rebuild, take_symbols, step, close, close_all, finish, note_events, first_degenerate, fault}
+use Rattle.eb_machine.specs.Machine.{State, rebuild, take_symbols, step, close, close_all, finish, note_events, first_degenerate, fault}
 
 -- one more than the number of the other side, and 0 for a free one
 entry : Option Side → ℕ

@@ -5,7 +5,7 @@ use Rattle.std.specs.Prelude.{get_or, set}
 use Rattle.corner_table.specs.Sides.{Side, number, next, side_at, Gluing, IsGluing}
 use Rattle.corner_table.specs.Fans.{InFan}
 use Rattle.corner_table.specs.Table.{Table, gluing_of, room_of, free_entry}
-use Rattle.eb_rebuild.specs.Named.{Triangle}
+use Rattle.eb_machine.specs.Named.{Triangle}
 use Rattle.eb_rebuild.specs.JoinedNames.{Falls, root_in, number_of}
 
 -- the name of each corner by its number, what each name was joined to, and how many corners and names there is room for

@@ -1,7 +1,7 @@
 -- Names of which some were joined (disjoint sets as a forest: Galler and Fischer 1964): each name has a name that it was joined to, itself
 -- where to none. That a name is joined to a lesser one, so that the least of those joined stands for them, is this project's own choice.
 use Rattle.std.specs.Prelude.{◌≡◌, ℕ, zero, suc, ◌+◌, ◌<◌, ◌≤◌, ◌==◌, max, min, cond, List, length, get_or}
-use Rattle.eb_rebuild.specs.Named.{renamed}
+use Rattle.eb_machine.specs.Named.{renamed}
 
 -- where n steps lead from a name, of which each goes to the name that it was joined to
 unfoldable pub climbed : List ℕ → ℕ → ℕ → ℕ

@@ -6,11 +6,11 @@ use Rattle.drc_base.specs.declared.limits.TheConstants.{MAX_FACES}
 use Rattle.corner_table.specs.Sides.{Side, side, side_at, next, prev, number}
 use Rattle.corner_table.specs.Fans.{Follows}
 use Rattle.corner_table.specs.Table.{Table, gluing_of, room_of, IsFreeIn}
-use Rattle.eb_rebuild.specs.declared.beside.Beside.{Beside}
-use Rattle.eb_rebuild.specs.Beside.{glued_place}
-use Rattle.eb_rebuild.specs.Degree.{degree}
-use Rattle.eb_rebuild.specs.Named.{Triangle, Row}
-use Rattle.eb_rebuild.specs.Shown.{AreNames}
+use Rattle.eb_machine.specs.declared.beside.Beside.{Beside}
+use Rattle.eb_machine.specs.Beside.{glued_place}
+use Rattle.eb_machine.specs.Degree.{degree}
+use Rattle.eb_machine.specs.Named.{Triangle, Row}
+use Rattle.eb_machine.specs.Shown.{AreNames}
 
 -- the list with places for the sides of a face more
 abbrev pub with_room : List ℕ → List ℕ

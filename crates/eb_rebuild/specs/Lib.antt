@@ -1,17 +1,10 @@
-pub mod Machine
-pub mod Closes
-pub mod Degree
 pub mod Calls
 pub mod Rebuilding
 pub mod Kept
 pub mod Linked
 pub mod Alike
-pub mod Named
-pub mod Shown
-pub mod OneFaceMore
 pub mod Rowed
 pub mod Counted
-pub mod Beside
 pub mod KeptDegrees
 pub mod JoinedNames
 pub mod CornerNames

@@ -6,7 +6,7 @@ use Rattle.drc_base.specs.declared.faults.Refusal.TheVariants as refusal
 use Rattle.drc_base.specs.declared.limits.TheConstants.{MAX_FACES}
 use Rattle.corner_table.specs.Sides.{side_at, Gluing}
 use Rattle.corner_table.specs.Table.{Table, gluing_of, room_of}
-use Rattle.eb_rebuild.specs.Machine.{State, Plan}
+use Rattle.eb_machine.specs.Machine.{State, Plan}
 use Rattle.eb_rebuild.specs.Kept.{StackValue, SplitsValue, kept_in, AreSidesBelow, AreKeptBelow}
 
 pub record LinkValue : Type 0 where

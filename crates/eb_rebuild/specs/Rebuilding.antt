@@ -5,7 +5,7 @@ use Rattle.drc_base.specs.declared.faults.Refusal.{Refusal}
 use Rattle.drc_base.specs.declared.faults.Refusal.TheVariants as refusal
 use Rattle.corner_table.specs.declared.symbols.Event.{Event}
 use Rattle.corner_table.specs.Table.{Table, gluing_of}
-use Rattle.eb_rebuild.specs.Machine.{State, Plan, finish}
+use Rattle.eb_machine.specs.Machine.{State, Plan, finish}
 
 -- a call that steps the machine answers the next state, or the fault of its rule; running out of memory is free
 abbrev pub Moves : Result State Fault → State → Bool → Result (Unit {0}) Refusal → Type 0
@@ -28,7 +28,3 @@ abbrev pub Ends : Plan → State → Result BuiltValue Refusal → Type 0
 Ends plan state (Ok built) = (finish plan state ≡ Ok state) × Holds state built.table
 Ends plan state (Err (refusal.Fault f)) = finish plan state ≡ Err f
 Ends plan state (Err refusal.Memory) = Unit {0}
-
--- events of symbols below a number, each with a split of at most its source
-abbrev pub IsEventOf : ℕ → Event → Type 0
-IsEventOf symbols e = (e.source < symbols) × (e.split ≤ e.source)

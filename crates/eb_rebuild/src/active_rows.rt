@@ -4,7 +4,7 @@ ghost use Rattle.std.specs.Prelude.{◌≡◌, ◌+◌, ◌*◌, ◌/◌, ◌%�
 ghost use Rattle.std.specs.List.{list_any};
 ghost use Rattle.drc_base.specs.declared.limits.TheConstants.{MAX_FACES as most_faces};
 ghost use Rattle.corner_table.specs.Sides.{first, second, third, place_after, place_of};
-ghost use Rattle.eb_rebuild.specs.Named.{renamed, renamed_triangle, new_row, no_triangle, corner, has_equal, first_with_equal};
+ghost use Rattle.eb_machine.specs.Named.{renamed, renamed_triangle, new_row, no_triangle, corner, has_equal, first_with_equal};
 ghost use Rattle.eb_rebuild.specs.Counted.{times_in};
 ghost use Rattle.eb_rebuild.specs.Rowed.{row_listed};
 

@@ -13,10 +13,10 @@ ghost use Rattle.eb_rebuild.specs.JoinedNames.{root_in, roots_below};
 ghost use Rattle.corner_table.specs.Sides.{number, next, side_at};
 ghost use Rattle.eb_rebuild.specs.CornerNames.{AreNumbers, AreMarked, marked_start};
 
-use crate::beside::Beside;
 use crate::joined_names::JoinedNames;
 use corner_table::{Classes, FREE, next_number, previous_number};
 use drc_base::{Memory, Sequence};
+use eb_machine::Beside;
 use std::alloc::Global;
 use std::marker::Model;
 
@@ -127,7 +127,7 @@ impl CornerNames {
     ghost use Rattle.corner_table.specs.Sides.{next, prev, side_at};
     ghost use Rattle.corner_table.specs.Table.{glued_in};
     ghost use Rattle.corner_table.specs.Labels.{IsLabelled};
-    ghost use Rattle.eb_rebuild.specs.Beside.{new_triangle};
+    ghost use Rattle.eb_machine.specs.Beside.{new_triangle};
     ghost use Rattle.eb_rebuild.specs.JoinedNames.{joined, Falls};
     ghost use Rattle.eb_rebuild.specs.CornerNames.{name_at, with_face, HasFaceOf, IsNaming};
 

@@ -11,9 +11,9 @@ ghost use Rattle.std.specs.Prelude.{◌≡◌, ℕ, ◌+◌, ◌*◌, ◌^◌, �
 ghost use Rattle.drc_base.specs.declared.limits.TheConstants.{MAX_FACES as most_faces};
 ghost use Rattle.eb_rebuild.specs.KeptDegrees.{degree_raised, with_room, after_end, after_beside, after_tip, after_split};
 
-use crate::beside::Beside;
 use corner_table::{LinkedTable, Steps, number_of, side_with};
 use drc_base::Memory;
+use eb_machine::Beside;
 use std::alloc::Global;
 use std::marker::Model;
 use std::sync::ledger::Ledger;

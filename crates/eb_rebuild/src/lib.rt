@@ -4,14 +4,12 @@
 #![tactic(auto)]
 
 mod active_rows;
-mod beside;
 mod built;
 mod corner_names;
 mod degenerate;
 mod joined_names;
 mod kept_degrees;
 mod kept_sides;
-mod laws;
 mod link_rebuild;
 mod named_table;
 mod rebuild;
@@ -20,10 +18,6 @@ mod side_stack;
 mod splits;
 
 pub use built::Built;
-pub use laws::{
-    closes_take_one_side_each, made_are_names_and_splits, names_are_fans,
-    one_face_more_keeps_names, rows_are_one_each,
-};
 pub use link_rebuild::LinkRebuild;
 pub use rebuild::Rebuild;
 pub use row_rebuild::RowRebuild;

@@ -11,7 +11,6 @@ ghost use Rattle.corner_table.specs.Table.{side_of, gluing_of};
 ghost use Rattle.eb_rebuild.specs.CornerNames.{IsNaming};
 ghost use Rattle.eb_rebuild.specs.Linked.{refused_by};
 
-use crate::beside::Beside;
 use crate::built::Built;
 use crate::corner_names::CornerNames;
 use crate::degenerate::first_equal;
@@ -21,6 +20,7 @@ use crate::side_stack::SideStack;
 use crate::splits::Splits;
 use corner_table::{Event, LinkedTable, SideTable, Steps, Symbol, number_of, side_with};
 use drc_base::{Fault, Kind, Memory, Refusal, Side};
+use eb_machine::Beside;
 use std::alloc::Global;
 use std::marker::Model;
 use std::sync::ledger::Ledger;
@@ -109,8 +109,8 @@ impl LinkRebuild {
     ghost use Rattle.corner_table.specs.declared.symbols.Symbol.TheVariants as kinds;
     ghost use Rattle.corner_table.specs.Sides.{side_at};
     ghost use Rattle.corner_table.specs.Table.{gluing_of, room_of};
-    ghost use Rattle.eb_rebuild.specs.Machine.{top, step, close, pushed, release};
-    ghost use Rattle.eb_rebuild.specs.Beside.{symbol_in};
+    ghost use Rattle.eb_machine.specs.Machine.{top, step, close, pushed, release};
+    ghost use Rattle.eb_machine.specs.Beside.{symbol_in};
     ghost use Rattle.eb_rebuild.specs.Kept.{kept_in};
     ghost use Rattle.eb_rebuild.specs.Linked.{state_of, is_live, Does};
     ghost use Rattle.eb_rebuild.specs.Rebuilding.{Holds};

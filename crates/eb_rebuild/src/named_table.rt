@@ -9,8 +9,8 @@ ghost use Rattle.std.specs.Prelude.{◌≡◌, ◌+◌, ◌*◌, ◌<◌};
 ghost use Rattle.drc_base.specs.declared.limits.TheConstants.{MAX_FACES as most_faces};
 ghost use Rattle.corner_table.specs.Sides.{side_at, number};
 ghost use Rattle.corner_table.specs.Table.{side_of};
-ghost use Rattle.eb_rebuild.specs.Beside.{glued_place, free_place, new_triangle};
-ghost use Rattle.eb_rebuild.specs.Named.{new_row};
+ghost use Rattle.eb_machine.specs.Beside.{glued_place, free_place, new_triangle};
+ghost use Rattle.eb_machine.specs.Named.{new_row};
 ghost use Rattle.eb_rebuild.specs.Rowed.{row_listed};
 
 use crate::active_rows::{
@@ -18,9 +18,9 @@ use crate::active_rows::{
     renamed_triangles, row_of, row_to, second_row, start_name, starts_row, third_row,
     triangle_renamed, with_row, with_triangle, without,
 };
-use crate::beside::Beside;
 use corner_table::{SideTable, Steps, side_with};
 use drc_base::{Memory, Side};
+use eb_machine::Beside;
 use std::alloc::Global;
 use std::marker::Model;
 use std::sync::ledger::Ledger;
@@ -68,8 +68,8 @@ impl NamedTable {
     ghost use Rattle.corner_table.specs.Sides.{next, side, first, second, third, unglued, glue, same, IsGluing};
     ghost use Rattle.corner_table.specs.Fans.{side_before};
     ghost use Rattle.corner_table.specs.Table.{gluing_of, room_of};
-    ghost use Rattle.eb_rebuild.specs.Degree.{degree};
-    ghost use Rattle.eb_rebuild.specs.Machine.{first_degenerate};
+    ghost use Rattle.eb_machine.specs.Degree.{degree};
+    ghost use Rattle.eb_machine.specs.Machine.{first_degenerate};
     ghost use Rattle.eb_rebuild.specs.Rowed.{IsRowIn, IsGluedIn};
 
     /// No faces, and room for `faces` of them.

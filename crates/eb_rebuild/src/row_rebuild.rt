@@ -9,7 +9,6 @@ ghost use Rattle.std.specs.Prelude.{◌≡◌, not, ◌&&◌, Bool};
 ghost use Rattle.corner_table.specs.Sides.{side_at, same};
 
 use crate::active_rows::Row;
-use crate::beside::Beside;
 use crate::built::Built;
 use crate::link_rebuild::refused;
 use crate::named_table::NamedTable;
@@ -18,6 +17,7 @@ use crate::side_stack::SideStack;
 use crate::splits::Splits;
 use corner_table::{Event, Steps, Symbol};
 use drc_base::{Fault, Kind, Memory, Refusal};
+use eb_machine::Beside;
 use std::alloc::Global;
 use std::marker::Model;
 use std::sync::ledger::Ledger;
@@ -75,8 +75,8 @@ impl RowRebuild {
     ghost use Rattle.std.specs.Prelude.{ℕ, suc, ◌+◌, ◌*◌, ◌<◌, ◌≤◌, true, false, None, ◌∷◌, Ok, Err, map, length, IfOk, IfErr, OnOk};
     ghost use Rattle.corner_table.specs.declared.symbols.Symbol.TheVariants as kinds;
     ghost use Rattle.corner_table.specs.Table.{gluing_of, room_of};
-    ghost use Rattle.eb_rebuild.specs.Machine.{top, step, close, pushed, release};
-    ghost use Rattle.eb_rebuild.specs.Beside.{symbol_in};
+    ghost use Rattle.eb_machine.specs.Machine.{top, step, close, pushed, release};
+    ghost use Rattle.eb_machine.specs.Beside.{symbol_in};
     ghost use Rattle.eb_rebuild.specs.Kept.{kept_in};
     ghost use Rattle.eb_rebuild.specs.Linked.{state_of};
     ghost use Rattle.eb_rebuild.specs.Rowed.{plain_of, Tries, IsRowIn};

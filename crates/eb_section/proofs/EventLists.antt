@@ -5,7 +5,7 @@ use Rattle.std.proofs.lemmas.List.Elements.{All-nil, All-cons}
 use Rattle.drc_bits.specs.Bits.{BitPlace, bits_left, number_of}
 use Rattle.symbol_coding.proofs.Values.{IsTaken, left-taken}
 use Rattle.corner_table.specs.declared.symbols.Event.{Event}
-use Rattle.eb_rebuild.specs.Rebuilding.{IsEventOf}
+use Rattle.eb_machine.specs.Events.{IsEventOf}
 use Rattle.eb_section.specs.Events.{EventNumbers, events_of, IsSideBefore, AreNumbersOf}
 
 -- ---- the bit of a side

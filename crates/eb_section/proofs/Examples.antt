@@ -11,7 +11,7 @@ use Rattle.rans_binary.specs.Blocks.{bit_block_at}
 use Rattle.symbol_tables.specs.Tables.{table_at, probs_at}
 use Rattle.symbol_coding.specs.Symbols.{coded_at, next_symbols}
 use Rattle.symbol_coding.specs.Block.{tagged_at, values_in_groups, block_at as symbols_at}
-use Rattle.eb_rebuild.specs.Machine.{step, note_events, close, close_all, finish, first_degenerate}
+use Rattle.eb_machine.specs.Machine.{step, note_events, close, close_all, finish, first_degenerate}
 use Rattle.eb_section.specs.Opening.{opening_at}
 use Rattle.eb_section.specs.Events.{numbers_at, events_at}
 use Rattle.eb_section.specs.Feeding.{fed, rebuilt}

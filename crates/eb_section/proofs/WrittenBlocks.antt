@@ -15,7 +15,7 @@ use Rattle.rans_binary.specs.Blocks.{Block, IsBlockOf, block, bit_block_at}
 use Rattle.symbol_coding.specs.Block.{block_bytes, block_at as symbols_at}
 use Rattle.corner_table.specs.declared.symbols.Symbol.{Symbol}
 use Rattle.corner_table.specs.declared.symbols.Event.{Event}
-use Rattle.eb_rebuild.specs.Machine.{State, start, step}
+use Rattle.eb_machine.specs.Machine.{State, start, step}
 use Rattle.eb_valence.specs.declared.context_lists.TheConstants.{CONTEXTS}
 use Rattle.eb_valence.specs.Numbers.{symbol_number}
 use Rattle.eb_valence.specs.Contexts.{CodedSymbol, context, coded, context_coded_at, context_list, context_lists}

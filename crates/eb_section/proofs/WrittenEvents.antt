@@ -12,7 +12,7 @@ use Rattle.drc_bits.proofs.Spelled.{Spells-none, Spells-then, Spells-must, Spell
 use Rattle.drc_bits.proofs.PackedBits.{Spells-bits}
 use Rattle.drc_bits.proofs.Chains.{chain_bytes, ChainSpelled, Spells-chain}
 use Rattle.corner_table.specs.declared.symbols.Event.{Event}
-use Rattle.eb_rebuild.specs.Rebuilding.{IsEventOf}
+use Rattle.eb_machine.specs.Events.{IsEventOf}
 use Rattle.eb_trace.specs.Writable.{RiseFrom}
 use Rattle.eb_section.specs.declared.opening.Opening.{Opening}
 use Rattle.eb_section.specs.declared.events.EventNumbers.{EventNumbers}

@@ -12,7 +12,7 @@ use Rattle.symbol_tables.specs.Tables.{probs_bytes, prob_bytes}
 use Rattle.symbol_tables.specs.Normal.{normal}
 use Rattle.symbol_coding.specs.Symbols.{coded_bytes as coded_symbols, counts_of, digits_in}
 use Rattle.symbol_coding.specs.Block.{block_bytes, is_raw, lengths_of, raw_bytes, tagged_bytes}
-use Rattle.eb_rebuild.specs.Machine.{step, take_symbols, note_events}
+use Rattle.eb_machine.specs.Machine.{step, take_symbols, note_events}
 use Rattle.eb_valence.specs.Contexts.{coded, context_list}
 use Rattle.eb_trace.specs.declared.tracing.Traced.{Traced}
 use Rattle.eb_section.specs.Written.{opening_bytes, numbers_bytes, events_bytes, standard_bytes, standard_behind_bytes, valence_behind_bytes, connectivity_bytes}

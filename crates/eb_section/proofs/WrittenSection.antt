@@ -18,8 +18,8 @@ use Rattle.drc_bits.proofs.Written.{reading, bytes_at-front, var64_at-spelling}
 use Rattle.corner_table.specs.declared.symbols.Symbol.{Symbol}
 use Rattle.corner_table.specs.declared.symbols.Event.{Event}
 use Rattle.rans_binary.specs.Blocks.{IsBlockOf, block, bit_block_at}
-use Rattle.eb_rebuild.specs.Machine.{Plan, State, start}
-use Rattle.eb_rebuild.specs.Shown.{is_split}
+use Rattle.eb_machine.specs.Machine.{Plan, State, start}
+use Rattle.eb_machine.specs.Shown.{is_split}
 use Rattle.eb_standard.specs.SymbolBits.{reversed_bits}
 use Rattle.eb_valence.specs.declared.context_lists.TheConstants.{CONTEXTS}
 use Rattle.eb_valence.specs.Contexts.{context_lists, symbol_at}

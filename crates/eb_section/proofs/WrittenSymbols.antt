@@ -14,13 +14,13 @@ use Rattle.corner_table.specs.declared.symbols.Symbol.TheVariants.{C, S, L, R, E
 use Rattle.corner_table.specs.declared.symbols.Event.{Event}
 use Rattle.corner_table.specs.Sides.{Side}
 use Rattle.rans_binary.specs.Blocks.{Block, bit_of}
-use Rattle.eb_rebuild.specs.Machine.{Plan, State, start, step, take_symbols, close, close_all, finish, rebuild}
-use Rattle.eb_rebuild.proofs.Closes.{symbols_close_none, close_takes_one, run_closes_all}
+use Rattle.eb_machine.specs.Machine.{Plan, State, start, step, take_symbols, close, close_all, finish, rebuild}
+use Rattle.eb_machine.proofs.Closes.{symbols_close_none, close_takes_one, run_closes_all}
 use Rattle.eb_standard.specs.SymbolBits.{symbol_bits, reversed_bits, place_behind_symbol}
 use Rattle.eb_standard.proofs.Reading.{reads_back}
 use Rattle.eb_valence.specs.Contexts.{context_lists, symbol_at, fed_by_context as context_fed}
 use Rattle.eb_valence.proofs.ReadBack.{words_read_back}
-use Rattle.eb_rebuild.specs.Shown.{is_split}
+use Rattle.eb_machine.specs.Shown.{is_split}
 use Rattle.eb_valence.specs.Noting.{TakesWord}
 use Rattle.eb_trace.specs.Writable.{IsReadBack, IsWritable}
 use Rattle.eb_section.specs.Feeding.{Source, fed, rebuilt, Standard, standard}

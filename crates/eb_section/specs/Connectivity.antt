@@ -11,7 +11,7 @@ use Rattle.corner_table.specs.Sides.{Gluing}
 use Rattle.corner_table.specs.Table.{gluing_of}
 use Rattle.rans_binary.specs.Blocks.{Block, bit_block_at}
 use Rattle.symbol_coding.specs.Block.{block_at as symbols_at}
-use Rattle.eb_rebuild.specs.Machine.{State, start}
+use Rattle.eb_machine.specs.Machine.{State, start}
 use Rattle.eb_valence.specs.declared.context_lists.TheConstants.{CONTEXTS}
 use Rattle.eb_valence.specs.Contexts.{symbol_at}
 use Rattle.eb_section.specs.declared.opening.Opening.{Opening}

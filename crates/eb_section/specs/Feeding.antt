@@ -7,7 +7,7 @@ use Rattle.drc_base.specs.Refusals.{Refuses}
 use Rattle.drc_base.specs.Steps.{◌>>=◌}
 use Rattle.corner_table.specs.declared.symbols.Symbol.{Symbol}
 use Rattle.rans_binary.specs.Blocks.{Block, bit_of}
-use Rattle.eb_rebuild.specs.Machine.{Plan, State, step, close_all, finish}
+use Rattle.eb_machine.specs.Machine.{Plan, State, step, close_all, finish}
 use Rattle.eb_rebuild.specs.Rebuilding.{BuiltValue, Holds}
 use Rattle.eb_standard.specs.SymbolBits.{SymbolPlace, next_symbol, place_behind_symbol}
 

@@ -8,7 +8,7 @@ use Rattle.drc_base.specs.Steps.{◌>>=◌}
 use Rattle.drc_bits.specs.Reading.{Reading, Item, must}
 use Rattle.drc_bits.specs.Numbers.{number_at}
 use Rattle.drc_bits.specs.Varint.{var32_at}
-use Rattle.eb_rebuild.specs.Machine.{Plan}
+use Rattle.eb_machine.specs.Machine.{Plan}
 use Rattle.eb_section.specs.declared.opening.Opening.{Opening}
 
 -- the traversal: 0 standard, 2 valence

@@ -3,7 +3,7 @@ use Rattle.std.specs.Prelude.{◌≡◌, ℕ, ◌<◌, Bool, false, List, [], �
 use Rattle.drc_base.specs.Profile.{profile}
 use Rattle.drc_bits.specs.Spells.{Spells}
 use Rattle.rans_binary.specs.Blocks.{Block, bit_of, first_bits}
-use Rattle.eb_rebuild.specs.Machine.{State, rebuild}
+use Rattle.eb_machine.specs.Machine.{State, rebuild}
 use Rattle.eb_trace.specs.declared.tracing.Traced.{Traced}
 use Rattle.eb_section.specs.Opening.{plan_of}
 use Rattle.eb_section.specs.Connectivity.{section_of, connectivity_at}

@@ -7,7 +7,7 @@ use Rattle.corner_table.specs.declared.symbols.Symbol.{Symbol}
 use Rattle.corner_table.specs.declared.symbols.Event.{Event}
 use Rattle.rans_binary.specs.Blocks.{block}
 use Rattle.symbol_coding.specs.Block.{block_bytes}
-use Rattle.eb_rebuild.specs.Shown.{is_split}
+use Rattle.eb_machine.specs.Shown.{is_split}
 use Rattle.eb_standard.specs.SymbolBits.{reversed_bits}
 use Rattle.eb_valence.specs.Contexts.{context_lists}
 use Rattle.eb_trace.specs.declared.tracing.Traced.{Traced}

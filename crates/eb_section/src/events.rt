@@ -6,7 +6,7 @@ ghost use Rattle.drc_base.specs.declared.limits.TheConstants.{MAX_FACES as most_
 ghost use Rattle.drc_base.specs.declared.faults.Fault.{Fault as AnyFault};
 ghost use Rattle.drc_bits.specs.Bits.{bits_of, bits_left};
 ghost use Rattle.drc_bits.specs.Reading.{Reads, Gives, chain_at};
-ghost use Rattle.eb_rebuild.specs.Rebuilding.{IsEventOf};
+ghost use Rattle.eb_machine.specs.Events.{IsEventOf};
 ghost use Rattle.eb_section.specs.Events.{no_numbers, numbers_at, events_of, event_count_at, events_at, IsSideBefore, AreNumbersOf};
 
 use crate::opening::{Opening, read_count};

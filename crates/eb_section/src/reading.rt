@@ -6,7 +6,7 @@ ghost use Rattle.drc_base.specs.declared.faults.Fault.{Fault as AnyFault};
 ghost use Rattle.drc_base.specs.declared.faults.Refusal.TheVariants as refusal;
 ghost use Rattle.drc_base.specs.Profile.{profile};
 ghost use Rattle.drc_bits.specs.Reading.{Gives};
-ghost use Rattle.eb_rebuild.specs.Rebuilding.{IsEventOf};
+ghost use Rattle.eb_machine.specs.Events.{IsEventOf};
 ghost use Rattle.eb_section.specs.Calls.{declared_faces, faces_from, faces_there, lists_behind, most_calls, symbols_behind, symbols_in_bits, symbols_in_lists};
 ghost use Rattle.eb_section.specs.Opening.{opening_at};
 ghost use Rattle.eb_section.specs.Events.{event_count_at, events_at};

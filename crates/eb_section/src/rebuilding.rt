@@ -4,8 +4,8 @@ ghost use Rattle.std.specs.Prelude.{◌≡◌, suc, ◌+◌, ◌*◌, ◌≤◌,
 ghost use Rattle.drc_base.specs.declared.limits.TheConstants.{MAX_FACES as most_faces};
 ghost use Rattle.drc_base.specs.Refusals.{Answers};
 ghost use Rattle.rans_binary.specs.Blocks.{bit_of};
-ghost use Rattle.eb_rebuild.specs.Machine.{close_all, start};
-ghost use Rattle.eb_rebuild.specs.Rebuilding.{IsEventOf};
+ghost use Rattle.eb_machine.specs.Machine.{close_all, start};
+ghost use Rattle.eb_machine.specs.Events.{IsEventOf};
 ghost use Rattle.eb_section.specs.Opening.{plan_of};
 ghost use Rattle.eb_section.specs.Calls.{most_calls, faces_from};
 ghost use Rattle.eb_section.specs.Feeding.{fed, rebuilt, EndsAs};

@@ -1,9 +1,9 @@
 //! Writing the section.
 
 ghost use Rattle.std.specs.Prelude.{◌≡◌, ◌<◌, ◌≤◌, ◌^◌, ◌++◌, OnOk, All, length, map, reverse};
-ghost use Rattle.eb_rebuild.specs.Machine.{start};
-ghost use Rattle.eb_rebuild.specs.Rebuilding.{IsEventOf};
-ghost use Rattle.eb_rebuild.specs.Shown.{is_split as is_split_symbol};
+ghost use Rattle.eb_machine.specs.Machine.{start};
+ghost use Rattle.eb_machine.specs.Events.{IsEventOf};
+ghost use Rattle.eb_machine.specs.Shown.{is_split as is_split_symbol};
 ghost use Rattle.eb_trace.specs.Writable.{IsWritable};
 ghost use Rattle.eb_valence.specs.Noting.{TakesWord};
 ghost use Rattle.eb_section.specs.Written.{opening_of, opening_bytes, bytes_behind_events, connectivity_bytes};

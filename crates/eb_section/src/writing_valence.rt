@@ -3,8 +3,8 @@
 ghost use Rattle.std.specs.Prelude.{◌≡◌, ◌<◌, ◌≤◌, ◌^◌, ◌++◌, IfOk, OnOk, All, length, map, reverse};
 ghost use Rattle.std.specs.List.{flat_map};
 ghost use Rattle.rans_binary.specs.Blocks.{IsBlockOf, block};
-ghost use Rattle.eb_rebuild.specs.Machine.{start};
-ghost use Rattle.eb_rebuild.specs.Rebuilding.{IsEventOf};
+ghost use Rattle.eb_machine.specs.Machine.{start};
+ghost use Rattle.eb_machine.specs.Events.{IsEventOf};
 ghost use Rattle.eb_valence.specs.Noting.{TakesWord};
 ghost use Rattle.eb_valence.specs.Contexts.{context_lists};
 ghost use Rattle.eb_section.specs.Written.{list_bytes, valence_behind_bytes};

@@ -6,8 +6,8 @@ use Rattle.corner_table.specs.Sides.{Side, Place, first, second, third, side, sa
 use Rattle.corner_table.specs.Fans.{side_before}
 use Rattle.corner_table.proofs.Places.{option_tells, Some_injective, same_refl, not_same}
 use Rattle.corner_table.proofs.Prefixing.{tells-prefix, prefix-free, prefix-tells, gap, gap_before, surrounded_more}
-use Rattle.eb_rebuild.specs.Machine.{State, Plan, close, close_all}
-use Rattle.eb_rebuild.proofs.Steps.{Next, the_state, same_state, then_ok, close_boundary, close_interior, fill_steps, loop_test}
+use Rattle.eb_machine.specs.Machine.{State, Plan, close, close_all}
+use Rattle.eb_machine.proofs.Steps.{Next, the_state, same_state, then_ok, close_boundary, close_interior, fill_steps, loop_test}
 use Rattle.corner_table.specs.declared.symbols.Symbol.{Symbol}
 use Rattle.corner_table.specs.Prefixes.{prefix, IsSurrounded, IsGap}
 use Rattle.eb_trace.specs.Readable.{IsReadable, IsInterior}

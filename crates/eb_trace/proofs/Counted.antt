@@ -13,10 +13,10 @@ use Rattle.corner_table.specs.Fans.{HasThreeFans}
 use Rattle.corner_table.specs.Carried.{carry, IsRenumbering, IsCarried}
 use Rattle.corner_table.proofs.Places.{option_tells, Some_injective}
 use Rattle.corner_table.proofs.Carrying.{carry-within, carry_injective, carry_onto, three_fans_carried}
-use Rattle.eb_rebuild.specs.Machine.{Plan, start, take_symbols, rebuild, fault}
-use Rattle.eb_rebuild.proofs.Steps.{Next}
+use Rattle.eb_machine.specs.Machine.{Plan, start, take_symbols, rebuild, fault}
+use Rattle.eb_machine.proofs.Steps.{Next}
 use Rattle.eb_trace.specs.Readable.{IsReadable}
-use Rattle.eb_rebuild.specs.Shown.{is_split}
+use Rattle.eb_machine.specs.Shown.{is_split}
 use Rattle.eb_trace.specs.Front.{made_by, events_left, start_bits}
 use Rattle.eb_trace.specs.Rebuilt.{word_symbol, finished, CountsWord}
 use Rattle.eb_trace.specs.Trace.{fan_count, trace, order_of, word_of}

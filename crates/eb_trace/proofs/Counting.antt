@@ -10,7 +10,7 @@ use Rattle.corner_table.proofs.Walks.{fan_sym, fan_trans}
 use Rattle.corner_table.proofs.Gluings.{alike_after}
 use Rattle.corner_table.proofs.Prefixing.{tells-prefix, gap, no_gap, prefix_within, prefix_whole, surrounded_more}
 use Rattle.eb_trace.specs.Readable.{IsReadable, Says, IsPast, GoesOn, IsNewTip, IsSplit}
-use Rattle.eb_rebuild.specs.Shown.{is_split}
+use Rattle.eb_machine.specs.Shown.{is_split}
 use Rattle.eb_trace.specs.Front.{vertices_made, made_by}
 use Rattle.eb_trace.proofs.Below.{by_place, adds_none, adds_one, adds_two, adds_three}
 use Rattle.eb_trace.proofs.Merging.{IsMerging, merging_any}

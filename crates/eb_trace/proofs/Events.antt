@@ -6,9 +6,9 @@ use Rattle.corner_table.specs.declared.symbols.Symbol.{Symbol}
 use Rattle.corner_table.specs.declared.symbols.Event.{Event}
 use Rattle.corner_table.specs.Sides.{Side, Place, first, second, third, side, Gluing}
 use Rattle.corner_table.proofs.Places.{option_tells, Some_injective}
-use Rattle.eb_rebuild.specs.Machine.{note_events, reserve, event_place}
-use Rattle.eb_rebuild.specs.Shown.{is_split}
-use Rattle.eb_rebuild.proofs.Noting.{note_none, note_later, note_more}
+use Rattle.eb_machine.specs.Machine.{note_events, reserve, event_place}
+use Rattle.eb_machine.specs.Shown.{is_split}
+use Rattle.eb_machine.proofs.NotedEvents.{note_none, note_later, note_more}
 use Rattle.eb_trace.specs.Readable.{IsReadable}
 use Rattle.eb_trace.specs.Front.{reserved_for, waiting_side, split_met, event_told, events_of_face, events_left}
 use Rattle.eb_trace.proofs.Reserved.{reserved_early, reserved_late, reserved_unsplit, reserved_is, waiting_later, waiting_here, waiting_entry, waiting_more, met_third, third_met}

@@ -5,7 +5,7 @@ use Rattle.corner_table.specs.declared.symbols.Symbol.TheVariants.{C, S, L, R, E
 use Rattle.corner_table.specs.Sides.{Side, Gluing}
 use Rattle.corner_table.specs.Fans.{corners_of, leftmost, rightmost, walks_left, walks_right}
 use Rattle.corner_table.specs.Table.{glued_in, free_entry}
-use Rattle.eb_rebuild.specs.Machine.{State, rebuild, take_symbols, step, note_events, close_all, close, finish, first_degenerate}
+use Rattle.eb_machine.specs.Machine.{State, rebuild, take_symbols, step, note_events, close_all, close, finish, first_degenerate}
 use Rattle.eb_trace.specs.Front.{events_left, start_bits, free_firsts}
 use Rattle.eb_trace.specs.Rebuilt.{word_symbol}
 use Rattle.eb_trace.specs.Trace.{trace, traced_runs, run, split_of_face, take_kept, word_of, order_of, fan_count}

@@ -12,12 +12,12 @@ use Rattle.corner_table.specs.Carried.{IsRenumbering, IsCarried}
 use Rattle.corner_table.proofs.Places.{option_tells}
 use Rattle.corner_table.proofs.Numbers.{no_room}
 use Rattle.drc_base.specs.declared.faults.Fault.{Fault}
-use Rattle.eb_rebuild.specs.Machine.{State, Plan, rebuild}
-use Rattle.eb_rebuild.specs.Named.{NamedState, named_rebuild}
-use Rattle.eb_rebuild.specs.Shown.{Shows, Agree, is_split}
-use Rattle.eb_rebuild.specs.Rebuilding.{IsEventOf}
-use Rattle.eb_rebuild.proofs.NamedLaw.{runs_agree}
-use Rattle.eb_rebuild.proofs.NamesMade.{made_at_end}
+use Rattle.eb_machine.specs.Machine.{State, Plan, rebuild}
+use Rattle.eb_machine.specs.Named.{NamedState, named_rebuild}
+use Rattle.eb_machine.specs.Shown.{Shows, Agree, is_split}
+use Rattle.eb_machine.specs.Events.{IsEventOf}
+use Rattle.eb_machine.proofs.NamedLaw.{runs_agree}
+use Rattle.eb_machine.proofs.NamesMade.{made_at_end}
 use Rattle.eb_trace.specs.Front.{made_by, start_bits}
 use Rattle.eb_trace.specs.Rebuilt.{word_symbol, finished}
 use Rattle.eb_trace.specs.declared.surface.Surface.{Surface}

@@ -11,7 +11,7 @@ use Rattle.corner_table.specs.Labels.{IsLabelled, label_at}
 use Rattle.eb_trace.specs.declared.surface.Surface.{Surface}
 use Rattle.eb_trace.specs.declared.marks.Marks.{Marks}
 use Rattle.eb_trace.specs.declared.notes.Notes.{Notes}
-use Rattle.eb_rebuild.specs.Shown.{is_split}
+use Rattle.eb_machine.specs.Shown.{is_split}
 use Rattle.eb_trace.specs.Trace.{TracedEntry, is_face_visited, split_of_face, entered_by, nothing_walked}
 use Rattle.eb_trace.specs.Stored.{IsTracedSurface, noted_walk, entry_of, AreSized, split_told, split_entry, AreMarkedBy, AreMarksOf, met_after, IsTraceStored}
 use Rattle.eb_trace.proofs.Covered.{IsVisiting, not_yet}

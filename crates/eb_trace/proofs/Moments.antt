@@ -8,7 +8,7 @@ use Rattle.corner_table.specs.Sides.{Side, next, prev, Gluing, IsGluing}
 use Rattle.corner_table.specs.Fans.{swing_left, InFan, here, leftwards, HasThreeFans}
 use Rattle.corner_table.proofs.Places.{option_tells, Some_injective, next-prev}
 use Rattle.corner_table.proofs.Walks.{left_crosses, fan_sym}
-use Rattle.eb_rebuild.specs.Machine.{pushed}
+use Rattle.eb_machine.specs.Machine.{pushed}
 use Rattle.eb_trace.specs.Trace.{TracedEntry, TraceWalk, is_face_visited, is_visited_across, is_new_vertex, symbol_at_corner, after_symbol, go_back, take_kept, entered_by, trace_visit, run, events_noted}
 use Rattle.eb_trace.proofs.Rings.{Ring, GoesRound, OtherInFan, ring_of}
 use Rattle.eb_trace.proofs.Covered.{IsClosed, IsFaceOf, IsCovered, IsVisiting, IsBlocked, blocked_visited, blocked_ahead, covered_step, covered_closed, not_yet, part_back, three_sides, unvisited_count, count_less, count_some}

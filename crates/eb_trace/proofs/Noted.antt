@@ -9,7 +9,7 @@ use Rattle.corner_table.specs.Fans.{HasThreeFans}
 use Rattle.corner_table.specs.Carried.{carry, IsCarried}
 use Rattle.corner_table.proofs.Places.{option_tells}
 use Rattle.corner_table.proofs.Prefixing.{gap}
-use Rattle.eb_rebuild.specs.Shown.{is_split}
+use Rattle.eb_machine.specs.Shown.{is_split}
 use Rattle.eb_trace.specs.Readable.{IsNewTip, IsSplit, Says}
 use Rattle.eb_trace.specs.Front.{split_met, event_told, events_of_face, events_left}
 use Rattle.eb_trace.specs.Rebuilt.{word_symbol}

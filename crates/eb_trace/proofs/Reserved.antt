@@ -5,7 +5,7 @@ use Rattle.corner_table.specs.declared.symbols.Symbol.{Symbol}
 use Rattle.corner_table.specs.declared.symbols.Symbol.TheVariants.{C, S, L, R, E}
 use Rattle.corner_table.specs.Sides.{Side, Place, first, second, third, side, Gluing}
 use Rattle.corner_table.proofs.Places.{option_tells, Some_injective}
-use Rattle.eb_rebuild.specs.Shown.{is_split}
+use Rattle.eb_machine.specs.Shown.{is_split}
 use Rattle.eb_trace.specs.Readable.{IsReadable, IsSplit, Says}
 use Rattle.eb_trace.specs.Front.{is_entry, waiting_side, reserved_for, split_met}
 

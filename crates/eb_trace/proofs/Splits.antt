@@ -10,7 +10,7 @@ use Rattle.corner_table.specs.Sides.{Side, Place, first, second, third, side, Gl
 use Rattle.corner_table.specs.Carried.{IsCarried}
 use Rattle.corner_table.proofs.Places.{Some_injective}
 use Rattle.corner_table.proofs.Prefixing.{gap}
-use Rattle.eb_rebuild.specs.Machine.{event_place}
+use Rattle.eb_machine.specs.Machine.{event_place}
 use Rattle.eb_trace.specs.Front.{split_met, event_told, events_of_face, events_left}
 use Rattle.eb_trace.specs.Readable.{IsReadable, Says}
 use Rattle.eb_trace.specs.Rebuilt.{word_symbol}

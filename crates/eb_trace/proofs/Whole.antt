@@ -11,9 +11,9 @@ use Rattle.corner_table.specs.Fans.{HasThreeFans, meets}
 use Rattle.corner_table.specs.Prefixes.{prefix}
 use Rattle.corner_table.proofs.Meeting.{meets-fan}
 use Rattle.corner_table.proofs.Prefixing.{prefix_nothing, prefix_whole}
-use Rattle.eb_rebuild.specs.Machine.{State, Plan, start, step, take_symbols, close_all, finish, rebuild, is_degenerate, first_degenerate}
-use Rattle.eb_rebuild.proofs.Steps.{Next, the_state, same_state, then_ok}
-use Rattle.eb_rebuild.proofs.Ends.{finish_done, finish_vertices}
+use Rattle.eb_machine.specs.Machine.{State, Plan, start, step, take_symbols, close_all, finish, rebuild, is_degenerate, first_degenerate}
+use Rattle.eb_machine.proofs.Steps.{Next, the_state, same_state, then_ok}
+use Rattle.eb_machine.proofs.Ends.{finish_done, finish_vertices}
 use Rattle.eb_trace.specs.Readable.{IsReadable}
 use Rattle.eb_trace.specs.Front.{free_firsts, reserved_for, events_left, made_by, front, start_bits}
 use Rattle.eb_trace.specs.Rebuilt.{word_symbol, EachStepReads, PassesFronts, ClosesLast, finished, ReadsWord, RebuildsWord, RefusesFewer}

@@ -8,10 +8,10 @@ use Rattle.corner_table.specs.declared.symbols.Symbol.{Symbol}
 use Rattle.corner_table.specs.declared.symbols.Event.{Event}
 use Rattle.corner_table.specs.Sides.{Side, first, side, Gluing}
 use Rattle.corner_table.specs.Prefixes.{prefix}
-use Rattle.eb_rebuild.specs.Machine.{State}
-use Rattle.eb_rebuild.specs.Rebuilding.{IsEventOf}
-use Rattle.eb_rebuild.specs.Shown.{is_split}
-use Rattle.eb_rebuild.proofs.Closes.{run_closes_all}
+use Rattle.eb_machine.specs.Machine.{State}
+use Rattle.eb_machine.specs.Events.{IsEventOf}
+use Rattle.eb_machine.specs.Shown.{is_split}
+use Rattle.eb_machine.proofs.Closes.{run_closes_all}
 use Rattle.eb_trace.specs.Front.{free_firsts, start_bits}
 use Rattle.eb_trace.specs.Rebuilt.{finished}
 use Rattle.eb_trace.specs.Events.{ComesBefore, AreInOrder}

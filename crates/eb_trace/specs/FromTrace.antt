@@ -6,9 +6,9 @@ use Rattle.corner_table.specs.declared.symbols.Symbol.{Symbol}
 use Rattle.corner_table.specs.declared.symbols.Event.{Event}
 use Rattle.corner_table.specs.Sides.{Gluing}
 use Rattle.corner_table.specs.Carried.{IsCarried}
-use Rattle.eb_rebuild.specs.Machine.{rebuild}
-use Rattle.eb_rebuild.specs.Named.{NamedState, named_rebuild}
-use Rattle.eb_rebuild.specs.Shown.{is_split, Shows, names_in}
+use Rattle.eb_machine.specs.Machine.{rebuild}
+use Rattle.eb_machine.specs.Named.{NamedState, named_rebuild}
+use Rattle.eb_machine.specs.Shown.{is_split, Shows, names_in}
 use Rattle.eb_trace.specs.Front.{start_bits}
 use Rattle.eb_trace.specs.Rebuilt.{finished}
 use Rattle.eb_trace.specs.Trace.{fan_count}

@@ -7,8 +7,8 @@ use Rattle.corner_table.specs.declared.symbols.Symbol.TheVariants.{C, S, L, R, E
 use Rattle.corner_table.specs.declared.symbols.Event.{Event}
 use Rattle.corner_table.specs.Sides.{Side, Place, first, second, third, side, Gluing}
 use Rattle.corner_table.specs.Prefixes.{prefix}
-use Rattle.eb_rebuild.specs.Machine.{State, event_place}
-use Rattle.eb_rebuild.specs.Shown.{is_split}
+use Rattle.eb_machine.specs.Machine.{State, event_place}
+use Rattle.eb_machine.specs.Shown.{is_split}
 
 -- the sides 0 of faces below a number that are free, the last first
 unfoldable pub free_firsts : Gluing → ℕ → List Side

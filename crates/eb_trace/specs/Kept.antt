@@ -5,9 +5,9 @@ use Rattle.drc_base.specs.declared.kinds.Kind.TheVariants as kind
 use Rattle.corner_table.specs.Sides.{Gluing, IsGluing}
 use Rattle.corner_table.specs.Fans.{HasThreeFans}
 use Rattle.corner_table.specs.Carried.{IsRenumbering, IsCarried}
-use Rattle.eb_rebuild.specs.Machine.{Plan, start, take_symbols, rebuild, fault}
+use Rattle.eb_machine.specs.Machine.{Plan, start, take_symbols, rebuild, fault}
 use Rattle.eb_trace.specs.Readable.{IsReadable}
-use Rattle.eb_rebuild.specs.Shown.{is_split}
+use Rattle.eb_machine.specs.Shown.{is_split}
 use Rattle.eb_trace.specs.Front.{front, events_left, start_bits, made_by}
 use Rattle.eb_trace.specs.Rebuilt.{word_symbol}
 use Rattle.eb_trace.specs.Trace.{trace, word_of, order_of, fan_count}

@@ -7,9 +7,9 @@ use Rattle.corner_table.specs.declared.symbols.Symbol.{Symbol}
 use Rattle.corner_table.specs.declared.symbols.Symbol.TheVariants.{E}
 use Rattle.corner_table.specs.Sides.{Gluing}
 use Rattle.corner_table.specs.Fans.{HasThreeFans}
-use Rattle.eb_rebuild.specs.Machine.{State, Plan, start, step, take_symbols, close_all, rebuild, fault}
+use Rattle.eb_machine.specs.Machine.{State, Plan, start, step, take_symbols, close_all, rebuild, fault}
 use Rattle.eb_trace.specs.Readable.{IsReadable}
-use Rattle.eb_rebuild.specs.Shown.{is_split}
+use Rattle.eb_machine.specs.Shown.{is_split}
 use Rattle.eb_trace.specs.Front.{front, events_left, start_bits, made_by}
 use Rattle.eb_trace.specs.Trace.{fan_count}
 

@@ -11,7 +11,7 @@ use Rattle.eb_trace.specs.declared.marks.Marks.{Marks}
 use Rattle.eb_trace.specs.declared.notes.Notes.{Notes}
 use Rattle.eb_trace.specs.declared.notes.Entered.{Entered}
 use Rattle.eb_trace.specs.Trace.{TracedEntry, TraceWalk, is_face_visited, split_of_face}
-use Rattle.eb_rebuild.specs.Shown.{is_split}
+use Rattle.eb_machine.specs.Shown.{is_split}
 
 -- the gluing of a surface
 abbrev pub traced_gluing : Surface → Gluing

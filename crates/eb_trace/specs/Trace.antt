@@ -8,8 +8,8 @@ use Rattle.corner_table.specs.declared.symbols.Symbol.TheVariants.{C, S, L, R, E
 use Rattle.corner_table.specs.declared.symbols.Event.{Event}
 use Rattle.corner_table.specs.Sides.{Side, first, second, third, side, next, prev, number, place_number, Gluing}
 use Rattle.corner_table.specs.Fans.{rightmost, meets, corners_of}
-use Rattle.eb_rebuild.specs.Machine.{pushed}
-use Rattle.eb_rebuild.specs.Shown.{is_split}
+use Rattle.eb_machine.specs.Machine.{pushed}
+use Rattle.eb_machine.specs.Shown.{is_split}
 
 -- one symbol: the corner at which its face was entered
 pub record TracedEntry : Type 0 where

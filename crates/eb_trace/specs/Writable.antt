@@ -3,9 +3,9 @@
 use Rattle.std.specs.Prelude.{◌≡◌, ℕ, ◌+◌, ◌≤◌, Bool, false, List, [], ◌∷◌, length, reverse, get_or, count_by, All, Ok}
 use Rattle.corner_table.specs.declared.symbols.Symbol.{Symbol}
 use Rattle.corner_table.specs.declared.symbols.Event.{Event}
-use Rattle.eb_rebuild.specs.Machine.{Plan, State, start, take_symbols, rebuild}
-use Rattle.eb_rebuild.specs.Rebuilding.{IsEventOf}
-use Rattle.eb_rebuild.specs.Shown.{is_split}
+use Rattle.eb_machine.specs.Machine.{Plan, State, start, take_symbols, rebuild}
+use Rattle.eb_machine.specs.Events.{IsEventOf}
+use Rattle.eb_machine.specs.Shown.{is_split}
 use Rattle.eb_trace.specs.Events.{AreInOrder}
 
 -- sources of events don't fall, from a number on

@@ -4,7 +4,7 @@ ghost use Rattle.std.specs.Prelude.{◌≡◌, ℕ, ◌≤◌, ◌++◌, IfOk, A
 ghost use Rattle.corner_table.specs.Fans.{IsProper};
 ghost use Rattle.corner_table.specs.Table.{gluing_of};
 ghost use Rattle.corner_table.specs.Carried.{IsRenumbering};
-ghost use Rattle.eb_rebuild.specs.Rebuilding.{IsEventOf};
+ghost use Rattle.eb_machine.specs.Events.{IsEventOf};
 ghost use Rattle.eb_trace.specs.Events.{IsSplitEvent, AreInOrder, SplitOnce};
 ghost use Rattle.eb_trace.specs.FromTrace.{AreStartBits, CarriesOne, CarriesFans, IsRebuiltFrom, NamesVertices};
 ghost use Rattle.eb_trace.specs.Writable.{IsWritable};

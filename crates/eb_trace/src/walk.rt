@@ -7,7 +7,7 @@
 ghost use Rattle.std.specs.Prelude.{◌≡◌, ℕ, ◌*◌, ◌<◌, ◌≤◌, ◌++◌, All, IfOk, IfSome, OnOk, vec_len, length, map, reverse};
 ghost use Rattle.std.specs.Option.{option_map};
 ghost use Rattle.corner_table.specs.Sides.{side, second, side_at};
-ghost use Rattle.eb_rebuild.specs.Machine.{pushed};
+ghost use Rattle.eb_machine.specs.Machine.{pushed};
 ghost use Rattle.eb_trace.specs.Stored.{traced_gluing, noted_walk, split_entry, IsTracedSurface, IsTraceStored};
 ghost use Rattle.eb_trace.specs.Trace.{entered_by, events_noted, take_kept, go_back, after_symbol, trace_visit, run, start_corner, begun_inside, begun, face_run};
 

@@ -3,7 +3,7 @@ use Rattle.std.specs.Prelude.{◌≡◌, ℕ, Bool, true, false, [], ◌∷◌, 
 use Rattle.corner_table.specs.declared.symbols.Symbol.TheVariants.{C, S, L, R, E}
 use Rattle.corner_table.specs.declared.symbols.Event.{Event}
 use Rattle.corner_table.specs.Fans.{corners_of, leftmost, walks_left, walks_right}
-use Rattle.eb_rebuild.specs.Machine.{step, take_symbols, note_events, start}
+use Rattle.eb_machine.specs.Machine.{step, take_symbols, note_events, start}
 use Rattle.eb_valence.specs.Contexts.{coded, context_list, context_lists}
 use Rattle.eb_valence.specs.Noting.{TakesWord}
 

@@ -13,9 +13,9 @@ use Rattle.drc_base.specs.Steps.{◌>>=◌}
 use Rattle.corner_table.specs.Sides.{Side}
 use Rattle.corner_table.specs.declared.symbols.Symbol.{Symbol}
 use Rattle.corner_table.specs.declared.symbols.Symbol.TheVariants.{C, S, L, R, E}
-use Rattle.eb_rebuild.specs.Machine.{State, step, take_symbols, top}
-use Rattle.eb_rebuild.specs.Degree.{top_degree}
-use Rattle.eb_rebuild.proofs.Counts.{step_counts}
+use Rattle.eb_machine.specs.Machine.{State, step, take_symbols, top}
+use Rattle.eb_machine.specs.Degree.{top_degree}
+use Rattle.eb_machine.proofs.Counts.{step_counts}
 use Rattle.eb_valence.specs.declared.context_lists.TheConstants.{CONTEXTS}
 use Rattle.eb_valence.specs.Numbers.{symbol_number, symbol_numbered, context_of}
 use Rattle.eb_valence.specs.Reading.{last_of, all_but_last, symbol_taken, taken_at}

@@ -6,8 +6,8 @@ use Rattle.drc_base.specs.declared.faults.Fault.{Fault}
 use Rattle.drc_base.specs.Steps.{◌>>=◌}
 use Rattle.corner_table.specs.declared.symbols.Symbol.{Symbol}
 use Rattle.corner_table.specs.declared.symbols.Event.{Event}
-use Rattle.eb_rebuild.specs.Machine.{State, start, step, take_symbols}
-use Rattle.eb_rebuild.specs.Degree.{top_degree}
+use Rattle.eb_machine.specs.Machine.{State, start, step, take_symbols}
+use Rattle.eb_machine.specs.Degree.{top_degree}
 use Rattle.eb_valence.specs.declared.context_lists.TheConstants.{CONTEXTS}
 use Rattle.eb_valence.specs.Numbers.{symbol_number, context_of}
 use Rattle.eb_valence.specs.Reading.{taken_at}

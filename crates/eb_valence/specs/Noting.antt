@@ -2,7 +2,7 @@
 -- is defined in `Contexts`.
 use Rattle.std.specs.Prelude.{◌≡◌, ℕ, List, [], ◌∷◌, ◌++◌, get_or, set, Ok}
 use Rattle.corner_table.specs.declared.symbols.Symbol.{Symbol}
-use Rattle.eb_rebuild.specs.Machine.{State, take_symbols}
+use Rattle.eb_machine.specs.Machine.{State, take_symbols}
 use Rattle.eb_valence.specs.Contexts.{CodedSymbol}
 
 -- a code is put behind the list of its context

@@ -2,7 +2,7 @@
 
 ghost use Rattle.std.specs.Prelude.{◌≡◌, ◌<◌, ◌≤◌, length, All, OnOk, IsTrue};
 ghost use Rattle.drc_base.specs.declared.limits.TheConstants.{MAX_FACES as most_faces};
-ghost use Rattle.eb_rebuild.specs.Rebuilding.{IsEventOf};
+ghost use Rattle.eb_machine.specs.Events.{IsEventOf};
 
 use corner_table::Symbol::{C, E, L, R as Right, S};
 use corner_table::{Event, FREE, Steps, Symbol};

@@ -6,7 +6,7 @@ ghost use Rattle.drc_base.specs.declared.limits.TheConstants.{MAX_FACES as most_
 ghost use Rattle.corner_table.specs.Carried.{IsRenumbering};
 ghost use Rattle.corner_table.specs.Fans.{IsProper};
 ghost use Rattle.corner_table.specs.Table.{gluing_of};
-ghost use Rattle.eb_rebuild.specs.Rebuilding.{IsEventOf};
+ghost use Rattle.eb_machine.specs.Events.{IsEventOf};
 
 use corner_table::{SideTable, Steps, Symbol};
 use drc_base::{Memory, Refusal};

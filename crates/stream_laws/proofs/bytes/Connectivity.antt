@@ -10,7 +10,7 @@ use Rattle.rans_binary.specs.Blocks.{block}
 use Rattle.symbol_coding.specs.Block.{block_bytes}
 use Rattle.seq_section.specs.Packed.{symbols_of}
 use Rattle.seq_section.specs.Indices.{index_width, bytes_of_width, index_bytes, face_bytes, indices_opening_bytes, faces_bytes, indices_bytes}
-use Rattle.eb_rebuild.specs.Shown.{is_split}
+use Rattle.eb_machine.specs.Shown.{is_split}
 use Rattle.eb_standard.specs.SymbolBits.{reversed_bits}
 use Rattle.eb_valence.specs.Contexts.{context_lists}
 use Rattle.eb_trace.specs.declared.tracing.Traced.{Traced}

@@ -5,7 +5,7 @@ use Rattle.corner_table.specs.Sides.{Side, Place, first, second, third, side, pl
 use Rattle.corner_table.specs.Fans.{meets, HasThreeFans}
 use Rattle.corner_table.proofs.Places.{option_tells}
 use Rattle.corner_table.proofs.Meeting.{fan_meets}
-use Rattle.eb_rebuild.specs.Machine.{is_degenerate, first_degenerate}
+use Rattle.eb_machine.specs.Machine.{is_degenerate, first_degenerate}
 
 -- where no face is degenerate, each of them isn't
 none-degenerate : (faces : ℕ) (g : Gluing) (n : ℕ) → first_degenerate faces g n ≡ None → (f : ℕ) → f < n → is_degenerate faces g f ≡ false

@@ -19,12 +19,12 @@ use Rattle.corner_table.specs.Sides.{IsGluing}
 use Rattle.corner_table.specs.Fans.{HasThreeFans}
 use Rattle.corner_table.proofs.Places.{option_tells}
 use Rattle.rans_binary.specs.Blocks.{Block, bit_of, bit_block_at}
-use Rattle.eb_rebuild.specs.Machine.{State, Plan, start, step, close, close_all, finish, must_be, fault, first_degenerate}
-use Rattle.eb_rebuild.specs.Named.{NamedState, named_start, named_step, named_close}
-use Rattle.eb_rebuild.specs.Shown.{Shows, Agree}
-use Rattle.eb_rebuild.proofs.NamedLaw.{symbols_agree, closes_agree, shows_start}
-use Rattle.eb_rebuild.proofs.RowsOnce.{sound}
-use Rattle.eb_rebuild.proofs.Closes.{finish_keeps_state}
+use Rattle.eb_machine.specs.Machine.{State, Plan, start, step, close, close_all, finish, must_be, fault, first_degenerate}
+use Rattle.eb_machine.specs.Named.{NamedState, named_start, named_step, named_close}
+use Rattle.eb_machine.specs.Shown.{Shows, Agree}
+use Rattle.eb_machine.proofs.NamedLaw.{symbols_agree, closes_agree, shows_start}
+use Rattle.eb_machine.proofs.RowsOnce.{sound}
+use Rattle.eb_machine.proofs.Closes.{finish_keeps_state}
 use Rattle.eb_valence.specs.declared.context_lists.TheConstants.{CONTEXTS}
 use Rattle.eb_valence.specs.Contexts.{symbol_at}
 use Rattle.eb_section.specs.Opening.{traversal_at, opening_at, plan_of}

@@ -10,8 +10,8 @@ use Rattle.mesh_model.specs.Parts.{MeshParts, IsMesh}
 use Rattle.pairing.specs.Degenerate.{degenerate_fault}
 use Rattle.corner_table.specs.declared.symbols.Symbol.{Symbol}
 use Rattle.rans_binary.specs.Blocks.{Block}
-use Rattle.eb_rebuild.specs.Machine.{State}
-use Rattle.eb_rebuild.specs.Shown.{is_split}
+use Rattle.eb_machine.specs.Machine.{State}
+use Rattle.eb_machine.specs.Shown.{is_split}
 use Rattle.eb_trace.specs.Rebuilt.{finished}
 use Rattle.eb_section.specs.Connectivity.{Connectivity, section_of, connectivity_at}
 use Rattle.eb_section.specs.Written.{opening_of}

@@ -1,6 +1,6 @@
 -- One triangle more is tried.
 use Rattle.std.proofs.Common.{sym, ap, ◌∙◌, arith, add-one, suc}
-use Rattle.eb_rebuild.specs.Named.{has_equal, first_with_equal}
+use Rattle.eb_machine.specs.Named.{has_equal, first_with_equal}
 use Rattle.eb_rebuild.proofs.EqualNames.{equal_zero, equal_here, equal_not_here, equal_found}
 use Rattle.eb_rebuild.proofs.active_rows.first_with_equal.Goals as goal
 

@@ -1,5 +1,5 @@
 use Rattle.std.proofs.Common.{All, sym, subst}
-use Rattle.eb_rebuild.specs.Rebuilding.{IsEventOf}
+use Rattle.eb_machine.specs.Events.{IsEventOf}
 use Rattle.eb_section.specs.Events.{AreNumbersOf}
 use Rattle.eb_section.proofs.EventLists.{each_event}
 use Rattle.eb_section.proofs.events.read_events.Goals as goal

@@ -2,7 +2,7 @@
 use Rattle.std.proofs.Common.{◌≡◌, ◌+◌, ◌<◌, ◌∙◌, Bool, IsTrue, Ok, length, ap, sym, subst, refl, arith, add-one}
 use Rattle.std.proofs.lemmas.Result.{err_from_is_err_and}
 use Rattle.rans_binary.specs.Blocks.{bit_of, after_bit}
-use Rattle.eb_rebuild.specs.Machine.{State, Plan, close}
+use Rattle.eb_machine.specs.Machine.{State, Plan, close}
 use Rattle.eb_section.proofs.Runs.{closes-next, closes-refused, closes-end, moves-err, close_counted, bit-drawn, closed-cost, closed-built}
 use Rattle.eb_section.proofs.rebuilding.close_sides.Goals as goal
 

@@ -1,7 +1,7 @@
 -- The sides that are left, closed by the bits that are left, lead from the machine's state to where all lead.
 use Rattle.std.proofs.Common.{◌≡◌, ◌-◌, ◌+◌, ◌*◌, ◌≤◌, IsTrue, length}
 use Rattle.rans_binary.specs.Blocks.{behind, bit_of}
-use Rattle.eb_rebuild.specs.Machine.{State, close_all}
+use Rattle.eb_machine.specs.Machine.{State, close_all}
 use Rattle.eb_section.proofs.rebuilding.close_sides.Given as goal
 
 abbrev pub invariant-loop-number : goal.invariant-loop-number

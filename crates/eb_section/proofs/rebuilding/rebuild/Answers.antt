@@ -1,7 +1,7 @@
 -- Symbols, closes and the tests at the end make the whole.
 use Rattle.std.proofs.Common.{◌∙◌, suc, min, Bool, IsTrue, ap, sym, subst, arith}
 use Rattle.std.proofs.lemmas.Result.{err_from_is_err_and}
-use Rattle.eb_rebuild.specs.Machine.{State, Plan, finish}
+use Rattle.eb_machine.specs.Machine.{State, Plan, finish}
 use Rattle.eb_section.proofs.Runs.{refused-symbol, refused-close, behind-closes, ends-as, ended-faces, fed-none, symbols-within, calls-within, labelled-within, unlabelled}
 use Rattle.eb_section.proofs.rebuilding.rebuild.Goals as goal
 

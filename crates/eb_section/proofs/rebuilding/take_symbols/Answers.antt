@@ -1,8 +1,8 @@
 -- Each symbol is drawn and taken; the first fault is that of the whole.
 use Rattle.std.proofs.Common.{◌≡◌, ◌∙◌, Bool, IsTrue, ap, sym, subst, arith}
 use Rattle.std.proofs.lemmas.Result.{err_from_is_err_and}
-use Rattle.eb_rebuild.specs.Machine.{State, Plan, step}
-use Rattle.eb_rebuild.proofs.Counts.{step_counts}
+use Rattle.eb_machine.specs.Machine.{State, Plan, step}
+use Rattle.eb_machine.proofs.Counts.{step_counts}
 use Rattle.eb_section.proofs.Runs.{came-on, few_calls, fed-next, fed-missing, fed-refused, fed-end, moves-err}
 use Rattle.eb_section.proofs.rebuilding.take_symbols.Goals as goal
 

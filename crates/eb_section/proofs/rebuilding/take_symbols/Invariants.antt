@@ -1,6 +1,6 @@
 -- The symbols that are left, drawn from what is left of the source, lead from the machine's state to where all lead.
 use Rattle.std.proofs.Common.{◌≡◌, suc, ◌-◌, ◌+◌, ◌*◌, ◌≤◌, IsTrue}
-use Rattle.eb_rebuild.specs.Machine.{State}
+use Rattle.eb_machine.specs.Machine.{State}
 use Rattle.eb_section.specs.Feeding.{fed}
 use Rattle.eb_section.proofs.rebuilding.take_symbols.Given as goal
 

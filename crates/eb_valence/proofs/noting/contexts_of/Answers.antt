@@ -2,7 +2,7 @@
 use Rattle.std.proofs.Common.{◌≡◌, ◌∙◌, ℕ, List, [], ap, map, reverse, replicate, length}
 use Rattle.corner_table.specs.declared.symbols.Event.{Event}
 use Rattle.corner_table.specs.declared.symbols.Symbol.{Symbol}
-use Rattle.eb_rebuild.specs.Machine.{State, start}
+use Rattle.eb_machine.specs.Machine.{State, start}
 use Rattle.eb_valence.specs.declared.context_lists.TheConstants.{CONTEXTS}
 use Rattle.eb_valence.specs.Contexts.{coded}
 use Rattle.eb_valence.specs.Noting.{noted}

@@ -2,9 +2,9 @@
 use Rattle.std.proofs.Common.{◌≡◌, ◌-◌, ◌+◌, ◌∙◌, ℕ, ap, sym, subst, arith, Bool, IsTrue, Err, slice_index_or}
 use Rattle.corner_table.specs.declared.symbols.Symbol.{Symbol}
 use Rattle.corner_table.specs.declared.symbols.Symbol.TheVariants.{C}
-use Rattle.eb_rebuild.specs.Machine.{State, Plan, step}
+use Rattle.eb_machine.specs.Machine.{State, Plan, step}
 use Rattle.eb_rebuild.specs.Rebuilding.{Moves}
-use Rattle.eb_rebuild.proofs.Counts.{step_counts}
+use Rattle.eb_machine.proofs.Counts.{step_counts}
 use Rattle.eb_valence.proofs.Noted.{word_at, called, takes_on, told_on, told_all, takes_first}
 use Rattle.eb_valence.proofs.noting.note_all.Goals as goal
 

@@ -1,6 +1,6 @@
 -- The events so far are of the stream.
 use Rattle.std.specs.List.{All}
-use Rattle.eb_rebuild.specs.Rebuilding.{IsEventOf}
+use Rattle.eb_machine.specs.Events.{IsEventOf}
 use Rattle.surface_tests.proofs.eb_rebuild_tests.events_of.Given as goal
 
 abbrev pub invariant-loop-event : goal.invariant-loop-event

@@ -1,6 +1,6 @@
 -- Each symbol builds a face.
 use Rattle.std.proofs.Common.{ap, sym, ◌∙◌, add-one, suc}
-use Rattle.eb_rebuild.proofs.Counts.{step_counts}
+use Rattle.eb_machine.proofs.Counts.{step_counts}
 use Rattle.surface_tests.proofs.eb_rebuild_tests.take_all.Goals as goal
 
 pub loop-symbol-preserved : goal.loop-symbol-preserved

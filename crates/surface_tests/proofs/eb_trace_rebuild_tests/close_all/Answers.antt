@@ -1,7 +1,7 @@
 -- Fewer sides wait, and the plan and the faces stay.
 use Rattle.std.proofs.Common.{ap, arith}
-use Rattle.eb_rebuild.specs.Machine.{Plan}
-use Rattle.eb_rebuild.proofs.Counts.{close_shorter}
+use Rattle.eb_machine.specs.Machine.{Plan}
+use Rattle.eb_machine.proofs.Counts.{close_shorter}
 use Rattle.surface_tests.proofs.eb_trace_rebuild_tests.close_all.Goals as goal
 
 pub closing-smaller : goal.closing-smaller

@@ -1,6 +1,6 @@
 -- The machine takes the symbols of each surface.
 use Rattle.std.proofs.Common.{refl}
-use Rattle.eb_rebuild.specs.Machine.{take_symbols}
+use Rattle.eb_machine.specs.Machine.{take_symbols}
 use Rattle.eb_valence.proofs.Examples.{takes_tetrahedron, takes_torus}
 use Rattle.surface_tests.proofs.eb_valence_tests.notes.Goals as goal
 

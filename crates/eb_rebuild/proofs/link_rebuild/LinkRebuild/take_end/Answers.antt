@@ -5,7 +5,7 @@ use Rattle.corner_table.specs.Table.{glued_in, room_of}
 use Rattle.eb_rebuild.specs.Linked.{LinkValue}
 use Rattle.eb_rebuild.specs.Kept.{AreKeptBelow}
 use Rattle.eb_rebuild.specs.KeptDegrees.{HasPlaces, with_room, after_end}
-use Rattle.eb_rebuild.proofs.Steps.{same_state, end_steps, end_refused}
+use Rattle.eb_machine.proofs.Steps.{same_state, end_steps, end_refused}
 use Rattle.eb_rebuild.proofs.Linking.{link_grown, noted_does, side_at_first}
 use Rattle.eb_rebuild.proofs.TableDegrees.{ready_at, list_end, live_top}
 use Rattle.eb_rebuild.proofs.CornersNamed.{names_end, names_corners, names_vertices}

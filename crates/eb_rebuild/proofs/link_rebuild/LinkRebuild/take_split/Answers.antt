@@ -5,7 +5,7 @@ use Rattle.corner_table.specs.Fans.{side_before}
 use Rattle.corner_table.specs.Table.{side_of, glued_in, gluing_of, room_of}
 use Rattle.corner_table.proofs.Places.{same-true, same-false, face_apart}
 use Rattle.eb_rebuild.specs.Linked.{LinkValue, state_of}
-use Rattle.eb_rebuild.proofs.Steps.{split_no_top}
+use Rattle.eb_machine.proofs.Steps.{split_no_top}
 use Rattle.eb_rebuild.proofs.Noting.{kept_below_more}
 use Rattle.eb_rebuild.proofs.Linking.{link_grown, split_does, split_no_second_does, split_one_side_does, split_one_point_does, still_free, free_grown, first_is_free, second_is_free, TakenTwo}
 use Rattle.eb_rebuild.proofs.TableDegrees.{ready_at, list_split, live_top}

@@ -1,6 +1,6 @@
 -- The number kept at the top side is its degree.
 use Rattle.std.proofs.Common.{ap, sym, subst, ◌∙◌, arith, IsTrue}
-use Rattle.eb_rebuild.specs.Degree.{top_degree}
+use Rattle.eb_machine.specs.Degree.{top_degree}
 use Rattle.eb_rebuild.specs.Linked.{LinkValue, state_of, is_live}
 use Rattle.eb_rebuild.proofs.TableDegrees.{top_degree_is, top_below}
 use Rattle.eb_rebuild.proofs.link_rebuild.LinkRebuildRebuild.degree.Goals as goal

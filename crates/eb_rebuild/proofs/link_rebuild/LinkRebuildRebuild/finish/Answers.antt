@@ -4,7 +4,7 @@ use Rattle.corner_table.specs.Labels.{IsLabelled}
 use Rattle.corner_table.specs.Table.{Table, glued_in, gluing_of}
 use Rattle.eb_rebuild.specs.Linked.{LinkValue, state_of}
 use Rattle.eb_rebuild.specs.Alike.{first_alike}
-use Rattle.eb_rebuild.proofs.Ends.{finish_faces, finish_vertices, finish_degenerate, finish_done}
+use Rattle.eb_machine.proofs.Ends.{finish_faces, finish_vertices, finish_degenerate, finish_done}
 use Rattle.eb_rebuild.proofs.Equals.{first_degenerate_is}
 use Rattle.eb_rebuild.proofs.link_rebuild.LinkRebuildRebuild.finish.Goals as goal
 

@@ -2,8 +2,8 @@
 use Rattle.std.proofs.Common.{List, [], ◌∷◌, ◌++◌, sym, ap, ◌∙◌, subst, arith}
 use Rattle.corner_table.specs.Sides.{Place, place_of, first, side, side_at, glue}
 use Rattle.corner_table.specs.Table.{side_of, glued_in, gluing_of}
-use Rattle.eb_rebuild.specs.Beside.{free_place, new_triangle}
-use Rattle.eb_rebuild.specs.Named.{Triangle, without, new_row}
+use Rattle.eb_machine.specs.Beside.{free_place, new_triangle}
+use Rattle.eb_machine.specs.Named.{Triangle, without, new_row}
 use Rattle.eb_rebuild.specs.Rowed.{NamedTable, IsRowIn, all_listed}
 use Rattle.eb_rebuild.proofs.RowTables.{beside_table, listed_two, listed_without, glued_by}
 use Rattle.eb_rebuild.proofs.named_table.NamedTable.add_beside.Goals as goal

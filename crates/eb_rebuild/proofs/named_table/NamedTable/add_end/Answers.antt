@@ -2,7 +2,7 @@
 use Rattle.std.proofs.Common.{◌+◌, List, [], ◌∷◌, ◌++◌, ap, ◌∙◌, arith}
 use Rattle.corner_table.specs.Sides.{Gluing, first, second, third}
 use Rattle.corner_table.specs.Table.{glued_in, gluing_of}
-use Rattle.eb_rebuild.specs.Named.{Triangle, new_row}
+use Rattle.eb_machine.specs.Named.{Triangle, new_row}
 use Rattle.eb_rebuild.specs.Rowed.{NamedTable, all_listed}
 use Rattle.eb_rebuild.proofs.RowTables.{end_table, listed_three}
 use Rattle.eb_rebuild.proofs.named_table.NamedTable.add_end.Goals as goal

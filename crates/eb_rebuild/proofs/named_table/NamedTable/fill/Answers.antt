@@ -3,7 +3,7 @@ use Rattle.std.proofs.Common.{◌≡◌, List, [], ◌∷◌, ◌++◌, sym, ap,
 use Rattle.corner_table.specs.Sides.{Gluing, side, first, second, third, side_at, glue}
 use Rattle.corner_table.specs.Fans.{side_before}
 use Rattle.corner_table.specs.Table.{side_of, glued_in, gluing_of}
-use Rattle.eb_rebuild.specs.Named.{Triangle, without}
+use Rattle.eb_machine.specs.Named.{Triangle, without}
 use Rattle.eb_rebuild.specs.Rowed.{NamedTable, IsRowIn, all_listed}
 use Rattle.eb_rebuild.proofs.RowTables.{IsThree, fill_table, three_apart, listed_without, glued_by, place_free, old_free}
 use Rattle.eb_rebuild.proofs.named_table.NamedTable.fill.Goals as goal

@@ -1,8 +1,8 @@
 -- Two equal names are two equal vertices.
 use Rattle.std.proofs.Common.{ℕ, List, ap, ◌∙◌}
 use Rattle.corner_table.specs.Table.{gluing_of}
-use Rattle.eb_rebuild.specs.Machine.{first_degenerate}
-use Rattle.eb_rebuild.specs.Named.{Triangle, first_with_equal}
+use Rattle.eb_machine.specs.Machine.{first_degenerate}
+use Rattle.eb_machine.specs.Named.{Triangle, first_with_equal}
 use Rattle.eb_rebuild.specs.Rowed.{NamedTable, all_listed}
 use Rattle.eb_rebuild.proofs.RowTables.{first_equal_is}
 use Rattle.eb_rebuild.proofs.named_table.NamedTable.first_degenerate.Goals as goal

@@ -1,7 +1,7 @@
 -- A face more, its side 0 on top, and its events noted.
 use Rattle.std.proofs.Common.{ℕ, suc, ◌*◌, ◌<◌, ◌∷◌, length, sym, refl, ap, ◌∙◌, subst, arith}
 use Rattle.corner_table.specs.declared.symbols.Symbol.TheVariants.{E}
-use Rattle.eb_rebuild.specs.Machine.{step}
+use Rattle.eb_machine.specs.Machine.{step}
 use Rattle.eb_rebuild.specs.Kept.{AreKeptBelow}
 use Rattle.eb_rebuild.specs.Linked.{state_of}
 use Rattle.eb_rebuild.specs.Rowed.{RowValue, plain_of, Tries}

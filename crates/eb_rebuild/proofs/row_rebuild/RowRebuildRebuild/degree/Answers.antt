@@ -1,7 +1,7 @@
 -- The top side is that of the machine's state.
 use Rattle.std.proofs.Common.{ℕ, List, map, sym, ap, ◌∙◌}
 use Rattle.corner_table.specs.Sides.{side_at}
-use Rattle.eb_rebuild.specs.Degree.{top_degree}
+use Rattle.eb_machine.specs.Degree.{top_degree}
 use Rattle.eb_rebuild.specs.Linked.{state_of}
 use Rattle.eb_rebuild.specs.Rowed.{RowValue, plain_of}
 use Rattle.eb_rebuild.proofs.Lists.{first_some}

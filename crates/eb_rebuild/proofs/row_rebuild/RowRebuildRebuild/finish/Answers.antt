@@ -2,7 +2,7 @@
 use Rattle.std.proofs.Common.{sym, ◌∙◌, arith, refl}
 use Rattle.eb_rebuild.specs.Linked.{state_of}
 use Rattle.eb_rebuild.specs.Rowed.{plain_of}
-use Rattle.eb_rebuild.proofs.Ends.{finish_faces, finish_vertices, finish_degenerate, finish_done}
+use Rattle.eb_machine.proofs.Ends.{finish_faces, finish_vertices, finish_degenerate, finish_done}
 use Rattle.eb_rebuild.proofs.row_rebuild.RowRebuildRebuild.finish.Goals as goal
 
 pub returns-then-built-self-clause-ends : goal.returns-then-built-self-clause-ends

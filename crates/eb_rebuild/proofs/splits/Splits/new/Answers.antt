@@ -6,7 +6,7 @@ use Rattle.std.specs.List.{Contains}
 use Rattle.corner_table.specs.declared.symbols.Event.{Event}
 use Rattle.corner_table.specs.Table.{free_entry}
 use Rattle.eb_rebuild.specs.Kept.{counted_down, no_event, split_number, HasRoomFor}
-use Rattle.eb_rebuild.specs.Rebuilding.{IsEventOf}
+use Rattle.eb_machine.specs.Events.{IsEventOf}
 use Rattle.eb_rebuild.proofs.Lists.{counted_down_reverse}
 use Rattle.eb_rebuild.proofs.Noting.{split_below}
 use Rattle.eb_rebuild.proofs.splits.Splits.new.Goals as goal

@@ -1,9 +1,9 @@
 -- What is left to note, with what is kept so far, comes to the same.
 use Rattle.std.proofs.Common.{◌≡◌, suc, ◌≤◌, length, vec_len, All}
 use Rattle.drc_base.specs.declared.limits.TheConstants.{MAX_FACES}
-use Rattle.eb_rebuild.specs.Machine.{note_events}
+use Rattle.eb_machine.specs.Machine.{note_events}
 use Rattle.eb_rebuild.specs.Kept.{counted_down, no_event, kept_in, HasRoomFor, AreKeptBelow}
-use Rattle.eb_rebuild.specs.Rebuilding.{IsEventOf}
+use Rattle.eb_machine.specs.Events.{IsEventOf}
 use Rattle.eb_rebuild.proofs.splits.Splits.note_due.Given as goal
 
 abbrev pub invariant-noting : goal.invariant-noting

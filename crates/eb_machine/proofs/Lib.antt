@@ -1,0 +1,14 @@
+pub mod NotedEvents
+pub mod Steps
+pub mod Ends
+pub mod Counts
+pub mod Closes
+pub mod RowLists
+pub mod ManyGlued
+pub mod FaceNamed
+pub mod Naming
+pub mod NamedRules
+pub mod NamedLaw
+pub mod RowsOnce
+pub mod NameCounts
+pub mod NamesMade

@@ -1,5 +1,0 @@
-use Rattle.eb_rebuild.proofs.NamesMade.{made_are}
-use Rattle.eb_rebuild.proofs.laws.made_are_names_and_splits.Goals as goal
-
-pub returns : goal.returns
-returns c = made_are

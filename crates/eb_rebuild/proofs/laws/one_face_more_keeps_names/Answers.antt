@@ -1,5 +1,0 @@
-use Rattle.eb_rebuild.proofs.Naming.{names_grow}
-use Rattle.eb_rebuild.proofs.laws.one_face_more_keeps_names.Goals as goal
-
-pub returns : goal.returns
-returns c = names_grow
