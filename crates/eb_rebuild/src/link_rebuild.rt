@@ -130,11 +130,11 @@ impl Model for LinkRebuild {
 }
 
 impl LinkRebuild {
-    ghost use Rattle.std.specs.Prelude.{◌≡◌, ℕ, suc, ◌+◌, ◌*◌, ◌<◌, ◌≤◌, true, false, None, [], ◌∷◌, Ok, Err, map, length, IsTrue, IfOk, IfErr, OnOk, OnErr};
+    ghost use Rattle.std.specs.Prelude.{◌≡◌, ◌≢◌, ℕ, suc, ◌+◌, ◌*◌, ◌<◌, ◌≤◌, true, false, None, [], ◌∷◌, Ok, Err, map, length, IsTrue, IfOk, IfErr, OnOk, OnErr};
     ghost use Rattle.drc_base.specs.declared.limits.TheConstants.{MAX_FACES as most_faces};
     ghost use Rattle.corner_table.specs.declared.symbols.Symbol.TheVariants as kinds;
-    ghost use Rattle.corner_table.specs.Sides.{side_at};
-    ghost use Rattle.corner_table.specs.Table.{gluing_of, room_of};
+    ghost use Rattle.corner_table.specs.Sides.{side, side_at, second, third, glue};
+    ghost use Rattle.corner_table.specs.Table.{gluing_of, room_of, IsFreeIn};
     ghost use Rattle.eb_rebuild.specs.Machine.{top, step, close, finish, pushed, release};
     ghost use Rattle.eb_rebuild.specs.Beside.{symbol_in};
     ghost use Rattle.eb_rebuild.specs.Kept.{kept_in};
@@ -309,13 +309,35 @@ impl LinkRebuild {
         if is_same(before, second) {
             return Err(Fault::new(Kind::SamePoint, u64::from(self.table.face_count())));
         }
+        self.build_split(b, a, steps);
+        Ok(())
+    }
+
+    /// Builds the face of an S: its side 1 is glued to the free side b, its side 2 to the free side a.
+    #[inline(always)]
+    fn build_split<L: Ledger>(&mut self, b: u32, a: u32, steps: &mut Steps<L>)
+        requires more { self.old.table.faces < self.old.plan.symbols }
+        requires room { self.old.table.faces < room_of self.old.table }
+        requires unclosed { self.old.closes ≡ 0 }
+        requires first { IsFreeIn self.old.table (side_at b) }
+        requires second { IsFreeIn self.old.table (side_at a) }
+        requires apart { side_at b ≢ side_at a }
+        ensures faces { self.new.table.faces ≡ suc self.old.table.faces }
+        ensures glued { gluing_of self.new.table ≡ glue (side self.old.table.faces second) (side_at b) (glue (side self.old.table.faces third) (side_at a) (gluing_of self.old.table)) }
+        ensures room { room_of self.new.table ≡ room_of self.old.table }
+        ensures stack { self.new.stack.sides ≡ (3 * self.old.table.faces) ∷ self.old.stack.sides }
+        ensures rest { self.new ≡ record self.old { table = self.new.table; stack = self.new.stack } }
+        ensures live { IsTrue (is_live self.new) }
+        ensures cost { steps.new ≤ steps.old + 5 }
+    {
+        let top = side_with(b);
+        let second = side_with(a);
         self.degrees.note_split(&self.table, b, a, steps);
         let face = self.table.add_face(steps);
         self.table.glue(Side { face, k: 2 }, second, steps);
         self.table.glue(Side { face, k: 1 }, top, steps);
         self.names.add_split(b, a);
         self.stack.push(3 * face);
-        Ok(())
     }
 
     /// Leaves the top side a boundary.
