@@ -1,8 +1,9 @@
 -- A new face, some of whose sides are glued to free sides of the faces before it.
-use Rattle.std.proofs.Common.{◌≡◌, ◌≢◌, ℕ, suc, ◌<◌, [], ◌∷◌, ◌⊎◌, inl, inr, refl, ap, ◌∙◌, subst, arith}
+use Rattle.std.proofs.Common.{◌≡◌, ◌≢◌, ℕ, suc, ◌+◌, ◌<◌, [], ◌∷◌, ◌⊎◌, inl, inr, sym, refl, ap, ◌∙◌, subst, arith}
 use Rattle.std.proofs.lemmas.Bool.{cases_lt}
-use Rattle.corner_table.specs.Sides.{Side, Place, side, next, prev, Gluing, IsGluing, IsFree}
+use Rattle.corner_table.specs.Sides.{Side, Place, side, next, prev, Gluing, glue, IsGluing, IsFree}
 use Rattle.corner_table.specs.Fans.{InFan, here, leftwards, rightwards}
+use Rattle.corner_table.specs.Table.{Table, gluing_of}
 use Rattle.eb_machine.specs.OneFaceMore.{Pairs, glue_all, IsOther, IsOtherPlace, PairsAreApart, Touches}
 use Rattle.corner_table.proofs.Places.{glue_other}
 use Rattle.corner_table.proofs.Walks.{left-within, right-within, left_crosses, right_crosses}
@@ -112,3 +113,18 @@ free_tells {f} {g} G (p ∷ ps) x A X =
       | inl o ↦ inl (o.0, (b.1, o.1))
       | inr n ↦ inr (n.0, ((λ e. b.0 (face_is f x n.0 ∙ ap (side f) e)), n.1))
     ]
+
+-- a pair more, in other words for its parts
+pub glued_by : (g mid new : Gluing) (f n : ℕ) (k : Place) (a s : Side) → new ≡ glue (side n k) s mid → mid ≡ g → n ≡ f → s ≡ a → new ≡ glue (side f k) a g
+glued_by g mid new f n k a s e p q r = e ∙ ap (glue (side n k) s) p ∙ ap (λ (m : ℕ). glue (side m k) s g) q ∙ ap (λ (x : Side). glue (side f k) x g) r
+
+-- the free sides of a table while the sides of its new face are glued one by one
+free_in : (table : Table) (f : ℕ) (g : Gluing) (x s : Side) → table.faces ≡ f + 1 → gluing_of table ≡ g → s ≡ x → IsFree (suc f) g x → IsFree table.faces (gluing_of table) s
+free_in table f g x s e h q X = subst (IsFree table.faces (gluing_of table)) (sym q) (subst (λ (k : Gluing). IsFree table.faces k x) (sym h) (record { within = (let w = X.within in omega arith); free = X.free }))
+
+pub place_free : (old table : Table) → IsGluing old.faces (gluing_of old) → (ps : Pairs) (k : Place) (n : ℕ) → PairsAreApart old.faces (gluing_of old) ps → IsOtherPlace k ps → table.faces ≡ old.faces + 1 → gluing_of table ≡ glue_all old.faces ps (gluing_of old) → n ≡ old.faces →
+    IsFree table.faces (gluing_of table) (side n k)
+place_free old table G ps k n A o e h q = free_in table old.faces (glue_all old.faces ps (gluing_of old)) (side old.faces k) (side n k) e h (ap (λ (m : ℕ). side m k) q) (new_is_free G ps k A o)
+
+pub old_free : (old table : Table) (ps : Pairs) (x s : Side) → IsFree old.faces (gluing_of old) x → IsOther x ps → table.faces ≡ old.faces + 1 → gluing_of table ≡ glue_all old.faces ps (gluing_of old) → s ≡ x → IsFree table.faces (gluing_of table) s
+old_free old table ps x s X o e h q = free_in table old.faces (glue_all old.faces ps (gluing_of old)) x s e h q (old_is_free old.faces (gluing_of old) ps x X o)

@@ -5,7 +5,7 @@ use Rattle.drc_base.specs.declared.limits.TheConstants.{MAX_FACES}
 use Rattle.corner_table.specs.declared.symbols.Event.{Event}
 use Rattle.corner_table.specs.declared.symbols.Symbol.TheVariants.{C, S}
 use Rattle.corner_table.specs.Sides.{Side, Place, first, second, third, side, side_at, Gluing, glue, same, IsFree}
-use Rattle.corner_table.proofs.Places.{same-true, same-false}
+use Rattle.corner_table.proofs.Places.{same-true, same-false, not_same, same_refl}
 use Rattle.std.proofs.lemmas.Bool.{and_parts, not-true}
 use Rattle.corner_table.specs.Fans.{side_before}
 use Rattle.corner_table.proofs.Gluings.{free_after}
@@ -295,26 +295,44 @@ pub record IsLoop (v : LinkValue) (a : ℕ) (rest : List ℕ) (b c d : Side) : T
   pub second_before : c ≡ side_before v.table.faces (gluing_of v.table) b
   pub third_before : d ≡ side_before v.table.faces (gluing_of v.table) c
 
-to_fill : (v : LinkValue) (a : ℕ) (rest : List ℕ) → v.stack.sides ≡ a ∷ rest → close v.plan true (state_of v) ≡ fill (v.plan.symbols + v.closes) v.plan (side_at a) (map side_at rest) (state_of v)
+-- the same without the stack
+pub record IsRound (v : LinkValue) (a : ℕ) (b c d : Side) : Type 0 where
+  pub free : gluing_of v.table (side_at a) ≡ None
+  pub first_before : b ≡ side_before v.table.faces (gluing_of v.table) (side_at a)
+  pub second_before : c ≡ side_before v.table.faces (gluing_of v.table) b
+  pub third_before : d ≡ side_before v.table.faces (gluing_of v.table) c
+
+round_of : {v : LinkValue} {a : ℕ} {rest : List ℕ} {b c d : Side} → IsLoop v a rest b c d → IsRound v a b c d
+round_of W = record { free = W.free; first_before = W.first_before; second_before = W.second_before; third_before = W.third_before }
+
+pub to_fill : (v : LinkValue) (a : ℕ) (rest : List ℕ) → v.stack.sides ≡ a ∷ rest → close v.plan true (state_of v) ≡ fill (v.plan.symbols + v.closes) v.plan (side_at a) (map side_at rest) (state_of v)
 to_fill v a rest e = close_interior v.plan (state_of v) (side_at a) (map side_at rest) (ap (map side_at) e)
 
+pub fill_gone_is : (v : LinkValue) (a : ℕ) (rest : List ℕ) (x : Side) (n : ℕ) → gluing_of v.table (side_at a) ≡ Some x → n ≡ v.plan.symbols + v.closes → fill (v.plan.symbols + v.closes) v.plan (side_at a) (map side_at rest) (state_of v) ≡ Err (fault kind.Gone n)
+fill_gone_is v a rest x n h q = fill_gone (v.plan.symbols + v.closes) v.plan (state_of v) (side_at a) x (map side_at rest) h ∙ ap (λ (m : ℕ). let y : Next = Err (fault kind.Gone m) in y) (sym q)
+
 pub fill_gone_does : (v : LinkValue) (a : ℕ) (rest : List ℕ) (x : Side) (n : ℕ) → v.stack.sides ≡ a ∷ rest → gluing_of v.table (side_at a) ≡ Some x → n ≡ v.plan.symbols + v.closes → close v.plan true (state_of v) ≡ Err (fault kind.Gone n)
-fill_gone_does v a rest x n e h q =
-    to_fill v a rest e ∙ fill_gone (v.plan.symbols + v.closes) v.plan (state_of v) (side_at a) x (map side_at rest) h ∙ ap (λ (m : ℕ). let y : Next = Err (fault kind.Gone m) in y) (sym q)
+fill_gone_does v a rest x n e h q = to_fill v a rest e ∙ fill_gone_is v a rest x n h q
+
+pub fill_no_loop_is : (v : LinkValue) (a : ℕ) (rest : List ℕ) (b c d : Side) (t : Bool) (n : ℕ) → IsRound v a b c d → t ≡ (not (same b (side_at a)) && not (same c (side_at a)) && same d (side_at a)) → t ≡ false → n ≡ v.plan.symbols + v.closes →
+    fill (v.plan.symbols + v.closes) v.plan (side_at a) (map side_at rest) (state_of v) ≡ Err (fault kind.Loop n)
+fill_no_loop_is v a rest b c d t n W h f q =
+    fill_no_loop (v.plan.symbols + v.closes) v.plan (state_of v) (side_at a) (map side_at rest) W.free (loop_test_is (state_of v) (side_at a) b c d W.first_before W.second_before W.third_before ∙ sym h ∙ f)
+    ∙ ap (λ (m : ℕ). let y : Next = Err (fault kind.Loop m) in y) (sym q)
 
 pub fill_no_loop_does : (v : LinkValue) (a : ℕ) (rest : List ℕ) (b c d : Side) (t : Bool) (n : ℕ) → IsLoop v a rest b c d → t ≡ (not (same b (side_at a)) && not (same c (side_at a)) && same d (side_at a)) → t ≡ false → n ≡ v.plan.symbols + v.closes →
     close v.plan true (state_of v) ≡ Err (fault kind.Loop n)
-fill_no_loop_does v a rest b c d t n W h f q =
-    to_fill v a rest W.stack
-    ∙ fill_no_loop (v.plan.symbols + v.closes) v.plan (state_of v) (side_at a) (map side_at rest) W.free (loop_test_is (state_of v) (side_at a) b c d W.first_before W.second_before W.third_before ∙ sym h ∙ f)
-    ∙ ap (λ (m : ℕ). let y : Next = Err (fault kind.Loop m) in y) (sym q)
+fill_no_loop_does v a rest b c d t n W h f q = to_fill v a rest W.stack ∙ fill_no_loop_is v a rest b c d t n (round_of W) h f q
+
+pub fill_full_is : (v : LinkValue) (a : ℕ) (rest : List ℕ) (b c d : Side) (t : Bool) (n : ℕ) → IsRound v a b c d → t ≡ (not (same b (side_at a)) && not (same c (side_at a)) && same d (side_at a)) → t ≡ true → v.table.faces ≡ v.plan.faces → n ≡ v.table.faces →
+    fill (v.plan.symbols + v.closes) v.plan (side_at a) (map side_at rest) (state_of v) ≡ Err (fault kind.FaceCount n)
+fill_full_is v a rest b c d t n W h f e q =
+    fill_full (v.plan.symbols + v.closes) v.plan (state_of v) (side_at a) (map side_at rest) W.free (loop_test_is (state_of v) (side_at a) b c d W.first_before W.second_before W.third_before ∙ sym h ∙ f) e
+    ∙ ap (λ (m : ℕ). let y : Next = Err (fault kind.FaceCount m) in y) (sym q)
 
 pub fill_full_does : (v : LinkValue) (a : ℕ) (rest : List ℕ) (b c d : Side) (t : Bool) (n : ℕ) → IsLoop v a rest b c d → t ≡ (not (same b (side_at a)) && not (same c (side_at a)) && same d (side_at a)) → t ≡ true → v.table.faces ≡ v.plan.faces → n ≡ v.table.faces →
     close v.plan true (state_of v) ≡ Err (fault kind.FaceCount n)
-fill_full_does v a rest b c d t n W h f e q =
-    to_fill v a rest W.stack
-    ∙ fill_full (v.plan.symbols + v.closes) v.plan (state_of v) (side_at a) (map side_at rest) W.free (loop_test_is (state_of v) (side_at a) b c d W.first_before W.second_before W.third_before ∙ sym h ∙ f) e
-    ∙ ap (λ (m : ℕ). let y : Next = Err (fault kind.FaceCount m) in y) (sym q)
+fill_full_does v a rest b c d t n W h f e q = to_fill v a rest W.stack ∙ fill_full_is v a rest b c d t n (round_of W) h f e q
 
 pub record Filled (v new : LinkValue) (a : ℕ) (rest : List ℕ) (b c : Side) : Type 0 where
   pub faces : new.table.faces ≡ suc v.table.faces
@@ -343,6 +361,12 @@ loop_tells a b c d t h e =
     let two = and_parts (not (same b a)) (not (same c a)) both.0 in
     (same-false b a (not-true (same b a) two.0), same-false c a (not-true (same c a) two.1), same-true d a both.1)
 
+-- and what passes them
+pub loop_passes : (a b c d : Side) → b ≢ a → c ≢ a → d ≡ a → true ≡ (not (same b a) && not (same c a) && same d a)
+loop_passes a b c d p q r =
+    ap (λ (t : Bool). not t && not false && true) (sym (not_same b a p)) ∙ ap (λ (t : Bool). not (same b a) && not t && true) (sym (not_same c a q))
+    ∙ ap (λ (t : Bool). not (same b a) && not (same c a) && t) (sym (ap (λ (x : Side). same x a) r ∙ same_refl a))
+
 -- the second and the third side of a loop of three differ
 pub loop_apart : (v : LinkValue) (a : ℕ) (rest : List ℕ) (b c d : Side) → IsLoop v a rest b c d → b ≢ side_at a → d ≡ side_at a → c ≢ b
 loop_apart v a rest b c d W n e q = n (sym q ∙ W.second_before ∙ ap (side_before v.table.faces (gluing_of v.table)) (sym q) ∙ sym W.third_before ∙ e)
@@ -366,6 +390,21 @@ link_closed {v} {new} I a rest more e p r f s t u m c K B = record {
 -- the top side of a list of sides, and the rest
 pub sides_rest : (f : ℕ) (sides : List ℕ) (a : ℕ) (rest : List ℕ) → sides ≡ a ∷ rest → AreSidesBelow f sides → AreSidesBelow f (a ∷ rest)
 sides_rest f sides a rest e h = subst (AreSidesBelow f) e h
+
+-- a side is taken off
+pub link_popped : (v : LinkValue) (popped : StackValue) (a : ℕ) → IsLinkState v → v.stack.sides ≡ a ∷ popped.sides → popped.room ≡ v.stack.room → IsLinkState (record v { stack = popped })
+link_popped v popped a I e r = record {
+  limit = I.limit;
+  room = I.room;
+  fewer = I.fewer;
+  slots = I.slots;
+  stack_room = r ∙ I.stack_room;
+  low = (let h = ap {A = List ℕ} length e in let l = I.low in omega arith);
+  few = (let h = ap {A = List ℕ} length e in let l = I.few in omega arith);
+  sides = (sides_rest v.table.faces v.stack.sides a popped.sides e I.sides).1;
+  kept = I.kept;
+  made = I.made;
+}
 
 -- a boundary is left
 pub close_boundary_does : (v : LinkValue) (popped : StackValue) (a : ℕ) → v.stack.sides ≡ a ∷ popped.sides → close v.plan false (state_of v) ≡ Ok (state_of (record v { stack = popped; closes = suc v.closes }))

@@ -1,7 +1,7 @@
 -- A table with names after a face more, and what its rows say of its free sides.
 use Rattle.std.proofs.Common.{◌≡◌, ◌≢◌, ℕ, suc, ◌+◌, ◌*◌, ◌<◌, ◌≤◌, Bool, true, false, not, ◌==◌, List, [], ◌∷◌, ◌++◌, length, map, filter, find, Option, Some, None, inl, inr, sym, refl, ap, ◌∙◌, subst, arith, cond, option_map, eqb-true, eq-eqb, length-append}
 use Rattle.std.proofs.lemmas.List.{length-map}
-use Rattle.corner_table.specs.Sides.{Side, Place, first, second, third, side, glue, side_at, number, same, next, prev, Gluing, IsGluing, IsFree}
+use Rattle.corner_table.specs.Sides.{Side, first, second, third, side, glue, side_at, number, same, next, prev, Gluing, IsFree}
 use Rattle.corner_table.specs.Fans.{side_before}
 use Rattle.corner_table.specs.Table.{Table, gluing_of}
 use Rattle.corner_table.proofs.Places.{option_tells, same-true, same_refl}
@@ -11,11 +11,9 @@ use Rattle.eb_machine.specs.declared.beside.Beside.{Beside}
 use Rattle.eb_machine.specs.Beside.{glued_place, free_place, new_triangle}
 use Rattle.eb_machine.specs.Named.{Triangle, Row, row_at_side, row_to, row_before, without, new_row, renamed, renamed_triangle, renamed_row, NamedState, first_with_equal}
 use Rattle.eb_machine.specs.Shown.{AreNames, name_of, row_named}
-use Rattle.eb_rebuild.specs.Rowed.{row_listed, all_listed, NamedTable, IsNamedTable, IsRowIn, IsGluedIn}
+use Rattle.eb_rebuild.specs.Rowed.{row_listed, all_listed, NamedTable, IsNamedTable, IsRowIn, IsGluedIn, IsThree}
 use Rattle.eb_machine.specs.Machine.{first_degenerate}
 use Rattle.eb_machine.proofs.NamedLaw.{Stands, first_is}
-use Rattle.eb_machine.specs.OneFaceMore.{Pairs, glue_all, IsOther, IsOtherPlace, PairsAreApart}
-use Rattle.eb_machine.proofs.ManyGlued.{new_is_free, old_is_free}
 use Rattle.eb_machine.proofs.NamedRules.{row_is, no_row, row_before_is, before_ends, one_point_is, end_names, beside_names, tip_names, split_names, fill_names}
 
 one_truth : (t u : Bool) → (t ≡ true → u ≡ true) → (u ≡ true → t ≡ true) → t ≡ u
@@ -170,10 +168,6 @@ listed_renamed from to rows told k e h = ap all_listed e ∙ go rows ∙ ap (map
     go [] = refl
     go (r ∷ rows) = ap (λ (l : List Row). renamed_row (renamed from to) (row_listed r) ∷ l) (go rows)
 
--- a pair more, in other words for its parts
-pub glued_by : (g mid new : Gluing) (f n : ℕ) (k : Place) (a s : Side) → new ≡ glue (side n k) s mid → mid ≡ g → n ≡ f → s ≡ a → new ≡ glue (side f k) a g
-glued_by g mid new f n k a s e p q r = e ∙ ap (glue (side n k) s) p ∙ ap (λ (m : ℕ). glue (side m k) s g) q ∙ ap (λ (x : Side). glue (side f k) x g) r
-
 -- what a new table has to be
 pub record Grown (v : NamedTable) (table : Table) (made : ℕ) (g : Gluing) : Type 0 where
   pub faces : table.faces ≡ v.table.faces + 1
@@ -267,17 +261,7 @@ split_table v I b a B A ne table triangles rows W e h =
     (ap (λ (f : ℕ). glue (side f second) (side_at b.side) (glue (side f third) (side_at a.side) (gluing_of v.table))) I.long) refl
     (split_names I.names (side_at b.side) (side_at a.side) (row_free v I b B) (row_free v I a A) ne))
 
--- the rows of a loop of three
-pub record IsThree (v : NamedTable) (a b c : NumberedRow) : Type 0 where
-  pub one : IsRowIn v a
-  pub two : IsRowIn v b
-  pub three : IsRowIn v c
-  pub apart : side_at b.side ≢ side_at a.side
-  pub apart_again : side_at c.side ≢ side_at a.side
-  pub joined : side_at b.side ≡ side_before v.table.faces (gluing_of v.table) (side_at a.side)
-  pub joined_again : side_at c.side ≡ side_before v.table.faces (gluing_of v.table) (side_at b.side)
-  pub joined_round : side_before v.table.faces (gluing_of v.table) (side_at c.side) ≡ side_at a.side
-
+-- the second and the third row of a loop of three differ
 pub three_apart : {v : NamedTable} {a b c : NumberedRow} → IsThree v a b c → side_at c.side ≢ side_at b.side
 three_apart {v} {a} {b} {c} T q = T.apart (sym q ∙ T.joined_again ∙ sym (ap (side_before v.table.faces (gluing_of v.table)) q) ∙ T.joined_round)
 
@@ -297,22 +281,6 @@ fill_table v I a b c T table triangles rows W e h =
     (ap (λ (f : ℕ). glue (side f third) (side_at c.side) (glue (side f second) (side_at b.side) (glue (side f first) (side_at a.side) (gluing_of v.table)))) I.long) refl
     (fill_names I.names (side_at a.side) (side_at b.side) (side_at c.side) (row_free v I a T.one) (row_free v I b T.two) (row_free v I c T.three) T.apart T.apart_again (three_apart T)
     (meet_names v I a b T.one T.joined) (meet_names v I b c T.two T.joined_again) last))
-
--- the free sides while the sides of a new face are glued one by one
-table_gluing : (v : NamedTable) → IsNamedTable v → IsGluing v.table.faces (gluing_of v.table)
-table_gluing v I = subst (λ (n : ℕ). IsGluing n (gluing_of v.table)) I.long I.names.gluing
-
-free_in : (table : Table) (f : ℕ) (g : Gluing) (x s : Side) → table.faces ≡ f + 1 → gluing_of table ≡ g → s ≡ x → IsFree (suc f) g x → IsFree table.faces (gluing_of table) s
-free_in table f g x s e h q X = subst (IsFree table.faces (gluing_of table)) (sym q) (subst (λ (k : Gluing). IsFree table.faces k x) (sym h) (record { within = (let w = X.within in omega arith); free = X.free }))
-
-pub place_free : (v : NamedTable) → IsNamedTable v → (table : Table) (ps : Pairs) (k : Place) (n : ℕ) → PairsAreApart v.table.faces (gluing_of v.table) ps → IsOtherPlace k ps → table.faces ≡ v.table.faces + 1 → gluing_of table ≡ glue_all v.table.faces ps (gluing_of v.table) → n ≡ v.table.faces →
-    IsFree table.faces (gluing_of table) (side n k)
-place_free v I table ps k n A o e h q =
-    free_in table v.table.faces (glue_all v.table.faces ps (gluing_of v.table)) (side v.table.faces k) (side n k) e h (ap (λ (m : ℕ). side m k) q) (new_is_free (table_gluing v I) ps k A o)
-
-pub old_free : (v : NamedTable) (table : Table) (ps : Pairs) (x s : Side) → IsFree v.table.faces (gluing_of v.table) x → IsOther x ps → table.faces ≡ v.table.faces + 1 → gluing_of table ≡ glue_all v.table.faces ps (gluing_of v.table) → s ≡ x →
-    IsFree table.faces (gluing_of table) s
-old_free v table ps x s X o e h q = free_in table v.table.faces (glue_all v.table.faces ps (gluing_of v.table)) x s e h q (old_is_free v.table.faces (gluing_of v.table) ps x X o)
 
 -- the machine's state of a table, by itself
 abbrev pub alone : NamedTable → NamedState

@@ -1,9 +1,10 @@
 -- What a rebuilding that keeps its rows in a list holds, and the machine's state that it stands for: the code's own, from no source.
-use Rattle.std.specs.Prelude.{◌≡◌, ℕ, ◌*◌, ◌≤◌, true, List, length, map, Some, Result, Ok, Err}
+use Rattle.std.specs.Prelude.{◌≡◌, ◌≢◌, ℕ, ◌*◌, ◌≤◌, true, List, length, map, Some, Result, Ok, Err}
 use Rattle.drc_base.specs.declared.faults.Fault.{Fault}
 use Rattle.drc_base.specs.declared.faults.Refusal.{Refusal}
 use Rattle.drc_base.specs.declared.faults.Refusal.TheVariants as refusal
 use Rattle.corner_table.specs.Sides.{Side, side_at}
+use Rattle.corner_table.specs.Fans.{side_before}
 use Rattle.corner_table.specs.Table.{Table, gluing_of, IsFreeIn}
 use Rattle.eb_rebuild.specs.declared.active_rows.Row.{Row as NumberedRow}
 use Rattle.eb_machine.specs.Machine.{State, Plan}
@@ -36,6 +37,17 @@ pub record IsNamedTable (v : NamedTable) : Type 0 where
 pub record IsRowIn (v : NamedTable) (r : NumberedRow) : Type 0 where
   pub free : IsFreeIn v.table (side_at r.side)
   pub is : row_listed r ≡ row_named v.triangles (side_at r.side)
+
+-- the rows of a loop of three: b ends where a starts, c ends where b starts, and a ends where c starts
+pub record IsThree (v : NamedTable) (a b c : NumberedRow) : Type 0 where
+  pub one : IsRowIn v a
+  pub two : IsRowIn v b
+  pub three : IsRowIn v c
+  pub apart : side_at b.side ≢ side_at a.side
+  pub apart_again : side_at c.side ≢ side_at a.side
+  pub joined : side_at b.side ≡ side_before v.table.faces (gluing_of v.table) (side_at a.side)
+  pub joined_again : side_at c.side ≡ side_before v.table.faces (gluing_of v.table) (side_at b.side)
+  pub joined_round : side_before v.table.faces (gluing_of v.table) (side_at c.side) ≡ side_at a.side
 
 -- a side that is in a pair
 abbrev pub IsGluedIn : Table → Side → Type 0

@@ -1,5 +1,6 @@
 //! A finished rebuilding.
 
+use crate::degenerate::first_equal;
 use corner_table::{Classes, SideTable};
 use std::marker::Model;
 
@@ -28,6 +29,7 @@ impl Built {
     ghost use Rattle.std.specs.Prelude.{◌≡◌};
     ghost use Rattle.corner_table.specs.Labels.{IsLabelled};
     ghost use Rattle.corner_table.specs.Table.{gluing_of};
+    ghost use Rattle.eb_machine.specs.Machine.{first_degenerate};
 
     /// The finished table, whose corners have these classes.
     pub(crate) fn new(table: SideTable, classes: Classes, linked: bool) -> Built
@@ -40,6 +42,14 @@ impl Built {
             classes,
             linked,
         }
+    }
+
+    /// The least face of which two corners are one vertex.
+    pub(crate) fn first_degenerate(&self) -> Option<u32>
+        ensures { result ≡ first_degenerate self.now.table.faces (gluing_of self.now.table) self.now.table.faces }
+    {
+        let faces = self.table.face_count();
+        first_equal(self.classes.of_corner.as_slice(), faces)
     }
 
     /// The table.

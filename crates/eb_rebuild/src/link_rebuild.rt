@@ -5,19 +5,18 @@
 //! built before. Where the degrees of vertices will be asked for, they are kept at the free sides that start
 //! there. Corners are named as faces are built, so that no fan is walked at the end.
 
-ghost use Rattle.std.specs.Prelude.{◌≡◌, not, ◌&&◌, length};
+ghost use Rattle.std.specs.Prelude.{◌≡◌, ◌+◌, ◌*◌, ◌≤◌, not, ◌&&◌, true, length, IfOk};
 ghost use Rattle.corner_table.specs.Sides.{same};
-ghost use Rattle.corner_table.specs.Table.{side_of, gluing_of};
+ghost use Rattle.corner_table.specs.Table.{side_of, gluing_of, room_of};
 ghost use Rattle.eb_rebuild.specs.CornerNames.{IsNaming};
 ghost use Rattle.eb_rebuild.specs.Linked.{refused_by};
 
 use crate::built::Built;
 use crate::corner_names::CornerNames;
-use crate::degenerate::first_equal;
 use crate::kept_degrees::KeptDegrees;
 use crate::rebuild::Rebuild;
 use crate::side_stack::SideStack;
-use crate::splits::Splits;
+use crate::splits::{Splits, waiting};
 use corner_table::{Event, LinkedTable, SideTable, Steps, Symbol, number_of, side_with};
 use drc_base::{Fault, Kind, Memory, Refusal, Side};
 use eb_machine::Beside;
@@ -50,13 +49,39 @@ pub(crate) fn refused(done: Result<(), Fault>) -> Result<(), Refusal>
     }
 }
 
-/// The table of a rebuilding and the names of its corners; all else that it keeps is freed.
+/// The table of a rebuilding and the names of its corners; all else that it keeps is freed. The table
+/// has entries for no more than the declared faces.
 fn finished_parts(rebuild: LinkRebuild) -> (SideTable, CornerNames)
     ensures table { result.0 ≡ rebuild.table }
     ensures naming { IsNaming rebuild.table.faces (gluing_of rebuild.table) result.1 }
     ensures made { length result.1.up ≡ rebuild.made }
+    ensures entries { length rebuild.table.entries ≡ 3 * room_of rebuild.table }
+    ensures within { room_of rebuild.table ≤ rebuild.plan.faces }
 {
+    // For the prover alone: there is room for no more faces than are declared.
+    let _room = rebuild.table.face_count();
     (rebuild.table.into_sides(), rebuild.names)
+}
+
+/// A finished table with the classes of its corners by their names, of which `made` were made. It is
+/// labelled once.
+fn classed<L: Ledger>(
+    alloc: Global,
+    table: SideTable,
+    names: CornerNames,
+    made: u32,
+    steps: &mut Steps<L>,
+) -> Result<Built, Memory>
+    requires made { length names.up ≡ made }
+    requires naming { IsNaming table.faces (gluing_of table) names }
+    ensures table { IfOk result (λ b. b.table ≡ table) }
+    ensures linked { IfOk result (λ b. b.linked ≡ true) }
+    ensures cost { steps.new ≡ steps.old + length table.entries }
+{
+    let faces = table.face_count();
+    let across = table.across(steps);
+    let classes = names.into_classes(alloc, across, faces, made)?;
+    Ok(Built::new(table, classes, true))
 }
 
 /// A rebuilding that keeps the boundary by links.
@@ -105,15 +130,16 @@ impl Model for LinkRebuild {
 }
 
 impl LinkRebuild {
-    ghost use Rattle.std.specs.Prelude.{◌≡◌, ℕ, suc, ◌+◌, ◌*◌, ◌<◌, ◌≤◌, true, false, None, ◌∷◌, Ok, Err, map, length, IsTrue, IfOk, IfErr, OnOk, OnErr};
+    ghost use Rattle.std.specs.Prelude.{◌≡◌, ◌≢◌, ℕ, suc, ◌+◌, ◌*◌, ◌<◌, ◌≤◌, true, false, None, [], ◌∷◌, Ok, Err, map, length, IsTrue, IfOk, IfErr, OnOk, OnErr};
+    ghost use Rattle.drc_base.specs.declared.limits.TheConstants.{MAX_FACES as most_faces};
     ghost use Rattle.corner_table.specs.declared.symbols.Symbol.TheVariants as kinds;
-    ghost use Rattle.corner_table.specs.Sides.{side_at};
-    ghost use Rattle.corner_table.specs.Table.{gluing_of, room_of};
-    ghost use Rattle.eb_machine.specs.Machine.{top, step, close, pushed, release};
+    ghost use Rattle.corner_table.specs.Sides.{side, side_at, second, third, glue};
+    ghost use Rattle.corner_table.specs.Table.{gluing_of, room_of, IsFreeIn};
+    ghost use Rattle.eb_machine.specs.Machine.{top, step, close, finish, pushed, release};
     ghost use Rattle.eb_machine.specs.Beside.{symbol_in};
     ghost use Rattle.eb_rebuild.specs.Kept.{kept_in};
     ghost use Rattle.eb_rebuild.specs.Linked.{state_of, is_live, Does};
-    ghost use Rattle.eb_rebuild.specs.Rebuilding.{Holds};
+    ghost use Rattle.eb_rebuild.specs.Rebuilding.{Holds, Ends};
 
     /// The table of the faces built and the pairs glued so far, with entries for exactly the faces that there
     /// is room for, which are no more than are declared.
@@ -283,13 +309,35 @@ impl LinkRebuild {
         if is_same(before, second) {
             return Err(Fault::new(Kind::SamePoint, u64::from(self.table.face_count())));
         }
+        self.build_split(b, a, steps);
+        Ok(())
+    }
+
+    /// Builds the face of an S: its side 1 is glued to the free side b, its side 2 to the free side a.
+    #[inline(always)]
+    fn build_split<L: Ledger>(&mut self, b: u32, a: u32, steps: &mut Steps<L>)
+        requires more { self.old.table.faces < self.old.plan.symbols }
+        requires room { self.old.table.faces < room_of self.old.table }
+        requires unclosed { self.old.closes ≡ 0 }
+        requires first { IsFreeIn self.old.table (side_at b) }
+        requires second { IsFreeIn self.old.table (side_at a) }
+        requires apart { side_at b ≢ side_at a }
+        ensures faces { self.new.table.faces ≡ suc self.old.table.faces }
+        ensures glued { gluing_of self.new.table ≡ glue (side self.old.table.faces second) (side_at b) (glue (side self.old.table.faces third) (side_at a) (gluing_of self.old.table)) }
+        ensures room { room_of self.new.table ≡ room_of self.old.table }
+        ensures stack { self.new.stack.sides ≡ (3 * self.old.table.faces) ∷ self.old.stack.sides }
+        ensures rest { self.new ≡ record self.old { table = self.new.table; stack = self.new.stack } }
+        ensures live { IsTrue (is_live self.new) }
+        ensures cost { steps.new ≤ steps.old + 5 }
+    {
+        let top = side_with(b);
+        let second = side_with(a);
         self.degrees.note_split(&self.table, b, a, steps);
         let face = self.table.add_face(steps);
         self.table.glue(Side { face, k: 2 }, second, steps);
         self.table.glue(Side { face, k: 1 }, top, steps);
         self.names.add_split(b, a);
         self.stack.push(3 * face);
-        Ok(())
     }
 
     /// Leaves the top side a boundary.
@@ -347,6 +395,61 @@ impl LinkRebuild {
         self.closes += 1;
         Ok(())
     }
+
+    /// The tests of the counts at the end: FaceCount, then VertexCount.
+    fn counted(&self) -> Result<(), Fault>
+        ensures faces { OnOk result (self.now.table.faces ≡ self.now.plan.faces) }
+        ensures made { OnOk result (self.now.made ≤ self.now.plan.created) }
+        ensures err { IfErr result (λ f. finish self.now.plan (state_of self.now) ≡ Err f) }
+    {
+        let count = self.table.face_count();
+        if count != self.faces {
+            return Err(Fault::new(Kind::FaceCount, u64::from(count)));
+        }
+        if self.created < self.made {
+            return Err(Fault::new(Kind::VertexCount, u64::from(self.made)));
+        }
+        Ok(())
+    }
+
+    /// The finished table with the classes of its corners, where the counts are right; Degenerate where
+    /// two corners of a face are one vertex.
+    fn into_built<L: Ledger>(self, alloc: Global, steps: &mut Steps<L>) -> Result<Built, Refusal>
+        requires faces { self.table.faces ≡ self.plan.faces }
+        requires made { self.made ≤ self.plan.created }
+        ensures ends { Ends self.plan (state_of self) result }
+        ensures room { IfOk result (λ b. length b.table.entries ≤ 3 * self.plan.faces) }
+        ensures linked { IfOk result (λ b. b.linked ≡ true) }
+        ensures cost { steps.new ≤ steps.old + 3 * room_of self.table }
+    {
+        let made = self.made;
+        let (table, names) = finished_parts(self);
+        let built = classed(alloc, table, names, made, steps)?;
+        match built.first_degenerate() {
+            None => Ok(built),
+            Some(face) => Err(Refusal::Fault(Fault::new(Kind::Degenerate, u64::from(face)))),
+        }
+    }
+
+    /// No degree and no name is kept yet, with room for those of `most` faces, of degrees if they will be
+    /// asked for.
+    fn noted_parts(
+        alloc: Global,
+        most: u32,
+        degrees: bool,
+    ) -> Result<(KeptDegrees, CornerNames), Memory>
+        requires { most ≤ most_faces }
+        ensures degrees { IfOk result (λ p. p.0.list ≡ []) }
+        ensures kept { IfOk result (λ p. p.0.kept ≡ degrees) }
+        ensures room { IfOk result (λ p. IsTrue degrees → 3 * most ≤ p.0.room) }
+        ensures names { IfOk result (λ p. p.1.names ≡ []) }
+        ensures none { IfOk result (λ p. p.1.up ≡ []) }
+        ensures names_room { IfOk result (λ p. p.1.room ≡ 3 * most) }
+    {
+        let degrees = KeptDegrees::none(alloc, most, degrees)?;
+        let names = CornerNames::with_room(alloc, most)?;
+        Ok((degrees, names))
+    }
 }
 
 impl Rebuild for LinkRebuild {
@@ -376,10 +479,8 @@ impl Rebuild for LinkRebuild {
         degrees: bool,
     ) -> Result<LinkRebuild, Memory> {
         let table = LinkedTable::with_room(alloc, most)?;
-        let stack = SideStack::with_room(alloc, symbols.min(most))?;
-        let splits = Splits::new(alloc, symbols, events)?;
-        let degrees = KeptDegrees::none(alloc, most, degrees)?;
-        let names = CornerNames::with_room(alloc, most)?;
+        let (stack, splits) = waiting(alloc, symbols, most, events)?;
+        let (degrees, names) = LinkRebuild::noted_parts(alloc, most, degrees)?;
         Ok(LinkRebuild {
             table,
             stack,
@@ -434,20 +535,9 @@ impl Rebuild for LinkRebuild {
     }
 
     fn finish<L: Ledger>(self, alloc: Global, steps: &mut Steps<L>) -> Result<Built, Refusal> {
-        let built = self.table.face_count();
-        if built != self.faces {
-            return Err(Refusal::Fault(Fault::new(Kind::FaceCount, u64::from(built))));
-        }
-        if self.created < self.made {
-            return Err(Refusal::Fault(Fault::new(Kind::VertexCount, u64::from(self.made))));
-        }
-        let made = self.made;
-        let (table, names) = finished_parts(self);
-        let across = table.across(steps);
-        let classes = names.into_classes(alloc, across, built, made)?;
-        match first_equal(classes.of_corner.as_slice(), built) {
-            None => Ok(Built::new(table, classes, true)),
-            Some(face) => Err(Refusal::Fault(Fault::new(Kind::Degenerate, u64::from(face)))),
+        match self.counted() {
+            Ok(()) => self.into_built(alloc, steps),
+            Err(fault) => Err(Refusal::Fault(fault)),
         }
     }
 }

@@ -2,24 +2,22 @@
 //!
 //! A new face brings its own row for each side that isn't glued, and takes away those of the sides
 //! that it is glued to. Where two vertices become one, one of the names is written over in all
-//! triangles and rows. What allocates comes before what changes the table, so that when out of memory
+//! triangles and rows. Both lists are made anew before the table is changed, so that when out of memory
 //! all is as before.
 
 ghost use Rattle.std.specs.Prelude.{◌≡◌, ◌+◌, ◌*◌, ◌<◌};
 ghost use Rattle.drc_base.specs.declared.limits.TheConstants.{MAX_FACES as most_faces};
 ghost use Rattle.corner_table.specs.Sides.{side_at, number};
 ghost use Rattle.corner_table.specs.Table.{side_of};
-ghost use Rattle.eb_machine.specs.Beside.{glued_place, free_place, new_triangle};
-ghost use Rattle.eb_machine.specs.Named.{new_row};
-ghost use Rattle.eb_rebuild.specs.Rowed.{row_listed};
+ghost use Rattle.eb_machine.specs.Beside.{glued_place};
 
 use crate::active_rows::{
-    Row, all_rows, corners_named, first_row, first_with_equal, one_if, renamed_rows,
-    renamed_triangles, row_of, row_to, second_row, start_name, starts_row, third_row,
-    triangle_renamed, with_row, with_triangle, without,
+    Row, corners_named, first_with_equal, one_if, row_of, row_to, start_name, starts_row,
 };
-use corner_table::{SideTable, Steps, side_with};
-use drc_base::{Memory, Side};
+use crate::glued_faces::{add_one, add_three, add_two};
+use crate::name_lists::{NameLists, after_beside, after_end, after_fill, after_split, after_tip};
+use corner_table::{SideTable, Steps};
+use drc_base::Memory;
 use eb_machine::Beside;
 use std::alloc::Global;
 use std::marker::Model;
@@ -30,8 +28,7 @@ use std::sync::ledger::Ledger;
 pub(crate) struct NamedTable {
     alloc: Global,
     table: SideTable,
-    triangles: Vec<(u32, u32, u32)>,
-    rows: Vec<Row>,
+    lists: NameLists,
     made: u32,
 }
 
@@ -40,27 +37,9 @@ impl Model for NamedTable {
 
     ghost Value = { named_value };
 
-    ghost view = { λ n. record { table = n.table; triangles = n.triangles.items; rows = all_listed n.rows.items; made = n.made } };
+    ghost view = { λ n. record { table = n.table; triangles = n.lists.triangles.items; rows = all_listed n.lists.rows.items; made = n.made } };
 
-    ghost invariant = { λ n. IsNamedTable (record { table = n.table; triangles = n.triangles.items; rows = all_listed n.rows.items; made = n.made }) };
-}
-
-/// The names of the corners of a new face, which is glued to a row and has a new vertex.
-fn new_triangle(beside: Beside, a: Row, vertex: u32) -> (u32, u32, u32)
-    ensures { result ≡ new_triangle beside a.from a.to vertex }
-{
-    beside.triangle(a.from, a.to, vertex)
-}
-
-/// The row of the side that is free besides side 0, of a face with one side glued.
-fn free_row(beside: Beside, face: u32, t: (u32, u32, u32)) -> Row
-    requires { face < most_faces }
-    ensures { row_listed result ≡ new_row face t (free_place beside) }
-{
-    match beside {
-        Beside::Left => third_row(face, t),
-        Beside::Right => second_row(face, t),
-    }
+    ghost invariant = { λ n. IsNamedTable (record { table = n.table; triangles = n.lists.triangles.items; rows = all_listed n.lists.rows.items; made = n.made }) };
 }
 
 impl NamedTable {
@@ -70,7 +49,7 @@ impl NamedTable {
     ghost use Rattle.corner_table.specs.Table.{gluing_of, room_of};
     ghost use Rattle.eb_machine.specs.Degree.{degree};
     ghost use Rattle.eb_machine.specs.Machine.{first_degenerate};
-    ghost use Rattle.eb_rebuild.specs.Rowed.{IsRowIn, IsGluedIn};
+    ghost use Rattle.eb_rebuild.specs.Rowed.{IsRowIn, IsGluedIn, IsThree};
 
     /// No faces, and room for `faces` of them.
     pub(crate) fn with_room(alloc: Global, faces: u32) -> Result<NamedTable, Memory>
@@ -84,8 +63,10 @@ impl NamedTable {
         Ok(NamedTable {
             alloc,
             table,
-            triangles: Vec::new(alloc),
-            rows: Vec::new(alloc),
+            lists: NameLists {
+                triangles: Vec::new(alloc),
+                rows: Vec::new(alloc),
+            },
             made: 0,
         })
     }
@@ -124,7 +105,7 @@ impl NamedTable {
     {
         // For the prover alone, who knows from here on that names are fans.
         let _ = &self.made;
-        match row_of(self.rows.as_slice(), side) {
+        match row_of(self.lists.rows.as_slice(), side) {
             Some(row) => Some(row),
             None => None,
         }
@@ -138,7 +119,7 @@ impl NamedTable {
     {
         // For the prover alone, who knows from here on that names are fans.
         let _ = &self.made;
-        match row_to(self.rows.as_slice(), row.from) {
+        match row_to(self.lists.rows.as_slice(), row.from) {
             Some(found) => found,
             None => row,
         }
@@ -149,7 +130,7 @@ impl NamedTable {
         ensures { result ≡ first_degenerate self.now.table.faces (gluing_of self.now.table) self.now.table.faces }
     {
         let faces = self.table.face_count();
-        first_with_equal(self.triangles.as_slice(), faces)
+        first_with_equal(self.lists.triangles.as_slice(), faces)
     }
 
     /// Whether row b starts where row a ends.
@@ -171,9 +152,9 @@ impl NamedTable {
     {
         // For the prover alone: there are few faces.
         let _room = self.table.face_count();
-        let vertex = start_name(self.triangles.as_slice(), side);
-        let corners = corners_named(self.triangles.as_slice(), vertex);
-        let starts = starts_row(self.rows.as_slice(), vertex);
+        let vertex = start_name(self.lists.triangles.as_slice(), side);
+        let corners = corners_named(self.lists.triangles.as_slice(), vertex);
+        let starts = starts_row(self.lists.rows.as_slice(), vertex);
         corners + one_if(starts)
     }
 
@@ -188,14 +169,9 @@ impl NamedTable {
     {
         let face = self.table.face_count();
         let t = (self.made, self.made + 1, self.made + 2);
-        let triangles = with_triangle(self.alloc, self.triangles.as_slice(), t)?;
-        let kept = all_rows(self.alloc, self.rows.as_slice())?;
-        let one = with_row(kept, first_row(face, t))?;
-        let two = with_row(one, second_row(face, t))?;
-        let rows = with_row(two, third_row(face, t))?;
+        let lists = after_end(self.alloc, &self.lists, face, t)?;
         self.table.add_face(steps);
-        self.triangles = triangles;
-        self.rows = rows;
+        self.lists = lists;
         self.made += 3;
         Ok(())
     }
@@ -216,16 +192,9 @@ impl NamedTable {
         ensures err { OnErr result (self.new ≡ self.old) }
     {
         let face = self.table.face_count();
-        let t = new_triangle(beside, a, self.made);
-        let triangles = with_triangle(self.alloc, self.triangles.as_slice(), t)?;
-        let kept = without(self.alloc, self.rows.as_slice(), a.side)?;
-        let one = with_row(kept, first_row(face, t))?;
-        let rows = with_row(one, free_row(beside, face, t))?;
-        let face = self.table.add_face(steps);
-        let k = beside.glued();
-        self.table.glue(Side { face, k }, side_with(a.side), steps);
-        self.triangles = triangles;
-        self.rows = rows;
+        let lists = after_beside(self.alloc, &self.lists, face, beside, a, self.made)?;
+        add_one(&mut self.table, beside.glued(), a.side, steps);
+        self.lists = lists;
         self.made += 1;
         Ok(())
     }
@@ -249,18 +218,9 @@ impl NamedTable {
         ensures err { OnErr result (self.new ≡ self.old) }
     {
         let face = self.table.face_count();
-        let t = (a.from, b.from, a.to);
-        let triangles = with_triangle(self.alloc, self.triangles.as_slice(), t)?;
-        let some = without(self.alloc, self.rows.as_slice(), a.side)?;
-        let kept = without(self.alloc, some.as_slice(), b.side)?;
-        let rows = with_row(kept, first_row(face, t))?;
-        let face = self.table.add_face(steps);
-        let top = side_with(a.side);
-        let before = side_with(b.side);
-        self.table.glue(Side { face, k: 1 }, top, steps);
-        self.table.glue(Side { face, k: 2 }, before, steps);
-        self.triangles = triangles;
-        self.rows = rows;
+        let lists = after_tip(self.alloc, &self.lists, face, a, b)?;
+        add_two(&mut self.table, 1, a.side, 2, b.side, steps);
+        self.lists = lists;
         Ok(())
     }
 
@@ -283,22 +243,9 @@ impl NamedTable {
         ensures err { OnErr result (self.new ≡ self.old) }
     {
         let face = self.table.face_count();
-        let from = b.from;
-        let to = a.to;
-        let t = triangle_renamed(from, to, (a.to, a.from, b.to));
-        let old = renamed_triangles(self.alloc, self.triangles.as_slice(), from, to)?;
-        let triangles = with_triangle(self.alloc, old.as_slice(), t)?;
-        let some = without(self.alloc, self.rows.as_slice(), a.side)?;
-        let kept = without(self.alloc, some.as_slice(), b.side)?;
-        let told = renamed_rows(self.alloc, kept.as_slice(), from, to)?;
-        let rows = with_row(told, first_row(face, t))?;
-        let face = self.table.add_face(steps);
-        let second = side_with(a.side);
-        let top = side_with(b.side);
-        self.table.glue(Side { face, k: 2 }, second, steps);
-        self.table.glue(Side { face, k: 1 }, top, steps);
-        self.triangles = triangles;
-        self.rows = rows;
+        let lists = after_split(self.alloc, &self.lists, face, b, a)?;
+        add_two(&mut self.table, 2, a.side, 1, b.side, steps);
+        self.lists = lists;
         Ok(())
     }
 
@@ -312,34 +259,16 @@ impl NamedTable {
         steps: &mut Steps<L>,
     ) -> Result<(), Memory>
         requires room { self.old.table.faces < room_of self.old.table }
-        requires first { IsRowIn self.old a }
-        requires second { IsRowIn self.old b }
-        requires third { IsRowIn self.old c }
-        requires apart { side_at b.side ≢ side_at a.side }
-        requires apart_again { side_at c.side ≢ side_at a.side }
-        requires joined { side_at b.side ≡ side_before self.old.table.faces (gluing_of self.old.table) (side_at a.side) }
-        requires joined_again { side_at c.side ≡ side_before self.old.table.faces (gluing_of self.old.table) (side_at b.side) }
-        requires joined_round { side_before self.old.table.faces (gluing_of self.old.table) (side_at c.side) ≡ side_at a.side }
+        requires rows { IsThree self.old a b c }
         ensures faces { OnOk result (self.new.table.faces ≡ suc self.old.table.faces) }
         ensures room { OnOk result (room_of self.new.table ≡ room_of self.old.table) }
         ensures glued { OnOk result (gluing_of self.new.table ≡ glue (side self.old.table.faces third) (side_at c.side) (glue (side self.old.table.faces second) (side_at b.side) (glue (side self.old.table.faces first) (side_at a.side) (gluing_of self.old.table)))) }
         ensures made { OnOk result (self.new.made ≡ self.old.made) }
         ensures err { OnErr result (self.new ≡ self.old) }
     {
-        let t = (b.from, a.to, a.from);
-        let triangles = with_triangle(self.alloc, self.triangles.as_slice(), t)?;
-        let some = without(self.alloc, self.rows.as_slice(), a.side)?;
-        let fewer = without(self.alloc, some.as_slice(), b.side)?;
-        let rows = without(self.alloc, fewer.as_slice(), c.side)?;
-        let face = self.table.add_face(steps);
-        let top = side_with(a.side);
-        let second = side_with(b.side);
-        let third = side_with(c.side);
-        self.table.glue(Side { face, k: 0 }, top, steps);
-        self.table.glue(Side { face, k: 1 }, second, steps);
-        self.table.glue(Side { face, k: 2 }, third, steps);
-        self.triangles = triangles;
-        self.rows = rows;
+        let lists = after_fill(self.alloc, &self.lists, a, b, c)?;
+        add_three(&mut self.table, a.side, b.side, c.side, steps);
+        self.lists = lists;
         Ok(())
     }
 }

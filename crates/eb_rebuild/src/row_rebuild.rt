@@ -5,7 +5,8 @@
 //! each call looks through the list. By the contract of `Rebuild` the other rebuilding, which is
 //! fast, gives the same answers.
 
-ghost use Rattle.std.specs.Prelude.{◌≡◌, not, ◌&&◌, Bool};
+ghost use Rattle.std.specs.Prelude.{◌≡◌, not, ◌&&◌, Bool, false, IfOk, IfErr};
+ghost use Rattle.drc_base.specs.declared.faults.Refusal.TheVariants as refusal;
 ghost use Rattle.corner_table.specs.Sides.{side_at, same};
 
 use crate::active_rows::Row;
@@ -14,8 +15,8 @@ use crate::link_rebuild::refused;
 use crate::named_table::NamedTable;
 use crate::rebuild::Rebuild;
 use crate::side_stack::SideStack;
-use crate::splits::Splits;
-use corner_table::{Event, Steps, Symbol};
+use crate::splits::{Splits, waiting};
+use corner_table::{Event, SideTable, Steps, Symbol};
 use drc_base::{Fault, Kind, Memory, Refusal};
 use eb_machine::Beside;
 use std::alloc::Global;
@@ -75,11 +76,11 @@ impl RowRebuild {
     ghost use Rattle.std.specs.Prelude.{ℕ, suc, ◌+◌, ◌*◌, ◌<◌, ◌≤◌, true, false, None, ◌∷◌, Ok, Err, map, length, IfOk, IfErr, OnOk};
     ghost use Rattle.corner_table.specs.declared.symbols.Symbol.TheVariants as kinds;
     ghost use Rattle.corner_table.specs.Table.{gluing_of, room_of};
-    ghost use Rattle.eb_machine.specs.Machine.{top, step, close, pushed, release};
+    ghost use Rattle.eb_machine.specs.Machine.{top, step, close, fill, finish, pushed, release};
     ghost use Rattle.eb_machine.specs.Beside.{symbol_in};
     ghost use Rattle.eb_rebuild.specs.Kept.{kept_in};
-    ghost use Rattle.eb_rebuild.specs.Linked.{state_of};
-    ghost use Rattle.eb_rebuild.specs.Rowed.{plain_of, Tries, IsRowIn};
+    ghost use Rattle.eb_rebuild.specs.Linked.{state_of, Does};
+    ghost use Rattle.eb_rebuild.specs.Rowed.{plain_of, Tries, IsRowIn, IsThree};
 
     /// Takes the top side off, which has to be a row.
     fn take_row(&mut self) -> Result<Row, Fault>
@@ -228,31 +229,89 @@ impl RowRebuild {
         ensures plan { self.new.plan ≡ self.old.plan }
         ensures room { OnOk result (room_of self.new.named.table ≡ room_of self.old.named.table) }
     {
-        let number = u64::from(self.symbols) + u64::from(self.closes);
         let a = match self.stack.pop() {
             Some(a) => a,
             None => return Ok(()),
         };
+        // Not by `?` for the prover alone, who would have to follow how it converts the error.
+        let (top, second, third) = match self.rows_to_fill(a) {
+            Ok(rows) => rows,
+            Err(fault) => return Err(Refusal::Fault(fault)),
+        };
+        self.named.fill(top, second, third, steps)?;
+        self.closes += 1;
+        Ok(())
+    }
+
+    /// The three rows of the loop of a side, which a face may fill: Gone where the side is no row, Loop
+    /// where its loop isn't of exactly three, FaceCount where all declared faces are built.
+    fn rows_to_fill(&self, a: u32) -> Result<(Row, Row, Row), Fault>
+        requires { a < 3 * self.now.named.table.faces }
+        ensures top { IfOk result (λ rows. rows.0.side ≡ a) }
+        ensures rows { IfOk result (λ rows. IsThree self.now.named rows.0 rows.1 rows.2) }
+        ensures more { OnOk result (self.now.named.table.faces < self.now.plan.faces) }
+        ensures err { IfErr result (λ f. fill (self.now.plan.symbols + self.now.closes) self.now.plan (side_at a) (map side_at self.now.stack.sides) (state_of (plain_of self.now)) ≡ Err f) }
+    {
+        let number = u64::from(self.symbols) + u64::from(self.closes);
         let top = match self.named.row_of(a) {
             Some(row) => row,
-            None => {
-                return Err(Refusal::Fault(Fault::new(Kind::Gone, number)));
-            }
+            None => return Err(Fault::new(Kind::Gone, number)),
         };
         let second = self.named.row_before(top);
         let third = self.named.row_before(second);
         let round = self.named.is_joined(third, top);
         if !is_three(top.side, second.side, third.side, round) {
-            return Err(Refusal::Fault(Fault::new(Kind::Loop, number)));
+            return Err(Fault::new(Kind::Loop, number));
         }
         let built = self.named.face_count();
         if built == self.faces {
-            return Err(Refusal::Fault(Fault::new(Kind::FaceCount, u64::from(built))));
+            return Err(Fault::new(Kind::FaceCount, u64::from(built)));
         }
-        self.named.fill(top, second, third, steps)?;
-        self.closes += 1;
-        Ok(())
+        Ok((top, second, third))
     }
+
+    /// The tests at the end: FaceCount, then VertexCount, then Degenerate.
+    fn tested(&self) -> Result<(), Fault>
+        ensures { Does (finish self.now.plan (state_of (plain_of self.now))) (state_of (plain_of self.now)) result }
+    {
+        let built = self.named.face_count();
+        if built != self.faces {
+            return Err(Fault::new(Kind::FaceCount, u64::from(built)));
+        }
+        let made = self.named.made();
+        if self.created < made {
+            return Err(Fault::new(Kind::VertexCount, u64::from(made)));
+        }
+        match self.named.first_degenerate() {
+            None => Ok(()),
+            Some(face) => Err(Fault::new(Kind::Degenerate, u64::from(face))),
+        }
+    }
+
+    /// The table; all else that is kept is freed. It has entries for no more than the declared faces.
+    fn into_table(self) -> SideTable
+        ensures table { result ≡ self.named.table }
+        ensures room { length result.entries ≤ 3 * self.plan.faces }
+    {
+        // For the prover alone: there is room for no more faces than are declared.
+        let _room = self.named.face_count();
+        self.named.into_table()
+    }
+}
+
+/// A finished table with the classes of its corners, which are labelled by walks. Memory alone is
+/// refused.
+fn labelled<L: Ledger>(
+    alloc: Global,
+    table: SideTable,
+    steps: &mut Steps<L>,
+) -> Result<Built, Refusal>
+    ensures table { IfOk result (λ b. b.table ≡ table) }
+    ensures linked { IfOk result (λ b. b.linked ≡ false) }
+    ensures memory { IfErr result (λ e. e ≡ refusal.Memory) }
+{
+    let classes = table.label_vertices(alloc, steps)?;
+    Ok(Built::new(table, classes, false))
 }
 
 impl Rebuild for RowRebuild {
@@ -283,8 +342,7 @@ impl Rebuild for RowRebuild {
         degrees: bool,
     ) -> Result<RowRebuild, Memory> {
         let named = NamedTable::with_room(alloc, most)?;
-        let stack = SideStack::with_room(alloc, symbols.min(most))?;
-        let splits = Splits::new(alloc, symbols, events)?;
+        let (stack, splits) = waiting(alloc, symbols, most, events)?;
         Ok(RowRebuild {
             named,
             stack,
@@ -327,21 +385,9 @@ impl Rebuild for RowRebuild {
     }
 
     fn finish<L: Ledger>(self, alloc: Global, steps: &mut Steps<L>) -> Result<Built, Refusal> {
-        let built = self.named.face_count();
-        if built != self.faces {
-            return Err(Refusal::Fault(Fault::new(Kind::FaceCount, u64::from(built))));
-        }
-        let made = self.named.made();
-        if self.created < made {
-            return Err(Refusal::Fault(Fault::new(Kind::VertexCount, u64::from(made))));
-        }
-        match self.named.first_degenerate() {
-            None => {
-                let table = self.named.into_table();
-                let classes = table.label_vertices(alloc, steps)?;
-                Ok(Built::new(table, classes, false))
-            }
-            Some(face) => Err(Refusal::Fault(Fault::new(Kind::Degenerate, u64::from(face)))),
+        match self.tested() {
+            Ok(()) => labelled(alloc, self.into_table(), steps),
+            Err(fault) => Err(Refusal::Fault(fault)),
         }
     }
 }

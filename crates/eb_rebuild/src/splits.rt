@@ -1,12 +1,15 @@
 //! The split events that are left, and the sides that earlier ones keep.
 
-ghost use Rattle.std.specs.Prelude.{◌≡◌, ◌+◌, ◌*◌, ◌<◌, vec_len, slice_index_or, map, IfOk};
+ghost use Rattle.std.specs.Prelude.{◌≡◌, ◌+◌, ◌*◌, ◌<◌, ◌≤◌, [], min, vec_len, slice_index_or, map, reverse, replicate, All, IfOk};
 ghost use Rattle.drc_base.specs.declared.limits.TheConstants.{MAX_FACES as most_faces};
 ghost use Rattle.corner_table.specs.Sides.{side, number};
+ghost use Rattle.corner_table.specs.Table.{free_entry};
 ghost use Rattle.eb_machine.specs.Machine.{event_place};
 ghost use Rattle.eb_rebuild.specs.Kept.{no_event, split_number};
+ghost use Rattle.eb_machine.specs.Events.{IsEventOf};
 
 use crate::kept_sides::{KeptSides, NONE};
+use crate::side_stack::SideStack;
 use corner_table::Event;
 use drc_base::{Fault, Kind, Memory};
 use std::alloc::Global;
@@ -70,6 +73,26 @@ fn event_side(face: u32, right: bool) -> u32
     ensures within { result < 3 * face + 3 }
 {
     if right { 3 * face + 1 } else { 3 * face + 2 }
+}
+
+/// A stack on which no side waits, with room for one for each symbol, but no more than `most`, and the
+/// events of these symbols with no side kept yet.
+pub(crate) fn waiting(
+    alloc: Global,
+    symbols: u32,
+    most: u32,
+    events: Vec<Event>,
+) -> Result<(SideStack, Splits), Memory>
+    requires symbols { symbols ≤ most_faces }
+    requires events { All (IsEventOf symbols) events.items }
+    ensures sides { IfOk result (λ p. p.0.sides ≡ []) }
+    ensures room { IfOk result (λ p. p.0.room ≡ min symbols most) }
+    ensures kept { IfOk result (λ p. p.1.kept ≡ replicate symbols free_entry) }
+    ensures events { IfOk result (λ p. p.1.events ≡ reverse events.items) }
+{
+    let stack = SideStack::with_room(alloc, symbols.min(most))?;
+    let splits = Splits::new(alloc, symbols, events)?;
+    Ok((stack, splits))
 }
 
 impl Splits {

@@ -14,13 +14,13 @@ use Rattle.eb_rebuild.proofs.named_table.NamedTable.degree_at.Goals as goal
 
 pub returns : goal.returns
 returns c =
-    let v : NamedTable = record { table = c.self.inside.table; triangles = c.self.inside.triangles.items; rows = all_listed c.self.inside.rows.items; made = c.self.inside.made } in
+    let v : NamedTable = record { table = c.self.inside.table; triangles = c.self.inside.lists.triangles.items; rows = all_listed c.self.inside.lists.rows.items; made = c.self.inside.made } in
     let at : Side = next (side_at c.args.side) in
     let name : c.start_name-vertex.result ≡ name_of v.triangles at = c.start_name-vertex.ensures ∙ ap (λ (ts : List Triangle). name_of ts at) c.as_slice.ensures.value in
     let corners : c.corners_named-corners.result ≡ sum_by (times_in (name_of v.triangles at)) v.triangles =
     c.corners_named-corners.ensures.corners ∙ ap (λ (ts : List Triangle). sum_by (times_in c.start_name-vertex.result) ts) c.as_slice-2.ensures.value ∙ ap (λ (n : ℕ). sum_by (times_in n) v.triangles) name in
     let starts : c.starts_row-starts.result ≡ list_any (λ (r : Row). r.from == name_of v.triangles at) v.rows =
-    c.starts_row-starts.ensures ∙ ap (list_any (λ (r : NumberedRow). r.from == c.start_name-vertex.result)) c.as_slice-3.ensures.value ∙ any_listed c.start_name-vertex.result c.self.inside.rows.items
+    c.starts_row-starts.ensures ∙ ap (list_any (λ (r : NumberedRow). r.from == c.start_name-vertex.result)) c.as_slice-3.ensures.value ∙ any_listed c.start_name-vertex.result c.self.inside.lists.rows.items
     ∙ ap (λ (n : ℕ). list_any (λ (r : Row). r.from == n) v.rows) name in
     ap (λ (n : ℕ). n + c.one_if.result) corners ∙ ap (λ (n : ℕ). sum_by (times_in (name_of v.triangles at)) v.triangles + n) (c.one_if.ensures ∙ ap (λ (t : Bool). cond t 1 0) starts)
     ∙ degree_is v c.self.invariant at (let h = subst (λ (w : NamedTable). c.args.side < 3 * w.table.faces) (sym c.self.view_is) c.requires in omega arith)

@@ -9,6 +9,6 @@ use Rattle.eb_rebuild.proofs.named_table.NamedTable.first_degenerate.Goals as go
 
 pub returns : goal.returns
 returns c =
-    let v : NamedTable = record { table = c.self.inside.table; triangles = c.self.inside.triangles.items; rows = all_listed c.self.inside.rows.items; made = c.self.inside.made } in
+    let v : NamedTable = record { table = c.self.inside.table; triangles = c.self.inside.lists.triangles.items; rows = all_listed c.self.inside.lists.rows.items; made = c.self.inside.made } in
     c.first_with_equal.ensures ∙ ap (λ (n : ℕ). first_with_equal c.as_slice.result.now n) c.face_count-faces.ensures.count ∙ ap (λ (l : List Triangle). first_with_equal l v.table.faces) c.as_slice.ensures.value ∙ first_equal_is v c.self.invariant
     ∙ ap (λ (w : NamedTable). first_degenerate w.table.faces (gluing_of w.table) w.table.faces) c.self.view_is

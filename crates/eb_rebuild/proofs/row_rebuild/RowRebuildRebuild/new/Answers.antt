@@ -11,7 +11,7 @@ pub returns-clause-state : goal.returns-clause-state
 returns-clause-state c =
     let table = c.in_ok-named.named.table in
     let sides = c.in_ok-stack.stack.sides in
-    let splits = c.in_ok-splits.splits in
+    let splits = c.in_ok-stack.splits in
     let at_made : ℕ → State = λ m. record { built = table.faces; glued = gluing_of table; stack = map side_at sides; reserved = kept_in splits.kept; events = splits.events; made = m; closes = 0 } in
     ap at_made c.in_ok-named.ensures.made
-    ∙ start_state table sides splits.kept splits.events (reverse c.args.events.items) c.args.symbols c.in_ok-named.ensures.none c.in_ok-named.ensures.unglued c.in_ok-stack.ensures.sides c.in_ok-splits.ensures.kept c.in_ok-splits.ensures.events
+    ∙ start_state table sides splits.kept splits.events (reverse c.args.events.items) c.args.symbols c.in_ok-named.ensures.none c.in_ok-named.ensures.unglued c.in_ok-stack.ensures.sides c.in_ok-stack.ensures.kept c.in_ok-stack.ensures.events
