@@ -1,5 +1,5 @@
 -- Tests that give no fault.
-use Rattle.std.proofs.Common.{◌≡◌, ℕ, Bool, true, false, List, ◌∷◌, Option, None, Some, refl, ap}
+use Rattle.std.proofs.Common.{◌≡◌, ℕ, Bool, true, false, List, [], ◌∷◌, Option, None, Some, refl, ap}
 use Rattle.drc_base.specs.declared.faults.Fault.{Fault}
 use Rattle.drc_base.specs.declared.kinds.Kind.{Kind}
 use Rattle.mesh_model.specs.FirstFault.{unless, first_fault, at_place}
@@ -25,3 +25,19 @@ first_fault-none (Some f) ts e = cc
 pub first_fault-cons : (t : Option Fault) (ts : List (Option Fault)) → t ≡ None → first_fault ts ≡ None → first_fault (t ∷ ts) ≡ None
 first_fault-cons None ts none rest = rest
 first_fault-cons (Some f) ts none rest = cc
+
+-- the first fault of two tests, and what follows them
+pub faults_before : (a b : Option Fault) (ts : List (Option Fault)) (f : Fault) → first_fault (a ∷ b ∷ []) ≡ Some f → first_fault (a ∷ b ∷ ts) ≡ Some f
+faults_before None None ts f e = cc
+faults_before None (Some g) ts f e = e
+faults_before (Some g) b ts f e = e
+
+pub faults_behind : (a b : Option Fault) (ts : List (Option Fault)) → first_fault (a ∷ b ∷ []) ≡ None → first_fault (a ∷ b ∷ ts) ≡ first_fault ts
+faults_behind None None ts e = refl
+faults_behind None (Some g) ts e = cc
+faults_behind (Some g) b ts e = cc
+
+-- a test alone
+pub faults_alone : (t : Option Fault) → first_fault (t ∷ []) ≡ t
+faults_alone None = refl
+faults_alone (Some f) = refl

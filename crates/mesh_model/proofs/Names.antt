@@ -1,8 +1,8 @@
 -- Marks of the numbers that rows have named.
-use Rattle.std.proofs.Common.{◌≡◌, ℕ, ◌+◌, ◌<◌, ◌≤◌, Bool, true, false, cond, eqb, List, [], ◌∷◌, ◌++◌, length, get_or, set, take, replicate, refl, sym, ap, ◌∙◌, subst, inl, inr, arith}
+use Rattle.std.proofs.Common.{◌≡◌, ℕ, ◌+◌, ◌<◌, ◌≤◌, Bool, true, false, cond, eqb, List, [], ◌∷◌, ◌++◌, length, get_or, set, take, refl, sym, ap, ◌∙◌, subst, inl, inr, arith}
 use Rattle.std.specs.List.{All, count_by, list_all}
 use Rattle.std.proofs.lemmas.Bool.{cases_eq, eq-eqb, ne_eqb, true_from_ne_false}
-use Rattle.std.proofs.lemmas.List.{length-set, length-replicate, get_or-replicate, get_or-set_same, get_or-set_other, take_more}
+use Rattle.std.proofs.lemmas.List.{length-set, get_or-set_same, get_or-set_other, take_more}
 use Rattle.std.proofs.lemmas.List.Elements.{All-nil, All-push, All-from_get_or}
 use Rattle.std.proofs.lemmas.List.Sums.{sum_by_push, sum_by-take-le, AllPass-from_list_all, list_all-from_AllPass}
 use Rattle.mesh_model.specs.Same.{Rows, NamesEachOnce}
@@ -13,11 +13,11 @@ pub record Marks (count : ℕ) (seen : List Bool) (rows : Rows) : Type 0 where
   pub within : All (λ row. row.0 < count) rows
   pub once : (f : ℕ) → f < count → count_by (λ row. eqb row.0 f) rows ≡ cond (get_or seen f false) 1 0
 
-pub Marks-none : (count : ℕ) → Marks count (replicate count false) []
-Marks-none count = record {
-  long = length-replicate count false;
-  within = All-nil (λ row. row.0 < count);
-  once = λ f below. ap (λ b. cond b 1 0) (sym (get_or-replicate count f false false below));
+pub Marks-none : (seen : List Bool) → All (λ mark. mark ≡ false) seen → Marks (length seen) seen []
+Marks-none seen none = record {
+  long = refl;
+  within = All-nil (λ row. row.0 < length seen);
+  once = λ f below. ap (λ b. cond b 1 0) (sym (none f false below));
 }
 
 pub Marks-more : (count : ℕ) (seen : List Bool) (rows : Rows) (row : ℕ × ℕ) → Marks count seen rows → row.0 < count → get_or seen row.0 false ≡ false → Marks count (set seen row.0 true) (rows ++ row ∷ [])

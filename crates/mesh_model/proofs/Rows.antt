@@ -1,9 +1,9 @@
 -- Rows and the flat list that stores them.
-use Rattle.std.proofs.Common.{◌≡◌, ℕ, zero, suc, ◌+◌, ◌-◌, ◌*◌, ◌/◌, ◌%◌, ◌<◌, ◌≤◌, List, [], ◌∷◌, ◌++◌, length, get_or, take, drop, ℤ, refl, sym, ap, ◌∙◌, inl, inr, arith}
+use Rattle.std.proofs.Common.{◌≡◌, ℕ, zero, suc, ◌+◌, ◌-◌, ◌*◌, ◌/◌, ◌%◌, ◌<◌, ◌≤◌, List, [], ◌∷◌, ◌++◌, length, get_or, map, take, drop, ℤ, refl, sym, ap, ◌∙◌, inl, inr, arith}
 use Rattle.std.specs.List.{All}
 use Rattle.std.proofs.lemmas.Bool.{cases_lt}
 use Rattle.std.proofs.lemmas.List.Concat.{flat_map-append}
-use Rattle.std.proofs.lemmas.List.{append-nil, length-append, length_push, length-take, length-drop, take_at, take_all, take-append-le, drop_at, drop-append-le, drop-drop, get_or-take, get_or-drop, get_or_append_left, get_or_push, same_lists, drop_more}
+use Rattle.std.proofs.lemmas.List.{append-nil, length-append, length_push, length-take, length-drop, take_at, take_all, take-append-le, drop_at, drop-append-le, drop-drop, get_or-take, get_or-drop, get_or_append_left, get_or_push, map_push, same_lists, take_more, drop_more}
 use Rattle.std.proofs.lemmas.List.FromFn.{length-map-range_with_len, get_or-map-range_with_len}
 use Rattle.std.proofs.lemmas.List.Elements.{All-head, All-tail}
 use Rattle.std.proofs.lemmas.Nat.{mul-le, div-add-mod', mod_below, div_below}
@@ -50,6 +50,13 @@ length-cells_of width (row ∷ points) long =
 pub cells_of-push : (points : List (List ℤ)) (row : List ℤ) → cells_of (points ++ row ∷ []) ≡ cells_of points ++ row
 cells_of-push points row =
     flat_map-append (λ (r : List ℤ). r) points (row ∷ []) ∙ ap (λ xs. cells_of points ++ xs) (append-nil row)
+
+-- the row of one number more
+pub cells_of-map_more : (row : ℕ → List ℤ) (numbers : List ℕ) (i : ℕ) → i < length numbers → cells_of (map row (take (i + 1) numbers)) ≡ cells_of (map row (take i numbers)) ++ row (get_or numbers i 0)
+cells_of-map_more row numbers i inside =
+    ap (λ ns. cells_of (map row ns)) (take_more numbers i 0 inside)
+    ∙ ap cells_of (map_push row (take i numbers) (get_or numbers i 0))
+    ∙ cells_of-push (map row (take i numbers)) (row (get_or numbers i 0))
 
 drop_nil : (n : ℕ) → drop {A = ℤ} n [] ≡ []
 drop_nil zero = refl

@@ -2,9 +2,10 @@
 
 use crate::geometry_rules::{RowShape, test_cloud};
 use crate::geometry_views::GeometryView;
-use crate::heads::Head;
+use crate::heads::{Head, copies_of};
 use crate::row_rules::stored_row;
-use drc_base::Refusal;
+use drc_base::{Memory, Refusal};
+use std::alloc::Global;
 use std::marker::Model;
 
 /// A point cloud: heads and points, within the limits. Contracts see its points as rows, one integer
@@ -31,7 +32,7 @@ impl Model for Cloud {
 }
 
 impl Cloud {
-    ghost use Rattle.std.specs.Prelude.{◌≡◌, ◌<◌, ◌≤◌, [], IsTrue, None, length, slice_index_or};
+    ghost use Rattle.std.specs.Prelude.{◌≡◌, ◌<◌, ◌≤◌, [], IfOk, IsTrue, None, length, slice_index_or};
     ghost use Rattle.mesh_model.specs.declared.geometries.Geometry.TheVariants as geometry;
     ghost use Rattle.mesh_model.specs.FirstFault.{answer_of};
     ghost use Rattle.mesh_model.specs.Head.{width_of};
@@ -87,6 +88,23 @@ impl Cloud {
             width,
             count,
         }
+    }
+
+    /// The cloud of these heads and rows, which are known to be one, and are copied.
+    pub(crate) fn copied_from(
+        alloc: Global,
+        heads: &[Head],
+        cells: &[i32],
+        width: u32,
+        count: u32,
+    ) -> Result<Cloud, Memory>
+        requires stored { AreStored heads.now cells.now width count }
+        requires sound { IsCloud (record { heads = heads.now; points = rows_of width cells.now }) }
+        ensures { IfOk result (λ c. c ≡ record { heads = heads.now; points = rows_of width cells.now }) }
+    {
+        let heads = copies_of(alloc, heads)?;
+        let cells = Vec::from_slice(alloc, cells)?;
+        Ok(Cloud::from_rows(heads, cells, width, count))
     }
 
     /// The cloud, lent. It takes no memory.

@@ -13,7 +13,7 @@ ghost use Rattle.mesh_model.specs.Stored.{AreStored};
 use crate::clouds::Cloud;
 use crate::geometries::Geometry;
 use crate::geometry_rules::{RowShape, test_cloud, test_mesh};
-use crate::heads::{Head, copies_of};
+use crate::heads::Head;
 use crate::meshes::CornerMesh;
 use crate::row_rules::stored_row;
 use drc_base::{Fault, Memory, Refusal};
@@ -164,15 +164,18 @@ impl<'g> GeometryView<'g> {
     pub fn copied(&self, alloc: Global) -> Result<Geometry, Memory>
         ensures { IfOk result (λ g. g ≡ self.now) }
     {
-        let heads = copies_of(alloc, self.heads)?;
-        let cells = Vec::from_slice(alloc, self.cells)?;
         match self.faces {
-            None => Ok(Geometry::Cloud(Cloud::from_rows(heads, cells, self.width, self.count))),
+            None => {
+                let cloud = Cloud::copied_from(
+                    alloc, self.heads, self.cells, self.width, self.count,
+                )?;
+                Ok(Geometry::Cloud(cloud))
+            }
             Some(faces) => {
-                let faces = Vec::from_slice(alloc, faces)?;
-                Ok(Geometry::Mesh(CornerMesh::from_rows(
-                    heads, cells, faces, self.width, self.count,
-                )))
+                let mesh = CornerMesh::copied_from(
+                    alloc, self.heads, self.cells, faces, self.width, self.count,
+                )?;
+                Ok(Geometry::Mesh(mesh))
             }
         }
     }

@@ -21,17 +21,25 @@ fn put_row(row: (u32, u8), buf: &mut [u8], at: usize) -> usize
     put_unsigned(row.1 as u32, b'\n', buf, end)
 }
 
+/// Appends the lines of all rows, which go through a chunk.
+fn put_lines(out: &mut Vec<u8>, chunk: &mut [u8], rows: &[(u32, u8)]) -> Result<(), Memory>
+    requires { length chunk.old ≡ CHUNK_BYTES }
+    ensures { OnOk result (out.new.items ≡ out.old.items ++ flat_map row_line rows.now) }
+{
+    let mut held = 0;
+    for row in rows {
+        let from = with_room(out, chunk, held)?;
+        held = put_row(*row, chunk, from);
+    }
+    flushed(out, chunk, held)
+}
+
 /// Appends the lines of all rows.
 fn put_rows(out: &mut Vec<u8>, rows: &[(u32, u8)]) -> Result<(), Memory>
     ensures { OnOk result (out.new.items ≡ out.old.items ++ flat_map row_line rows.now) }
 {
     let mut chunk = [0u8; CHUNK_BYTES];
-    let mut held = 0;
-    for row in rows {
-        let from = with_room(out, &chunk, held)?;
-        held = put_row(*row, &mut chunk, from);
-    }
-    flushed(out, &chunk, held)
+    put_lines(out, &mut chunk, rows)
 }
 
 /// The words that begin the text.

@@ -1,6 +1,6 @@
 //! Whether two geometries are the same by a renumbering.
 
-ghost use Rattle.std.specs.Prelude.{◌≡◌, ◌+◌, ◌<◌, ◌↔◌, ℕ, length, IsTrue, IfOk, All};
+ghost use Rattle.std.specs.Prelude.{◌≡◌, ◌+◌, ◌<◌, ◌↔◌, ℕ, false, length, IsTrue, IfOk, All};
 ghost use Rattle.std.specs.List.{list_all};
 ghost use Rattle.mesh_model.specs.Parts.{corner};
 ghost use Rattle.mesh_model.specs.Same.{NamesEachOnce, Same, SameFace, SameMesh, SameCloudPoint, SameCloud, named, turn};
@@ -81,22 +81,31 @@ fn all_true(marks: &[bool]) -> bool
     marks.iter().all(|mark| *mark)
 }
 
+/// Marks the numbers that rows name, none of which is marked at first: whether each mark's number, and no other, stands
+/// in exactly one row.
+fn mark_each(seen: &mut [bool], rows: &[(u32, u8)]) -> bool
+    requires none { All (λ mark. mark ≡ false) seen.old }
+    ensures { IsTrue result ↔ NamesEachOnce (length seen.old) rows.now }
+{
+    for row in rows {
+        let named = row.0 as usize;
+        if named >= seen.len() {
+            return false;
+        }
+        if seen[named] {
+            return false;
+        }
+        seen[named] = true;
+    }
+    all_true(seen)
+}
+
 /// Whether each number below `count`, and no other, stands in exactly one row.
 fn names_each_once(alloc: Global, count: u32, rows: &[(u32, u8)]) -> Result<bool, Memory>
     ensures { IfOk result (λ yes. IsTrue yes ↔ NamesEachOnce count rows.now) }
 {
     let mut seen = vec![in alloc; false; count as usize]?;
-    for row in rows {
-        let named = row.0 as usize;
-        if named >= seen.len() {
-            return Ok(false);
-        }
-        if seen[named] {
-            return Ok(false);
-        }
-        seen[named] = true;
-    }
-    Ok(all_true(seen.as_slice()))
+    Ok(mark_each(seen.as_mut_slice(), rows))
 }
 
 /// Whether corner `k` of face `i` of `n` is corner `k + turn` of face `named` of `m`.

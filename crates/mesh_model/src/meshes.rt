@@ -2,7 +2,7 @@
 
 use crate::geometry_rules::{RowShape, test_mesh};
 use crate::geometry_views::GeometryView;
-use crate::heads::Head;
+use crate::heads::{Head, copies_of};
 use crate::row_numbers::first_rows;
 use crate::row_rules::stored_row;
 use drc_base::{Memory, Refusal};
@@ -118,6 +118,25 @@ impl CornerMesh {
             width,
             count,
         }
+    }
+
+    /// The mesh of these heads, rows and faces, which are known to be one, and are copied.
+    pub(crate) fn copied_from(
+        alloc: Global,
+        heads: &[Head],
+        cells: &[i32],
+        faces: &[[u32; 3]],
+        width: u32,
+        count: u32,
+    ) -> Result<CornerMesh, Memory>
+        requires stored { AreStored heads.now cells.now width count }
+        requires sound { IsMesh (record { heads = heads.now; points = rows_of width cells.now; faces = faces.now }) }
+        ensures { IfOk result (λ m. m ≡ record { heads = heads.now; points = rows_of width cells.now; faces = faces.now }) }
+    {
+        let heads = copies_of(alloc, heads)?;
+        let cells = Vec::from_slice(alloc, cells)?;
+        let faces = Vec::from_slice(alloc, faces)?;
+        Ok(CornerMesh::from_rows(heads, cells, faces, width, count))
     }
 
     /// The mesh, lent. It takes no memory.

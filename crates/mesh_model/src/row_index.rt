@@ -2,7 +2,7 @@
 
 ghost use Rattle.std.specs.Prelude.{◌≡◌, ◌+◌, ◌*◌, ◌<◌, ◌≤◌, ◌^◌, ℕ, ℤ, List, [], All, IfOk, MatchOption, false, length, slice_index, slice_index_or};
 ghost use Rattle.mesh_model.specs.Parts.{rows_of};
-ghost use Rattle.mesh_model.specs.RowIndex.{AreChains, AreHashes, AreRising, AreSpread, AreTwins, AreUnlike, IsTwin, rows_at};
+ghost use Rattle.mesh_model.specs.RowIndex.{AreChains, AreChosen, AreHashes, AreRising, AreSpread, AreTwins, AreUnlike, IsTwin, rows_at};
 
 use crate::comparisons::{COMPARISONS_A_ROW, Comparisons, MORE_COMPARISONS};
 use crate::row_filter::chosen_hashes;
@@ -143,6 +143,71 @@ fn spread(alloc: Global, count: u32, chosen: &[u32], links: &[u32]) -> Result<Ve
     Ok(twins)
 }
 
+/// The links of chosen rows, each to the latest one before it in the bucket of its hash, of one to two buckets a row.
+fn links_of(alloc: Global, hashes: &[u32], chosen: &[u32]) -> Result<Vec<u32>, Memory>
+    requires chosen { All (λ p. p < length hashes.now) chosen.now }
+    requires few { length chosen.now < 2 ^ 27 }
+    ensures chains { IfOk result (λ links. (rows : List (List ℤ)) → AreHashes rows (length hashes.now) hashes.now →
+        AreChains (rows_at rows chosen.now) (length chosen.now) links.items) }
+    ensures long { IfOk result (λ links. length links.items ≡ length chosen.now) }
+{
+    let buckets = (chosen.len() as u32 + 1).next_power_of_two();
+    let mut tops = vec![in alloc; 0; buckets as usize]?;
+    link_rows(alloc, hashes, chosen, buckets - 1, tops.as_mut_slice())
+}
+
+/// Rows among which are all that equal others.
+#[derive(Drop)]
+struct LinkedRows {
+    /// The numbers of the chosen rows.
+    chosen: Vec<u32>,
+    /// Of each of them a link to the latest one before it in the bucket of its hash.
+    links: Vec<u32>,
+}
+
+/// The rows that are chosen by their hashes, linked by their buckets.
+fn linked_rows(alloc: Global, width: u32, count: u32, cells: &[i32]) -> Result<LinkedRows, Memory>
+    requires whole { length cells.now ≡ count * width }
+    requires wide { 0 < width }
+    requires few { count < 2 ^ 27 }
+    ensures chosen { IfOk result (λ linked. AreChosen (rows_of width cells.now) count linked.chosen.items) }
+    ensures chains { IfOk result (λ linked. AreChains (rows_at (rows_of width cells.now) linked.chosen.items) (length linked.chosen.items) linked.links.items) }
+    ensures long { IfOk result (λ linked. length linked.links.items ≡ length linked.chosen.items) }
+{
+    let hashes = row_hashes(alloc, width, count, cells)?;
+    let chosen = chosen_hashes(alloc, hashes.as_slice())?;
+    let links = links_of(alloc, hashes.as_slice(), chosen.as_slice())?;
+    Ok(LinkedRows { chosen, links })
+}
+
+/// The links of all rows to earlier ones that are equal, from chosen rows that are linked by their buckets: as `twins_of`.
+fn twins_among(
+    alloc: Global,
+    width: u32,
+    count: u32,
+    cells: &[i32],
+    chosen: &[u32],
+    links: &mut [u32],
+    comparisons: &mut Comparisons,
+) -> Result<Option<Vec<u32>>, Memory>
+    requires whole { length cells.now ≡ count * width }
+    requires wide { 0 < width }
+    requires few { count < 2 ^ 27 }
+    requires chosen { AreChosen (rows_of width cells.now) count chosen.now }
+    requires long { length links.old ≡ length chosen.now }
+    requires chains { AreChains (rows_at (rows_of width cells.now) chosen.now) (length chosen.now) links.old }
+    requires allowed { comparisons.old.made ≤ comparisons.old.most }
+    ensures found { IfOk result (λ found. MatchOption found (AreUnlike (rows_of width cells.now) count)
+        (λ twins. AreTwins (rows_of width cells.now) count twins.items × (length twins.items ≡ count))) }
+    ensures cost { comparisons.new.made ≤ comparisons.old.most }
+{
+    match keep_twins(links, width, count, cells, chosen, comparisons) {
+        None => twins_by_columns(alloc, width, count, cells),
+        Some(false) => Ok(None),
+        Some(true) => Ok(Some(spread(alloc, count, chosen, links)?)),
+    }
+}
+
 /// Of each of `count` rows of `width` integers a link to an earlier row that equals it, or none: a link to row r is
 /// r + 1, and 0 is none. No links at all where no two rows are equal. Only the rows that are chosen by their hashes
 /// are compared, a few times for each at most: where rows that aren't equal share so many buckets that this isn't
@@ -162,22 +227,16 @@ pub(crate) fn twins_of(
         (λ links. AreTwins (rows_of width cells.now) count links.items × (length links.items ≡ count))) }
     ensures cost { comparisons.new.made ≤ comparisons.old.made + (COMPARISONS_A_ROW * count + MORE_COMPARISONS) }
 {
-    let hashes = row_hashes(alloc, width, count, cells)?;
-    let hashes = hashes.as_slice();
-    let chosen = chosen_hashes(alloc, hashes)?;
+    let LinkedRows { chosen, mut links } = linked_rows(alloc, width, count, cells)?;
     let chosen = chosen.as_slice();
-    let buckets = (chosen.len() as u32 + 1).next_power_of_two();
-    let mut tops = vec![in alloc; 0; buckets as usize]?;
-    let tops = tops.as_mut_slice();
-    let mut links = link_rows(alloc, hashes, chosen, buckets - 1, tops)?;
-    let links = links.as_mut_slice();
     comparisons.allow(chosen.len() as u32);
-    match keep_twins(links, width, count, cells, chosen, comparisons) {
-        None => Ok(twins_by_columns(alloc, width, count, cells)?),
-        Some(false) => Ok(None),
-        Some(true) => {
-            let twins = spread(alloc, count, chosen, links)?;
-            Ok(Some(twins))
-        }
-    }
+    twins_among(
+        alloc,
+        width,
+        count,
+        cells,
+        chosen,
+        links.as_mut_slice(),
+        comparisons,
+    )
 }

@@ -51,6 +51,19 @@ fn count_with(vertices: &[u32], corner: u32, count: u32) -> Option<u32>
     Some(count.max(vertex + 1))
 }
 
+/// How many vertices there are with the three corners from `first` on, or none where a number is above the next one.
+#[inline(always)]
+fn count_with_face(vertices: &[u32], first: u32, count: u32) -> Option<u32>
+    requires corners { first + 3 ≤ length vertices.now }
+    requires few { first + 3 ≤ 3 * MAX_FACES }
+    requires ordered { AreInOrder vertices.now first count }
+    ensures { IfSome result (λ n. AreInOrder vertices.now (first + 3) n) }
+{
+    let one = count_with(vertices, first, count)?;
+    let two = count_with(vertices, first + 1, one)?;
+    count_with(vertices, first + 2, two)
+}
+
 /// Faces by the vertices of their corners.
 #[derive(Drop)]
 pub(crate) struct VertexFaces {
@@ -76,13 +89,7 @@ pub(crate) fn vertex_faces(
     let mut count = 0;
     for f in 0..faces {
         let first = 3 * f;
-        let Some(one) = count_with(vertices, first, count) else {
-            return Ok(None);
-        };
-        let Some(two) = count_with(vertices, first + 1, one) else {
-            return Ok(None);
-        };
-        let Some(three) = count_with(vertices, first + 2, two) else {
+        let Some(next) = count_with_face(vertices, first, count) else {
             return Ok(None);
         };
         made.push_reserved([
@@ -90,7 +97,7 @@ pub(crate) fn vertex_faces(
             vertices[first as usize + 1],
             vertices[first as usize + 2],
         ]);
-        count = three;
+        count = next;
     }
     Ok(Some(VertexFaces { faces: made, count }))
 }

@@ -1,38 +1,15 @@
-use Rattle.std.proofs.Common.{◌≡◌, ◌/◌, ◌<◌, ◌≤◌, None, length, rules}
-use Rattle.std.specs.List.{All}
-use Rattle.mesh_model.specs.Head.{width_of, heads_fault}
-use Rattle.mesh_model.specs.Parts.{count_fault, faces_fault, index_fault, range_fault}
-use Rattle.mesh_model.specs.Stored.{AreStored}
-use Rattle.mesh_model.proofs.Made.{IsMesh-made, whole-rows}
-use Rattle.mesh_model.proofs.geometry_rules.test_mesh.Goals.{In_ok-test_typed}
+use Rattle.std.proofs.Common.{◌∙◌, [], ◌∷◌, sym}
+use Rattle.mesh_model.specs.Parts.{faces_fault, index_fault}
+use Rattle.mesh_model.proofs.FirstFaults.{first_fault-none, faults_alone}
+use Rattle.mesh_model.proofs.Made.{IsMesh-made}
 use Rattle.mesh_model.proofs.geometry_rules.test_mesh.Goals as goal
-
--- the integers are stored as rows
-stored-are : (c : In_ok-test_typed) → AreStored c.args.heads.now c.args.points.now c.in_ok-width.width (length c.args.points.now / c.in_ok-width.width)
-stored-are c =
-    let heads = c.args.heads.now in
-    let cells = c.args.points.now in
-    let width = c.in_ok-width.width in
-    let pass : heads_fault heads ≡ None = search rules in
-    let width_is : width ≡ width_of heads = search rules in
-    let wide : 0 < width = search rules in
-    let narrow : width ≤ 128 = search rules in
-    record { width_is = width_is; wide = wide; narrow = narrow; whole = whole-rows heads cells width c.requires.rows pass width_is }
-
-pub returns-clause-stored : goal.returns-clause-stored
-returns-clause-stored c = stored-are (goal.at.returns-clause-stored c).In_ok-test_typed
 
 pub returns-clause-sound : goal.returns-clause-sound
 returns-clause-sound c =
     let heads = c.args.heads.now in
-    let cells = c.args.points.now in
     let faces = c.args.faces.now in
-    let width = c.in_ok-width.width in
-    let count = length cells / width in
-    let pass : heads_fault heads ≡ None = search rules in
-    let counts : count_fault count width ≡ None = search rules in
-    let few : faces_fault faces ≡ None = search rules in
-    let indices : index_fault count faces ≡ None = search rules in
-    let ranges : range_fault heads cells ≡ None = search rules in
-    let long : All (λ face. length face ≡ 3) faces = search rules in
-    IsMesh-made heads cells width count faces (stored-are (goal.at.returns-clause-sound c).In_ok-test_typed) pass counts few indices ranges long
+    let shape = c.in_ok-shape.shape in
+    let ok = c.in_ok-shape.ensures in
+    let tests = first_fault-none (faces_fault faces) (index_fault shape.count faces ∷ []) c.in_ok-test_faces.ensures.tested in
+    IsMesh-made heads c.args.points.now shape.width shape.count faces ok.stored ok.passes.0 ok.passes.1 tests.0 (sym (faults_alone (index_fault shape.count faces)) ∙ tests.1)
+    c.in_ok-test_typed.ensures c.test_faces.ensures.three

@@ -1,12 +1,15 @@
-use Rattle.std.proofs.Common.{◌≡◌, ◌<◌, List, ℤ, length, sym, subst, arith}
+use Rattle.std.proofs.Common.{◌≡◌, ◌<◌, List, ℤ, length, sym, ap, ◌∙◌, subst, arith}
 use Rattle.std.specs.List.{All, zip}
 use Rattle.mesh_model.specs.Groups.{group_tables}
 use Rattle.mesh_model.specs.Parts.{rows_of}
-use Rattle.mesh_model.specs.RowIndex.{AreUnlike}
+use Rattle.mesh_model.specs.RowIndex.{AreTwins, AreUnlike}
 use Rattle.mesh_model.proofs.Columns.{width_of-bounds}
 use Rattle.mesh_model.proofs.NumberedFaces.{items-fit, faces-unlike}
 use Rattle.mesh_model.proofs.Rows.{length-rows}
 use Rattle.mesh_model.proofs.numbering.number_corners.Goals as goal
+
+pub twins_of-requires-clause-whole : goal.twins_of-requires-clause-whole
+twins_of-requires-clause-whole c = ap length c.as_slice-cells.ensures.value ∙ c.in_ok-items.ensures.stored
 
 pub twins_of-requires-clause-wide : goal.twins_of-requires-clause-wide
 twins_of-requires-clause-wide c = subst (λ w. 0 < w) (sym c.requires.width) (width_of-bounds c.args.heads.now c.requires.groups.tables.heads_pass).0
@@ -25,6 +28,15 @@ merge_items-requires-clause-faces c =
     let many : length rows ≡ items.count = length-rows c.args.width items.count items.cells.items wide c.in_ok-items.ensures.stored in
     subst (λ n. All (λ face. All (λ item. item < n) face) items.faces.items) many
     (items-fit (zip c.args.heads.now (group_tables c.args.groups.now)) c.args.faces items.faces.items rows c.in_ok-items.ensures.faces_are)
+
+pub merge_items-requires-clause-long : goal.merge_items-requires-clause-long
+merge_items-requires-clause-long c = let found = rw c.in-Some.is at c.in_ok-twins_of.ensures.found in found.1
+
+pub merge_items-requires-clause-twins : goal.merge_items-requires-clause-twins
+merge_items-requires-clause-twins c =
+    let items = c.in_ok-items.items in
+    let found = rw c.in-Some.is at c.in_ok-twins_of.ensures.found in
+    subst (λ (cells : List ℤ). AreTwins (rows_of c.args.width cells) items.count c.in-Some.twins.items) c.as_slice-cells.ensures.value found.0
 
 pub returns-in-None-clause-numbering : goal.returns-in-None-clause-numbering
 returns-in-None-clause-numbering c =

@@ -11,9 +11,9 @@ loop-f-preserved c =
     let vertices = c.args.vertices.now in
     let f = c.loop-f.f in
     let so_far = c.loop-f.invariant in
-    let next : 3 * f + 2 + 1 ≡ 3 * (f + 1) = omega arith in
+    let after : 3 * f + 3 ≡ 3 * (f + 1) = omega arith in
     record {
-      ordered = subst (λ n. AreInOrder vertices n c.in-Some-count_with-2.three) next c.in-Some-count_with-2.ensures;
+      ordered = subst (λ n. AreInOrder vertices n c.in-Some.next) after c.in-Some.ensures;
       faces =
           c.push_reserved.ensures.items
           ∙ ap (λ (fs : List (List ℕ)). fs ++ triple vertices f ∷ []) so_far.faces

@@ -1,7 +1,7 @@
 use Rattle.std.proofs.Common.{◌≡◌, ◌++◌, ◌≤◌, take}
 use Rattle.std.specs.List.{flat_map}
 use Rattle.mesh_model.specs.MapText.{row_line}
-use Rattle.mesh_model.proofs.mapping.put_rows.Given as goal
+use Rattle.mesh_model.proofs.mapping.put_lines.Given as goal
 
 -- the lines so far are in the text and in the chunk
 abbrev pub invariant-loop-row : goal.invariant-loop-row
