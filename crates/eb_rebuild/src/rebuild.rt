@@ -6,7 +6,8 @@ ghost use Rattle.drc_base.specs.declared.faults.Refusal.TheVariants as refusal;
 ghost use Rattle.eb_machine.specs.Machine.{Plan as MachinePlan, State as MachineState, start, step, close};
 ghost use Rattle.eb_rebuild.specs.Calls.{symbol_calls};
 ghost use Rattle.eb_machine.specs.Degree.{top_degree};
-ghost use Rattle.eb_rebuild.specs.Rebuilding.{Moves, Ends, IsEventOf};
+ghost use Rattle.eb_machine.specs.Events.{IsEventOf};
+ghost use Rattle.eb_rebuild.specs.Rebuilding.{Moves, Ends};
 
 use crate::built::Built;
 use corner_table::{Event, Steps, Symbol};
