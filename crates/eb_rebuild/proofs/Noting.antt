@@ -1,16 +1,14 @@
 -- What noting events does to a list of kept sides.
-use Rattle.std.proofs.Common.{◌≡◌, ◌≢◌, ℕ, zero, suc, ◌+◌, ◌-◌, ◌*◌, ◌<◌, Bool, true, false, not, cond, eqb, is_none, List, [], ◌∷◌, length, get_or, set, All, Option, Some, None, Result, Ok, Err, inl, inr, sym, refl, ap, ◌∙◌, subst, arith, get_or-set_other, get_or-set_same, lt-ltb, le-ltb, eq-eqb, ne_eqb, eqb-true}
+use Rattle.std.proofs.Common.{◌≡◌, ◌≢◌, ℕ, zero, suc, ◌+◌, ◌-◌, ◌*◌, ◌<◌, Bool, true, false, cond, eqb, List, ◌∷◌, length, get_or, set, All, Some, None, Ok, Err, inl, inr, sym, refl, ap, ◌∙◌, subst, arith, get_or-set_other, get_or-set_same, eq-eqb, ne_eqb, eqb-true}
 use Rattle.std.proofs.lemmas.Bool.{cases_Bool, cases_eq, cond-true, cond-false}
 use mathlib.Core.Path.{fun_ext}
 use Rattle.drc_base.specs.declared.kinds.Kind.TheVariants as kind
-use Rattle.drc_base.specs.declared.faults.Fault.{Fault}
 use Rattle.drc_base.specs.declared.limits.TheConstants.{MAX_FACES}
-use Rattle.drc_base.specs.Steps.{◌>>=◌}
 use Rattle.corner_table.specs.declared.symbols.Event.{Event}
 use Rattle.corner_table.specs.Sides.{Side, side, number, side_at}
 use Rattle.corner_table.specs.Table.{other_at, free_entry}
 use Rattle.corner_table.proofs.TableSteps.{entry_taken}
-use Rattle.eb_machine.specs.Machine.{note_events, must_be, fault, reserve, event_place}
+use Rattle.eb_machine.specs.Machine.{note_events, fault, reserve, event_place}
 use Rattle.eb_rebuild.specs.Kept.{counted_down, no_event, kept_in, split_number, HasRoomFor, AreKeptBelow}
 use Rattle.eb_machine.specs.Events.{IsEventOf}
 use Rattle.eb_machine.proofs.NotedEvents.{note_none, note_later, note_passed, note_taken, note_more}

@@ -1,9 +1,8 @@
 -- What the calls of a rebuilding answer, against the machine. The form of the answers is this project's own; the machine has its sources.
-use Rattle.std.specs.Prelude.{◌≡◌, ℕ, ◌<◌, ◌≤◌, Bool, IsTrue, Result, Ok, Err}
+use Rattle.std.specs.Prelude.{◌≡◌, Bool, IsTrue, Result, Ok, Err}
 use Rattle.drc_base.specs.declared.faults.Fault.{Fault}
 use Rattle.drc_base.specs.declared.faults.Refusal.{Refusal}
 use Rattle.drc_base.specs.declared.faults.Refusal.TheVariants as refusal
-use Rattle.corner_table.specs.declared.symbols.Event.{Event}
 use Rattle.corner_table.specs.Table.{Table, gluing_of}
 use Rattle.eb_machine.specs.Machine.{State, Plan, finish}
 
