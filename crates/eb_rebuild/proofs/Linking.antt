@@ -17,7 +17,8 @@ use Rattle.eb_machine.specs.declared.beside.Beside.TheVariants.{Left, Right}
 use Rattle.eb_machine.specs.Beside.{symbol_in, glued_place}
 use Rattle.eb_machine.specs.Machine.{State, Plan, close, fill, top, pushed, release, note_events, step, fault}
 use Rattle.eb_rebuild.specs.Kept.{StackValue, SplitsValue, kept_in, AreSidesBelow, AreKeptBelow}
-use Rattle.eb_rebuild.specs.Linked.{LinkValue, IsLinkState, state_of, Does}
+use Rattle.eb_rebuild.specs.Linked.{LinkValue, IsLinkState, IsLoopOf, state_of, Does}
+use Rattle.eb_machine.specs.OneFaceMore.{PairsAreApart}
 use Rattle.eb_machine.proofs.Steps.{close_boundary, close_interior, loop_test, fill_gone, fill_no_loop, fill_full, fill_steps, split_no_second, split_one_side, split_one_point, split_steps, tip_alone, tip_steps, Next, top_free, the_state, same_state, beside_steps, beside_refused}
 
 -- side 0 of a face
@@ -302,17 +303,11 @@ pub record IsRound (v : LinkValue) (a : ℕ) (b c d : Side) : Type 0 where
   pub second_before : c ≡ side_before v.table.faces (gluing_of v.table) b
   pub third_before : d ≡ side_before v.table.faces (gluing_of v.table) c
 
-round_of : {v : LinkValue} {a : ℕ} {rest : List ℕ} {b c d : Side} → IsLoop v a rest b c d → IsRound v a b c d
-round_of W = record { free = W.free; first_before = W.first_before; second_before = W.second_before; third_before = W.third_before }
-
 pub to_fill : (v : LinkValue) (a : ℕ) (rest : List ℕ) → v.stack.sides ≡ a ∷ rest → close v.plan true (state_of v) ≡ fill (v.plan.symbols + v.closes) v.plan (side_at a) (map side_at rest) (state_of v)
 to_fill v a rest e = close_interior v.plan (state_of v) (side_at a) (map side_at rest) (ap (map side_at) e)
 
 pub fill_gone_is : (v : LinkValue) (a : ℕ) (rest : List ℕ) (x : Side) (n : ℕ) → gluing_of v.table (side_at a) ≡ Some x → n ≡ v.plan.symbols + v.closes → fill (v.plan.symbols + v.closes) v.plan (side_at a) (map side_at rest) (state_of v) ≡ Err (fault kind.Gone n)
 fill_gone_is v a rest x n h q = fill_gone (v.plan.symbols + v.closes) v.plan (state_of v) (side_at a) x (map side_at rest) h ∙ ap (λ (m : ℕ). let y : Next = Err (fault kind.Gone m) in y) (sym q)
-
-pub fill_gone_does : (v : LinkValue) (a : ℕ) (rest : List ℕ) (x : Side) (n : ℕ) → v.stack.sides ≡ a ∷ rest → gluing_of v.table (side_at a) ≡ Some x → n ≡ v.plan.symbols + v.closes → close v.plan true (state_of v) ≡ Err (fault kind.Gone n)
-fill_gone_does v a rest x n e h q = to_fill v a rest e ∙ fill_gone_is v a rest x n h q
 
 pub fill_no_loop_is : (v : LinkValue) (a : ℕ) (rest : List ℕ) (b c d : Side) (t : Bool) (n : ℕ) → IsRound v a b c d → t ≡ (not (same b (side_at a)) && not (same c (side_at a)) && same d (side_at a)) → t ≡ false → n ≡ v.plan.symbols + v.closes →
     fill (v.plan.symbols + v.closes) v.plan (side_at a) (map side_at rest) (state_of v) ≡ Err (fault kind.Loop n)
@@ -320,19 +315,11 @@ fill_no_loop_is v a rest b c d t n W h f q =
     fill_no_loop (v.plan.symbols + v.closes) v.plan (state_of v) (side_at a) (map side_at rest) W.free (loop_test_is (state_of v) (side_at a) b c d W.first_before W.second_before W.third_before ∙ sym h ∙ f)
     ∙ ap (λ (m : ℕ). let y : Next = Err (fault kind.Loop m) in y) (sym q)
 
-pub fill_no_loop_does : (v : LinkValue) (a : ℕ) (rest : List ℕ) (b c d : Side) (t : Bool) (n : ℕ) → IsLoop v a rest b c d → t ≡ (not (same b (side_at a)) && not (same c (side_at a)) && same d (side_at a)) → t ≡ false → n ≡ v.plan.symbols + v.closes →
-    close v.plan true (state_of v) ≡ Err (fault kind.Loop n)
-fill_no_loop_does v a rest b c d t n W h f q = to_fill v a rest W.stack ∙ fill_no_loop_is v a rest b c d t n (round_of W) h f q
-
 pub fill_full_is : (v : LinkValue) (a : ℕ) (rest : List ℕ) (b c d : Side) (t : Bool) (n : ℕ) → IsRound v a b c d → t ≡ (not (same b (side_at a)) && not (same c (side_at a)) && same d (side_at a)) → t ≡ true → v.table.faces ≡ v.plan.faces → n ≡ v.table.faces →
     fill (v.plan.symbols + v.closes) v.plan (side_at a) (map side_at rest) (state_of v) ≡ Err (fault kind.FaceCount n)
 fill_full_is v a rest b c d t n W h f e q =
     fill_full (v.plan.symbols + v.closes) v.plan (state_of v) (side_at a) (map side_at rest) W.free (loop_test_is (state_of v) (side_at a) b c d W.first_before W.second_before W.third_before ∙ sym h ∙ f) e
     ∙ ap (λ (m : ℕ). let y : Next = Err (fault kind.FaceCount m) in y) (sym q)
-
-pub fill_full_does : (v : LinkValue) (a : ℕ) (rest : List ℕ) (b c d : Side) (t : Bool) (n : ℕ) → IsLoop v a rest b c d → t ≡ (not (same b (side_at a)) && not (same c (side_at a)) && same d (side_at a)) → t ≡ true → v.table.faces ≡ v.plan.faces → n ≡ v.table.faces →
-    close v.plan true (state_of v) ≡ Err (fault kind.FaceCount n)
-fill_full_does v a rest b c d t n W h f e q = to_fill v a rest W.stack ∙ fill_full_is v a rest b c d t n (round_of W) h f e q
 
 pub record Filled (v new : LinkValue) (a : ℕ) (rest : List ℕ) (b c : Side) : Type 0 where
   pub faces : new.table.faces ≡ suc v.table.faces
@@ -367,9 +354,14 @@ loop_passes a b c d p q r =
     ap (λ (t : Bool). not t && not false && true) (sym (not_same b a p)) ∙ ap (λ (t : Bool). not (same b a) && not t && true) (sym (not_same c a q))
     ∙ ap (λ (t : Bool). not (same b a) && not (same c a) && t) (sym (ap (λ (x : Side). same x a) r ∙ same_refl a))
 
--- the second and the third side of a loop of three differ
-pub loop_apart : (v : LinkValue) (a : ℕ) (rest : List ℕ) (b c d : Side) → IsLoop v a rest b c d → b ≢ side_at a → d ≡ side_at a → c ≢ b
-loop_apart v a rest b c d W n e q = n (sym q ∙ W.second_before ∙ ap (side_before v.table.faces (gluing_of v.table)) (sym q) ∙ sym W.third_before ∙ e)
+-- the pairs of the face that fills a loop
+pub loop_apart : {t : Table} {a b c : Side} → IsLoopOf t a b c → PairsAreApart t.faces (gluing_of t) ((third, c) ∷ (second, b) ∷ (first, a) ∷ [])
+loop_apart {t} {a} {b} {c} W = (
+  W.three,
+  ((λ q. W.apart (sym q ∙ W.joined_again ∙ sym (ap (side_before t.faces (gluing_of t)) q) ∙ W.joined_round)), (W.apart_again, tt)),
+  ((λ q. (cc)), ((λ q. (cc)), tt)),
+  (W.two, (W.apart, tt), ((λ q. (cc)), tt), (W.one, tt, tt, tt)),
+)
 
 -- what closing keeps
 pub link_closed : {v new : LinkValue} → IsLinkState v → (a : ℕ) (rest : List ℕ) (more : ℕ) → v.stack.sides ≡ a ∷ rest → new.plan ≡ v.plan → room_of new.table ≡ room_of v.table → new.table.faces ≡ v.table.faces + more → new.stack.sides ≡ rest → new.stack.room ≡ v.stack.room →

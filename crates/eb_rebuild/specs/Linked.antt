@@ -1,11 +1,12 @@
 -- What a rebuilding that keeps the boundary by links holds, and the machine's state that it stands for: the code's own, from no source.
-use Rattle.std.specs.Prelude.{◌≡◌, ℕ, ◌+◌, ◌*◌, ◌≤◌, min, Bool, true, ◌==◌, cond, is_none, List, [], ◌∷◌, length, map, Result, Ok, Err}
+use Rattle.std.specs.Prelude.{◌≡◌, ◌≢◌, ℕ, ◌+◌, ◌*◌, ◌≤◌, min, Bool, true, ◌==◌, cond, is_none, List, [], ◌∷◌, length, map, Result, Ok, Err}
 use Rattle.drc_base.specs.declared.faults.Fault.{Fault}
 use Rattle.drc_base.specs.declared.faults.Refusal.{Refusal}
 use Rattle.drc_base.specs.declared.faults.Refusal.TheVariants as refusal
 use Rattle.drc_base.specs.declared.limits.TheConstants.{MAX_FACES}
-use Rattle.corner_table.specs.Sides.{side_at, Gluing}
-use Rattle.corner_table.specs.Table.{Table, gluing_of, room_of}
+use Rattle.corner_table.specs.Sides.{Side, side_at, Gluing}
+use Rattle.corner_table.specs.Fans.{side_before, Follows}
+use Rattle.corner_table.specs.Table.{Table, gluing_of, room_of, IsFreeIn}
 use Rattle.eb_machine.specs.Machine.{State, Plan}
 use Rattle.eb_rebuild.specs.Kept.{StackValue, SplitsValue, kept_in, AreSidesBelow, AreKeptBelow}
 
@@ -42,6 +43,20 @@ pub record IsLinkState (v : LinkValue) : Type 0 where
   pub sides : AreSidesBelow v.table.faces v.stack.sides
   pub kept : AreKeptBelow v.table.faces v.splits.kept
   pub made : v.made ≤ 3 * v.table.faces
+
+-- free sides of a loop of three: b comes before a round the boundary, c before b, and a before c
+pub record IsLoopOf (t : Table) (a b c : Side) : Type 0 where
+  pub one : IsFreeIn t a
+  pub two : IsFreeIn t b
+  pub three : IsFreeIn t c
+  pub apart : b ≢ a
+  pub apart_again : c ≢ a
+  pub joined : b ≡ side_before t.faces (gluing_of t) a
+  pub joined_again : c ≡ side_before t.faces (gluing_of t) b
+  pub joined_round : side_before t.faces (gluing_of t) c ≡ a
+  pub follows : Follows t.faces (gluing_of t) b a
+  pub follows_again : Follows t.faces (gluing_of t) c b
+  pub follows_round : Follows t.faces (gluing_of t) a c
 
 -- a step of the machine that is a fault or succeeds
 abbrev pub Does : Result State Fault → State → Result (Unit {0}) Fault → Type 0

@@ -11,6 +11,7 @@ ghost use Rattle.corner_table.specs.Table.{side_of, gluing_of, room_of};
 ghost use Rattle.eb_rebuild.specs.CornerNames.{IsNaming};
 ghost use Rattle.eb_rebuild.specs.Linked.{refused_by};
 
+use eb_machine::Beside;
 use crate::built::Built;
 use crate::corner_names::CornerNames;
 use crate::kept_degrees::KeptDegrees;
@@ -19,7 +20,6 @@ use crate::side_stack::SideStack;
 use crate::splits::{Splits, waiting};
 use corner_table::{Event, LinkedTable, SideTable, Steps, Symbol, number_of, side_with};
 use drc_base::{Fault, Kind, Memory, Refusal, Side};
-use eb_machine::Beside;
 use std::alloc::Global;
 use std::marker::Model;
 use std::sync::ledger::Ledger;
@@ -135,10 +135,10 @@ impl LinkRebuild {
     ghost use Rattle.corner_table.specs.declared.symbols.Symbol.TheVariants as kinds;
     ghost use Rattle.corner_table.specs.Sides.{side, side_at, second, third, glue};
     ghost use Rattle.corner_table.specs.Table.{gluing_of, room_of, IsFreeIn};
-    ghost use Rattle.eb_machine.specs.Machine.{top, step, close, finish, pushed, release};
+    ghost use Rattle.eb_machine.specs.Machine.{top, step, close, fill, finish, pushed, release};
     ghost use Rattle.eb_machine.specs.Beside.{symbol_in};
     ghost use Rattle.eb_rebuild.specs.Kept.{kept_in};
-    ghost use Rattle.eb_rebuild.specs.Linked.{state_of, is_live, Does};
+    ghost use Rattle.eb_rebuild.specs.Linked.{state_of, is_live, Does, IsLoopOf};
     ghost use Rattle.eb_rebuild.specs.Rebuilding.{Holds, Ends};
 
     /// The table of the faces built and the pairs glued so far, with entries for exactly the faces that there
@@ -365,11 +365,36 @@ impl LinkRebuild {
         ensures cost { steps.new ≤ steps.old + 8 }
         ensures refused { OnErr result (steps.new ≤ steps.old + 4) }
     {
-        let number = u64::from(self.symbols) + u64::from(self.closes);
         let a = match self.stack.pop() {
             Some(a) => a,
             None => return Ok(()),
         };
+        // Not by `?` for the prover alone, who would have to follow how it converts the error.
+        let (second, third) = match self.sides_to_fill(a, steps) {
+            Ok(sides) => sides,
+            Err(fault) => return Err(fault),
+        };
+        let top = side_with(a);
+        let face = self.table.add_face(steps);
+        self.table.glue(Side { face, k: 0 }, top, steps);
+        self.table.glue(Side { face, k: 1 }, second, steps);
+        self.table.glue(Side { face, k: 2 }, third, steps);
+        self.names.fill(a, number_of(second));
+        self.closes += 1;
+        Ok(())
+    }
+
+    /// The sides of the loop of side a, which a face may fill: the one that comes before a, and the one
+    /// before that. Gone where side a is glued, Loop where its loop isn't of exactly three, FaceCount where
+    /// all declared faces are built.
+    fn sides_to_fill<L: Ledger>(&self, a: u32, steps: &mut Steps<L>) -> Result<(Side, Side), Fault>
+        requires { a < 3 * self.now.table.faces }
+        ensures sides { IfOk result (λ sides. IsLoopOf self.now.table (side_at a) (side_of sides.0) (side_of sides.1)) }
+        ensures more { OnOk result (self.now.table.faces < self.now.plan.faces) }
+        ensures err { IfErr result (λ f. fill (self.now.plan.symbols + self.now.closes) self.now.plan (side_at a) (map side_at self.now.stack.sides) (state_of self.now) ≡ Err f) }
+        ensures cost { steps.new ≤ steps.old + 4 }
+    {
+        let number = u64::from(self.symbols) + u64::from(self.closes);
         let top = side_with(a);
         match self.table.other(top, steps) {
             None => (),
@@ -387,13 +412,7 @@ impl LinkRebuild {
         if built == self.faces {
             return Err(Fault::new(Kind::FaceCount, u64::from(built)));
         }
-        let face = self.table.add_face(steps);
-        self.table.glue(Side { face, k: 0 }, top, steps);
-        self.table.glue(Side { face, k: 1 }, second, steps);
-        self.table.glue(Side { face, k: 2 }, third, steps);
-        self.names.fill(a, number_of(second));
-        self.closes += 1;
-        Ok(())
+        Ok((second, third))
     }
 
     /// The tests of the counts at the end: FaceCount, then VertexCount.
