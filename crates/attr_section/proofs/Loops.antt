@@ -1,8 +1,8 @@
 -- Appending the bytes of one item after another.
-use Rattle.std.proofs.Common.{◌≡◌, ℕ, ◌+◌, ◌<◌, List, [], ◌∷◌, ◌++◌, length, take, get_or, flat_map, sym, ◌∙◌, ap, arith}
+use Rattle.std.proofs.Common.{◌≡◌, ℕ, ◌+◌, ◌<◌, List, [], ◌∷◌, ◌++◌, length, take, get_or, flat_map, map, append_assoc, sym, ◌∙◌, ap, arith}
 use Rattle.std.specs.List.{All, zip}
 use Rattle.std.proofs.lemmas.Slice.Zip.{get_or-zip, length-zip}
-use Rattle.std.proofs.lemmas.List.{take_more, flat_map_more}
+use Rattle.std.proofs.lemmas.List.{take_more, flat_map_more, map_push}
 use Rattle.std.proofs.lemmas.List.Elements.{All-more}
 
 -- one item more was appended
@@ -12,6 +12,16 @@ appended-more f xs i x start out new within at so is =
     is ∙ ap (λ o. o ++ f x) so ∙ flat_map_more f start (take i xs) x
     ∙ ap (λ y. start ++ flat_map f (take i xs ++ y ∷ [])) at
     ∙ ap (λ l. start ++ flat_map f l) (sym (take_more xs i x within))
+
+-- the number of one item more was appended
+pub mapped-more : {X : Type 0} (f : X → ℕ) (xs : List X) (i : ℕ) (x : X) (y : ℕ) (start out new : List ℕ) → i < length xs → x ≡ get_or xs i x
+    → out ≡ start ++ map f (take i xs) → new ≡ out ++ y ∷ [] → y ≡ f x → new ≡ start ++ map f (take (i + 1) xs)
+mapped-more f xs i x y start out new within at so is told =
+    is ∙ ap (λ o. o ++ y ∷ []) so ∙ append_assoc start (map f (take i xs)) (y ∷ [])
+    ∙ ap (λ z. start ++ (map f (take i xs) ++ z ∷ [])) told
+    ∙ ap (λ l. start ++ l) (sym (map_push f (take i xs) x))
+    ∙ ap (λ z. start ++ map f (take i xs ++ z ∷ [])) at
+    ∙ ap (λ l. start ++ map f l) (sym (take_more xs i x within))
 
 -- what holds of one item more
 pub all-more : {X : Type 0} (P : X → Type 0) (xs : List X) (i : ℕ) (x : X) → i < length xs → x ≡ get_or xs i x

@@ -17,10 +17,7 @@ fn put_head(out: &mut Vec<u8>, head: &Head) -> Result<(), Memory>
     ensures bytes { OnOk result (out.new.items ≡ out.old.items ++ head_bytes head.now) }
     ensures again { OnOk result (Spells head_at (head_bytes head.now) (bare_head head.now)) }
 {
-    out.push(head.usage)?;
-    out.push(head.dtype)?;
-    out.push(head.comps)?;
-    out.push(head.normalized)?;
+    out.extend_from_slice(&[head.usage, head.dtype, head.comps, head.normalized])?;
     out.extend_from_slice(&put_var32(head.id))?;
     Ok(())
 }

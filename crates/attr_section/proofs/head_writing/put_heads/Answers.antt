@@ -1,4 +1,5 @@
-use Rattle.std.proofs.Common.{◌<◌, length, arith}
+use Rattle.std.proofs.Common.{◌<◌, ◌≤◌, length, arith}
+use Rattle.std.proofs.lemmas.List.{take_all}
 use Rattle.drc_bits.specs.Spells.{Spells}
 use Rattle.attr_section.specs.Heads.{head_at, head_bytes, bare_head}
 use Rattle.attr_section.proofs.Loops.{appended-more, all-more}
@@ -10,3 +11,11 @@ loop-head-preserved c =
       appended-more head_bytes c.args.heads.now c.loop-head.head-index c.head-item.result c.args.out.now.items c.loop-head.out.items c.put_head.new.out.items within c.head-item.is c.loop-head.invariant.0 c.in_ok-put_head.ensures.bytes,
       all-more (λ h. Spells head_at (head_bytes h) (bare_head h)) c.args.heads.now c.loop-head.head-index c.head-item.result within c.head-item.is c.loop-head.invariant.1 c.in_ok-put_head.ensures.again,
     )
+
+pub returns-clause-bytes : goal.returns-clause-bytes
+returns-clause-bytes c =
+    let done : length c.args.heads.now ≤ c.loop-head.head-index = omega arith in rw (take_all c.loop-head.head-index c.args.heads.now done) at c.loop-head.invariant.0
+
+pub returns-clause-again : goal.returns-clause-again
+returns-clause-again c =
+    let done : length c.args.heads.now ≤ c.loop-head.head-index = omega arith in rw (take_all c.loop-head.head-index c.args.heads.now done) at c.loop-head.invariant.1

@@ -1,5 +1,5 @@
 -- Entry after entry is put, with its flags.
-use Rattle.std.proofs.Common.{◌≡◌, ◌<◌, ◌*◌, ℕ, List, length, map, ap, ◌∙◌, sym, subst, refl, arith, add-one}
+use Rattle.std.proofs.Common.{◌≡◌, ◌<◌, ◌≤◌, ◌+◌, ◌*◌, ℕ, List, length, map, ap, ◌∙◌, sym, subst, refl, arith, add-one}
 use Rattle.std.proofs.lemmas.List.{length-map, get_or-replicate}
 use Rattle.std.proofs.lemmas.List.Elements.{All-same}
 use Rattle.corner_table.specs.Sides.{side_at}
@@ -12,6 +12,7 @@ use Rattle.predict.specs.Gathered.{gathered}
 use Rattle.predict.specs.Multi.{by_many, kept, flags_for, multi}
 use Rattle.predict.specs.Entry.{Foretells, AreUsed}
 use Rattle.predict.proofs.Behind.{behind_end}
+use Rattle.predict.proofs.Entries.{entry_below}
 use Rattle.predict.proofs.Kept.{used_none, foretells_many, lacks_flags}
 use Rattle.predict.proofs.multi_from_source.by_multi.Goals as goal
 
@@ -38,10 +39,20 @@ returns-in-None-clause-flags g c =
     omega (arith, length-map c.args.on.now.order.now.corner_of_entry side_at, c.loop-e-test.true, c.surface_of-surface.ensures.count) in
     (refl, lacks_flags w c.args.flags.now.lists e has (c.in-None.ensures.faces w e is c.loop-e.invariant.used))
 
-pub put_by_many-requires-clause-below : goal.put_by_many-requires-clause-below
-put_by_many-requires-clause-below g c =
-    All-same (IsBelow c.loop-e.e) c.as_slice-in-Some.result.now c.in-Some.faces.items c.as_slice-in-Some.ensures.value
-    (c.in-Some.ensures.below c.loop-e.e (All-same (IsBelow c.loop-e.e) c.as_slice.result.now c.gather-found.result.items c.as_slice.ensures.value c.gather-found.ensures.below))
+pub put_by_many-requires : goal.put_by_many-requires
+put_by_many-requires g c =
+    let e = c.loop-e.e in
+    let n = length c.args.on.now.order.now.corner_of_entry in
+    let more : e * c.args.comps + c.args.comps ≤ n * c.args.comps = entry_below e n c.args.comps (omega (arith, c.loop-e-test.true, c.surface_of-surface.ensures.count)) in
+    record {
+      some = c.requires.some;
+      below = All-same (IsBelow e) c.as_slice-in-Some.result.now c.in-Some.faces.items c.as_slice-in-Some.ensures.value
+          (c.in-Some.ensures.below e (All-same (IsBelow e) c.as_slice.result.now c.gather-found.result.items c.as_slice.ensures.value c.gather-found.ensures.below));
+      few = omega (arith, ap length c.as_slice-in-Some.ensures.value, c.in-Some.ensures.few);
+      here = c.loop-e.invariant.len;
+      room = omega (arith, more, c.requires.whole, c.len-n.ensures, c.loop-e.invariant.len, c.loop-e.invariant.capacity);
+      enough = omega (arith, more, c.requires.whole, c.len-n.ensures, c.loop-e.invariant.left);
+    }
 
 pub loop-e-preserved : goal.loop-e-preserved
 loop-e-preserved g c =
