@@ -83,7 +83,12 @@ fn sink_of(alloc: Global, piece: usize, call: u64) -> Result<MemSink, Fail>
 }
 
 /// Runs the words over these bytes, with the failing calls of the source and of both sinks.
-pub(crate) fn run_line(alloc: Global, line: &str, bytes: &[u8], fails: [u64; 3]) -> Result<Ran, Fail> {
+pub(crate) fn run_line(
+    alloc: Global,
+    line: &str,
+    bytes: &[u8],
+    fails: [u64; 3],
+) -> Result<Ran, Fail> {
     let words = words_of(alloc, line)?;
     let mut input = source_of(alloc, bytes, fails[0])?;
     let mut output = sink_of(alloc, 16, fails[1])?;

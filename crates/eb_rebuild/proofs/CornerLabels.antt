@@ -9,9 +9,9 @@ use Rattle.corner_table.specs.Labels.{label_at, IsLabelled}
 use Rattle.corner_table.proofs.Numbers.{number-lt, face-lt, number-side_at, side_at-number}
 use Rattle.corner_table.proofs.Places.{next-prev, prev-next}
 use Rattle.corner_table.proofs.Ends.{fan_is_closed_or_open}
+use Rattle.eb_machine.proofs.ManyGlued.{fan_within}
 use Rattle.eb_rebuild.specs.JoinedNames.{root_in, Falls, roots_below, number_of}
 use Rattle.eb_rebuild.specs.CornerNames.{NamedCorners, name_at, vertex_at, IsNaming, AreNumbers, StartsBelow, marked_start, AreMarked}
-use Rattle.eb_machine.proofs.ManyGlued.{fan_within}
 use Rattle.eb_rebuild.proofs.Roots.{root_low, root_root, below_more, below_tells, below_found, below_plain}
 
 -- where no names are joined, names are numbers

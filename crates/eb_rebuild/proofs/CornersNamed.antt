@@ -13,13 +13,13 @@ use Rattle.eb_machine.specs.declared.beside.Beside.{Beside}
 use Rattle.eb_machine.specs.declared.beside.Beside.TheVariants.{Left, Right}
 use Rattle.eb_machine.specs.Beside.{glued_place, new_triangle}
 use Rattle.eb_machine.specs.Named.{Triangle, corner, renamed}
-use Rattle.eb_rebuild.specs.JoinedNames.{root_in, Falls, joined}
-use Rattle.eb_rebuild.specs.CornerNames.{NamedCorners, name_at, vertex_at, with_face, HasFaceOf, IsNaming, KeepsNames}
-use Rattle.eb_rebuild.specs.Linked.{LinkValue, IsLinkState}
 use Rattle.eb_machine.specs.OneFaceMore.{Pairs, glue_all, PairsAreApart, Touches}
 use Rattle.eb_machine.proofs.ManyGlued.{all_gluing, all_stay, Meet, new_is_free, old_is_free}
 use Rattle.eb_machine.proofs.FaceNamed.{IsAlone, NamesAround, alike_around, together_around}
 use Rattle.eb_machine.proofs.NamedRules.{renamed_from, renamed_to, renamed_case}
+use Rattle.eb_rebuild.specs.JoinedNames.{root_in, Falls, joined}
+use Rattle.eb_rebuild.specs.CornerNames.{NamedCorners, name_at, vertex_at, with_face, HasFaceOf, IsNaming, KeepsNames}
+use Rattle.eb_rebuild.specs.Linked.{LinkValue, IsLinkState}
 use Rattle.eb_rebuild.proofs.Roots.{root_low, pushed_falls, pushed_roots, root_fixed, none_falls}
 
 -- the roots of the new names fit those at the ends of the sides to which the face is glued

@@ -16,10 +16,10 @@ use Rattle.eb_machine.specs.declared.beside.Beside.{Beside}
 use Rattle.eb_machine.specs.declared.beside.Beside.TheVariants.{Left, Right}
 use Rattle.eb_machine.specs.Beside.{symbol_in, glued_place}
 use Rattle.eb_machine.specs.Machine.{State, Plan, close, fill, top, pushed, release, note_events, step, fault}
-use Rattle.eb_rebuild.specs.Kept.{StackValue, SplitsValue, kept_in, AreSidesBelow, AreKeptBelow}
-use Rattle.eb_rebuild.specs.Linked.{LinkValue, IsLinkState, IsLoopOf, state_of, Does}
 use Rattle.eb_machine.specs.OneFaceMore.{PairsAreApart}
 use Rattle.eb_machine.proofs.Steps.{close_boundary, close_interior, loop_test, fill_gone, fill_no_loop, fill_full, fill_steps, split_no_second, split_one_side, split_one_point, split_steps, tip_alone, tip_steps, Next, top_free, the_state, same_state, beside_steps, beside_refused}
+use Rattle.eb_rebuild.specs.Kept.{StackValue, SplitsValue, kept_in, AreSidesBelow, AreKeptBelow}
+use Rattle.eb_rebuild.specs.Linked.{LinkValue, IsLinkState, IsLoopOf, state_of, Does}
 
 -- side 0 of a face
 pub side_at_first : (f : ℕ) → side_at (3 * f) ≡ side f first

@@ -8,11 +8,11 @@ use Rattle.corner_table.proofs.Places.{next_injective, prev_injective, same_tell
 use Rattle.corner_table.proofs.Numbers.{number_injective}
 use Rattle.corner_table.proofs.Walks.{starts_once, ends_once}
 use Rattle.corner_table.proofs.Boundary.{free-left, free-right}
-use Rattle.eb_rebuild.specs.Counted.{times_in}
-use Rattle.eb_rebuild.specs.KeptDegrees.{degree_raised}
 use Rattle.eb_machine.specs.Named.{Triangle, Row, no_triangle, renamed, renamed_triangle}
 use Rattle.eb_machine.specs.Shown.{name_of, AreNames}
 use Rattle.eb_machine.proofs.NamedRules.{renamed_from, renamed_case}
+use Rattle.eb_rebuild.specs.Counted.{times_in}
+use Rattle.eb_rebuild.specs.KeptDegrees.{degree_raised}
 
 -- 1 where two names are one
 abbrev pub bit : ℕ → ℕ → ℕ

@@ -9,9 +9,9 @@ use Rattle.corner_table.specs.Sides.{Side, side, number, side_at}
 use Rattle.corner_table.specs.Table.{other_at, free_entry}
 use Rattle.corner_table.proofs.TableSteps.{entry_taken}
 use Rattle.eb_machine.specs.Machine.{note_events, fault, reserve, event_place}
-use Rattle.eb_rebuild.specs.Kept.{counted_down, no_event, kept_in, split_number, HasRoomFor, AreKeptBelow}
 use Rattle.eb_machine.specs.Events.{IsEventOf}
 use Rattle.eb_machine.proofs.NotedEvents.{note_none, note_later, note_passed, note_taken, note_more}
+use Rattle.eb_rebuild.specs.Kept.{counted_down, no_event, kept_in, split_number, HasRoomFor, AreKeptBelow}
 
 -- a kept entry that is none, and one that is a side
 pub kept-none : (kept : List ℕ) (k : ℕ) → get_or kept k free_entry ≡ free_entry → kept_in kept k ≡ None

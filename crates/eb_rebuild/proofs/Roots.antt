@@ -3,8 +3,8 @@ use Rattle.std.proofs.Common.{◌≡◌, ◌≢◌, ℕ, zero, suc, ◌<◌, ◌
 use Rattle.std.proofs.lemmas.Bool.{cases_eq, cases_lt, cond-true, cond-false}
 use Rattle.std.proofs.lemmas.List.{get_or_append_left, get_or_past, get_or_push, get_or_default, length-append, length-set}
 use Rattle.eb_machine.specs.Named.{renamed}
-use Rattle.eb_rebuild.specs.JoinedNames.{climbed, root_in, Falls, IsPlain, joined, roots_below, number_of, IsNumbering}
 use Rattle.eb_machine.proofs.NamedRules.{renamed_from, renamed_to, renamed_case}
+use Rattle.eb_rebuild.specs.JoinedNames.{climbed, root_in, Falls, IsPlain, joined, roots_below, number_of, IsNumbering}
 
 -- a name that is joined to none is where it was
 fixed : (up : List ℕ) (n x : ℕ) → get_or up x x ≡ x → climbed up n x ≡ x

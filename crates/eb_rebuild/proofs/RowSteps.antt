@@ -4,12 +4,12 @@ use Rattle.drc_base.specs.declared.faults.Fault.{Fault}
 use Rattle.drc_base.specs.declared.faults.Refusal.{Refusal}
 use Rattle.corner_table.specs.declared.symbols.Symbol.TheVariants.{E}
 use Rattle.corner_table.specs.Table.{gluing_of}
-use Rattle.eb_rebuild.specs.declared.active_rows.Row.{Row as NumberedRow}
 use Rattle.eb_machine.specs.Machine.{State, step}
+use Rattle.eb_machine.proofs.Steps.{Next, same_state, end_steps, end_refused}
+use Rattle.eb_rebuild.specs.declared.active_rows.Row.{Row as NumberedRow}
 use Rattle.eb_rebuild.specs.Kept.{kept_in}
 use Rattle.eb_rebuild.specs.Linked.{LinkValue, state_of, Does, refused_by}
 use Rattle.eb_rebuild.specs.Rowed.{RowValue, IsRowIn, plain_of, Tries}
-use Rattle.eb_machine.proofs.Steps.{Next, same_state, end_steps, end_refused}
 use Rattle.eb_rebuild.proofs.Linking.{noted_does, NotedBy, raised, Taken}
 
 -- a fault is a refusal

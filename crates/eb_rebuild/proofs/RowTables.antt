@@ -6,15 +6,15 @@ use Rattle.corner_table.specs.Fans.{side_before}
 use Rattle.corner_table.specs.Table.{Table, gluing_of}
 use Rattle.corner_table.proofs.Places.{option_tells, same-true, same_refl}
 use Rattle.corner_table.proofs.Numbers.{number-side_at}
-use Rattle.eb_rebuild.specs.declared.active_rows.Row.{Row as NumberedRow}
 use Rattle.eb_machine.specs.declared.beside.Beside.{Beside}
 use Rattle.eb_machine.specs.Beside.{glued_place, free_place, new_triangle}
 use Rattle.eb_machine.specs.Named.{Triangle, Row, row_at_side, row_to, row_before, without, new_row, renamed, renamed_triangle, renamed_row, NamedState, first_with_equal}
 use Rattle.eb_machine.specs.Shown.{AreNames, name_of, row_named}
-use Rattle.eb_rebuild.specs.Rowed.{row_listed, all_listed, NamedTable, IsNamedTable, IsRowIn, IsGluedIn, IsThree}
 use Rattle.eb_machine.specs.Machine.{first_degenerate}
 use Rattle.eb_machine.proofs.NamedLaw.{Stands, first_is}
 use Rattle.eb_machine.proofs.NamedRules.{row_is, no_row, row_before_is, before_ends, one_point_is, end_names, beside_names, tip_names, split_names, fill_names}
+use Rattle.eb_rebuild.specs.declared.active_rows.Row.{Row as NumberedRow}
+use Rattle.eb_rebuild.specs.Rowed.{row_listed, all_listed, NamedTable, IsNamedTable, IsRowIn, IsGluedIn, IsThree}
 
 one_truth : (t u : Bool) → (t ≡ true → u ≡ true) → (u ≡ true → t ≡ true) → t ≡ u
 one_truth true u f h = sym (f refl)

@@ -7,14 +7,14 @@ use Rattle.corner_table.proofs.Numbers.{number-lt}
 use Rattle.eb_machine.specs.declared.beside.Beside.{Beside}
 use Rattle.eb_machine.specs.declared.beside.Beside.TheVariants.{Left, Right}
 use Rattle.eb_machine.specs.Beside.{glued_place, new_triangle}
-use Rattle.eb_rebuild.specs.Counted.{times_in}
-use Rattle.eb_rebuild.specs.KeptDegrees.{degree_raised, after_end, after_beside, after_tip, after_split}
 use Rattle.eb_machine.specs.Named.{Triangle, Row, corner, no_triangle, renamed, renamed_triangle}
 use Rattle.eb_machine.specs.Shown.{name_of, AreNames}
 use Rattle.eb_machine.proofs.NamedRules.{renamed_from, renamed_case}
 use Rattle.eb_machine.specs.OneFaceMore.{Pairs, glue_all, IsOther, IsOtherPlace, PairsAreApart}
 use Rattle.eb_machine.proofs.ManyGlued.{free_tells}
 use Rattle.eb_machine.proofs.Naming.{get_or-before_last, get_or-last, name_old}
+use Rattle.eb_rebuild.specs.Counted.{times_in}
+use Rattle.eb_rebuild.specs.KeptDegrees.{degree_raised, after_end, after_beside, after_tip, after_split}
 use Rattle.eb_rebuild.proofs.NameDegrees.{bit, bit_same, bit_other, count, count_more, count_none, count_renamed, one_start, raised_is}
 
 -- the number at each free side is the degree by names

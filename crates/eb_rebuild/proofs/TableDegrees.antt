@@ -16,19 +16,19 @@ use Rattle.corner_table.proofs.TableSteps.{get_or-replicate}
 use Rattle.eb_machine.specs.declared.beside.Beside.{Beside}
 use Rattle.eb_machine.specs.Beside.{glued_place, new_triangle}
 use Rattle.eb_machine.specs.Degree.{degree, top_degree}
+use Rattle.eb_machine.specs.Machine.{State, Plan, start}
+use Rattle.eb_machine.specs.Named.{Triangle, Row, renamed, renamed_triangle}
+use Rattle.eb_machine.specs.Shown.{name_of, row_named, AreNames}
+use Rattle.eb_machine.proofs.Steps.{same_state}
+use Rattle.eb_machine.proofs.NamedRules.{names_start, end_names, beside_names, tip_names, split_names}
 use Rattle.eb_rebuild.specs.Kept.{StackValue, SplitsValue, kept_in, AreSidesBelow, first_side}
 use Rattle.eb_rebuild.specs.KeptDegrees.{degree_raised, KeepsDegrees, KeepsList, DegreesValue, IsReady, NotesBeside, NotesTip, NotesSplit, with_room, after_end, after_beside, after_tip, after_split}
 use Rattle.eb_rebuild.specs.Linked.{LinkValue, IsLinkState, state_of, is_top_free, is_live, Does, refused_by}
-use Rattle.eb_machine.specs.Machine.{State, Plan, start}
-use Rattle.eb_machine.specs.Named.{Triangle, Row, renamed, renamed_triangle}
 use Rattle.eb_rebuild.specs.Rebuilding.{Moves}
 use Rattle.eb_rebuild.specs.Rowed.{NamedTable, IsNamedTable}
-use Rattle.eb_machine.specs.Shown.{name_of, row_named, AreNames}
 use Rattle.eb_rebuild.proofs.Degrees.{among_any, degree_is}
 use Rattle.eb_rebuild.proofs.Linking.{side_at_first}
 use Rattle.eb_rebuild.proofs.Lists.{first_some}
-use Rattle.eb_machine.proofs.Steps.{same_state}
-use Rattle.eb_machine.proofs.NamedRules.{names_start, end_names, beside_names, tip_names, split_names}
 use Rattle.eb_rebuild.proofs.NameDegrees.{count, count_small}
 use Rattle.eb_rebuild.proofs.SymbolDegrees.{AreCounts, IsAround, end_counts, beside_counts, tip_counts, split_counts}
 

@@ -6,10 +6,10 @@ use Rattle.drc_base.specs.declared.faults.Refusal.TheVariants as refusal
 use Rattle.corner_table.specs.Sides.{Side, side_at}
 use Rattle.corner_table.specs.Fans.{side_before}
 use Rattle.corner_table.specs.Table.{Table, gluing_of, IsFreeIn}
-use Rattle.eb_rebuild.specs.declared.active_rows.Row.{Row as NumberedRow}
 use Rattle.eb_machine.specs.Machine.{State, Plan}
 use Rattle.eb_machine.specs.Named.{Triangle, Row}
 use Rattle.eb_machine.specs.Shown.{AreNames, row_named}
+use Rattle.eb_rebuild.specs.declared.active_rows.Row.{Row as NumberedRow}
 use Rattle.eb_rebuild.specs.Kept.{StackValue, SplitsValue}
 use Rattle.eb_rebuild.specs.Linked.{LinkValue}
 

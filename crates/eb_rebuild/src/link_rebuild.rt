@@ -11,7 +11,6 @@ ghost use Rattle.corner_table.specs.Table.{side_of, gluing_of, room_of};
 ghost use Rattle.eb_rebuild.specs.CornerNames.{IsNaming};
 ghost use Rattle.eb_rebuild.specs.Linked.{refused_by};
 
-use eb_machine::Beside;
 use crate::built::Built;
 use crate::corner_names::CornerNames;
 use crate::kept_degrees::KeptDegrees;
@@ -20,6 +19,7 @@ use crate::side_stack::SideStack;
 use crate::splits::{Splits, waiting};
 use corner_table::{Event, LinkedTable, SideTable, Steps, Symbol, number_of, side_with};
 use drc_base::{Fault, Kind, Memory, Refusal, Side};
+use eb_machine::Beside;
 use std::alloc::Global;
 use std::marker::Model;
 use std::sync::ledger::Ledger;

@@ -4,9 +4,9 @@ ghost use Rattle.std.specs.Prelude.{◌≡◌, ◌≢◌, ℕ, ◌+◌, ◌*◌,
 ghost use Rattle.drc_base.specs.declared.limits.TheConstants.{MAX_FACES as most_faces};
 ghost use Rattle.drc_base.specs.declared.faults.Refusal.TheVariants as refusal;
 ghost use Rattle.eb_machine.specs.Machine.{Plan as MachinePlan, State as MachineState, start, step, close};
-ghost use Rattle.eb_rebuild.specs.Calls.{symbol_calls};
 ghost use Rattle.eb_machine.specs.Degree.{top_degree};
 ghost use Rattle.eb_machine.specs.Events.{IsEventOf};
+ghost use Rattle.eb_rebuild.specs.Calls.{symbol_calls};
 ghost use Rattle.eb_rebuild.specs.Rebuilding.{Moves, Ends};
 
 use crate::built::Built;

@@ -5,8 +5,8 @@ ghost use Rattle.drc_base.specs.declared.limits.TheConstants.{MAX_FACES as most_
 ghost use Rattle.corner_table.specs.Sides.{side, number};
 ghost use Rattle.corner_table.specs.Table.{free_entry};
 ghost use Rattle.eb_machine.specs.Machine.{event_place};
-ghost use Rattle.eb_rebuild.specs.Kept.{no_event, split_number};
 ghost use Rattle.eb_machine.specs.Events.{IsEventOf};
+ghost use Rattle.eb_rebuild.specs.Kept.{no_event, split_number};
 
 use crate::kept_sides::{KeptSides, NONE};
 use crate::side_stack::SideStack;
@@ -27,8 +27,8 @@ pub(crate) struct Splits {
 impl Model for Splits {
     ghost use Rattle.std.specs.Prelude.{◌<◌, ◌≤◌, ◌*◌, vec_len, length, All};
     ghost use Rattle.drc_base.specs.declared.limits.TheConstants.{MAX_FACES as most_faces};
-    ghost use Rattle.eb_rebuild.specs.Kept.{SplitsValue, counted_down, no_event, HasRoomFor};
     ghost use Rattle.eb_machine.specs.Events.{IsEventOf};
+    ghost use Rattle.eb_rebuild.specs.Kept.{SplitsValue, counted_down, no_event, HasRoomFor};
 
     ghost Value = { SplitsValue };
 
@@ -101,8 +101,8 @@ impl Splits {
     ghost use Rattle.corner_table.specs.Sides.{side_at};
     ghost use Rattle.corner_table.specs.Table.{free_entry};
     ghost use Rattle.eb_machine.specs.Machine.{note_events, release};
-    ghost use Rattle.eb_rebuild.specs.Kept.{kept_in, AreKeptBelow};
     ghost use Rattle.eb_machine.specs.Events.{IsEventOf};
+    ghost use Rattle.eb_rebuild.specs.Kept.{kept_in, AreKeptBelow};
 
     /// No side kept, for as many symbols as are said, with events in the encoder's order. There is room
     /// for the sides of these events.

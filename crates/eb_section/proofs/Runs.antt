@@ -14,11 +14,11 @@ use Rattle.corner_table.specs.declared.symbols.Symbol.{Symbol}
 use Rattle.corner_table.specs.declared.symbols.Symbol.TheVariants.{C, S, L, R, E}
 use Rattle.corner_table.specs.Sides.{Side}
 use Rattle.rans_binary.specs.Blocks.{Block, behind, bit_of, next_bit}
-use Rattle.eb_rebuild.specs.Calls.{symbol_calls}
 use Rattle.eb_machine.specs.Machine.{Plan, State, step, close, close_all, close_top, finish, must_be, fault, first_degenerate}
-use Rattle.eb_rebuild.specs.Rebuilding.{BuiltValue, Moves, Ends}
 use Rattle.eb_machine.proofs.Steps.{Next, fill_loop, fill_count, filled_state, loop_test}
 use Rattle.eb_machine.proofs.Counts.{If, if_ok, if_then, close_counts}
+use Rattle.eb_rebuild.specs.Calls.{symbol_calls}
+use Rattle.eb_rebuild.specs.Rebuilding.{BuiltValue, Moves, Ends}
 use Rattle.eb_section.specs.Calls.{most_calls}
 use Rattle.eb_section.specs.Feeding.{Source, fed, rebuilt, EndsAs}
 

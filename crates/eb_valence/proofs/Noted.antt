@@ -12,8 +12,8 @@ use Rattle.drc_base.specs.declared.faults.Fault.{Fault}
 use Rattle.drc_base.specs.declared.faults.Refusal.{Refusal}
 use Rattle.drc_base.specs.declared.faults.Refusal.TheVariants as refusal
 use Rattle.drc_base.specs.Steps.{◌>>=◌}
-use Rattle.eb_rebuild.specs.Calls.{symbol_calls}
 use Rattle.eb_machine.specs.Machine.{State, step, take_symbols}
+use Rattle.eb_rebuild.specs.Calls.{symbol_calls}
 use Rattle.eb_rebuild.specs.Rebuilding.{Moves}
 use Rattle.eb_valence.specs.Numbers.{symbol_number}
 use Rattle.eb_valence.specs.Contexts.{CodedSymbol, coded, context, context_coded_at, context_list, lists_of}

@@ -5,9 +5,9 @@
 
 ghost use Rattle.std.specs.Prelude.{◌≡◌, ◌==◌, ℕ, ◌+◌, ◌<◌, ◌≤◌, List, All, IfOk, OnOk, length, map, reverse, replicate, sum_by, [], IsTrue, true};
 ghost use Rattle.drc_base.specs.declared.limits.TheConstants.{MAX_FACES as most_faces};
-ghost use Rattle.eb_rebuild.specs.Calls.{symbol_calls};
 ghost use Rattle.eb_machine.specs.Machine.{start};
 ghost use Rattle.eb_machine.specs.Events.{IsEventOf};
+ghost use Rattle.eb_rebuild.specs.Calls.{symbol_calls};
 ghost use Rattle.eb_valence.specs.Contexts.{context_coded_at, coded, context_lists};
 ghost use Rattle.eb_valence.specs.Noting.{noted, TakesWord};
 

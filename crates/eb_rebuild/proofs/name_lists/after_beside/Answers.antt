@@ -1,9 +1,9 @@
 -- A triangle more, a row less, and two rows more.
 use Rattle.std.proofs.Common.{List, [], ◌∷◌, ◌++◌, ap, ◌∙◌}
 use Rattle.corner_table.specs.Sides.{first, side_at}
-use Rattle.eb_rebuild.specs.declared.active_rows.Row.{Row}
 use Rattle.eb_machine.specs.Beside.{free_place}
 use Rattle.eb_machine.specs.Named.{Triangle, new_row, without}
+use Rattle.eb_rebuild.specs.declared.active_rows.Row.{Row}
 use Rattle.eb_rebuild.specs.Rowed.{all_listed}
 use Rattle.eb_rebuild.proofs.name_lists.after_beside.Goals as goal
 

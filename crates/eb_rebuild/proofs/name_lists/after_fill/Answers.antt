@@ -1,8 +1,8 @@
 -- A triangle more, and three rows less.
 use Rattle.std.proofs.Common.{List, [], ◌∷◌, ◌++◌, ap, ◌∙◌}
 use Rattle.corner_table.specs.Sides.{side_at}
-use Rattle.eb_rebuild.specs.declared.active_rows.Row.{Row}
 use Rattle.eb_machine.specs.Named.{Triangle, without}
+use Rattle.eb_rebuild.specs.declared.active_rows.Row.{Row}
 use Rattle.eb_rebuild.specs.Rowed.{all_listed}
 use Rattle.eb_rebuild.proofs.name_lists.after_fill.Goals as goal
 

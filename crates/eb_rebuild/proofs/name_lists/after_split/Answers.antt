@@ -1,8 +1,8 @@
 -- A triangle more, two rows less, and a row more, all others under the renaming.
 use Rattle.std.proofs.Common.{List, [], ◌∷◌, ◌++◌, map, ap, ◌∙◌}
 use Rattle.corner_table.specs.Sides.{first, side_at}
-use Rattle.eb_rebuild.specs.declared.active_rows.Row.{Row}
 use Rattle.eb_machine.specs.Named.{Triangle, new_row, without, renamed, renamed_triangle, renamed_row}
+use Rattle.eb_rebuild.specs.declared.active_rows.Row.{Row}
 use Rattle.eb_rebuild.specs.Rowed.{all_listed}
 use Rattle.eb_rebuild.proofs.name_lists.after_split.Goals as goal
 

@@ -3,8 +3,8 @@ use Rattle.std.proofs.Common.{◌≡◌, ◌-◌, ◌+◌, ◌∙◌, ℕ, ap, s
 use Rattle.corner_table.specs.declared.symbols.Symbol.{Symbol}
 use Rattle.corner_table.specs.declared.symbols.Symbol.TheVariants.{C}
 use Rattle.eb_machine.specs.Machine.{State, Plan, step}
-use Rattle.eb_rebuild.specs.Rebuilding.{Moves}
 use Rattle.eb_machine.proofs.Counts.{step_counts}
+use Rattle.eb_rebuild.specs.Rebuilding.{Moves}
 use Rattle.eb_valence.proofs.Noted.{word_at, called, takes_on, told_on, told_all, takes_first}
 use Rattle.eb_valence.proofs.noting.note_all.Goals as goal
 

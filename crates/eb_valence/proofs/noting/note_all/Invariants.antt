@@ -1,7 +1,7 @@
 -- The symbols from this number on are noted; the machine takes the others without a fault.
 use Rattle.std.proofs.Common.{◌≡◌, ◌+◌, ◌≤◌, ℕ, length, reverse, sum_by, take, IsTrue}
-use Rattle.eb_rebuild.specs.Calls.{symbol_calls}
 use Rattle.eb_machine.specs.Machine.{State}
+use Rattle.eb_rebuild.specs.Calls.{symbol_calls}
 use Rattle.eb_valence.specs.Contexts.{coded}
 use Rattle.eb_valence.specs.Noting.{noted, TakesWord}
 use Rattle.eb_valence.proofs.noting.note_all.Given as goal

@@ -1,8 +1,8 @@
 -- Two equal labels are two equal vertices.
 use Rattle.std.proofs.Common.{List, ℕ, length, sym, ap, ◌∙◌, arith}
 use Rattle.corner_table.specs.Table.{gluing_of}
-use Rattle.eb_rebuild.specs.Alike.{first_alike}
 use Rattle.eb_machine.specs.Machine.{first_degenerate}
+use Rattle.eb_rebuild.specs.Alike.{first_alike}
 use Rattle.eb_rebuild.specs.Rebuilding.{BuiltValue}
 use Rattle.eb_rebuild.proofs.Equals.{first_degenerate_is}
 use Rattle.eb_rebuild.proofs.built.Built.first_degenerate.Goals as goal

@@ -2,9 +2,9 @@
 use Rattle.std.proofs.Common.{◌≡◌, ℕ, suc, Bool, IsTrue, Ok, ◌*◌, ◌/◌, ◌<◌, [], ◌∷◌, List, length, sym, refl, ap, ◌∙◌, subst, arith, add-one}
 use Rattle.corner_table.specs.Sides.{side_at, side, first, second, third, glue, IsFree}
 use Rattle.corner_table.specs.Table.{side_of, glued_in, gluing_of, room_of, IsFreeIn}
-use Rattle.eb_rebuild.specs.Linked.{LinkValue}
 use Rattle.eb_machine.specs.OneFaceMore.{Pairs}
 use Rattle.eb_machine.proofs.ManyGlued.{glued_by, place_free, old_free}
+use Rattle.eb_rebuild.specs.Linked.{LinkValue}
 use Rattle.eb_rebuild.proofs.Noting.{kept_below_more}
 use Rattle.eb_rebuild.proofs.Linking.{link_grown}
 use Rattle.eb_rebuild.proofs.TableDegrees.{ready_at, list_split, live_top}

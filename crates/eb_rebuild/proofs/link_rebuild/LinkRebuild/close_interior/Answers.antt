@@ -4,11 +4,11 @@ use Rattle.corner_table.specs.Sides.{Side, side, side_at, next, prev, first, sec
 use Rattle.corner_table.specs.Fans.{side_before}
 use Rattle.corner_table.specs.Table.{side_of, glued_in, gluing_of, room_of}
 use Rattle.corner_table.proofs.Numbers.{side_at-number, number-lt}
+use Rattle.eb_machine.specs.OneFaceMore.{Pairs}
+use Rattle.eb_machine.proofs.ManyGlued.{glued_by, place_free, old_free}
 use Rattle.eb_rebuild.specs.CornerNames.{with_face, name_at}
 use Rattle.eb_rebuild.specs.Kept.{AreKeptBelow, AreSidesBelow}
 use Rattle.eb_rebuild.specs.Linked.{LinkValue, IsLoopOf}
-use Rattle.eb_machine.specs.OneFaceMore.{Pairs}
-use Rattle.eb_machine.proofs.ManyGlued.{glued_by, place_free, old_free}
 use Rattle.eb_rebuild.proofs.Noting.{kept_below_more}
 use Rattle.eb_rebuild.proofs.Linking.{IsLoop, to_fill, fill_does, loop_passes, loop_apart, link_popped, link_closed, sides_below_more, sides_rest}
 use Rattle.eb_rebuild.proofs.CornersNamed.{names_fill, names_corners, has_face, is_real}

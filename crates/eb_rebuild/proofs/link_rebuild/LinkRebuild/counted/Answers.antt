@@ -1,7 +1,7 @@
 -- Each test of the code is that of the machine.
 use Rattle.std.proofs.Common.{sym, ◌∙◌}
-use Rattle.eb_rebuild.specs.Linked.{LinkValue, state_of}
 use Rattle.eb_machine.proofs.Ends.{finish_faces, finish_vertices}
+use Rattle.eb_rebuild.specs.Linked.{LinkValue, state_of}
 use Rattle.eb_rebuild.proofs.link_rebuild.LinkRebuild.counted.Goals as goal
 
 pub returns-then-count-self-clause-err : goal.returns-then-count-self-clause-err

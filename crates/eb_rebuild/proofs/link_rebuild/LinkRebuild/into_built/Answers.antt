@@ -2,8 +2,8 @@
 use Rattle.std.proofs.Common.{sym, ap, ◌∙◌}
 use Rattle.corner_table.specs.Table.{Table, gluing_of}
 use Rattle.eb_machine.specs.Machine.{first_degenerate}
-use Rattle.eb_rebuild.specs.Linked.{state_of}
 use Rattle.eb_machine.proofs.Ends.{finish_degenerate, finish_done}
+use Rattle.eb_rebuild.specs.Linked.{state_of}
 use Rattle.eb_rebuild.proofs.link_rebuild.LinkRebuild.into_built.Goals as goal
 
 pub returns-in-None-clause-ends : goal.returns-in-None-clause-ends

@@ -3,11 +3,11 @@ use Rattle.std.proofs.Common.{◌≡◌, ℕ, Bool, IsTrue, suc, ◌+◌, ◌*�
 use Rattle.corner_table.specs.Sides.{Side, Place, side, side_at, first, place_of, glue}
 use Rattle.corner_table.specs.Table.{side_of, gluing_of, room_of}
 use Rattle.eb_machine.specs.Beside.{glued_place}
+use Rattle.eb_machine.proofs.Steps.{beside_no_top}
 use Rattle.eb_rebuild.specs.Linked.{LinkValue, state_of}
 use Rattle.eb_rebuild.specs.Kept.{AreKeptBelow}
 use Rattle.eb_rebuild.proofs.Linking.{link_grown, beside_does, first_apart, Taken, taken_free}
 use Rattle.eb_rebuild.proofs.TableDegrees.{ready_at, list_beside, live_top}
-use Rattle.eb_machine.proofs.Steps.{beside_no_top}
 use Rattle.eb_rebuild.proofs.CornersNamed.{names_beside, names_corners, names_vertices, has_face, is_real}
 use Rattle.eb_rebuild.proofs.link_rebuild.LinkRebuild.take_beside.Goals as goal
 

@@ -2,10 +2,10 @@
 use Rattle.std.proofs.Common.{ℕ, Bool, IsTrue, ◌≡◌, suc, ◌*◌, ◌<◌, ◌∷◌, List, length, map, sym, refl, ap, ◌∙◌, subst, arith, add-one, Ok, ◌/◌}
 use Rattle.corner_table.specs.Sides.{side_at, first}
 use Rattle.corner_table.specs.Table.{glued_in, room_of}
+use Rattle.eb_machine.proofs.Steps.{same_state, end_steps, end_refused}
 use Rattle.eb_rebuild.specs.Linked.{LinkValue}
 use Rattle.eb_rebuild.specs.Kept.{AreKeptBelow}
 use Rattle.eb_rebuild.specs.KeptDegrees.{HasPlaces, with_room, after_end}
-use Rattle.eb_machine.proofs.Steps.{same_state, end_steps, end_refused}
 use Rattle.eb_rebuild.proofs.Linking.{link_grown, noted_does, side_at_first}
 use Rattle.eb_rebuild.proofs.TableDegrees.{ready_at, list_end, live_top}
 use Rattle.eb_rebuild.proofs.CornersNamed.{names_end, names_corners, names_vertices}

@@ -4,8 +4,8 @@ use Rattle.corner_table.specs.Sides.{side_at}
 use Rattle.corner_table.specs.Fans.{side_before}
 use Rattle.corner_table.specs.Table.{side_of, gluing_of, room_of}
 use Rattle.corner_table.proofs.Places.{same-true, same-false}
-use Rattle.eb_rebuild.specs.Linked.{LinkValue, state_of}
 use Rattle.eb_machine.proofs.Steps.{split_no_top}
+use Rattle.eb_rebuild.specs.Linked.{LinkValue, state_of}
 use Rattle.eb_rebuild.proofs.Linking.{split_does, split_no_second_does, split_one_side_does, split_one_point_does, first_is_free, second_is_free, TakenTwo}
 use Rattle.eb_rebuild.proofs.link_rebuild.LinkRebuild.take_split.Goals as goal
 

@@ -4,8 +4,8 @@ use Rattle.corner_table.specs.Sides.{Side, side, side_at, next, prev, second, th
 use Rattle.corner_table.specs.Fans.{side_before, Follows}
 use Rattle.corner_table.specs.Table.{side_of, gluing_of, room_of}
 use Rattle.corner_table.proofs.Places.{same-true, same-false}
-use Rattle.eb_rebuild.specs.Linked.{LinkValue, state_of}
 use Rattle.eb_machine.proofs.Steps.{tip_no_top}
+use Rattle.eb_rebuild.specs.Linked.{LinkValue, state_of}
 use Rattle.eb_rebuild.proofs.Noting.{kept_below_more}
 use Rattle.eb_rebuild.proofs.Linking.{link_grown, tip_does, tip_alone_does, Taken, taken_free}
 use Rattle.eb_rebuild.proofs.TableDegrees.{ready_at, list_tip, live_top}

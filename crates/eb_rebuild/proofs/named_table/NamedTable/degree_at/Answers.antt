@@ -3,11 +3,11 @@ use Rattle.std.proofs.Common.{◌≡◌, ℕ, ◌+◌, ◌*◌, ◌<◌, ◌==�
 use Rattle.std.specs.List.{list_any}
 use Rattle.corner_table.specs.Sides.{Side, next, side_at}
 use Rattle.corner_table.specs.Table.{gluing_of}
-use Rattle.eb_rebuild.specs.declared.active_rows.Row.{Row as NumberedRow}
-use Rattle.eb_rebuild.specs.Counted.{times_in}
 use Rattle.eb_machine.specs.Degree.{degree}
 use Rattle.eb_machine.specs.Named.{Triangle, Row}
 use Rattle.eb_machine.specs.Shown.{name_of}
+use Rattle.eb_rebuild.specs.declared.active_rows.Row.{Row as NumberedRow}
+use Rattle.eb_rebuild.specs.Counted.{times_in}
 use Rattle.eb_rebuild.specs.Rowed.{NamedTable, all_listed}
 use Rattle.eb_rebuild.proofs.Degrees.{degree_is, any_listed}
 use Rattle.eb_rebuild.proofs.named_table.NamedTable.degree_at.Goals as goal

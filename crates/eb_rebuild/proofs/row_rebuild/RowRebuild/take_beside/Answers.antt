@@ -2,10 +2,10 @@
 use Rattle.std.proofs.Common.{ℕ, suc, ◌*◌, ◌<◌, ◌∷◌, length, sym, refl, ap, ◌∙◌, subst, arith}
 use Rattle.eb_machine.specs.Beside.{symbol_in}
 use Rattle.eb_machine.specs.Machine.{step}
+use Rattle.eb_machine.proofs.Steps.{beside_no_top}
 use Rattle.eb_rebuild.specs.Kept.{AreKeptBelow}
 use Rattle.eb_rebuild.specs.Linked.{state_of}
 use Rattle.eb_rebuild.specs.Rowed.{RowValue, plain_of}
-use Rattle.eb_machine.proofs.Steps.{beside_no_top}
 use Rattle.eb_rebuild.proofs.Linking.{link_grown, beside_does, Taken}
 use Rattle.eb_rebuild.proofs.RowSteps.{tries_of, taken_row}
 use Rattle.eb_rebuild.proofs.row_rebuild.RowRebuild.take_beside.Goals as goal

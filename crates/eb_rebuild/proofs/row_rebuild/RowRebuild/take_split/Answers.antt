@@ -4,10 +4,10 @@ use Rattle.corner_table.specs.Sides.{side_at}
 use Rattle.corner_table.specs.Fans.{side_before}
 use Rattle.corner_table.specs.Table.{gluing_of}
 use Rattle.corner_table.proofs.Places.{same-true, same-false}
+use Rattle.eb_machine.proofs.Steps.{split_no_top}
 use Rattle.eb_rebuild.specs.Linked.{state_of}
 use Rattle.eb_rebuild.specs.Rowed.{RowValue, plain_of}
 use Rattle.eb_rebuild.proofs.Noting.{kept_below_more}
-use Rattle.eb_machine.proofs.Steps.{split_no_top}
 use Rattle.eb_rebuild.proofs.Linking.{link_grown, split_does, split_no_second_does, split_one_side_does, split_one_point_does, TakenTwo}
 use Rattle.eb_rebuild.proofs.RowSteps.{taken_row}
 use Rattle.eb_rebuild.proofs.row_rebuild.RowRebuild.take_split.Goals as goal

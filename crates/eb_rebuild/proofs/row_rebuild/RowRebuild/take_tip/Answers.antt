@@ -2,10 +2,10 @@
 use Rattle.std.proofs.Common.{ℕ, ◌*◌, ◌<◌, ◌∷◌, sym, refl, ap, ◌∙◌, subst, arith}
 use Rattle.corner_table.specs.Sides.{side_at}
 use Rattle.corner_table.proofs.Places.{same-true, same-false}
+use Rattle.eb_machine.proofs.Steps.{tip_no_top}
 use Rattle.eb_rebuild.specs.Linked.{state_of}
 use Rattle.eb_rebuild.specs.Rowed.{RowValue, plain_of}
 use Rattle.eb_rebuild.proofs.Noting.{kept_below_more}
-use Rattle.eb_machine.proofs.Steps.{tip_no_top}
 use Rattle.eb_rebuild.proofs.Linking.{link_grown, tip_does, tip_alone_does, Taken}
 use Rattle.eb_rebuild.proofs.RowSteps.{taken_row}
 use Rattle.eb_rebuild.proofs.row_rebuild.RowRebuild.take_tip.Goals as goal

@@ -1,8 +1,8 @@
 -- Each test of the code is that of the machine.
 use Rattle.std.proofs.Common.{sym, ◌∙◌, arith}
+use Rattle.eb_machine.proofs.Ends.{finish_faces, finish_vertices, finish_degenerate, finish_done}
 use Rattle.eb_rebuild.specs.Linked.{LinkValue, state_of}
 use Rattle.eb_rebuild.specs.Rowed.{plain_of}
-use Rattle.eb_machine.proofs.Ends.{finish_faces, finish_vertices, finish_degenerate, finish_done}
 use Rattle.eb_rebuild.proofs.row_rebuild.RowRebuild.tested.Goals as goal
 
 pub returns-then-built-self : goal.returns-then-built-self

@@ -2,8 +2,8 @@
 use Rattle.std.proofs.Common.{ℕ, map, reverse, ap, ◌∙◌}
 use Rattle.corner_table.specs.Sides.{side_at}
 use Rattle.corner_table.specs.Table.{gluing_of}
-use Rattle.eb_rebuild.specs.Kept.{kept_in}
 use Rattle.eb_machine.specs.Machine.{State}
+use Rattle.eb_rebuild.specs.Kept.{kept_in}
 use Rattle.eb_rebuild.proofs.TableDegrees.{start_state}
 use Rattle.eb_rebuild.proofs.row_rebuild.RowRebuildRebuild.new.Goals as goal
 

@@ -5,8 +5,8 @@ use Rattle.std.proofs.lemmas.List.Elements.{All-map}
 use Rattle.std.specs.List.{Contains}
 use Rattle.corner_table.specs.declared.symbols.Event.{Event}
 use Rattle.corner_table.specs.Table.{free_entry}
-use Rattle.eb_rebuild.specs.Kept.{counted_down, no_event, split_number, HasRoomFor}
 use Rattle.eb_machine.specs.Events.{IsEventOf}
+use Rattle.eb_rebuild.specs.Kept.{counted_down, no_event, split_number, HasRoomFor}
 use Rattle.eb_rebuild.proofs.Lists.{counted_down_reverse}
 use Rattle.eb_rebuild.proofs.Noting.{split_below}
 use Rattle.eb_rebuild.proofs.splits.Splits.new.Goals as goal

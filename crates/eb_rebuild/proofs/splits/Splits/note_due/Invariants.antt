@@ -2,8 +2,8 @@
 use Rattle.std.proofs.Common.{◌≡◌, suc, ◌≤◌, length, vec_len, All}
 use Rattle.drc_base.specs.declared.limits.TheConstants.{MAX_FACES}
 use Rattle.eb_machine.specs.Machine.{note_events}
-use Rattle.eb_rebuild.specs.Kept.{counted_down, no_event, kept_in, HasRoomFor, AreKeptBelow}
 use Rattle.eb_machine.specs.Events.{IsEventOf}
+use Rattle.eb_rebuild.specs.Kept.{counted_down, no_event, kept_in, HasRoomFor, AreKeptBelow}
 use Rattle.eb_rebuild.proofs.splits.Splits.note_due.Given as goal
 
 abbrev pub invariant-noting : goal.invariant-noting
