@@ -5,6 +5,7 @@ use crate::runs::{
     prefix, run_line,
 };
 use drc_base::Sink;
+use std::process::Abort;
 use std::test::Fail;
 use worked_surfaces::streams::{CLOUD, FACE, FLAT_FACE, TETRAHEDRON, TRIANGLE};
 

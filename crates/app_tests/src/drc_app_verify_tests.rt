@@ -4,6 +4,7 @@ use crate::runs::{
     ALL, NEVER, NO_FAILS, READ_FAILED, TETRAHEDRON_MAP, TEXT, WRITE_FAILED, joined, leaves, prefix,
 };
 use std::alloc::Global;
+use std::process::Abort;
 use std::test::Fail;
 use worked_surfaces::streams::{APART, TETRAHEDRON, TRIANGLE};
 

@@ -4,6 +4,7 @@ use crate::runs::words_of;
 use drc_app::{Command, GenMesh, command_of, no_choice};
 use drc_container::{Choice, Prediction, Walk};
 use drc_gen::GenKind;
+use std::process::Abort;
 use std::test::Fail;
 
 /// The command of a generated mesh.
