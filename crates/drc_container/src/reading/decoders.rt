@@ -1,10 +1,11 @@
 //! The attributes of an Edgebreaker mesh, decoder after decoder.
 
 ghost use Rattle.drc_base.specs.Profile.{profile};
-ghost use Rattle.std.specs.Prelude.{◌≡◌, ◌<◌, ◌≤◌, ◌+◌, ◌*◌, ◌^◌, ℕ, List, None, map, true, IfOk, All, length, Some};
+ghost use Rattle.std.specs.Prelude.{◌≡◌, ◌<◌, ◌≤◌, ◌+◌, ◌*◌, ◌^◌, ◌++◌, ◌∷◌, [], ℕ, List, None, map, true, IfOk, OnOk, All, length, Some};
 ghost use Rattle.drc_base.specs.declared.limits.TheConstants.{MAX_VALUES as most_values, MAX_FACES as most_faces};
 ghost use Rattle.drc_bits.specs.Reading.{Gives};
 ghost use Rattle.corner_table.specs.Table.{gluing_of};
+ghost use Rattle.corner_table.specs.Labels.{IsLabelled};
 ghost use Rattle.mesh_model.specs.Assembled.{AreAttrTables, AreTables};
 ghost use Rattle.attr_section.specs.Heads.{HeadPasses};
 ghost use Rattle.walk_order.specs.Orders.{IsOrderOver};
@@ -14,16 +15,18 @@ ghost use Rattle.drc_container.specs.reading.OnSurface.{HasSeams, cut_at as surf
 ghost use Rattle.drc_container.specs.reading.AsRead.{classes_of, built_classes, group_over, attributes_over, group_on, decoder_read_on, tables_on, attributes_read_on};
 ghost use Rattle.mesh_model.specs.Groups.{tables_of, HasVertices};
 
+use crate::reading::info::AttrInfo;
 use crate::reading::surface_attributes::{
-    AttributesRead, DecoderRead, decoder_attributes, over_cut,
+    AttributesRead, DecoderRead, DecoderValues, decoder_attributes, over_cut,
 };
 use crate::surface::ordering::{cut_at, order_over};
 use attr_section::{DecoderHead, Ordered, read_decoder, read_heads};
 use corner_table::{Classes, Order, SideTable};
-use drc_base::{Refusal, Sequence};
+use drc_base::{Memory, Refusal, Sequence};
 use drc_bits::Cursor;
 use eb_rebuild::Built;
 use eb_section::EbRead;
+use mesh_model::Head;
 use rans_binary::BitBlock;
 use seams::classes;
 use std::alloc::Global;
@@ -65,6 +68,30 @@ fn read_on(
     Ok(attributes)
 }
 
+/// Reads the attributes of a decoder, whose values stand on a table's surface with these classes; `spent` grows by the
+/// number of its values.
+fn read_over(
+    alloc: Global,
+    c: &mut Cursor<'_>,
+    t: &SideTable,
+    labels: &Classes,
+    decoder: DecoderHead,
+    spent: &mut u64,
+) -> Result<DecoderRead, Refusal>
+    requires labels { IsLabelled t.now.faces (gluing_of t.now) labels.now.of_corner labels.now.count labels.now.ends }
+    requires heads { All HeadPasses decoder.heads }
+    requires spent { spent.old ≤ most_values }
+    ensures item { Gives (attributes_over labels.now.of_corner) (decoder_on profile (ordered_by decoder.degree t.now.faces (gluing_of t.now)) decoder spent.old c.old) c.new result }
+    ensures spent { IfOk result (λ p. spent.new ≡ spent.old + values_on (tables_of (group_over labels.now.of_corner p.values))) }
+    ensures few { IfOk result (λ _. spent.new ≤ most_values) }
+    ensures columns { IfOk result (λ p. AreAttrTables (3 * t.now.faces) p.heads (tables_of (group_over labels.now.of_corner p.values))) }
+    ensures vertices { IfOk result (λ p. HasVertices (3 * t.now.faces) (group_over labels.now.of_corner p.values)) }
+    ensures whole { IfOk result (λ p. p.values.cut ≡ None) }
+{
+    let order = order_over(alloc, t, labels, decoder.degree)?;
+    read_on(alloc, c, t, labels, order, decoder, spent)
+}
+
 /// The block of the seam bits of an attribute data.
 fn seams_of<'a>(blocks: &[BitBlock<'a>], id: u8) -> BitBlock<'a>
     requires { id < length blocks.now }
@@ -92,8 +119,7 @@ fn read_on_cut(
 {
     let cut = cut_at(alloc, t, block)?;
     let labels = classes(alloc, &cut, None)?;
-    let order = order_over(alloc, &cut, &labels, decoder.degree)?;
-    let read = read_on(alloc, c, &cut, &labels, order, decoder, spent)?;
+    let read = read_over(alloc, c, &cut, &labels, decoder, spent)?;
     Ok(over_cut(read, labels))
 }
 
@@ -117,8 +143,7 @@ fn read_on_whole(
     // For the prover alone: the call states that the table is a surface.
     let _faces = table.face_count();
     let labels = sides.classes();
-    let order = order_over(alloc, table, labels, decoder.degree)?;
-    read_on(alloc, c, table, labels, order, decoder, spent)
+    read_over(alloc, c, table, labels, decoder, spent)
 }
 
 /// Reads the attributes of a decoder, on the surface of the stream, cut at the seams of the decoder's
@@ -148,6 +173,23 @@ fn read_for(
     read_on_whole(alloc, c, &surface.sides, decoder, spent)
 }
 
+/// Adds the attributes of a decoder, as they were read, behind those of the decoders before.
+fn add_read(
+    heads: &mut Vec<Head>,
+    values: &mut Vec<DecoderValues>,
+    info: &mut Vec<AttrInfo>,
+    read: DecoderRead,
+) -> Result<(), Memory>
+    ensures heads { OnOk result (heads.new.items ≡ heads.old.items ++ read.heads) }
+    ensures values { OnOk result (values.new.items ≡ values.old.items ++ read.values ∷ []) }
+    ensures info { OnOk result (info.new.items ≡ info.old.items ++ read.info) }
+{
+    heads.append(&mut read.heads.into_vec())?;
+    values.push(read.values)?;
+    info.append(&mut read.info.into_vec())?;
+    Ok(())
+}
+
 /// Reads the attributes of these decoders in turn.
 fn read_each(
     alloc: Global,
@@ -167,9 +209,7 @@ fn read_each(
     let mut spent: u64 = 0;
     for decoder in decoders {
         let read = read_for(alloc, c, surface, decoder, &mut spent)?;
-        heads.append(&mut read.heads.into_vec())?;
-        values.push(read.values)?;
-        info.append(&mut read.info.into_vec())?;
+        add_read(&mut heads, &mut values, &mut info, read)?;
     }
     Ok(AttributesRead {
         heads: Sequence::from_vec(heads),

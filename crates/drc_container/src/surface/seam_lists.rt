@@ -1,6 +1,6 @@
 //! The seams of a mesh's attributes, as they are written and as surfaces are cut at them.
 
-ghost use Rattle.std.specs.Prelude.{◌≡◌, ◌<◌, ◌≤◌, ◌^◌, [], ◌∷◌, None, map, length, All, IfOk};
+ghost use Rattle.std.specs.Prelude.{◌≡◌, ◌<◌, ◌≤◌, ◌^◌, [], ◌∷◌, ◌++◌, None, map, length, All, IfOk, OnOk};
 ghost use Rattle.std.specs.Option.{option_map};
 ghost use Rattle.std.specs.List.{list_any};
 ghost use Rattle.drc_base.specs.declared.limits.TheConstants.{MAX_ATTRIBUTES};
@@ -70,15 +70,23 @@ fn seams_on(alloc: Global, mesh: &CornerMesh, sides: &SideTable) -> Result<SeamL
     ensures few { IfOk result (λ s. length s.bits.items ≤ MAX_ATTRIBUTES) }
     ensures short { IfOk result (λ s. All (λ v. length v.items < 2 ^ 31) s.bits.items) }
 {
-    let mut bits = Vec::new(alloc);
-    let mut flags = Vec::new(alloc);
-    flags.push(None)?;
+    let mut lists = no_seams(alloc)?;
     for attr in 1..mesh.heads().len() as u8 {
         let seams = seams_at(alloc, mesh, sides, attr)?;
-        bits.push(seams.bits)?;
-        flags.push(seams.flags)?;
+        add_seams(&mut lists, seams)?;
     }
-    Ok(SeamLists { bits, flags })
+    Ok(lists)
+}
+
+/// Adds the seams of one attribute more behind those of the attributes before.
+fn add_seams(lists: &mut SeamLists, seams: Seams) -> Result<(), Memory>
+    ensures bits { OnOk result (lists.new.bits.items ≡ lists.old.bits.items ++ seams.bits ∷ []) }
+    ensures flags { OnOk result (lists.new.flags.items ≡ lists.old.flags.items ++ seams.flags ∷ []) }
+{
+    let Seams { bits, flags } = seams;
+    lists.bits.push(bits)?;
+    lists.flags.push(flags)?;
+    Ok(())
 }
 
 /// The seams of a mesh with one attribute, which has none.

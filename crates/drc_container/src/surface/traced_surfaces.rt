@@ -7,6 +7,7 @@ ghost use Rattle.drc_base.specs.Refusals.{Answers};
 ghost use Rattle.mesh_model.specs.FirstFault.{value_unless};
 ghost use Rattle.corner_table.specs.Fans.{IsProper};
 ghost use Rattle.corner_table.specs.Table.{gluing_of};
+ghost use Rattle.corner_table.specs.Carried.{IsRenumbering};
 ghost use Rattle.pairing.specs.Pairing.{pairing};
 ghost use Rattle.pairing.specs.Degenerate.{degenerate_fault};
 ghost use Rattle.eb_trace.specs.Writable.{IsWritable};
@@ -32,6 +33,25 @@ pub struct TracedSurface {
     pub sides: SideTable,
 }
 
+/// The trace of a mesh over the table of its sides. Refused with PointLimit at the number of vertices.
+fn trace_over(alloc: Global, mesh: &CornerMesh, sides: &SideTable) -> Result<Traced, Refusal>
+    requires faces { sides.now.faces ≡ length mesh.now.faces }
+    requires pairs { gluing_of sides.now ≡ pairing mesh.now }
+    requires proper { IsProper sides.now.faces (gluing_of sides.now) }
+    ensures trace { Answers (λ t. t) (value_unless (vertices_fault mesh.now) (traced mesh.now)) result }
+    ensures once { IfOk result (λ t. IsRenumbering sides.now.faces t.order) }
+    ensures writable { IfOk result (λ t. IsWritable (length mesh.now.faces) t.vertices t.symbols t.events t.starts) }
+{
+    let trace = trace(alloc, sides)?;
+    let vertices = trace.vertices;
+    unless(
+        vertices <= MAX_POINTS,
+        Kind::PointLimit,
+        u64::from(vertices),
+    )?;
+    Ok(trace)
+}
+
 /// The trace of a mesh over the table of its sides, and its surface as it is decoded. The table is freed. Refused
 /// with PointLimit at the number of vertices.
 fn traced_on(alloc: Global, mesh: &CornerMesh, sides: SideTable) -> Result<TracedSurface, Refusal>
@@ -43,13 +63,7 @@ fn traced_on(alloc: Global, mesh: &CornerMesh, sides: SideTable) -> Result<Trace
     ensures faces { IfOk result (λ r. r.sides.faces ≡ length mesh.now.faces) }
     ensures writable { IfOk result (λ r. IsWritable (length mesh.now.faces) r.trace.vertices r.trace.symbols r.trace.events r.trace.starts) }
 {
-    let trace = trace(alloc, &sides)?;
-    let vertices = trace.vertices;
-    unless(
-        vertices <= MAX_POINTS,
-        Kind::PointLimit,
-        u64::from(vertices),
-    )?;
+    let trace = trace_over(alloc, mesh, &sides)?;
     let sides = carried_surface(alloc, sides, trace.order.as_slice())?;
     Ok(TracedSurface { trace, sides })
 }

@@ -14,11 +14,11 @@ ghost use Rattle.attr_section.specs.Heads.{bare_decoder, heads_at};
 ghost use Rattle.drc_container.specs.choice.Refused.{values_fault};
 ghost use Rattle.drc_container.specs.choice.CanCode.{CanCode};
 ghost use Rattle.drc_container.specs.writing.WrittenOnSurface.{coded_values, decoders_for, decoder_heads_bytes, values_bytes_on};
-ghost use Rattle.drc_container.specs.surface.AttributeSurfaces.{glued_by, flag_lists};
+ghost use Rattle.drc_container.specs.surface.AttributeSurfaces.{glued_by, glued_on, flag_lists, AreAttributeSurfaces};
 ghost use Rattle.drc_container.specs.writing.Encoded.{due_on_surface, CanCodeSurface, AttributeSpelled, SurfaceSpelled};
 
 use crate::choice::codings::Coding;
-use crate::surface::attribute_surfaces::surfaces_of;
+use crate::surface::attribute_surfaces::{AttributeSurfaces, surfaces_of};
 use crate::surface::seamed_surface::SeamedSurface;
 use crate::surface::traced_surfaces::traced_surface;
 use crate::surface::turned_meshes::TurnedMesh;
@@ -29,6 +29,29 @@ use corner_table::SideTable;
 use drc_base::{Refusal, Sequence};
 use mesh_model::CornerMesh;
 use std::alloc::Global;
+
+/// Appends the attributes of a mesh over the surfaces that their values stand on. Refusals, the first that applies:
+/// ValueLimit at the number of coded values, Range at the first attribute whose values can't be predicted.
+fn put_attributes_over(
+    alloc: Global,
+    out: &mut Vec<u8>,
+    s: &AttributeSurfaces<'_>,
+    coding: &Coding,
+) -> Result<(), Refusal>
+    requires stands { AreAttributeSurfaces coding.now.degree s.now }
+    requires some { 0 < length s.now.mesh.faces }
+    ensures answer { let d = glued_on s.now in
+        Answers (λ _. out.new.items) (value_unless (values_fault coding.now d) (out.old.items ++ (decoder_heads_bytes coding.now d ++ values_bytes_on coding.now d))) result }
+    ensures can { OnOk result (CanCode coding.now.predict (coded_values coding.now (glued_on s.now))) }
+    ensures heads { let d = glued_on s.now in
+        OnOk result (Spells (heads_at (Some (length d.mesh.heads - 1))) (decoder_heads_bytes coding.now d) (map bare_decoder (decoders_for coding.now d))) }
+    ensures again { let d = glued_on s.now in
+        OnOk result (All (λ (k, h). AttributeSpelled coding.now d k h) (enumerate_from 0 d.mesh.heads)) }
+{
+    let values = values_on(alloc, s, coding)?;
+    write_attributes(alloc, out, s, coding, values.as_slice())?;
+    Ok(())
+}
 
 /// Appends the attributes of a mesh as it is decoded, with the seams of its surface. Refusals, the first that
 /// applies: ValueLimit at the number of coded values, Range at the first attribute whose values can't be predicted.
@@ -51,9 +74,7 @@ fn put_attributes(
     ensures again { OnOk result (All (λ (k, h). AttributeSpelled coding.now (glued_by mesh.entry sides) k h) (enumerate_from 0 mesh.entry.heads)) }
 {
     let surfaces = surfaces_of(alloc, mesh, sides, flags, coding.degree)?;
-    let values = values_on(alloc, &surfaces, coding)?;
-    write_attributes(alloc, out, &surfaces, coding, values.as_slice())?;
-    Ok(())
+    put_attributes_over(alloc, out, &surfaces, coding)
 }
 
 /// The stream of a mesh by Edgebreaker, and its faces in the order of decoding, each with its turn. Refusals,

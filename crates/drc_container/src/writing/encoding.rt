@@ -78,6 +78,21 @@ pub fn encode_view(
     if is_sequential(g, choice) {
         return encode_in_order(alloc, g, choice);
     }
+    encode_copied(alloc, g, choice)
+}
+
+/// The stream of a geometry that is lent and has no earlier fault, by Edgebreaker.
+fn encode_copied(
+    alloc: Global,
+    g: &GeometryView<'_>,
+    choice: &Choice,
+) -> Result<(Vec<u8>, Renumber), Refusal>
+    requires early { early_fault g.now choice.now ≡ None }
+    requires surface { is_sequential (method_of g.now choice.now) ≡ false }
+    ensures answer { Answers (λ r. (r.0.items, r.1.rows)) (encoding_due g.now choice.now) result }
+    ensures means { IfOk result (λ r. Means g.now choice.now r.0.items r.1.rows) }
+    ensures layout { IfOk result (λ r. layout_of r.0.items ≡ Ok (layout_chosen g.now choice.now)) }
+{
     let copy = g.copied(alloc)?;
     encode_on_surface(alloc, &copy, choice)
 }

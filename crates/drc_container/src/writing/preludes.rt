@@ -3,6 +3,7 @@
 //! Behind the connectivity the order of decoding is all that stays of the trace.
 
 ghost use Rattle.std.specs.Prelude.{◌≡◌, ◌<◌, ◌≤◌, ◌^◌, ◌++◌, length, map, All, IfOk, OnOk};
+ghost use Rattle.std.specs.Option.{option_map};
 ghost use Rattle.drc_base.specs.declared.limits.TheConstants.{MAX_ATTRIBUTES, MAX_FACES, MAX_POINTS as most_points};
 ghost use Rattle.mesh_model.specs.Parts.{MeshParts};
 ghost use Rattle.mesh_model.specs.declared.geometries.Geometry.TheVariants as geometry;
@@ -10,8 +11,9 @@ ghost use Rattle.eb_trace.specs.Writable.{IsWritable};
 ghost use Rattle.eb_section.specs.ReadAgain.{IsReadAgain};
 ghost use Rattle.eb_section.specs.Written.{connectivity_bytes};
 ghost use Rattle.drc_container.specs.writing.Written.{header_bytes};
-ghost use Rattle.drc_container.specs.writing.WrittenOnSurface.{prelude_bytes};
+ghost use Rattle.drc_container.specs.writing.WrittenOnSurface.{decoded, prelude_bytes};
 ghost use Rattle.drc_container.specs.writing.Encoded.{ConnectivityReadAgain};
+ghost use Rattle.drc_container.specs.surface.AttributeSurfaces.{flag_lists};
 ghost use Rattle.drc_container.specs.surface.Traced.{IsTraced, IsSeamedSurface};
 
 use crate::headers::{EDGEBREAKER, MESH, put_header};
@@ -54,6 +56,27 @@ fn put_prelude(
     Ok(())
 }
 
+/// Appends the prelude of the stream of a mesh whose surface is traced, and answers for each attribute of each side
+/// whether it is a seam, where any pair is one.
+fn put_prelude_of(
+    alloc: Global,
+    out: &mut Vec<u8>,
+    mesh: &CornerMesh,
+    traced: &TracedSurface,
+    valence: bool,
+) -> Result<Vec<Option<Vec<bool>>>, Memory>
+    requires { IsTraced mesh.now traced.now }
+    ensures flags { IfOk result (λ v. map (option_map (λ f. f.items)) v.items ≡ flag_lists (decoded mesh.now)) }
+    ensures bytes { OnOk result (out.new.items ≡ out.old.items ++ prelude_bytes valence mesh.now) }
+    ensures again { OnOk result (ConnectivityReadAgain valence mesh.now) }
+{
+    let trace = &traced.trace;
+    let faces = mesh.face_count();
+    let SeamLists { bits, flags } = seams_in(alloc, mesh, trace.order.as_slice(), &traced.sides)?;
+    put_prelude(alloc, out, trace, faces, valence, bits.as_slice())?;
+    Ok(flags)
+}
+
 /// Appends the prelude of the stream of a mesh whose surface is traced, and answers the surface as it is decoded.
 /// The connectivity is read back.
 pub fn write_prelude(
@@ -68,10 +91,8 @@ pub fn write_prelude(
     ensures bytes { OnOk result (out.new.items ≡ out.old.items ++ prelude_bytes valence mesh.now) }
     ensures again { OnOk result (ConnectivityReadAgain valence mesh.now) }
 {
+    let flags = put_prelude_of(alloc, out, mesh, &traced, valence)?;
     let TracedSurface { trace, sides } = traced;
-    let faces = mesh.face_count();
-    let SeamLists { bits, flags } = seams_in(alloc, mesh, trace.order.as_slice(), &sides)?;
-    put_prelude(alloc, out, &trace, faces, valence, bits.as_slice())?;
     let rows = rows_of(trace);
     Ok(SeamedSurface { rows, sides, flags })
 }

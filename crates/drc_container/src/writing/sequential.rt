@@ -1,7 +1,7 @@
 //! Writing a sequential stream.
 
 ghost use Rattle.drc_base.specs.Profile.{profile};
-ghost use Rattle.std.specs.Prelude.{◌≡◌, ◌≤◌, ◌<◌, ◌++◌, Ok, IfOk, OnOk, length};
+ghost use Rattle.std.specs.Prelude.{◌≡◌, ◌≤◌, ◌<◌, ◌++◌, [], ◌∷◌, Ok, IfOk, OnOk, length};
 ghost use Rattle.drc_bits.specs.Bits.{low_bytes};
 ghost use Rattle.drc_bits.specs.Spells.{Spells};
 ghost use Rattle.drc_base.specs.declared.limits.TheConstants.{MAX_POINTS};
@@ -73,26 +73,34 @@ fn decoder_of(alloc: Global, g: &GeometryView<'_>) -> Result<DecoderHead, Memory
     })
 }
 
-/// Appends the attributes: their heads, and then their values, which are freed.
+/// The list of the one decoder of all attributes.
+fn decoders_of(alloc: Global, g: &GeometryView<'_>) -> Result<Vec<DecoderHead>, Memory>
+    ensures { IfOk result (λ v. v.items ≡ decoder_of g.now ∷ []) }
+{
+    let mut decoders = Vec::new(alloc);
+    decoders.push(decoder_of(alloc, g)?)?;
+    Ok(decoders)
+}
+
+/// Appends the attributes: their heads, and then their values.
 #[tactic(auto, unfolding(crate::specs::writing::Written::sequential_attributes_bytes))]
 fn put_attributes(
     alloc: Global,
     out: &mut Vec<u8>,
     g: &GeometryView<'_>,
     choice: &Choice,
-    values: Vec<Values>,
+    values: &[Values],
 ) -> Result<(), Memory>
     requires can { CanCodeInOrder g.now choice.now }
     requires sound { ArePoints (heads_in g.now) (points_in g.now) }
-    requires values { values.items ≡ values_of g.now (chosen_code g.now choice.now) }
+    requires values { values.now ≡ values_of g.now (chosen_code g.now choice.now) }
     ensures bytes { OnOk result (out.new.items ≡ out.old.items ++ sequential_attributes_bytes choice.now.plain_values g.now (chosen_code g.now choice.now)) }
     ensures again { OnOk result (AttributesSpelled choice.now.plain_values g.now (chosen_code g.now choice.now)) }
 {
-    let mut decoders = Vec::new(alloc);
-    decoders.push(decoder_of(alloc, g)?)?;
+    let decoders = decoders_of(alloc, g)?;
     write_heads(out, decoders.as_slice(), false)?;
     let plain = choice.plain_values;
-    write_decoder(alloc, out, &decoders[0], values.as_slice(), plain, None)?;
+    write_decoder(alloc, out, &decoders[0], values, plain, None)?;
     Ok(())
 }
 
@@ -103,11 +111,11 @@ fn put_stream(
     out: &mut Vec<u8>,
     g: &GeometryView<'_>,
     choice: &Choice,
-    values: Vec<Values>,
+    values: &[Values],
 ) -> Result<(), Memory>
     requires can { CanCodeInOrder g.now choice.now }
     requires sound { ArePoints (heads_in g.now) (points_in g.now) }
-    requires values { values.items ≡ values_of g.now (chosen_code g.now choice.now) }
+    requires values { values.now ≡ values_of g.now (chosen_code g.now choice.now) }
     ensures bytes { OnOk result (out.new.items ≡ out.old.items ++ stream_bytes g.now choice.now) }
     ensures connectivity { OnOk result (ConnectivitySpelled (is_packed (index_of choice.now)) g.now) }
     ensures attributes { OnOk result (AttributesSpelled choice.now.plain_values g.now (chosen_code g.now choice.now)) }
@@ -135,6 +143,6 @@ pub fn write_stream(
     // For the prover alone: the call states what holds of every geometry.
     let _count = g.point_count();
     let mut out = Vec::new(alloc);
-    put_stream(alloc, &mut out, g, choice, values)?;
+    put_stream(alloc, &mut out, g, choice, values.as_slice())?;
     Ok(out)
 }

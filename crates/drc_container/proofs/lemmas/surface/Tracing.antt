@@ -82,6 +82,15 @@ vertices-none m faces n at g many pairs is none =
     let vertices = fan_count (length m.faces) (pairing m) in
     unless-true (nat_le vertices MAX_POINTS) PointLimit vertices (subst (λ (k : ℕ). nat_le k MAX_POINTS ≡ true) count few)
 
+-- more vertices than there may be
+pub vertices-over : (m : MeshParts) (faces n at : ℕ) (g : Gluing) (f : Fault) → faces ≡ length m.faces → g ≡ pairing m → n ≡ fan_count faces g → at ≡ n
+    → unless (nat_le n MAX_POINTS) PointLimit at ≡ Some f → vertices_fault m ≡ Some f
+vertices-over m faces n at g f many pairs is place told =
+    let count : n ≡ fan_count (length m.faces) (pairing m) = is ∙ ap (λ (k : ℕ). fan_count k g) many ∙ ap (fan_count (length m.faces)) pairs in
+    sym (ap (λ (k : ℕ). unless (nat_le k MAX_POINTS) PointLimit k) count)
+    ∙ ap (λ (k : ℕ). unless (nat_le n MAX_POINTS) PointLimit k) (sym place)
+    ∙ told
+
 -- without a degenerate face the vertices alone are tested
 pub tracing-is : (m : MeshParts) → degenerate_fault m ≡ None → tracing_fault m ≡ vertices_fault m
 tracing-is m none = ap (λ (t : Option Fault). first_fault (t ∷ vertices_fault m ∷ [])) none ∙ one (vertices_fault m)

@@ -25,16 +25,12 @@ loop-decoder-preserved c =
     let whole = classes_of s in
     let read = c.in_ok-read.read in
     let old = c.loop-decoder.values.items in
-    let heads : c.append.new.self.items ≡ c.loop-decoder.heads.items ++ read.heads =
-    c.in_ok-append.ensures.items ∙ ap (λ l. c.loop-decoder.heads.items ++ l) c.into_vec.ensures in
-    let values : c.push.new.self.items ≡ old ++ read.values ∷ [] = c.in_ok-push.ensures.items in
-    let info : c.append-in-loop-decoder.new.self.items ≡ c.loop-decoder.info.items ++ read.info =
-    c.in_ok-append-2.ensures.items ∙ ap (λ l. c.loop-decoder.info.items ++ l) c.into_vec-in-loop-decoder.ensures in
+    let added = c.in_ok-add_read.ensures in
     let before : SurfaceAttributes = record { heads = c.loop-decoder.heads.items; tables = tables_on whole old; info = c.loop-decoder.info.items } in
     let steps = c.in-Some.ensures.steps.0 in
     let more = tables-more whole old read.values in
     let sum = values_on-append (tables_on whole old) (tables_of (group_on whole read.values)) in
-    rw (heads, values, info) (record {
+    rw (added.heads, added.values, added.info) (record {
       rest = rw more (surface_decoders_at-next s before (decoder_read_on whole read) c.in-Some.decoder _ _ c.loop-decoder.c c.read_for.new.c _
           c.loop-decoder.invariant.rest steps (rw c.loop-decoder.invariant.spent at c.in_ok-read.ensures.item));
       spent = rw more (c.in_ok-read.ensures.spent ∙ ap (λ n. n + values_on (tables_of (group_on whole read.values))) c.loop-decoder.invariant.spent ∙ sym sum);

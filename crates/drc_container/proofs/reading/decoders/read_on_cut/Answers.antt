@@ -30,7 +30,7 @@ returns-clause-item c whole =
     let at = cut-is (goal.at.returns-clause-item c).In_ok-cut in
     ap (λ (w : Ordered). decoder_on profile w c.args.decoder c.args.spent.now c.args.c.now) (sym at)
     ∙ c.in_ok-read.ensures.item
-    ∙ ap (λ (r : DecoderRead). Ok (decoder_read_on whole r, c.read_on.new.c)) (sym c.over_cut.ensures)
+    ∙ ap (λ (r : DecoderRead). Ok (decoder_read_on whole r, c.read_over.new.c)) (sym c.over_cut.ensures)
 
 pub returns-clause-spent : goal.returns-clause-spent
 returns-clause-spent c whole =

@@ -9,39 +9,39 @@ use Rattle.drc_container.specs.declared.reading.surface_attributes.DecoderRead.{
 use Rattle.drc_container.specs.reading.OnSurface.{ordered_by, values_on, decoder_on}
 use Rattle.drc_container.specs.reading.AsRead.{built_classes, group_on, decoder_read_on}
 use Rattle.drc_container.proofs.lemmas.reading.AsRead.{classes-lent, gives-whole, if-whole}
-use Rattle.drc_container.proofs.reading.decoders.read_on_whole.Goals.{After-read_on}
+use Rattle.drc_container.proofs.reading.decoders.read_on_whole.Goals.{After-read_over}
 use Rattle.drc_container.proofs.reading.decoders.read_on_whole.Goals as goal
 
 -- the classes are those of the surface
-whole : (c : After-read_on) → c.classes-labels.result.now.of_corner ≡ built_classes c.args.sides.now
+whole : (c : After-read_over) → c.classes-labels.result.now.of_corner ≡ built_classes c.args.sides.now
 whole c =
     classes-lent c.table-table.result.now c.args.sides.now.table c.classes-labels.result.now.of_corner c.classes-labels.result.now.count c.classes-labels.result.now.ends
     c.table-table.ensures c.face_count-faces.ensures.gluing c.classes-labels.ensures
 
 pub returns-clause-item : goal.returns-clause-item
 returns-clause-item c =
-    let is = whole (goal.at.returns-clause-item c).After-read_on in
+    let is = whole (goal.at.returns-clause-item c).After-read_over in
     let classes = built_classes c.args.sides.now in
     let d = c.args.decoder in
-    subst (λ (t : Table). Gives (decoder_read_on classes) (decoder_on profile (ordered_by d.degree t.faces (gluing_of t)) d c.args.spent.now c.args.c.now) c.read_on.new.c c.read_on.result)
+    subst (λ (t : Table). Gives (decoder_read_on classes) (decoder_on profile (ordered_by d.degree t.faces (gluing_of t)) d c.args.spent.now c.args.c.now) c.read_over.new.c c.read_over.result)
     c.table-table.ensures
-    (gives-whole classes c.classes-labels.result.now.of_corner _ c.read_on.new.c c.read_on.result is c.read_on.ensures.whole c.read_on.ensures.item)
+    (gives-whole classes c.classes-labels.result.now.of_corner _ c.read_over.new.c c.read_over.result is c.read_over.ensures.whole c.read_over.ensures.item)
 
 pub returns-clause-spent : goal.returns-clause-spent
 returns-clause-spent c =
-    if-whole (λ (p : DecoderRead) (g : GroupParts). c.read_on.new.spent ≡ c.args.spent.now + values_on (tables_of g)) (built_classes c.args.sides.now) _ c.read_on.result
-    (whole (goal.at.returns-clause-spent c).After-read_on) c.read_on.ensures.whole c.read_on.ensures.spent
+    if-whole (λ (p : DecoderRead) (g : GroupParts). c.read_over.new.spent ≡ c.args.spent.now + values_on (tables_of g)) (built_classes c.args.sides.now) _ c.read_over.result
+    (whole (goal.at.returns-clause-spent c).After-read_over) c.read_over.ensures.whole c.read_over.ensures.spent
 
 pub returns-clause-columns : goal.returns-clause-columns
 returns-clause-columns c =
     let classes = built_classes c.args.sides.now in
-    subst (λ (t : Table). IfOk c.read_on.result (λ p. AreAttrTables (3 * t.faces) p.heads (tables_of (group_on classes p.values)))) c.table-table.ensures
-    (if-whole (λ (p : DecoderRead) (g : GroupParts). AreAttrTables (3 * c.table-table.result.now.faces) p.heads (tables_of g)) classes _ c.read_on.result
-    (whole (goal.at.returns-clause-columns c).After-read_on) c.read_on.ensures.whole c.read_on.ensures.columns)
+    subst (λ (t : Table). IfOk c.read_over.result (λ p. AreAttrTables (3 * t.faces) p.heads (tables_of (group_on classes p.values)))) c.table-table.ensures
+    (if-whole (λ (p : DecoderRead) (g : GroupParts). AreAttrTables (3 * c.table-table.result.now.faces) p.heads (tables_of g)) classes _ c.read_over.result
+    (whole (goal.at.returns-clause-columns c).After-read_over) c.read_over.ensures.whole c.read_over.ensures.columns)
 
 pub returns-clause-vertices : goal.returns-clause-vertices
 returns-clause-vertices c =
     let classes = built_classes c.args.sides.now in
-    subst (λ (t : Table). IfOk c.read_on.result (λ p. HasVertices (3 * t.faces) (group_on classes p.values))) c.table-table.ensures
-    (if-whole (λ (p : DecoderRead) (g : GroupParts). HasVertices (3 * c.table-table.result.now.faces) g) classes _ c.read_on.result
-    (whole (goal.at.returns-clause-vertices c).After-read_on) c.read_on.ensures.whole c.read_on.ensures.vertices)
+    subst (λ (t : Table). IfOk c.read_over.result (λ p. HasVertices (3 * t.faces) (group_on classes p.values))) c.table-table.ensures
+    (if-whole (λ (p : DecoderRead) (g : GroupParts). HasVertices (3 * c.table-table.result.now.faces) g) classes _ c.read_over.result
+    (whole (goal.at.returns-clause-vertices c).After-read_over) c.read_over.ensures.whole c.read_over.ensures.vertices)

@@ -16,8 +16,8 @@ overflow_cast-attr-end c =
 
 pub loop-attr-init : goal.loop-attr-init
 loop-attr-init c = record {
-  bits = rw c.new-bits.ensures.items refl;
-  flags = rw (c.in_ok-push.ensures.items, c.new-flags.ensures.items) (ap (λ (o : Option (List Bool)). o ∷ []) (flags-first (glued_by c.args.mesh.now c.args.sides.now)));
+  bits = rw c.in_ok-lists.ensures.bits refl;
+  flags = rw c.in_ok-lists.ensures.flags (ap (λ (o : Option (List Bool)). o ∷ []) (flags-first (glued_by c.args.mesh.now c.args.sides.now)));
 }
 
 pub loop-attr-preserved : goal.loop-attr-preserved
@@ -27,17 +27,17 @@ loop-attr-preserved c =
     let later : 0 < k = omega arith in
     record {
       bits =
-          pushed (λ (v : Vec Bool Global). v.items) c.loop-attr.bits.items _ c.in_ok-seams.seams.bits _ (seam_bits_of d k)
-          c.in_ok-push-2.ensures.items c.loop-attr.invariant.bits c.in_ok-seams.ensures.bits
+          pushed (λ (v : Vec Bool Global). v.items) c.loop-attr.lists.bits.items _ c.in_ok-seams.seams.bits _ (seam_bits_of d k)
+          c.in_ok-add_seams.ensures.bits c.loop-attr.invariant.bits c.in_ok-seams.ensures.bits
           ∙ sym (lists-more d k later);
       flags =
-          pushed (option_map (λ (v : Vec Bool Global). v.items)) c.loop-attr.flags.items _ c.in_ok-seams.seams.flags _ (corner_flags_of d k)
-          c.in_ok-push-3.ensures.items c.loop-attr.invariant.flags c.in_ok-seams.ensures.flags
+          pushed (option_map (λ (v : Vec Bool Global). v.items)) c.loop-attr.lists.flags.items _ c.in_ok-seams.seams.flags _ (corner_flags_of d k)
+          c.in_ok-add_seams.ensures.flags c.loop-attr.invariant.flags c.in_ok-seams.ensures.flags
           ∙ sym (flags-more d k);
     }
 
 -- the bits of all attributes
-bits-told : (c : After-loop-attr) → map (λ (v : Vec Bool Global). v.items) c.loop-attr.bits.items ≡ seam_lists (glued_by c.args.mesh.now c.args.sides.now)
+bits-told : (c : After-loop-attr) → map (λ (v : Vec Bool Global). v.items) c.loop-attr.lists.bits.items ≡ seam_lists (glued_by c.args.mesh.now c.args.sides.now)
 bits-told c =
     let d = glued_by c.args.mesh.now c.args.sides.now in
     let say = heads_say d.mesh.heads c.heads.ensures.sound.points.heads_pass in
@@ -56,8 +56,8 @@ returns-clause-flags c =
 
 pub returns-clause-few : goal.returns-clause-few
 returns-clause-few c =
-    lists-few (glued_by c.args.mesh.now c.args.sides.now) c.loop-attr.bits.items c.heads.ensures.sound (bits-told (goal.at.returns-clause-few c).After-loop-attr)
+    lists-few (glued_by c.args.mesh.now c.args.sides.now) c.loop-attr.lists.bits.items c.heads.ensures.sound (bits-told (goal.at.returns-clause-few c).After-loop-attr)
 
 pub returns-clause-short : goal.returns-clause-short
 returns-clause-short c =
-    lists-short (glued_by c.args.mesh.now c.args.sides.now) c.loop-attr.bits.items c.heads.ensures.sound (bits-told (goal.at.returns-clause-short c).After-loop-attr)
+    lists-short (glued_by c.args.mesh.now c.args.sides.now) c.loop-attr.lists.bits.items c.heads.ensures.sound (bits-told (goal.at.returns-clause-short c).After-loop-attr)

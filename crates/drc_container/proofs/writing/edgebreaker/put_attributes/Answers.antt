@@ -1,36 +1,41 @@
-use Rattle.std.proofs.Common.{◌<◌, ◌++◌, length, ap, subst, arith}
-use Rattle.std.proofs.lemmas.Result.{err_from_is_err_and}
-use Rattle.drc_base.specs.Refusals.{Refuses}
+-- The surfaces are those of the mesh.
+use Rattle.std.proofs.Common.{◌-◌, ◌<◌, ◌++◌, Some, length, map, ap, subst, arith}
+use Rattle.std.specs.Prelude.{OnOk}
+use Rattle.std.specs.List.{All, enumerate_from}
+use Rattle.drc_base.specs.Refusals.{Answers}
+use Rattle.drc_bits.specs.Spells.{Spells}
 use Rattle.mesh_model.specs.FirstFault.{value_unless}
+use Rattle.attr_section.specs.Heads.{bare_decoder, heads_at}
 use Rattle.drc_container.specs.choice.Refused.{values_fault}
-use Rattle.drc_container.specs.writing.WrittenOnSurface.{GluedMesh, coded_values, decoder_heads_bytes, values_bytes_on}
-use Rattle.drc_container.specs.surface.AttributeSurfaces.{glued_by, glued_on}
 use Rattle.drc_container.specs.choice.CanCode.{CanCode}
-use Rattle.drc_container.proofs.lemmas.choice.FirstRefusals.{refuses-alike}
-use Rattle.drc_container.proofs.lemmas.writing.SurfaceEncoded.{values-can}
-use Rattle.drc_container.proofs.writing.edgebreaker.put_attributes.Goals.{In_ok-values}
+use Rattle.drc_container.specs.writing.WrittenOnSurface.{GluedMesh, coded_values, decoders_for, decoder_heads_bytes, values_bytes_on}
+use Rattle.drc_container.specs.writing.Encoded.{AttributeSpelled}
 use Rattle.drc_container.proofs.writing.edgebreaker.put_attributes.Goals as goal
 
-pub returns-in_err-values-clause-answer : goal.returns-in_err-values-clause-answer
-returns-in_err-values-clause-answer c =
-    let coding = c.args.coding.now in
-    let d = glued_by c.args.mesh c.args.sides in
-    let p = err_from_is_err_and c.from_residual-in_err-values.result c.from_residual-in_err-values.ensures.1 in
-    rw (p.1, p.2)
-    (refuses-alike (values_fault coding d) (coded_values coding d) (c.args.out.now.items ++ (decoder_heads_bytes coding d ++ values_bytes_on coding d)) c.in_err-values.field-0.0
-    (subst (λ (g : GluedMesh). Refuses (value_unless (values_fault coding g) (coded_values coding g)) c.in_err-values.field-0.0) c.in_ok-surfaces.ensures.glued c.in_err-values.ensures))
-
--- the values can be coded
-can : (c : In_ok-values) → CanCode c.args.coding.now.predict (coded_values c.args.coding.now (glued_on c.in_ok-surfaces.surfaces))
-can c = values-can c.args.coding.now (glued_on c.in_ok-surfaces.surfaces) c.in_ok-values.values.items c.in_ok-values.ensures
-
-pub write_attributes-requires-clause-some : goal.write_attributes-requires-clause-some
-write_attributes-requires-clause-some c =
+pub put_attributes_over-requires-clause-some : goal.put_attributes_over-requires-clause-some
+put_attributes_over-requires-clause-some c =
     omega (arith, c.requires.some, ap (λ (g : GluedMesh). length g.mesh.faces) c.in_ok-surfaces.ensures.glued)
 
-pub write_attributes-requires-clause-can : goal.write_attributes-requires-clause-can
-write_attributes-requires-clause-can c = can (goal.at.write_attributes-requires-clause-can c).In_ok-values
+pub returns-clause-answer : goal.returns-clause-answer
+returns-clause-answer c =
+    let coding = c.args.coding.now in
+    subst (λ (g : GluedMesh). Answers (λ _. c.put_attributes_over.new.out.items) (value_unless (values_fault coding g) (c.args.out.now.items ++ (decoder_heads_bytes coding g ++ values_bytes_on coding g))) c.put_attributes_over.result)
+    c.in_ok-surfaces.ensures.glued c.put_attributes_over.ensures.answer
 
 pub returns-clause-can : goal.returns-clause-can
 returns-clause-can c =
-    subst (λ (g : GluedMesh). CanCode c.args.coding.now.predict (coded_values c.args.coding.now g)) c.in_ok-surfaces.ensures.glued (can (goal.at.returns-clause-can c).In_ok-values)
+    let coding = c.args.coding.now in
+    subst (λ (g : GluedMesh). OnOk c.put_attributes_over.result (CanCode coding.predict (coded_values coding g)))
+    c.in_ok-surfaces.ensures.glued c.put_attributes_over.ensures.can
+
+pub returns-clause-heads : goal.returns-clause-heads
+returns-clause-heads c =
+    let coding = c.args.coding.now in
+    subst (λ (g : GluedMesh). OnOk c.put_attributes_over.result (Spells (heads_at (Some (length g.mesh.heads - 1))) (decoder_heads_bytes coding g) (map bare_decoder (decoders_for coding g))))
+    c.in_ok-surfaces.ensures.glued c.put_attributes_over.ensures.heads
+
+pub returns-clause-again : goal.returns-clause-again
+returns-clause-again c =
+    let coding = c.args.coding.now in
+    subst (λ (g : GluedMesh). OnOk c.put_attributes_over.result (All (λ (k, h). AttributeSpelled coding g k h) (enumerate_from 0 g.mesh.heads)))
+    c.in_ok-surfaces.ensures.glued c.put_attributes_over.ensures.again

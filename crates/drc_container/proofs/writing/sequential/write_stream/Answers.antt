@@ -6,6 +6,9 @@ use Rattle.drc_container.proofs.lemmas.writing.Layouts.{layout-written}
 use Rattle.drc_container.proofs.writing.sequential.write_stream.Goals.{In_ok-put_stream}
 use Rattle.drc_container.proofs.writing.sequential.write_stream.Goals as goal
 
+pub put_stream-requires-clause-values : goal.put_stream-requires-clause-values
+put_stream-requires-clause-values c = c.as_slice.ensures.value ∙ c.requires.values
+
 -- the bytes are those of the stream alone
 bytes-are : (c : In_ok-put_stream) → c.put_stream.new.out.items ≡ stream_bytes c.args.g.now c.args.choice.now
 bytes-are c = c.in_ok-put_stream.ensures.bytes ∙ ap (λ (l : List ℕ). l ++ stream_bytes c.args.g.now c.args.choice.now) c.new-out.ensures.items
