@@ -1,4 +1,4 @@
-use Rattle.std.proofs.Common.{ℕ, length, subst}
+use Rattle.std.proofs.Common.{ℕ, subst}
 use Rattle.std.proofs.lemmas.Result.{err_from_is_err_and}
 use Rattle.corner_table.specs.Table.{gluing_of}
 use Rattle.eb_trace.specs.Writable.{IsWritable}

@@ -1,5 +1,5 @@
 -- One integer more stands behind those that were put.
-use Rattle.std.proofs.Common.{rules, ◌≡◌, ◌+◌, ◌++◌, ◌∷◌, [], ℤ, pos, List, take, get_or, refl, ap, sym, ◌∙◌, append_assoc, append-nil, arith}
+use Rattle.std.proofs.Common.{rules, ◌≡◌, ◌++◌, ◌∷◌, [], ℤ, pos, List, take, get_or, refl, ap, sym, ◌∙◌, append_assoc, append-nil, arith}
 use Rattle.std.proofs.lemmas.List.{take_more, take_all}
 use Rattle.drc_container.proofs.writing.coded_values.put_piece.Goals as goal
 
