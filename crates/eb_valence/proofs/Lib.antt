@@ -1,3 +1,4 @@
 pub mod ReadBack
 pub mod Noted
 pub mod Examples
+pub mod CappedDegrees
