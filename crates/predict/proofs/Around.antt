@@ -1,16 +1,34 @@
 -- Gathering the faces round a vertex, corner after corner.
-use Rattle.std.proofs.Common.{◌≡◌, ◌≢◌, ℕ, zero, suc, ◌+◌, ◌≤◌, true, false, ◌&&◌, nat_lt, List, [], ◌∷◌, ◌++◌, length, take, Option, Some, None, IfSome, inl, inr, refl, sym, subst, ◌∙◌, ap, arith, append-nil, append_assoc}
+use Rattle.std.proofs.Common.{◌≡◌, ◌≢◌, ℕ, zero, suc, ◌+◌, ◌≤◌, true, false, ◌&&◌, nat_lt, List, [], ◌∷◌, ◌++◌, length, take, Option, Some, None, IfSome, option_map, inl, inr, refl, sym, subst, ◌∙◌, ap, arith, append-nil, append_assoc}
 use Rattle.std.specs.Option.{option_to_list}
 use Rattle.std.specs.List.{All, filter_map}
 use Rattle.std.proofs.lemmas.Bool.{cond-true, cond-false, cases_Bool, and_parts, ltb-true}
 use Rattle.std.proofs.lemmas.List.{take-append-le, take_all, length-take, length-append}
 use Rattle.std.proofs.lemmas.List.Elements.{All-nil, All-cons, All-append, All-same, All-take, filter_map-append}
-use Rattle.corner_table.specs.Sides.{Side, side_at, same, number, Gluing}
+use Rattle.corner_table.specs.Sides.{Side, side_at, same, number, next, prev, Gluing}
+use Rattle.corner_table.specs.Fans.{swing_left}
 use Rattle.corner_table.proofs.Numbers.{number-side_at}
 use Rattle.corner_table.proofs.Places.{same_refl, not_same}
 use Rattle.corner_table.specs.declared.corner_lists.FaceAcross.{FaceAcross}
 use Rattle.corner_table.specs.Ordered.{Ordered, IsBelow, is_below, only_below, face_entries, corner_at, at_corner}
-use Rattle.predict.specs.Gathered.{Turn, turn_at, turn_on, round_from, round, gathered}
+use Rattle.predict.specs.declared.gathering.Turn.{Turn as StoredTurn}
+use Rattle.predict.specs.Gathered.{Turn, turn_at, turn_on, rightwards, leftwards_from, round_from, round, gathered}
+use Rattle.predict.specs.Stored.{stored_turn, way_on}
+
+-- a turn to the right
+pub turn_right : (g : Gluing) (start : Side) (t : StoredTurn) (o : Option Turn) → t.leftwards ≡ false → side_at t.across ≡ way_on (stored_turn t)
+    → ((c : Side) → side_at t.across ≡ prev c → o ≡ rightwards g c) → o ≡ turn_on g start (stored_turn t)
+turn_right g start t o right goes is =
+    is (side_at t.at) (goes ∙ cond-false t.leftwards (next (side_at t.at)) (prev (side_at t.at)) right)
+    ∙ sym (cond-false t.leftwards (leftwards_from g start (swing_left g (side_at t.at))) (rightwards g (side_at t.at)) right)
+
+-- a turn to the left, by what lies across
+pub turn_left : (g : Gluing) (start : Side) (t : StoredTurn) (across : Option Side) (o : Option Turn) → t.leftwards ≡ true → side_at t.across ≡ way_on (stored_turn t)
+    → across ≡ g (side_at t.across) → o ≡ leftwards_from g start (option_map next across) → o ≡ turn_on g start (stored_turn t)
+turn_left g start t across o left goes found is =
+    is
+    ∙ ap (λ (x : Option Side). leftwards_from g start (option_map next x)) (found ∙ ap g (goes ∙ cond-true t.leftwards (next (side_at t.at)) (prev (side_at t.at)) left))
+    ∙ sym (cond-true t.leftwards (leftwards_from g start (swing_left g (side_at t.at))) (rightwards g (side_at t.at)) left)
 
 -- the start
 pub gathered_start : (w : Ordered) (e : ℕ) (c : Side) (n : ℕ) (found : List FaceAcross) → found ≡ [] → c ≡ corner_at w e → n ≡ length w.entries

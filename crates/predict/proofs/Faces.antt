@@ -1,5 +1,5 @@
 -- The faces that an order keeps are those that foretell its entries.
-use Rattle.std.proofs.Common.{◌≡◌, ℕ, ◌<◌, List, length, get_or, map, Option, sym, subst, ◌∙◌, ap, arith}
+use Rattle.std.proofs.Common.{◌≡◌, ℕ, ◌<◌, List, length, get_or, Option, sym, subst, ◌∙◌, ap, arith}
 use Rattle.std.specs.Option.{IfSome}
 use Rattle.std.proofs.lemmas.List.{length-map, get_or_default}
 use Rattle.corner_table.specs.declared.corner_lists.FaceAcross.{FaceAcross}

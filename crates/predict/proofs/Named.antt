@@ -6,7 +6,7 @@ use Rattle.std.proofs.lemmas.Int.{of_z-to_z, to_z-of_z}
 use Rattle.std.proofs.lemmas.Bool.Decides.{same_from_decides, Decides-eqb, Decides-int_eq, Decides-like}
 use Rattle.predict.specs.declared.schemes.Prediction.{Prediction}
 use Rattle.predict.specs.declared.schemes.Prediction.TheVariants as prediction
-use Rattle.predict.specs.Schemes.{facts, predictions, byte_of, code_of, prediction_word, prediction_of, prediction_coded, prediction_worded, PredictionsAreNamed}
+use Rattle.predict.specs.Schemes.{predictions, byte_of, code_of, prediction_word, prediction_of, prediction_coded, prediction_worded, PredictionsAreNamed}
 
 pub by_byte : (q : Prediction) → prediction_of (byte_of q) ≡ Some q
 by_byte prediction.Off = refl

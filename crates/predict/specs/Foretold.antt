@@ -1,6 +1,6 @@
 -- What each prediction foretells a value to be, and the flags that it takes (Draco Bitstream Specification 2.2, section "Prediction
 -- Decoder").
-use Rattle.std.specs.Prelude.{◌≡◌, ℕ, suc, ◌<◌, ◌≤◌, ℤ, pos, Bool, List, [], length, get_or}
+use Rattle.std.specs.Prelude.{ℕ, suc, ◌<◌, ◌≤◌, ℤ, pos, Bool, List, [], length, get_or}
 use Rattle.predict.specs.Schemes.{facts}
 use Rattle.predict.specs.Restored.{entry_before}
 use Rattle.corner_table.specs.Ordered.{Ordered}

@@ -1,6 +1,6 @@
 -- The predictions of attribute values, each by its row of one table (Draco Bitstream Specification 2.2, section "Prediction
 -- Decoder"; the words, and since which profile a prediction is read, are this project's choice).
-use Rattle.std.specs.Prelude.{◌≡◌, ℕ, ◌==◌, ℤ, Bool, true, false, List, [], ◌∷◌, codes, find, Option, Some}
+use Rattle.std.specs.Prelude.{◌≡◌, ℕ, ◌==◌, ℤ, true, false, List, [], ◌∷◌, codes, find, Option, Some}
 use Rattle.std.specs.Int.{w8, cast_signed}
 use Rattle.std.specs.Ordering.{int_eq}
 use Rattle.std.specs.Str.{bytes_eq}

@@ -1,50 +1,60 @@
 //! The faces round the vertex of an entry, over which parallelograms predict it.
 
-ghost use Rattle.std.specs.Prelude.{◌≡◌, ◌<◌, ◌≤◌, ◌++◌, [], ◌∷◌, IfSome, length};
+ghost use Rattle.std.specs.Prelude.{◌≡◌, ℕ, ◌*◌, ◌<◌, ◌≤◌, ◌++◌, IfSome, Some, length};
 ghost use Rattle.std.specs.List.{All};
 ghost use Rattle.std.specs.Option.{option_map, option_to_list};
-ghost use Rattle.corner_table.specs.Sides.{side_at};
-ghost use Rattle.corner_table.specs.Fans.{swing_left, swing_right};
+ghost use Rattle.corner_table.specs.Sides.{Side, Gluing, next, prev, side_at};
+ghost use Rattle.corner_table.specs.Table.{free_entry};
 ghost use Rattle.corner_table.specs.Ordered.{IsBelow, corner_at, at_corner};
-ghost use Rattle.predict.specs.Gathered.{gathered, turn_on, rightwards};
-ghost use Rattle.predict.specs.Stored.{IsOrderedSurface, ordered_in, stored_turn};
+ghost use Rattle.predict.specs.Gathered.{gathered, turn_on, rightwards, leftwards_from};
+ghost use Rattle.predict.specs.Stored.{IsOrderedSurface, IsTurn, ordered_in, stored_turn};
 
 use crate::surface::Surface;
 use arrayvec::ArrayVec;
 use corner_table::{FaceAcross, next_number, previous_number};
 
-/// A corner that is met on the way round a vertex, and whether the way goes on to the left.
+/// A corner that is met on the way round a vertex, whether the way goes on to the left, and the side across
+/// which it does: the one after the corner, or to the right the one before it.
 #[derive(Clone, Copy, Debug)]
 pub(crate) struct Turn {
     pub(crate) at: u32,
+    pub(crate) across: u32,
     pub(crate) leftwards: bool,
 }
 
-impl Surface<'_> {
-    /// The next corner to the left round a corner's vertex.
-    fn left_of(&self, corner: u32) -> Option<u32>
-        requires surface { IsOrderedSurface self.now }
-        requires corner { corner < length self.now.labels.now }
-        ensures corner { option_map side_at result ≡ swing_left (ordered_in self.now).gluing (side_at corner) }
-        ensures within { IfSome result (λ n. n < length self.now.labels.now) }
-    {
-        match self.across_of(next_number(corner)) {
-            None => None,
-            Some(side) => Some(next_number(side)),
-        }
+/// The turn at the corner after a side, where that isn't the start again.
+#[inline(always)]
+fn left_behind(start: u32, side: u32) -> Option<Turn>
+    requires side { side < free_entry }
+    ensures turn { (g : Gluing) → option_map stored_turn result ≡ leftwards_from g (side_at start) (Some (next (side_at side))) }
+    ensures good { (n : ℕ) → side < 3 * n → IfSome result (IsTurn (3 * n)) }
+{
+    let at = next_number(side);
+    if at == start {
+        None
+    } else {
+        Some(Turn {
+            at,
+            across: previous_number(side),
+            leftwards: true,
+        })
     }
+}
 
-    /// The next corner to the right round a corner's vertex, as a turn.
-    fn rightwards(&self, corner: u32) -> Option<Turn>
+impl Surface<'_> {
+    /// The turn at the next corner to the right, across the side before a corner.
+    #[inline(always)]
+    fn right_across(&self, before: u32) -> Option<Turn>
         requires surface { IsOrderedSurface self.now }
-        requires corner { corner < length self.now.labels.now }
-        ensures turn { option_map stored_turn result ≡ rightwards (ordered_in self.now).gluing (side_at corner) }
-        ensures within { IfSome result (λ t. t.at < length self.now.labels.now) }
+        requires side { before < length self.now.labels.now }
+        ensures turn { (c : Side) → side_at before ≡ prev c → option_map stored_turn result ≡ rightwards (ordered_in self.now).gluing c }
+        ensures good { IfSome result (IsTurn (length self.now.labels.now)) }
     {
-        match self.across_of(previous_number(corner)) {
+        match self.across_of(before) {
             None => None,
             Some(side) => Some(Turn {
                 at: previous_number(side),
+                across: next_number(side),
                 leftwards: false,
             }),
         }
@@ -54,25 +64,17 @@ impl Surface<'_> {
     fn turn_on(&self, start: u32, turn: Turn) -> Option<Turn>
         requires surface { IsOrderedSurface self.now }
         requires start { start < length self.now.labels.now }
-        requires corner { turn.at < length self.now.labels.now }
+        requires good { IsTurn (length self.now.labels.now) turn }
         ensures turn { option_map stored_turn result ≡ turn_on (ordered_in self.now).gluing (side_at start) (stored_turn turn) }
-        ensures within { IfSome result (λ t. t.at < length self.now.labels.now) }
+        ensures good { IfSome result (IsTurn (length self.now.labels.now)) }
     {
-        if !turn.leftwards {
-            return self.rightwards(turn.at);
-        }
-        match self.left_of(turn.at) {
-            None => self.rightwards(start),
-            Some(at) => {
-                if at == start {
-                    None
-                } else {
-                    Some(Turn {
-                        at,
-                        leftwards: true,
-                    })
-                }
+        if turn.leftwards {
+            match self.across_of(turn.across) {
+                None => self.right_across(previous_number(start)),
+                Some(side) => left_behind(start, side),
             }
+        } else {
+            self.right_across(turn.across)
         }
     }
 
@@ -102,6 +104,7 @@ impl Surface<'_> {
         let mut found = ArrayVec::new();
         let mut turn = Some(Turn {
             at: start,
+            across: next_number(start),
             leftwards: true,
         });
         for step in 0..self.labels.len() {
@@ -117,5 +120,20 @@ impl Surface<'_> {
             }
         }
         found
+    }
+
+    /// What is gathered for entry `e`, and nothing behind the last entry.
+    #[inline(always)]
+    pub(crate) fn gather_ahead(&self, e: usize) -> ArrayVec<FaceAcross, 4>
+        requires surface { IsOrderedSurface self.now }
+        ensures faces { e < length self.now.corners.now → result.items ≡ gathered (ordered_in self.now) e }
+        ensures below { All (IsBelow e) result.items }
+        ensures few { length result.items ≤ 4 }
+    {
+        if e < self.corners.len() {
+            self.gather(e)
+        } else {
+            ArrayVec::new()
+        }
     }
 }

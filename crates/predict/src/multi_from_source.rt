@@ -107,8 +107,11 @@ fn by_multi<C: CorrectionSource>(
     let n = source.len();
     let mut values = Vec::with_capacity(alloc, n)?;
     let mut used = [0usize; 4];
+    let mut ahead = surface.gather_ahead(0);
     for e in 0..surface.corners.len() {
-        let found = surface.gather(e);
+        let found = ahead;
+        // The next entry's faces are looked for before this entry is put, so that neither waits for the other.
+        ahead = surface.gather_ahead(e + 1);
         match take_flags(flags, &mut used, found.as_slice()) {
             None => return Ok(Err(Kind::FlagsShort)),
             Some(faces) => {

@@ -1,5 +1,5 @@
 -- The flags of the entries, one after another, are the lists that are written.
-use Rattle.std.proofs.Common.{◌≡◌, ℕ, List, Bool, length, sym, subst}
+use Rattle.std.proofs.Common.{ℕ, List, Bool, sym, subst}
 use Rattle.std.proofs.lemmas.List.{length-map}
 use Rattle.corner_table.specs.Sides.{side_at}
 use Rattle.predict.specs.Multi.{AreMarked}

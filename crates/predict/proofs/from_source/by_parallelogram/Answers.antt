@@ -1,10 +1,9 @@
 -- Entry after entry is put.
-use Rattle.std.proofs.Common.{◌≡◌, ◌+◌, ◌*◌, ◌≤◌, ◌<◌, [], List, length, rules, ap, sym, subst, ◌∙◌, arith}
+use Rattle.std.proofs.Common.{◌≡◌, ◌+◌, ◌*◌, ◌≤◌, [], List, length, ap, sym, subst, ◌∙◌, arith}
 use Rattle.std.proofs.lemmas.List.{length-map}
 use Rattle.corner_table.specs.declared.corner_lists.FaceAcross.{FaceAcross}
 use Rattle.corner_table.specs.Sides.{side_at}
 use Rattle.corner_table.specs.Ordered.{AreFaces}
-use Rattle.predict.specs.Restored.{restored}
 use Rattle.predict.specs.Parallelogram.{parallelogram}
 use Rattle.predict.specs.Surfaces.{surface}
 use Rattle.predict.proofs.Behind.{behind_end, length_behind}

@@ -27,6 +27,9 @@ loop-e-init g c =
       left = omega (arith, c.len-n.ensures);
       len = omega (arith, c.in_ok-values.ensures.len);
       capacity = c.in_ok-values.ensures.exact;
+      ahead = λ h. c.gather_ahead-ahead.ensures.faces (omega (arith, h, c.surface_of-surface.ensures.count)) ∙ ap (λ (x : Ordered). gathered x 0) c.surface_of-surface.ensures.ordered;
+      below = c.gather_ahead-ahead.ensures.below;
+      few = c.gather_ahead-ahead.ensures.few;
     }
 
 pub returns-in-None-clause-flags : goal.returns-in-None-clause-flags
@@ -34,7 +37,7 @@ returns-in-None-clause-flags g c =
     let w = surface c.args.on.now in
     let e = c.loop-e.e in
     let is : c.as_slice.result.now ≡ gathered w e =
-    c.as_slice.ensures.value ∙ c.gather-found.ensures.faces ∙ ap (λ (x : Ordered). gathered x e) c.surface_of-surface.ensures.ordered in
+    c.as_slice.ensures.value ∙ c.loop-e.invariant.ahead (omega (arith, c.loop-e-test.true, c.surface_of-surface.ensures.count)) in
     let has : e < length (map side_at c.args.on.now.order.now.corner_of_entry) =
     omega (arith, length-map c.args.on.now.order.now.corner_of_entry side_at, c.loop-e-test.true, c.surface_of-surface.ensures.count) in
     (refl, lacks_flags w c.args.flags.now.lists e has (c.in-None.ensures.faces w e is c.loop-e.invariant.used))
@@ -47,7 +50,7 @@ put_by_many-requires g c =
     record {
       some = c.requires.some;
       below = All-same (IsBelow e) c.as_slice-in-Some.result.now c.in-Some.faces.items c.as_slice-in-Some.ensures.value
-          (c.in-Some.ensures.below e (All-same (IsBelow e) c.as_slice.result.now c.gather-found.result.items c.as_slice.ensures.value c.gather-found.ensures.below));
+          (c.in-Some.ensures.below e (All-same (IsBelow e) c.as_slice.result.now c.loop-e.ahead.items c.as_slice.ensures.value c.loop-e.invariant.below));
       few = omega (arith, ap length c.as_slice-in-Some.ensures.value, c.in-Some.ensures.few);
       here = c.loop-e.invariant.len;
       room = omega (arith, more, c.requires.whole, c.len-n.ensures, c.loop-e.invariant.len, c.loop-e.invariant.capacity);
@@ -61,7 +64,7 @@ loop-e-preserved g c =
     let e = c.loop-e.e in
     let f = multi w c.args.comps lists in
     let is : c.as_slice.result.now ≡ gathered w e =
-    c.as_slice.ensures.value ∙ c.gather-found.ensures.faces ∙ ap (λ (x : Ordered). gathered x e) c.surface_of-surface.ensures.ordered in
+    c.as_slice.ensures.value ∙ c.loop-e.invariant.ahead (omega (arith, c.loop-e-test.true, c.surface_of-surface.ensures.count)) in
     let told = c.in-Some.ensures.faces w e is c.loop-e.invariant.used in
     let faces : c.as_slice-in-Some.result.now ≡ kept (flags_for w lists e) (gathered w e) = c.as_slice-in-Some.ensures.value ∙ told.0 ∙ ap (kept (flags_for w lists e)) is in
     record {
@@ -72,6 +75,9 @@ loop-e-preserved g c =
       left = omega (arith, c.loop-e.invariant.left, c.put_by_many.ensures.left);
       len = omega (arith, c.loop-e.invariant.len, c.put_by_many.ensures.len);
       capacity = c.put_by_many.ensures.capacity ∙ c.loop-e.invariant.capacity;
+      ahead = λ h. c.gather_ahead-ahead-in-loop-e.ensures.faces (omega (arith, h, c.surface_of-surface.ensures.count)) ∙ ap (λ (x : Ordered). gathered x (e + 1)) c.surface_of-surface.ensures.ordered;
+      below = c.gather_ahead-ahead-in-loop-e.ensures.below;
+      few = c.gather_ahead-ahead-in-loop-e.ensures.few;
     }
 
 pub returns-clause-values : goal.returns-clause-values

@@ -1,6 +1,9 @@
-use Rattle.std.proofs.Common.{◌≡◌, ◌+◌, ◌*◌, length, vec_len, vec_capacity}
+use Rattle.std.proofs.Common.{◌≡◌, ◌+◌, ◌*◌, ◌<◌, ◌≤◌, length, vec_len, vec_capacity}
+use Rattle.std.specs.List.{All}
+use Rattle.corner_table.specs.Ordered.{IsBelow}
 use Rattle.predict.specs.Restored.{restored, restored_behind}
 use Rattle.predict.specs.Surfaces.{surface}
+use Rattle.predict.specs.Gathered.{gathered}
 use Rattle.predict.specs.Multi.{multi}
 use Rattle.predict.specs.Entry.{AreUsed}
 use Rattle.predict.proofs.multi_from_source.by_multi.Given as goal
@@ -13,4 +16,7 @@ invariant-loop-e g l = record {
   left : l.e * l.comps + length (g.C.CorrectionSource.left l.source) ≡ l.n;
   len : vec_len l.values ≡ l.e * l.comps;
   capacity : vec_capacity l.values ≡ l.n;
+  ahead : l.e < length l.fn.on.order.now.corner_of_entry → l.ahead.items ≡ gathered (surface l.fn.on) l.e;
+  below : All (IsBelow l.e) l.ahead.items;
+  few : length l.ahead.items ≤ 4;
 }

@@ -1,5 +1,5 @@
 -- Where no face is kept, the entry before foretells.
-use Rattle.std.proofs.Common.{None, sym, refl, arith}
+use Rattle.std.proofs.Common.{None, sym, refl}
 use Rattle.predict.specs.Parallelogram.{by_one}
 use Rattle.predict.specs.Multi.{by_many}
 use Rattle.predict.proofs.Entries.{foretells_alike}

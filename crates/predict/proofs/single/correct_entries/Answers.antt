@@ -1,8 +1,7 @@
 -- Entry after entry is corrected.
-use Rattle.std.proofs.Common.{◌*◌, ◌≤◌, ◌≤ℤ◌, FitsSigned, w32, ℤ, List, length, ap, ◌∙◌, sym, subst, arith}
+use Rattle.std.proofs.Common.{◌*◌, ◌≤◌, ◌≤ℤ◌, FitsSigned, w32, ℤ, length, ap, ◌∙◌, sym, subst, arith}
 use Rattle.std.specs.List.{All}
 use Rattle.std.proofs.lemmas.List.Elements.{All-same}
-use Rattle.corner_table.specs.declared.corner_lists.FaceAcross.{FaceAcross}
 use Rattle.corner_table.specs.Ordered.{AreFaces}
 use Rattle.predict.specs.Surfaces.{surface}
 use Rattle.predict.specs.Parallelogram.{parallelogram}

@@ -1,6 +1,5 @@
 -- Entry after entry is restored.
-use Rattle.std.proofs.Common.{◌*◌, ◌≤◌, List, length, sym, subst, ◌∙◌, arith}
-use Rattle.corner_table.specs.declared.corner_lists.FaceAcross.{FaceAcross}
+use Rattle.std.proofs.Common.{◌*◌, ◌≤◌, length, sym, subst, ◌∙◌, arith}
 use Rattle.corner_table.specs.Ordered.{AreFaces}
 use Rattle.predict.specs.Surfaces.{surface}
 use Rattle.predict.specs.Parallelogram.{parallelogram}

@@ -11,7 +11,11 @@ use Rattle.predict.proofs.surface.Surface.gather.Goals as goal
 
 pub loop-step-init : goal.loop-step-init
 loop-step-init c = record {
-  within = c.corner_of-start.ensures.within;
+  good = record {
+    at = c.corner_of-start.ensures.within;
+    across = (let f = c.next_number.ensures.face in let w = c.requires.surface.fit.whole in let l = c.corner_of-start.ensures.within in omega arith);
+    goes = c.next_number.ensures.corner;
+  };
   few = omega (arith, ap (λ (l : List FaceAcross). length l) c.new-found.ensures);
   rest = gathered_start (ordered_in c.args.self.now) c.args.e (side_at c.corner_of-start.result) (length c.args.self.now.labels.now - 0) c.new-found.result.items
       c.new-found.ensures c.corner_of-start.ensures.corner
@@ -32,7 +36,7 @@ loop-step-preserved c =
     let fuel : length c.args.self.now.labels.now - c.loop-step.step ≡ suc (length c.args.self.now.labels.now - (c.loop-step.step + 1)) = omega (arith, c.loop-step-test.true) in
     let more = found_more (at_corner (ordered_in c.args.self.now) c.args.e (side_at c.in-Some.now.at)) c.loop-step.found.items c.gather_corner.new.found.items c.gather_corner.ensures in
     record {
-      within = c.turn_on-turn.ensures.within;
+      good = c.turn_on-turn.ensures.good;
       few = omega (arith, more, c.loop-step.invariant.few, c.if-len-eq4.false, c.len.ensures.value);
       rest = gathered_step (at_corner (ordered_in c.args.self.now) c.args.e) (ordered_in c.args.self.now).gluing (side_at c.corner_of-start.result)
           (length c.args.self.now.labels.now - c.loop-step.step) (length c.args.self.now.labels.now - (c.loop-step.step + 1))
