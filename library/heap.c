@@ -1,6 +1,6 @@
-/* The memory of the library: the program's malloc, realloc and free. `pointer` is never null: where there is no memory it is
-   the address of something that nobody uses, and `ok` is false. Linux is asked for huge pages in large blocks: it clears each
-   page before it is first used, and one of 2 MiB sooner than the 512 that it stands for. */
+/* The memory of the library: the program's malloc, posix_memalign, realloc and free. `pointer` is never null: where there is no
+   memory it is the address of something that nobody uses, and `ok` is false. Linux is asked for huge pages in large blocks: it
+   clears each page before it is first used, and one of 2 MiB sooner than the 512 that it stands for. */
 #define _DEFAULT_SOURCE
 #include <stdbool.h>
 #include <stddef.h>
@@ -36,8 +36,17 @@ static void *with_huge_pages(void *block, size_t size) {
     return block;
 }
 
+/* A block of more than a huge page. It begins where one does, and reaches to the end of the last one if it has half of that. */
+static void *large_block(size_t size) {
+    size_t whole = (size + HUGE_PAGE / 2) / HUGE_PAGE * HUGE_PAGE;
+    size_t room = size > whole ? size : whole;
+    void *block;
+    return posix_memalign(&block, HUGE_PAGE, room) == 0 ? with_huge_pages(block, room) : NULL;
+}
+
 struct tried rattle_alloc(size_t size, size_t align) {
-    return tried(with_huge_pages(malloc(size != 0 ? size : align), size));
+    if (size > HUGE_PAGE) return tried(large_block(size));
+    return tried(malloc(size != 0 ? size : align));
 }
 
 struct tried rattle_realloc(void *pointer, size_t kept, size_t size, size_t align) {

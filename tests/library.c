@@ -1,7 +1,8 @@
 /* Tests the library as C and C++ see it, for tests/library: structs, statuses, arrays that are too short, requests for memory that fail,
    threads. usage: library FILE.., each a stream of a mesh or a cloud that is decoded. Compiled with -DMAX_FACES and -DMAX_POINTS, the limits;
-   linked with malloc, realloc and free wrapped. */
+   linked with malloc, posix_memalign, realloc and free wrapped. */
 #include <drc.h>
+#include <errno.h>
 #include <pthread.h>
 #include <stddef.h>
 #include <stdio.h>
@@ -11,9 +12,11 @@
 extern "C" {
 #endif
 void *__real_malloc(size_t size);
+int __real_posix_memalign(void **to, size_t align, size_t size);
 void *__real_realloc(void *old, size_t size);
 void __real_free(void *block);
 void *__wrap_malloc(size_t size);
+int __wrap_posix_memalign(void **to, size_t align, size_t size);
 void *__wrap_realloc(void *old, size_t size);
 void __wrap_free(void *block);
 #ifdef __cplusplus
@@ -32,6 +35,12 @@ void *__wrap_malloc(size_t size) {
     void *block = comes() ? NULL : __real_malloc(size);
     if (counting && block != NULL) blocks++;
     return block;
+}
+
+int __wrap_posix_memalign(void **to, size_t align, size_t size) {
+    int answer = comes() ? ENOMEM : __real_posix_memalign(to, align, size);
+    if (counting && answer == 0) blocks++;
+    return answer;
 }
 
 void *__wrap_realloc(void *old, size_t size) {
