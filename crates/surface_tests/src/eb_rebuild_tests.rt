@@ -7,7 +7,7 @@ ghost use Rattle.eb_machine.specs.Events.{IsEventOf};
 use corner_table::Symbol::{C, E, L, R as Right, S};
 use corner_table::{Event, FREE, Steps, Symbol};
 use drc_base::{Fault, Kind, MAX_FACES, Refusal};
-use eb_rebuild::{DEGREE_CAP, Built, LinkRebuild, Rebuild, RowRebuild};
+use eb_rebuild::{Built, DEGREE_CAP, LinkRebuild, Rebuild, RowRebuild};
 use std::alloc::Global;
 use std::marker::Brand;
 use std::process::Abort;
