@@ -1,5 +1,6 @@
 pub mod EventLists
 pub mod Runs
+mod KeptLists
 pub mod Examples
 pub mod WrittenSymbols
 pub mod WrittenOpening

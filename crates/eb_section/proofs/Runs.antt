@@ -122,7 +122,7 @@ moves-err next new live refusal.Memory whole h so = tt
 
 -- ---- the whole
 
-refuses-then : {A B : Type 0} (r : Result A Fault) (f : A → Result B Fault) (e : Refusal) → Refuses r e → Refuses (r >>= f) e
+pub refuses-then : {A B : Type 0} (r : Result A Fault) (f : A → Result B Fault) (e : Refusal) → Refuses r e → Refuses (r >>= f) e
 refuses-then r f (refusal.Fault x) h = ap (λ (q : Result _ Fault). q >>= f) h
 refuses-then r f refusal.Memory h = tt
 

@@ -2,6 +2,7 @@ pub mod Opening
 pub mod Events
 pub mod Feeding
 pub mod Connectivity
+pub mod KeptLists
 pub mod Calls
 pub mod Written
 pub mod ReadAgain

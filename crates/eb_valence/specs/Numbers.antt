@@ -2,6 +2,7 @@
 use Rattle.std.specs.Prelude.{ℕ, zero, suc, ◌-◌, min, max, Option, Some, None}
 use Rattle.corner_table.specs.declared.symbols.Symbol.{Symbol}
 use Rattle.corner_table.specs.declared.symbols.Symbol.TheVariants.{C, S, L, R, E}
+use Rattle.eb_valence.specs.declared.numbers.TheConstants.{NUMBER_CAP}
 
 -- the number that stands for a symbol
 abbrev pub symbol_number : Symbol → ℕ
@@ -19,6 +20,10 @@ symbol_numbered (suc (suc zero)) = Some L
 symbol_numbered (suc (suc (suc zero))) = Some R
 symbol_numbered (suc (suc (suc (suc zero)))) = Some E
 symbol_numbered (suc (suc (suc (suc (suc n))))) = None
+
+-- a number as a reader keeps it: the cap stands for all that are greater, since none of them stands for a symbol
+abbrev pub kept_number : ℕ → ℕ
+kept_number n = min n NUMBER_CAP
 
 -- the context of a degree: 0 up to degree 2, 5 from degree 7 on
 abbrev pub context_of : ℕ → ℕ

@@ -1,11 +1,11 @@
 -- Reading symbols from the lists of their contexts, each of which is used from its back (Draco Bitstream Specification 2.2, Edgebreaker
 -- valence traversal).
-use Rattle.std.specs.Prelude.{◌≡◌, ℕ, ◌-◌, List, [], length, take, get_or, set, slice_get, Option, Some, None, Result, Ok, Err}
+use Rattle.std.specs.Prelude.{◌≡◌, ℕ, ◌-◌, List, [], length, map, take, get_or, set, slice_get, Option, Some, None, Result, Ok, Err}
 use Rattle.drc_base.specs.declared.kinds.Kind.{Kind}
 use Rattle.drc_base.specs.declared.kinds.Kind.TheVariants as kind
 use Rattle.corner_table.specs.declared.symbols.Symbol.{Symbol}
 use Rattle.corner_table.specs.declared.symbols.Symbol.TheVariants.{E}
-use Rattle.eb_valence.specs.Numbers.{symbol_numbered, context_of}
+use Rattle.eb_valence.specs.Numbers.{symbol_numbered, kept_number, context_of}
 
 -- the last item of a list
 abbrev pub last_of : List ℕ → Option ℕ
@@ -33,3 +33,10 @@ taken_at (Some degree) lists = symbol_taken (context_of degree) lists
 abbrev pub DrawsSymbol : Result (Symbol × List (List ℕ)) Kind → List (List ℕ) → List (List ℕ) → Result Symbol Kind → Type 0
 DrawsSymbol due old new (Ok x) = due ≡ Ok (x, new)
 DrawsSymbol due old new (Err k) = (due ≡ Err k) × (new ≡ old)
+
+-- lists as a reader keeps them, each number of each by itself
+abbrev pub kept_list : List ℕ → List ℕ
+kept_list numbers = map kept_number numbers
+
+abbrev pub kept_lists : List (List ℕ) → List (List ℕ)
+kept_lists lists = map kept_list lists

@@ -1,6 +1,6 @@
 //! The lists of the contexts.
 
-ghost use Rattle.std.specs.Prelude.{◌≡◌, ◌+◌, ◌≤◌, min, reverse};
+ghost use Rattle.std.specs.Prelude.{◌≡◌, reverse};
 
 use drc_base::Memory;
 use std::alloc::Global;
@@ -25,8 +25,7 @@ impl Model for ContextLists {
 }
 
 impl ContextLists {
-    ghost use Rattle.std.specs.Prelude.{◌≡◌, ◌<◌, ◌++◌, ◌∷◌, [], ℕ, List, map, get_or, set, length, sum_by, reverse, replicate, OnOk};
-    ghost use Rattle.eb_valence.specs.Reading.{last_of, all_but_last};
+    ghost use Rattle.std.specs.Prelude.{◌≡◌, ◌<◌, ◌++◌, ◌∷◌, [], map, get_or, set, reverse, replicate, OnOk};
 
     /// These lists. It takes no memory.
     pub fn new(lists: [Vec<u32>; CONTEXTS]) -> ContextLists
@@ -75,33 +74,6 @@ impl ContextLists {
         Ok(())
     }
 
-    /// How many numbers all lists have together; `most` where they have more.
-    pub(crate) fn count_up_to(&self, most: u32) -> u32
-        ensures { result ≡ min most (sum_by length self.now) }
-    {
-        let mut count = 0u32;
-        for list in self.lists.as_slice() {
-            count = added_up_to(most, count, list.len());
-        }
-        count
-    }
-
-    /// The last number of the list of a context; None where the list has none.
-    pub(crate) fn last(&self, context: usize) -> Option<u32>
-        requires { context < CONTEXTS }
-        ensures { result ≡ last_of (get_or self.now context []) }
-    {
-        self.lists[context].as_slice().last().copied()
-    }
-
-    /// Takes the last number off the list of a context.
-    pub(crate) fn take_last(&mut self, context: usize)
-        requires { context < CONTEXTS }
-        ensures { self.new ≡ set self.old context (all_but_last (get_or self.old context [])) }
-    {
-        let _last = self.lists[context].pop();
-    }
-
     /// The same lists, each from its back to its front. It takes no memory.
     pub(crate) fn turned_round(self) -> ContextLists
         ensures { result ≡ map reverse self }
@@ -116,14 +88,6 @@ impl ContextLists {
             turned(f),
         ])
     }
-}
-
-/// A count and so many more; `most` where they are more.
-fn added_up_to(most: u32, count: u32, more: usize) -> u32
-    requires { count ≤ most }
-    ensures { result ≡ min most (count + more) }
-{
-    count + more.min((most - count) as usize) as u32
 }
 
 /// A list from its back to its front.

@@ -13,3 +13,4 @@ pub use context_lists::{CONTEXTS, ContextLists};
 pub use context_reader::ContextReader;
 pub use laws::contexts_read_back;
 pub use noting::contexts_of;
+pub use numbers::{NUMBER_CAP, kept_number};

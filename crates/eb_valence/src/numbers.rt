@@ -1,10 +1,13 @@
 //! The numbers of symbols and of contexts.
 
 ghost use Rattle.std.specs.Prelude.{◌≡◌, ◌<◌};
-ghost use Rattle.eb_valence.specs.Numbers.{symbol_number, symbol_numbered, context_of};
+ghost use Rattle.eb_valence.specs.Numbers.{symbol_number, symbol_numbered, kept_number, context_of};
 
 use crate::context_lists::CONTEXTS;
 use corner_table::Symbol;
+
+/// The greatest number that is kept as it is: it stands for no symbol, and so does each that is greater.
+pub const NUMBER_CAP: u32 = 255;
 
 /// The least degree that has a context of its own.
 const LEAST_DEGREE: u32 = 2;
@@ -26,7 +29,7 @@ pub(crate) fn number_of_symbol(symbol: Symbol) -> u32
 }
 
 /// The symbol that a number stands for; None where it stands for none.
-pub(crate) fn symbol_of_number(number: u32) -> Option<Symbol>
+pub(crate) fn symbol_of_number(number: u8) -> Option<Symbol>
     ensures { result ≡ symbol_numbered number }
 {
     match number {
@@ -37,6 +40,14 @@ pub(crate) fn symbol_of_number(number: u32) -> Option<Symbol>
         4 => Some(Symbol::E),
         _ => None,
     }
+}
+
+/// A number as a reader keeps it: `NUMBER_CAP` for each that is greater.
+#[inline(always)]
+pub fn kept_number(number: u32) -> u8
+    ensures { result ≡ kept_number number }
+{
+    number.min(NUMBER_CAP) as u8
 }
 
 /// The context of a degree.

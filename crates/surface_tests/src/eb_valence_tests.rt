@@ -4,7 +4,7 @@ ghost use Rattle.std.specs.Prelude.{◌≡◌, ◌<◌};
 
 use corner_table::{Steps, Symbol};
 use drc_base::{Kind, Memory};
-use eb_valence::{ContextLists, ContextReader, contexts_of};
+use eb_valence::{ContextLists, ContextReader, contexts_of, kept_number};
 use std::alloc::{AllocError, Global};
 use std::marker::Brand;
 use std::process::Abort;
@@ -56,20 +56,20 @@ fn notes_contexts_of_surfaces(rt: HostRuntime) -> Result<(), Fail> {
     Ok(())
 }
 
-/// Lists of which two have symbols, and one has a number that stands for none in front.
-fn worked(alloc: Global) -> Result<ContextLists, AllocError> {
-    Ok(ContextLists::new([
+/// Lists of symbols; two have a number in front that stands for none.
+fn worked(alloc: Global) -> Result<ContextReader, AllocError> {
+    Ok(ContextReader::new([
         vec![in alloc; 5, 1, 3]?,
         vec![in alloc; 0]?,
         Vec::new(alloc),
-        Vec::new(alloc),
+        vec![in alloc; 255]?,
         Vec::new(alloc),
         vec![in alloc; 4, 2]?,
     ]))
 }
 
 /// The degrees that are asked for in turn, and what is answered to each.
-static ANSWERS: [(Option<u32>, Result<Symbol, Kind>); 12] = [
+static ANSWERS: [(Option<u32>, Result<Symbol, Kind>); 14] = [
     (None, Ok(Symbol::E)),
     (Some(2), Ok(Symbol::R)),
     (Some(0), Ok(Symbol::S)),
@@ -81,14 +81,33 @@ static ANSWERS: [(Option<u32>, Result<Symbol, Kind>); 12] = [
     (Some(8), Err(Kind::ContextEmpty)),
     (Some(1), Err(Kind::BadSymbol)),
     (Some(2), Err(Kind::BadSymbol)),
+    (Some(5), Err(Kind::BadSymbol)),
+    (Some(5), Err(Kind::BadSymbol)),
     (None, Ok(Symbol::E)),
 ];
 
 #[test]
 fn reads_from_the_backs(rt: HostRuntime) -> Result<(), Fail> {
-    let mut reader = ContextReader::new(worked(rt.alloc())?);
+    let mut reader = worked(rt.alloc())?;
     for (degree, symbol) in ANSWERS.iter() {
         assert!(&rt; reader.next(*degree) == *symbol);
     }
     Ok(())
+}
+
+/// Numbers, and the bytes that they are kept as.
+static KEPT: [(u32, u8); 6] = [
+    (0, 0),
+    (4, 4),
+    (255, 255),
+    (256, 255),
+    (259, 255),
+    (u32::MAX, 255),
+];
+
+#[test]
+fn keeps_numbers_up_to_the_cap(rt: HostRuntime) {
+    for (number, kept) in KEPT.iter() {
+        assert!(&rt; kept_number(*number) == *kept);
+    }
 }

@@ -2,7 +2,7 @@
 use Rattle.std.proofs.Common.{◌≡◌, ◌+◌, ◌≤◌, ℕ, List, [], ◌∷◌, min, length, map, sum_by, take, ap, refl, ◌∙◌}
 use Rattle.std.specs.List.{fold}
 use Rattle.std.proofs.lemmas.List.{take_all}
-use Rattle.eb_valence.proofs.context_lists.ContextLists.count_up_to.Goals as goal
+use Rattle.eb_valence.proofs.context_reader.ContextReader.count_up_to.Goals as goal
 
 total : {X : Type 0} (items : X → List ℕ) (lists : List X) (so_far : ℕ) → fold (λ n v. n + length (items v)) so_far lists ≡ fold (λ n v. n + length v) so_far (map items lists)
 total items [] so_far = refl
@@ -15,4 +15,4 @@ counted {X} items most k lists held shown e all s =
     ∙ ap (min most) (total items lists 0 ∙ ap (sum_by length) s)
 
 pub returns : goal.returns
-returns c = c.loop-list.invariant ∙ counted (λ v. v.items) c.args.most c.loop-list.list-index c.self.inside.lists c.as_slice-list-items.result.now c.args.self.now c.as_slice-list-items.ensures c.loop-list-test.false c.self.view_is
+returns c = c.loop-list.invariant ∙ counted (λ v. v.items) c.args.most c.loop-list.list-index c.self.inside.left c.as_slice-list-items.result.now c.args.self.now c.as_slice-list-items.ensures c.loop-list-test.false c.self.view_is
