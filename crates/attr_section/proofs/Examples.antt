@@ -6,7 +6,6 @@ use Rattle.std.proofs.lemmas.List.Elements.{All-nil, All-cons}
 use Rattle.mesh_model.specs.Head.{in_type}
 use Rattle.predict.specs.Wrap.{CanWrap}
 use Rattle.corner_table.specs.Ordered.{Ordered}
-use Rattle.predict.specs.Surfaces.{CanStand}
 use Rattle.predict.specs.declared.schemes.Prediction.TheVariants as prediction
 use Rattle.attr_section.specs.declared.values.Values.{Values}
 use Rattle.attr_section.specs.Examples.{example_head, texture_head, position_values, texture_values, example_prediction, surface_values, surface_positions}

@@ -1,5 +1,5 @@
 -- Flags of predictions that are read back from their bytes, and how many there are.
-use Rattle.std.proofs.Common.{◌≡◌, ◌≢◌, ℕ, zero, suc, ◌+◌, ◌*◌, ◌^◌, ◌<◌, ◌≤◌, ◌==◌, nat_le, Bool, true, false, ◌&&◌, ℤ, List, [], ◌∷◌, ◌++◌, length, flat_map, get_or, if◌then◌else◌, inl, inr, Option, None, Some, Ok, rules, refl, sym, ◌∙◌, ap, subst, arith}
+use Rattle.std.proofs.Common.{◌≡◌, ◌≢◌, ℕ, zero, suc, ◌+◌, ◌*◌, ◌^◌, ◌<◌, ◌≤◌, ◌==◌, nat_le, Bool, true, false, ◌&&◌, ℤ, List, [], ◌∷◌, length, flat_map, get_or, if◌then◌else◌, inl, inr, Option, None, Some, Ok, refl, sym, ◌∙◌, ap, subst, arith}
 use Rattle.std.specs.List.{All, list_all, range_with_len}
 use Rattle.std.proofs.lemmas.Bool.{cases_eq, cases_Bool, leb-true, false≢true}
 use Rattle.std.proofs.Math.Nat.{mul-le-mul_left}
@@ -11,7 +11,7 @@ use Rattle.drc_bits.specs.Reading.{Reading, many_at}
 use Rattle.drc_bits.specs.Spells.{Spells}
 use Rattle.drc_bits.specs.Varint.{var32_at, spelling}
 use Rattle.drc_bits.proofs.Spelled.{Spells-none, Spells-then, Spells-same, Spells-must, Spells-var32}
-use Rattle.rans_binary.specs.Blocks.{Block, first_bits, block, IsBlockOf, bit_block_at}
+use Rattle.rans_binary.specs.Blocks.{first_bits, block, IsBlockOf, bit_block_at}
 use Rattle.predict.specs.declared.schemes.Prediction.{Prediction}
 use Rattle.predict.specs.Schemes.{facts}
 use Rattle.corner_table.specs.Ordered.{Ordered, IsOver}

@@ -2,7 +2,7 @@
 -- Parallelogram Prediction", "Mesh Constrained Multi Parallelogram Prediction" and "Quantization"; the limits and what is
 -- refused are this project's choice). The values of a stream's decoder stand on its ordered surface, where there is one:
 -- there is none in a sequential stream.
-use Rattle.std.specs.Prelude.{◌≡◌, ℕ, suc, ◌+◌, ◌-◌, ◌*◌, ◌/◌, ◌%◌, ◌^◌, ◌==◌, ◌&&◌, Bool, ℤ, pos, negsuc, ◌-ℤ◌, List, [], ◌∷◌}
+use Rattle.std.specs.Prelude.{◌≡◌, ℕ, ◌+◌, ◌-◌, ◌*◌, ◌/◌, ◌%◌, ◌^◌, ◌==◌, ◌&&◌, Bool, ℤ, pos, negsuc, ◌-ℤ◌, List, [], ◌∷◌}
 use Rattle.std.specs.Prelude.{length, get_or, map, Option, None, Some, Ok, Err, sum_by, nat_le, int_le, int_lt, if◌then◌else◌}
 use Rattle.std.specs.List.{list_all, range_with_len}
 use Rattle.drc_base.specs.declared.kinds.Kind.TheVariants as kind

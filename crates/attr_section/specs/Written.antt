@@ -2,7 +2,7 @@
 -- Decoder", "Mesh Parallelogram Prediction", "Mesh Constrained Multi Parallelogram Prediction" and "Quantization"; which of
 -- the allowed spellings is written is this project's choice). The values stand on an ordered surface, where there is one.
 use Rattle.drc_base.specs.Profile.{profile}
-use Rattle.std.specs.Prelude.{◌≡◌, ◌≤◌, ◌<◌, ℕ, suc, ◌+◌, ◌*◌, ◌%◌, ◌^◌, ◌==◌, Bool, true, false, ℤ, pos, negsuc}
+use Rattle.std.specs.Prelude.{◌≡◌, ◌≤◌, ◌<◌, ℕ, ◌+◌, ◌*◌, ◌%◌, ◌^◌, ◌==◌, Bool, true, false, ℤ, pos}
 use Rattle.std.specs.Prelude.{List, [], ◌∷◌, ◌++◌, length, map, flat_map, fold, max, Option, None, Some, Ok, nat_lt, if◌then◌else◌, All}
 use Rattle.std.specs.Int.{w32, cast_unsigned, int_min, int_max}
 use Rattle.std.specs.List.{list_all, zip}

@@ -1,4 +1,4 @@
-use Rattle.std.proofs.Common.{◌<◌, ◌++◌, ◌≡◌, length, arith, sym, ap, ◌∙◌, subst}
+use Rattle.std.proofs.Common.{◌<◌, length, arith, subst}
 use Rattle.attr_section.specs.Written.{flags_bytes, FlagsSpelled}
 use Rattle.attr_section.proofs.Loops.{appended-more, all-more}
 use Rattle.attr_section.proofs.flag_writing.put_flag_lists.Goals as goal

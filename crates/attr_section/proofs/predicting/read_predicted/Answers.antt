@@ -1,12 +1,11 @@
 -- Values of so many entries stand on an ordered surface over them.
-use Rattle.std.proofs.Common.{◌≡◌, ℕ, ◌*◌, Bool, false, true, length, ap, ◌∙◌, sym, Option, None, Some}
+use Rattle.std.proofs.Common.{◌≡◌, ℕ, ◌*◌, false, ap, ◌∙◌, sym, Option, None, Some}
 use Rattle.std.specs.Option.{option_map}
 use Rattle.std.proofs.lemmas.Bool.{false≢true}
 use Rattle.std.proofs.lemmas.List.{length-map}
 use Rattle.corner_table.specs.Sides.{side_at}
 use Rattle.predict.specs.declared.schemes.Prediction.{Prediction}
 use Rattle.predict.specs.declared.orders.Ordered.{Ordered as OrderedTable}
-use Rattle.predict.specs.Schemes.{facts}
 use Rattle.predict.specs.Surfaces.{surface_of, lacks_surface, MayBeOrderedOf, MayBeOver, CanStand}
 use Rattle.attr_section.proofs.predicting.read_predicted.Goals as goal
 
