@@ -1,4 +1,4 @@
-// Times libdrc beside the usual library, libdraco, on the same meshes in one process. bench/library builds and runs it.
+// Times libdrc beside the usual library, libdraco, on the same meshes, each in a process of its own. bench/library builds and runs it.
 //
 // usage: library TURNS SIDE SMALL
 //
@@ -12,11 +12,15 @@
 //              before, as its encoder takes them; by libdrc of a mesh that is refused where its arrays have been copied, and of one
 //              that is refused just before: the difference is the copies of the arrays
 //   numbering  the making of libdraco's mesh from the same arrays, with equal values and points numbered alike: of one turn
-// and the bytes of both streams. Each stream is decoded by both libraries before, and has to have the triangles that went in.
+// and the bytes of both streams, and of decoding and of encoding the median of the turns' ratios, libdrc's time over libdraco's. Each
+// stream is decoded by both libraries before, and has to have the triangles that went in.
 #include <drc.h>
 #include <draco/compression/decode.h>
 #include <draco/compression/encode.h>
+#include <sys/prctl.h>
+#include <sys/wait.h>
 #include <time.h>
+#include <unistd.h>
 
 #include <algorithm>
 #include <cstdio>
@@ -289,16 +293,68 @@ static double processor_seconds() {
     return now.tv_sec + 1e-9 * now.tv_nsec;
 }
 
-// The least time of each work, in nanoseconds a face, of several turns in which they take turns.
-static vector<double> least(int turns, size_t faces, const vector<std::function<void()>> &works) {
-    vector<double> times(works.size(), 1e30);
-    for (int turn = 0; turn < turns; turn++)
-        for (size_t k = 0; k < works.size(); k++) {
-            const double begin = processor_seconds();
-            works[k]();
-            times[k] = std::min(times[k], (processor_seconds() - begin) * 1e9 / faces);
+using Works = vector<std::function<void()>>;
+
+// Whether the system gives each process huge pages, and not only for memory for which it was asked.
+static bool gives_huge_pages_unasked() {
+    char mode[64] = {};
+    FILE *file = fopen("/sys/kernel/mm/transparent_hugepage/enabled", "r");
+    if (file == nullptr) return false;
+    const bool read = fgets(mode, sizeof mode, file) != nullptr;
+    fclose(file);
+    return read && strstr(mode, "[always]") != nullptr;
+}
+
+// A process of its own that times works when it is asked. What one library leaves in memory, blocks that it freed and pages that it
+// asked to be huge, is not there for the other, as it isn't where one is used alone.
+class Timed {
+    int asked[2], answered[2];
+    pid_t child;
+    vector<double> times;
+
+    [[noreturn]] void serve(size_t faces, const Works &works, bool asks_huge_pages) {
+        close(asked[1]);
+        if (!asks_huge_pages && !gives_huge_pages_unasked()) prctl(PR_SET_THP_DISABLE, 1, 0, 0, 0);
+        for (char turn; read(asked[0], &turn, 1) == 1 && turn == 't';)
+            for (const auto &work : works) {
+                const double begin = processor_seconds();
+                work();
+                const double time = (processor_seconds() - begin) * 1e9 / faces;
+                if (write(answered[1], &time, sizeof time) != sizeof time) _exit(1);
+            }
+        _exit(0);
+    }
+
+public:
+    Timed(size_t faces, const Works &works, bool asks_huge_pages) : times(works.size(), 1e30) {
+        if (pipe(asked) != 0 || pipe(answered) != 0 || (child = fork()) < 0) fail("no process can be had");
+        if (child == 0) serve(faces, works, asks_huge_pages);
+        close(asked[0]), close(answered[1]);
+    }
+
+    // The times of a turn of each work, in nanoseconds a face.
+    vector<double> turn() {
+        if (write(asked[1], "t", 1) != 1) fail("a process is gone");
+        vector<double> now(times.size());
+        for (size_t k = 0; k < now.size(); k++) {
+            if (read(answered[0], &now[k], sizeof now[k]) != sizeof now[k]) fail("a process is gone");
+            times[k] = std::min(times[k], now[k]);
         }
-    return times;
+        return now;
+    }
+
+    // The least time of each.
+    vector<double> least() {
+        if (write(asked[1], "e", 1) != 1) fail("a process is gone");
+        waitpid(child, nullptr, 0);
+        close(asked[1]), close(answered[0]);
+        return times;
+    }
+};
+
+static double median(vector<double> numbers) {
+    std::nth_element(numbers.begin(), numbers.begin() + numbers.size() / 2, numbers.end());
+    return numbers[numbers.size() / 2];
 }
 
 // One mesh for both libraries, and its streams by one method.
@@ -337,27 +393,36 @@ static void time_meshes(const char *name, int turns, const Coding &coding, vecto
         bytes_there += it.stream_there.size();
     }
     auto each = [&entries](std::function<void(Entry &)> work) { return [&entries, work] { for (Entry &it : entries) work(it); }; };
-    const vector<double> times = least(turns, faces, {
+    Timed here(faces, {
         each([](Entry &it) {
             drc_geometry mesh = decoded((const char *)it.stream.bytes, it.stream.lengths.bytes);
             drc_free(&mesh);
         }),
-        each([](Entry &it) { decoded_there((const char *)it.stream.bytes, it.stream.lengths.bytes); }),
         each([](Entry &it) { decoded_alone((const char *)it.stream.bytes, it.stream.lengths.bytes); }),
         each([coding](Entry &it) {
             drc_stream stream = encoded(it.arrays, coding);
             drc_free_stream(&stream);
         }),
+        each([coding](Entry &it) { refused_behind(it.arrays, coding); }),
+        each([coding](Entry &it) { refused_before(it.arrays, coding); }),
+    }, true);
+    Timed there(faces, {
+        each([](Entry &it) { decoded_there((const char *)it.stream.bytes, it.stream.lengths.bytes); }),
         each([coding](Entry &it) {
             draco::EncoderBuffer buffer;
             encode_there(*it.there, coding, buffer);
         }),
-        each([coding](Entry &it) { refused_behind(it.arrays, coding); }),
-        each([coding](Entry &it) { refused_before(it.arrays, coding); }),
-    });
+    }, false);
+    vector<double> decoding, encoding;
+    for (int turn = 0; turn < turns; turn++) {
+        const vector<double> mine = here.turn(), other = there.turn();
+        decoding.push_back(mine[0] / other[0]), encoding.push_back(mine[2] / other[1]);
+    }
+    const vector<double> ours = here.least(), theirs = there.least();
+    const double times[] = {ours[0], theirs[0], ours[1], ours[2], theirs[1], ours[3], ours[4]};
     printf("%s %s %zu", name, coding.name, faces);
     for (double time : times) printf(" %.2f", time);
-    printf(" %.2f %zu %zu\n", numbering * 1e9 / faces, bytes, bytes_there);
+    printf(" %.2f %zu %zu %.3f %.3f\n", numbering * 1e9 / faces, bytes, bytes_there, median(decoding), median(encoding));
     fflush(stdout);
     for (Entry &it : entries) drc_free_stream(&it.stream);
 }
