@@ -1,4 +1,5 @@
-// Times libdrc beside the usual library, libdraco, on the same meshes, each in a process of its own. bench/library builds and runs it.
+// Times libdrc beside the usual library, libdraco, on the same meshes; each decodes in a process of its own. bench/library builds and
+// runs it.
 //
 // usage: library TURNS SIDE SMALL
 //
@@ -17,7 +18,7 @@
 #include <drc.h>
 #include <draco/compression/decode.h>
 #include <draco/compression/encode.h>
-#include <sys/prctl.h>
+#include <fcntl.h>
 #include <sys/wait.h>
 #include <time.h>
 #include <unistd.h>
@@ -293,62 +294,92 @@ static double processor_seconds() {
     return now.tv_sec + 1e-9 * now.tv_nsec;
 }
 
-using Works = vector<std::function<void()>>;
-
-// Whether the system gives each process huge pages, and not only for memory for which it was asked.
-static bool gives_huge_pages_unasked() {
-    char mode[64] = {};
-    FILE *file = fopen("/sys/kernel/mm/transparent_hugepage/enabled", "r");
-    if (file == nullptr) return false;
-    const bool read = fgets(mode, sizeof mode, file) != nullptr;
-    fclose(file);
-    return read && strstr(mode, "[always]") != nullptr;
+// The times of a turn of each work, in nanoseconds a face.
+static vector<double> turn(size_t faces, const vector<std::function<void()>> &works) {
+    vector<double> times;
+    for (const auto &work : works) {
+        const double begin = processor_seconds();
+        work();
+        times.push_back((processor_seconds() - begin) * 1e9 / faces);
+    }
+    return times;
 }
 
-// A process of its own that times works when it is asked. What one library leaves in memory, blocks that it freed and pages that it
-// asked to be huge, is not there for the other, as it isn't where one is used alone.
-class Timed {
-    int asked[2], answered[2];
-    pid_t child;
-    vector<double> times;
-
-    [[noreturn]] void serve(size_t faces, const Works &works, bool asks_huge_pages) {
-        close(asked[1]);
-        if (!asks_huge_pages && !gives_huge_pages_unasked()) prctl(PR_SET_THP_DISABLE, 1, 0, 0, 0);
-        for (char turn; read(asked[0], &turn, 1) == 1 && turn == 't';)
-            for (const auto &work : works) {
-                const double begin = processor_seconds();
-                work();
-                const double time = (processor_seconds() - begin) * 1e9 / faces;
-                if (write(answered[1], &time, sizeof time) != sizeof time) _exit(1);
-            }
-        _exit(0);
+// The ways in which streams are decoded, by the words that a process of their own is begun with.
+static void decode(const std::string &way, const std::string &stream) {
+    if (way == "there") {
+        decoded_there(stream.data(), stream.size());
+    } else if (way == "alone") {
+        decoded_alone(stream.data(), stream.size());
+    } else {
+        drc_geometry mesh = decoded(stream.data(), stream.size());
+        drc_free(&mesh);
     }
+}
+
+static void take(void *to, size_t size) {
+    if (fread(to, 1, size, stdin) != size) exit(0);
+}
+
+// The work of such a process: takes the streams, and then for each byte decodes all of them and answers the seconds that it took.
+static int serve(const std::string &way) {
+    size_t count;
+    take(&count, sizeof count);
+    vector<std::string> streams(count);
+    for (std::string &stream : streams) {
+        size_t length;
+        take(&length, sizeof length);
+        stream.resize(length);
+        take(&stream[0], length);
+    }
+    for (char asked;;) {
+        take(&asked, 1);
+        const double begin = processor_seconds();
+        for (const std::string &stream : streams) decode(way, stream);
+        const double seconds = processor_seconds() - begin;
+        fwrite(&seconds, sizeof seconds, 1, stdout);
+        fflush(stdout);
+    }
+}
+
+// A process of its own that decodes streams and does nothing else. What other work leaves in memory, blocks that were freed and pages
+// that libdrc asked to be huge, is not there, as it isn't where one library is used alone.
+class Decoder {
+    FILE *to, *from;
+    pid_t child;
 
 public:
-    Timed(size_t faces, const Works &works, bool asks_huge_pages) : times(works.size(), 1e30) {
-        if (pipe(asked) != 0 || pipe(answered) != 0 || (child = fork()) < 0) fail("no process can be had");
-        if (child == 0) serve(faces, works, asks_huge_pages);
-        close(asked[0]), close(answered[1]);
-    }
-
-    // The times of a turn of each work, in nanoseconds a face.
-    vector<double> turn() {
-        if (write(asked[1], "t", 1) != 1) fail("a process is gone");
-        vector<double> now(times.size());
-        for (size_t k = 0; k < now.size(); k++) {
-            if (read(answered[0], &now[k], sizeof now[k]) != sizeof now[k]) fail("a process is gone");
-            times[k] = std::min(times[k], now[k]);
+    Decoder(const char *way, const vector<std::string> &streams) {
+        int asked[2], answered[2];
+        if (pipe2(asked, O_CLOEXEC) != 0 || pipe2(answered, O_CLOEXEC) != 0 || (child = fork()) < 0) fail("no process can be had");
+        if (child == 0) {
+            dup2(asked[0], 0), dup2(answered[1], 1);
+            execl("/proc/self/exe", "library", way, (char *)nullptr);
+            _exit(1);
         }
-        return now;
+        close(asked[0]), close(answered[1]);
+        to = fdopen(asked[1], "wb"), from = fdopen(answered[0], "rb");
+        put(streams.size());
+        for (const std::string &stream : streams) {
+            put(stream.size());
+            fwrite(stream.data(), 1, stream.size(), to);
+        }
     }
 
-    // The least time of each.
-    vector<double> least() {
-        if (write(asked[1], "e", 1) != 1) fail("a process is gone");
+    Decoder(const Decoder &) = delete;
+
+    ~Decoder() {
+        fclose(to), fclose(from);
         waitpid(child, nullptr, 0);
-        close(asked[1]), close(answered[0]);
-        return times;
+    }
+
+    void put(size_t number) { fwrite(&number, sizeof number, 1, to); }
+
+    // The time of a turn, in nanoseconds a face.
+    double turn(size_t faces) {
+        double seconds;
+        if (fputc('t', to) == EOF || fflush(to) != 0 || fread(&seconds, sizeof seconds, 1, from) != 1) fail("a process is gone");
+        return seconds * 1e9 / faces;
     }
 };
 
@@ -393,35 +424,30 @@ static void time_meshes(const char *name, int turns, const Coding &coding, vecto
         bytes_there += it.stream_there.size();
     }
     auto each = [&entries](std::function<void(Entry &)> work) { return [&entries, work] { for (Entry &it : entries) work(it); }; };
-    Timed here(faces, {
-        each([](Entry &it) {
-            drc_geometry mesh = decoded((const char *)it.stream.bytes, it.stream.lengths.bytes);
-            drc_free(&mesh);
-        }),
-        each([](Entry &it) { decoded_alone((const char *)it.stream.bytes, it.stream.lengths.bytes); }),
-        each([coding](Entry &it) {
-            drc_stream stream = encoded(it.arrays, coding);
-            drc_free_stream(&stream);
-        }),
-        each([coding](Entry &it) { refused_behind(it.arrays, coding); }),
-        each([coding](Entry &it) { refused_before(it.arrays, coding); }),
-    }, true);
-    Timed there(faces, {
-        each([](Entry &it) { decoded_there((const char *)it.stream.bytes, it.stream.lengths.bytes); }),
-        each([coding](Entry &it) {
-            draco::EncoderBuffer buffer;
-            encode_there(*it.there, coding, buffer);
-        }),
-    }, false);
-    vector<double> decoding, encoding;
-    for (int turn = 0; turn < turns; turn++) {
-        const vector<double> mine = here.turn(), other = there.turn();
-        decoding.push_back(mine[0] / other[0]), encoding.push_back(mine[2] / other[1]);
+    vector<std::string> streams;
+    for (const Entry &it : entries) streams.emplace_back((const char *)it.stream.bytes, it.stream.lengths.bytes);
+    Decoder here("here", streams), there("there", streams), alone("alone", streams);
+    vector<double> least(7, 1e30), decoding, encoding;
+    for (int k = 0; k < turns; k++) {
+        vector<double> times = {here.turn(faces), there.turn(faces), alone.turn(faces)};
+        const vector<double> others = turn(faces, {
+            each([coding](Entry &it) {
+                drc_stream stream = encoded(it.arrays, coding);
+                drc_free_stream(&stream);
+            }),
+            each([coding](Entry &it) {
+                draco::EncoderBuffer buffer;
+                encode_there(*it.there, coding, buffer);
+            }),
+            each([coding](Entry &it) { refused_behind(it.arrays, coding); }),
+            each([coding](Entry &it) { refused_before(it.arrays, coding); }),
+        });
+        times.insert(times.end(), others.begin(), others.end());
+        for (size_t i = 0; i < times.size(); i++) least[i] = std::min(least[i], times[i]);
+        decoding.push_back(times[0] / times[1]), encoding.push_back(times[3] / times[4]);
     }
-    const vector<double> ours = here.least(), theirs = there.least();
-    const double times[] = {ours[0], theirs[0], ours[1], ours[2], theirs[1], ours[3], ours[4]};
     printf("%s %s %zu", name, coding.name, faces);
-    for (double time : times) printf(" %.2f", time);
+    for (double time : least) printf(" %.2f", time);
     printf(" %.2f %zu %zu %.3f %.3f\n", numbering * 1e9 / faces, bytes, bytes_there, median(decoding), median(encoding));
     fflush(stdout);
     for (Entry &it : entries) drc_free_stream(&it.stream);
@@ -436,6 +462,7 @@ static void add(vector<Entry> &entries, Arrays arrays) {
 }
 
 int main(int count, char **words) {
+    if (count == 2) return serve(words[1]);
     if (count != 4) fail("usage: library TURNS SIDE SMALL");
     const int turns = atoi(words[1]), side = atoi(words[2]), small = atoi(words[3]);
     const Coding codings[] = {{"seq", DRC_METHOD_SEQUENTIAL, 0},
