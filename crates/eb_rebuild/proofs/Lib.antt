@@ -12,7 +12,6 @@ pub mod RowSteps
 pub mod Degrees
 mod NameDegrees
 mod SymbolDegrees
-mod CappedDegrees
 pub mod TableDegrees
 pub mod CornersNamed
 pub mod CornerLabels

@@ -1,5 +1,5 @@
 -- How often a name stands in triangles, after one triangle more and after a renaming; and what a raised number reads as.
-use Rattle.std.proofs.Common.{◌≡◌, ◌≢◌, ℕ, zero, suc, ◌+◌, ◌<◌, ◌≤◌, Bool, true, false, ◌==◌, cond, List, [], ◌∷◌, ◌++◌, length, get_or, map, take, inl, inr, sym, refl, ap, ◌∙◌, arith, eqb-true, eq-eqb, sum_by, get_or-set_other, get_or-set_same}
+use Rattle.std.proofs.Common.{◌≡◌, ◌≢◌, ℕ, zero, suc, ◌+◌, ◌*◌, ◌<◌, ◌≤◌, Bool, true, false, ◌==◌, cond, List, [], ◌∷◌, ◌++◌, length, get_or, map, take, inl, inr, sym, refl, ap, ◌∙◌, arith, eqb-true, eq-eqb, sum_by, get_or-set_other, get_or-set_same}
 use Rattle.std.proofs.lemmas.Bool.{cases_Bool, cases_eq, cond-true, cond-false}
 use Rattle.std.proofs.lemmas.List.{take_all}
 use Rattle.std.proofs.lemmas.List.Sums.{sum_by-cons, sum_by_push, sum_by_more}
@@ -12,7 +12,7 @@ use Rattle.eb_machine.specs.Named.{Triangle, Row, no_triangle, renamed, renamed_
 use Rattle.eb_machine.specs.Shown.{name_of, AreNames}
 use Rattle.eb_machine.proofs.NamedRules.{renamed_from, renamed_case}
 use Rattle.eb_rebuild.specs.Counted.{times_in}
-use Rattle.eb_rebuild.specs.KeptDegrees.{exact, degree_raised}
+use Rattle.eb_rebuild.specs.KeptDegrees.{degree_raised}
 
 -- 1 where two names are one
 abbrev pub bit : ℕ → ℕ → ℕ
@@ -39,6 +39,16 @@ count v ts = sum_by (times_in v) ts
 
 pub count_more : (v : ℕ) (ts : List Triangle) (t : Triangle) → count v (ts ++ (t ∷ [])) ≡ count v ts + times_in v t
 count_more v ts t = sum_by_push (times_in v) ts t
+
+pub count_small : (v : ℕ) (ts : List Triangle) → count v ts ≤ 3 * length ts
+count_small v [] = omega arith
+count_small v (t ∷ ts) =
+    let e = sum_by-cons (times_in v) t ts in
+    let h = count_small v ts in
+    let a = bit_small v t.0 in
+    let b = bit_small v t.1 in
+    let c = bit_small v t.2 in
+    omega arith
 
 -- a name that stands at no corner
 count_part : (v : ℕ) (ts : List Triangle) → ((c : Side) → c.face < length ts → v ≢ name_of ts c) → (m : ℕ) → m ≤ length ts → sum_by (times_in v) (take m ts) ≡ 0
@@ -112,11 +122,11 @@ one_end {ts} {rows} {g} {made} N s x A B e = prev_injective s x (ends_once N.glu
 -- the number at a side that follows a is raised: what is read at a free side
 pub raised_is : {ts : List Triangle} {rows : List Row} {g : Gluing} {made : ℕ} → AreNames ts rows g made → (a na s : Side) → IsFree (length ts) g na → name_of ts (next na) ≡ name_of ts (prev a) → IsFree (length ts) g s →
     (k : ℕ) (ds : List ℕ) → number na < length ds →
-    get_or (degree_raised exact (number na) k ds) (number s) 0 ≡ get_or ds (number s) 0 + cond (name_of ts (next s) == name_of ts (prev a)) k 0
+    get_or (degree_raised (number na) k ds) (number s) 0 ≡ get_or ds (number s) 0 + cond (name_of ts (next s) == name_of ts (prev a)) k 0
 raised_is {ts} {rows} {g} {made} N a na s B e A k ds l = elim (same_tells s na) [
   | inl q ↦ (
       let i : number s ≡ number na = ap number q in
-      let x = ap (λ (j : ℕ). get_or (degree_raised exact (number na) k ds) j 0) i in
+      let x = ap (λ (j : ℕ). get_or (degree_raised (number na) k ds) j 0) i in
       let y = get_or-set_same ds (number na) (get_or ds (number na) 0 + k) 0 l in
       let z = ap (λ (j : ℕ). get_or ds j 0) i in
       let w : ◌≡◌ {A = ℕ} (cond (name_of ts (next s) == name_of ts (prev a)) k 0) k = cond-true (name_of ts (next s) == name_of ts (prev a)) k 0 (eq-eqb (name_of ts (next s)) (name_of ts (prev a)) (ap (λ (y : Side). name_of ts (next y)) q ∙ e)) in

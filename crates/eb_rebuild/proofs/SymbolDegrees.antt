@@ -14,7 +14,7 @@ use Rattle.eb_machine.specs.OneFaceMore.{Pairs, glue_all, IsOther, IsOtherPlace,
 use Rattle.eb_machine.proofs.ManyGlued.{free_tells}
 use Rattle.eb_machine.proofs.Naming.{get_or-before_last, get_or-last, name_old}
 use Rattle.eb_rebuild.specs.Counted.{times_in}
-use Rattle.eb_rebuild.specs.KeptDegrees.{exact, degree_raised, after_end, after_beside, after_tip, after_split}
+use Rattle.eb_rebuild.specs.KeptDegrees.{degree_raised, after_end, after_beside, after_tip, after_split}
 use Rattle.eb_rebuild.proofs.NameDegrees.{bit, bit_same, bit_other, count, count_more, count_none, count_renamed, one_start, raised_is}
 
 -- the number at each free side is the degree by names
@@ -65,7 +65,7 @@ read_at xs i j v e l = ap (λ (k : ℕ). get_or (set xs i v) k 0) e ∙ get_or-s
 read_by : (xs : List ℕ) (i j v : ℕ) → j ≢ i → get_or (set xs i v) j 0 ≡ get_or xs j 0
 read_by xs i j v n = get_or-set_other xs i j v 0 n
 
-length-raised : (i k : ℕ) (ds : List ℕ) → length (degree_raised exact i k ds) ≡ length ds
+length-raised : (i k : ℕ) (ds : List ℕ) → length (degree_raised i k ds) ≡ length ds
 length-raised i k ds = length-set ds i (get_or ds i 0 + k)
 
 -- E
@@ -161,8 +161,8 @@ times_new Left v from to new = omega arith
 times_new Right v from to new = omega arith
 
 pub beside_counts : {ts : List Triangle} {rows : List Row} {g : Gluing} {made : ℕ} (b : Beside) (a na : Side) → IsAround ts rows g made a na → (ds : List ℕ) → 3 * suc (length ts) ≤ length ds → AreCounts ts g ds →
-    AreCounts (ts ++ (new_triangle b (name_of ts (next a)) (name_of ts (prev a)) made ∷ [])) (glue (side (length ts) (glued_place b)) a g) (after_beside exact b (length ts) (number a) (number na) ds)
-beside_counts {ts} {rows} {g} {made} b a na W ds room K = counts_grow ts t f refl (glue (side f k) a g) (after_beside exact b f (number a) (number na) ds) old new
+    AreCounts (ts ++ (new_triangle b (name_of ts (next a)) (name_of ts (prev a)) made ∷ [])) (glue (side (length ts) (glued_place b)) a g) (after_beside b (length ts) (number a) (number na) ds)
+beside_counts {ts} {rows} {g} {made} b a na W ds room K = counts_grow ts t f refl (glue (side f k) a g) (after_beside b f (number a) (number na) ds) old new
   where
     N : AreNames ts rows g made
     N = W.names
@@ -189,7 +189,7 @@ beside_counts {ts} {rows} {g} {made} b a na W ds room K = counts_grow ts t f ref
     apart = (W.free, tt, tt, tt)
 
     more : List ℕ
-    more = degree_raised exact (number na) 1 ds
+    more = degree_raised (number na) 1 ds
 
     one : List ℕ
     one = set more (number (side f (place_after k))) (get_or more (number a) 0 + 1)
@@ -201,7 +201,7 @@ beside_counts {ts} {rows} {g} {made} b a na W ds room K = counts_grow ts t f ref
         let k = K s S in
         omega arith
 
-    old : (s : Side) → s.face < f → IsFree (suc f) (glue (side f k) a g) s → get_or (after_beside exact b f (number a) (number na) ds) (number s) 0 ≡ suc (count (name_of ts (next s)) ts + times_in (name_of ts (next s)) t)
+    old : (s : Side) → s.face < f → IsFree (suc f) (glue (side f k) a g) s → get_or (after_beside b f (number a) (number na) ds) (number s) 0 ≡ suc (count (name_of ts (next s)) ts + times_in (name_of ts (next s)) t)
     old s l S =
         let O = was_free N ps apart s l S in
         let u = name_of ts (next s) in
@@ -217,7 +217,7 @@ beside_counts {ts} {rows} {g} {made} b a na W ds room K = counts_grow ts t f ref
 
     -- the number at a side of the new face, where the corner at which it starts has a name
     Reads : Place → ℕ → Type 0
-    Reads j v = get_or (after_beside exact b f (number a) (number na) ds) (number (side f j)) 0 ≡ suc (count v ts + times_in v t)
+    Reads j v = get_or (after_beside b f (number a) (number na) ds) (number (side f j)) 0 ≡ suc (count v ts + times_in v t)
 
     at_after : Reads (place_after k) q
     at_after =
@@ -259,8 +259,8 @@ beside_counts {ts} {rows} {g} {made} b a na W ds room K = counts_grow ts t f ref
 
 -- C
 pub tip_counts : {ts : List Triangle} {rows : List Row} {g : Gluing} {made : ℕ} (a b na : Side) → IsAround ts rows g made a na → IsFree (length ts) g b → b ≢ a → (ds : List ℕ) → 3 * suc (length ts) ≤ length ds → AreCounts ts g ds →
-    AreCounts (ts ++ ((name_of ts (next a), name_of ts (next b), name_of ts (prev a)) ∷ [])) (glue (side (length ts) third) b (glue (side (length ts) second) a g)) (after_tip exact (length ts) (number b) (number na) ds)
-tip_counts {ts} {rows} {g} {made} a b na W B ne ds room K = counts_grow ts t f refl (glue (side f third) b (glue (side f second) a g)) (after_tip exact f (number b) (number na) ds) old new
+    AreCounts (ts ++ ((name_of ts (next a), name_of ts (next b), name_of ts (prev a)) ∷ [])) (glue (side (length ts) third) b (glue (side (length ts) second) a g)) (after_tip (length ts) (number b) (number na) ds)
+tip_counts {ts} {rows} {g} {made} a b na W B ne ds room K = counts_grow ts t f refl (glue (side f third) b (glue (side f second) a g)) (after_tip f (number b) (number na) ds) old new
   where
     N : AreNames ts rows g made
     N = W.names
@@ -287,7 +287,7 @@ tip_counts {ts} {rows} {g} {made} a b na W B ne ds room K = counts_grow ts t f r
     apart = (B, (ne, tt), ((λ e. (cc)), tt), (W.free, tt, tt, tt))
 
     more : List ℕ
-    more = degree_raised exact (number na) 1 ds
+    more = degree_raised (number na) 1 ds
 
     reads : (s : Side) → IsFree f g s → get_or more (number s) 0 ≡ suc (count (name_of ts (next s)) ts) + bit (name_of ts (next s)) p
     reads s S =
@@ -296,7 +296,7 @@ tip_counts {ts} {rows} {g} {made} a b na W B ne ds room K = counts_grow ts t f r
         let k = K s S in
         omega arith
 
-    old : (s : Side) → s.face < f → IsFree (suc f) (glue_all f ps g) s → get_or (after_tip exact f (number b) (number na) ds) (number s) 0 ≡ suc (count (name_of ts (next s)) ts + times_in (name_of ts (next s)) t)
+    old : (s : Side) → s.face < f → IsFree (suc f) (glue_all f ps g) s → get_or (after_tip f (number b) (number na) ds) (number s) 0 ≡ suc (count (name_of ts (next s)) ts + times_in (name_of ts (next s)) t)
     old s l S =
         let O = was_free N ps apart s l S in
         let u = name_of ts (next s) in
@@ -307,7 +307,7 @@ tip_counts {ts} {rows} {g} {made} a b na W B ne ds room K = counts_grow ts t f r
         let d = bit_other u r (λ e. O.1.0 (one_start N s b O.0 B e)) in
         omega arith
 
-    new : (k : Place) → IsFree (suc f) (glue_all f ps g) (side f k) → get_or (after_tip exact f (number b) (number na) ds) (number (side f k)) 0 ≡ suc (count (corner t (place_after k)) ts + times_in (corner t (place_after k)) t)
+    new : (k : Place) → IsFree (suc f) (glue_all f ps g) (side f k) → get_or (after_tip f (number b) (number na) ds) (number (side f k)) 0 ≡ suc (count (corner t (place_after k)) ts + times_in (corner t (place_after k)) t)
     new first S =
         let l = length-raised (number na) 1 ds in
         let y = read_at more (3 * f) (number (side f first)) (get_or more (number b) 0 + 1) (omega arith) (omega arith) in
@@ -350,9 +350,9 @@ brings n p q z u c d ne e = elim (cases_eq z n) [
 pub split_counts : {ts : List Triangle} {rows : List Row} {g : Gluing} {made : ℕ} (b a nb na : Side) → IsAround ts rows g made b nb → IsAround ts rows g made a na → b ≢ a → (ds : List ℕ) → 3 * suc (length ts) ≤ length ds → AreCounts ts g ds →
     let rename = renamed (name_of ts (next b)) (name_of ts (prev a)) in
     AreCounts (map (renamed_triangle rename) ts ++ ((rename (name_of ts (prev a)), rename (name_of ts (next a)), rename (name_of ts (prev b))) ∷ [])) (glue (side (length ts) second) b (glue (side (length ts) third) a g))
-    (after_split exact (length ts) (number b) (number a) (number nb) (number na) ds)
+    (after_split (length ts) (number b) (number a) (number nb) (number na) ds)
 split_counts {ts} {rows} {g} {made} b a nb na V W ne ds room K =
-    counts_grow us t f (length-map ts (renamed_triangle rename)) (glue (side f second) b (glue (side f third) a g)) (after_split exact f (number b) (number a) (number nb) (number na) ds) old new
+    counts_grow us t f (length-map ts (renamed_triangle rename)) (glue (side f second) b (glue (side f third) a g)) (after_split f (number b) (number a) (number nb) (number na) ds) old new
   where
     N : AreNames ts rows g made
     N = W.names
@@ -388,10 +388,10 @@ split_counts {ts} {rows} {g} {made} b a nb na V W ne ds room K =
     apart = (V.free, (ne, tt), ((λ e. (cc)), tt), (W.free, tt, tt, tt))
 
     one : List ℕ
-    one = degree_raised exact (number nb) 1 ds
+    one = degree_raised (number nb) 1 ds
 
     merged : List ℕ
-    merged = degree_raised exact (number na) (get_or one (number b) 0) one
+    merged = degree_raised (number na) (get_or one (number b) 0) one
 
     one_reads : (s : Side) → IsFree f g s → get_or one (number s) 0 ≡ suc (count (name_of ts (next s)) ts) + bit (name_of ts (next s)) z
     one_reads s S =
@@ -437,7 +437,7 @@ split_counts {ts} {rows} {g} {made} b a nb na V W ne ds room K =
         let y = ap (bit u) q_is in
         omega arith
 
-    old : (s : Side) → s.face < f → IsFree (suc f) (glue_all f ps g) s → get_or (after_split exact f (number b) (number a) (number nb) (number na) ds) (number s) 0 ≡ suc (count (name_of us (next s)) us + times_in (name_of us (next s)) t)
+    old : (s : Side) → s.face < f → IsFree (suc f) (glue_all f ps g) s → get_or (after_split f (number b) (number a) (number nb) (number na) ds) (number s) 0 ≡ suc (count (name_of us (next s)) us + times_in (name_of us (next s)) t)
     old s l S =
         let O = was_free N ps apart s l S in
         let u = name_of ts (next s) in
@@ -448,7 +448,7 @@ split_counts {ts} {rows} {g} {made} b a nb na V W ne ds room K =
         let c = bit_other u q (λ e. O.1.1.0 (one_start N s a O.0 W.free e)) in
         let v = sums u other in
         let w = told u in
-        let here : get_or (after_split exact f (number b) (number a) (number nb) (number na) ds) (number s) 0 ≡ suc (count u us + times_in u t) = omega arith in
+        let here : get_or (after_split f (number b) (number a) (number nb) (number na) ds) (number s) 0 ≡ suc (count u us + times_in u t) = omega arith in
         let name : name_of us (next s) ≡ u = name_renamed (next s) l ∙ kept u other in
         here ∙ ap (λ (v : ℕ). suc (count v us + times_in v t)) (sym name)
       where
@@ -457,7 +457,7 @@ split_counts {ts} {rows} {g} {made} b a nb na V W ne ds room K =
             let k : c.face < length us = (let e = length-map ts (renamed_triangle rename) in omega arith) in
             ap (λ (u : Triangle). corner u c.place) (sym (get_or-before_last us t no_triangle c.face k)) ∙ name_old rename ts t c h
 
-    new : (k : Place) → IsFree (suc f) (glue_all f ps g) (side f k) → get_or (after_split exact f (number b) (number a) (number nb) (number na) ds) (number (side f k)) 0 ≡ suc (count (corner t (place_after k)) us + times_in (corner t (place_after k)) t)
+    new : (k : Place) → IsFree (suc f) (glue_all f ps g) (side f k) → get_or (after_split f (number b) (number a) (number nb) (number na) ds) (number (side f k)) 0 ≡ suc (count (corner t (place_after k)) us + times_in (corner t (place_after k)) t)
     new first S =
         let l = length-raised (number nb) 1 ds in
         let m = length-raised (number na) (get_or one (number b) 0) one in
@@ -467,7 +467,7 @@ split_counts {ts} {rows} {g} {made} b a nb na V W ne ds room K =
         let c = bit_same q q refl in
         let v = sums q other in
         let w = told q in
-        let here : get_or (after_split exact f (number b) (number a) (number nb) (number na) ds) (number (side f first)) 0 ≡ suc (count q us + times_in q t) = omega arith in
+        let here : get_or (after_split f (number b) (number a) (number nb) (number na) ds) (number (side f first)) 0 ≡ suc (count q us + times_in q t) = omega arith in
         here ∙ ap (λ (v : ℕ). suc (count v us + times_in v t)) (sym q_is)
     new second S = absurd ((is_left N ps apart second S).0 refl)
     new third S = absurd ((is_left N ps apart third S).1.0 refl)

@@ -1,21 +1,16 @@
 -- What the calls of a rebuilding answer, against the machine. The form of the answers is this project's own; the machine has its sources.
-use Rattle.std.specs.Prelude.{◌≡◌, ℕ, min, Bool, IsTrue, Result, Ok, Err}
+use Rattle.std.specs.Prelude.{◌≡◌, Bool, IsTrue, Result, Ok, Err}
 use Rattle.drc_base.specs.declared.faults.Fault.{Fault}
 use Rattle.drc_base.specs.declared.faults.Refusal.{Refusal}
 use Rattle.drc_base.specs.declared.faults.Refusal.TheVariants as refusal
 use Rattle.corner_table.specs.Table.{Table, gluing_of}
 use Rattle.eb_machine.specs.Machine.{State, Plan, finish}
-use Rattle.eb_rebuild.specs.declared.rebuild.TheConstants.{DEGREE_CAP}
 
 -- a call that steps the machine answers the next state, or the fault of its rule; running out of memory is free
 abbrev pub Moves : Result State Fault → State → Bool → Result (Unit {0}) Refusal → Type 0
 Moves next new live (Ok done) = (next ≡ Ok new) × IsTrue live
 Moves next new live (Err (refusal.Fault f)) = next ≡ Err f
 Moves next new live (Err refusal.Memory) = Unit {0}
-
--- a degree as it is answered: the cap stands for all that are greater
-abbrev pub capped : ℕ → ℕ
-capped degree = min degree DEGREE_CAP
 
 -- a finished rebuilding: its table, and whether it was kept by links
 pub record BuiltValue : Type 0 where

@@ -21,5 +21,5 @@ mod splits;
 
 pub use built::Built;
 pub use link_rebuild::LinkRebuild;
-pub use rebuild::{DEGREE_CAP, Rebuild};
+pub use rebuild::Rebuild;
 pub use row_rebuild::RowRebuild;

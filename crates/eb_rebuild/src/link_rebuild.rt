@@ -535,7 +535,7 @@ impl Rebuild for LinkRebuild {
         let _room = self.table.face_count();
         match self.stack.top() {
             None => 0,
-            Some(a) => u32::from(self.degrees.at(a)),
+            Some(a) => self.degrees.at(a),
         }
     }
 

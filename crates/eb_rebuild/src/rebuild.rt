@@ -7,16 +7,13 @@ ghost use Rattle.eb_machine.specs.Machine.{Plan as MachinePlan, State as Machine
 ghost use Rattle.eb_machine.specs.Degree.{top_degree};
 ghost use Rattle.eb_machine.specs.Events.{IsEventOf};
 ghost use Rattle.eb_rebuild.specs.Calls.{symbol_calls};
-ghost use Rattle.eb_rebuild.specs.Rebuilding.{Moves, Ends, capped};
+ghost use Rattle.eb_rebuild.specs.Rebuilding.{Moves, Ends};
 
 use crate::built::Built;
 use corner_table::{Event, Steps, Symbol};
 use drc_base::{Memory, Refusal};
 use std::alloc::Global;
 use std::sync::ledger::Ledger;
-
-/// The greatest degree of a vertex that is told apart from greater ones.
-pub const DEGREE_CAP: u32 = 255;
 
 /// A rebuilding of a surface: the machine that is fed the symbols, the last first, and then closes the
 /// sides that are left (Isenburg and Snoeyink 2001; Draco Bitstream Specification 2.2, Edgebreaker).
@@ -88,13 +85,12 @@ pub trait Rebuild: Sized + Drop {
         ensures refused { IsTrue (linked self.old) → OnErr result (steps.new ≤ steps.old + 4) };
 
     /// The degree of the vertex at which the top side starts: the number of corners there, and one more
-    /// where a free side starts there; 0 where no side waits. `DEGREE_CAP` stands for each that is greater.
-    /// The rebuilding was made to be asked for it.
+    /// where a free side starts there; 0 where no side waits. The rebuilding was made to be asked for it.
     fn degree(&self) -> u32
         requires live { IsTrue (live self.now) }
         requires degrees { IsTrue (has_degrees self.now) }
         requires unclosed { (state self.now).closes ≡ 0 }
-        ensures { result ≡ capped (top_degree (state self.now)) };
+        ensures { result ≡ top_degree (state self.now) };
 
     /// How many sides wait to be closed.
     fn pending(&self) -> u32

@@ -13,7 +13,7 @@ use crate::active_rows::Row;
 use crate::built::Built;
 use crate::link_rebuild::refused;
 use crate::named_table::NamedTable;
-use crate::rebuild::{DEGREE_CAP, Rebuild};
+use crate::rebuild::Rebuild;
 use crate::side_stack::SideStack;
 use crate::splits::{Splits, waiting};
 use corner_table::{Event, SideTable, Steps, Symbol};
@@ -367,7 +367,7 @@ impl Rebuild for RowRebuild {
     fn degree(&self) -> u32 {
         match self.stack.top() {
             None => 0,
-            Some(a) => self.named.degree_at(a).min(DEGREE_CAP),
+            Some(a) => self.named.degree_at(a),
         }
     }
 

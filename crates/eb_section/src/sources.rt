@@ -140,7 +140,6 @@ impl SymbolSource for ContextReader {
 
     /// The last symbol left in the context of the machine's degree; the first symbol is E. `ContextEmpty`
     /// and `BadSymbol` at the symbol's number.
-    #[tactic(auto, using(eb_valence::proofs::CappedDegrees::taken_capped))]
     fn draw<R: Rebuild>(&mut self, machine: &R, number: u32) -> Result<Symbol, Fault> {
         let degree = if number == 0 {
             None

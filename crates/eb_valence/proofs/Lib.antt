@@ -1,5 +1,4 @@
 pub mod ReadBack
 pub mod Noted
 pub mod Examples
-pub mod CappedDegrees
 pub mod KeptNumbers

@@ -7,7 +7,7 @@ ghost use Rattle.eb_machine.specs.Events.{IsEventOf};
 use corner_table::Symbol::{C, E, L, R as Right, S};
 use corner_table::{Event, FREE, Steps, Symbol};
 use drc_base::{Fault, Kind, MAX_FACES, Refusal};
-use eb_rebuild::{Built, DEGREE_CAP, LinkRebuild, Rebuild, RowRebuild};
+use eb_rebuild::{Built, LinkRebuild, Rebuild, RowRebuild};
 use std::alloc::Global;
 use std::marker::Brand;
 use std::process::Abort;
@@ -471,23 +471,6 @@ fn counts_degrees<R: Rebuild>(rt: &impl Abort, alloc: Global) {
     assert!(rt; degree_of::<R>(alloc, &[E, C, C, E, S]) == Ok(8));
 }
 
-/// The degree of a vertex round which so many faces lie: an E, and R for all others.
-fn degree_of_fan<R: Rebuild>(alloc: Global, faces: usize) -> Result<u32, Refusal>
-    requires { faces ≤ 300 }
-{
-    let mut symbols = [Right; 300];
-    symbols[0] = E;
-    degree_of::<R>(alloc, &symbols[..faces])
-}
-
-/// Degrees up to the cap are told apart.
-fn caps_degrees<R: Rebuild>(rt: &impl Abort, alloc: Global) {
-    assert!(rt; degree_of_fan::<R>(alloc, 253) == Ok(254));
-    assert!(rt; degree_of_fan::<R>(alloc, 254) == Ok(DEGREE_CAP));
-    assert!(rt; degree_of_fan::<R>(alloc, 255) == Ok(DEGREE_CAP));
-    assert!(rt; degree_of_fan::<R>(alloc, 300) == Ok(DEGREE_CAP));
-}
-
 /// So many events of the first symbol that is decoded, each of which keeps a side for the last of as many
 /// symbols as may be declared.
 fn far_events(rt: &impl Abort, alloc: Global, count: usize) -> Vec<Event>
@@ -525,16 +508,6 @@ fn links_count_degrees(rt: HostRuntime) {
 #[test]
 fn rows_count_degrees(rt: HostRuntime) {
     counts_degrees::<RowRebuild>(&rt, rt.alloc());
-}
-
-#[test]
-fn links_cap_degrees(rt: HostRuntime) {
-    caps_degrees::<LinkRebuild>(&rt, rt.alloc());
-}
-
-#[test]
-fn rows_cap_degrees(rt: HostRuntime) {
-    caps_degrees::<RowRebuild>(&rt, rt.alloc());
 }
 
 #[test]

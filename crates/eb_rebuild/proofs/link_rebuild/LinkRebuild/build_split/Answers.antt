@@ -17,10 +17,11 @@ note_split-requires-clause-free g c = subst (λ (v : LinkValue). IsFreeIn v.tabl
 pub note_split-requires-clause-free_second : goal.note_split-requires-clause-free_second
 note_split-requires-clause-free_second g c = subst (λ (v : LinkValue). IsFreeIn v.table (side_at c.args.a)) (sym c.self.view_is) c.requires.second
 
-pub note_split-requires-clause-places : goal.note_split-requires-clause-places
-note_split-requires-clause-places g c =
+pub note_split-requires-clause-ready : goal.note_split-requires-clause-ready
+note_split-requires-clause-ready g c =
     let v : LinkValue = record { plan = record { faces = c.self.inside.faces; created = c.self.inside.created; symbols = c.self.inside.symbols }; table = c.self.inside.table; stack = c.self.inside.stack; splits = c.self.inside.splits; made = c.self.inside.made; closes = c.self.inside.closes; has_degrees = c.self.inside.degrees.kept } in
-    λ t. ready_at
+    λ t. ready_at {v = v} c.self.invariant.0
+    (subst (λ (v : LinkValue). v.table.faces < v.plan.symbols) (sym c.self.view_is) c.requires.more)
     (subst (λ (v : LinkValue). v.table.faces < room_of v.table) (sym c.self.view_is) c.requires.room)
     (c.self.invariant.1 t (ap (λ (v : LinkValue). v.closes) c.self.view_is ∙ c.requires.unclosed))
 

@@ -81,11 +81,11 @@ note_beside-requires-clause-free g c =
     let T : Taken c.args.self.now c.take_side.new.self value c.in-Ok.a = record { rest = c.take_side.ensures.rest; view = c.self.view_is; sides = taken.0; free = taken.1; below = taken.2 } in
     taken_free T
 
-pub note_beside-requires-clause-places : goal.note_beside-requires-clause-places
-note_beside-requires-clause-places g c =
+pub note_beside-requires-clause-ready : goal.note_beside-requires-clause-ready
+note_beside-requires-clause-ready g c =
     let value : LinkValue = (record { plan = record { faces = c.self.inside.faces; created = c.self.inside.created; symbols = c.self.inside.symbols }; table = c.self.inside.table; stack = c.self.inside.stack; splits = c.self.inside.splits; made = c.self.inside.made; closes = c.self.inside.closes; has_degrees = c.self.inside.degrees.kept }) in
     let whole = c.self.view_is ∙ c.take_side.ensures.rest in
-    λ t. ready_at (subst (λ (v : LinkValue). v.table.faces < room_of v.table) (sym whole) c.requires.room)
+    λ t. ready_at {v = value} c.self.invariant.0 (subst (λ (v : LinkValue). v.table.faces < v.plan.symbols) (sym whole) c.requires.more) (subst (λ (v : LinkValue). v.table.faces < room_of v.table) (sym whole) c.requires.room)
     (c.self.invariant.1 t (ap (λ (v : LinkValue). v.closes) whole ∙ c.requires.unclosed))
 
 pub returns-clause-live : goal.returns-clause-live

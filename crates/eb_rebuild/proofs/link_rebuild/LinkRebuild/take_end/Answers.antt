@@ -77,5 +77,5 @@ pub note_end-requires-clause-places : goal.note_end-requires-clause-places
 note_end-requires-clause-places g c =
     let value : LinkValue = (record { plan = record { faces = c.self.inside.faces; created = c.self.inside.created; symbols = c.self.inside.symbols }; table = c.self.inside.table; stack = c.self.inside.stack; splits = c.self.inside.splits; made = c.self.inside.made; closes = c.self.inside.closes; has_degrees = c.self.inside.degrees.kept }) in
     λ t. subst (λ (n : ℕ). HasPlaces n c.self.inside.degrees) (sym c.add_face-face.ensures.face)
-    (ready_at (subst (λ (v : LinkValue). v.table.faces < room_of v.table) (sym c.self.view_is) c.requires.room)
-    (c.self.invariant.1 t (ap (λ (v : LinkValue). v.closes) c.self.view_is ∙ c.requires.unclosed)))
+    (ready_at {v = value} c.self.invariant.0 (subst (λ (v : LinkValue). v.table.faces < v.plan.symbols) (sym c.self.view_is) c.requires.more) (subst (λ (v : LinkValue). v.table.faces < room_of v.table) (sym c.self.view_is) c.requires.room)
+    (c.self.invariant.1 t (ap (λ (v : LinkValue). v.closes) c.self.view_is ∙ c.requires.unclosed))).places
