@@ -5,7 +5,8 @@ faults    the kinds of faults in plain words, read from docs/FAULTS.md
 program   finding `drc` and running it
 plytext   the PLY texts that `drc enc` reads and `drc dec` writes
 grids     floats to integers on a grid and back, in floats of 32 bits as the usual tool computes them
-files     reading files; writing beside and renaming
+files     reading files; the one rule by which outputs are written
+standard  a mesh from standard input, whose format has to be told
 terminal  the line of progress, command lines, and how a program ends
 glb       the container of binary glTF
 

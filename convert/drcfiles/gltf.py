@@ -13,7 +13,7 @@ import urllib.parse
 
 import numpy as np
 
-from .files import read, write
+from .files import is_standard_output, parts_of, read
 from .glb import read_glb, write_glb
 from .trouble import Trouble
 
@@ -45,9 +45,10 @@ class Gltf:
     def __init__(self, path):
         self.path = pathlib.Path(path)
         data = read(path)
+        self.size = len(data)
         self.is_glb = data[:4] == b"glTF"
         self.json, binary = read_glb(data) if self.is_glb else (read_json(data), None)
-        self.read_files = {self.path.resolve()}
+        self.inputs = parts_of(path)
         self.buffers = [self.buffer(k, binary) for k in range(len(self.table("buffers")))]
         for name in ("extensionsUsed", "extensionsRequired"):
             held = self.json.get(name, [])
@@ -98,7 +99,7 @@ class Gltf:
         path = (folder / name.replace("\0", "")).resolve()
         if re.match(r"[A-Za-z][A-Za-z0-9+.-]*:", uri) or "\0" in name or folder not in path.parents:
             raise Trouble(f"{where}.uri names something that isn't in the folder of the file: {uri}")
-        self.read_files.add(path)
+        self.inputs.append(path)
         return path
 
     def images_beside(self):
@@ -259,11 +260,12 @@ class Gltf:
         buffer.data = b"".join(parts) or bytes(4)
         buffer.json["byteLength"], buffer.is_changed = len(buffer.data), True
 
-    def write(self, path):
-        """Writes the document: a GLB where the path ends so, else a .gltf with its buffers beside it. Gives the number of bytes."""
-        path = pathlib.Path(path)
-        is_glb = path.suffix.lower() == ".glb"
-        binary, files = None, {}
+    def files_of(self, path):
+        """What is to be written for the document, by path: a GLB where the path ends so or is standard output, else a .gltf with its
+        buffers beside it."""
+        name = pathlib.Path(path)
+        is_glb = is_standard_output(path) or name.suffix.lower() == ".glb"
+        binary, beside = None, {}
         for k, buffer in enumerate(self.buffers):
             if buffer.data is None:
                 continue
@@ -273,24 +275,14 @@ class Gltf:
             elif buffer.place == "json":
                 if buffer.is_changed:
                     buffer.json["uri"] = "data:application/octet-stream;base64," + base64.b64encode(buffer.data).decode()
+            elif is_standard_output(path):
+                raise Trouble(f"buffers[{k}] would be a file beside the output, and standard output has none")
             else:
-                name = f"{path.stem}{k or ''}.bin"
-                buffer.json["uri"] = urllib.parse.quote(name)
-                files[path.parent / name] = buffer.data
-        taken = next((it for it in files if it.resolve() in self.read_files), None)
-        if taken:
-            raise Trouble(f"{taken} belongs to the input and would be written over; choose another name or folder for the output")
+                place = name.parent / f"{name.stem}{k or ''}.bin"
+                buffer.json["uri"] = urllib.parse.quote(place.name)
+                beside[place] = buffer.data
         whole = write_glb(self.json, binary) if is_glb else write_json(self.json)
-        done = []
-        try:
-            for name, data in [*files.items(), (path, whole)]:
-                write(name, data)
-                done.append(name)
-        except BaseException:
-            for name in done:
-                name.unlink(missing_ok=True)
-            raise
-        return len(whole) + sum(map(len, files.values()))
+        return {**beside, path: whole}
 
 
 def stretches(views):

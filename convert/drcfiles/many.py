@@ -107,14 +107,14 @@ def folder_of(path):
 def pack(drc, job):
     packed = packing.pack(drc, job.source, job.settings)
     folder_of(job.out)
-    files.write_all({job.out: packed.stream, job.map: packed.map.encode()})
+    files.write_all({job.out: packed.stream, job.map: packed.map.encode()}, [job.source], True)
     return len(packed.stream)
 
 
 def unpack(drc, job):
     data, _, _ = unpacking.unpack(drc, job.source, unpacking.ending_of(job.out), job.is_text)
     folder_of(job.out)
-    files.write(job.out, data)
+    files.write(job.out, data, [job.source], True)
     return len(data)
 
 
@@ -125,7 +125,7 @@ def recode(drc, job):
     if job.map and before.exists():
         note = maps.joined(files.read(before), note, before)
     folder_of(job.out)
-    files.write_all({job.out: ran.out, job.map: note})
+    files.write_all({job.out: ran.out, job.map: note}, [job.source], True)
     return len(ran.out)
 
 

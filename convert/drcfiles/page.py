@@ -11,6 +11,7 @@ from .plytext import POSITION, QUANTISED
 from .surface import NONE, across, after, before, degenerate, numbers_of, seam_sides
 
 TEMPLATE = pathlib.Path(__file__).resolve().parent / "page.html"
+NO_PREDICTION = -2
 TYPE_NAMES = {1: "int8", 2: "uint8", 3: "int16", 4: "uint16", 5: "int32", 6: "uint32", QUANTISED: "float32"}
 
 
@@ -34,6 +35,11 @@ def of_report(report):
     return said, [(int(it[1]), int(it[2])) for it in attributes]
 
 
+def of_kd(geometry):
+    """The same of a kd-tree file, of which there is no report."""
+    return {"version": "1", "kind": "cloud", "method": "kd"}, [(NO_PREDICTION, geometry.points)] * len(geometry.heads)
+
+
 def lines_of(geometry, position):
     """The sides that are free, and for each attribute its seams: ends of lines, as numbers of points."""
     places = numbers_of(geometry.values[position])
@@ -50,8 +56,8 @@ def lines_of(geometry, position):
 
 
 def of_geometry(geometry, report):
-    """The value for a file that was decoded."""
-    said, coded = of_report(report)
+    """The value for a file that was decoded, with its report (None: a kd-tree file)."""
+    said, coded = of_report(report) if report is not None else of_kd(geometry)
     position = geometry.first(POSITION) or 0
     made = {"stream": said, "points": geometry.points, "position": position, "attributes": []}
     for k, (head, (prediction, entries)) in enumerate(zip(geometry.heads, coded)):

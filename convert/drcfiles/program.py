@@ -11,6 +11,8 @@ from .trouble import MEMORY, MISSING, READING, REFUSED, WRITING, Refused, Troubl
 
 OWN = pathlib.Path(__file__).resolve().parents[2] / "crates" / "drc" / "out" / "drc"
 
+KD_MAGIC = b"KDPTS"
+
 
 def find(given=None):
     """The program `drc`: the one given, that of the variable DRC, the one that this repository built, or that of the PATH, in this order."""
@@ -73,9 +75,14 @@ class Drc:
         return ran.out, ran.note
 
     def dec(self, stream):
-        """A stream to a PLY text."""
-        return self.done(["dec"], stream).out
+        """A stream, or a kd-tree file, to a PLY text."""
+        return self.done(["kd", "dec"] if is_kd(stream) else ["dec"], stream).out
 
     def info(self, stream):
-        """The report of a stream."""
-        return self.done(["info"], stream).out.decode()
+        """The report of a stream; None of a kd-tree file, of which `drc` gives none."""
+        return None if is_kd(stream) else self.done(["info"], stream).out.decode()
+
+
+def is_kd(data):
+    """Whether a file begins as `drc kd enc` begins its files (docs/FORMAT.md, "Clouds as a kd-tree")."""
+    return data.startswith(KD_MAGIC)

@@ -49,7 +49,7 @@ class Report:
     def __init__(self, path, rows):
         self.path, self.rows = path, list(rows)
         pathlib.Path(path).parent.mkdir(parents=True, exist_ok=True)
-        files.write(path, as_csv(self.rows))
+        files.write(path, as_csv(self.rows), may_replace=True)
         self.file = open(path, "ab", buffering=0)
 
     def add(self, row):
@@ -62,4 +62,4 @@ class Report:
     def end(self):
         self.file.close()
         self.rows.sort(key=lambda row: row.file)
-        files.write(self.path, as_csv(self.rows))
+        files.write(self.path, as_csv(self.rows), may_replace=True)

@@ -8,6 +8,7 @@ import threading
 import time
 import traceback
 
+from .files import is_standard_output
 from .trouble import BAD_WORDS, MEMORY, MISSING, Trouble
 
 BAR = 24  # how wide a bar of progress is
@@ -83,9 +84,20 @@ def add_drc(words):
     words.add_argument("--drc", metavar="PATH", help="the program `drc`; else the variable DRC, the repository's own, or that of the PATH")
 
 
+def add_force(words):
+    """The option that gives leave to replace what is there."""
+    words.add_argument("--force", action="store_true", help="replaces outputs that are there already; an input is never written over")
+
+
 def say(program, line):
     """One line on standard error."""
     print(f"{program}: {line}", file=sys.stderr)
+
+
+def report(lines, *outs):
+    """Lines about what was done, on standard output, or where an output goes there, on standard error."""
+    for line in lines:
+        print(line, file=sys.stderr if any(it is not None and is_standard_output(it) for it in outs) else sys.stdout)
 
 
 def run(program, main):
@@ -105,6 +117,7 @@ def run(program, main):
         traceback.print_exc()
         say(program, "an error of this program, not of the file; what is above says where")
         sys.exit(MISSING)
-    except KeyboardInterrupt:
+    except KeyboardInterrupt as why:
+        say(program, str(why) or "broken off")
         signal.signal(signal.SIGINT, signal.SIG_DFL)
         os.kill(os.getpid(), signal.SIGINT)
