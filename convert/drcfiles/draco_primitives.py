@@ -6,6 +6,7 @@ import numpy as np
 from .gltf import COMPONENT_OF, COMPONENTS, DRACO, INDICES, OF_PRIMITIVES, POINTS, ROWS, hashable, is_count
 from .grids import Grid, check_finite, grid_of, to_floats, to_integers
 from .mesh import many
+from .packing import sequential
 from .plytext import COLOUR, GENERIC, NORMAL, POSITION, QUANTISED, TEXTURE, TYPE_OF, Geometry, Head, read_text, write_text
 from .surface import degenerate, numbers_of, points_made
 from .trouble import Refused, Trouble
@@ -75,10 +76,11 @@ def whole_grid(table):
 class Packing:
     """Codes primitives by `drc enc`, with bits for each kind of attribute and the options of `enc`."""
 
-    def __init__(self, gltf, drc, bits, words, drop_degenerate, tell):
-        self.gltf, self.drc, self.bits, self.words, self.drop_degenerate, self.tell = gltf, drc, bits, words, drop_degenerate, tell
+    def __init__(self, gltf, drc, bits, words, keep_degenerate, tell):
+        self.gltf, self.drc, self.bits, self.words, self.keep_degenerate, self.tell = gltf, drc, bits, words, keep_degenerate, tell
         self.coded, self.error = 0, 0.0
         self.flat = []  # where faces with two corners at one place stand, and how many
+        self.faces_seen = 0
 
     def groups(self):
         key = lambda it: (
@@ -98,7 +100,7 @@ class Packing:
             heads = [self.head(where, k, name, items[0], it) for k, (name, it) in enumerate(zip(names, tables))]
             values = [to_integers(it, head.grid) if head.grid else it for it, head in zip(tables, heads)]
             faces = self.faces(where, items[0], len(tables[0]))
-            faces, words = self.method(where, items[0], values, faces)
+            faces, words = self.method(where, items[0], names, values, faces)
             used = np.arange(len(tables[0])) if items[0].get("targets") else np.unique(faces)
             values, faces = [it[used] for it in values], np.searchsorted(used, faces)
             geometry = Geometry(heads, values, faces)
@@ -131,11 +133,11 @@ class Packing:
             return
         where, more, count = self.flat[0][0], len(self.flat) - 1, sum(it for _, it in self.flat)
         places = f"{where} and {many(more, 'more primitive')}" if more else where
-        faces = f"{many(count, 'face')} with two corners at one place when quantised"
-        if self.drop_degenerate:
-            self.tell(f"{places}: left out {faces}")
+        faces = f"{count:,} of {many(self.faces_seen, 'face')} with two corners at one place when quantised"
+        if self.keep_degenerate:
+            self.tell(f"{places}: coded sequentially, which takes more bytes, for {faces}")
         else:
-            self.tell(f"{places}: coded sequentially, which takes more bytes, for {faces}; --drop-degenerate leaves these out")
+            self.tell(f"{places}: left out {faces}; --keep-degenerate keeps them")
 
     def fits(self, item):
         """Refuses a primitive of a form that isn't coded."""
@@ -196,21 +198,32 @@ class Packing:
             raise Left(f"its {len(indices)} corners aren't those of one or more triangles")
         return indices.reshape(-1, 3)
 
-    def method(self, where, item, values, faces):
-        """The faces to be coded, and the options of `enc`: sequential where the order of points counts, or faces are degenerate."""
+    def method(self, where, item, names, values, faces):
+        """The faces to be coded, and the options of `enc`: sequential where the order of points counts, or where faces with two corners at
+        one place are kept. Morph targets and joints may move such corners apart, so those faces stay in any case."""
         words = self.words
-        if item.get("targets") and "seq" not in words:
-            self.tell(f"{where} is coded sequentially, since its morph targets need the points in their order")
-            words = sequential(words)
-        elif "seq" not in words:
-            is_flat = degenerate(numbers_of(values[0]), faces)
-            if is_flat.all():
-                raise Left("each of its faces has two corners at one place")
-            if is_flat.any():
+        is_flat = degenerate(numbers_of(values[0]), faces)
+        self.faces_seen += len(faces)
+        if item.get("targets"):
+            if "seq" not in words:
+                self.tell(f"{where} is coded sequentially, since its morph targets need the points in their order")
+            if len(values[0]) > 3 * len(faces):
+                raise Left("its morph targets need a sequential stream, and readers take none with more points than three times the faces")
+            return faces, words if "seq" in words else sequential(words)
+        moved = [it for name, it in zip(names, values) if re.fullmatch(r"(JOINTS|WEIGHTS)_\d+", name)]
+        if moved and (is_flat & ~degenerate(numbers_of(np.concatenate([values[0], *moved], axis=1)), faces)).any():
+            if "seq" not in words:
+                self.tell(f"{where} is coded sequentially, since it has faces with two corners at one place that joints move apart")
+            return faces, words if "seq" in words else sequential(words)
+        if is_flat.any():
+            if not self.keep_degenerate:
+                if is_flat.all():
+                    raise Left("each of its faces has two corners at one place when quantised")
                 self.flat.append((where, int(is_flat.sum())))
-                faces, words = (faces[~is_flat], words) if self.drop_degenerate else (faces, sequential(words))
-        if item.get("targets") and len(values[0]) > 3 * len(faces):
-            raise Left("its morph targets need a sequential stream, and readers take none with more points than three times the faces")
+                return faces[~is_flat], words
+            if "seq" not in words:
+                self.flat.append((where, int(is_flat.sum())))
+                return faces, sequential(words)
         return faces, words
 
     def put(self, items, names, geometry, stream, count):
@@ -239,16 +252,6 @@ class Packing:
                 "bufferView": view,
                 "attributes": {name: head.id for name, head in zip(names, geometry.heads)},
             }
-
-
-def sequential(words):
-    """Options of `enc` for the sequential method: without those that are Edgebreaker's."""
-    kept, rest = ["--method", "seq"], iter(words)
-    for word in rest:
-        value = next(rest) if word != "--plain-values" else None
-        if word == "--plain-values" or word == "--predict" and value in ("none", "diff") or word == "--index":
-            kept += [it for it in (word, value) if it]
-    return kept
 
 
 # From streams.

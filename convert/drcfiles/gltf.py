@@ -29,6 +29,13 @@ COMPONENTS = {5120: np.int8, 5121: np.uint8, 5122: np.int16, 5123: np.uint16, 51
 COMPONENT_OF = {np.dtype(kind): number for number, kind in COMPONENTS.items()}
 ROWS = {"SCALAR": 1, "VEC2": 2, "VEC3": 3, "VEC4": 4}
 POINTS, INDICES = 34962, 34963  # targets of buffer views
+IMAGES = [  # by how their bytes begin
+    (rb"\x89PNG\r\n\x1a\n", "image/png"),
+    (rb"\xff\xd8\xff", "image/jpeg"),
+    (rb"RIFF....WEBP", "image/webp"),
+    (rb"\xabKTX 20\xbb", "image/ktx2"),
+    (rb"DDS ", "image/vnd-ms.dds"),
+]
 
 
 class Buffer:
@@ -106,6 +113,45 @@ class Gltf:
         """The names of the images that are files of their own."""
         names = (it.get("uri") for it in self.table("images"))
         return [it for it in names if isinstance(it, str) and not it.startswith("data:")]
+
+    def put_images_in(self):
+        """Puts images that are files beside the document, or are in its JSON, into buffer views. What is said of those that stay."""
+        said = []
+        for k, item in enumerate(self.table("images")):
+            uri = item.get("uri")
+            if not isinstance(uri, str):
+                continue
+            try:
+                data = of_data_uri(uri, f"images[{k}]") if uri.startswith("data:") else read(self.beside(uri, f"images[{k}]"))
+            except Trouble as why:
+                said.append(f"images[{k}] stays a file of its own: {why.line}")
+                continue
+            kind = item.get("mimeType") or next((kind for begin, kind in IMAGES if re.match(begin, data, re.DOTALL)), None)
+            if not kind:
+                said.append(f"images[{k}] stays a file of its own, since its bytes are of no known kind: {uri[:60]}")
+                continue
+            del item["uri"]
+            item["mimeType"] = kind
+            item["bufferView"] = self.add_view(data, self.buffer_of([]))
+        return said
+
+    def join_buffers(self):
+        """One buffer of all, as a GLB has it. Where the document is open, or a buffer has no bytes, they stay as they are."""
+        if self.is_open or len(self.buffers) < 2 or any(it.data is None for it in self.buffers):
+            return
+        parts, starts, size = [], [], 0
+        for buffer in self.buffers:
+            filler = bytes(-size % 8)
+            starts.append(size + len(filler))
+            parts += [filler, buffer.data]
+            size += len(filler) + len(buffer.data)
+        for view in self.table("bufferViews"):
+            view["byteOffset"] = view.get("byteOffset", 0) + starts[view["buffer"]]
+            view["buffer"] = 0
+        self.buffers = self.buffers[:1]
+        self.json["buffers"] = self.json["buffers"][:1]
+        self.buffers[0].data, self.buffers[0].is_changed = b"".join(parts), True
+        self.json["buffers"][0]["byteLength"] = size
 
     # Accessors and buffer views.
 
@@ -263,13 +309,12 @@ class Gltf:
     def files_of(self, path):
         """What is to be written for the document, by path: a GLB where the path ends so or is standard output, else a .gltf with its
         buffers beside it."""
-        name = pathlib.Path(path)
-        is_glb = is_standard_output(path) or name.suffix.lower() == ".glb"
+        name, is_binary = pathlib.Path(path), is_glb(path)
         binary, beside = None, {}
         for k, buffer in enumerate(self.buffers):
             if buffer.data is None:
                 continue
-            if k == 0 and is_glb:
+            if k == 0 and is_binary:
                 buffer.json.pop("uri", None)
                 binary = buffer.data
             elif buffer.place == "json":
@@ -281,8 +326,13 @@ class Gltf:
                 place = name.parent / f"{name.stem}{k or ''}.bin"
                 buffer.json["uri"] = urllib.parse.quote(place.name)
                 beside[place] = buffer.data
-        whole = write_glb(self.json, binary) if is_glb else write_json(self.json)
+        whole = write_glb(self.json, binary) if is_binary else write_json(self.json)
         return {**beside, path: whole}
+
+
+def is_glb(path):
+    """Whether a document that is written to this path is one file, a GLB."""
+    return is_standard_output(path) or pathlib.Path(path).suffix.lower() == ".glb"
 
 
 def stretches(views):

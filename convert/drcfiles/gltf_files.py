@@ -4,7 +4,8 @@ from dataclasses import dataclass, field
 
 from . import files
 from .draco_primitives import Packing, Unpacking
-from .gltf import DRACO, Gltf
+from .gltf import DRACO, Gltf, is_glb
+from .packing import add_degenerate
 from .trouble import Trouble
 
 BITS = {  # what is quantised, and its bits without the option
@@ -27,11 +28,7 @@ def add_words(words):
     """The options of packing, for a command line."""
     for option, (what, default) in BITS.items():
         words.add_argument(f"--{option}", type=bits, default=default, metavar="BITS", help=f"bits of {what}, 1 to 30 (without it {default})")
-    words.add_argument(
-        "--drop-degenerate",
-        action="store_true",
-        help="leave out faces with two corners at one place; else a primitive with such faces is coded sequentially",
-    )
+    add_degenerate(words)
     for option, values in CHOICES.items():
         words.add_argument(f"--{option}", choices=values.split(), help="as for `drc enc`")
     words.add_argument("--plain-values", action="store_true", help="as for `drc enc`")
@@ -43,17 +40,17 @@ class Settings:
 
     bits: dict = field(default_factory=lambda: {option: default for option, (_, default) in BITS.items()})
     enc: tuple = ()
-    drop_degenerate: bool = False
+    keep_degenerate: bool = False
 
     def __str__(self):
-        words = [f"--{name} {self.bits[name]}" for name in BITS] + ["--drop-degenerate"] * self.drop_degenerate
+        words = [f"--{name} {self.bits[name]}" for name in BITS] + ["--keep-degenerate"] * self.keep_degenerate
         return " ".join([*words, *self.enc])
 
 
 def settings_of(given):
     """The settings of a command line."""
     words = [it for name in CHOICES if getattr(given, name) for it in (f"--{name}", getattr(given, name))]
-    return Settings({name: getattr(given, name) for name in BITS}, (*words, *["--plain-values"] * given.plain_values), given.drop_degenerate)
+    return Settings({name: getattr(given, name) for name in BITS}, (*words, *["--plain-values"] * given.plain_values), given.keep_degenerate)
 
 
 @dataclass
@@ -81,7 +78,7 @@ def changed(drc, source, out, settings, put, tell=lambda line: None, progress=No
 def made(gltf, drc, source, out, settings, put, tell, progress):
     is_pack = settings is not None
     before = gltf.size + sum(len(it.data) for it in gltf.buffers if it.place == "beside")
-    work = Packing(gltf, drc, settings.bits, list(settings.enc), settings.drop_degenerate, tell) if is_pack else Unpacking(gltf, drc)
+    work = Packing(gltf, drc, settings.bits, list(settings.enc), settings.keep_degenerate, tell) if is_pack else Unpacking(gltf, drc)
     groups = work.groups()
     if progress:
         progress.total = len(groups)
@@ -93,7 +90,13 @@ def made(gltf, drc, source, out, settings, put, tell, progress):
         work.tell_of_flat()
     if work.coded:
         gltf.use(DRACO, is_pack)
+    if is_glb(out):
+        for line in gltf.put_images_in():
+            tell(line)
+    if gltf.added:
         gltf.finish()
+    if is_glb(out):
+        gltf.join_buffers()
     if gltf.is_open and work.coded:
         tell(f"the old data stays in the file, since {', '.join(gltf.unknown)} may refer to it")
     wanted = gltf.files_of(out)

@@ -1,17 +1,21 @@
 """A mesh or cloud as a file of floats has it: attributes by points, and triangles."""
+import decimal
 from dataclasses import dataclass, field, replace
 
 import numpy as np
 
-from .trouble import Trouble
+from .faults import in_words
+from .trouble import Refused, Trouble
 
 WORDS = ("position", "normal", "colour", "texture coordinate", "generic")  # by usage
+POINTS, FACES = 1 << 22, 1 << 22  # the most that a stream has
 
 
 @dataclass
 class Attribute:
-    """A table with a row for each point: floats of 32 bits, or integers of 8, 16 or 32 bits. `head`: what a text of `drc` says of it;
-    `listed`: all values that the file has, from which the grid is made, where the points may not use them all."""
+    """A table with a row for each point: floats of 32 or 64 bits, which are the numbers that the file has, or integers of 8, 16 or 32
+    bits. `head`: what a text of `drc` says of it; `listed`: all values that the file has, from which the grid is made, where the points may
+    not use them all."""
 
     usage: int
     values: np.ndarray
@@ -48,21 +52,17 @@ def many(count, one, more=None):
     return f"{count:,} {one if count == 1 else more or one + 's'}"
 
 
-def split(counts, corners):
-    """Triangles of faces of so many corners each, listed one after another: a fan from a face's first corner. Beside them what was done."""
-    counts, corners = np.asarray(counts, np.int64), np.asarray(corners, np.int64)
-    starts = np.cumsum(counts) - counts
-    made = np.maximum(counts - 2, 0)
-    of = np.repeat(np.arange(len(counts)), made)
-    second = starts[of] + 1 + np.arange(len(of)) - np.repeat(np.cumsum(made) - made, made)
-    faces = np.stack([corners[starts[of]], corners[second], corners[second + 1]], axis=1) if len(of) else np.zeros((0, 3), np.int64)
-    notes = []
-    wide, narrow = counts > 3, counts < 3
-    if wide.any():
-        notes.append(f"{many(int(wide.sum()), 'face')} of more than three corners split into {int(made[wide].sum()):,} triangles")
-    if narrow.any():
-        notes.append(f"{many(int(narrow.sum()), 'face')} of fewer than three corners left out")
-    return faces, notes
+def at_least(error):
+    """A number in six digits, none below it: an error that is printed is never less than the error."""
+    if not np.isfinite(error) or not error:
+        return f"{error:.6g}"
+    return f"{float(decimal.Context(prec=6, rounding=decimal.ROUND_CEILING).create_decimal_from_float(float(error))):.6g}"
+
+
+def check_count(word, what, count, most, path):
+    """Refuses more points or faces than a stream has, by the kind of `drc`, before they are worked on."""
+    if count > most:
+        raise Refused(word, count, f"{path}: {in_words(word, count)}: {what} has {count:,}, and the most are {most:,}")
 
 
 def check_range(faces, points, path):

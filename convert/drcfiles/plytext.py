@@ -4,7 +4,7 @@ from dataclasses import dataclass, field
 
 import numpy as np
 
-from .grids import FLOAT, Grid, to_floats
+from .grids import FLOAT, Grid, to_doubles, to_floats
 from .trouble import Trouble
 
 POSITION, NORMAL, COLOUR, TEXTURE, GENERIC = range(5)
@@ -45,6 +45,11 @@ class Geometry:
         head = self.heads[k]
         return to_floats(self.values[k], head.grid) if head.grid else self.values[k]
 
+    def numbers(self, k):
+        """The values of head k as the stream says them: doubles where floats of 32 bits can't tell the steps of its grid, else `floats`."""
+        grid = self.heads[k].grid
+        return to_doubles(self.values[k], grid) if grid and grid.is_fine else self.floats(k)
+
     def first(self, usage):
         """The number of the first head of this usage, or None."""
         return next((k for k, head in enumerate(self.heads) if head.usage == usage), None)
@@ -80,9 +85,9 @@ def lines_of(table, before=""):
         yield (line * len(part) % tuple(part.ravel().tolist())).encode()
 
 
-def write_text(geometry):
-    """The text of a geometry, as bytes."""
-    head = ["ply", "format ascii 1.0"]
+def write_text(geometry, comments=()):
+    """The text of a geometry, as bytes, with further comments, each a line."""
+    head = ["ply", "format ascii 1.0", *(f"comment {' '.join(it.split())}" for it in comments)]
     for k, it in enumerate(geometry.heads):
         head.append(f"comment drc attr {k} {it.usage} {it.dtype} {it.comps} {it.normalized} {it.id}")
         if it.grid:

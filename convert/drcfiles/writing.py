@@ -1,20 +1,21 @@
-"""Writing a decoded geometry as PLY, OBJ, STL or GLB. Floats are written as they are decoded, bit for bit, and nothing is turned over."""
+"""Writing a decoded geometry as PLY, OBJ, STL or GLB. Floats are written as they are decoded, bit for bit, and nothing is turned over. Where
+floats of 32 bits can't tell the steps of a grid, PLY and OBJ have doubles."""
 import struct
 
 import numpy as np
 
 from . import glb
-from .mesh import WORDS
+from .mesh import WORDS, at_least
 from .plytext import COLOUR, NORMAL, POSITION, TEXTURE, TYPES, lines_of, names_of
 from .trouble import Trouble
 
 DIGITS = "%.9g"  # nine digits name each float of 32 bits
 ROWS_AT_ONCE = 1 << 16
-SPECS = {"char": "<i1", "uchar": "<u1", "short": "<i2", "ushort": "<u2", "int": "<i4", "uint": "<u4", "float": "<f4"}
+SPECS = {"char": "<i1", "uchar": "<u1", "short": "<i2", "ushort": "<u2", "int": "<i4", "uint": "<u4", "float": "<f4", "double": "<f8"}
 
 
 def type_of(head):
-    return "float" if head.grid else TYPES[head.dtype]
+    return TYPES[head.dtype] if not head.grid else "double" if head.grid.is_fine else "float"
 
 
 def floats_of(geometry, usage):
@@ -32,15 +33,20 @@ def places_of(geometry, name):
 
 
 def left_out(geometry, name, kept):
-    """What is said of the attributes that a format has no room for."""
+    """What is said of the attributes that a format has no room for, and of positions that its floats can't tell."""
+    position = geometry.first(POSITION)
+    notes = []
+    if name != "OBJ" and geometry.heads[position].grid and geometry.heads[position].grid.is_fine:
+        wide = np.abs(geometry.numbers(position) - geometry.floats(position)).max(initial=0)
+        notes.append(f"positions are up to {at_least(wide)} off in {name}, which has floats of 32 bits; PLY and OBJ have doubles here")
     firsts = {geometry.first(usage) for usage in kept}
     left = [f"{k} ({WORDS[head.usage]})" for k, head in enumerate(geometry.heads) if k not in firsts]
-    return [f"attributes left out, which {name} has no room for: {', '.join(left)}"] if left else []
+    return notes + ([f"attributes left out, which {name} has no room for: {', '.join(left)}"] if left else [])
 
 
 def float_lines(table, before=""):
-    """The rows of a table of floats as lines."""
-    line = before + " ".join([DIGITS] * table.shape[1]) + "\n"
+    """The rows of a table of floats or doubles as lines."""
+    line = before + " ".join([DIGITS if table.dtype == np.float32 else "%r"] * table.shape[1]) + "\n"
     for start in range(0, len(table), ROWS_AT_ONCE):
         part = table[start : start + ROWS_AT_ONCE]
         yield (line * len(part) % tuple(part.ravel().tolist())).encode()
@@ -55,9 +61,9 @@ def ply(geometry, is_text):
     if geometry.faces is not None:
         head += [f"element face {len(geometry.faces)}", "property list uchar int vertex_indices"]
     parts = [("\n".join(head) + "\nend_header\n").encode()]
-    tables = [geometry.floats(k) for k in range(len(geometry.heads))]
+    tables = [geometry.numbers(k) for k in range(len(geometry.heads))]
     if is_text:
-        line = " ".join(DIGITS if kind == "float" else "%d" for _, kind in columns) + "\n"
+        line = " ".join({"float": DIGITS, "double": "%r"}.get(kind, "%d") for _, kind in columns) + "\n"
         flat = [column for table in tables for column in table.T]
         for start in range(0, geometry.points, ROWS_AT_ONCE):
             rows = list(zip(*(column[start : start + ROWS_AT_ONCE].tolist() for column in flat)))
@@ -88,7 +94,9 @@ def distinct(tables):
 
 def obj(geometry, _):
     """Positions with colours, texture coordinates and normals, each listed once, so that seams of one don't part the others."""
-    places = places_of(geometry, "OBJ")
+    places_of(geometry, "OBJ")
+    places = geometry.numbers(geometry.first(POSITION))
+    places = places.astype(np.float32) if places.dtype != np.float64 else places
     colour, texture, normal = geometry.first(COLOUR), geometry.first(TEXTURE), geometry.first(NORMAL)
     if texture is not None and geometry.heads[texture].comps != 2:
         texture = None
@@ -100,14 +108,16 @@ def obj(geometry, _):
     first, corners = distinct([at] if colour is None else [at, geometry.values[colour]])
     shown = places[first]
     if colour is not None:
-        shown = np.concatenate([shown, geometry.values[colour][first, :3].astype(np.float32) / np.float32(255)], axis=1)
+        shares = geometry.values[colour][first, :3].astype(np.float32) / np.float32(255)
+        shown = np.concatenate([shown, shares.astype(shown.dtype)], axis=1)
     parts, numbers = [*float_lines(shown, "v ")], [corners + 1]
     for k, word in ((texture, "vt "), (normal, "vn ")):
         if k is None:
             numbers.append(None)
             continue
         first, number = distinct([geometry.values[k]])
-        parts += float_lines(geometry.floats(k)[first].astype(np.float32), word)
+        table = geometry.numbers(k)[first]
+        parts += float_lines(table if table.dtype == np.float64 else table.astype(np.float32), word)
         numbers.append(number + 1)
     if geometry.faces is not None:
         corner = "%d" if texture is None and normal is None else "%d/%d" if normal is None else "%d//%d" if texture is None else "%d/%d/%d"

@@ -1,19 +1,24 @@
-"""OBJ: points, normals, texture coordinates and colours of points, faces of any number of corners. Groups and materials are left out.
+"""OBJ: points, normals, texture coordinates and colours of points, faces of any number of corners. Groups, materials and all else are left
+out, and a note says how many.
 
 A point is a triple of numbers as faces name them, so a seam of texture coordinates has points of its own on each side."""
+import collections
 from array import array
 
 import numpy as np
 
 from ..files import read as read_bytes
-from ..mesh import Attribute, Mesh, colour_bytes, many, single, split
+from ..mesh import POINTS, Attribute, Mesh, check_count, colour_bytes, many, single
 from ..plytext import COLOUR, NORMAL, POSITION, TEXTURE
+from ..polygons import split
 from ..trouble import Trouble
 
 LISTS = {b"v": 0, b"vt": 1, b"vn": 2}
 LEAST = (3, 1, 3)  # how many numbers a line has at least
 KEPT = (3, 2, 3)
 NAMES = ("vertex", "texture coordinate", "normal")
+NAMED = {b"usemtl": "material", b"g": "group", b"o": "object"}  # lines that name what the faces behind them belong to
+OTHERS = {b"l": ("polyline", None), b"p": ("list of points", "lists of points"), b"s": ("smoothing group", None), b"curv": ("curve", None), b"surf": ("surface", None)}
 
 
 class Reader:
@@ -25,6 +30,9 @@ class Reader:
         self.of_token, self.of_corner = {}, {}
         self.points, self.first = [], array("q")  # triples, 0 where there is none, and the line that names each first
         self.counts, self.corners = array("q"), array("q")
+        self.named = {word: set() for word in NAMED}
+        self.others = collections.Counter()
+        self.further = [0, 0]  # points with a fourth number that is no 1, texture coordinates with a third that is no 0
 
     def wrong(self, line, what):
         return Trouble(f"{self.path} line {line}: {what}")
@@ -39,6 +47,8 @@ class Reader:
             raise self.wrong(line, f"a {NAMES[which]} has a word that is no number: {b' '.join(words).decode('utf-8', 'replace')[:60]}") from None
         if which == 0 and len(row) >= 6:
             self.colours.extend(row[3:6])
+        if which == 0 and len(row) == 4 and row[3] != 1 or which == 1 and len(row) > 2 and row[2] != 0:
+            self.further[which] += 1
         self.numbers[which].extend((row + [0.0])[: KEPT[which]])
         self.lines[which].append(line)
 
@@ -73,6 +83,9 @@ class Reader:
         return known
 
     def read(self, data):
+        if b"\n" not in data:
+            data = data.replace(b"\r", b"\n")
+        check_count("PointLimit", "the mesh", data.count(b"\nv ") + data.startswith(b"v "), POINTS, self.path)
         before = b""
         for line, text in enumerate(data.split(b"\n"), 1):
             if b"#" in text:
@@ -91,6 +104,22 @@ class Reader:
             elif words[0] == b"f":
                 self.counts.append(len(words) - 1)
                 self.corners.extend([self.point(line, token) for token in words[1:]])
+            elif words[0] in NAMED:
+                self.named[words[0]].add(b" ".join(words[1:]))
+            elif words[0] != b"s" or words[1:] not in ([b"off"], [b"0"]):
+                self.others[words[0]] += 1
+
+    def notes(self):
+        """What the lines say that a stream has no room for."""
+        left = [many(len(names), NAMED[word]) for word, names in self.named.items() if names]
+        left += [many(count, *OTHERS[word]) for word, count in self.others.items() if word in OTHERS]
+        further = sum(count for word, count in self.others.items() if word not in OTHERS and word != b"mtllib")
+        left += [many(further, "further line")] if further else []
+        left += [f"the weights of {many(self.further[0], 'point')}"] if self.further[0] else []
+        left += [f"the third number of {many(self.further[1], 'texture coordinate')}"] if self.further[1] else []
+        if self.colours and len(self.colours) != 3 * len(self.lines[0]):
+            left.append(f"colours, which {len(self.colours) // 3:,} of {many(len(self.lines[0]), 'point')} have")
+        return [f"left out, since a stream has no room for it: {', '.join(left)}"] if left else []
 
     def check(self, table):
         """Refuses the first point that names a number which isn't there."""
@@ -100,8 +129,8 @@ class Reader:
                 raise self.wrong(self.first[int(bad[0])], f"the index {table[bad[0], which]} names no {NAMES[which]}, there are {len(self.lines[which]):,}")
 
     def values(self, which):
-        values = single(np.frombuffer(self.numbers[which], np.float64).reshape(-1, KEPT[which]))
-        bad = np.flatnonzero(~np.isfinite(values).all(axis=1))
+        values = np.frombuffer(self.numbers[which], np.float64).reshape(-1, KEPT[which])
+        bad = np.flatnonzero(~np.isfinite(single(values)).all(axis=1))
         if len(bad):
             raise self.wrong(self.lines[which][int(bad[0])], f"a {NAMES[which]} isn't finite: {' '.join(map(str, values[bad[0]]))}")
         return values
@@ -109,12 +138,13 @@ class Reader:
     def mesh(self):
         if not len(self.lines[0]):
             raise Trouble(f"{self.path}: no vertices (no line begins with `v`)")
-        faces, notes = split(self.counts, self.corners)
         positions = self.values(0)
         table = np.array(self.points, np.int64).reshape(-1, 3)
         if not len(table):  # only points
-            return Mesh([Attribute(POSITION, positions)], np.zeros((0, 3), np.int64), notes)
+            return Mesh([Attribute(POSITION, positions)], np.zeros((0, 3), np.int64), self.notes())
         self.check(table)
+        faces, notes = split(self.counts, self.corners, positions[table[:, 0] - 1])
+        notes = self.notes() + notes
         # Points in no face stay, as in any other format, behind the others.
         alone = np.setdiff1d(np.arange(1, len(positions) + 1), table[:, 0])
         if len(alone):
@@ -123,7 +153,7 @@ class Reader:
         for which, usage in ((2, NORMAL), (1, TEXTURE)):
             named = table[:, which] > 0
             if named.any():
-                values = np.zeros((len(table), KEPT[which]), np.float32)
+                values = np.zeros((len(table), KEPT[which]))
                 listed = self.values(which)
                 values[named] = listed[table[named, which] - 1]
                 missing = int((~named[: len(self.points)]).sum())

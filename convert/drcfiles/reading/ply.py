@@ -1,4 +1,4 @@
-"""PLY 1.0, text and binary: columns of points by their names, faces of any number of corners.
+"""PLY 1.0, text and binary, with lines that end in LF, CR LF or CR: columns of points by their names, faces of any number of corners.
 
 Integers stay integers of their type. Where a text has the heads of docs/PLY.md (`comment drc attr`), these are kept."""
 import re
@@ -8,8 +8,9 @@ import numpy as np
 
 from ..files import read as read_bytes
 from ..grids import Grid
-from ..mesh import Attribute, Mesh, colour_bytes, single, split
+from ..mesh import POINTS, Attribute, Mesh, check_count, colour_bytes, many
 from ..plytext import COLOUR, GENERIC, NORMAL, POSITION, QUANTISED, TEXTURE, TYPE_OF, Head, float_of
+from ..polygons import split
 from ..trouble import Trouble
 
 KINDS = {"char": "i1", "int8": "i1", "uchar": "u1", "uint8": "u1", "short": "i2", "int16": "i2", "ushort": "u2", "uint16": "u2",
@@ -29,6 +30,9 @@ class Element:
 def read(path):
     data = read_bytes(path)
     order, elements, comments, place = header(path, data)
+    for element in elements:
+        if element.name == "vertex":
+            check_count("PointLimit", "its header", element.count, POINTS, path)
     source = Text(path, data, place) if order == "" else Binary(path, data, place, order)
     tables = {}
     for element in elements:
@@ -38,7 +42,7 @@ def read(path):
     if "vertex" not in tables:
         raise Trouble(f"{path}: no `element vertex` before the faces")
     by_name = {it.name: it for it in elements}
-    notes = []
+    notes = left_of(elements, data[:place])
     attributes = heads_kept(path, tables["vertex"], comments) or attributes_of(path, by_name["vertex"], tables["vertex"], notes)
     if "face" not in by_name:
         return Mesh(attributes, None, notes)
@@ -48,17 +52,27 @@ def read(path):
     left = [it[0] for it in by_name["face"].properties if it[0] != lists[0]]
     if left:
         notes.append(f"properties of faces left out: {', '.join(left)}")
-    faces, more = split(*tables["face"][lists[0]])
+    faces, more = split(*tables["face"][lists[0]], attributes[0].values)
     return Mesh(attributes, faces, notes + more)
+
+
+def left_of(elements, head):
+    """What is said of other elements than points and faces, and of files of textures."""
+    left = [many(it.count, f"row of the element {it.name}", f"rows of the element {it.name}") for it in elements if it.name not in ("vertex", "face") and it.count]
+    textures = dict.fromkeys(it.decode("utf-8", "replace").strip() for it in re.findall(rb"comment TextureFile ([^\r\n]+)", head))
+    left += [f"the texture {it}" for it in textures]
+    return [f"left out: {', '.join(left)}"] if left else []
 
 
 def header(path, data):
     """The order of bytes ('': text), the elements, the comments of `drc`, and the place behind the header."""
-    end = re.search(rb"(?:^|\n)end_header[ \t]*\r?\n", data[: 1 << 20])
-    if not re.match(rb"ply\r?\n", data) or not end:
+    begin = re.match(rb"ply[ \t]*(\r?\n|\r)", data)
+    line_end = b"\r" if begin and begin[1] == b"\r" else b"\n"
+    end = re.search(rb"[\r\n]end_header[ \t]*" + (line_end if line_end == b"\r" else rb"\r?\n"), data[: 1 << 20])
+    if not begin or not end:
         raise Trouble(f"{path}: no PLY header (a line `ply` first, and `end_header`)")
     order, elements, comments = None, [], []
-    for number, line in enumerate(data[: end.start()].decode("utf-8", "replace").split("\n"), 1):
+    for number, line in enumerate(data[: end.start()].decode("utf-8", "replace").split(line_end.decode()), 1):
         words = line.split()
         wrong = Trouble(f"{path} line {number}: no header line of PLY 1.0: {line.strip()[:60]}")
         if number == 1 or not words or words[0] == "obj_info":
@@ -237,7 +251,8 @@ class Text(Source):
 
 def line_of(data, place, number):
     """The line of a word of the body, counted from 1."""
-    for line, text in enumerate(data[place:].split(b"\n"), data[:place].count(b"\n") + 1):
+    end = b"\n" if b"\n" in data else b"\r"
+    for line, text in enumerate(data[place:].split(end), data[:place].count(end) + 1):
         number -= len(text.split())
         if number < 0:
             return line
@@ -287,25 +302,23 @@ def attributes_of(path, element, table, notes):
     for usage, words in GROUPS:
         names = words.split()
         if all(name in left for name in names) and not any(it.usage == usage for it in made):
-            made.append(attribute(usage, names, table, kinds, notes))
+            made.append(attribute(usage, names, table, kinds))
             left = [name for name in left if name not in names]
-    made += [attribute(GENERIC, [name], table, kinds, notes) for name in left]
+    made += [attribute(GENERIC, [name], table, kinds) for name in left]
     if not made or made[0].usage != POSITION:
         raise Trouble(f"{path}: the points have no properties x, y, z")
     return made
 
 
-def attribute(usage, names, table, kinds, notes):
+def attribute(usage, names, table, kinds):
     columns = [table[name] for name in names]
     name = names[0] if usage == GENERIC else ""
     types = [kinds[it] for it in names]
     if any(kind[0] == "f" for kind in types):
-        values = np.stack([column.astype(np.float64) for column in columns], axis=1)
+        values = np.stack(columns, axis=1).astype(np.result_type(*(it.dtype for it in columns), np.float32))
         if usage == COLOUR:
             return Attribute(usage, colour_bytes(values), name)
-        if "f8" in types:
-            notes.append(f"numbers of 64 bits of {' '.join(names)} rounded to 32 bits")
-        return Attribute(usage, single(values), name)
+        return Attribute(usage, values, name)
     widest = np.result_type(*types)
     if widest.itemsize > 4 or widest.name not in TYPE_OF:
         widest = np.dtype(np.int32)

@@ -4,7 +4,7 @@ import re
 import numpy as np
 
 from ..files import read as read_bytes
-from ..mesh import Attribute, Mesh, merged, single
+from ..mesh import Attribute, Mesh, merged
 from ..plytext import POSITION
 from ..trouble import Trouble
 
@@ -34,6 +34,6 @@ def text_corners(path, data):
     if len(found) % 3 or not at_end.startswith(b"endsolid"):
         raise Trouble(f"{path} is cut: a text STL that ends at line {data.count(b'%c' % 10) + 1} without `endsolid`, behind {len(found):,} corners")
     try:
-        return single(np.array([[float(word) for word in row] for row in found], np.float64).reshape(-1, 3))
+        return np.array([[float(word) for word in row] for row in found], np.float64).reshape(-1, 3)
     except ValueError as why:
         raise Trouble(f"{path}: a corner has a word that is no number ({why})") from None

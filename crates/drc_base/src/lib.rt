@@ -11,7 +11,6 @@ mod kinds;
 mod limits;
 mod mem_sink;
 mod mem_source;
-mod profiles;
 mod reading;
 mod sequences;
 mod sides;
@@ -30,7 +29,6 @@ pub use limits::{
 };
 pub use mem_sink::MemSink;
 pub use mem_source::MemSource;
-pub use profiles::{PROFILE_TWO, Profile};
 pub use reading::read_all;
 pub use sequences::Sequence;
 pub use sides::Side;

@@ -11,5 +11,3 @@ mod BitExamples
 pub mod Written
 pub mod PackedBits
 pub mod Chains
-pub mod Parted
-pub mod Digits

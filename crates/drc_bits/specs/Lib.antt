@@ -3,4 +3,3 @@ pub mod Numbers
 pub mod Varint
 pub mod Spells
 pub mod Bits
-pub mod Digits
