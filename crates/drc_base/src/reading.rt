@@ -1,6 +1,6 @@
 //! Reading a whole input.
 
-ghost use Rattle.std.specs.Prelude.{◌≡◌, ◌<◌, ◌≤◌, List, ℕ, true, length, vec_len, IfOk, OnOk, MatchResult, IsErrOf};
+ghost use Rattle.std.specs.Prelude.{◌≡◌, ◌<◌, ◌≤◌, ◌⊎◌, List, ℕ, true, false, length, vec_len, IfOk, OnOk, MatchResult, IsErrOf};
 ghost use Rattle.std.specs.Io.KnownBytes.{IsAtEnd};
 ghost use Rattle.drc_base.specs.Counters.{Rose};
 ghost use Rattle.drc_base.specs.Sources.{Gave, EndsAt};
@@ -15,7 +15,8 @@ const CHUNK_BYTES: usize = 65536;
 
 /// Reads `input` to its end, where it has at most `most` bytes. The bytes that were taken are given
 /// up after a refusal: `Failed` comes only where the source's count of failures rose, `TooLong`
-/// exactly where a byte past `most` came, and reading stops there.
+/// exactly where a byte past `most` came, and reading stops there; out of memory is answered before anything
+/// was taken, or where the last bytes that came aren't the end.
 pub fn read_all<I: Source>(alloc: Global, input: &mut I, most: u64) -> Result<Vec<u8>, ReadEnd>
     ensures gave { (bytes : List ℕ)
         × Gave (I.left input.old) (I.left input.new) (I.given input.old) (I.given input.new) bytes
@@ -24,6 +25,7 @@ pub fn read_all<I: Source>(alloc: Global, input: &mut I, most: u64) -> Result<Ve
     ensures ended { OnOk result (I.ended input.new ≡ true) }
     ensures kept { I.faults input.old ≤ I.faults input.new }
     ensures cause { IsErrOf result ReadEnd.Failed → Rose (I.faults input.old) (I.faults input.new) }
+    ensures memory { IsErrOf result ReadEnd.Memory → (input.new ≡ input.old) ⊎ (I.ended input.new ≡ false) }
 {
     let Ok(mut chunk) = zeros(alloc, CHUNK_BYTES) else {
         return Err(ReadEnd::Memory);
@@ -54,6 +56,7 @@ fn read_by<I: Source>(
     ensures ended { OnOk result (I.ended input.new ≡ true) }
     ensures kept { I.faults input.old ≤ I.faults input.new }
     ensures cause { IsErrOf result ReadEnd.Failed → Rose (I.faults input.old) (I.faults input.new) }
+    ensures memory { IsErrOf result ReadEnd.Memory → I.ended input.new ≡ false }
 {
     let mut bytes = Vec::new(alloc);
     loop {
