@@ -546,10 +546,14 @@ class Tests:
         positions = np.array(lattice(6)[0]) / 7
         flat = {"attributes": {"POSITION": it.accessor(positions, "f4", True)}, "indices": it.accessor(faces + [0, 0, 1, 3, 4, 3], "<u2")}
         path = self.save("a.glb", it.scene(flat).glb())
-        lines = self.both_ways("degenerate faces", path, [["POSITION"]])
-        self.tell(lines and "2 faces" in lines[0] and "--drop-degenerate" in lines[0], "degenerate faces: a line says so")
-        self.both_ways("degenerate faces left out", path, [["POSITION"]], ["--drop-degenerate"], dropped=2)
-        self.tell((path.parent / "packed.glb").stat().st_size < path.stat().st_size, "degenerate faces left out")
+        count = len(faces) // 3 + 2
+        lines = self.both_ways("degenerate faces kept", path, [["POSITION"]], ["--keep-degenerate"])
+        self.tell(lines and f"sequentially, which takes more bytes, for 2 of {count} faces" in lines[0], f"degenerate faces kept: a line says so: {lines}")
+        kept = (path.parent / "packed.glb").stat().st_size
+        for words in ([], ["--drop-degenerate"], ["--method", "seq"]):
+            lines = self.both_ways(f"degenerate faces left out {words}", path, [["POSITION"]], words, dropped=2)
+            self.tell(lines and f"left out 2 of {count} faces" in lines[0] and "--keep-degenerate" in lines[0], f"degenerate faces {words}: a line says so: {lines}")
+            self.tell("seq" in words or (path.parent / "packed.glb").stat().st_size < kept, "degenerate faces left out take fewer bytes")
 
     def many_points(self):
         """More than 65,535 points have indices of 32 bits; `draco_decoder` reads them, and assimp's reader of these isn't asked."""
@@ -580,7 +584,7 @@ class Tests:
             self.both_ways(title, path, names, end=path.suffix)
         engine = self.model("2CylinderEngine-glTF-Binary/2CylinderEngine.glb")
         small = engine.parent / "small.glb"
-        lines = self.done("the engine", "pack", engine, small, "--drop-degenerate", "--method", "valence")
+        lines = self.done("the engine", "pack", engine, small, "--method", "valence")
         self.tell(lines and len(lines) == 1 and "25 more primitives" in lines[0] and "left out" in lines[0], f"the engine: {lines}")
         self.tell(small.exists() and small.stat().st_size < engine.stat().st_size / 6, "the engine takes less than a sixth")
         self.refused(
