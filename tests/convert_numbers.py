@@ -15,6 +15,7 @@ import subprocess
 import mesh_cases  # noqa: F401  (which says where numpy is missing)
 import numpy as np
 from drcfiles import plytext
+from drcfiles.glb import read_glb
 from mesh_cases import map_rows, one_line, run, scan_like, unwrapped
 
 MAP = (5400000.456, 3600000.789, 123.25)  # metres east and north, and a height
@@ -108,9 +109,14 @@ def errors(tests):
                     tests.tell(error <= step * 0.5000001 + 1e-9 * extent and (step <= 1.0001 * extent / ((1 << bits) - 1) or "in place of" in ran.stderr.decode()), f"{title}: half a step of {step}: {error}")
                     tests.tell(geometry.values[0].min() >= 0 and geometry.values[0].max() < 1 << geometry.heads[0].grid.bits, f"{title}: the integers are those of the grid's bits")
     stream, ran = packed(tests, "map", "map.obj", obj(*surface(MAP, 1.04)))
-    for ending in (".stl", ".glb"):
-        ran = tests.run("drc-unpack", stream, "-o", tests.folder / f"map{ending}", "--force")
-        tests.tell(ran.returncode == 0 and "off in" in ran.stderr.decode() and "PLY and OBJ have doubles" in ran.stderr.decode(), f"{ending}: a line says what its floats lose: {ran.stderr.decode()}")
+    ran = tests.run("drc-unpack", stream, "-o", tests.folder / "map.stl", "--force")
+    tests.tell(ran.returncode == 0 and "off in STL" in ran.stderr.decode() and "PLY and OBJ have doubles" in ran.stderr.decode(), f"a line says what the floats of an STL lose: {ran.stderr.decode()}")
+    ran = tests.run("drc-unpack", stream, "-o", tests.folder / "map.glb", "--force")
+    document, binary = read_glb((tests.folder / "map.glb").read_bytes())
+    local = np.frombuffer(binary, "<f4", 3 * 81).reshape(-1, 3).astype(np.float64)
+    off = float(np.abs(local + document["nodes"][0]["translation"] - np.array(surface(MAP, 1.04)[0], np.float64)).max())
+    tests.tell(ran.returncode == 0 and off <= printed(packed(tests, "map", "map.obj", obj(*surface(MAP, 1.04)))[1])[2] + 1e-7, f"a GLB's node and positions are {off} off")
+    tests.tell("to which the node moves them" in ran.stderr.decode(), f"a line says so: {ran.stderr.decode()}")
     if shutil.which("draco_decoder"):
         there = tests.folder / "there.ply"
         said = printed(packed(tests, "map", "map.obj", obj(*surface(MAP, 1.04)))[1])

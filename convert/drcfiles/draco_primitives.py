@@ -3,9 +3,9 @@ import re
 
 import numpy as np
 
-from .gltf import COMPONENT_OF, COMPONENTS, DRACO, INDICES, OF_PRIMITIVES, POINTS, ROWS, hashable, is_count
+from .gltf import COMPONENT_OF, COMPONENTS, DRACO, INDEX_DATA, OF_PRIMITIVES, POINT_DATA, ROWS, hashable, is_count
 from .grids import Grid, check_finite, grid_of, to_floats, to_integers
-from .mesh import many
+from .mesh import FACES, POINTS, many
 from .packing import sequential
 from .plytext import COLOUR, GENERIC, NORMAL, POSITION, QUANTISED, TEXTURE, TYPE_OF, Geometry, Head, read_text, write_text
 from .surface import degenerate, numbers_of, points_made
@@ -104,6 +104,9 @@ class Packing:
             used = np.arange(len(tables[0])) if items[0].get("targets") else np.unique(faces)
             values, faces = [it[used] for it in values], np.searchsorted(used, faces)
             geometry = Geometry(heads, values, faces)
+            for what, count, most in (("points", geometry.points, POINTS), ("faces", len(faces), FACES)):
+                if count > most:
+                    raise Left(f"it has {count:,} {what}, and a stream has at most {most:,}")
             stream = self.encode(geometry, words)
         except Left as why:
             self.tell(f"{where} is left as it is: {why}")
@@ -340,7 +343,7 @@ class Unpacking:
         stride = size + -size % 4
         data = np.zeros((len(table), stride), np.uint8)
         data[:, :size] = np.ascontiguousarray(table).view(np.uint8).reshape(len(table), size)
-        view = self.gltf.add_view(data.tobytes(), buffer, POINTS, stride if stride != size else None)
+        view = self.gltf.add_view(data.tobytes(), buffer, POINT_DATA, stride if stride != size else None)
         made = self.gltf.own_accessor(number, uses)
         self.gltf.change(made, view, count=len(table), **bounds(self.gltf.json["accessors"][made], name, table))
         return made
@@ -351,6 +354,6 @@ class Unpacking:
         kinds = [it for it in (np.uint8, np.uint16, np.uint32) if geometry.points <= np.iinfo(it).max]
         kind = declared if declared in kinds else kinds[-1] if declared == np.uint32 else next(it for it in kinds if it != np.uint8)
         table = geometry.faces.astype(kind)
-        view = self.gltf.add_view(table.tobytes(), buffer, INDICES)
+        view = self.gltf.add_view(table.tobytes(), buffer, INDEX_DATA)
         self.gltf.change(made, view, componentType=COMPONENT_OF[np.dtype(kind)], count=table.size, type="SCALAR", min=None, max=None)
         return made

@@ -28,7 +28,7 @@ OF_PRIMITIVES = {DRACO, "KHR_materials_variants", "EXT_mesh_features"}
 COMPONENTS = {5120: np.int8, 5121: np.uint8, 5122: np.int16, 5123: np.uint16, 5125: np.uint32, 5126: np.float32}
 COMPONENT_OF = {np.dtype(kind): number for number, kind in COMPONENTS.items()}
 ROWS = {"SCALAR": 1, "VEC2": 2, "VEC3": 3, "VEC4": 4}
-POINTS, INDICES = 34962, 34963  # targets of buffer views
+POINT_DATA, INDEX_DATA = 34962, 34963  # targets of buffer views
 IMAGES = [  # by how their bytes begin
     (rb"\x89PNG\r\n\x1a\n", "image/png"),
     (rb"\xff\xd8\xff", "image/jpeg"),

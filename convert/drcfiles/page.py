@@ -65,7 +65,7 @@ def of_geometry(geometry, report):
         item.update(prediction=prediction, entries=entries)
         if head.grid:
             item.update(bits=head.grid.bits, range=float(head.grid.range) if np.isfinite(head.grid.range) else None)
-        made["attributes"].append({**item, "values": packed(geometry.floats(k), "<f4" if head.grid else "<i4")})
+        made["attributes"].append({**item, "values": packed(geometry.from_origin(k), "<f4" if head.grid else "<i4")})
     if geometry.faces is not None:
         places, borders, seams = lines_of(geometry, position)
         made.update(faces=len(geometry.faces), corners=packed(geometry.faces, "<u4"), borders=packed(borders, "<u4"))

@@ -50,6 +50,16 @@ class Geometry:
         grid = self.heads[k].grid
         return to_doubles(self.values[k], grid) if grid and grid.is_fine else self.floats(k)
 
+    def origin(self, k):
+        """Where the values of head k are counted from so that floats of 32 bits tell its steps: the minimum of a fine grid, else None."""
+        grid = self.heads[k].grid
+        return grid.minimum.astype(np.float64) if grid and grid.is_fine else None
+
+    def from_origin(self, k):
+        """The values of head k in floats of 32 bits, counted from its origin where it has one."""
+        origin = self.origin(k)
+        return self.floats(k) if origin is None else (self.numbers(k) - origin).astype(FLOAT)
+
     def first(self, usage):
         """The number of the first head of this usage, or None."""
         return next((k for k, head in enumerate(self.heads) if head.usage == usage), None)

@@ -34,11 +34,10 @@ def places_of(geometry, name):
 
 def left_out(geometry, name, kept):
     """What is said of the attributes that a format has no room for, and of positions that its floats can't tell."""
-    position = geometry.first(POSITION)
-    notes = []
-    if name != "OBJ" and geometry.heads[position].grid and geometry.heads[position].grid.is_fine:
+    position, notes = geometry.first(POSITION), []
+    if name == "STL" and geometry.origin(position) is not None:
         wide = np.abs(geometry.numbers(position) - geometry.floats(position)).max(initial=0)
-        notes.append(f"positions are up to {at_least(wide)} off in {name}, which has floats of 32 bits; PLY and OBJ have doubles here")
+        notes.append(f"positions are up to {at_least(wide)} off in STL, which has floats of 32 bits; PLY and OBJ have doubles here")
     firsts = {geometry.first(usage) for usage in kept}
     left = [f"{k} ({WORDS[head.usage]})" for k, head in enumerate(geometry.heads) if k not in firsts]
     return notes + ([f"attributes left out, which {name} has no room for: {', '.join(left)}"] if left else [])
@@ -151,8 +150,11 @@ def stl(geometry, is_text):
 
 
 def glb_file(geometry, _):
-    """One mesh of one primitive: positions, normals, texture coordinates and colours; a cloud as points."""
-    places = places_of(geometry, "GLB")
+    """One mesh of one primitive: positions, normals, texture coordinates and colours; a cloud as points. Positions that floats of 32 bits can't
+    tell at their places are counted from their origin, to which the node moves them."""
+    places_of(geometry, "GLB")
+    position = geometry.first(POSITION)
+    places, origin = geometry.from_origin(position).astype(np.float32), geometry.origin(position)
     binary, views, accessors, attributes = bytearray(), [], [], {}
 
     def add(data, component, kind, count, target, **more):
@@ -180,9 +182,10 @@ def glb_file(geometry, _):
     if geometry.faces is not None:
         kind, component = ("<u2", 5123) if geometry.points < 65536 else ("<u4", 5125)
         primitive["indices"] = add(geometry.faces.astype(kind).tobytes(), component, "SCALAR", geometry.faces.size, 34963)
-    document = {"asset": {"version": "2.0", "generator": "drc-unpack"}, "scene": 0, "scenes": [{"nodes": [0]}], "nodes": [{"mesh": 0}],
-                "meshes": [{"primitives": [primitive]}], "accessors": accessors, "bufferViews": views, "buffers": [{"byteLength": len(binary)}]}
-    return glb.write_glb(document, bytes(binary)), left_out(geometry, "GLB", kept)
+    document = {"asset": {"version": "2.0", "generator": "drc-unpack"}, "scene": 0, "scenes": [{"nodes": [0]}],
+                "nodes": [{"mesh": 0} if origin is None else {"mesh": 0, "translation": origin.tolist()}], "meshes": [{"primitives": [primitive]}], "accessors": accessors, "bufferViews": views, "buffers": [{"byteLength": len(binary)}]}
+    notes = [] if origin is None else [f"positions are counted from {' '.join(map(str, origin))}, to which the node moves them, since floats of 32 bits can't tell them at their places"]
+    return glb.write_glb(document, bytes(binary)), notes + left_out(geometry, "GLB", kept)
 
 
 WRITERS = {".ply": ply, ".obj": obj, ".stl": stl, ".glb": glb_file}
