@@ -1,7 +1,7 @@
 -- What a loop over `take` has taken so far.
-use Rattle.std.proofs.Common.{◌≡◌, ℕ, ◌+◌, ◌≤◌, ◌<◌, min, Option, None, Some, List, [], ◌++◌, length, refl, sym, ◌∙◌, append_assoc, append-nil, length-append, arith}
+use Rattle.std.proofs.Common.{◌≡◌, ℕ, Option, None, Some, List, [], ◌++◌, length, refl, sym, append_assoc, length-append, arith}
 use Rattle.std.specs.Io.KnownBytes.{Consumes, Keeps}
-use Rattle.drc_base.specs.Counters.{counted, last_count}
+use Rattle.drc_base.specs.Counters.{counted}
 use Rattle.drc_base.specs.Sources.{Gave}
 
 Consumes-none : (left : Option (List ℕ)) → Consumes left left []

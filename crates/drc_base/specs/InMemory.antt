@@ -1,5 +1,5 @@
 -- Sources and sinks in memory whose every call is known (this project's choice).
-use Rattle.std.specs.Prelude.{◌≡◌, ℕ, ◌+◌, ◌-◌, Bool, true, false, ◌==◌, min, List, ◌++◌, length, take, drop, if◌then◌else◌, ◌||◌}
+use Rattle.std.specs.Prelude.{ℕ, ◌-◌, Bool, true, false, ◌==◌, min, List, ◌++◌, length, take, drop, if◌then◌else◌, ◌||◌}
 use Rattle.std.specs.List.{list_any}
 use Rattle.drc_base.specs.Counters.{counted}
 

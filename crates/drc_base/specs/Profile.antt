@@ -22,3 +22,7 @@ profile_two = record { faces = 2 ^ 22; points = 2 ^ 22; values = 2 ^ 26; number 
 -- the profile of decoding: the limits of this program, and all predictions
 abbrev pub profile : Profile
 profile = record { faces = MAX_FACES; points = MAX_POINTS; values = MAX_VALUES; number = 2 }
+
+-- a profile of these limits by its number
+abbrev pub profile_numbered : ℕ → Profile
+profile_numbered n = record profile { number = n }

@@ -11,6 +11,7 @@ mod kinds;
 mod limits;
 mod mem_sink;
 mod mem_source;
+mod profiles;
 mod reading;
 mod sequences;
 mod sides;
@@ -29,6 +30,7 @@ pub use limits::{
 };
 pub use mem_sink::MemSink;
 pub use mem_source::MemSource;
+pub use profiles::{PROFILE_TWO, Profile};
 pub use reading::read_all;
 pub use sequences::Sequence;
 pub use sides::Side;

@@ -11,3 +11,5 @@ mod BitExamples
 pub mod Written
 pub mod PackedBits
 pub mod Chains
+pub mod Parted
+pub mod Digits

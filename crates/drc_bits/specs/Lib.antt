@@ -3,3 +3,4 @@ pub mod Numbers
 pub mod Varint
 pub mod Spells
 pub mod Bits
+pub mod Digits

@@ -1,4 +1,4 @@
-use Rattle.std.proofs.Common.{◌≡◌, ◌≤◌, ◌+◌, ◌++◌, take, length, length-append, sym, arith}
+use Rattle.std.proofs.Common.{◌≡◌, ◌++◌, take, length, length-append, sym, arith}
 use Rattle.std.proofs.lemmas.List.{length-take}
 use Rattle.drc_base.proofs.Taking.{Gave-take}
 use Rattle.drc_base.proofs.reading.read_by.Goals as goal

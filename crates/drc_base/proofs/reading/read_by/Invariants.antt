@@ -1,4 +1,4 @@
-use Rattle.std.proofs.Common.{◌≤◌, ◌-◌, ◌≡◌, vec_len, length}
+use Rattle.std.proofs.Common.{◌≤◌, ◌-◌, vec_len}
 use Rattle.drc_base.specs.Sources.{Gave}
 use Rattle.drc_base.proofs.reading.read_by.Given as goal
 
