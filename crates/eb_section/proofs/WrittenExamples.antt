@@ -10,7 +10,8 @@ use Rattle.rans_binary.specs.Blocks.{block}
 use Rattle.corner_table.specs.Fans.{corners_of, leftmost, walks_left, walks_right}
 use Rattle.symbol_tables.specs.Tables.{probs_bytes, prob_bytes}
 use Rattle.symbol_tables.specs.Normal.{normal}
-use Rattle.symbol_coding.specs.Symbols.{coded_bytes as coded_symbols, counts_of, digits_in}
+use Rattle.drc_bits.specs.Digits.{digits_in}
+use Rattle.symbol_coding.specs.Symbols.{coded_bytes as coded_symbols, counts_of}
 use Rattle.symbol_coding.specs.Block.{block_bytes, is_raw, lengths_of, raw_bytes, tagged_bytes}
 use Rattle.eb_machine.specs.Machine.{step, take_symbols, note_events}
 use Rattle.eb_valence.specs.Contexts.{coded, context_list}

@@ -8,7 +8,8 @@ use Rattle.rans_core.specs.Coder.{drained, end_bytes, state_pushed}
 use Rattle.rans_binary.specs.Blocks.{IsBlockOf, block}
 use Rattle.symbol_tables.specs.Normal.{normal}
 use Rattle.symbol_tables.specs.Tables.{prob_bytes, probs_bytes, table_at}
-use Rattle.symbol_coding.specs.Symbols.{coded_bytes, counts_of, digits_in}
+use Rattle.drc_bits.specs.Digits.{digits_in}
+use Rattle.symbol_coding.specs.Symbols.{coded_bytes, counts_of}
 use Rattle.symbol_coding.specs.Block.{block_at, block_bytes, is_raw, lengths_of, raw_bytes, tagged_bytes}
 use Rattle.entropy_laws.proofs.Again.{bits-again, symbols-again, table-again}
 

@@ -11,21 +11,9 @@ use Rattle.drc_bits.specs.Numbers.{number_at, little_endian}
 use Rattle.drc_bits.specs.Varint.{var32_at, spelling}
 use Rattle.drc_bits.specs.Bits.{low_bytes}
 use Rattle.drc_bits.specs.Spells.{Spells}
-use Rattle.drc_bits.proofs.Spelled.{Spells-none, Spells-then, Spells-must, Spells-number, Spells-var32, Spells-byte}
+use Rattle.drc_bits.proofs.Spelled.{Spells-none, Spells-then, Spells-must, Spells-low_bytes, Spells-var32, Spells-byte}
 use Rattle.seq_section.specs.declared.reading.Opening.{Opening}
 use Rattle.seq_section.specs.Indices.{index_width, number_of_width, bytes_of_width, index_at, face_at, index_bytes, face_bytes, IsFaceBelow, method_at, indices_opening_at, faces_at, indices_at, indices_opening_bytes, faces_bytes, indices_bytes}
-
-length-low_bytes : (n v : ℕ) → length (low_bytes n v) ≡ n
-length-low_bytes zero v = refl
-length-low_bytes (suc n) v = omega (arith, length-low_bytes n (v / 256))
-
-little_endian-low_bytes : (n v : ℕ) → v < 256 ^ n → little_endian (low_bytes n v) ≡ v
-little_endian-low_bytes zero v fits = omega (arith, fits)
-little_endian-low_bytes (suc n) v fits = omega (arith, little_endian-low_bytes n (v / 256) (omega (arith, fits)))
-
-Spells-low_bytes : (n v : ℕ) → v < 256 ^ n → Spells (number_at n) (low_bytes n v) v
-Spells-low_bytes n v fits =
-    subst (λ x. Spells (number_at n) (low_bytes n v) x) (little_endian-low_bytes n v fits) (Spells-number n (low_bytes n v) (length-low_bytes n v))
 
 -- a number has a width
 abbrev FitsWidth : Option ℕ → ℕ → Type 0

@@ -39,7 +39,7 @@ pub struct Opening {
 /// `PointLimit`, `IndexMethod`, `IndexRange`, `Short` or `Long` of a number that isn't whole, and those
 /// of a symbol block where the indices are packed. Such a block is read whole first, and an index in it
 /// that isn't below the number of points is `IndexRange` where the block begins. The faults of the two
-/// numbers and of the method come before memory is taken. After a refusal the cursor is where it was.
+/// numbers and of the method come before out of memory. After a refusal the cursor is where it was.
 #[tactic(auto, unfolding(crate::specs::Indices::indices_at))]
 pub fn read_indices(alloc: Global, c: &mut Cursor<'_>) -> Result<SeqRead, Refusal>
     ensures indices { Gives (λ r. r) (indices_at profile c.old) c.new result }

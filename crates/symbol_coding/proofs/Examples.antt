@@ -6,7 +6,8 @@ use Rattle.drc_bits.specs.Varint.{spelling, varint}
 use Rattle.rans_core.specs.Coder.{drained, end_bytes, state_pushed}
 use Rattle.symbol_tables.specs.Tables.{table_at, probs_at, probs_bytes, prob_bytes}
 use Rattle.symbol_tables.specs.Normal.{normal}
-use Rattle.symbol_coding.specs.Symbols.{coded_at, coded_bytes, counts_of, digits_in, next_symbols}
+use Rattle.drc_bits.specs.Digits.{digits_in}
+use Rattle.symbol_coding.specs.Symbols.{coded_at, coded_bytes, counts_of, next_symbols}
 use Rattle.symbol_coding.specs.Block.{block_at, block_bytes, is_raw, lengths_of, raw_at, raw_bytes, tagged_at, tagged_bytes, values_in_groups}
 
 four : block_bytes (0 ∷ 1 ∷ 0 ∷ 0 ∷ []) 1 ≡ 1 ∷ 2 ∷ 2 ∷ 1 ∷ 48 ∷ 1 ∷ 16 ∷ 3 ∷ 0 ∷ 36 ∷ 130 ∷ []

@@ -1,7 +1,7 @@
 mod Examples
 pub mod Slots
 pub mod Values
-pub mod Digits
+pub mod Precision
 pub mod Counts
 pub mod Widths
 pub mod Tables

@@ -6,10 +6,10 @@ use Rattle.drc_bits.specs.Bits.{low_bits, number_of}
 use Rattle.drc_bits.proofs.BitLists.{length-low_bits, number_of-low_bits}
 use Rattle.symbol_tables.specs.Normal.{greatest_count}
 use Rattle.symbol_tables.proofs.Symbols.{sum-cons}
-use Rattle.symbol_coding.specs.Symbols.{digits}
+use Rattle.drc_bits.specs.Digits.{digits}
 use Rattle.symbol_coding.specs.Block.{HasWidths, groups_of, length_of, lengths_of, value_bits, values_in_groups, widths}
 use Rattle.symbol_coding.proofs.Counts.{each-greatest, greatest-below}
-use Rattle.symbol_coding.proofs.Digits.{digits-above, digits-most}
+use Rattle.drc_bits.proofs.Digits.{digits-above, digits-most}
 
 -- the bits of such values give them back
 pub values_in-bits : (long short : ℕ) (ws vs more : List ℕ) → HasWidths ws vs → values_in_groups long short ws (value_bits ws vs ++ more) ≡ Ok vs

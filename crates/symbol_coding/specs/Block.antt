@@ -12,7 +12,8 @@ use Rattle.drc_bits.specs.Numbers.{number_at}
 use Rattle.drc_bits.specs.Bits.{bits_of, bytes_for, low_bits, number_of, packed}
 use Rattle.symbol_tables.specs.Tables.{count_at, table_at, table_bytes}
 use Rattle.symbol_tables.specs.Normal.{greatest_count, normal, used_of}
-use Rattle.symbol_coding.specs.Symbols.{coded_at, coded_bytes, counts_of, digits, next_symbols}
+use Rattle.drc_bits.specs.Digits.{digits}
+use Rattle.symbol_coding.specs.Symbols.{coded_at, coded_bytes, counts_of, next_symbols}
 
 -- the precision in bits of a coder for symbols of so many bits
 abbrev pub precision : ℕ → ℕ
@@ -69,7 +70,7 @@ block_at n comps c = if n == 0 then Ok ([], c)
 unfoldable pub raw_opening_at : Reading → Item ℕ
 raw_opening_at c = must kind.Length (λ l. nat_le 1 l && nat_le l 18) (number_at 1) c >>= λ l. count_at l.1
 
--- a block up to its table's number of symbols: what comes before any memory is taken
+-- a block up to its table's number of symbols: what comes before out of memory
 unfoldable pub block_opening_at : ℕ → Reading → Item ℕ
 block_opening_at n c = if n == 0 then Ok (0, c)
     else must kind.Scheme (λ s. nat_lt s 2) (number_at 1) c

@@ -62,12 +62,3 @@ coded_bytes bits probs symbols = let coded = all_spelled 4 (2 ^ bits) (map (inte
 -- how often each symbol occurs, up to the greatest one
 unfoldable pub counts_of : List ℕ → List ℕ
 counts_of symbols = map (λ s. count_by (λ v. v == s) symbols) (range_with_len 0 (greatest_count symbols + 1))
-
--- the number of binary digits of a number below 2 ^ most
-unfoldable pub digits_in : ℕ → ℕ → ℕ
-digits_in zero v = 0
-digits_in (suc most) v = if v == 0 then 0 else 1 + digits_in most (v / 2)
-
--- the number of binary digits of a number of 32 bits
-abbrev pub digits : ℕ → ℕ
-digits v = digits_in 32 v

@@ -1,9 +1,10 @@
 //! What the two schemes of a block cost, about, and what that is counted from.
 
 ghost use Rattle.std.specs.Prelude.{◌≡◌, ℕ, ◌+◌, ◌-◌, ◌*◌, ◌/◌, ◌%◌, ◌^◌, ◌<◌, ◌≤◌, length, map, max, sum, take, drop, slice_index, count_by, nat_lt, IfOk};
+ghost use Rattle.drc_bits.specs.Digits.{digits};
 ghost use Rattle.symbol_tables.specs.Normal.{greatest_count, used_of};
 ghost use Rattle.symbol_coding.specs.Block.{cost_of_count, length_of, lengths_of, raw_cost, raw_length, tagged_cost};
-ghost use Rattle.symbol_coding.specs.Symbols.{counts_of, digits};
+ghost use Rattle.symbol_coding.specs.Symbols.{counts_of};
 
 use drc_base::{MAX_VALUES, Memory};
 use std::alloc::Global;

@@ -186,7 +186,7 @@ fn open_block<'a>(
 /// none; for symbols `Length` where their bit length isn't 1 to 18; the faults of the table and of the
 /// coded bytes; for groups `Length` at the first coded byte where a group's bit length is above 32, and
 /// `Short` where the bits of the values begin if they run out. The faults up to the table's number of
-/// symbols come before any memory is taken. After a refusal the cursor is where it was.
+/// symbols come before out of memory. After a refusal the cursor is where it was.
 #[tactic(auto, unfolding(crate::specs::Block::block_at, crate::specs::Block::block_opening_at))]
 pub fn open_symbols<'a>(
     alloc: Global,

@@ -110,7 +110,7 @@ impl Table {
         ensures whole { IfOk result (λ t. sum t ≡ 2 ^ bits) }
         ensures len { IfOk result (λ t. (0 < length t) × (length t ≤ most_symbols)) }
         ensures unchanged { OnErr result (c.new ≡ c.old) }
-        // Faults of the number of symbols come before any memory is taken.
+        // Faults of the number of symbols come before out of memory.
         ensures early { (f : TheFault) → count_at c.old ≡ Err f → result ≡ Err (Refusal.Fault f) }
     {
         let not_whole = c.fault(Kind::Sum);

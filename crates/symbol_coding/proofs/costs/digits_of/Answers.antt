@@ -1,6 +1,6 @@
 use Rattle.std.proofs.Common.{sym, ap, ◌∙◌}
-use Rattle.symbol_coding.specs.Symbols.{digits}
-use Rattle.symbol_coding.proofs.Digits.{digits-is, nothing}
+use Rattle.drc_bits.specs.Digits.{digits}
+use Rattle.drc_bits.proofs.Digits.{digits-is, nothing}
 use Rattle.symbol_coding.proofs.costs.digits_of.Goals as goal
 
 pub returns-then-v-eq0-clause-digits : goal.returns-then-v-eq0-clause-digits
