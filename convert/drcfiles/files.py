@@ -35,6 +35,14 @@ def read(path):
         raise Trouble(f"{path} can't be read: {why.strerror}", READING) from why
 
 
+def is_same(path, data):
+    """Whether a regular file is there and has these bytes."""
+    try:
+        return os.path.isfile(path) and os.path.getsize(path) == len(data) and pathlib.Path(path).read_bytes() == data
+    except OSError:
+        return False
+
+
 def parts_of(path):
     """The files that an input is made of: itself, and of a glTF document the buffers and images beside it."""
     is_gltf = pathlib.Path(path).suffix.lower() in (".gltf", ".glb") and os.path.isfile(path)
@@ -198,6 +206,7 @@ class Part:
         """Takes away what was written, and puts back what was there."""
         if self.old and os.path.lexists(self.old):
             os.replace(self.old, self.place)
+            self.end()  # where both are links to one file, renaming does nothing
         elif self.is_put and self.is_new:
             pathlib.Path(self.place).unlink(missing_ok=True)
         if self.name and not self.is_put:

@@ -22,6 +22,12 @@ def write_map(kind, rows):
     return b"".join([f"map {kind} {len(rows)}\n".encode(), *lines_of(rows)])
 
 
+def identity(text, path):
+    """A map of as many rows as this one, each of which stays where it is."""
+    kind, rows = read_map(text, path)
+    return write_map(kind, np.stack([np.arange(len(rows)), np.zeros(len(rows), np.int64)], axis=1))
+
+
 def joined(first, second, path):
     """Two maps as one: the first of a stream, the second of one that was made of it."""
     (kind, a), (other, b) = read_map(first, path), read_map(second, path)

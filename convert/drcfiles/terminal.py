@@ -102,6 +102,8 @@ def report(lines, *outs):
 
 def run(program, main):
     """Runs main() and ends: with its status, or with one line and a status where there is trouble."""
+    if signal.getsignal(signal.SIGINT) == signal.SIG_DFL:
+        signal.signal(signal.SIGINT, signal.default_int_handler)
     try:
         sys.exit(main())
     except Trouble as why:
