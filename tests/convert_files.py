@@ -205,6 +205,9 @@ def devices(tests, it):
         tests.went(f"{it}: {title}", tests.run(it.name, *it.words(it.source, out)))
         found = os.lstat(null)
         tests.tell(stat.S_ISCHR(found.st_mode) and found.st_rdev == os.makedev(1, 3) and link.is_symlink(), f"{it}: {title} stays one")
+    full = folder / f"full{it.ending}"
+    full.symlink_to("/dev/full")
+    tests.refused(f"{it}: a device that is full", tests.run(it.name, *it.words(it.source, full)), 4, "can't be written")
     tests.nothing_left(f"{it}: devices", folder)
 
 
@@ -235,8 +238,8 @@ def pipes(tests, it, wanted):
     tests.tell(closed.wait() in (0, 4) and "Traceback" not in said, f"{it}: standard output that nobody reads: {closed.returncode} {said[:200]}")
 
 
-def interrupted(tests, it):
-    """An interrupt ends in one line, and leaves what was there."""
+def interrupted(tests, it, sign):
+    """An interrupt, or another signal that ends programs, ends it in one line, and leaves what was there."""
     folder = tests.place()
     out, slow = folder / f"out{it.ending}", folder / "slow"
     out.write_bytes(OLD)
@@ -248,9 +251,9 @@ def interrupted(tests, it):
         if (folder / "begun").exists() or running.poll() is not None:
             break
         time.sleep(0.02)
-    os.killpg(running.pid, signal.SIGINT)
+    os.killpg(running.pid, sign)
     said = running.communicate(timeout=60)[1].decode()
-    tests.tell(running.returncode == -signal.SIGINT and said == f"{it.name}: broken off\n", f"{it}: an interrupt: {running.returncode} {said[:300]}")
+    tests.tell(running.returncode == -sign and said == f"{it.name}: broken off\n", f"{it}: an interrupt: {running.returncode} {said[:300]}")
     tests.tell(out.read_bytes() == OLD, f"{it}: an interrupt leaves what was there")
     tests.nothing_left(f"{it}: an interrupt", folder)
 
@@ -362,7 +365,8 @@ def formats_of_standard_input(tests):
     stl = b"x".ljust(80) + len(FACES).to_bytes(4, "little")
     for face in FACES:
         stl += bytes(12) + np.array([POINTS[k] for k in face], "<f4").tobytes() + b"\0\0"
-    for title, data, words in (("PLY", cloud(), []), ("OBJ", b"# a mesh\n" + obj(), []), ("STL", stl, []), ("named", obj(), ["--format", "obj"])):
+    off = b"OFF\n%d %d 0\n" % (len(POINTS), len(FACES)) + b"".join(b"%d %d %d\n" % row for row in POINTS) + b"".join(b"3 %d %d %d\n" % face for face in FACES)
+    for title, data, words in (("PLY", cloud(), []), ("OBJ", b"# a mesh\n" + obj(), []), ("STL", stl, []), ("OFF", off, []), ("named", obj(), ["--format", "obj"])):
         ran = tests.run("drc-pack", "-", "-o", "-", *words, input=data)
         tests.tell(ran.returncode == 0 and ran.stdout.startswith(b"DRACO"), f"standard input, {title}: {ran.returncode} {ran.stderr.decode()[:200]}")
     tests.refused("standard input of no format", tests.run("drc-pack", "-", "-o", "-", input=b"nothing of a mesh\n"), 1, "--format")
@@ -414,8 +418,7 @@ def main():
             links(tests, it, wanted)
             devices(tests, it)
             pipes(tests, it, wanted)
-            if it.name != "drc-gltf" or it.before == ("pack",):
-                interrupted(tests, it)
+            interrupted(tests, it, signal.SIGTERM if it.before == ("unpack",) else signal.SIGINT)
         parts_of_gltf(tests)
         several_outputs(tests)
         renaming(tests)

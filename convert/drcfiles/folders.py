@@ -24,8 +24,8 @@ def is_same_folder(one, other):
 
 
 class Folder:
-    """The files of a folder and of the folders in it, in order, but for hidden ones and those of the outputs' folder; folders that can't be
-    read are named."""
+    """The files of a folder and of the folders in it, in order, but for hidden ones and those of the outputs' folder; with them links to
+    folders, which aren't followed. Folders that can't be read are named."""
 
     def __init__(self, folder, out):
         self.folder, self.is_out = pathlib.Path(folder).resolve(), is_same_folder(pathlib.Path(folder), pathlib.Path(out))
@@ -33,8 +33,8 @@ class Folder:
         self.files, self.unread = [], []
         for place, folders, names in os.walk(self.folder, onerror=lambda why: self.unread.append(why)):
             place = pathlib.Path(place)
-            folders[:] = [it for it in folders if self.is_out or (place / it) != out]
-            self.files += [place / it for it in names if not it.startswith(".")]
+            folders[:] = [it for it in folders if self.is_out or (place / it).resolve() != out]
+            self.files += [place / it for it in [*names, *(it for it in folders if (place / it).is_symlink())] if not it.startswith(".")]
         self.files.sort()
 
 
@@ -98,7 +98,7 @@ def passed_over(found, jobs, given, words):
     rows = []
     for path in found.files:
         if os.path.realpath(path) not in known and not REPORT.fullmatch(path.name) and not (path.suffix == ".map" and path.with_suffix(".drc").exists()):
-            kind = path.suffix.lower() if path.is_file() else "no file"
+            kind = path.suffix.lower() if path.is_file() else "linked folder" if path.is_dir() else "no file"
             rows.append(Row(str(path.relative_to(found.folder)), PASSED_OVER, kind, "", os.path.getsize(path) if path.is_file() else 0, 0, "", "", words,
                             f"it is none of {WANTED[given.do][1]}"))
     for why in found.unread:

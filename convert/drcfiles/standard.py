@@ -1,20 +1,22 @@
 """A mesh from standard input or a pipe, for readers that need a file whose ending says its format."""
 import contextlib
 import os
+import re
 import struct
 import tempfile
 
 from . import files
 from .trouble import BAD_WORDS, Trouble
 
-BEGINNINGS = ((b"ply", ".ply"), (b"glTF", ".glb"), (b"solid", ".stl"), (b"{", ".gltf"), (b"OFF", ".off"), (b"COFF", ".off"), (b"# .PCD", ".pcd"))
+BEGINNINGS = tuple((re.compile(it), ending) for it, ending in (
+    (rb"ply\b", ".ply"), (rb"glTF", ".glb"), (rb"solid\b", ".stl"), (rb"\{", ".gltf"), (rb"(ST)?C?N?4?n?OFF\b", ".off"), (rb"# \.PCD|VERSION", ".pcd")))
 STL_HEAD, STL_FACE = 84, 50  # bytes of a binary STL
 
 
 def ending_of(data):
     """The ending of a file's format by what it begins with; None where nothing tells it."""
     start = data[:1024].lstrip(b"\xef\xbb\xbf \t\r\n")
-    found = next((ending for word, ending in BEGINNINGS if start.startswith(word)), None)
+    found = next((ending for beginning, ending in BEGINNINGS if beginning.match(start)), None)
     if len(data) >= STL_HEAD and len(data) == STL_HEAD + STL_FACE * struct.unpack_from("<I", data, STL_HEAD - 4)[0]:
         return ".stl"
     is_obj = any(line.split(None, 1)[:1] == [b"v"] for line in data[:65536].splitlines())

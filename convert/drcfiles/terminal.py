@@ -100,10 +100,25 @@ def report(lines, *outs):
         print(line, file=sys.stderr if any(it is not None and is_standard_output(it) for it in outs) else sys.stdout)
 
 
+class Stopped(KeyboardInterrupt):
+    """That a signal asks the program to end: Ctrl-C's, or one that ends it in another way."""
+
+    def __init__(self, number):
+        super().__init__()
+        self.number = number
+
+
+def stop(number, _):
+    raise Stopped(number)
+
+
 def run(program, main):
-    """Runs main() and ends: with its status, or with one line and a status where there is trouble."""
+    """Runs main() and ends: with its status, or with one line and a status where there is trouble, or by the signal that asked for it."""
     if signal.getsignal(signal.SIGINT) == signal.SIG_DFL:
         signal.signal(signal.SIGINT, signal.default_int_handler)
+    for number in (signal.SIGTERM, signal.SIGHUP):
+        if signal.getsignal(number) == signal.SIG_DFL:
+            signal.signal(number, stop)
     try:
         sys.exit(main())
     except Trouble as why:
@@ -120,6 +135,7 @@ def run(program, main):
         say(program, "an error of this program, not of the file; what is above says where")
         sys.exit(MISSING)
     except KeyboardInterrupt as why:
+        number = getattr(why, "number", signal.SIGINT)
         say(program, str(why) or "broken off")
-        signal.signal(signal.SIGINT, signal.SIG_DFL)
-        os.kill(os.getpid(), signal.SIGINT)
+        signal.signal(number, signal.SIG_DFL)
+        os.kill(os.getpid(), number)
