@@ -6,3 +6,4 @@ pub mod Yes
 pub mod SidesDecided
 pub mod StreamFaces
 pub mod Glued
+mod GluedTold

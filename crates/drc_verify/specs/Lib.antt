@@ -5,3 +5,4 @@ pub mod SideTests
 pub mod Judged
 pub mod Laws
 pub mod Checked
+pub mod GluedLaws

@@ -1,11 +1,13 @@
 //! The check of a stream against a text and a map.
 
-ghost use Rattle.std.specs.Prelude.{◌≡◌, ◌↔◌, true, false, Ok, IfOk};
+ghost use Rattle.std.specs.Prelude.{◌≡◌, ◌↔◌, true, false, Ok, Err, IfOk};
+ghost use Rattle.drc_base.specs.declared.faults.Fault.{Fault as AnyFault};
+ghost use Rattle.drc_base.specs.declared.faults.Refusal.TheVariants as refusal;
 ghost use Rattle.drc_base.specs.Refusals.{Answers};
 ghost use Rattle.mesh_model.specs.declared.geometries.Geometry.{Geometry as AnyGeometry};
 ghost use Rattle.ply_mesh.specs.Read.{ply_read};
 ghost use Rattle.drc_container.specs.reading.Meaning.{Meaning};
-ghost use Rattle.drc_container.specs.reading.Stream.{stream as meaning_of_stream};
+ghost use Rattle.drc_container.specs.reading.Stream.{stream as meaning_of_stream, declared_of};
 ghost use Rattle.drc_verify.specs.Checked.{verdict_due, read_due, IsSame};
 ghost use Rattle.drc_verify.specs.declared.verdicts.Verdict.TheVariants as verdict;
 
@@ -22,6 +24,7 @@ use std::alloc::Global;
 /// The verdict on the geometry `g` of a text and on a stream by the rows alone.
 fn check_rows(alloc: Global, map: &MapRead, g: &Geometry, stream: &[u8]) -> Result<Verdict, Refusal>
     ensures verdict { Answers (λ v. v) (read_due false map.now.cloud map.now.rows.rows g.now stream.now) result }
+    ensures early { (f : AnyFault) → declared_of stream.now ≡ Err f → result ≡ Err (refusal.Fault f) }
     ensures same { (n : Meaning) → meaning_of_stream stream.now ≡ Ok n
         → IfOk result (λ v. (v ≡ verdict.Same) ↔ IsSame false map.now.cloud map.now.rows.rows g.now n) }
 {
@@ -40,6 +43,7 @@ fn check_surface(
     stream: &[u8],
 ) -> Result<Verdict, Refusal>
     ensures verdict { Answers (λ v. v) (read_due true map.now.cloud map.now.rows.rows g.now stream.now) result }
+    ensures early { (f : AnyFault) → declared_of stream.now ≡ Err f → result ≡ Err (refusal.Fault f) }
     ensures same { (n : Meaning) → meaning_of_stream stream.now ≡ Ok n
         → IfOk result (λ v. (v ≡ verdict.Same) ↔ IsSame true map.now.cloud map.now.rows.rows g.now n) }
 {
@@ -50,7 +54,8 @@ fn check_surface(
 }
 
 /// The verdict that `verify` gives on a PLY text that means the geometry `g`, for a caller who has no more need of the
-/// text. Refusals are those of `verify` behind the text's first fault.
+/// text. Refusals are those of `verify` behind the text's first fault. Faults of the numbers that the stream declares
+/// come before out of memory.
 pub fn verify_read(
     alloc: Global,
     map: &MapRead,
@@ -59,6 +64,7 @@ pub fn verify_read(
     surface: bool,
 ) -> Result<Verdict, Refusal>
     ensures verdict { Answers (λ v. v) (read_due surface map.now.cloud map.now.rows.rows g.now stream.now) result }
+    ensures early { (f : AnyFault) → declared_of stream.now ≡ Err f → result ≡ Err (refusal.Fault f) }
     ensures same { (n : Meaning) → meaning_of_stream stream.now ≡ Ok n
         → IfOk result (λ v. (v ≡ verdict.Same) ↔ IsSame surface map.now.cloud map.now.rows.rows g.now n) }
 {

@@ -1,5 +1,5 @@
 -- The cloud of a header and keys.
-use Rattle.std.proofs.Common.{◌≡◌, ℕ, ◌+◌, ◌*◌, ◌<◌, ◌≤◌, ◌^◌, Bool, true, false, not, ℤ, pos, List, [], ◌∷◌, length, get_or, map, replicate, Option, None, Some, Ok, Err, refl, sym, ◌∙◌, ap, subst, arith, zero-add, length-append}
+use Rattle.std.proofs.Common.{◌≡◌, ℕ, ◌+◌, ◌*◌, ◌<◌, ◌≤◌, Bool, true, false, not, ℤ, pos, List, [], ◌∷◌, length, get_or, map, replicate, Option, None, Some, Ok, Err, refl, sym, ◌∙◌, ap, subst, arith, zero-add, length-append}
 use Rattle.std.specs.Prelude.{option_map}
 use Rattle.std.specs.List.{range_with_len, position}
 use Rattle.std.proofs.lemmas.List.{length-map, length-replicate, get_or-map, get_or_default}

@@ -12,10 +12,10 @@ use Rattle.std.proofs.lemmas.List.FromFn.{length-range_with_len}
 use Rattle.std.proofs.Math.Nat.{mul-le-mul_left, mul_assoc, mul_comm}
 use Rattle.kd_tree.specs.Keys.{Key, key_at}
 use Rattle.kd_tree.specs.Order.{IsKdOrder}
-use Rattle.kd_tree.specs.Trees.{split_count, rest_count}
 use Rattle.kd_tree.specs.Laws.{BitsAreCounted}
 use Rattle.kd_points.specs.declared.extents.Extent.{Extent}
 use Rattle.kd_points.specs.Extents.{axes_over, depth_of, extents_of, key_within, keys_of}
+use Rattle.kd_points.specs.Laws.{FileBitsAreCounted}
 use Rattle.kd_points.specs.Written.{cloud_in, kd_counts, kd_fault, rest_of, kd_split_of}
 use Rattle.kd_points.proofs.Lying.{length-axes_over}
 
@@ -31,15 +31,18 @@ keys_long c k d inside =
     ap length (get_or-map f c.points k [] d low) ∙ length-key_within (extents_of c) (get_or c.points k [])
 
 -- the numbers of bits that are due
-pub counts_due : BitsAreCounted → (g : Geometry) (c : CloudParts) (split rest : List Bool) → kd_fault g ≡ None → g ≡ Cloud c → split ≡ kd_split_of c → rest ≡ rest_of c
+pub counts_due : (g : Geometry) (c : CloudParts) (split rest : List Bool) → kd_fault g ≡ None → g ≡ Cloud c → split ≡ kd_split_of c → rest ≡ rest_of c
     → kd_counts g ≡ Ok (length split, length rest)
-counts_due law g c split rest none is split_is rest_is =
-    let counted = law (depth_of (extents_of c)) (keys_of c) (keys_long c) in
-    let value : CloudParts → ℕ × ℕ = λ c. (split_count (depth_of (extents_of c)) 0 (keys_of c), rest_count (depth_of (extents_of c)) 0 (keys_of c)) in
+counts_due g c split rest none is split_is rest_is =
+    let value : CloudParts → ℕ × ℕ = λ c. (length (kd_split_of c), length (rest_of c)) in
     ap (λ f. value_unless f (value (cloud_in g))) none
     ∙ ap (λ h. Ok (value (cloud_in h))) is
-    ∙ ap (λ n. Ok (n, rest_count (depth_of (extents_of c)) 0 (keys_of c))) (sym counted.0 ∙ ap length (sym split_is))
-    ∙ ap (λ n. Ok (length split, n)) (sym counted.1 ∙ ap length (sym rest_is))
+    ∙ ap (λ n. Ok (n, length (rest_of c))) (ap length (sym split_is))
+    ∙ ap (λ n. Ok (length split, n)) (ap length (sym rest_is))
+
+-- they are those that the boxes ask for
+pub bits_counted : BitsAreCounted → FileBitsAreCounted
+bits_counted law c = law (depth_of (extents_of c)) (keys_of c) (keys_long c)
 
 -- keys in another order are as many
 pub sorted_length : (keys : List Key) (order : List ℕ) → IsKdOrder keys order → length (map (key_at keys) order) ≡ length keys

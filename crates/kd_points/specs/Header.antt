@@ -71,6 +71,12 @@ point_count_at width c =
     must kind.Empty (λ n. nat_lt 0 n)
     (must kind.KdLimit (λ n. nat_le (n * width) MAX_KD_VALUES) (must kind.PointLimit (λ n. nat_le n MAX_KD_POINTS) var32_at)) c
 
+-- what a file declares, whose faults come before out of memory: the first bytes, the version and the number of attributes
+unfoldable pub kd_declared_at : Reading → Item ℕ
+kd_declared_at c = do
+  opening ← kd_opening_at c
+  kd_attribute_count_at opening.1
+
 -- the extent of a component
 unfoldable pub extent_at : Reading → Item Extent
 extent_at c = do

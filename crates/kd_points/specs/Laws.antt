@@ -5,14 +5,22 @@ use Rattle.mesh_model.specs.declared.heads.Quant.{Quant}
 use Rattle.mesh_model.specs.declared.geometries.Geometry.TheVariants.{Cloud}
 use Rattle.mesh_model.specs.Same.{Rows, Same}
 use Rattle.mesh_model.specs.Parts.{CloudParts, IsCloud}
-use Rattle.kd_points.specs.Extents.{extents_of, key_within, row_within}
+use Rattle.kd_tree.specs.Trees.{split_count, rest_count}
+use Rattle.kd_points.specs.Extents.{extents_of, depth_of, keys_of, key_within, row_within}
 use Rattle.kd_points.specs.Meaning.{kd_meaning}
-use Rattle.kd_points.specs.Written.{KdOrder, kd_fault, kd_written}
+use Rattle.kd_points.specs.Written.{KdOrder, kd_fault, kd_written, kd_split_of, rest_of}
 
 -- the key of each point of a cloud gives its integers back
 abbrev pub KeysTellPoints : Type 0
 KeysTellPoints = (c : CloudParts) (i : ℕ) → IsCloud c → i < length c.points
     → row_within (extents_of c) (key_within (extents_of c) (slice_index_or c.points i [])) ≡ slice_index_or c.points i []
+
+-- the file of a cloud has as many split bits as the boxes that are divided ask for, and as many rest bits as are left of keys that
+-- are alone
+abbrev pub FileBitsAreCounted : Type 0
+FileBitsAreCounted = (c : CloudParts)
+    → (length (kd_split_of c) ≡ split_count (depth_of (extents_of c)) 0 (keys_of c))
+    × (length (rest_of c) ≡ rest_count (depth_of (extents_of c)) 0 (keys_of c))
 
 -- the numbers of a quantisation have 32 bits
 abbrev pub KdQuantFits : Option Quant → Type 0

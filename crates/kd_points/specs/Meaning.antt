@@ -17,7 +17,7 @@ use Rattle.kd_tree.specs.Keys.{Key}
 use Rattle.kd_tree.specs.Reading.{tree_of}
 use Rattle.kd_points.specs.declared.headers.Header.{Header}
 use Rattle.kd_points.specs.Extents.{depth_of, row_within}
-use Rattle.kd_points.specs.Header.{kd_header_at}
+use Rattle.kd_points.specs.Header.{kd_header_at, kd_declared_at}
 
 -- how many bytes the extent of a component takes
 abbrev pub extent_size : ℕ
@@ -63,6 +63,10 @@ file_at c = do
   keys ← tree_at (depth_of header.0.extents) header.0.count header.1
   cloud ← cloud_of_keys header.0 keys.0
   Ok (cloud, keys.1)
+
+-- what a file declares, from its first byte on
+abbrev pub kd_declared_of : List ℕ → Item ℕ
+kd_declared_of bytes = kd_declared_at (start_of bytes)
 
 -- the cloud that a file means, or its first fault; bytes behind its end aren't looked at
 abbrev pub kd_meaning : List ℕ → Result Geometry Fault

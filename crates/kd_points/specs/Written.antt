@@ -16,7 +16,7 @@ use Rattle.mesh_model.specs.Contents.{heads_in, points_in, is_mesh}
 use Rattle.mesh_model.specs.Head.{width_of}
 use Rattle.mesh_model.specs.Parts.{CloudParts}
 use Rattle.mesh_model.specs.Same.{Rows}
-use Rattle.kd_tree.specs.Trees.{split_bits, rest_bits, split_count, rest_count}
+use Rattle.kd_tree.specs.Trees.{split_bits, rest_bits}
 use Rattle.kd_tree.specs.Order.{IsKdOrder}
 use Rattle.kd_points.specs.declared.extents.Extent.{Extent}
 use Rattle.kd_points.specs.Extents.{extents_of, keys_of, depth_of}
@@ -76,9 +76,6 @@ pub record KdOrder (c : CloudParts) (rows : Rows) : Type 0 where
 abbrev pub kd_due : Geometry → Result (List ℕ) Fault
 kd_due g = value_unless (kd_fault g) (kd_written (cloud_in g))
 
--- how many split bits and rest bits the file of a geometry has, or why it isn't written: the digits of the number of points of
--- each box that is divided, and the bits of the key that are left below each box of one point
+-- how many split bits and rest bits the file of a geometry has, or why it isn't written
 abbrev pub kd_counts : Geometry → Result (ℕ × ℕ) Fault
-kd_counts g =
-    let c = cloud_in g in let depth = depth_of (extents_of c) in
-    value_unless (kd_fault g) (split_count depth 0 (keys_of c), rest_count depth 0 (keys_of c))
+kd_counts g = value_unless (kd_fault g) (length (kd_split_of (cloud_in g)), length (rest_of (cloud_in g)))

@@ -1,9 +1,12 @@
 //! Reading a file of points.
 
-ghost use Rattle.std.specs.Prelude.{◌≡◌, IfOk, length};
+ghost use Rattle.std.specs.Prelude.{◌≡◌, Err, IfOk, length};
+ghost use Rattle.drc_base.specs.declared.faults.Fault.{Fault as AnyFault};
+ghost use Rattle.drc_base.specs.declared.faults.Refusal.TheVariants as refusal;
 ghost use Rattle.drc_base.specs.Refusals.{Answers};
 ghost use Rattle.drc_bits.specs.Reading.{Gives};
-ghost use Rattle.kd_points.specs.Meaning.{tree_at, file_at, kd_meaning};
+ghost use Rattle.kd_points.specs.Header.{kd_declared_at};
+ghost use Rattle.kd_points.specs.Meaning.{tree_at, file_at, kd_meaning, kd_declared_of};
 
 use crate::axes::{axes_over, depth_of};
 use crate::headers::read_header;
@@ -32,7 +35,8 @@ fn read_keys(alloc: Global, c: &mut Cursor<'_>, count: u32, depth: u32) -> Resul
 /// The cloud of a file.
 #[tactic(auto, unfolding(crate::specs::Meaning::file_at))]
 fn read_file(alloc: Global, c: &mut Cursor<'_>) -> Result<Cloud, Refusal>
-    ensures { Gives (λ g. g) (file_at c.old) c.new result }
+    ensures file { Gives (λ g. g) (file_at c.old) c.new result }
+    ensures early { (f : AnyFault) → kd_declared_at c.old ≡ Err f → result ≡ Err (refusal.Fault f) }
 {
     let header = read_header(alloc, c)?;
     let depth = depth_of(header.extents.as_slice());
@@ -51,8 +55,10 @@ fn read_file(alloc: Global, c: &mut Cursor<'_>) -> Result<Cloud, Refusal>
 /// bits, then those of the block of rest bits; `KdSplit` where the first of these blocks begins, if more
 /// points lie in a part of a box than in the box; `ValueRange` at the extent of the first component with an
 /// integer outside its data type; and `Short` and `Long`. Bytes behind the end aren't looked at.
+/// The faults of the first bytes, the version and the number of attributes come before out of memory.
 pub fn kd_decode(alloc: Global, bytes: &[u8]) -> Result<Geometry, Refusal>
-    ensures { Answers (λ g. g) (kd_meaning bytes.now) result }
+    ensures meaning { Answers (λ g. g) (kd_meaning bytes.now) result }
+    ensures early { (f : AnyFault) → kd_declared_of bytes.now ≡ Err f → result ≡ Err (refusal.Fault f) }
 {
     let mut c = Cursor::new(bytes);
     let cloud = read_file(alloc, &mut c)?;

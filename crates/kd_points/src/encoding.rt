@@ -1,19 +1,20 @@
 //! Writing a cloud.
 
-ghost use Rattle.std.specs.Prelude.{◌≡◌, ◌<◌, ◌^◌, ◌++◌, ℕ, List, All, map, IfOk, OnOk, length};
+ghost use Rattle.std.specs.Prelude.{◌≡◌, ◌<◌, ◌^◌, ◌++◌, ℕ, List, All, map, Err, Some, IfOk, OnOk, length};
+ghost use Rattle.drc_base.specs.declared.faults.Fault.{Fault as AnyFault};
+ghost use Rattle.drc_base.specs.declared.faults.Refusal.TheVariants as refusal;
 ghost use Rattle.drc_base.specs.Refusals.{Answers};
 ghost use Rattle.rans_binary.specs.Blocks.{IsBlockOf, block};
 ghost use Rattle.mesh_model.specs.Contents.{heads_in};
 ghost use Rattle.kd_points.specs.Extents.{extents_of};
 ghost use Rattle.kd_points.specs.Laws.{KdHeadFits};
 ghost use Rattle.kd_points.specs.Rows.{KdMeans, kd_rows};
-ghost use Rattle.kd_points.specs.Written.{KdOrder, cloud_in, kd_due, kd_counts, kd_written, rest_of, kd_split_of};
+ghost use Rattle.kd_points.specs.Written.{KdOrder, cloud_in, kd_due, kd_counts, kd_fault, kd_written, rest_of, kd_split_of};
 
 use crate::head_writing::write_header;
 use crate::refusals::cloud_to_write;
 use crate::trees::{Tree, tree_of};
 use drc_base::{Memory, Refusal, Sequence};
-use kd_tree::bits_are_counted;
 use mesh_model::{Cloud, Geometry, Renumber};
 use rans_binary::write_block;
 use std::alloc::Global;
@@ -57,10 +58,11 @@ fn write_file(alloc: Global, cloud: &Cloud, tree: Tree) -> Result<(Vec<u8>, Sequ
 ///
 /// Refusals, the first that applies: `KdMesh` at 0 where the geometry is a mesh; `Empty` at 0 where it has
 /// no points; `PointLimit` at the number of points where that is above `MAX_KD_POINTS`; `KdLimit` at points
-/// times integers of a point where that is above `MAX_KD_VALUES`. The ids, ranges and minima of the heads that
-/// are written fit their four bytes.
+/// times integers of a point where that is above `MAX_KD_VALUES`. They come before out of memory. The ids,
+/// ranges and minima of the heads that are written fit their four bytes.
 pub fn kd_encode(alloc: Global, g: &Geometry) -> Result<(Vec<u8>, Renumber), Refusal>
     ensures answer { Answers (λ r. r.0.items) (kd_due g.now) result }
+    ensures early { (f : AnyFault) → kd_fault g.now ≡ Some f → result ≡ Err (refusal.Fault f) }
     ensures order { IfOk result (λ r. KdOrder (cloud_in g.now) r.1.rows) }
     ensures rows { IfOk result (λ r. r.1.rows ≡ kd_rows (cloud_in g.now)) }
     ensures again { IfOk result (λ r. (more : List ℕ) → KdMeans g.now (r.0.items ++ more) r.1.rows) }
@@ -78,15 +80,13 @@ pub fn kd_encode(alloc: Global, g: &Geometry) -> Result<(Vec<u8>, Renumber), Ref
     ))
 }
 
-/// How many split bits and how many rest bits the file of a cloud has: for each box of two points or more
-/// that is divided, the binary digits of its number of points; for each point that is alone in its box, the
-/// bits of its key that are left. Refused as by `kd_encode`.
+/// How many split bits and how many rest bits the file of a cloud has: the lengths of the two lists of bits
+/// that `kd_encode` writes. Refused as by `kd_encode`.
 pub fn kd_bits(alloc: Global, g: &Geometry) -> Result<(u64, u64), Refusal>
-    ensures { Answers (λ n. n) (kd_counts g.now) result }
+    ensures counts { Answers (λ n. n) (kd_counts g.now) result }
+    ensures early { (f : AnyFault) → kd_fault g.now ≡ Some f → result ≡ Err (refusal.Fault f) }
 {
-    let cloud = cloud_to_write(g)?;
-    let tree = tree_of(alloc, cloud)?;
-    // For the prover alone: the call states how many bits a tree has.
-    bits_are_counted();
-    Ok((tree.split.len() as u64, tree.rest.len() as u64))
+    let given = cloud_to_write(g)?;
+    let bits = tree_of(alloc, given)?;
+    Ok((bits.split.len() as u64, bits.rest.len() as u64))
 }

@@ -1,6 +1,8 @@
 //! Reading the heads of attributes.
 
-ghost use Rattle.std.specs.Prelude.{◌≡◌, IfOk, None};
+ghost use Rattle.std.specs.Prelude.{◌≡◌, Err, IfOk, None};
+ghost use Rattle.drc_base.specs.declared.faults.Fault.{Fault as AnyFault};
+ghost use Rattle.drc_base.specs.declared.faults.Refusal.TheVariants as refusal;
 ghost use Rattle.mesh_model.specs.Head.{heads_fault};
 ghost use Rattle.drc_bits.specs.Reading.{Reads, Gives, many_at};
 ghost use Rattle.drc_bits.specs.Numbers.{number_at};
@@ -133,9 +135,11 @@ fn read_attributes(alloc: Global, c: &mut Cursor<'_>, n: u32) -> Result<Vec<Head
 
 /// The heads of all attributes. The first fault: `NoAttribute` and `AttrLimit` at their number; then in
 /// each `AttrType`, `DataType`, `Components` and `QuantBits` at the item's place; and `Short` and `Long`.
+/// Those of their number come before out of memory.
 #[tactic(auto, unfolding(crate::specs::Header::kd_heads_at))]
 pub fn read_heads(alloc: Global, c: &mut Cursor<'_>) -> Result<Vec<Head>, Refusal>
     ensures item { Gives (λ v. v.items) (kd_heads_at c.old) c.new result }
+    ensures early { (f : AnyFault) → kd_attribute_count_at c.old ≡ Err f → result ≡ Err (refusal.Fault f) }
     ensures pass { IfOk result (λ v. heads_fault v.items ≡ None) }
 {
     let n = read_attribute_count(c)?;

@@ -1,9 +1,11 @@
 //! What stands in front of the tree in a file.
 
-ghost use Rattle.std.specs.Prelude.{◌≡◌, ◌≤◌, ◌<◌, ◌+◌, ◌*◌, ◌^◌, IfOk, OnOk, None, length, All};
+ghost use Rattle.std.specs.Prelude.{◌≡◌, ◌≤◌, ◌<◌, ◌+◌, ◌*◌, ◌^◌, Err, IfOk, OnOk, None, length, All};
+ghost use Rattle.drc_base.specs.declared.faults.Fault.{Fault as AnyFault};
+ghost use Rattle.drc_base.specs.declared.faults.Refusal.TheVariants as refusal;
 ghost use Rattle.drc_bits.specs.Reading.{Reads, Gives, many_at};
 ghost use Rattle.mesh_model.specs.Head.{heads_fault, width_of};
-ghost use Rattle.kd_points.specs.Header.{kd_opening_at, point_count_at, extent_at, kd_header_at};
+ghost use Rattle.kd_points.specs.Header.{kd_opening_at, point_count_at, extent_at, kd_header_at, kd_declared_at};
 
 use crate::extents::Extent;
 use crate::head_reading::read_heads;
@@ -118,10 +120,12 @@ fn width_of(heads: &[Head]) -> u32
 /// Reads what stands in front of the tree. The first fault, each at its item's place: `KdMagic` and
 /// `KdVersion`; those of heads; at the number of points `PointLimit`, then `KdLimit` where points times
 /// their integers are above `MAX_KD_VALUES`, then `Empty`; `KdBits` where the integers of a component have
-/// more than 32 bits; and `Short` and `Long`. Nothing here takes more memory than the bytes justify.
-#[tactic(auto, unfolding(crate::specs::Header::kd_header_at))]
+/// more than 32 bits; and `Short` and `Long`. The faults of the first bytes, the version and the number of
+/// attributes come before out of memory.
+#[tactic(auto, unfolding(crate::specs::Header::kd_header_at, crate::specs::Header::kd_declared_at))]
 pub fn read_header(alloc: Global, c: &mut Cursor<'_>) -> Result<Header, Refusal>
     ensures item { Gives (λ h. h) (kd_header_at c.old) c.new result }
+    ensures early { (f : AnyFault) → kd_declared_at c.old ≡ Err f → result ≡ Err (refusal.Fault f) }
     ensures pass { IfOk result (λ h. heads_fault h.heads ≡ None) }
     ensures len { IfOk result (λ h. length h.extents ≡ width_of h.heads) }
     ensures most { IfOk result (λ h. width_of h.heads ≤ 128) }

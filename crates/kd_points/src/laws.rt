@@ -1,7 +1,9 @@
 //! What holds of the definitions themselves.
 
-ghost use Rattle.kd_points.specs.Laws.{FilesAreReadAgain, KeysTellPoints};
+ghost use Rattle.kd_points.specs.Laws.{FileBitsAreCounted, FilesAreReadAgain, KeysTellPoints};
 ghost use Rattle.kd_points.specs.Rows.{OrderIsOne};
+
+use kd_tree::bits_are_counted;
 
 /// The key of each point of a cloud gives all integers of the point back, so that points with equal keys are
 /// equal. This is the contract of a call that does nothing.
@@ -21,3 +23,12 @@ pub fn files_are_read_again()
 pub fn order_is_one()
     ensures { OrderIsOne }
 {}
+
+/// How many split bits and rest bits the file of a cloud has: for each box of two points or more that is divided,
+/// the binary digits of its number of points; for each point that is alone in its box, the bits of its key that
+/// are left. This is the contract of a call that does nothing.
+pub fn file_bits_are_counted()
+    ensures { FileBitsAreCounted }
+{
+    bits_are_counted();
+}

@@ -19,4 +19,4 @@ mod trees;
 
 pub use decoding::kd_decode;
 pub use encoding::{kd_bits, kd_encode};
-pub use laws::{files_are_read_again, keys_tell_points, order_is_one};
+pub use laws::{file_bits_are_counted, files_are_read_again, keys_tell_points, order_is_one};

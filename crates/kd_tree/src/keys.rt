@@ -176,7 +176,7 @@ impl Keys {
     }
 
     /// No keys, of as many bits, in the same room.
-    pub fn cleared(self) -> Keys
+    pub(crate) fn cleared(self) -> Keys
         ensures { result ≡ record { depth = self.depth; rows = [] } }
     {
         let mut words = self.words;

@@ -14,8 +14,8 @@ pub fn order_does_not_matter()
     ensures { OrderDoesNotMatter }
 {}
 
-/// How many split bits and rest bits there are, and how many there are at most. This is the contract of a
-/// call that does nothing.
+/// How many split bits and rest bits there are for keys of one length, and how many there are at most. This is
+/// the contract of a call that does nothing.
 pub fn bits_are_counted()
     ensures counted { BitsAreCounted }
     ensures few { BitsAreFew }
