@@ -45,3 +45,15 @@ pub bucket-chosen : (rows : List (List ℤ)) (hashes chosen : List ℕ) (mask i 
     bucket_of mask (get_or hashes (get_or chosen i 0) 0) ≡ row_bucket (rows_at rows chosen) mask i
 bucket-chosen rows hashes chosen mask i are inside below =
     ap (bucket_of mask) (are.at (get_or chosen i 0) (inside i 0 below) ∙ ap row_hash (sym (get_or-map (λ (p : ℕ). get_or rows p []) chosen i 0 [] below)))
+
+-- chosen rows are equal where the rows with their numbers are
+pub chosen-equal : (rows : List (List ℤ)) (chosen : List ℕ) (i j : ℕ) → i < length chosen → j < length chosen →
+    get_or rows (get_or chosen i 0) [] ≡ get_or rows (get_or chosen j 0) [] → get_or (rows_at rows chosen) i [] ≡ get_or (rows_at rows chosen) j []
+chosen-equal rows chosen i j first second equal =
+    get_or-map (λ (p : ℕ). get_or rows p []) chosen i 0 [] first ∙ equal ∙ sym (get_or-map (λ (p : ℕ). get_or rows p []) chosen j 0 [] second)
+
+-- and the other way round
+pub chosen-back : (rows : List (List ℤ)) (chosen : List ℕ) (i j : ℕ) → i < length chosen → j < length chosen →
+    get_or (rows_at rows chosen) i [] ≡ get_or (rows_at rows chosen) j [] → get_or rows (get_or chosen i 0) [] ≡ get_or rows (get_or chosen j 0) []
+chosen-back rows chosen i j first second equal =
+    sym (get_or-map (λ (p : ℕ). get_or rows p []) chosen i 0 [] first) ∙ equal ∙ get_or-map (λ (p : ℕ). get_or rows p []) chosen j 0 [] second

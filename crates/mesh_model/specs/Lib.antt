@@ -16,6 +16,7 @@ pub mod BitSet
 pub mod Hash
 pub mod RowIndex
 pub mod RowNumbers
+pub mod CountedRows
 pub mod Items
 pub mod RenumberingLaws
 pub mod NumberText

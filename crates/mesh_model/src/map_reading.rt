@@ -1,6 +1,8 @@
 //! Reading the text of a renumbering.
 
 ghost use Rattle.std.specs.Prelude.{◌≡◌, ◌+◌, ◌≤◌, length, drop, MatchResult, Ok, Err};
+ghost use Rattle.drc_base.specs.declared.faults.Fault.{Fault as AnyFault};
+ghost use Rattle.drc_base.specs.declared.faults.Refusal.TheVariants as refusal;
 ghost use Rattle.drc_base.specs.Refusals.{Answers};
 ghost use Rattle.mesh_model.specs.MapRead.{GivesAt, map_head_at, limit_kind, limited_head_at, map_read, most_rows, map_row_at, rows_at, words_then};
 ghost use Rattle.mesh_model.specs.NumberText.{IsReadAt};
@@ -121,10 +123,12 @@ fn read_rows(
 /// line `map mesh <n>` or `map cloud <n>`, then n lines `<face> <turn>`, with single spaces, turns up to 2,
 /// numbers below 2^32 in decimal without leading zeros but for `0` itself, and each line with LF. MapForm at
 /// the first line, from 1, that isn't such a line or is missing; FaceLimit or PointLimit at 1 where n is above
-/// `MAX_FACES` or `MAX_POINTS`, before any row is read. The format is this project's choice.
+/// `MAX_FACES` or `MAX_POINTS`. The faults of the first line come before out of memory. The format is this project's
+/// choice.
 #[tactic(auto, unfolding(crate::specs::MapRead::map_read))]
 pub fn read_map(alloc: Global, bytes: &[u8]) -> Result<MapRead, Refusal>
-    ensures { Answers (λ m. m) (map_read bytes.now) result }
+    ensures map { Answers (λ m. m) (map_read bytes.now) result }
+    ensures early { (f : AnyFault) → limited_head_at bytes.now ≡ Err f → result ≡ Err (refusal.Fault f) }
 {
     let head = read_head(bytes)?;
     let rows = read_rows(alloc, bytes, head.1, head.0.1)?;

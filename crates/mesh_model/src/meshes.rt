@@ -1,5 +1,6 @@
 //! Triangle meshes.
 
+use crate::counted_rows::CountedRows;
 use crate::geometry_rules::{RowShape, test_mesh};
 use crate::geometry_views::GeometryView;
 use crate::heads::{Head, copies_of};
@@ -210,8 +211,8 @@ impl CornerMesh {
         requires { columns ≤ width_of self.now.heads }
         ensures { IfOk result (λ numbers. AreFirstRows self.now.points columns (length self.now.points) numbers.items) }
     {
-        let cells = self.cells.as_slice();
-        first_rows(alloc, self.width, self.count, cells, columns)
+        let mut rows = CountedRows::new(self.cells.as_slice(), self.width, self.count);
+        first_rows(alloc, &mut rows, columns)
     }
 
     /// How many faces there are.

@@ -10,7 +10,7 @@ ghost use Rattle.mesh_model.specs.Parts.{rows_of};
 ghost use Rattle.mesh_model.specs.RowIndex.{RowsAreNumbered, AreNumberedFaces, AreTwins};
 ghost use Rattle.mesh_model.specs.Vertices.{AreGroups};
 
-use crate::comparisons::Comparisons;
+use crate::counted_rows::CountedRows;
 use crate::groups::AttrGroup;
 use crate::heads::Head;
 use crate::items::{ItemFaces, items_of};
@@ -135,9 +135,8 @@ pub(crate) fn number_corners(
     ensures stored { IfOk result (λ n. length n.cells.items ≡ n.count * width) }
 {
     let items = items_of(alloc, heads, groups, faces, width)?;
-    let mut comparisons = Comparisons::none();
-    let cells = items.cells.as_slice();
-    match twins_of(alloc, width, items.count, cells, &mut comparisons)? {
+    let mut rows = CountedRows::new(items.cells.as_slice(), width, items.count);
+    match twins_of(alloc, &mut rows)? {
         None => Ok(Numbering {
             faces: items.faces,
             cells: items.cells,

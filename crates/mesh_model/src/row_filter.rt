@@ -12,7 +12,7 @@ ghost use Rattle.mesh_model.specs.RowIndex.{AreChosenHashes, AreKept, ArePassing
 
 use crate::bit_sets::{has_bit, put_bit};
 use crate::row_hash::{bucket_of, sieve_of};
-use drc_base::Memory;
+use drc_base::{MAX_FACES, Memory};
 use std::alloc::Global;
 
 /// The hashes whose bucket, of `mask` + 1, has an earlier one. The set of buckets is `words`.
@@ -22,7 +22,7 @@ fn kept_hashes(
     mask: u32,
     words: &mut [u64],
 ) -> Result<Vec<u32>, Memory>
-    requires few { length hashes.now < 2 ^ 27 }
+    requires few { length hashes.now ≤ 3 * MAX_FACES }
     requires room { mask < 64 * length words.old }
     ensures kept { IfOk result (λ kept. AreKept hashes.now (length hashes.now) kept.items) }
     ensures few { IfOk result (λ kept. length kept.items ≤ length hashes.now) }
@@ -56,7 +56,7 @@ fn passing_hashes(
     mask: u32,
     words: &[u64],
 ) -> Result<Vec<u32>, Memory>
-    requires few { length hashes.now < 2 ^ 27 }
+    requires few { length hashes.now ≤ 3 * MAX_FACES }
     requires room { mask < 64 * length words.now }
     ensures { IfOk result (λ chosen. ArePassing (λ p. HasBit words.now (sieve_of mask (slice_index hashes.now p))) (length hashes.now) chosen.items) }
 {
@@ -79,8 +79,8 @@ fn hashes_like(
     kept: &[u32],
     words: &mut [u64],
 ) -> Result<Vec<u32>, Memory>
-    requires few { length hashes.now < 2 ^ 27 }
-    requires words { (0 < length words.old) × (length words.old < 2 ^ 26) }
+    requires few { length hashes.now ≤ 3 * MAX_FACES }
+    requires words { (0 < length words.old) × (64 * length words.old < 2 ^ 32) }
     requires kept { AreKept hashes.now (length hashes.now) kept.now }
     requires many { (0 < length kept.now) × (length kept.now ≤ length hashes.now) }
     ensures { IfOk result (λ chosen. AreChosenHashes hashes.now (length hashes.now) chosen.items) }
@@ -95,7 +95,7 @@ fn hashes_like(
 
 /// Hashes among which are all that equal others. Takes 8 to 16 bits a hash beside what is answered.
 pub(crate) fn chosen_hashes(alloc: Global, hashes: &[u32]) -> Result<Vec<u32>, Memory>
-    requires few { length hashes.now < 2 ^ 27 }
+    requires few { length hashes.now ≤ 3 * MAX_FACES }
     ensures { IfOk result (λ chosen. AreChosenHashes hashes.now (length hashes.now) chosen.items) }
 {
     let size = (hashes.len() as u32 / 8 + 1).next_power_of_two();

@@ -1,27 +1,15 @@
 //! An index of rows: finds which rows are equal to earlier ones, in a few steps a row.
 
 ghost use Rattle.std.specs.Prelude.{◌≡◌, ◌+◌, ◌*◌, ◌<◌, ◌≤◌, ◌^◌, ℕ, ℤ, List, [], All, IfOk, MatchOption, false, length, slice_index, slice_index_or};
-ghost use Rattle.mesh_model.specs.Parts.{rows_of};
+ghost use Rattle.mesh_model.specs.CountedRows.{pairs_allowed};
 ghost use Rattle.mesh_model.specs.RowIndex.{AreChains, AreChosen, AreHashes, AreRising, AreSpread, AreTwins, AreUnlike, IsTwin, rows_at};
 
-use crate::comparisons::{COMPARISONS_A_ROW, Comparisons, MORE_COMPARISONS};
+use crate::counted_rows::CountedRows;
 use crate::row_filter::chosen_hashes;
-use crate::row_hash::{bucket_of, row_hashes};
+use crate::row_hash::bucket_of;
 use crate::row_numbers::twins_by_columns;
-use crate::row_rules::stored_row;
-use drc_base::Memory;
+use drc_base::{MAX_FACES, Memory};
 use std::alloc::Global;
-
-/// Row `i` of the chosen ones.
-fn chosen_row<'a>(cells: &'a [i32], width: u32, count: u32, chosen: &[u32], i: u32) -> &'a [i32]
-    requires whole { length cells.now ≡ count * width }
-    requires wide { 0 < width }
-    requires chosen { All (λ p. p < count) chosen.now }
-    requires below { i < length chosen.now }
-    ensures { result.now ≡ slice_index_or (rows_at (rows_of width cells.now) chosen.now) i [] }
-{
-    stored_row(cells, width, count, chosen[i as usize])
-}
 
 /// Links each chosen row to the latest one before it in the bucket of its hash. No row is looked at, so that no step
 /// waits for the one before. `tops`, which is 0 at first, has a place for each bucket.
@@ -50,70 +38,55 @@ fn link_rows(
     Ok(links)
 }
 
-/// A link to the latest chosen row before chosen row `i` that equals it, or 0 where there is none; nothing where the
-/// comparisons are used up.
-fn twin_of(
-    links: &[u32],
-    width: u32,
-    count: u32,
-    cells: &[i32],
-    chosen: &[u32],
-    i: u32,
-    comparisons: &mut Comparisons,
-) -> Option<u32>
-    requires whole { length cells.now ≡ count * width }
-    requires wide { 0 < width }
-    requires chosen { All (λ p. p < count) chosen.now }
+/// A link to the latest chosen row before chosen row `i` that equals it, or 0 where there is none; nothing where no more
+/// pairs may be compared.
+fn twin_of(links: &[u32], chosen: &[u32], i: u32, rows: &mut CountedRows<'_>) -> Option<u32>
+    requires chosen { All (λ p. p < rows.old.table.count) chosen.now }
     requires below { i < length chosen.now }
     requires long { length links.now ≡ length chosen.now }
-    requires chains { AreChains (rows_at (rows_of width cells.now) chosen.now) (i + 1) links.now }
-    requires allowed { comparisons.old.made ≤ comparisons.old.most }
-    ensures twin { MatchOption result (comparisons.new.made ≡ comparisons.new.most) (λ link. IsTwin (rows_at (rows_of width cells.now) chosen.now) i link) }
-    ensures cost { comparisons.new.made ≤ comparisons.new.most }
-    ensures most { comparisons.new.most ≡ comparisons.old.most }
+    requires chains { AreChains (rows_at rows.old.table.rows chosen.now) (i + 1) links.now }
+    requires allowed { rows.old.pairs ≤ rows.old.most }
+    ensures twin { MatchOption result (rows.new.pairs ≡ rows.new.most) (λ link. IsTwin (rows_at rows.old.table.rows chosen.now) i link) }
+    ensures pairs { rows.new.pairs ≤ rows.new.most }
+    ensures most { rows.new.most ≡ rows.old.most }
+    ensures same { rows.new.table ≡ rows.old.table }
+    ensures passes { rows.new.passes ≡ rows.old.passes }
 {
-    let row = chosen_row(cells, width, count, chosen, i);
+    let row = chosen[i as usize];
     let mut link = links[i as usize];
     while link != 0 {
-        if comparisons.are_used_up() {
+        if rows.are_used_up() {
             return None;
         }
-        let earlier = link - 1;
-        if comparisons.same_row(chosen_row(cells, width, count, chosen, earlier), row) {
+        let earlier = link as usize - 1;
+        if rows.are_equal(chosen[earlier], row) {
             return Some(link);
         }
-        link = links[earlier as usize];
+        link = links[earlier];
     }
     Some(0)
 }
 
 /// Puts in each link's place a link to the latest chosen row before that is equal, or none, and answers whether there
-/// is such a row; nothing where the comparisons are used up. The last rows come first, since a chain leads through the
+/// is such a row; nothing where no more pairs may be compared. The last rows come first, since a chain leads through the
 /// links of the rows before.
-fn keep_twins(
-    links: &mut [u32],
-    width: u32,
-    count: u32,
-    cells: &[i32],
-    chosen: &[u32],
-    comparisons: &mut Comparisons,
-) -> Option<bool>
-    requires whole { length cells.now ≡ count * width }
-    requires wide { 0 < width }
-    requires chosen { All (λ p. p < count) chosen.now }
+fn keep_twins(links: &mut [u32], chosen: &[u32], rows: &mut CountedRows<'_>) -> Option<bool>
+    requires chosen { All (λ p. p < rows.old.table.count) chosen.now }
     requires few { length chosen.now < 2 ^ 32 }
     requires long { length links.old ≡ length chosen.now }
-    requires chains { AreChains (rows_at (rows_of width cells.now) chosen.now) (length chosen.now) links.old }
-    requires allowed { comparisons.old.made ≤ comparisons.old.most }
-    ensures twins { MatchOption result (comparisons.new.made ≡ comparisons.new.most) (λ some.
-        AreTwins (rows_at (rows_of width cells.now) chosen.now) (length chosen.now) links.new
-        × (some ≡ false → AreUnlike (rows_at (rows_of width cells.now) chosen.now) (length chosen.now))) }
-    ensures cost { comparisons.new.made ≤ comparisons.new.most }
-    ensures most { comparisons.new.most ≡ comparisons.old.most }
+    requires chains { AreChains (rows_at rows.old.table.rows chosen.now) (length chosen.now) links.old }
+    requires allowed { rows.old.pairs ≤ rows.old.most }
+    ensures twins { MatchOption result (rows.new.pairs ≡ rows.new.most) (λ some.
+        AreTwins (rows_at rows.old.table.rows chosen.now) (length chosen.now) links.new
+        × (some ≡ false → AreUnlike (rows_at rows.old.table.rows chosen.now) (length chosen.now))) }
+    ensures pairs { rows.new.pairs ≤ rows.new.most }
+    ensures most { rows.new.most ≡ rows.old.most }
+    ensures same { rows.new.table ≡ rows.old.table }
+    ensures passes { rows.new.passes ≡ rows.old.passes }
 {
     let mut some = false;
     for i in (0..chosen.len() as u32).rev() {
-        let twin = twin_of(links, width, count, cells, chosen, i, comparisons)?;
+        let twin = twin_of(links, chosen, i, rows)?;
         links[i as usize] = twin;
         if twin != 0 {
             some = true;
@@ -125,7 +98,7 @@ fn keep_twins(
 /// The links of all `count` rows, from those of the chosen ones, which are links to places among these.
 fn spread(alloc: Global, count: u32, chosen: &[u32], links: &[u32]) -> Result<Vec<u32>, Memory>
     requires chosen { All (λ p. p < count) chosen.now }
-    requires few { count < 2 ^ 27 }
+    requires few { count ≤ 3 * MAX_FACES }
     requires rising { AreRising chosen.now }
     requires long { length links.now ≡ length chosen.now }
     requires back { (j : ℕ) → j < length chosen.now → slice_index links.now j ≤ j }
@@ -146,7 +119,7 @@ fn spread(alloc: Global, count: u32, chosen: &[u32], links: &[u32]) -> Result<Ve
 /// The links of chosen rows, each to the latest one before it in the bucket of its hash, of one to two buckets a row.
 fn links_of(alloc: Global, hashes: &[u32], chosen: &[u32]) -> Result<Vec<u32>, Memory>
     requires chosen { All (λ p. p < length hashes.now) chosen.now }
-    requires few { length chosen.now < 2 ^ 27 }
+    requires few { length chosen.now ≤ 3 * MAX_FACES }
     ensures chains { IfOk result (λ links. (rows : List (List ℤ)) → AreHashes rows (length hashes.now) hashes.now →
         AreChains (rows_at rows chosen.now) (length chosen.now) links.items) }
     ensures long { IfOk result (λ links. length links.items ≡ length chosen.now) }
@@ -165,16 +138,16 @@ struct LinkedRows {
     links: Vec<u32>,
 }
 
-/// The rows that are chosen by their hashes, linked by their buckets.
-fn linked_rows(alloc: Global, width: u32, count: u32, cells: &[i32]) -> Result<LinkedRows, Memory>
-    requires whole { length cells.now ≡ count * width }
-    requires wide { 0 < width }
-    requires few { count < 2 ^ 27 }
-    ensures chosen { IfOk result (λ linked. AreChosen (rows_of width cells.now) count linked.chosen.items) }
-    ensures chains { IfOk result (λ linked. AreChains (rows_at (rows_of width cells.now) linked.chosen.items) (length linked.chosen.items) linked.links.items) }
+/// The rows that are chosen by their hashes, linked by their buckets. Makes a pass.
+fn linked_rows(alloc: Global, rows: &mut CountedRows<'_>) -> Result<LinkedRows, Memory>
+    requires few { rows.old.table.count ≤ 3 * MAX_FACES }
+    requires begun { rows.old.passes + 1 < 2 ^ 64 }
+    ensures chosen { IfOk result (λ linked. AreChosen rows.old.table.rows rows.old.table.count linked.chosen.items) }
+    ensures chains { IfOk result (λ linked. AreChains (rows_at rows.old.table.rows linked.chosen.items) (length linked.chosen.items) linked.links.items) }
     ensures long { IfOk result (λ linked. length linked.links.items ≡ length linked.chosen.items) }
+    ensures counted { rows.new ≡ record rows.old { passes = rows.old.passes + 1 } }
 {
-    let hashes = row_hashes(alloc, width, count, cells)?;
+    let hashes = rows.hashes(alloc)?;
     let chosen = chosen_hashes(alloc, hashes.as_slice())?;
     let links = links_of(alloc, hashes.as_slice(), chosen.as_slice())?;
     Ok(LinkedRows { chosen, links })
@@ -183,60 +156,49 @@ fn linked_rows(alloc: Global, width: u32, count: u32, cells: &[i32]) -> Result<L
 /// The links of all rows to earlier ones that are equal, from chosen rows that are linked by their buckets: as `twins_of`.
 fn twins_among(
     alloc: Global,
-    width: u32,
-    count: u32,
-    cells: &[i32],
     chosen: &[u32],
     links: &mut [u32],
-    comparisons: &mut Comparisons,
+    rows: &mut CountedRows<'_>,
 ) -> Result<Option<Vec<u32>>, Memory>
-    requires whole { length cells.now ≡ count * width }
-    requires wide { 0 < width }
-    requires few { count < 2 ^ 27 }
-    requires chosen { AreChosen (rows_of width cells.now) count chosen.now }
+    requires few { rows.old.table.count ≤ 3 * MAX_FACES }
+    requires chosen { AreChosen rows.old.table.rows rows.old.table.count chosen.now }
     requires long { length links.old ≡ length chosen.now }
-    requires chains { AreChains (rows_at (rows_of width cells.now) chosen.now) (length chosen.now) links.old }
-    requires allowed { comparisons.old.made ≤ comparisons.old.most }
-    ensures found { IfOk result (λ found. MatchOption found (AreUnlike (rows_of width cells.now) count)
-        (λ twins. AreTwins (rows_of width cells.now) count twins.items × (length twins.items ≡ count))) }
-    ensures cost { comparisons.new.made ≤ comparisons.old.most }
+    requires chains { AreChains (rows_at rows.old.table.rows chosen.now) (length chosen.now) links.old }
+    requires allowed { rows.old.pairs ≤ rows.old.most }
+    requires begun { rows.old.passes < 2 ^ 63 }
+    ensures found { IfOk result (λ found. MatchOption found (AreUnlike rows.old.table.rows rows.old.table.count)
+        (λ twins. AreTwins rows.old.table.rows rows.old.table.count twins.items × (length twins.items ≡ rows.old.table.count))) }
+    ensures pairs { rows.new.pairs ≤ rows.old.most }
+    ensures passes { rows.new.passes ≤ rows.old.passes + rows.old.table.width }
+    ensures same { rows.new.table ≡ rows.old.table }
 {
-    match keep_twins(links, width, count, cells, chosen, comparisons) {
-        None => twins_by_columns(alloc, width, count, cells),
+    let count = rows.count();
+    match keep_twins(links, chosen, rows) {
+        None => twins_by_columns(alloc, rows),
         Some(false) => Ok(None),
         Some(true) => Ok(Some(spread(alloc, count, chosen, links)?)),
     }
 }
 
-/// Of each of `count` rows of `width` integers a link to an earlier row that equals it, or none: a link to row r is
-/// r + 1, and 0 is none. No links at all where no two rows are equal. Only the rows that are chosen by their hashes
-/// are compared, a few times for each at most: where rows that aren't equal share so many buckets that this isn't
-/// enough, all rows are numbered column by column instead.
+/// Of each row a link to an earlier row that equals it, or none: a link to row r is r + 1, and 0 is none. No links at all
+/// where no two rows are equal. Only the rows that are chosen by their hashes are compared, a few pairs for each at most:
+/// where rows that aren't equal share so many buckets that this isn't enough, all rows are numbered column by column
+/// instead. So no more pairs are compared than eight for each row and 64, and no more passes are made than one for each
+/// integer of a row and one more.
 pub(crate) fn twins_of(
     alloc: Global,
-    width: u32,
-    count: u32,
-    cells: &[i32],
-    comparisons: &mut Comparisons,
+    rows: &mut CountedRows<'_>,
 ) -> Result<Option<Vec<u32>>, Memory>
-    requires whole { length cells.now ≡ count * width }
-    requires wide { 0 < width }
-    requires few { count < 2 ^ 27 }
-    requires begun { comparisons.old.made < 2 ^ 62 }
-    ensures found { IfOk result (λ found. MatchOption found (AreUnlike (rows_of width cells.now) count)
-        (λ links. AreTwins (rows_of width cells.now) count links.items × (length links.items ≡ count))) }
-    ensures cost { comparisons.new.made ≤ comparisons.old.made + (COMPARISONS_A_ROW * count + MORE_COMPARISONS) }
+    requires few { rows.old.table.count ≤ 3 * MAX_FACES }
+    requires begun { (rows.old.pairs < 2 ^ 62) × (rows.old.passes < 2 ^ 62) }
+    ensures found { IfOk result (λ found. MatchOption found (AreUnlike rows.old.table.rows rows.old.table.count)
+        (λ links. AreTwins rows.old.table.rows rows.old.table.count links.items × (length links.items ≡ rows.old.table.count))) }
+    ensures pairs { rows.new.pairs ≤ pairs_allowed rows.old.pairs rows.old.table.count }
+    ensures passes { rows.new.passes ≤ rows.old.passes + (rows.old.table.width + 1) }
+    ensures same { rows.new.table ≡ rows.old.table }
 {
-    let LinkedRows { chosen, mut links } = linked_rows(alloc, width, count, cells)?;
+    let LinkedRows { chosen, mut links } = linked_rows(alloc, rows)?;
     let chosen = chosen.as_slice();
-    comparisons.allow(chosen.len() as u32);
-    twins_among(
-        alloc,
-        width,
-        count,
-        cells,
-        chosen,
-        links.as_mut_slice(),
-        comparisons,
-    )
+    rows.allow(chosen.len() as u32);
+    twins_among(alloc, chosen, links.as_mut_slice(), rows)
 }

@@ -10,6 +10,7 @@ ghost use Rattle.mesh_model.specs.Parts.{rows_of};
 ghost use Rattle.mesh_model.specs.RowIndex.{AreTwins, AreUnlike};
 ghost use Rattle.mesh_model.specs.RowNumbers.{AreFirstRows, IsColumn, first_link};
 
+use crate::counted_rows::CountedRows;
 use crate::row_rules::stored_row;
 use drc_base::Memory;
 use first_items::{are_apart, number_items};
@@ -35,7 +36,13 @@ fn bits_at(width: u32, count: u32, cells: &[i32], i: u32, j: u32) -> u32
 }
 
 /// Integer `j` of each row, by its bits.
-fn column(alloc: Global, width: u32, count: u32, cells: &[i32], j: u32) -> Result<Vec<u32>, Memory>
+pub(crate) fn column_bits(
+    alloc: Global,
+    width: u32,
+    count: u32,
+    cells: &[i32],
+    j: u32,
+) -> Result<Vec<u32>, Memory>
     requires whole { length cells.now ≡ count * width }
     requires integer { j < width }
     ensures { IfOk result (λ bits. IsColumn (rows_of width cells.now) j bits.items count) }
@@ -47,26 +54,28 @@ fn column(alloc: Global, width: u32, count: u32, cells: &[i32], j: u32) -> Resul
     Ok(bits)
 }
 
-/// For each row the number of the first one with the same first `columns` integers.
+/// For each row the number of the first one with the same first `columns` integers. Makes a pass for each of them at
+/// most.
 pub(crate) fn first_rows(
     alloc: Global,
-    width: u32,
-    count: u32,
-    cells: &[i32],
+    rows: &mut CountedRows<'_>,
     columns: u32,
 ) -> Result<Vec<u32>, Memory>
-    requires whole { length cells.now ≡ count * width }
-    requires wide { 0 < width }
-    requires narrow { columns ≤ width }
-    requires few { count < 2 ^ 32 - 1 }
-    ensures { IfOk result (λ numbers. AreFirstRows (rows_of width cells.now) columns count numbers.items) }
+    requires narrow { columns ≤ rows.old.table.width }
+    requires few { rows.old.table.count < 2 ^ 32 - 1 }
+    requires begun { rows.old.passes + columns < 2 ^ 64 }
+    ensures numbers { IfOk result (λ numbers. AreFirstRows rows.old.table.rows columns rows.old.table.count numbers.items) }
+    ensures same { rows.new.table ≡ rows.old.table }
+    ensures pairs { rows.new.pairs ≡ rows.old.pairs }
+    ensures passes { rows.new.passes ≤ rows.old.passes + columns }
 {
+    let count = rows.count();
     let mut numbers: Vec<u32> = vec![in alloc; 0; count as usize]?;
     for j in 0..columns {
         if are_apart(numbers.as_slice()) {
             return Ok(numbers);
         }
-        let bits = column(alloc, width, count, cells, j)?;
+        let bits = rows.column(alloc, j)?;
         numbers = number_items(alloc, numbers.as_slice(), bits.as_slice(), count)?;
     }
     Ok(numbers)
@@ -90,22 +99,23 @@ fn link_firsts(firsts: &mut [u32])
     }
 }
 
-/// Of each of `count` rows of `width` integers a link to the first row that equals it, or none where this is the row
-/// itself: a link to row r is r + 1, and 0 is none. No links at all where no two rows are equal. Takes about five
-/// integers a row, and a few passes over each column.
+/// Of each row a link to the first row that equals it, or none where this is the row itself: a link to row r is r + 1,
+/// and 0 is none. No links at all where no two rows are equal. Takes about five integers a row, and makes a pass for each
+/// integer of a row at most.
 pub(crate) fn twins_by_columns(
     alloc: Global,
-    width: u32,
-    count: u32,
-    cells: &[i32],
+    rows: &mut CountedRows<'_>,
 ) -> Result<Option<Vec<u32>>, Memory>
-    requires whole { length cells.now ≡ count * width }
-    requires wide { 0 < width }
-    requires few { count < 2 ^ 32 - 1 }
-    ensures { IfOk result (λ found. MatchOption found (AreUnlike (rows_of width cells.now) count)
-        (λ links. AreTwins (rows_of width cells.now) count links.items × (length links.items ≡ count))) }
+    requires few { rows.old.table.count < 2 ^ 32 - 1 }
+    requires begun { rows.old.passes < 2 ^ 63 }
+    ensures found { IfOk result (λ found. MatchOption found (AreUnlike rows.old.table.rows rows.old.table.count)
+        (λ links. AreTwins rows.old.table.rows rows.old.table.count links.items × (length links.items ≡ rows.old.table.count))) }
+    ensures same { rows.new.table ≡ rows.old.table }
+    ensures pairs { rows.new.pairs ≡ rows.old.pairs }
+    ensures passes { rows.new.passes ≤ rows.old.passes + rows.old.table.width }
 {
-    let mut links = first_rows(alloc, width, count, cells, width)?;
+    let width = rows.width();
+    let mut links = first_rows(alloc, rows, width)?;
     if are_apart(links.as_slice()) {
         return Ok(None);
     }

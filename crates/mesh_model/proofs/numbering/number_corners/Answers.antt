@@ -1,5 +1,6 @@
 use Rattle.std.proofs.Common.{◌≡◌, ◌<◌, List, ℤ, length, sym, ap, ◌∙◌, subst, arith}
 use Rattle.std.specs.List.{All, zip}
+use Rattle.mesh_model.specs.CountedRows.{LookedAt}
 use Rattle.mesh_model.specs.Groups.{group_tables}
 use Rattle.mesh_model.specs.Parts.{rows_of}
 use Rattle.mesh_model.specs.RowIndex.{AreTwins, AreUnlike}
@@ -8,14 +9,12 @@ use Rattle.mesh_model.proofs.NumberedFaces.{items-fit, faces-unlike}
 use Rattle.mesh_model.proofs.Rows.{length-rows}
 use Rattle.mesh_model.proofs.numbering.number_corners.Goals as goal
 
-pub twins_of-requires-clause-whole : goal.twins_of-requires-clause-whole
-twins_of-requires-clause-whole c = ap length c.as_slice-cells.ensures.value ∙ c.in_ok-items.ensures.stored
-
-pub twins_of-requires-clause-wide : goal.twins_of-requires-clause-wide
-twins_of-requires-clause-wide c = subst (λ w. 0 < w) (sym c.requires.width) (width_of-bounds c.args.heads.now c.requires.groups.tables.heads_pass).0
+pub new-rows-requires-clause-wide : goal.new-rows-requires-clause-wide
+new-rows-requires-clause-wide c = subst (λ w. 0 < w) (sym c.requires.width) (width_of-bounds c.args.heads.now c.requires.groups.tables.heads_pass).0
 
 pub twins_of-requires-clause-few : goal.twins_of-requires-clause-few
-twins_of-requires-clause-few c = omega (arith, c.in_ok-items.ensures.few, c.requires.groups.tables.few_faces)
+twins_of-requires-clause-few c =
+    omega (arith, ap (λ (r : LookedAt). r.table.count) c.new-rows.ensures, c.in_ok-items.ensures.few, c.requires.groups.tables.few_faces)
 
 pub merge_items-requires-clause-wide : goal.merge_items-requires-clause-wide
 merge_items-requires-clause-wide c = subst (λ w. 0 < w) (sym c.requires.width) (width_of-bounds c.args.heads.now c.requires.groups.tables.heads_pass).0
@@ -30,13 +29,16 @@ merge_items-requires-clause-faces c =
     (items-fit (zip c.args.heads.now (group_tables c.args.groups.now)) c.args.faces items.faces.items rows c.in_ok-items.ensures.faces_are)
 
 pub merge_items-requires-clause-long : goal.merge_items-requires-clause-long
-merge_items-requires-clause-long c = let found = rw c.in-Some.is at c.in_ok-twins_of.ensures.found in found.1
+merge_items-requires-clause-long c =
+    let found = rw c.in-Some.is at c.in_ok-twins_of.ensures.found in found.1 ∙ ap (λ (r : LookedAt). r.table.count) c.new-rows.ensures
 
 pub merge_items-requires-clause-twins : goal.merge_items-requires-clause-twins
 merge_items-requires-clause-twins c =
     let items = c.in_ok-items.items in
     let found = rw c.in-Some.is at c.in_ok-twins_of.ensures.found in
-    subst (λ (cells : List ℤ). AreTwins (rows_of c.args.width cells) items.count c.in-Some.twins.items) c.as_slice-cells.ensures.value found.0
+    let twins = c.in-Some.twins.items in
+    subst (λ (cells : List ℤ). AreTwins (rows_of c.args.width cells) items.count twins) c.as_slice.ensures.value
+    (subst (λ (r : LookedAt). AreTwins r.table.rows r.table.count twins) c.new-rows.ensures found.0)
 
 pub returns-in-None-clause-numbering : goal.returns-in-None-clause-numbering
 returns-in-None-clause-numbering c =
@@ -46,5 +48,6 @@ returns-in-None-clause-numbering c =
     let many : length rows ≡ items.count = length-rows c.args.width items.count items.cells.items wide c.in_ok-items.ensures.stored in
     let none = rw c.in-None.is at c.in_ok-twins_of.ensures.found in
     let unlike : AreUnlike rows items.count =
-    subst (λ (cells : List ℤ). AreUnlike (rows_of c.args.width cells) items.count) c.as_slice-cells.ensures.value none in
+    subst (λ (cells : List ℤ). AreUnlike (rows_of c.args.width cells) items.count) c.as_slice.ensures.value
+    (subst (λ (r : LookedAt). AreUnlike r.table.rows r.table.count) c.new-rows.ensures none) in
     faces-unlike (zip c.args.heads.now (group_tables c.args.groups.now)) c.args.faces items.count items.faces.items rows c.in_ok-items.ensures.faces_are many unlike
