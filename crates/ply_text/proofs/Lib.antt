@@ -5,6 +5,7 @@ pub mod Signs
 pub mod Patterns
 pub mod Heads
 pub mod Names
+pub mod OutlineSteps
 pub mod Runs
 pub mod Columns
 pub mod InPlace

@@ -9,4 +9,5 @@ pub mod NamedHeads
 pub mod RunParts
 pub mod Header
 pub mod IsHeader
+pub mod DeclaredLines
 pub mod InPlace

@@ -1,8 +1,13 @@
 //! The header of a PLY text.
 
-ghost use Rattle.std.specs.Prelude.{◌≡◌, ◌+◌, ◌-◌, ◌≤◌, ◌<◌, ◌^◌, length, map, IfOk};
+ghost use Rattle.std.specs.Prelude.{◌≡◌, ◌+◌, ◌-◌, ◌≤◌, ◌<◌, ◌^◌, ◌||◌, List, Err, length, map, IfOk, IsOk, MatchResult};
+ghost use Rattle.drc_base.specs.declared.faults.Fault.{Fault as AnyFault};
+ghost use Rattle.drc_base.specs.declared.faults.Refusal.TheVariants as refusal;
 ghost use Rattle.drc_base.specs.Refusals.{Answers};
 ghost use Rattle.ply_text.specs.Tokens.{tokens_of};
+ghost use Rattle.ply_text.specs.declared.headers.PlyHead.{PlyHead as PlyHeadValue};
+ghost use Rattle.ply_text.specs.declared.headers.Property.{Property as PropertyValue};
+ghost use Rattle.ply_text.specs.DeclaredLines.{declared_from, declared_of_text, draft_with, quantises};
 ghost use Rattle.ply_text.specs.Draft.{draft_of};
 ghost use Rattle.ply_text.specs.IsHeader.{IsDraft, IsHeader};
 ghost use Rattle.ply_text.specs.Header.{is_end_by, ends_header, no_draft, header_from, header_of};
@@ -11,6 +16,7 @@ use crate::drafts::HeaderDraft;
 use crate::header_ends::header_at;
 use crate::headers::Header;
 use crate::line_reader::Lines;
+use crate::outlines::{Outline, quantises};
 use crate::statements::{is_magic, keyword_at};
 use crate::words::Keyword;
 use drc_base::{Fault, Kind, Refusal};
@@ -30,6 +36,46 @@ fn is_end(draft: &HeaderDraft, line: &[u8]) -> bool
     ensures { result ≡ ends_header (draft_of draft.now) (tokens_of line.now) }
 {
     draft.formatted && is_end_by(keyword_at(line))
+}
+
+/// Whether the line ends what can be tested without memory: it ends the header, or quantises an attribute.
+fn is_outline_end(outline: &Outline, line: &[u8]) -> bool
+    ensures { (heads : List PlyHeadValue) (properties : List PropertyValue) →
+        result ≡ (ends_header (draft_with outline.now heads properties) (tokens_of line.now) || quantises (tokens_of line.now)) }
+{
+    outline.is_formatted() && is_end_by(keyword_at(line)) || quantises(line)
+}
+
+/// Tests the lines from line 2 on, up to one that ends the header or quantises an attribute, without memory.
+fn test_lines(lines: &mut Lines<'_>) -> Result<(), Fault>
+    requires { length lines.old < 2 ^ 64 - 4 }
+    ensures { MatchResult result (λ _. IsOk (declared_from 2 no_draft (map tokens_of lines.old))) (λ f. declared_from 2 no_draft (map tokens_of lines.old) ≡ Err f) }
+{
+    let mut outline = Outline::none();
+    let mut at: u64 = 2;
+    while let Some(line) = lines.next() {
+        if is_outline_end(&outline, line) {
+            return Ok(());
+        }
+        outline.statement(at, line)?;
+        at += 1;
+    }
+    Err(Fault::new(Kind::PlyShort, at))
+}
+
+/// Tests the lines of a text, up to one that ends the header or quantises an attribute, without memory.
+#[tactic(auto, unfolding(crate::specs::DeclaredLines::declared_of_text, crate::specs::Tokens::token_lines))]
+fn test_declared(bytes: &[u8]) -> Result<(), Fault>
+    ensures { MatchResult result (λ _. IsOk (declared_of_text bytes.now)) (λ f. declared_of_text bytes.now ≡ Err f) }
+{
+    let mut lines = Lines::new(bytes);
+    let Some(first) = lines.next() else {
+        return Err(Fault::new(Kind::PlyShort, 1));
+    };
+    if !is_magic(first) {
+        return Err(Fault::new(Kind::PlyMagic, 1));
+    }
+    test_lines(&mut lines)
 }
 
 fn no_draft(alloc: Global) -> HeaderDraft
@@ -65,13 +111,10 @@ fn header_from(alloc: Global, lines: &mut Lines<'_>) -> Result<Header, Refusal>
     Err(Refusal::Fault(Fault::new(Kind::PlyShort, at)))
 }
 
-/// The header of a PLY text, or its first fault with its line: PlyMagic, PlyFormat, PlyHeader, PlyType,
-/// PlyElement, PlyAttr, PlyShort, PointLimit, FaceLimit, AttrLimit and ValueLimit. Only the lines up to
-/// `end_header` are read (PLY 1.0, in this project's profile).
+/// The header of a PLY text, all of whose lines but those that need memory were tested.
 #[tactic(auto, unfolding(crate::specs::Header::header_of, crate::specs::Tokens::token_lines))]
-pub fn read_header(alloc: Global, bytes: &[u8]) -> Result<Header, Refusal>
+fn header_of(alloc: Global, bytes: &[u8]) -> Result<Header, Refusal>
     ensures header { Answers (λ header. header) (header_of bytes.now) result }
-    // What holds of every header.
     ensures sound { IfOk result IsHeader }
     ensures body { IfOk result (λ header. (2 < header.body_line) × (header.body_line ≤ length bytes.now + 4)) }
 {
@@ -83,4 +126,20 @@ pub fn read_header(alloc: Global, bytes: &[u8]) -> Result<Header, Refusal>
         return Err(Refusal::Fault(Fault::new(Kind::PlyMagic, 1)));
     }
     header_from(alloc, &mut lines)
+}
+
+/// The header of a PLY text, or its first fault with its line: PlyMagic, PlyFormat, PlyHeader, PlyType,
+/// PlyElement, PlyAttr, PlyShort, PointLimit, FaceLimit, AttrLimit and ValueLimit. Only the lines up to
+/// `end_header` are read (PLY 1.0, in this project's profile). A fault of a line before `end_header` and before the
+/// first line that quantises an attribute comes before out of memory.
+#[tactic(auto, using(crate::proofs::OutlineSteps::declared_fault))]
+pub fn read_header(alloc: Global, bytes: &[u8]) -> Result<Header, Refusal>
+    ensures header { Answers (λ header. header) (header_of bytes.now) result }
+    ensures early { (f : AnyFault) → declared_of_text bytes.now ≡ Err f → result ≡ Err (refusal.Fault f) }
+    // What holds of every header.
+    ensures sound { IfOk result IsHeader }
+    ensures body { IfOk result (λ header. (2 < header.body_line) × (header.body_line ≤ length bytes.now + 4)) }
+{
+    test_declared(bytes)?;
+    header_of(alloc, bytes)
 }

@@ -18,6 +18,7 @@ mod line_reader;
 mod line_tokens;
 mod name_runs;
 mod named_heads;
+mod outlines;
 mod statements;
 mod token_reader;
 mod words;

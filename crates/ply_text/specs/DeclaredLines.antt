@@ -1,0 +1,81 @@
+-- What the lines of a header declare, as far as it is known before a list is made: up to `end_header` or the first line
+-- that quantises an attribute (this project's choice).
+use Rattle.std.specs.Prelude.{ℕ, ◌≡◌, ◌+◌, ◌||◌, Bool, false, List, [], ◌∷◌, length, codes, Option, None, Result, Ok, Err, if◌then◌else◌}
+use Rattle.drc_base.specs.declared.faults.Fault.{Fault}
+use Rattle.drc_base.specs.declared.kinds.Kind.TheVariants.{PlyMagic, PlyShort}
+use Rattle.drc_base.specs.Steps.{◌>>=◌}
+use Rattle.ply_text.specs.declared.headers.PlyHead.{PlyHead}
+use Rattle.ply_text.specs.declared.headers.Property.{Property}
+use Rattle.ply_text.specs.declared.words.Keyword.{Keyword}
+use Rattle.ply_text.specs.declared.words.Keyword.TheVariants as keyword
+use Rattle.ply_text.specs.Comments.{is_form}
+use Rattle.ply_text.specs.Declarations.{is_magic, keyword_at}
+use Rattle.ply_text.specs.Draft.{Draft, statement}
+use Rattle.ply_text.specs.Faults.{refuse}
+use Rattle.ply_text.specs.Header.{ends_header, no_draft}
+use Rattle.ply_text.specs.Tokens.{token_lines}
+
+-- a comment that quantises an attribute
+abbrev pub quantises_by : Keyword → List (List ℕ) → Bool
+quantises_by keyword.Comment line = is_form (codes "quant") line
+quantises_by _ line = false
+
+abbrev pub quantises : List (List ℕ) → Bool
+quantises line = quantises_by (keyword_at line) line
+
+-- what the lines from line number `at` on declare, up to one that ends the header or quantises an attribute, or the first
+-- fault of a line before it
+abbrev pub declared_from : ℕ → Draft → List (List (List ℕ)) → Result Draft Fault
+declared_from at d [] = refuse PlyShort at
+declared_from at d (line ∷ lines) =
+    if ends_header d line || quantises line then Ok d else (statement at d line >>= λ next. declared_from (at + 1) next lines)
+
+-- the same of all lines
+abbrev pub declared_of_lines : List (List (List ℕ)) → Result Draft Fault
+declared_of_lines [] = refuse PlyShort 1
+declared_of_lines (first ∷ lines) = if is_magic first then declared_from 2 no_draft lines else refuse PlyMagic 1
+
+-- what the lines of a PLY text declare, up to `end_header` or the first line that quantises an attribute, or the first
+-- fault of a line before it
+unfoldable pub declared_of_text : List ℕ → Result Draft Fault
+declared_of_text text = declared_of_lines (token_lines text)
+
+-- what was declared so far, as far as the next lines are tested by it: of the attributes of comments their number
+pub record OutlineParts : Type 0 where
+  pub formatted : Bool
+  pub heads : ℕ
+  pub vertices : Option ℕ
+  pub faces : Option ℕ
+  pub list : Option (ℕ × ℕ)
+
+-- a draft with these attributes and properties, and else what an outline has
+abbrev pub draft_with : OutlineParts → List PlyHead → List Property → Draft
+draft_with o heads properties = record {
+  formatted = o.formatted;
+  heads = heads;
+  vertices = o.vertices;
+  properties = properties;
+  faces = o.faces;
+  list = o.list;
+}
+
+-- a draft that has this outline is due
+pub record HasOutline (due : Result Draft Fault) (o : OutlineParts) : Type 0 where
+  pub heads : List PlyHead
+  pub properties : List Property
+  pub is : due ≡ Ok (draft_with o heads properties)
+  pub each : length heads ≡ o.heads
+
+-- a draft that has this outline is due, or the fault is
+abbrev pub Outlines : Result Draft Fault → OutlineParts → Result (Unit {0}) Fault → Type 0
+Outlines due o (Ok _) = HasOutline due o
+Outlines due o (Err f) = due ≡ Err f
+
+-- the same of a step from any draft that has the outline `old`
+abbrev pub Follows : (Draft → Result Draft Fault) → OutlineParts → OutlineParts → Result (Unit {0}) Fault → Type 0
+Follows step old new result =
+    (heads : List PlyHead) (properties : List Property) → length heads ≡ old.heads → Outlines (step (draft_with old heads properties)) new result
+
+-- the outline of nothing
+abbrev pub no_outline : OutlineParts
+no_outline = record { formatted = false; heads = 0; vertices = None; faces = None; list = None }
