@@ -80,8 +80,8 @@ def jobs_of(given, drc):
     jobs = []
     for name, target in targets.items():
         target = out / target
-        jobs.append(Job(given.do, str(name), str(found.folder / name), str(target), words, drc, settings, options, str(target.with_suffix(".map")) if has_map else None,
-                        getattr(given, "ascii", False), False, getattr(given, "force", False), getattr(given, "any_size", False)))
+        jobs.append(Job(given.do, str(name), str(found.folder / name), str(target), words, drc, settings, options, map_of(target) if has_map else None,
+                        is_text=getattr(given, "ascii", False), is_forced=given.force, any_size=getattr(given, "any_size", False)))
     return jobs, passed_over(found, jobs, given, words)
 
 
@@ -94,15 +94,17 @@ def inputs_of(jobs):
 
 def passed_over(found, jobs, given, words):
     """A row for each file that isn't one of those which are wanted, nor belongs to one of them or to the outputs."""
-    known = {os.path.realpath(it) for it in [*inputs_of(jobs), *(path for job in jobs for path in (job.source, job.out, map_of(job.out))), given.report or ""] if it}
+    theirs = [path for job in jobs for path in (job.source, job.out, map_of(job.out))]
+    known = {os.path.realpath(path) for path in [*inputs_of(jobs), *theirs, given.report] if path}
     rows = []
     for path in found.files:
         if os.path.realpath(path) not in known and not REPORT.fullmatch(path.name) and not (path.suffix == ".map" and path.with_suffix(".drc").exists()):
             kind = path.suffix.lower() if path.is_file() else "linked folder" if path.is_dir() else "no file"
-            rows.append(Row(str(path.relative_to(found.folder)), PASSED_OVER, kind, "", os.path.getsize(path) if path.is_file() else 0, 0, "", "", words,
-                            f"it is none of {WANTED[given.do][1]}"))
+            size = os.path.getsize(path) if path.is_file() else 0
+            rows.append(Row(str(path.relative_to(found.folder)), PASSED_OVER, kind, "", size, 0, "", "", words, f"it is none of {WANTED[given.do][1]}"))
     for why in found.unread:
-        rows.append(Row(os.path.relpath(why.filename, found.folder), FAILED, f"status {READING}", "", 0, 0, "", "", words, f"{why.filename} can't be read: {why.strerror}"))
+        line = f"{why.filename} can't be read: {why.strerror}"
+        rows.append(Row(os.path.relpath(why.filename, found.folder), FAILED, f"status {READING}", "", 0, 0, "", "", words, line))
     return rows
 
 

@@ -15,10 +15,10 @@ from .trouble import MISSING, READING, Trouble
 
 PACKAGE = pathlib.Path(__file__).resolve().parent
 # Starting the workers takes some seconds, and each task goes through a scheduler; so they are started for work that takes longer by one
-# process than this. What a file takes: a part for each, and a part for its bytes, of which a stream holds many times as much in each.
+# process than this. What a file takes is a part for each and a part for its bytes, of which a stream has fewer than a mesh.
 SMALL_WORK = 30.0  # seconds
 SECONDS_A_FILE = 0.05
-BYTES_A_SECOND = {"pack": 2.5e6, "verify": 2.5e6, "gltf": 2.5e6, "unpack": 1.5e5, "recode": 1.5e5}
+BYTES_A_SECOND = {"pack": 3e6, "verify": 3e6, "gltf": 3e6, "unpack": 5e5, "recode": 1e6}
 
 
 def seconds_of(jobs):
