@@ -3,6 +3,9 @@
 //! Beside the entries stands, for each free side, the free side that follows it round the boundary and the
 //! one before it, so that the ends of an open fan are found without a walk. A table that is finished has no
 //! use for them, and is given back without.
+//!
+//! A table that grows is tied to a ledger by its type: each call that looks at it counts in that ledger, and
+//! it lends nothing that could be looked at under another one.
 
 use crate::entries::Entries;
 use crate::links::{close_up, link_face, relink, replace};
@@ -13,18 +16,20 @@ use drc_base::{Memory, Side};
 use std::alloc::Global;
 use std::fmt;
 use std::fmt::Debug;
-use std::marker::Model;
+use std::marker::{Model, PhantomData};
 use std::sync::ledger::Ledger;
 
-/// A table of glued sides with the links of its boundary. Contracts see it as the table.
+/// A table of glued sides with the links of its boundary, whose calls count in the ledger `L` and in no other.
+/// Contracts see it as the table.
 #[derive(Drop)]
-pub struct LinkedTable {
+pub struct LinkedTable<L: Ledger> {
     sides: SideTable,
     after: Entries,
     before: Entries,
+    ledger: PhantomData<L>,
 }
 
-impl Model for LinkedTable {
+impl<L: Ledger> Model for LinkedTable<L> {
     ghost use Rattle.std.specs.Prelude.{◌≤◌, length};
     ghost use Rattle.corner_table.specs.Table.{Table, IsLinkedTable};
 
@@ -36,7 +41,7 @@ impl Model for LinkedTable {
         × (length t.sides.entries ≤ t.after.room) × (length t.sides.entries ≤ t.before.room) };
 }
 
-impl Debug for LinkedTable {
+impl<L: Ledger> Debug for LinkedTable<L> {
     fn fmt<W: fmt::Write>(&self, f: &mut fmt::Formatter<W>) -> fmt::Result {
         f.debug_struct("LinkedTable")
             .field("sides", &self.sides)
@@ -44,7 +49,7 @@ impl Debug for LinkedTable {
     }
 }
 
-impl LinkedTable {
+impl<L: Ledger> LinkedTable<L> {
     ghost use Rattle.std.specs.Prelude.{◌≡◌, ◌≢◌, ◌+◌, ◌*◌, ◌<◌, ◌≤◌, IfOk, length};
     ghost use Rattle.std.specs.Option.{option_map};
     ghost use Rattle.drc_base.specs.declared.limits.TheConstants.{MAX_FACES as most_faces};
@@ -54,7 +59,7 @@ impl LinkedTable {
 
     /// A table without faces, and room for `faces` of them, which is three lists of a number for each
     /// of their sides. Fails only when out of memory.
-    pub fn with_room(alloc: Global, faces: u32) -> Result<LinkedTable, Memory>
+    pub fn with_room(alloc: Global, faces: u32) -> Result<LinkedTable<L>, Memory>
         requires { faces ≤ most_faces }
         ensures none { IfOk result (λ t. t.faces ≡ 0) }
         ensures room { IfOk result (λ t. room_of t ≡ faces) }
@@ -69,6 +74,7 @@ impl LinkedTable {
             sides,
             after,
             before,
+            ledger: PhantomData,
         })
     }
 
@@ -84,7 +90,7 @@ impl LinkedTable {
     }
 
     /// Adds a face, no side of which is glued, and answers its number.
-    pub fn add_face<L: Ledger>(&mut self, steps: &mut Steps<L>) -> u32
+    pub fn add_face(&mut self, steps: &mut Steps<L>) -> u32
         requires { self.old.faces < room_of self.old }
         ensures face { result ≡ self.old.faces }
         ensures faces { self.new.faces ≡ self.old.faces + 1 }
@@ -98,7 +104,7 @@ impl LinkedTable {
     }
 
     /// Glues two free sides of two faces.
-    pub fn glue<L: Ledger>(&mut self, a: Side, b: Side, steps: &mut Steps<L>)
+    pub fn glue(&mut self, a: Side, b: Side, steps: &mut Steps<L>)
         requires first { IsFreeIn self.old (side_of a) }
         requires second { IsFreeIn self.old (side_of b) }
         requires apart { a.face ≢ b.face }
@@ -118,7 +124,7 @@ impl LinkedTable {
 
     /// Adds a face, whose side `k` is glued to the free side `top`, and answers its number. Its two other
     /// sides are free.
-    pub fn add_beside<L: Ledger>(&mut self, k: u8, top: Side, steps: &mut Steps<L>) -> u32
+    pub fn add_beside(&mut self, k: u8, top: Side, steps: &mut Steps<L>) -> u32
         requires place { k < 3 }
         requires more { self.old.faces < room_of self.old }
         requires top { IsFreeIn self.old (side_of top) }
@@ -150,7 +156,7 @@ impl LinkedTable {
 
     /// Adds a face, whose side 1 is glued to the free side `top` and whose side 2 to `previous`, another
     /// side, which comes before `top` round the boundary. Answers its number; its side 0 is free.
-    pub fn add_tip<L: Ledger>(&mut self, top: Side, previous: Side, steps: &mut Steps<L>) -> u32
+    pub fn add_tip(&mut self, top: Side, previous: Side, steps: &mut Steps<L>) -> u32
         requires more { self.old.faces < room_of self.old }
         requires top { IsFreeIn self.old (side_of top) }
         requires previous { side_of previous ≡ side_before self.old.faces (gluing_of self.old) (side_of top) }
@@ -175,7 +181,7 @@ impl LinkedTable {
     }
 
     /// The side that `s` is glued to; None where `s` is free.
-    pub fn other<L: Ledger>(&self, s: Side, steps: &mut Steps<L>) -> Option<Side>
+    pub fn other(&self, s: Side, steps: &mut Steps<L>) -> Option<Side>
         requires { s.face < self.now.faces }
         ensures other { option_map side_of result ≡ gluing_of self.now (side_of s) }
         ensures steps { steps.new ≡ steps.old + 1 }
@@ -185,7 +191,7 @@ impl LinkedTable {
 
     /// The one free side that starts at the fan where the free side `s` ends: the one that follows it
     /// round the boundary.
-    pub fn next_open<L: Ledger>(&self, s: Side, steps: &mut Steps<L>) -> Side
+    pub fn next_open(&self, s: Side, steps: &mut Steps<L>) -> Side
         requires { IsFreeIn self.now (side_of s) }
         ensures next { side_of result ≡ side_after self.now.faces (gluing_of self.now) (side_of s) }
         ensures follows { Follows self.now.faces (gluing_of self.now) (side_of s) (side_of result) }
@@ -200,7 +206,7 @@ impl LinkedTable {
 
     /// The one free side that ends at the fan where the free side `s` starts: the one before it round
     /// the boundary.
-    pub fn prev_open<L: Ledger>(&self, s: Side, steps: &mut Steps<L>) -> Side
+    pub fn prev_open(&self, s: Side, steps: &mut Steps<L>) -> Side
         requires { IsFreeIn self.now (side_of s) }
         ensures previous { side_of result ≡ side_before self.now.faces (gluing_of self.now) (side_of s) }
         ensures free { IsFreeIn self.now (side_of result) }
@@ -212,13 +218,6 @@ impl LinkedTable {
         // For the prover alone, who knows of the lists from here on that they fit together.
         let _ = &self.sides;
         side_with(self.before.at(number_of(s), &mut looks))
-    }
-
-    /// The table.
-    pub fn sides(&self) -> &SideTable
-        ensures { result.now ≡ self.now }
-    {
-        &self.sides
     }
 
     /// The table without the links, whose lists are freed.

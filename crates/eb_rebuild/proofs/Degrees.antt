@@ -12,11 +12,10 @@ use Rattle.eb_machine.specs.Degree.{degree}
 use Rattle.eb_machine.specs.Named.{Triangle, no_triangle, Row, NamedState}
 use Rattle.eb_machine.specs.Shown.{name_of, row_named, Among}
 use Rattle.eb_rebuild.specs.Counted.{times_in}
-use Rattle.eb_rebuild.specs.declared.active_rows.Row.{Row as NumberedRow}
-use Rattle.eb_rebuild.specs.Rowed.{NamedTable, IsNamedTable, all_listed}
+use Rattle.eb_rebuild.specs.NamedTables.{NamedTable, IsNamedTable}
 use Rattle.corner_table.proofs.Places.{option_tells}
 use Rattle.eb_machine.proofs.NamedLaw.{Stands, name_test}
-use Rattle.eb_rebuild.proofs.RowTables.{alone, stands_alone}
+use Rattle.eb_rebuild.proofs.NamedTables.{alone, stands_alone}
 
 corners_of-suc : (m : ℕ) → corners_of (suc m) ≡ corners_of m ++ (side m first ∷ side m second ∷ side m third ∷ [])
 unfolding corners_of
@@ -168,8 +167,3 @@ degree_is v I c h =
     ∙ ap (λ (n : ℕ). n + cond (list_any (λ (r : Row). r.from == name_of v.triangles c) v.rows) 1 0) (count_is {x = alone v} W c l (length v.triangles) (omega arith))
     ∙ ap (λ (t : Bool). count_by (meets (length v.triangles) (gluing_of v.table) c) (corners_of (length v.triangles)) + cond t 1 0) (starts_is {x = alone v} W c l)
     ∙ ap (λ (n : ℕ). degree n (gluing_of v.table) c) I.long
-
--- rows by the numbers of their sides
-pub any_listed : (v : ℕ) (rows : List NumberedRow) → list_any (λ (r : NumberedRow). r.from == v) rows ≡ list_any (λ (r : Row). r.from == v) (all_listed rows)
-any_listed v [] = refl
-any_listed v (r ∷ rows) = ap (λ (t : Bool). (r.from == v) || t) (any_listed v rows)

@@ -5,10 +5,7 @@ pub mod Noting
 pub mod Linking
 pub mod Equals
 pub mod Roots
-mod NamedRows
-pub mod RowTables
-pub mod EqualNames
-pub mod RowSteps
+pub mod NamedTables
 pub mod Degrees
 mod NameDegrees
 mod SymbolDegrees

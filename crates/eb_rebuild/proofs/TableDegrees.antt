@@ -25,7 +25,7 @@ use Rattle.eb_rebuild.specs.Kept.{StackValue, SplitsValue, kept_in, AreSidesBelo
 use Rattle.eb_rebuild.specs.KeptDegrees.{degree_raised, KeepsDegrees, KeepsList, DegreesValue, IsReady, NotesBeside, NotesTip, NotesSplit, with_room, after_end, after_beside, after_tip, after_split}
 use Rattle.eb_rebuild.specs.Linked.{LinkValue, IsLinkState, state_of, is_top_free, is_live, Does, refused_by}
 use Rattle.eb_rebuild.specs.Rebuilding.{Moves}
-use Rattle.eb_rebuild.specs.Rowed.{NamedTable, IsNamedTable}
+use Rattle.eb_rebuild.specs.NamedTables.{NamedTable, IsNamedTable}
 use Rattle.eb_rebuild.proofs.Degrees.{among_any, degree_is}
 use Rattle.eb_rebuild.proofs.Linking.{side_at_first}
 use Rattle.eb_rebuild.proofs.Lists.{first_some}

@@ -3,7 +3,7 @@ pub mod Rebuilding
 pub mod Kept
 pub mod Linked
 pub mod Alike
-pub mod Rowed
+pub mod NamedTables
 pub mod Counted
 pub mod KeptDegrees
 pub mod JoinedNames

@@ -4,8 +4,8 @@ use crate::degenerate::first_equal;
 use corner_table::{Classes, SideTable};
 use std::marker::Model;
 
-/// The table of a finished rebuilding, with the classes of its corners. Only `finish` of a rebuilding makes
-/// one. It is linked where the rebuilding kept the boundary by links.
+/// The table of a finished rebuilding, with the classes of its corners. It is linked where the rebuilding kept
+/// the boundary by links: of these only `finish` of a linked rebuilding makes one.
 #[derive(Debug, Drop)]
 pub struct Built {
     table: SideTable,
@@ -26,21 +26,34 @@ impl Model for Built {
 }
 
 impl Built {
-    ghost use Rattle.std.specs.Prelude.{◌≡◌};
+    ghost use Rattle.std.specs.Prelude.{◌≡◌, true, false};
     ghost use Rattle.corner_table.specs.Labels.{IsLabelled};
     ghost use Rattle.corner_table.specs.Table.{gluing_of};
     ghost use Rattle.eb_machine.specs.Machine.{first_degenerate};
 
-    /// The finished table, whose corners have these classes.
-    pub(crate) fn new(table: SideTable, classes: Classes, linked: bool) -> Built
+    /// A finished table whose boundary was kept by links, with the classes of its corners.
+    pub(crate) fn by_links(table: SideTable, classes: Classes) -> Built
         requires { IsLabelled table.faces (gluing_of table) classes.of_corner classes.count classes.ends }
         ensures table { result.table ≡ table }
-        ensures linked { result.linked ≡ linked }
+        ensures linked { result.linked ≡ true }
     {
         Built {
             table,
             classes,
-            linked,
+            linked: true,
+        }
+    }
+
+    /// A finished table that kept no links, with the classes of its corners.
+    pub fn without_links(table: SideTable, classes: Classes) -> Built
+        requires { IsLabelled table.faces (gluing_of table) classes.of_corner classes.count classes.ends }
+        ensures table { result.table ≡ table }
+        ensures linked { result.linked ≡ false }
+    {
+        Built {
+            table,
+            classes,
+            linked: false,
         }
     }
 

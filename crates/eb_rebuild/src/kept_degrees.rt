@@ -212,7 +212,7 @@ impl KeptDegrees {
     #[inline(always)]
     pub(crate) fn note_beside<L: Ledger>(
         &mut self,
-        table: &LinkedTable,
+        table: &LinkedTable<L>,
         beside: Beside,
         a: u32,
         steps: &mut Steps<L>,
@@ -237,7 +237,7 @@ impl KeptDegrees {
     #[inline(always)]
     pub(crate) fn note_tip<L: Ledger>(
         &mut self,
-        table: &LinkedTable,
+        table: &LinkedTable<L>,
         a: u32,
         t: u32,
         steps: &mut Steps<L>,
@@ -263,7 +263,7 @@ impl KeptDegrees {
     #[inline(always)]
     pub(crate) fn note_split<L: Ledger>(
         &mut self,
-        table: &LinkedTable,
+        table: &LinkedTable<L>,
         b: u32,
         a: u32,
         steps: &mut Steps<L>,

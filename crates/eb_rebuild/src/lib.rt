@@ -3,23 +3,19 @@
 //! `Rebuild`: each call gives the next state of the machine, or exactly the fault of its rule.
 #![tactic(auto)]
 
-mod active_rows;
 mod built;
 mod corner_names;
 mod degenerate;
-mod glued_faces;
 mod joined_names;
 mod kept_degrees;
 mod kept_sides;
 mod link_rebuild;
-mod name_lists;
-mod named_table;
 mod rebuild;
-mod row_rebuild;
 mod side_stack;
 mod splits;
 
 pub use built::Built;
 pub use link_rebuild::LinkRebuild;
 pub use rebuild::Rebuild;
-pub use row_rebuild::RowRebuild;
+pub use side_stack::SideStack;
+pub use splits::{Splits, waiting};

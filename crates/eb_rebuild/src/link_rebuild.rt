@@ -5,11 +5,11 @@
 //! built before. Where the degrees of vertices will be asked for, they are kept at the free sides that start
 //! there. Corners are named as faces are built, so that no fan is walked at the end.
 
-ghost use Rattle.std.specs.Prelude.{◌≡◌, ◌+◌, ◌*◌, ◌≤◌, not, ◌&&◌, true, length, IfOk};
+ghost use Rattle.std.specs.Prelude.{◌≡◌, ◌+◌, ◌*◌, ◌≤◌, not, ◌&&◌, true, [], length, IfOk, IsTrue};
+ghost use Rattle.drc_base.specs.declared.limits.TheConstants.{MAX_FACES as most_faces};
 ghost use Rattle.corner_table.specs.Sides.{same};
 ghost use Rattle.corner_table.specs.Table.{side_of, gluing_of, room_of};
 ghost use Rattle.eb_rebuild.specs.CornerNames.{IsNaming};
-ghost use Rattle.eb_rebuild.specs.Linked.{refused_by};
 
 use crate::built::Built;
 use crate::corner_names::CornerNames;
@@ -39,19 +39,9 @@ fn is_loop(a: Side, b: Side, c: Side, d: Side) -> bool
     !is_same(b, a) && !is_same(c, a) && is_same(d, a)
 }
 
-/// A fault is a refusal.
-pub(crate) fn refused(done: Result<(), Fault>) -> Result<(), Refusal>
-    ensures { result ≡ refused_by done }
-{
-    match done {
-        Ok(()) => Ok(()),
-        Err(fault) => Err(Refusal::Fault(fault)),
-    }
-}
-
 /// The table of a rebuilding and the names of its corners; all else that it keeps is freed. The table
 /// has entries for no more than the declared faces.
-fn finished_parts(rebuild: LinkRebuild) -> (SideTable, CornerNames)
+fn finished_parts<L: Ledger>(rebuild: LinkRebuild<L>) -> (SideTable, CornerNames)
     ensures table { result.0 ≡ rebuild.table }
     ensures naming { IsNaming rebuild.table.faces (gluing_of rebuild.table) result.1 }
     ensures made { length result.1.up ≡ rebuild.made }
@@ -81,13 +71,33 @@ fn classed<L: Ledger>(
     let faces = table.face_count();
     let across = table.across(steps);
     let classes = names.into_classes(alloc, across, faces, made)?;
-    Ok(Built::new(table, classes, true))
+    Ok(Built::by_links(table, classes))
+}
+
+/// No degree and no name is kept yet, with room for those of `most` faces, of degrees if they will be
+/// asked for.
+fn noted_parts(
+    alloc: Global,
+    most: u32,
+    degrees: bool,
+) -> Result<(KeptDegrees, CornerNames), Memory>
+    requires { most ≤ most_faces }
+    ensures degrees { IfOk result (λ p. p.0.list ≡ []) }
+    ensures kept { IfOk result (λ p. p.0.kept ≡ degrees) }
+    ensures room { IfOk result (λ p. IsTrue degrees → 3 * most ≤ p.0.room) }
+    ensures names { IfOk result (λ p. p.1.names ≡ []) }
+    ensures none { IfOk result (λ p. p.1.up ≡ []) }
+    ensures names_room { IfOk result (λ p. p.1.room ≡ 3 * most) }
+{
+    let degrees = KeptDegrees::none(alloc, most, degrees)?;
+    let names = CornerNames::with_room(alloc, most)?;
+    Ok((degrees, names))
 }
 
 /// A rebuilding that keeps the boundary by links.
 #[derive(Debug, Drop)]
-pub struct LinkRebuild {
-    table: LinkedTable,
+pub struct LinkRebuild<L: Ledger> {
+    table: LinkedTable<L>,
     stack: SideStack,
     splits: Splits,
     degrees: KeptDegrees,
@@ -99,7 +109,7 @@ pub struct LinkRebuild {
     closes: u32,
 }
 
-impl Model for LinkRebuild {
+impl<L: Ledger> Model for LinkRebuild<L> {
     ghost use Rattle.std.specs.Prelude.{◌≡◌, IsTrue};
     ghost use Rattle.eb_rebuild.specs.CornerNames.{KeepsNames};
     ghost use Rattle.eb_rebuild.specs.KeptDegrees.{KeepsList};
@@ -129,7 +139,7 @@ impl Model for LinkRebuild {
         × KeepsNames r.table r.made r.names };
 }
 
-impl LinkRebuild {
+impl<L: Ledger> LinkRebuild<L> {
     ghost use Rattle.std.specs.Prelude.{◌≡◌, ◌≢◌, ℕ, suc, ◌+◌, ◌*◌, ◌<◌, ◌≤◌, true, false, None, [], ◌∷◌, Ok, Err, map, length, IsTrue, IfOk, IfErr, OnOk, OnErr};
     ghost use Rattle.drc_base.specs.declared.limits.TheConstants.{MAX_FACES as most_faces};
     ghost use Rattle.corner_table.specs.declared.symbols.Symbol.TheVariants as kinds;
@@ -141,21 +151,9 @@ impl LinkRebuild {
     ghost use Rattle.eb_rebuild.specs.Linked.{state_of, is_live, Does, IsLoopOf};
     ghost use Rattle.eb_rebuild.specs.Rebuilding.{Holds, Ends};
 
-    /// The table of the faces built and the pairs glued so far, with entries for exactly the faces that there
-    /// is room for, which are no more than are declared.
-    pub fn sides(&self) -> &SideTable
-        ensures holds { Holds (state_of self.now) result.now }
-        ensures room { length result.now.entries ≡ 3 * room_of self.now.table }
-        ensures within { length result.now.entries ≤ 3 * self.now.plan.faces }
-    {
-        // For the prover alone: the table has three entries for each face for which there is room.
-        let _room = self.table.face_count();
-        self.table.sides()
-    }
-
     /// Takes the top side off, which has to be free.
     #[inline(always)]
-    fn take_side<L: Ledger>(&mut self, steps: &mut Steps<L>) -> Result<u32, Fault>
+    fn take_side(&mut self, steps: &mut Steps<L>) -> Result<u32, Fault>
         ensures ok { IfOk result (λ a. (self.old.stack.sides ≡ a ∷ self.new.stack.sides) × (gluing_of self.old.table (side_at a) ≡ None) × (a < 3 * self.old.table.faces)) }
         ensures err { IfErr result (λ f. top self.old.table.faces (gluing_of self.old.table) (map side_at self.old.stack.sides) ≡ Err f) }
         ensures rest { self.new ≡ record self.old { stack = self.new.stack } }
@@ -172,7 +170,7 @@ impl LinkRebuild {
 
     /// E: a new face, no side of which is glued.
     #[inline(always)]
-    fn take_end<L: Ledger>(&mut self, steps: &mut Steps<L>) -> Result<(), Fault>
+    fn take_end(&mut self, steps: &mut Steps<L>) -> Result<(), Fault>
         requires more { self.old.table.faces < self.old.plan.symbols }
         requires room { self.old.table.faces < room_of self.old.table }
         requires unclosed { self.old.closes ≡ 0 }
@@ -193,7 +191,7 @@ impl LinkRebuild {
 
     /// L and R: side 1 or side 2 of the new face is glued to the top side.
     #[inline(always)]
-    fn take_beside<L: Ledger>(&mut self, beside: Beside, steps: &mut Steps<L>) -> Result<(), Fault>
+    fn take_beside(&mut self, beside: Beside, steps: &mut Steps<L>) -> Result<(), Fault>
         requires more { self.old.table.faces < self.old.plan.symbols }
         requires room { self.old.table.faces < room_of self.old.table }
         requires unclosed { self.old.closes ≡ 0 }
@@ -222,7 +220,7 @@ impl LinkRebuild {
     /// C: the new face closes the vertex at which the top side starts. Its side 1 is glued to the top
     /// side, its side 2 to the free side before that.
     #[inline(always)]
-    fn take_tip<L: Ledger>(&mut self, steps: &mut Steps<L>) -> Result<(), Fault>
+    fn take_tip(&mut self, steps: &mut Steps<L>) -> Result<(), Fault>
         requires more { self.old.table.faces < self.old.plan.symbols }
         requires room { self.old.table.faces < room_of self.old.table }
         requires unclosed { self.old.closes ≡ 0 }
@@ -255,7 +253,7 @@ impl LinkRebuild {
     /// The second side of an S: the one that an event keeps for it, else the top side. It has to be
     /// free.
     #[inline(always)]
-    fn take_second<L: Ledger>(&mut self, steps: &mut Steps<L>) -> Result<u32, Fault>
+    fn take_second(&mut self, steps: &mut Steps<L>) -> Result<u32, Fault>
         requires { self.old.table.faces < self.old.plan.symbols }
         ensures ok { IfOk result (λ a. (top self.old.table.faces (gluing_of self.old.table) (pushed (kept_in self.old.splits.kept self.old.table.faces) (map side_at self.old.stack.sides)) ≡ Ok (side_at a, map side_at self.new.stack.sides))
             × (gluing_of self.old.table (side_at a) ≡ None) × (a < 3 * self.old.table.faces)) }
@@ -278,7 +276,7 @@ impl LinkRebuild {
     /// S: the new face joins the top side and the second side. Its side 1 is glued to the top side, its
     /// side 2 to the second.
     #[inline(always)]
-    fn take_split<L: Ledger>(&mut self, steps: &mut Steps<L>) -> Result<(), Fault>
+    fn take_split(&mut self, steps: &mut Steps<L>) -> Result<(), Fault>
         requires more { self.old.table.faces < self.old.plan.symbols }
         requires room { self.old.table.faces < room_of self.old.table }
         requires unclosed { self.old.closes ≡ 0 }
@@ -315,7 +313,7 @@ impl LinkRebuild {
 
     /// Builds the face of an S: its side 1 is glued to the free side b, its side 2 to the free side a.
     #[inline(always)]
-    fn build_split<L: Ledger>(&mut self, b: u32, a: u32, steps: &mut Steps<L>)
+    fn build_split(&mut self, b: u32, a: u32, steps: &mut Steps<L>)
         requires more { self.old.table.faces < self.old.plan.symbols }
         requires room { self.old.table.faces < room_of self.old.table }
         requires unclosed { self.old.closes ≡ 0 }
@@ -355,7 +353,7 @@ impl LinkRebuild {
     }
 
     /// Fills the loop of the top side with a face.
-    fn close_interior<L: Ledger>(&mut self, steps: &mut Steps<L>) -> Result<(), Fault>
+    fn close_interior(&mut self, steps: &mut Steps<L>) -> Result<(), Fault>
         requires pending { 0 < length self.old.stack.sides }
         requires room { self.old.table.faces < self.old.plan.faces → self.old.table.faces < room_of self.old.table }
         ensures does { Does (close self.old.plan true (state_of self.old)) (state_of self.new) result }
@@ -387,7 +385,7 @@ impl LinkRebuild {
     /// The sides of the loop of side a, which a face may fill: the one that comes before a, and the one
     /// before that. Gone where side a is glued, Loop where its loop isn't of exactly three, FaceCount where
     /// all declared faces are built.
-    fn sides_to_fill<L: Ledger>(&self, a: u32, steps: &mut Steps<L>) -> Result<(Side, Side), Fault>
+    fn sides_to_fill(&self, a: u32, steps: &mut Steps<L>) -> Result<(Side, Side), Fault>
         requires { a < 3 * self.now.table.faces }
         ensures sides { IfOk result (λ sides. IsLoopOf self.now.table (side_at a) (side_of sides.0) (side_of sides.1)) }
         ensures more { OnOk result (self.now.table.faces < self.now.plan.faces) }
@@ -433,7 +431,7 @@ impl LinkRebuild {
 
     /// The finished table with the classes of its corners, where the counts are right; Degenerate where
     /// two corners of a face are one vertex.
-    fn into_built<L: Ledger>(self, alloc: Global, steps: &mut Steps<L>) -> Result<Built, Refusal>
+    fn into_built(self, alloc: Global, steps: &mut Steps<L>) -> Result<Built, Refusal>
         requires faces { self.table.faces ≡ self.plan.faces }
         requires made { self.made ≤ self.plan.created }
         ensures ends { Ends self.plan (state_of self) result }
@@ -449,29 +447,9 @@ impl LinkRebuild {
             Some(face) => Err(Refusal::Fault(Fault::new(Kind::Degenerate, u64::from(face)))),
         }
     }
-
-    /// No degree and no name is kept yet, with room for those of `most` faces, of degrees if they will be
-    /// asked for.
-    fn noted_parts(
-        alloc: Global,
-        most: u32,
-        degrees: bool,
-    ) -> Result<(KeptDegrees, CornerNames), Memory>
-        requires { most ≤ most_faces }
-        ensures degrees { IfOk result (λ p. p.0.list ≡ []) }
-        ensures kept { IfOk result (λ p. p.0.kept ≡ degrees) }
-        ensures room { IfOk result (λ p. IsTrue degrees → 3 * most ≤ p.0.room) }
-        ensures names { IfOk result (λ p. p.1.names ≡ []) }
-        ensures none { IfOk result (λ p. p.1.up ≡ []) }
-        ensures names_room { IfOk result (λ p. p.1.room ≡ 3 * most) }
-    {
-        let degrees = KeptDegrees::none(alloc, most, degrees)?;
-        let names = CornerNames::with_room(alloc, most)?;
-        Ok((degrees, names))
-    }
 }
 
-impl Rebuild for LinkRebuild {
+impl<L: Ledger> Rebuild<L> for LinkRebuild<L> {
     ghost use Rattle.std.specs.Prelude.{true};
     ghost use Rattle.corner_table.specs.Table.{room_of};
     ghost use Rattle.eb_rebuild.specs.Linked.{state_of, is_live};
@@ -496,10 +474,10 @@ impl Rebuild for LinkRebuild {
         most: u32,
         events: Vec<Event>,
         degrees: bool,
-    ) -> Result<LinkRebuild, Memory> {
+    ) -> Result<LinkRebuild<L>, Memory> {
         let table = LinkedTable::with_room(alloc, most)?;
         let (stack, splits) = waiting(alloc, symbols, most, events)?;
-        let (degrees, names) = LinkRebuild::noted_parts(alloc, most, degrees)?;
+        let (degrees, names) = noted_parts(alloc, most, degrees)?;
         Ok(LinkRebuild {
             table,
             stack,
@@ -516,7 +494,7 @@ impl Rebuild for LinkRebuild {
 
     #[tactic(auto, using(crate::proofs::TableDegrees::moves_of))]
     #[inline(always)]
-    fn symbol<L: Ledger>(&mut self, symbol: Symbol, steps: &mut Steps<L>) -> Result<(), Refusal> {
+    fn symbol(&mut self, symbol: Symbol, steps: &mut Steps<L>) -> Result<(), Refusal> {
         let taken = match symbol {
             Symbol::C => self.take_tip(steps),
             Symbol::S => self.take_split(steps),
@@ -544,16 +522,18 @@ impl Rebuild for LinkRebuild {
     }
 
     #[tactic(auto, using(crate::proofs::TableDegrees::moves_of))]
-    fn close<L: Ledger>(&mut self, interior: bool, steps: &mut Steps<L>) -> Result<(), Refusal> {
-        if interior {
-            refused(self.close_interior(steps))
-        } else {
+    fn close(&mut self, interior: bool, steps: &mut Steps<L>) -> Result<(), Refusal> {
+        if !interior {
             self.close_boundary();
-            Ok(())
+            return Ok(());
+        }
+        match self.close_interior(steps) {
+            Ok(()) => Ok(()),
+            Err(fault) => Err(Refusal::Fault(fault)),
         }
     }
 
-    fn finish<L: Ledger>(self, alloc: Global, steps: &mut Steps<L>) -> Result<Built, Refusal> {
+    fn finish(self, alloc: Global, steps: &mut Steps<L>) -> Result<Built, Refusal> {
         match self.counted() {
             Ok(()) => self.into_built(alloc, steps),
             Err(fault) => Err(Refusal::Fault(fault)),

@@ -18,8 +18,9 @@ use std::sync::ledger::Ledger;
 /// A rebuilding of a surface: the machine that is fed the symbols, the last first, and then closes the
 /// sides that are left (Isenburg and Snoeyink 2001; Draco Bitstream Specification 2.2, Edgebreaker).
 /// After a refusal the value is given up. Of a linked rebuilding `symbol` and `close` take no memory,
-/// and few table calls, and `finish` looks at the entries once.
-pub trait Rebuild: Sized + Drop {
+/// and few table calls, and `finish` looks at the entries once. Its table calls count in the ledger `L`: the
+/// table that it grows is tied to that ledger, so that no other count is taken.
+pub trait Rebuild<L: Ledger>: Sized + Drop {
     /// What is declared.
     ghost plan: { Self → MachinePlan };
 
@@ -70,7 +71,7 @@ pub trait Rebuild: Sized + Drop {
     /// side kept already. Memory, of a rebuilding that isn't linked: no room for the step. There has to be
     /// room for the face. A linked rebuilding makes at most as many table calls as the symbol takes by its
     /// kind, 1 for an E to 8 for an S, and at most 4 where it refuses.
-    fn symbol<L: Ledger>(&mut self, symbol: Symbol, steps: &mut Steps<L>) -> Result<(), Refusal>
+    fn symbol(&mut self, symbol: Symbol, steps: &mut Steps<L>) -> Result<(), Refusal>
         requires live { IsTrue (live self.old) }
         requires more { (state self.old).built < (plan self.old).symbols }
         requires room { (state self.old).built < room self.old }
@@ -106,7 +107,7 @@ pub trait Rebuild: Sized + Drop {
     /// no room for the face. There has to be room for one more of the declared faces, if any are left. That
     /// the loop has to be exact is this project's choice. A linked rebuilding makes at most 8 table calls for
     /// an interior face, 4 where it refuses, and none for a boundary.
-    fn close<L: Ledger>(&mut self, interior: bool, steps: &mut Steps<L>) -> Result<(), Refusal>
+    fn close(&mut self, interior: bool, steps: &mut Steps<L>) -> Result<(), Refusal>
         requires live { IsTrue (live self.old) }
         requires all { (plan self.old).symbols ≤ (state self.old).built }
         requires pending { 0 < length (state self.old).stack }
@@ -126,7 +127,7 @@ pub trait Rebuild: Sized + Drop {
     /// choice). Memory where there is no room to distinguish the vertices. The table that is answered
     /// has entries for no more than the declared faces. A linked rebuilding labels the vertices once, which
     /// counts a step for each entry, three for each face for which there is room.
-    fn finish<L: Ledger>(self, alloc: Global, steps: &mut Steps<L>) -> Result<Built, Refusal>
+    fn finish(self, alloc: Global, steps: &mut Steps<L>) -> Result<Built, Refusal>
         requires live { IsTrue (live self) }
         requires all { (plan self).symbols ≤ (state self).built }
         requires none { length (state self).stack ≡ 0 }

@@ -10,7 +10,7 @@ use std::marker::Model;
 /// A stack of sides by their numbers, with room for as many as it is made for. Places above its height keep what stood
 /// there, so that only as much of the room is touched as is used.
 #[derive(Debug, Drop)]
-pub(crate) struct SideStack {
+pub struct SideStack {
     sides: Vec<u32>,
     height: u32,
     room: u32,
@@ -49,7 +49,7 @@ impl SideStack {
     ghost use Rattle.eb_rebuild.specs.Kept.{first_side};
 
     /// An empty stack with room for `room` sides.
-    pub(crate) fn with_room(alloc: Global, room: u32) -> Result<SideStack, Memory>
+    pub fn with_room(alloc: Global, room: u32) -> Result<SideStack, Memory>
         ensures sides { IfOk result (λ s. s.sides ≡ []) }
         ensures room { IfOk result (λ s. s.room ≡ room) }
     {
@@ -61,7 +61,7 @@ impl SideStack {
     }
 
     /// How many sides wait.
-    pub(crate) fn len(&self) -> u32
+    pub fn len(&self) -> u32
         ensures len { result ≡ length self.now.sides }
         ensures room { length self.now.sides ≤ self.now.room }
     {
@@ -70,7 +70,7 @@ impl SideStack {
 
     /// Puts a side on top.
     #[inline(always)]
-    pub(crate) fn push(&mut self, side: u32)
+    pub fn push(&mut self, side: u32)
         requires { length self.old.sides < self.old.room }
         ensures sides { self.new.sides ≡ side ∷ self.old.sides }
         ensures room { self.new.room ≡ self.old.room }
@@ -80,7 +80,7 @@ impl SideStack {
     }
 
     /// The top side; None where none waits.
-    pub(crate) fn top(&self) -> Option<u32>
+    pub fn top(&self) -> Option<u32>
         ensures { result ≡ first_side self.now.sides }
     {
         if self.height == 0 {
@@ -92,7 +92,7 @@ impl SideStack {
 
     /// Takes the top side off; None where none waits.
     #[inline(always)]
-    pub(crate) fn pop(&mut self) -> Option<u32>
+    pub fn pop(&mut self) -> Option<u32>
         ensures top { MatchOption result ((self.old.sides ≡ []) × (self.new.sides ≡ [])) (λ side. self.old.sides ≡ side ∷ self.new.sides) }
         ensures room { self.new.room ≡ self.old.room }
     {

@@ -18,7 +18,7 @@ use std::marker::Model;
 /// Sides kept for the symbols of a rebuilding, and the events left. Events stand in the encoder's
 /// order, so the last ones are due first.
 #[derive(Debug, Drop)]
-pub(crate) struct Splits {
+pub struct Splits {
     kept: KeptSides,
     events: Vec<Event>,
     left: usize,
@@ -77,7 +77,7 @@ fn event_side(face: u32, right: bool) -> u32
 
 /// A stack on which no side waits, with room for one for each symbol, but no more than `most`, and the
 /// events of these symbols with no side kept yet.
-pub(crate) fn waiting(
+pub fn waiting(
     alloc: Global,
     symbols: u32,
     most: u32,
@@ -106,7 +106,7 @@ impl Splits {
 
     /// No side kept, for as many symbols as are said, with events in the encoder's order. There is room
     /// for the sides of these events.
-    pub(crate) fn new(alloc: Global, symbols: u32, events: Vec<Event>) -> Result<Splits, Memory>
+    fn new(alloc: Global, symbols: u32, events: Vec<Event>) -> Result<Splits, Memory>
         requires symbols { symbols ≤ most_faces }
         requires events { All (IsEventOf symbols) events.items }
         ensures kept { IfOk result (λ s. s.kept ≡ replicate symbols free_entry) }
@@ -121,7 +121,7 @@ impl Splits {
     /// Notes the events of a symbol, whose face has its number: each keeps a side of the face for the
     /// symbol that it names.
     #[inline(always)]
-    pub(crate) fn note(&mut self, face: u32) -> Result<(), Fault>
+    pub fn note(&mut self, face: u32) -> Result<(), Fault>
         requires face { face < length self.old.kept }
         requires limit { length self.old.kept ≤ most_faces }
         ensures noted { MatchResult result
@@ -173,7 +173,7 @@ impl Splits {
 
     /// The side kept for a symbol, which is kept no more.
     #[inline(always)]
-    pub(crate) fn take(&mut self, symbol: u32) -> Option<u32>
+    pub fn take(&mut self, symbol: u32) -> Option<u32>
         requires { symbol < length self.old.kept }
         ensures side { option_map side_at result ≡ kept_in self.old.kept symbol }
         ensures released { kept_in self.new.kept ≡ release symbol (kept_in self.old.kept) }

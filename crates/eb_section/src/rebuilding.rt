@@ -32,7 +32,7 @@ fn most_built(faces: u32, symbols: u32) -> u32
 /// Feeds the machine so many symbols of a source, which are all that it is to take, or refuses with the
 /// first fault: one of the source comes behind those of the symbols before.
 #[inline(always)]
-fn take_symbols<R: Rebuild, F: SymbolSource, L: Ledger>(
+fn take_symbols<R: Rebuild<L>, F: SymbolSource, L: Ledger>(
     machine: R,
     source: F,
     count: u32,
@@ -64,7 +64,7 @@ fn take_symbols<R: Rebuild, F: SymbolSource, L: Ledger>(
 }
 
 /// Closes all sides that wait, each by the next bit of a block, or refuses with the first fault.
-fn close_sides<R: Rebuild, L: Ledger>(
+fn close_sides<R: Rebuild<L>, L: Ledger>(
     machine: R,
     starts: BitBlock<'_>,
     steps: &mut Steps<L>,
@@ -96,7 +96,7 @@ fn close_sides<R: Rebuild, L: Ledger>(
 
 /// Rebuilds a surface by a machine that has done nothing yet: its symbols from a source, then a start bit
 /// for each side that is left, then the tests at the end.
-fn rebuild<R: Rebuild, F: SymbolSource, L: Ledger>(
+fn rebuild<R: Rebuild<L>, F: SymbolSource, L: Ledger>(
     alloc: Global,
     machine: R,
     source: F,
@@ -149,7 +149,7 @@ pub(crate) fn rebuild_linked<F: SymbolSource, L: Ledger>(
     let created = opening.vertices + opening.splits;
     let most = most_built(opening.faces, source.most(opening.symbols));
     let degrees = source.asks_degrees();
-    let machine = LinkRebuild::new(
+    let machine = LinkRebuild::<L>::new(
         alloc,
         opening.faces,
         created,

@@ -13,6 +13,7 @@ use eb_rebuild::Rebuild;
 use eb_standard::SymbolReader;
 use eb_valence::ContextReader;
 use std::marker::Model;
+use std::sync::ledger::Ledger;
 
 /// A source of symbols in the order of decoding.
 pub(crate) trait SymbolSource: Drop {
@@ -39,7 +40,7 @@ pub(crate) trait SymbolSource: Drop {
 
     /// Draws the symbol that the machine is to take next, which has this number. After a fault the source
     /// is given up. It takes no memory.
-    fn draw<R: Rebuild>(&mut self, machine: &R, number: u32) -> Result<Symbol, Fault>
+    fn draw<R: Rebuild<L>, L: Ledger>(&mut self, machine: &R, number: u32) -> Result<Symbol, Fault>
         requires live { IsTrue (R.live machine.now) }
         requires unclosed { (R.state machine.now).closes ≡ 0 }
         requires degrees { IsTrue asks → IsTrue (R.has_degrees machine.now) }
@@ -109,7 +110,11 @@ impl<'a> SymbolSource for BitSource<'a> {
     }
 
     /// The symbol whose bits come next; where they aren't there, `Short` at the first byte of the symbols.
-    fn draw<R: Rebuild>(&mut self, machine: &R, number: u32) -> Result<Symbol, Fault> {
+    fn draw<R: Rebuild<L>, L: Ledger>(
+        &mut self,
+        machine: &R,
+        number: u32,
+    ) -> Result<Symbol, Fault> {
         match self.reader.next() {
             Some(symbol) => Ok(symbol),
             None => Err(self.short),
@@ -140,7 +145,11 @@ impl SymbolSource for ContextReader {
 
     /// The last symbol left in the context of the machine's degree; the first symbol is E. `ContextEmpty`
     /// and `BadSymbol` at the symbol's number.
-    fn draw<R: Rebuild>(&mut self, machine: &R, number: u32) -> Result<Symbol, Fault> {
+    fn draw<R: Rebuild<L>, L: Ledger>(
+        &mut self,
+        machine: &R,
+        number: u32,
+    ) -> Result<Symbol, Fault> {
         let degree = if number == 0 {
             None
         } else {

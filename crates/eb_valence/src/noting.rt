@@ -20,7 +20,7 @@ use std::alloc::Global;
 use std::sync::ledger::Ledger;
 
 /// Notes the symbol that the machine takes next, unless it is the first.
-fn note<R: Rebuild>(
+fn note<R: Rebuild<L>, L: Ledger>(
     lists: &mut ContextLists,
     machine: &R,
     symbol: Symbol,
@@ -41,7 +41,7 @@ fn note<R: Rebuild>(
 }
 
 /// Notes all symbols in the order of decoding, each behind its list.
-fn note_all<R: Rebuild, L: Ledger>(
+fn note_all<R: Rebuild<L>, L: Ledger>(
     lists: &mut ContextLists,
     mut machine: R,
     symbols: &[Symbol],
@@ -89,7 +89,7 @@ pub fn contexts_of<L: Ledger>(
 {
     let events = events.to_vec(alloc)?;
     let count = symbols.len() as u32;
-    let machine = LinkRebuild::new(alloc, count, 0, count, count, events, true)?;
+    let machine = LinkRebuild::<L>::new(alloc, count, 0, count, count, events, true)?;
     let mut lists = ContextLists::none(alloc);
     note_all(&mut lists, machine, symbols, steps)?;
     Ok(lists.turned_round())

@@ -28,7 +28,7 @@ fn number_of(side: Option<Side>) -> i64 {
 }
 
 /// Adds all faces that there is room for.
-fn add_faces<L: Ledger>(table: &mut LinkedTable, faces: u32, steps: &mut Steps<L>)
+fn add_faces<L: Ledger>(table: &mut LinkedTable<L>, faces: u32, steps: &mut Steps<L>)
     requires none { table.old.faces ≡ 0 }
     requires room { room_of table.old ≡ faces }
     ensures { table.new.faces ≡ faces }
@@ -41,7 +41,7 @@ fn add_faces<L: Ledger>(table: &mut LinkedTable, faces: u32, steps: &mut Steps<L
 /// Glues two sides, which have to be free sides of two faces.
 fn glue_pair<L: Ledger>(
     rt: &impl Abort,
-    table: &mut LinkedTable,
+    table: &mut LinkedTable<L>,
     pair: (u32, u32),
     steps: &mut Steps<L>,
 )
@@ -56,7 +56,12 @@ fn glue_pair<L: Ledger>(
 }
 
 /// The free side that follows a free one, before which that one comes.
-fn next_of<L: Ledger>(rt: &impl Abort, table: &LinkedTable, s: Side, steps: &mut Steps<L>) -> Side
+fn next_of<L: Ledger>(
+    rt: &impl Abort,
+    table: &LinkedTable<L>,
+    s: Side,
+    steps: &mut Steps<L>,
+) -> Side
     requires { IsFreeIn table.now (side_of s) }
 {
     let next = table.next_open(s, steps);
@@ -65,7 +70,12 @@ fn next_of<L: Ledger>(rt: &impl Abort, table: &LinkedTable, s: Side, steps: &mut
 }
 
 /// The number of the side that follows one round the boundary, or -1 where that one isn't free.
-fn follower<L: Ledger>(rt: &impl Abort, table: &LinkedTable, s: Side, steps: &mut Steps<L>) -> i64 {
+fn follower<L: Ledger>(
+    rt: &impl Abort,
+    table: &LinkedTable<L>,
+    s: Side,
+    steps: &mut Steps<L>,
+) -> i64 {
     assert!(rt; s.face < table.face_count());
     match table.other(s, steps) {
         Some(_) => -1,
@@ -92,7 +102,7 @@ fn made_again<L: Ledger>(
 fn followers<L: Ledger>(
     rt: &impl Abort,
     alloc: Global,
-    table: &LinkedTable,
+    table: &LinkedTable<L>,
     asked: &[u32],
     steps: &mut Steps<L>,
 ) -> Vec<i64> {
@@ -111,10 +121,10 @@ fn linked<L: Ledger>(
     faces: u32,
     pairs: &[(u32, u32)],
     steps: &mut Steps<L>,
-) -> LinkedTable
+) -> LinkedTable<L>
     requires few { faces ≤ most_faces }
 {
-    let mut table = LinkedTable::with_room(alloc, faces).expect(rt, "room");
+    let mut table = LinkedTable::<L>::with_room(alloc, faces).expect(rt, "room");
     add_faces(&mut table, faces, steps);
     for pair in pairs {
         glue_pair(rt, &mut table, *pair, steps);
@@ -139,7 +149,7 @@ fn told<L: Ledger>(
     let mut steps = Steps::<L>::new(blank);
     let table = linked(rt, alloc, faces, pairs, &mut steps);
     let follows = followers(rt, alloc, &table, asked, &mut steps);
-    let again = made_again(rt, alloc, table.sides(), &mut steps);
+    let again = made_again(rt, alloc, &table.into_sides(), &mut steps);
     let classes = again.label_vertices(alloc, &mut steps).expect(rt, "labels");
     (classes, follows)
 }
@@ -365,7 +375,7 @@ fn renumbered_pair<L: Ledger>(rt: &impl Abort, alloc: Global, blank: Blank) -> V
     requires some { 0 < L.parts }
 {
     let mut steps = Steps::<L>::new(blank);
-    let mut table = LinkedTable::with_room(alloc, 2).expect(rt, "room");
+    let mut table = LinkedTable::<L>::with_room(alloc, 2).expect(rt, "room");
     add_faces(&mut table, 2, &mut steps);
     glue_pair(rt, &mut table, (0, 5), &mut steps);
     let rows = [(1, 1), (0, 2)];

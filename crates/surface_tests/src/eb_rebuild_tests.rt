@@ -7,7 +7,8 @@ ghost use Rattle.eb_machine.specs.Events.{IsEventOf};
 use corner_table::Symbol::{C, E, L, R as Right, S};
 use corner_table::{Event, FREE, Steps, Symbol};
 use drc_base::{Fault, Kind, MAX_FACES, Refusal};
-use eb_rebuild::{Built, LinkRebuild, Rebuild, RowRebuild};
+use eb_rebuild::{Built, LinkRebuild, Rebuild};
+use eb_rows::RowRebuild;
 use std::alloc::Global;
 use std::marker::Brand;
 use std::process::Abort;
@@ -17,8 +18,15 @@ use worked_surfaces::{RING_DECODED, TETRAHEDRON_DECODED, TORUS_DECODED, has_entr
 /// The symbols of a ring with a hole, as they are decoded.
 const RING_SYMBOLS: [Symbol; 6] = [E, Right, L, Right, L, S];
 
+/// What keeps the boundary.
+#[derive(Clone, Copy)]
+enum By {
+    Links,
+    Rows,
+}
+
 /// Takes symbols, for which there is room, and no more than are declared.
-fn take_all<R: Rebuild, L: Ledger>(
+fn take_all<R: Rebuild<L>, L: Ledger>(
     machine: &mut R,
     symbols: &[Symbol],
     steps: &mut Steps<L>,
@@ -45,7 +53,7 @@ fn take_all<R: Rebuild, L: Ledger>(
 }
 
 /// Closes all sides that wait, each by its bit, with room for all declared faces.
-fn close_all<R: Rebuild, L: Ledger>(
+fn close_all<R: Rebuild<L>, L: Ledger>(
     machine: &mut R,
     bits: &[bool],
     steps: &mut Steps<L>,
@@ -69,8 +77,30 @@ fn close_all<R: Rebuild, L: Ledger>(
     Ok(())
 }
 
+/// Takes all symbols and closes all sides by a machine that has done nothing yet, with room for all declared faces.
+fn finished<R: Rebuild<L>, L: Ledger>(
+    alloc: Global,
+    machine: R,
+    symbols: &[Symbol],
+    bits: &[bool],
+    steps: &mut Steps<L>,
+) -> Result<Built, Refusal>
+    requires live { IsTrue (R.live machine) }
+    requires none { (R.state machine).built ≡ 0 }
+    requires unclosed { (R.state machine).closes ≡ 0 }
+    requires all { length symbols.now ≡ (R.plan machine).symbols }
+    requires few { length symbols.now ≤ R.room machine }
+    requires room { (R.plan machine).faces ≤ R.room machine }
+{
+    let mut machine = machine;
+    take_all(&mut machine, symbols, steps)?;
+    close_all(&mut machine, bits, steps)?;
+    machine.finish(alloc, steps)
+}
+
 /// A whole rebuilding.
-fn rebuilt<R: Rebuild, L: Ledger>(
+fn rebuilt<L: Ledger>(
+    by: By,
     alloc: Global,
     plan: (u32, u32),
     symbols: &[Symbol],
@@ -87,10 +117,20 @@ fn rebuilt<R: Rebuild, L: Ledger>(
 {
     let mut steps = Steps::<L>::new(blank);
     let count = symbols.len() as u32;
-    let mut machine = R::new(alloc, plan.0, plan.1, count, plan.0, events, false)?;
-    take_all(&mut machine, symbols, &mut steps)?;
-    close_all(&mut machine, bits, &mut steps)?;
-    machine.finish(alloc, &mut steps)
+    match by {
+        By::Links => {
+            let machine = LinkRebuild::<L>::new(
+                alloc, plan.0, plan.1, count, plan.0, events, false,
+            )?;
+            finished(alloc, machine, symbols, bits, &mut steps)
+        }
+        By::Rows => {
+            let machine = <RowRebuild as Rebuild<L>>::new(
+                alloc, plan.0, plan.1, count, plan.0, events, false,
+            )?;
+            finished(alloc, machine, symbols, bits, &mut steps)
+        }
+    }
 }
 
 /// The events of a stream of so many symbols, each of which has to be one of it.
@@ -115,15 +155,12 @@ struct Stream {
 }
 
 /// What a stream is rebuilt to.
-fn rebuilt_from<R: Rebuild>(
-    rt: &impl Abort,
-    alloc: Global,
-    stream: &Stream,
-) -> Result<Built, Refusal> {
+fn rebuilt_from(rt: &impl Abort, by: By, alloc: Global, stream: &Stream) -> Result<Built, Refusal> {
     let symbols = stream.symbols;
     assert!(rt; stream.plan.0 <= MAX_FACES && symbols.len() <= stream.plan.0 as usize);
     let events = events_of(rt, alloc, stream.events, symbols.len() as u32);
-    rebuilt::<R, Brand>(
+    rebuilt::<Brand>(
+        by,
         alloc,
         stream.plan,
         symbols,
@@ -420,22 +457,41 @@ static FAULTS_AT_ENDS: [(Stream, (Kind, u64)); 9] = [
 ];
 
 /// Streams give the tables of their surfaces.
-fn rebuilds<R: Rebuild>(rt: &impl Abort, alloc: Global) {
+fn rebuilds(rt: &impl Abort, by: By, alloc: Global) {
     for (stream, across) in SURFACES.iter() {
-        has_table(rt, rebuilt_from::<R>(rt, alloc, stream), across);
+        has_table(rt, rebuilt_from(rt, by, alloc, stream), across);
     }
 }
 
 /// Streams are refused, each for the fault that is listed.
-fn refuses<R: Rebuild>(rt: &impl Abort, alloc: Global, faults: &[(Stream, (Kind, u64))]) {
+fn refuses(rt: &impl Abort, by: By, alloc: Global, faults: &[(Stream, (Kind, u64))]) {
     for (stream, fault) in faults {
-        assert!(rt; told(rt, rebuilt_from::<R>(rt, alloc, stream)) == Some(*fault));
+        assert!(rt; told(rt, rebuilt_from(rt, by, alloc, stream)) == Some(*fault));
     }
 }
 
-/// The degree of the vertex at which the top side starts, after some symbols. As many faces and symbols
-/// are declared as may be, and there is room for only those that come.
-fn degree_after<R: Rebuild, L: Ledger>(
+/// The degree of the vertex at which the top side starts, after some symbols that a machine takes which has
+/// done nothing yet.
+fn degree_by<R: Rebuild<L>, L: Ledger>(
+    machine: R,
+    symbols: &[Symbol],
+    steps: &mut Steps<L>,
+) -> Result<u32, Refusal>
+    requires live { IsTrue (R.live machine) }
+    requires degrees { IsTrue (R.has_degrees machine) }
+    requires none { (R.state machine).built ≡ 0 }
+    requires unclosed { (R.state machine).closes ≡ 0 }
+    requires few { length symbols.now ≤ (R.plan machine).symbols }
+    requires room { length symbols.now ≤ R.room machine }
+{
+    let mut machine = machine;
+    take_all(&mut machine, symbols, steps)?;
+    Ok(machine.degree())
+}
+
+/// The same of a machine for as many faces and symbols as may be declared, with room for only those that come.
+fn degree_after<L: Ledger>(
+    by: By,
     alloc: Global,
     symbols: &[Symbol],
     events: Vec<Event>,
@@ -449,26 +505,37 @@ fn degree_after<R: Rebuild, L: Ledger>(
 {
     let count = symbols.len() as u32;
     let mut steps = Steps::<L>::new(blank);
-    let mut machine = R::new(alloc, MAX_FACES, 9, MAX_FACES, count, events, true)?;
-    take_all(&mut machine, symbols, &mut steps)?;
-    Ok(machine.degree())
+    match by {
+        By::Links => {
+            let machine = LinkRebuild::<L>::new(
+                alloc, MAX_FACES, 9, MAX_FACES, count, events, true,
+            )?;
+            degree_by(machine, symbols, &mut steps)
+        }
+        By::Rows => {
+            let machine = <RowRebuild as Rebuild<L>>::new(
+                alloc, MAX_FACES, 9, MAX_FACES, count, events, true,
+            )?;
+            degree_by(machine, symbols, &mut steps)
+        }
+    }
 }
 
 /// The same, without events.
-fn degree_of<R: Rebuild>(alloc: Global, symbols: &[Symbol]) -> Result<u32, Refusal>
+fn degree_of(by: By, alloc: Global, symbols: &[Symbol]) -> Result<u32, Refusal>
     requires { length symbols.now ≤ most_faces }
 {
-    degree_after::<R, Brand>(alloc, symbols, Vec::new(alloc), Blank::new(1))
+    degree_after::<Brand>(by, alloc, symbols, Vec::new(alloc), Blank::new(1))
 }
 
 /// Degrees after a few symbols.
-fn counts_degrees<R: Rebuild>(rt: &impl Abort, alloc: Global) {
-    assert!(rt; degree_of::<R>(alloc, &[E]) == Ok(2));
-    assert!(rt; degree_of::<R>(alloc, &[E, Right]) == Ok(3));
-    assert!(rt; degree_of::<R>(alloc, &[E, Right, L]) == Ok(2));
-    assert!(rt; degree_of::<R>(alloc, &[E, Right, C]) == Ok(3));
+fn counts_degrees(rt: &impl Abort, by: By, alloc: Global) {
+    assert!(rt; degree_of(by, alloc, &[E]) == Ok(2));
+    assert!(rt; degree_of(by, alloc, &[E, Right]) == Ok(3));
+    assert!(rt; degree_of(by, alloc, &[E, Right, L]) == Ok(2));
+    assert!(rt; degree_of(by, alloc, &[E, Right, C]) == Ok(3));
     // The second side is alone in its loop, and its vertex takes in the first side's.
-    assert!(rt; degree_of::<R>(alloc, &[E, C, C, E, S]) == Ok(8));
+    assert!(rt; degree_of(by, alloc, &[E, C, C, E, S]) == Ok(8));
 }
 
 /// So many events of the first symbol that is decoded, each of which keeps a side for the last of as many
@@ -485,41 +552,41 @@ fn far_events(rt: &impl Abort, alloc: Global, count: usize) -> Vec<Event>
 }
 
 /// A side is kept for a symbol that can't come, and for none twice.
-fn keeps_far_sides<R: Rebuild>(rt: &impl Abort, alloc: Global) {
+fn keeps_far_sides(rt: &impl Abort, by: By, alloc: Global) {
     let one = far_events(rt, alloc, 1);
-    let done = degree_after::<R, Brand>(alloc, &[Symbol::E], one, Blank::new(1));
+    let done = degree_after::<Brand>(by, alloc, &[Symbol::E], one, Blank::new(1));
     assert!(rt; done == Ok(2));
     let two = far_events(rt, alloc, 2);
-    let done = degree_after::<R, Brand>(alloc, &[Symbol::E], two, Blank::new(1));
+    let done = degree_after::<Brand>(by, alloc, &[Symbol::E], two, Blank::new(1));
     assert!(rt; done == Err(Refusal::Fault(Fault::new(Kind::Taken, 0))));
 }
 
 #[test]
 fn far_sides_are_kept(rt: HostRuntime) {
-    keeps_far_sides::<LinkRebuild>(&rt, rt.alloc());
-    keeps_far_sides::<RowRebuild>(&rt, rt.alloc());
+    keeps_far_sides(&rt, By::Links, rt.alloc());
+    keeps_far_sides(&rt, By::Rows, rt.alloc());
 }
 
 #[test]
 fn links_count_degrees(rt: HostRuntime) {
-    counts_degrees::<LinkRebuild>(&rt, rt.alloc());
+    counts_degrees(&rt, By::Links, rt.alloc());
 }
 
 #[test]
 fn rows_count_degrees(rt: HostRuntime) {
-    counts_degrees::<RowRebuild>(&rt, rt.alloc());
+    counts_degrees(&rt, By::Rows, rt.alloc());
 }
 
 #[test]
 fn links_rebuild_and_refuse(rt: HostRuntime) {
-    rebuilds::<LinkRebuild>(&rt, rt.alloc());
-    refuses::<LinkRebuild>(&rt, rt.alloc(), &FAULTS_AT_SYMBOLS);
-    refuses::<LinkRebuild>(&rt, rt.alloc(), &FAULTS_AT_ENDS);
+    rebuilds(&rt, By::Links, rt.alloc());
+    refuses(&rt, By::Links, rt.alloc(), &FAULTS_AT_SYMBOLS);
+    refuses(&rt, By::Links, rt.alloc(), &FAULTS_AT_ENDS);
 }
 
 #[test]
 fn rows_rebuild_and_refuse(rt: HostRuntime) {
-    rebuilds::<RowRebuild>(&rt, rt.alloc());
-    refuses::<RowRebuild>(&rt, rt.alloc(), &FAULTS_AT_SYMBOLS);
-    refuses::<RowRebuild>(&rt, rt.alloc(), &FAULTS_AT_ENDS);
+    rebuilds(&rt, By::Rows, rt.alloc());
+    refuses(&rt, By::Rows, rt.alloc(), &FAULTS_AT_SYMBOLS);
+    refuses(&rt, By::Rows, rt.alloc(), &FAULTS_AT_ENDS);
 }

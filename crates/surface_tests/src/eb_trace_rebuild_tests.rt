@@ -10,7 +10,8 @@ ghost use Rattle.eb_machine.specs.Events.{IsEventOf};
 
 use corner_table::{SideTable, Steps, Symbol};
 use drc_base::{Memory, Refusal};
-use eb_rebuild::{Built, Rebuild, RowRebuild};
+use eb_rebuild::{Built, Rebuild};
+use eb_rows::RowRebuild;
 use eb_trace::{Traced, trace};
 use pairing::pair;
 use std::alloc::Global;
@@ -33,7 +34,7 @@ fn split_count(symbols: &[Symbol]) -> u32 {
 }
 
 /// Takes all symbols, the last first.
-fn take_all<R: Rebuild, L: Ledger>(
+fn take_all<R: Rebuild<L>, L: Ledger>(
     machine: &mut R,
     symbols: &[Symbol],
     steps: &mut Steps<L>,
@@ -58,7 +59,7 @@ fn take_all<R: Rebuild, L: Ledger>(
 }
 
 /// Closes all sides that wait, each by its bit, and answers how many.
-fn close_all<R: Rebuild, L: Ledger>(
+fn close_all<R: Rebuild<L>, L: Ledger>(
     machine: &mut R,
     bits: &[bool],
     steps: &mut Steps<L>,
@@ -83,7 +84,7 @@ fn close_all<R: Rebuild, L: Ledger>(
 }
 
 /// A surface of this many faces, rebuilt from what its walk noted.
-fn rebuilt<R: Rebuild, L: Ledger>(
+fn rebuilt<L: Ledger>(
     rt: &impl Abort,
     alloc: Global,
     faces: u32,
@@ -102,7 +103,9 @@ fn rebuilt<R: Rebuild, L: Ledger>(
     let events = traced.events.as_slice().to_vec(alloc)?;
     let created = traced.vertices.saturating_add(split_count(symbols));
     let mut steps = Steps::<L>::new(blank);
-    let mut machine = R::new(alloc, faces, created, count, faces, events, false)?;
+    let mut machine = <RowRebuild as Rebuild<L>>::new(
+        alloc, faces, created, count, faces, events, false,
+    )?;
     take_all(&mut machine, symbols, &mut steps)?;
     let starts = traced.starts.as_slice();
     let closed = close_all(&mut machine, starts, &mut steps)?;
@@ -167,7 +170,7 @@ fn is_rebuilt(
     requires few { length traced.now.symbols ≤ faces }
     requires events { All (IsEventOf (length traced.now.symbols)) traced.now.events }
 {
-    let built = rebuilt::<RowRebuild, Brand>(rt, alloc, faces, traced, Blank::new(1))?;
+    let built = rebuilt::<Brand>(rt, alloc, faces, traced, Blank::new(1))?;
     let table = built.table();
     assert!(rt; have_same_entries::<Brand>(table, due, Blank::new(1)));
     has_vertices::<Brand>(rt, alloc, table, traced.vertices, Blank::new(1))?;

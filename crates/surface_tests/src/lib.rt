@@ -1,5 +1,5 @@
-//! Tests of surfaces: of the crates `corner_table`, `pairing`, `walk_order`, `seams`, `predict`, `eb_rebuild`, `eb_trace`,
-//! `eb_standard` and `eb_valence`, each in files of its name. They try what no clause says: that the calls answer with ample memory,
+//! Tests of surfaces: of the crates `corner_table`, `pairing`, `walk_order`, `seams`, `predict`, `eb_rebuild` with
+//! `eb_rows`, `eb_trace`, `eb_standard` and `eb_valence`, each in files of its name. They try what no clause says: that the calls answer with ample memory,
 //! and what they answer on worked surfaces, whose pairs, orders, seams, values and symbols were computed by plain programs or by hand.
 #![tactic(auto)]
 

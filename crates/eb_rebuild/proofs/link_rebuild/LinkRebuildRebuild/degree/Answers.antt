@@ -6,7 +6,7 @@ use Rattle.eb_rebuild.proofs.TableDegrees.{top_degree_is, top_below}
 use Rattle.eb_rebuild.proofs.link_rebuild.LinkRebuildRebuild.degree.Goals as goal
 
 pub at-requires : goal.at-requires
-at-requires c =
+at-requires g c =
     let value : LinkValue = (record { plan = record { faces = c.self.inside.faces; created = c.self.inside.created; symbols = c.self.inside.symbols }; table = c.self.inside.table; stack = c.self.inside.stack; splits = c.self.inside.splits; made = c.self.inside.made; closes = c.self.inside.closes; has_degrees = c.self.inside.degrees.kept }) in
     let below = top_below value c.in-Some.a c.self.invariant.0 c.in-Some.ensures in
     let count = c.face_count-room.ensures.count in
@@ -17,7 +17,7 @@ at-requires c =
     omega arith
 
 pub returns-in-Some : goal.returns-in-Some
-returns-in-Some c =
+returns-in-Some g c =
     let value : LinkValue = (record { plan = record { faces = c.self.inside.faces; created = c.self.inside.created; symbols = c.self.inside.symbols }; table = c.self.inside.table; stack = c.self.inside.stack; splits = c.self.inside.splits; made = c.self.inside.made; closes = c.self.inside.closes; has_degrees = c.self.inside.degrees.kept }) in
     let none = ap (λ (v : LinkValue). v.closes) c.self.view_is ∙ c.requires.unclosed in
     let kept = subst (λ (v : LinkValue). IsTrue v.has_degrees) (sym c.self.view_is) c.requires.degrees in

@@ -5,7 +5,7 @@ use Rattle.eb_rebuild.proofs.CornersNamed.{names_start}
 use Rattle.eb_rebuild.proofs.link_rebuild.LinkRebuildRebuild.new.Goals as goal
 
 pub invariant_of-result : goal.invariant_of-result
-invariant_of-result c =
+invariant_of-result g c =
     let waits = c.in_ok-stack.ensures in
     let noted = c.in_ok-degrees.ensures in
     let degrees = c.in_ok-degrees.degrees in
@@ -18,7 +18,7 @@ invariant_of-result c =
     )
 
 pub returns-clause-state : goal.returns-clause-state
-returns-clause-state c =
+returns-clause-state g c =
     let waits = c.in_ok-stack.ensures in
     start_state c.in_ok-table.table c.in_ok-stack.stack.sides c.in_ok-stack.splits.kept c.in_ok-stack.splits.events (reverse c.args.events.items) c.args.symbols c.in_ok-table.ensures.none c.in_ok-table.ensures.unglued
     waits.sides waits.kept waits.events

@@ -1,0 +1,4 @@
+mod NamedRows
+pub mod RowTables
+pub mod EqualNames
+pub mod RowSteps
