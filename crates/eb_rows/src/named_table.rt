@@ -34,7 +34,8 @@ pub(crate) struct NamedTable {
 
 impl Model for NamedTable {
     ghost use Rattle.eb_rebuild.specs.NamedTables.{IsNamedTable};
-    ghost use Rattle.eb_rows.specs.Rowed.{NamedTable as named_value, all_listed};
+    ghost use Rattle.eb_rebuild.specs.NamedTables.{NamedTable as named_value};
+    ghost use Rattle.eb_rows.specs.Rowed.{all_listed};
 
     ghost Value = { named_value };
 
