@@ -73,48 +73,50 @@ def errors(tests):
     doubles, and by a reader of floats of 32 bits, here by its own arithmetic and by draco_decoder."""
     places = (("map", MAP, 1.04), ("town", MAP, 900.0), ("country", MAP, 250000.0), ("behind 0", (-5400000.456, -1e7 / 3, -99.9), 12.0), ("small", (0.1, 0.2, 0.3), 1e-6), ("plain", (0.0, 0.0, 0.0), 1.0),
               ("flat", (5400000.456, 5400000.456, 7.7), 0.0), ("dot", (1e9 / 3, 1e9 / 7, 0.0), 1e-4))
-    for name, low, wide in places:
-        rows, faces = surface(low, wide)
-        wanted = np.array([[float(it) for it in row] for row in rows])
-        for bits in (8, 11, 14, 20, 30):
-            for ending, data in (("obj", obj(rows, faces)), ("ply", text_ply(rows, faces)), ("ply", binary_ply(rows, faces, "f8")), ("ply", binary_ply(rows, faces, "f4"))):
-                title = f"{name} {ending} of {len(data)} bytes --qp {bits}"
-                if data == binary_ply(rows, faces, "f4"):
-                    read = wanted.astype(np.float32).astype(np.float64)  # the file has no more
-                else:
-                    read = wanted
-                stream, ran = packed(tests, title, f"numbers.{ending}", data, "--qp", bits)
-                said = printed(ran)
-                tests.tell(bool(said), f"{title}: an error is printed: {ran.stdout}")
-                if not said:
-                    continue
-                _, step, error, in_floats = said
-                for end, words, numbers in ((".obj", [], numbers_of_obj), (".ply", ["--ascii"], numbers_of_text_ply)):
-                    back = tests.unpacked(title, stream, end, *words)
-                    found = numbers(back.read_bytes())
-                    order = found if end == ".ply" else None
-                    if order is None:  # an OBJ lists equal places once
-                        off = max(float(np.abs(found - row).max(axis=1).min()) for row in read) if bits <= 20 else 0.0
-                    else:
-                        off = float(np.abs(order - read).max())
-                    tests.tell(off <= error, f"{title}: {end} is {off} off, and {error} is printed")
-                geometry = plytext.read_text(tests.drc(["dec"], stream.read_bytes()).stdout)
-                off = float(np.abs(geometry.floats(0).astype(np.float64) - read).max())
-                tests.tell(off <= in_floats, f"{title}: in floats of 32 bits {off} off, and {in_floats} is printed")
-                lost = float(np.abs(read - read.astype(np.float32)).max())
-                extent = float((read.max(axis=0) - read.min(axis=0)).max()) or 1.0
-                is_said = "floats of 32 bits lose up to" in ran.stderr.decode()
-                tests.tell(is_said == (lost > extent / ((1 << bits) - 1) / 2), f"{title}: a line says where floats of 32 bits lose more than half a step: {ran.stderr.decode()}")
-                if is_said:
-                    tests.tell(error <= step * 0.5000001 + 1e-9 * extent and (step <= 1.0001 * extent / ((1 << bits) - 1) or "in place of" in ran.stderr.decode()), f"{title}: half a step of {step}: {error}")
-                    tests.tell(geometry.values[0].min() >= 0 and geometry.values[0].max() < 1 << geometry.heads[0].grid.bits, f"{title}: the integers are those of the grid's bits")
+    made = {name: surface(low, wide) for name, low, wide in places}
+    cases = [(name, form, bits) for name in made for form, bits in (("obj", 14), ("ply", 20))]
+    cases += [("map", "f8", 14), ("map", "f4", 14), ("map", "obj", 8), ("map", "obj", 30), ("town", "ply", 30), ("dot", "obj", 30)]
+    for name, form, bits in cases:
+        title = f"{name} {form} --qp {bits}"
+        rows, faces = made[name]
+        read = np.array([[float(it) for it in row] for row in rows])
+        data = {"obj": obj, "ply": text_ply}[form](rows, faces) if form in ("obj", "ply") else binary_ply(rows, faces, form)
+        if form == "obj":  # whose points are those of the faces, in the order in which these name them
+            read = read[list(dict.fromkeys(np.ravel(faces).tolist()))]
+        if form == "f4":
+            read = read.astype(np.float32).astype(np.float64)  # the file has no more
+        stream, ran = packed(tests, title, f"numbers.{form if form == 'obj' else 'ply'}", data, "--qp", bits)
+        said = printed(ran)
+        tests.tell(bool(said), f"{title}: an error is printed: {ran.stdout}")
+        if not said:
+            continue
+        _, step, error, in_floats = said
+        found = numbers_of_text_ply(tests.unpacked(title, stream, ".ply", "--ascii").read_bytes())
+        off = float(np.abs(found - read).max())
+        tests.tell(off <= error, f"{title}: a PLY is {off} off, and {error} is printed")
+        if form == "obj" and bits == 14:  # an OBJ lists equal places once
+            found = numbers_of_obj(tests.unpacked(title, stream, ".obj").read_bytes())
+            off = max(float(np.abs(found - row).max(axis=1).min()) for row in read)
+            tests.tell(off <= error, f"{title}: an OBJ is {off} off, and {error} is printed")
+        geometry = plytext.read_text(tests.drc(["dec"], stream.read_bytes()).stdout)
+        off = float(np.abs(geometry.floats(0).astype(np.float64) - read).max())
+        tests.tell(off <= in_floats, f"{title}: in floats of 32 bits {off} off, and {in_floats} is printed")
+        lost = float(np.abs(read - read.astype(np.float32)).max())
+        extent = float((read.max(axis=0) - read.min(axis=0)).max()) or 1.0
+        is_said = "floats of 32 bits lose up to" in ran.stderr.decode()
+        tests.tell(is_said == (lost > extent / ((1 << bits) - 1) / 2), f"{title}: a line says where floats of 32 bits lose more than half a step: {ran.stderr.decode()}")
+        if is_said:
+            tests.tell(error <= step * 0.5000001 + 1e-9 * extent and (step <= 1.0001 * extent / ((1 << bits) - 1) or "in place of" in ran.stderr.decode()), f"{title}: half a step of {step}: {error}")
+            tests.tell(geometry.values[0].min() >= 0 and geometry.values[0].max() < 1 << geometry.heads[0].grid.bits, f"{title}: the integers are those of the grid's bits")
     stream, ran = packed(tests, "map", "map.obj", obj(*surface(MAP, 1.04)))
     ran = tests.run("drc-unpack", stream, "-o", tests.folder / "map.stl", "--force")
     tests.tell(ran.returncode == 0 and "off in STL" in ran.stderr.decode() and "PLY and OBJ have doubles" in ran.stderr.decode(), f"a line says what the floats of an STL lose: {ran.stderr.decode()}")
     ran = tests.run("drc-unpack", stream, "-o", tests.folder / "map.glb", "--force")
     document, binary = read_glb((tests.folder / "map.glb").read_bytes())
     local = np.frombuffer(binary, "<f4", 3 * 81).reshape(-1, 3).astype(np.float64)
-    off = float(np.abs(local + document["nodes"][0]["translation"] - np.array(surface(MAP, 1.04)[0], np.float64)).max())
+    rows, faces = surface(MAP, 1.04)
+    wanted = np.array(rows, np.float64)[list(dict.fromkeys(np.ravel(faces).tolist()))]
+    off = float(np.abs(local + document["nodes"][0]["translation"] - wanted).max())
     tests.tell(ran.returncode == 0 and off <= printed(packed(tests, "map", "map.obj", obj(*surface(MAP, 1.04)))[1])[2] + 1e-7, f"a GLB's node and positions are {off} off")
     tests.tell("to which the node moves them" in ran.stderr.decode(), f"a line says so: {ran.stderr.decode()}")
     if shutil.which("draco_decoder"):
@@ -123,11 +125,10 @@ def errors(tests):
         subprocess.run(["draco_decoder", "-i", str(stream), "-o", str(there)], stdout=subprocess.DEVNULL, stderr=subprocess.DEVNULL, check=True)
         head, _, body = there.read_bytes().partition(b"end_header\n")
         found = np.frombuffer(body, "<f4", 3 * 81).reshape(-1, 3).astype(np.float64)
-        off = float(np.abs(found - np.array(surface(MAP, 1.04)[0], np.float64)).max())
+        off = float(np.abs(found - wanted).max())
         tests.tell(off <= said[3], f"draco_decoder is {off} off, and {said[3]} is printed")
-    rows, faces = surface(MAP, 1.04)
-    normal = obj(rows, faces).replace(b"f ", b"vt 5400000.456 0.1\nvt 5400001.5 0.7\nf ", 1).replace(b"f 1 2 11", b"f 1/1 2/2 11/1")
-    _, ran = packed(tests, "texture coordinates", "t.obj", normal)
+    seen = re.sub(rb"f (\d+) (\d+) (\d+)", rb"f \1/1 \2/2 \3/1", obj(rows, faces)) + b"vt 5400000.456 0.1\nvt 5400001.5 0.7\n"
+    _, ran = packed(tests, "texture coordinates", "t.obj", seen)
     tests.tell("texture coordinate: floats of 32 bits lose" in ran.stderr.decode(), f"texture coordinates likewise: {ran.stderr.decode()}")
 
 
@@ -174,12 +175,13 @@ def collapse(tests):
     flat = tests.file("flat.obj", b"v 0 0 0\nv 1e-9 0 0\nv 1 1 0\nf 1 2 3\n")
     one_line(tests, "no face is left", tests.run("drc-pack", flat, "-o", stream, "--force"), 2, "flat.obj", "refused Degenerate 0", "each of 1 face", "--keep-degenerate")
     one_line(tests, "both words", tests.run("drc-pack", flat, "-o", stream, "--force", "--keep-degenerate", "--drop-degenerate"), 1, "not allowed with")
-    folder, out = tests.folder / "many", tests.folder / "streams"
+    folder = tests.folder / "many"
     folder.mkdir()
     shutil.copy(source, folder / "sliver.obj")
     (folder / "scan.ply").write_bytes(scan_like(9).ply())
     for words in ([], ["--keep-degenerate"]):
-        ran = tests.run("drc-many", "pack", folder, "-o", out, "--maps", "--one-by-one", *words, *(["--force"] if words else []))
+        out = tests.folder / f"streams{len(words)}"
+        ran = tests.run("drc-many", "pack", folder, "-o", out, "--maps", "--one-by-one", *words)
         tests.tell(ran.returncode == 0, f"drc-many pack {words}: {ran.stdout.decode()} {ran.stderr.decode()}")
         ran = tests.run("drc-many", "verify", folder, "-o", out, "--one-by-one", *words)
         tests.tell(ran.returncode == 0, f"drc-many verify {words} knows which faces were left out: {ran.stdout.decode()} {ran.stderr.decode()}")

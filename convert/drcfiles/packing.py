@@ -8,11 +8,13 @@ from . import grids, plytext, reading
 from .mesh import FACES, POINTS, at_least, check_count, many
 from .plytext import COLOUR, GENERIC, NORMAL, POSITION, QUANTISED, TEXTURE, TYPE_OF, TYPES, Geometry, Head, names_of
 from .trouble import Refused, Trouble
+from .writing import DIGITS
 
 CHOICES = {"method": ("seq", "eb", "valence"), "predict": ("none", "diff", "para", "multi"), "walk": ("depth", "degree"), "index": ("plain", "packed")}
 SKIPS = {"normal": NORMAL, "colour": COLOUR, "texture": TEXTURE, "generic": GENERIC}
 BITS = {"qp": (POSITION, 14, "positions"), "qn": (NORMAL, 10, "normals"), "qt": (TEXTURE, 12, "texture coordinates"), "qg": (GENERIC, 8, "generic floats")}
 GREATEST = (1 << 31) - 1  # of integers in a stream
+DIGIT = 5e-9  # of a number: half the ninth of its digits is no more
 NUMBERS_AT_ONCE = 16  # of a comment that lists faces
 
 
@@ -154,8 +156,22 @@ def quantised(mesh, settings):
 
 def measure_of(what, wanted, geometry, k):
     """The errors of a quantised attribute, against the numbers that were read."""
-    grid, most = geometry.heads[k].grid, lambda found: float(np.abs(wanted - found).max()) if len(wanted) else 0.0
-    return Measure(what, grid.bits, float(grid.step), most(geometry.numbers(k)), most(geometry.floats(k)) if grid.is_fine else None)
+    grid = geometry.heads[k].grid
+    in_floats = greatest_error(wanted, geometry.floats(k)) if grid.is_fine else None
+    return Measure(what, grid.bits, float(grid.step), greatest_error(wanted, geometry.numbers(k)), in_floats)
+
+
+def greatest_error(wanted, found):
+    """The greatest difference of a component, of floats of 32 bits also as the nine digits of them that an OBJ or a text of PLY has."""
+    if not wanted.size:
+        return 0.0
+    off = np.abs(wanted - found)
+    error = float(off.max())
+    if found.dtype != grids.FLOAT:
+        return error
+    near = off + DIGIT * np.abs(found, dtype=np.float64) >= error
+    shown = np.array([DIGITS % it for it in found[near].tolist()], np.float64)
+    return max(error, float(np.abs(wanted[near] - shown).max()))
 
 
 def note_of_doubles(measure, read, bits, grid):

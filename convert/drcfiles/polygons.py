@@ -6,6 +6,7 @@ import numpy as np
 
 from .mesh import many
 
+PAIRS = 1 << 18  # of sides that are compared at once
 SLACK = 1e-9  # of a face's area: a triangle turned against its face by less is flat, not turned
 
 
@@ -53,14 +54,15 @@ def turned(faces, of, wide, places):
 
 
 def ears_of(ring):
-    """Triangles of a polygon, as rows of the numbers of its corners, and whether each was an ear."""
+    """Triangles of a polygon, as rows of the numbers of its corners, and whether they are just the polygon: its sides don't cross, and each
+    triangle was an ear."""
     after = np.roll(ring, -1, axis=0)
     normal = np.cross(ring - ring[0], after - ring[0]).sum(axis=0)
     axis = int(np.abs(normal).argmax())
     flat = np.delete(ring, axis, axis=1)
     if (normal[axis] < 0) != (axis == 1):
         flat = flat[:, ::-1]
-    left, made, is_simple = list(range(len(ring))), [], True
+    left, made, is_simple = list(range(len(ring))), [], not crosses(flat)
     while len(left) > 3:
         here = flat[left]
         before, behind = np.roll(here, 1, axis=0), np.roll(here, -1, axis=0)
@@ -74,6 +76,18 @@ def ears_of(ring):
         made.append((left[ear - 1], left[ear], left[(ear + 1) % len(left)]))
         del left[ear]
     return np.array([*made, left]), is_simple
+
+
+def crosses(ring):
+    """Whether two sides of a polygon in the plane cross; sides that only touch don't."""
+    start, end, count = ring, np.roll(ring, -1, axis=0), len(ring)
+    for first in range(0, count, max(1, PAIRS // count)):
+        a, b = (it[first : first + max(1, PAIRS // count), None] for it in (start, end))
+        here = cross(b - a, start - a) * cross(b - a, end - a)
+        there = cross(end - start, a - start) * cross(end - start, b - start)
+        if ((here < 0) & (there < 0)).any():
+            return True
+    return False
 
 
 def cross(a, b):
