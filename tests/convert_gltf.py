@@ -257,7 +257,7 @@ class Tests:
         return path
 
     def tool(self, *words):
-        return subprocess.run([TOOL, *map(str, words), "--drc", self.program], stdout=subprocess.PIPE, stderr=subprocess.PIPE)
+        return subprocess.run([TOOL, *map(str, words), "--force", "--drc", self.program], stdout=subprocess.PIPE, stderr=subprocess.PIPE)
 
     def done(self, title, *words):
         """Runs the tool, which is to end well; gives the lines on standard error."""

@@ -168,7 +168,7 @@ def small_extents(tests):
     for title, low, wide in (("denormal", 0.0, 1e-42), ("tiny", 0.0, 1e-36), ("one place", 5.5, 0.0), ("far away", 1e7, 3.0)):
         rows = [(low + wide * x, low + wide * y, low) for x, y in ((0, 0), (1, 0), (0, 1), (0.3, 0.7))]
         mesh = Made(title, rows, [(0, 1, 2), (1, 3, 2)])
-        ran = tests.run("drc-pack", tests.file("m.ply", mesh.ply()), "-o", tests.folder / "m.drc", "--method", "seq", "--force")
+        ran = tests.run("drc-pack", tests.file("m.ply", mesh.ply()), "-o", tests.folder / "m.drc", "--method", "seq", "--keep-degenerate", "--force")
         tests.tell(ran.returncode == 0 and not ran.stderr, f"{title}: {ran.stderr.decode()}")
         back = tests.unpacked(title, tests.folder / "m.drc")
         error = float(np.abs(ply_reader.read(back).attributes[0].values.astype(np.float64) - mesh.positions).max())
