@@ -1,7 +1,10 @@
 //! Geometry from PLY text.
 
-ghost use Rattle.std.specs.Prelude.{◌≡◌, ◌+◌, ◌<◌, ◌-◌, ◌^◌, ◌≤◌, None, Some, length, map, IfOk, MatchResult};
+ghost use Rattle.std.specs.Prelude.{◌≡◌, ◌+◌, ◌<◌, ◌-◌, ◌^◌, ◌≤◌, Err, None, Some, length, map, IfOk, MatchResult};
+ghost use Rattle.drc_base.specs.declared.faults.Fault.{Fault as AnyFault};
+ghost use Rattle.drc_base.specs.declared.faults.Refusal.TheVariants as refusal;
 ghost use Rattle.drc_base.specs.Refusals.{Answers, Refuses};
+ghost use Rattle.ply_text.specs.DeclaredLines.{declared_of_text};
 ghost use Rattle.ply_text.specs.Tokens.{tokens_of};
 ghost use Rattle.ply_text.specs.IsHeader.{IsHeader};
 ghost use Rattle.ply_mesh.specs.Body.{row_read, items_from, AreRowsRead};
@@ -148,9 +151,11 @@ fn read_body(
 /// The geometry of a PLY text, or its first fault with its line: the faults of the header, then PlyRow
 /// and PlyNumber at the lines of points, PlyRow, PlyNumber, PlyFace and PlyIndex at the lines of
 /// faces, PlyShort where the text ends too early, and PlyRest where more follows than lines without
-/// tokens (PLY 1.0, in this project's profile).
+/// tokens (PLY 1.0, in this project's profile). A fault of a line before `end_header` and before the first line that
+/// quantises an attribute comes before out of memory.
 pub fn read_ply(alloc: Global, bytes: &[u8]) -> Result<Geometry, Refusal>
-    ensures { Answers (λ g. g) (ply_read bytes.now) result }
+    ensures geometry { Answers (λ g. g) (ply_read bytes.now) result }
+    ensures early { (f : AnyFault) → declared_of_text bytes.now ≡ Err f → result ≡ Err (refusal.Fault f) }
 {
     let header = read_header(alloc, bytes)?;
     let mut lines = Lines::new(bytes);

@@ -10,4 +10,4 @@ pub returns-clause-same : goal.returns-clause-same
 returns-clause-same c = λ g n read means.
     let P : Geometry → Type 0 = λ h.
     IfOk c.verify_read.result (λ v. (v ≡ verdict.Same) ↔ IsSame c.args.surface c.args.map.now.cloud c.args.map.now.rows.rows h n) in
-    subst P (Ok-injective (sym c.in_ok-g.ensures ∙ read)) (c.verify_read.ensures.same n means)
+    subst P (Ok-injective (sym c.in_ok-g.ensures.geometry ∙ read)) (c.verify_read.ensures.same n means)
