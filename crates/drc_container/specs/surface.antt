@@ -1,2 +1,3 @@
 pub mod AttributeSurfaces
+pub mod MadeOrders
 pub mod Traced

@@ -1,7 +1,7 @@
 -- Attributes on a surface as they are kept while they are read: of each decoder the entry of each class of corners, and the values of its
 -- attributes, with the classes where the surface is cut at seams (Draco Bitstream Specification 2.2, section "Attributes Decoder"; what is
 -- kept is this project's choice).
-use Rattle.std.specs.Prelude.{ℕ, List, map, Option, unwrap_or}
+use Rattle.std.specs.Prelude.{ℕ, List, map, unwrap_or}
 use Rattle.mesh_model.specs.Groups.{AttrTable, GroupParts, tables_of, group_tables}
 use Rattle.corner_table.specs.Table.{gluing_of}
 use Rattle.walk_order.specs.OfSurface.{fan_labels}

@@ -12,14 +12,16 @@ ghost use Rattle.walk_order.specs.Orders.{IsOrderOver};
 ghost use Rattle.corner_table.specs.Ordered.{ordered, IsOrdered};
 ghost use Rattle.eb_section.specs.Connectivity.{meaning};
 ghost use Rattle.drc_container.specs.reading.OnSurface.{HasSeams, cut_at as surface_cut_at, seams_of, ordered_by, ordered_for, decoder_on, surface_decoders_at, no_attributes, values_on, attributes_on};
+ghost use Rattle.drc_container.specs.surface.MadeOrders.{IsOrderBy, AreOrders};
 ghost use Rattle.drc_container.specs.reading.AsRead.{classes_of, built_classes, group_over, attributes_over, group_on, decoder_read_on, tables_on, attributes_read_on};
 ghost use Rattle.mesh_model.specs.Groups.{tables_of, HasVertices};
 
 use crate::reading::info::AttrInfo;
 use crate::reading::surface_attributes::{
-    AttributesRead, DecoderRead, DecoderValues, decoder_attributes, over_cut,
+    AttributesRead, DecoderRead, DecoderValues, add_values, decoder_attributes, over_cut,
 };
-use crate::surface::ordering::{cut_at, order_over};
+use crate::surface::made_orders::{MadeOrders, order_once};
+use crate::surface::ordering::cut_at;
 use attr_section::{DecoderHead, Ordered, read_decoder, read_heads};
 use corner_table::{Classes, Order, SideTable};
 use drc_base::{Memory, Refusal, Sequence};
@@ -39,14 +41,11 @@ fn read_on(
     c: &mut Cursor<'_>,
     t: &SideTable,
     labels: &Classes,
-    order: Order,
+    order: &Order,
     decoder: DecoderHead,
     spent: &mut u64,
 ) -> Result<DecoderRead, Refusal>
-    requires ordered { ordered t.now labels.now.of_corner order ≡ ordered_by decoder.degree t.now.faces (gluing_of t.now) }
-    requires over { IsOrderOver t.now.faces labels.now.of_corner order }
-    requires is { IsOrdered t.now labels.now.of_corner order }
-    requires few { length order.corner_of_entry < 2 ^ 32 }
+    requires order { IsOrderBy t.now labels.now.of_corner decoder.degree order.now }
     requires heads { All HeadPasses decoder.heads }
     requires spent { spent.old ≤ most_values }
     ensures item { Gives (attributes_over labels.now.of_corner) (decoder_on profile (ordered_by decoder.degree t.now.faces (gluing_of t.now)) decoder spent.old c.old) c.new result }
@@ -60,7 +59,7 @@ fn read_on(
     let on = Ordered {
         sides: t,
         classes: labels,
-        order: &order,
+        order,
     };
     let mut decoder = decoder;
     let values = read_decoder(alloc, c, &mut decoder, entries, Some(&on), spent)?;
@@ -68,17 +67,19 @@ fn read_on(
     Ok(attributes)
 }
 
-/// Reads the attributes of a decoder, whose values stand on a table's surface with these classes; `spent` grows by the
-/// number of its values.
+/// Reads the attributes of a decoder, whose values stand on a table's surface with these classes, of which these orders were made;
+/// `spent` grows by the number of its values.
 fn read_over(
     alloc: Global,
     c: &mut Cursor<'_>,
     t: &SideTable,
     labels: &Classes,
+    orders: &mut MadeOrders,
     decoder: DecoderHead,
     spent: &mut u64,
 ) -> Result<DecoderRead, Refusal>
     requires labels { IsLabelled t.now.faces (gluing_of t.now) labels.now.of_corner labels.now.count labels.now.ends }
+    requires orders { AreOrders t.now labels.now.of_corner orders.old }
     requires heads { All HeadPasses decoder.heads }
     requires spent { spent.old ≤ most_values }
     ensures item { Gives (attributes_over labels.now.of_corner) (decoder_on profile (ordered_by decoder.degree t.now.faces (gluing_of t.now)) decoder spent.old c.old) c.new result }
@@ -87,9 +88,13 @@ fn read_over(
     ensures columns { IfOk result (λ p. AreAttrTables (3 * t.now.faces) p.heads (tables_of (group_over labels.now.of_corner p.values))) }
     ensures vertices { IfOk result (λ p. HasVertices (3 * t.now.faces) (group_over labels.now.of_corner p.values)) }
     ensures whole { IfOk result (λ p. p.values.cut ≡ None) }
+    ensures orders { IfOk result (λ _. AreOrders t.now labels.now.of_corner orders.new) }
 {
-    let order = order_over(alloc, t, labels, decoder.degree)?;
-    read_on(alloc, c, t, labels, order, decoder, spent)
+    let degree = decoder.degree;
+    let order = order_once(alloc, t, labels, degree, orders)?;
+    let read = read_on(alloc, c, t, labels, &order, decoder, spent)?;
+    orders.keep(degree, order);
+    Ok(read)
 }
 
 /// The block of the seam bits of an attribute data.
@@ -119,42 +124,48 @@ fn read_on_cut(
 {
     let cut = cut_at(alloc, t, block)?;
     let labels = classes(alloc, &cut, None)?;
-    let read = read_over(alloc, c, &cut, &labels, decoder, spent)?;
+    let mut orders = MadeOrders::none();
+    let read = read_over(alloc, c, &cut, &labels, &mut orders, decoder, spent)?;
     Ok(over_cut(read, labels))
 }
 
-/// Reads the attributes of a decoder that stand on the stream's surface as it is.
+/// Reads the attributes of a decoder that stand on the stream's surface as it is, of which these orders were made.
 fn read_on_whole(
     alloc: Global,
     c: &mut Cursor<'_>,
     sides: &Built,
+    orders: &mut MadeOrders,
     decoder: DecoderHead,
     spent: &mut u64,
 ) -> Result<DecoderRead, Refusal>
     requires heads { All HeadPasses decoder.heads }
     requires spent { spent.old ≤ most_values }
+    requires orders { AreOrders sides.now.table (built_classes sides.now) orders.old }
     ensures item { Gives (decoder_read_on (built_classes sides.now)) (decoder_on profile (ordered_by decoder.degree sides.now.table.faces (gluing_of sides.now.table)) decoder spent.old c.old) c.new result }
     ensures spent { IfOk result (λ p. spent.new ≡ spent.old + values_on (tables_of (group_on (built_classes sides.now) p.values))) }
     ensures few { IfOk result (λ _. spent.new ≤ most_values) }
     ensures columns { IfOk result (λ p. AreAttrTables (3 * sides.now.table.faces) p.heads (tables_of (group_on (built_classes sides.now) p.values))) }
     ensures vertices { IfOk result (λ p. HasVertices (3 * sides.now.table.faces) (group_on (built_classes sides.now) p.values)) }
+    ensures orders { IfOk result (λ _. AreOrders sides.now.table (built_classes sides.now) orders.new) }
 {
     let table = sides.table();
     // For the prover alone: the call states that the table is a surface.
     let _faces = table.face_count();
     let labels = sides.classes();
-    read_over(alloc, c, table, labels, decoder, spent)
+    read_over(alloc, c, table, labels, orders, decoder, spent)
 }
 
-/// Reads the attributes of a decoder, on the surface of the stream, cut at the seams of the decoder's
-/// attribute data where values belong to corners.
+/// Reads the attributes of a decoder, on the surface of the stream, of which these orders were made, cut at the seams of the
+/// decoder's attribute data where values belong to corners.
 fn read_for(
     alloc: Global,
     c: &mut Cursor<'_>,
     surface: &EbRead<'_>,
+    orders: &mut MadeOrders,
     decoder: DecoderHead,
     spent: &mut u64,
 ) -> Result<DecoderRead, Refusal>
+    requires orders { AreOrders surface.now.sides.table (built_classes surface.now.sides) orders.old }
     requires heads { All HeadPasses decoder.heads }
     requires seams { decoder.corner ≡ true → HasSeams (length surface.now.seams) decoder }
     requires spent { spent.old ≤ most_values }
@@ -163,6 +174,7 @@ fn read_for(
     ensures few { IfOk result (λ _. spent.new ≤ most_values) }
     ensures columns { IfOk result (λ p. AreAttrTables (3 * surface.now.sides.table.faces) p.heads (tables_of (group_on (classes_of (meaning surface.now)) p.values))) }
     ensures vertices { IfOk result (λ p. HasVertices (3 * surface.now.sides.table.faces) (group_on (classes_of (meaning surface.now)) p.values)) }
+    ensures orders { IfOk result (λ _. AreOrders surface.now.sides.table (built_classes surface.now.sides) orders.new) }
 {
     if decoder.corner
         && let Some(id) = decoder.data_id
@@ -170,7 +182,7 @@ fn read_for(
         let block = seams_of(surface.seams.as_slice(), id);
         return read_on_cut(alloc, c, surface.sides.table(), block, decoder, spent);
     }
-    read_on_whole(alloc, c, &surface.sides, decoder, spent)
+    read_on_whole(alloc, c, &surface.sides, orders, decoder, spent)
 }
 
 /// Adds the attributes of a decoder, as they were read, behind those of the decoders before.
@@ -181,11 +193,13 @@ fn add_read(
     read: DecoderRead,
 ) -> Result<(), Memory>
     ensures heads { OnOk result (heads.new.items ≡ heads.old.items ++ read.heads) }
-    ensures values { OnOk result (values.new.items ≡ values.old.items ++ read.values ∷ []) }
+    ensures tables { OnOk result ((whole : List ℕ) → tables_on whole values.new.items ≡ tables_on whole values.old.items ++ tables_of (group_on whole read.values)) }
+    ensures vertices { OnOk result ((whole : List ℕ) (corners : ℕ) → All (HasVertices corners) (map (group_on whole) values.old.items)
+        → HasVertices corners (group_on whole read.values) → All (HasVertices corners) (map (group_on whole) values.new.items)) }
     ensures info { OnOk result (info.new.items ≡ info.old.items ++ read.info) }
 {
     heads.append(&mut read.heads.into_vec())?;
-    values.push(read.values)?;
+    add_values(values, read.values)?;
     info.append(&mut read.info.into_vec())?;
     Ok(())
 }
@@ -207,8 +221,9 @@ fn read_each(
     let mut values = Vec::new(alloc);
     let mut info = Vec::new(alloc);
     let mut spent: u64 = 0;
+    let mut orders = MadeOrders::none();
     for decoder in decoders {
-        let read = read_for(alloc, c, surface, decoder, &mut spent)?;
+        let read = read_for(alloc, c, surface, &mut orders, decoder, &mut spent)?;
         add_read(&mut heads, &mut values, &mut info, read)?;
     }
     Ok(AttributesRead {

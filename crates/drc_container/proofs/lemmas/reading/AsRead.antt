@@ -1,10 +1,10 @@
 -- Attributes as they are kept while they are read.
-use Rattle.std.proofs.Common.{◌≡◌, ℕ, ℤ, List, [], ◌∷◌, ◌++◌, map, flat_map, Bool, Option, None, Result, Ok, Err, append-nil, sym, ◌∙◌, ap, subst}
+use Rattle.std.proofs.Common.{◌≡◌, ℕ, ℤ, List, [], ◌∷◌, ◌++◌, map, flat_map, Bool, Option, None, Result, Ok, Err, append-nil, append_assoc, sym, ◌∙◌, ap, subst}
 use Rattle.std.specs.Prelude.{unwrap_or, IfOk}
 use Rattle.std.specs.List.{All}
 use Rattle.std.proofs.lemmas.Grind.{flat_map-append}
 use Rattle.std.proofs.lemmas.List.{map-append}
-use Rattle.std.proofs.lemmas.List.Elements.{All-nil, All-cons, All-append}
+use Rattle.std.proofs.lemmas.List.Elements.{All-nil, All-cons, All-head, All-tail, All-append}
 use Rattle.std.proofs.lemmas.Simd.{map-map}
 use Rattle.drc_base.specs.declared.faults.Refusal.{Refusal}
 use Rattle.drc_bits.specs.Reading.{Reading, Item, Gives}
@@ -68,6 +68,38 @@ vertices-more corners whole before v have has =
     subst (All (HasVertices corners)) (sym (map-append (group_on whole) before (v ∷ [])))
     (All-append (HasVertices corners) (map (group_on whole) before) (group_on whole v ∷ []) have
     (All-cons (HasVertices corners) (group_on whole v) [] has (All-nil (HasVertices corners))))
+
+-- the tables of two decoders at the same vertices are those of both, one behind the other
+pub tables-together : (whole : List ℕ) (a b both : DecoderValues) → both.cut ≡ a.cut → both.entry_of_class ≡ a.entry_of_class → a.cut ≡ b.cut → a.entry_of_class ≡ b.entry_of_class
+    → both.values.items ≡ a.values.items ++ b.values.items
+    → group_tables_of (group_on whole both) ≡ group_tables_of (group_on whole a) ++ group_tables_of (group_on whole b)
+tables-together whole a b both cut entries cuts same values =
+    let at : Option (List ℕ) → List ℕ → List (List ℤ) → List AttrTable = λ o e v. group_tables_of (record { of_corner = unwrap_or o whole; entry_of = e; values = v }) in
+    let table : List ℤ → AttrTable = λ (l : List ℤ). record { values = l; of_corner = entries_by (unwrap_or a.cut whole) a.entry_of_class } in
+    rw (cut, entries, values, sym cuts, sym same) (map-append table a.values.items b.values.items)
+
+-- a group of two in place of the last one
+pub tables-joined : (whole : List ℕ) (before : List DecoderValues) (a b both : DecoderValues)
+    → group_tables_of (group_on whole both) ≡ group_tables_of (group_on whole a) ++ group_tables_of (group_on whole b)
+    → tables_on whole (before ++ both ∷ []) ≡ tables_on whole (before ++ a ∷ []) ++ group_tables_of (group_on whole b)
+tables-joined whole before a b both is =
+    let last : List AttrTable = group_tables_of (group_on whole b) in
+    tables-more whole before both
+    ∙ ap (λ (l : List AttrTable). tables_on whole before ++ l) is
+    ∙ sym (append_assoc (tables_on whole before) (group_tables_of (group_on whole a)) last)
+    ∙ ap (λ (l : List AttrTable). l ++ last) (sym (tables-more whole before a))
+
+-- it has the vertices of the last one
+pub vertices-joined : (corners : ℕ) (whole : List ℕ) (before : List DecoderValues) (a both : DecoderValues) → both.cut ≡ a.cut → both.entry_of_class ≡ a.entry_of_class
+    → All (HasVertices corners) (map (group_on whole) (before ++ a ∷ [])) → All (HasVertices corners) (map (group_on whole) (before ++ both ∷ []))
+vertices-joined corners whole [] a both cut entries each =
+    let has = All-head (HasVertices corners) (group_on whole a) [] each in
+    All-cons (HasVertices corners) (group_on whole both) []
+    (rw (cut, entries) (record { each_corner = has.each_corner; entries = has.entries })) (All-nil (HasVertices corners))
+vertices-joined corners whole (v ∷ before) a both cut entries each =
+    All-cons (HasVertices corners) (group_on whole v) (map (group_on whole) (before ++ both ∷ []))
+    (All-head (HasVertices corners) (group_on whole v) (map (group_on whole) (before ++ a ∷ [])) each)
+    (vertices-joined corners whole before a both cut entries (All-tail (HasVertices corners) (group_on whole v) (map (group_on whole) (before ++ a ∷ [])) each))
 
 -- ---- the classes of a surface
 

@@ -1,6 +1,6 @@
 -- Values that were read: how many they are, and that each is in its type.
 use Rattle.drc_base.specs.Profile.{profile}
-use Rattle.std.proofs.Common.{◌≡◌, ℕ, zero, suc, ◌+◌, ◌*◌, ◌/◌, ◌%◌, ◌≤◌, true, ℤ, List, [], ◌∷◌, ◌++◌, length, take, drop, map, Option, None, Some, Ok, refl, sym, ◌∙◌, ap, arith, length-append, replicate}
+use Rattle.std.proofs.Common.{◌≡◌, ℕ, zero, suc, ◌+◌, ◌*◌, ◌/◌, ◌%◌, ◌≤◌, true, ℤ, List, [], ◌∷◌, ◌++◌, length, take, drop, map, Option, Ok, refl, sym, ◌∙◌, ap, arith, length-append, replicate}
 use Rattle.std.specs.Prelude.{◌==◌, ◌&&◌, nat_lt, nat_le}
 use Rattle.std.specs.List.{list_all}
 use Rattle.std.proofs.lemmas.Bool.{eqb-true, leb-true}

@@ -1,5 +1,5 @@
 -- A stream that is a geometry in a profile is the same one in each wider profile.
-use Rattle.std.proofs.Common.{◌≡◌, ℕ, ◌+◌, ◌*◌, true, Option, List, [], ◌∷◌, ◌++◌, length, None, Some, refl, lit≤}
+use Rattle.std.proofs.Common.{◌≡◌, ℕ, ◌+◌, ◌*◌, true, Option, List, [], ◌∷◌, ◌++◌, length, None, Some, lit≤}
 use Rattle.std.specs.Prelude.{nat_le}
 use Rattle.drc_base.specs.declared.kinds.Kind.TheVariants as kind
 use Rattle.drc_base.specs.Profile.{Profile, profile_one, profile}

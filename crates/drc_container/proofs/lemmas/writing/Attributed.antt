@@ -1,5 +1,5 @@
 -- A geometry's one decoder and its values are what the calls that write them ask for.
-use Rattle.std.proofs.Common.{◌≡◌, ℕ, ◌+◌, ◌≤◌, true, leb, [], ◌∷◌, ◌++◌, map, length, Option, None, Some, inl, inr, ap, ◌∙◌, add-one, arith}
+use Rattle.std.proofs.Common.{◌≡◌, ℕ, ◌+◌, ◌≤◌, true, leb, [], ◌∷◌, ◌++◌, map, length, Option, None, Some, ap, ◌∙◌, add-one, arith}
 use Rattle.std.specs.List.{range_with_len}
 use Rattle.std.proofs.lemmas.Bool.{leb-true, and_parts}
 use Rattle.std.proofs.lemmas.List.{map-append}

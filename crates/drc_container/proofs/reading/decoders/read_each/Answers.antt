@@ -6,7 +6,6 @@ use Rattle.mesh_model.specs.Groups.{tables_of}
 use Rattle.eb_section.specs.Connectivity.{meaning}
 use Rattle.drc_container.specs.reading.OnSurface.{SurfaceAttributes, values_on}
 use Rattle.drc_container.specs.reading.AsRead.{classes_of, group_on, decoder_read_on, tables_on}
-use Rattle.drc_container.proofs.lemmas.reading.AsRead.{tables-more, vertices-more}
 use Rattle.drc_container.proofs.lemmas.reading.DecodersOnSurface.{surface_decoders_at-next, surface_decoders_at-refuses, surface_decoders_at-end}
 use Rattle.drc_container.proofs.lemmas.reading.Tabled.{columns-joined, values_on-append}
 use Rattle.drc_container.proofs.reading.decoders.read_each.Goals as goal
@@ -28,16 +27,17 @@ loop-decoder-preserved c =
     let added = c.in_ok-add_read.ensures in
     let before : SurfaceAttributes = record { heads = c.loop-decoder.heads.items; tables = tables_on whole old; info = c.loop-decoder.info.items } in
     let steps = c.in-Some.ensures.steps.0 in
-    let more = tables-more whole old read.values in
+    let more = added.tables whole in
     let sum = values_on-append (tables_on whole old) (tables_of (group_on whole read.values)) in
-    rw (added.heads, added.values, added.info) (record {
+    rw (added.heads, added.info) (record {
       rest = rw more (surface_decoders_at-next s before (decoder_read_on whole read) c.in-Some.decoder _ _ c.loop-decoder.c c.read_for.new.c _
           c.loop-decoder.invariant.rest steps (rw c.loop-decoder.invariant.spent at c.in_ok-read.ensures.item));
       spent = rw more (c.in_ok-read.ensures.spent ∙ ap (λ n. n + values_on (tables_of (group_on whole read.values))) c.loop-decoder.invariant.spent ∙ sym sum);
       few = c.in_ok-read.ensures.few;
       columns = rw more (columns-joined _ c.loop-decoder.heads.items read.heads (tables_on whole old) (tables_of (group_on whole read.values))
           c.loop-decoder.invariant.columns c.in_ok-read.ensures.columns);
-      vertices = vertices-more _ whole old read.values c.loop-decoder.invariant.vertices c.in_ok-read.ensures.vertices;
+      vertices = added.vertices whole _ c.loop-decoder.invariant.vertices c.in_ok-read.ensures.vertices;
+      orders = c.in_ok-read.ensures.orders;
       heads = let all = rw steps at c.loop-decoder.invariant.heads in λ k d h k' d'. all (suc k) d (omega (arith, h)) k' d';
       seams = let all = rw steps at c.loop-decoder.invariant.seams in λ k d h. all (suc k) d (omega (arith, h));
     })

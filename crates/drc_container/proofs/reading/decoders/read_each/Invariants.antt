@@ -8,7 +8,8 @@ use Rattle.mesh_model.specs.Groups.{HasVertices}
 use Rattle.attr_section.specs.Heads.{HeadPasses}
 use Rattle.eb_section.specs.Connectivity.{meaning}
 use Rattle.drc_container.specs.reading.OnSurface.{HasSeams, no_attributes, surface_decoders_at, values_on}
-use Rattle.drc_container.specs.reading.AsRead.{classes_of, group_on, tables_on}
+use Rattle.drc_container.specs.reading.AsRead.{classes_of, built_classes, group_on, tables_on}
+use Rattle.drc_container.specs.surface.MadeOrders.{AreOrders}
 use Rattle.drc_container.proofs.reading.decoders.read_each.Given as goal
 
 abbrev pub invariant-loop-decoder : goal.invariant-loop-decoder
@@ -23,6 +24,7 @@ invariant-loop-decoder l =
       few : l.spent ≤ MAX_VALUES;
       columns : AreAttrTables (3 * s.faces) l.heads.items tables;
       vertices : All (HasVertices (3 * s.faces)) (map (group_on (classes_of s)) l.values.items);
+      orders : AreOrders l.surface.sides.table (built_classes l.surface.sides) l.orders;
       heads : All (λ d. All HeadPasses d.heads) (into_iter_items l.decoder-iterator);
       seams : All (λ d. d.corner ≡ true → HasSeams (length l.surface.seams) d) (into_iter_items l.decoder-iterator);
     }

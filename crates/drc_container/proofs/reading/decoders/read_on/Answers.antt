@@ -9,30 +9,30 @@ use Rattle.drc_container.proofs.reading.decoders.read_on.Goals.{In_ok-attributes
 use Rattle.drc_container.proofs.reading.decoders.read_on.Goals as goal
 
 pub read_decoder-requires-clause-on : goal.read_decoder-requires-clause-on
-read_decoder-requires-clause-on c = record { over = c.requires.is; each_entry = c.len-entries.ensures }
+read_decoder-requires-clause-on c = record { over = c.requires.order.is; each_entry = c.len-entries.ensures }
 
 -- what is kept is what was read
 kept : (c : In_ok-attributes)
     → attributes_over c.args.labels.now.of_corner c.in_ok-attributes.attributes
-    ≡ decoder_attributes (ordered c.args.t.now c.args.labels.now.of_corner c.args.order) c.read_decoder.new.h c.in_ok-values.values.items
+    ≡ decoder_attributes (ordered c.args.t.now c.args.labels.now.of_corner c.args.order.now) c.read_decoder.new.h c.in_ok-values.values.items
 kept c =
     let labels = c.args.labels.now.of_corner in
-    let w : Ordered = ordered c.args.t.now labels c.args.order in
+    let w : Ordered = ordered c.args.t.now labels c.args.order.now in
     c.in_ok-attributes.ensures.over labels w refl refl
 
 pub returns-clause-spent : goal.returns-clause-spent
 returns-clause-spent c =
-    let w : Ordered = ordered c.args.t.now c.args.labels.now.of_corner c.args.order in
+    let w : Ordered = ordered c.args.t.now c.args.labels.now.of_corner c.args.order.now in
     let is = kept (goal.at.returns-clause-spent c).In_ok-attributes in
     c.in_ok-values.ensures.spent
     ∙ ap (λ n. c.args.spent.now + n) (sym (ap (λ (p : SurfaceAttributes). values_on p.tables) is ∙ values_on-tables w.entries c.in_ok-values.values.items))
 
 pub returns-clause-columns : goal.returns-clause-columns
 returns-clause-columns c =
-    let w : Ordered = ordered c.args.t.now c.args.labels.now.of_corner c.args.order in
+    let w : Ordered = ordered c.args.t.now c.args.labels.now.of_corner c.args.order.now in
     let is = kept (goal.at.returns-clause-columns c).In_ok-attributes in
     let read = decoder-read _ c.args.decoder c.len-entries.result c.args.spent.now c.requires.spent c.requires.heads c.args.c.now _ c.in_ok-values.ensures.values in
-    let each = entries-by c.args.t.now.faces c.args.labels.now.of_corner c.args.order c.requires.over in
+    let each = entries-by c.args.t.now.faces c.args.labels.now.of_corner c.args.order.now c.requires.order.over in
     let within : All (λ e. e < c.len-entries.result) w.entries =
     subst (λ n. All (λ e. e < n) w.entries) (sym c.len-entries.ensures) each.1 in
     subst (λ (p : SurfaceAttributes). AreAttrTables (3 * c.args.t.now.faces) p.heads p.tables) (sym is)
@@ -42,6 +42,6 @@ pub returns-clause-vertices : goal.returns-clause-vertices
 returns-clause-vertices c =
     let labels = c.args.labels.now.of_corner in
     record {
-      each_corner = c.requires.over.each_corner;
-      entries = subst (λ (entries : List ℕ). All (λ (k : ℕ). k < length entries) labels) (sym c.in_ok-attributes.ensures.entries) c.requires.over.classes;
+      each_corner = c.requires.order.over.each_corner;
+      entries = subst (λ (entries : List ℕ). All (λ (k : ℕ). k < length entries) labels) (sym c.in_ok-attributes.ensures.entries) c.requires.order.over.classes;
     }

@@ -1,5 +1,5 @@
 use Rattle.drc_base.specs.Profile.{profile}
-use Rattle.std.proofs.Common.{◌≡◌, ◌+◌, ◌*◌, subst}
+use Rattle.std.proofs.Common.{◌≡◌, ◌+◌, ◌*◌, ℕ, List, sym, subst}
 use Rattle.std.specs.Prelude.{IfOk}
 use Rattle.drc_bits.specs.Reading.{Gives}
 use Rattle.corner_table.specs.Table.{Table, gluing_of}
@@ -8,6 +8,7 @@ use Rattle.mesh_model.specs.Groups.{GroupParts, tables_of, HasVertices}
 use Rattle.drc_container.specs.declared.reading.surface_attributes.DecoderRead.{DecoderRead}
 use Rattle.drc_container.specs.reading.OnSurface.{ordered_by, values_on, decoder_on}
 use Rattle.drc_container.specs.reading.AsRead.{built_classes, group_on, decoder_read_on}
+use Rattle.drc_container.specs.surface.MadeOrders.{AreOrders}
 use Rattle.drc_container.proofs.lemmas.reading.AsRead.{classes-lent, gives-whole, if-whole}
 use Rattle.drc_container.proofs.reading.decoders.read_on_whole.Goals.{After-read_over}
 use Rattle.drc_container.proofs.reading.decoders.read_on_whole.Goals as goal
@@ -45,3 +46,16 @@ returns-clause-vertices c =
     subst (λ (t : Table). IfOk c.read_over.result (λ p. HasVertices (3 * t.faces) (group_on classes p.values))) c.table-table.ensures
     (if-whole (λ (p : DecoderRead) (g : GroupParts). HasVertices (3 * c.table-table.result.now.faces) g) classes _ c.read_over.result
     (whole (goal.at.returns-clause-vertices c).After-read_over) c.read_over.ensures.whole c.read_over.ensures.vertices)
+
+pub read_over-requires-clause-orders : goal.read_over-requires-clause-orders
+read_over-requires-clause-orders c =
+    let labels = c.classes-labels.result.now in
+    let is = classes-lent c.table-table.result.now c.args.sides.now.table labels.of_corner labels.count labels.ends
+    c.table-table.ensures c.face_count-faces.ensures.gluing c.classes-labels.ensures in
+    subst (λ (t : Table). AreOrders t c.classes-labels.result.now.of_corner c.args.orders.now) (sym c.table-table.ensures)
+    (subst (λ (l : List ℕ). AreOrders c.args.sides.now.table l c.args.orders.now) (sym is) c.requires.orders)
+
+pub returns-clause-orders : goal.returns-clause-orders
+returns-clause-orders c =
+    subst (λ (l : List ℕ). IfOk c.read_over.result (λ _. AreOrders c.args.sides.now.table l c.read_over.new.orders)) (whole (goal.at.returns-clause-orders c).After-read_over)
+    (subst (λ (t : Table). IfOk c.read_over.result (λ _. AreOrders t c.classes-labels.result.now.of_corner c.read_over.new.orders)) c.table-table.ensures c.read_over.ensures.orders)

@@ -1,5 +1,5 @@
 -- Values that are pushed one after another stand behind those before.
-use Rattle.std.proofs.Common.{rules, ◌≡◌, ◌+◌, ◌-◌, ◌++◌, ◌∷◌, [], ℤ, pos, List, length, take, drop, get_or, ap, ◌∙◌, arith, append_assoc}
+use Rattle.std.proofs.Common.{rules, ◌≡◌, ◌++◌, ◌∷◌, [], ℤ, pos, List, length, take, drop, get_or, ap, ◌∙◌, arith, append_assoc}
 use Rattle.drc_container.proofs.reading.points.put_piece.Goals as goal
 
 two_pushed : (xs ys zs part : List ℤ) → length part ≡ 2 → ys ≡ xs ++ get_or part 0 (pos 0) ∷ [] → zs ≡ ys ++ get_or part 1 (pos 0) ∷ [] → zs ≡ xs ++ part

@@ -1,4 +1,4 @@
-use Rattle.std.proofs.Common.{◌≡◌, ◌++◌, ◌-◌, true, Some, List, length, map, refl, sym, ap, ◌∙◌, subst}
+use Rattle.std.proofs.Common.{◌++◌, ◌-◌, true, Some, List, length, map, refl, sym, ap, ◌∙◌, subst}
 use Rattle.drc_bits.specs.Spells.{Spells}
 use Rattle.attr_section.specs.declared.decoder_heads.DecoderHead.{DecoderHead}
 use Rattle.attr_section.specs.Heads.{bare_decoder, heads_at, heads_bytes, DecodersPass, AreAcceptedLinks}

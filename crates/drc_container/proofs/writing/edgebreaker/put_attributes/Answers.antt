@@ -1,5 +1,5 @@
 -- The surfaces are those of the mesh.
-use Rattle.std.proofs.Common.{◌-◌, ◌<◌, ◌++◌, Some, length, map, ap, subst, arith}
+use Rattle.std.proofs.Common.{◌-◌, ◌++◌, Some, length, map, ap, subst, arith}
 use Rattle.std.specs.Prelude.{OnOk}
 use Rattle.std.specs.List.{All, enumerate_from}
 use Rattle.drc_base.specs.Refusals.{Answers}
