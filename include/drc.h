@@ -135,7 +135,8 @@ uint32_t drc_version(void);
 uint32_t drc_fault_name(uint32_t kind, char *name, size_t room);
 
 /* Decodes a stream into arrays that `drc_free` frees: DRC_DONE; DRC_REFUSED with its first fault; DRC_NO_MEMORY. The geometry
-   is written only where it is done, the fault only where it is refused. Bytes after the stream's end are ignored. */
+   is written only where it is done, the fault only where it is refused. Bytes after the stream's end are ignored. A stream may have
+   any length, here and below: DRC_FAULT_InputLimit is of the program alone. */
 uint32_t drc_decode(const uint8_t *bytes, size_t length, drc_geometry *geometry, drc_fault *fault);
 
 /* Decodes a stream into arrays of the caller, with room for so many faces, of three numbers each, and so many values:
@@ -146,7 +147,8 @@ uint32_t drc_decode_into(const uint8_t *bytes, size_t length, uint32_t *corners,
 
 /* Encodes a mesh (1) or a cloud (0), which has no faces: the heads of its attributes, three numbers of points for each face,
    and the integers of all points. The stream and its map are freed by `drc_free_stream`. DRC_DONE; DRC_BAD_ARGUMENT where
-   `mesh` is another number, a cloud has faces, the values aren't whole rows, or an option has no such number; DRC_REFUSED with
+   `mesh` is another number, a cloud has faces, the values aren't whole rows, or an option has no such number (where there are more
+   than 16 heads, or their components sum to 0, rows aren't looked at: then DRC_REFUSED says so); DRC_REFUSED with
    the first fault; DRC_NO_MEMORY. */
 uint32_t drc_encode(uint32_t mesh, const drc_head *heads, size_t attributes, const uint32_t *corners, size_t faces,
                     const int32_t *values, size_t count, const drc_options *options, drc_stream *stream, drc_fault *fault);

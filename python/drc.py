@@ -240,7 +240,8 @@ def version():
 
 
 def decode(data):
-    """The Geometry that the bytes of a stream mean: exactly that, or Refused with their first fault, as `drc dec` says it.
+    """The Geometry that the bytes of a stream mean: exactly that, or Refused with their first fault, as `drc dec` says it; but
+    streams of any length are read, here and by the other calls.
 
     `data` is anything that has a buffer of bytes: bytes, bytearray, memoryview, mmap, an array of uint8. Bytes after the
     stream's end are ignored. Points, faces and attributes have the order of `drc dec`."""

@@ -1,6 +1,6 @@
 /* Tests the library as C and C++ see it, for tests/library: structs, statuses, arrays that are too short, requests for memory that fail,
    threads. usage: library FILE.., each a stream of a mesh or a cloud that is decoded. Compiled with -DMAX_FACES and -DMAX_POINTS, the limits;
-   linked with malloc, posix_memalign, realloc and free wrapped. */
+   linked with malloc, realloc and free wrapped. */
 #include <drc.h>
 #include <errno.h>
 #include <pthread.h>
@@ -12,11 +12,9 @@
 extern "C" {
 #endif
 void *__real_malloc(size_t size);
-int __real_posix_memalign(void **to, size_t align, size_t size);
 void *__real_realloc(void *old, size_t size);
 void __real_free(void *block);
 void *__wrap_malloc(size_t size);
-int __wrap_posix_memalign(void **to, size_t align, size_t size);
 void *__wrap_realloc(void *old, size_t size);
 void __wrap_free(void *block);
 #ifdef __cplusplus
@@ -32,19 +30,13 @@ static int comes(void) {
 }
 
 void *__wrap_malloc(size_t size) {
-    void *block = comes() ? NULL : __real_malloc(size);
+    void *block = comes() ? (errno = ENOMEM, (void *)NULL) : __real_malloc(size);
     if (counting && block != NULL) blocks++;
     return block;
 }
 
-int __wrap_posix_memalign(void **to, size_t align, size_t size) {
-    int answer = comes() ? ENOMEM : __real_posix_memalign(to, align, size);
-    if (counting && answer == 0) blocks++;
-    return answer;
-}
-
 void *__wrap_realloc(void *old, size_t size) {
-    void *block = comes() ? NULL : __real_realloc(old, size);
+    void *block = comes() ? (errno = ENOMEM, (void *)NULL) : __real_realloc(old, size);
     if (counting && old == NULL && block != NULL) blocks++;
     return block;
 }
@@ -758,10 +750,10 @@ static void test_failing(const file *it, const drc_geometry *geometry) {
         long number, wanting = 0;
         for (number = 1; number < 20000; number++) {
             fault = marked();
-            counting = 1, requests = 0, blocks = 0, failing = number;
+            counting = 1, requests = 0, blocks = 0, failing = number, errno = EDOM;
             uint32_t status = called(call, it, geometry, &made, &fault);
             counting = 0;
-            TELL(blocks == 0 && is_marked(&fault) && (status == DRC_DONE || status == DRC_NO_MEMORY));
+            TELL(errno == EDOM && blocks == 0 && is_marked(&fault) && (status == DRC_DONE || status == DRC_NO_MEMORY));
             wanting += status == DRC_NO_MEMORY;
             if (requests < number) break;
         }
