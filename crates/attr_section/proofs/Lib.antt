@@ -2,6 +2,8 @@ pub mod Accepted
 pub mod FlagBits
 pub mod Columned
 pub mod Each
+pub mod FirstCounts
+pub mod FirstAttributes
 pub mod Loops
 pub mod PlainValues
 pub mod SpelledIntegers

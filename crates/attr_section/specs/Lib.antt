@@ -5,3 +5,4 @@ pub mod ValueLaws
 pub mod Written
 pub mod Examples
 pub mod Opened
+pub mod Openings

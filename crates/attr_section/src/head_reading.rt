@@ -1,8 +1,11 @@
 //! Reading the heads of attribute decoders.
 
-ghost use Rattle.std.specs.Prelude.{◌≡◌, ◌≤◌, ◌<◌, ◌+◌, IfOk, OnErr, All, length};
+ghost use Rattle.std.specs.Prelude.{◌≡◌, ◌≤◌, ◌<◌, ◌+◌, Err, IfOk, OnErr, All, length};
+ghost use Rattle.drc_base.specs.declared.faults.Fault.{Fault as AnyFault};
+ghost use Rattle.drc_base.specs.declared.faults.Refusal.TheVariants as refusal;
 ghost use Rattle.drc_bits.specs.Reading.{Reads, Gives};
 ghost use Rattle.attr_section.specs.Heads.{decoder_count_at, attribute_count_at, decoder_at, attributes_of, decoders_at, heads_at};
+ghost use Rattle.attr_section.specs.Openings.{first_count_at, heads_opening_at};
 
 use crate::decoder_heads::DecoderHead;
 use crate::head_items::{read_attributes, read_codings};
@@ -15,6 +18,7 @@ use std::alloc::Global;
 #[tactic(auto, unfolding(crate::specs::Heads::decoder_count_at))]
 fn read_decoder_count(c: &mut Cursor<'_>) -> Result<u8, Fault>
     ensures item { Reads (λ n. n) (decoder_count_at c.old) c.new result }
+    ensures some { IfOk result (λ n. 0 < n) }
     ensures few { IfOk result (λ n. n ≤ 16) }
 {
     let at = c.place();
@@ -43,6 +47,17 @@ fn read_attribute_count(c: &mut Cursor<'_>, before: u32) -> Result<u32, Fault>
         return Err(Fault::new(Kind::AttrLimit, at));
     }
     Ok(n)
+}
+
+/// How many attributes the first decoder of a sequential stream has; under Edgebreaker the links stand
+/// before it, and nothing is read.
+fn read_first_count(c: &mut Cursor<'_>, attr_data: Option<u8>) -> Result<u32, Fault>
+    ensures { Reads (λ n. n) (first_count_at attr_data c.old) c.new result }
+{
+    match attr_data {
+        None => read_attribute_count(c, 0),
+        Some(_) => Ok(0),
+    }
 }
 
 /// A decoder of this link, behind so many attributes.
@@ -95,9 +110,10 @@ fn read_linked_decoders(
 /// or a decoder has no attribute; `AttrLimit` past 16 decoders or attributes; `DataId`, `Element`
 /// and `Walk` at the links of Edgebreaker decoders, where the walk is 0 depth first, or 1 by prediction
 /// degree with values of vertices alone; `AttrType`, `DataType` and `Components`; then
-/// `Generic`, `Octahedral` and `Coding` at the codings of a decoder. After a refusal the cursor is
-/// where it was.
-#[tactic(auto, unfolding(crate::specs::Heads::heads_at))]
+/// `Generic`, `Octahedral` and `Coding` at the codings of a decoder. The faults of the number of decoders,
+/// and in a sequential stream of how many attributes the first one has, come before out of memory. After
+/// a refusal the cursor is where it was.
+#[tactic(auto, unfolding(crate::specs::Heads::heads_at, crate::specs::Openings::heads_opening_at), using(crate::proofs::FirstCounts::first_count_fails))]
 pub fn read_heads(
     alloc: Global,
     c: &mut Cursor<'_>,
@@ -106,10 +122,13 @@ pub fn read_heads(
     ensures item { Gives (λ v. v.items) (heads_at attr_data c.old) c.new result }
     ensures few { IfOk result (λ v. attributes_of v.items ≤ MAX_ATTRIBUTES) }
     ensures some { IfOk result (λ v. All (λ d. All (λ h. 0 < h.comps) d.heads) v.items) }
+    ensures early { (f : AnyFault) → heads_opening_at attr_data c.old ≡ Err f → result ≡ Err (refusal.Fault f) }
     ensures unchanged { OnErr result (c.new ≡ c.old) }
 {
     let mut ahead = c.copy();
     let n = read_decoder_count(&mut ahead)?;
+    let mut first = ahead.copy();
+    let _count = read_first_count(&mut first, attr_data)?;
     let links = read_links(alloc, &mut ahead, attr_data, n)?;
     let decoders = read_linked_decoders(alloc, &mut ahead, &links)?;
     *c = ahead;

@@ -1,11 +1,15 @@
 //! The integers that stand for values in a stream.
 
-ghost use Rattle.std.specs.Prelude.{◌≡◌, ◌+◌, ◌*◌, ◌≤◌, ◌<◌, ◌%◌, Ok, IfOk, drop, length, map, take};
+ghost use Rattle.std.specs.Prelude.{◌≡◌, ◌+◌, ◌*◌, ◌≤◌, ◌<◌, ◌%◌, Ok, Err, IfOk, drop, length, map, take};
+ghost use Rattle.drc_base.specs.declared.faults.Fault.{Fault as AnyFault};
+ghost use Rattle.drc_base.specs.declared.faults.Refusal.TheVariants as refusal;
 ghost use Rattle.drc_bits.specs.Reading.{Reading, Reads, Gives, advanced, many_at};
 ghost use Rattle.drc_bits.specs.Numbers.{number_at, little_endian};
+ghost use Rattle.symbol_coding.specs.Block.{block_opening_at};
 ghost use Rattle.symbol_coding.specs.Opened.{values_of};
 ghost use Rattle.attr_section.specs.Opened.{integers_of};
 ghost use Rattle.attr_section.specs.Values.{signed_of, plain_value_at, byte_width_at, plain_values_at, compressed_values_at, integers_at};
+ghost use Rattle.attr_section.specs.Openings.{integers_opening_at};
 
 use crate::coded_integers::CodedIntegers;
 use drc_base::{Fault, Kind, MAX_VALUES, Memory, Refusal};
@@ -160,6 +164,7 @@ fn read_each(alloc: Global, c: &mut Cursor<'_>, width: u8, n: u32) -> Result<Vec
 #[tactic(auto, unfolding(crate::specs::Values::plain_values_at))]
 fn read_plain_values(alloc: Global, c: &mut Cursor<'_>, n: u32) -> Result<Vec<i32>, Refusal>
     ensures item { Gives (λ v. v.items) (plain_values_at n c.old) c.new result }
+    ensures early { (f : AnyFault) → byte_width_at c.old ≡ Err f → result ≡ Err (refusal.Fault f) }
     ensures len { IfOk result (λ v. length v.items ≡ n) }
 {
     let width = read_byte_width(c)?;
@@ -219,6 +224,7 @@ fn open_compressed_values<'a>(
     requires whole { n % comps ≡ 0 }
     requires few { n ≤ MAX_VALUES }
     ensures item { Gives integers_of (compressed_values_at comps n c.old) c.new result }
+    ensures early { (f : AnyFault) → block_opening_at n c.old ≡ Err f → result ≡ Err (refusal.Fault f) }
     ensures len { IfOk result (λ i. length (integers_of i) ≡ n) }
 {
     let symbols = open_symbols(alloc, c, n, comps)?;
@@ -227,7 +233,7 @@ fn open_compressed_values<'a>(
 
 /// Opens `n` integers of entries of `comps` components: as they are, or compressed. The cursor stands
 /// behind them then, also where they are still to come.
-#[tactic(auto, unfolding(crate::specs::Values::integers_at))]
+#[tactic(auto, unfolding(crate::specs::Values::integers_at, crate::specs::Openings::integers_opening_at))]
 pub fn open_integers<'a>(
     alloc: Global,
     c: &mut Cursor<'a>,
@@ -238,6 +244,7 @@ pub fn open_integers<'a>(
     requires whole { n % comps ≡ 0 }
     requires few { n ≤ MAX_VALUES }
     ensures item { Gives integers_of (integers_at comps n c.old) c.new result }
+    ensures early { (f : AnyFault) → integers_opening_at n c.old ≡ Err f → result ≡ Err (refusal.Fault f) }
     ensures len { IfOk result (λ i. length (integers_of i) ≡ n) }
 {
     let compressed = c.get_u8()?;
@@ -260,6 +267,7 @@ pub fn read_integers(
     requires whole { n % comps ≡ 0 }
     requires few { n ≤ MAX_VALUES }
     ensures item { Gives (λ v. v.items) (integers_at comps n c.old) c.new result }
+    ensures early { (f : AnyFault) → integers_opening_at n c.old ≡ Err f → result ≡ Err (refusal.Fault f) }
     ensures len { IfOk result (λ v. length v.items ≡ n) }
 {
     let integers = open_integers(alloc, c, comps, n)?;

@@ -1,13 +1,16 @@
 //! Reading values by their prediction.
 
 ghost use Rattle.drc_base.specs.Profile.{profile};
-ghost use Rattle.std.specs.Prelude.{◌≡◌, ℕ, ◌≤◌, ◌<◌, ◌*◌, ◌%◌, true, IfOk, length};
+ghost use Rattle.std.specs.Prelude.{◌≡◌, ℕ, ◌≤◌, ◌<◌, ◌*◌, ◌%◌, true, Err, IfOk, length};
+ghost use Rattle.drc_base.specs.declared.faults.Fault.{Fault as AnyFault};
+ghost use Rattle.drc_base.specs.declared.faults.Refusal.TheVariants as refusal;
 ghost use Rattle.std.specs.Option.{option_map};
 ghost use Rattle.drc_bits.specs.Reading.{Reading, Reads, Gives};
 ghost use Rattle.predict.specs.Schemes.{facts};
 ghost use Rattle.predict.specs.Surfaces.{surface_of, surface_or, lacks_surface, MayBeOrderedOf, MayBeOver, CanStand};
 ghost use Rattle.attr_section.specs.Opened.{integers_of};
 ghost use Rattle.attr_section.specs.Values.{prediction_at, range_at, transform_at, flag_lists_at, corrected_at, with_flags, predicted_at};
+ghost use Rattle.attr_section.specs.Openings.{corrected_opening_at, predicted_opening_at};
 
 use crate::flag_lists::read_flag_lists;
 use crate::integers::{Integers, open_integers, read_integers};
@@ -135,7 +138,7 @@ fn restored_values(
 
 /// `n` values that are restored from corrections by this prediction, whose byte stands at `at`, over the
 /// ordered surface where it needs one.
-#[tactic(auto, unfolding(crate::specs::Values::corrected_at))]
+#[tactic(auto, unfolding(crate::specs::Values::corrected_at, crate::specs::Openings::corrected_opening_at))]
 fn read_corrected(
     alloc: Global,
     c: &mut Cursor<'_>,
@@ -152,6 +155,7 @@ fn read_corrected(
     requires over { MayBeOver (option_map (λ t. t.now) on) }
     requires stand { CanStand prediction (surface_of (option_map (λ t. t.now) on)) comps n }
     ensures item { Gives (λ v. v.items) (corrected_at at (surface_or (surface_of (option_map (λ t. t.now) on.entry))) prediction comps n c.old) c.new result }
+    ensures early { (f : AnyFault) → corrected_opening_at n c.old ≡ Err f → result ≡ Err (refusal.Fault f) }
     ensures len { IfOk result (λ v. length v.items ≡ n) }
 {
     read_transform(c)?;
@@ -173,7 +177,7 @@ fn lacks_surface(prediction: Prediction, on: Option<&Ordered<'_>>) -> bool
 }
 
 /// `n` values of this prediction, whose byte stands at `at`.
-#[tactic(auto, unfolding(crate::specs::Values::predicted_at))]
+#[tactic(auto, unfolding(crate::specs::Values::predicted_at, crate::specs::Openings::predicted_opening_at))]
 pub fn read_predicted(
     alloc: Global,
     c: &mut Cursor<'_>,
@@ -188,6 +192,7 @@ pub fn read_predicted(
     requires few { n ≤ MAX_VALUES }
     requires on { (entries : ℕ) × (n ≡ entries * comps) × MayBeOrderedOf entries (option_map (λ t. t.now) on) }
     ensures item { Gives (λ v. v.items) (predicted_at at (surface_of (option_map (λ t. t.now) on.entry)) prediction comps n c.old) c.new result }
+    ensures early { (f : AnyFault) → predicted_opening_at at (surface_of (option_map (λ t. t.now) on.entry)) prediction n c.old ≡ Err f → result ≡ Err (refusal.Fault f) }
     ensures len { IfOk result (λ v. length v.items ≡ n) }
 {
     if !prediction.facts().corrects {

@@ -1,14 +1,17 @@
 //! Reading the values of attributes.
 
 ghost use Rattle.drc_base.specs.Profile.{profile};
-ghost use Rattle.std.specs.Prelude.{◌≡◌, ◌≤◌, ◌<◌, ◌*◌, ◌+◌, ◌%◌, ℕ, ℤ, Ok, IfOk, IfSome, MatchResult, IsTrue, All, length};
+ghost use Rattle.std.specs.Prelude.{◌≡◌, ◌≤◌, ◌<◌, ◌*◌, ◌+◌, ◌%◌, ℕ, ℤ, Ok, Err, IfOk, IfSome, MatchResult, IsTrue, All, length};
 ghost use Rattle.std.specs.Option.{option_map};
 ghost use Rattle.std.specs.List.{list_all};
+ghost use Rattle.drc_base.specs.declared.faults.Fault.{Fault as AnyFault};
+ghost use Rattle.drc_base.specs.declared.faults.Refusal.TheVariants as refusal;
 ghost use Rattle.drc_base.specs.Refusals.{Refuses};
 ghost use Rattle.drc_bits.specs.Reading.{Reads, Gives};
 ghost use Rattle.mesh_model.specs.Head.{in_type};
 ghost use Rattle.predict.specs.Surfaces.{surface_of, MayBeOrderedOf};
 ghost use Rattle.attr_section.specs.Values.{typed_values_at, values_at, values_in, attributes_at, decoder_values_at, AreColumns};
+ghost use Rattle.attr_section.specs.Openings.{typed_opening_at, values_opening_at, attributes_opening_at};
 
 use crate::decoder_heads::DecoderHead;
 use crate::predicting::{read_predicted, read_prediction};
@@ -22,7 +25,7 @@ use predict::Ordered;
 use std::alloc::Global;
 
 /// `n` values of an attribute, each of which is in its data type.
-#[tactic(auto, unfolding(crate::specs::Values::typed_values_at))]
+#[tactic(auto, unfolding(crate::specs::Values::typed_values_at, crate::specs::Openings::typed_opening_at))]
 fn read_typed_values(
     alloc: Global,
     c: &mut Cursor<'_>,
@@ -35,6 +38,7 @@ fn read_typed_values(
     requires few { n ≤ MAX_VALUES }
     requires on { (entries : ℕ) × (n ≡ entries * head.now.comps) × MayBeOrderedOf entries (option_map (λ t. t.now) on) }
     ensures item { Gives (λ v. v) (typed_values_at profile (surface_of (option_map (λ t. t.now) on.entry)) head.now n c.old) c.new result }
+    ensures early { (f : AnyFault) → typed_opening_at profile (surface_of (option_map (λ t. t.now) on.entry)) n c.old ≡ Err f → result ≡ Err (refusal.Fault f) }
     ensures len { IfOk result (λ v. length v.values ≡ n) }
 {
     let at = c.place();
@@ -51,7 +55,7 @@ fn read_typed_values(
 }
 
 /// The values of an attribute for so many entries, behind so many values of other attributes.
-#[tactic(auto, unfolding(crate::specs::Values::values_at))]
+#[tactic(auto, unfolding(crate::specs::Values::values_at, crate::specs::Openings::values_opening_at))]
 fn read_values(
     alloc: Global,
     c: &mut Cursor<'_>,
@@ -64,6 +68,7 @@ fn read_values(
     requires spent { spent ≤ MAX_VALUES }
     requires on { MayBeOrderedOf entries (option_map (λ t. t.now) on) }
     ensures item { Gives (λ v. v) (values_at profile (surface_of (option_map (λ t. t.now) on.entry)) head.now entries spent c.old) c.new result }
+    ensures early { (f : AnyFault) → values_opening_at profile (surface_of (option_map (λ t. t.now) on.entry)) head.now entries spent c.old ≡ Err f → result ≡ Err (refusal.Fault f) }
     ensures len { IfOk result (λ v. length v.values ≡ entries * head.now.comps) }
     ensures few { IfOk result (λ v. spent + length v.values ≤ MAX_VALUES) }
 {
@@ -87,6 +92,7 @@ fn read_attributes(
     requires spent { spent ≤ MAX_VALUES }
     requires on { MayBeOrderedOf entries (option_map (λ t. t.now) on) }
     ensures item { Gives (λ v. v.items) (attributes_at profile (surface_of (option_map (λ t. t.now) on.entry)) heads.now entries spent c.old) c.new result }
+    ensures early { (f : AnyFault) → attributes_opening_at profile (surface_of (option_map (λ t. t.now) on.entry)) heads.now entries spent c.old ≡ Err f → result ≡ Err (refusal.Fault f) }
     ensures few { IfOk result (λ v. spent + values_in v.items ≤ MAX_VALUES) }
     ensures columns { IfOk result (λ v. AreColumns entries heads.now v.items) }
 {
@@ -121,7 +127,9 @@ fn values_in(attributes: &[Values]) -> u64
 /// with constrained multi-parallelogram prediction `FlagCount` at the number of flags where there are more
 /// than three for each face, and the faults of their blocks; `WrapRange` at a range's start, `FlagsShort`
 /// at the prediction byte where a flag is needed that isn't there, `ValueRange` at the prediction byte; then
-/// `QuantBits` at the quantisations; and `Short` and `Long`. Beside the table or the list that a block was
+/// `QuantBits` at the quantisations; and `Short` and `Long`. The faults of the first attribute up to what its
+/// integers open with, so `ValueLimit`, `Prediction`, `Transform`, `ByteWidth`, `Scheme`, `Length` and
+/// `TableLimit` there, come before out of memory. Beside the table or the list that a block was
 /// opened as, restoring takes memory for the values alone.
 #[tactic(auto, unfolding(crate::specs::Values::decoder_values_at))]
 pub fn read_decoder(
@@ -136,6 +144,7 @@ pub fn read_decoder(
     requires spent { spent.old ≤ MAX_VALUES }
     requires on { MayBeOrderedOf entries (option_map (λ t. t.now) on) }
     ensures values { MatchResult result (λ v. decoder_values_at profile (surface_of (option_map (λ t. t.now) on.entry)) h.old entries spent.old c.old ≡ Ok ((v.items, h.new), c.new)) (λ e. Refuses (decoder_values_at profile (surface_of (option_map (λ t. t.now) on.entry)) h.old entries spent.old c.old) e) }
+    ensures early { (f : AnyFault) → attributes_opening_at profile (surface_of (option_map (λ t. t.now) on.entry)) h.old.heads entries spent.old c.old ≡ Err f → result ≡ Err (refusal.Fault f) }
     ensures spent { IfOk result (λ v. spent.new ≡ spent.old + values_in v.items) }
     ensures few { IfOk result (λ v. spent.new ≤ MAX_VALUES) }
     ensures columns { IfOk result (λ v. AreColumns entries h.new.heads v.items) }

@@ -7,6 +7,7 @@ use Rattle.predict.specs.Surfaces.{surface_of}
 use Rattle.attr_section.specs.declared.values.Values.{Values}
 use Rattle.attr_section.specs.Values.{values_at, values_in, attributes_at}
 use Rattle.attr_section.proofs.Columned.{AreColumns-next}
+use Rattle.attr_section.proofs.FirstAttributes.{opens_here, opens_none}
 use Rattle.attr_section.proofs.Each.{each_at-next, each_at-refuses, each_at-end}
 use Rattle.attr_section.proofs.value_reading.read_attributes.Goals as goal
 
@@ -32,9 +33,24 @@ loop-head-preserved c =
       omega (arith, c.loop-head.invariant.1),
       c.in_ok-values.ensures.few,
       AreColumns-next c.args.entries c.loop-head.head-index c.args.heads.now c.loop-head.attributes.items c.head-item.result c.in_ok-values.values c.loop-head.invariant.3 (omega arith) c.head-item.is c.in_ok-values.ensures.len,
+      λ f fails. absurd (let e = c.in_ok-values.ensures.early f (opens_here (surface_of (option_map (λ t. t.now) c.args.on)) c.args.heads.now c.loop-head.head-index c.head-item.result c.args.entries c.args.spent c.loop-head.total c.loop-head.c c.args.c.now f
+          fails (c.loop-head.invariant.4 f fails) (omega arith) c.head-item.is) in cc),
     )
 
 pub returns-clause-item : goal.returns-clause-item
 unfolding attributes_at
 returns-clause-item c =
     each_at-end (λ before h. values_at profile (surface_of (option_map (λ t. t.now) c.args.on)) h c.args.entries (c.args.spent + values_in before)) c.args.heads.now c.loop-head.head-index c.loop-head.attributes.items c.loop-head.c (attributes_at profile (surface_of (option_map (λ t. t.now) c.args.on)) c.args.heads.now c.args.entries c.args.spent c.args.c.now) c.loop-head.invariant.0 (omega arith)
+
+pub returns-in_err-values-clause-early : goal.returns-in_err-values-clause-early
+returns-in_err-values-clause-early c f fails =
+    let p = err_from_is_err_and c.from_residual.result c.from_residual.ensures.1 in
+    let at = opens_here (surface_of (option_map (λ t. t.now) c.args.on)) c.args.heads.now c.loop-head.head-index c.head-item.result c.args.entries c.args.spent c.loop-head.total c.loop-head.c c.args.c.now f
+    fails (c.loop-head.invariant.4 f fails) (omega arith) c.head-item.is in
+    let e = c.in_err-values.ensures.early f at in
+    cc
+
+pub returns-clause-early : goal.returns-clause-early
+returns-clause-early c f fails =
+    absurd (opens_none (surface_of (option_map (λ t. t.now) c.args.on)) c.args.heads.now c.loop-head.head-index c.args.entries c.args.spent c.loop-head.total c.loop-head.c c.args.c.now f
+    fails (c.loop-head.invariant.4 f fails) (omega arith))
