@@ -260,8 +260,8 @@ class Tests:
         return subprocess.run([TOOL, *map(str, words), "--force", "--drc", self.program], stdout=subprocess.PIPE, stderr=subprocess.PIPE)
 
     def done(self, title, *words):
-        """Runs the tool, which is to end well; gives the lines on standard error."""
-        ran = self.tool(*words)
+        """Runs the tool, which is to end well, and to replace what an earlier test left; gives the lines on standard error."""
+        ran = self.tool(*words, "--force")
         self.tell(ran.returncode == 0, f"{title}: status {ran.returncode} {ran.stderr.decode().strip()}")
         return ran.stderr.decode().splitlines() if ran.returncode == 0 else None
 
