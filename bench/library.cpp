@@ -4,8 +4,8 @@
 // usage: library TURNS SIDE SMALL
 //
 // The meshes are those of `drc gen`: a grid, a torus, a mesh with a seam round each cell and one with holes, of SIDE cells each way (the one
-// with holes of more, so that each has about as many faces), and SMALL meshes of these kinds, of about 500 faces each. Positions are
-// declared as quantised floats. For each mesh and method a line: the mesh, the method, its faces, and then nanoseconds of processor
+// with holes of more, so that each has about as many faces), and SMALL meshes of these kinds, of about 500 faces each; and the grid `coated`, with
+// normals, texture coordinates and colours beside its positions. Positions are declared as quantised floats. For each mesh and method a line: the mesh, the method, its faces, and then nanoseconds of processor
 // time a face, each the least of TURNS turns in which the libraries take turns:
 //   decoding   by libdrc; by libdraco, which leaves out the transform from integers to floats; by libdrc without room for the
 //              arrays, which is all of it but handing them out
@@ -66,6 +66,16 @@ static drc_head position_head() {
     return head;
 }
 
+// An attribute of quantised floats of this usage beside the positions.
+static drc_head quantised_head(uint8_t usage, uint8_t comps, uint8_t bits, uint32_t id) {
+    drc_head head = position_head();
+    head.usage = usage;
+    head.comps = comps;
+    head.bits = bits;
+    head.id = id;
+    return head;
+}
+
 static drc_head label_head() {
     drc_head head = {};
     head.usage = 4;
@@ -113,14 +123,36 @@ static Arrays seams(uint32_t side, uint64_t seed) {
     return mesh;
 }
 
-static const char *const KINDS[] = {"grid", "torus", "seams", "holes"};
+// A grid whose points have a normal, texture coordinates and a colour too, each without seams. The normals are declared as generic, since
+// libdraco predicts those of usage normal in ways of their own alone.
+static Arrays coated(uint32_t side, uint64_t seed) {
+    const Arrays grid = lattice(side, side + 1, false, seed);
+    Arrays mesh;
+    Draws draws = {seed};
+    drc_head colour = quantised_head(2, 3, 0, 3);
+    colour.dtype = 2;
+    mesh.heads = {grid.heads[0], quantised_head(4, 3, 8, 1), quantised_head(3, 2, 12, 2), colour};
+    mesh.width = 11;
+    mesh.corners = grid.corners;
+    for (size_t p = 0; p < grid.points(); p++) {
+        const uint32_t i = grid.values[3 * p], j = grid.values[3 * p + 1], height = grid.values[3 * p + 2];
+        for (uint32_t value : {i, j, height, (7 * i + height) % 256, (5 * j + height) % 256, 200u, 4 * i, 4 * j, i % 256, j % 256, draws.next() % 256})
+            mesh.values.push_back(value);
+    }
+    return mesh;
+}
+
+// The large meshes, each by itself; small ones are of the first four kinds in turn.
+static const char *const KINDS[] = {"grid", "torus", "seams", "holes", "coated"};
+static const int LARGE_KINDS = 5, SMALL_KINDS = 4;
 
 static Arrays mesh_of(int kind, uint32_t side, uint64_t seed) {
     switch (kind) {
         case 0: return lattice(side, side + 1, false, seed);
         case 1: return lattice(side, side, false, seed);
         case 2: return seams(side, seed);
-        default: return lattice(side * 15 / 13, side * 15 / 13 + 1, true, seed);
+        case 3: return lattice(side * 15 / 13, side * 15 / 13 + 1, true, seed);
+        default: return coated(side, seed);
     }
 }
 
@@ -231,7 +263,8 @@ static void refused_before(Arrays &mesh, const Coding &coding) {
 
 static std::unique_ptr<draco::Mesh> decoded_there(const char *bytes, size_t length) {
     draco::Decoder decoder;
-    decoder.SetSkipAttributeTransform(draco::GeometryAttribute::POSITION);
+    using Attribute = draco::GeometryAttribute;
+    for (Attribute::Type type : {Attribute::POSITION, Attribute::GENERIC, Attribute::TEX_COORD}) decoder.SetSkipAttributeTransform(type);
     draco::DecoderBuffer buffer;
     buffer.Init(bytes, length);
     auto mesh = decoder.DecodeMeshFromBuffer(&buffer);
@@ -248,8 +281,8 @@ static void add_attribute(draco::Mesh &mesh, const Arrays &arrays, const drc_hea
     draco::PointAttribute *made = mesh.attribute(mesh.AddAttribute(attribute, true, arrays.points()));
     for (size_t p = 0; p < arrays.points(); p++) {
         const int32_t *value = &arrays.values[p * arrays.width + at];
-        const uint8_t byte = *value;
-        made->SetAttributeValue(draco::AttributeValueIndex(p), is_byte ? (const void *)&byte : (const void *)value);
+        const vector<uint8_t> bytes(value, value + head.comps);
+        made->SetAttributeValue(draco::AttributeValueIndex(p), is_byte ? (const void *)bytes.data() : (const void *)value);
     }
 }
 
@@ -281,8 +314,12 @@ static void encode_there(const draco::Mesh &mesh, const Coding &coding, draco::E
     encoder.SetSpeedOptions(speed, speed);
     encoder.options().SetGlobalInt("edgebreaker_method",
                                    is_valence ? draco::MESH_EDGEBREAKER_VALENCE_ENCODING : draco::MESH_EDGEBREAKER_STANDARD_ENCODING);
-    if (coding.predict == DRC_PREDICT_MULTI)
-        encoder.SetAttributePredictionScheme(draco::GeometryAttribute::POSITION, draco::MESH_PREDICTION_CONSTRAINED_MULTI_PARALLELOGRAM);
+    using Attribute = draco::GeometryAttribute;
+    const bool is_multi = coding.predict == DRC_PREDICT_MULTI;
+    const int prediction = is_multi ? draco::MESH_PREDICTION_CONSTRAINED_MULTI_PARALLELOGRAM : draco::MESH_PREDICTION_PARALLELOGRAM;
+    if (is_multi) encoder.SetAttributePredictionScheme(Attribute::POSITION, prediction);
+    if (!is_sequential)
+        for (Attribute::Type type : {Attribute::GENERIC, Attribute::TEX_COORD, Attribute::COLOR}) encoder.SetAttributePredictionScheme(type, prediction);
     if (!encoder.EncodeMeshToBuffer(mesh, &buffer).ok()) fail("libdraco doesn't encode");
 }
 
@@ -469,11 +506,12 @@ int main(int count, char **words) {
                               {"eb", DRC_METHOD_EDGEBREAKER, 0},
                               {"valence", DRC_METHOD_VALENCE, 0},
                               {"multi", DRC_METHOD_EDGEBREAKER, DRC_PREDICT_MULTI}};
-    for (int kind = 0; kind <= 4; kind++) {
+    for (int kind = 0; kind <= LARGE_KINDS; kind++) {
+        const bool is_large = kind < LARGE_KINDS;
         vector<Entry> entries;
-        if (kind < 4) add(entries, mesh_of(kind, side, 1));
-        for (int seed = 0; kind == 4 && seed < small; seed++) add(entries, mesh_of(seed % 4, 16, seed));
-        for (const Coding &coding : codings) time_meshes(kind < 4 ? KINDS[kind] : "small", turns, coding, entries);
+        if (is_large) add(entries, mesh_of(kind, side, 1));
+        for (int seed = 0; !is_large && seed < small; seed++) add(entries, mesh_of(seed % SMALL_KINDS, 16, seed));
+        for (const Coding &coding : codings) time_meshes(is_large ? KINDS[kind] : "small", turns, coding, entries);
     }
     return 0;
 }
