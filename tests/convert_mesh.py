@@ -123,7 +123,8 @@ def other_formats(tests):
         text = tests.unpacked(mesh.name, stream, ".ply", "--ascii")
         if text:
             again = ply_reader.read(text)
-            same = [(it.usage, it.values.tobytes()) for it in again.attributes] == [(it.usage, it.values.tobytes()) for it in wanted.attributes]
+            bits = lambda mesh: [(it.usage, it.values.astype(np.float32 if it.values.dtype.kind == "f" else it.values.dtype).tobytes()) for it in mesh.attributes]
+            same = bits(again) == bits(wanted)
             tests.tell(same and (again.faces == wanted.faces).all(), f"{mesh.name}: PLY as text")
         # all of an OBJ's attributes come back: packed once more, it is the same set of integers
         whole = tests.unpacked(mesh.name, stream, ".obj")
