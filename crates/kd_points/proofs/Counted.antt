@@ -5,12 +5,12 @@ use Rattle.std.proofs.lemmas.Bool.{eqb-true}
 use Rattle.std.proofs.lemmas.List.{length-replicate}
 use Rattle.drc_base.specs.declared.faults.Fault.{Fault}
 use Rattle.drc_base.specs.Steps.{◌>>=◌}
+use Rattle.drc_base.proofs.Parted.{given, parts, either}
 use Rattle.drc_bits.proofs.Results.{err≢ok}
 use Rattle.rans_binary.specs.Blocks.{first_bits}
 use Rattle.kd_tree.specs.Keys.{Key}
-use Rattle.kd_tree.specs.Trees.{digits}
+use Rattle.drc_bits.specs.Digits.{digits}
 use Rattle.kd_tree.specs.Reading.{Streams, after_rest, behind_split_bits, boxes_of, keys_before, split_bits_number}
-use Rattle.kd_points.proofs.Parted.{given, parts, either}
 
 -- a test that would have refused fails
 kept : {A : Type 0} (b : Bool) (f : Fault) (r : Result A Fault) (y : A) → (if b then Err f else r) ≡ Ok y → (b ≡ false) × (r ≡ Ok y)

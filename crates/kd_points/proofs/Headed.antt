@@ -8,17 +8,18 @@ use Rattle.std.proofs.lemmas.List.Elements.{All-head, All-tail}
 use Rattle.drc_base.specs.declared.kinds.Kind.TheVariants as kind
 use Rattle.drc_base.specs.declared.limits.TheConstants.{MAX_ATTRIBUTES, MAX_COMPONENTS}
 use Rattle.drc_base.specs.Steps.{◌>>=◌}
+use Rattle.drc_base.proofs.Parted.{given, parts, either}
 use Rattle.drc_bits.specs.Reading.{Reading, must, many_at}
 use Rattle.drc_bits.specs.Numbers.{number_at}
 use Rattle.drc_bits.specs.Varint.{var32_at}
 use Rattle.drc_bits.proofs.Results.{Ok-injective}
+use Rattle.drc_bits.proofs.Parted.{must-passed, many-passed}
 use Rattle.mesh_model.specs.declared.heads.Head.{Head}
 use Rattle.mesh_model.specs.declared.heads.Quant.{Quant}
 use Rattle.mesh_model.specs.Head.{has_type, has_minima, has_bits, head_fault, each_fault, heads_fault}
 use Rattle.mesh_model.proofs.FirstFaults.{unless-true, first_fault-cons}
 use Rattle.mesh_model.proofs.Passing.{heads_say}
 use Rattle.kd_points.specs.Header.{is_kd_type, kd_quant_at, kd_quant_of_at, kd_head_at, kd_heads_at, kd_attribute_count_at}
-use Rattle.kd_points.proofs.Parted.{given, parts, either, must-passed, many-passed}
 
 -- a quantisation that fits a type and so many components
 record QuantFits (dtype comps : ℕ) (q : Option Quant) : Type 0 where

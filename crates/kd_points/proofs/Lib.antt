@@ -1,9 +1,7 @@
-pub mod Parted
 pub mod Headed
 pub mod Refusing
 pub mod Appending
 pub mod Fullest
-pub mod Digits
 pub mod Numbered
 pub mod Axed
 pub mod Extended

@@ -3,11 +3,12 @@ use Rattle.std.proofs.Common.{◌≡◌, ℕ, zero, suc, ◌+◌, ◌*◌, List,
 use Rattle.std.specs.Prelude.{nat_le}
 use Rattle.std.specs.Int.{w32, cast_signed}
 use Rattle.drc_base.specs.declared.kinds.Kind.TheVariants as kind
+use Rattle.drc_base.proofs.Parted.{given, parts, not_refused}
 use Rattle.drc_bits.specs.Reading.{Reading, advanced, bytes_at, must, many_at}
 use Rattle.drc_bits.specs.Numbers.{number_at, signed_at, little_endian}
+use Rattle.drc_bits.proofs.Parted.{must-passed}
 use Rattle.kd_points.specs.declared.extents.Extent.{Extent}
 use Rattle.kd_points.specs.Header.{extent_at}
-use Rattle.kd_points.proofs.Parted.{given, parts, not_refused, must-passed}
 
 bytes-place : (n : ℕ) (c : Reading) (y : List ℕ × Reading) → bytes_at n c ≡ Ok y → y.1.place ≡ c.place + n
 bytes-place n c y is =

@@ -12,7 +12,7 @@ use Rattle.drc_bits.specs.Reading.{must, many_at, bytes_at, start_of}
 use Rattle.drc_bits.specs.Numbers.{number_at}
 use Rattle.drc_bits.specs.Varint.{var32_at, spelling}
 use Rattle.drc_bits.specs.Spells.{Spells}
-use Rattle.drc_bits.proofs.Spelled.{Spells-then, Spells-must, Spells-byte, Spells-bytes, Spells-var32}
+use Rattle.drc_bits.proofs.Spelled.{Spells-all, Spells-then, Spells-must, Spells-byte, Spells-bytes, Spells-var32}
 use Rattle.rans_binary.specs.Blocks.{IsBlockOf, behind, block, first_bits}
 use Rattle.mesh_model.specs.declared.heads.Head.{Head}
 use Rattle.mesh_model.specs.declared.geometries.Geometry.TheVariants.{Cloud}
@@ -43,7 +43,7 @@ use Rattle.kd_points.proofs.Counting.{keys_long}
 use Rattle.kd_points.proofs.Lying.{length-extents_of}
 use Rattle.kd_points.proofs.ReadPoints.{all_inside, length-sorted, rows_by, same_points, sorted_keys, sorted_points}
 use Rattle.kd_points.proofs.RowsBack.{depth_few, extent_fits}
-use Rattle.kd_points.proofs.Spelling.{Spells-all, Spells-extent, Spells-head}
+use Rattle.kd_points.proofs.Spelling.{Spells-extent, Spells-head}
 
 -- the first bytes and the version
 Spells-opening : Spells kd_opening_at (kd_magic ++ version ∷ []) version

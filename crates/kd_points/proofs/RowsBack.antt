@@ -16,9 +16,9 @@ use Rattle.mesh_model.specs.Parts.{CloudParts, IsCloud}
 use Rattle.kd_points.specs.declared.extents.Extent.{Extent}
 use Rattle.kd_points.specs.Extents.{above, axes_over, column_of, depth_of, extent_of, extents_of, greatest_in, key_within, least_in, no_extent, offset_of, row_within}
 use Rattle.kd_points.specs.Keys.{offset_in}
-use Rattle.kd_tree.specs.Trees.{digits}
+use Rattle.drc_bits.specs.Digits.{digits}
 use Rattle.kd_points.proofs.Axed.{offset_back}
-use Rattle.kd_points.proofs.Digits.{digits-above, digits-most}
+use Rattle.drc_bits.proofs.Digits.{digits-above, digits-most}
 use Rattle.kd_points.proofs.Extended.{greatest-least, least-most}
 use Rattle.kd_points.proofs.Lying.{depth-most, extent_at, get_or-column, length-extents_of, least_below}
 

@@ -16,7 +16,7 @@ use Rattle.drc_bits.specs.Numbers.{number_at, signed_at, little_endian}
 use Rattle.drc_bits.specs.Bits.{low_bytes}
 use Rattle.drc_bits.specs.Varint.{var32_at, spelling}
 use Rattle.drc_bits.specs.Spells.{Spells}
-use Rattle.drc_bits.proofs.Spelled.{Spells-none, Spells-then, Spells-must, Spells-byte, Spells-number, Spells-var32}
+use Rattle.drc_bits.proofs.Spelled.{Spells-all, Spells-byte, Spells-low_bytes, Spells-map, Spells-must, Spells-none, Spells-signed, Spells-then, Spells-var32}
 use Rattle.mesh_model.specs.declared.heads.Head.{Head}
 use Rattle.mesh_model.specs.declared.heads.Quant.{Quant}
 use Rattle.mesh_model.specs.Head.{has_type, has_minima, has_bits}
@@ -25,44 +25,6 @@ use Rattle.kd_points.specs.declared.extents.Extent.{Extent}
 use Rattle.kd_points.specs.Header.{extent_at, kd_head_at, is_kd_type, kd_quant_at, kd_quant_of_at}
 use Rattle.kd_points.specs.Laws.{KdHeadFits, KdQuantFits}
 use Rattle.kd_points.specs.Written.{extent_bytes, kd_head_bytes, kd_quant_bytes}
-
--- a value that is changed after it is read
-Spells-map : {A B : Type 0} (f : A → B) (item : Reading → Item A) (bytes : List ℕ) (x : A) → Spells item bytes x → Spells (λ c. item c >>= λ r. Ok (f r.0, r.1)) bytes (f x)
-Spells-map f item bytes x spells = record { reads = λ place rest. rw (spells.reads place rest) refl }
-
-length-low_bytes : (n v : ℕ) → length (low_bytes n v) ≡ n
-length-low_bytes zero v = refl
-length-low_bytes (suc n) v = omega (arith, length-low_bytes n (v / 256))
-
-little_endian-low_bytes : (n v : ℕ) → v < 256 ^ n → little_endian (low_bytes n v) ≡ v
-little_endian-low_bytes zero v fits = omega (arith, fits)
-little_endian-low_bytes (suc n) v fits = omega (arith, little_endian-low_bytes n (v / 256) (omega (arith, fits)))
-
-Spells-low_bytes : (n v : ℕ) → v < 256 ^ n → Spells (number_at n) (low_bytes n v) v
-Spells-low_bytes n v fits =
-    subst (λ x. Spells (number_at n) (low_bytes n v) x) (little_endian-low_bytes n v fits) (Spells-number n (low_bytes n v) (length-low_bytes n v))
-
--- a signed number of 32 bits
-Spells-signed : (x : ℤ) → FitsSigned w32 x → Spells signed_at (low_bytes 4 (cast_unsigned w32 x)) x
-Spells-signed x fits =
-    let few : cast_unsigned w32 x < 256 ^ 4 = unsigned_small x fits in
-    subst (λ y. Spells signed_at (low_bytes 4 (cast_unsigned w32 x)) y) (to_z-of_z w32 x fits)
-    (Spells-map (λ n. cast_signed w32 n) (number_at 4) (low_bytes 4 (cast_unsigned w32 x)) (cast_unsigned w32 x) (Spells-low_bytes 4 (cast_unsigned w32 x) few))
-  where
-    unsigned_small : (x : ℤ) → FitsSigned w32 x → cast_unsigned w32 x < 256 ^ 4
-    unsigned_small (pos n) fits = omega (arith, fits.sfits)
-    unsigned_small (negsuc n) fits = omega arith
-
--- several items of one kind, each of which is read back
-pub Spells-all : {A B : Type 0} (item : Reading → Item A) (bytes : B → List ℕ) (value : B → A) (xs : List B)
-    → All (λ x. Spells item (bytes x) (value x)) xs → Spells (many_at item (length xs)) (flat_map bytes xs) (map value xs)
-unfolding many_at
-Spells-all item bytes value [] each = Spells-none []
-Spells-all item bytes value (x ∷ xs) each =
-    Spells-then item (λ v c. many_at item (length xs) c >>= λ vs. Ok (v ∷ vs.0, vs.1)) (bytes x) (flat_map bytes xs) (value x) (value x ∷ map value xs)
-    (All-head (λ x. Spells item (bytes x) (value x)) x xs each)
-    (Spells-map (λ vs. value x ∷ vs) (many_at item (length xs)) (flat_map bytes xs) (map value xs)
-    (Spells-all item bytes value xs (All-tail (λ x. Spells item (bytes x) (value x)) x xs each)))
 
 -- an extent
 pub Spells-extent : (e : Extent) → FitsSigned w32 e.least → e.bits ≤ 32 → Spells extent_at (extent_bytes e) e

@@ -4,7 +4,7 @@ use Rattle.std.specs.Int.{int_min, int_max}
 use Rattle.std.specs.List.{range_with_len}
 use Rattle.mesh_model.specs.Head.{width_of}
 use Rattle.mesh_model.specs.Parts.{CloudParts}
-use Rattle.kd_tree.specs.Trees.{digits}
+use Rattle.drc_bits.specs.Digits.{digits}
 use Rattle.kd_tree.specs.Keys.{Key}
 use Rattle.kd_points.specs.declared.extents.Extent.{Extent}
 use Rattle.kd_points.specs.Axes.{axes_of}

@@ -1,7 +1,7 @@
 //! Where the points of a cloud lie in each component.
 
 ghost use Rattle.std.specs.Prelude.{◌≡◌, ◌<◌, ◌≤◌, ◌≤ℤ◌, ◌-ℤ◌, IfOk, All, length};
-ghost use Rattle.kd_tree.specs.Trees.{digits};
+ghost use Rattle.drc_bits.specs.Digits.{digits};
 ghost use Rattle.kd_points.specs.Extents.{above, extent_of, extents_of, column_of, least_in, greatest_in};
 ghost use Rattle.mesh_model.specs.Head.{width_of};
 

@@ -9,10 +9,11 @@ use Rattle.drc_base.specs.Steps.{◌>>=◌}
 use Rattle.rans_binary.specs.Blocks.{Block, behind, first_bits}
 use Rattle.rans_binary.proofs.BitNumbers.{behind-behind, first_bits-add, length-first_bits}
 use Rattle.kd_tree.specs.Keys.{Key, bit_at, is_low}
-use Rattle.kd_tree.specs.Trees.{IsSettled, digits, high_bits, lower, rest_bits, split_bits, upper}
+use Rattle.drc_bits.specs.Digits.{digits}
+use Rattle.kd_tree.specs.Trees.{IsSettled, high_bits, lower, rest_bits, split_bits, upper}
 use Rattle.kd_tree.specs.Reading.{Streams, after_rest, behind_split_bits, boxes_of, keys_before, number_behind, split_bits_number}
 use Rattle.kd_tree.proofs.Bits.{length-high_bits, number-bits}
-use Rattle.kd_tree.proofs.Digits.{digits-above}
+use Rattle.drc_bits.proofs.Digits.{digits-above}
 use Rattle.kd_tree.proofs.Boxes.{length-parts, rest-last, rest-more, rest-none, rest-one, split-last, split-more, split-none}
 use Rattle.kd_tree.proofs.Turns.{boxes-last, boxes-more, boxes-none, boxes-one}
 

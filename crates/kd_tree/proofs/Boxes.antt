@@ -5,7 +5,8 @@ use Rattle.std.proofs.lemmas.List.{get_or_append_left, get_or-append_right, get_
 use Rattle.std.proofs.lemmas.List.Filters.{length-filter_both}
 use Rattle.std.proofs.lemmas.List.Elements.{filter_passes}
 use Rattle.kd_tree.specs.Keys.{Key, bit_at, is_low, key_at}
-use Rattle.kd_tree.specs.Trees.{digits, high_bits, lower, upper, split_bits, rest_bits}
+use Rattle.drc_bits.specs.Digits.{digits}
+use Rattle.kd_tree.specs.Trees.{high_bits, lower, upper, split_bits, rest_bits}
 use Rattle.kd_tree.specs.Walk.{part}
 
 -- each key of a box is in one of its parts

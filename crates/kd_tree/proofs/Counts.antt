@@ -5,9 +5,10 @@ use Rattle.std.proofs.lemmas.Bool.{cases_lt, cond-true, cond-false}
 use Rattle.std.proofs.lemmas.List.{length-drop}
 use Rattle.std.proofs.lemmas.List.Elements.{All-filter}
 use Rattle.kd_tree.specs.Keys.{Key, bit_at, is_low}
-use Rattle.kd_tree.specs.Trees.{digits, digits_in, high_bits, lower, upper, split_bits, rest_bits, split_count, rest_count}
+use Rattle.drc_bits.specs.Digits.{digits, digits_in}
+use Rattle.kd_tree.specs.Trees.{high_bits, lower, upper, split_bits, rest_bits, split_count, rest_count}
 use Rattle.kd_tree.proofs.Bits.{length-high_bits}
-use Rattle.kd_tree.proofs.Digits.{nothing, step}
+use Rattle.drc_bits.proofs.Digits.{nothing, step}
 use Rattle.kd_tree.proofs.Boxes.{length-parts, rest-last, rest-more, rest-none, rest-one, split-last, split-more, split-none}
 
 -- a number has no more digits than it counts

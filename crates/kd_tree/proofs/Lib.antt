@@ -1,6 +1,5 @@
 pub mod Bits
 pub mod Packed
-pub mod Digits
 pub mod Boxes
 pub mod Walks
 pub mod Counts

@@ -10,7 +10,7 @@ use Rattle.drc_base.specs.Steps.{◌>>=◌}
 use Rattle.drc_base.specs.Refusals.{Refuses}
 use Rattle.rans_binary.specs.Blocks.{Block, first_bits}
 use Rattle.kd_tree.specs.Keys.{Key, KeyRows}
-use Rattle.kd_tree.specs.Trees.{digits}
+use Rattle.drc_bits.specs.Digits.{digits}
 use Rattle.kd_tree.specs.Reading.{Streams, after_rest, behind_split_bits, boxes_of, keys_before, split_bits_number}
 use Rattle.kd_tree.specs.Turns.{AreNested, IsDescended, IsFewer, IsDueNext, IsBoxRefused, IsTaken, IsTurned, low_count, going, nodes_waiting, turns_left, waiting}
 use Rattle.kd_tree.specs.Walk.{nodes}

@@ -5,7 +5,8 @@ use Rattle.std.proofs.lemmas.Bool.{cases_lt, false≢true}
 use Rattle.std.proofs.lemmas.List.Sums.{sum_by-cons}
 use Rattle.std.proofs.lemmas.List.Sorted.{sum_by-IsPermutation}
 use Rattle.kd_tree.specs.Keys.{Key, bit_at, is_low}
-use Rattle.kd_tree.specs.Trees.{digits, high_bits, lower, upper, split_bits, rest_bits}
+use Rattle.drc_bits.specs.Digits.{digits}
+use Rattle.kd_tree.specs.Trees.{high_bits, lower, upper, split_bits, rest_bits}
 use Rattle.kd_tree.proofs.Boxes.{rest-last, rest-more, rest-none, split-last, split-more, split-none}
 
 -- each test passes as many keys of one list as of the other

@@ -2,7 +2,8 @@
 use Rattle.std.proofs.Common.{◌≡◌, ℕ, zero, suc, ◌+◌, ◌-◌, ◌<◌, ◌≤◌, Bool, List, [], ◌∷◌, ◌++◌, length, take, drop, reverse, sym, refl, ap, ◌∙◌, subst, arith, append_assoc}
 use Rattle.std.proofs.lemmas.List.{reverse-append, take-take, drop-drop, drop-take, take_at, drop_at}
 use Rattle.kd_tree.specs.Keys.{Key, key_at}
-use Rattle.kd_tree.specs.Trees.{digits, high_bits, lower, upper, split_bits, rest_bits, IsSettled}
+use Rattle.drc_bits.specs.Digits.{digits}
+use Rattle.kd_tree.specs.Trees.{high_bits, lower, upper, split_bits, rest_bits, IsSettled}
 use Rattle.kd_tree.specs.Walk.{AreDue, nodes, nodes_due, part, rests_due, splits_due}
 use Rattle.kd_tree.specs.declared.writing.Due.{Due}
 use Rattle.kd_tree.proofs.Boxes.{key-part, length-part, length-parts, rest-last, rest-more, rest-none, rest-one, split-last, split-more, split-none}

@@ -7,7 +7,7 @@ use Rattle.drc_base.specs.Steps.{◌>>=◌}
 use Rattle.drc_base.specs.Refusals.{Refuses}
 use Rattle.rans_binary.specs.Blocks.{Block, first_bits, behind}
 use Rattle.kd_tree.specs.Keys.{Key, KeyRows}
-use Rattle.kd_tree.specs.Trees.{digits}
+use Rattle.drc_bits.specs.Digits.{digits}
 
 -- the block of split bits and the block of rest bits, each at its next bit
 pub record Streams : Type 0 where

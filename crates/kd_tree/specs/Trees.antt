@@ -2,6 +2,7 @@
 -- is divided by the next bit, and nothing depends on the order of the keys.
 use Rattle.std.specs.Prelude.{◌≡◌, ℕ, zero, suc, ◌+◌, ◌/◌, ◌%◌, ◌^◌, ◌==◌, Bool, if◌then◌else◌, nat_lt}
 use Rattle.std.specs.Prelude.{List, [], ◌∷◌, ◌++◌, length, drop, filter}
+use Rattle.drc_bits.specs.Digits.{digits}
 use Rattle.kd_tree.specs.Keys.{Key, bit_at, is_low}
 
 -- the lower box of a box at depth d: its keys whose next bit is 0
@@ -11,15 +12,6 @@ lower d box = filter (is_low d) box
 -- the upper box: its keys whose next bit is 1
 abbrev pub upper : ℕ → List Key → List Key
 upper d box = filter (bit_at d) box
-
--- the number of binary digits of a number below 2 ^ most
-unfoldable pub digits_in : ℕ → ℕ → ℕ
-digits_in zero v = 0
-digits_in (suc most) v = if v == 0 then 0 else 1 + digits_in most (v / 2)
-
--- the number of binary digits of a number of 32 bits
-abbrev pub digits : ℕ → ℕ
-digits v = digits_in 32 v
 
 -- the low n bits of a number, the high one first
 unfoldable pub high_bits : ℕ → ℕ → List Bool

@@ -8,7 +8,7 @@ use Rattle.drc_base.specs.Steps.{◌>>=◌}
 use Rattle.drc_base.specs.Refusals.{Refuses}
 use Rattle.rans_binary.specs.Blocks.{Block, behind, first_bits}
 use Rattle.kd_tree.specs.Keys.{Key}
-use Rattle.kd_tree.specs.Trees.{digits}
+use Rattle.drc_bits.specs.Digits.{digits}
 use Rattle.kd_tree.specs.Reading.{Streams, boxes_of, number_behind}
 use Rattle.kd_tree.specs.Walk.{nodes}
 use Rattle.kd_tree.specs.declared.reading.Pending.{Pending}

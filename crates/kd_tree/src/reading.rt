@@ -1,7 +1,7 @@
 //! Keys in order from the bits of a tree.
 
 ghost use Rattle.std.specs.Prelude.{◌≡◌, ℕ, ◌+◌, ◌-◌, ◌<◌, ◌≤◌, ◌^◌, List, [], ◌∷◌, ◌++◌, length, replicate, reverse, IfOk};
-ghost use Rattle.kd_tree.specs.Trees.{digits};
+ghost use Rattle.drc_bits.specs.Digits.{digits};
 ghost use Rattle.kd_tree.specs.Reading.{GivesTree, number_behind, tree_of};
 ghost use Rattle.kd_tree.specs.Turns.{AreNested, IsDescended, IsFewer, IsDueNext, IsTaken, IsTurned, going, nodes_waiting, turns_left, waiting};
 ghost use Rattle.kd_tree.specs.Walk.{nodes};

@@ -2,7 +2,8 @@
 
 ghost use Rattle.std.specs.Prelude.{◌≡◌, ℕ, ◌+◌, ◌-◌, ◌*◌, ◌<◌, ◌≤◌, ◌^◌, List, ◌∷◌, ◌++◌, length, reverse, All, IfOk, OnOk};
 ghost use Rattle.kd_tree.specs.Keys.{Key, bit_at, key_at};
-ghost use Rattle.kd_tree.specs.Trees.{IsSettled, high_bits, digits, lower, rest_bits, split_bits, upper};
+ghost use Rattle.drc_bits.specs.Digits.{digits};
+ghost use Rattle.kd_tree.specs.Trees.{IsSettled, high_bits, lower, rest_bits, split_bits, upper};
 ghost use Rattle.kd_tree.specs.Walk.{AreDue, nodes_due, part, rests_due, splits_due};
 
 use crate::keys::Keys;

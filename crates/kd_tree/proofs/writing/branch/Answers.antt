@@ -1,5 +1,6 @@
 use Rattle.std.proofs.Common.{◌≡◌, ℕ, ◌+◌, ◌-◌, ◌<◌, [], ◌∷◌, ◌++◌, reverse, sym, ap, ◌∙◌, subst, append_assoc}
-use Rattle.kd_tree.specs.Trees.{digits, high_bits}
+use Rattle.drc_bits.specs.Digits.{digits}
+use Rattle.kd_tree.specs.Trees.{high_bits}
 use Rattle.kd_tree.specs.Walk.{AreDue, nodes_due, rests_due, splits_due}
 use Rattle.kd_tree.specs.declared.writing.Due.{Due}
 use Rattle.kd_tree.proofs.Walks.{parted, parts-due, parts-less, rests-more, splits-more, two-pushed, with_parts}

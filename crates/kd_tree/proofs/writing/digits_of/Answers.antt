@@ -1,6 +1,6 @@
 use Rattle.std.proofs.Common.{sym, ap, ◌∙◌}
-use Rattle.kd_tree.specs.Trees.{digits}
-use Rattle.kd_tree.proofs.Digits.{digits-is, nothing}
+use Rattle.drc_bits.specs.Digits.{digits}
+use Rattle.drc_bits.proofs.Digits.{digits-is, nothing}
 use Rattle.kd_tree.proofs.writing.digits_of.Goals as goal
 
 pub returns-then-v-eq0-clause-digits : goal.returns-then-v-eq0-clause-digits
