@@ -1,6 +1,6 @@
 -- What attributes open with is what the first of them opens with.
 use Rattle.std.proofs.Common.{◌≡◌, ℕ, zero, suc, ◌<◌, ◌≤◌, List, [], ◌∷◌, length, get_or, Option, Err, ap, ◌∙◌, arith}
-use Rattle.drc_base.specs.Profile.{profile}
+use Rattle.drc_base.specs.Profile.{Profile}
 use Rattle.drc_base.specs.declared.faults.Fault.{Fault}
 use Rattle.drc_bits.specs.Reading.{Reading}
 use Rattle.mesh_model.specs.declared.heads.Head.{Head}
@@ -12,19 +12,19 @@ abbrev pub IsFresh : ℕ → Reading → ℕ → Reading → ℕ → Type 0
 IsFresh k c total begin spent = (k ≡ 0) × (c ≡ begin) × (total ≡ spent)
 
 -- the fault that they open with is the fault that the one at hand opens with
-pub opens_here : (w : Option Ordered) (heads : List Head) (k : ℕ) (h : Head) (entries spent total : ℕ) (c begin : Reading) (f : Fault)
-    → attributes_opening_at profile w heads entries spent begin ≡ Err f → IsFresh k c total begin spent → k < length heads → h ≡ get_or heads k h
-    → values_opening_at profile w h entries total c ≡ Err f
-opens_here w [] k h entries spent total c begin f fails fresh within at = absurd (omega (arith, within))
-opens_here w (x ∷ xs) (suc k) h entries spent total c begin f fails fresh within at = absurd (omega (arith, fresh.0))
-opens_here w (x ∷ xs) zero h entries spent total c begin f fails fresh within at =
-    ap (λ h. values_opening_at profile w h entries total c) at
-    ∙ ap (λ n. values_opening_at profile w x entries n c) fresh.2
-    ∙ ap (λ d. values_opening_at profile w x entries spent d) fresh.1
+pub opens_here : (p : Profile) (w : Option Ordered) (heads : List Head) (k : ℕ) (h : Head) (entries spent total : ℕ) (c begin : Reading) (f : Fault)
+    → attributes_opening_at p w heads entries spent begin ≡ Err f → IsFresh k c total begin spent → k < length heads → h ≡ get_or heads k h
+    → values_opening_at p w h entries total c ≡ Err f
+opens_here p w [] k h entries spent total c begin f fails fresh within at = absurd (omega (arith, within))
+opens_here p w (x ∷ xs) (suc k) h entries spent total c begin f fails fresh within at = absurd (omega (arith, fresh.0))
+opens_here p w (x ∷ xs) zero h entries spent total c begin f fails fresh within at =
+    ap (λ h. values_opening_at p w h entries total c) at
+    ∙ ap (λ n. values_opening_at p w x entries n c) fresh.2
+    ∙ ap (λ d. values_opening_at p w x entries spent d) fresh.1
     ∙ fails
 
 -- no attributes open with no fault
-pub opens_none : (w : Option Ordered) (heads : List Head) (k entries spent total : ℕ) (c begin : Reading) (f : Fault)
-    → attributes_opening_at profile w heads entries spent begin ≡ Err f → IsFresh k c total begin spent → length heads ≤ k → ⊥
-opens_none w [] k entries spent total c begin f fails fresh all = let e = fails in cc
-opens_none w (x ∷ xs) k entries spent total c begin f fails fresh all = omega (arith, fresh.0, all)
+pub opens_none : (p : Profile) (w : Option Ordered) (heads : List Head) (k entries spent total : ℕ) (c begin : Reading) (f : Fault)
+    → attributes_opening_at p w heads entries spent begin ≡ Err f → IsFresh k c total begin spent → length heads ≤ k → ⊥
+opens_none p w [] k entries spent total c begin f fails fresh all = let e = fails in cc
+opens_none p w (x ∷ xs) k entries spent total c begin f fails fresh all = omega (arith, fresh.0, all)

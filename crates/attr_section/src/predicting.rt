@@ -1,6 +1,6 @@
 //! Reading values by their prediction.
 
-ghost use Rattle.drc_base.specs.Profile.{profile};
+ghost use Rattle.drc_base.specs.Profile.{profile_numbered};
 ghost use Rattle.std.specs.Prelude.{◌≡◌, ℕ, ◌≤◌, ◌<◌, ◌*◌, ◌%◌, true, Err, IfOk, length};
 ghost use Rattle.drc_base.specs.declared.faults.Fault.{Fault as AnyFault};
 ghost use Rattle.drc_base.specs.declared.faults.Refusal.TheVariants as refusal;
@@ -15,19 +15,25 @@ ghost use Rattle.attr_section.specs.Openings.{corrected_opening_at, predicted_op
 use crate::flag_lists::read_flag_lists;
 use crate::integers::{Integers, open_integers, read_integers};
 use crate::listed::Listed;
-use drc_base::{Fault, Kind, MAX_VALUES, Refusal};
+use drc_base::{Fault, Kind, MAX_VALUES, Profile, Refusal};
 use drc_bits::Cursor;
 use predict::{CorrectionSource, Flags, Ordered, Prediction, Wrap, restore_with_flags};
 use std::alloc::Global;
 
-/// The prediction of an attribute.
-#[tactic(auto, unfolding(crate::specs::Values::prediction_at), using(crate::proofs::Accepted::is_known))]
-pub fn read_prediction(c: &mut Cursor<'_>) -> Result<Prediction, Fault>
-    ensures { Reads (λ q. q) (prediction_at profile c.old) c.new result }
+/// The prediction of an attribute, one that the profile has.
+#[tactic(auto, unfolding(crate::specs::Values::prediction_at))]
+pub fn read_prediction(c: &mut Cursor<'_>, profile: Profile) -> Result<Prediction, Fault>
+    ensures { Reads (λ q. q) (prediction_at (profile_numbered profile.number) c.old) c.new result }
 {
     let fault = c.fault(Kind::Prediction);
     let byte = c.get_u8()?;
-    Prediction::of_byte(byte).ok_or(fault)
+    let Some(prediction) = Prediction::of_byte(byte) else {
+        return Err(fault);
+    };
+    if !profile.has(prediction.facts().since) {
+        return Err(fault);
+    }
+    Ok(prediction)
 }
 
 /// Reads the transform of corrections.

@@ -1,6 +1,6 @@
 //! Reading the values of attributes.
 
-ghost use Rattle.drc_base.specs.Profile.{profile};
+ghost use Rattle.drc_base.specs.Profile.{profile_numbered};
 ghost use Rattle.std.specs.Prelude.{◌≡◌, ◌≤◌, ◌<◌, ◌*◌, ◌+◌, ◌%◌, ℕ, ℤ, Ok, Err, IfOk, IfSome, MatchResult, IsTrue, All, length};
 ghost use Rattle.std.specs.Option.{option_map};
 ghost use Rattle.std.specs.List.{list_all};
@@ -18,7 +18,7 @@ use crate::predicting::{read_predicted, read_prediction};
 use crate::quants::read_quants;
 use crate::types::are_in_type;
 use crate::values::Values;
-use drc_base::{Fault, Kind, MAX_VALUES, Refusal, Sequence};
+use drc_base::{Fault, Kind, MAX_VALUES, Profile, Refusal, Sequence};
 use drc_bits::Cursor;
 use mesh_model::Head;
 use predict::Ordered;
@@ -29,6 +29,7 @@ use std::alloc::Global;
 fn read_typed_values(
     alloc: Global,
     c: &mut Cursor<'_>,
+    profile: Profile,
     on: Option<&Ordered<'_>>,
     head: &Head,
     n: u32,
@@ -37,12 +38,12 @@ fn read_typed_values(
     requires whole { n % head.now.comps ≡ 0 }
     requires few { n ≤ MAX_VALUES }
     requires on { (entries : ℕ) × (n ≡ entries * head.now.comps) × MayBeOrderedOf entries (option_map (λ t. t.now) on) }
-    ensures item { Gives (λ v. v) (typed_values_at profile (surface_of (option_map (λ t. t.now) on.entry)) head.now n c.old) c.new result }
-    ensures early { (f : AnyFault) → typed_opening_at profile (surface_of (option_map (λ t. t.now) on.entry)) n c.old ≡ Err f → result ≡ Err (refusal.Fault f) }
+    ensures item { Gives (λ v. v) (typed_values_at (profile_numbered profile.number) (surface_of (option_map (λ t. t.now) on.entry)) head.now n c.old) c.new result }
+    ensures early { (f : AnyFault) → typed_opening_at (profile_numbered profile.number) (surface_of (option_map (λ t. t.now) on.entry)) n c.old ≡ Err f → result ≡ Err (refusal.Fault f) }
     ensures len { IfOk result (λ v. length v.values ≡ n) }
 {
     let at = c.place();
-    let prediction = read_prediction(c)?;
+    let prediction = read_prediction(c, profile)?;
     let values = read_predicted(alloc, c, at, on, prediction, head.comps as u32, n)?;
     if !are_in_type(head.dtype, &values) {
         return Err(Refusal::Fault(Fault::new(Kind::ValueRange, at)));
@@ -59,6 +60,7 @@ fn read_typed_values(
 fn read_values(
     alloc: Global,
     c: &mut Cursor<'_>,
+    profile: Profile,
     on: Option<&Ordered<'_>>,
     head: &Head,
     entries: u32,
@@ -67,8 +69,8 @@ fn read_values(
     requires some { 0 < head.now.comps }
     requires spent { spent ≤ MAX_VALUES }
     requires on { MayBeOrderedOf entries (option_map (λ t. t.now) on) }
-    ensures item { Gives (λ v. v) (values_at profile (surface_of (option_map (λ t. t.now) on.entry)) head.now entries spent c.old) c.new result }
-    ensures early { (f : AnyFault) → values_opening_at profile (surface_of (option_map (λ t. t.now) on.entry)) head.now entries spent c.old ≡ Err f → result ≡ Err (refusal.Fault f) }
+    ensures item { Gives (λ v. v) (values_at (profile_numbered profile.number) (surface_of (option_map (λ t. t.now) on.entry)) head.now entries spent c.old) c.new result }
+    ensures early { (f : AnyFault) → values_opening_at (profile_numbered profile.number) (surface_of (option_map (λ t. t.now) on.entry)) head.now entries spent c.old ≡ Err f → result ≡ Err (refusal.Fault f) }
     ensures len { IfOk result (λ v. length v.values ≡ entries * head.now.comps) }
     ensures few { IfOk result (λ v. spent + length v.values ≤ MAX_VALUES) }
 {
@@ -76,13 +78,14 @@ fn read_values(
     if spent + n > MAX_VALUES as u64 {
         return Err(Refusal::Fault(c.fault(Kind::ValueLimit)));
     }
-    read_typed_values(alloc, c, on, head, n as u32)
+    read_typed_values(alloc, c, profile, on, head, n as u32)
 }
 
 /// The values of attributes for so many entries, behind so many other values.
 fn read_attributes(
     alloc: Global,
     c: &mut Cursor<'_>,
+    profile: Profile,
     on: Option<&Ordered<'_>>,
     heads: &[Head],
     entries: u32,
@@ -91,15 +94,15 @@ fn read_attributes(
     requires some { All (λ h. 0 < h.comps) heads.now }
     requires spent { spent ≤ MAX_VALUES }
     requires on { MayBeOrderedOf entries (option_map (λ t. t.now) on) }
-    ensures item { Gives (λ v. v.items) (attributes_at profile (surface_of (option_map (λ t. t.now) on.entry)) heads.now entries spent c.old) c.new result }
-    ensures early { (f : AnyFault) → attributes_opening_at profile (surface_of (option_map (λ t. t.now) on.entry)) heads.now entries spent c.old ≡ Err f → result ≡ Err (refusal.Fault f) }
+    ensures item { Gives (λ v. v.items) (attributes_at (profile_numbered profile.number) (surface_of (option_map (λ t. t.now) on.entry)) heads.now entries spent c.old) c.new result }
+    ensures early { (f : AnyFault) → attributes_opening_at (profile_numbered profile.number) (surface_of (option_map (λ t. t.now) on.entry)) heads.now entries spent c.old ≡ Err f → result ≡ Err (refusal.Fault f) }
     ensures few { IfOk result (λ v. spent + values_in v.items ≤ MAX_VALUES) }
     ensures columns { IfOk result (λ v. AreColumns entries heads.now v.items) }
 {
     let mut total = spent;
     let mut attributes = Vec::new(alloc);
     for head in heads {
-        let values = read_values(alloc, c, on, head, entries, total)?;
+        let values = read_values(alloc, c, profile, on, head, entries, total)?;
         total += values.values.len() as u64;
         attributes.push(values)?;
     }
@@ -118,12 +121,12 @@ fn values_in(attributes: &[Values]) -> u64
     total
 }
 
-/// The values of a decoder for so many entries, behind so many values of decoders before it; `spent`
+/// The values of a decoder in a stream of this profile, for so many entries, behind so many values of decoders before it; `spent`
 /// grows by the values read, and the decoder's heads get their quantisations. `on` is the surface that
 /// the values of an Edgebreaker stream stand on, in the decoder's order, and `entries` is then
 /// the number of its entries; None stands for a sequential stream. The first fault of the bytes: for each
 /// attribute `ValueLimit` where it passes `MAX_VALUES` values in all, at its prediction byte; `Prediction`,
-/// also at a parallelogram where there is no surface; `Transform`, `ByteWidth`, the faults of a symbol block;
+/// also at one that came with a later profile, and at a parallelogram where there is no surface; `Transform`, `ByteWidth`, the faults of a symbol block;
 /// with constrained multi-parallelogram prediction `FlagCount` at the number of flags where there are more
 /// than three for each face, and the faults of their blocks; `WrapRange` at a range's start, `FlagsShort`
 /// at the prediction byte where a flag is needed that isn't there, `ValueRange` at the prediction byte; then
@@ -135,6 +138,7 @@ fn values_in(attributes: &[Values]) -> u64
 pub fn read_decoder(
     alloc: Global,
     c: &mut Cursor<'_>,
+    profile: Profile,
     h: &mut DecoderHead,
     entries: u32,
     on: Option<&Ordered<'_>>,
@@ -143,13 +147,13 @@ pub fn read_decoder(
     requires some { All (λ head. 0 < head.comps) h.old.heads }
     requires spent { spent.old ≤ MAX_VALUES }
     requires on { MayBeOrderedOf entries (option_map (λ t. t.now) on) }
-    ensures values { MatchResult result (λ v. decoder_values_at profile (surface_of (option_map (λ t. t.now) on.entry)) h.old entries spent.old c.old ≡ Ok ((v.items, h.new), c.new)) (λ e. Refuses (decoder_values_at profile (surface_of (option_map (λ t. t.now) on.entry)) h.old entries spent.old c.old) e) }
-    ensures early { (f : AnyFault) → attributes_opening_at profile (surface_of (option_map (λ t. t.now) on.entry)) h.old.heads entries spent.old c.old ≡ Err f → result ≡ Err (refusal.Fault f) }
+    ensures values { MatchResult result (λ v. decoder_values_at (profile_numbered profile.number) (surface_of (option_map (λ t. t.now) on.entry)) h.old entries spent.old c.old ≡ Ok ((v.items, h.new), c.new)) (λ e. Refuses (decoder_values_at (profile_numbered profile.number) (surface_of (option_map (λ t. t.now) on.entry)) h.old entries spent.old c.old) e) }
+    ensures early { (f : AnyFault) → attributes_opening_at (profile_numbered profile.number) (surface_of (option_map (λ t. t.now) on.entry)) h.old.heads entries spent.old c.old ≡ Err f → result ≡ Err (refusal.Fault f) }
     ensures spent { IfOk result (λ v. spent.new ≡ spent.old + values_in v.items) }
     ensures few { IfOk result (λ v. spent.new ≤ MAX_VALUES) }
     ensures columns { IfOk result (λ v. AreColumns entries h.new.heads v.items) }
 {
-    let attributes = read_attributes(alloc, c, on, h.heads.as_slice(), entries, *spent)?;
+    let attributes = read_attributes(alloc, c, profile, on, h.heads.as_slice(), entries, *spent)?;
     let heads = read_quants(alloc, c, h.heads.as_slice())?;
     h.heads = Sequence::from_vec(heads);
     *spent += values_in(&attributes);

@@ -6,7 +6,7 @@ ghost use Rattle.attr_section.specs.Examples.{example_head, texture_head, positi
 
 use crate::faults::is_fault;
 use attr_section::{DecoderHead, Values, read_decoder, read_heads, write_decoder, write_heads};
-use drc_base::{Fault, Kind, MAX_VALUES, Memory, Refusal, Sequence};
+use drc_base::{Fault, Kind, MAX_VALUES, Memory, PROFILE_TWO, Refusal, Sequence};
 use drc_bits::Cursor;
 use mesh_model::{Head, Quant};
 use std::alloc::{AllocError, Global};
@@ -231,7 +231,7 @@ fn values_are_read(
     let mut h = decoder(alloc, None, false)?;
     let mut c = Cursor::new(bytes);
     let mut spent = 5;
-    let read = read_decoder(alloc, &mut c, &mut h, 2, None, &mut spent)?;
+    let read = read_decoder(alloc, &mut c, PROFILE_TWO, &mut h, 2, None, &mut spent)?;
     if c.rest().len() != 1 || spent != 15 {
         return Ok(false);
     }
@@ -271,7 +271,15 @@ fn fault_of_values(
 ) -> Result<Option<Fault>, AllocError> {
     let mut h = decoder_of(alloc, dtype, 1)?;
     let mut spent = spent.min(MAX_VALUES as u64);
-    match read_decoder(alloc, &mut Cursor::new(bytes), &mut h, 1, None, &mut spent) {
+    match read_decoder(
+        alloc,
+        &mut Cursor::new(bytes),
+        PROFILE_TWO,
+        &mut h,
+        1,
+        None,
+        &mut spent,
+    ) {
         Err(Refusal::Fault(fault)) => Ok(Some(fault)),
         _ => Ok(None),
     }

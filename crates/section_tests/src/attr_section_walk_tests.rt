@@ -9,7 +9,7 @@ use crate::attr_section_tests::decoder_of;
 use crate::faults::is_fault;
 use attr_section::{Ordered, Values, read_decoder};
 use corner_table::{Classes, Order, SideTable};
-use drc_base::{Fault, Kind, Memory, Refusal};
+use drc_base::{Fault, Kind, Memory, PROFILE_TWO, Refusal};
 use drc_bits::Cursor;
 use std::alloc::Global;
 use std::process::Abort;
@@ -49,7 +49,7 @@ fn read_on(alloc: Global, on: &Ordered<'_>, dtype: u8, bytes: &[u8]) -> Result<V
     let mut h = decoder_of(alloc, dtype, 3)?;
     let mut spent = 0;
     let mut c = Cursor::new(bytes);
-    read_decoder(alloc, &mut c, &mut h, 4, Some(on), &mut spent)
+    read_decoder(alloc, &mut c, PROFILE_TWO, &mut h, 4, Some(on), &mut spent)
 }
 
 /// What is read over the square from a prediction byte, the corrections and these bytes: positions of

@@ -6,7 +6,7 @@ ghost use Rattle.attr_section.specs.Examples.{example_head, surface_values, surf
 
 use crate::attr_section_tests::with_one_behind;
 use attr_section::{DecoderHead, Ordered, Values, read_decoder, write_decoder};
-use drc_base::{Refusal, Sequence};
+use drc_base::{PROFILE_TWO, Refusal, Sequence};
 use drc_bits::Cursor;
 use mesh_model::Head;
 use std::alloc::{AllocError, Global};
@@ -97,7 +97,7 @@ fn values_are_read(
     let mut h = decoder(alloc)?;
     let mut c = Cursor::new(bytes);
     let mut spent = 5;
-    let read = read_decoder(alloc, &mut c, &mut h, 4, Some(on), &mut spent)?;
+    let read = read_decoder(alloc, &mut c, PROFILE_TWO, &mut h, 4, Some(on), &mut spent)?;
     if c.rest().len() != 1 || spent != 17 {
         return Ok(false);
     }

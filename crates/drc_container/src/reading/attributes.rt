@@ -7,7 +7,7 @@ ghost use Rattle.attr_section.specs.Values.{AreColumns};
 ghost use Rattle.drc_container.specs.reading.Stream.{sequential_attributes_at, decoders_values_at};
 
 use attr_section::{DecoderHead, Values, read_decoder, read_heads};
-use drc_base::{Refusal, Sequence};
+use drc_base::{PROFILE_TWO, Refusal, Sequence};
 use drc_bits::Cursor;
 use mesh_model::Head;
 use std::alloc::Global;
@@ -51,7 +51,15 @@ fn read_decoders(
     let mut values = Vec::new(alloc);
     let mut spent: u64 = 0;
     for mut decoder in decoders {
-        let mut read = read_decoder(alloc, c, &mut decoder, entries, None, &mut spent)?;
+        let mut read = read_decoder(
+            alloc,
+            c,
+            PROFILE_TWO,
+            &mut decoder,
+            entries,
+            None,
+            &mut spent,
+        )?;
         values.append(&mut read)?;
         let mut its_heads = heads_of(decoder);
         heads.append(&mut its_heads)?;

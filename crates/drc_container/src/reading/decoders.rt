@@ -24,7 +24,7 @@ use crate::surface::made_orders::{MadeOrders, order_once};
 use crate::surface::ordering::cut_at;
 use attr_section::{DecoderHead, Ordered, read_decoder, read_heads};
 use corner_table::{Classes, Order, SideTable};
-use drc_base::{Memory, Refusal, Sequence};
+use drc_base::{Memory, PROFILE_TWO, Refusal, Sequence};
 use drc_bits::Cursor;
 use eb_rebuild::Built;
 use eb_section::EbRead;
@@ -62,7 +62,15 @@ fn read_on(
         order,
     };
     let mut decoder = decoder;
-    let values = read_decoder(alloc, c, &mut decoder, entries, Some(&on), spent)?;
+    let values = read_decoder(
+        alloc,
+        c,
+        PROFILE_TWO,
+        &mut decoder,
+        entries,
+        Some(&on),
+        spent,
+    )?;
     let attributes = decoder_attributes(alloc, order, decoder, values)?;
     Ok(attributes)
 }

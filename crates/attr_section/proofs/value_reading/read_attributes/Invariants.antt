@@ -1,4 +1,4 @@
-use Rattle.drc_base.specs.Profile.{profile}
+use Rattle.drc_base.specs.Profile.{profile_numbered}
 use Rattle.std.proofs.Common.{◌≡◌, ◌≤◌, ◌+◌, [], drop, take, Err}
 use Rattle.drc_base.specs.declared.faults.Fault.{Fault}
 use Rattle.drc_base.specs.declared.limits.TheConstants.{MAX_VALUES}
@@ -12,10 +12,10 @@ use Rattle.attr_section.proofs.value_reading.read_attributes.Given as goal
 
 abbrev pub invariant-loop-head : goal.invariant-loop-head
 invariant-loop-head l =
-    (each_at (λ before h. values_at profile (surface_of (option_map (λ t. t.now) l.on)) h l.entries (l.spent + values_in before)) l.attributes.items (drop l.head-index l.heads) l.c
-    ≡ each_at (λ before h. values_at profile (surface_of (option_map (λ t. t.now) l.on)) h l.entries (l.spent + values_in before)) [] l.heads l.fn.c)
+    (each_at (λ before h. values_at (profile_numbered l.profile.number) (surface_of (option_map (λ t. t.now) l.on)) h l.entries (l.spent + values_in before)) l.attributes.items (drop l.head-index l.heads) l.c
+    ≡ each_at (λ before h. values_at (profile_numbered l.profile.number) (surface_of (option_map (λ t. t.now) l.on)) h l.entries (l.spent + values_in before)) [] l.heads l.fn.c)
     × (l.total ≡ l.spent + values_in l.attributes.items)
     × (l.total ≤ MAX_VALUES)
     × AreColumns l.entries (take l.head-index l.heads) l.attributes.items
-    × ((f : Fault) → attributes_opening_at profile (surface_of (option_map (λ t. t.now) l.on)) l.heads l.entries l.spent l.fn.c ≡ Err f
+    × ((f : Fault) → attributes_opening_at (profile_numbered l.profile.number) (surface_of (option_map (λ t. t.now) l.on)) l.heads l.entries l.spent l.fn.c ≡ Err f
     → IsFresh l.head-index l.c l.total l.fn.c l.spent)
