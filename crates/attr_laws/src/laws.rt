@@ -12,7 +12,9 @@ pub fn parts_are_read()
 {}
 
 /// The values of an attribute, as they are written by any prediction that they may have, are read as these
-/// values, wherever they begin and whatever follows them. This is the contract of a call that does nothing.
+/// values, wherever they begin and whatever follows them, where those of all attributes are within their limit;
+/// on a surface, where no list of flags over it has more of them than there are corners. This is the contract of
+/// a call that does nothing.
 pub fn values_are_read()
     ensures { ValuesAreRead }
 {}
@@ -26,7 +28,8 @@ pub fn heads_are_read()
 {}
 
 /// The values of a decoder and its quantisations, as they are written, are read as these, wherever they begin
-/// and whatever follows them. This is the contract of a call that does nothing.
+/// and whatever follows them, where the values of all decoders are within their limit; on a surface, where no list of
+/// flags over it has more of them than there are corners. This is the contract of a call that does nothing.
 pub fn decoders_are_read()
     ensures { DecoderValuesAreRead }
 {}

@@ -20,7 +20,7 @@ use std::alloc::Global;
 /// connectivity and its length, in bytes; its faces and points; for Edgebreaker the declared symbols,
 /// splits and events; for each attribute its head, prediction and entries, and the place of its
 /// prediction; the place of its end, and how many bytes follow. It refuses what `decode` refuses, by
-/// the same first fault.
+/// the same first fault; those of what the stream declares come before out of memory.
 pub fn report(alloc: Global, bytes: &[u8]) -> Result<Vec<u8>, Refusal>
     ensures text { Answers (λ v. v.items) (report_of bytes.now) result }
     ensures early { (f : AnyFault) → declared_of bytes.now ≡ Err f → result ≡ Err (refusal.Fault f) }

@@ -22,7 +22,7 @@ use std::alloc::Global;
 ///
 /// Refused with the first fault of the stream, whose `at` is a place in it but for the kinds that say
 /// otherwise; else with the first reason not to encode its geometry as chosen, as `drc_container::encode`.
-/// Faults of the header and of the numbers that connectivity declares come before memory is taken.
+/// Faults of what the stream declares come before out of memory, as of `drc_container::decode`.
 pub fn recode(alloc: Global, bytes: &[u8], choice: &Choice) -> Result<(Vec<u8>, Renumber), Refusal>
     ensures answer { Answers (λ r. (r.0.items, r.1.rows)) (recoded bytes.now choice.now) result }
     ensures early { (f : AnyFault) → declared_of bytes.now ≡ Err f → result ≡ Err (refusal.Fault f) }

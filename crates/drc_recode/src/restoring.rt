@@ -50,8 +50,8 @@ fn write_in_order(alloc: Global, g: &Geometry) -> Result<Vec<u8>, Refusal>
 /// where the map is of a cloud and the stream of a mesh, or the other way round; `MapCount` at the number of
 /// rows where the stream has another number of faces (points of a cloud); `BadMap` at the first row that names
 /// no face, names one that an earlier row names, or has a turn above 2 (above 0 for a cloud); and the first
-/// reason not to encode it so, as `drc_container::encode`. Faults of the stream's header and of the numbers
-/// that connectivity declares come before memory is taken.
+/// reason not to encode it so, as `drc_container::encode`. Faults of what the stream declares
+/// come before out of memory.
 pub fn restore(alloc: Global, map: &MapRead, stream: &[u8]) -> Result<Vec<u8>, Refusal>
     ensures answer { Answers (λ v. v.items) (restored_stream map.now.cloud map.now.rows.rows stream.now) result }
     ensures early { (f : AnyFault) → declared_of stream.now ≡ Err f → result ≡ Err (refusal.Fault f) }

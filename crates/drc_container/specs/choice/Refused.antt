@@ -54,7 +54,7 @@ begins_with_position (h ∷ heads) = h.usage == 0
 abbrev pub position_fault : Geometry → Choice → Option Fault
 position_fault g choice = unless (is_sequential (method_of g choice) || begins_with_position (heads_in g)) NoPosition 0
 
--- the first fault that is found before memory is taken
+-- the first fault of those that come before out of memory
 unfoldable pub early_fault : Geometry → Choice → Option Fault
 early_fault g choice = first_fault (
     choice_fault g choice

@@ -13,6 +13,7 @@ use Rattle.seq_section.specs.Indices.{indices_opening_at, indices_at}
 use Rattle.eb_section.specs.Connectivity.{Connectivity, connectivity_at, declared_at as edgebreaker_declared_at}
 use Rattle.attr_section.specs.declared.decoder_heads.DecoderHead.{DecoderHead}
 use Rattle.attr_section.specs.Heads.{heads_at}
+use Rattle.attr_section.specs.Openings.{heads_opening_at}
 use Rattle.attr_section.specs.Values.{decoder_values_at, values_in}
 use Rattle.drc_container.specs.Header.{header_at, cloud_points_at}
 use Rattle.drc_container.specs.Columns.{column_row, cells_at}
@@ -118,12 +119,19 @@ stream bytes = stream_in profile bytes
 abbrev pub meaning_of : List ℕ → Result Geometry Fault
 meaning_of bytes = stream bytes >>= λ d. Ok d.geometry
 
--- what a stream declares, whose faults come before memory is taken: the header, then a cloud's number of points, or the two
--- numbers and the method of sequential connectivity, or the numbers that Edgebreaker connectivity declares
+-- what a cloud declares: its number of points, and what the heads of its attributes open with
+unfoldable pub cloud_declared_at : Profile → Reading → Item ℕ
+cloud_declared_at p c = do
+  points ← cloud_points_at p c
+  heads_opening_at None points.1
+
+-- what a stream declares, whose faults come before out of memory: the header, then a cloud's numbers of points, of decoders and of the
+-- first one's attributes, or the two numbers and the method of sequential connectivity, or the numbers that Edgebreaker connectivity
+-- declares
 abbrev pub form_declared_at : Form → Reading → Result ℕ Fault
 form_declared_at form.SequentialMesh c = indices_opening_at profile c >>= λ x. Ok x.1.place
 form_declared_at form.EdgebreakerMesh c = edgebreaker_declared_at profile c >>= λ x. Ok x.1.place
-form_declared_at form.Cloud c = cloud_points_at profile c >>= λ x. Ok x.1.place
+form_declared_at form.Cloud c = cloud_declared_at profile c >>= λ x. Ok x.1.place
 
 unfoldable pub declared_of : List ℕ → Result ℕ Fault
 declared_of bytes = header_at (start_of bytes) >>= λ h. form_declared_at h.0 h.1

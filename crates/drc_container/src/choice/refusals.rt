@@ -81,7 +81,7 @@ fn test_position(g: &GeometryView<'_>, choice: &Choice) -> Result<(), Fault>
     unless(holds, Kind::NoPosition, 0)
 }
 
-/// The first fault that is found before memory is taken.
+/// The first fault of those that come before out of memory.
 #[tactic(auto, unfolding(crate::specs::choice::Refused::early_fault))]
 pub fn test_early(g: &GeometryView<'_>, choice: &Choice) -> Result<(), Fault>
     ensures { Tests (early_fault g.now choice.now) result }

@@ -1,8 +1,11 @@
 //! The attributes of a stream.
 
 ghost use Rattle.drc_base.specs.Profile.{profile};
-ghost use Rattle.std.specs.Prelude.{◌≡◌, ◌<◌, [], IfOk, All};
+ghost use Rattle.std.specs.Prelude.{◌≡◌, ◌<◌, [], None, Err, IfOk, All};
+ghost use Rattle.drc_base.specs.declared.faults.Fault.{Fault as AnyFault};
+ghost use Rattle.drc_base.specs.declared.faults.Refusal.TheVariants as refusal;
 ghost use Rattle.drc_bits.specs.Reading.{Gives};
+ghost use Rattle.attr_section.specs.Openings.{heads_opening_at};
 ghost use Rattle.attr_section.specs.Values.{AreColumns};
 ghost use Rattle.drc_container.specs.reading.Stream.{sequential_attributes_at, decoders_values_at};
 
@@ -22,7 +25,8 @@ pub struct Attributes {
 }
 
 /// Reads all attributes of a sequential stream with so many entries: the heads of its decoders, then
-/// the values of each decoder in turn. The first fault of the bytes, at its place.
+/// the values of each decoder in turn. The first fault of the bytes, at its place; that of the numbers of
+/// decoders and of the first one's attributes comes before out of memory.
 #[tactic(auto, unfolding(crate::specs::reading::Stream::sequential_attributes_at))]
 pub fn read_attributes(
     alloc: Global,
@@ -30,6 +34,7 @@ pub fn read_attributes(
     entries: u32,
 ) -> Result<Attributes, Refusal>
     ensures attributes { Gives (λ a. a) (sequential_attributes_at profile entries c.old) c.new result }
+    ensures early { (f : AnyFault) → heads_opening_at None c.old ≡ Err f → result ≡ Err (refusal.Fault f) }
     ensures columns { IfOk result (λ a. AreColumns entries a.heads a.values) }
 {
     let decoders = read_heads(alloc, c, None)?;

@@ -6,9 +6,9 @@ ghost use Rattle.drc_base.specs.declared.faults.Fault.{Fault as AnyFault};
 ghost use Rattle.drc_base.specs.declared.faults.Refusal.TheVariants as refusal;
 ghost use Rattle.drc_base.specs.Refusals.{Answers};
 ghost use Rattle.drc_container.specs.reading.Meaning.{geometry_read, told_by};
-ghost use Rattle.drc_container.specs.reading.Stream.{stream, meaning_of, points_behind, mesh_at, cloud_at, declared_of};
+ghost use Rattle.drc_container.specs.reading.Stream.{stream, meaning_of, points_behind, mesh_at, cloud_at, cloud_declared_at, declared_of};
 ghost use Rattle.mesh_model.specs.Parts.{AreRows, range_fault};
-ghost use Rattle.drc_container.specs.Header.{cloud_points_at};
+ghost use Rattle.attr_section.specs.Openings.{heads_opening_at};
 ghost use Rattle.seq_section.specs.Indices.{indices_opening_at};
 
 use crate::headers::{Form, read_cloud_points, read_header};
@@ -24,8 +24,8 @@ use std::alloc::Global;
 
 /// The geometry that a stream means, or its first fault, whose `at` is a place but for the kinds that
 /// say otherwise. Bytes after the stream's end are ignored. Faults of the header, of the two numbers
-/// and the method of sequential connectivity, and of the numbers that Edgebreaker connectivity declares,
-/// come before memory is taken.
+/// and the method of sequential connectivity, of the numbers that Edgebreaker connectivity declares, and of
+/// a cloud's numbers of points, of decoders and of the first one's attributes, come before out of memory.
 #[tactic(auto, unfolding(crate::specs::reading::Stream::stream_in))]
 pub fn decode(alloc: Global, bytes: &[u8]) -> Result<Geometry, Refusal>
     ensures meaning { Answers (λ g. g) (meaning_of bytes.now) result }
@@ -88,6 +88,7 @@ fn read_points(
     points: u32,
 ) -> Result<PointsRead, Refusal>
     ensures points { Answers (λ r. r) (points_behind profile from points c.old) result }
+    ensures early { (f : AnyFault) → heads_opening_at None c.old ≡ Err f → result ≡ Err (refusal.Fault f) }
     ensures rows { IfOk result (λ r. AreRows r.heads r.cells) }
     ensures typed { IfOk result (λ r. range_fault r.heads r.cells ≡ None) }
 {
@@ -123,11 +124,11 @@ fn read_mesh(alloc: Global, c: &mut Cursor<'_>) -> Result<Decoded, Refusal>
 }
 
 /// Reads a cloud behind its header.
-#[tactic(auto, unfolding(crate::specs::reading::Stream::cloud_at, crate::specs::reading::Stream::cloud_behind))]
+#[tactic(auto, unfolding(crate::specs::reading::Stream::cloud_at, crate::specs::reading::Stream::cloud_behind, crate::specs::reading::Stream::cloud_declared_at))]
 fn read_cloud(alloc: Global, c: &mut Cursor<'_>) -> Result<Decoded, Refusal>
     ensures cloud { Answers told_by (cloud_at profile c.old) result }
     ensures sides { IfOk result (λ d. d.sides ≡ None) }
-    ensures early { (f : AnyFault) → cloud_points_at profile c.old ≡ Err f → result ≡ Err (refusal.Fault f) }
+    ensures early { (f : AnyFault) → cloud_declared_at profile c.old ≡ Err f → result ≡ Err (refusal.Fault f) }
 {
     let from = c.place();
     let points = read_cloud_points(c)?;

@@ -41,9 +41,8 @@ use std::alloc::Global;
 /// the first face with two corners at one position: Edgebreaker. `PointLimit` at the number of vertices
 /// of the surface where that is above `MAX_POINTS`: Edgebreaker. `ValueLimit` at the number of coded
 /// values where that is above `MAX_VALUES`. `Range` at the number of the first attribute that is
-/// predicted though the greatest of its coded values is 2^31 - 1 or more above the least. Refusing with
-/// `Choice`, `Empty`, `NoPosition` or `Degenerate` takes no memory, so that running out of memory never stands in
-/// for these.
+/// predicted though the greatest of its coded values is 2^31 - 1 or more above the least. `Choice`, `Empty`,
+/// `NoPosition` and `Degenerate` come before out of memory, which never stands in for these.
 pub fn encode(alloc: Global, g: &Geometry, choice: &Choice) -> Result<(Vec<u8>, Renumber), Refusal>
     ensures answer { Answers (λ r. (r.0.items, r.1.rows)) (encoding_due g.now choice.now) result }
     ensures early { (f : AnyFault) → early_fault g.now choice.now ≡ Some f → result ≡ Err (refusal.Fault f) }
@@ -63,7 +62,7 @@ pub fn encode(alloc: Global, g: &Geometry, choice: &Choice) -> Result<(Vec<u8>, 
 /// encoded, as `encode` gives them. The sequential method reads the lent lists themselves; for Edgebreaker they are
 /// copied.
 ///
-/// Refusals: those of `encode`. Refusing with `Choice`, `Empty` or `NoPosition` takes no memory.
+/// Refusals: those of `encode`. `Choice`, `Empty` and `NoPosition` come before out of memory.
 pub fn encode_view(
     alloc: Global,
     g: &GeometryView<'_>,

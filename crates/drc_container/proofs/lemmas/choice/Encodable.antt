@@ -40,7 +40,7 @@ use Rattle.drc_container.proofs.lemmas.choice.SurfaceDue.{refused-on_surface}
 use Rattle.drc_container.proofs.lemmas.choice.Ranges.{can-wrap, All-pieces, columns-keep, row-keeps}
 use Rattle.drc_container.proofs.lemmas.choice.FewEntries.{fans-few, coded-few}
 
--- ---- before memory is taken
+-- ---- before out of memory
 
 -- a mesh with a face has a point
 some-point : (m : MeshParts) → IsMesh m → 0 < length m.faces → 0 < length m.points
