@@ -33,7 +33,7 @@ use Rattle.drc_container.specs.declared.reading.attributes.Attributes.{Attribute
 use Rattle.drc_container.specs.reading.Meaning.{Surface, Meaning}
 use Rattle.drc_container.specs.Header.{cloud_points_at}
 use Rattle.drc_container.specs.choice.Choice.{method_of, is_sequential, predict_chosen, chosen_code}
-use Rattle.drc_container.specs.reading.Stream.{stream, sequential_attributes_at}
+use Rattle.drc_container.specs.reading.Stream.{stream, meaning_of, sequential_attributes_at}
 use Rattle.drc_container.specs.choice.Refused.{refused, coding_fault}
 use Rattle.drc_container.specs.choice.CanCode.{CanCode}
 use Rattle.drc_container.specs.writing.Written.{sequential_connectivity_bytes, decoder_of, attribute_heads_bytes, sequential_attributes_bytes, values_of}
@@ -61,13 +61,15 @@ abbrev pub KeepsBeside : Bool → Geometry → Meaning → Rows → Type 0
 KeepsBeside true g d rows = (points_in d.geometry ≡ points_in g) × (d.surface ≡ None)
 KeepsBeside false g d rows = KeepsSurface (mesh_in g) rows d.surface
 
--- these bytes are a stream that ends with them, its geometry is this one by these rows, and the points or the surface are kept
+-- these bytes are a stream that ends with them, its geometry is this one by these rows, the points or the surface are kept, and the bytes
+-- mean this geometry whatever follows them
 pub record Means (g : Geometry) (choice : Choice) (bytes : List ℕ) (rows : Rows) : Type 0 where
   pub decoded : Meaning
   pub stream_is : stream bytes ≡ Ok decoded
   pub same : Same g decoded.geometry rows
   pub beside : KeepsBeside (is_sequential (method_of g choice)) g decoded rows
   pub whole : decoded.info.end ≡ length bytes
+  pub followed : (more : List ℕ) → meaning_of (bytes ++ more) ≡ Ok decoded.geometry
 
 -- this geometry can be coded by this choice, sequentially: there is a point, the prediction needs no surface, and the values can be coded
 pub record CanCodeInOrder (g : Geometry) (choice : Choice) : Type 0 where

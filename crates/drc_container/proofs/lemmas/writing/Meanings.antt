@@ -1,6 +1,6 @@
 -- A written stream means the geometry that was written.
 use Rattle.drc_base.specs.Profile.{profile}
-use Rattle.std.proofs.Common.{◌≡◌, ℕ, ◌+◌, List, [], ◌∷◌, ◌++◌, map, length, None, Result, Ok, refl, sym, ◌∙◌, ap, subst, arith, append-nil, length-append}
+use Rattle.std.proofs.Common.{◌≡◌, ℕ, ◌+◌, List, [], ◌∷◌, ◌++◌, map, length, None, Result, Ok, refl, sym, ◌∙◌, ap, subst, arith, append-nil, append_assoc, length-append}
 use Rattle.std.specs.Prelude.{ℤ, Bool}
 use Rattle.std.specs.List.{All}
 use Rattle.drc_base.specs.declared.faults.Fault.{Fault}
@@ -26,7 +26,7 @@ use Rattle.drc_container.specs.declared.reading.info.StreamInfo.{StreamInfo}
 use Rattle.drc_container.specs.Columns.{columns_of, cells_at}
 use Rattle.drc_container.specs.declared.choice.methods.Method.TheVariants as method
 use Rattle.drc_container.specs.choice.Choice.{method_of, is_sequential, chosen_code, index_of, is_packed}
-use Rattle.drc_container.specs.reading.Stream.{stream, stream_in, body_at, points_behind, mesh_at, mesh_behind, cloud_at, cloud_behind, sequential_attributes_at, points_of}
+use Rattle.drc_container.specs.reading.Stream.{stream, stream_in, body_at, points_behind, mesh_at, mesh_behind, cloud_at, cloud_behind, points_of}
 use Rattle.drc_container.specs.reading.Meaning.{Meaning, sequential_info}
 use Rattle.drc_container.specs.writing.Written.{header_bytes, sequential_connectivity_bytes, sequential_attributes_bytes, attribute_heads_bytes, values_of, stream_bytes}
 use Rattle.drc_container.specs.writing.Encoded.{ConnectivitySpelled, AttributesSpelled, attributes_again, KeepsBeside, Means}
@@ -70,87 +70,102 @@ attributes_place g choice = connectivity_place g + length (sequential_connectivi
 abbrev pub end_place : Geometry → Choice → ℕ
 end_place g choice = attributes_place g choice + length (sequential_attributes_bytes choice.plain_values g (chosen_code g choice))
 
--- what is known of a written stream
-abbrev pub info_written : Geometry → Choice → StreamInfo
-info_written g choice =
+-- what is known of a written stream with these bytes behind it
+abbrev pub info_before : Geometry → Choice → List ℕ → StreamInfo
+info_before g choice more =
     sequential_info (connectivity_place g) (attributes_place g choice) (length (points_in g))
-    (attributes_again choice.plain_values g (chosen_code g choice) (attributes_place g choice)) (record { place = end_place g choice; rest = [] })
+    (attributes_again choice.plain_values g (chosen_code g choice) (attributes_place g choice)) (record { place = end_place g choice; rest = more })
 
--- what a written stream means
+-- what it means
+abbrev meaning_before : Geometry → Choice → List ℕ → Meaning
+meaning_before g choice more = record { geometry = g; surface = None; info = info_before g choice more }
+
+-- what is known of a written stream alone, and what it means
+abbrev pub info_written : Geometry → Choice → StreamInfo
+info_written g choice = info_before g choice []
+
 abbrev pub decoded_written : Geometry → Choice → Meaning
-decoded_written g choice = record { geometry = g; surface = None; info = info_written g choice }
+decoded_written g choice = meaning_before g choice []
 
--- where the connectivity of a written stream begins
-abbrev behind_header : Geometry → Choice → Reading
-behind_header g choice = record {
+-- where the connectivity of a written stream begins, with these bytes behind the stream
+abbrev behind_header : Geometry → Choice → List ℕ → Reading
+behind_header g choice more = record {
   place = connectivity_place g;
-  rest = sequential_connectivity_bytes (is_packed (index_of choice)) g ++ sequential_attributes_bytes choice.plain_values g (chosen_code g choice);
+  rest = sequential_connectivity_bytes (is_packed (index_of choice)) g ++ (sequential_attributes_bytes choice.plain_values g (chosen_code g choice) ++ more);
 }
 
 -- the points that are read of what was written
 points-again : (g : Geometry) (choice : Choice) → All (RowFits (heads_in g)) (points_in g)
     → AttributesSpelled choice.plain_values g (chosen_code g choice)
-    → length (values_of g (chosen_code g choice)) ≡ length (heads_in g)
+    → length (values_of g (chosen_code g choice)) ≡ length (heads_in g) → (more : List ℕ)
     → points_behind profile (connectivity_place g) (length (points_in g))
-    (record { place = attributes_place g choice; rest = sequential_attributes_bytes choice.plain_values g (chosen_code g choice) })
-    ≡ Ok (record { heads = heads_in g; cells = cells_of (points_in g); info = info_written g choice })
+    (record { place = attributes_place g choice; rest = sequential_attributes_bytes choice.plain_values g (chosen_code g choice) ++ more })
+    ≡ Ok (record { heads = heads_in g; cells = cells_of (points_in g); info = info_before g choice more })
 unfolding points_behind
-points-again g choice fit attributes same =
+points-again g choice fit attributes same more =
     let predict = chosen_code g choice in
-    let bytes = sequential_attributes_bytes choice.plain_values g predict in
     let p = connectivity_place g in
     let q = attributes_place g choice in
     let n = length (points_in g) in
     let read : Attributes × Reading → Result PointsRead Fault =
     λ a. Ok (record { heads = a.0.heads; cells = points_of n a.0; info = sequential_info p q n a.0 a.1 }) in
-    let told : List ℤ → Result PointsRead Fault = λ cells. Ok (record { heads = heads_in g; cells = cells; info = info_written g choice }) in
-    ap (λ rest. sequential_attributes_at profile n (record { place = q; rest = rest }) >>= read) (sym (append-nil bytes))
-    ∙ ap (λ x. x >>= read) (attributes.reads q [])
+    let told : List ℤ → Result PointsRead Fault = λ cells. Ok (record { heads = heads_in g; cells = cells; info = info_before g choice more }) in
+    ap (λ x. x >>= read) (attributes.reads q more)
     ∙ ap told (cells-again choice.plain_values (q + length (attribute_heads_bytes g)) predict (heads_in g) (points_in g) fit same)
 
 body-mesh : (m : MeshParts) (choice : Choice) → IsMesh m → ConnectivitySpelled (is_packed (index_of choice)) (Mesh m)
     → AttributesSpelled choice.plain_values (Mesh m) (chosen_code (Mesh m) choice)
-    → length (values_of (Mesh m) (chosen_code (Mesh m) choice)) ≡ length m.heads
-    → mesh_at profile (behind_header (Mesh m) choice) ≡ Ok (decoded_written (Mesh m) choice)
+    → length (values_of (Mesh m) (chosen_code (Mesh m) choice)) ≡ length m.heads → (more : List ℕ)
+    → mesh_at profile (behind_header (Mesh m) choice more) ≡ Ok (meaning_before (Mesh m) choice more)
 unfolding mesh_at mesh_behind
-body-mesh m choice is connectivity attributes same =
+body-mesh m choice is connectivity attributes same more =
     let p = connectivity_place (Mesh m) in
-    let bytes = sequential_attributes_bytes choice.plain_values (Mesh m) (chosen_code (Mesh m) choice) in
+    let bytes = sequential_attributes_bytes choice.plain_values (Mesh m) (chosen_code (Mesh m) choice) ++ more in
     let of_mesh : StreamInfo → MeshParts → Result Meaning Fault = λ info mesh. Ok (record { geometry = Mesh mesh; surface = None; info = info }) in
     let built : PointsRead → Result Meaning Fault = λ read. mesh_of read.heads read.cells m.faces >>= of_mesh read.info in
     ap (λ x. x >>= λ indices. mesh_behind profile p indices.0 indices.1) (connectivity.reads p bytes)
-    ∙ ap (λ x. x >>= built) (points-again (Mesh m) choice is.points.rows_fit attributes same)
-    ∙ ap (λ x. x >>= of_mesh (info_written (Mesh m) choice)) (mesh_of-IsMesh m is)
+    ∙ ap (λ x. x >>= built) (points-again (Mesh m) choice is.points.rows_fit attributes same more)
+    ∙ ap (λ x. x >>= of_mesh (info_before (Mesh m) choice more)) (mesh_of-IsMesh m is)
 
 body-cloud : (m : CloudParts) (choice : Choice) → IsCloud m → ConnectivitySpelled (is_packed (index_of choice)) (Cloud m)
     → AttributesSpelled choice.plain_values (Cloud m) (chosen_code (Cloud m) choice)
-    → length (values_of (Cloud m) (chosen_code (Cloud m) choice)) ≡ length m.heads
-    → cloud_at profile (behind_header (Cloud m) choice) ≡ Ok (decoded_written (Cloud m) choice)
+    → length (values_of (Cloud m) (chosen_code (Cloud m) choice)) ≡ length m.heads → (more : List ℕ)
+    → cloud_at profile (behind_header (Cloud m) choice more) ≡ Ok (meaning_before (Cloud m) choice more)
 unfolding cloud_at cloud_behind
-body-cloud m choice is connectivity attributes same =
+body-cloud m choice is connectivity attributes same more =
     let p = connectivity_place (Cloud m) in
-    let bytes = sequential_attributes_bytes choice.plain_values (Cloud m) (chosen_code (Cloud m) choice) in
+    let bytes = sequential_attributes_bytes choice.plain_values (Cloud m) (chosen_code (Cloud m) choice) ++ more in
     let of_cloud : StreamInfo → CloudParts → Result Meaning Fault = λ info cloud. Ok (record { geometry = Cloud cloud; surface = None; info = info }) in
     let built : PointsRead → Result Meaning Fault = λ read. cloud_of read.heads read.cells >>= of_cloud read.info in
     ap (λ x. x >>= λ points. cloud_behind profile p points.0 points.1) (connectivity.reads p bytes)
-    ∙ ap (λ x. x >>= built) (points-again (Cloud m) choice is.rows_fit attributes same)
-    ∙ ap (λ x. x >>= of_cloud (info_written (Cloud m) choice)) (cloud_of-IsCloud m is)
+    ∙ ap (λ x. x >>= built) (points-again (Cloud m) choice is.rows_fit attributes same more)
+    ∙ ap (λ x. x >>= of_cloud (info_before (Cloud m) choice more)) (cloud_of-IsCloud m is)
 
 body-written : (g : Geometry) (choice : Choice) → IsGeometry g → ConnectivitySpelled (is_packed (index_of choice)) g
-    → AttributesSpelled choice.plain_values g (chosen_code g choice) → length (values_of g (chosen_code g choice)) ≡ length (heads_in g)
-    → body_at profile (written_form g) (behind_header g choice) ≡ Ok (decoded_written g choice)
-body-written (Mesh m) choice is connectivity attributes same = body-mesh m choice is connectivity attributes same
-body-written (Cloud m) choice is connectivity attributes same = body-cloud m choice is connectivity attributes same
+    → AttributesSpelled choice.plain_values g (chosen_code g choice) → length (values_of g (chosen_code g choice)) ≡ length (heads_in g) → (more : List ℕ)
+    → body_at profile (written_form g) (behind_header g choice more) ≡ Ok (meaning_before g choice more)
+body-written (Mesh m) choice is connectivity attributes same more = body-mesh m choice is connectivity attributes same more
+body-written (Cloud m) choice is connectivity attributes same more = body-cloud m choice is connectivity attributes same more
 
--- a written stream means its geometry
+-- a written stream means its geometry, whatever follows it
+stream-before : (g : Geometry) (choice : Choice) → IsGeometry g → ConnectivitySpelled (is_packed (index_of choice)) g
+    → AttributesSpelled choice.plain_values g (chosen_code g choice) → length (values_of g (chosen_code g choice)) ≡ length (heads_in g)
+    → (more : List ℕ) → stream (stream_bytes g choice ++ more) ≡ Ok (meaning_before g choice more)
+unfolding stream_in stream_bytes
+stream-before g choice is connectivity attributes same more =
+    let h = header_bytes 0 g in
+    let c = sequential_connectivity_bytes (is_packed (index_of choice)) g in
+    let a = sequential_attributes_bytes choice.plain_values g (chosen_code g choice) in
+    ap (λ bytes. stream bytes) (append_assoc h (c ++ a) more ∙ ap (λ behind. h ++ behind) (append_assoc c a more))
+    ∙ ap (λ x. x >>= λ header. body_at profile header.0 header.1) ((header_spelled g).reads 0 (c ++ (a ++ more)))
+    ∙ body-written g choice is connectivity attributes same more
+
+-- and alone
 pub stream-written : (g : Geometry) (choice : Choice) → IsGeometry g → ConnectivitySpelled (is_packed (index_of choice)) g
     → AttributesSpelled choice.plain_values g (chosen_code g choice) → length (values_of g (chosen_code g choice)) ≡ length (heads_in g)
     → stream (stream_bytes g choice) ≡ Ok (decoded_written g choice)
-unfolding stream_in stream_bytes
 stream-written g choice is connectivity attributes same =
-    ap (λ x. x >>= λ header. body_at profile header.0 header.1)
-    ((header_spelled g).reads 0 (sequential_connectivity_bytes (is_packed (index_of choice)) g ++ sequential_attributes_bytes choice.plain_values g (chosen_code g choice)))
-    ∙ body-written g choice is connectivity attributes same
+    ap (λ bytes. stream bytes) (sym (append-nil (stream_bytes g choice))) ∙ stream-before g choice is connectivity attributes same []
 
 length-written : (g : Geometry) (choice : Choice) → end_place g choice ≡ length (stream_bytes g choice)
 unfolding stream_bytes
@@ -169,4 +184,5 @@ means g choice sequential is connectivity attributes same = record {
   same = same-refl g;
   beside = subst (λ m. KeepsBeside (is_sequential m) g (decoded_written g choice) (plain_rows (count_of g))) (sym sequential) (refl, refl);
   whole = length-written g choice;
+  followed = λ more. ap (λ x. x >>= λ d. Ok d.geometry) (stream-before g choice is connectivity attributes same more);
 }

@@ -1,5 +1,6 @@
 -- A stream that is written by Edgebreaker means its mesh, with the surface of the mesh's pairs, and is coded as chosen.
 use Rattle.std.proofs.Common.{◌≡◌, ℕ, false, List, length, Ok, refl, sym, ◌∙◌, ap, subst}
+use Rattle.drc_base.specs.Steps.{◌>>=◌}
 use Rattle.mesh_model.specs.declared.geometries.Geometry.{Geometry}
 use Rattle.mesh_model.specs.declared.geometries.Geometry.TheVariants.{Mesh}
 use Rattle.mesh_model.specs.Same.{Rows}
@@ -15,7 +16,7 @@ use Rattle.drc_container.specs.writing.Layout.{layout_of, layout_chosen}
 use Rattle.drc_container.proofs.lemmas.writing.SurfaceWritten.{meaning_written}
 use Rattle.drc_container.proofs.lemmas.choice.SurfaceDue.{IsForSurface, off-on_surface, answer-is}
 use Rattle.drc_container.proofs.lemmas.surface.Traced.{decoded-carried}
-use Rattle.drc_container.proofs.lemmas.writing.SurfaceRead.{stream-on-surface}
+use Rattle.drc_container.proofs.lemmas.writing.SurfaceRead.{stream-on-surface, stream-on-surface_before}
 use Rattle.drc_container.proofs.lemmas.writing.SurfaceMesh.{mesh-assembled, mesh-same}
 use Rattle.drc_container.proofs.lemmas.writing.SurfaceLayout.{layout-on-surface}
 
@@ -40,6 +41,7 @@ surface-means m choice off is can spelled =
       same = mesh-same coding m is can;
       beside = subst (λ b. KeepsBeside b (Mesh m) (meaning_written coding m) (traced m).order) (sym off) (surface-kept coding m is can);
       whole = refl;
+      followed = λ more. ap (λ x. x >>= λ d. Ok d.geometry) (stream-on-surface_before coding m is can spelled (mesh-assembled coding m is can) more);
     }
 
 -- it is coded as chosen

@@ -46,9 +46,9 @@ heads_place coding m = surface_place + length (connectivity_of coding.valence m)
 abbrev pub values_place : Coding → MeshParts → ℕ
 values_place coding m = heads_place coding m + length (decoder_heads_bytes coding (decoded m))
 
--- what is known of the stream
-abbrev pub info_written : Coding → MeshParts → StreamInfo
-info_written coding m = record {
+-- what is known of the stream with these bytes behind it
+abbrev pub info_before : Coding → MeshParts → List ℕ → StreamInfo
+info_before coding m more = record {
   method = if coding.valence then method.Valence else method.Eb;
   connectivity = (surface_place, length (connectivity_of coding.valence m));
   symbols = length (traced m).symbols;
@@ -56,13 +56,20 @@ info_written coding m = record {
   events = length (traced m).events;
   attrs = attrs_written coding (decoded m) (values_place coding m) (enumerate_from 0 m.heads);
   end = length (edgebreaker_bytes coding m);
-  rest = 0;
+  rest = length more;
 }
 
--- what the stream means
-abbrev pub meaning_written : Coding → MeshParts → Meaning
-meaning_written coding m = record {
+-- what it means
+abbrev pub meaning_before : Coding → MeshParts → List ℕ → Meaning
+meaning_before coding m more = record {
   geometry = geometry.Mesh (mesh_written coding m);
   surface = Some (record { faces = length m.faces; glued = (decoded m).pairs });
-  info = info_written coding m;
+  info = info_before coding m more;
 }
+
+-- what is known of the stream alone, and what it means
+abbrev pub info_written : Coding → MeshParts → StreamInfo
+info_written coding m = info_before coding m []
+
+abbrev pub meaning_written : Coding → MeshParts → Meaning
+meaning_written coding m = meaning_before coding m []
