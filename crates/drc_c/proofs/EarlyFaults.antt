@@ -1,4 +1,4 @@
--- Faults of arrays that are found before memory is taken.
+-- Faults of arrays that come before out of memory.
 use Rattle.std.proofs.Common.{◌≡◌, ◌≤◌, ◌<◌, ◌/◌, ℕ, ℤ, Bool, true, false, cond, eqb, List, [], ◌∷◌, ◌++◌, length, map, take, min, Option, None, Some, Result, Ok, Err, refl, ap, ◌∙◌, sym, arith, subst}
 use Rattle.std.proofs.lemmas.Bool.{eq-eqb}
 use Rattle.std.proofs.lemmas.List.{length-map, length-take-le}
@@ -61,7 +61,7 @@ made_not true heads faces cells f e =
 made_not false heads faces cells f e =
     refused (cloud_fault heads cells) _ f (skipped (heads_fault heads) (count_fault (length cells / width_of heads) (width_of heads)) _ f e)
 
--- a fault that is found before memory is taken is the first of the arrays
+-- a fault that comes before out of memory is the first of the arrays
 pub early_refused : (mesh : ℕ) (heads : List DrcHead) (corners : List (List ℕ)) (values : List ℤ) (f : Fault) →
     arrays_early_fault mesh heads corners values ≡ Some f → geometry_meant mesh heads corners values ≡ Err f
 unfolding arrays_early_fault geometry_made

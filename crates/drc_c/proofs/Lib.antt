@@ -1,6 +1,5 @@
 pub mod FewHeads
 pub mod Filling
-pub mod NumberedKinds
 pub mod WholeRows
 pub mod EarlyFaults
 pub mod EncodedArrays

@@ -1,4 +1,4 @@
--- The faults of arrays that are found before memory is taken (this project's choice).
+-- The faults of arrays that come before out of memory (this project's choice).
 use Rattle.std.specs.Prelude.{ℕ, ◌==◌, ◌/◌, ℤ, List, [], ◌∷◌, length, map, Option, None, if◌then◌else◌}
 use Rattle.drc_base.specs.declared.faults.Fault.{Fault}
 use Rattle.mesh_model.specs.FirstFault.{first_fault}

@@ -1,5 +1,3 @@
-pub mod Kinds
-pub mod KindLaws
 pub mod Faults
 pub mod Arrays
 pub mod Heads

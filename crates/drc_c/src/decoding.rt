@@ -6,7 +6,7 @@ ghost use Rattle.mesh_model.specs.declared.geometries.Geometry.{Geometry as AnyG
 ghost use Rattle.mesh_model.specs.Contents.{faces_in};
 ghost use Rattle.drc_container.specs.reading.Stream.{meaning_of, declared_of};
 ghost use Rattle.drc_c.specs.Arrays.{filled};
-ghost use Rattle.drc_c.specs.Faults.{fault_told};
+ghost use Rattle.drc_c.specs.Faults.{IsTold};
 ghost use Rattle.drc_c.specs.Shapes.{shape_of, integers_of, LacksRoom};
 
 use crate::arrays::fill;
@@ -68,7 +68,7 @@ fn deliver(g: &Geometry, corners: &mut [[u32; 3]], values: &mut [i32], shape: &m
 /// `DONE`: the arrays begin with the faces and the integers, and the shape is that of the geometry. `NO_ROOM`:
 /// one of the arrays is too short for a stream that means a geometry; the shape says what is needed, and the
 /// arrays are as before. `REFUSED`: the stream has this first fault, and all else is as before. `NO_MEMORY`: nothing
-/// is written. Faults of the header and of the declared numbers come before memory is taken.
+/// is written. Faults of the header and of the declared numbers come before out of memory.
 #[unsafe(no_mangle)]
 pub extern "C" fn drc_decode_into(
     alloc: Global,
@@ -83,8 +83,8 @@ pub extern "C" fn drc_decode_into(
         × (corners.new ≡ filled (faces_in g) corners.old) × (values.new ≡ filled (integers_of g) values.old) }
     ensures no_room { result ≡ NO_ROOM → (g : AnyGeometry) × (meaning_of bytes.now ≡ Ok g) × (shape.new ≡ shape_of g)
         × LacksRoom g (length corners.old) (length values.old) }
-    ensures refused { result ≡ REFUSED → (f : AnyFault) × (meaning_of bytes.now ≡ Err f) × (fault.new ≡ fault_told f) }
-    ensures early { (f : AnyFault) → declared_of bytes.now ≡ Err f → (result ≡ REFUSED) × (fault.new ≡ fault_told f) }
+    ensures refused { result ≡ REFUSED → (f : AnyFault) × (meaning_of bytes.now ≡ Err f) × IsTold f fault.new }
+    ensures early { (f : AnyFault) → declared_of bytes.now ≡ Err f → (result ≡ REFUSED) × IsTold f fault.new }
 
     // What isn't written is as before.
     ensures arrays_same { (result ≡ DONE) ⊎ ((corners.new ≡ corners.old) × (values.new ≡ values.old)) }
@@ -115,7 +115,7 @@ fn handed_out(alloc: Global, g: Geometry) -> DrcGeometry
 ///
 /// `DONE`: the geometry is what the stream means. `REFUSED`: the stream has this first fault. `NO_MEMORY`: nothing is
 /// written. The geometry is as before unless it is done. Faults of the header and of the declared numbers come
-/// before memory is taken.
+/// before out of memory.
 #[unsafe(no_mangle)]
 pub extern "C" fn drc_decode(
     alloc: Global,
@@ -125,8 +125,8 @@ pub extern "C" fn drc_decode(
 ) -> u32
     ensures statuses { Contains (DONE ∷ REFUSED ∷ NO_MEMORY ∷ []) result }
     ensures done { result ≡ DONE → (g : AnyGeometry) × (meaning_of bytes.now ≡ Ok g) × (out.new.shape ≡ shape_of g) }
-    ensures refused { result ≡ REFUSED → (f : AnyFault) × (meaning_of bytes.now ≡ Err f) × (fault.new ≡ fault_told f) }
-    ensures early { (f : AnyFault) → declared_of bytes.now ≡ Err f → (result ≡ REFUSED) × (fault.new ≡ fault_told f) }
+    ensures refused { result ≡ REFUSED → (f : AnyFault) × (meaning_of bytes.now ≡ Err f) × IsTold f fault.new }
+    ensures early { (f : AnyFault) → declared_of bytes.now ≡ Err f → (result ≡ REFUSED) × IsTold f fault.new }
 
     // What isn't written is as before.
     ensures geometry_same { (result ≡ DONE) ⊎ (out.new ≡ out.old) }

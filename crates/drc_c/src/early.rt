@@ -1,4 +1,4 @@
-//! The faults of arrays that are found before memory is taken.
+//! The faults of arrays that come before out of memory.
 
 ghost use Rattle.std.specs.Prelude.{◌≡◌, ◌<◌, ◌≤◌, ◌/◌, length, map, OnOk, IfOk};
 ghost use Rattle.mesh_model.specs.FirstFault.{Tests};
@@ -118,7 +118,7 @@ fn test_faces(corners: &[[u32; 3]]) -> Result<(), Fault>
     Ok(())
 }
 
-/// The first fault of arrays that is found before memory is taken: of the heads, then of the numbers of points,
+/// The first fault of arrays that comes before out of memory: of the heads, then of the numbers of points,
 /// of values and of faces.
 #[tactic(auto, unfolding(crate::specs::Early::arrays_early_fault))]
 pub fn test_early(

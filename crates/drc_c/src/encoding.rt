@@ -1,13 +1,13 @@
 //! Encoding: arrays to bytes.
 
-ghost use Rattle.std.specs.Prelude.{◌≡◌, ◌<◌, ◌⊎◌, ℕ, List, [], ◌∷◌, Contains, true, Err, Some, None, IfOk, length};
+ghost use Rattle.std.specs.Prelude.{◌≡◌, ◌<◌, ◌↔◌, ◌⊎◌, ℕ, List, [], ◌∷◌, Contains, true, Err, Some, None, IfOk, length};
 ghost use Rattle.drc_base.specs.declared.faults.Fault.{Fault as AnyFault};
 ghost use Rattle.drc_base.specs.declared.faults.Refusal.TheVariants as refusal;
 ghost use Rattle.drc_base.specs.Refusals.{Answers};
 ghost use Rattle.drc_container.specs.declared.choice.choices.Choice.{Choice as AnyChoice};
 ghost use Rattle.drc_c.specs.Arrays.{filled};
 ghost use Rattle.drc_c.specs.Early.{arrays_early_fault};
-ghost use Rattle.drc_c.specs.Faults.{fault_told};
+ghost use Rattle.drc_c.specs.Faults.{IsTold};
 ghost use Rattle.drc_c.specs.Inputs.{do_fit};
 ghost use Rattle.drc_c.specs.declared.streams.DrcRow.{DrcRow as AnyRow};
 ghost use Rattle.drc_c.specs.Encoded.{encoded, IsEncoding, TakesChoice};
@@ -66,9 +66,9 @@ fn choice_for(
 /// points, and integers, point after point.
 ///
 /// `DONE`: the arrays begin with the stream and its map, by which the stream means the geometry that was passed.
-/// `BAD_ARGUMENT`: the arrays don't fit each other, or an option's number names nothing. `REFUSED`: the first fault of the
+/// `BAD_ARGUMENT`: just where the arrays don't fit each other, or an option's number names nothing. `REFUSED`: the first fault of the
 /// arrays, then of the encoding. `NO_ROOM`: one of the arrays is too short; the lengths say what is needed. `NO_MEMORY`:
-/// nothing is written. Faults of the heads, and of the numbers of points, values and faces, come before memory is taken.
+/// nothing is written. Faults of the heads, and of the numbers of points, values and faces, come before out of memory.
 #[unsafe(no_mangle)]
 pub extern "C" fn drc_encode_into(
     alloc: Global,
@@ -88,12 +88,12 @@ pub extern "C" fn drc_encode_into(
         × IsEncoding mesh heads.now corners.now values.now choice stream told
         × (lengths.new ≡ record { bytes = length stream; rows = length told })
         × (bytes.new ≡ filled stream bytes.old) × (rows.new ≡ filled told rows.old) }
-    ensures bad { result ≡ BAD_ARGUMENT → TakesChoice mesh heads.now corners.now values.now options.now None }
+    ensures bad { result ≡ BAD_ARGUMENT ↔ TakesChoice mesh heads.now corners.now values.now options.now None }
     ensures refused { result ≡ REFUSED → (choice : AnyChoice) × (f : AnyFault)
         × TakesChoice mesh heads.now corners.now values.now options.now (Some choice)
-        × (encoded mesh heads.now corners.now values.now choice ≡ Err f) × (fault.new ≡ fault_told f) }
+        × (encoded mesh heads.now corners.now values.now choice ≡ Err f) × IsTold f fault.new }
     ensures early { (choice : AnyChoice) (f : AnyFault) → TakesChoice mesh heads.now corners.now values.now options.now (Some choice)
-        → arrays_early_fault mesh heads.now corners.now values.now ≡ Some f → (result ≡ REFUSED) × (fault.new ≡ fault_told f) }
+        → arrays_early_fault mesh heads.now corners.now values.now ≡ Some f → (result ≡ REFUSED) × IsTold f fault.new }
     ensures no_room { result ≡ NO_ROOM → (choice : AnyChoice) × (stream : List ℕ) × (told : List AnyRow)
         × TakesChoice mesh heads.now corners.now values.now options.now (Some choice)
         × IsEncoding mesh heads.now corners.now values.now choice stream told
@@ -118,7 +118,7 @@ pub extern "C" fn drc_encode_into(
 /// Encodes arrays, as `drc_encode_into`, into a stream and a map of their own, which C's `free` frees.
 ///
 /// `DONE`: the stream means the geometry that was passed, by its map. `BAD_ARGUMENT`, `REFUSED`, `NO_MEMORY`: as there, and the
-/// stream is as before. The same faults as there come before memory is taken.
+/// stream is as before. The same faults as there come before out of memory.
 #[unsafe(no_mangle)]
 pub extern "C" fn drc_encode(
     alloc: Global,
@@ -135,22 +135,22 @@ pub extern "C" fn drc_encode(
         × TakesChoice mesh heads.now corners.now values.now options.now (Some choice)
         × IsEncoding mesh heads.now corners.now values.now choice bytes told
         × (stream.new.lengths ≡ record { bytes = length bytes; rows = length told }) }
-    ensures bad { result ≡ BAD_ARGUMENT → TakesChoice mesh heads.now corners.now values.now options.now None }
+    ensures bad { result ≡ BAD_ARGUMENT ↔ TakesChoice mesh heads.now corners.now values.now options.now None }
     ensures refused { result ≡ REFUSED → (choice : AnyChoice) × (f : AnyFault)
         × TakesChoice mesh heads.now corners.now values.now options.now (Some choice)
-        × (encoded mesh heads.now corners.now values.now choice ≡ Err f) × (fault.new ≡ fault_told f) }
+        × (encoded mesh heads.now corners.now values.now choice ≡ Err f) × IsTold f fault.new }
     ensures early { (choice : AnyChoice) (f : AnyFault) → TakesChoice mesh heads.now corners.now values.now options.now (Some choice)
-        → arrays_early_fault mesh heads.now corners.now values.now ≡ Some f → (result ≡ REFUSED) × (fault.new ≡ fault_told f) }
+        → arrays_early_fault mesh heads.now corners.now values.now ≡ Some f → (result ≡ REFUSED) × IsTold f fault.new }
 
     // What isn't written is as before.
     ensures stream_same { (result ≡ DONE) ⊎ (stream.new ≡ stream.old) }
     ensures fault_same { (result ≡ REFUSED) ⊎ (fault.new ≡ fault.old) }
 {
-    let choice = match choice_for(mesh, heads, corners, values, options) {
+    let chosen = match choice_for(mesh, heads, corners, values, options) {
         None => return BAD_ARGUMENT,
-        Some(choice) => choice,
+        Some(chosen) => chosen,
     };
-    match encode_arrays(alloc, mesh, heads, corners, values, &choice) {
+    match encode_arrays(alloc, mesh, heads, corners, values, &chosen) {
         Ok(encoded) => {
             *stream = handed(encoded);
             DONE

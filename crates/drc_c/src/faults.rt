@@ -1,7 +1,7 @@
 //! Faults as C has them.
 
 ghost use Rattle.std.specs.Prelude.{◌≡◌};
-ghost use Rattle.drc_c.specs.Faults.{fault_told, RefusesBy};
+ghost use Rattle.drc_c.specs.Faults.{IsTold, RefusesBy};
 
 use crate::kinds::number_of;
 use crate::statuses::{NO_MEMORY, REFUSED};
@@ -22,7 +22,7 @@ const _: () = prove!(size_of::<DrcFault>() == 16);
 
 /// A fault as C has it.
 fn fault_told(fault: Fault) -> DrcFault
-    ensures { result ≡ fault_told fault }
+    ensures { IsTold fault result }
 {
     DrcFault {
         kind: number_of(fault.kind),

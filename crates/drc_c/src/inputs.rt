@@ -52,7 +52,7 @@ pub fn do_fit(mesh: u32, heads: &[DrcHead], corners: &[[u32; 3]], values: &[i32]
     (mesh == MESH || (mesh == CLOUD && corners.is_empty())) && are_whole(heads, values)
 }
 
-/// The heads that arrays mean, or the first fault of the arrays that is found before memory is taken: of the heads, and of
+/// The heads that arrays mean, or the first fault of the arrays that comes before out of memory: of the heads, and of
 /// the numbers of points, values and faces.
 pub fn heads_tested(
     alloc: Global,
@@ -88,7 +88,7 @@ pub fn geometry_lent<'g>(
 }
 
 /// The geometry that arrays mean, of its own, or its first fault. Faults of the heads, and of the numbers of points, values
-/// and faces, come before memory is taken.
+/// and faces, come before out of memory.
 #[tactic(auto, using(crate::proofs::EarlyFaults::early_refused))]
 pub fn geometry_meant(
     alloc: Global,

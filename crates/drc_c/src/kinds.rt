@@ -1,15 +1,14 @@
 //! The kinds of faults as numbers: the place of each in the list of kinds. They are part of the interface, so
 //! a new kind comes last.
 
-ghost use Rattle.std.specs.Prelude.{◌≡◌, slice_get};
-ghost use Rattle.drc_c.specs.Kinds.{number_of_kind};
+ghost use Rattle.std.specs.Prelude.{◌≡◌, Some, slice_get};
 
 use drc_base::Kind;
 
 /// How many kinds there are.
 const KIND_COUNT: usize = 82;
 
-/// The kinds in the order of their numbers.
+/// The kinds in the order of their numbers, which is that of their type.
 pub const KINDS: [Kind; KIND_COUNT] = [
     Kind::Magic,
     Kind::GeometryType,
@@ -96,94 +95,10 @@ pub const KINDS: [Kind; KIND_COUNT] = [
 ];
 
 /// The number of a kind.
-#[tactic(auto, unfolding(crate::specs::Kinds::number_of_kind))]
 pub fn number_of(kind: Kind) -> u32
-    ensures { result ≡ number_of_kind kind }
+    ensures { slice_get KINDS result ≡ Some kind }
 {
-    match kind {
-        Kind::Magic => 0,
-        Kind::GeometryType => 1,
-        Kind::Version => 2,
-        Kind::KdCloud => 3,
-        Kind::Method => 4,
-        Kind::Metadata => 5,
-        Kind::Short => 6,
-        Kind::Long => 7,
-        Kind::FaceLimit => 8,
-        Kind::PointLimit => 9,
-        Kind::AttrLimit => 10,
-        Kind::ValueLimit => 11,
-        Kind::TableLimit => 12,
-        Kind::InputLimit => 13,
-        Kind::EmptyTable => 14,
-        Kind::Run => 15,
-        Kind::Sum => 16,
-        Kind::BadStart => 17,
-        Kind::BadProb => 18,
-        Kind::Scheme => 19,
-        Kind::Length => 20,
-        Kind::IndexMethod => 21,
-        Kind::IndexRange => 22,
-        Kind::Traversal => 23,
-        Kind::Count => 24,
-        Kind::EventDelta => 25,
-        Kind::NoActive => 26,
-        Kind::Gone => 27,
-        Kind::Alone => 28,
-        Kind::SamePoint => 29,
-        Kind::EventOrder => 30,
-        Kind::Taken => 31,
-        Kind::Loop => 32,
-        Kind::FaceCount => 33,
-        Kind::VertexCount => 34,
-        Kind::Degenerate => 35,
-        Kind::ContextEmpty => 36,
-        Kind::BadSymbol => 37,
-        Kind::NoAttribute => 38,
-        Kind::DataId => 39,
-        Kind::Element => 40,
-        Kind::Walk => 41,
-        Kind::AttrType => 42,
-        Kind::DataType => 43,
-        Kind::Components => 44,
-        Kind::Generic => 45,
-        Kind::Octahedral => 46,
-        Kind::Coding => 47,
-        Kind::Prediction => 48,
-        Kind::Transform => 49,
-        Kind::ByteWidth => 50,
-        Kind::FlagCount => 51,
-        Kind::WrapRange => 52,
-        Kind::FlagsShort => 53,
-        Kind::ValueRange => 54,
-        Kind::QuantBits => 55,
-        Kind::PlyMagic => 56,
-        Kind::PlyFormat => 57,
-        Kind::PlyHeader => 58,
-        Kind::PlyType => 59,
-        Kind::PlyElement => 60,
-        Kind::PlyAttr => 61,
-        Kind::PlyRow => 62,
-        Kind::PlyNumber => 63,
-        Kind::PlyFace => 64,
-        Kind::PlyIndex => 65,
-        Kind::PlyShort => 66,
-        Kind::PlyRest => 67,
-        Kind::Choice => 68,
-        Kind::Empty => 69,
-        Kind::NoPosition => 70,
-        Kind::Range => 71,
-        Kind::MapForm => 72,
-        Kind::MapKind => 73,
-        Kind::MapCount => 74,
-        Kind::BadMap => 75,
-        Kind::KdMagic => 76,
-        Kind::KdVersion => 77,
-        Kind::KdLimit => 78,
-        Kind::KdBits => 79,
-        Kind::KdSplit => 80,
-        Kind::KdMesh => 81,
-    }
+    kind as u32
 }
 
 /// The kind at a place of a list, where there is one.

@@ -1,13 +1,6 @@
 //! What holds of the definitions themselves.
 
-ghost use Rattle.drc_c.specs.KindLaws.{NumbersNameKinds};
 ghost use Rattle.drc_c.specs.HeadLaws.{ToldHeadsMean};
-
-/// Each kind stands in the list of kinds at its number. This is the contract of a call that does nothing.
-#[tactic(auto, using(crate::proofs::NumberedKinds::numbered))]
-pub fn numbers_name_kinds()
-    ensures { NumbersNameKinds }
-{}
 
 /// Heads that pass, as C has them, mean themselves: what is decoded can be encoded again. This is the contract of
 /// a call that does nothing.

@@ -1,13 +1,13 @@
 //! Recoding: a stream coded in another way.
 
-ghost use Rattle.std.specs.Prelude.{◌≡◌, ◌<◌, ◌⊎◌, ℕ, List, [], ◌∷◌, Contains, Err, Some, None, IfOk, length};
+ghost use Rattle.std.specs.Prelude.{◌≡◌, ◌<◌, ◌↔◌, ◌⊎◌, ℕ, List, [], ◌∷◌, Contains, Err, Some, None, IfOk, length};
 ghost use Rattle.drc_base.specs.declared.faults.Fault.{Fault as AnyFault};
 ghost use Rattle.drc_base.specs.Refusals.{Answers};
 ghost use Rattle.drc_container.specs.declared.choice.choices.Choice.{Choice as AnyChoice};
 ghost use Rattle.drc_container.specs.reading.Stream.{declared_of};
 ghost use Rattle.drc_base.specs.declared.faults.Refusal.TheVariants as refusal;
 ghost use Rattle.drc_c.specs.Arrays.{filled};
-ghost use Rattle.drc_c.specs.Faults.{fault_told};
+ghost use Rattle.drc_c.specs.Faults.{IsTold};
 ghost use Rattle.drc_c.specs.Options.{choice_meant};
 ghost use Rattle.drc_c.specs.Recoded.{recoded_told, IsRecoding};
 ghost use Rattle.drc_c.specs.declared.streams.DrcRow.{DrcRow as AnyRow};
@@ -41,10 +41,10 @@ fn recode_stream(alloc: Global, bytes: &[u8], choice: &Choice) -> Result<Encoded
 /// Codes a stream in another way, into arrays of the caller: the new stream means the geometry of the old one, by its
 /// map.
 ///
-/// `DONE`: the arrays begin with the new stream and its map. `BAD_ARGUMENT`: an option's number names nothing.
+/// `DONE`: the arrays begin with the new stream and its map. `BAD_ARGUMENT`: just where an option's number names nothing.
 /// `REFUSED`: the first fault of the old stream, then of the encoding. `NO_ROOM`: one of the arrays is too short; the
 /// lengths say what is needed. `NO_MEMORY`: nothing is written. Faults of the old stream's header and of its declared
-/// numbers come before memory is taken.
+/// numbers come before out of memory.
 #[unsafe(no_mangle)]
 pub extern "C" fn drc_recode_into(
     alloc: Global,
@@ -60,11 +60,11 @@ pub extern "C" fn drc_recode_into(
         × (choice_meant options.now ≡ Some choice) × IsRecoding bytes.now choice stream told
         × (lengths.new ≡ record { bytes = length stream; rows = length told })
         × (written.new ≡ filled stream written.old) × (rows.new ≡ filled told rows.old) }
-    ensures bad { result ≡ BAD_ARGUMENT → choice_meant options.now ≡ None }
+    ensures bad { result ≡ BAD_ARGUMENT ↔ choice_meant options.now ≡ None }
     ensures refused { result ≡ REFUSED → (choice : AnyChoice) × (f : AnyFault) × (choice_meant options.now ≡ Some choice)
-        × (recoded_told bytes.now choice ≡ Err f) × (fault.new ≡ fault_told f) }
+        × (recoded_told bytes.now choice ≡ Err f) × IsTold f fault.new }
     ensures early { (choice : AnyChoice) (f : AnyFault) → choice_meant options.now ≡ Some choice → declared_of bytes.now ≡ Err f
-        → (result ≡ REFUSED) × (fault.new ≡ fault_told f) }
+        → (result ≡ REFUSED) × IsTold f fault.new }
     ensures no_room { result ≡ NO_ROOM → (choice : AnyChoice) × (stream : List ℕ) × (told : List AnyRow)
         × (choice_meant options.now ≡ Some choice) × IsRecoding bytes.now choice stream told
         × (lengths.new ≡ record { bytes = length stream; rows = length told })
@@ -89,7 +89,7 @@ pub extern "C" fn drc_recode_into(
 ///
 /// `DONE`: the new stream means the geometry of the old one, by its map. `BAD_ARGUMENT`, `REFUSED`, `NO_MEMORY`: as there, and the
 /// place for the new stream is as before. Faults of the old stream's header and of its declared numbers come before
-/// memory is taken.
+/// out of memory.
 #[unsafe(no_mangle)]
 pub extern "C" fn drc_recode(
     alloc: Global,
@@ -102,21 +102,21 @@ pub extern "C" fn drc_recode(
     ensures done { result ≡ DONE → (choice : AnyChoice) × (written : List ℕ) × (told : List AnyRow)
         × (choice_meant options.now ≡ Some choice) × IsRecoding bytes.now choice written told
         × (stream.new.lengths ≡ record { bytes = length written; rows = length told }) }
-    ensures bad { result ≡ BAD_ARGUMENT → choice_meant options.now ≡ None }
+    ensures bad { result ≡ BAD_ARGUMENT ↔ choice_meant options.now ≡ None }
     ensures refused { result ≡ REFUSED → (choice : AnyChoice) × (f : AnyFault) × (choice_meant options.now ≡ Some choice)
-        × (recoded_told bytes.now choice ≡ Err f) × (fault.new ≡ fault_told f) }
+        × (recoded_told bytes.now choice ≡ Err f) × IsTold f fault.new }
     ensures early { (choice : AnyChoice) (f : AnyFault) → choice_meant options.now ≡ Some choice → declared_of bytes.now ≡ Err f
-        → (result ≡ REFUSED) × (fault.new ≡ fault_told f) }
+        → (result ≡ REFUSED) × IsTold f fault.new }
 
     // What isn't written is as before.
     ensures stream_same { (result ≡ DONE) ⊎ (stream.new ≡ stream.old) }
     ensures fault_same { (result ≡ REFUSED) ⊎ (fault.new ≡ fault.old) }
 {
-    let choice = match choice_meant(options) {
+    let chosen = match choice_meant(options) {
         None => return BAD_ARGUMENT,
-        Some(choice) => choice,
+        Some(chosen) => chosen,
     };
-    match recode_stream(alloc, bytes, &choice) {
+    match recode_stream(alloc, bytes, &chosen) {
         Ok(encoded) => {
             *stream = handed(encoded);
             DONE

@@ -1,13 +1,13 @@
 //! Verifying: whether a stream is a geometry by a map.
 
-ghost use Rattle.std.specs.Prelude.{◌≡◌, ◌⊎◌, Bool, true, [], ◌∷◌, Contains, Err, Some, None, IfOk};
+ghost use Rattle.std.specs.Prelude.{◌≡◌, ◌↔◌, ◌⊎◌, Bool, true, [], ◌∷◌, Contains, Err, Some, None, IfOk};
 ghost use Rattle.drc_base.specs.declared.faults.Fault.{Fault as AnyFault};
 ghost use Rattle.drc_base.specs.declared.faults.Refusal.TheVariants as refusal;
 ghost use Rattle.drc_base.specs.Refusals.{Answers};
 ghost use Rattle.drc_verify.specs.declared.verdicts.Verdict.{Verdict as AnyVerdict};
 ghost use Rattle.drc_verify.specs.declared.verdicts.Verdict.TheVariants as verdict;
 ghost use Rattle.drc_c.specs.Early.{arrays_early_fault};
-ghost use Rattle.drc_c.specs.Faults.{fault_told};
+ghost use Rattle.drc_c.specs.Faults.{IsTold};
 ghost use Rattle.drc_c.specs.Inputs.{do_fit};
 ghost use Rattle.drc_c.specs.Verified.{verdict_told, verified_arrays, Asks, IsVerified};
 
@@ -64,10 +64,10 @@ fn surface_for(
 /// Whether a stream means the geometry of arrays, as `drc_encode_into` has them, by the rows of a map, and with `surface`
 /// (1, else 0) whether it is glued as that mesh is. Nothing of it rests on how a geometry is encoded.
 ///
-/// `DONE`: it is. `NOT_SAME`: it isn't. In both cases the verdict says so, and what differs first. `BAD_ARGUMENT`: the arrays
+/// `DONE`: it is. `NOT_SAME`: it isn't. In both cases the verdict says so, and what differs first. `BAD_ARGUMENT`: just where the arrays
 /// don't fit each other, or `surface` is neither 0 nor 1. `REFUSED`: the first fault of the arrays, then of the stream,
 /// then with `surface` why there is no surface to compare. `NO_MEMORY`: nothing is written. Faults of the heads, and of the
-/// numbers of points, values and faces, come before memory is taken.
+/// numbers of points, values and faces, come before out of memory.
 #[unsafe(no_mangle)]
 pub extern "C" fn drc_verify(
     alloc: Global,
@@ -88,11 +88,11 @@ pub extern "C" fn drc_verify(
     ensures not_same { result ≡ NOT_SAME → (asked : Bool) × (v : AnyVerdict) × Asks mesh heads.now corners.now values.now surface (Some asked)
         × IsVerified asked mesh heads.now corners.now values.now rows.now bytes.now v × (v ≡ verdict.Same → ⊥)
         × (out.new ≡ verdict_told v) }
-    ensures bad { result ≡ BAD_ARGUMENT → Asks mesh heads.now corners.now values.now surface None }
+    ensures bad { result ≡ BAD_ARGUMENT ↔ Asks mesh heads.now corners.now values.now surface None }
     ensures refused { result ≡ REFUSED → (asked : Bool) × (f : AnyFault) × Asks mesh heads.now corners.now values.now surface (Some asked)
-        × (verified_arrays asked mesh heads.now corners.now values.now rows.now bytes.now ≡ Err f) × (fault.new ≡ fault_told f) }
+        × (verified_arrays asked mesh heads.now corners.now values.now rows.now bytes.now ≡ Err f) × IsTold f fault.new }
     ensures early { (asked : Bool) (f : AnyFault) → Asks mesh heads.now corners.now values.now surface (Some asked)
-        → arrays_early_fault mesh heads.now corners.now values.now ≡ Some f → (result ≡ REFUSED) × (fault.new ≡ fault_told f) }
+        → arrays_early_fault mesh heads.now corners.now values.now ≡ Some f → (result ≡ REFUSED) × IsTold f fault.new }
 
     // What isn't written is as before.
     ensures verdict_same { (result ≡ DONE) ⊎ (result ≡ NOT_SAME) ⊎ (out.new ≡ out.old) }

@@ -4,4 +4,4 @@ use Rattle.drc_c.proofs.restoring.drc_restore_into.Goals as goal
 
 pub returns-in-Ok-clause-statuses : goal.returns-in-Ok-clause-statuses
 returns-in-Ok-clause-statuses c =
-    elim c.place_stream.ensures.statuses [ inl done ↦ (0, lit< tt, sym done) | inr room ↦ (4, lit< tt, sym room) ]
+    elim c.place.ensures.statuses [ inl done ↦ (0, lit< tt, sym done) | inr room ↦ (4, lit< tt, sym room) ]
