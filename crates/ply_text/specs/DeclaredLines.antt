@@ -74,7 +74,8 @@ Outlines due o (Err f) = due ≡ Err f
 -- the same of a step from any draft that has the outline `old`
 abbrev pub Follows : (Draft → Result Draft Fault) → OutlineParts → OutlineParts → Result (Unit {0}) Fault → Type 0
 Follows step old new result =
-    (heads : List PlyHead) (properties : List Property) → length heads ≡ old.heads → Outlines (step (draft_with old heads properties)) new result
+    (heads : List PlyHead) (properties : List Property) → length heads ≡ old.heads →
+    Outlines (step (draft_with old heads properties)) new result
 
 -- the outline of nothing
 abbrev pub no_outline : OutlineParts
