@@ -191,9 +191,16 @@ fn predicted(v: &[i32], comps: usize, e: usize, faces: &[Face], j: usize) -> i32
     }
 }
 
-fn restore_entry(v: &mut [i32], comps: usize, e: usize, faces: &[Face]) {
+fn restore_entry(
+    v: &mut Vec<i32>,
+    comps: usize,
+    e: usize,
+    faces: &[Face],
+    corrections: &mut impl Iterator<Item = i32>,
+) {
     for j in 0..comps {
-        v[e * comps + j] = restored(predicted(v, comps, e, faces, j), v[e * comps + j]);
+        let foretold = predicted(v, comps, e, faces, j);
+        v.push(restored(foretold, corrections.next().unwrap()));
     }
 }
 
@@ -203,14 +210,17 @@ fn correct_entry(v: &[i32], comps: usize, e: usize, faces: &[Face], out: &mut [i
     }
 }
 
-fn restore_parallelogram(s: &Surface, comps: usize, v: &mut [i32]) {
+fn restore_parallelogram(s: &Surface, comps: usize, corrections: Vec<i32>) -> Vec<i32> {
+    let mut v = Vec::with_capacity(corrections.len());
+    let mut corrections = corrections.into_iter();
     for (e, face) in s.faces.iter().enumerate() {
         if face.across == NONE {
-            restore_entry(v, comps, e, &[]);
+            restore_entry(&mut v, comps, e, &[], &mut corrections);
         } else {
-            restore_entry(v, comps, e, &[*face]);
+            restore_entry(&mut v, comps, e, &[*face], &mut corrections);
         }
     }
+    v
 }
 
 fn correct_parallelogram(s: &Surface, comps: usize, v: &[i32]) -> Vec<i32> {
@@ -237,23 +247,28 @@ fn keep(found: &[Face], flags: &[bool]) -> ([Face; 4], usize) {
     (faces, count)
 }
 
-fn restore_multi(s: &Surface, comps: usize, lists: &[Vec<bool>; 4], v: &mut [i32]) -> bool {
+fn restore_multi(
+    s: &Surface,
+    comps: usize,
+    lists: &[Vec<bool>; 4],
+    corrections: Vec<i32>,
+) -> Option<Vec<i32>> {
+    let mut v = Vec::with_capacity(corrections.len());
+    let mut corrections = corrections.into_iter();
     let mut used = [0; 4];
     for e in 0..s.corners.len() {
         let (found, count) = s.gather(e as u32);
         if count == 0 {
-            restore_entry(v, comps, e, &[]);
+            restore_entry(&mut v, comps, e, &[], &mut corrections);
             continue;
         }
         let first = used[count - 1];
-        let Some(flags) = lists[count - 1].get(first..first + count) else {
-            return false;
-        };
+        let flags = lists[count - 1].get(first..first + count)?;
         used[count - 1] = first + count;
         let (faces, kept) = keep(&found[..count], flags);
-        restore_entry(v, comps, e, &faces[..kept]);
+        restore_entry(&mut v, comps, e, &faces[..kept], &mut corrections);
     }
-    true
+    Some(v)
 }
 
 fn correct_multi(s: &Surface, comps: usize, v: &[i32]) -> (Vec<i32>, [Vec<bool>; 4]) {
@@ -315,17 +330,15 @@ fn main() {
             let start = Instant::now();
             let corrections = correct_parallelogram(s, comps, &v);
             show(format!("{name}_correct_one"), v.len(), start, sum(&corrections));
-            let mut again = corrections;
             let start = Instant::now();
-            restore_parallelogram(s, comps, &mut again);
+            let again = restore_parallelogram(s, comps, corrections);
             show(format!("{name}_restore_one"), v.len(), start, sum(&again));
             let start = Instant::now();
             let (corrections, flags) = correct_multi(s, comps, &v);
             show(format!("{name}_correct_many"), v.len(), start, sum(&corrections));
-            let mut again = corrections;
             let start = Instant::now();
-            let whole = restore_multi(s, comps, &flags, &mut again);
-            show(format!("{name}_restore_many"), v.len(), start, sum(&again) + u32::from(!whole));
+            let again = restore_multi(s, comps, &flags, corrections).expect("enough flags");
+            show(format!("{name}_restore_many"), v.len(), start, sum(&again));
         }
     }
 }

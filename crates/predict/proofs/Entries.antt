@@ -1,17 +1,17 @@
 -- Entry after entry: where its components stand, what predicts them, and what one more of them does.
-use Rattle.std.proofs.Common.{◌≡◌, ℕ, zero, suc, ◌+◌, ◌-◌, ◌*◌, ◌/◌, ◌%◌, ◌<◌, ◌≤◌, ℤ, pos, List, [], ◌∷◌, ◌++◌, length, take, drop, get_or, set, refl, sym, subst, ◌∙◌, ap, arith, add-zero, ◌≢◌, eqb, eqb-true, eq-eqb, Some, None, inl, inr}
+use Rattle.std.proofs.Common.{◌≡◌, ℕ, zero, suc, ◌+◌, ◌-◌, ◌*◌, ◌/◌, ◌%◌, ◌<◌, ◌≤◌, ℤ, pos, List, [], ◌∷◌, ◌++◌, length, take, get_or, set, refl, sym, subst, ◌∙◌, ap, arith, add-zero, ◌≢◌, eqb, eqb-true, eq-eqb, Some, None, inl, inr}
 use Rattle.std.proofs.lemmas.Bool.{cases_Bool, cond-true, cond-false}
 use Rattle.std.proofs.Math.Nat.{mul-le-mul_right}
 use Rattle.std.proofs.lemmas.Nat.{div-mul-add, mod-mul-add}
 use Rattle.std.proofs.lemmas.List.{length-take-le, get_or-take, take_more_set, take_all}
 use Rattle.corner_table.specs.declared.corner_lists.FaceAcross.{FaceAcross}
-use Rattle.predict.specs.Wrap.{Range, restored_value, correction_of}
-use Rattle.predict.specs.Restored.{restored, restored_behind, corrections, entry_before}
+use Rattle.predict.specs.Wrap.{Range, correction_of}
+use Rattle.predict.specs.Restored.{corrections, entry_before}
 use Rattle.corner_table.specs.Table.{free_entry}
 use Rattle.corner_table.specs.Ordered.{Ordered, IsBelow, corner_at, at_corner, kept_face}
 use Rattle.predict.specs.Parallelogram.{component, fourth, by_one, parallelogram}
-use Rattle.predict.specs.Entry.{Foretells, Goes, Corrected}
-use Rattle.predict.proofs.Restoring.{restored_behind-more, restored_behind-end, take-corrections, length-corrections, entry_before-first, entry_before-later}
+use Rattle.predict.specs.Entry.{Foretells, Corrected}
+use Rattle.predict.proofs.Restoring.{take-corrections, length-corrections, entry_before-first, entry_before-later}
 
 -- the values of an entry end before those of a later one
 pub entry_below : (k e comps : ℕ) → k < e → k * comps + comps ≤ e * comps
@@ -64,21 +64,6 @@ entry_of comps e j n h is = ap (λ (m : ℕ). m / comps) is ∙ div-mul-add e co
 pub component_of : (comps e j n : ℕ) → j < comps → n ≡ e * comps + j → n % comps ≡ j
 component_of comps e j n h is = ap (λ (m : ℕ). m % comps) is ∙ mod-mul-add e comps j h
 
--- one component more is restored
-pub goes_more : (f : List ℤ → ℤ) (r : Range) (old v new : List ℤ) (comps e i j : ℕ) (p : ℕ → List ℤ → ℤ) (x : ℤ)
-    → Foretells f comps e p → j < comps → e * comps + comps ≤ length v
-    → x ≡ restored_value r (p j (take (e * comps + j) v)) (get_or v (e * comps + j) (pos 0))
-    → new ≡ set v (e * comps + j) x
-    → Goes f r old i v (e * comps + j) → Goes f r old i new (e * comps + (j + 1))
-goes_more f r old v new comps e i j p x foretells h has is write so =
-    let at : e * comps + j < length v = omega arith in
-    let len : length (take (e * comps + j) v) ≡ e * comps + j = length-take-le (e * comps + j) v (omega arith) in
-    let told : p j (take (e * comps + j) v) ≡ f (take (e * comps + j) v) = sym (foretells j (take (e * comps + j) v) h len) in
-    let value : x ≡ restored_value r (f (take (e * comps + j) v)) (get_or v (e * comps + j) (pos 0)) =
-    is ∙ ap (λ (q : ℤ). restored_value r q (get_or v (e * comps + j) (pos 0))) told in
-    let next : e * comps + (j + 1) ≡ e * comps + j + 1 = omega arith in
-    rw (write, next) (restored_behind-more f r v (restored_behind f r (take i old) (drop i old)) (e * comps + j) x at value so)
-
 -- one correction more is put
 pub corrected_more : (f : List ℤ → ℤ) (r : Range) (v out new : List ℤ) (comps e j : ℕ) (p : ℕ → List ℤ → ℤ) (x : ℤ)
     → Foretells f comps e p → j < comps → e * comps + comps ≤ length v → length out ≡ length v
@@ -113,39 +98,21 @@ foretells_one w comps e j before h len =
     rw (k, m) refl
 
 -- no component yet, and all of them
-pub goes_none : (f : List ℤ → ℤ) (r : Range) (v : List ℤ) (i : ℕ) → Goes f r v i v (i + 0)
-goes_none f r v i = rw (add-zero i) refl
-
-pub goes_all : (f : List ℤ → ℤ) (r : Range) (old v : List ℤ) (i j n : ℕ) → j ≡ n → Goes f r old i v (i + j) → Goes f r old i v (i + n)
-goes_all f r old v i j n e so = subst (λ (k : ℕ). Goes f r old i v (i + k)) e so
-
 pub corrected_none : (f : List ℤ → ℤ) (r : Range) (v out : List ℤ) (i : ℕ) → Corrected f r v out i → Corrected f r v out (i + 0)
 corrected_none f r v out i so = rw (add-zero i) so
 
 pub corrected_all : (f : List ℤ → ℤ) (r : Range) (v out : List ℤ) (i j n : ℕ) → j ≡ n → Corrected f r v out (i + j) → Corrected f r v out (i + n)
 corrected_all f r v out i j n e so = subst (λ (k : ℕ). Corrected f r v out (i + k)) e so
 
--- an entry's values are restored behind those before
-pub goes_on : (f : List ℤ → ℤ) (r : Range) (old v new : List ℤ) (comps e : ℕ) → Goes f r old 0 v (e * comps) → Goes f r v (e * comps) new (e * comps + comps) → Goes f r old 0 new ((e + 1) * comps)
-goes_on f r old v new comps e so more =
-    let next : (e + 1) * comps ≡ e * comps + comps = omega arith in
-    rw next (more ∙ so)
-
+-- the corrections of one entry more
 pub corrected_on : (f : List ℤ → ℤ) (r : Range) (v out : List ℤ) (comps e : ℕ) → Corrected f r v out (e * comps + comps) → Corrected f r v out ((e + 1) * comps)
 corrected_on f r v out comps e so = let next : (e + 1) * comps ≡ e * comps + comps = omega arith in rw next so
-
--- all entries are restored
-pub goes_end : (f : List ℤ → ℤ) (r : Range) (old v : List ℤ) (k : ℕ) → length v ≤ k → Goes f r old 0 v k → v ≡ restored f r old
-goes_end f r old v k done so = restored_behind-end f r v (restored f r old) k done so
 
 -- what foretells with one prediction does so with one that is alike
 pub foretells_alike : (f : List ℤ → ℤ) (comps e : ℕ) (p q : ℕ → List ℤ → ℤ) → ((j : ℕ) (before : List ℤ) → p j before ≡ q j before) → Foretells f comps e p → Foretells f comps e q
 foretells_alike f comps e p q alike foretells j before h len = foretells j before h len ∙ alike j before
 
--- nothing is restored or corrected yet
-pub goes_start : (f : List ℤ → ℤ) (r : Range) (v : List ℤ) (comps : ℕ) → Goes f r v 0 v (0 * comps)
-goes_start f r v comps = let z : 0 * comps ≡ 0 = omega arith in rw z refl
-
+-- nothing is corrected yet
 pub corrected_start : (f : List ℤ → ℤ) (r : Range) (v out : List ℤ) (comps : ℕ) → Corrected f r v out (0 * comps)
 corrected_start f r v out comps = let z : 0 * comps ≡ 0 = omega arith in rw z refl
 

@@ -1,6 +1,6 @@
 -- Restoring and correcting one entry after another.
-use Rattle.std.proofs.Common.{◌≡◌, ℕ, zero, suc, ◌+◌, ◌-◌, ◌<◌, ◌≤◌, ◌≤ℤ◌, ℤ, pos, List, [], ◌∷◌, ◌++◌, length, take, drop, get_or, set, FitsSigned, refl, sym, ◌∙◌, ap, add-one, append-nil, append_assoc, arith}
-use Rattle.std.proofs.lemmas.List.{drop_more, take_more_set, drop-set-lt, length-take-le, get_or-take, take_all, drop_all}
+use Rattle.std.proofs.Common.{◌≡◌, ℕ, zero, suc, ◌+◌, ◌-◌, ◌<◌, ◌≤◌, ◌≤ℤ◌, ℤ, pos, List, [], ◌∷◌, ◌++◌, length, take, get_or, FitsSigned, refl, sym, ◌∙◌, ap, add-one, append-nil, append_assoc, arith}
+use Rattle.std.proofs.lemmas.List.{length-take-le, get_or-take, take_all}
 use Rattle.std.proofs.lemmas.Int.{ints}
 use Rattle.std.proofs.lemmas.List.Elements.{All-nil, All-cons, All-head, All-tail}
 use Rattle.std.specs.Int.{w32}
@@ -8,28 +8,6 @@ use Rattle.std.specs.List.{All}
 use Rattle.predict.specs.Wrap.{Range, CanWrap, HasEnds, restored_value, correction_of, least_correction, greatest_correction}
 use Rattle.predict.specs.Restored.{restored, restored_behind, corrections, corrections_behind, entry_before}
 use Rattle.predict.proofs.Wrapping.{correction_restores, correction_small}
-
--- the next correction restores its value
-pub restored_behind-more : (f : List ℤ → ℤ) (r : Range) (v whole : List ℤ) (i : ℕ) (x : ℤ) → i < length v
-    → x ≡ restored_value r (f (take i v)) (get_or v i (pos 0))
-    → restored_behind f r (take i v) (drop i v) ≡ whole
-    → restored_behind f r (take (i + 1) (set v i x)) (drop (i + 1) (set v i x)) ≡ whole
-unfolding restored_behind
-restored_behind-more f r v whole i x has is so =
-    ap (λ before. restored_behind f r before (drop (i + 1) (set v i x))) (take_more_set v i x has)
-    ∙ ap (λ after. restored_behind f r (take i v ++ x ∷ []) after) (drop-set-lt (i + 1) v i x (omega arith))
-    ∙ ap (λ y. restored_behind f r (take i v ++ y ∷ []) (drop (i + 1) v)) is
-    ∙ ap (λ after. restored_behind f r (take i v) after) (sym (drop_more v i (pos 0) has))
-    ∙ so
-
--- no correction is left
-pub restored_behind-end : (f : List ℤ → ℤ) (r : Range) (v whole : List ℤ) (i : ℕ) → length v ≤ i
-    → restored_behind f r (take i v) (drop i v) ≡ whole → v ≡ whole
-unfolding restored_behind
-restored_behind-end f r v whole i done so =
-    sym (take_all i v done)
-    ∙ sym (ap (λ after. restored_behind f r (take i v) after) (drop_all i v done))
-    ∙ so
 
 -- the prediction by difference from the front part of a list
 pub entry_before-first : (comps : ℕ) (v : List ℤ) (i : ℕ) → i < length v → i < comps → pos 0 ≡ entry_before comps (take i v)

@@ -1,9 +1,9 @@
--- One entry after another: what a step of restoring or correcting does for every prediction that foretells it. These are the code's own
+-- One entry after another: what a step of correcting does for every prediction that foretells it. These are the code's own
 -- words.
-use Rattle.std.specs.Prelude.{◌≡◌, ℕ, suc, ◌+◌, ◌-◌, ◌*◌, ◌<◌, ◌≤◌, ℤ, Bool, cond, nat_eq, List, [], ◌++◌, length, take, drop}
+use Rattle.std.specs.Prelude.{◌≡◌, ℕ, suc, ◌+◌, ◌-◌, ◌*◌, ◌<◌, ◌≤◌, ℤ, Bool, cond, nat_eq, List, [], ◌++◌, length, take}
 use Rattle.std.specs.Prelude.{get_or, set}
 use Rattle.predict.specs.Wrap.{Range}
-use Rattle.predict.specs.Restored.{restored_behind, corrections}
+use Rattle.predict.specs.Restored.{corrections}
 use Rattle.corner_table.specs.Ordered.{Ordered}
 use Rattle.predict.specs.Gathered.{gathered}
 use Rattle.predict.specs.Multi.{wanted, by_many, kept, marks}
@@ -11,10 +11,6 @@ use Rattle.predict.specs.Multi.{wanted, by_many, kept, marks}
 -- a prediction foretells the components of entry e as p does
 abbrev pub Foretells : (List ℤ → ℤ) → ℕ → ℕ → (ℕ → List ℤ → ℤ) → Type 0
 Foretells f comps e p = (j : ℕ) (before : List ℤ) → j < comps → length before ≡ e * comps + j → f before ≡ p j before
-
--- the first k values of the new list, and what is restored behind them, are what is restored behind the first i of the old one
-abbrev pub Goes : (List ℤ → ℤ) → Range → List ℤ → ℕ → List ℤ → ℕ → Type 0
-Goes f r old i new k = restored_behind f r (take k new) (drop k new) ≡ restored_behind f r (take i old) (drop i old)
 
 -- the first k corrections are there
 abbrev pub Corrected : (List ℤ → ℤ) → Range → List ℤ → List ℤ → ℕ → Type 0

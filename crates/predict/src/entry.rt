@@ -1,34 +1,16 @@
-//! One entry, restored or corrected: its components one after another.
+//! One entry, corrected: its components one after another.
 
 ghost use Rattle.std.specs.Prelude.{◌≡◌, ℕ, ◌+◌, ◌*◌, ◌<◌, ◌≤◌, ◌≤ℤ◌, ℤ, List, length, take, pos, slice_index_or, IfSome};
 ghost use Rattle.std.specs.List.{All};
-ghost use Rattle.predict.specs.Wrap.{restored_value, correction_of};
+ghost use Rattle.predict.specs.Wrap.{correction_of};
 ghost use Rattle.corner_table.specs.Ordered.{IsBelow, kept_face};
 ghost use Rattle.predict.specs.Parallelogram.{by_one};
 ghost use Rattle.predict.specs.Multi.{by_many};
-ghost use Rattle.predict.specs.Entry.{Foretells, Goes, Corrected};
+ghost use Rattle.predict.specs.Entry.{Foretells, Corrected};
 
 use crate::parallelograms::predicted;
 use crate::wraps::Wrap;
 use corner_table::{FREE, FaceAcross};
-
-/// Component `j` of entry `e`, from its correction and the entries before.
-fn component_restored(
-    w: &Wrap,
-    v: &[i32],
-    comps: usize,
-    e: usize,
-    faces: &[FaceAcross],
-    j: usize,
-) -> i32
-    requires component { j < comps }
-    requires below { All (IsBelow e) faces.now }
-    requires within { e * comps + comps ≤ length v.now }
-    requires few { length faces.now ≤ 4 }
-    ensures { result ≡ restored_value w.now (by_many comps faces.now j (take (e * comps + j) v.now)) (slice_index_or v.now (e * comps + j) (pos 0)) }
-{
-    w.restored(predicted(v, comps, e, faces, j), v[e * comps + j])
-}
 
 /// The correction of component `j` of entry `e`.
 fn component_corrected(
@@ -47,21 +29,6 @@ fn component_corrected(
     ensures { result ≡ correction_of w.now (by_many comps faces.now j (take (e * comps + j) v.now)) (slice_index_or v.now (e * comps + j) (pos 0)) }
 {
     w.correction(predicted(v, comps, e, faces, j), v[e * comps + j])
-}
-
-/// Turns the corrections of entry `e` into its values, predicted from the parallelograms over these
-/// faces.
-pub(crate) fn restore_entry(w: &Wrap, v: &mut [i32], comps: usize, e: usize, faces: &[FaceAcross])
-    requires below { All (IsBelow e) faces.now }
-    requires within { e * comps + comps ≤ length v.old }
-    requires few { length faces.now ≤ 4 }
-    ensures { (f : List ℤ → ℤ) → Foretells f comps e (by_many comps faces.now) → Goes f w.now v.old (e * comps) v.new (e * comps + comps) }
-{
-    let first = e * comps;
-    for j in 0..comps {
-        let value = component_restored(w, v, comps, e, faces, j);
-        v[first + j] = value;
-    }
 }
 
 /// Puts the corrections of entry `e`, predicted from the parallelograms over these faces.
@@ -84,20 +51,6 @@ pub(crate) fn correct_entry(
     for j in 0..comps {
         let correction = component_corrected(w, v, comps, e, faces, j);
         out[first + j] = correction;
-    }
-}
-
-/// Turns the corrections of entry `e` into its values, predicted from the parallelogram over the face
-/// that is kept for it, where there is one.
-pub(crate) fn restore_by_one(w: &Wrap, v: &mut [i32], comps: usize, e: usize, face: FaceAcross)
-    requires below { IfSome (kept_face face) (IsBelow e) }
-    requires within { e * comps + comps ≤ length v.old }
-    ensures { (f : List ℤ → ℤ) → Foretells f comps e (by_one comps (kept_face face)) → Goes f w.now v.old (e * comps) v.new (e * comps + comps) }
-{
-    if face.across == FREE {
-        restore_entry(w, v, comps, e, &[]);
-    } else {
-        restore_entry(w, v, comps, e, &[face]);
     }
 }
 

@@ -1,4 +1,4 @@
-//! Predictions of attribute values and the wrap transform: corrections to values in place, and
+//! Predictions of attribute values and the wrap transform: corrections of a source to values, and
 //! values to corrections. The contract above it: each value is its prediction, clipped and
 //! corrected, where a prediction is a function of the values before: by difference, by a parallelogram
 //! over the surface, or by the mean of several that flags keep. After the Draco Bitstream
@@ -17,7 +17,6 @@ mod multi;
 mod multi_from_source;
 mod orders;
 mod parallelograms;
-mod restored;
 mod schemes;
 mod single;
 mod sources;
@@ -30,12 +29,11 @@ pub use corrected::correct;
 pub use flags::Flags;
 pub use from_source::restore_from;
 pub use laws::{corrections_restore, flags_are_few, predictions_are_named};
-pub use multi::{correct_multi, restore_multi};
+pub use multi::correct_multi;
 pub use multi_from_source::restore_with_flags;
 pub use orders::Ordered;
-pub use restored::restore;
 pub use schemes::{Facts, Prediction};
-pub use single::{correct_parallelogram, restore_parallelogram};
+pub use single::correct_parallelogram;
 pub use sources::CorrectionSource;
 pub use symbols::symbols_of;
 pub use wraps::Wrap;

@@ -8,17 +8,17 @@ ghost use Rattle.corner_table.specs.Ordered.{Ordered as AnyOrdered, IsBelow};
 ghost use Rattle.predict.specs.Surfaces.{surface, IsOverTable};
 ghost use Rattle.predict.specs.Gathered.{gathered};
 ghost use Rattle.predict.specs.Multi.{by_many, kept, multi, wanted, flags_for, HasFlags, LacksFlags, AreMarked, marks, is_left_out};
-ghost use Rattle.predict.specs.Entry.{Foretells, Goes, Corrected, AreUsed, LacksNext, ForetellsAll, flags_put};
+ghost use Rattle.predict.specs.Entry.{Foretells, Corrected, AreUsed, LacksNext, ForetellsAll, flags_put};
 ghost use Rattle.predict.specs.Stored.{IsOrderedSurface, ordered_in};
 
-use crate::entry::{correct_entry, restore_entry};
+use crate::entry::correct_entry;
 use crate::flags::{Flags, keep, marks_of};
 use crate::orders::Ordered;
 use crate::surface::{Surface, surface_of};
 use crate::wraps::Wrap;
 use arrayvec::ArrayVec;
 use corner_table::FaceAcross;
-use drc_base::{Kind, Memory, Sequence};
+use drc_base::{Memory, Sequence};
 use std::alloc::Global;
 
 /// A list of flags; it is empty where there is none.
@@ -56,37 +56,6 @@ pub(crate) fn take_flags(
     }
     used[count - 1] = first + count;
     Some(keep(found, &list[first..first + count]))
-}
-
-/// Turns the corrections `v` of entries of `comps` components into their values, in place, each
-/// predicted by the mean of those parallelograms that its flags keep. `v` has `comps` values for each
-/// entry of the ordered surface. It takes no memory. `FlagsShort` exactly where more flags of a list are
-/// needed than it has; `v` is given up then. Flags that are left over are ignored.
-pub fn restore_multi(
-    w: &Wrap,
-    comps: u32,
-    on: &Ordered<'_>,
-    flags: &Flags,
-    v: &mut [i32],
-) -> Result<(), Kind>
-    requires some { 0 < comps }
-    requires over { IsOverTable on.now }
-    requires whole { length v.old ≡ length on.now.order.now.corner_of_entry * comps }
-    ensures values { IfOk result (λ _. v.new ≡ restored (multi (surface on.now) comps flags.now.lists) w.now v.old) }
-    ensures flags { MatchResult result (λ _. HasFlags (surface on.now) flags.now.lists) (λ k. (k ≡ Kind.FlagsShort) × LacksFlags (surface on.now) flags.now.lists) }
-{
-    let wrap = w.copy();
-    let surface = surface_of(on);
-    let comps = comps as usize;
-    let mut used = [0usize; 4];
-    for e in 0..surface.corners.len() {
-        let found = surface.gather(e);
-        match take_flags(flags, &mut used, found.as_slice()) {
-            None => return Err(Kind::FlagsShort),
-            Some(faces) => restore_entry(&wrap, v, comps, e, faces.as_slice()),
-        }
-    }
-    Ok(())
 }
 
 /// Puts the flags of an entry behind those of its list.

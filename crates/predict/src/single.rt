@@ -10,37 +10,11 @@ ghost use Rattle.predict.specs.Restored.{restored, corrections};
 ghost use Rattle.predict.specs.Surfaces.{surface, IsOverTable};
 ghost use Rattle.predict.specs.Parallelogram.{parallelogram};
 
-use crate::entry::{correct_by_one, restore_by_one};
+use crate::entry::correct_by_one;
 use crate::orders::Ordered;
 use crate::wraps::Wrap;
 use drc_base::Memory;
 use std::alloc::Global;
-
-/// Turns the corrections of all entries into their values.
-fn restore_entries(w: &Wrap, comps: usize, on: &Ordered<'_>, v: &mut [i32])
-    requires some { 0 < comps }
-    requires over { IsOverTable on.now }
-    requires whole { length v.old ≡ length on.now.order.now.corner_of_entry * comps }
-    ensures { v.new ≡ restored (parallelogram (surface on.now) comps) w.now v.old }
-{
-    let faces = on.order.faces_across.as_slice();
-    for e in 0..faces.len() {
-        restore_by_one(w, v, comps, e, faces[e]);
-    }
-}
-
-/// Turns the corrections `v` of entries of `comps` components into their values, in place, each
-/// predicted by its parallelogram. `v` has `comps` values for each entry of the ordered surface. It takes
-/// no memory.
-pub fn restore_parallelogram(w: &Wrap, comps: u32, on: &Ordered<'_>, v: &mut [i32])
-    requires some { 0 < comps }
-    requires over { IsOverTable on.now }
-    requires whole { length v.old ≡ length on.now.order.now.corner_of_entry * comps }
-    ensures { v.new ≡ restored (parallelogram (surface on.now) comps) w.now v.old }
-{
-    let wrap = w.copy();
-    restore_entries(&wrap, comps as usize, on, v);
-}
 
 /// Puts the corrections of all entries.
 fn correct_entries(w: &Wrap, comps: usize, on: &Ordered<'_>, v: &[i32], out: &mut [i32])

@@ -24,4 +24,6 @@ mod predict_tests;
 #[cfg(test)]
 mod seams_tests;
 #[cfg(test)]
+mod sources;
+#[cfg(test)]
 mod walk_order_tests;

@@ -1,13 +1,14 @@
 //! Predictions by parallelograms on small surfaces, with ample memory.
 
-ghost use Rattle.std.specs.Prelude.{◌≡◌, ◌*◌, ◌<◌, ◌≤◌, ◌≤ℤ◌, IsTrue, length};
+ghost use Rattle.std.specs.Prelude.{◌≡◌, ◌*◌, ◌<◌, ◌≤◌, ◌≤ℤ◌, IsTrue, true, length};
 ghost use Rattle.std.specs.List.{All};
+ghost use Rattle.predict.specs.Schemes.{facts};
 ghost use Rattle.predict.specs.Surfaces.{IsOverTable};
 
+use crate::sources::ListedCorrections;
 use drc_base::{Kind, Sequence};
 use predict::{
-    Flags, Ordered, Wrap, correct_multi, correct_parallelogram, restore_multi,
-    restore_parallelogram,
+    Flags, Ordered, Prediction, Wrap, correct_multi, correct_parallelogram, restore_with_flags,
 };
 use std::alloc::Global;
 use std::process::Abort;
@@ -43,30 +44,35 @@ static LATER: WorkedOrder = WorkedOrder {
     corners: &[1, 2, 4, 0],
 };
 
-/// Values are restored from their corrections by one parallelogram.
-fn come_back_by_one(
+/// What corrections restore over a surface, by a prediction with these flags.
+fn come_back(
     rt: &impl Abort,
     alloc: Global,
+    prediction: Prediction,
     on: &Ordered<'_>,
     wrap: &Wrap,
     comps: u32,
+    flags: &Flags,
     corrections: &[i32],
-    v: &[i32],
-)
+) -> Result<Vec<i32>, Kind>
+    requires corrects { (facts prediction).corrects ≡ true }
     requires some { 0 < comps }
     requires over { IsOverTable on.now }
-    requires whole { length v.now ≡ length on.now.order.now.corner_of_entry * comps }
+    requires whole { length corrections.now ≡ length on.now.order.now.corner_of_entry * comps }
 {
-    let mut again = Vec::from_slice(alloc, corrections).expect(rt, "a copy");
-    assert!(rt; again.len() == v.len());
-    restore_parallelogram(wrap, comps, on, again.as_mut_slice());
-    assert!(rt; again.as_slice() == v);
+    let copy = Vec::from_slice(alloc, corrections).expect(rt, "a copy");
+    let source = ListedCorrections::new(copy);
+    restore_with_flags(alloc, prediction, wrap, comps, Some(on), flags, source).expect(
+        rt,
+        "ample memory",
+    )
 }
 
-/// Values are restored from their corrections by several parallelograms, with these flags.
-fn come_back_by_several(
+/// The values are restored from these corrections.
+fn are_restored(
     rt: &impl Abort,
     alloc: Global,
+    prediction: Prediction,
     on: &Ordered<'_>,
     wrap: &Wrap,
     comps: u32,
@@ -74,14 +80,14 @@ fn come_back_by_several(
     corrections: &[i32],
     v: &[i32],
 )
+    requires corrects { (facts prediction).corrects ≡ true }
     requires some { 0 < comps }
     requires over { IsOverTable on.now }
     requires whole { length v.now ≡ length on.now.order.now.corner_of_entry * comps }
 {
-    let mut again = Vec::from_slice(alloc, corrections).expect(rt, "a copy");
-    assert!(rt; again.len() == v.len());
-    assert!(rt; restore_multi(wrap, comps, on, flags, again.as_mut_slice()).is_ok());
-    assert!(rt; again.as_slice() == v);
+    assert!(rt; corrections.len() == v.len());
+    let again = come_back(rt, alloc, prediction, on, wrap, comps, flags, corrections);
+    assert!(rt; again.expect(rt, "enough flags").as_slice() == v);
 }
 
 /// How many values there are over an order, with so many of each entry.
@@ -110,9 +116,30 @@ fn told(
     assert!(rt; all_within(v, range.0, range.1));
     assert!(rt; v.len() == count_of(rt, on, comps));
     let one = correct_parallelogram(alloc, &wrap, comps, on, v).expect(rt, "corrections");
-    come_back_by_one(rt, alloc, on, &wrap, comps, one.as_slice(), v);
     let (many, flags) = correct_multi(alloc, &wrap, comps, on, v).expect(rt, "corrections");
-    come_back_by_several(rt, alloc, on, &wrap, comps, &flags, many.as_slice(), v);
+    let (by_one, by_many) = (Prediction::Parallelogram, Prediction::Multi);
+    are_restored(
+        rt,
+        alloc,
+        by_one,
+        on,
+        &wrap,
+        comps,
+        &flags,
+        one.as_slice(),
+        v,
+    );
+    are_restored(
+        rt,
+        alloc,
+        by_many,
+        on,
+        &wrap,
+        comps,
+        &flags,
+        many.as_slice(),
+        v,
+    );
     (one, many, flags)
 }
 
@@ -167,16 +194,23 @@ fn answer(
     on: &Ordered<'_>,
     flags: &Flags,
     corrections: &[i32],
-) -> (Result<(), Kind>, Vec<i32>)
+) -> Result<Vec<i32>, Kind>
     requires { IsOverTable on.now }
 {
     let wrap = Wrap::new(0, 2).expect(rt, "a range");
     let entries = on.order.corner_of_entry.len();
     assert!(rt; entries < 100);
-    let mut again = Vec::from_slice(alloc, corrections).expect(rt, "a copy");
-    assert!(rt; again.len() == entries * 3);
-    let answer = restore_multi(&wrap, 3, on, flags, again.as_mut_slice());
-    (answer, again)
+    assert!(rt; corrections.len() == entries * 3);
+    come_back(
+        rt,
+        alloc,
+        Prediction::Multi,
+        on,
+        &wrap,
+        3,
+        flags,
+        corrections,
+    )
 }
 
 /// The same over two faces, of which the parallelogram comes before the last entry.
@@ -185,7 +219,7 @@ fn answer_over(
     alloc: Global,
     flags: &Flags,
     corrections: &[i32],
-) -> (Result<(), Kind>, Vec<i32>) {
+) -> Result<Vec<i32>, Kind> {
     let worked = ordered(alloc, &SQUARE_ORDER).expect(rt, "ample memory");
     let (sides, classes, order) = worked.expect(rt, "corners of the table");
     let on = Ordered {
@@ -221,15 +255,15 @@ fn one_parallelogram_is_kept_where_it_comes_before(rt: HostRuntime) {
 #[test]
 fn flags_that_are_left_over_count_for_nothing(rt: HostRuntime) {
     let over = with_list(&rt, rt.alloc(), &[false, true], 0);
-    let (read, again) = answer_over(&rt, rt.alloc(), &over, &CORRECTIONS);
-    assert!(&rt; read.is_ok() && again.as_slice() == VALUES.as_slice());
+    let read = answer_over(&rt, rt.alloc(), &over, &CORRECTIONS);
+    assert!(&rt; read.expect(&rt, "enough flags").as_slice() == VALUES.as_slice());
 }
 
 #[test]
 fn missing_flags_are_refused(rt: HostRuntime) {
     let short = with_list(&rt, rt.alloc(), &[false], 1);
-    let (read, _) = answer_over(&rt, rt.alloc(), &short, &CORRECTIONS);
-    assert!(&rt; read == Err(Kind::FlagsShort));
+    let read = answer_over(&rt, rt.alloc(), &short, &CORRECTIONS);
+    assert!(&rt; matches!(read, Err(Kind::FlagsShort)));
 }
 
 #[test]

@@ -1,7 +1,8 @@
 //! The wrap near the ends of 32 bits, and the table of predictions, with ample memory.
 
+use crate::sources::ListedCorrections;
 use drc_base::Sequence;
-use predict::{Flags, Prediction, Wrap, correct, restore};
+use predict::{Flags, Prediction, Wrap, correct, restore_with_flags};
 use std::process::Abort;
 use std::test::Fail;
 
@@ -13,17 +14,18 @@ fn values_near_the_end_come_back(rt: HostRuntime) -> Result<(), Fail> {
     assert!(rt; values.iter().all(|x| 2147483637 <= *x && *x <= 2147483647));
     let (symbols, flags) = correct(alloc, Prediction::Difference, &wrap, 1, None, &values)?;
     assert_eq!(rt; symbols.as_slice(), [1, 2].as_slice());
-    let mut restored = [-1, 1];
-    let answer = restore(
+    let source = ListedCorrections::new(vec![in alloc; -1, 1]?);
+    let restored = restore_with_flags(
+        alloc,
         Prediction::Difference,
         &wrap,
         1,
         None,
         &flags,
-        &mut restored,
-    );
-    assert!(rt; answer.is_ok());
-    assert_eq!(rt; restored, values);
+        source,
+    )?;
+    let restored = restored.map_err(|_| "too few flags")?;
+    assert_eq!(rt; restored.as_slice(), values.as_slice());
     Ok(())
 }
 
