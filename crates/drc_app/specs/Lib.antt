@@ -8,6 +8,7 @@ pub mod Summary
 pub mod Given
 pub mod Verified
 pub mod Due
+pub mod Early
 pub mod Kept
 pub mod Outcome
 pub mod Run

@@ -1,7 +1,6 @@
 -- What a command line came to before anything is written, and what was then written (this project's choice).
-use Rattle.std.specs.Prelude.{◌≡◌, ◌≢◌, ℕ, zero, suc, ◌⊎◌, List, [], Option, Some, Result, Ok, Err, IfSome, IsOkAnd, IsTrue, MatchBool}
+use Rattle.std.specs.Prelude.{◌≡◌, ◌≢◌, ℕ, zero, suc, ◌⊎◌, false, List, [], Option, Some, Result, Ok, Err, IfSome, IsOkAnd, IsTrue, MatchBool}
 use Rattle.std.specs.Prelude.{if◌then◌else◌}
-use Rattle.std.specs.Bool.{OnFalse}
 use Rattle.drc_base.specs.Sinks.{AppendsPrefix}
 use Rattle.drc_base.specs.declared.faults.Fault.{Fault}
 use Rattle.drc_app.specs.Ends.{Taking, HasReadFault, IsReadWhole, IsPastMost, IsUntaken}
@@ -11,6 +10,7 @@ use Rattle.drc_verify.specs.declared.verdicts.Verdict.TheVariants as verdict
 use Rattle.drc_app.specs.Given.{Given, Written, Differs}
 use Rattle.drc_app.specs.Notes.{refused_note, bad_word_note, verdict_note, read_failed_note, write_failed_note, memory_note}
 use Rattle.drc_app.specs.Due.{input_limit, reads, command_due}
+use Rattle.drc_app.specs.Early.{HasNoEarlyFault}
 use Rattle.drc_app.specs.Kept.{KeepsGeometry}
 use Rattle.drc_app.specs.declared.commands.Command.{Command}
 use Rattle.drc_app.specs.declared.commands.Command.TheVariants as command
@@ -34,9 +34,13 @@ ShowsFault c f input = ((whole : IsReadWhole input) × (command_due c whole.take
 abbrev pub WasReadFor : Command → Fault → Taking → Type 0
 WasReadFor c f input = MatchBool (reads c) (ShowsFault c f input) (IsUntaken input)
 
--- nothing was taken, where the command doesn't read
-abbrev pub IsUnreadBy : Command → Taking → Type 0
-IsUnreadBy c input = OnFalse (reads c) (IsUntaken input)
+-- memory ran out before anything was taken, or before the input's end; or all was read, and the command has no early fault in it
+abbrev pub RanShort : Command → Taking → Type 0
+RanShort c input = IsUntaken input ⊎ ((input.ended ≡ false) ⊎ ((whole : IsReadWhole input) × HasNoEarlyFault c whole.taken))
+
+-- so it ran out, where the command reads; else nothing was taken
+abbrev pub RanOut : Command → Taking → Type 0
+RanOut c input = MatchBool (reads c) (RanShort c input) (IsUntaken input)
 
 -- the bytes that a command works from: those of its input, where it reads and the source shows them; none, where it doesn't read
 abbrev pub told_to : Command → Taking → Option (List ℕ)
@@ -76,7 +80,7 @@ MayAnswer c (answer.Differs v) = MayDiffer c v
 abbrev pub IsOutcome : Result Command ℕ → Taking → Outcome → Type 0
 IsOutcome line input (outcome.BadWord i) = (line ≡ Err i) × IsUntaken input
 IsOutcome line input outcome.ReadFailed = IsOkAnd line (λ c. IsTrue (reads c)) × HasReadFault input
-IsOutcome line input outcome.NoMemory = IsOkAnd line (λ c. IsUnreadBy c input)
+IsOutcome line input outcome.NoMemory = IsOkAnd line (λ c. RanOut c input)
 IsOutcome line input (outcome.Refused f) = IsOkAnd line (λ c. WasReadFor c f input × GivesFrom c input (Err f))
 IsOutcome line input (outcome.Done d) = IsOkAnd line (λ c.
     WasReadWhole c input × GivesFrom c input (Ok (Written (due_bytes d))) × Kept c input (Written (due_bytes d)))
@@ -87,7 +91,7 @@ IsOutcome line input (outcome.Differs v) = IsOkAnd line (λ c.
 abbrev pub IsOutcomeAt : Command → List ℕ → Outcome → Type 0
 IsOutcomeAt c bytes (outcome.BadWord i) = ⊥
 IsOutcomeAt c bytes outcome.ReadFailed = ⊥
-IsOutcomeAt c bytes outcome.NoMemory = Unit {0}
+IsOutcomeAt c bytes outcome.NoMemory = HasNoEarlyFault c bytes
 IsOutcomeAt c bytes (outcome.Refused f) = command_due c bytes ≡ Err f
 IsOutcomeAt c bytes (outcome.Done d) = (command_due c bytes ≡ Ok (Written (due_bytes d))) × KeepsGeometry c bytes (Written (due_bytes d))
 IsOutcomeAt c bytes (outcome.Differs v) = MayDiffer c v × (command_due c bytes ≡ Ok (Differs v)) × KeepsGeometry c bytes (Differs v)

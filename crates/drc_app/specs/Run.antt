@@ -6,7 +6,7 @@ use Rattle.drc_verify.specs.declared.verdicts.Verdict.{Verdict}
 use Rattle.drc_app.specs.Given.{Written, Differs}
 use Rattle.drc_app.specs.Notes.{refused_note, bad_word_note, verdict_note, read_failed_note, memory_note}
 use Rattle.drc_app.specs.Due.{reads, command_due}
-use Rattle.drc_app.specs.Outcome.{WasReadWhole, WasReadFor, IsUnreadBy, told_to, GivesFrom, Kept, MayDiffer, IsCutShort}
+use Rattle.drc_app.specs.Outcome.{WasReadWhole, WasReadFor, RanOut, told_to, GivesFrom, Kept, MayDiffer, IsCutShort}
 use Rattle.drc_app.specs.declared.commands.Command.{Command}
 
 -- the words are a command, the whole input was read where it reads, and all that it gives was written; what the command has to keep of its
@@ -42,7 +42,7 @@ pub record HasRun (line : Result Command ℕ) (input : Taking) (output notes : P
   pub refused : status ≡ 2 → IsOkAnd line (λ c. IsRefused c input notes)
   pub read_failed : status ≡ 3 → IsOkAnd line (λ c. IsTrue (reads c)) × HasReadFault input × IsTried notes read_failed_note
   pub write_failed : status ≡ 4 → IsOkAnd line (λ c. IsStopped c input output notes)
-  pub memory : status ≡ 5 → IsOkAnd line (λ c. IsUnreadBy c input) × IsTried notes memory_note
+  pub memory : status ≡ 5 → IsOkAnd line (λ c. RanOut c input) × IsTried notes memory_note
   pub unlike : status ≡ 6 → IsOkAnd line (λ c. IsUnlike c input notes)
   pub kept : status ≢ 0 → status ≢ 4 → IsUntouched output
 

@@ -1,10 +1,13 @@
 //! Clouds as kd-tree files: from PLY text, and back to it.
 
-ghost use Rattle.std.specs.Prelude.{◌≡◌, IfOk, IsOkAnd};
+ghost use Rattle.std.specs.Prelude.{◌≡◌, Err, IfOk, IsOkAnd};
+ghost use Rattle.drc_base.specs.declared.faults.Fault.{Fault as AnyFault};
+ghost use Rattle.drc_base.specs.declared.faults.Refusal.TheVariants as refusal;
 ghost use Rattle.drc_base.specs.Refusals.{Answers};
 ghost use Rattle.mesh_model.specs.MapText.{map_words};
+ghost use Rattle.ply_text.specs.DeclaredLines.{declared_of_text};
 ghost use Rattle.ply_mesh.specs.Read.{ply_read};
-ghost use Rattle.kd_points.specs.Meaning.{kd_meaning};
+ghost use Rattle.kd_points.specs.Meaning.{kd_meaning, kd_declared_of};
 ghost use Rattle.drc_app.specs.Due.{kd_coded_due, text_kd_due, kd_text_due};
 ghost use Rattle.drc_app.specs.Kept.{IsKdCoded, IsReadAs};
 ghost use Rattle.drc_app.specs.Outcome.{output_bytes, due_bytes};
@@ -30,6 +33,7 @@ const LABEL: Head = Head {
 /// fault, and then as by `kd_encode`.
 pub fn kd_due(alloc: Global, text: Vec<u8>) -> Result<Due, Refusal>
     ensures answer { Answers due_bytes (text_kd_due text.items) result }
+    ensures early { (f : AnyFault) → declared_of_text text.items ≡ Err f → result ≡ Err (refusal.Fault f) }
     ensures kept { IfOk result (λ d. IsOkAnd (ply_read text.items) (IsKdCoded (output_bytes d.output) d.note.items)) }
 {
     let geometry = text_read(alloc, text)?;
@@ -70,6 +74,7 @@ fn kd_coded_due(alloc: Global, geometry: Geometry) -> Result<Due, Refusal>
 #[tactic(auto, unfolding(crate::specs::Due::kd_text_due))]
 pub fn kd_text_due(alloc: Global, file: Vec<u8>) -> Result<Due, Refusal>
     ensures answer { Answers due_bytes (kd_text_due file.items) result }
+    ensures early { (f : AnyFault) → kd_declared_of file.items ≡ Err f → result ≡ Err (refusal.Fault f) }
     ensures kept { IfOk result (λ d. IsOkAnd (kd_meaning file.items) (IsReadAs (output_bytes d.output))) }
 {
     let geometry = kd_file_read(alloc, file)?;
@@ -82,7 +87,8 @@ pub fn kd_text_due(alloc: Global, file: Vec<u8>) -> Result<Due, Refusal>
 
 /// The cloud that a kd-tree file means. The file is freed.
 fn kd_file_read(alloc: Global, file: Vec<u8>) -> Result<Geometry, Refusal>
-    ensures { Answers (λ g. g) (kd_meaning file.items) result }
+    ensures answer { Answers (λ g. g) (kd_meaning file.items) result }
+    ensures early { (f : AnyFault) → kd_declared_of file.items ≡ Err f → result ≡ Err (refusal.Fault f) }
 {
     kd_decode(alloc, &file)
 }

@@ -1,14 +1,18 @@
 //! What a command line and its input come to, before anything is written.
 
-ghost use Rattle.std.specs.Prelude.{◌≡◌, ◌≤◌, map, string_bytes, length, IfOk, IsOkAnd, IsTrue};
+ghost use Rattle.std.specs.Prelude.{◌≡◌, ◌≤◌, map, string_bytes, length, Err, IfOk, IsOkAnd, IsTrue};
+ghost use Rattle.drc_base.specs.declared.faults.Fault.{Fault as AnyFault};
+ghost use Rattle.drc_base.specs.declared.faults.Refusal.TheVariants as refusal;
 ghost use Rattle.drc_base.specs.Refusals.{Answers};
+ghost use Rattle.ply_text.specs.DeclaredLines.{declared_of_text};
 ghost use Rattle.ply_mesh.specs.Read.{ply_read};
 ghost use Rattle.drc_gen.specs.GeneratedLaws.{IsSize};
-ghost use Rattle.drc_container.specs.reading.Stream.{meaning_of};
+ghost use Rattle.drc_container.specs.reading.Stream.{meaning_of, declared_of};
 ghost use Rattle.drc_app.specs.Line.{IsSized};
 ghost use Rattle.drc_app.specs.Progress.{line_of};
 ghost use Rattle.drc_app.specs.Ends.{takes};
 ghost use Rattle.drc_app.specs.Due.{input_limit, reads, command_due, worked, coded_due, stream_due, recoded_due, text_due, report_due, summary_due};
+ghost use Rattle.drc_app.specs.Early.{IsEarlyFault};
 ghost use Rattle.drc_app.specs.Kept.{KeepsGeometry, IsCoded, IsReadAs};
 ghost use Rattle.drc_app.specs.Outcome.{output_bytes, due_bytes, seen, MayAnswer, IsOutcome, IsOutcomeAt};
 
@@ -116,6 +120,7 @@ fn outcome_at(alloc: Global, command: Command, bytes: Vec<u8>) -> Outcome
 fn work(alloc: Global, command: Command, bytes: Vec<u8>) -> Result<Answer, Refusal>
     requires { IsSized command }
     ensures answer { Answers seen (worked command bytes.items) result }
+    ensures early { (f : AnyFault) → IsEarlyFault command bytes.items f → result ≡ Err (refusal.Fault f) }
     ensures kept { IfOk result (λ a. KeepsGeometry command bytes.items (seen a)) }
     ensures differs { IfOk result (λ a. MayAnswer command a) }
 {
@@ -135,6 +140,7 @@ fn work(alloc: Global, command: Command, bytes: Vec<u8>) -> Result<Answer, Refus
 /// The stream of the geometry that a text means, coded as chosen, and the map of its faces or points.
 fn stream_due(alloc: Global, choice: &Choice, text: Vec<u8>) -> Result<Due, Refusal>
     ensures answer { Answers due_bytes (stream_due choice.now text.items) result }
+    ensures early { (f : AnyFault) → declared_of_text text.items ≡ Err f → result ≡ Err (refusal.Fault f) }
     ensures kept { IfOk result (λ d. IsOkAnd (ply_read text.items) (IsCoded choice.now (output_bytes d.output) d.note.items)) }
 {
     let geometry = text_read(alloc, text)?;
@@ -144,6 +150,7 @@ fn stream_due(alloc: Global, choice: &Choice, text: Vec<u8>) -> Result<Due, Refu
 /// The stream of the geometry that a stream means, coded as chosen, and the map of its faces or points.
 fn recoded_due(alloc: Global, choice: &Choice, stream: Vec<u8>) -> Result<Due, Refusal>
     ensures answer { Answers due_bytes (recoded_due choice.now stream.items) result }
+    ensures early { (f : AnyFault) → declared_of stream.items ≡ Err f → result ≡ Err (refusal.Fault f) }
     ensures kept { IfOk result (λ d. IsOkAnd (meaning_of stream.items) (IsCoded choice.now (output_bytes d.output) d.note.items)) }
 {
     let geometry = stream_packed(alloc, stream)?;
@@ -166,7 +173,8 @@ fn coded_due(alloc: Global, choice: &Choice, geometry: &Geometry) -> Result<Due,
 
 /// The geometry that a text means. The text is freed.
 pub fn text_read(alloc: Global, text: Vec<u8>) -> Result<Geometry, Refusal>
-    ensures { Answers (λ g. g) (ply_read text.items) result }
+    ensures answer { Answers (λ g. g) (ply_read text.items) result }
+    ensures early { (f : AnyFault) → declared_of_text text.items ≡ Err f → result ≡ Err (refusal.Fault f) }
 {
     read_ply(alloc, &text)
 }
@@ -175,6 +183,7 @@ pub fn text_read(alloc: Global, text: Vec<u8>) -> Result<Geometry, Refusal>
 #[tactic(auto, unfolding(crate::specs::Due::text_due))]
 fn text_due(alloc: Global, stream: Vec<u8>) -> Result<Due, Refusal>
     ensures answer { Answers due_bytes (text_due stream.items) result }
+    ensures early { (f : AnyFault) → declared_of stream.items ≡ Err f → result ≡ Err (refusal.Fault f) }
     ensures kept { IfOk result (λ d. IsOkAnd (meaning_of stream.items) (IsReadAs (output_bytes d.output))) }
 {
     let geometry = stream_read(alloc, stream)?;
@@ -187,14 +196,16 @@ fn text_due(alloc: Global, stream: Vec<u8>) -> Result<Due, Refusal>
 
 /// The geometry that a stream means. The stream is freed.
 fn stream_read(alloc: Global, stream: Vec<u8>) -> Result<Geometry, Refusal>
-    ensures { Answers (λ g. g) (meaning_of stream.items) result }
+    ensures answer { Answers (λ g. g) (meaning_of stream.items) result }
+    ensures early { (f : AnyFault) → declared_of stream.items ≡ Err f → result ≡ Err (refusal.Fault f) }
 {
     decode(alloc, &stream)
 }
 
 /// The geometry that a stream means, for encoding it again. The stream is freed.
 fn stream_packed(alloc: Global, stream: Vec<u8>) -> Result<Geometry, Refusal>
-    ensures { Answers (λ g. g) (meaning_of stream.items) result }
+    ensures answer { Answers (λ g. g) (meaning_of stream.items) result }
+    ensures early { (f : AnyFault) → declared_of stream.items ≡ Err f → result ≡ Err (refusal.Fault f) }
 {
     decode_packed(alloc, &stream)
 }
@@ -202,7 +213,8 @@ fn stream_packed(alloc: Global, stream: Vec<u8>) -> Result<Geometry, Refusal>
 /// The report on a stream, and no note.
 #[tactic(auto, unfolding(crate::specs::Due::report_due))]
 fn report_due(alloc: Global, stream: &[u8]) -> Result<Due, Refusal>
-    ensures { Answers due_bytes (report_due stream.now) result }
+    ensures answer { Answers due_bytes (report_due stream.now) result }
+    ensures early { (f : AnyFault) → declared_of stream.now ≡ Err f → result ≡ Err (refusal.Fault f) }
 {
     let output = report(alloc, stream)?;
     Ok(Due {

@@ -1,7 +1,10 @@
 //! The stream behind a map, in the order before the map's rows.
 
-ghost use Rattle.std.specs.Prelude.{◌≡◌, IfOk};
+ghost use Rattle.std.specs.Prelude.{◌≡◌, Err, IfOk};
+ghost use Rattle.drc_base.specs.declared.faults.Fault.{Fault as AnyFault};
+ghost use Rattle.drc_base.specs.declared.faults.Refusal.TheVariants as refusal;
 ghost use Rattle.drc_base.specs.Refusals.{Answers};
+ghost use Rattle.mesh_model.specs.MapRead.{limited_head_at};
 ghost use Rattle.drc_app.specs.Due.{restored_due};
 ghost use Rattle.drc_app.specs.Kept.{IsInOrder};
 ghost use Rattle.drc_app.specs.Outcome.{output_bytes, due_bytes};
@@ -17,6 +20,7 @@ use std::alloc::Global;
 #[tactic(auto, unfolding(crate::specs::Due::restored_due))]
 pub fn restored_due(alloc: Global, input: &[u8]) -> Result<Due, Refusal>
     ensures answer { Answers due_bytes (restored_due input.now) result }
+    ensures early { (f : AnyFault) → limited_head_at input.now ≡ Err f → result ≡ Err (refusal.Fault f) }
     ensures kept { IfOk result (λ d. IsInOrder input.now (output_bytes d.output)) }
 {
     let map = read_map(alloc, input)?;

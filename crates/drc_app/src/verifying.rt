@@ -1,7 +1,10 @@
 //! Whether a stream is a text's geometry by the rows of a map.
 
-ghost use Rattle.std.specs.Prelude.{◌≡◌, None, Some, MatchOption, IfOk};
+ghost use Rattle.std.specs.Prelude.{◌≡◌, None, Some, Err, MatchOption, IfOk};
+ghost use Rattle.drc_base.specs.declared.faults.Fault.{Fault as AnyFault};
+ghost use Rattle.drc_base.specs.declared.faults.Refusal.TheVariants as refusal;
 ghost use Rattle.drc_base.specs.Refusals.{Answers};
+ghost use Rattle.mesh_model.specs.MapRead.{limited_head_at};
 ghost use Rattle.drc_app.specs.Verified.{ply_line, text_and_stream, same_line, given_by, verified_input};
 ghost use Rattle.drc_app.specs.Kept.{SaysWhetherSame};
 ghost use Rattle.drc_app.specs.Outcome.{seen, MayAnswer};
@@ -61,6 +64,7 @@ fn given_by(alloc: Global, count: u64, verdict: Verdict) -> Result<Answer, Memor
 #[tactic(auto, unfolding(crate::specs::Verified::parts_of, crate::specs::Verified::verified_input, drc_verify::specs::Checked::verdict_due))]
 pub fn verified(alloc: Global, surface: bool, input: Vec<u8>) -> Result<Answer, Refusal>
     ensures answer { Answers seen (verified_input surface input.items) result }
+    ensures early { (f : AnyFault) → limited_head_at input.items ≡ Err f → result ≡ Err (refusal.Fault f) }
     ensures says { IfOk result (λ a. SaysWhetherSame surface input.items (seen a)) }
     ensures differs { IfOk result (λ a. MayAnswer (Command.Verify surface) a) }
 {

@@ -1,6 +1,5 @@
 use Rattle.std.proofs.Common.{rules, ◌≡◌, ℕ, ◌+◌, ◌<◌, Bool, true, false, ltb, List, [], ◌++◌, length, Option, Some, None, Ok, Err, inl, inr, refl, sym, ap, ◌∙◌, subst, append-nil, arith}
 use Rattle.std.specs.Prelude.{IfSome, MatchBool, if◌then◌else◌}
-use Rattle.std.specs.Bool.{OnFalse}
 use Rattle.std.specs.Io.KnownBytes.{Consumes, IsAtEnd, Keeps}
 use Rattle.std.proofs.lemmas.Bool.{false≢true, and_from, lt-ltb}
 use Rattle.std.proofs.lemmas.List.{length-append}
@@ -37,16 +36,12 @@ on-true : {A : Type 0} (B : Type 0) (b : Bool) → b ≡ true → A → MatchBoo
 on-true B true on a = a
 on-true B false on a = absurd (false≢true on)
 
-unasked : (B : Type 0) (b : Bool) → b ≡ true → OnFalse b B
-unasked B true on = tt
-unasked B false on = absurd (false≢true on)
-
 -- what a command that reads came to on all bytes of its input is what its line came to
 whole-outcome : (c : Command) (input : Taking) (whole : IsReadWhole input) (o : Outcome) → reads c ≡ true → IfSome input.left (λ xs. xs ≡ whole.taken)
     → IsOutcomeAt c whole.taken o → IsOutcome (Ok c) input o
 whole-outcome c input whole (outcome.BadWord i) on all at = absurd at
 whole-outcome c input whole outcome.ReadFailed on all at = absurd at
-whole-outcome c input whole outcome.NoMemory on all at = unasked (IsUntaken input) (reads c) on
+whole-outcome c input whole outcome.NoMemory on all at = on-true (IsUntaken input) (reads c) on (inr (inr (whole, at)))
 whole-outcome c input whole (outcome.Refused f) on all at =
     (on-true (IsUntaken input) (reads c) on (inl (whole, at)), told (reads c) input.left whole.taken (λ b. command_due c b ≡ Err f) on all at)
 whole-outcome c input whole (outcome.Done d) on all at =
