@@ -13,7 +13,7 @@ use Rattle.drc_app.specs.Ends.{Taking, IsReadWhole, IsPastMost, IsUntaken, takes
 use Rattle.drc_app.specs.Given.{Written, Differs}
 use Rattle.drc_app.specs.Due.{input_limit, reads, worked, command_due}
 use Rattle.drc_app.specs.Kept.{KeepsGeometry}
-use Rattle.drc_app.specs.Outcome.{due_bytes, IsOutcome, IsOutcomeAt}
+use Rattle.drc_app.specs.Outcome.{due_bytes, RanShort, IsOutcome, IsOutcomeAt}
 use Rattle.drc_app.proofs.outcomes.outcome_of.Goals as goal
 
 -- where all was read, the bytes that were left are those that were taken
@@ -82,6 +82,24 @@ unmoved (Some xs) = refl
 pub returns-in-Err-clause-outcome : goal.returns-in-Err-clause-outcome
 returns-in-Err-clause-outcome g c =
     (sym c.in-Err.ensures.line, record { kept = unmoved (g.I.Source.left c.args.input.now); given = refl; faults = refl })
+
+-- a source that is as it was gave nothing
+untaken-same : {S : Type 0} (left : S → Option (List ℕ)) (given faults : S → ℕ) (ended : S → Bool) (old new : S) → new ≡ old
+    → IsUntaken (takes left given faults ended old new)
+untaken-same left given faults ended old new same =
+    subst (λ n. IsUntaken (takes left given faults ended old n)) (sym same) (record { kept = unmoved (left old); given = refl; faults = refl })
+
+pub returns-in-Err-Memory-clause-outcome : goal.returns-in-Err-Memory-clause-outcome
+returns-in-Err-Memory-clause-outcome g c =
+    let source = g.I.Source in
+    let input = takes source.left source.given source.faults source.ended c.args.input.now c.read_all.new.input in
+    let command = c.in-Ok.command in
+    let on : reads command ≡ true = search rules in
+    let short : RanShort command input = elim (c.in-Err-Memory.ensures.memory (ap Err c.in-Err-Memory.field-0-is)) [
+      | inl same ↦ inl (untaken-same source.left source.given source.faults source.ended c.args.input.now c.read_all.new.input same)
+      | inr more ↦ inr (inl more)
+    ] in
+    subst (λ l. IsOutcome l input outcome.NoMemory) c.in-Ok.ensures.line (on-true (IsUntaken input) (reads command) on short)
 
 pub returns-in-Err-TooLong-clause-outcome : goal.returns-in-Err-TooLong-clause-outcome
 returns-in-Err-TooLong-clause-outcome g c =
