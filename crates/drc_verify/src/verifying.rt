@@ -5,6 +5,7 @@ ghost use Rattle.drc_base.specs.declared.faults.Fault.{Fault as AnyFault};
 ghost use Rattle.drc_base.specs.declared.faults.Refusal.TheVariants as refusal;
 ghost use Rattle.drc_base.specs.Refusals.{Answers};
 ghost use Rattle.mesh_model.specs.declared.geometries.Geometry.{Geometry as AnyGeometry};
+ghost use Rattle.ply_text.specs.DeclaredLines.{declared_of_text};
 ghost use Rattle.ply_mesh.specs.Read.{ply_read};
 ghost use Rattle.drc_container.specs.reading.Meaning.{Meaning};
 ghost use Rattle.drc_container.specs.reading.Stream.{stream as meaning_of_stream, declared_of};
@@ -82,7 +83,8 @@ pub fn verify_read(
 /// too. Every other verdict says what differs first. Refusals, the first that applies: the text's first fault;
 /// the stream's first fault; and with `surface` Choice at 0 where the stream isn't Edgebreaker, NoPosition at
 /// 0 where the text is a cloud or its first attribute is no position, Degenerate at the text's first face with
-/// two corners at one position.
+/// two corners at one position. A fault of a line of the text before `end_header` and before the first line that
+/// quantises an attribute comes before out of memory.
 #[tactic(auto, unfolding(crate::specs::Checked::verdict_due))]
 pub fn verify(
     alloc: Global,
@@ -92,6 +94,7 @@ pub fn verify(
     surface: bool,
 ) -> Result<Verdict, Refusal>
     ensures verdict { Answers (λ v. v) (verdict_due surface map.now.cloud map.now.rows.rows ply.now stream.now) result }
+    ensures early { (f : AnyFault) → declared_of_text ply.now ≡ Err f → result ≡ Err (refusal.Fault f) }
     ensures same { (g : AnyGeometry) (n : Meaning) → ply_read ply.now ≡ Ok g → meaning_of_stream stream.now ≡ Ok n
         → IfOk result (λ v. (v ≡ verdict.Same) ↔ IsSame surface map.now.cloud map.now.rows.rows g n) }
 {
