@@ -179,7 +179,8 @@ uint32_t drc_restore_into(uint32_t mesh, const drc_row *rows, size_t row_count, 
                           uint8_t *written, size_t room, drc_lengths *lengths, drc_fault *fault);
 
 /* Whether a stream means a geometry, given by arrays as for `drc_encode`, by the rows of a map: with `surface` 1 besides whether
-   it is glued as that mesh is. Nothing of it rests on how a geometry is encoded. DRC_DONE where it is; DRC_NOT_SAME where it
+   it is glued as that mesh is. Of what encoding uses it uses, with `surface` 1, how a mesh is paired and how pairs are renumbered, and
+   nothing else. DRC_DONE where it is; DRC_NOT_SAME where it
    isn't; the verdict says which in both cases. DRC_BAD_ARGUMENT where `mesh` or `surface` is neither 0 nor 1, a cloud has faces, or
    the values aren't whole rows; DRC_REFUSED with the first fault of the arrays, then of the stream, then with `surface` 1 why there
    is no surface to compare; DRC_NO_MEMORY. */

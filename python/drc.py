@@ -305,7 +305,8 @@ def restore(data, renumbering):
 
 def verify(data, geometry, renumbering, *, surface=False):
     """A Verdict: whether the stream `data` means a Geometry by a Renumbering, with the same integers in the same corners and the same
-    attributes; with `surface` also whether sides are glued in it as in that mesh. Nothing of it rests on how a geometry is encoded.
+    attributes; with `surface` also whether sides are glued in it as in that mesh. Of what encoding uses it uses, with `surface`, how a mesh is
+    paired and how pairs are renumbered, and nothing else.
 
     Refused has the first fault of the arrays, then of the stream, then with `surface` why there is no surface to compare."""
     call, verdict, fault, data = _later("drc_verify"), _Verdict(), _Fault(), np.frombuffer(data, np.uint8)
