@@ -1,8 +1,8 @@
 //! The commands, over any source and sinks. The contract above it, on `run`: every call returns;
 //! decoding, of streams and of kd-tree files, writes exactly what the bytes mean or names their first
 //! fault; what encoding writes means what was read; `verify` says yes exactly where a stream means its
-//! text by its map; each status and note has its cause. The command lines, statuses and notes are this
-//! project's choice.
+//! text by its map; each status and note has its cause, but for out of memory, before which faults of
+//! what the input declares come. The command lines, statuses and notes are this project's choice.
 #![tactic(auto)]
 
 mod command_lines;

@@ -62,7 +62,8 @@ fn surface_for(
 }
 
 /// Whether a stream means the geometry of arrays, as `drc_encode_into` has them, by the rows of a map, and with `surface`
-/// (1, else 0) whether it is glued as that mesh is. Nothing of it rests on how a geometry is encoded.
+/// (1, else 0) whether it is glued as that mesh is. Of what encoding uses it uses, with `surface`, how a mesh is paired and how
+/// pairs are renumbered, and nothing else.
 ///
 /// `DONE`: it is. `NOT_SAME`: it isn't. In both cases the verdict says so, and what differs first. `BAD_ARGUMENT`: just where the arrays
 /// don't fit each other, or `surface` is neither 0 nor 1. `REFUSED`: the first fault of the arrays, then of the stream,
