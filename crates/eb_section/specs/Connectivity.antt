@@ -102,7 +102,7 @@ behind_at o c = do
   events ← events_at o c
   if o.valence then valence_behind o events.0 events.1 else standard_behind o events.0 events.1
 
--- the opening of the section and the number of its events, whose faults come before out of memory
+-- the opening of the section and the number of its events: what is read before any memory is taken
 unfoldable pub declared_at : Profile → Reading → Item ℕ
 declared_at p c = do
   o ← opening_at p c

@@ -114,7 +114,7 @@ fn with_sides(alloc: Global, numbers: &[EventNumbers], bytes: &[u8]) -> Result<V
 
 /// Reads the split events, in the order of the encoder: their number, `Count` where it is greater than
 /// that of faces; their numbers, which may be `EventDelta`; and the bits of their sides. The fault of
-/// their number comes before out of memory.
+/// their number comes before any memory is taken.
 #[tactic(auto, unfolding(crate::specs::Events::events_at))]
 pub(crate) fn read_events(
     alloc: Global,

@@ -157,7 +157,7 @@ fn read_behind<'a, L: Ledger>(
 
 /// Reads the connectivity of an Edgebreaker mesh and rebuilds its surface by links, or refuses with the
 /// first fault. Those of the opening, each at its place: `Traversal`, `PointLimit`, `FaceLimit`,
-/// `AttrLimit`, and `Count` of symbols, splits and events; they come before out of memory. Then, at
+/// `AttrLimit`, and `Count` of symbols, splits and events; they come before memory is taken. Then, at
 /// their places, `EventDelta`, `Short` and `Long`, those of a block of bits (`BadProb`, `BadStart`) and of
 /// the lists of contexts (`Count`, and those of a symbol block). Then those of rebuilding: `Short` at the
 /// first byte of the symbols where the bits of a symbol aren't there; `ContextEmpty` and `BadSymbol`, and
