@@ -22,6 +22,9 @@ extern "C" {
    verifying. */
 #define DRC_VERSION 2
 
+/* The version of the release: that of the soname, of the interface, and of the release itself. */
+#define DRC_RELEASE "1.2.0"
+
 /* The most attributes of a geometry, the most components of one, and room for the name of any fault with its zero. */
 #define DRC_MAX_ATTRIBUTES 16
 #define DRC_MAX_COMPONENTS 8

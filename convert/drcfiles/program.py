@@ -9,21 +9,24 @@ from typing import NamedTuple
 from .faults import in_words
 from .trouble import MEMORY, MISSING, READING, REFUSED, WRITING, Refused, Trouble
 
-OWN = pathlib.Path(__file__).resolve().parents[2] / "crates" / "drc" / "out" / "drc"
+TOP = pathlib.Path(__file__).resolve().parents[2]  # the repository, or PREFIX/share/drc where ./install put this
+OWN = (TOP / "crates/drc/out/drc", TOP.parents[1] / "bin/drc" if TOP.parts[-2:] == ("share", "drc") else None)
 
 KD_MAGIC = b"KDPTS"
 
 
 def find(given=None):
-    """The program `drc`: the one given, that of the variable DRC, the one that this repository built, or that of the PATH, in this order."""
+    """The program `drc`: the one given, that of the variable DRC, the one that this repository built or that was installed with this, or that
+    of the PATH, in this order."""
     named = given or os.environ.get("DRC")
     if named:
         found = shutil.which(named)
         if not found:
             raise Trouble(f"{named} isn't a program that can be run; --drc and the variable DRC name the built `drc`", MISSING)
         return found
-    if os.access(OWN, os.X_OK):
-        return str(OWN)
+    for own in filter(None, OWN):
+        if os.access(own, os.X_OK):
+            return str(own)
     found = shutil.which("drc")
     if not found:
         raise Trouble("the program `drc` isn't there: build it by ./drc in the repository, or name it by --drc or the variable DRC", MISSING)
