@@ -1,4 +1,4 @@
-// Times libdrc beside the usual library, libdraco, on the same meshes; each decodes in a process of its own. bench/library/times builds and
+// Times libdrc beside libdraco, the library of Google's draco, on the same meshes; each decodes in a process of its own. bench/library/times builds and
 // runs it.
 //
 // usage: library TURNS SIDE SMALL

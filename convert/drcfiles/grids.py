@@ -61,7 +61,7 @@ def grid_of(values, bits, what="values"):
 
 def range_of(wide, bits):
     """The range for an extent: the extent itself; 1 where all values are one. Where the number of steps in a unit would be too great for a
-    float, it is the least range where it isn't (the usual tool computes with infinity there)."""
+    float, it is the least range where it isn't (Google's draco computes with infinity there)."""
     if wide == 0:
         return FLOAT(1)
     steps = FLOAT((1 << bits) - 1)

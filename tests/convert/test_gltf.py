@@ -221,7 +221,7 @@ def triangles(tables, faces):
 
 
 def faces_there(data, count):
-    """The faces of a binary PLY file of the usual tool, which puts texture coordinates behind the corners of each face."""
+    """The faces of a binary PLY file of Google's draco, which puts texture coordinates behind the corners of each face."""
     step = 13 + 25 * (b"texcoord" in data.partition(b"end_header")[0])
     return [struct.unpack_from("<3i", data, len(data) - step * (count - k) + 1) for k in range(count)]
 
@@ -463,7 +463,7 @@ class Tests:
         ]
         numbers.append(sorted(set(again.rows(again.primitives()[0]["attributes"]["_NUMBER"])[:, 0])))
         self.tell(numbers[0] == numbers[1], "whole numbers in floats come back as they are")
-        it = Maker()  # integers of 16 bits, which the usual tool's PLY files haven't
+        it = Maker()  # integers of 16 bits, which the PLY files of Google's draco haven't
         attributes = {
             "NORMAL": it.accessor(normals * 127, "i1", normalized=True),
             "TEXCOORD_0": it.accessor(coordinates * 65535, "<u2", normalized=True),
@@ -687,7 +687,7 @@ class Tests:
         return self.save("a.glb", it.scene({"attributes": names, "indices": len(names), "extensions": extension}).glb())
 
     def of_others(self):
-        """Files of the usual tool are unpacked where they are in the profile, else refused with the primitive and the kind."""
+        """Files of Google's draco are unpacked where they are in the profile, else refused with the primitive and the kind."""
         positions, normals, _, faces = sphere(8, 6)
         text = "".join(f"v {x} {y} {z}\n" for x, y, z in positions.tolist())
         plain = text + "".join("f {} {} {}\n".format(*face) for face in (faces.reshape(-1, 3) + 1).tolist())

@@ -89,7 +89,7 @@ def order_of_the_tool(mesh):
 
 def the_tool(tests):
     if not (shutil.which("draco_encoder") and shutil.which("draco_decoder")):
-        tests.skip("the usual tool", "draco")
+        tests.skip("Google's draco", "draco")
         return
     for mesh in made():
         the_tools_integers(tests, mesh.name, tests.file("m.obj", mesh.obj()), (6,), (8, 11, 16))

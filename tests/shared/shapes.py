@@ -21,7 +21,7 @@ class Shape:
         return ("\n".join(lines) + "\n").encode()
 
     def obj(self):
-        """As OBJ, where two materials take turns: the usual tool makes a generic attribute of them."""
+        """As OBJ, where two materials take turns: Google's draco makes a generic attribute of them."""
         lines = ["v " + " ".join(map(str, row[:3])) for row in self.points]
         for number, face in enumerate(self.faces):
             lines.append(f"usemtl m{number // 3 % 2}")
@@ -229,7 +229,7 @@ KINDS = {"char": "b", "uchar": "B", "short": "h", "ushort": "H", "int": "i", "ui
 
 
 def read_binary(data):
-    """A binary PLY file of the usual tool: the names of its columns, its rows and its faces."""
+    """A binary PLY file of Google's draco: the names of its columns, its rows and its faces."""
     head, _, body = data.partition(b"end_header\n")
     lines = head.decode().splitlines()
     count = int(next(it for it in lines if it.startswith("element vertex")).split()[2])
