@@ -1,0 +1,4 @@
+pub mod Projection
+pub mod Texture
+pub mod Orientations
+pub mod Laws
