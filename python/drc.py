@@ -35,12 +35,13 @@ where the library is of an earlier version, without the call.
 """
 import ctypes
 import functools
+import mmap
 import operator
 import os
 import pathlib
 import re
 from dataclasses import dataclass
-from typing import List, Optional
+from typing import Dict, List, Optional, Tuple, Union
 
 import numpy as np
 
@@ -50,22 +51,43 @@ __all__ += ["POSITION", "NORMAL", "COLOUR", "TEXTURE", "GENERIC"]
 
 POSITION, NORMAL, COLOUR, TEXTURE, GENERIC = range(5)
 _USAGES = ("position", "normal", "colour", "texture", "generic")
+_Bytes = Union[bytes, bytearray, memoryview, mmap.mmap, np.ndarray]
 
 
 class Refused(ValueError):
-    """What is raised where a stream, or arrays to be encoded, have a fault. It is the first one.
+    """What is raised where a stream, or arrays to be encoded, have a fault. It is the first one. Its text says what it means, where
+    its number points and what helps, by the tables of docs/FAULTS.md, if that page stands beside this file; else it is the note.
 
-    kind    its word, such as 'Short'; docs/FAULTS.md says of each what it means and what helps
+    kind    its word, such as 'Short'
     at      where it is: for a stream a number of bytes, for arrays the number of a face or value or attribute,
             or what else the kind says
     """
 
-    def __init__(self, kind, at):
+    def __init__(self, kind: str, at: int) -> None:
         super().__init__(kind, at)
         self.kind, self.at = kind, at
 
-    def __str__(self):
+    @property
+    def note(self) -> str:
+        """What the program says of it: 'refused Short 20'."""
         return f"refused {self.kind} {self.at}"
+
+    def __str__(self) -> str:
+        if self.kind not in _faults():
+            return self.note
+        means, number, helps = _faults()[self.kind]
+        return f"{self.note}: {means} (the number is {number}); what helps: {helps}".replace("`", "")
+
+
+@functools.lru_cache(maxsize=None)
+def _faults() -> Dict[str, Tuple[str, str, str]]:
+    """Of each kind what it means, where its number points and what helps."""
+    try:
+        lines = (pathlib.Path(__file__).resolve().parent / "FAULTS.md").read_text(encoding="utf-8").splitlines()
+    except OSError:
+        return {}
+    rows = (line.strip("|").split(" | ") for line in lines if re.match(r"\| `\w+` \|", line))
+    return {word.strip(" `"): (means.strip(), number.strip(), helps.strip()) for word, means, number, helps in rows}
 
 
 @dataclass(eq=False)
@@ -87,7 +109,8 @@ class Attribute:
     """What each point has of one kind: a position, a colour, a label.
 
     values          (N, C) integers: int8, uint8, int16, uint16, int32 or uint32 (up to 2^31 - 1), and int32 where
-                    they are quantised; C is 1 to 8
+                    they are quantised; C is 1 to 8. Integers of 64 bits, which numpy makes of lists, are taken as
+                    int32 where all of them fit
     usage           POSITION, NORMAL, COLOUR, TEXTURE or GENERIC
     id              the attribute's own number, carried as it is
     normalized      carried as it is; 1 says that integers stand for fractions of the greatest of their type
@@ -101,33 +124,34 @@ class Attribute:
     quantisation: Optional[Quantisation] = None
 
     @property
-    def name(self):
+    def name(self) -> str:
         """The word of the usage: 'position', 'normal', 'colour', 'texture' or 'generic'; of another number the number."""
         return _USAGES[self.usage] if self.usage in range(len(_USAGES)) else str(self.usage)
 
     @property
-    def components(self):
+    def components(self) -> int:
         """How many integers a point has."""
         return self.values.shape[1]
 
     @property
-    def type(self):
-        """The word of the data type that the stream declares: that of the values, 'float32' where they are quantised."""
-        return "float32" if self.quantisation else self.values.dtype.name
+    def type(self) -> str:
+        """The word of the data type that a stream declares: that of the values, 'float32' where they are quantised."""
+        return "float32" if self.quantisation else _declared(np.asarray(self.values).dtype).name
 
-    def floats(self):
+    def floats(self) -> np.ndarray:
         """What the integers stand for, (N, C) float32.
 
         Where they are quantised: steps of their grid, computed in 32 bits as `draco_decoder` does. Others stand for themselves, and
         divided by the greatest of their type where they are normalized."""
-        floats = self.values.astype(np.float32)
+        values = np.asarray(self.values)
+        floats = values.astype(np.float32)
         if self.quantisation:
             with np.errstate(all="ignore"):
                 return floats * _step(self.quantisation) + np.asarray(self.quantisation.minima, np.float32)
-        return floats / np.float32(np.iinfo(self.values.dtype).max) if self.normalized else floats
+        return floats / np.float32(np.iinfo(_declared(values.dtype)).max) if self.normalized else floats
 
     @classmethod
-    def quantised(cls, floats, bits, usage=POSITION, id=0):
+    def quantised(cls, floats: np.ndarray, bits: int, usage: int = POSITION, id: int = 0) -> "Attribute":
         """An attribute of floats, (N, C), on a grid of 2^bits numbers, as `draco_encoder` makes it: from the least of each
         component on, and as wide as the widest component. Each float is taken to the nearest number, so it moves by
         half of range / (2^bits - 1) at most, and by what floats of 32 bits round.
@@ -139,7 +163,7 @@ class Attribute:
         numbers = np.floor((floats - grid.minima) * inverse + np.float32(0.5))
         return cls(numbers.astype(np.int64).astype(np.int32), usage, id, 0, grid)
 
-    def __repr__(self):
+    def __repr__(self) -> str:
         bits = f" in {self.quantisation.bits} bits" if self.quantisation else ""
         return f"<Attribute {self.name}: {len(self.values)} points of {self.components} {self.type}{bits}, id {self.id}>"
 
@@ -156,18 +180,18 @@ class Geometry:
     attributes: List[Attribute]
 
     @property
-    def points(self):
+    def points(self) -> int:
         """How many points there are."""
         return len(self.attributes[0].values) if self.attributes else 0
 
-    def attribute(self, name):
+    def attribute(self, name: str) -> Attribute:
         """The first attribute of a usage: 'position', 'normal', 'colour', 'texture' or 'generic'. KeyError where there is none."""
         for it in self.attributes:
             if it.name == name:
                 return it
         raise KeyError(name)
 
-    def __repr__(self):
+    def __repr__(self) -> str:
         what = "cloud of" if self.faces is None else f"mesh of {len(self.faces)} faces and"
         return f"<Geometry: {what} {self.points} points with {', '.join(it.name for it in self.attributes)}>"
 
@@ -186,28 +210,33 @@ class Renumbering:
     of_mesh: bool
     rows: np.ndarray
 
-    def corners(self):
+    def corners(self) -> np.ndarray:
         """Of a mesh: (R, 3) int64, which corner of what was encoded each corner of the stream is, where corner k of face f has
         the number 3 * f + k. So `mesh.faces.ravel()[renumbering.corners()]` has the faces that were encoded, in the order
         of the stream, and with the numbers of points that they had."""
         rows = self.rows.astype(np.int64)
         return 3 * rows[:, :1] + (rows[:, 1:] + np.arange(3)) % 3
 
-    def text(self):
+    def text(self) -> bytes:
         """The bytes that `drc enc` notes of it, which `drc verify` and `drc recode --restore` read."""
-        head = f"map {'mesh' if self.of_mesh else 'cloud'} {len(self.rows)}\n"
-        return (head + "".join(f"{number} {turn}\n" for number, turn in self.rows.tolist())).encode()
+        return b"map %s %d\n" % (b"mesh" if self.of_mesh else b"cloud", len(self.rows)) + _lines_of(np.asarray(self.rows))
 
     @classmethod
-    def of_text(cls, text):
-        """The renumbering that such bytes state. ValueError where they are none."""
-        found = re.fullmatch(rb"map (mesh|cloud) (\d+)\n((?:\d+ \d+\n)*)", text)
-        if not found or found[3].count(b"\n") != int(found[2]):
-            raise ValueError("these bytes aren't the text of a renumbering")
-        rows = [int(it) for it in found[3].split()]
-        if any(it >> 32 for it in rows):
-            raise ValueError("a number of the renumbering has more than 32 bits")
-        return cls(found[1] == b"mesh", np.array(rows, np.uint32).reshape(-1, 2))
+    def of_text(cls, text: bytes) -> "Renumbering":
+        """The renumbering that such bytes state, and nothing else: Refused where the program refuses them, as it does, `MapForm` at
+        the first line that isn't one, from 1, and `FaceLimit` or `PointLimit` at 1 where there are too many rows. So is `MapForm` at what
+        follows the last row."""
+        text = memoryview(text).tobytes()
+        found = re.match(rb"map (mesh|cloud) (0|[1-9]\d{0,9})\n", text)
+        if not found or int(found[2]) >> 32:
+            raise Refused("MapForm", 1)
+        of_mesh, count = found[1] == b"mesh", int(found[2])
+        if count > _MOST_ROWS:
+            raise Refused("FaceLimit" if of_mesh else "PointLimit", 1)
+        rows = _rows_of(np.frombuffer(text, np.uint8)[found.end() :], count)
+        if rows is None:
+            raise Refused("MapForm", 2 + _whole_lines(text[found.end() :], count))
+        return cls(of_mesh, rows)
 
 
 @dataclass(frozen=True)
@@ -227,19 +256,19 @@ class Verdict:
     kind: str
     at: int
 
-    def __bool__(self):
+    def __bool__(self) -> bool:
         return self.kind == "same"
 
-    def __str__(self):
+    def __str__(self) -> str:
         return "same" if self else f"not same {self.kind} {self.at}"
 
 
-def version():
+def version() -> int:
     """The version of the library's interface."""
     return _library().drc_version()
 
 
-def decode(data):
+def decode(data: _Bytes) -> Geometry:
     """The Geometry that the bytes of a stream mean: exactly that, or Refused with their first fault, as `drc dec` says it; but
     streams of any length are read, here and by the other calls.
 
@@ -256,7 +285,15 @@ def decode(data):
         library.free(geometry.values)
 
 
-def encode(geometry, *, method=None, index=None, predict=None, walk=None, plain_values=False):
+def encode(
+    geometry: Geometry,
+    *,
+    method: Optional[str] = None,
+    index: Optional[str] = None,
+    predict: Optional[str] = None,
+    walk: Optional[str] = None,
+    plain_values: bool = False,
+) -> Tuple[bytes, Renumbering]:
     """The stream of a Geometry, as bytes, and its Renumbering; or Refused with the first fault of the arrays, then of the
     encoding, as `drc enc` says it.
 
@@ -269,7 +306,7 @@ def encode(geometry, *, method=None, index=None, predict=None, walk=None, plain_
     plain_values    True: values as they are, and not in symbol blocks
 
     Faces may be of any type of integers; a number that is no point is refused, `IndexRange` at its face. TypeError where values
-    aren't of the types that Attribute names."""
+    aren't of the types that Attribute names, ValueError where integers of 64 bits don't fit 32."""
     options = _options(method, index, predict, walk, plain_values)
     heads, values, corners = _heads(geometry.attributes), _values(geometry.attributes), _corners(geometry)
     library, stream, fault, of_mesh = _library(), _Stream(), _Fault(), geometry.faces is not None
@@ -279,7 +316,15 @@ def encode(geometry, *, method=None, index=None, predict=None, walk=None, plain_
     return _taken(library, stream, of_mesh)
 
 
-def recode(data, *, method=None, index=None, predict=None, walk=None, plain_values=False):
+def recode(
+    data: _Bytes,
+    *,
+    method: Optional[str] = None,
+    index: Optional[str] = None,
+    predict: Optional[str] = None,
+    walk: Optional[str] = None,
+    plain_values: bool = False,
+) -> Tuple[bytes, Renumbering]:
     """The bytes of a stream that means the geometry of the stream `data`, coded as chosen by the options of encode, and the
     Renumbering from the new stream to the old one; or Refused with the first fault of the old stream, else of the encoding."""
     options = _options(method, index, predict, walk, plain_values)
@@ -289,7 +334,7 @@ def recode(data, *, method=None, index=None, predict=None, walk=None, plain_valu
     return _taken(_library(), stream, bool(data[_KIND_PLACE] == _MESH))
 
 
-def restore(data, renumbering):
+def restore(data: _Bytes, renumbering: Renumbering) -> bytes:
     """The bytes of a sequential stream that has the faces (of a cloud the points) of the stream `data` in the order that they had
     before they were encoded, each face beginning with its first corner; the renumbering is the one that came with `data`.
 
@@ -303,7 +348,7 @@ def restore(data, renumbering):
     return _taken(_library(), stream, renumbering.of_mesh)[0]
 
 
-def verify(data, geometry, renumbering, *, surface=False):
+def verify(data: _Bytes, geometry: Geometry, renumbering: Renumbering, *, surface: bool = False) -> Verdict:
     """A Verdict: whether the stream `data` means a Geometry by a Renumbering, with the same integers in the same corners and the same
     attributes; with `surface` also whether sides are glued in it as in that mesh. Of what encoding uses it uses, with `surface`, how a mesh is
     paired and how pairs are renumbered, and nothing else.
@@ -391,6 +436,7 @@ _WORDS = {
 _QUANTISED = 9
 _TYPES = {1: np.int8, 2: np.uint8, 3: np.int16, 4: np.uint16, 5: np.int32, 6: np.uint32, _QUANTISED: np.int32}
 _TYPE_NUMBERS = {np.dtype(kind): number for number, kind in _TYPES.items() if number != _QUANTISED}
+_MOST_ROWS = 1 << 22  # of a renumbering's text: the limits on faces and points
 
 
 def _place():
@@ -512,12 +558,28 @@ def _fits(what, number, bits):
     return operator.index(number)
 
 
+def _declared(kind):
+    """The type by which a stream declares values of a type of numpy: int32 for integers of 64 bits."""
+    return np.dtype(np.int32) if kind.kind in "iu" and kind.itemsize == 8 else kind.newbyteorder("=")
+
+
+def _typed(values):
+    """An attribute's values as a table of the type that a stream declares."""
+    table = _table(values)
+    kind = _declared(table.dtype)
+    if table.dtype.itemsize == 8 and table.dtype.kind in "iu" and table.size:
+        bounds = np.iinfo(kind)
+        if int(table.min()) < bounds.min or int(table.max()) > bounds.max:
+            raise ValueError(f"values of {table.dtype} are taken where all fit {kind}; these are {table.min()} to {table.max()}")
+    return table.astype(kind, copy=False)
+
+
 def _heads(attributes):
     """What attributes are."""
     heads = (_Head * len(attributes))()
     for head, it in zip(heads, attributes):
         table = _table(it.values)
-        head.dtype = _type_number(table.dtype.newbyteorder("="), it.quantisation)
+        head.dtype = _type_number(_declared(table.dtype), it.quantisation)
         head.usage, head.comps = _fits("usage", it.usage, 8), _fits("the number of components", table.shape[1], 8)
         head.normalized, head.id = _fits("normalized", it.normalized, 8), _fits("id", it.id, 32)
         if it.quantisation:
@@ -545,7 +607,7 @@ def _put_quantisation(head, quantisation):
 
 def _values(attributes):
     """The integers of all points, point after point. What is 2^31 and more becomes negative, which uint32 has none of."""
-    tables = [_table(it.values).astype(np.int32) for it in attributes]
+    tables = [_typed(it.values).astype(np.int32) for it in attributes]
     if len({len(it) for it in tables}) > 1:
         raise ValueError(f"attributes have {', '.join(str(len(it)) for it in tables)} rows: each has to have one for each point")
     return np.ascontiguousarray(np.concatenate(tables, axis=1)) if tables else np.zeros((0, 0), np.int32)
@@ -563,8 +625,67 @@ def _numbers(what, table, columns):
         raise ValueError(f"{what} have the shape {table.shape}: {columns} numbers each are wanted")
     if table.dtype.kind not in "iu":
         raise TypeError(f"{what} are of {table.dtype}: integers are wanted")
-    greatest = np.iinfo(np.uint32).max
-    return np.where((table < 0) | (table > greatest), greatest, table).astype(np.uint32, order="C")
+    if np.can_cast(table.dtype, np.uint32):
+        return table.astype(np.uint32, order="C")
+    wide = table.astype(np.int64 if table.dtype.kind == "i" else np.uint64)
+    greatest = wide.dtype.type(np.iinfo(np.uint32).max)
+    kept = wide.astype(np.uint32, order="C")
+    kept[(wide < wide.dtype.type(0)) | (wide > greatest)] = np.uint32(greatest)
+    return kept
+
+
+# The text of a renumbering. Of two million rows all is done by columns, since a loop over the rows would take seconds.
+
+
+def _lines_of(rows):
+    """The line of each row: its number, a space, its turn."""
+    if not len(rows):
+        return b""
+    numbers, turns = rows[:, 0], rows[:, 1]
+    if int(rows.min()) < 0 or int(numbers.max()) >> 32 or int(turns.max()) > 9:  # no renumbering, and printed as it is
+        return "".join(f"{number} {turn}\n" for number, turn in rows.tolist()).encode()
+    width = len(str(int(numbers.max())))
+    left, lines = numbers.astype(np.uint32), np.empty((len(rows), width + 3), np.uint8)
+    is_kept = np.ones(lines.shape, bool)
+    for k in reversed(range(width)):
+        if k < width - 1:
+            is_kept[:, k] = left != 0
+        left, digit = np.divmod(left, np.uint32(10))
+        lines[:, k] = digit + np.uint32(ord("0"))
+    lines[:, width], lines[:, width + 1], lines[:, width + 2] = ord(" "), turns + turns.dtype.type(ord("0")), ord("\n")
+    return lines[is_kept].tobytes()
+
+
+def _rows_of(text, count):
+    """The rows of so many lines and no more, an array of bytes; None where a line is none."""
+    marks = np.flatnonzero((text < np.uint8(ord("0"))) | (text > np.uint8(ord("9"))))
+    if len(marks) != 2 * count or count and marks[-1] != len(text) - 1 or not count and len(text):
+        return None
+    spaces, ends = marks[::2], marks[1::2]
+    starts = np.concatenate([np.zeros(min(count, 1), ends.dtype), ends[:-1] + 1])
+    widths, turns = spaces - starts, text[ends - 1]
+    is_line = (text[spaces] == np.uint8(ord(" "))) & (text[ends] == np.uint8(ord("\n"))) & (ends == spaces + 2) & (turns <= np.uint8(ord("2")))
+    is_line &= (widths >= 1) & (widths <= 10) & ((text[starts] != np.uint8(ord("0"))) | (widths == 1))
+    if not is_line.all():
+        return None
+    numbers = np.zeros(count, np.uint64)
+    for k in range(int(widths.max()) if count else 0):
+        has_digit = widths > k
+        numbers[has_digit] += (text[spaces[has_digit] - 1 - k] - np.uint8(ord("0"))).astype(np.uint64) * np.uint64(10**k)
+    if count and int(numbers.max()) >> 32:
+        return None
+    return np.stack([numbers.astype(np.uint32), (turns - np.uint8(ord("0"))).astype(np.uint32)], axis=1)
+
+
+def _whole_lines(text, count):
+    """How many lines of rows stand at the front of these bytes, up to a number."""
+    at, row = 0, re.compile(rb"(0|[1-9]\d{0,9}) [012]\n")
+    for k in range(count):
+        found = row.match(text, at)
+        if not found or int(found[1]) >> 32:
+            return k
+        at = found.end()
+    return count
 
 
 # Floats and grids, in 32 bits.
