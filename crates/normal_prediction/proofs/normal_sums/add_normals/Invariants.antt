@@ -1,0 +1,6 @@
+use Rattle.std.proofs.Common.{◌*◌}
+use Rattle.normal_prediction.specs.NormalSums.{AreSums}
+use Rattle.normal_prediction.proofs.normal_sums.add_normals.Given as goal
+
+abbrev pub invariant-loop-f : goal.invariant-loop-f
+invariant-loop-f l = AreSums l.entries l.places l.sums (3 * l.f)

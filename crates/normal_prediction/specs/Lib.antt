@@ -1,0 +1,2 @@
+pub mod NormalSums
+pub mod Directions

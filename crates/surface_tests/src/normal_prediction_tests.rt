@@ -1,0 +1,148 @@
+//! Worked sums of normals and their directions. The values were computed by a plain program with numbers of any size, which adds up one
+//! cross product for each corner.
+
+ghost use Rattle.std.specs.Prelude.{◌≡◌, ◌%◌, length};
+
+use normal_prediction::{add_normals, direction_of, opposite};
+use octahedron::{Direction, Square};
+use std::alloc::Global;
+use std::process::Abort;
+use wrapped_vectors::{Place, Vector, vector_at};
+
+/// Places of entries, and the sums of normals that are expected of them.
+struct Worked {
+    places: [[i32; 3]; 4],
+    sums: [[i64; 3]; 4],
+}
+
+/// Two faces, the first of them with a tip.
+static TIP: Worked = Worked {
+    places: [[0, 2, 0], [2, 0, 0], [2, 2, 1], [0, 0, 0]],
+    sums: [[-2, -2, 8], [-2, -2, 8], [-2, -2, 4], [0, 0, 4]],
+};
+
+/// The corners of the greatest square, whose halves have normals that pass 64 bits.
+static FAR: Worked = Worked {
+    places: [
+        [-0x8000_0000, 0x7fff_ffff, 0],
+        [0x7fff_ffff, -0x8000_0000, 0],
+        [0x7fff_ffff, 0x7fff_ffff, 0],
+        [-0x8000_0000, -0x8000_0000, 0],
+    ],
+    sums: [
+        [0, 0, -17_179_869_182],
+        [0, 0, -17_179_869_182],
+        [0, 0, -8_589_934_591],
+        [0, 0, -8_589_934_591],
+    ],
+};
+
+/// The entries of the corners of the two faces.
+static ENTRIES: [u32; 6] = [2, 0, 1, 0, 3, 1];
+
+/// Sums of normals, and their directions in the square of 4 bits.
+static DIRECTIONS: [([i64; 3], [i32; 3]); 9] = [
+    ([-2, -2, 8], [-1, -1, 5]),
+    ([-2, -2, 4], [-1, -1, 5]),
+    ([0, 0, 4], [0, 0, 7]),
+    ([0, 0, 0], [7, 0, 0]),
+    ([0, 0, -4], [0, 0, -7]),
+    ([-2, -2, -8], [-1, -1, -5]),
+    ([5, -3, -1], [3, -2, -2]),
+    (
+        [
+            -0x8000_0000_0000_0000,
+            -0x8000_0000_0000_0000,
+            -0x8000_0000_0000_0000,
+        ],
+        [-2, -2, -3],
+    ),
+    (
+        [0x7fff_ffff_ffff_ffff, 0, -0x8000_0000_0000_0000],
+        [3, 0, -4],
+    ),
+];
+
+/// Sums of normals whose sizes add up to about 2^29, and their directions in the square of 30 bits.
+static FINE_DIRECTIONS: [([i64; 3], [i32; 3]); 6] = [
+    ([0x2000_0000, 0, 0], [0x1fff_ffff, 0, 0]),
+    ([0x1fff_fffd, 2, 1], [0x1fff_fffc, 1, 2]),
+    ([0x2000_0000, 1, 0], [0x1fff_fffe, 0, 1]),
+    ([0x3fff_ffff, -1, 0], [0x1fff_ffff, 0, 0]),
+    ([0x4000_0000, -3, 5], [0x1fff_fffc, 0, 3]),
+    (
+        [123_456_789_012, -987_654_321, 55],
+        [532_610_031, -4_260_879, 1],
+    ),
+];
+
+/// The places of entries.
+fn places_of(rt: &impl Abort, alloc: Global, at: &[[i32; 3]]) -> Vec<Place> {
+    let mut places = Vec::new(alloc);
+    for p in at {
+        places
+            .push(Place {
+                x: p[0],
+                y: p[1],
+                z: p[2],
+            })
+            .expect(rt, "room");
+    }
+    places
+}
+
+/// The sums of normals of the entries of corners, with these places.
+fn sums_at(rt: &impl Abort, alloc: Global, entries: &[u32], places: &[Place]) -> Vec<Vector> {
+    let count = places.len();
+    assert!(rt; entries.len() % 3 == 0 && entries.iter().all(|e| (*e as usize) < count));
+    let mut sums = vec![in alloc; vector_at(0, 0, 0); count].expect(rt, "room");
+    add_normals(entries, places, sums.as_mut_slice());
+    sums
+}
+
+/// The sums are those that are expected.
+fn is_summed(rt: &impl Abort, alloc: Global, w: &Worked) {
+    let places = places_of(rt, alloc, &w.places);
+    let sums = sums_at(rt, alloc, &ENTRIES, places.as_slice());
+    assert!(rt; sums.len() == 4);
+    for (v, sum) in sums.iter().zip(w.sums.iter()) {
+        assert!(rt; v.x == sum[0] && v.y == sum[1] && v.z == sum[2]);
+    }
+}
+
+#[test]
+fn sums_normals_of_entries(rt: HostRuntime) {
+    is_summed(&rt, rt.alloc(), &TIP);
+    is_summed(&rt, rt.alloc(), &FAR);
+}
+
+/// A direction has these components.
+fn is_direction(rt: &impl Abort, v: Direction, x: i32, y: i32, z: i32) {
+    assert!(rt; v.x == x && v.y == y && v.z == z);
+}
+
+/// The direction of a sum, and the opposite one, are those that are expected.
+fn is_directed(rt: &impl Abort, square: Square, sum: [i64; 3], at: [i32; 3]) {
+    let v = direction_of(square, vector_at(sum[0], sum[1], sum[2]));
+    is_direction(rt, v, at[0], at[1], at[2]);
+    let w = opposite(square, v);
+    is_direction(
+        rt,
+        w,
+        at[0].wrapping_neg(),
+        at[1].wrapping_neg(),
+        at[2].wrapping_neg(),
+    );
+}
+
+#[test]
+fn directs_sums(rt: HostRuntime) {
+    let square = Square::of_bits(4).expect(&rt, "a square");
+    for (sum, at) in DIRECTIONS.iter() {
+        is_directed(&rt, square, *sum, *at);
+    }
+    let fine = Square::of_bits(30).expect(&rt, "a square");
+    for (sum, at) in FINE_DIRECTIONS.iter() {
+        is_directed(&rt, fine, *sum, *at);
+    }
+}
