@@ -10,14 +10,19 @@ use crate::numbers::{is_far, is_wide, low_bits, quotient, with_sign};
 use crate::pairs::Pair;
 use wrapped_vectors::{Place, Vector, apart, difference, dot, squared, sum};
 
-/// What both candidates for the third corner are made of: the sum and the difference of two pairs, over the square of the side's length.
+/// What both candidates for the third corner are made of: the sum and the difference of two pairs of numbers of 64 bits, divided by a third
+/// number.
 #[derive(Clone, Copy, Debug)]
 pub struct Candidates {
+    /// The first coordinate at the foot of the corner, times the square of the side's length.
     pub along_u: i64,
+    /// The second coordinate there, times the same.
     pub along_v: i64,
+    /// How far the first coordinate comes across the side, times the square of the side's length.
     pub across_u: i64,
+    /// How far the second coordinate comes across the side, times the same.
     pub across_v: i64,
-    /// The square of the side's length, its 64 bits with a sign.
+    /// The square of the side's length, its 64 bits with a sign: neither 0 nor -1 in what `project` answers.
     pub square: i64,
 }
 
