@@ -6,7 +6,7 @@ use Rattle.std.proofs.lemmas.Bool.{and_parts}
 use Rattle.std.proofs.lemmas.Int.{ints}
 use Rattle.std.proofs.lemmas.List.Elements.{All-head, All-tail, All-map, All-weaker}
 use Rattle.std.proofs.lemmas.List.Sums.{AllPass-from_list_all}
-use Rattle.mesh_model.specs.Head.{in_type, least_of, greatest_of}
+use Rattle.attr_heads.specs.DataTypes.{in_type, least_of, greatest_of}
 use Rattle.predict.specs.Wrap.{Range, CanWrap, HasEnds, span_of}
 use Rattle.predict.specs.Symbols.{zigzag_of}
 use Rattle.predict.specs.Restored.{corrections}

@@ -4,7 +4,7 @@ use Rattle.std.specs.Prelude.{◌≡◌, ℕ, ◌+◌, ◌%◌, ◌^◌, ◌<◌
 use Rattle.std.specs.Int.{w32}
 use Rattle.drc_base.specs.declared.limits.TheConstants.{MAX_VALUES}
 use Rattle.drc_bits.specs.Spells.{Spells}
-use Rattle.mesh_model.specs.declared.heads.Head.{Head}
+use Rattle.attr_heads.specs.declared.heads.Head.{Head}
 use Rattle.predict.specs.Wrap.{Range, CanWrap, HasEnds}
 use Rattle.corner_table.specs.Ordered.{Ordered}
 use Rattle.attr_section.specs.declared.decoder_heads.DecoderHead.{DecoderHead}

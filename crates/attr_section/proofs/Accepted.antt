@@ -9,8 +9,8 @@ use Rattle.drc_base.specs.Steps.{◌>>=◌}
 use Rattle.drc_bits.specs.Reading.{Reading, Item}
 use Rattle.drc_bits.specs.Numbers.{number_at}
 use Rattle.drc_bits.proofs.Results.{Ok-injective, err≢ok}
-use Rattle.mesh_model.specs.declared.heads.Head.{Head}
-use Rattle.mesh_model.specs.Head.{in_type}
+use Rattle.attr_heads.specs.declared.heads.Head.{Head}
+use Rattle.attr_heads.specs.DataTypes.{in_type}
 use Rattle.corner_table.specs.Ordered.{Ordered}
 use Rattle.predict.specs.declared.schemes.Prediction.{Prediction}
 use Rattle.predict.specs.declared.schemes.Prediction.TheVariants as prediction

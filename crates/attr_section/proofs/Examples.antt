@@ -3,7 +3,7 @@ use Rattle.std.proofs.Common.{Bool, true, false, ℤ, List, [], ◌∷◌, ℕ, 
 use Rattle.std.proofs.lemmas.Bool.{false≢true}
 use Rattle.std.proofs.lemmas.Int.{ints}
 use Rattle.std.proofs.lemmas.List.Elements.{All-nil, All-cons}
-use Rattle.mesh_model.specs.Head.{in_type}
+use Rattle.attr_heads.specs.DataTypes.{in_type}
 use Rattle.predict.specs.Wrap.{CanWrap}
 use Rattle.corner_table.specs.Ordered.{Ordered}
 use Rattle.predict.specs.declared.schemes.Prediction.TheVariants as prediction

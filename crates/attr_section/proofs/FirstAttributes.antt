@@ -3,7 +3,7 @@ use Rattle.std.proofs.Common.{◌≡◌, ℕ, zero, suc, ◌<◌, ◌≤◌, Lis
 use Rattle.drc_base.specs.Profile.{Profile}
 use Rattle.drc_base.specs.declared.faults.Fault.{Fault}
 use Rattle.drc_bits.specs.Reading.{Reading}
-use Rattle.mesh_model.specs.declared.heads.Head.{Head}
+use Rattle.attr_heads.specs.declared.heads.Head.{Head}
 use Rattle.corner_table.specs.Ordered.{Ordered}
 use Rattle.attr_section.specs.Openings.{values_opening_at, attributes_opening_at}
 

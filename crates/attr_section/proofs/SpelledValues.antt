@@ -13,10 +13,10 @@ use Rattle.drc_bits.specs.Numbers.{number_at}
 use Rattle.drc_bits.specs.Spells.{Spells}
 use Rattle.drc_bits.proofs.Spelled.{Spells-none, Spells-then, Spells-must, Spells-byte}
 use Rattle.drc_bits.specs.Bits.{low_bytes}
-use Rattle.mesh_model.specs.declared.heads.Head.{Head}
-use Rattle.mesh_model.specs.declared.heads.Quant.{Quant}
+use Rattle.attr_heads.specs.declared.heads.Head.{Head}
+use Rattle.attr_heads.specs.declared.quants.Quant.{Quant}
 use Rattle.attr_section.specs.declared.decoder_heads.DecoderHead.{DecoderHead}
-use Rattle.mesh_model.specs.Head.{in_type}
+use Rattle.attr_heads.specs.DataTypes.{in_type}
 use Rattle.attr_section.specs.declared.values.Values.{Values}
 use Rattle.attr_section.specs.Each.{each_at}
 use Rattle.attr_section.specs.Heads.{bare_head, bare_decoder}
@@ -25,7 +25,8 @@ use Rattle.predict.specs.declared.schemes.Prediction.TheVariants as prediction
 use Rattle.predict.specs.Schemes.{code_of, byte_of, prediction_of, prediction_coded}
 use Rattle.corner_table.specs.Ordered.{Ordered}
 use Rattle.predict.proofs.Named.{by_byte, by_number}
-use Rattle.attr_section.specs.Values.{tested_prediction, prediction_at, predicted_at, typed_values_at, values_at, quant_bits_at, quant_at, quant_of_at, quantised_at, values_in, attributes_at, quants_at, decoder_values_at}
+use Rattle.attr_heads.specs.HeadItems.{quant_bits_at}
+use Rattle.attr_section.specs.Values.{tested_prediction, prediction_at, predicted_at, typed_values_at, values_at, quant_at, quant_of_at, quantised_at, values_in, attributes_at, quants_at, decoder_values_at}
 use Rattle.attr_section.specs.Written.{predicted_bytes, prediction_bytes, values_bytes, quant_bytes, attributes_bytes, quants_bytes, decoder_values_bytes, HasQuant, QuantFits, values_placed, HaveEntries, MayHaveFewFlags, PredictedSpelled, ValuesSpelled}
 use Rattle.attr_section.proofs.Accepted.{is_known}
 use Rattle.attr_section.proofs.Spelling.{Spells-map}

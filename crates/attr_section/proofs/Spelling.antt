@@ -13,54 +13,37 @@ use Rattle.drc_bits.specs.Numbers.{number_at}
 use Rattle.drc_bits.specs.Varint.{var32_at, spelling}
 use Rattle.drc_bits.specs.Spells.{Spells}
 use Rattle.drc_bits.proofs.Spelled.{Spells-none, Spells-then, Spells-must, Spells-byte, Spells-var32}
-use Rattle.mesh_model.specs.declared.heads.Head.{Head}
+use Rattle.attr_heads.specs.declared.heads.Head.{Head}
 use Rattle.attr_section.specs.declared.decoder_heads.DecoderHead.{DecoderHead}
 use Rattle.attr_section.specs.declared.links.Link.{Link}
 use Rattle.attr_section.specs.Each.{each_at}
-use Rattle.attr_section.specs.Heads.{position_id, no_link, decoder_count_at, is_known_id, is_used_id, most_element, most_walk, link_at, linked_at, links_at, is_type, head_at, type_coding, coding_at, codings_at, attributes_of, attribute_count_at, decoder_at, decoders_at, heads_at, id_byte, link_bytes, head_bytes, decoder_bytes, links_bytes, heads_bytes, bare_head, bare_decoder, link_of, HeadPasses, DecoderPasses, DecodersPass, LinkPasses, LinksPass, AreAcceptedLinks, DecoderSpelled}
+use Rattle.attr_heads.specs.HeadItems.{head_at, head_bytes, bare_head, HeadPasses}
+use Rattle.attr_heads.specs.Codings.{coding_byte}
+use Rattle.attr_section.specs.Heads.{position_id, no_link, decoder_count_at, is_known_id, is_used_id, most_element, most_walk, link_at, linked_at, links_at, coding_at, codings_at, attributes_of, attribute_count_at, decoder_at, decoders_at, heads_at, id_byte, link_bytes, decoder_bytes, links_bytes, heads_bytes, bare_decoder, link_of, DecoderPasses, DecodersPass, LinkPasses, LinksPass, AreAcceptedLinks, DecoderSpelled}
 
 -- a value that is changed after it is read
 pub Spells-map : {A B : Type 0} (f : A → B) (item : Reading → Item A) (bytes : List ℕ) (x : A) → Spells item bytes x → Spells (λ c. item c >>= λ r. Ok (f r.0, r.1)) bytes (f x)
 Spells-map f item bytes x spells = record { reads = λ place rest. rw (spells.reads place rest) refl }
 
 -- the coding of a data type
-Spells-coding : (dtype : ℕ) → Spells (coding_at dtype) (type_coding dtype ∷ []) (type_coding dtype)
+Spells-coding : (dtype : ℕ) → Spells (coding_at dtype) (coding_byte dtype ∷ []) (coding_byte dtype)
 unfolding coding_at
 Spells-coding dtype =
-    Spells-must kind.Coding (λ k. k == type_coding dtype) (must kind.Octahedral (λ k. not (k == 3)) (must kind.Generic (λ k. not (k == 0)) (number_at 1))) (type_coding dtype ∷ []) (type_coding dtype) (grind arith)
-    (Spells-must kind.Octahedral (λ k. not (k == 3)) (must kind.Generic (λ k. not (k == 0)) (number_at 1)) (type_coding dtype ∷ []) (type_coding dtype) (grind arith)
-    (Spells-must kind.Generic (λ k. not (k == 0)) (number_at 1) (type_coding dtype ∷ []) (type_coding dtype) (grind arith) (Spells-byte (type_coding dtype))))
+    Spells-must kind.Coding (λ k. k == coding_byte dtype) (must kind.Octahedral (λ k. not (k == 3)) (must kind.Generic (λ k. not (k == 0)) (number_at 1))) (coding_byte dtype ∷ []) (coding_byte dtype) (grind arith)
+    (Spells-must kind.Octahedral (λ k. not (k == 3)) (must kind.Generic (λ k. not (k == 0)) (number_at 1)) (coding_byte dtype ∷ []) (coding_byte dtype) (grind arith)
+    (Spells-must kind.Generic (λ k. not (k == 0)) (number_at 1) (coding_byte dtype ∷ []) (coding_byte dtype) (grind arith) (Spells-byte (coding_byte dtype))))
 
 -- the codings behind those read before
 Spells-codings_behind : (front : List ℕ) (heads : List Head)
-    → Spells (each_at (λ _ h. coding_at h.dtype) front (map bare_head heads)) (map (λ h. type_coding h.dtype) heads) (front ++ map (λ h. type_coding h.dtype) heads)
+    → Spells (each_at (λ _ h. coding_at h.dtype) front (map bare_head heads)) (map (λ h. coding_byte h.dtype) heads) (front ++ map (λ h. coding_byte h.dtype) heads)
 unfolding each_at
 Spells-codings_behind front [] = subst (λ l. Spells (λ c. Ok (front, c)) [] l) (sym (append-nil front)) (Spells-none front)
 Spells-codings_behind front (h ∷ heads) =
     Spells-then (coding_at h.dtype) (λ x c. each_at (λ _ g. coding_at g.dtype) (front ++ x ∷ []) (map bare_head heads) c)
-    (type_coding h.dtype ∷ []) (map (λ g. type_coding g.dtype) heads) (type_coding h.dtype) (front ++ map (λ g. type_coding g.dtype) (h ∷ heads))
+    (coding_byte h.dtype ∷ []) (map (λ g. coding_byte g.dtype) heads) (coding_byte h.dtype) (front ++ map (λ g. coding_byte g.dtype) (h ∷ heads))
     (Spells-coding h.dtype)
-    (subst (λ l. Spells (each_at (λ _ g. coding_at g.dtype) (front ++ type_coding h.dtype ∷ []) (map bare_head heads)) (map (λ g. type_coding g.dtype) heads) l)
-    (append_assoc front (type_coding h.dtype ∷ []) (map (λ g. type_coding g.dtype) heads)) (Spells-codings_behind (front ++ type_coding h.dtype ∷ []) heads))
-
--- a head whose id has 32 bits
-pub Spells-head : (h : Head) → HeadPasses h → h.id < 2 ^ 32 → Spells head_at (head_bytes h) (bare_head h)
-unfolding head_at
-Spells-head h passes fits =
-    let usage : nat_le h.usage 4 ≡ true = grind (arith, passes.usage) in
-    let comps : (nat_le 1 h.comps && nat_le h.comps MAX_COMPONENTS) ≡ true = grind (arith, passes.some, passes.few) in
-    Spells-then (must kind.AttrType (λ n. nat_le n 4) (number_at 1)) (λ u c. must kind.DataType is_type (number_at 1) c >>= λ t. must kind.Components (λ n. nat_le 1 n && nat_le n MAX_COMPONENTS) (number_at 1) t.1 >>= λ k. number_at 1 k.1 >>= λ n. var32_at n.1 >>= λ i. Ok (record { usage = u; dtype = t.0; comps = k.0; normalized = n.0; id = i.0; quant = None }, i.1))
-    (h.usage ∷ []) (h.dtype ∷ h.comps ∷ h.normalized ∷ spelling 5 h.id) h.usage (bare_head h)
-    (Spells-must kind.AttrType (λ n. nat_le n 4) (number_at 1) (h.usage ∷ []) h.usage usage (Spells-byte h.usage))
-    (Spells-then (must kind.DataType is_type (number_at 1)) (λ t c. must kind.Components (λ n. nat_le 1 n && nat_le n MAX_COMPONENTS) (number_at 1) c >>= λ k. number_at 1 k.1 >>= λ n. var32_at n.1 >>= λ i. Ok (record { usage = h.usage; dtype = t; comps = k.0; normalized = n.0; id = i.0; quant = None }, i.1))
-    (h.dtype ∷ []) (h.comps ∷ h.normalized ∷ spelling 5 h.id) h.dtype (bare_head h)
-    (Spells-must kind.DataType is_type (number_at 1) (h.dtype ∷ []) h.dtype passes.dtype (Spells-byte h.dtype))
-    (Spells-then (must kind.Components (λ n. nat_le 1 n && nat_le n MAX_COMPONENTS) (number_at 1)) (λ k c. number_at 1 c >>= λ n. var32_at n.1 >>= λ i. Ok (record { usage = h.usage; dtype = h.dtype; comps = k; normalized = n.0; id = i.0; quant = None }, i.1))
-    (h.comps ∷ []) (h.normalized ∷ spelling 5 h.id) h.comps (bare_head h)
-    (Spells-must kind.Components (λ n. nat_le 1 n && nat_le n MAX_COMPONENTS) (number_at 1) (h.comps ∷ []) h.comps comps (Spells-byte h.comps))
-    (Spells-then (number_at 1) (λ n c. var32_at c >>= λ i. Ok (record { usage = h.usage; dtype = h.dtype; comps = h.comps; normalized = n; id = i.0; quant = None }, i.1))
-    (h.normalized ∷ []) (spelling 5 h.id) h.normalized (bare_head h) (Spells-byte h.normalized)
-    (Spells-map (λ i. record { usage = h.usage; dtype = h.dtype; comps = h.comps; normalized = h.normalized; id = i; quant = None }) var32_at (spelling 5 h.id) h.id (Spells-var32 h.id fits)))))
+    (subst (λ l. Spells (each_at (λ _ g. coding_at g.dtype) (front ++ coding_byte h.dtype ∷ []) (map bare_head heads)) (map (λ g. coding_byte g.dtype) heads) l)
+    (append_assoc front (coding_byte h.dtype ∷ []) (map (λ g. coding_byte g.dtype) heads)) (Spells-codings_behind (front ++ coding_byte h.dtype ∷ []) heads))
 
 -- heads, each of which is read back
 Spells-heads : (heads : List Head) → All (λ h. Spells head_at (head_bytes h) (bare_head h)) heads → Spells (many_at head_at (length heads)) (flat_map head_bytes heads) (map bare_head heads)
@@ -80,12 +63,12 @@ decoder_spelled d passes each = record {
       let within : nat_le (before + length d.heads) MAX_ATTRIBUTES ≡ true = grind (arith, few) in
       let link = link_of d in
       Spells-then (attribute_count_at before) (λ n c. many_at head_at n c >>= λ hs. codings_at hs.0 hs.1 >>= λ ks. Ok (record { data_id = link.data_id; corner = link.corner; degree = link.degree; heads = hs.0 }, ks.1))
-      (spelling 5 (length d.heads)) (flat_map head_bytes d.heads ++ map (λ h. type_coding h.dtype) d.heads) (length d.heads) (bare_decoder d)
+      (spelling 5 (length d.heads)) (flat_map head_bytes d.heads ++ map (λ h. coding_byte h.dtype) d.heads) (length d.heads) (bare_decoder d)
       (Spells-must kind.AttrLimit (λ n. nat_le (before + n) MAX_ATTRIBUTES) (must kind.NoAttribute (λ n. nat_lt 0 n) var32_at) (spelling 5 (length d.heads)) (length d.heads) within
       (Spells-must kind.NoAttribute (λ n. nat_lt 0 n) var32_at (spelling 5 (length d.heads)) (length d.heads) some (Spells-var32 (length d.heads) (omega (arith, few)))))
       (Spells-then (many_at head_at (length d.heads)) (λ hs c. codings_at hs c >>= λ ks. Ok (record { data_id = link.data_id; corner = link.corner; degree = link.degree; heads = hs }, ks.1))
-      (flat_map head_bytes d.heads) (map (λ h. type_coding h.dtype) d.heads) (map bare_head d.heads) (bare_decoder d) (Spells-heads d.heads each)
-      (Spells-map (λ ks. record { data_id = link.data_id; corner = link.corner; degree = link.degree; heads = map bare_head d.heads }) (codings_at (map bare_head d.heads)) (map (λ h. type_coding h.dtype) d.heads) (map (λ h. type_coding h.dtype) d.heads) (Spells-codings_behind [] d.heads)));
+      (flat_map head_bytes d.heads) (map (λ h. coding_byte h.dtype) d.heads) (map bare_head d.heads) (bare_decoder d) (Spells-heads d.heads each)
+      (Spells-map (λ ks. record { data_id = link.data_id; corner = link.corner; degree = link.degree; heads = map bare_head d.heads }) (codings_at (map bare_head d.heads)) (map (λ h. coding_byte h.dtype) d.heads) (map (λ h. coding_byte h.dtype) d.heads) (Spells-codings_behind [] d.heads)));
 }
 
 -- decoders behind others, each of which is read back

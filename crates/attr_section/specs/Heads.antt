@@ -6,7 +6,9 @@ use Rattle.std.specs.List.{list_any, range_with_len}
 use Rattle.drc_base.specs.declared.kinds.Kind.TheVariants as kind
 use Rattle.drc_base.specs.declared.limits.TheConstants.{MAX_ATTRIBUTES, MAX_COMPONENTS}
 use Rattle.drc_base.specs.Steps.{◌>>=◌}
-use Rattle.mesh_model.specs.declared.heads.Head.{Head}
+use Rattle.attr_heads.specs.declared.heads.Head.{Head}
+use Rattle.attr_heads.specs.Codings.{coding_byte}
+use Rattle.attr_heads.specs.HeadItems.{head_at, head_bytes, bare_head, HeadPasses}
 use Rattle.drc_bits.specs.Reading.{Reading, Item, must, many_at}
 use Rattle.drc_bits.specs.Numbers.{number_at}
 use Rattle.drc_bits.specs.Varint.{var32_at, spelling}
@@ -65,28 +67,10 @@ unfoldable pub links_at : Option ℕ → ℕ → Reading → Item (List Link)
 links_at None n c = Ok (replicate n no_link, c)
 links_at (Some attr_data) n c = linked_at attr_data n c
 
--- whether a data type is accepted: 1 to 6 are integers, and 9 is a float32
-abbrev pub is_type : ℕ → Bool
-is_type dtype = (nat_le 1 dtype && nat_le dtype 6) || dtype == 9
-
--- the head of an attribute; a quantisation is read later
-unfoldable pub head_at : Reading → Item Head
-head_at c = do
-  usage ← must kind.AttrType (λ n. nat_le n 4) (number_at 1) c
-  dtype ← must kind.DataType is_type (number_at 1) usage.1
-  comps ← must kind.Components (λ n. nat_le 1 n && nat_le n MAX_COMPONENTS) (number_at 1) dtype.1
-  normalized ← number_at 1 comps.1
-  id ← var32_at normalized.1
-  Ok (record { usage = usage.0; dtype = dtype.0; comps = comps.0; normalized = normalized.0; id = id.0; quant = None }, id.1)
-
--- the coding of a data type: 1 integers, 2 quantised floats
-abbrev pub type_coding : ℕ → ℕ
-type_coding dtype = if dtype == 9 then 2 else 1
-
 -- the coding of an attribute of this type; 0 is that of floats as they are, 3 that of octahedral normals
 unfoldable pub coding_at : ℕ → Reading → Item ℕ
 coding_at dtype c =
-    must kind.Coding (λ k. k == type_coding dtype)
+    must kind.Coding (λ k. k == coding_byte dtype)
     (must kind.Octahedral (λ k. not (k == 3)) (must kind.Generic (λ k. not (k == 0)) (number_at 1))) c
 
 -- the codings of attributes
@@ -130,13 +114,9 @@ id_byte (Some id) = id
 abbrev pub link_bytes : DecoderHead → List ℕ
 link_bytes d = id_byte d.data_id ∷ (if d.corner then 1 else 0) ∷ (if d.degree then 1 else 0) ∷ []
 
--- the bytes of a head
-abbrev pub head_bytes : Head → List ℕ
-head_bytes h = h.usage ∷ h.dtype ∷ h.comps ∷ h.normalized ∷ spelling 5 h.id
-
 -- the bytes of a decoder's heads: their number, the heads, their codings
 abbrev pub decoder_bytes : DecoderHead → List ℕ
-decoder_bytes d = spelling 5 (length d.heads) ++ (flat_map head_bytes d.heads ++ map (λ h. type_coding h.dtype) d.heads)
+decoder_bytes d = spelling 5 (length d.heads) ++ (flat_map head_bytes d.heads ++ map (λ h. coding_byte h.dtype) d.heads)
 
 -- the bytes of the links, which stand under Edgebreaker alone
 abbrev pub links_bytes : Bool → List DecoderHead → List ℕ
@@ -146,10 +126,6 @@ links_bytes eb decoders = if eb then flat_map link_bytes decoders else []
 unfoldable pub heads_bytes : Bool → List DecoderHead → List ℕ
 heads_bytes eb decoders = length decoders ∷ links_bytes eb decoders ++ flat_map decoder_bytes decoders
 
--- a head without its quantisation
-abbrev pub bare_head : Head → Head
-bare_head h = record h { quant = None }
-
 -- a decoder without the quantisations of its heads
 abbrev pub bare_decoder : DecoderHead → DecoderHead
 bare_decoder d = record d { heads = map bare_head d.heads }
@@ -157,13 +133,6 @@ bare_decoder d = record d { heads = map bare_head d.heads }
 -- the link of a decoder
 abbrev pub link_of : DecoderHead → Link
 link_of d = record { data_id = d.data_id; corner = d.corner; degree = d.degree }
-
--- a head that is accepted
-pub record HeadPasses (h : Head) : Type 0 where
-  pub usage : h.usage ≤ 4
-  pub dtype : IsTrue (is_type h.dtype)
-  pub some : 1 ≤ h.comps
-  pub few : h.comps ≤ MAX_COMPONENTS
 
 -- a decoder whose heads are accepted
 pub record DecoderPasses (d : DecoderHead) : Type 0 where

@@ -6,7 +6,7 @@ use Rattle.drc_base.specs.Profile.{Profile}
 use Rattle.drc_base.specs.Steps.{◌>>=◌}
 use Rattle.drc_bits.specs.Reading.{Reading, Item, fault_at}
 use Rattle.drc_bits.specs.Numbers.{number_at}
-use Rattle.mesh_model.specs.declared.heads.Head.{Head}
+use Rattle.attr_heads.specs.declared.heads.Head.{Head}
 use Rattle.symbol_coding.specs.Block.{block_opening_at}
 use Rattle.predict.specs.declared.schemes.Prediction.{Prediction}
 use Rattle.predict.specs.Schemes.{facts}

@@ -2,7 +2,7 @@
 use Rattle.std.specs.Prelude.{◌≡◌, ◌<◌, ◌↔◌, ℕ, List, Bool, false, IsTrue, Option, None, Ok}
 use Rattle.drc_base.specs.Profile.{Profile}
 use Rattle.drc_bits.specs.Reading.{Reading}
-use Rattle.mesh_model.specs.declared.heads.Head.{Head}
+use Rattle.attr_heads.specs.declared.heads.Head.{Head}
 use Rattle.corner_table.specs.Ordered.{Ordered, IsOver}
 use Rattle.corner_table.specs.Sides.{IsGluing}
 use Rattle.predict.specs.declared.schemes.Prediction.{Prediction}

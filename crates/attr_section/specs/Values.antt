@@ -12,9 +12,9 @@ use Rattle.drc_bits.specs.Reading.{Reading, Item, must, many_at, fault_at}
 use Rattle.drc_bits.specs.Numbers.{number_at, signed_at}
 use Rattle.drc_bits.specs.Varint.{var32_at}
 use Rattle.rans_binary.specs.Blocks.{first_bits, bit_block_at}
-use Rattle.mesh_model.specs.declared.heads.Head.{Head}
-use Rattle.mesh_model.specs.declared.heads.Quant.{Quant}
-use Rattle.mesh_model.specs.Head.{in_type}
+use Rattle.attr_heads.specs.declared.heads.Head.{Head}
+use Rattle.attr_heads.specs.declared.quants.Quant.{Quant}
+use Rattle.attr_heads.specs.DataTypes.{in_type}
 use Rattle.predict.specs.Wrap.{Range}
 use Rattle.symbol_coding.specs.Block.{block_at}
 use Rattle.predict.specs.declared.schemes.Prediction.{Prediction}
@@ -142,10 +142,6 @@ unfoldable pub values_at : Profile → Option Ordered → Head → ℕ → ℕ �
 values_at p w h entries spent c =
     if nat_le (spent + entries * h.comps) p.values then typed_values_at p w h (entries * h.comps) c else fault_at kind.ValueLimit c
 
--- how many bits quantised values have
-abbrev pub quant_bits_at : Reading → Item ℕ
-quant_bits_at c = must kind.QuantBits (λ b. nat_le 1 b && nat_le b 30) (number_at 1) c
-
 -- a quantisation: a minimum for each component, the range, the bits
 unfoldable pub quant_at : ℕ → Reading → Item Quant
 quant_at comps c = do
@@ -156,7 +152,7 @@ quant_at comps c = do
 
 -- the quantisation of a head, which stands at quantised floats alone
 unfoldable pub quant_of_at : Head → Reading → Item (Option Quant)
-quant_of_at h c = if h.dtype == 9 then (quant_at h.comps c >>= λ q. Ok (Some q.0, q.1)) else Ok (None, c)
+quant_of_at h c = if is_float h.dtype then (quant_at h.comps c >>= λ q. Ok (Some q.0, q.1)) else Ok (None, c)
 
 -- a head with its quantisation
 unfoldable pub quantised_at : Head → Reading → Item Head

@@ -11,9 +11,9 @@ use Rattle.drc_bits.specs.Bits.{low_bytes}
 use Rattle.drc_bits.specs.Spells.{Spells}
 use Rattle.drc_bits.specs.Varint.{spelling}
 use Rattle.rans_binary.specs.Blocks.{block}
-use Rattle.mesh_model.specs.declared.heads.Head.{Head}
-use Rattle.mesh_model.specs.declared.heads.Quant.{Quant}
-use Rattle.mesh_model.specs.Head.{in_type}
+use Rattle.attr_heads.specs.declared.heads.Head.{Head}
+use Rattle.attr_heads.specs.declared.quants.Quant.{Quant}
+use Rattle.attr_heads.specs.DataTypes.{in_type}
 use Rattle.predict.specs.Wrap.{Range, CanWrap}
 use Rattle.predict.specs.declared.schemes.Prediction.{Prediction}
 use Rattle.predict.specs.Schemes.{facts, code_of, byte_of, prediction_coded}
@@ -111,8 +111,8 @@ decoder_values_bytes plain w heads attributes = attributes_bytes plain w heads a
 
 -- a head has a quantisation exactly where its values are quantised floats, with a minimum for each component
 abbrev pub HasQuant : Head → Option Quant → Type 0
-HasQuant h None = (h.dtype == 9) ≡ false
-HasQuant h (Some q) = ((h.dtype == 9) ≡ true) × (length q.min ≡ h.comps) × (1 ≤ q.bits) × (q.bits ≤ 30)
+HasQuant h None = is_float h.dtype ≡ false
+HasQuant h (Some q) = (is_float h.dtype ≡ true) × (length q.min ≡ h.comps) × (1 ≤ q.bits) × (q.bits ≤ 30)
 
 -- the numbers of a quantisation have 32 bits
 abbrev pub QuantFits : Option Quant → Type 0

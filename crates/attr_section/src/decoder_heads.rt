@@ -1,7 +1,7 @@
 //! What a decoder of attributes is.
 
 use drc_base::Sequence;
-use mesh_model::Head;
+use attr_heads::Head;
 
 /// A decoder of attributes: how it is linked to the connectivity, and the heads of its attributes
 /// (Draco Bitstream Specification 2.2, section "Attributes Decoder").

@@ -15,7 +15,7 @@ use crate::quant_writing::put_quants;
 use crate::value_writing::put_values;
 use crate::values::Values;
 use drc_base::{MAX_VALUES, Memory};
-use mesh_model::Head;
+use attr_heads::Head;
 use predict::Ordered;
 use std::alloc::Global;
 

@@ -3,13 +3,15 @@
 ghost use Rattle.std.specs.Prelude.{◌≡◌, ◌≤◌, ◌++◌, Option, ℕ, OnOk, All, flat_map, map, is_some, length};
 ghost use Rattle.drc_bits.specs.Reading.{many_at};
 ghost use Rattle.drc_bits.specs.Spells.{Spells};
-ghost use Rattle.attr_section.specs.Heads.{id_byte, head_at, type_coding, decoder_at, heads_at, head_bytes, link_bytes, decoder_bytes, links_bytes, heads_bytes, bare_head, bare_decoder, link_of, HeadPasses, DecoderPasses, DecodersPass, DecoderSpelled, AreAcceptedLinks};
+ghost use Rattle.attr_heads.specs.HeadItems.{head_at};
+ghost use Rattle.attr_heads.specs.Codings.{coding_byte};
+ghost use Rattle.attr_section.specs.Heads.{id_byte, decoder_at, heads_at, head_bytes, link_bytes, decoder_bytes, links_bytes, heads_bytes, bare_head, bare_decoder, link_of, HeadPasses, DecoderPasses, DecodersPass, DecoderSpelled, AreAcceptedLinks};
 
 use crate::decoder_heads::DecoderHead;
 use crate::head_items::coding_of;
 use drc_base::Memory;
 use drc_bits::put_var32;
-use mesh_model::Head;
+use attr_heads::Head;
 
 /// Appends the bytes of a head.
 fn put_head(out: &mut Vec<u8>, head: &Head) -> Result<(), Memory>
@@ -36,10 +38,10 @@ fn put_heads(out: &mut Vec<u8>, heads: &[Head]) -> Result<(), Memory>
 
 /// Appends the codings of heads.
 fn put_codings(out: &mut Vec<u8>, heads: &[Head]) -> Result<(), Memory>
-    ensures { OnOk result (out.new.items ≡ out.old.items ++ map (λ h. type_coding h.dtype) heads.now) }
+    ensures { OnOk result (out.new.items ≡ out.old.items ++ map (λ h. coding_byte h.dtype) heads.now) }
 {
     for head in heads {
-        out.push(coding_of(head.dtype))?;
+        out.push(coding_byte(head.dtype))?;
     }
     Ok(())
 }

@@ -8,7 +8,7 @@ ghost use Rattle.attr_section.specs.Values.{quantised_at};
 ghost use Rattle.attr_section.specs.Written.{quant_bytes, quants_bytes, HasQuant, QuantFits};
 
 use drc_base::Memory;
-use mesh_model::{Head, Quant};
+use attr_heads::{Head, Quant};
 
 /// Appends a number of four bytes.
 fn put_u32(out: &mut Vec<u8>, x: u32) -> Result<(), Memory>

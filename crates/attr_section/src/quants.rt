@@ -1,13 +1,13 @@
 //! The quantisations of attributes.
 
 ghost use Rattle.std.specs.Prelude.{◌≡◌, ◌≤◌, IfOk, length};
-ghost use Rattle.drc_bits.specs.Reading.{Reads, Gives, many_at};
+ghost use Rattle.drc_bits.specs.Reading.{Gives, many_at};
 ghost use Rattle.drc_bits.specs.Numbers.{number_at};
-ghost use Rattle.attr_section.specs.Values.{quant_bits_at, quant_at, quant_of_at, quantised_at, quants_at, comps_of};
+ghost use Rattle.attr_section.specs.Values.{quant_at, quant_of_at, quantised_at, quants_at, comps_of};
 
-use drc_base::{Fault, Kind, Refusal, Sequence};
+use attr_heads::{Head, Quant, is_float, read_quant_bits};
+use drc_base::{Refusal, Sequence};
 use drc_bits::Cursor;
-use mesh_model::{Head, Quant};
 use std::alloc::Global;
 
 /// The minima of `comps` components.
@@ -22,18 +22,6 @@ fn read_minima(alloc: Global, c: &mut Cursor<'_>, comps: u8) -> Result<Vec<u32>,
     Ok(minima)
 }
 
-/// How many bits quantised values have.
-fn read_bits(c: &mut Cursor<'_>) -> Result<u8, Fault>
-    ensures { Reads (λ n. n) (quant_bits_at c.old) c.new result }
-{
-    let at = c.place();
-    let bits = c.get_u8()?;
-    if bits < 1 || bits > 30 {
-        return Err(Fault::new(Kind::QuantBits, at));
-    }
-    Ok(bits)
-}
-
 /// The quantisation of `comps` components.
 #[tactic(auto, unfolding(crate::specs::Values::quant_at))]
 fn read_quant(alloc: Global, c: &mut Cursor<'_>, comps: u8) -> Result<Quant, Refusal>
@@ -41,7 +29,7 @@ fn read_quant(alloc: Global, c: &mut Cursor<'_>, comps: u8) -> Result<Quant, Ref
 {
     let minima = read_minima(alloc, c, comps)?;
     let range = c.get_u32()?;
-    let bits = read_bits(c)?;
+    let bits = read_quant_bits(c)?;
     Ok(Quant {
         bits,
         range,
@@ -54,7 +42,7 @@ fn read_quant(alloc: Global, c: &mut Cursor<'_>, comps: u8) -> Result<Quant, Ref
 fn read_quant_of(alloc: Global, c: &mut Cursor<'_>, head: &Head) -> Result<Option<Quant>, Refusal>
     ensures { Gives (λ q. q) (quant_of_at head.now c.old) c.new result }
 {
-    if head.dtype == 9 {
+    if is_float(head.dtype) {
         let quant = read_quant(alloc, c, head.comps)?;
         Ok(Some(quant))
     } else {

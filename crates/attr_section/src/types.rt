@@ -2,9 +2,9 @@
 
 ghost use Rattle.std.specs.Prelude.{◌≡◌, ◌&&◌, int_le};
 ghost use Rattle.std.specs.List.{list_all};
-ghost use Rattle.mesh_model.specs.Head.{in_type};
+ghost use Rattle.attr_heads.specs.DataTypes.{in_type};
 
-use mesh_model::{greatest_of, least_of};
+use attr_heads::{greatest_of, least_of};
 
 /// Whether all values are in a range. Each is looked at, without a way out of the loop, so that many are
 /// compared at once.
@@ -21,7 +21,7 @@ fn are_between(least: i32, greatest: i32, values: &[i32]) -> bool
 }
 
 /// Whether all values are in the range of a data type.
-#[tactic(auto, unfolding(mesh_model::specs::Head::in_type))]
+#[tactic(auto, unfolding(attr_heads::specs::DataTypes::in_type))]
 pub fn are_in_type(dtype: u8, values: &[i32]) -> bool
     ensures { result ≡ list_all (in_type dtype) values.now }
 {

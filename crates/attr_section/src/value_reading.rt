@@ -8,7 +8,7 @@ ghost use Rattle.drc_base.specs.declared.faults.Fault.{Fault as AnyFault};
 ghost use Rattle.drc_base.specs.declared.faults.Refusal.TheVariants as refusal;
 ghost use Rattle.drc_base.specs.Refusals.{Refuses};
 ghost use Rattle.drc_bits.specs.Reading.{Reads, Gives};
-ghost use Rattle.mesh_model.specs.Head.{in_type};
+ghost use Rattle.attr_heads.specs.DataTypes.{in_type};
 ghost use Rattle.predict.specs.Surfaces.{surface_of, MayBeOrderedOf};
 ghost use Rattle.attr_section.specs.Values.{typed_values_at, values_at, values_in, attributes_at, decoder_values_at, AreColumns};
 ghost use Rattle.attr_section.specs.Openings.{typed_opening_at, values_opening_at, attributes_opening_at};
@@ -20,7 +20,7 @@ use crate::types::are_in_type;
 use crate::values::Values;
 use drc_base::{Fault, Kind, MAX_VALUES, Profile, Refusal, Sequence};
 use drc_bits::Cursor;
-use mesh_model::Head;
+use attr_heads::Head;
 use predict::Ordered;
 use std::alloc::Global;
 

@@ -10,7 +10,7 @@ ghost use Rattle.attr_section.specs.Written.{values_bytes, ValuesPass, ValuesSpe
 use crate::predicted_writing::put_predicted;
 use crate::values::Values;
 use drc_base::Memory;
-use mesh_model::Head;
+use attr_heads::Head;
 use predict::{Ordered, Prediction};
 use std::alloc::Global;
 

@@ -3,13 +3,14 @@ use Rattle.std.proofs.Common.{◌≡◌, ◌≤◌, ◌<◌, ◌/◌, ℕ, ℤ, 
 use Rattle.std.proofs.lemmas.Bool.{eq-eqb}
 use Rattle.std.proofs.lemmas.List.{length-map, length-take-le}
 use Rattle.drc_base.specs.declared.faults.Fault.{Fault}
-use Rattle.mesh_model.specs.declared.heads.Head.{Head}
-use Rattle.mesh_model.specs.declared.heads.Quant.{Quant}
-use Rattle.mesh_model.specs.FirstFault.{first_fault, value_unless}
-use Rattle.mesh_model.specs.Head.{has_minima, heads_fault, width_of}
+use Rattle.attr_heads.specs.declared.heads.Head.{Head}
+use Rattle.attr_heads.specs.declared.quants.Quant.{Quant}
+use Rattle.attr_heads.specs.FirstFault.{first_fault, value_unless}
+use Rattle.attr_heads.specs.Quants.{has_minima}
+use Rattle.attr_heads.specs.Head.{heads_fault, width_of}
 use Rattle.mesh_model.specs.Parts.{count_fault, faces_fault, index_fault, range_fault, mesh_fault, cloud_fault}
 use Rattle.mesh_model.specs.Held.{geometry_of}
-use Rattle.mesh_model.proofs.Columns.{width_of-bounds}
+use Rattle.attr_heads.proofs.Widths.{width_of-bounds}
 use Rattle.drc_c.specs.declared.heads.DrcHead.{DrcHead}
 use Rattle.drc_c.specs.Heads.{head_meant, quant_meant}
 use Rattle.drc_c.specs.Inputs.{width_told, geometry_meant, geometry_made}

@@ -2,10 +2,10 @@
 use Rattle.std.proofs.Common.{◌≡◌, ◌≤◌, leb, None, List, length}
 use Rattle.std.proofs.lemmas.Bool.{leb-true}
 use Rattle.drc_base.specs.declared.kinds.Kind.TheVariants.{NoAttribute, AttrLimit}
-use Rattle.mesh_model.specs.declared.heads.Head.{Head}
-use Rattle.mesh_model.specs.FirstFault.{unless}
-use Rattle.mesh_model.specs.Head.{heads_fault}
-use Rattle.mesh_model.proofs.FirstFaults.{unless-none, first_fault-none}
+use Rattle.attr_heads.specs.declared.heads.Head.{Head}
+use Rattle.attr_heads.specs.FirstFault.{unless}
+use Rattle.attr_heads.specs.Head.{heads_fault}
+use Rattle.attr_heads.proofs.FirstFaults.{unless-none, first_fault-none}
 
 -- heads that pass are at most sixteen
 pub heads_few : (heads : List Head) → heads_fault heads ≡ None → length heads ≤ 16

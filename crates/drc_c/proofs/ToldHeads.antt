@@ -4,11 +4,12 @@ use Rattle.std.proofs.lemmas.Bool.{and_parts, eqb-true, leb-true, ne_eqb}
 use Rattle.std.proofs.lemmas.List.{take_all, length-map}
 use Rattle.std.proofs.Math.Seq.{take-append_seam}
 use Rattle.drc_base.specs.declared.kinds.Kind.TheVariants.{NoAttribute, AttrLimit, AttrType, DataType, Components}
-use Rattle.mesh_model.specs.declared.heads.Quant.{Quant}
-use Rattle.mesh_model.specs.declared.heads.Head.{Head}
-use Rattle.mesh_model.specs.FirstFault.{unless}
-use Rattle.mesh_model.specs.Head.{has_type, has_minima, head_fault, each_fault, heads_fault}
-use Rattle.mesh_model.proofs.FirstFaults.{unless-none, first_fault-none}
+use Rattle.attr_heads.specs.declared.quants.Quant.{Quant}
+use Rattle.attr_heads.specs.declared.heads.Head.{Head}
+use Rattle.attr_heads.specs.FirstFault.{unless}
+use Rattle.attr_heads.specs.Quants.{has_minima}
+use Rattle.attr_heads.specs.Head.{has_type, head_fault, each_fault, heads_fault}
+use Rattle.attr_heads.proofs.FirstFaults.{unless-none, first_fault-none}
 use Rattle.drc_c.specs.Arrays.{put_front}
 use Rattle.drc_c.specs.Heads.{blank_head, bits_told, range_told, minima_told, head_told, heads_told, head_meant}
 use Rattle.drc_c.specs.HeadLaws.{ToldHeadsMean}

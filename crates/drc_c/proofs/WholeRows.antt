@@ -7,11 +7,11 @@ use Rattle.std.proofs.lemmas.List.Sums.{sum_by-cons}
 use Rattle.drc_base.specs.declared.faults.Fault.{Fault}
 use Rattle.drc_base.specs.declared.faults.Refusal.{Refusal}
 use Rattle.drc_base.specs.Refusals.{Answers}
-use Rattle.mesh_model.specs.declared.heads.Head.{Head}
-use Rattle.mesh_model.specs.FirstFault.{answer_of}
-use Rattle.mesh_model.specs.Head.{width_of}
+use Rattle.attr_heads.specs.declared.heads.Head.{Head}
+use Rattle.attr_heads.specs.FirstFault.{answer_of}
+use Rattle.attr_heads.specs.Head.{width_of}
 use Rattle.mesh_model.specs.Parts.{AreRows}
-use Rattle.mesh_model.proofs.Columns.{width_of-bounds}
+use Rattle.attr_heads.proofs.Widths.{width_of-bounds}
 use Rattle.drc_c.specs.declared.heads.DrcHead.{DrcHead}
 use Rattle.drc_c.specs.Heads.{head_meant}
 use Rattle.drc_c.specs.Inputs.{width_told, do_fit}

@@ -1,8 +1,8 @@
 -- The faults of arrays that come before out of memory (this project's choice).
 use Rattle.std.specs.Prelude.{ℕ, ◌==◌, ◌/◌, ℤ, List, [], ◌∷◌, length, map, Option, None, if◌then◌else◌}
 use Rattle.drc_base.specs.declared.faults.Fault.{Fault}
-use Rattle.mesh_model.specs.FirstFault.{first_fault}
-use Rattle.mesh_model.specs.Head.{heads_fault}
+use Rattle.attr_heads.specs.FirstFault.{first_fault}
+use Rattle.attr_heads.specs.Head.{heads_fault}
 use Rattle.mesh_model.specs.Parts.{count_fault, faces_fault}
 use Rattle.drc_c.specs.declared.heads.DrcHead.{DrcHead}
 use Rattle.drc_c.specs.Heads.{head_meant}

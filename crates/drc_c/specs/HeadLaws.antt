@@ -1,7 +1,7 @@
 -- Nothing is lost of heads as C has them (this project's choice).
 use Rattle.std.specs.Prelude.{◌≡◌, List, None, length, map, take}
-use Rattle.mesh_model.specs.declared.heads.Head.{Head}
-use Rattle.mesh_model.specs.Head.{heads_fault}
+use Rattle.attr_heads.specs.declared.heads.Head.{Head}
+use Rattle.attr_heads.specs.Head.{heads_fault}
 use Rattle.drc_c.specs.Heads.{heads_told, head_meant}
 
 -- heads that pass are what those mean that C has of them, as many as there are

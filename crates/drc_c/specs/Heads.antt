@@ -1,7 +1,7 @@
 -- The heads of attributes as C has them, and the heads that they mean (this project's choice).
 use Rattle.std.specs.Prelude.{ℕ, ◌==◌, List, ◌++◌, map, replicate, take, drop, length, min, Option, None, Some, if◌then◌else◌}
-use Rattle.mesh_model.specs.declared.heads.Quant.{Quant}
-use Rattle.mesh_model.specs.declared.heads.Head.{Head}
+use Rattle.attr_heads.specs.declared.quants.Quant.{Quant}
+use Rattle.attr_heads.specs.declared.heads.Head.{Head}
 use Rattle.drc_c.specs.declared.heads.DrcHead.{DrcHead}
 use Rattle.drc_c.specs.Arrays.{put_front}
 

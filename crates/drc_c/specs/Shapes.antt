@@ -2,7 +2,7 @@
 use Rattle.std.specs.Prelude.{ℕ, ℤ, ◌<◌, ◌⊎◌, List, length, if◌then◌else◌}
 use Rattle.mesh_model.specs.declared.geometries.Geometry.{Geometry}
 use Rattle.mesh_model.specs.Contents.{is_mesh, heads_in, points_in, faces_in}
-use Rattle.mesh_model.specs.Head.{width_of}
+use Rattle.attr_heads.specs.Head.{width_of}
 use Rattle.mesh_model.specs.Parts.{cells_of}
 use Rattle.drc_c.specs.declared.shapes.DrcShape.{DrcShape}
 use Rattle.drc_c.specs.Heads.{heads_told}

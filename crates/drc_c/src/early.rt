@@ -1,8 +1,9 @@
 //! The faults of arrays that come before out of memory.
 
 ghost use Rattle.std.specs.Prelude.{◌≡◌, ◌<◌, ◌≤◌, ◌/◌, length, map, OnOk, IfOk};
-ghost use Rattle.mesh_model.specs.FirstFault.{Tests};
-ghost use Rattle.mesh_model.specs.Head.{has_type, has_bits, head_fault, each_fault, heads_fault};
+ghost use Rattle.attr_heads.specs.FirstFault.{Tests};
+ghost use Rattle.attr_heads.specs.Quants.{has_bits};
+ghost use Rattle.attr_heads.specs.Head.{has_type, head_fault, each_fault, heads_fault};
 ghost use Rattle.mesh_model.specs.Parts.{count_fault, faces_fault};
 ghost use Rattle.drc_c.specs.Heads.{head_meant};
 ghost use Rattle.drc_c.specs.Inputs.{width_told};
@@ -64,7 +65,7 @@ fn test_each_head(heads: &[DrcHead]) -> Result<(), Fault>
 }
 
 /// The first fault of heads.
-#[tactic(auto, unfolding(mesh_model::specs::Head::heads_fault))]
+#[tactic(auto, unfolding(attr_heads::specs::Head::heads_fault))]
 fn test_heads(heads: &[DrcHead]) -> Result<(), Fault>
     ensures tested { Tests (heads_fault (map head_meant heads.now)) result }
     ensures few { OnOk result (length heads.now ≤ 16) }

@@ -5,7 +5,7 @@ ghost use Rattle.drc_c.specs.Heads.{blank_head, head_told, heads_told, minima_to
 
 use crate::arrays::put_front;
 use drc_base::{Memory, Sequence};
-use mesh_model::{Head, Quant};
+use attr_heads::{Head, Quant};
 use std::alloc::Global;
 
 /// How many components a head has room for.

@@ -4,7 +4,7 @@ ghost use Rattle.std.specs.Prelude.{◌≡◌, ◌≤◌, true, Err, Some, lengt
 ghost use Rattle.drc_base.specs.declared.faults.Fault.{Fault as AnyFault};
 ghost use Rattle.drc_base.specs.declared.faults.Refusal.TheVariants as refusal;
 ghost use Rattle.drc_base.specs.Refusals.{Answers};
-ghost use Rattle.mesh_model.specs.FirstFault.{answer_of, value_unless};
+ghost use Rattle.attr_heads.specs.FirstFault.{answer_of, value_unless};
 ghost use Rattle.mesh_model.specs.Parts.{AreRows};
 ghost use Rattle.drc_c.specs.Early.{arrays_early_fault};
 ghost use Rattle.drc_c.specs.Heads.{head_meant};
@@ -13,7 +13,8 @@ ghost use Rattle.drc_c.specs.Inputs.{width_told, are_whole, do_fit, geometry_mad
 use crate::early::test_early;
 use crate::heads::{DrcHead, heads_meant};
 use drc_base::{MAX_ATTRIBUTES, Refusal};
-use mesh_model::{Geometry, GeometryView, Head};
+use attr_heads::Head;
+use mesh_model::{Geometry, GeometryView};
 use std::alloc::Global;
 
 /// The number of a cloud.

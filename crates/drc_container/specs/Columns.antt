@@ -2,7 +2,7 @@
 -- Specification 2.2, section "Sequential Attributes").
 use Rattle.std.specs.Prelude.{ℕ, ◌*◌, ℤ, List, [], ◌∷◌, ◌++◌, map, take, drop}
 use Rattle.std.specs.List.{flat_map, range_with_len}
-use Rattle.mesh_model.specs.declared.heads.Head.{Head}
+use Rattle.attr_heads.specs.declared.heads.Head.{Head}
 
 -- the columns of these rows
 abbrev pub columns_of : List Head → List (List ℤ) → List (List ℤ)

@@ -7,9 +7,10 @@ use Rattle.std.proofs.lemmas.List.FromFn.{length-range_with_len}
 use Rattle.std.proofs.lemmas.List.Elements.{All-nil, All-cons, All-map, All-weaker}
 use Rattle.std.proofs.lemmas.Nat.{mul-le, mul-add-lt, mod_below}
 use Rattle.drc_base.specs.declared.faults.Fault.{Fault}
-use Rattle.mesh_model.specs.declared.heads.Head.{Head}
-use Rattle.mesh_model.specs.FirstFault.{value_unless}
-use Rattle.mesh_model.specs.Head.{heads_fault, in_type, types_of, width_of}
+use Rattle.attr_heads.specs.declared.heads.Head.{Head}
+use Rattle.attr_heads.specs.FirstFault.{value_unless}
+use Rattle.attr_heads.specs.DataTypes.{in_type}
+use Rattle.attr_heads.specs.Head.{heads_fault, types_of, width_of}
 use Rattle.mesh_model.specs.Parts.{MeshParts, RowFits, IsFaceOf, IsMesh, AreRows, cells_of, mesh_fault, range_fault, rows_of}
 use Rattle.mesh_model.proofs.Made.{mesh_of-IsMesh, AreRows-cells_of, range_fault-cells_of}
 use Rattle.drc_gen.specs.declared.kinds.GenKind.{GenKind}

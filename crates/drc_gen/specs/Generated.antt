@@ -2,7 +2,7 @@
 -- b = (i + 1, j), c = (i, j + 1) and d = (i + 1, j + 1), and the faces a b d and a d c.
 use Rattle.std.specs.Prelude.{ℕ, ◌+◌, ◌*◌, ◌-◌, ◌%◌, ◌==◌, ◌&&◌, Bool, ℤ, pos, nat_lt, List, [], ◌∷◌, map, None, if◌then◌else◌}
 use Rattle.std.specs.List.{flat_map, range_with_len}
-use Rattle.mesh_model.specs.declared.heads.Head.{Head}
+use Rattle.attr_heads.specs.declared.heads.Head.{Head}
 use Rattle.mesh_model.specs.Parts.{MeshParts}
 use Rattle.drc_gen.specs.declared.kinds.GenKind.{GenKind}
 use Rattle.drc_gen.specs.declared.kinds.GenKind.TheVariants.{Grid, Torus, Holes, Fans, Seams}

@@ -1,7 +1,7 @@
 //! The mesh of a kind, a size and a seed.
 
 ghost use Rattle.std.specs.Prelude.{◌≡◌, ◌≤◌, None, IfOk};
-ghost use Rattle.mesh_model.specs.Head.{width_of};
+ghost use Rattle.attr_heads.specs.Head.{width_of};
 ghost use Rattle.mesh_model.specs.Parts.{AreRows, mesh_fault, range_fault, rows_of};
 ghost use Rattle.drc_gen.specs.Generated.{generated};
 
@@ -11,7 +11,8 @@ use crate::kinds::GenKind;
 use crate::points::make_points;
 use crate::sizes::{LEAST_SIZE, MOST_SIZE};
 use drc_base::Memory;
-use mesh_model::{CornerMesh, Head};
+use attr_heads::Head;
+use mesh_model::CornerMesh;
 use std::alloc::Global;
 
 /// The mesh of heads, points and faces that pass each test. It takes no memory.

@@ -5,7 +5,7 @@ ghost use Rattle.drc_gen.specs.Generated.{position_head, label_head, generated_h
 
 use crate::kinds::GenKind;
 use drc_base::Memory;
-use mesh_model::Head;
+use attr_heads::Head;
 use std::alloc::Global;
 
 /// The head of positions.

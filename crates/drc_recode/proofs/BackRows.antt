@@ -8,7 +8,7 @@ use Rattle.std.proofs.lemmas.List.Elements.{All-from_get_or}
 use Rattle.std.proofs.lemmas.List.Folds.{list_any_none, list_any_at}
 use Rattle.std.proofs.lemmas.List.FromFn.{fill_by_all, get_or-range_with_len, length-range_with_len}
 use Rattle.drc_base.specs.declared.kinds.Kind.TheVariants.{BadMap}
-use Rattle.mesh_model.specs.FirstFault.{at_place}
+use Rattle.attr_heads.specs.FirstFault.{at_place}
 use Rattle.mesh_model.specs.Renumbering.{inverted}
 use Rattle.mesh_model.specs.RenumberingLaws.{ApartNamesEachOnce}
 use Rattle.mesh_model.specs.Same.{Rows, named, turn, NamesEachOnce}

@@ -3,7 +3,7 @@ use Rattle.std.specs.Prelude.{ℕ, ◌==◌, ◌||◌, Bool, not, length, take, 
 use Rattle.std.specs.List.{list_any, range_with_len}
 use Rattle.drc_base.specs.declared.faults.Fault.{Fault}
 use Rattle.drc_base.specs.declared.kinds.Kind.TheVariants.{BadMap}
-use Rattle.mesh_model.specs.FirstFault.{at_place, value_unless}
+use Rattle.attr_heads.specs.FirstFault.{at_place, value_unless}
 use Rattle.mesh_model.specs.Renumbering.{inverted}
 use Rattle.mesh_model.specs.Same.{Rows, named, turn}
 

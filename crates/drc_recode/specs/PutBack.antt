@@ -4,7 +4,7 @@ use Rattle.drc_base.specs.declared.faults.Fault.{Fault}
 use Rattle.drc_base.specs.declared.kinds.Kind.TheVariants.{MapKind, MapCount}
 use Rattle.mesh_model.specs.declared.geometries.Geometry.{Geometry}
 use Rattle.mesh_model.specs.Contents.{is_mesh}
-use Rattle.mesh_model.specs.FirstFault.{unless, first_fault, value_unless}
+use Rattle.attr_heads.specs.FirstFault.{unless, first_fault, value_unless}
 use Rattle.mesh_model.specs.Same.{Rows}
 use Rattle.mesh_model.specs.SameLaws.{count_of}
 use Rattle.drc_recode.specs.Inverse.{bad_row}

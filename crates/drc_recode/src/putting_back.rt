@@ -4,7 +4,7 @@ ghost use Rattle.std.specs.Prelude.{◌≡◌, IfOk, length, not};
 ghost use Rattle.drc_base.specs.Refusals.{Answers};
 ghost use Rattle.mesh_model.specs.declared.geometries.Geometry.TheVariants as geometry;
 ghost use Rattle.mesh_model.specs.Contents.{is_mesh};
-ghost use Rattle.mesh_model.specs.FirstFault.{Tests, value_unless};
+ghost use Rattle.attr_heads.specs.FirstFault.{Tests, value_unless};
 ghost use Rattle.mesh_model.specs.IsGeometry.{IsGeometry};
 ghost use Rattle.mesh_model.specs.Parts.{IsMesh, IsCloud};
 ghost use Rattle.mesh_model.specs.Renumbering.{inverted, renumbered};

@@ -6,7 +6,8 @@ ghost use Rattle.mesh_model.specs.Renumbering.{NamesApart};
 ghost use Rattle.drc_recode.specs.FirstOrder.{reordered};
 
 use drc_base::Memory;
-use mesh_model::{Cloud, Head};
+use attr_heads::Head;
+use mesh_model::Cloud;
 use std::alloc::Global;
 
 /// Equal heads.

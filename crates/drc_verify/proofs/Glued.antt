@@ -9,7 +9,7 @@ use Rattle.drc_base.specs.Refusals.{Answers}
 use Rattle.drc_bits.proofs.Results.{Ok-injective, err≢ok}
 use Rattle.mesh_model.specs.declared.geometries.Geometry.{Geometry}
 use Rattle.mesh_model.specs.declared.geometries.Geometry.TheVariants.{Mesh, Cloud}
-use Rattle.mesh_model.specs.FirstFault.{value_unless}
+use Rattle.attr_heads.specs.FirstFault.{value_unless}
 use Rattle.mesh_model.specs.Parts.{MeshParts}
 use Rattle.mesh_model.specs.Same.{Rows, Same, SameMesh}
 use Rattle.mesh_model.specs.Contents.{faces_in}

@@ -6,7 +6,7 @@ use Rattle.drc_base.specs.Steps.{◌>>=◌}
 use Rattle.drc_bits.proofs.Results.{Ok-injective, err≢ok}
 use Rattle.mesh_model.specs.declared.geometries.Geometry.{Geometry}
 use Rattle.mesh_model.specs.declared.geometries.Geometry.TheVariants.{Mesh, Cloud}
-use Rattle.mesh_model.specs.FirstFault.{unless, value_unless}
+use Rattle.attr_heads.specs.FirstFault.{unless, value_unless}
 use Rattle.mesh_model.specs.Parts.{MeshParts}
 use Rattle.mesh_model.specs.Same.{Rows}
 use Rattle.corner_table.specs.Sides.{Gluing, number, side_at}

@@ -6,7 +6,7 @@ use Rattle.drc_base.specs.declared.faults.Fault.{Fault}
 use Rattle.drc_base.specs.Profile.{Profile, profile}
 use Rattle.drc_bits.specs.Reading.{Reading, start_of}
 use Rattle.drc_bits.proofs.Results.{Ok-injective, err≢ok}
-use Rattle.mesh_model.specs.FirstFault.{value_unless}
+use Rattle.attr_heads.specs.FirstFault.{value_unless}
 use Rattle.mesh_model.specs.Parts.{MeshParts, mesh_of, cloud_of}
 use Rattle.mesh_model.specs.Assembled.{assembled, assembled_parts, corner_rows, distinct, row_number, triple}
 use Rattle.seq_section.specs.Indices.{indices_at}

@@ -3,11 +3,11 @@ use Rattle.std.specs.Prelude.{◌≡◌, ℕ, ◌*◌, ◌==◌, Bool, true, fal
 use Rattle.drc_base.specs.declared.faults.Fault.{Fault}
 use Rattle.drc_base.specs.declared.kinds.Kind.TheVariants.{Choice, NoPosition}
 use Rattle.drc_base.specs.Steps.{◌>>=◌}
-use Rattle.mesh_model.specs.declared.heads.Head.{Head}
+use Rattle.attr_heads.specs.declared.heads.Head.{Head}
 use Rattle.mesh_model.specs.declared.geometries.Geometry.{Geometry}
 use Rattle.mesh_model.specs.declared.geometries.Geometry.TheVariants.{Mesh, Cloud}
 use Rattle.mesh_model.specs.Contents.{faces_in}
-use Rattle.mesh_model.specs.FirstFault.{unless, value_unless}
+use Rattle.attr_heads.specs.FirstFault.{unless, value_unless}
 use Rattle.mesh_model.specs.Parts.{MeshParts}
 use Rattle.mesh_model.specs.Same.{Rows, Same}
 use Rattle.corner_table.specs.Sides.{Gluing}

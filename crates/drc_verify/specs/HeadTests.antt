@@ -1,8 +1,8 @@
 -- Whether heads are equal, as a test (this project's choice).
 use Rattle.std.specs.Prelude.{◌==◌, ◌&&◌, Bool, true, false, List, nat_eq, Option, None, Some}
 use Rattle.std.specs.Cmp.Lexicographic.{pointwise}
-use Rattle.mesh_model.specs.declared.heads.Quant.{Quant}
-use Rattle.mesh_model.specs.declared.heads.Head.{Head}
+use Rattle.attr_heads.specs.declared.quants.Quant.{Quant}
+use Rattle.attr_heads.specs.declared.heads.Head.{Head}
 
 -- whether two quantisations are equal
 abbrev pub same_quant : Quant → Quant → Bool

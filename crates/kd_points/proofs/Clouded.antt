@@ -8,9 +8,10 @@ use Rattle.std.proofs.lemmas.List.Folds.{list_all_at}
 use Rattle.std.proofs.lemmas.List.Sums.{list_all-from_AllPass, sum_by-cons}
 use Rattle.drc_base.specs.declared.limits.TheConstants.{MAX_KD_POINTS, MAX_KD_VALUES}
 use Rattle.drc_base.specs.declared.kinds.Kind.TheVariants as kind
-use Rattle.mesh_model.specs.declared.heads.Head.{Head}
-use Rattle.mesh_model.specs.FirstFault.{at_place, value_unless}
-use Rattle.mesh_model.specs.Head.{heads_fault, in_type, types_of, width_of}
+use Rattle.attr_heads.specs.declared.heads.Head.{Head}
+use Rattle.attr_heads.specs.FirstFault.{at_place, value_unless}
+use Rattle.attr_heads.specs.DataTypes.{in_type}
+use Rattle.attr_heads.specs.Head.{heads_fault, types_of, width_of}
 use Rattle.mesh_model.specs.Parts.{ArePoints, CloudParts, RowFits, cells_of}
 use Rattle.mesh_model.proofs.Places.{position-none, position-at}
 use Rattle.kd_tree.specs.Keys.{Key}

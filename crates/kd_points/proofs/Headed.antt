@@ -14,12 +14,19 @@ use Rattle.drc_bits.specs.Numbers.{number_at}
 use Rattle.drc_bits.specs.Varint.{var32_at}
 use Rattle.drc_bits.proofs.Results.{Ok-injective}
 use Rattle.drc_bits.proofs.Parted.{must-passed, many-passed}
-use Rattle.mesh_model.specs.declared.heads.Head.{Head}
-use Rattle.mesh_model.specs.declared.heads.Quant.{Quant}
-use Rattle.mesh_model.specs.Head.{has_type, has_minima, has_bits, head_fault, each_fault, heads_fault}
-use Rattle.mesh_model.proofs.FirstFaults.{unless-true, first_fault-cons}
-use Rattle.mesh_model.proofs.Passing.{heads_say}
-use Rattle.kd_points.specs.Header.{is_kd_type, kd_quant_at, kd_quant_of_at, kd_head_at, kd_heads_at, kd_attribute_count_at}
+use Rattle.attr_heads.specs.declared.heads.Head.{Head}
+use Rattle.attr_heads.specs.declared.quants.Quant.{Quant}
+use Rattle.attr_heads.specs.Quants.{has_minima, has_bits}
+use Rattle.attr_heads.specs.Head.{has_type, head_fault, each_fault, heads_fault}
+use Rattle.attr_heads.proofs.FirstFaults.{unless-true, first_fault-cons}
+use Rattle.attr_heads.proofs.Passing.{heads_say}
+use Rattle.attr_heads.specs.DataTypes.{is_type, is_float}
+use Rattle.attr_heads.specs.Quants.{are_quant_bits}
+use Rattle.attr_heads.specs.Head.{has_comps}
+use Rattle.attr_heads.specs.HeadItems.{head_at, quant_bits_at}
+use Rattle.attr_heads.proofs.Types.{integer_type}
+use Rattle.attr_heads.proofs.HeadsBack.{head_passed}
+use Rattle.kd_points.specs.Header.{kd_quant_at, kd_quant_of_at, kd_head_at, kd_heads_at, kd_attribute_count_at}
 
 -- a quantisation that fits a type and so many components
 record QuantFits (dtype comps : ℕ) (q : Option Quant) : Type 0 where
@@ -27,22 +34,16 @@ record QuantFits (dtype comps : ℕ) (q : Option Quant) : Type 0 where
   minima : has_minima comps q ≡ true
   bits : has_bits q ≡ true
 
-integer_type : (dtype : ℕ) → is_kd_type dtype ≡ true → (dtype == 9) ≡ false → (nat_le 1 dtype && nat_le dtype 6) ≡ true
-integer_type dtype is not =
-    let integer = nat_le 1 dtype && nat_le dtype 6 in
-    sym (or-false integer) ∙ ap (λ b. integer || b) (sym not) ∙ is
-
-quant-passed : (dtype comps : ℕ) → is_kd_type dtype ≡ true → (c : Reading) (y : Option Quant × Reading) → kd_quant_of_at dtype comps c ≡ Ok y → QuantFits dtype comps y.0
+quant-passed : (dtype comps : ℕ) → is_type dtype ≡ true → (c : Reading) (y : Option Quant × Reading) → kd_quant_of_at dtype comps c ≡ Ok y → QuantFits dtype comps y.0
 unfolding kd_quant_of_at kd_quant_at
-quant-passed dtype comps is_kd_type c y is =
-    either (QuantFits dtype comps y.0) (dtype == 9) (kd_quant_at comps c >>= λ q. Ok (Some q.0, q.1)) (Ok (None, c)) y is
+quant-passed dtype comps typed c y is =
+    either (QuantFits dtype comps y.0) (is_float dtype) (kd_quant_at comps c >>= λ q. Ok (Some q.0, q.1)) (Ok (None, c)) y is
     (λ float read.
-    let has_bits : ℕ → Bool = λ b. nat_le 1 b && nat_le b 30 in
-    let p = parts (kd_quant_at comps c) (λ q. Ok (Some q.0, q.1)) y read in
-    let q = parts (must kind.QuantBits has_bits (number_at 1) c) _ p.0 p.1 in
+        let p = parts (kd_quant_at comps c) (λ q. Ok (Some q.0, q.1)) y read in
+    let q = parts (quant_bits_at c) _ p.0 p.1 in
     let r = parts (number_at 4 q.0.1) _ p.0 q.2 in
     let s = parts (many_at (number_at 4) comps r.0.1) _ p.0 r.2 in
-    let bits = must-passed kind.QuantBits has_bits (number_at 1) c q.0 q.1 in
+    let bits = must-passed kind.QuantBits are_quant_bits (number_at 1) c q.0 q.1 in
     let minima = (many-passed (λ _. Unit {0}) (number_at 4) (λ _ _ _. tt) comps r.0.1 s.0 s.1).0 in
     let quant : Quant = record { bits = q.0.0; range = r.0.0; min = s.0.0 } in
     let found : QuantFits dtype comps (Some quant) =
@@ -51,7 +52,7 @@ quant-passed dtype comps is_kd_type c y is =
     (given (λ (z : Quant × Reading). QuantFits dtype comps (Some z.0)) (quant, s.0.1) p.0 s.2 found))
     (λ integer read.
     subst (λ (z : Option Quant × Reading). QuantFits dtype comps z.0) (Ok-injective read)
-    (record { type_fits = integer_type dtype is_kd_type integer; minima = refl; bits = refl }))
+    (record { type_fits = integer_type dtype typed integer; minima = refl; bits = refl }))
 
 -- a head without a fault, at whatever place it stands
 abbrev IsHead : Head → Type 0
@@ -60,21 +61,14 @@ IsHead h = (k : ℕ) → head_fault k h ≡ None
 head-passed : (c : Reading) (y : Head × Reading) → kd_head_at c ≡ Ok y → IsHead y.0
 unfolding kd_head_at
 head-passed c y is =
-    let has_comps : ℕ → Bool = λ n. nat_le 1 n && nat_le n MAX_COMPONENTS in
-    let p = parts (must kind.AttrType (λ n. nat_le n 4) (number_at 1) c) _ y is in
-    let q = parts (must kind.DataType is_kd_type (number_at 1) p.0.1) _ y p.2 in
-    let r = parts (must kind.Components has_comps (number_at 1) q.0.1) _ y q.2 in
-    let s = parts (number_at 1 r.0.1) _ y r.2 in
-    let t = parts (var32_at s.0.1) _ y s.2 in
-    let u = parts (kd_quant_of_at q.0.0 r.0.0 t.0.1) _ y t.2 in
-    let usage = must-passed kind.AttrType (λ n. nat_le n 4) (number_at 1) c p.0 p.1 in
-    let dtype = must-passed kind.DataType is_kd_type (number_at 1) p.0.1 q.0 q.1 in
-    let comps = must-passed kind.Components has_comps (number_at 1) q.0.1 r.0 r.1 in
-    let fits = quant-passed q.0.0 r.0.0 dtype.0 t.0.1 u.0 u.1 in
-    let h : Head = record { usage = p.0.0; dtype = q.0.0; comps = r.0.0; normalized = s.0.0; id = t.0.0; quant = u.0.0 } in
-    let all = and_from (has_comps r.0.0) (has_minima r.0.0 u.0.0) comps.0 fits.minima in
-    given (λ (z : Head × Reading). IsHead z.0) (h, u.0.1) y u.2 (λ k.
-    first_fault-cons _ _ (unless-true _ kind.AttrType k usage.0)
+    let p = parts (head_at c) _ y is in
+    let q = parts (kd_quant_of_at p.0.0.dtype p.0.0.comps p.0.1) _ y p.2 in
+    let says = head_passed c p.0 p.1 in
+    let fits = quant-passed p.0.0.dtype p.0.0.comps says.dtype p.0.1 q.0 q.1 in
+    let comps = and_from (nat_le 1 p.0.0.comps) (nat_le p.0.0.comps MAX_COMPONENTS) (le-leb 1 p.0.0.comps says.some) (le-leb p.0.0.comps MAX_COMPONENTS says.few) in
+    let all = and_from (has_comps p.0.0.comps) (has_minima p.0.0.comps q.0.0) comps fits.minima in
+    given (λ (z : Head × Reading). IsHead z.0) (record p.0.0 { quant = q.0.0 }, q.0.1) y q.2 (λ k.
+    first_fault-cons _ _ (unless-true _ kind.AttrType k (le-leb p.0.0.usage 4 says.usage))
     (first_fault-cons _ _ (unless-true _ kind.DataType k fits.type_fits)
     (first_fault-cons _ _ (unless-true _ kind.Components k all)
     (first_fault-cons _ [] (unless-true _ kind.QuantBits k fits.bits) refl))))

@@ -14,15 +14,15 @@ use Rattle.drc_bits.specs.Varint.{var32_at, spelling}
 use Rattle.drc_bits.specs.Spells.{Spells}
 use Rattle.drc_bits.proofs.Spelled.{Spells-all, Spells-then, Spells-must, Spells-byte, Spells-bytes, Spells-var32}
 use Rattle.rans_binary.specs.Blocks.{IsBlockOf, behind, block, first_bits}
-use Rattle.mesh_model.specs.declared.heads.Head.{Head}
+use Rattle.attr_heads.specs.declared.heads.Head.{Head}
 use Rattle.mesh_model.specs.declared.geometries.Geometry.TheVariants.{Cloud}
 use Rattle.mesh_model.specs.Contents.{is_mesh}
-use Rattle.mesh_model.specs.FirstFault.{unless}
-use Rattle.mesh_model.specs.Head.{width_of}
+use Rattle.attr_heads.specs.FirstFault.{unless}
+use Rattle.attr_heads.specs.Head.{width_of}
 use Rattle.mesh_model.specs.Parts.{CloudParts, IsCloud}
 use Rattle.mesh_model.specs.Same.{Rows}
-use Rattle.mesh_model.proofs.FirstFaults.{first_fault-none, unless-none}
-use Rattle.mesh_model.proofs.Passing.{HeadsSay, heads_say}
+use Rattle.attr_heads.proofs.FirstFaults.{first_fault-none, unless-none}
+use Rattle.attr_heads.proofs.Passing.{HeadsSay, heads_say}
 use Rattle.kd_tree.specs.Laws.{TreesAreReadAgain}
 use Rattle.kd_tree.specs.Order.{IsKdOrder}
 use Rattle.kd_tree.specs.Reading.{Streams, tree_of}

@@ -4,7 +4,8 @@ use Rattle.std.specs.Prelude.{◌==◌}
 use Rattle.std.specs.List.{range_with_len}
 use Rattle.std.proofs.lemmas.List.{length-map, get_or-map}
 use Rattle.std.proofs.lemmas.List.Sorted.{sum_by-IsPermutation}
-use Rattle.mesh_model.specs.Head.{in_type, types_of, width_of}
+use Rattle.attr_heads.specs.DataTypes.{in_type}
+use Rattle.attr_heads.specs.Head.{types_of, width_of}
 use Rattle.mesh_model.specs.Parts.{CloudParts, IsCloud}
 use Rattle.mesh_model.specs.Same.{NamesEachOnce, Rows, SameCloud}
 use Rattle.mesh_model.proofs.Counts.{count-map, count-range}

@@ -11,7 +11,9 @@ use Rattle.std.proofs.lemmas.List.Elements.{All-head, All-tail}
 use Rattle.std.proofs.Math.Nat.{mod-eq_of_lt}
 use Rattle.std.proofs.lemmas.List.{length-map, get_or-map, get_or_default, same_lists}
 use Rattle.std.proofs.lemmas.List.FromFn.{length-map-range_with_len, get_or-map-range_with_len}
-use Rattle.mesh_model.specs.Head.{greatest_of, in_type, least_of, types_of, width_of}
+use Rattle.attr_heads.specs.DataTypes.{greatest_of, in_type, least_of}
+use Rattle.attr_heads.specs.Head.{types_of, width_of}
+use Rattle.attr_heads.proofs.Types.{least_low, greatest_high}
 use Rattle.mesh_model.specs.Parts.{CloudParts, IsCloud}
 use Rattle.kd_points.specs.declared.extents.Extent.{Extent}
 use Rattle.kd_points.specs.Extents.{above, axes_over, column_of, depth_of, extent_of, extents_of, greatest_in, key_within, least_in, no_extent, offset_of, row_within}
@@ -21,31 +23,6 @@ use Rattle.kd_points.proofs.Axed.{offset_back}
 use Rattle.drc_bits.proofs.Digits.{digits-above, digits-most}
 use Rattle.kd_points.proofs.Extended.{greatest-least, least-most}
 use Rattle.kd_points.proofs.Lying.{depth-most, extent_at, get_or-column, length-extents_of, least_below}
-
--- the ranges of data types lie in 32 bits
-least-low : (dtype : ℕ) → negsuc 2147483647 ≤ℤ least_of dtype
-least-low dtype = elim (dtype == 1) as (λ t. negsuc 2147483647 ≤ℤ (if t then negsuc 127 else (if dtype == 3 then negsuc 32767 else (if dtype == 5 then negsuc 2147483647 else (if dtype == 9 then negsuc 2147483647 else pos 0))))) [
-  | true ↦ omega (arith, ints)
-  | false ↦ elim (dtype == 3) as (λ t. negsuc 2147483647 ≤ℤ (if t then negsuc 32767 else (if dtype == 5 then negsuc 2147483647 else (if dtype == 9 then negsuc 2147483647 else pos 0)))) [
-    | true ↦ omega (arith, ints)
-    | false ↦ elim (dtype == 5) as (λ t. negsuc 2147483647 ≤ℤ (if t then negsuc 2147483647 else (if dtype == 9 then negsuc 2147483647 else pos 0))) [
-      | true ↦ omega (arith, ints)
-      | false ↦ elim (dtype == 9) as (λ t. negsuc 2147483647 ≤ℤ (if t then negsuc 2147483647 else pos 0)) [ true ↦ omega (arith, ints) | false ↦ omega (arith, ints) ]
-    ]
-  ]
-]
-
-greatest-high : (dtype : ℕ) → greatest_of dtype ≤ℤ pos 2147483647
-greatest-high dtype = elim (dtype == 1) as (λ t. (if t then pos 127 else (if dtype == 2 then pos 255 else (if dtype == 3 then pos 32767 else (if dtype == 4 then pos 65535 else pos 2147483647)))) ≤ℤ pos 2147483647) [
-  | true ↦ omega (arith, ints)
-  | false ↦ elim (dtype == 2) as (λ t. (if t then pos 255 else (if dtype == 3 then pos 32767 else (if dtype == 4 then pos 65535 else pos 2147483647))) ≤ℤ pos 2147483647) [
-    | true ↦ omega (arith, ints)
-    | false ↦ elim (dtype == 3) as (λ t. (if t then pos 32767 else (if dtype == 4 then pos 65535 else pos 2147483647)) ≤ℤ pos 2147483647) [
-      | true ↦ omega (arith, ints)
-      | false ↦ elim (dtype == 4) as (λ t. (if t then pos 65535 else pos 2147483647) ≤ℤ pos 2147483647) [ true ↦ omega (arith, ints) | false ↦ omega (arith, ints) ]
-    ]
-  ]
-]
 
 holds : (b : Bool) → b ≡ true → T b
 holds b e = subst T (sym e) tt
@@ -60,8 +37,8 @@ small dtype v is =
     let p = and_parts (int_le (least_of dtype) v) (int_le v (greatest_of dtype)) is in
     let low : least_of dtype ≤ℤ v = record { le = holds (int_le (least_of dtype) v) p.0 } in
     let high : v ≤ℤ greatest_of dtype = record { le = holds (int_le v (greatest_of dtype)) p.1 } in
-    let least = least-low dtype in
-    let most = greatest-high dtype in
+    let least = least_low dtype in
+    let most = greatest_high dtype in
     (omega (arith, ints, low, least), omega (arith, ints, high, most))
 
 -- the least and the greatest of small integers are small

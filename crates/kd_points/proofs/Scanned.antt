@@ -4,7 +4,7 @@ use Rattle.std.specs.List.{range_with_len}
 use Rattle.std.proofs.lemmas.Bool.{cases_lt, cases_Bool}
 use Rattle.std.proofs.lemmas.List.{take_all, get_or_default}
 use Rattle.std.proofs.lemmas.List.FromFn.{map-range_with_len_more, length-map-range_with_len, get_or-map-range_with_len, fill_by_all}
-use Rattle.mesh_model.specs.Head.{in_type}
+use Rattle.attr_heads.specs.DataTypes.{in_type}
 use Rattle.mesh_model.specs.Parts.{cells_of}
 use Rattle.kd_tree.specs.Keys.{Key}
 use Rattle.kd_points.specs.declared.extents.Extent.{Extent}

@@ -1,16 +1,18 @@
 -- What stands in front of the tree in a kd-tree file of points (this project's choice; heads after the Draco Bitstream
 -- Specification 2.2, section "Attributes Decoder").
-use Rattle.std.specs.Prelude.{ℕ, ◌*◌, ◌==◌, ◌&&◌, ◌||◌, Bool, List, [], ◌∷◌, Option, None, Some, Ok, nat_le, nat_lt, nat_eq, if◌then◌else◌}
+use Rattle.std.specs.Prelude.{ℕ, ◌*◌, ◌==◌, List, [], ◌∷◌, Option, None, Some, Ok, nat_le, nat_lt, nat_eq, if◌then◌else◌}
 use Rattle.std.specs.Cmp.Lexicographic.{pointwise}
 use Rattle.drc_base.specs.declared.kinds.Kind.TheVariants as kind
-use Rattle.drc_base.specs.declared.limits.TheConstants.{MAX_ATTRIBUTES, MAX_COMPONENTS, MAX_KD_POINTS, MAX_KD_VALUES}
+use Rattle.drc_base.specs.declared.limits.TheConstants.{MAX_ATTRIBUTES, MAX_KD_POINTS, MAX_KD_VALUES}
 use Rattle.drc_base.specs.Steps.{◌>>=◌}
 use Rattle.drc_bits.specs.Reading.{Reading, Item, must, many_at, bytes_at}
 use Rattle.drc_bits.specs.Numbers.{number_at, signed_at}
 use Rattle.drc_bits.specs.Varint.{var32_at}
-use Rattle.mesh_model.specs.declared.heads.Head.{Head}
-use Rattle.mesh_model.specs.declared.heads.Quant.{Quant}
-use Rattle.mesh_model.specs.Head.{width_of}
+use Rattle.attr_heads.specs.declared.heads.Head.{Head}
+use Rattle.attr_heads.specs.declared.quants.Quant.{Quant}
+use Rattle.attr_heads.specs.DataTypes.{is_float}
+use Rattle.attr_heads.specs.Head.{width_of}
+use Rattle.attr_heads.specs.HeadItems.{head_at, quant_bits_at}
 use Rattle.kd_points.specs.declared.extents.Extent.{Extent}
 use Rattle.kd_points.specs.declared.headers.Header.{Header}
 
@@ -32,32 +34,24 @@ kd_opening_at c = do
 unfoldable pub kd_attribute_count_at : Reading → Item ℕ
 kd_attribute_count_at c = must kind.AttrLimit (λ n. nat_le n MAX_ATTRIBUTES) (must kind.NoAttribute (λ n. nat_lt 0 n) var32_at) c
 
--- whether a data type is accepted: 1 to 6 are integers, and 9 is a float32 that is quantised
-abbrev pub is_kd_type : ℕ → Bool
-is_kd_type dtype = (nat_le 1 dtype && nat_le dtype 6) || dtype == 9
-
 -- the quantisation of so many components: bits, range, minima
 unfoldable pub kd_quant_at : ℕ → Reading → Item Quant
 kd_quant_at comps c = do
-  bits ← must kind.QuantBits (λ n. nat_le 1 n && nat_le n 30) (number_at 1) c
+  bits ← quant_bits_at c
   range ← number_at 4 bits.1
   minima ← many_at (number_at 4) comps range.1
   Ok (record { bits = bits.0; range = range.0; min = minima.0 }, minima.1)
 
 -- the quantisation of an attribute of this type; integers have none
 unfoldable pub kd_quant_of_at : ℕ → ℕ → Reading → Item (Option Quant)
-kd_quant_of_at dtype comps c = if dtype == 9 then (kd_quant_at comps c >>= λ q. Ok (Some q.0, q.1)) else Ok (None, c)
+kd_quant_of_at dtype comps c = if is_float dtype then (kd_quant_at comps c >>= λ q. Ok (Some q.0, q.1)) else Ok (None, c)
 
 -- the head of an attribute
 unfoldable pub kd_head_at : Reading → Item Head
 kd_head_at c = do
-  usage ← must kind.AttrType (λ n. nat_le n 4) (number_at 1) c
-  dtype ← must kind.DataType is_kd_type (number_at 1) usage.1
-  comps ← must kind.Components (λ n. nat_le 1 n && nat_le n MAX_COMPONENTS) (number_at 1) dtype.1
-  normalized ← number_at 1 comps.1
-  id ← var32_at normalized.1
-  quant ← kd_quant_of_at dtype.0 comps.0 id.1
-  Ok (record { usage = usage.0; dtype = dtype.0; comps = comps.0; normalized = normalized.0; id = id.0; quant = quant.0 }, quant.1)
+  h ← head_at c
+  quant ← kd_quant_of_at h.0.dtype h.0.comps h.1
+  Ok (record h.0 { quant = quant.0 }, quant.1)
 
 -- the heads of all attributes
 unfoldable pub kd_heads_at : Reading → Item (List Head)

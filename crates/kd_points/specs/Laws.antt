@@ -1,7 +1,7 @@
 -- What holds of the keys of points and of written files (this project's choice).
 use Rattle.std.specs.Prelude.{◌≡◌, ℕ, ◌<◌, ◌^◌, ◌++◌, List, [], length, slice_index_or, Option, None, Some, Ok, All}
-use Rattle.mesh_model.specs.declared.heads.Head.{Head}
-use Rattle.mesh_model.specs.declared.heads.Quant.{Quant}
+use Rattle.attr_heads.specs.declared.heads.Head.{Head}
+use Rattle.attr_heads.specs.declared.quants.Quant.{Quant}
 use Rattle.mesh_model.specs.declared.geometries.Geometry.TheVariants.{Cloud}
 use Rattle.mesh_model.specs.Same.{Rows, Same}
 use Rattle.mesh_model.specs.Parts.{CloudParts, IsCloud}

@@ -7,11 +7,12 @@ use Rattle.drc_base.specs.declared.kinds.Kind.TheVariants as kind
 use Rattle.drc_base.specs.Steps.{◌>>=◌}
 use Rattle.drc_bits.specs.Reading.{Reading, Item, start_of}
 use Rattle.rans_binary.specs.Blocks.{bit_block_at}
-use Rattle.mesh_model.specs.declared.heads.Head.{Head}
+use Rattle.attr_heads.specs.declared.heads.Head.{Head}
 use Rattle.mesh_model.specs.declared.geometries.Geometry.{Geometry}
 use Rattle.mesh_model.specs.declared.geometries.Geometry.TheVariants.{Cloud}
-use Rattle.mesh_model.specs.FirstFault.{at_place, value_unless}
-use Rattle.mesh_model.specs.Head.{width_of, types_of, in_type}
+use Rattle.attr_heads.specs.FirstFault.{at_place, value_unless}
+use Rattle.attr_heads.specs.DataTypes.{in_type}
+use Rattle.attr_heads.specs.Head.{width_of, types_of}
 use Rattle.mesh_model.specs.Parts.{CloudParts}
 use Rattle.kd_tree.specs.Keys.{Key}
 use Rattle.kd_tree.specs.Reading.{tree_of}

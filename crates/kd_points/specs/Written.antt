@@ -8,12 +8,12 @@ use Rattle.drc_base.specs.declared.limits.TheConstants.{MAX_KD_POINTS, MAX_KD_VA
 use Rattle.drc_bits.specs.Bits.{low_bytes}
 use Rattle.drc_bits.specs.Varint.{spelling}
 use Rattle.rans_binary.specs.Blocks.{block}
-use Rattle.mesh_model.specs.declared.heads.Head.{Head}
-use Rattle.mesh_model.specs.declared.heads.Quant.{Quant}
+use Rattle.attr_heads.specs.declared.heads.Head.{Head}
+use Rattle.attr_heads.specs.declared.quants.Quant.{Quant}
 use Rattle.mesh_model.specs.declared.geometries.Geometry.{Geometry}
-use Rattle.mesh_model.specs.FirstFault.{unless, first_fault, value_unless}
+use Rattle.attr_heads.specs.FirstFault.{unless, first_fault, value_unless}
 use Rattle.mesh_model.specs.Contents.{heads_in, points_in, is_mesh}
-use Rattle.mesh_model.specs.Head.{width_of}
+use Rattle.attr_heads.specs.Head.{width_of}
 use Rattle.mesh_model.specs.Parts.{CloudParts}
 use Rattle.mesh_model.specs.Same.{Rows}
 use Rattle.kd_tree.specs.Trees.{split_bits, rest_bits}
@@ -43,7 +43,7 @@ kd_quant_bytes (Some q) = q.bits ∷ low_bytes 4 q.range ++ flat_map (low_bytes 
 
 -- the bytes of a head
 abbrev pub kd_head_bytes : Head → List ℕ
-kd_head_bytes h = h.usage ∷ h.dtype ∷ h.comps ∷ h.normalized ∷ spelling 5 h.id ++ kd_quant_bytes h.quant
+kd_head_bytes h = head_bytes h ++ kd_quant_bytes h.quant
 
 -- the bytes of an extent
 abbrev pub extent_bytes : Extent → List ℕ

@@ -3,7 +3,7 @@
 ghost use Rattle.std.specs.Prelude.{◌≡◌, ◌<◌, ◌≤◌, ◌≤ℤ◌, ◌-ℤ◌, IfOk, All, length};
 ghost use Rattle.drc_bits.specs.Digits.{digits};
 ghost use Rattle.kd_points.specs.Extents.{above, extent_of, extents_of, column_of, least_in, greatest_in};
-ghost use Rattle.mesh_model.specs.Head.{width_of};
+ghost use Rattle.attr_heads.specs.Head.{width_of};
 
 use drc_base::Memory;
 use mesh_model::Cloud;

@@ -3,25 +3,15 @@
 ghost use Rattle.std.specs.Prelude.{◌≡◌, Err, IfOk, None};
 ghost use Rattle.drc_base.specs.declared.faults.Fault.{Fault as AnyFault};
 ghost use Rattle.drc_base.specs.declared.faults.Refusal.TheVariants as refusal;
-ghost use Rattle.mesh_model.specs.Head.{heads_fault};
+ghost use Rattle.attr_heads.specs.Head.{heads_fault};
 ghost use Rattle.drc_bits.specs.Reading.{Reads, Gives, many_at};
 ghost use Rattle.drc_bits.specs.Numbers.{number_at};
-ghost use Rattle.kd_points.specs.Header.{is_kd_type, kd_quant_at, kd_quant_of_at, kd_head_at, kd_heads_at, kd_attribute_count_at};
+ghost use Rattle.kd_points.specs.Header.{kd_quant_at, kd_quant_of_at, kd_head_at, kd_heads_at, kd_attribute_count_at};
 
-use drc_base::{Fault, Kind, MAX_ATTRIBUTES, MAX_COMPONENTS, Refusal, Sequence};
+use drc_base::{Fault, Kind, MAX_ATTRIBUTES, Refusal, Sequence};
 use drc_bits::Cursor;
-use mesh_model::{Head, Quant};
+use attr_heads::{Head, Quant, is_float, read_bare_head, read_quant_bits};
 use std::alloc::Global;
-
-/// A quantised float32.
-const FLOAT32: u8 = 9;
-
-/// Whether a data type is accepted.
-fn is_type(dtype: u8) -> bool
-    ensures { result ≡ is_kd_type dtype }
-{
-    (1 <= dtype && dtype <= 6) || dtype == FLOAT32
-}
 
 /// How many attributes there are.
 #[tactic(auto, unfolding(crate::specs::Header::kd_attribute_count_at))]
@@ -56,11 +46,7 @@ fn read_minima(alloc: Global, c: &mut Cursor<'_>, comps: u8) -> Result<Vec<u32>,
 fn read_quant(alloc: Global, c: &mut Cursor<'_>, comps: u8) -> Result<Quant, Refusal>
     ensures { Gives (λ q. q) (kd_quant_at comps c.old) c.new result }
 {
-    let at = c.place();
-    let bits = c.get_u8()?;
-    if bits < 1 || bits > 30 {
-        return Err(Refusal::Fault(Fault::new(Kind::QuantBits, at)));
-    }
+    let bits = read_quant_bits(c)?;
     let range = c.get_u32()?;
     let minima = read_minima(alloc, c, comps)?;
     Ok(Quant {
@@ -80,7 +66,7 @@ fn read_quant_of(
 ) -> Result<Option<Quant>, Refusal>
     ensures { Gives (λ q. q) (kd_quant_of_at dtype comps c.old) c.new result }
 {
-    if dtype == FLOAT32 {
+    if is_float(dtype) {
         let quant = read_quant(alloc, c, comps)?;
         Ok(Some(quant))
     } else {
@@ -93,32 +79,9 @@ fn read_quant_of(
 fn read_head(alloc: Global, c: &mut Cursor<'_>) -> Result<Head, Refusal>
     ensures { Gives (λ h. h) (kd_head_at c.old) c.new result }
 {
-    let at = c.place();
-    let usage = c.get_u8()?;
-    if usage > 4 {
-        return Err(Refusal::Fault(Fault::new(Kind::AttrType, at)));
-    }
-    let at = c.place();
-    let dtype = c.get_u8()?;
-    if !is_type(dtype) {
-        return Err(Refusal::Fault(Fault::new(Kind::DataType, at)));
-    }
-    let at = c.place();
-    let comps = c.get_u8()?;
-    if comps < 1 || comps as u32 > MAX_COMPONENTS {
-        return Err(Refusal::Fault(Fault::new(Kind::Components, at)));
-    }
-    let normalized = c.get_u8()?;
-    let id = c.var32()?;
-    let quant = read_quant_of(alloc, c, dtype, comps)?;
-    Ok(Head {
-        usage,
-        dtype,
-        comps,
-        normalized,
-        id,
-        quant,
-    })
+    let head = read_bare_head(c)?;
+    let quant = read_quant_of(alloc, c, head.dtype, head.comps)?;
+    Ok(Head { quant, ..head })
 }
 
 /// The heads of `n` attributes.

@@ -10,7 +10,8 @@ use crate::extents::Extent;
 use crate::headers::{MAGIC, VERSION};
 use drc_base::Memory;
 use drc_bits::put_var32;
-use mesh_model::{Cloud, Head, Quant};
+use attr_heads::{Head, Quant, put_bare_head};
+use mesh_model::Cloud;
 use std::alloc::Global;
 
 /// Appends a number of four bytes.
@@ -59,11 +60,7 @@ fn put_head(out: &mut Vec<u8>, head: &Head) -> Result<(), Memory>
     ensures bytes { OnOk result (out.new.items ≡ out.old.items ++ kd_head_bytes head.now) }
     ensures fields { OnOk result (KdHeadFits head.now) }
 {
-    out.push(head.usage)?;
-    out.push(head.dtype)?;
-    out.push(head.comps)?;
-    out.push(head.normalized)?;
-    out.extend_from_slice(&put_var32(head.id))?;
+    put_bare_head(out, head)?;
     put_quant_of(out, head)?;
     Ok(())
 }

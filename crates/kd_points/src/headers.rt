@@ -4,14 +4,14 @@ ghost use Rattle.std.specs.Prelude.{◌≡◌, ◌≤◌, ◌<◌, ◌+◌, ◌*
 ghost use Rattle.drc_base.specs.declared.faults.Fault.{Fault as AnyFault};
 ghost use Rattle.drc_base.specs.declared.faults.Refusal.TheVariants as refusal;
 ghost use Rattle.drc_bits.specs.Reading.{Reads, Gives, many_at};
-ghost use Rattle.mesh_model.specs.Head.{heads_fault, width_of};
+ghost use Rattle.attr_heads.specs.Head.{heads_fault, width_of};
 ghost use Rattle.kd_points.specs.Header.{kd_opening_at, point_count_at, extent_at, kd_header_at, kd_declared_at};
 
 use crate::extents::Extent;
 use crate::head_reading::read_heads;
 use drc_base::{Fault, Kind, MAX_KD_POINTS, MAX_KD_VALUES, Refusal, Sequence};
 use drc_bits::Cursor;
-use mesh_model::Head;
+use attr_heads::Head;
 use std::alloc::Global;
 
 /// The first bytes of a file.

@@ -1,7 +1,7 @@
 //! The keys of points.
 
 ghost use Rattle.std.specs.Prelude.{◌≡◌, ◌<◌, ◌≤◌, ◌≤ℤ◌, ◌++◌, ◌∷◌, [], ℕ, pos, IfOk, OnOk, All, length, slice_index_or};
-ghost use Rattle.mesh_model.specs.Head.{width_of};
+ghost use Rattle.attr_heads.specs.Head.{width_of};
 ghost use Rattle.kd_tree.specs.Reading.{number_behind};
 ghost use Rattle.kd_points.specs.Keys.{number_has_bit, key_of};
 ghost use Rattle.kd_points.specs.Extents.{axes_over, depth_of, extents_of, keys_of, no_extent, offset_of};

@@ -3,7 +3,8 @@
 ghost use Rattle.std.specs.Prelude.{◌≡◌, ◌<◌, ◌≤◌, ◌^◌, ◌+◌, ◌++◌, ◌*◌, ◌≤ℤ◌, ℕ, pos, negsuc, [], ◌∷◌, true, false, IsTrue, None, map, min, replicate, IfOk, OnOk, All, length, slice_index, slice_set};
 ghost use Rattle.std.specs.List.{range_with_len};
 ghost use Rattle.drc_base.specs.Refusals.{Answers};
-ghost use Rattle.mesh_model.specs.Head.{heads_fault, in_type, types_of, width_of};
+ghost use Rattle.attr_heads.specs.DataTypes.{in_type};
+ghost use Rattle.attr_heads.specs.Head.{heads_fault, types_of, width_of};
 ghost use Rattle.mesh_model.specs.Parts.{cells_of};
 ghost use Rattle.kd_tree.specs.Keys.{key_at};
 ghost use Rattle.kd_tree.specs.Trees.{high_bits};
@@ -16,7 +17,8 @@ use crate::extents::Extent;
 use crate::headers::Header;
 use drc_base::{Fault, Kind, MAX_KD_POINTS, MAX_KD_VALUES, Memory, Refusal};
 use kd_tree::{Keys, bit_in};
-use mesh_model::{Cloud, Head, greatest_of, least_of};
+use attr_heads::{Head, greatest_of, least_of};
+use mesh_model::Cloud;
 use std::alloc::Global;
 
 /// How many bytes the extent of a component takes.
@@ -113,7 +115,7 @@ fn fill_offsets(offsets: &mut [u32], axes: &[Axis], keys: &Keys, point: usize)
 }
 
 /// Whether a number is in the range of a data type.
-#[tactic(auto, unfolding(mesh_model::specs::Head::in_type))]
+#[tactic(auto, unfolding(attr_heads::specs::DataTypes::in_type))]
 fn is_typed(dtype: u8, value: i64) -> bool
     ensures typed { result ≡ in_type dtype value }
     ensures low { IsTrue result → negsuc 2147483647 ≤ℤ value }

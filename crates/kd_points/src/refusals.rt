@@ -2,7 +2,7 @@
 
 ghost use Rattle.std.specs.Prelude.{◌≡◌, ◌<◌, ◌≤◌, ◌*◌, ◌^◌, None, Some, IfOk, OnOk, length, MatchResult};
 ghost use Rattle.mesh_model.specs.declared.geometries.Geometry.TheVariants.{Cloud as cloud};
-ghost use Rattle.mesh_model.specs.Head.{width_of};
+ghost use Rattle.attr_heads.specs.Head.{width_of};
 ghost use Rattle.mesh_model.specs.Parts.{IsCloud};
 ghost use Rattle.kd_points.specs.Written.{kd_fault};
 

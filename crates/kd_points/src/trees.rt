@@ -1,7 +1,7 @@
 //! The tree of a cloud, to be written.
 
 ghost use Rattle.std.specs.Prelude.{◌≡◌, ◌<◌, ◌≤◌, ◌*◌, ◌^◌, IfOk, length};
-ghost use Rattle.mesh_model.specs.Head.{width_of};
+ghost use Rattle.attr_heads.specs.Head.{width_of};
 ghost use Rattle.kd_points.specs.Extents.{extents_of, keys_of};
 ghost use Rattle.kd_points.specs.Written.{kd_split_of, rest_of};
 ghost use Rattle.kd_tree.specs.Order.{IsKdOrder};

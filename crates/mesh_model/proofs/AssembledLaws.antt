@@ -9,10 +9,10 @@ use Rattle.std.proofs.lemmas.List.Folds.{list_any-append, list_any_none}
 use Rattle.std.proofs.lemmas.List.FromFn.{map-range_with_len_more, length-map-range_with_len, get_or-map-range_with_len}
 use Rattle.std.proofs.lemmas.List.Sums.{fails_before_first, passes_at_first}
 use Rattle.drc_base.specs.declared.faults.Fault.{Fault}
-use Rattle.mesh_model.specs.declared.heads.Head.{Head}
+use Rattle.attr_heads.specs.declared.heads.Head.{Head}
 use Rattle.mesh_model.specs.Groups.{AttrTable}
-use Rattle.mesh_model.specs.FirstFault.{value_unless}
-use Rattle.mesh_model.specs.Head.{width_of}
+use Rattle.attr_heads.specs.FirstFault.{value_unless}
+use Rattle.attr_heads.specs.Head.{width_of}
 use Rattle.mesh_model.specs.Parts.{MeshParts, corner, count_fault}
 use Rattle.mesh_model.specs.Assembled.{Columns, corner_row, corner_rows, same_row, distinct, row_number, triple, assembled_parts, assembled}
 use Rattle.mesh_model.proofs.DistinctRows.{same_row-decides, same_row-refl, distinct-push, with_row}

@@ -9,15 +9,15 @@ use Rattle.std.proofs.lemmas.List.FromFn.{map-range_with_len_more, length-map-ra
 use Rattle.std.proofs.lemmas.List.Quantifiers.{all_pairs_push}
 use Rattle.std.proofs.lemmas.List.Sums.{position_or_len_is}
 use Rattle.drc_base.specs.declared.faults.Fault.{Fault}
-use Rattle.mesh_model.specs.declared.heads.Head.{Head}
+use Rattle.attr_heads.specs.declared.heads.Head.{Head}
 use Rattle.mesh_model.specs.Groups.{AttrTable}
-use Rattle.mesh_model.specs.FirstFault.{value_unless}
-use Rattle.mesh_model.specs.Head.{width_of}
+use Rattle.attr_heads.specs.FirstFault.{value_unless}
+use Rattle.attr_heads.specs.Head.{width_of}
 use Rattle.mesh_model.specs.Parts.{MeshParts, count_fault, rows_of, RowFits, IsFaceOf, IsMesh}
 use Rattle.mesh_model.specs.Stored.{AreStored}
 use Rattle.mesh_model.specs.Assembled.{Columns, corner_row, corner_rows, same_row, distinct, row_number, triple, assembled, AreTables, AreAttrTables}
 use Rattle.mesh_model.specs.RowIndex.{IsPointOf, IsNumbering}
-use Rattle.mesh_model.proofs.Columns.{width_of-bounds}
+use Rattle.attr_heads.proofs.Widths.{width_of-bounds}
 use Rattle.mesh_model.proofs.CornerRows.{RowFits-corner_row}
 use Rattle.mesh_model.proofs.DistinctRows.{other_than, same_row-refl, same_row-apart, distinct-push, with_row}
 use Rattle.mesh_model.proofs.Made.{count_fault-points, count_fault-values}

@@ -3,7 +3,7 @@ use Rattle.std.proofs.Common.{◌≡◌, ℕ, ◌+◌, ◌*◌, ◌<◌, ◌≤�
 use Rattle.std.specs.List.{All, zip}
 use Rattle.std.proofs.lemmas.List.{get_or-map, length-map, map-append}
 use Rattle.std.proofs.lemmas.List.Elements.{All-nil, All-cons, All-head, All-tail, All-append}
-use Rattle.mesh_model.specs.declared.heads.Head.{Head}
+use Rattle.attr_heads.specs.declared.heads.Head.{Head}
 use Rattle.mesh_model.specs.Assembled.{corner_row, column_entry, entry, AreAttrTables, IsAttrTable}
 use Rattle.mesh_model.specs.Groups.{AttrTable, GroupParts, tables_of, group_tables, corner_entries, HasVertices}
 use Rattle.mesh_model.specs.Vertices.{AttributeParts, AreWhole, IsWholeAt, attributes_of, attributes_in, table_of, vertex_entry, vertex_row}

@@ -6,7 +6,7 @@ use Rattle.std.proofs.lemmas.List.{get_or-set_same, get_or-set_other, get_or_pas
 use Rattle.std.proofs.lemmas.List.Elements.{All-nil, All-cons, All-head, All-tail, All-append}
 use Rattle.std.proofs.lemmas.List.Folds.{list_any_at}
 use Rattle.std.proofs.lemmas.List.FromFn.{map-range_with_len_more, length-map-range_with_len, get_or-map-range_with_len}
-use Rattle.mesh_model.specs.declared.heads.Head.{Head}
+use Rattle.attr_heads.specs.declared.heads.Head.{Head}
 use Rattle.mesh_model.specs.Assembled.{Columns, corner_row, distinct, entry, column_entry, same_row, triple}
 use Rattle.mesh_model.specs.Groups.{AttrTable, GroupParts, corner_entries, tables_of, group_tables, HasVertices}
 use Rattle.mesh_model.specs.Items.{HaveSameVertices, RowsFollowVertices, AreItems, AreLatest, HasItem, HaveItems, AreItemFaces}

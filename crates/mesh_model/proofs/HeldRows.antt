@@ -1,6 +1,6 @@
 -- What a geometry has, by how it is held.
 use Rattle.std.proofs.Common.{◌≡◌, ℕ, ℤ, List, length, Option, None, Some}
-use Rattle.mesh_model.specs.declared.heads.Head.{Head}
+use Rattle.attr_heads.specs.declared.heads.Head.{Head}
 use Rattle.mesh_model.specs.Contents.{points_in}
 use Rattle.mesh_model.specs.Held.{held}
 use Rattle.mesh_model.specs.Stored.{AreStored}

@@ -1,4 +1,3 @@
-pub mod Columns
 pub mod BitSets
 pub mod AttributeRows
 pub mod VertexItems
@@ -12,7 +11,6 @@ pub mod CornerItems
 pub mod CornerRows
 pub mod Counts
 pub mod DistinctRows
-pub mod FirstFaults
 pub mod Growing
 pub mod Indexes
 pub mod Made
@@ -21,7 +19,6 @@ pub mod HeldRows
 pub mod Names
 pub mod NumberedFaces
 pub mod Pairs
-pub mod Passing
 pub mod Places
 pub mod Ranges
 pub mod Rows

@@ -8,13 +8,14 @@ use Rattle.std.proofs.lemmas.List.Sums.{AllPass-from_list_all, list_all-from_All
 use Rattle.std.proofs.lemmas.List.Elements.{All-from_get_or, All-weaker}
 use Rattle.drc_base.specs.declared.kinds.Kind.TheVariants.{PointLimit, ValueLimit, FaceLimit, IndexRange}
 use Rattle.drc_base.specs.declared.limits.TheConstants.{MAX_POINTS, MAX_VALUES}
-use Rattle.mesh_model.specs.declared.heads.Head.{Head}
-use Rattle.mesh_model.specs.FirstFault.{unless, at_place, value_unless}
-use Rattle.mesh_model.specs.Head.{width_of, types_of, in_type, heads_fault}
+use Rattle.attr_heads.specs.declared.heads.Head.{Head}
+use Rattle.attr_heads.specs.FirstFault.{unless, at_place, value_unless}
+use Rattle.attr_heads.specs.DataTypes.{in_type}
+use Rattle.attr_heads.specs.Head.{width_of, types_of, heads_fault}
 use Rattle.mesh_model.specs.Parts.{MeshParts, CloudParts, rows_of, cells_of, count_fault, faces_fault, index_fault, range_fault, mesh_fault, cloud_fault, mesh_of, cloud_of, AreRows, RowFits, ArePoints, IsMesh, IsCloud}
 use Rattle.mesh_model.specs.Stored.{AreStored}
-use Rattle.mesh_model.proofs.Columns.{width_of-bounds}
-use Rattle.mesh_model.proofs.FirstFaults.{unless-none, unless-true, at_place-none, first_fault-none, first_fault-cons}
+use Rattle.attr_heads.proofs.Widths.{width_of-bounds}
+use Rattle.attr_heads.proofs.FirstFaults.{unless-none, unless-true, at_place-none, first_fault-none, first_fault-cons}
 use Rattle.mesh_model.proofs.Places.{position-none, position-none_back}
 use Rattle.mesh_model.proofs.Ranges.{fits_at, range_fault-none, range_fault-none_back}
 use Rattle.mesh_model.proofs.Rows.{length-rows_of, get_or-rows_of, length-stored_row, get_or-stored_row, length-cells_of, length-cells_of-div, get_or-cells_of, rows_of-cells_of}

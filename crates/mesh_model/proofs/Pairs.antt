@@ -4,7 +4,7 @@ use Rattle.std.specs.List.{flat_map, zip}
 use Rattle.std.proofs.lemmas.List.{take_more, take_all, append-nil}
 use Rattle.std.proofs.lemmas.List.Concat.{flat_map-append}
 use Rattle.std.proofs.lemmas.Slice.Zip.{length-zip, get_or-zip}
-use Rattle.mesh_model.specs.declared.heads.Head.{Head}
+use Rattle.attr_heads.specs.declared.heads.Head.{Head}
 
 -- column j is head j with table j
 pub column_zip : {T : Type 0} → (heads : List Head) (tables : List T) (j : ℕ) (h : Head) (t : T) → length tables ≡ length heads → j < length heads → h ≡ get_or heads j h → t ≡ get_or tables j t → get_or (zip heads tables) j (h, t) ≡ (h, t)

@@ -5,12 +5,13 @@ use Rattle.std.proofs.lemmas.List.{get_or-take}
 use Rattle.std.proofs.lemmas.List.FromFn.{get_or-enumerate_from, length-enumerate_from}
 use Rattle.std.proofs.lemmas.Nat.{mod-mul-add}
 use Rattle.drc_base.specs.declared.kinds.Kind.TheVariants.{ValueRange}
-use Rattle.mesh_model.specs.declared.heads.Head.{Head}
-use Rattle.mesh_model.specs.FirstFault.{at_place}
-use Rattle.mesh_model.specs.Head.{in_type, types_of, width_of}
+use Rattle.attr_heads.specs.declared.heads.Head.{Head}
+use Rattle.attr_heads.specs.FirstFault.{at_place}
+use Rattle.attr_heads.specs.DataTypes.{in_type}
+use Rattle.attr_heads.specs.Head.{types_of, width_of}
 use Rattle.mesh_model.specs.Parts.{range_fault}
 use Rattle.mesh_model.proofs.Places.{position-none, position-at, position-none_back}
-use Rattle.mesh_model.proofs.FirstFaults.{at_place-none}
+use Rattle.attr_heads.proofs.FirstFaults.{at_place-none}
 use Rattle.std.proofs.lemmas.Bool.{not-false}
 
 -- whether cell k is in its type

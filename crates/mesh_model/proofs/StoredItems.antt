@@ -4,15 +4,15 @@ use Rattle.std.specs.List.{All, range_with_len, zip}
 use Rattle.std.proofs.lemmas.List.{get_or-map, length-map, take_all}
 use Rattle.std.proofs.lemmas.List.Elements.{All-nil, All-cons, All-head, All-tail, All-from_get_or}
 use Rattle.std.proofs.lemmas.List.FromFn.{length-map-range_with_len, get_or-map-range_with_len}
-use Rattle.mesh_model.specs.declared.heads.Head.{Head}
+use Rattle.attr_heads.specs.declared.heads.Head.{Head}
 use Rattle.mesh_model.specs.Assembled.{corner_row, triple}
 use Rattle.mesh_model.specs.Groups.{GroupParts, group_tables}
-use Rattle.mesh_model.specs.Head.{width_of}
+use Rattle.attr_heads.specs.Head.{width_of}
 use Rattle.mesh_model.specs.Items.{AreItems, AreItemFaces, AreStoredItems, HaveItems}
 use Rattle.mesh_model.specs.Parts.{rows_of, cells_of}
 use Rattle.mesh_model.specs.Vertices.{AttributeParts, AreGroups, AreInOrder, AreWhole, IsWholeAt, attributes_in, vertex_row}
 use Rattle.mesh_model.proofs.AttributeRows.{All-attributes, AreWhole-groups, corner_row-vertex, tables-attributes}
-use Rattle.mesh_model.proofs.Columns.{heads_some, width_of-bounds}
+use Rattle.attr_heads.proofs.Widths.{heads_some, width_of-bounds}
 use Rattle.mesh_model.proofs.CornerItems.{ItemFaces-corners, rows-follow}
 use Rattle.mesh_model.proofs.CornerRows.{RowFits-corner_row}
 use Rattle.mesh_model.proofs.Rows.{length-cells_of, rows_of-cells_of}

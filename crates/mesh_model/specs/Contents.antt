@@ -1,6 +1,6 @@
 -- What a geometry has: the same words for a mesh and for a cloud.
 use Rattle.std.specs.Prelude.{ℕ, ℤ, Bool, true, false, List, []}
-use Rattle.mesh_model.specs.declared.heads.Head.{Head}
+use Rattle.attr_heads.specs.declared.heads.Head.{Head}
 use Rattle.mesh_model.specs.declared.geometries.Geometry.{Geometry}
 use Rattle.mesh_model.specs.declared.geometries.Geometry.TheVariants.{Mesh, Cloud}
 

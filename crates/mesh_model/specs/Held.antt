@@ -1,11 +1,11 @@
 -- Geometries as heads, a flat list of points and, for a mesh, faces (this project's choice).
 use Rattle.std.specs.Prelude.{ℕ, ℤ, List, Option, None, Some, Result}
 use Rattle.drc_base.specs.declared.faults.Fault.{Fault}
-use Rattle.mesh_model.specs.declared.heads.Head.{Head}
+use Rattle.attr_heads.specs.declared.heads.Head.{Head}
 use Rattle.mesh_model.specs.declared.geometries.Geometry.{Geometry}
 use Rattle.mesh_model.specs.declared.geometries.Geometry.TheVariants.{Mesh, Cloud}
-use Rattle.mesh_model.specs.FirstFault.{value_unless}
-use Rattle.mesh_model.specs.Head.{width_of}
+use Rattle.attr_heads.specs.FirstFault.{value_unless}
+use Rattle.attr_heads.specs.Head.{width_of}
 use Rattle.mesh_model.specs.Parts.{rows_of, mesh_fault, cloud_fault}
 
 -- the mesh of heads, rows of `width` integers and faces, or the cloud, where there are no faces

@@ -1,5 +1,3 @@
-pub mod FirstFault
-pub mod Head
 pub mod Parts
 pub mod Stored
 pub mod Contents

@@ -7,9 +7,10 @@ use Rattle.std.specs.List.{range_with_len, enumerate_from, list_all}
 use Rattle.drc_base.specs.declared.faults.Fault.{Fault}
 use Rattle.drc_base.specs.declared.kinds.Kind.TheVariants.{PointLimit, ValueLimit, FaceLimit, IndexRange, ValueRange}
 use Rattle.drc_base.specs.declared.limits.TheConstants.{MAX_POINTS, MAX_VALUES, MAX_FACES}
-use Rattle.mesh_model.specs.declared.heads.Head.{Head}
-use Rattle.mesh_model.specs.FirstFault.{unless, first_fault, at_place, value_unless}
-use Rattle.mesh_model.specs.Head.{width_of, types_of, in_type, heads_fault}
+use Rattle.attr_heads.specs.declared.heads.Head.{Head}
+use Rattle.attr_heads.specs.FirstFault.{unless, first_fault, at_place, value_unless}
+use Rattle.attr_heads.specs.DataTypes.{in_type}
+use Rattle.attr_heads.specs.Head.{width_of, types_of, heads_fault}
 
 -- a mesh: the heads of its attributes, its points, each a row of the integers of all attributes in
 -- order, and its faces, each a list of three point numbers

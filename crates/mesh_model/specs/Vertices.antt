@@ -1,7 +1,7 @@
 -- Attributes that have their values at vertices, and the rows of vertices (this project's choice).
 use Rattle.std.specs.Prelude.{ℕ, ◌≡◌, ◌<◌, ◌≤◌, ◌+◌, ◌*◌, ℤ, List, length, map, slice_index, flat_map, All}
 use Rattle.std.specs.List.{range_with_len, zip}
-use Rattle.mesh_model.specs.declared.heads.Head.{Head}
+use Rattle.attr_heads.specs.declared.heads.Head.{Head}
 use Rattle.mesh_model.specs.Assembled.{AreTables, distinct, entry}
 use Rattle.mesh_model.specs.Groups.{AttrTable, GroupParts, group_tables, HasVertices}
 

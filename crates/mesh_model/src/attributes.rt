@@ -5,7 +5,7 @@ ghost use Rattle.mesh_model.specs.Assembled.{corner_row};
 ghost use Rattle.mesh_model.specs.Vertices.{AreWhole, IsWholeAt, attributes_in, attributes_of, table_of, vertex_entry, vertex_row};
 
 use crate::groups::AttrGroup;
-use crate::heads::Head;
+use attr_heads::Head;
 use drc_base::Memory;
 use std::alloc::Global;
 use std::marker::Model;

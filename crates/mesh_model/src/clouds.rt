@@ -2,7 +2,7 @@
 
 use crate::geometry_rules::{RowShape, test_cloud};
 use crate::geometry_views::GeometryView;
-use crate::heads::{Head, copies_of};
+use attr_heads::{Head, copies_of};
 use crate::row_rules::stored_row;
 use drc_base::{Memory, Refusal};
 use std::alloc::Global;
@@ -34,8 +34,8 @@ impl Model for Cloud {
 impl Cloud {
     ghost use Rattle.std.specs.Prelude.{◌≡◌, ◌<◌, ◌≤◌, [], IfOk, IsTrue, None, length, slice_index_or};
     ghost use Rattle.mesh_model.specs.declared.geometries.Geometry.TheVariants as geometry;
-    ghost use Rattle.mesh_model.specs.FirstFault.{answer_of};
-    ghost use Rattle.mesh_model.specs.Head.{width_of};
+    ghost use Rattle.attr_heads.specs.FirstFault.{answer_of};
+    ghost use Rattle.attr_heads.specs.Head.{width_of};
     ghost use Rattle.mesh_model.specs.Parts.{AreRows, IsCloud, cells_of, cloud_of, range_fault, rows_of};
     ghost use Rattle.mesh_model.specs.Stored.{AreStored};
 

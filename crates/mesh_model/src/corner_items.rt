@@ -15,7 +15,7 @@ ghost use Rattle.mesh_model.specs.Vertices.{AreWhole, table_of};
 
 use crate::attributes::{Attribute, put_corner};
 use crate::groups::AttrGroup;
-use crate::heads::Head;
+use attr_heads::Head;
 use drc_base::{MAX_FACES, Memory};
 use std::alloc::Global;
 

@@ -1,12 +1,12 @@
 //! The tests that a whole geometry passes, in their order.
 
 ghost use Rattle.std.specs.Prelude.{◌≡◌, ◌/◌, ◌∷◌, [], All, IsTrue, None, IfOk, length};
-ghost use Rattle.mesh_model.specs.FirstFault.{Tests, first_fault};
-ghost use Rattle.mesh_model.specs.Head.{heads_fault, width_of};
+ghost use Rattle.attr_heads.specs.FirstFault.{Tests, first_fault};
+ghost use Rattle.attr_heads.specs.Head.{heads_fault, width_of};
 ghost use Rattle.mesh_model.specs.Parts.{AreRows, IsCloud, IsMesh, cloud_fault, count_fault, faces_fault, index_fault, mesh_fault, range_fault, rows_of};
 ghost use Rattle.mesh_model.specs.Stored.{AreStored};
 
-use crate::heads::{Head, test_heads};
+use attr_heads::{Head, test_heads};
 use crate::row_rules::{test_counts, test_face_count, test_indices, test_typed};
 use drc_base::Fault;
 

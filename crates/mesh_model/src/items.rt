@@ -2,14 +2,14 @@
 
 ghost use Rattle.std.specs.Prelude.{◌≡◌, ◌<◌, IfOk, IfSome, length, zip};
 ghost use Rattle.mesh_model.specs.Groups.{group_tables};
-ghost use Rattle.mesh_model.specs.Head.{width_of};
+ghost use Rattle.attr_heads.specs.Head.{width_of};
 ghost use Rattle.mesh_model.specs.Items.{AreStoredItems};
 ghost use Rattle.mesh_model.specs.Vertices.{AreGroups, attributes_in};
 
 use crate::attributes::{Attribute, attributes_in};
 use crate::corner_items::{corner_cells, corner_faces};
 use crate::groups::AttrGroup;
-use crate::heads::Head;
+use attr_heads::Head;
 use crate::vertex_items::{have_vertices, vertex_cells, vertex_faces};
 use drc_base::Memory;
 use std::alloc::Global;

@@ -12,12 +12,10 @@ mod bit_sets;
 mod clouds;
 mod corner_items;
 mod counted_rows;
-mod data_types;
 mod geometries;
 mod geometry_rules;
 mod geometry_views;
 mod groups;
-mod heads;
 mod items;
 mod laws;
 mod map_reading;
@@ -36,11 +34,9 @@ mod vertex_items;
 
 pub use assembling::assemble;
 pub use clouds::Cloud;
-pub use data_types::{greatest_of, least_of};
 pub use geometries::Geometry;
 pub use geometry_views::GeometryView;
 pub use groups::AttrGroup;
-pub use heads::{Head, Quant, copies_of};
 pub use laws::{
     distinct_rows_are_few, map_text_is_read_again, renumbered_is_a_mesh, same_is_an_equivalence,
 };

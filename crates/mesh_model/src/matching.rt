@@ -7,7 +7,7 @@ ghost use Rattle.mesh_model.specs.Same.{NamesEachOnce, Same, SameFace, SameMesh,
 
 use crate::clouds::Cloud;
 use crate::geometries::Geometry;
-use crate::heads::{Head, Quant};
+use attr_heads::{Head, Quant};
 use crate::meshes::CornerMesh;
 use crate::renumberings::Renumber;
 use drc_base::Memory;

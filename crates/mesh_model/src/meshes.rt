@@ -3,7 +3,7 @@
 use crate::counted_rows::CountedRows;
 use crate::geometry_rules::{RowShape, test_mesh};
 use crate::geometry_views::GeometryView;
-use crate::heads::{Head, copies_of};
+use attr_heads::{Head, copies_of};
 use crate::row_numbers::first_rows;
 use crate::row_rules::stored_row;
 use drc_base::{Memory, Refusal};
@@ -37,8 +37,8 @@ impl Model for CornerMesh {
 impl CornerMesh {
     ghost use Rattle.std.specs.Prelude.{◌≡◌, ◌<◌, ◌≤◌, [], All, IfOk, IsTrue, None, length, slice_index_or};
     ghost use Rattle.mesh_model.specs.declared.geometries.Geometry.TheVariants as geometry;
-    ghost use Rattle.mesh_model.specs.FirstFault.{answer_of};
-    ghost use Rattle.mesh_model.specs.Head.{width_of};
+    ghost use Rattle.attr_heads.specs.FirstFault.{answer_of};
+    ghost use Rattle.attr_heads.specs.Head.{width_of};
     ghost use Rattle.mesh_model.specs.Parts.{AreRows, IsMesh, cells_of, corner, mesh_of, range_fault, rows_of};
     ghost use Rattle.mesh_model.specs.RowNumbers.{AreFirstRows};
     ghost use Rattle.mesh_model.specs.Stored.{AreStored};

@@ -4,7 +4,7 @@
 ghost use Rattle.std.specs.Prelude.{◌≡◌, ◌*◌, ◌<◌, ℕ, [], All, length, map, slice_index, slice_index_or, zip, IfOk};
 ghost use Rattle.mesh_model.specs.Assembled.{Columns};
 ghost use Rattle.mesh_model.specs.Groups.{group_tables};
-ghost use Rattle.mesh_model.specs.Head.{width_of};
+ghost use Rattle.attr_heads.specs.Head.{width_of};
 ghost use Rattle.mesh_model.specs.Items.{AreItemFaces};
 ghost use Rattle.mesh_model.specs.Parts.{rows_of};
 ghost use Rattle.mesh_model.specs.RowIndex.{RowsAreNumbered, AreNumberedFaces, AreTwins};
@@ -12,7 +12,7 @@ ghost use Rattle.mesh_model.specs.Vertices.{AreGroups};
 
 use crate::counted_rows::CountedRows;
 use crate::groups::AttrGroup;
-use crate::heads::Head;
+use attr_heads::Head;
 use crate::items::{ItemFaces, items_of};
 use crate::row_index::twins_of;
 use crate::row_rules::stored_row;

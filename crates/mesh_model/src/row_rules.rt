@@ -2,12 +2,12 @@
 
 ghost use Rattle.std.specs.Prelude.{◌≡◌, ◌+◌, ◌*◌, ◌/◌, ◌<◌, ◌≤◌, ◌^◌, ℕ, [], length, slice_index_or, nat_lt, not, All, position, take, IsTrue, None};
 ghost use Rattle.std.specs.List.{list_all};
-ghost use Rattle.mesh_model.specs.FirstFault.{Tests};
-ghost use Rattle.mesh_model.specs.Head.{types_of, width_of};
+ghost use Rattle.attr_heads.specs.FirstFault.{Tests};
+ghost use Rattle.attr_heads.specs.Head.{types_of, width_of};
 ghost use Rattle.mesh_model.specs.Parts.{count_fault, faces_fault, index_fault, range_fault, rows_of};
 
-use crate::data_types::in_type;
-use crate::heads::Head;
+use attr_heads::in_type;
+use attr_heads::Head;
 use drc_base::{Fault, Kind, MAX_FACES, MAX_POINTS, MAX_VALUES};
 
 /// The most integers of a row: as many attributes as there may be, each of as many components.

@@ -12,7 +12,7 @@ ghost use Rattle.mesh_model.specs.Vertices.{AreInOrder, IsWholeAt, vertex_entry,
 
 use crate::attributes::{Attribute, put_vertex, triple_at};
 use crate::groups::AttrGroup;
-use crate::heads::Head;
+use attr_heads::Head;
 use drc_base::{MAX_FACES, Memory};
 use std::alloc::Global;
 

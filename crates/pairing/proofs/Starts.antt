@@ -3,7 +3,7 @@ use Rattle.std.proofs.Common.{◌≡◌, ◌≢◌, ℕ, ◌-◌, ◌*◌, ◌^�
 use Rattle.std.proofs.lemmas.Bool.{cases_eq, eq-eqb, ne_eqb, cases_lt}
 use Rattle.std.proofs.lemmas.List.{get_or-replicate, get_or_past, length-replicate}
 use Rattle.drc_base.specs.declared.kinds.Kind.TheVariants.{Degenerate}
-use Rattle.mesh_model.specs.FirstFault.{at_place}
+use Rattle.attr_heads.specs.FirstFault.{at_place}
 use Rattle.mesh_model.specs.Parts.{MeshParts, IsMesh}
 use Rattle.mesh_model.proofs.DistinctRows.{same_row-refl, same_row-apart}
 use Rattle.corner_table.specs.Sides.{Side, Place, first, second, third, side, next, prev, side_at, Gluing, unglued}

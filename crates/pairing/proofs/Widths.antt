@@ -1,8 +1,8 @@
 -- The first attribute's integers are among those of a row.
 use Rattle.std.proofs.Common.{◌≤◌, List, [], ◌∷◌, arith}
 use Rattle.std.proofs.lemmas.List.Sums.{get_or-le-sum_by}
-use Rattle.mesh_model.specs.declared.heads.Head.{Head}
-use Rattle.mesh_model.specs.Head.{width_of}
+use Rattle.attr_heads.specs.declared.heads.Head.{Head}
+use Rattle.attr_heads.specs.Head.{width_of}
 use Rattle.pairing.specs.Pairing.{first_width}
 
 pub first_width_le : (heads : List Head) → first_width heads ≤ width_of heads

@@ -2,7 +2,7 @@
 use Rattle.std.specs.Prelude.{ℕ, ◌||◌, Bool, length, Option}
 use Rattle.drc_base.specs.declared.faults.Fault.{Fault}
 use Rattle.drc_base.specs.declared.kinds.Kind.TheVariants.{Degenerate}
-use Rattle.mesh_model.specs.FirstFault.{at_place}
+use Rattle.attr_heads.specs.FirstFault.{at_place}
 use Rattle.mesh_model.specs.Parts.{MeshParts}
 use Rattle.corner_table.specs.Sides.{side, first, second, third}
 use Rattle.pairing.specs.Pairing.{same_position, least}

@@ -3,7 +3,7 @@
 use Rattle.std.specs.Prelude.{◌≡◌, ℕ, zero, suc, ◌*◌, ◌&&◌, Bool, true, false, not, cond, ℤ, List, [], ◌∷◌, take, length, Option, Some}
 use Rattle.std.specs.Prelude.{None}
 use Rattle.std.specs.Option.{is_some}
-use Rattle.mesh_model.specs.declared.heads.Head.{Head}
+use Rattle.attr_heads.specs.declared.heads.Head.{Head}
 use Rattle.mesh_model.specs.Parts.{MeshParts, corner}
 use Rattle.mesh_model.specs.Assembled.{same_row}
 use Rattle.corner_table.specs.Sides.{Side, next, prev, side_at, place_number, Gluing, unglued, glue, IsFree}

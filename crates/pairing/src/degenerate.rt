@@ -1,7 +1,7 @@
 //! The test for faces with two equal positions.
 
 ghost use Rattle.std.specs.Prelude.{◌≡◌, ◌<◌, length, take};
-ghost use Rattle.mesh_model.specs.FirstFault.{Tests};
+ghost use Rattle.attr_heads.specs.FirstFault.{Tests};
 ghost use Rattle.mesh_model.specs.Assembled.{same_row as one_row};
 ghost use Rattle.corner_table.specs.Sides.{side, first, second, third};
 ghost use Rattle.corner_table.specs.Sides.{place_of};

@@ -4,12 +4,13 @@
 //! its point.
 
 ghost use Rattle.std.specs.Prelude.{◌≡◌, ◌≤◌, IfOk};
-ghost use Rattle.mesh_model.specs.Head.{width_of};
+ghost use Rattle.attr_heads.specs.Head.{width_of};
 ghost use Rattle.pairing.specs.Pairing.{first_width};
 ghost use Rattle.pairing.specs.Positions.{ArePointNumbers, AreCornerNumbers};
 
 use drc_base::Memory;
-use mesh_model::{CornerMesh, Head};
+use attr_heads::Head;
+use mesh_model::CornerMesh;
 use std::alloc::Global;
 
 /// How many integers the first attribute has.

@@ -7,8 +7,9 @@ use Rattle.std.proofs.lemmas.Bool.{cond_both, leb-true, lt-ltb, le-leb, eq-eqb, 
 use Rattle.std.proofs.lemmas.List.{length-map}
 use Rattle.drc_base.specs.declared.faults.Fault.{Fault}
 use Rattle.drc_base.specs.declared.limits.TheConstants.{MAX_POINTS}
-use Rattle.mesh_model.specs.declared.heads.Head.{Head}
-use Rattle.mesh_model.specs.Head.{types_of, in_type, least_of, greatest_of}
+use Rattle.attr_heads.specs.declared.heads.Head.{Head}
+use Rattle.attr_heads.specs.DataTypes.{in_type, least_of, greatest_of}
+use Rattle.attr_heads.specs.Head.{types_of}
 use Rattle.mesh_model.specs.Parts.{RowFits, IsFaceOf}
 use Rattle.ply_text.specs.Numbers.{integer_of, only_if, natural_of, is_digits, digits_value}
 use Rattle.ply_text.specs.Header.{column_type}

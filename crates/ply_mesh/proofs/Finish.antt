@@ -2,10 +2,10 @@
 use Rattle.std.proofs.Common.{◌≡◌, ℕ, ◌+◌, List, map, Some, None, Result, Ok, Err, sym, ap, ◌∙◌}
 use Rattle.std.specs.Prelude.{ℤ, unwrap_or}
 use Rattle.drc_base.specs.declared.faults.Refusal.{Refusal}
-use Rattle.mesh_model.specs.declared.heads.Head.{Head}
+use Rattle.attr_heads.specs.declared.heads.Head.{Head}
 use Rattle.mesh_model.specs.declared.geometries.Geometry.{Geometry}
 use Rattle.mesh_model.specs.declared.geometries.Geometry.TheVariants.{Mesh, Cloud}
-use Rattle.mesh_model.specs.FirstFault.{answer_of}
+use Rattle.attr_heads.specs.FirstFault.{answer_of}
 use Rattle.mesh_model.specs.Parts.{MeshParts, CloudParts, AreRows, cloud_of, mesh_of}
 use Rattle.ply_text.specs.declared.headers.Header.{Header}
 use Rattle.ply_text.specs.IsHeader.{IsHeader}

@@ -4,8 +4,8 @@ use Rattle.std.specs.Prelude.{codes, Some, Option}
 use Rattle.std.specs.Fmt.{decimal}
 use Rattle.std.proofs.lemmas.List.{append-nil, at_drop_more}
 use Rattle.std.proofs.lemmas.List.Concat.{flat_map-append}
-use Rattle.mesh_model.specs.declared.heads.Head.{Head}
-use Rattle.mesh_model.specs.declared.heads.Quant.{Quant}
+use Rattle.attr_heads.specs.declared.heads.Head.{Head}
+use Rattle.attr_heads.specs.declared.quants.Quant.{Quant}
 use Rattle.ply_mesh.specs.Text.{spaced, rest_text, line_text, text_of, pattern_text, attr_line, quant_line, quant_lines, head_lines}
 
 -- pieces that are appended one after another

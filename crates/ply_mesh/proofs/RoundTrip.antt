@@ -10,16 +10,16 @@ use Rattle.std.proofs.lemmas.List.Elements.{recursion_from_All}
 use Rattle.drc_base.specs.declared.faults.Fault.{Fault}
 use Rattle.drc_base.specs.declared.limits.TheConstants.{MAX_POINTS, MAX_FACES, MAX_VALUES, MAX_ATTRIBUTES}
 use Rattle.drc_base.specs.Steps.{◌>>=◌}
-use Rattle.mesh_model.specs.declared.heads.Head.{Head}
-use Rattle.mesh_model.specs.declared.heads.Quant.{Quant}
+use Rattle.attr_heads.specs.declared.heads.Head.{Head}
+use Rattle.attr_heads.specs.declared.quants.Quant.{Quant}
 use Rattle.mesh_model.specs.declared.geometries.Geometry.{Geometry}
 use Rattle.mesh_model.specs.declared.geometries.Geometry.TheVariants.{Mesh, Cloud}
-use Rattle.mesh_model.specs.Head.{width_of, types_of as column_dtypes, has_type}
+use Rattle.attr_heads.specs.Head.{width_of, types_of as column_dtypes, has_type}
 use Rattle.mesh_model.specs.Parts.{RowFits, ArePoints, IsFaceOf}
-use Rattle.mesh_model.proofs.Columns.{width_of-bounds}
+use Rattle.attr_heads.proofs.Widths.{width_of-bounds}
 use Rattle.mesh_model.specs.Contents.{heads_in}
 use Rattle.mesh_model.specs.IsGeometry.{IsGeometry}
-use Rattle.mesh_model.proofs.Passing.{HeadSays, HeadsSay, heads_say}
+use Rattle.attr_heads.proofs.Passing.{HeadSays, HeadsSay, heads_say}
 use Rattle.ply_text.specs.declared.headers.Header.{Header}
 use Rattle.ply_text.specs.Tokens.{token_lines}
 use Rattle.ply_text.specs.Words.{keyword_of}

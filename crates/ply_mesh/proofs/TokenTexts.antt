@@ -4,10 +4,10 @@ use Rattle.std.specs.Prelude.{codes, ℤ}
 use Rattle.std.specs.List.{list_all, AllByRecursion}
 use Rattle.std.specs.Fmt.{decimal, signed_decimal}
 use Rattle.std.proofs.lemmas.Bool.{cond_both, and_from, lt-ltb}
-use Rattle.mesh_model.specs.declared.heads.Head.{Head}
-use Rattle.mesh_model.specs.declared.heads.Quant.{Quant}
-use Rattle.mesh_model.specs.Head.{has_bits}
-use Rattle.mesh_model.proofs.Passing.{HeadSays}
+use Rattle.attr_heads.specs.declared.heads.Head.{Head}
+use Rattle.attr_heads.specs.declared.quants.Quant.{Quant}
+use Rattle.attr_heads.specs.Quants.{has_bits}
+use Rattle.attr_heads.proofs.Passing.{HeadSays}
 use Rattle.ply_mesh.specs.Fields.{HasFields}
 use Rattle.ply_mesh.specs.Text.{pattern_text, attr_line, quant_line, quant_lines, head_lines, type_word, usage_name, plain_name, name_at, has_usage_names, property_line, component_lines, property_lines, element_line, face_line}
 use Rattle.ply_mesh.proofs.Lexing.{is_token, are_tokens, are_lines, list_all-append}

@@ -2,7 +2,7 @@
 use Rattle.std.proofs.Common.{◌≡◌, ℕ, suc, ◌-◌, ◌<◌, ◌≤◌, eqb, ◌^◌, Bool, true, false, ◌&&◌, cond, List, Option, Some, None, refl, sym, ap, ◌∙◌, inl, inr, arith}
 use Rattle.std.specs.Prelude.{ℤ, pos, negsuc, neg_ℤ, int_le, unsigned_abs}
 use Rattle.std.proofs.lemmas.Bool.{cases_Bool, cond_both, leb-true, le-leb}
-use Rattle.mesh_model.specs.Head.{least_of, greatest_of, in_type}
+use Rattle.attr_heads.specs.DataTypes.{least_of, greatest_of, in_type}
 use Rattle.ply_text.specs.Numbers.{integer_of, only_if, is_between}
 use Rattle.ply_text.proofs.Signs.{plus_between, minus_between}
 use Rattle.ply_mesh.specs.Body.{IsRange, token_number}

@@ -9,9 +9,11 @@ use Rattle.std.proofs.lemmas.List.Sums.{sum_by-cons}
 use Rattle.std.proofs.lemmas.Option.{same_Some}
 use Rattle.drc_base.specs.declared.faults.Fault.{Fault}
 use Rattle.drc_base.specs.declared.kinds.Kind.TheVariants.{PlyRow, PlyNumber, PlyIndex}
-use Rattle.mesh_model.specs.declared.heads.Head.{Head}
-use Rattle.mesh_model.specs.Head.{width_of, types_of, in_type, has_type, has_minima, has_bits, head_fault, each_fault, heads_fault}
-use Rattle.mesh_model.proofs.FirstFaults.{unless-true, first_fault-cons}
+use Rattle.attr_heads.specs.declared.heads.Head.{Head}
+use Rattle.attr_heads.specs.DataTypes.{in_type}
+use Rattle.attr_heads.specs.Quants.{has_minima, has_bits}
+use Rattle.attr_heads.specs.Head.{width_of, types_of, has_type, head_fault, each_fault, heads_fault}
+use Rattle.attr_heads.proofs.FirstFaults.{unless-true, first_fault-cons}
 use Rattle.drc_base.specs.declared.kinds.Kind.TheVariants.{NoAttribute, AttrLimit, AttrType, DataType, Components, QuantBits}
 use Rattle.drc_base.specs.declared.limits.TheConstants.{MAX_ATTRIBUTES, MAX_COMPONENTS, MAX_VALUES, MAX_FACES}
 use Rattle.drc_base.specs.Steps.{◌>>=◌}

@@ -3,8 +3,8 @@
 use Rattle.std.specs.Prelude.{ℕ, ◌+◌, ◌-◌, List, map, drop, Option, None, Some, option_map, unwrap_or, Result, Ok, ℤ}
 use Rattle.drc_base.specs.declared.faults.Fault.{Fault}
 use Rattle.drc_base.specs.Steps.{◌>>=◌}
-use Rattle.mesh_model.specs.declared.heads.Quant.{Quant}
-use Rattle.mesh_model.specs.declared.heads.Head.{Head}
+use Rattle.attr_heads.specs.declared.quants.Quant.{Quant}
+use Rattle.attr_heads.specs.declared.heads.Head.{Head}
 use Rattle.mesh_model.specs.declared.geometries.Geometry.{Geometry}
 use Rattle.mesh_model.specs.declared.geometries.Geometry.TheVariants.{Mesh, Cloud}
 use Rattle.ply_text.specs.declared.headers.PlyQuant.{PlyQuant}

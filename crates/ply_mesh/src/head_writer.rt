@@ -2,13 +2,13 @@
 
 ghost use Rattle.std.specs.Prelude.{◌≡◌, ◌+◌, ◌<◌, ◌≤◌, ◌^◌, ◌++◌, ◌∷◌, length, drop, map, OnOk, All};
 ghost use Rattle.std.specs.Fmt.{decimal};
-ghost use Rattle.mesh_model.specs.Head.{width_of};
+ghost use Rattle.attr_heads.specs.Head.{width_of};
 ghost use Rattle.ply_mesh.specs.Fields.{QuantFields, HasFields};
 ghost use Rattle.ply_mesh.specs.Text.{spaced, line_text, text_of, hex_digit, pattern_text, attr_line, quant_line, quant_lines, head_lines};
 
 use decimal_text::append_spaced;
 use drc_base::Memory;
-use mesh_model::{Head, Quant};
+use attr_heads::{Head, Quant};
 
 fn hex_digit(d: u32) -> u8
     requires { d < 16 }

@@ -11,7 +11,8 @@ use crate::head_writer::put_heads;
 use crate::property_writer::put_properties;
 use decimal_text::append_spaced;
 use drc_base::Memory;
-use mesh_model::{Cloud, CornerMesh, Geometry, Head};
+use attr_heads::Head;
+use mesh_model::{Cloud, CornerMesh, Geometry};
 use std::alloc::Global;
 
 /// Appends `element NAME N`.

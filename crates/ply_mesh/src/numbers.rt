@@ -5,7 +5,7 @@ ghost use Rattle.std.specs.Int.{w32};
 ghost use Rattle.ply_text.specs.Numbers.{is_between};
 ghost use Rattle.ply_mesh.specs.Body.{IsRange, token_number};
 
-use mesh_model::{greatest_of, least_of};
+use attr_heads::{greatest_of, least_of};
 use ply_text::read_int;
 
 /// How far the numbers of a data type go below 0, and the greatest of them.

@@ -1,7 +1,7 @@
 -- The seams of a mesh: glued sides at an end of which its two corners differ in an attribute (Draco Bitstream Specification 2.2, section
 -- Edgebreaker Connectivity, attribute seams; the rule by which the encoder finds them is this project's choice).
 use Rattle.std.specs.Prelude.{ℕ, ◌||◌, Bool, true, not, ℤ, List, [], slice_index, slice_index_or, take, drop, Some, None}
-use Rattle.mesh_model.specs.Head.{width_of}
+use Rattle.attr_heads.specs.Head.{width_of}
 use Rattle.mesh_model.specs.Parts.{MeshParts, corner}
 use Rattle.mesh_model.specs.Assembled.{same_row}
 use Rattle.corner_table.specs.Sides.{Side, next, prev, place_number, Gluing}

@@ -4,7 +4,7 @@
 //! corners meet; where they are one point they agree, else their values of the attribute are compared.
 
 ghost use Rattle.std.specs.Prelude.{◌≡◌, ℕ, ◌+◌, ◌-◌, ◌*◌, ◌<◌, ◌≤◌, [], length, take, drop, slice_index_or, replicate, true, not, ◌||◌, IfOk};
-ghost use Rattle.mesh_model.specs.Head.{width_of as heads_width};
+ghost use Rattle.attr_heads.specs.Head.{width_of as heads_width};
 ghost use Rattle.mesh_model.specs.Assembled.{same_row};
 ghost use Rattle.corner_table.specs.Sides.{side_at, next, prev, IsGluing};
 ghost use Rattle.corner_table.specs.Table.{gluing_of, glued_in};
@@ -14,7 +14,8 @@ ghost use Rattle.seams.specs.Values.{is_seam, differ, point_at};
 use crate::sides::{all_set, later_side, sides_across};
 use corner_table::SideTable;
 use drc_base::Memory;
-use mesh_model::{CornerMesh, Head};
+use attr_heads::Head;
+use mesh_model::CornerMesh;
 use std::alloc::Global;
 
 /// How many integers these heads have.

@@ -8,7 +8,7 @@ use crate::faults::is_fault;
 use attr_section::{DecoderHead, Values, read_decoder, read_heads, write_decoder, write_heads};
 use drc_base::{Fault, Kind, MAX_VALUES, Memory, PROFILE_TWO, Refusal, Sequence};
 use drc_bits::Cursor;
-use mesh_model::{Head, Quant};
+use attr_heads::{Head, Quant};
 use std::alloc::{AllocError, Global};
 use std::test::Fail;
 

@@ -8,7 +8,7 @@ use crate::attr_section_tests::with_one_behind;
 use attr_section::{DecoderHead, Ordered, Values, read_decoder, write_decoder};
 use drc_base::{PROFILE_TWO, Refusal, Sequence};
 use drc_bits::Cursor;
-use mesh_model::Head;
+use attr_heads::Head;
 use std::alloc::{AllocError, Global};
 use std::process::Abort;
 use std::test::Fail;

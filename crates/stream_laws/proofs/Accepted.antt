@@ -4,9 +4,9 @@ use Rattle.drc_base.specs.declared.faults.Fault.{Fault}
 use Rattle.mesh_model.specs.declared.geometries.Geometry.{Geometry}
 use Rattle.mesh_model.specs.declared.geometries.Geometry.TheVariants.{Mesh}
 use Rattle.mesh_model.specs.Contents.{heads_in, points_in}
-use Rattle.mesh_model.specs.FirstFault.{first_fault, value_unless}
+use Rattle.attr_heads.specs.FirstFault.{first_fault, value_unless}
 use Rattle.mesh_model.specs.Parts.{MeshParts, ArePoints, IsMesh}
-use Rattle.mesh_model.proofs.FirstFaults.{first_fault-none}
+use Rattle.attr_heads.proofs.FirstFaults.{first_fault-none}
 use Rattle.pairing.specs.Degenerate.{degenerate_fault}
 use Rattle.attr_section.specs.declared.values.Values.{Values}
 use Rattle.drc_container.specs.declared.choice.codings.Coding.{Coding}

@@ -6,7 +6,7 @@ use Rattle.std.proofs.lemmas.List.{length-reverse}
 use Rattle.std.proofs.lemmas.List.FromFn.{length-map-range_with_len, get_or-map-range_with_len}
 use Rattle.drc_base.specs.declared.limits.TheConstants.{MAX_ATTRIBUTES, MAX_POINTS}
 use Rattle.mesh_model.specs.Parts.{MeshParts, IsMesh}
-use Rattle.mesh_model.proofs.Passing.{heads_say}
+use Rattle.attr_heads.proofs.Passing.{heads_say}
 use Rattle.pairing.specs.Pairing.{pairing}
 use Rattle.pairing.specs.Degenerate.{degenerate_fault}
 use Rattle.corner_table.specs.Sides.{Gluing}

@@ -4,9 +4,10 @@ use Rattle.std.specs.Prelude.{negsuc, ◌||◌, is_none}
 use Rattle.std.specs.List.{All}
 use Rattle.std.proofs.lemmas.Int.{ints}
 use Rattle.std.proofs.lemmas.List.Elements.{All-nil, All-cons}
-use Rattle.mesh_model.specs.declared.heads.Head.{Head}
+use Rattle.attr_heads.specs.declared.heads.Head.{Head}
 use Rattle.mesh_model.specs.declared.geometries.Geometry.TheVariants.{Mesh}
-use Rattle.mesh_model.specs.Head.{in_type, heads_fault}
+use Rattle.attr_heads.specs.DataTypes.{in_type}
+use Rattle.attr_heads.specs.Head.{heads_fault}
 use Rattle.mesh_model.specs.Parts.{MeshParts, RowFits, IsFaceOf, IsMesh}
 use Rattle.predict.specs.Wrap.{Range}
 use Rattle.predict.specs.declared.schemes.Prediction.TheVariants as prediction

@@ -4,7 +4,7 @@ use Rattle.std.specs.List.{All, enumerate_from}
 use Rattle.std.proofs.lemmas.List.Elements.{All-nil, All-cons, All-head, All-tail, All-get_or}
 use Rattle.std.proofs.lemmas.List.FromFn.{length-enumerate_from, get_or-enumerate_from}
 use Rattle.drc_bits.specs.Spells.{Spells}
-use Rattle.mesh_model.specs.declared.heads.Head.{Head}
+use Rattle.attr_heads.specs.declared.heads.Head.{Head}
 use Rattle.mesh_model.specs.Parts.{MeshParts, IsMesh}
 use Rattle.corner_table.specs.Sides.{IsGluing}
 use Rattle.attr_section.specs.declared.decoder_heads.DecoderHead.{DecoderHead}

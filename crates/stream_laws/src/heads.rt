@@ -7,7 +7,8 @@ ghost use Rattle.mesh_model.specs.IsGeometry.{IsGeometry};
 ghost use Rattle.attr_laws.specs.Laws.{HeadFits};
 ghost use Rattle.stream_laws.specs.Laws.{IsByte};
 
-use mesh_model::{Geometry, Head, Quant};
+use attr_heads::{Head, Quant};
+use mesh_model::Geometry;
 
 /// Numbers of 32 bits have 32 bits.
 fn numbers_fit(numbers: &[u32])

@@ -4,7 +4,8 @@ ghost use Rattle.std.specs.Prelude.{◌≡◌, ◌%◌, ◌<◌, length};
 
 use drc_base::{Fault, Kind, Refusal};
 use kd_points::{kd_bits, kd_decode, kd_encode};
-use mesh_model::{Cloud, CornerMesh, Geometry, Head, Renumber, matches};
+use attr_heads::Head;
+use mesh_model::{Cloud, CornerMesh, Geometry, Renumber, matches};
 use std::alloc::{AllocError, Global};
 use std::process::Abort;
 use std::test::Fail;

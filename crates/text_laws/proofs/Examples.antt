@@ -5,7 +5,7 @@ use Rattle.std.specs.Prelude.{codes, slice_get, zero, suc}
 use Rattle.std.proofs.lemmas.List.Elements.{All-from_recursion}
 use Rattle.mesh_model.specs.declared.geometries.Geometry.{Geometry}
 use Rattle.mesh_model.specs.declared.geometries.Geometry.TheVariants.{Mesh}
-use Rattle.mesh_model.specs.Head.{in_type}
+use Rattle.attr_heads.specs.DataTypes.{in_type}
 use Rattle.ply_mesh.specs.Body.{token_number, row_read}
 use Rattle.ply_mesh.specs.Read.{body_of, ply_read}
 use Rattle.ply_text.specs.Tokens.{tokens_of, token_lines}

@@ -7,7 +7,7 @@ use Rattle.std.proofs.lemmas.Bool.{eq-eqb, ltb-true, lt-ltb}
 use Rattle.std.proofs.lemmas.Bool.Decides.{Decides-int_eq}
 use Rattle.drc_base.specs.declared.faults.Fault.{Fault}
 use Rattle.drc_base.specs.declared.kinds.Kind.TheVariants.{PlyRow, PlyNumber, PlyFace, PlyIndex, PlyShort, PlyRest}
-use Rattle.mesh_model.specs.Head.{in_type}
+use Rattle.attr_heads.specs.DataTypes.{in_type}
 use Rattle.ply_text.specs.Numbers.{integer_of}
 use Rattle.ply_mesh.specs.Body.{token_number, numbers_of, row_read, point_numbered, points_numbered, indices_of, face_count_read, face_of, items_from, ends}
 use Rattle.text_laws.specs.HeaderShape.{Line}

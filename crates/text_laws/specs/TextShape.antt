@@ -3,7 +3,7 @@
 use Rattle.std.specs.Prelude.{ℕ, ◌≡◌, ◌<◌, ◌++◌, ℤ, pos, IsTrue, List, [], ◌∷◌, length, map, Option, None, Some}
 use Rattle.std.specs.List.{AllZip, AllByRecursion}
 use Rattle.mesh_model.specs.declared.geometries.Geometry.{Geometry}
-use Rattle.mesh_model.specs.Head.{in_type}
+use Rattle.attr_heads.specs.DataTypes.{in_type}
 use Rattle.ply_text.specs.declared.headers.Header.{Header}
 use Rattle.ply_text.specs.Numbers.{integer_of}
 use Rattle.ply_mesh.specs.Read.{geometry_head, geometry_of_rows}

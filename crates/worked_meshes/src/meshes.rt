@@ -3,7 +3,8 @@
 ghost use Rattle.std.specs.Prelude.{◌≡◌, ◌<◌, None};
 
 use drc_base::Refusal;
-use mesh_model::{CornerMesh, Head};
+use attr_heads::Head;
+use mesh_model::CornerMesh;
 use std::alloc::Global;
 
 /// The head of positions of three integers of 32 bits each.

@@ -3,7 +3,7 @@
 use Rattle.std.specs.Prelude.{ℕ, ◌≡◌, ◌≢◌, ◌<◌, ◌≤◌, ◌*◌, ℤ, ◌≤ℤ◌, true, List, length, take, None, All}
 use Rattle.drc_base.specs.declared.limits.TheConstants.{MAX_POINTS, MAX_VALUES}
 use Rattle.mesh_model.specs.declared.geometries.Geometry.TheVariants.{Mesh}
-use Rattle.mesh_model.specs.Head.{width_of}
+use Rattle.attr_heads.specs.Head.{width_of}
 use Rattle.mesh_model.specs.Parts.{MeshParts, IsMesh, corner}
 use Rattle.pairing.specs.Pairing.{first_width}
 use Rattle.predict.specs.Wrap.{Range, CanWrap}

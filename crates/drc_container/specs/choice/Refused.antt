@@ -4,9 +4,9 @@ use Rattle.std.specs.Prelude.{nat_le, nat_lt, if◌then◌else◌}
 use Rattle.drc_base.specs.declared.faults.Fault.{Fault}
 use Rattle.drc_base.specs.declared.kinds.Kind.TheVariants.{Choice as ChoiceKind, Empty, NoPosition, PointLimit, ValueLimit, Range}
 use Rattle.drc_base.specs.declared.limits.TheConstants.{MAX_POINTS, MAX_VALUES}
-use Rattle.mesh_model.specs.declared.heads.Head.{Head}
+use Rattle.attr_heads.specs.declared.heads.Head.{Head}
 use Rattle.mesh_model.specs.declared.geometries.Geometry.{Geometry}
-use Rattle.mesh_model.specs.FirstFault.{unless, first_fault, at_place}
+use Rattle.attr_heads.specs.FirstFault.{unless, first_fault, at_place}
 use Rattle.mesh_model.specs.Contents.{is_mesh, heads_in, points_in, faces_in}
 use Rattle.mesh_model.specs.Parts.{MeshParts}
 use Rattle.pairing.specs.Degenerate.{degenerate_fault}

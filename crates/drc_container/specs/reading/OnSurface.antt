@@ -7,10 +7,10 @@ use Rattle.drc_base.specs.declared.kinds.Kind.TheVariants.{PointLimit, ValueLimi
 use Rattle.drc_base.specs.Profile.{Profile}
 use Rattle.drc_base.specs.Steps.{◌>>=◌}
 use Rattle.drc_bits.specs.Reading.{Reading, Item}
-use Rattle.mesh_model.specs.declared.heads.Head.{Head}
+use Rattle.attr_heads.specs.declared.heads.Head.{Head}
 use Rattle.mesh_model.specs.Groups.{AttrTable}
-use Rattle.mesh_model.specs.FirstFault.{unless, first_fault, value_unless}
-use Rattle.mesh_model.specs.Head.{width_of}
+use Rattle.attr_heads.specs.FirstFault.{unless, first_fault, value_unless}
+use Rattle.attr_heads.specs.Head.{width_of}
 use Rattle.mesh_model.specs.Parts.{MeshParts}
 use Rattle.mesh_model.specs.Assembled.{assembled}
 use Rattle.corner_table.specs.Sides.{Side, Gluing}

@@ -2,7 +2,7 @@
 -- section "Edgebreaker Connectivity").
 use Rattle.std.specs.Prelude.{◌≡◌, map, length, Ok}
 use Rattle.std.specs.Option.{option_map}
-use Rattle.mesh_model.specs.FirstFault.{value_unless}
+use Rattle.attr_heads.specs.FirstFault.{value_unless}
 use Rattle.mesh_model.specs.Parts.{MeshParts}
 use Rattle.corner_table.specs.Table.{gluing_of}
 use Rattle.eb_trace.specs.Writable.{IsWritable}

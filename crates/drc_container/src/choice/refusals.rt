@@ -1,7 +1,7 @@
 //! Which geometries and choices are refused.
 
 ghost use Rattle.std.specs.Prelude.{◌≡◌, position, not};
-ghost use Rattle.mesh_model.specs.FirstFault.{Tests, unless};
+ghost use Rattle.attr_heads.specs.FirstFault.{Tests, unless};
 ghost use Rattle.mesh_model.specs.Contents.{heads_in};
 ghost use Rattle.attr_section.specs.Values.{can_wrap};
 ghost use Rattle.attr_section.specs.Written.{range_of};
@@ -11,7 +11,8 @@ use crate::choice::choices::Choice;
 use crate::choice::choosing::is_sequential;
 use attr_section::{Values, range_of};
 use drc_base::{Fault, Kind};
-use mesh_model::{GeometryView, Head};
+use attr_heads::Head;
+use mesh_model::GeometryView;
 use predict::Prediction;
 
 /// A fault of this kind with this number, where a test doesn't hold.

@@ -12,7 +12,7 @@ ghost use Rattle.drc_container.specs.reading.Stream.{sequential_attributes_at, d
 use attr_section::{DecoderHead, Values, read_decoder, read_heads};
 use drc_base::{PROFILE_TWO, Refusal, Sequence};
 use drc_bits::Cursor;
-use mesh_model::Head;
+use attr_heads::Head;
 use std::alloc::Global;
 
 /// The attributes of a stream: their heads, and the values of each.

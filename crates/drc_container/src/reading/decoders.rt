@@ -28,7 +28,7 @@ use drc_base::{Memory, PROFILE_TWO, Refusal, Sequence};
 use drc_bits::Cursor;
 use eb_rebuild::Built;
 use eb_section::EbRead;
-use mesh_model::Head;
+use attr_heads::Head;
 use rans_binary::BitBlock;
 use seams::classes;
 use std::alloc::Global;

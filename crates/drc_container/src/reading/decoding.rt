@@ -18,7 +18,8 @@ use crate::reading::info::{Decoded, StreamInfo, sequential_info};
 use crate::reading::points::points_of;
 use drc_base::{Refusal, Sequence};
 use drc_bits::Cursor;
-use mesh_model::{Cloud, CornerMesh, Geometry, Head};
+use attr_heads::Head;
+use mesh_model::{Cloud, CornerMesh, Geometry};
 use seq_section::read_indices;
 use std::alloc::Global;
 

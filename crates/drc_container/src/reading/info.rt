@@ -10,7 +10,8 @@ use attr_section::Values;
 use drc_base::{Memory, Sequence};
 use drc_bits::Cursor;
 use eb_rebuild::Built;
-use mesh_model::{Geometry, Head};
+use attr_heads::Head;
+use mesh_model::Geometry;
 use std::alloc::Global;
 
 /// What is known of an attribute beside its values.

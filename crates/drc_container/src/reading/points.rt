@@ -6,7 +6,7 @@ ghost use Rattle.drc_container.specs.Columns.{column_row, cells_at};
 
 use attr_section::Values;
 use drc_base::Memory;
-use mesh_model::Head;
+use attr_heads::Head;
 use std::alloc::Global;
 
 /// The integers of so many points, point after point, each with those of all attributes in order. The

@@ -15,7 +15,8 @@ use crate::reading::info::{AttrInfo, attr_infos};
 use attr_section::{DecoderHead, Values};
 use corner_table::{Classes, Order};
 use drc_base::{Memory, Sequence};
-use mesh_model::{AttrGroup, Head};
+use attr_heads::Head;
+use mesh_model::AttrGroup;
 use std::alloc::Global;
 
 /// The values of a decoder's attributes, and the vertices at which they stand.

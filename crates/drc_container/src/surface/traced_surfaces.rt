@@ -4,7 +4,7 @@ ghost use Rattle.std.specs.Prelude.{◌≡◌, length, Some, Err, IfOk};
 ghost use Rattle.drc_base.specs.declared.faults.Fault.{Fault as AnyFault};
 ghost use Rattle.drc_base.specs.declared.faults.Refusal.TheVariants as refusal;
 ghost use Rattle.drc_base.specs.Refusals.{Answers};
-ghost use Rattle.mesh_model.specs.FirstFault.{value_unless};
+ghost use Rattle.attr_heads.specs.FirstFault.{value_unless};
 ghost use Rattle.corner_table.specs.Fans.{IsProper};
 ghost use Rattle.corner_table.specs.Table.{gluing_of};
 ghost use Rattle.corner_table.specs.Carried.{IsRenumbering};

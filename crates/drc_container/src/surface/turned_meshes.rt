@@ -2,14 +2,15 @@
 
 ghost use Rattle.std.specs.Prelude.{◌≡◌, ◌+◌, ◌%◌, ◌<◌, ◌≤◌, length, get_or, All, IfOk};
 ghost use Rattle.mesh_model.specs.Parts.{cells_of, corner, IsMesh};
-ghost use Rattle.mesh_model.specs.Head.{width_of};
+ghost use Rattle.attr_heads.specs.Head.{width_of};
 ghost use Rattle.mesh_model.specs.Renumbering.{renumbered, turned_face};
 ghost use Rattle.corner_table.specs.Table.{side_of};
 ghost use Rattle.corner_table.specs.Carried.{carry, IsRenumbering};
 
 use crate::writing::coded_values::put_piece;
 use drc_base::{Memory, Side};
-use mesh_model::{CornerMesh, Head, copies_of};
+use attr_heads::{Head, copies_of};
+use mesh_model::CornerMesh;
 use std::alloc::Global;
 use std::marker::Model;
 

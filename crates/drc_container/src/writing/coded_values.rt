@@ -2,7 +2,7 @@
 
 ghost use Rattle.std.specs.Prelude.{◌≡◌, ◌+◌, ◌++◌, ◌≤◌, ℤ, List, take, drop, length, IfOk, vec_len, vec_capacity};
 ghost use Rattle.std.specs.List.{flat_map};
-ghost use Rattle.mesh_model.specs.Head.{width_of};
+ghost use Rattle.attr_heads.specs.Head.{width_of};
 ghost use Rattle.mesh_model.specs.Contents.{heads_in, points_in};
 ghost use Rattle.predict.specs.Schemes.{code_of};
 ghost use Rattle.drc_container.specs.writing.Written.{values_of};

@@ -15,7 +15,7 @@ use crate::surface::attribute_surfaces::{AttributeSurfaces, is_cut_at, surface_a
 use crate::surface::ordered_surface::OrderedSurface;
 use attr_section::{DecoderHead, Ordered, POSITION_ID, Values, write_decoder, write_heads};
 use drc_base::{Memory, Sequence};
-use mesh_model::Head;
+use attr_heads::Head;
 use std::alloc::Global;
 
 /// The data id of an attribute: the first one has the surface itself, each other one an attribute data of

@@ -7,7 +7,7 @@ ghost use Rattle.drc_base.specs.declared.faults.Fault.{Fault as AnyFault};
 ghost use Rattle.drc_base.specs.declared.faults.Refusal.TheVariants as refusal;
 ghost use Rattle.drc_base.specs.Refusals.{Answers};
 ghost use Rattle.drc_bits.specs.Spells.{Spells};
-ghost use Rattle.mesh_model.specs.FirstFault.{value_unless};
+ghost use Rattle.attr_heads.specs.FirstFault.{value_unless};
 ghost use Rattle.mesh_model.specs.Same.{Rows};
 ghost use Rattle.pairing.specs.Degenerate.{degenerate_fault};
 ghost use Rattle.attr_section.specs.Heads.{bare_decoder, heads_at};

@@ -4,7 +4,7 @@ ghost use Rattle.std.specs.Prelude.{◌≡◌, true, false, Ok, Err, Some, None,
 ghost use Rattle.drc_base.specs.declared.faults.Fault.{Fault as AnyFault};
 ghost use Rattle.drc_base.specs.declared.faults.Refusal.TheVariants as refusal;
 ghost use Rattle.drc_base.specs.Refusals.{Answers};
-ghost use Rattle.mesh_model.specs.FirstFault.{value_unless};
+ghost use Rattle.attr_heads.specs.FirstFault.{value_unless};
 ghost use Rattle.mesh_model.specs.Renumbering.{plain};
 ghost use Rattle.mesh_model.specs.SameLaws.{count_of};
 ghost use Rattle.drc_container.specs.choice.Choice.{method_of, is_sequential, chosen_code};

@@ -22,7 +22,8 @@ use crate::choice::choosing::packs;
 use crate::headers::{CLOUD, MESH, SEQUENTIAL, put_header};
 use attr_section::{DecoderHead, Values, write_decoder, write_heads};
 use drc_base::{MAX_POINTS, Memory, Sequence};
-use mesh_model::{GeometryView, copies_of};
+use attr_heads::copies_of;
+use mesh_model::GeometryView;
 use seq_section::write_indices;
 use std::alloc::Global;
 

@@ -2,8 +2,8 @@
 
 ghost use Rattle.std.specs.Prelude.{◌≡◌, ◌+◌, ◌<◌, ◌≤◌, ◌*◌, ◌^◌, map, take, drop, flat_map, length, All, IfOk};
 ghost use Rattle.drc_base.specs.Refusals.{Answers};
-ghost use Rattle.mesh_model.specs.FirstFault.{value_unless};
-ghost use Rattle.mesh_model.specs.Head.{width_of};
+ghost use Rattle.attr_heads.specs.FirstFault.{value_unless};
+ghost use Rattle.attr_heads.specs.Head.{width_of};
 ghost use Rattle.corner_table.specs.Sides.{side_at};
 ghost use Rattle.seams.specs.Values.{piece};
 ghost use Rattle.attr_section.specs.Values.{values_in};

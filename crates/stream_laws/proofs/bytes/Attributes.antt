@@ -7,10 +7,11 @@ use Rattle.std.proofs.lemmas.List.Elements.{All-map, All-weaker}
 use Rattle.drc_bits.specs.Bits.{low_bytes}
 use Rattle.drc_bits.specs.Varint.{spelling}
 use Rattle.symbol_coding.specs.Block.{block_bytes}
-use Rattle.mesh_model.specs.declared.heads.Head.{Head}
-use Rattle.mesh_model.specs.declared.heads.Quant.{Quant}
-use Rattle.mesh_model.specs.Head.{has_type, has_bits}
-use Rattle.mesh_model.proofs.Passing.{HeadSays}
+use Rattle.attr_heads.specs.declared.heads.Head.{Head}
+use Rattle.attr_heads.specs.declared.quants.Quant.{Quant}
+use Rattle.attr_heads.specs.Quants.{has_bits}
+use Rattle.attr_heads.specs.Head.{has_type}
+use Rattle.attr_heads.proofs.Passing.{HeadSays}
 use Rattle.predict.specs.declared.schemes.Prediction.{Prediction}
 use Rattle.predict.specs.declared.schemes.Prediction.TheVariants as prediction
 use Rattle.predict.specs.Foretold.{foretold, marks_of}
@@ -21,7 +22,8 @@ use Rattle.predict.specs.Symbols.{zigzag_of}
 use Rattle.corner_table.specs.Ordered.{Ordered}
 use Rattle.attr_section.specs.declared.decoder_heads.DecoderHead.{DecoderHead}
 use Rattle.attr_section.specs.declared.values.Values.{Values}
-use Rattle.attr_section.specs.Heads.{type_coding, id_byte, link_bytes, head_bytes, decoder_bytes, links_bytes, heads_bytes}
+use Rattle.attr_heads.specs.Codings.{coding_byte}
+use Rattle.attr_section.specs.Heads.{id_byte, link_bytes, head_bytes, decoder_bytes, links_bytes, heads_bytes}
 use Rattle.attr_section.specs.Written.{greatest_symbol, byte_width, plain_bytes, symbols_bytes, integers_bytes, range_of, range_bytes, signed_bytes, flag_bits_bytes, flags_bytes, flagged_bytes, predicted_bytes, prediction_bytes, values_bytes, quant_bytes, attributes_bytes, quants_bytes, decoder_values_bytes}
 use Rattle.stream_laws.specs.Laws.{IsByte}
 use Rattle.stream_laws.proofs.bytes.Lists.{AreBytes, no-bytes, byte-then, joined, joined-each, each-of, low, spelled}
@@ -38,7 +40,7 @@ type-small : (dtype : ℕ) (o : Option Quant) → has_type dtype o ≡ true → 
 type-small dtype None is = (let p = and_parts (leb 1 dtype) (leb dtype 6) is in let high = leb-true dtype 6 p.1 in omega (arith, high))
 type-small dtype (Some q) is = grind (arith, is)
 
-coding-small : (dtype : ℕ) → type_coding dtype < 256
+coding-small : (dtype : ℕ) → coding_byte dtype < 256
 coding-small dtype = elim (cases_Bool (dtype == 9)) [
   | inl t ↦ rw (cond-true _ _ _ t) (omega arith)
   | inr f ↦ rw (cond-false _ _ _ f) (omega arith)
@@ -61,10 +63,10 @@ head-bytes h is =
 -- a decoder
 pub decoder-bytes : (d : DecoderHead) → All IsSpelled d.heads → AreBytes (decoder_bytes d)
 decoder-bytes d are =
-    joined (spelling 5 (length d.heads)) (flat_map head_bytes d.heads ++ map (λ h. type_coding h.dtype) d.heads) (spelled 5 (length d.heads))
-    (joined (flat_map head_bytes d.heads) (map (λ h. type_coding h.dtype) d.heads)
+    joined (spelling 5 (length d.heads)) (flat_map head_bytes d.heads ++ map (λ h. coding_byte h.dtype) d.heads) (spelled 5 (length d.heads))
+    (joined (flat_map head_bytes d.heads) (map (λ h. coding_byte h.dtype) d.heads)
     (joined-each head_bytes d.heads (All-weaker IsSpelled (λ h. AreBytes (head_bytes h)) head-bytes d.heads are))
-    (All-map IsByte (λ (h : Head). type_coding h.dtype) d.heads (λ k e below. coding-small _)))
+    (All-map IsByte (λ (h : Head). coding_byte h.dtype) d.heads (λ k e below. coding-small _)))
 
 -- and its link
 pub link-bytes : (d : DecoderHead) → IsByte (id_byte d.data_id) → AreBytes (link_bytes d)

@@ -6,13 +6,13 @@ use Rattle.std.proofs.lemmas.Bool.{cases_Bool, ne_eqb}
 use Rattle.std.proofs.lemmas.List.Elements.{All-nil, All-cons, All-head, All-tail}
 use Rattle.std.proofs.lemmas.List.FromFn.{length-map-range_with_len}
 use Rattle.drc_base.specs.declared.limits.TheConstants.{MAX_ATTRIBUTES}
-use Rattle.mesh_model.specs.declared.heads.Head.{Head}
+use Rattle.attr_heads.specs.declared.heads.Head.{Head}
 use Rattle.mesh_model.specs.declared.geometries.Geometry.{Geometry}
 use Rattle.mesh_model.specs.declared.geometries.Geometry.TheVariants.{Mesh, Cloud}
 use Rattle.mesh_model.specs.Contents.{heads_in, points_in}
 use Rattle.mesh_model.specs.Parts.{MeshParts, ArePoints}
 use Rattle.mesh_model.specs.Same.{Rows}
-use Rattle.mesh_model.proofs.Passing.{HeadSays, heads_say}
+use Rattle.attr_heads.proofs.Passing.{HeadSays, heads_say}
 use Rattle.attr_section.specs.declared.decoder_heads.DecoderHead.{DecoderHead}
 use Rattle.attr_section.specs.Heads.{link_bytes}
 use Rattle.attr_section.specs.Written.{decoder_values_bytes}

@@ -13,9 +13,9 @@ use Rattle.drc_bits.specs.Numbers.{number_at, signed_at}
 use Rattle.drc_bits.specs.Varint.{var32_at}
 use Rattle.rans_binary.specs.Blocks.{bit_block_at}
 use Rattle.symbol_coding.specs.Block.{block_at}
-use Rattle.mesh_model.specs.declared.heads.Head.{Head}
-use Rattle.mesh_model.specs.declared.heads.Quant.{Quant}
-use Rattle.mesh_model.specs.Head.{in_type}
+use Rattle.attr_heads.specs.declared.heads.Head.{Head}
+use Rattle.attr_heads.specs.declared.quants.Quant.{Quant}
+use Rattle.attr_heads.specs.DataTypes.{in_type}
 use Rattle.ply_mesh.specs.Fields.{QuantFields, HasFields}
 use Rattle.predict.specs.declared.schemes.Prediction.{Prediction}
 use Rattle.predict.specs.Schemes.{facts, prediction_of}
@@ -25,8 +25,12 @@ use Rattle.predict.specs.Wrap.{Range}
 use Rattle.attr_section.specs.declared.decoder_heads.DecoderHead.{DecoderHead}
 use Rattle.attr_section.specs.declared.links.Link.{Link}
 use Rattle.attr_section.specs.declared.values.Values.{Values}
-use Rattle.attr_section.specs.Heads.{is_known_id, is_used_id, most_element, most_walk, is_type, type_coding, decoder_count_at, link_at, linked_at, links_at, head_at, coding_at, codings_at, attributes_of, attribute_count_at, decoder_at, decoders_at, heads_at}
-use Rattle.attr_section.specs.Values.{tested_prediction, prediction_at, signed_of, plain_value_at, byte_width_at, plain_values_at, can_wrap, range_at, transform_at, compressed_values_at, integers_at, flag_bits_at, flag_count_at, flags_at, flag_lists_at, has_flags, with_flags, corrected_at, predicted_at, typed_values_at, values_at, quant_bits_at, quant_at, quant_of_at, quantised_at, values_in, attributes_at as columns_at, quants_at, decoder_values_at}
+use Rattle.attr_heads.specs.DataTypes.{is_type}
+use Rattle.attr_heads.specs.HeadItems.{head_at}
+use Rattle.attr_heads.specs.Codings.{coding_byte}
+use Rattle.attr_section.specs.Heads.{is_known_id, is_used_id, most_element, most_walk, decoder_count_at, link_at, linked_at, links_at, coding_at, codings_at, attributes_of, attribute_count_at, decoder_at, decoders_at, heads_at}
+use Rattle.attr_heads.specs.HeadItems.{quant_bits_at}
+use Rattle.attr_section.specs.Values.{tested_prediction, prediction_at, signed_of, plain_value_at, byte_width_at, plain_values_at, can_wrap, range_at, transform_at, compressed_values_at, integers_at, flag_bits_at, flag_count_at, flags_at, flag_lists_at, has_flags, with_flags, corrected_at, predicted_at, typed_values_at, values_at, quant_at, quant_of_at, quantised_at, values_in, attributes_at as columns_at, quants_at, decoder_values_at}
 use Rattle.drc_container.proofs.lemmas.reading.Parted.{given, parts, either}
 use Rattle.stream_laws.proofs.reading.Bytes.{BytesAhead, Leaves, LeavesBytes, ok-leaves, fault-leaves, then-leaves, either-leaves, must-leaves, many-leaves, many-bytes, each-leaves, each-bytes, number-leaves, signed-leaves, var32-leaves, number-below, var32-below}
 use Rattle.stream_laws.proofs.reading.BytesOfBlocks.{bit_block-leaves, block-leaves}
@@ -61,7 +65,7 @@ head-fields c here y is =
 coding-leaves : (dtype : ℕ) (c : Reading) → BytesAhead c → LeavesBytes (coding_at dtype c)
 unfolding coding_at
 coding-leaves dtype c here =
-    must-leaves kind.Coding (λ k. k == type_coding dtype) (must kind.Octahedral (λ k. not (k == 3)) (must kind.Generic (λ k. not (k == 0)) (number_at 1))) c
+    must-leaves kind.Coding (λ k. k == coding_byte dtype) (must kind.Octahedral (λ k. not (k == 3)) (must kind.Generic (λ k. not (k == 0)) (number_at 1))) c
     (must-leaves kind.Octahedral (λ k. not (k == 3)) (must kind.Generic (λ k. not (k == 0)) (number_at 1)) c
     (must-leaves kind.Generic (λ k. not (k == 0)) (number_at 1) c (number-leaves 1 c here)))
 

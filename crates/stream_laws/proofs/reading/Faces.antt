@@ -4,7 +4,7 @@ use Rattle.std.proofs.Common.{◌≡◌, ℕ, List, length, None, Ok, sym, ◌�
 use Rattle.std.specs.Prelude.{IfSome}
 use Rattle.std.proofs.lemmas.List.FromFn.{length-map-range_with_len}
 use Rattle.drc_bits.specs.Reading.{Reading}
-use Rattle.mesh_model.specs.declared.heads.Head.{Head}
+use Rattle.attr_heads.specs.declared.heads.Head.{Head}
 use Rattle.mesh_model.specs.Groups.{AttrTable}
 use Rattle.mesh_model.specs.declared.geometries.Geometry.TheVariants as geometry
 use Rattle.mesh_model.specs.Contents.{faces_in}

@@ -7,7 +7,7 @@ use Rattle.drc_base.specs.declared.faults.Fault.{Fault}
 use Rattle.drc_base.specs.declared.limits.TheConstants.{MAX_VALUES}
 use Rattle.drc_bits.specs.Reading.{Reading}
 use Rattle.drc_bits.proofs.Results.{err≢ok}
-use Rattle.mesh_model.specs.declared.heads.Head.{Head}
+use Rattle.attr_heads.specs.declared.heads.Head.{Head}
 use Rattle.mesh_model.specs.declared.geometries.Geometry.TheVariants as geometry
 use Rattle.mesh_model.specs.IsGeometry.{IsGeometry}
 use Rattle.mesh_model.specs.Parts.{mesh_of, cloud_of, AreRows, IsFaceOf}

@@ -6,16 +6,16 @@ use Rattle.std.proofs.lemmas.List.{get_or_past}
 use Rattle.std.proofs.lemmas.List.Elements.{All-from_get_or, All-nil, All-cons}
 use Rattle.std.proofs.lemmas.List.FromFn.{length-map-range_with_len, get_or-map-range_with_len}
 use Rattle.drc_base.specs.declared.faults.Fault.{Fault}
-use Rattle.mesh_model.specs.declared.heads.Head.{Head}
+use Rattle.attr_heads.specs.declared.heads.Head.{Head}
 use Rattle.mesh_model.specs.Groups.{AttrTable}
-use Rattle.mesh_model.specs.FirstFault.{value_unless}
-use Rattle.mesh_model.specs.Head.{width_of, heads_fault}
+use Rattle.attr_heads.specs.FirstFault.{value_unless}
+use Rattle.attr_heads.specs.Head.{width_of, heads_fault}
 use Rattle.mesh_model.specs.Parts.{MeshParts, CloudParts, rows_of, count_fault, faces_fault, index_fault, range_fault, mesh_fault, cloud_fault, mesh_of, cloud_of, AreRows, RowFits, IsFaceOf, IsMesh, IsCloud}
 use Rattle.mesh_model.specs.Stored.{AreStored}
 use Rattle.mesh_model.specs.Assembled.{corner_row, corner_rows, row_number, triple, assembled_parts, assembled, AreTables}
-use Rattle.mesh_model.proofs.Columns.{width_of-bounds}
+use Rattle.attr_heads.proofs.Widths.{width_of-bounds}
 use Rattle.mesh_model.proofs.CornerRows.{RowFits-corner_row}
-use Rattle.mesh_model.proofs.FirstFaults.{first_fault-none}
+use Rattle.attr_heads.proofs.FirstFaults.{first_fault-none}
 use Rattle.mesh_model.proofs.Made.{count_fault-points, count_fault-values, ArePoints-made, IsMesh-made, whole-rows}
 use Rattle.mesh_model.proofs.AssembledParts.{All-distinct}
 use Rattle.mesh_model.proofs.AssembledLaws.{corner-assembled}

@@ -4,7 +4,7 @@ use Rattle.std.proofs.lemmas.List.Elements.{All-push}
 use Rattle.std.proofs.lemmas.Result.{err_from_is_err_and}
 use Rattle.drc_bits.specs.Reading.{many_at}
 use Rattle.drc_bits.proofs.Many.{many_at-next, many_at-fault, many_at-end}
-use Rattle.attr_section.specs.Heads.{head_at}
+use Rattle.attr_heads.specs.HeadItems.{head_at}
 use Rattle.attr_section.proofs.head_items.read_attributes.Goals as goal
 
 pub returns-in_err-head-clause-item : goal.returns-in_err-head-clause-item

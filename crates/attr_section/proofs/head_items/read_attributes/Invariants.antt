@@ -2,7 +2,7 @@ use Rattle.std.proofs.Common.{◌≡◌, ◌-◌, ◌<◌, length}
 use Rattle.std.specs.List.{All}
 use Rattle.drc_bits.specs.Reading.{many_at}
 use Rattle.drc_bits.proofs.Many.{with_front}
-use Rattle.attr_section.specs.Heads.{head_at}
+use Rattle.attr_heads.specs.HeadItems.{head_at}
 use Rattle.attr_section.proofs.head_items.read_attributes.Given as goal
 
 abbrev pub invariant-loop-number : goal.invariant-loop-number

@@ -1,7 +1,8 @@
 use Rattle.std.proofs.Common.{◌<◌, ◌≤◌, length, arith}
 use Rattle.std.proofs.lemmas.List.{take_all}
 use Rattle.drc_bits.specs.Spells.{Spells}
-use Rattle.attr_section.specs.Heads.{head_at, head_bytes, bare_head}
+use Rattle.attr_heads.specs.HeadItems.{head_at}
+use Rattle.attr_section.specs.Heads.{head_bytes, bare_head}
 use Rattle.attr_section.proofs.Loops.{appended-more, all-more}
 use Rattle.attr_section.proofs.head_writing.put_heads.Goals as goal
 

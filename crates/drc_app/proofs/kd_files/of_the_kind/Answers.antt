@@ -1,6 +1,6 @@
 -- A cloud of one attribute and no points passes all tests.
 use Rattle.std.proofs.Common.{refl}
-use Rattle.mesh_model.specs.Head as head
+use Rattle.attr_heads.specs.Head as head
 use Rattle.mesh_model.specs.Parts as parts
 use Rattle.drc_app.proofs.kd_files.of_the_kind.Goals as goal
 

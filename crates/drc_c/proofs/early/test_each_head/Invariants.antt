@@ -1,5 +1,5 @@
 use Rattle.std.proofs.Common.{◌≡◌, drop, map}
-use Rattle.mesh_model.specs.Head.{each_fault}
+use Rattle.attr_heads.specs.Head.{each_fault}
 use Rattle.drc_c.specs.Heads.{head_meant}
 use Rattle.drc_c.proofs.early.test_each_head.Given as goal
 

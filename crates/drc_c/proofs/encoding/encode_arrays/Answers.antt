@@ -1,6 +1,6 @@
 -- whole rows for C are whole rows, and the steps give what is due
 use Rattle.std.proofs.Common.{◌≡◌, Ok, map, ◌∙◌, ap}
-use Rattle.mesh_model.specs.declared.heads.Head.{Head}
+use Rattle.attr_heads.specs.declared.heads.Head.{Head}
 use Rattle.drc_c.specs.Heads.{head_meant}
 use Rattle.drc_c.specs.Inputs.{geometry_made, geometry_meant}
 use Rattle.drc_c.proofs.EarlyFaults.{meant-there}

@@ -7,12 +7,12 @@ use Rattle.std.proofs.lemmas.List.Elements.{All-map, All-weaker, All-get_or, All
 use Rattle.drc_base.specs.declared.kinds.Kind.TheVariants.{Degenerate, Empty, NoPosition, PointLimit, ValueLimit, Range as RangeKind}
 use Rattle.drc_base.specs.declared.limits.TheConstants.{MAX_POINTS, MAX_VALUES}
 use Rattle.mesh_model.specs.declared.geometries.Geometry.TheVariants.{Mesh}
-use Rattle.mesh_model.specs.FirstFault.{at_place}
+use Rattle.attr_heads.specs.FirstFault.{at_place}
 use Rattle.mesh_model.specs.Assembled.{same_row}
-use Rattle.mesh_model.specs.Head.{width_of}
+use Rattle.attr_heads.specs.Head.{width_of}
 use Rattle.mesh_model.specs.Parts.{MeshParts, IsMesh, corner}
 use Rattle.mesh_model.proofs.DistinctRows.{same_row-apart}
-use Rattle.mesh_model.proofs.FirstFaults.{unless-true, first_fault-cons}
+use Rattle.attr_heads.proofs.FirstFaults.{unless-true, first_fault-cons}
 use Rattle.mesh_model.proofs.Places.{position-none}
 use Rattle.corner_table.specs.Sides.{Side, first, second, third, side, place_number}
 use Rattle.pairing.specs.Pairing.{pairing, corner_position}

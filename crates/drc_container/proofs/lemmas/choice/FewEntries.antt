@@ -10,8 +10,8 @@ use Rattle.std.proofs.lemmas.List.Folds.{list_any_none}
 use Rattle.std.proofs.lemmas.List.Sums.{count_by-le-length}
 use Rattle.std.proofs.lemmas.Map.Keys.{IsDistinct-from_apart}
 use Rattle.std.proofs.lemmas.Map.Steps.{length-le_from_distinct_below}
-use Rattle.mesh_model.specs.declared.heads.Head.{Head}
-use Rattle.mesh_model.specs.Head.{width_of}
+use Rattle.attr_heads.specs.declared.heads.Head.{Head}
+use Rattle.attr_heads.specs.Head.{width_of}
 use Rattle.mesh_model.specs.Parts.{IsMesh}
 use Rattle.corner_table.specs.Sides.{Side, number, side_at, Gluing, IsGluing}
 use Rattle.corner_table.specs.Fans.{meets, corners_of}

@@ -15,9 +15,9 @@ use Rattle.mesh_model.specs.declared.geometries.Geometry.{Geometry}
 use Rattle.mesh_model.specs.Parts.{ArePoints}
 use Rattle.mesh_model.specs.Renumbering.{plain}
 use Rattle.mesh_model.specs.SameLaws.{count_of}
-use Rattle.mesh_model.specs.FirstFault.{unless, first_fault, value_unless}
+use Rattle.attr_heads.specs.FirstFault.{unless, first_fault, value_unless}
 use Rattle.mesh_model.specs.Contents.{is_mesh, heads_in, points_in, faces_in}
-use Rattle.mesh_model.proofs.FirstFaults.{unless-none, unless-true, at_place-none, first_fault-none}
+use Rattle.attr_heads.proofs.FirstFaults.{unless-none, unless-true, at_place-none, first_fault-none}
 use Rattle.mesh_model.proofs.Places.{position-none_back}
 use Rattle.predict.specs.Wrap.{Range as WrapRange, CanWrap}
 use Rattle.predict.specs.Schemes.{facts, code_of}

@@ -7,7 +7,7 @@ use Rattle.mesh_model.specs.declared.geometries.Geometry.TheVariants.{Mesh}
 use Rattle.mesh_model.specs.Parts.{MeshParts}
 use Rattle.mesh_model.specs.Same.{Rows}
 use Rattle.mesh_model.specs.Renumbering.{plain}
-use Rattle.mesh_model.specs.FirstFault.{first_fault, value_unless}
+use Rattle.attr_heads.specs.FirstFault.{first_fault, value_unless}
 use Rattle.pairing.specs.Degenerate.{degenerate_fault}
 use Rattle.drc_container.specs.declared.choice.codings.Coding.{Coding}
 use Rattle.drc_container.specs.declared.choice.choices.Choice.{Choice}

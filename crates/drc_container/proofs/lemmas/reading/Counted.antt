@@ -18,8 +18,8 @@ use Rattle.rans_core.specs.Coder.{CoderState}
 use Rattle.symbol_tables.specs.Tables.{table_at}
 use Rattle.symbol_coding.specs.Symbols.{next_symbols, state_behind_symbol, coded_at}
 use Rattle.symbol_coding.specs.Block.{precision, widths, values_in_groups as values_in_bits, tagged_at, raw_at, scheme_at, block_at}
-use Rattle.mesh_model.specs.declared.heads.Head.{Head}
-use Rattle.mesh_model.specs.Head.{in_type}
+use Rattle.attr_heads.specs.declared.heads.Head.{Head}
+use Rattle.attr_heads.specs.DataTypes.{in_type}
 use Rattle.predict.specs.Wrap.{Range, restored_value}
 use Rattle.predict.specs.Restored.{restored_behind}
 use Rattle.corner_table.specs.Ordered.{Ordered}

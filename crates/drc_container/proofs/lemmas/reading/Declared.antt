@@ -7,7 +7,7 @@ use Rattle.drc_base.specs.Refusals.{Answers, Refuses}
 use Rattle.drc_base.specs.Steps.{◌>>=◌}
 use Rattle.drc_bits.specs.Reading.{Reading, Item, start_of}
 use Rattle.drc_bits.proofs.Results.{err≢ok, Err-injective}
-use Rattle.mesh_model.specs.FirstFault.{answer_of}
+use Rattle.attr_heads.specs.FirstFault.{answer_of}
 use Rattle.drc_container.specs.declared.headers.Form.{Form}
 use Rattle.drc_container.specs.Header.{header_at}
 use Rattle.drc_container.specs.reading.Stream.{declared_of, form_declared_at}

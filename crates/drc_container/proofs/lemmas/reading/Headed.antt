@@ -15,34 +15,22 @@ use Rattle.drc_bits.specs.Reading.{Reading, Item, must, many_at}
 use Rattle.drc_bits.specs.Numbers.{number_at}
 use Rattle.drc_bits.specs.Varint.{var32_at}
 use Rattle.drc_bits.proofs.Results.{Ok-injective}
-use Rattle.mesh_model.specs.declared.heads.Head.{Head}
-use Rattle.mesh_model.specs.declared.heads.Quant.{Quant}
-use Rattle.mesh_model.specs.Head.{has_type, has_minima, has_bits, head_fault, each_fault, heads_fault}
-use Rattle.mesh_model.proofs.FirstFaults.{unless-true, first_fault-cons}
+use Rattle.attr_heads.specs.declared.heads.Head.{Head}
+use Rattle.attr_heads.specs.declared.quants.Quant.{Quant}
+use Rattle.attr_heads.specs.Quants.{has_minima, has_bits}
+use Rattle.attr_heads.specs.Head.{has_type, head_fault, each_fault, heads_fault}
+use Rattle.attr_heads.proofs.FirstFaults.{unless-true, first_fault-cons}
 use Rattle.attr_section.specs.declared.decoder_heads.DecoderHead.{DecoderHead}
 use Rattle.attr_section.specs.declared.links.Link.{Link}
 use Rattle.attr_section.specs.Each.{each_at}
-use Rattle.attr_section.specs.Heads.{is_type, HeadPasses, head_at, codings_at, attributes_of, attribute_count_at, decoder_at, decoders_at, decoder_count_at, link_at, linked_at, links_at, no_link, heads_at}
-use Rattle.attr_section.specs.Values.{quant_bits_at, quant_at, quant_of_at, quantised_at, quants_at}
+use Rattle.attr_heads.specs.DataTypes.{is_type, is_float}
+use Rattle.attr_heads.specs.HeadItems.{head_at, HeadPasses}
+use Rattle.attr_heads.proofs.Types.{integer_type}
+use Rattle.attr_heads.proofs.HeadsBack.{head_passed}
+use Rattle.attr_section.specs.Heads.{codings_at, attributes_of, attribute_count_at, decoder_at, decoders_at, decoder_count_at, link_at, linked_at, links_at, no_link, heads_at}
+use Rattle.attr_heads.specs.HeadItems.{quant_bits_at}
+use Rattle.attr_section.specs.Values.{quant_at, quant_of_at, quantised_at, quants_at}
 use Rattle.drc_container.proofs.lemmas.reading.Parted.{given, parts, either, must-passed, many-passed}
-
--- a head that was read is accepted
-head-passed : (c : Reading) (y : Head × Reading) → head_at c ≡ Ok y → HeadPasses y.0
-unfolding head_at
-head-passed c y is =
-    let has_comps : ℕ → Bool = λ n. nat_le 1 n && nat_le n MAX_COMPONENTS in
-    let p = parts (must kind.AttrType (λ n. nat_le n 4) (number_at 1) c) _ y is in
-    let q = parts (must kind.DataType is_type (number_at 1) p.0.1) _ y p.2 in
-    let r = parts (must kind.Components has_comps (number_at 1) q.0.1) _ y q.2 in
-    let s = parts (number_at 1 r.0.1) _ y r.2 in
-    let t = parts (var32_at s.0.1) _ y s.2 in
-    let usage = must-passed kind.AttrType (λ n. nat_le n 4) (number_at 1) c p.0 p.1 in
-    let dtype = must-passed kind.DataType is_type (number_at 1) p.0.1 q.0 q.1 in
-    let comps = must-passed kind.Components has_comps (number_at 1) q.0.1 r.0 r.1 in
-    let bounds = and_parts (nat_le 1 r.0.0) (nat_le r.0.0 MAX_COMPONENTS) comps.0 in
-    let h : Head = record { usage = p.0.0; dtype = q.0.0; comps = r.0.0; normalized = s.0.0; id = t.0.0; quant = None } in
-    given (λ (z : Head × Reading). HeadPasses z.0) (h, t.0.1) y t.2
-    (record { usage = leb-true p.0.0 4 usage.0; dtype = dtype.0; some = leb-true 1 r.0.0 bounds.0; few = leb-true r.0.0 MAX_COMPONENTS bounds.1 })
 
 -- a quantisation that fits a head
 record QuantFits (h : Head) (q : Option Quant) : Type 0 where
@@ -50,15 +38,10 @@ record QuantFits (h : Head) (q : Option Quant) : Type 0 where
   minima : has_minima h.comps q ≡ true
   bits : has_bits q ≡ true
 
-integer_type : (dtype : ℕ) → is_type dtype ≡ true → (dtype == 9) ≡ false → (nat_le 1 dtype && nat_le dtype 6) ≡ true
-integer_type dtype is not =
-    let integer = nat_le 1 dtype && nat_le dtype 6 in
-    sym (or-false integer) ∙ ap (λ b. integer || b) (sym not) ∙ is
-
 quant_fits : (h : Head) → is_type h.dtype ≡ true → (c : Reading) (y : Option Quant × Reading) → quant_of_at h c ≡ Ok y → QuantFits h y.0
 unfolding quant_of_at quant_at
 quant_fits h is_type c y is =
-    either (QuantFits h y.0) (h.dtype == 9) (quant_at h.comps c >>= λ q. Ok (Some q.0, q.1)) (Ok (None, c)) y is
+    either (QuantFits h y.0) (is_float h.dtype) (quant_at h.comps c >>= λ q. Ok (Some q.0, q.1)) (Ok (None, c)) y is
     (λ float read.
     let p = parts (quant_at h.comps c) (λ q. Ok (Some q.0, q.1)) y read in
     let q = parts (many_at (number_at 4) h.comps c) _ p.0 p.1 in
@@ -149,7 +132,7 @@ decoder-passed before link c y is =
     let r = parts (codings_at q.0.0 q.0.1) _ y q.2 in
     let most = must-passed kind.AttrLimit few (λ c. must kind.NoAttribute some var32_at c) c p.0 p.1 in
     let least = must-passed kind.NoAttribute some var32_at c p.0 most.1 in
-    let heads = many-passed HeadPasses head_at head-passed p.0.0 p.0.1 q.0 q.1 in
+    let heads = many-passed HeadPasses head_at head_passed p.0.0 p.0.1 q.0 q.1 in
     let d : DecoderHead = record { data_id = link.data_id; corner = link.corner; degree = link.degree; heads = q.0.0 } in
     given (λ (z : DecoderHead × Reading). DecoderRead z.0 × (before + length z.0.heads ≤ MAX_ATTRIBUTES)) (d, r.0.1) y r.2
     (record { some = omega (arith, ltb-true 0 p.0.0 least.0, heads.0); heads = heads.1 }, omega (arith, leb-true (before + p.0.0) MAX_ATTRIBUTES most.0, heads.0))

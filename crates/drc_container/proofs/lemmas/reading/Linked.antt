@@ -10,7 +10,8 @@ use Rattle.drc_bits.specs.Numbers.{number_at}
 use Rattle.attr_section.specs.declared.decoder_heads.DecoderHead.{DecoderHead}
 use Rattle.attr_section.specs.declared.links.Link.{Link}
 use Rattle.attr_section.specs.Each.{each_at}
-use Rattle.attr_section.specs.Heads.{position_id, is_known_id, is_used_id, most_element, most_walk, link_at, linked_at, links_at, head_at, codings_at, attributes_of, attribute_count_at, decoder_at, decoders_at, decoder_count_at, heads_at}
+use Rattle.attr_heads.specs.HeadItems.{head_at}
+use Rattle.attr_section.specs.Heads.{position_id, is_known_id, is_used_id, most_element, most_walk, link_at, linked_at, links_at, codings_at, attributes_of, attribute_count_at, decoder_at, decoders_at, decoder_count_at, heads_at}
 use Rattle.drc_container.specs.reading.OnSurface.{HasSeams}
 use Rattle.drc_container.proofs.lemmas.reading.Parted.{given, parts, must-passed}
 

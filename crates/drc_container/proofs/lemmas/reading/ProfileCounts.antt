@@ -7,13 +7,13 @@ use Rattle.drc_base.specs.declared.kinds.Kind.TheVariants.{PointLimit, ValueLimi
 use Rattle.drc_base.specs.Profile.{Profile, profile}
 use Rattle.drc_base.specs.Steps.{◌>>=◌}
 use Rattle.drc_bits.proofs.Results.{err≢ok}
-use Rattle.mesh_model.specs.declared.heads.Head.{Head}
+use Rattle.attr_heads.specs.declared.heads.Head.{Head}
 use Rattle.mesh_model.specs.Groups.{AttrTable}
-use Rattle.mesh_model.specs.FirstFault.{unless, value_unless}
-use Rattle.mesh_model.specs.Head.{width_of}
+use Rattle.attr_heads.specs.FirstFault.{unless, value_unless}
+use Rattle.attr_heads.specs.Head.{width_of}
 use Rattle.mesh_model.specs.Parts.{MeshParts}
 use Rattle.mesh_model.specs.Assembled.{assembled, assembled_parts}
-use Rattle.mesh_model.proofs.FirstFaults.{unless-none, unless-true, first_fault-none, first_fault-cons}
+use Rattle.attr_heads.proofs.FirstFaults.{unless-none, unless-true, first_fault-none, first_fault-cons}
 use Rattle.drc_container.specs.reading.OnSurface.{SurfaceAttributes, at_end, counts_in, accepted, assembled_in, assembled_at}
 use Rattle.drc_container.specs.reading.Profiles.{IsWider}
 use Rattle.drc_container.proofs.lemmas.reading.Keeping.{Keeps, keeps-then}

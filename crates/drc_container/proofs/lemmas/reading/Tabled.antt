@@ -8,9 +8,9 @@ use Rattle.std.proofs.lemmas.List.Sums.{sum_by-cons, sum_by-append, AllPass-from
 use Rattle.std.proofs.lemmas.List.Elements.{All-nil, All-cons, All-head, All-tail, All-append, All-map, All-weaker, All-get_or}
 use Rattle.drc_base.specs.declared.limits.TheConstants.{MAX_FACES, MAX_VALUES}
 use Rattle.drc_bits.specs.Reading.{Reading, Item}
-use Rattle.mesh_model.specs.declared.heads.Head.{Head}
+use Rattle.attr_heads.specs.declared.heads.Head.{Head}
 use Rattle.mesh_model.specs.Groups.{AttrTable}
-use Rattle.mesh_model.specs.Head.{in_type}
+use Rattle.attr_heads.specs.DataTypes.{in_type}
 use Rattle.mesh_model.specs.Assembled.{IsAttrTable, AreAttrTables, AreTables}
 use Rattle.corner_table.specs.declared.corner_lists.Order.{Order}
 use Rattle.corner_table.specs.Ordered.{Ordered, entries_by}

@@ -14,8 +14,9 @@ use Rattle.drc_base.specs.declared.limits.TheConstants.{MAX_POINTS, MAX_VALUES}
 use Rattle.drc_bits.specs.Reading.{Reading, Item}
 use Rattle.drc_bits.specs.Numbers.{number_at}
 use Rattle.drc_bits.proofs.Results.{Ok-injective}
-use Rattle.mesh_model.specs.declared.heads.Head.{Head}
-use Rattle.mesh_model.specs.Head.{width_of, types_of, in_type, heads_fault}
+use Rattle.attr_heads.specs.declared.heads.Head.{Head}
+use Rattle.attr_heads.specs.DataTypes.{in_type}
+use Rattle.attr_heads.specs.Head.{width_of, types_of, heads_fault}
 use Rattle.mesh_model.specs.Parts.{RowFits, ArePoints, cells_of, range_fault, mesh_fault, cloud_fault}
 use Rattle.mesh_model.proofs.Made.{range_fault-cells_of, mesh_of-IsMesh, cloud_of-IsCloud}
 use Rattle.corner_table.specs.Ordered.{Ordered}

@@ -6,7 +6,7 @@ use Rattle.drc_base.specs.Profile.{Profile, profile_one, profile}
 use Rattle.drc_bits.specs.Reading.{Reading, must, start_of}
 use Rattle.drc_bits.specs.Numbers.{number_at}
 use Rattle.drc_bits.specs.Varint.{var32_at}
-use Rattle.mesh_model.specs.declared.heads.Head.{Head}
+use Rattle.attr_heads.specs.declared.heads.Head.{Head}
 use Rattle.corner_table.specs.Ordered.{Ordered}
 use Rattle.seq_section.specs.declared.reading.SeqRead.{SeqRead}
 use Rattle.seq_section.specs.Indices.{indices_opening_at, indices_at}

@@ -6,8 +6,9 @@ use Rattle.std.proofs.lemmas.List.Elements.{All-head, All-tail, All-from_get_or}
 use Rattle.std.proofs.lemmas.List.Folds.{list_all-append}
 use Rattle.std.proofs.lemmas.List.Sums.{sum_by-cons, list_all-from_AllPass}
 use Rattle.std.proofs.lemmas.Bool.{and_from}
-use Rattle.mesh_model.specs.declared.heads.Head.{Head}
-use Rattle.mesh_model.specs.Head.{width_of, types_of, in_type}
+use Rattle.attr_heads.specs.declared.heads.Head.{Head}
+use Rattle.attr_heads.specs.DataTypes.{in_type}
+use Rattle.attr_heads.specs.Head.{width_of, types_of}
 use Rattle.mesh_model.specs.Parts.{MeshParts, RowFits, IsMesh}
 use Rattle.corner_table.specs.Sides.{Side}
 use Rattle.seams.specs.Values.{piece}

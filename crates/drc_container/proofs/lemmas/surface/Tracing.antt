@@ -7,9 +7,9 @@ use Rattle.drc_base.specs.declared.faults.Refusal.TheVariants as refusal
 use Rattle.drc_base.specs.Refusals.{Refuses}
 use Rattle.drc_base.specs.declared.kinds.Kind.TheVariants.{PointLimit}
 use Rattle.drc_base.specs.declared.limits.TheConstants.{MAX_POINTS}
-use Rattle.mesh_model.specs.FirstFault.{unless, first_fault, value_unless}
+use Rattle.attr_heads.specs.FirstFault.{unless, first_fault, value_unless}
 use Rattle.mesh_model.specs.Parts.{MeshParts}
-use Rattle.mesh_model.proofs.FirstFaults.{unless-none, unless-true}
+use Rattle.attr_heads.proofs.FirstFaults.{unless-none, unless-true}
 use Rattle.corner_table.specs.declared.symbols.Symbol.{Symbol}
 use Rattle.corner_table.specs.declared.symbols.Event.{Event}
 use Rattle.corner_table.specs.Sides.{Gluing}

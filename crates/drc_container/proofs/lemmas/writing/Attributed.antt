@@ -5,15 +5,17 @@ use Rattle.std.proofs.lemmas.Bool.{leb-true, and_parts}
 use Rattle.std.proofs.lemmas.List.{map-append}
 use Rattle.std.proofs.lemmas.List.Elements.{All-nil, All-cons, All-weaker}
 use Rattle.drc_base.specs.declared.limits.TheConstants.{MAX_ATTRIBUTES}
-use Rattle.mesh_model.specs.declared.heads.Head.{Head}
-use Rattle.mesh_model.specs.declared.heads.Quant.{Quant}
+use Rattle.attr_heads.specs.declared.heads.Head.{Head}
+use Rattle.attr_heads.specs.declared.quants.Quant.{Quant}
 use Rattle.mesh_model.specs.declared.geometries.Geometry.{Geometry}
-use Rattle.mesh_model.specs.Head.{has_type, has_minima, has_bits}
+use Rattle.attr_heads.specs.Quants.{has_minima, has_bits}
+use Rattle.attr_heads.specs.Head.{has_type}
 use Rattle.mesh_model.specs.Parts.{ArePoints}
 use Rattle.mesh_model.specs.Renumbering.{plain}
 use Rattle.mesh_model.specs.Contents.{heads_in, points_in}
-use Rattle.mesh_model.proofs.Passing.{HeadSays, heads_say}
-use Rattle.attr_section.specs.Heads.{is_type, attributes_of, HeadPasses, DecoderPasses, DecodersPass}
+use Rattle.attr_heads.proofs.Passing.{HeadSays, heads_say}
+use Rattle.attr_heads.specs.DataTypes.{is_type}
+use Rattle.attr_section.specs.Heads.{attributes_of, HeadPasses, DecoderPasses, DecodersPass}
 use Rattle.attr_section.specs.Written.{HasQuant, DecoderValuesPass}
 use Rattle.drc_container.specs.declared.choice.choices.Choice.{Choice}
 use Rattle.drc_container.specs.choice.Choice.{predict_chosen, chosen_code}

@@ -8,10 +8,11 @@ use Rattle.std.proofs.lemmas.List.Elements.{All-nil, All-cons, All-head, All-tai
 use Rattle.std.proofs.lemmas.Bool.{and_from, false≢true}
 use Rattle.std.proofs.Math.Nat.{mul-mod_left, mul-le-mul_left}
 use Rattle.drc_base.specs.declared.limits.TheConstants.{MAX_VALUES}
-use Rattle.mesh_model.specs.declared.heads.Head.{Head}
-use Rattle.mesh_model.specs.Head.{width_of, types_of, in_type}
+use Rattle.attr_heads.specs.declared.heads.Head.{Head}
+use Rattle.attr_heads.specs.DataTypes.{in_type}
+use Rattle.attr_heads.specs.Head.{width_of, types_of}
 use Rattle.mesh_model.specs.Parts.{RowFits}
-use Rattle.mesh_model.proofs.Passing.{HeadSays}
+use Rattle.attr_heads.proofs.Passing.{HeadSays}
 use Rattle.predict.specs.Wrap.{CanWrap}
 use Rattle.predict.specs.Schemes.{facts, code_of}
 use Rattle.attr_section.specs.declared.values.Values.{Values}

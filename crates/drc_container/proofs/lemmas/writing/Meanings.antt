@@ -6,10 +6,10 @@ use Rattle.std.specs.List.{All}
 use Rattle.drc_base.specs.declared.faults.Fault.{Fault}
 use Rattle.drc_base.specs.Steps.{◌>>=◌}
 use Rattle.drc_bits.specs.Reading.{Reading}
-use Rattle.mesh_model.specs.declared.heads.Head.{Head}
+use Rattle.attr_heads.specs.declared.heads.Head.{Head}
 use Rattle.mesh_model.specs.declared.geometries.Geometry.{Geometry}
 use Rattle.mesh_model.specs.declared.geometries.Geometry.TheVariants.{Mesh, Cloud}
-use Rattle.mesh_model.specs.Head.{width_of}
+use Rattle.attr_heads.specs.Head.{width_of}
 use Rattle.mesh_model.specs.Parts.{MeshParts, CloudParts, RowFits, IsMesh, IsCloud, mesh_of, cloud_of, cells_of}
 use Rattle.mesh_model.specs.IsGeometry.{IsGeometry}
 use Rattle.mesh_model.specs.Renumbering.{plain as plain_rows}

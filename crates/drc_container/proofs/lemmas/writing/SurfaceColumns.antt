@@ -2,8 +2,8 @@
 use Rattle.std.proofs.Common.{◌≡◌, ℕ, ◌*◌, ◌<◌, Bool, true, false, List, length, get_or, refl, sym, subst, arith}
 use Rattle.std.specs.Prelude.{if◌then◌else◌}
 use Rattle.std.specs.List.{list_all}
-use Rattle.mesh_model.specs.declared.heads.Head.{Head}
-use Rattle.mesh_model.specs.Head.{in_type}
+use Rattle.attr_heads.specs.declared.heads.Head.{Head}
+use Rattle.attr_heads.specs.DataTypes.{in_type}
 use Rattle.mesh_model.specs.Parts.{MeshParts, IsMesh}
 use Rattle.corner_table.specs.Sides.{Side, Gluing, IsGluing}
 use Rattle.seams.specs.Seams.{unseamed}

@@ -9,7 +9,7 @@ use Rattle.std.proofs.lemmas.List.Sums.{sum_by-cons, sum_by_push}
 use Rattle.drc_base.specs.declared.limits.TheConstants.{MAX_VALUES}
 use Rattle.drc_base.specs.Steps.{◌>>=◌}
 use Rattle.drc_bits.specs.Reading.{Reading}
-use Rattle.mesh_model.specs.declared.heads.Head.{Head}
+use Rattle.attr_heads.specs.declared.heads.Head.{Head}
 use Rattle.mesh_model.specs.Groups.{AttrTable}
 use Rattle.mesh_model.specs.Parts.{MeshParts, IsMesh}
 use Rattle.attr_section.specs.declared.decoder_heads.DecoderHead.{DecoderHead}

@@ -10,13 +10,13 @@ use Rattle.drc_base.specs.declared.kinds.Kind.TheVariants.{PointLimit, ValueLimi
 use Rattle.drc_base.specs.declared.limits.TheConstants.{MAX_POINTS, MAX_VALUES}
 use Rattle.drc_base.specs.Refusals.{Refuses}
 use Rattle.drc_bits.specs.Spells.{Spells}
-use Rattle.mesh_model.specs.declared.heads.Head.{Head}
+use Rattle.attr_heads.specs.declared.heads.Head.{Head}
 use Rattle.mesh_model.specs.declared.geometries.Geometry.TheVariants.{Mesh}
-use Rattle.mesh_model.specs.FirstFault.{first_fault, value_unless}
+use Rattle.attr_heads.specs.FirstFault.{first_fault, value_unless}
 use Rattle.mesh_model.specs.Parts.{MeshParts, IsMesh}
 use Rattle.mesh_model.specs.Same.{Rows}
 use Rattle.mesh_model.specs.Renumbering.{renumbered}
-use Rattle.mesh_model.proofs.FirstFaults.{unless-none, first_fault-none}
+use Rattle.attr_heads.proofs.FirstFaults.{unless-none, first_fault-none}
 use Rattle.corner_table.specs.Sides.{Gluing}
 use Rattle.corner_table.specs.Table.{Table, gluing_of}
 use Rattle.pairing.specs.Pairing.{pairing}

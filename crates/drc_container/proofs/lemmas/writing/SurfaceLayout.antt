@@ -6,10 +6,10 @@ use Rattle.std.proofs.lemmas.List.{get_or-append-add}
 use Rattle.std.proofs.Math.Seq.{drop-append_seam}
 use Rattle.drc_base.specs.Steps.{◌>>=◌}
 use Rattle.drc_bits.specs.Reading.{Reading}
-use Rattle.mesh_model.specs.declared.heads.Head.{Head}
+use Rattle.attr_heads.specs.declared.heads.Head.{Head}
 use Rattle.mesh_model.specs.declared.geometries.Geometry.TheVariants.{Mesh}
 use Rattle.mesh_model.specs.Parts.{MeshParts, IsMesh}
-use Rattle.mesh_model.proofs.Passing.{heads_say}
+use Rattle.attr_heads.proofs.Passing.{heads_say}
 use Rattle.corner_table.specs.Ordered.{Ordered}
 use Rattle.eb_section.specs.Written.{connectivity_bytes, opening_bytes}
 use Rattle.predict.specs.declared.schemes.Prediction.{Prediction}

@@ -4,9 +4,9 @@ use Rattle.std.proofs.Common.{◌≡◌, ℕ, zero, suc, ◌+◌, ◌-◌, ◌<�
 use Rattle.std.specs.Prelude.{◌||◌, ◌==◌, not, nat_lt, IsTrue}
 use Rattle.std.specs.List.{enumerate_from, list_any}
 use Rattle.std.proofs.lemmas.Bool.{lt-ltb, ne_eqb}
-use Rattle.mesh_model.specs.declared.heads.Head.{Head}
+use Rattle.attr_heads.specs.declared.heads.Head.{Head}
 use Rattle.mesh_model.specs.Parts.{IsMesh}
-use Rattle.mesh_model.proofs.Passing.{heads_say}
+use Rattle.attr_heads.proofs.Passing.{heads_say}
 use Rattle.attr_section.specs.declared.links.Link.{Link}
 use Rattle.attr_section.specs.Heads.{position_id, is_id, is_known_id, is_used_id, link_of, LinkPasses, LinksPass}
 use Rattle.drc_container.specs.declared.choice.codings.Coding.{Coding}

@@ -4,10 +4,10 @@ use Rattle.std.specs.List.{enumerate_from, zip}
 use Rattle.std.proofs.lemmas.List.{length-drop, drop-drop, drop_more, drop_all, take_all, take-append-drop}
 use Rattle.std.proofs.lemmas.List.FromFn.{length-map-range_with_len}
 use Rattle.std.proofs.Math.Nat.{mul-le-mul_right}
-use Rattle.mesh_model.specs.declared.heads.Head.{Head}
+use Rattle.attr_heads.specs.declared.heads.Head.{Head}
 use Rattle.mesh_model.specs.Groups.{AttrTable}
-use Rattle.mesh_model.specs.Head.{width_of}
-use Rattle.mesh_model.specs.FirstFault.{value_unless}
+use Rattle.attr_heads.specs.Head.{width_of}
+use Rattle.attr_heads.specs.FirstFault.{value_unless}
 use Rattle.mesh_model.specs.Parts.{MeshParts, corner, IsMesh, count_fault}
 use Rattle.mesh_model.specs.Assembled.{corner_row, corner_rows, distinct, triple, row_number, column_entry, assembled}
 use Rattle.mesh_model.specs.RowIndex.{IsPointOf}

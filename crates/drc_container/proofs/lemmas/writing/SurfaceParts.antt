@@ -10,10 +10,10 @@ use Rattle.std.proofs.lemmas.List.Filters.{length-filter_both}
 use Rattle.std.proofs.lemmas.List.Sums.{get_or-le-sum_by, sum_by-cons}
 use Rattle.std.proofs.Math.Nat.{mul-mod_left, mul-le-mul_left}
 use Rattle.drc_base.specs.declared.limits.TheConstants.{MAX_ATTRIBUTES}
-use Rattle.mesh_model.specs.declared.heads.Head.{Head}
-use Rattle.mesh_model.specs.Head.{width_of}
+use Rattle.attr_heads.specs.declared.heads.Head.{Head}
+use Rattle.attr_heads.specs.Head.{width_of}
 use Rattle.mesh_model.specs.Parts.{MeshParts, corner, IsMesh}
-use Rattle.mesh_model.proofs.Passing.{HeadSays, heads_say}
+use Rattle.attr_heads.proofs.Passing.{HeadSays, heads_say}
 use Rattle.drc_base.specs.declared.sides.Side.{Side as NumberedSide}
 use Rattle.corner_table.specs.Sides.{Side, place_of, place_number, side_at, Gluing, IsGluing}
 use Rattle.corner_table.specs.Fans.{corners_of}

@@ -5,16 +5,18 @@ use Rattle.drc_base.specs.declared.kinds.Kind.TheVariants as kind
 use Rattle.drc_base.specs.Profile.{profile_one, profile}
 use Rattle.drc_bits.specs.Reading.{start_of, many_at}
 use Rattle.drc_bits.specs.Varint.{varint, spelling}
-use Rattle.mesh_model.specs.declared.heads.Head.{Head}
+use Rattle.attr_heads.specs.declared.heads.Head.{Head}
 use Rattle.mesh_model.specs.declared.geometries.Geometry.{Geometry}
 use Rattle.mesh_model.specs.declared.geometries.Geometry.TheVariants.{Mesh, Cloud}
-use Rattle.mesh_model.specs.Head.{in_type, heads_fault}
+use Rattle.attr_heads.specs.DataTypes.{in_type}
+use Rattle.attr_heads.specs.Head.{heads_fault}
 use Rattle.mesh_model.specs.Parts.{MeshParts, index_fault, range_fault as cells_fault}
 use Rattle.seq_section.specs.Indices.{indices_opening_at, face_at, indices_at, indices_bytes}
 use Rattle.predict.specs.Restored.{corrections_behind}
 use Rattle.attr_section.specs.declared.values.Values.{Values}
 use Rattle.attr_section.specs.Each.{each_at}
-use Rattle.attr_section.specs.Heads.{decoder_count_at, links_at, head_at, coding_at, decoder_at, decoders_at as heads_of_decoders_at, heads_at, heads_bytes}
+use Rattle.attr_heads.specs.HeadItems.{head_at}
+use Rattle.attr_section.specs.Heads.{decoder_count_at, links_at, coding_at, decoder_at, decoders_at as heads_of_decoders_at, heads_at, heads_bytes}
 use Rattle.attr_section.specs.Values.{prediction_at, plain_value_at, byte_width_at, plain_values_at, integers_at, predicted_at, typed_values_at, values_at, quant_of_at, quantised_at, attributes_at as columns_at, quants_at, decoder_values_at}
 use Rattle.attr_section.specs.Written.{plain_bytes, integers_bytes, flagged_bytes, predicted_bytes, values_bytes, decoder_values_bytes}
 use Rattle.drc_container.specs.declared.choice.methods.Method.{Method}

@@ -1,6 +1,6 @@
 use Rattle.std.proofs.Common.{rules, ◌≡◌, ◌⊎◌, ℕ, ◌≤◌, ◌<◌, Bool, true, false, List, length, get_or, ap, sym, subst, arith}
 use Rattle.std.proofs.lemmas.List.Elements.{All-from_get_or}
-use Rattle.mesh_model.specs.FirstFault.{value_unless}
+use Rattle.attr_heads.specs.FirstFault.{value_unless}
 use Rattle.mesh_model.specs.Renumbering.{inverted, NamesApart}
 use Rattle.mesh_model.specs.Same.{named, turn}
 use Rattle.drc_recode.proofs.FirstOrders.{inverted-apart}

@@ -1,7 +1,7 @@
 -- A cloud with its points in another order is a cloud, and so it is made of its heads and its cells.
 use Rattle.std.proofs.Common.{◌≡◌, Ok, refl, sym, ◌∙◌, ap, subst}
 use Rattle.std.specs.Result.{IsOk}
-use Rattle.mesh_model.specs.FirstFault.{answer_of}
+use Rattle.attr_heads.specs.FirstFault.{answer_of}
 use Rattle.mesh_model.specs.Parts.{IsCloud}
 use Rattle.mesh_model.proofs.Made.{AreRows-cells_of, range_fault-cells_of, cloud_of-IsCloud}
 use Rattle.drc_recode.specs.FirstOrder.{reordered}

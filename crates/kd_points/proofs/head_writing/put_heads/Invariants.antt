@@ -1,5 +1,5 @@
 use Rattle.std.proofs.Common.{◌≡◌, ◌++◌, ◌<◌, ℕ, take, flat_map, get_or}
-use Rattle.mesh_model.specs.declared.heads.Head.{Head}
+use Rattle.attr_heads.specs.declared.heads.Head.{Head}
 use Rattle.kd_points.specs.Laws.{KdHeadFits}
 use Rattle.kd_points.specs.Written.{kd_head_bytes}
 use Rattle.kd_points.proofs.head_writing.put_heads.Given as goal

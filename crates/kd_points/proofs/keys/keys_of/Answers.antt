@@ -1,7 +1,7 @@
 use Rattle.std.proofs.Common.{◌≡◌, ◌<◌, ◌++◌, List, [], ◌∷◌, length, get_or, map, take, sym, ◌∙◌, ap, subst, arith, ℤ}
 use Rattle.std.specs.List.{All}
 use Rattle.std.proofs.lemmas.List.{map_more}
-use Rattle.mesh_model.specs.Head.{width_of}
+use Rattle.attr_heads.specs.Head.{width_of}
 use Rattle.kd_tree.specs.Keys.{Key, KeyRows}
 use Rattle.kd_points.specs.Extents.{axes_over, key_within, offset_of}
 use Rattle.kd_points.specs.Keys.{key_of}

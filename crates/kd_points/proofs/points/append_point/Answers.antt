@@ -1,6 +1,6 @@
 use Rattle.std.proofs.Common.{◌≡◌, ◌++◌, [], ◌∷◌, true, false, min, get_or, arith, rules, FitsSigned, w64, subst}
 use Rattle.std.proofs.lemmas.Int.{to_z-of_z}
-use Rattle.mesh_model.specs.Head.{in_type}
+use Rattle.attr_heads.specs.DataTypes.{in_type}
 use Rattle.kd_points.specs.Extents.{integer_at}
 use Rattle.kd_points.proofs.Scanned.{scan-next}
 use Rattle.kd_points.proofs.points.append_point.Goals as goal

@@ -1,7 +1,7 @@
 use Rattle.std.proofs.Common.{◌≡◌, ◌<◌, ◌≤◌, List, ℤ, map, arith, sym, ◌∙◌, ap, subst, Ok, Err, None}
 use Rattle.drc_base.specs.Refusals.{Answers}
-use Rattle.mesh_model.specs.FirstFault.{answer_of}
-use Rattle.mesh_model.specs.Head.{types_of, width_of}
+use Rattle.attr_heads.specs.FirstFault.{answer_of}
+use Rattle.attr_heads.specs.Head.{types_of, width_of}
 use Rattle.mesh_model.specs.Parts.{AreRows, CloudParts, range_fault, cloud_of}
 use Rattle.mesh_model.proofs.Made.{cloud_of-IsCloud, AreRows-cells_of, ArePoints-tests}
 use Rattle.kd_points.specs.Extents.{row_within}

@@ -1,5 +1,5 @@
 use Rattle.std.proofs.Common.{◌≡◌, length, sym, ◌∙◌, ap, subst, map}
-use Rattle.mesh_model.specs.Head.{types_of}
+use Rattle.attr_heads.specs.Head.{types_of}
 use Rattle.kd_points.specs.Extents.{row_within}
 use Rattle.kd_points.specs.Meaning.{FirstOutside}
 use Rattle.kd_points.proofs.Clouded.{length-types_of}

@@ -1,5 +1,5 @@
 use Rattle.std.proofs.Common.{[], replicate, arith}
-use Rattle.mesh_model.specs.declared.heads.Head.{Head}
+use Rattle.attr_heads.specs.declared.heads.Head.{Head}
 use Rattle.kd_points.proofs.Appending.{appended-more}
 use Rattle.kd_points.proofs.points.types_of.Goals as goal
 

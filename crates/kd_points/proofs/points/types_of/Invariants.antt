@@ -1,5 +1,5 @@
 use Rattle.std.proofs.Common.{◌≡◌, take}
-use Rattle.mesh_model.specs.Head.{types_of}
+use Rattle.attr_heads.specs.Head.{types_of}
 use Rattle.kd_points.proofs.points.types_of.Given as goal
 
 abbrev pub invariant-loop-head : goal.invariant-loop-head

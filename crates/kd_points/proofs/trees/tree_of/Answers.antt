@@ -1,6 +1,6 @@
 use Rattle.std.proofs.Common.{◌≡◌, ◌≤◌, ◌*◌, length, sym, ◌∙◌, ap, subst, arith}
 use Rattle.std.proofs.lemmas.List.{length-map}
-use Rattle.mesh_model.specs.Head.{width_of}
+use Rattle.attr_heads.specs.Head.{width_of}
 use Rattle.kd_tree.specs.Keys.{KeyRows}
 use Rattle.kd_points.specs.Extents.{depth_of, extents_of, key_within}
 use Rattle.kd_points.proofs.Counting.{sorted_length, bits_short}

@@ -4,7 +4,7 @@ use Rattle.std.proofs.lemmas.Result.{err_from_is_err_and}
 use Rattle.mesh_model.specs.Parts.{MeshParts, IsMesh, rows_of}
 use Rattle.mesh_model.specs.Assembled.{triple}
 use Rattle.mesh_model.specs.Groups.{group_tables}
-use Rattle.mesh_model.proofs.Columns.{width_of-bounds}
+use Rattle.attr_heads.proofs.Widths.{width_of-bounds}
 use Rattle.mesh_model.proofs.AssembledParts.{stored-numbered, assembled-fault}
 use Rattle.mesh_model.proofs.assembling.assemble_stored.Goals as goal
 

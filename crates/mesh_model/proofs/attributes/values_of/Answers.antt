@@ -1,7 +1,7 @@
 use Rattle.std.proofs.Common.{◌≡◌, ◌<◌, ◌++◌, List, ℕ, get_or, length, map, take, sym, ap, ◌∙◌, subst, arith}
 use Rattle.std.specs.List.{zip}
 use Rattle.std.proofs.lemmas.List.{get_or-map, length-map}
-use Rattle.mesh_model.specs.declared.heads.Head.{Head}
+use Rattle.attr_heads.specs.declared.heads.Head.{Head}
 use Rattle.mesh_model.specs.Assembled.{column_entry, corner_row}
 use Rattle.mesh_model.specs.Vertices.{AttributeParts, IsWholeAt, table_of}
 use Rattle.mesh_model.proofs.AttributeRows.{entry-vertex}

@@ -1,6 +1,6 @@
 use Rattle.std.proofs.Common.{◌∙◌, [], ◌∷◌, sym}
 use Rattle.mesh_model.specs.Parts.{faces_fault, index_fault}
-use Rattle.mesh_model.proofs.FirstFaults.{first_fault-none, faults_alone}
+use Rattle.attr_heads.proofs.FirstFaults.{first_fault-none, faults_alone}
 use Rattle.mesh_model.proofs.Made.{IsMesh-made}
 use Rattle.mesh_model.proofs.geometry_rules.test_mesh.Goals as goal
 

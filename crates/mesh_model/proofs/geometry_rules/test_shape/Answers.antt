@@ -1,5 +1,5 @@
 use Rattle.std.proofs.Common.{◌≡◌, ◌<◌, ◌≤◌, None, rules}
-use Rattle.mesh_model.specs.Head.{width_of, heads_fault}
+use Rattle.attr_heads.specs.Head.{width_of, heads_fault}
 use Rattle.mesh_model.proofs.Made.{whole-rows}
 use Rattle.mesh_model.proofs.geometry_rules.test_shape.Goals as goal
 

@@ -4,7 +4,7 @@ use Rattle.mesh_model.specs.CountedRows.{LookedAt}
 use Rattle.mesh_model.specs.Groups.{group_tables}
 use Rattle.mesh_model.specs.Parts.{rows_of}
 use Rattle.mesh_model.specs.RowIndex.{AreTwins, AreUnlike}
-use Rattle.mesh_model.proofs.Columns.{width_of-bounds}
+use Rattle.attr_heads.proofs.Widths.{width_of-bounds}
 use Rattle.mesh_model.proofs.NumberedFaces.{items-fit, faces-unlike}
 use Rattle.mesh_model.proofs.Rows.{length-rows}
 use Rattle.mesh_model.proofs.numbering.number_corners.Goals as goal

@@ -1,8 +1,13 @@
-use Rattle.std.proofs.Common.{◌≡◌, ◌+◌, ◌≤◌, ◌++◌, length, take, replicate, sym, ap, ◌∙◌, arith}
+use Rattle.std.proofs.Common.{◌≡◌, ℕ, List, ◌+◌, ◌-◌, ◌≤◌, ◌++◌, length, take, drop, replicate, sym, ap, ◌∙◌, arith}
+use Rattle.std.proofs.lemmas.List.{length-take, length-drop}
 use Rattle.std.proofs.lemmas.Slice.{take-put_mid}
-use Rattle.mesh_model.specs.Head.{types_of, width_of}
-use Rattle.mesh_model.proofs.Columns.{types_of-more, width_of-more, width_of-take_le, length-part}
+use Rattle.attr_heads.specs.Head.{types_of, width_of}
+use Rattle.attr_heads.proofs.Widths.{types_of-more, width_of-more, width_of-take_le}
 use Rattle.mesh_model.proofs.row_rules.column_types.Goals as goal
+
+-- the length of the part from `at` on for n elements
+length-part : {X : Type 0} (at n : ℕ) (xs : List X) → at + n ≤ length xs → length (take (at + n - at) (drop at xs)) ≡ n
+length-part at n xs fits = simp (length-take, length-drop) (omega arith)
 
 pub loop-head-preserved : goal.loop-head-preserved
 loop-head-preserved c =

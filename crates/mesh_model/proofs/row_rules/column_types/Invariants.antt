@@ -1,5 +1,5 @@
 use Rattle.std.proofs.Common.{◌≡◌, take}
-use Rattle.mesh_model.specs.Head.{types_of, width_of}
+use Rattle.attr_heads.specs.Head.{types_of, width_of}
 use Rattle.mesh_model.proofs.row_rules.column_types.Given as goal
 
 -- the types of the heads so far stand at the front

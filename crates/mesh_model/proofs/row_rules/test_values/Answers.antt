@@ -1,7 +1,7 @@
 use Rattle.std.proofs.Common.{◌≡◌, ◌+◌, get_or, pos, sym, ap, ◌∙◌, rules, arith, w32, below_more}
 use mir.Val.{SFits}
 use Rattle.std.proofs.lemmas.Int.{to_z-of_z}
-use Rattle.mesh_model.specs.Head.{in_type}
+use Rattle.attr_heads.specs.DataTypes.{in_type}
 use Rattle.mesh_model.proofs.Ranges.{fits_at, fits_at-column, range_fault-none, range_fault-at}
 use Rattle.mesh_model.proofs.row_rules.test_values.Goals as goal
 use Rattle.mesh_model.proofs.row_rules.test_values.Goals.{then-column-width, else-column-width}

@@ -1,5 +1,6 @@
 use Rattle.std.proofs.Common.{◌≡◌, ◌<◌, ◌+◌, ◌*◌, ◌%◌, ℕ, true, get_or, pos}
-use Rattle.mesh_model.specs.Head.{in_type, types_of, width_of}
+use Rattle.attr_heads.specs.DataTypes.{in_type}
+use Rattle.attr_heads.specs.Head.{types_of, width_of}
 use Rattle.mesh_model.proofs.row_rules.test_values.Given as goal
 
 -- the cells so far are in their types, and the column is that of the next cell

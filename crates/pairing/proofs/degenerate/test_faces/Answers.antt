@@ -1,7 +1,7 @@
 -- The first degenerate face, or that there is none.
 use Rattle.std.proofs.Common.{ap, sym, ◌∙◌, arith}
 use Rattle.drc_base.specs.declared.kinds.Kind.TheVariants.{Degenerate}
-use Rattle.mesh_model.specs.FirstFault.{at_place}
+use Rattle.attr_heads.specs.FirstFault.{at_place}
 use Rattle.pairing.specs.Degenerate.{is_degenerate_face}
 use Rattle.pairing.proofs.Least.{least_is, least_is_none}
 use Rattle.pairing.proofs.degenerate.test_faces.Goals as goal

@@ -4,7 +4,7 @@ use Rattle.ply_mesh.proofs.LineTexts.{onto}
 use Rattle.ply_mesh.proofs.RowTexts.{three_parts}
 use Rattle.std.proofs.lemmas.List.Elements.{recursion_from_All}
 use Rattle.mesh_model.specs.declared.geometries.Geometry.TheVariants.{Mesh}
-use Rattle.mesh_model.proofs.Passing.{heads_say}
+use Rattle.attr_heads.proofs.Passing.{heads_say}
 use Rattle.ply_mesh.specs.Fields.{HasFields}
 use Rattle.ply_mesh.proofs.RoundTrip.{geometry_again}
 use Rattle.ply_mesh.proofs.header_writer.mesh_header.Goals as goal

@@ -1,6 +1,6 @@
 -- The heads before an attribute, and its own, are no wider than all.
 use Rattle.std.proofs.Common.{◌≡◌, ◌+◌, ◌-◌, take, drop, arith}
-use Rattle.mesh_model.specs.Head.{width_of}
+use Rattle.attr_heads.specs.Head.{width_of}
 use Rattle.seams.proofs.Values.{width_part}
 use Rattle.seams.proofs.differences.span_of.Goals as goal
 

@@ -1,6 +1,6 @@
 -- The width of the heads so far.
 use Rattle.std.proofs.Common.{◌≡◌, take}
-use Rattle.mesh_model.specs.Head.{width_of}
+use Rattle.attr_heads.specs.Head.{width_of}
 use Rattle.seams.proofs.differences.width_of.Given as goal
 
 abbrev pub invariant-loop-head : goal.invariant-loop-head

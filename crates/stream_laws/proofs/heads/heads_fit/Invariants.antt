@@ -1,5 +1,5 @@
 use Rattle.std.proofs.Common.{◌<◌, ℕ, get_or}
-use Rattle.mesh_model.specs.declared.heads.Head.{Head}
+use Rattle.attr_heads.specs.declared.heads.Head.{Head}
 use Rattle.attr_laws.specs.Laws.{HeadFits}
 use Rattle.stream_laws.specs.Laws.{IsByte}
 use Rattle.stream_laws.proofs.heads.heads_fit.Given as goal

@@ -4,9 +4,10 @@ use Rattle.std.specs.Prelude.{IsTrue}
 use Rattle.std.specs.List.{All, list_all}
 use Rattle.std.proofs.lemmas.List.{length-map}
 use Rattle.std.proofs.lemmas.List.Elements.{All-weaker, All-cons, All-nil}
-use Rattle.mesh_model.specs.declared.heads.Head.{Head}
+use Rattle.attr_heads.specs.declared.heads.Head.{Head}
 use Rattle.mesh_model.specs.Groups.{AttrTable, GroupParts, HasVertices, corner_entries, group_tables}
-use Rattle.mesh_model.specs.Head.{in_type, heads_fault}
+use Rattle.attr_heads.specs.DataTypes.{in_type}
+use Rattle.attr_heads.specs.Head.{heads_fault}
 use Rattle.mesh_model.specs.Assembled.{IsAttrTable, AreTables}
 use Rattle.text_tests.proofs.Columns.{All-tested, entries-below, HasVertices-tested}
 use Rattle.text_tests.proofs.mesh_model_tests.placed.Goals as goal

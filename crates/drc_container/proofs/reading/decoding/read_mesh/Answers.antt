@@ -4,7 +4,7 @@ use Rattle.std.proofs.lemmas.Result.{err_from_is_err_and}
 use Rattle.drc_base.specs.declared.faults.Fault.{Fault}
 use Rattle.drc_base.specs.declared.faults.Refusal.{Refusal}
 use Rattle.mesh_model.specs.declared.geometries.Geometry.TheVariants.{Mesh}
-use Rattle.mesh_model.specs.FirstFault.{answer_of}
+use Rattle.attr_heads.specs.FirstFault.{answer_of}
 use Rattle.mesh_model.specs.Parts.{MeshParts, mesh_of}
 use Rattle.drc_container.specs.reading.Meaning.{Meaning, told_by}
 use Rattle.drc_container.specs.reading.Stream.{mesh_at, mesh_behind}

@@ -1,7 +1,7 @@
 use Rattle.std.proofs.Common.{◌≡◌, ◌-◌, ◌<◌, ◌∷◌, [], ℕ, Bool, List, Option, Vec, Global, map, length, refl, ap, sym, ◌∙◌, arith}
 use Rattle.std.specs.Prelude.{option_map}
 use Rattle.std.specs.List.{range_with_len}
-use Rattle.mesh_model.proofs.Passing.{heads_say}
+use Rattle.attr_heads.proofs.Passing.{heads_say}
 use Rattle.drc_container.specs.writing.WrittenOnSurface.{seam_bits_of, seam_lists}
 use Rattle.drc_container.specs.surface.AttributeSurfaces.{glued_by, corner_flags_of}
 use Rattle.drc_container.proofs.lemmas.surface.Flags.{flags-first, flags-more, lists-more, pushed}

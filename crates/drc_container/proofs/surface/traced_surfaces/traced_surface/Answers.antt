@@ -2,7 +2,7 @@ use Rattle.std.proofs.Common.{◌≡◌, None, Some, Ok, Option, refl, sym, ◌�
 use Rattle.std.proofs.lemmas.Result.{err_from_is_err_and}
 use Rattle.drc_base.specs.declared.faults.Fault.{Fault}
 use Rattle.drc_base.specs.Refusals.{Answers}
-use Rattle.mesh_model.specs.FirstFault.{value_unless}
+use Rattle.attr_heads.specs.FirstFault.{value_unless}
 use Rattle.pairing.specs.Degenerate.{degenerate_fault}
 use Rattle.drc_container.specs.declared.surface.traced_surfaces.TracedSurface.{TracedSurface}
 use Rattle.drc_container.specs.writing.WrittenOnSurface.{traced}

@@ -1,7 +1,7 @@
 -- A mesh under new numbers of its faces is a mesh, and so it is made of its heads, its cells and its faces.
 use Rattle.std.proofs.Common.{◌≡◌, Ok, refl, sym, ◌∙◌, ap, subst}
 use Rattle.std.specs.Result.{IsOk}
-use Rattle.mesh_model.specs.FirstFault.{answer_of}
+use Rattle.attr_heads.specs.FirstFault.{answer_of}
 use Rattle.mesh_model.specs.Parts.{IsMesh}
 use Rattle.mesh_model.specs.Renumbering.{renumbered}
 use Rattle.mesh_model.proofs.Made.{AreRows-cells_of, range_fault-cells_of, mesh_of-IsMesh}

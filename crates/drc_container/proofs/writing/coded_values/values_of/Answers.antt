@@ -1,7 +1,7 @@
 use Rattle.std.proofs.Common.{◌≡◌, ◌+◌, ◌<◌, ◌≤◌, length, ◌∙◌, ap, subst, get_or, arith}
-use Rattle.mesh_model.specs.Head.{width_of}
+use Rattle.attr_heads.specs.Head.{width_of}
 use Rattle.mesh_model.specs.Contents.{heads_in, points_in}
-use Rattle.mesh_model.proofs.Columns.{width_of-bounds}
+use Rattle.attr_heads.proofs.Widths.{width_of-bounds}
 use Rattle.drc_container.proofs.lemmas.writing.Extracted.{values-start, values-next, width-next}
 use Rattle.drc_container.proofs.writing.coded_values.values_of.Goals as goal
 

@@ -1,5 +1,5 @@
 use Rattle.std.proofs.Common.{◌≡◌, ◌+◌, ◌++◌, drop}
-use Rattle.mesh_model.specs.Head.{width_of}
+use Rattle.attr_heads.specs.Head.{width_of}
 use Rattle.mesh_model.specs.Contents.{heads_in, points_in}
 use Rattle.predict.specs.Schemes.{code_of}
 use Rattle.drc_container.specs.writing.Written.{values_of}

@@ -4,7 +4,7 @@ use Rattle.std.specs.Prelude.{OnOk}
 use Rattle.std.specs.List.{All, enumerate_from}
 use Rattle.drc_base.specs.Refusals.{Answers}
 use Rattle.drc_bits.specs.Spells.{Spells}
-use Rattle.mesh_model.specs.FirstFault.{value_unless}
+use Rattle.attr_heads.specs.FirstFault.{value_unless}
 use Rattle.attr_section.specs.Heads.{bare_decoder, heads_at}
 use Rattle.drc_container.specs.choice.Refused.{values_fault}
 use Rattle.drc_container.specs.choice.CanCode.{CanCode}

@@ -1,6 +1,6 @@
 use Rattle.std.proofs.Common.{ap}
 use Rattle.std.proofs.lemmas.Result.{err_from_is_err_and}
-use Rattle.mesh_model.specs.FirstFault.{value_unless}
+use Rattle.attr_heads.specs.FirstFault.{value_unless}
 use Rattle.drc_container.specs.writing.Chosen.{written}
 use Rattle.drc_container.proofs.lemmas.choice.FirstRefusals.{refused-early}
 use Rattle.drc_container.proofs.writing.encoding.encode_view.Goals as goal

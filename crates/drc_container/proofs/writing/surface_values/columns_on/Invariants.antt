@@ -1,6 +1,6 @@
 use Rattle.std.proofs.Common.{◌≡◌, map, take}
 use Rattle.std.specs.List.{range_with_len}
-use Rattle.mesh_model.specs.Head.{width_of}
+use Rattle.attr_heads.specs.Head.{width_of}
 use Rattle.drc_container.specs.writing.WrittenOnSurface.{coded_by}
 use Rattle.drc_container.specs.surface.AttributeSurfaces.{glued_on}
 use Rattle.drc_container.proofs.writing.surface_values.columns_on.Given as goal

@@ -1,8 +1,8 @@
 use Rattle.std.proofs.Common.{◌≡◌, ◌+◌, ◌*◌, ◌^◌, ◌<◌, ◌≤◌, ℕ, List, length, get_or, ap, sym, ◌∙◌, arith}
 use Rattle.std.specs.List.{range_with_len}
 use Rattle.std.specs.Prelude.{map}
-use Rattle.mesh_model.specs.declared.heads.Head.{Head}
-use Rattle.mesh_model.proofs.Passing.{heads_say}
+use Rattle.attr_heads.specs.declared.heads.Head.{Head}
+use Rattle.attr_heads.proofs.Passing.{heads_say}
 use Rattle.attr_section.specs.Values.{values_in}
 use Rattle.drc_container.specs.writing.WrittenOnSurface.{coded_values, coded_by}
 use Rattle.drc_container.specs.surface.AttributeSurfaces.{glued_on}

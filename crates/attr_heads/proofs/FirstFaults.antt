@@ -2,7 +2,7 @@
 use Rattle.std.proofs.Common.{◌≡◌, ℕ, Bool, true, false, List, [], ◌∷◌, Option, None, Some, refl, ap}
 use Rattle.drc_base.specs.declared.faults.Fault.{Fault}
 use Rattle.drc_base.specs.declared.kinds.Kind.{Kind}
-use Rattle.mesh_model.specs.FirstFault.{unless, first_fault, at_place}
+use Rattle.attr_heads.specs.FirstFault.{unless, first_fault, at_place}
 
 -- a test that gives no fault holds, and back
 pub unless-none : (b : Bool) (kind : Kind) (at : ℕ) → unless b kind at ≡ None → b ≡ true

@@ -1,25 +1,15 @@
-//! The heads of attributes: what each column of integers is.
+//! The heads of attributes: what the integers of each are.
 
 ghost use Rattle.std.specs.Prelude.{◌≡◌, ◌<◌, ◌≤◌, None, IsOk, IfOk, OnOk, length};
-ghost use Rattle.mesh_model.specs.FirstFault.{Tests};
-ghost use Rattle.mesh_model.specs.Head.{has_type, has_minima, has_bits, head_fault, each_fault, heads_fault, width_of};
+ghost use Rattle.attr_heads.specs.FirstFault.{Tests};
+ghost use Rattle.attr_heads.specs.Quants.{has_minima, has_bits};
+ghost use Rattle.attr_heads.specs.Head.{has_type, has_comps, head_fault, each_fault, heads_fault, width_of};
 
-use drc_base::{Fault, Kind, MAX_ATTRIBUTES, MAX_COMPONENTS, Memory, Sequence};
+use crate::data_types::{is_float, is_integer};
+use crate::quants::{Quant, are_quant_bits};
+use crate::usages::is_usage;
+use drc_base::{Fault, Kind, MAX_ATTRIBUTES, MAX_COMPONENTS, Memory};
 use std::alloc::Global;
-
-/// How the integers of an attribute stand for floats: value i of a component with minimum m is
-/// m + i * range / (2^bits - 1). The range and the minima are the bit patterns of 32-bit floats,
-/// which are carried and never computed with (Draco Bitstream Specification 2.2, quantization
-/// data).
-#[derive(Debug, Drop)]
-pub struct Quant {
-    /// Bits of each integer, 1 to 30.
-    pub bits: u8,
-    /// The bit pattern of the range.
-    pub range: u32,
-    /// The bit pattern of the minimum of each component.
-    pub min: Sequence<u32>,
-}
 
 /// What an attribute is (Draco Bitstream Specification 2.2, attribute decoders).
 #[derive(Debug, Drop)]
@@ -37,20 +27,6 @@ pub struct Head {
     pub id: u32,
     /// The quantisation, exactly where `dtype` is 9.
     pub quant: Option<Quant>,
-}
-
-impl Quant {
-    /// An equal quantisation.
-    fn copy(&self, alloc: Global) -> Result<Quant, Memory>
-        ensures { IfOk result (λ q. q ≡ self.now) }
-    {
-        let min = Vec::from_slice(alloc, self.min.as_slice())?;
-        Ok(Quant {
-            bits: self.bits,
-            range: self.range,
-            min: Sequence::from_vec(min),
-        })
-    }
 }
 
 impl Head {
@@ -77,8 +53,8 @@ impl Head {
         ensures { result ≡ has_type self.now.dtype self.now.quant }
     {
         match &self.quant {
-            None => 1 <= self.dtype && self.dtype <= 6,
-            Some(_) => self.dtype == 9,
+            None => is_integer(self.dtype),
+            Some(_) => is_float(self.dtype),
         }
     }
 
@@ -96,9 +72,16 @@ impl Head {
     {
         match &self.quant {
             None => true,
-            Some(quant) => 1 <= quant.bits && quant.bits <= 30,
+            Some(quant) => are_quant_bits(quant.bits),
         }
     }
+}
+
+/// Whether a point may have so many integers of one attribute.
+pub(crate) fn has_comps(comps: u8) -> bool
+    ensures { result ≡ has_comps comps }
+{
+    1 <= comps && comps as u32 <= MAX_COMPONENTS
 }
 
 /// Equal heads.
@@ -118,13 +101,13 @@ fn test_head(k: usize, head: &Head) -> Result<(), Fault>
     ensures comps { OnOk result ((1 ≤ head.now.comps) × (head.now.comps ≤ 8)) }
 {
     let at = k as u64;
-    if head.usage > 4 {
+    if !is_usage(head.usage) {
         return Err(Fault::new(Kind::AttrType, at));
     }
     if !head.has_type() {
         return Err(Fault::new(Kind::DataType, at));
     }
-    if head.comps < 1 || head.comps as u32 > MAX_COMPONENTS || !head.has_minima() {
+    if !has_comps(head.comps) || !head.has_minima() {
         return Err(Fault::new(Kind::Components, at));
     }
     if !head.has_bits() {
@@ -149,7 +132,7 @@ fn test_each_head(heads: &[Head]) -> Result<u32, Fault>
 }
 
 /// How many integers a row of these heads has.
-pub(crate) fn row_width(heads: &[Head]) -> u32
+pub fn row_width(heads: &[Head]) -> u32
     requires { width_of heads.now ≤ 128 }
     ensures { result ≡ width_of heads.now }
 {
@@ -164,7 +147,7 @@ pub(crate) fn row_width(heads: &[Head]) -> u32
 /// AttrType, DataType, Components and QuantBits at the first head that has one, in this order.
 /// Without a fault, the width of a row.
 #[tactic(auto, unfolding(crate::specs::Head::heads_fault))]
-pub(crate) fn test_heads(heads: &[Head]) -> Result<u32, Fault>
+pub fn test_heads(heads: &[Head]) -> Result<u32, Fault>
     ensures tested { Tests (heads_fault heads.now) result }
     ensures width { IfOk result (λ width. width ≡ width_of heads.now) }
     ensures bounds { IfOk result (λ width. (0 < width) × (width ≤ 128)) }

@@ -1,14 +1,14 @@
 -- The data types and the width of the heads so far.
 use Rattle.std.proofs.Common.{◌≡◌, ℕ, ◌+◌, ◌-◌, ◌<◌, ◌≤◌, ◌*◌, leb, None, List, [], ◌∷◌, ◌++◌, length, get_or, take, drop, replicate, ap, ◌∙◌, sym, subst, arith}
-use Rattle.std.proofs.lemmas.List.{take_more, append-nil, length-take, length-drop}
+use Rattle.std.proofs.lemmas.List.{take_more, append-nil}
 use Rattle.std.proofs.lemmas.List.Sums.{sum_by_more, sum_by-take-le, sum_by-cons}
 use Rattle.std.proofs.lemmas.List.Concat.{flat_map-append}
-use Rattle.mesh_model.specs.declared.heads.Head.{Head}
+use Rattle.attr_heads.specs.declared.heads.Head.{Head}
 use Rattle.std.proofs.lemmas.Bool.{and_parts, leb-true}
 use Rattle.drc_base.specs.declared.kinds.Kind.TheVariants.{NoAttribute, AttrLimit, AttrType, DataType, Components}
-use Rattle.mesh_model.specs.FirstFault.{unless}
-use Rattle.mesh_model.specs.Head.{types_of, width_of, has_type, head_fault, each_fault, heads_fault}
-use Rattle.mesh_model.proofs.FirstFaults.{unless-none, first_fault-none}
+use Rattle.attr_heads.specs.FirstFault.{unless}
+use Rattle.attr_heads.specs.Head.{types_of, width_of, has_type, head_fault, each_fault, heads_fault}
+use Rattle.attr_heads.proofs.FirstFaults.{unless-none, first_fault-none}
 
 -- one more head has its data type once for each component
 pub types_of-more : (heads : List Head) (i : ℕ) (h : Head) → i < length heads → h ≡ get_or heads i h → types_of (take (i + 1) heads) ≡ types_of (take i heads) ++ replicate h.comps h.dtype
@@ -26,10 +26,6 @@ width_of-more heads i h inside is =
 -- the heads so far are no wider than all of them
 pub width_of-take_le : (heads : List Head) (i : ℕ) → width_of (take i heads) ≤ width_of heads
 width_of-take_le heads i = sum_by-take-le (λ (g : Head). g.comps) heads i
-
--- the length of the part from `at` on for n elements
-pub length-part : {X : Type 0} (at n : ℕ) (xs : List X) → at + n ≤ length xs → length (take (at + n - at) (drop at xs)) ≡ n
-length-part at n xs fits = simp (length-take, length-drop) (omega arith)
 
 -- a head without a fault has 1 to 8 components
 head_fault-comps : (k : ℕ) (h : Head) → head_fault k h ≡ None → (1 ≤ h.comps) × (h.comps ≤ 8)

@@ -1,6 +1,6 @@
 use Rattle.std.proofs.Common.{◌≡◌, take}
-use Rattle.mesh_model.specs.Head.{width_of}
-use Rattle.mesh_model.proofs.heads.row_width.Given as goal
+use Rattle.attr_heads.specs.Head.{width_of}
+use Rattle.attr_heads.proofs.heads.row_width.Given as goal
 
 -- the width of the heads so far
 abbrev pub invariant-loop-head : goal.invariant-loop-head

@@ -1,6 +1,6 @@
 use Rattle.std.proofs.Common.{◌≡◌, ◌≤◌, ◌*◌, drop, take}
-use Rattle.mesh_model.specs.Head.{each_fault, width_of}
-use Rattle.mesh_model.proofs.heads.test_each_head.Given as goal
+use Rattle.attr_heads.specs.Head.{each_fault, width_of}
+use Rattle.attr_heads.proofs.heads.test_each_head.Given as goal
 
 -- no head so far has a fault, and the width is that of the heads so far
 abbrev pub invariant-loop-k : goal.invariant-loop-k

@@ -7,10 +7,11 @@ use Rattle.std.proofs.lemmas.List.Elements.{All-nil, All-cons}
 use Rattle.drc_base.specs.declared.faults.Fault.{Fault}
 use Rattle.drc_base.specs.declared.kinds.Kind.TheVariants.{NoAttribute, AttrLimit, AttrType, DataType, Components, QuantBits}
 use Rattle.drc_base.specs.declared.limits.TheConstants.{MAX_ATTRIBUTES, MAX_COMPONENTS}
-use Rattle.mesh_model.specs.declared.heads.Head.{Head}
-use Rattle.mesh_model.specs.FirstFault.{unless}
-use Rattle.mesh_model.specs.Head.{has_type, has_minima, has_bits, head_fault, each_fault, heads_fault}
-use Rattle.mesh_model.proofs.FirstFaults.{unless-none, first_fault-none}
+use Rattle.attr_heads.specs.declared.heads.Head.{Head}
+use Rattle.attr_heads.specs.FirstFault.{unless}
+use Rattle.attr_heads.specs.Quants.{has_minima, has_bits}
+use Rattle.attr_heads.specs.Head.{has_type, head_fault, each_fault, heads_fault}
+use Rattle.attr_heads.proofs.FirstFaults.{unless-none, first_fault-none}
 
 -- what a head that passes says
 pub record HeadSays (h : Head) : Type 0 where

@@ -1,0 +1,5 @@
+pub mod FirstFaults
+pub mod Passing
+pub mod Widths
+pub mod Types
+pub mod HeadsBack

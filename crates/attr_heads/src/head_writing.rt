@@ -1,0 +1,18 @@
+//! Writing what every stream says of an attribute.
+
+ghost use Rattle.std.specs.Prelude.{◌≡◌, ◌<◌, ◌^◌, ◌++◌, OnOk};
+ghost use Rattle.attr_heads.specs.HeadItems.{head_bytes};
+
+use crate::heads::Head;
+use drc_base::Memory;
+use drc_bits::put_var32;
+
+/// Appends the bytes of a head, without what its integers stand for.
+pub fn put_bare_head(out: &mut Vec<u8>, head: &Head) -> Result<(), Memory>
+    ensures bytes { OnOk result (out.new.items ≡ out.old.items ++ head_bytes head.now) }
+    ensures id { OnOk result (head.now.id < 2 ^ 32) }
+{
+    out.extend_from_slice(&[head.usage, head.dtype, head.comps, head.normalized])?;
+    out.extend_from_slice(&put_var32(head.id))?;
+    Ok(())
+}
