@@ -1,7 +1,8 @@
 //! Writing what every stream says of an attribute.
 
 ghost use Rattle.std.specs.Prelude.{◌≡◌, ◌<◌, ◌^◌, ◌++◌, OnOk};
-ghost use Rattle.attr_heads.specs.HeadItems.{head_bytes};
+ghost use Rattle.drc_bits.specs.Spells.{Spells};
+ghost use Rattle.attr_heads.specs.HeadItems.{head_at, head_bytes, bare_head, HeadPasses};
 
 use crate::heads::Head;
 use drc_base::Memory;
@@ -10,6 +11,7 @@ use drc_bits::put_var32;
 /// Appends the bytes of a head, without what its integers stand for.
 pub fn put_bare_head(out: &mut Vec<u8>, head: &Head) -> Result<(), Memory>
     ensures bytes { OnOk result (out.new.items ≡ out.old.items ++ head_bytes head.now) }
+    ensures again { HeadPasses head.now → OnOk result (Spells head_at (head_bytes head.now) (bare_head head.now)) }
     ensures id { OnOk result (head.now.id < 2 ^ 32) }
 {
     out.extend_from_slice(&[head.usage, head.dtype, head.comps, head.normalized])?;

@@ -78,7 +78,7 @@ impl Head {
 }
 
 /// Whether a point may have so many integers of one attribute.
-pub(crate) fn has_comps(comps: u8) -> bool
+pub fn has_comps(comps: u8) -> bool
     ensures { result ≡ has_comps comps }
 {
     1 <= comps && comps as u32 <= MAX_COMPONENTS

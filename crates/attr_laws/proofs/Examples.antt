@@ -11,7 +11,8 @@ use Rattle.predict.specs.Restored.{corrections_behind}
 use Rattle.attr_section.specs.declared.decoder_heads.DecoderHead.{DecoderHead}
 use Rattle.attr_section.specs.declared.values.Values.{Values}
 use Rattle.attr_section.specs.Examples.{example_head, texture_head, position_values, texture_values, example_prediction, surface_positions, surface_decoder}
-use Rattle.attr_section.specs.Heads.{heads_at, heads_bytes, bare_decoder, HeadPasses, DecoderPasses, DecodersPass}
+use Rattle.attr_heads.specs.HeadItems.{HeadPasses}
+use Rattle.attr_section.specs.Heads.{heads_at, heads_bytes, bare_decoder, DecoderPasses, DecodersPass}
 use Rattle.attr_section.specs.Values.{values_in, decoder_values_at}
 use Rattle.attr_section.specs.Written.{plain_bytes, integers_bytes, flagged_bytes, predicted_bytes, values_bytes, decoder_values_bytes, values_placed, HaveEntries, HasFewFlags}
 use Rattle.attr_section.proofs.Examples.{values-pass, surface-values-pass}

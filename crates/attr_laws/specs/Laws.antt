@@ -9,7 +9,8 @@ use Rattle.predict.specs.Wrap.{Range, CanWrap, HasEnds}
 use Rattle.corner_table.specs.Ordered.{Ordered}
 use Rattle.attr_section.specs.declared.decoder_heads.DecoderHead.{DecoderHead}
 use Rattle.attr_section.specs.declared.values.Values.{Values}
-use Rattle.attr_section.specs.Heads.{heads_at, heads_bytes, bare_head, bare_decoder, DecodersPass, AreAcceptedLinks}
+use Rattle.attr_heads.specs.HeadItems.{bare_head}
+use Rattle.attr_section.specs.Heads.{heads_at, heads_bytes, bare_decoder, DecodersPass, AreAcceptedLinks}
 use Rattle.attr_section.specs.Values.{integers_at, range_at, quantised_at, values_in, decoder_values_at}
 use Rattle.attr_section.specs.Written.{integers_bytes, range_bytes, quant_bytes, decoder_values_bytes, HasQuant, QuantFits}
 use Rattle.attr_section.specs.Written.{ValuesPass, DecoderValuesPass, values_placed, HaveEntries, MayHaveFewFlags}

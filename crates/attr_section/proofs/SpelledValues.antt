@@ -19,7 +19,8 @@ use Rattle.attr_section.specs.declared.decoder_heads.DecoderHead.{DecoderHead}
 use Rattle.attr_heads.specs.DataTypes.{in_type}
 use Rattle.attr_section.specs.declared.values.Values.{Values}
 use Rattle.attr_section.specs.Each.{each_at}
-use Rattle.attr_section.specs.Heads.{bare_head, bare_decoder}
+use Rattle.attr_heads.specs.HeadItems.{bare_head}
+use Rattle.attr_section.specs.Heads.{bare_decoder}
 use Rattle.predict.specs.declared.schemes.Prediction.{Prediction}
 use Rattle.predict.specs.declared.schemes.Prediction.TheVariants as prediction
 use Rattle.predict.specs.Schemes.{code_of, byte_of, prediction_of, prediction_coded}

@@ -24,7 +24,7 @@ use Rattle.predict.specs.Surfaces.{surface_or, CanStand}
 use Rattle.predict.specs.Foretold.{foretold, marks_of, wanted_of}
 use Rattle.symbol_coding.specs.Block.{block_bytes}
 use Rattle.attr_section.specs.declared.values.Values.{Values}
-use Rattle.attr_section.specs.Heads.{bare_head}
+use Rattle.attr_heads.specs.HeadItems.{bare_head}
 use Rattle.attr_section.specs.Values.{flags_at, predicted_at, values_at}
 
 -- the greatest symbol

@@ -1,7 +1,7 @@
 //! What a decoder of attributes is.
 
-use drc_base::Sequence;
 use attr_heads::Head;
+use drc_base::Sequence;
 
 /// A decoder of attributes: how it is linked to the connectivity, and the heads of its attributes
 /// (Draco Bitstream Specification 2.2, section "Attributes Decoder").

@@ -5,24 +5,14 @@ ghost use Rattle.drc_bits.specs.Reading.{many_at};
 ghost use Rattle.drc_bits.specs.Spells.{Spells};
 ghost use Rattle.attr_heads.specs.HeadItems.{head_at};
 ghost use Rattle.attr_heads.specs.Codings.{coding_byte};
-ghost use Rattle.attr_section.specs.Heads.{id_byte, decoder_at, heads_at, head_bytes, link_bytes, decoder_bytes, links_bytes, heads_bytes, bare_head, bare_decoder, link_of, HeadPasses, DecoderPasses, DecodersPass, DecoderSpelled, AreAcceptedLinks};
+ghost use Rattle.attr_heads.specs.HeadItems.{head_bytes, bare_head, HeadPasses};
+ghost use Rattle.attr_section.specs.Heads.{id_byte, decoder_at, heads_at, link_bytes, decoder_bytes, links_bytes, heads_bytes, bare_decoder, link_of, DecoderPasses, DecodersPass, DecoderSpelled, AreAcceptedLinks};
 
 use crate::decoder_heads::DecoderHead;
-use crate::head_items::coding_of;
+use crate::head_items::coding_byte;
+use attr_heads::{Head, put_bare_head};
 use drc_base::Memory;
 use drc_bits::put_var32;
-use attr_heads::Head;
-
-/// Appends the bytes of a head.
-fn put_head(out: &mut Vec<u8>, head: &Head) -> Result<(), Memory>
-    requires { HeadPasses head.now }
-    ensures bytes { OnOk result (out.new.items ≡ out.old.items ++ head_bytes head.now) }
-    ensures again { OnOk result (Spells head_at (head_bytes head.now) (bare_head head.now)) }
-{
-    out.extend_from_slice(&[head.usage, head.dtype, head.comps, head.normalized])?;
-    out.extend_from_slice(&put_var32(head.id))?;
-    Ok(())
-}
 
 /// Appends the bytes of heads.
 fn put_heads(out: &mut Vec<u8>, heads: &[Head]) -> Result<(), Memory>
@@ -31,7 +21,7 @@ fn put_heads(out: &mut Vec<u8>, heads: &[Head]) -> Result<(), Memory>
     ensures again { OnOk result (All (λ h. Spells head_at (head_bytes h) (bare_head h)) heads.now) }
 {
     for head in heads {
-        put_head(out, head)?;
+        put_bare_head(out, head)?;
     }
     Ok(())
 }

@@ -3,12 +3,12 @@
 ghost use Rattle.std.specs.Prelude.{◌≡◌, ◌<◌, ◌^◌, ◌++◌, OnOk, All, flat_map};
 ghost use Rattle.drc_bits.specs.Bits.{low_bytes};
 ghost use Rattle.drc_bits.specs.Spells.{Spells};
-ghost use Rattle.attr_section.specs.Heads.{bare_head};
+ghost use Rattle.attr_heads.specs.HeadItems.{bare_head};
 ghost use Rattle.attr_section.specs.Values.{quantised_at};
 ghost use Rattle.attr_section.specs.Written.{quant_bytes, quants_bytes, HasQuant, QuantFits};
 
-use drc_base::Memory;
 use attr_heads::{Head, Quant};
+use drc_base::Memory;
 
 /// Appends a number of four bytes.
 fn put_u32(out: &mut Vec<u8>, x: u32) -> Result<(), Memory>

@@ -18,9 +18,9 @@ use crate::predicting::{read_predicted, read_prediction};
 use crate::quants::read_quants;
 use crate::types::are_in_type;
 use crate::values::Values;
+use attr_heads::Head;
 use drc_base::{Fault, Kind, MAX_VALUES, Profile, Refusal, Sequence};
 use drc_bits::Cursor;
-use attr_heads::Head;
 use predict::Ordered;
 use std::alloc::Global;
 

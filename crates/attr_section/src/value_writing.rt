@@ -9,8 +9,8 @@ ghost use Rattle.attr_section.specs.Written.{values_bytes, ValuesPass, ValuesSpe
 
 use crate::predicted_writing::put_predicted;
 use crate::values::Values;
-use drc_base::Memory;
 use attr_heads::Head;
+use drc_base::Memory;
 use predict::{Ordered, Prediction};
 use std::alloc::Global;
 

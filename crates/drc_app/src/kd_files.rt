@@ -13,9 +13,9 @@ ghost use Rattle.drc_app.specs.Kept.{IsKdCoded, IsReadAs};
 ghost use Rattle.drc_app.specs.Outcome.{output_bytes, due_bytes};
 
 use crate::outcomes::{Due, Output, text_read};
+use attr_heads::Head;
 use drc_base::{Memory, Refusal};
 use kd_points::{kd_decode, kd_encode};
-use attr_heads::Head;
 use mesh_model::{Cloud, Geometry, map_text};
 use ply_mesh::PlyText;
 use std::alloc::Global;

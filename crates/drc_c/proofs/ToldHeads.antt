@@ -12,6 +12,8 @@ use Rattle.attr_heads.specs.Head.{has_type, head_fault, each_fault, heads_fault}
 use Rattle.attr_heads.proofs.FirstFaults.{unless-none, first_fault-none}
 use Rattle.drc_c.specs.Arrays.{put_front}
 use Rattle.drc_c.specs.Heads.{blank_head, bits_told, range_told, minima_told, head_told, heads_told, head_meant}
+use Rattle.attr_heads.specs.DataTypes.{is_float}
+use Rattle.attr_heads.proofs.Types.{integer_no_float}
 use Rattle.drc_c.specs.HeadLaws.{ToldHeadsMean}
 
 -- of so many minima as there are components, up to eight, the first so many are these
@@ -23,12 +25,10 @@ minima_again comps minima zeros are few eight =
 
 -- the quantisation of a head of this data type and so many components
 quant_again : (dtype comps : ℕ) (q : Option Quant) → has_type dtype q ≡ true → has_minima comps q ≡ true → comps ≤ 8 →
-    cond (eqb dtype 9) (Some (record { bits = bits_told q; range = range_told q; min = take (min comps 8) (minima_told q) })) None ≡ q
+    cond (is_float dtype) (Some (record { bits = bits_told q; range = range_told q; min = take (min comps 8) (minima_told q) })) None ≡ q
 unfolding minima_told
 quant_again dtype comps None type minima few =
-    let most : dtype ≤ 6 = leb-true dtype 6 (and_parts _ _ type).1 in
-    let other : eqb dtype 9 ≡ false = ne_eqb dtype 9 (λ e. omega arith) in
-    rw other refl
+    rw (integer_no_float dtype type) refl
 quant_again dtype comps (Some q) type minima few =
     rw type (ap (λ (m : List ℕ). Some (record { bits = q.bits; range = q.range; min = m }))
     (minima_again comps q.min (replicate 8 0) (eqb-true (length q.min) comps minima) few refl))

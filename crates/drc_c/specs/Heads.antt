@@ -1,6 +1,7 @@
 -- The heads of attributes as C has them, and the heads that they mean (this project's choice).
 use Rattle.std.specs.Prelude.{ℕ, ◌==◌, List, ◌++◌, map, replicate, take, drop, length, min, Option, None, Some, if◌then◌else◌}
 use Rattle.attr_heads.specs.declared.quants.Quant.{Quant}
+use Rattle.attr_heads.specs.DataTypes.{is_float}
 use Rattle.attr_heads.specs.declared.heads.Head.{Head}
 use Rattle.drc_c.specs.declared.heads.DrcHead.{DrcHead}
 use Rattle.drc_c.specs.Arrays.{put_front}
@@ -45,7 +46,7 @@ heads_told heads = map head_told heads ++ drop (length heads) (replicate 16 blan
 abbrev pub quant_meant : DrcHead → Quant
 quant_meant h = record { bits = h.bits; range = h.range; min = take (min h.comps 8) h.min }
 
--- the head that a head of C means: it has a quantisation exactly where its data type is 9
+-- the head that a head of C means: it has a quantisation exactly where its data type is that of floats
 abbrev pub head_meant : DrcHead → Head
 head_meant h = record {
   usage = h.usage;
@@ -53,5 +54,5 @@ head_meant h = record {
   comps = h.comps;
   normalized = h.normalized;
   id = h.id;
-  quant = if h.dtype == 9 then Some (quant_meant h) else None;
+  quant = if is_float h.dtype then Some (quant_meant h) else None;
 }

@@ -9,26 +9,24 @@ ghost use Rattle.drc_c.specs.Heads.{head_meant};
 ghost use Rattle.drc_c.specs.Inputs.{width_told};
 ghost use Rattle.drc_c.specs.Early.{arrays_early_fault};
 
-use crate::heads::{DrcHead, QUANTISED};
+use crate::heads::DrcHead;
 use crate::inputs::{MESH, width_told};
-use drc_base::{Fault, Kind, MAX_ATTRIBUTES, MAX_COMPONENTS, MAX_FACES, MAX_POINTS, MAX_VALUES};
+use attr_heads::{are_quant_bits, has_comps, is_float, is_integer, is_usage};
+use drc_base::{Fault, Kind, MAX_ATTRIBUTES, MAX_FACES, MAX_POINTS, MAX_VALUES};
 
 /// Whether the data type of a head is one.
 fn has_type(head: &DrcHead) -> bool
     ensures { result ≡ has_type head.now.dtype (head_meant head.now).quant }
 {
-    if head.dtype == QUANTISED {
-        return true;
-    }
-    1 <= head.dtype && head.dtype <= 6
+    is_float(head.dtype) || is_integer(head.dtype)
 }
 
 /// Whether the bits of a head's quantisation, where it has one, are 1 to 30.
 fn has_bits(head: &DrcHead) -> bool
     ensures { result ≡ has_bits (head_meant head.now).quant }
 {
-    if head.dtype == QUANTISED {
-        return 1 <= head.bits && head.bits <= 30;
+    if is_float(head.dtype) {
+        return are_quant_bits(head.bits);
     }
     true
 }
@@ -39,13 +37,13 @@ fn test_head(k: usize, head: &DrcHead) -> Result<(), Fault>
     ensures { Tests (head_fault k (head_meant head.now)) result }
 {
     let at = k as u64;
-    if head.usage > 4 {
+    if !is_usage(head.usage) {
         return Err(Fault::new(Kind::AttrType, at));
     }
     if !has_type(head) {
         return Err(Fault::new(Kind::DataType, at));
     }
-    if head.comps < 1 || head.comps as u32 > MAX_COMPONENTS {
+    if !has_comps(head.comps) {
         return Err(Fault::new(Kind::Components, at));
     }
     if !has_bits(head) {

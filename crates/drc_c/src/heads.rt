@@ -4,8 +4,8 @@ ghost use Rattle.std.specs.Prelude.{◌≡◌, ◌≤◌, length, map, IfOk};
 ghost use Rattle.drc_c.specs.Heads.{blank_head, head_told, heads_told, minima_told, bits_told, range_told, head_meant, quant_meant};
 
 use crate::arrays::put_front;
+use attr_heads::{Head, Quant, is_float};
 use drc_base::{Memory, Sequence};
-use attr_heads::{Head, Quant};
 use std::alloc::Global;
 
 /// How many components a head has room for.
@@ -13,9 +13,6 @@ const COMPONENT_ROOM: usize = 8;
 
 /// How many heads a shape has room for.
 const HEAD_ROOM: usize = 16;
-
-/// The data type of quantised floats.
-pub const QUANTISED: u8 = 9;
 
 /// What an attribute is, with its quantisation inline. Where the data type isn't 9, quantised floats, it has
 /// none: `bits`, `range` and `min` are 0 in what is decoded, and are ignored in what is encoded. Minima beyond
@@ -142,7 +139,7 @@ fn quant_meant(alloc: Global, told: &DrcHead) -> Result<Quant, Memory>
 fn head_meant(alloc: Global, told: &DrcHead) -> Result<Head, Memory>
     ensures { IfOk result (λ h. h ≡ head_meant told.now) }
 {
-    let quant = if told.dtype == QUANTISED {
+    let quant = if is_float(told.dtype) {
         Some(quant_meant(alloc, told)?)
     } else {
         None

@@ -12,8 +12,8 @@ ghost use Rattle.drc_c.specs.Inputs.{width_told, are_whole, do_fit, geometry_mad
 
 use crate::early::test_early;
 use crate::heads::{DrcHead, heads_meant};
-use drc_base::{MAX_ATTRIBUTES, Refusal};
 use attr_heads::Head;
+use drc_base::{MAX_ATTRIBUTES, Refusal};
 use mesh_model::{Geometry, GeometryView};
 use std::alloc::Global;
 

@@ -10,8 +10,8 @@ use crate::heads::make_heads;
 use crate::kinds::GenKind;
 use crate::points::make_points;
 use crate::sizes::{LEAST_SIZE, MOST_SIZE};
-use drc_base::Memory;
 use attr_heads::Head;
+use drc_base::Memory;
 use mesh_model::CornerMesh;
 use std::alloc::Global;
 

@@ -4,8 +4,8 @@ ghost use Rattle.std.specs.Prelude.{◌≡◌, IfOk};
 ghost use Rattle.drc_gen.specs.Generated.{position_head, label_head, generated_heads};
 
 use crate::kinds::GenKind;
-use drc_base::Memory;
 use attr_heads::Head;
+use drc_base::Memory;
 use std::alloc::Global;
 
 /// The head of positions.

@@ -5,8 +5,8 @@ ghost use Rattle.mesh_model.specs.Parts.{cells_of};
 ghost use Rattle.mesh_model.specs.Renumbering.{NamesApart};
 ghost use Rattle.drc_recode.specs.FirstOrder.{reordered};
 
-use drc_base::Memory;
 use attr_heads::Head;
+use drc_base::Memory;
 use mesh_model::Cloud;
 use std::alloc::Global;
 

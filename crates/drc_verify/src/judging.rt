@@ -7,8 +7,8 @@ ghost use Rattle.drc_verify.specs.Judged.{mesh_verdict, cloud_verdict, rows_verd
 
 use crate::rows::{wrong_face, wrong_point};
 use crate::verdicts::Verdict;
-use drc_base::Memory;
 use attr_heads::Head;
+use drc_base::Memory;
 use mesh_model::{Cloud, CornerMesh, Geometry};
 use std::alloc::Global;
 

@@ -15,11 +15,11 @@ ghost use Rattle.drc_verify.specs.declared.verdicts.Verdict.TheVariants as verdi
 use crate::judging::judge_mesh;
 use crate::sides::other_side;
 use crate::verdicts::Verdict;
+use attr_heads::Head;
 use corner_table::{SideTable, Steps};
 use drc_base::{Fault, Kind, Memory, Refusal};
 use drc_container::{Decoded, carried_surface};
 use eb_rebuild::Built;
-use attr_heads::Head;
 use mesh_model::{CornerMesh, Geometry};
 use pairing::pair;
 use std::alloc::Global;

@@ -26,7 +26,7 @@ use Rattle.kd_points.specs.declared.extents.Extent.{Extent}
 use Rattle.attr_heads.specs.HeadItems.{head_at, head_bytes, bare_head, HeadPasses}
 use Rattle.attr_heads.proofs.Types.{integer_no_float, type_passes}
 use Rattle.attr_heads.proofs.HeadsBack.{Spells-head as Spells-bare}
-use Rattle.kd_points.specs.Header.{extent_at, kd_head_at, is_kd_type, kd_quant_at, kd_quant_of_at}
+use Rattle.kd_points.specs.Header.{extent_at, kd_head_at, kd_quant_at, kd_quant_of_at}
 use Rattle.kd_points.specs.Laws.{KdHeadFits, KdQuantFits}
 use Rattle.kd_points.specs.Written.{extent_bytes, kd_head_bytes, kd_quant_bytes}
 

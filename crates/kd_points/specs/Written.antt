@@ -14,6 +14,7 @@ use Rattle.mesh_model.specs.declared.geometries.Geometry.{Geometry}
 use Rattle.attr_heads.specs.FirstFault.{unless, first_fault, value_unless}
 use Rattle.mesh_model.specs.Contents.{heads_in, points_in, is_mesh}
 use Rattle.attr_heads.specs.Head.{width_of}
+use Rattle.attr_heads.specs.HeadItems.{head_bytes}
 use Rattle.mesh_model.specs.Parts.{CloudParts}
 use Rattle.mesh_model.specs.Same.{Rows}
 use Rattle.kd_tree.specs.Trees.{split_bits, rest_bits}

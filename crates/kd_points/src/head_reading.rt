@@ -8,9 +8,9 @@ ghost use Rattle.drc_bits.specs.Reading.{Reads, Gives, many_at};
 ghost use Rattle.drc_bits.specs.Numbers.{number_at};
 ghost use Rattle.kd_points.specs.Header.{kd_quant_at, kd_quant_of_at, kd_head_at, kd_heads_at, kd_attribute_count_at};
 
+use attr_heads::{Head, Quant, is_float, read_bare_head, read_quant_bits};
 use drc_base::{Fault, Kind, MAX_ATTRIBUTES, Refusal, Sequence};
 use drc_bits::Cursor;
-use attr_heads::{Head, Quant, is_float, read_bare_head, read_quant_bits};
 use std::alloc::Global;
 
 /// How many attributes there are.

@@ -8,9 +8,9 @@ ghost use Rattle.kd_points.specs.Written.{kd_quant_bytes, kd_head_bytes, extent_
 
 use crate::extents::Extent;
 use crate::headers::{MAGIC, VERSION};
+use attr_heads::{Head, Quant, put_bare_head};
 use drc_base::Memory;
 use drc_bits::put_var32;
-use attr_heads::{Head, Quant, put_bare_head};
 use mesh_model::Cloud;
 use std::alloc::Global;
 

@@ -9,9 +9,9 @@ ghost use Rattle.kd_points.specs.Header.{kd_opening_at, point_count_at, extent_a
 
 use crate::extents::Extent;
 use crate::head_reading::read_heads;
+use attr_heads::Head;
 use drc_base::{Fault, Kind, MAX_KD_POINTS, MAX_KD_VALUES, Refusal, Sequence};
 use drc_bits::Cursor;
-use attr_heads::Head;
 use std::alloc::Global;
 
 /// The first bytes of a file.

@@ -15,9 +15,9 @@ ghost use Rattle.kd_points.specs.Meaning.{cloud_of_keys, FirstOutside};
 use crate::axes::Axis;
 use crate::extents::Extent;
 use crate::headers::Header;
+use attr_heads::{Head, greatest_of, least_of};
 use drc_base::{Fault, Kind, MAX_KD_POINTS, MAX_KD_VALUES, Memory, Refusal};
 use kd_tree::{Keys, bit_in};
-use attr_heads::{Head, greatest_of, least_of};
 use mesh_model::Cloud;
 use std::alloc::Global;
 

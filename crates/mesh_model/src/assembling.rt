@@ -8,10 +8,10 @@ ghost use Rattle.mesh_model.specs.Parts.{IsMesh, corner, rows_of};
 ghost use Rattle.mesh_model.specs.Stored.{AreStored};
 
 use crate::groups::AttrGroup;
-use attr_heads::{Head, row_width};
 use crate::meshes::CornerMesh;
 use crate::numbering::number_corners;
 use crate::row_rules::test_counts;
+use attr_heads::{Head, row_width};
 use drc_base::{Memory, Refusal};
 use std::alloc::Global;
 

@@ -2,8 +2,8 @@
 
 use crate::geometry_rules::{RowShape, test_cloud};
 use crate::geometry_views::GeometryView;
-use attr_heads::{Head, copies_of};
 use crate::row_rules::stored_row;
+use attr_heads::{Head, copies_of};
 use drc_base::{Memory, Refusal};
 use std::alloc::Global;
 use std::marker::Model;

@@ -6,8 +6,8 @@ ghost use Rattle.attr_heads.specs.Head.{heads_fault, width_of};
 ghost use Rattle.mesh_model.specs.Parts.{AreRows, IsCloud, IsMesh, cloud_fault, count_fault, faces_fault, index_fault, mesh_fault, range_fault, rows_of};
 ghost use Rattle.mesh_model.specs.Stored.{AreStored};
 
-use attr_heads::{Head, test_heads};
 use crate::row_rules::{test_counts, test_face_count, test_indices, test_typed};
+use attr_heads::{Head, test_heads};
 use drc_base::Fault;
 
 /// How integers are rows: how many a row has, and how many rows there are.

@@ -9,8 +9,8 @@ ghost use Rattle.mesh_model.specs.Vertices.{AreGroups, attributes_in};
 use crate::attributes::{Attribute, attributes_in};
 use crate::corner_items::{corner_cells, corner_faces};
 use crate::groups::AttrGroup;
-use attr_heads::Head;
 use crate::vertex_items::{have_vertices, vertex_cells, vertex_faces};
+use attr_heads::Head;
 use drc_base::Memory;
 use std::alloc::Global;
 

@@ -7,9 +7,9 @@ ghost use Rattle.mesh_model.specs.Same.{NamesEachOnce, Same, SameFace, SameMesh,
 
 use crate::clouds::Cloud;
 use crate::geometries::Geometry;
-use attr_heads::{Head, Quant};
 use crate::meshes::CornerMesh;
 use crate::renumberings::Renumber;
+use attr_heads::{Head, Quant};
 use drc_base::Memory;
 use std::alloc::Global;
 

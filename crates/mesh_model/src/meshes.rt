@@ -3,9 +3,9 @@
 use crate::counted_rows::CountedRows;
 use crate::geometry_rules::{RowShape, test_mesh};
 use crate::geometry_views::GeometryView;
-use attr_heads::{Head, copies_of};
 use crate::row_numbers::first_rows;
 use crate::row_rules::stored_row;
+use attr_heads::{Head, copies_of};
 use drc_base::{Memory, Refusal};
 use std::alloc::Global;
 use std::marker::Model;

@@ -12,10 +12,10 @@ ghost use Rattle.mesh_model.specs.Vertices.{AreGroups};
 
 use crate::counted_rows::CountedRows;
 use crate::groups::AttrGroup;
-use attr_heads::Head;
 use crate::items::{ItemFaces, items_of};
 use crate::row_index::twins_of;
 use crate::row_rules::stored_row;
+use attr_heads::Head;
 use drc_base::Memory;
 use std::alloc::Global;
 

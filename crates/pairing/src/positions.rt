@@ -8,8 +8,8 @@ ghost use Rattle.attr_heads.specs.Head.{width_of};
 ghost use Rattle.pairing.specs.Pairing.{first_width};
 ghost use Rattle.pairing.specs.Positions.{ArePointNumbers, AreCornerNumbers};
 
-use drc_base::Memory;
 use attr_heads::Head;
+use drc_base::Memory;
 use mesh_model::CornerMesh;
 use std::alloc::Global;
 

@@ -6,9 +6,9 @@ ghost use Rattle.attr_heads.specs.Head.{width_of};
 ghost use Rattle.ply_mesh.specs.Fields.{QuantFields, HasFields};
 ghost use Rattle.ply_mesh.specs.Text.{spaced, line_text, text_of, hex_digit, pattern_text, attr_line, quant_line, quant_lines, head_lines};
 
+use attr_heads::{Head, Quant};
 use decimal_text::append_spaced;
 use drc_base::Memory;
-use attr_heads::{Head, Quant};
 
 fn hex_digit(d: u32) -> u8
     requires { d < 16 }

@@ -9,9 +9,9 @@ ghost use Rattle.ply_mesh.specs.Printing.{header_lines};
 
 use crate::head_writer::put_heads;
 use crate::property_writer::put_properties;
+use attr_heads::Head;
 use decimal_text::append_spaced;
 use drc_base::Memory;
-use attr_heads::Head;
 use mesh_model::{Cloud, CornerMesh, Geometry};
 use std::alloc::Global;
 

@@ -5,8 +5,8 @@ ghost use Rattle.std.specs.List.{list_any};
 ghost use Rattle.std.specs.Fmt.{decimal};
 ghost use Rattle.ply_mesh.specs.Text.{line_text, text_of, type_word, may_be_named, takes_names, has_usage_names, usage_name, plain_name, name_at, property_line, component_lines, property_lines};
 
-use drc_base::Memory;
 use attr_heads::Head;
+use drc_base::Memory;
 use ply_text::put_int;
 
 /// The type word of a data type.

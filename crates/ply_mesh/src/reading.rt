@@ -11,8 +11,8 @@ ghost use Rattle.ply_mesh.specs.Body.{row_read, items_from, AreRowsRead};
 ghost use Rattle.ply_mesh.specs.Read.{geometry_quant, geometry_head, body_of, ply_read};
 
 use crate::bodies::{read_end, read_faces, read_rows, skip_lines};
-use drc_base::{Memory, Refusal, Sequence};
 use attr_heads::{Head, Quant};
+use drc_base::{Memory, Refusal, Sequence};
 use mesh_model::{Cloud, CornerMesh, Geometry};
 use ply_text::{Header, Lines, PlyHead, PlyQuant, read_header};
 use std::alloc::Global;

@@ -12,9 +12,9 @@ ghost use Rattle.seams.specs.Seams.{flags_listed, AreFlags};
 ghost use Rattle.seams.specs.Values.{is_seam, differ, point_at};
 
 use crate::sides::{all_set, later_side, sides_across};
+use attr_heads::Head;
 use corner_table::SideTable;
 use drc_base::Memory;
-use attr_heads::Head;
 use mesh_model::CornerMesh;
 use std::alloc::Global;
 

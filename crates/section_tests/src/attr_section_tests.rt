@@ -5,10 +5,10 @@ ghost use Rattle.std.specs.Prelude.{◌≡◌, ◌<◌, [], ◌∷◌, false, If
 ghost use Rattle.attr_section.specs.Examples.{example_head, texture_head, position_values, texture_values, example_prediction};
 
 use crate::faults::is_fault;
+use attr_heads::{Head, Quant};
 use attr_section::{DecoderHead, Values, read_decoder, read_heads, write_decoder, write_heads};
 use drc_base::{Fault, Kind, MAX_VALUES, Memory, PROFILE_TWO, Refusal, Sequence};
 use drc_bits::Cursor;
-use attr_heads::{Head, Quant};
 use std::alloc::{AllocError, Global};
 use std::test::Fail;
 

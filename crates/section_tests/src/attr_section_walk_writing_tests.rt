@@ -5,10 +5,10 @@ ghost use Rattle.predict.specs.Surfaces.{IsOverTable};
 ghost use Rattle.attr_section.specs.Examples.{example_head, surface_values, surface_prediction, surface_positions, surface_decoder};
 
 use crate::attr_section_tests::with_one_behind;
+use attr_heads::Head;
 use attr_section::{DecoderHead, Ordered, Values, read_decoder, write_decoder};
 use drc_base::{PROFILE_TWO, Refusal, Sequence};
 use drc_bits::Cursor;
-use attr_heads::Head;
 use std::alloc::{AllocError, Global};
 use std::process::Abort;
 use std::test::Fail;

@@ -2,9 +2,9 @@
 
 ghost use Rattle.std.specs.Prelude.{◌≡◌, ◌%◌, ◌<◌, length};
 
+use attr_heads::Head;
 use drc_base::{Fault, Kind, Refusal};
 use kd_points::{kd_bits, kd_decode, kd_encode};
-use attr_heads::Head;
 use mesh_model::{Cloud, CornerMesh, Geometry, Renumber, matches};
 use std::alloc::{AllocError, Global};
 use std::process::Abort;

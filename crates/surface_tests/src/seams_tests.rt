@@ -5,10 +5,10 @@ ghost use Rattle.std.specs.Prelude.{◌≡◌, ◌<◌, length, IfOk};
 ghost use Rattle.corner_table.specs.Table.{gluing_of};
 ghost use Rattle.seams.specs.Seams.{AreFlags};
 
+use attr_heads::Head;
 use corner_table::{Classes, SideTable, Steps};
 use drc_base::{MAX_FACES, Memory, Refusal};
 use drc_bits::Cursor;
-use attr_heads::Head;
 use mesh_model::CornerMesh;
 use rans_binary::{BitBlock, write_block};
 use seams::{classes, read_seams, seam_bits, seams_of, unseamed};

@@ -2,8 +2,8 @@
 
 ghost use Rattle.std.specs.Prelude.{◌≡◌, ◌<◌, None};
 
-use drc_base::Refusal;
 use attr_heads::Head;
+use drc_base::Refusal;
 use mesh_model::CornerMesh;
 use std::alloc::Global;
 

@@ -9,9 +9,9 @@ ghost use Rattle.drc_container.specs.choice.Refused.{choice_fault, empty_fault, 
 
 use crate::choice::choices::Choice;
 use crate::choice::choosing::is_sequential;
+use attr_heads::Head;
 use attr_section::{Values, range_of};
 use drc_base::{Fault, Kind};
-use attr_heads::Head;
 use mesh_model::GeometryView;
 use predict::Prediction;
 

@@ -9,10 +9,10 @@ ghost use Rattle.attr_section.specs.Openings.{heads_opening_at};
 ghost use Rattle.attr_section.specs.Values.{AreColumns};
 ghost use Rattle.drc_container.specs.reading.Stream.{sequential_attributes_at, decoders_values_at};
 
+use attr_heads::Head;
 use attr_section::{DecoderHead, Values, read_decoder, read_heads};
 use drc_base::{PROFILE_TWO, Refusal, Sequence};
 use drc_bits::Cursor;
-use attr_heads::Head;
 use std::alloc::Global;
 
 /// The attributes of a stream: their heads, and the values of each.

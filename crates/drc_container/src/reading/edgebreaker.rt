@@ -21,12 +21,12 @@ use crate::reading::info::{
     AttrInfo, ConnectivityInfo, Decoded, StreamInfo, method_read, stream_info,
 };
 use crate::reading::surface_attributes::{AttributesRead, DecoderValues, groups_of};
+use attr_heads::Head;
 use corner_table::{Classes, Steps};
 use drc_base::{Fault, Refusal, Sequence};
 use drc_bits::Cursor;
 use eb_rebuild::Built;
 use eb_section::{EbRead, read_connectivity};
-use attr_heads::Head;
 use mesh_model::{AttrGroup, CornerMesh, Geometry, assemble};
 use std::alloc::Global;
 use std::marker::Brand;

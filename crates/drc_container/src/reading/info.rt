@@ -6,11 +6,11 @@ ghost use Rattle.drc_container.specs.declared.choice.methods.Method.TheVariants 
 
 use crate::choice::methods::Method;
 use crate::reading::attributes::Attributes;
+use attr_heads::Head;
 use attr_section::Values;
 use drc_base::{Memory, Sequence};
 use drc_bits::Cursor;
 use eb_rebuild::Built;
-use attr_heads::Head;
 use mesh_model::Geometry;
 use std::alloc::Global;
 

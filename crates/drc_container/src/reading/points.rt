@@ -4,9 +4,9 @@ ghost use Rattle.std.specs.Prelude.{◌≡◌, ◌<◌, ◌≤◌, ◌+◌, ◌+
 ghost use Rattle.attr_section.specs.Values.{AreColumns};
 ghost use Rattle.drc_container.specs.Columns.{column_row, cells_at};
 
+use attr_heads::Head;
 use attr_section::Values;
 use drc_base::Memory;
-use attr_heads::Head;
 use std::alloc::Global;
 
 /// The integers of so many points, point after point, each with those of all attributes in order. The

@@ -12,10 +12,10 @@ ghost use Rattle.mesh_model.specs.Groups.{tables_of, HasVertices};
 ghost use Rattle.drc_container.specs.reading.AsRead.{attributes_over, group_on, tables_on};
 
 use crate::reading::info::{AttrInfo, attr_infos};
+use attr_heads::Head;
 use attr_section::{DecoderHead, Values};
 use corner_table::{Classes, Order};
 use drc_base::{Memory, Sequence};
-use attr_heads::Head;
 use mesh_model::AttrGroup;
 use std::alloc::Global;
 

@@ -8,8 +8,8 @@ ghost use Rattle.corner_table.specs.Table.{side_of};
 ghost use Rattle.corner_table.specs.Carried.{carry, IsRenumbering};
 
 use crate::writing::coded_values::put_piece;
-use drc_base::{Memory, Side};
 use attr_heads::{Head, copies_of};
+use drc_base::{Memory, Side};
 use mesh_model::CornerMesh;
 use std::alloc::Global;
 use std::marker::Model;

@@ -13,9 +13,9 @@ ghost use Rattle.drc_container.specs.surface.AttributeSurfaces.{glued_on, order_
 use crate::choice::codings::Coding;
 use crate::surface::attribute_surfaces::{AttributeSurfaces, is_cut_at, surface_at};
 use crate::surface::ordered_surface::OrderedSurface;
+use attr_heads::Head;
 use attr_section::{DecoderHead, Ordered, POSITION_ID, Values, write_decoder, write_heads};
 use drc_base::{Memory, Sequence};
-use attr_heads::Head;
 use std::alloc::Global;
 
 /// The data id of an attribute: the first one has the surface itself, each other one an attribute data of

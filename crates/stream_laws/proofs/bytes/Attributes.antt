@@ -22,8 +22,11 @@ use Rattle.predict.specs.Symbols.{zigzag_of}
 use Rattle.corner_table.specs.Ordered.{Ordered}
 use Rattle.attr_section.specs.declared.decoder_heads.DecoderHead.{DecoderHead}
 use Rattle.attr_section.specs.declared.values.Values.{Values}
+use Rattle.attr_heads.specs.DataTypes.{is_float}
 use Rattle.attr_heads.specs.Codings.{coding_byte}
-use Rattle.attr_section.specs.Heads.{id_byte, link_bytes, head_bytes, decoder_bytes, links_bytes, heads_bytes}
+use Rattle.attr_heads.proofs.Types.{type_few, type_passes}
+use Rattle.attr_heads.specs.HeadItems.{head_bytes}
+use Rattle.attr_section.specs.Heads.{id_byte, link_bytes, decoder_bytes, links_bytes, heads_bytes}
 use Rattle.attr_section.specs.Written.{greatest_symbol, byte_width, plain_bytes, symbols_bytes, integers_bytes, range_of, range_bytes, signed_bytes, flag_bits_bytes, flags_bytes, flagged_bytes, predicted_bytes, prediction_bytes, values_bytes, quant_bytes, attributes_bytes, quants_bytes, decoder_values_bytes}
 use Rattle.stream_laws.specs.Laws.{IsByte}
 use Rattle.stream_laws.proofs.bytes.Lists.{AreBytes, no-bytes, byte-then, joined, joined-each, each-of, low, spelled}
@@ -37,11 +40,10 @@ bit-small true = omega arith
 bit-small false = omega arith
 
 type-small : (dtype : ℕ) (o : Option Quant) → has_type dtype o ≡ true → dtype < 256
-type-small dtype None is = (let p = and_parts (leb 1 dtype) (leb dtype 6) is in let high = leb-true dtype 6 p.1 in omega (arith, high))
-type-small dtype (Some q) is = grind (arith, is)
+type-small dtype o is = omega (arith, type_few dtype (type_passes dtype o is))
 
 coding-small : (dtype : ℕ) → coding_byte dtype < 256
-coding-small dtype = elim (cases_Bool (dtype == 9)) [
+coding-small dtype = elim (cases_Bool (is_float dtype)) [
   | inl t ↦ rw (cond-true _ _ _ t) (omega arith)
   | inr f ↦ rw (cond-false _ _ _ f) (omega arith)
 ]

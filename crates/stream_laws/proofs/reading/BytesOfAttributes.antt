@@ -25,7 +25,7 @@ use Rattle.predict.specs.Wrap.{Range}
 use Rattle.attr_section.specs.declared.decoder_heads.DecoderHead.{DecoderHead}
 use Rattle.attr_section.specs.declared.links.Link.{Link}
 use Rattle.attr_section.specs.declared.values.Values.{Values}
-use Rattle.attr_heads.specs.DataTypes.{is_type}
+use Rattle.attr_heads.specs.DataTypes.{is_type, is_float}
 use Rattle.attr_heads.specs.HeadItems.{head_at}
 use Rattle.attr_heads.specs.Codings.{coding_byte}
 use Rattle.attr_section.specs.Heads.{is_known_id, is_used_id, most_element, most_walk, decoder_count_at, link_at, linked_at, links_at, coding_at, codings_at, attributes_of, attribute_count_at, decoder_at, decoders_at, heads_at}
@@ -201,7 +201,7 @@ quant-fields comps c here y is =
 quant_of-fields : (h : Head) (c : Reading) → BytesAhead c → Leaves (λ q. IfSome q QuantFields) (quant_of_at h c)
 unfolding quant_of_at
 quant_of-fields h c here y is =
-    either (IfSome y.0 QuantFields × BytesAhead y.1) (h.dtype == 9) (quant_at h.comps c >>= λ q. Ok (Some q.0, q.1)) (Ok (None, c)) y is
+    either (IfSome y.0 QuantFields × BytesAhead y.1) (is_float h.dtype) (quant_at h.comps c >>= λ q. Ok (Some q.0, q.1)) (Ok (None, c)) y is
     (λ _ read.
     let p = parts (quant_at h.comps c) _ y read in
     let fields = quant-fields h.comps c here p.0 p.1 in

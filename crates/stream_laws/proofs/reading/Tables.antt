@@ -21,7 +21,8 @@ use Rattle.seams.proofs.Values.{told_are_flags}
 use Rattle.corner_table.specs.Ordered.{Ordered}
 use Rattle.attr_section.specs.declared.decoder_heads.DecoderHead.{DecoderHead}
 use Rattle.attr_section.specs.declared.values.Values.{Values}
-use Rattle.attr_section.specs.Heads.{HeadPasses, heads_at}
+use Rattle.attr_heads.specs.HeadItems.{HeadPasses}
+use Rattle.attr_section.specs.Heads.{heads_at}
 use Rattle.attr_section.specs.Values.{quants_at, decoder_values_at, attributes_at as columns_at, values_in}
 use Rattle.eb_section.specs.Connectivity.{Connectivity}
 use Rattle.drc_container.specs.reading.OnSurface.{order_by, ordered_by, seams_of, cut_at, cut_for, ordered_for, decoder_attributes, attributes_joined, values_on, decoder_on, no_attributes, surface_decoders_at, attributes_on}

@@ -2,7 +2,7 @@ use Rattle.std.proofs.Common.{◌≡◌, ◌++◌, take, flat_map}
 use Rattle.std.specs.List.{All}
 use Rattle.drc_bits.specs.Spells.{Spells}
 use Rattle.attr_heads.specs.HeadItems.{head_at}
-use Rattle.attr_section.specs.Heads.{head_bytes, bare_head}
+use Rattle.attr_heads.specs.HeadItems.{head_bytes, bare_head}
 use Rattle.attr_section.proofs.head_writing.put_heads.Given as goal
 
 abbrev pub invariant-loop-head : goal.invariant-loop-head

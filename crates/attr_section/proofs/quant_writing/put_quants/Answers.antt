@@ -1,7 +1,7 @@
 use Rattle.std.proofs.Common.{◌<◌, ◌≤◌, length, arith}
 use Rattle.std.proofs.lemmas.List.{take_all}
 use Rattle.drc_bits.specs.Spells.{Spells}
-use Rattle.attr_section.specs.Heads.{bare_head}
+use Rattle.attr_heads.specs.HeadItems.{bare_head}
 use Rattle.attr_section.specs.Values.{quantised_at}
 use Rattle.attr_section.specs.Written.{quant_bytes, HasQuant}
 use Rattle.attr_section.proofs.Loops.{appended-more, all-more}

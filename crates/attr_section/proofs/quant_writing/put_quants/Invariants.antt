@@ -1,7 +1,7 @@
 use Rattle.std.proofs.Common.{◌≡◌, ◌++◌, take}
 use Rattle.std.specs.List.{All}
 use Rattle.drc_bits.specs.Spells.{Spells}
-use Rattle.attr_section.specs.Heads.{bare_head}
+use Rattle.attr_heads.specs.HeadItems.{bare_head}
 use Rattle.attr_section.specs.Values.{quantised_at}
 use Rattle.attr_section.specs.Written.{quant_bytes, quants_bytes}
 use Rattle.attr_section.proofs.quant_writing.put_quants.Given as goal

@@ -17,7 +17,8 @@ use Rattle.corner_table.specs.Ordered.{Ordered, entries_by}
 use Rattle.walk_order.specs.Orders.{IsOrderOver}
 use Rattle.attr_section.specs.declared.decoder_heads.DecoderHead.{DecoderHead}
 use Rattle.attr_section.specs.declared.values.Values.{Values}
-use Rattle.attr_section.specs.Heads.{HeadPasses, attributes_of, heads_at}
+use Rattle.attr_heads.specs.HeadItems.{HeadPasses}
+use Rattle.attr_section.specs.Heads.{attributes_of, heads_at}
 use Rattle.attr_section.specs.Values.{quants_at, decoder_values_at, attributes_at as columns_at, values_in}
 use Rattle.eb_section.specs.Connectivity.{Connectivity}
 use Rattle.drc_container.specs.reading.OnSurface.{SurfaceAttributes, ordered_for, tables_of, decoder_attributes, attributes_joined, values_on, decoder_on, no_attributes, surface_decoders_at}

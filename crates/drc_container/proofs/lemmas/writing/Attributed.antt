@@ -15,7 +15,9 @@ use Rattle.mesh_model.specs.Renumbering.{plain}
 use Rattle.mesh_model.specs.Contents.{heads_in, points_in}
 use Rattle.attr_heads.proofs.Passing.{HeadSays, heads_say}
 use Rattle.attr_heads.specs.DataTypes.{is_type}
-use Rattle.attr_section.specs.Heads.{attributes_of, HeadPasses, DecoderPasses, DecodersPass}
+use Rattle.attr_heads.proofs.Types.{integer_no_float, type_passes}
+use Rattle.attr_heads.specs.HeadItems.{HeadPasses}
+use Rattle.attr_section.specs.Heads.{attributes_of, DecoderPasses, DecodersPass}
 use Rattle.attr_section.specs.Written.{HasQuant, DecoderValuesPass}
 use Rattle.drc_container.specs.declared.choice.choices.Choice.{Choice}
 use Rattle.drc_container.specs.choice.Choice.{predict_chosen, chosen_code}
@@ -26,14 +28,10 @@ use Rattle.drc_container.proofs.lemmas.reading.Rows.{range_more}
 
 -- the quantisation of a head that passes stands where it is due, and the type is accepted
 quant_says : (h : Head) (o : Option Quant) → has_type h.dtype o ≡ true → has_minima h.comps o ≡ true → has_bits o ≡ true → HasQuant h o × (is_type h.dtype ≡ true)
-quant_says h None typed minima bits =
-    let p = and_parts (leb 1 h.dtype) (leb h.dtype 6) typed in
-    let low : 1 ≤ h.dtype = leb-true 1 h.dtype p.0 in
-    let high : h.dtype ≤ 6 = leb-true h.dtype 6 p.1 in
-    (grind (arith, high), grind (arith, low, high))
+quant_says h None typed minima bits = (integer_no_float h.dtype typed, type_passes h.dtype None typed)
 quant_says h (Some q) typed minima bits =
     let p = and_parts (leb 1 q.bits) (leb q.bits 30) bits in
-    ((typed, grind (arith, minima), leb-true 1 q.bits p.0, leb-true q.bits 30 p.1), grind (arith, typed))
+    ((typed, grind (arith, minima), leb-true 1 q.bits p.0, leb-true q.bits 30 p.1), type_passes h.dtype (Some q) typed)
 
 pub head_passes : (h : Head) → HeadSays h → HeadPasses h
 head_passes h says = record {

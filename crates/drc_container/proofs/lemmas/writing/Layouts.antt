@@ -30,7 +30,8 @@ use Rattle.predict.specs.Surfaces.{surface_or}
 use Rattle.predict.specs.Foretold.{foretold, marks_of}
 use Rattle.predict.proofs.Named.{by_number}
 use Rattle.attr_section.specs.declared.values.Values.{Values}
-use Rattle.attr_section.specs.Heads.{bare_head, bare_decoder, heads_at}
+use Rattle.attr_heads.specs.HeadItems.{bare_head}
+use Rattle.attr_section.specs.Heads.{bare_decoder, heads_at}
 use Rattle.attr_section.proofs.SpelledValues.{values_are}
 use Rattle.attr_section.specs.Written.{range_of, range_bytes, integers_bytes, flags_bytes, flagged_bytes, predicted_bytes, values_bytes, attributes_bytes as columns_bytes, quants_bytes, decoder_values_bytes, values_placed}
 use Rattle.drc_container.specs.declared.choice.methods.Method.TheVariants as method

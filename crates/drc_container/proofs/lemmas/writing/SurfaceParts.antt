@@ -28,7 +28,8 @@ use Rattle.predict.specs.declared.schemes.Prediction.{Prediction}
 use Rattle.predict.specs.Schemes.{code_of}
 use Rattle.attr_section.specs.declared.decoder_heads.DecoderHead.{DecoderHead}
 use Rattle.attr_section.specs.declared.values.Values.{Values}
-use Rattle.attr_section.specs.Heads.{attributes_of, HeadPasses, DecoderPasses, DecodersPass}
+use Rattle.attr_heads.specs.HeadItems.{HeadPasses}
+use Rattle.attr_section.specs.Heads.{attributes_of, DecoderPasses, DecodersPass}
 use Rattle.attr_section.specs.Values.{values_in}
 use Rattle.attr_section.specs.Written.{range_of, HasQuant, CanPredict, ValuesPass, DecoderValuesPass, HaveEntries}
 use Rattle.drc_container.specs.declared.choice.codings.Coding.{Coding}

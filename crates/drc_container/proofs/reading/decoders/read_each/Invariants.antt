@@ -5,7 +5,7 @@ use Rattle.std.specs.Vec.Iter.{into_iter_items}
 use Rattle.drc_base.specs.declared.limits.TheConstants.{MAX_VALUES}
 use Rattle.mesh_model.specs.Assembled.{AreAttrTables}
 use Rattle.mesh_model.specs.Groups.{HasVertices}
-use Rattle.attr_section.specs.Heads.{HeadPasses}
+use Rattle.attr_heads.specs.HeadItems.{HeadPasses}
 use Rattle.eb_section.specs.Connectivity.{meaning}
 use Rattle.drc_container.specs.reading.OnSurface.{HasSeams, no_attributes, surface_decoders_at, values_on}
 use Rattle.drc_container.specs.reading.AsRead.{classes_of, built_classes, group_on, tables_on}
