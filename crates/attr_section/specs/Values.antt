@@ -14,7 +14,8 @@ use Rattle.drc_bits.specs.Varint.{var32_at}
 use Rattle.rans_binary.specs.Blocks.{first_bits, bit_block_at}
 use Rattle.attr_heads.specs.declared.heads.Head.{Head}
 use Rattle.attr_heads.specs.declared.quants.Quant.{Quant}
-use Rattle.attr_heads.specs.DataTypes.{in_type}
+use Rattle.attr_heads.specs.DataTypes.{is_float, in_type}
+use Rattle.attr_heads.specs.HeadItems.{quant_bits_at}
 use Rattle.predict.specs.Wrap.{Range}
 use Rattle.symbol_coding.specs.Block.{block_at}
 use Rattle.predict.specs.declared.schemes.Prediction.{Prediction}

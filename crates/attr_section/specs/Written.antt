@@ -13,7 +13,7 @@ use Rattle.drc_bits.specs.Varint.{spelling}
 use Rattle.rans_binary.specs.Blocks.{block}
 use Rattle.attr_heads.specs.declared.heads.Head.{Head}
 use Rattle.attr_heads.specs.declared.quants.Quant.{Quant}
-use Rattle.attr_heads.specs.DataTypes.{in_type}
+use Rattle.attr_heads.specs.DataTypes.{is_float, in_type}
 use Rattle.predict.specs.Wrap.{Range, CanWrap}
 use Rattle.predict.specs.declared.schemes.Prediction.{Prediction}
 use Rattle.predict.specs.Schemes.{facts, code_of, byte_of, prediction_coded}

@@ -15,7 +15,7 @@ returns-in_err-head-clause-item c =
 pub loop-number-preserved : goal.loop-number-preserved
 loop-number-preserved c =
     rw c.in_ok-push.ensures.items (
-      many_at-next head_at c.args.n c.loop-number._number c.loop-number.c c.read_head.new.c c.loop-number.heads.items c.in_ok-head.head (many_at head_at c.args.n c.args.c.now) c.loop-number.invariant.0 (omega arith) c.in_ok-head.ensures.item,
+      many_at-next head_at c.args.n c.loop-number._number c.loop-number.c c.read_bare_head.new.c c.loop-number.heads.items c.in_ok-head.head (many_at head_at c.args.n c.args.c.now) c.loop-number.invariant.0 (omega arith) c.in_ok-head.ensures.item,
       length_push c.loop-number.heads.items c.in_ok-head.head ∙ ap (λ n. n + 1) c.loop-number.invariant.1,
       All-push (λ h. 0 < h.comps) c.loop-number.heads.items c.in_ok-head.head c.loop-number.invariant.2 c.in_ok-head.ensures.some,
     )
