@@ -2,7 +2,7 @@
 
 use crate::runs::{NEVER, leaves, run_line};
 use drc_app::no_choice;
-use drc_base::{Refusal, Sequence, Sink};
+use drc_base::{PROFILE_TWO, Refusal, Sequence, Sink};
 use drc_container::{Choice, Method, decode_whole, encode};
 use drc_gen::{GenKind, LEAST_SIZE, MOST_SIZE, generate};
 use mesh_model::{Geometry, Renumber, matches};
@@ -12,7 +12,7 @@ use std::test::Fail;
 
 /// What a stream means.
 fn decoded_of(alloc: Global, stream: &[u8]) -> Result<Geometry, Refusal> {
-    Ok(decode_whole(alloc, stream)?.geometry)
+    Ok(decode_whole(alloc, stream, PROFILE_TWO)?.geometry)
 }
 
 /// Rows without the last.

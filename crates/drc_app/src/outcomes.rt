@@ -22,7 +22,7 @@ use crate::kd_files::{kd_due, kd_text_due};
 use crate::restoring::restored_due;
 use crate::summaries::summary_due;
 use crate::verifying::verified;
-use drc_base::{Fault, Kind, MAX_INPUT_BYTES, Memory, ReadEnd, Refusal, Source, read_all};
+use drc_base::{Fault, Kind, MAX_INPUT_BYTES, Memory, PROFILE_TWO, ReadEnd, Refusal, Source, read_all};
 use drc_container::{Choice, decode, encode};
 use drc_info::report;
 use drc_recode::decode_packed;
@@ -199,7 +199,7 @@ fn stream_read(alloc: Global, stream: Vec<u8>) -> Result<Geometry, Refusal>
     ensures answer { Answers (λ g. g) (meaning_of stream.items) result }
     ensures early { (f : AnyFault) → declared_of stream.items ≡ Err f → result ≡ Err (refusal.Fault f) }
 {
-    decode(alloc, &stream)
+    decode(alloc, &stream, PROFILE_TWO)
 }
 
 /// The geometry that a stream means, for encoding it again. The stream is freed.

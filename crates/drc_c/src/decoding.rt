@@ -14,6 +14,7 @@ use crate::faults::{DrcFault, refuse};
 use crate::handing::{Arrays, arrays_of, handed_corners, handed_values};
 use crate::shapes::{DrcShape, faces_in, integers_of, shape_of};
 use crate::statuses::{DONE, NO_MEMORY, NO_ROOM, REFUSED};
+use drc_base::PROFILE_TWO;
 use drc_container::decode;
 use mesh_model::Geometry;
 use std::alloc::Global;
@@ -91,7 +92,7 @@ pub extern "C" fn drc_decode_into(
     ensures shape_same { (result ≡ DONE) ⊎ (result ≡ NO_ROOM) ⊎ (shape.new ≡ shape.old) }
     ensures fault_same { (result ≡ REFUSED) ⊎ (fault.new ≡ fault.old) }
 {
-    match decode(alloc, bytes) {
+    match decode(alloc, bytes, PROFILE_TWO) {
         Ok(g) => deliver(&g, corners, values, shape),
         Err(refusal) => refuse(refusal, fault),
     }
@@ -132,7 +133,7 @@ pub extern "C" fn drc_decode(
     ensures geometry_same { (result ≡ DONE) ⊎ (out.new ≡ out.old) }
     ensures fault_same { (result ≡ REFUSED) ⊎ (fault.new ≡ fault.old) }
 {
-    match decode(alloc, bytes) {
+    match decode(alloc, bytes, PROFILE_TWO) {
         Ok(g) => {
             *out = handed_out(alloc, g);
             DONE

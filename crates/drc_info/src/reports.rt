@@ -10,7 +10,7 @@ ghost use Rattle.drc_container.specs.reading.Stream.{declared_of};
 ghost use Rattle.drc_info.specs.InfoText.{field, line, mesh_words, form_words, face_count, point_count, declared_line, info_attr_line, attr_lines, info_first_lines, count_lines, end_line, info_text, report_of};
 
 use crate::lines::put_field;
-use drc_base::{Memory, Refusal};
+use drc_base::{Memory, PROFILE_TWO, Refusal};
 use drc_container::{AttrInfo, Decoded, Method, StreamInfo, decode_whole};
 use itoa::Buffer;
 use mesh_model::Geometry;
@@ -25,7 +25,7 @@ pub fn report(alloc: Global, bytes: &[u8]) -> Result<Vec<u8>, Refusal>
     ensures text { Answers (λ v. v.items) (report_of bytes.now) result }
     ensures early { (f : AnyFault) → declared_of bytes.now ≡ Err f → result ≡ Err (refusal.Fault f) }
 {
-    let decoded = decode_whole(alloc, bytes)?;
+    let decoded = decode_whole(alloc, bytes, PROFILE_TWO)?;
     Ok(info_text(alloc, &decoded)?)
 }
 

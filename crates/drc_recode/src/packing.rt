@@ -10,7 +10,7 @@ ghost use Rattle.drc_base.specs.Refusals.{Answers};
 ghost use Rattle.drc_container.specs.reading.Stream.{meaning_of, declared_of};
 
 use crate::reordering::copies_of;
-use drc_base::{Memory, Refusal};
+use drc_base::{Memory, PROFILE_TWO, Refusal};
 use drc_container::decode;
 use mesh_model::{CornerMesh, Geometry};
 use std::alloc::Global;
@@ -41,7 +41,7 @@ pub fn decode_packed(alloc: Global, bytes: &[u8]) -> Result<Geometry, Refusal>
     ensures meaning { Answers (λ g. g) (meaning_of bytes.now) result }
     ensures early { (f : AnyFault) → declared_of bytes.now ≡ Err f → result ≡ Err (refusal.Fault f) }
 {
-    let geometry = decode(alloc, bytes)?;
+    let geometry = decode(alloc, bytes, PROFILE_TWO)?;
     let geometry = packed(alloc, geometry)?;
     Ok(geometry)
 }

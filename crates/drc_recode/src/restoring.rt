@@ -13,7 +13,7 @@ ghost use Rattle.drc_recode.specs.Restored.{bytes_in_order, sequential_choice, r
 
 use crate::laws::the_first_order_comes_back;
 use crate::putting_back::put_back;
-use drc_base::Refusal;
+use drc_base::{PROFILE_TWO, Refusal};
 use drc_container::{Choice, Method, decode, encode};
 use mesh_model::{Geometry, MapRead, same_is_an_equivalence};
 use std::alloc::Global;
@@ -62,7 +62,7 @@ pub fn restore(alloc: Global, map: &MapRead, stream: &[u8]) -> Result<Vec<u8>, R
     same_is_an_equivalence();
     the_first_order_comes_back();
     let rows = map.rows.rows.as_slice();
-    let read = decode(alloc, stream)?;
+    let read = decode(alloc, stream, PROFILE_TWO)?;
     let first = put_back(alloc, map.cloud, rows, read)?;
     let bytes = write_in_order(alloc, &first)?;
     Ok(bytes)

@@ -16,7 +16,7 @@ use crate::judging::judge;
 use crate::laws::{a_surface_has_the_faces, a_yes_is_the_same};
 use crate::surfaces::{judge_surface, text_pairs};
 use crate::verdicts::Verdict;
-use drc_base::Refusal;
+use drc_base::{PROFILE_TWO, Refusal};
 use drc_container::decode_whole;
 use mesh_model::{Geometry, MapRead};
 use ply_mesh::read_ply;
@@ -30,7 +30,7 @@ fn check_rows(alloc: Global, map: &MapRead, g: &Geometry, stream: &[u8]) -> Resu
         → IfOk result (λ v. (v ≡ verdict.Same) ↔ IsSame false map.now.cloud map.now.rows.rows g.now n) }
 {
     a_yes_is_the_same();
-    let n = decode_whole(alloc, stream)?;
+    let n = decode_whole(alloc, stream, PROFILE_TWO)?;
     let verdict = judge(alloc, map.cloud, map.rows.rows.as_slice(), g, &n.geometry)?;
     Ok(verdict)
 }
@@ -50,7 +50,7 @@ fn check_surface(
 {
     a_surface_has_the_faces();
     let pairs = text_pairs(alloc, g);
-    let n = decode_whole(alloc, stream)?;
+    let n = decode_whole(alloc, stream, PROFILE_TWO)?;
     judge_surface(alloc, map.cloud, map.rows.rows.as_slice(), g, pairs, n)
 }
 

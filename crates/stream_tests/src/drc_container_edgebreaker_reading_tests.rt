@@ -1,7 +1,7 @@
 //! What no contract can say: that decoding succeeds with ample memory, and that the definitions are the
 //! ones meant, on Edgebreaker streams.
 
-use drc_base::{Fault, Kind, Refusal};
+use drc_base::{Fault, Kind, PROFILE_TWO, Refusal};
 use drc_container::{Decoded, Method, decode, decode_whole};
 use mesh_model::{CornerMesh, Geometry};
 use std::alloc::{AllocError, Global};
@@ -36,7 +36,7 @@ fn is_mesh(
 fn decoded_with_one_behind(alloc: Global, bytes: &[u8]) -> Result<Decoded, Refusal> {
     let mut longer = bytes.to_vec(alloc)?;
     longer.push(7)?;
-    decode_whole(alloc, longer.as_slice())
+    decode_whole(alloc, longer.as_slice(), PROFILE_TWO)
 }
 
 /// Whether what was decoded is this mesh with its surface, of a connectivity that was coded so, with one
@@ -103,7 +103,7 @@ fn is_fault(rt: &impl Abort, fault: Option<Refusal>, kind: Kind, at: u64) {
 fn fault_behind(alloc: Global, bytes: &[u8]) -> Result<Option<Refusal>, Refusal> {
     let mut whole = FACE[..11].to_vec(alloc)?;
     whole.extend_from_slice(bytes)?;
-    Ok(decode(alloc, whole.as_slice()).err())
+    Ok(decode(alloc, whole.as_slice(), PROFILE_TWO).err())
 }
 
 /// Bytes behind the header of an Edgebreaker mesh, and the kind and place of the fault.
@@ -144,7 +144,7 @@ fn refuses_an_empty_context(rt: HostRuntime) -> Result<(), Fail> {
     let mut whole = BY_VALENCE[..30].to_vec(alloc)?;
     whole.push(0)?;
     whole.extend_from_slice(&BY_VALENCE[39..])?;
-    let fault = decode(alloc, whole.as_slice()).err();
+    let fault = decode(alloc, whole.as_slice(), PROFILE_TWO).err();
     is_fault(&rt, fault, Kind::ContextEmpty, 2);
     Ok(())
 }
@@ -155,7 +155,7 @@ fn fault_with(alloc: Global, at: usize, byte: u8) -> Result<Option<Refusal>, Ref
     if at < whole.len() {
         whole[at] = byte;
     }
-    Ok(decode(alloc, whole.as_slice()).err())
+    Ok(decode(alloc, whole.as_slice(), PROFILE_TWO).err())
 }
 
 /// The place of a byte of the face's stream and another byte there, and the kind of the fault at that place.

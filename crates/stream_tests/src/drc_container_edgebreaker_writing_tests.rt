@@ -2,7 +2,7 @@
 //! definitions are the ones meant, on meshes worked beside.
 
 use crate::drc_container_edgebreaker_reading_tests::decodes;
-use drc_base::{Fault, Kind, Refusal};
+use drc_base::{Fault, Kind, PROFILE_TWO, Refusal};
 use drc_container::{Choice, Method, Prediction, Walk, decode, decode_whole, encode};
 use mesh_model::{Geometry, Renumber, matches};
 use std::alloc::Global;
@@ -52,7 +52,7 @@ const UNPREDICTED: Choice = Choice {
 
 /// What `flat` means, encoded.
 fn written_of(alloc: Global, flat: &[u8], choice: &Choice) -> Result<(Vec<u8>, Renumber), Refusal> {
-    let geometry = decode(alloc, flat)?;
+    let geometry = decode(alloc, flat, PROFILE_TWO)?;
     encode(alloc, &geometry, choice)
 }
 
@@ -112,7 +112,7 @@ fn has_rows(
 /// How many events what `flat` means is encoded with.
 fn events_of(alloc: Global, flat: &[u8]) -> Result<u32, Refusal> {
     let (written, _) = written_of(alloc, flat, &NOTHING)?;
-    let again = decode_whole(alloc, written.as_slice())?;
+    let again = decode_whole(alloc, written.as_slice(), PROFILE_TWO)?;
     Ok(again.info.events)
 }
 
@@ -148,13 +148,13 @@ fn is_meant(
     bytes: &[u8],
     rows: &Renumber,
 ) -> Result<bool, Refusal> {
-    let again = decode(alloc, bytes)?;
+    let again = decode(alloc, bytes, PROFILE_TWO)?;
     Ok(matches(alloc, geometry, &again, rows)?)
 }
 
 /// Whether what is written of what a stream means, as chosen, means the same mesh.
 fn comes_back(alloc: Global, bytes: &[u8], choice: &Choice) -> Result<bool, Refusal> {
-    let geometry = decode(alloc, bytes)?;
+    let geometry = decode(alloc, bytes, PROFILE_TWO)?;
     let (written, rows) = encode(alloc, &geometry, choice)?;
     is_meant(alloc, &geometry, written.as_slice(), &rows)
 }

@@ -1,7 +1,7 @@
 //! What no contract can say: that encoding succeeds, and that the definitions are the ones meant, on
 //! streams worked by hand.
 
-use drc_base::{Fault, Kind, Refusal};
+use drc_base::{Fault, Kind, PROFILE_TWO, Refusal};
 use drc_container::{Choice, Index, Method, Prediction, Walk, decode, encode, encode_view};
 use std::alloc::Global;
 use std::process::Abort;
@@ -86,7 +86,7 @@ const PACKED: Choice = Choice {
 
 /// What is written of what a stream means.
 fn recoded(alloc: Global, bytes: &[u8], choice: &Choice) -> Result<Vec<u8>, Refusal> {
-    let geometry = decode(alloc, bytes)?;
+    let geometry = decode(alloc, bytes, PROFILE_TWO)?;
     let (written, _) = encode(alloc, &geometry, choice)?;
     Ok(written)
 }
@@ -168,7 +168,7 @@ fn values_too_far_apart_are_not_predicted(rt: HostRuntime) -> Result<(), Fail> {
 
 /// What is written of what a stream means, lent.
 fn lent(alloc: Global, bytes: &[u8], choice: &Choice) -> Result<Vec<u8>, Refusal> {
-    let geometry = decode(alloc, bytes)?;
+    let geometry = decode(alloc, bytes, PROFILE_TWO)?;
     let (written, _) = encode_view(alloc, &geometry.view(), choice)?;
     Ok(written)
 }

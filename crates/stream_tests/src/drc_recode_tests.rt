@@ -3,7 +3,7 @@
 
 ghost use Rattle.std.specs.Prelude.{◌≡◌, IfOk};
 
-use drc_base::{Fault, Kind, Refusal, Sequence};
+use drc_base::{Fault, Kind, PROFILE_TWO, Refusal, Sequence};
 use drc_container::{Choice, Method, decode};
 use drc_recode::{compose, decode_packed, invert, recode, restore};
 use mesh_model::{Geometry, MapRead, Renumber};
@@ -193,7 +193,7 @@ fn restored(
 ) -> Result<Geometry, Refusal> {
     let map = map(alloc, cloud, rows)?;
     let bytes = restore(alloc, &map, stream)?;
-    decode(alloc, bytes.as_slice())
+    decode(alloc, bytes.as_slice(), PROFILE_TWO)
 }
 
 #[test]

@@ -1,6 +1,7 @@
 pub mod Rows
 pub mod AttrInfos
 pub mod Lengths
+pub mod Limited
 pub mod Decoders
 pub mod Declared
 pub mod Parted

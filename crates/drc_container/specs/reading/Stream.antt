@@ -115,9 +115,13 @@ stream_in p bytes = do
 abbrev pub stream : List ℕ → Result Meaning Fault
 stream bytes = stream_in profile bytes
 
--- the geometry that a stream means, or its first fault
+-- the geometry that a stream means in a profile, or its first fault
+abbrev pub meaning_in : Profile → List ℕ → Result Geometry Fault
+meaning_in p bytes = stream_in p bytes >>= λ d. Ok d.geometry
+
+-- the geometry that a stream means in the profile of decoding
 abbrev pub meaning_of : List ℕ → Result Geometry Fault
-meaning_of bytes = stream bytes >>= λ d. Ok d.geometry
+meaning_of bytes = meaning_in profile bytes
 
 -- what a cloud declares: its number of points, and what the heads of its attributes open with
 unfoldable pub cloud_declared_at : Profile → Reading → Item ℕ

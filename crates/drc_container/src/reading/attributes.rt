@@ -1,6 +1,6 @@
 //! The attributes of a stream.
 
-ghost use Rattle.drc_base.specs.Profile.{profile};
+ghost use Rattle.drc_base.specs.Profile.{profile_numbered};
 ghost use Rattle.std.specs.Prelude.{◌≡◌, ◌<◌, [], None, Err, IfOk, All};
 ghost use Rattle.drc_base.specs.declared.faults.Fault.{Fault as AnyFault};
 ghost use Rattle.drc_base.specs.declared.faults.Refusal.TheVariants as refusal;
@@ -11,7 +11,7 @@ ghost use Rattle.drc_container.specs.reading.Stream.{sequential_attributes_at, d
 
 use attr_heads::Head;
 use attr_section::{DecoderHead, Values, read_decoder, read_heads};
-use drc_base::{PROFILE_TWO, Refusal, Sequence};
+use drc_base::{Profile, Refusal, Sequence};
 use drc_bits::Cursor;
 use std::alloc::Global;
 
@@ -31,25 +31,27 @@ pub struct Attributes {
 pub fn read_attributes(
     alloc: Global,
     c: &mut Cursor<'_>,
+    profile: Profile,
     entries: u32,
 ) -> Result<Attributes, Refusal>
-    ensures attributes { Gives (λ a. a) (sequential_attributes_at profile entries c.old) c.new result }
+    ensures attributes { Gives (λ a. a) (sequential_attributes_at (profile_numbered profile.number) entries c.old) c.new result }
     ensures early { (f : AnyFault) → heads_opening_at None c.old ≡ Err f → result ≡ Err (refusal.Fault f) }
     ensures columns { IfOk result (λ a. AreColumns entries a.heads a.values) }
 {
     let decoders = read_heads(alloc, c, None)?;
-    read_decoders(alloc, c, entries, decoders)
+    read_decoders(alloc, c, profile, entries, decoders)
 }
 
 /// Reads the values of these decoders in turn.
 fn read_decoders(
     alloc: Global,
     c: &mut Cursor<'_>,
+    profile: Profile,
     entries: u32,
     decoders: Vec<DecoderHead>,
 ) -> Result<Attributes, Refusal>
     requires { All (λ d. All (λ h. 0 < h.comps) d.heads) decoders.items }
-    ensures attributes { Gives (λ a. a) (decoders_values_at profile entries (record { heads = []; values = [] }) decoders.items c.old) c.new result }
+    ensures attributes { Gives (λ a. a) (decoders_values_at (profile_numbered profile.number) entries (record { heads = []; values = [] }) decoders.items c.old) c.new result }
     ensures columns { IfOk result (λ a. AreColumns entries a.heads a.values) }
 {
     let mut heads = Vec::new(alloc);
@@ -59,7 +61,7 @@ fn read_decoders(
         let mut read = read_decoder(
             alloc,
             c,
-            PROFILE_TWO,
+            profile,
             &mut decoder,
             entries,
             None,

@@ -1,6 +1,6 @@
 //! The attributes of an Edgebreaker mesh, decoder after decoder.
 
-ghost use Rattle.drc_base.specs.Profile.{profile};
+ghost use Rattle.drc_base.specs.Profile.{profile_numbered};
 ghost use Rattle.std.specs.Prelude.{◌≡◌, ◌<◌, ◌≤◌, ◌+◌, ◌*◌, ◌^◌, ◌++◌, ◌∷◌, [], ℕ, List, None, map, true, IfOk, OnOk, All, length, Some};
 ghost use Rattle.drc_base.specs.declared.limits.TheConstants.{MAX_VALUES as most_values, MAX_FACES as most_faces};
 ghost use Rattle.drc_bits.specs.Reading.{Gives};
@@ -25,7 +25,7 @@ use crate::surface::ordering::cut_at;
 use attr_heads::Head;
 use attr_section::{DecoderHead, Ordered, read_decoder, read_heads};
 use corner_table::{Classes, Order, SideTable};
-use drc_base::{Memory, PROFILE_TWO, Refusal, Sequence};
+use drc_base::{Memory, Profile, Refusal, Sequence};
 use drc_bits::Cursor;
 use eb_rebuild::Built;
 use eb_section::EbRead;
@@ -39,6 +39,7 @@ use std::alloc::Global;
 fn read_on(
     alloc: Global,
     c: &mut Cursor<'_>,
+    profile: Profile,
     t: &SideTable,
     labels: &Classes,
     order: &Order,
@@ -48,7 +49,7 @@ fn read_on(
     requires order { IsOrderBy t.now labels.now.of_corner decoder.degree order.now }
     requires heads { All HeadPasses decoder.heads }
     requires spent { spent.old ≤ most_values }
-    ensures item { Gives (attributes_over labels.now.of_corner) (decoder_on profile (ordered_by decoder.degree t.now.faces (gluing_of t.now)) decoder spent.old c.old) c.new result }
+    ensures item { Gives (attributes_over labels.now.of_corner) (decoder_on (profile_numbered profile.number) (ordered_by decoder.degree t.now.faces (gluing_of t.now)) decoder spent.old c.old) c.new result }
     ensures spent { IfOk result (λ p. spent.new ≡ spent.old + values_on (tables_of (group_over labels.now.of_corner p.values))) }
     ensures few { IfOk result (λ _. spent.new ≤ most_values) }
     ensures columns { IfOk result (λ p. AreAttrTables (3 * t.now.faces) p.heads (tables_of (group_over labels.now.of_corner p.values))) }
@@ -65,7 +66,7 @@ fn read_on(
     let values = read_decoder(
         alloc,
         c,
-        PROFILE_TWO,
+        profile,
         &mut decoder,
         entries,
         Some(&on),
@@ -80,6 +81,7 @@ fn read_on(
 fn read_over(
     alloc: Global,
     c: &mut Cursor<'_>,
+    profile: Profile,
     t: &SideTable,
     labels: &Classes,
     orders: &mut MadeOrders,
@@ -90,7 +92,7 @@ fn read_over(
     requires orders { AreOrders t.now labels.now.of_corner orders.old }
     requires heads { All HeadPasses decoder.heads }
     requires spent { spent.old ≤ most_values }
-    ensures item { Gives (attributes_over labels.now.of_corner) (decoder_on profile (ordered_by decoder.degree t.now.faces (gluing_of t.now)) decoder spent.old c.old) c.new result }
+    ensures item { Gives (attributes_over labels.now.of_corner) (decoder_on (profile_numbered profile.number) (ordered_by decoder.degree t.now.faces (gluing_of t.now)) decoder spent.old c.old) c.new result }
     ensures spent { IfOk result (λ p. spent.new ≡ spent.old + values_on (tables_of (group_over labels.now.of_corner p.values))) }
     ensures few { IfOk result (λ _. spent.new ≤ most_values) }
     ensures columns { IfOk result (λ p. AreAttrTables (3 * t.now.faces) p.heads (tables_of (group_over labels.now.of_corner p.values))) }
@@ -100,7 +102,7 @@ fn read_over(
 {
     let degree = decoder.degree;
     let order = order_once(alloc, t, labels, degree, orders)?;
-    let read = read_on(alloc, c, t, labels, &order, decoder, spent)?;
+    let read = read_on(alloc, c, profile, t, labels, &order, decoder, spent)?;
     orders.keep(degree, order);
     Ok(read)
 }
@@ -117,6 +119,7 @@ fn seams_of<'a>(blocks: &[BitBlock<'a>], id: u8) -> BitBlock<'a>
 fn read_on_cut(
     alloc: Global,
     c: &mut Cursor<'_>,
+    profile: Profile,
     t: &SideTable,
     block: BitBlock<'_>,
     decoder: DecoderHead,
@@ -124,7 +127,7 @@ fn read_on_cut(
 ) -> Result<DecoderRead, Refusal>
     requires heads { All HeadPasses decoder.heads }
     requires spent { spent.old ≤ most_values }
-    ensures item { (whole : List ℕ) → Gives (decoder_read_on whole) (decoder_on profile (ordered_by decoder.degree t.now.faces (surface_cut_at t.now.faces (gluing_of t.now) block.entry)) decoder spent.old c.old) c.new result }
+    ensures item { (whole : List ℕ) → Gives (decoder_read_on whole) (decoder_on (profile_numbered profile.number) (ordered_by decoder.degree t.now.faces (surface_cut_at t.now.faces (gluing_of t.now) block.entry)) decoder spent.old c.old) c.new result }
     ensures spent { IfOk result (λ p. (whole : List ℕ) → spent.new ≡ spent.old + values_on (tables_of (group_on whole p.values))) }
     ensures few { IfOk result (λ _. spent.new ≤ most_values) }
     ensures columns { IfOk result (λ p. (whole : List ℕ) → AreAttrTables (3 * t.now.faces) p.heads (tables_of (group_on whole p.values))) }
@@ -133,7 +136,7 @@ fn read_on_cut(
     let cut = cut_at(alloc, t, block)?;
     let labels = classes(alloc, &cut, None)?;
     let mut orders = MadeOrders::none();
-    let read = read_over(alloc, c, &cut, &labels, &mut orders, decoder, spent)?;
+    let read = read_over(alloc, c, profile, &cut, &labels, &mut orders, decoder, spent)?;
     Ok(over_cut(read, labels))
 }
 
@@ -141,6 +144,7 @@ fn read_on_cut(
 fn read_on_whole(
     alloc: Global,
     c: &mut Cursor<'_>,
+    profile: Profile,
     sides: &Built,
     orders: &mut MadeOrders,
     decoder: DecoderHead,
@@ -149,7 +153,7 @@ fn read_on_whole(
     requires heads { All HeadPasses decoder.heads }
     requires spent { spent.old ≤ most_values }
     requires orders { AreOrders sides.now.table (built_classes sides.now) orders.old }
-    ensures item { Gives (decoder_read_on (built_classes sides.now)) (decoder_on profile (ordered_by decoder.degree sides.now.table.faces (gluing_of sides.now.table)) decoder spent.old c.old) c.new result }
+    ensures item { Gives (decoder_read_on (built_classes sides.now)) (decoder_on (profile_numbered profile.number) (ordered_by decoder.degree sides.now.table.faces (gluing_of sides.now.table)) decoder spent.old c.old) c.new result }
     ensures spent { IfOk result (λ p. spent.new ≡ spent.old + values_on (tables_of (group_on (built_classes sides.now) p.values))) }
     ensures few { IfOk result (λ _. spent.new ≤ most_values) }
     ensures columns { IfOk result (λ p. AreAttrTables (3 * sides.now.table.faces) p.heads (tables_of (group_on (built_classes sides.now) p.values))) }
@@ -160,7 +164,7 @@ fn read_on_whole(
     // For the prover alone: the call states that the table is a surface.
     let _faces = table.face_count();
     let labels = sides.classes();
-    read_over(alloc, c, table, labels, orders, decoder, spent)
+    read_over(alloc, c, profile, table, labels, orders, decoder, spent)
 }
 
 /// Reads the attributes of a decoder, on the surface of the stream, of which these orders were made, cut at the seams of the
@@ -168,6 +172,7 @@ fn read_on_whole(
 fn read_for(
     alloc: Global,
     c: &mut Cursor<'_>,
+    profile: Profile,
     surface: &EbRead<'_>,
     orders: &mut MadeOrders,
     decoder: DecoderHead,
@@ -177,7 +182,7 @@ fn read_for(
     requires heads { All HeadPasses decoder.heads }
     requires seams { decoder.corner ≡ true → HasSeams (length surface.now.seams) decoder }
     requires spent { spent.old ≤ most_values }
-    ensures item { Gives (decoder_read_on (classes_of (meaning surface.now))) (decoder_on profile (ordered_for (meaning surface.now) decoder) decoder spent.old c.old) c.new result }
+    ensures item { Gives (decoder_read_on (classes_of (meaning surface.now))) (decoder_on (profile_numbered profile.number) (ordered_for (meaning surface.now) decoder) decoder spent.old c.old) c.new result }
     ensures spent { IfOk result (λ p. spent.new ≡ spent.old + values_on (tables_of (group_on (classes_of (meaning surface.now)) p.values))) }
     ensures few { IfOk result (λ _. spent.new ≤ most_values) }
     ensures columns { IfOk result (λ p. AreAttrTables (3 * surface.now.sides.table.faces) p.heads (tables_of (group_on (classes_of (meaning surface.now)) p.values))) }
@@ -188,9 +193,9 @@ fn read_for(
         && let Some(id) = decoder.data_id
     {
         let block = seams_of(surface.seams.as_slice(), id);
-        return read_on_cut(alloc, c, surface.sides.table(), block, decoder, spent);
+        return read_on_cut(alloc, c, profile, surface.sides.table(), block, decoder, spent);
     }
-    read_on_whole(alloc, c, &surface.sides, orders, decoder, spent)
+    read_on_whole(alloc, c, profile, &surface.sides, orders, decoder, spent)
 }
 
 /// Adds the attributes of a decoder, as they were read, behind those of the decoders before.
@@ -216,12 +221,13 @@ fn add_read(
 fn read_each(
     alloc: Global,
     c: &mut Cursor<'_>,
+    profile: Profile,
     surface: &EbRead<'_>,
     decoders: Vec<DecoderHead>,
 ) -> Result<AttributesRead, Refusal>
     requires heads { All (λ d. All HeadPasses d.heads) decoders.items }
     requires seams { All (λ d. d.corner ≡ true → HasSeams (length surface.now.seams) d) decoders.items }
-    ensures item { Gives (attributes_read_on (classes_of (meaning surface.now))) (surface_decoders_at profile (meaning surface.now) no_attributes decoders.items c.old) c.new result }
+    ensures item { Gives (attributes_read_on (classes_of (meaning surface.now))) (surface_decoders_at (profile_numbered profile.number) (meaning surface.now) no_attributes decoders.items c.old) c.new result }
     ensures columns { IfOk result (λ p. AreAttrTables (3 * surface.now.sides.table.faces) p.heads (tables_on (classes_of (meaning surface.now)) p.decoders)) }
     ensures vertices { IfOk result (λ p. All (HasVertices (3 * surface.now.sides.table.faces)) (map (group_on (classes_of (meaning surface.now))) p.decoders)) }
 {
@@ -231,7 +237,7 @@ fn read_each(
     let mut spent: u64 = 0;
     let mut orders = MadeOrders::none();
     for decoder in decoders {
-        let read = read_for(alloc, c, surface, &mut orders, decoder, &mut spent)?;
+        let read = read_for(alloc, c, profile, surface, &mut orders, decoder, &mut spent)?;
         add_read(&mut heads, &mut values, &mut info, read)?;
     }
     Ok(AttributesRead {
@@ -247,15 +253,16 @@ fn read_each(
 pub fn read_attributes_on(
     alloc: Global,
     c: &mut Cursor<'_>,
+    profile: Profile,
     surface: &EbRead<'_>,
 ) -> Result<AttributesRead, Refusal>
     requires faces { surface.now.sides.table.faces ≤ most_faces }
     requires seams { length surface.now.seams ≡ surface.now.attr_data }
-    ensures item { Gives (attributes_read_on (classes_of (meaning surface.now))) (attributes_on profile (meaning surface.now) c.old) c.new result }
+    ensures item { Gives (attributes_read_on (classes_of (meaning surface.now))) (attributes_on (profile_numbered profile.number) (meaning surface.now) c.old) c.new result }
     ensures tables { IfOk result (λ p. AreTables p.heads (tables_on (classes_of (meaning surface.now)) p.decoders) surface.now.sides.table.faces) }
     ensures vertices { IfOk result (λ p. All (HasVertices (3 * surface.now.sides.table.faces)) (map (group_on (classes_of (meaning surface.now))) p.decoders)) }
 {
     let decoders = read_heads(alloc, c, Some(surface.attr_data))?;
-    let attributes = read_each(alloc, c, surface, decoders)?;
+    let attributes = read_each(alloc, c, profile, surface, decoders)?;
     Ok(attributes)
 }

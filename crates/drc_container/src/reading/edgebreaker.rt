@@ -1,7 +1,7 @@
 //! Decoding an Edgebreaker mesh behind its header.
 
-ghost use Rattle.drc_base.specs.Profile.{profile};
-ghost use Rattle.std.specs.Prelude.{◌≡◌, ◌*◌, ◌<◌, ◌≤◌, Err, IfOk, IfSome, IsTrue, length, map, All};
+ghost use Rattle.drc_base.specs.Profile.{profile_numbered, profile as limits};
+ghost use Rattle.std.specs.Prelude.{◌≡◌, ℕ, ◌*◌, ◌<◌, ◌≤◌, Err, IfOk, IfSome, IsTrue, length, map, All};
 ghost use Rattle.drc_base.specs.declared.faults.Fault.{Fault as AnyFault};
 ghost use Rattle.drc_base.specs.declared.faults.Refusal.TheVariants as refusal;
 ghost use Rattle.drc_base.specs.declared.limits.TheConstants.{MAX_FACES as most_faces};
@@ -23,7 +23,7 @@ use crate::reading::info::{
 use crate::reading::surface_attributes::{AttributesRead, DecoderValues, groups_of};
 use attr_heads::Head;
 use corner_table::{Classes, Steps};
-use drc_base::{Fault, Refusal, Sequence};
+use drc_base::{Fault, Profile, Refusal, Sequence};
 use drc_bits::Cursor;
 use eb_rebuild::Built;
 use eb_section::{EbRead, read_connectivity};
@@ -46,9 +46,13 @@ struct SurfaceRead {
 }
 
 /// Reads an Edgebreaker mesh behind its header.
-pub fn read_edgebreaker(alloc: Global, c: &mut Cursor<'_>) -> Result<Decoded, Refusal>
-    ensures mesh { Answers told_by (edgebreaker_at profile c.old) result }
-    ensures early { (f : AnyFault) → declared_at profile c.old ≡ Err f → result ≡ Err (refusal.Fault f) }
+pub fn read_edgebreaker(
+    alloc: Global,
+    c: &mut Cursor<'_>,
+    profile: Profile,
+) -> Result<Decoded, Refusal>
+    ensures mesh { Answers told_by (edgebreaker_at (profile_numbered profile.number) c.old) result }
+    ensures early { (f : AnyFault) → declared_at limits c.old ≡ Err f → result ≡ Err (refusal.Fault f) }
     ensures linked { IfOk result (λ d. IfSome d.sides (λ b. IsTrue b.linked)) }
 {
     let SurfaceRead {
@@ -56,7 +60,7 @@ pub fn read_edgebreaker(alloc: Global, c: &mut Cursor<'_>) -> Result<Decoded, Re
         heads,
         decoders,
         info,
-    } = read_unassembled(alloc, c)?;
+    } = read_unassembled(alloc, c, profile)?;
     let faces = sides.table().face_count();
     let whole = classes_lent(&sides);
     let mesh = assemble_on(alloc, info.end, faces, whole, heads, decoders.as_slice())?;
@@ -69,16 +73,20 @@ pub fn read_edgebreaker(alloc: Global, c: &mut Cursor<'_>) -> Result<Decoded, Re
 
 /// Reads an Edgebreaker mesh behind its header, without its surface: the table of glued sides is freed before the mesh
 /// is assembled.
-pub fn read_edgebreaker_mesh(alloc: Global, c: &mut Cursor<'_>) -> Result<Geometry, Refusal>
-    ensures mesh { Answers (λ g. g) (geometry_due (edgebreaker_at profile c.old)) result }
-    ensures early { (f : AnyFault) → declared_at profile c.old ≡ Err f → result ≡ Err (refusal.Fault f) }
+pub fn read_edgebreaker_mesh(
+    alloc: Global,
+    c: &mut Cursor<'_>,
+    profile: Profile,
+) -> Result<Geometry, Refusal>
+    ensures mesh { Answers (λ g. g) (geometry_due (edgebreaker_at (profile_numbered profile.number) c.old)) result }
+    ensures early { (f : AnyFault) → declared_at limits c.old ≡ Err f → result ≡ Err (refusal.Fault f) }
 {
     let SurfaceRead {
         sides,
         heads,
         decoders,
         info,
-    } = read_unassembled(alloc, c)?;
+    } = read_unassembled(alloc, c, profile)?;
     let faces = sides.table().face_count();
     let whole = classes_alone(sides);
     let mesh = assemble_on(
@@ -116,16 +124,20 @@ fn classes_alone(sides: Built) -> Sequence<u32>
 
 /// Reads an Edgebreaker mesh behind its header, but doesn't assemble it.
 #[tactic(auto, unfolding(crate::specs::reading::Stream::edgebreaker_at))]
-fn read_unassembled(alloc: Global, c: &mut Cursor<'_>) -> Result<SurfaceRead, Refusal>
-    ensures mesh { Leaves meaning_left (edgebreaker_at profile c.old) result }
-    ensures early { (f : AnyFault) → declared_at profile c.old ≡ Err f → result ≡ Err (refusal.Fault f) }
+fn read_unassembled(
+    alloc: Global,
+    c: &mut Cursor<'_>,
+    profile: Profile,
+) -> Result<SurfaceRead, Refusal>
+    ensures mesh { Leaves (meaning_left profile.number) (edgebreaker_at (profile_numbered profile.number) c.old) result }
+    ensures early { (f : AnyFault) → declared_at limits c.old ≡ Err f → result ≡ Err (refusal.Fault f) }
     ensures linked { IfOk result (λ r. IsTrue r.sides.linked) }
     ensures tables { IfOk result (λ r. AreTables r.heads (tables_on (built_classes r.sides) r.decoders) r.sides.table.faces) }
     ensures vertices { IfOk result (λ r. All (HasVertices (3 * r.sides.table.faces)) (map (group_on (built_classes r.sides)) r.decoders)) }
 {
     let from = c.place();
     let surface = read_surface::<Brand>(alloc, c, Blank::new(1))?;
-    read_behind(alloc, c, from, surface)
+    read_behind(alloc, c, profile, from, surface)
 }
 
 /// Reads connectivity, under a count of table calls that nothing else takes part in.
@@ -137,8 +149,8 @@ fn read_surface<'a, L: Ledger>(
     requires name { blank.name ≡ L.name }
     requires parts { blank.parts ≡ L.parts }
     requires some { 0 < L.parts }
-    ensures section { Gives meaning (connectivity_at profile c.old) c.new result }
-    ensures early { (f : AnyFault) → declared_at profile c.old ≡ Err f → result ≡ Err (refusal.Fault f) }
+    ensures section { (n : ℕ) → Gives meaning (connectivity_at (profile_numbered n) c.old) c.new result }
+    ensures early { (f : AnyFault) → declared_at limits c.old ≡ Err f → result ≡ Err (refusal.Fault f) }
     ensures linked { IfOk result (λ r. IsTrue r.sides.linked) }
     ensures faces { IfOk result (λ r. r.sides.table.faces ≤ most_faces) }
     ensures seams { IfOk result (λ r. length r.seams ≡ r.attr_data) }
@@ -152,12 +164,13 @@ fn read_surface<'a, L: Ledger>(
 fn read_behind(
     alloc: Global,
     c: &mut Cursor<'_>,
+    profile: Profile,
     from: u64,
     surface: EbRead<'_>,
 ) -> Result<SurfaceRead, Refusal>
     requires faces { surface.sides.table.faces ≤ most_faces }
     requires seams { length surface.seams ≡ surface.attr_data }
-    ensures mesh { Leaves meaning_left (surface_behind profile from (meaning surface.entry) c.old) result }
+    ensures mesh { Leaves (meaning_left profile.number) (surface_behind (profile_numbered profile.number) from (meaning surface.entry) c.old) result }
     ensures sides { IfOk result (λ r. r.sides ≡ surface.entry.sides) }
     ensures tables { IfOk result (λ r. AreTables r.heads (tables_on (built_classes r.sides) r.decoders) r.sides.table.faces) }
     ensures vertices { IfOk result (λ r. All (HasVertices (3 * r.sides.table.faces)) (map (group_on (built_classes r.sides)) r.decoders)) }
@@ -167,7 +180,7 @@ fn read_behind(
         heads,
         decoders,
         info,
-    } = read_attributes_on(alloc, c, &surface)?;
+    } = read_attributes_on(alloc, c, profile, &surface)?;
     let info = edgebreaker_info(c, from, to, &surface, info);
     Ok(SurfaceRead {
         sides: surface.sides,
@@ -189,7 +202,7 @@ fn assemble_on(
 ) -> Result<CornerMesh, Refusal>
     requires tables { AreTables heads (tables_on whole.now decoders.now) faces }
     requires vertices { All (HasVertices (3 * faces)) (map (group_on whole.now) decoders.now) }
-    ensures { Answers (λ m. m) (at_end end (assembled_in profile heads (tables_on whole.now decoders.now) faces)) result }
+    ensures { (n : ℕ) → Answers (λ m. m) (at_end end (assembled_in (profile_numbered n) heads (tables_on whole.now decoders.now) faces)) result }
 {
     let groups = groups_of(alloc, whole, decoders)?;
     assemble_at(alloc, end, heads.into_vec(), groups.as_slice(), faces)
@@ -205,7 +218,7 @@ fn assemble_at(
 ) -> Result<CornerMesh, Refusal>
     requires tables { AreTables heads.items (group_tables groups.now) faces }
     requires vertices { All (HasVertices (3 * faces)) groups.now }
-    ensures { Answers (λ m. m) (at_end end (assembled_in profile heads.items (group_tables groups.now) faces)) result }
+    ensures { (n : ℕ) → Answers (λ m. m) (at_end end (assembled_in (profile_numbered n) heads.items (group_tables groups.now) faces)) result }
 {
     match assemble(alloc, heads, groups, faces) {
         Ok(mesh) => Ok(mesh),

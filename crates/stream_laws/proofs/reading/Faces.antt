@@ -17,7 +17,7 @@ use Rattle.drc_container.specs.reading.Meaning.{Meaning}
 use Rattle.drc_container.specs.reading.OnSurface.{attributes_on, assembled_in, assembled_at}
 use Rattle.drc_container.specs.reading.Stream.{points_behind, mesh_behind, mesh_at, cloud_behind, cloud_at, surface_behind, edgebreaker_at, stream}
 use Rattle.drc_container.proofs.lemmas.reading.Parted.{given, parts}
-use Rattle.drc_container.proofs.lemmas.reading.ProfileCounts.{assembled-two}
+use Rattle.drc_container.proofs.lemmas.reading.ProfileCounts.{assembled-all}
 use Rattle.stream_laws.specs.Meanings.{IsSurfaceOf}
 use Rattle.stream_laws.proofs.reading.Forms.{of-each-form}
 use Rattle.stream_laws.proofs.reading.Surfaces.{connectivity-surface}
@@ -58,7 +58,7 @@ edgebreaker-surface c d is =
     let read = connectivity-surface c s.0 s.1 in
     let p = parts (attributes_on profile s.0.0 s.0.1) _ d s.2 in
     let q = parts (assembled_at profile p.0.1.place faces p.0.0) _ d p.2 in
-    let whole = sym (assembled-two p.0.0.heads p.0.0.tables faces) ∙ before_end p.0.1.place (assembled_in profile p.0.0.heads p.0.0.tables faces) q.0 q.1 in
+    let whole = sym (assembled-all 2 p.0.0.heads p.0.0.tables faces) ∙ before_end p.0.1.place (assembled_in profile p.0.0.heads p.0.0.tables faces) q.0 q.1 in
     given HasSurface _ d q.2
     (record { each_face = assembled-faces p.0.0.heads p.0.0.tables faces q.0 whole; gluing = read.gluing; three_fans = read.three_fans })
 

@@ -24,7 +24,7 @@ use Rattle.drc_container.specs.reading.Meaning.{Meaning}
 use Rattle.drc_container.specs.reading.OnSurface.{ordered_for, decoder_attributes, attributes_joined, values_on, decoder_on, no_attributes, surface_decoders_at, attributes_on, assembled_in, assembled_at}
 use Rattle.drc_container.specs.reading.Stream.{decoders_values_at, sequential_attributes_at, points_behind, mesh_behind, mesh_at, cloud_behind, cloud_at, surface_behind, edgebreaker_at, stream}
 use Rattle.drc_container.proofs.lemmas.reading.Parted.{given, parts}
-use Rattle.drc_container.proofs.lemmas.reading.ProfileCounts.{assembled-two}
+use Rattle.drc_container.proofs.lemmas.reading.ProfileCounts.{assembled-all}
 use Rattle.stream_laws.proofs.reading.Bytes.{BytesAhead, LeavesBytes, ok-leaves, then-leaves, value-leaves, must-leaves, bytes-leave, number-leaves}
 use Rattle.stream_laws.proofs.reading.BytesOfBlocks.{indices-leave, connectivity-leaves}
 use Rattle.stream_laws.proofs.reading.BytesOfAttributes.{HeadsHaveBareFields, heads-fields, decoder_values-fields}
@@ -129,7 +129,7 @@ edgebreaker-fields c here d is =
     let faces = s.0.0.faces in
     let p = parts (attributes_on profile s.0.0 s.0.1) _ d s.2 in
     let q = parts (assembled_at profile p.0.1.place faces p.0.0) _ d p.2 in
-    let whole = sym (assembled-two p.0.0.heads p.0.0.tables faces) ∙ before_end p.0.1.place (assembled_in profile p.0.0.heads p.0.0.tables faces) q.0 q.1 in
+    let whole = sym (assembled-all 2 p.0.0.heads p.0.0.tables faces) ∙ before_end p.0.1.place (assembled_in profile p.0.0.heads p.0.0.tables faces) q.0 q.1 in
     let have = attributes-fields s.0.0 s.0.1 (connectivity-leaves profile c here s.0 s.1) p.0 p.1 in
     given HasHeadFields _ d q.2 (subst (All HasFields) (assembled-heads p.0.0.heads p.0.0.tables faces q.0 whole) have)
 

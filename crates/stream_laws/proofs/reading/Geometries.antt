@@ -29,7 +29,7 @@ use Rattle.drc_container.proofs.lemmas.reading.Whole.{AreTyped}
 use Rattle.drc_container.proofs.lemmas.reading.Decoders.{values_in-append}
 use Rattle.drc_container.proofs.lemmas.reading.Lengths.{cells_at-whole}
 use Rattle.drc_container.proofs.lemmas.reading.Faces.{indices-passed}
-use Rattle.drc_container.proofs.lemmas.reading.ProfileCounts.{assembled-two}
+use Rattle.drc_container.proofs.lemmas.reading.ProfileCounts.{assembled-all}
 use Rattle.stream_laws.proofs.reading.Forms.{given-of, of-each-form}
 use Rattle.stream_laws.proofs.reading.Surfaces.{IsSurfaceRead, connectivity-surface}
 use Rattle.stream_laws.proofs.reading.Tables.{decoder-columns, attributes-tables}
@@ -112,7 +112,7 @@ surface-mesh from s read c d is =
     let q = parts (assembled_at profile p.0.1.place s.faces p.0.0) _ d p.2 in
     let tables = attributes-tables s read c p.0 p.1 in
     let whole : assembled p.0.0.heads p.0.0.tables s.faces ≡ Ok q.0 =
-    sym (assembled-two p.0.0.heads p.0.0.tables s.faces) ∙ before_end p.0.1.place (assembled_in profile p.0.0.heads p.0.0.tables s.faces) q.0 q.1 in
+    sym (assembled-all 2 p.0.0.heads p.0.0.tables s.faces) ∙ before_end p.0.1.place (assembled_in profile p.0.0.heads p.0.0.tables s.faces) q.0 q.1 in
     let made : Meaning = record {
       geometry = geometry.Mesh q.0;
       surface = Some (record { faces = s.faces; glued = s.glued });

@@ -1,5 +1,5 @@
 -- Values that were read: how many they are, and that each is in its type.
-use Rattle.drc_base.specs.Profile.{profile}
+use Rattle.drc_base.specs.Profile.{profile_numbered}
 use Rattle.std.proofs.Common.{◌≡◌, ℕ, zero, suc, ◌+◌, ◌*◌, ◌/◌, ◌%◌, ◌≤◌, true, ℤ, List, [], ◌∷◌, ◌++◌, length, take, drop, map, Option, Ok, refl, sym, ◌∙◌, ap, arith, length-append, replicate}
 use Rattle.std.specs.Prelude.{◌==◌, ◌&&◌, nat_lt, nat_le}
 use Rattle.std.specs.List.{list_all}
@@ -129,11 +129,11 @@ pub record IsColumn (n dtype : ℕ) (v : Values) : Type 0 where
   pub long : length v.values ≡ n
   pub typed : list_all (in_type dtype) v.values ≡ true
 
-typed-column : (w : Option Ordered) (h : Head) (n : ℕ) → n % h.comps ≡ 0 → (c : Reading) (y : Values × Reading)
-    → typed_values_at profile w h n c ≡ Ok y → IsColumn n h.dtype y.0
+typed-column : {k : ℕ} (w : Option Ordered) (h : Head) (n : ℕ) → n % h.comps ≡ 0 → (c : Reading) (y : Values × Reading)
+    → typed_values_at (profile_numbered k) w h n c ≡ Ok y → IsColumn n h.dtype y.0
 unfolding typed_values_at
-typed-column w h n whole c y is =
-    let p = parts (prediction_at profile c) _ y is in
+typed-column {k = k} w h n whole c y is =
+    let p = parts (prediction_at (profile_numbered k) c) _ y is in
     let q = parts (predicted_at c.place w p.0.0 h.comps n p.0.1) _ y p.2 in
     let t = passed (list_all (in_type h.dtype) q.0.0) _ _ y q.2 in
     let v : Values = record { values = q.0.0; predict = code_of p.0.0; at = c.place } in
@@ -141,8 +141,8 @@ typed-column w h n whole c y is =
     given (λ (z : Values × Reading). IsColumn n h.dtype z.0) (v, q.0.1) y t.1 (record { long = long; typed = t.0 })
 
 -- the values of an attribute are a column within the limit
-pub values-column : (w : Option Ordered) (h : Head) (entries spent : ℕ) (c : Reading) (y : Values × Reading)
-    → values_at profile w h entries spent c ≡ Ok y → IsColumn (entries * h.comps) h.dtype y.0 × (spent + entries * h.comps ≤ MAX_VALUES)
+pub values-column : {k : ℕ} (w : Option Ordered) (h : Head) (entries spent : ℕ) (c : Reading) (y : Values × Reading)
+    → values_at (profile_numbered k) w h entries spent c ≡ Ok y → IsColumn (entries * h.comps) h.dtype y.0 × (spent + entries * h.comps ≤ MAX_VALUES)
 unfolding values_at
 values-column w h entries spent c y is =
     let t = passed (nat_le (spent + entries * h.comps) MAX_VALUES) _ _ y is in

@@ -1,5 +1,5 @@
 -- Decoders of attributes on a surface, one at a time.
-use Rattle.drc_base.specs.Profile.{profile}
+use Rattle.drc_base.specs.Profile.{Profile}
 use Rattle.std.proofs.Common.{◌≡◌, ℕ, ◌<◌, Bool, true, List, [], ◌∷◌, length, map, get_or, Some, Ok, refl, sym, ◌∙◌, ap, subst, arith}
 use Rattle.std.specs.List.{All}
 use Rattle.std.proofs.Math.ListN.{get_or-map}
@@ -16,23 +16,23 @@ use Rattle.eb_section.specs.Connectivity.{Connectivity}
 use Rattle.drc_container.specs.reading.OnSurface.{SurfaceAttributes, seams_of, cut_at, ordered_by, ordered_for, attributes_joined, values_on, decoder_on, surface_decoders_at}
 
 -- the next decoder was read
-pub surface_decoders_at-next : (s : Connectivity) (before x : SurfaceAttributes) (d : DecoderHead) (ds rest : List DecoderHead) (c next : Reading) (whole : Item SurfaceAttributes)
-    → surface_decoders_at profile s before ds c ≡ whole → ds ≡ d ∷ rest → decoder_on profile (ordered_for s d) d (values_on before.tables) c ≡ Ok (x, next)
-    → surface_decoders_at profile s (attributes_joined before x) rest next ≡ whole
+pub surface_decoders_at-next : {p : Profile} (s : Connectivity) (before x : SurfaceAttributes) (d : DecoderHead) (ds rest : List DecoderHead) (c next : Reading) (whole : Item SurfaceAttributes)
+    → surface_decoders_at p s before ds c ≡ whole → ds ≡ d ∷ rest → decoder_on p (ordered_for s d) d (values_on before.tables) c ≡ Ok (x, next)
+    → surface_decoders_at p s (attributes_joined before x) rest next ≡ whole
 unfolding surface_decoders_at
 surface_decoders_at-next s before x d ds rest c next whole so is read = sym (rw (is, read) refl) ∙ so
 
 -- the next decoder is refused
-pub surface_decoders_at-refuses : (s : Connectivity) (before : SurfaceAttributes) (d : DecoderHead) (ds rest : List DecoderHead) (c : Reading) (r : Refusal) (whole : Item SurfaceAttributes)
-    → surface_decoders_at profile s before ds c ≡ whole → ds ≡ d ∷ rest → Refuses (decoder_on profile (ordered_for s d) d (values_on before.tables) c) r
+pub surface_decoders_at-refuses : {p : Profile} (s : Connectivity) (before : SurfaceAttributes) (d : DecoderHead) (ds rest : List DecoderHead) (c : Reading) (r : Refusal) (whole : Item SurfaceAttributes)
+    → surface_decoders_at p s before ds c ≡ whole → ds ≡ d ∷ rest → Refuses (decoder_on p (ordered_for s d) d (values_on before.tables) c) r
     → Refuses whole r
 unfolding surface_decoders_at
 surface_decoders_at-refuses s before d ds rest c refusal.Memory whole so is refuses = tt
 surface_decoders_at-refuses s before d ds rest c (refusal.Fault f) whole so is refuses = sym so ∙ rw (is, refuses) refl
 
 -- no decoder is left
-pub surface_decoders_at-end : (s : Connectivity) (before : SurfaceAttributes) (ds : List DecoderHead) (c : Reading) (whole : Item SurfaceAttributes)
-    → surface_decoders_at profile s before ds c ≡ whole → ds ≡ [] → whole ≡ Ok (before, c)
+pub surface_decoders_at-end : {p : Profile} (s : Connectivity) (before : SurfaceAttributes) (ds : List DecoderHead) (c : Reading) (whole : Item SurfaceAttributes)
+    → surface_decoders_at p s before ds c ≡ whole → ds ≡ [] → whole ≡ Ok (before, c)
 unfolding surface_decoders_at
 surface_decoders_at-end s before ds c whole so none = sym so ∙ rw none refl
 

@@ -4,7 +4,7 @@ use Rattle.std.specs.Prelude.{nat_le}
 use Rattle.std.proofs.lemmas.Bool.{leb-true, le-leb}
 use Rattle.drc_base.specs.declared.faults.Fault.{Fault}
 use Rattle.drc_base.specs.declared.kinds.Kind.TheVariants.{PointLimit, ValueLimit}
-use Rattle.drc_base.specs.Profile.{Profile, profile}
+use Rattle.drc_base.specs.Profile.{Profile, profile, profile_numbered}
 use Rattle.drc_base.specs.Steps.{◌>>=◌}
 use Rattle.drc_bits.proofs.Results.{err≢ok}
 use Rattle.attr_heads.specs.declared.heads.Head.{Head}
@@ -23,14 +23,14 @@ pub within : (n m k : ℕ) → m ≤ k → nat_le n m ≡ true → nat_le n k �
 within n m k wider is = le-leb n k (omega (arith, wider, leb-true n m is))
 
 -- a test that finds again what was found before
-found-again : (fault : Option Fault) (m : MeshParts) → counts_in profile m ≡ fault → (value_unless fault m >>= accepted profile) ≡ value_unless fault m
+found-again : {k : ℕ} (fault : Option Fault) (m : MeshParts) → counts_in (profile_numbered k) m ≡ fault → (value_unless fault m >>= accepted (profile_numbered k)) ≡ value_unless fault m
 found-again None m is = ap (λ f. value_unless f m) is
 found-again (Some f) m is = refl
 
--- the profile of decoding accepts each mesh that is assembled
-pub assembled-two : (heads : List Head) (tables : List AttrTable) (faces : ℕ) → assembled_in profile heads tables faces ≡ assembled heads tables faces
+-- a profile of the limits of decoding accepts each mesh that is assembled
+pub assembled-all : (k : ℕ) (heads : List Head) (tables : List AttrTable) (faces : ℕ) → assembled_in (profile_numbered k) heads tables faces ≡ assembled heads tables faces
 unfolding assembled_in assembled
-assembled-two heads tables faces = found-again _ (assembled_parts heads tables faces) refl
+assembled-all k heads tables faces = found-again {k = k} _ (assembled_parts heads tables faces) refl
 
 -- the counts that a profile accepts are accepted by a wider one
 counts-wider : (p q : Profile) → IsWider p q → (m : MeshParts) → counts_in p m ≡ None → counts_in q m ≡ None

@@ -1,5 +1,5 @@
 -- What is read as a mesh or a cloud passes each test of one.
-use Rattle.drc_base.specs.Profile.{profile}
+use Rattle.drc_base.specs.Profile.{profile_numbered}
 use Rattle.std.proofs.Common.{◌≡◌, Option, ℕ, ◌+◌, ◌*◌, ◌-◌, ◌<◌, ◌≤◌, true, ℤ, pos, List, [], ◌∷◌, ◌++◌, length, map, take, drop, get_or, None, Ok, refl, sym, ◌∙◌, ap, subst, arith, inl, inr, length-append, length-take-le, append-nil, append_assoc, replicate}
 use Rattle.std.specs.Prelude.{nat_le}
 use Rattle.std.specs.List.{All, range_with_len}
@@ -56,15 +56,15 @@ pub record AreColumns (n spent : ℕ) (shape : List (ℕ × ℕ)) (values : List
   pub typed : AreTyped n shape values
   pub few : spent + values_in values ≤ MAX_VALUES
 
-pub columns-from : (w : Option Ordered) (n spent : ℕ) (heads : List Head) (s : List (ℕ × ℕ)) (front : List Values) → AreColumns n spent s front
+pub columns-from : {k : ℕ} (w : Option Ordered) (n spent : ℕ) (heads : List Head) (s : List (ℕ × ℕ)) (front : List Values) → AreColumns n spent s front
     → (c : Reading) (y : List Values × Reading)
-    → each_at (λ before h. values_at profile w h n (spent + values_in before)) front heads c ≡ Ok y → AreColumns n spent (s ++ shapes heads) y.0
+    → each_at (λ before h. values_at (profile_numbered k) w h n (spent + values_in before)) front heads c ≡ Ok y → AreColumns n spent (s ++ shapes heads) y.0
 unfolding each_at
-columns-from w n spent [] s front are c y is =
+columns-from {k = k} w n spent [] s front are c y is =
     rw (append-nil s) (subst (λ (z : List Values × Reading). AreColumns n spent s z.0) (Ok-injective is) are)
-columns-from w n spent (h ∷ heads) s front are c y is =
-    let next : Values × Reading → Item (List Values) = λ x. each_at (λ before h. values_at profile w h n (spent + values_in before)) (front ++ x.0 ∷ []) heads x.1 in
-    let p = parts (values_at profile w h n (spent + values_in front) c) next y is in
+columns-from {k = k} w n spent (h ∷ heads) s front are c y is =
+    let next : Values × Reading → Item (List Values) = λ x. each_at (λ before h. values_at (profile_numbered k) w h n (spent + values_in before)) (front ++ x.0 ∷ []) heads x.1 in
+    let p = parts (values_at (profile_numbered k) w h n (spent + values_in front) c) next y is in
     let here = values-column w h n (spent + values_in front) c p.0 p.1 in
     let shape : List (ℕ × ℕ) = (h.comps, h.dtype) ∷ [] in
     let sum = values_in-append front (p.0.0 ∷ []) in
@@ -92,19 +92,19 @@ shapes-behind before xs hs same = map-append (λ (h : Head). (h.comps, h.dtype))
 pub shapes-length : (xs hs : List Head) → shapes xs ≡ shapes hs → length xs ≡ length hs
 shapes-length xs hs same = sym (length-map xs (λ (h : Head). (h.comps, h.dtype))) ∙ ap length same ∙ length-map hs (λ (h : Head). (h.comps, h.dtype))
 
-decoders-typed : (n : ℕ) (ds : List DecoderHead) → All DecoderRead ds → (before : Attributes) → ArePart n before
+decoders-typed : {k : ℕ} (n : ℕ) (ds : List DecoderHead) → All DecoderRead ds → (before : Attributes) → ArePart n before
     → (c : Reading) (y : Attributes × Reading)
-    → decoders_values_at profile n before ds c ≡ Ok y → ArePart n y.0 × (length y.0.heads ≡ length before.heads + attributes_of ds)
+    → decoders_values_at (profile_numbered k) n before ds c ≡ Ok y → ArePart n y.0 × (length y.0.heads ≡ length before.heads + attributes_of ds)
 unfolding decoders_values_at decoder_values_at columns_at
-decoders-typed n [] read before are c y is =
+decoders-typed {k = k} n [] read before are c y is =
     let same : length before.heads ≡ length before.heads + 0 = omega arith in
     subst (λ (z : Attributes × Reading). ArePart n z.0 × (length z.0.heads ≡ length before.heads + 0)) (Ok-injective is) (are, same)
-decoders-typed n (d ∷ ds) read before are c y is =
+decoders-typed {k = k} n (d ∷ ds) read before are c y is =
     let spent = values_in before.values in
     let next : (List Values × DecoderHead) × Reading → Item Attributes =
-    λ x. decoders_values_at profile n (record { heads = before.heads ++ x.0.1.heads; values = before.values ++ x.0.0 }) ds x.1 in
-    let p = parts (decoder_values_at profile None d n spent c) next y is in
-    let q = parts (columns_at profile None d.heads n spent c) _ p.0 p.1 in
+    λ x. decoders_values_at (profile_numbered k) n (record { heads = before.heads ++ x.0.1.heads; values = before.values ++ x.0.0 }) ds x.1 in
+    let p = parts (decoder_values_at (profile_numbered k) None d n spent c) next y is in
+    let q = parts (columns_at (profile_numbered k) None d.heads n spent c) _ p.0 p.1 in
     let r = parts (quants_at d.heads q.0.1) _ p.0 q.2 in
     let passes = (All-head DecoderRead d ds read).heads in
     let none : AreColumns n spent [] [] = record { typed = tt; few = omega (arith, are.few) } in
@@ -119,7 +119,7 @@ decoders-typed n (d ∷ ds) read before are c y is =
     } in
     let long : length r.0.0 ≡ length d.heads = shapes-length r.0.0 d.heads heads.same in
     let made : (List Values × DecoderHead) × Reading = ((q.0.0, record d { heads = r.0.0 }), r.0.1) in
-    let behind : decoders_values_at profile n all ds r.0.1 ≡ Ok y = gives-same next made p.0 y r.2 p.2 in
+    let behind : decoders_values_at (profile_numbered k) n all ds r.0.1 ≡ Ok y = gives-same next made p.0 y r.2 p.2 in
     let rest = decoders-typed n ds (All-tail DecoderRead d ds read) all more r.0.1 y behind in
     let sum = sum_by-cons (λ (x : DecoderHead). length x.heads) d ds in
     (rest.0, rest.1 ∙ omega (arith, length-append before.heads r.0.0, long, sum))
@@ -130,11 +130,11 @@ record AreAttributes (n : ℕ) (a : Attributes) : Type 0 where
   typed : AreTyped n (shapes a.heads) a.values
   few : values_in a.values ≤ MAX_VALUES
 
-attributes-passed : (n : ℕ) (c : Reading) (y : Attributes × Reading) → sequential_attributes_at profile n c ≡ Ok y → AreAttributes n y.0
+attributes-passed : {k : ℕ} (n : ℕ) (c : Reading) (y : Attributes × Reading) → sequential_attributes_at (profile_numbered k) n c ≡ Ok y → AreAttributes n y.0
 unfolding sequential_attributes_at
-attributes-passed n c y is =
+attributes-passed {k = k} n c y is =
     let none : Attributes = record { heads = []; values = [] } in
-    let p = parts (heads_at None c) (λ d. decoders_values_at profile n none d.0 d.1) y is in
+    let p = parts (heads_at None c) (λ d. decoders_values_at (profile_numbered k) n none d.0 d.1) y is in
     let read = heads-passed c p.0 p.1 in
     let all = decoders-typed n p.0.0 read.each none (record { heads = All-nil IsHead; typed = tt; few = omega arith }) p.0.1 y p.2 in
     record {
@@ -228,7 +228,7 @@ rows-cells : (n : ℕ) (a : Attributes) → points_of n a ≡ cells_of (rows n a
 rows-cells n a = sym (flat_map-map (λ (row : List ℤ). row) (column_row a.heads (columns a.values)) (range_with_len 0 n))
 
 -- no cell is outside its type
-pub typed_pass : (n : ℕ) (c : Reading) (y : Attributes × Reading) → sequential_attributes_at profile n c ≡ Ok y → range_fault y.0.heads (points_of n y.0) ≡ None
+pub typed_pass : {k : ℕ} (n : ℕ) (c : Reading) (y : Attributes × Reading) → sequential_attributes_at (profile_numbered k) n c ≡ Ok y → range_fault y.0.heads (points_of n y.0) ≡ None
 typed_pass n c y is =
     let a = y.0 in
     let are = attributes-passed n c y is in

@@ -26,7 +26,7 @@ use Rattle.drc_container.specs.reading.Meaning.{Meaning, edgebreaker_info}
 use Rattle.drc_container.specs.writing.Written.{geometry_type, header_bytes}
 use Rattle.drc_container.specs.writing.WrittenOnSurface.{decoded, connectivity_of, decoder_heads_bytes, values_bytes_on, edgebreaker_bytes}
 use Rattle.drc_container.specs.writing.Encoded.{CanCodeSurface, SurfaceSpelled}
-use Rattle.drc_container.proofs.lemmas.reading.ProfileCounts.{assembled-two}
+use Rattle.drc_container.proofs.lemmas.reading.ProfileCounts.{assembled-all}
 use Rattle.drc_container.proofs.lemmas.writing.SurfaceWritten.{surface_place, heads_place, values_place, tables_written, mesh_written, info_before, meaning_before, meaning_written}
 use Rattle.drc_container.proofs.lemmas.writing.SurfaceConnectivity.{connectivity_written, connectivity-read}
 use Rattle.drc_container.proofs.lemmas.writing.SurfaceDecoders.{attributes_written, attributes-read}
@@ -110,7 +110,7 @@ surface-read coding m is can parts made more =
     let long : to - surface_place ≡ length (connectivity_of coding.valence m) = omega arith in
     ap (λ y. y >>= next) (attributes-read coding m is can parts to more)
     ∙ ap (λ (l : List Head). at_end end (assembled_in profile l (tables_written coding m) (length m.faces)) >>= of_mesh) (heads-numbered 0 m.heads)
-    ∙ ap (λ (r : Result MeshParts Fault). at_end end r >>= of_mesh) (assembled-two m.heads (tables_written coding m) (length m.faces) ∙ made)
+    ∙ ap (λ (r : Result MeshParts Fault). at_end end r >>= of_mesh) (assembled-all 2 m.heads (tables_written coding m) (length m.faces) ∙ made)
     ∙ ap (λ (n : ℕ). info_to coding m more n end) long
     ∙ ap (λ (n : ℕ). info_to coding m more (length (connectivity_of coding.valence m)) n) (end-is coding m)
 

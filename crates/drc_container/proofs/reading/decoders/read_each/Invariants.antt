@@ -1,4 +1,4 @@
-use Rattle.drc_base.specs.Profile.{profile}
+use Rattle.drc_base.specs.Profile.{profile_numbered}
 use Rattle.std.proofs.Common.{◌≡◌, ◌*◌, ◌≤◌, true, length, map}
 use Rattle.std.specs.List.{All}
 use Rattle.std.specs.Vec.Iter.{into_iter_items}
@@ -18,8 +18,8 @@ invariant-loop-decoder l =
     let tables = tables_on (classes_of s) l.values.items in
     record {
       rest :
-          surface_decoders_at profile s (record { heads = l.heads.items; tables = tables; info = l.info.items }) (into_iter_items l.decoder-iterator) l.c
-          ≡ surface_decoders_at profile s no_attributes l.fn.decoders.items l.fn.c;
+          surface_decoders_at (profile_numbered l.profile.number) s (record { heads = l.heads.items; tables = tables; info = l.info.items }) (into_iter_items l.decoder-iterator) l.c
+          ≡ surface_decoders_at (profile_numbered l.profile.number) s no_attributes l.fn.decoders.items l.fn.c;
       spent : l.spent ≡ values_on tables;
       few : l.spent ≤ MAX_VALUES;
       columns : AreAttrTables (3 * s.faces) l.heads.items tables;

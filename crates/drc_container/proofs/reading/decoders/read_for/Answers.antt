@@ -1,4 +1,4 @@
-use Rattle.drc_base.specs.Profile.{profile}
+use Rattle.drc_base.specs.Profile.{profile_numbered}
 use Rattle.std.proofs.Common.{List, get_or, ◌∙◌, ap, subst}
 use Rattle.drc_bits.specs.Reading.{Gives}
 use Rattle.corner_table.specs.Ordered.{Ordered}
@@ -16,5 +16,5 @@ returns-clause-item c =
     let block = c.seams_of-block.ensures ∙ ap (λ (l : List Block). get_or l c.in-Some.id no_block) c.as_slice.ensures.items in
     let cut = ordered-seams s c.args.decoder c.in-Some.id c.seams_of-block.result c.table.result.now
     c.if-decoder.true c.in-Some.is block (ap (λ (t : Table). t.faces) c.table.ensures) (ap gluing_of c.table.ensures) in
-    subst (λ (w : Ordered). Gives (decoder_read_on (classes_of s)) (decoder_on profile w c.args.decoder c.args.spent.now c.args.c.now) c.read_on_cut.new.c c.read_on_cut.result)
+    subst (λ (w : Ordered). Gives (decoder_read_on (classes_of s)) (decoder_on (profile_numbered c.args.profile.number) w c.args.decoder c.args.spent.now c.args.c.now) c.read_on_cut.new.c c.read_on_cut.result)
     cut (c.read_on_cut.ensures.item (classes_of s))

@@ -1,4 +1,4 @@
-use Rattle.drc_base.specs.Profile.{profile}
+use Rattle.drc_base.specs.Profile.{profile_numbered}
 use Rattle.std.proofs.Common.{◌≡◌, ◌+◌, ◌*◌, ℕ, Some, Ok, sym, ◌∙◌, ap, subst}
 use Rattle.std.proofs.lemmas.Result.{err_from_is_err_and}
 use Rattle.drc_base.specs.Refusals.{Refuses}
@@ -23,12 +23,12 @@ pub returns-in_err-read-clause-item : goal.returns-in_err-read-clause-item
 returns-in_err-read-clause-item c whole =
     let p = err_from_is_err_and c.from_residual-in_err-read.result c.from_residual-in_err-read.ensures.1 in
     let at = cut-is (goal.at.returns-in_err-read-clause-item c).In_ok-cut in
-    rw (p.1, p.2) (subst (λ (w : Ordered). Refuses (decoder_on profile w c.args.decoder c.args.spent.now c.args.c.now) c.in_err-read.field-0.0) at c.in_err-read.ensures.item)
+    rw (p.1, p.2) (subst (λ (w : Ordered). Refuses (decoder_on (profile_numbered c.args.profile.number) w c.args.decoder c.args.spent.now c.args.c.now) c.in_err-read.field-0.0) at c.in_err-read.ensures.item)
 
 pub returns-clause-item : goal.returns-clause-item
 returns-clause-item c whole =
     let at = cut-is (goal.at.returns-clause-item c).In_ok-cut in
-    ap (λ (w : Ordered). decoder_on profile w c.args.decoder c.args.spent.now c.args.c.now) (sym at)
+    ap (λ (w : Ordered). decoder_on (profile_numbered c.args.profile.number) w c.args.decoder c.args.spent.now c.args.c.now) (sym at)
     ∙ c.in_ok-read.ensures.item
     ∙ ap (λ (r : DecoderRead). Ok (decoder_read_on whole r, c.read_over.new.c)) (sym c.over_cut.ensures)
 

@@ -1,4 +1,4 @@
-use Rattle.drc_base.specs.Profile.{profile}
+use Rattle.drc_base.specs.Profile.{profile_numbered}
 use Rattle.std.proofs.Common.{◌≡◌, ◌+◌, ◌*◌, ℕ, List, sym, subst}
 use Rattle.std.specs.Prelude.{IfOk}
 use Rattle.drc_bits.specs.Reading.{Gives}
@@ -24,7 +24,7 @@ returns-clause-item c =
     let is = whole (goal.at.returns-clause-item c).After-read_over in
     let classes = built_classes c.args.sides.now in
     let d = c.args.decoder in
-    subst (λ (t : Table). Gives (decoder_read_on classes) (decoder_on profile (ordered_by d.degree t.faces (gluing_of t)) d c.args.spent.now c.args.c.now) c.read_over.new.c c.read_over.result)
+    subst (λ (t : Table). Gives (decoder_read_on classes) (decoder_on (profile_numbered c.args.profile.number) (ordered_by d.degree t.faces (gluing_of t)) d c.args.spent.now c.args.c.now) c.read_over.new.c c.read_over.result)
     c.table-table.ensures
     (gives-whole classes c.classes-labels.result.now.of_corner _ c.read_over.new.c c.read_over.result is c.read_over.ensures.whole c.read_over.ensures.item)
 
