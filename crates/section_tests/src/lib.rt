@@ -1,6 +1,6 @@
-//! Tests of the sections of a stream: of the crates `seq_section`, `eb_section` and `attr_section`, each in files of its name. They
-//! try what no clause says: that the calls answer with ample memory, and give the bytes, surfaces and values that were worked out by
-//! hand or by plain programs.
+//! Tests of the sections of a stream: of the crates `seq_section`, `eb_section`, `attr_section` and `octahedron`, each in files of
+//! its name. They try what no clause says: that the calls answer with ample memory, and give the bytes, surfaces and values that
+//! were worked out by hand or by plain programs.
 #![tactic(auto)]
 
 #[cfg(test)]
@@ -15,5 +15,7 @@ mod eb_section_reading_tests;
 mod eb_section_writing_tests;
 #[cfg(test)]
 mod faults;
+#[cfg(test)]
+mod octahedron_tests;
 #[cfg(test)]
 mod seq_section_tests;
