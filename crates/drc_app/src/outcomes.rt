@@ -207,7 +207,7 @@ fn stream_packed(alloc: Global, stream: Vec<u8>) -> Result<Geometry, Refusal>
     ensures answer { Answers (λ g. g) (meaning_of stream.items) result }
     ensures early { (f : AnyFault) → declared_of stream.items ≡ Err f → result ≡ Err (refusal.Fault f) }
 {
-    decode_packed(alloc, &stream)
+    decode_packed(alloc, &stream, PROFILE_TWO)
 }
 
 /// The report on a stream, and no note.
@@ -216,7 +216,7 @@ fn report_due(alloc: Global, stream: &[u8]) -> Result<Due, Refusal>
     ensures answer { Answers due_bytes (report_due stream.now) result }
     ensures early { (f : AnyFault) → declared_of stream.now ≡ Err f → result ≡ Err (refusal.Fault f) }
 {
-    let output = report(alloc, stream)?;
+    let output = report(alloc, stream, PROFILE_TWO)?;
     Ok(Due {
         output: Output::Bytes(output),
         note: Vec::new(alloc),

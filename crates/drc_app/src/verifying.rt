@@ -13,7 +13,7 @@ ghost use Rattle.drc_app.specs.declared.commands.Command.TheVariants as Command;
 use crate::map_inputs::behind_map;
 use crate::outcomes::{Answer, Due, Output};
 use decimal_text::append_number;
-use drc_base::{Fault, Kind, Memory, Refusal};
+use drc_base::{Fault, Kind, Memory, PROFILE_TWO, Refusal};
 use drc_verify::{Verdict, verify_read};
 use mesh_model::{read_map, read_number};
 use ply_mesh::read_ply;
@@ -61,7 +61,7 @@ fn given_by(alloc: Global, count: u64, verdict: Verdict) -> Result<Answer, Memor
 
 /// Whether the stream in an input is the geometry of the text in it by the rows of the map in it, and with
 /// `surface` whether it is glued as that: the line of a yes and no note, or the verdict.
-#[tactic(auto, unfolding(crate::specs::Verified::parts_of, crate::specs::Verified::verified_input, drc_verify::specs::Checked::verdict_due))]
+#[tactic(auto, unfolding(crate::specs::Verified::parts_of, crate::specs::Verified::verified_input, drc_verify::specs::Checked::verdict_in))]
 pub fn verified(alloc: Global, surface: bool, input: Vec<u8>) -> Result<Answer, Refusal>
     ensures answer { Answers seen (verified_input surface input.items) result }
     ensures early { (f : AnyFault) → limited_head_at input.items ≡ Err f → result ≡ Err (refusal.Fault f) }
@@ -78,6 +78,6 @@ pub fn verified(alloc: Global, surface: bool, input: Vec<u8>) -> Result<Answer, 
     let stream = Vec::from_slice(alloc, stream)?;
     // The text is the largest part, and nothing needs it any more.
     drop(input);
-    let verdict = verify_read(alloc, &map, &geometry, &stream, surface)?;
+    let verdict = verify_read(alloc, &map, &geometry, &stream, surface, PROFILE_TWO)?;
     Ok(given_by(alloc, count, verdict)?)
 }

@@ -18,7 +18,7 @@ use crate::options::flag_numbered;
 use crate::statuses::{BAD_ARGUMENT, DONE, NO_MEMORY, NOT_SAME, REFUSED};
 use crate::streams::{DrcRow, map_meant};
 use crate::verdicts::{DrcVerdict, tell};
-use drc_base::Refusal;
+use drc_base::{PROFILE_TWO, Refusal};
 use drc_verify::{Verdict, verify_read};
 use std::alloc::Global;
 
@@ -42,7 +42,7 @@ fn verify_arrays(
 {
     let g = geometry_meant(alloc, mesh, heads, corners, values)?;
     let map = map_meant(alloc, mesh == CLOUD, rows)?;
-    verify_read(alloc, &map, &g, bytes, surface)
+    verify_read(alloc, &map, &g, bytes, surface, PROFILE_TWO)
 }
 
 /// Whether surfaces are asked for, of arrays that fit each other.

@@ -1,5 +1,5 @@
 -- What holds of every sequential stream that is read: what is read as a mesh or a cloud is one (this project's choice).
-use Rattle.drc_base.specs.Profile.{profile}
+use Rattle.drc_base.specs.Profile.{profile_numbered}
 use Rattle.std.specs.Prelude.{◌≡◌, ℕ, Ok, None}
 use Rattle.drc_bits.specs.Reading.{Reading}
 use Rattle.mesh_model.specs.Parts.{mesh_fault, cloud_fault}
@@ -11,12 +11,12 @@ use Rattle.drc_container.specs.reading.Stream.{sequential_attributes_at, points_
 
 -- indices and attributes that were read one behind the other pass each test of a mesh
 abbrev pub MeshesPass : Type 0
-MeshesPass = (c d e : Reading) (indices : SeqRead) (a : Attributes)
-    → indices_at profile c ≡ Ok (indices, d) → sequential_attributes_at profile indices.points d ≡ Ok (a, e)
+MeshesPass = (k : ℕ) (c d e : Reading) (indices : SeqRead) (a : Attributes)
+    → indices_at (profile_numbered k) c ≡ Ok (indices, d) → sequential_attributes_at (profile_numbered k) indices.points d ≡ Ok (a, e)
     → mesh_fault a.heads (points_of indices.points a) indices.faces ≡ None
 
 -- a number of points and attributes that were read one behind the other pass each test of a cloud
 abbrev pub CloudsPass : Type 0
-CloudsPass = (c d e : Reading) (points : ℕ) (a : Attributes)
-    → cloud_points_at profile c ≡ Ok (points, d) → sequential_attributes_at profile points d ≡ Ok (a, e)
+CloudsPass = (k : ℕ) (c d e : Reading) (points : ℕ) (a : Attributes)
+    → cloud_points_at (profile_numbered k) c ≡ Ok (points, d) → sequential_attributes_at (profile_numbered k) points d ≡ Ok (a, e)
     → cloud_fault a.heads (points_of points a) ≡ None

@@ -1,12 +1,12 @@
 //! The header of a stream.
 
 ghost use Rattle.drc_base.specs.Profile.{profile_numbered};
-ghost use Rattle.std.specs.Prelude.{◌≡◌, ℕ, ◌++◌, Err, OnOk};
+ghost use Rattle.std.specs.Prelude.{◌≡◌, ◌++◌, Err, OnOk};
 ghost use Rattle.drc_bits.specs.Reading.{Reads};
 ghost use Rattle.drc_container.specs.Header.{magic, magic_at, header_at, form_said, minor_of, greatest_method, form_of, cloud_points_at};
 ghost use Rattle.drc_container.specs.writing.Written.{header_of_type};
 
-use drc_base::{Fault, Kind, MAX_POINTS, Memory};
+use drc_base::{Fault, Kind, MAX_POINTS, Memory, Profile};
 use drc_bits::Cursor;
 
 /// The forms of streams that a header distinguishes.
@@ -151,9 +151,9 @@ pub fn put_header(out: &mut Vec<u8>, geometry: u8, method: u8) -> Result<(), Mem
     Ok(())
 }
 
-/// Reads the number of points of a cloud.
-pub fn read_cloud_points(c: &mut Cursor<'_>) -> Result<u32, Fault>
-    ensures { (k : ℕ) → Reads (λ n. n) (cloud_points_at (profile_numbered k) c.old) c.new result }
+/// Reads the number of points of a cloud, of which each profile of these limits takes as many.
+pub fn read_cloud_points(c: &mut Cursor<'_>, _profile: Profile) -> Result<u32, Fault>
+    ensures { Reads (λ n. n) (cloud_points_at (profile_numbered _profile.number) c.old) c.new result }
 {
     let fault = c.fault(Kind::PointLimit);
     let points = c.get_u32()?;

@@ -2,11 +2,12 @@
 use Rattle.std.specs.Prelude.{ℕ, ◌+◌, List, [], ◌∷◌, ◌++◌, length, codes, decimal, Result, Ok}
 use Rattle.std.specs.List.{flat_map}
 use Rattle.std.specs.Fmt.{signed_decimal}
+use Rattle.drc_base.specs.Profile.{Profile, profile}
 use Rattle.drc_base.specs.declared.faults.Fault.{Fault}
 use Rattle.drc_base.specs.Steps.{◌>>=◌}
 use Rattle.mesh_model.specs.declared.geometries.Geometry.{Geometry}
 use Rattle.mesh_model.specs.declared.geometries.Geometry.TheVariants as geometry
-use Rattle.drc_container.specs.reading.Stream.{stream}
+use Rattle.drc_container.specs.reading.Stream.{stream_in}
 use Rattle.drc_container.specs.declared.choice.methods.Method.{Method}
 use Rattle.drc_container.specs.declared.choice.methods.Method.TheVariants as method
 use Rattle.drc_container.specs.declared.reading.info.AttrInfo.{AttrInfo}
@@ -82,6 +83,10 @@ end_line info = field (codes "end") (info.end ∷ []) ++ line (codes " rest") (i
 unfoldable pub info_text : Meaning → List ℕ
 info_text d = info_first_lines d ++ count_lines d ++ attr_lines 0 d.info.attrs ++ end_line d.info
 
--- the report of a stream, or its first fault
+-- the report of a stream in a profile, or its first fault
+abbrev pub report_in : Profile → List ℕ → Result (List ℕ) Fault
+report_in p bytes = stream_in p bytes >>= λ d. Ok (info_text d)
+
+-- the same in the profile of decoding
 abbrev pub report_of : List ℕ → Result (List ℕ) Fault
-report_of bytes = stream bytes >>= λ d. Ok (info_text d)
+report_of bytes = report_in profile bytes

@@ -4,28 +4,29 @@ ghost use Rattle.std.specs.Prelude.{◌≡◌, ◌++◌, ◌∷◌, [], codes, E
 ghost use Rattle.std.specs.Fmt.{signed_decimal};
 ghost use Rattle.drc_base.specs.declared.faults.Fault.{Fault as AnyFault};
 ghost use Rattle.drc_base.specs.declared.faults.Refusal.TheVariants as refusal;
+ghost use Rattle.drc_base.specs.Profile.{profile_numbered};
 ghost use Rattle.drc_base.specs.Refusals.{Answers};
 ghost use Rattle.drc_container.specs.reading.Meaning.{told_by};
 ghost use Rattle.drc_container.specs.reading.Stream.{declared_of};
-ghost use Rattle.drc_info.specs.InfoText.{field, line, mesh_words, form_words, face_count, point_count, declared_line, info_attr_line, attr_lines, info_first_lines, count_lines, end_line, info_text, report_of};
+ghost use Rattle.drc_info.specs.InfoText.{field, line, mesh_words, form_words, face_count, point_count, declared_line, info_attr_line, attr_lines, info_first_lines, count_lines, end_line, info_text, report_in};
 
 use crate::lines::put_field;
-use drc_base::{Memory, PROFILE_TWO, Refusal};
+use drc_base::{Memory, Profile, Refusal};
 use drc_container::{AttrInfo, Decoded, Method, StreamInfo, decode_whole};
 use itoa::Buffer;
 use mesh_model::Geometry;
 use std::alloc::Global;
 
-/// The report of a stream, each line with LF: its version, geometry and method; the place of its
+/// The report of a stream in a profile, each line with LF: its version, geometry and method; the place of its
 /// connectivity and its length, in bytes; its faces and points; for Edgebreaker the declared symbols,
 /// splits and events; for each attribute its head, prediction and entries, and the place of its
 /// prediction; the place of its end, and how many bytes follow. It refuses what `decode` refuses, by
 /// the same first fault; those of what the stream declares come before out of memory.
-pub fn report(alloc: Global, bytes: &[u8]) -> Result<Vec<u8>, Refusal>
-    ensures text { Answers (λ v. v.items) (report_of bytes.now) result }
+pub fn report(alloc: Global, bytes: &[u8], profile: Profile) -> Result<Vec<u8>, Refusal>
+    ensures text { Answers (λ v. v.items) (report_in (profile_numbered profile.number) bytes.now) result }
     ensures early { (f : AnyFault) → declared_of bytes.now ≡ Err f → result ≡ Err (refusal.Fault f) }
 {
-    let decoded = decode_whole(alloc, bytes, PROFILE_TWO)?;
+    let decoded = decode_whole(alloc, bytes, profile)?;
     Ok(info_text(alloc, &decoded)?)
 }
 

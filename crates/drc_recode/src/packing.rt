@@ -6,11 +6,12 @@
 ghost use Rattle.std.specs.Prelude.{◌≡◌, Err, IfOk};
 ghost use Rattle.drc_base.specs.declared.faults.Fault.{Fault as AnyFault};
 ghost use Rattle.drc_base.specs.declared.faults.Refusal.TheVariants as refusal;
+ghost use Rattle.drc_base.specs.Profile.{profile_numbered};
 ghost use Rattle.drc_base.specs.Refusals.{Answers};
-ghost use Rattle.drc_container.specs.reading.Stream.{meaning_of, declared_of};
+ghost use Rattle.drc_container.specs.reading.Stream.{meaning_in, declared_of};
 
 use crate::reordering::copies_of;
-use drc_base::{Memory, PROFILE_TWO, Refusal};
+use drc_base::{Memory, Profile, Refusal};
 use drc_container::decode;
 use mesh_model::{CornerMesh, Geometry};
 use std::alloc::Global;
@@ -35,13 +36,13 @@ fn packed(alloc: Global, g: Geometry) -> Result<Geometry, Memory>
     }
 }
 
-/// The geometry that a stream means, or its first fault, as `drc_container::decode`: for encoding it again, which
+/// The geometry that a stream means in a profile, or its first fault, as `drc_container::decode`: for encoding it again, which
 /// takes less memory beside it than beside what `decode` gives.
-pub fn decode_packed(alloc: Global, bytes: &[u8]) -> Result<Geometry, Refusal>
-    ensures meaning { Answers (λ g. g) (meaning_of bytes.now) result }
+pub fn decode_packed(alloc: Global, bytes: &[u8], profile: Profile) -> Result<Geometry, Refusal>
+    ensures meaning { Answers (λ g. g) (meaning_in (profile_numbered profile.number) bytes.now) result }
     ensures early { (f : AnyFault) → declared_of bytes.now ≡ Err f → result ≡ Err (refusal.Fault f) }
 {
-    let geometry = decode(alloc, bytes, PROFILE_TWO)?;
+    let geometry = decode(alloc, bytes, profile)?;
     let geometry = packed(alloc, geometry)?;
     Ok(geometry)
 }

@@ -10,7 +10,7 @@ ghost use Rattle.drc_container.specs.reading.Stream.{meaning_of, declared_of};
 ghost use Rattle.drc_recode.specs.Recoded.{recoded};
 
 use crate::packing::decode_packed;
-use drc_base::Refusal;
+use drc_base::{PROFILE_TWO, Refusal};
 use drc_container::{Choice, encode};
 use mesh_model::Renumber;
 use std::alloc::Global;
@@ -29,6 +29,6 @@ pub fn recode(alloc: Global, bytes: &[u8], choice: &Choice) -> Result<(Vec<u8>, 
     ensures means { IfOk result (λ r. IsOkAnd (meaning_of bytes.now) (λ g. Means g choice.now r.0.items r.1.rows)) }
     ensures layout { IfOk result (λ r. IsOkAnd (meaning_of bytes.now) (λ g. layout_of r.0.items ≡ Ok (layout_chosen g choice.now))) }
 {
-    let geometry = decode_packed(alloc, bytes)?;
+    let geometry = decode_packed(alloc, bytes, PROFILE_TWO)?;
     encode(alloc, &geometry, choice)
 }

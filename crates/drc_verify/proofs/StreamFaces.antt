@@ -3,7 +3,7 @@ use Rattle.std.proofs.Common.{◌≡◌, ℕ, ◌*◌, Option, None, Some, Resul
 use Rattle.std.specs.List.{zip}
 use Rattle.std.proofs.lemmas.List.FromFn.{length-map-range_with_len}
 use Rattle.drc_base.specs.declared.faults.Fault.{Fault}
-use Rattle.drc_base.specs.Profile.{Profile, profile}
+use Rattle.drc_base.specs.Profile.{Profile}
 use Rattle.drc_bits.specs.Reading.{Reading, start_of}
 use Rattle.drc_bits.proofs.Results.{Ok-injective, err≢ok}
 use Rattle.attr_heads.specs.FirstFault.{value_unless}
@@ -87,6 +87,6 @@ body-has p form.Cloud c d is = cloud-has p c d is
 
 pub surface-has-faces : SurfaceHasFaces
 unfolding stream_in
-surface-has-faces bytes d is =
+surface-has-faces p bytes d is =
     let a = parts (header_at (start_of bytes)) _ d is in
-    body-has profile a.0.0 a.0.1 d a.2
+    body-has p a.0.0 a.0.1 d a.2

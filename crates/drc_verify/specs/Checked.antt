@@ -2,6 +2,7 @@
 use Rattle.std.specs.Prelude.{◌≡◌, ℕ, ◌*◌, ◌==◌, Bool, true, false, List, [], ◌∷◌, length, Option, None, Some, Result, Ok, Err}
 use Rattle.drc_base.specs.declared.faults.Fault.{Fault}
 use Rattle.drc_base.specs.declared.kinds.Kind.TheVariants.{Choice, NoPosition}
+use Rattle.drc_base.specs.Profile.{Profile, profile}
 use Rattle.drc_base.specs.Steps.{◌>>=◌}
 use Rattle.attr_heads.specs.declared.heads.Head.{Head}
 use Rattle.mesh_model.specs.declared.geometries.Geometry.{Geometry}
@@ -17,7 +18,7 @@ use Rattle.pairing.specs.CarriedPairs.{carried}
 use Rattle.pairing.specs.Degenerate.{degenerate_fault}
 use Rattle.ply_mesh.specs.Read.{ply_read}
 use Rattle.drc_container.specs.reading.Meaning.{Surface, Meaning}
-use Rattle.drc_container.specs.reading.Stream.{stream}
+use Rattle.drc_container.specs.reading.Stream.{stream_in}
 use Rattle.drc_verify.specs.declared.verdicts.Verdict.{Verdict}
 use Rattle.drc_verify.specs.declared.verdicts.Verdict.TheVariants as verdict
 use Rattle.drc_verify.specs.Judged.{rows_verdict, AreOneKind}
@@ -82,16 +83,24 @@ abbrev pub verdict_asked : Bool → Bool → Rows → Geometry → Meaning → R
 verdict_asked false cloud rows g n = Ok (rows_verdict cloud g n.geometry rows)
 verdict_asked true cloud rows g n = surface_verdict cloud rows g n
 
--- what is due of the rows of a map of a cloud or of a mesh, the geometry of a text, and a stream: the verdict on the geometry that this
--- means, or its first fault
+-- what is due of the rows of a map of a cloud or of a mesh, the geometry of a text, and a stream in a profile: the verdict on the geometry
+-- that this means, or its first fault
+abbrev pub read_in : Profile → Bool → Bool → Rows → Geometry → List ℕ → Result Verdict Fault
+read_in p surface cloud rows g bytes = stream_in p bytes >>= λ n. verdict_asked surface cloud rows g n
+
+-- the same in the profile of decoding
 abbrev pub read_due : Bool → Bool → Rows → Geometry → List ℕ → Result Verdict Fault
-read_due surface cloud rows g bytes = stream bytes >>= λ n. verdict_asked surface cloud rows g n
+read_due surface cloud rows g bytes = read_in profile surface cloud rows g bytes
 
 -- what is due of a text in place of its geometry: the verdict, or the first fault of both
-unfoldable pub verdict_due : Bool → Bool → Rows → List ℕ → List ℕ → Result Verdict Fault
-verdict_due surface cloud rows text bytes = do
+unfoldable pub verdict_in : Profile → Bool → Bool → Rows → List ℕ → List ℕ → Result Verdict Fault
+verdict_in p surface cloud rows text bytes = do
   g ← ply_read text
-  read_due surface cloud rows g bytes
+  read_in p surface cloud rows g bytes
+
+-- the same in the profile of decoding
+abbrev pub verdict_due : Bool → Bool → Rows → List ℕ → List ℕ → Result Verdict Fault
+verdict_due surface cloud rows text bytes = verdict_in profile surface cloud rows text bytes
 
 -- ---- what a yes means
 
@@ -112,4 +121,4 @@ pub record HasFaces (n : Meaning) : Type 0 where
   pub faces : (s : Surface) → n.surface ≡ Some s → length (faces_in n.geometry) ≡ s.faces
 
 abbrev pub SurfaceHasFaces : Type 0
-SurfaceHasFaces = (bytes : List ℕ) (n : Meaning) → stream bytes ≡ Ok n → HasFaces n
+SurfaceHasFaces = (p : Profile) (bytes : List ℕ) (n : Meaning) → stream_in p bytes ≡ Ok n → HasFaces n

@@ -1,7 +1,7 @@
 //! What no contract can say: that the report is given with ample memory, and that its lines are the ones
 //! meant, on streams that were worked by hand.
 
-use drc_base::{Fault, Kind, Refusal};
+use drc_base::{Fault, Kind, PROFILE_TWO, Refusal};
 use drc_info::report;
 use std::process::Abort;
 use std::test::Fail;
@@ -50,7 +50,7 @@ static REPORTS: [(&[u8], &str); 3] = [
 #[test]
 fn reports_of_streams(rt: HostRuntime) -> Result<(), Fail> {
     for (bytes, text) in REPORTS.iter() {
-        let given = report(rt.alloc(), bytes)?;
+        let given = report(rt.alloc(), bytes, PROFILE_TWO)?;
         assert_eq!(rt; given.as_slice(), text.as_bytes());
     }
     Ok(())
@@ -58,7 +58,7 @@ fn reports_of_streams(rt: HostRuntime) -> Result<(), Fail> {
 
 /// A stream has no report, for this fault.
 fn is_refused(rt: &(impl Abort + AllocGlobal), bytes: &[u8], kind: Kind, at: u64) {
-    let given = report(rt.alloc(), bytes).err();
+    let given = report(rt.alloc(), bytes, PROFILE_TWO).err();
     assert!(rt; given == Some(Refusal::Fault(Fault { kind, at })));
 }
 

@@ -166,21 +166,21 @@ const RESTORED_FACES: [[u32; 3]; 4] = [[0, 2, 3], [0, 3, 1], [3, 2, 1], [0, 1, 2
 
 #[test]
 fn a_mesh_read_for_encoding(rt: HostRuntime) -> Result<(), Fail> {
-    let mesh = decode_packed(rt.alloc(), &TETRAHEDRON)?;
+    let mesh = decode_packed(rt.alloc(), &TETRAHEDRON, PROFILE_TWO)?;
     assert!(rt; is_mesh(&mesh, &SOLID_POINTS, &SOLID_FACES));
     Ok(())
 }
 
 #[test]
 fn a_cloud_read_for_encoding(rt: HostRuntime) -> Result<(), Fail> {
-    let cloud = decode_packed(rt.alloc(), &CLOUD)?;
+    let cloud = decode_packed(rt.alloc(), &CLOUD, PROFILE_TWO)?;
     assert!(rt; is_cloud(&cloud, &[5, 5, 5, 5, 5, 5, 5, 5, 6]));
     Ok(())
 }
 
 #[test]
 fn a_cut_stream_is_not_read_for_encoding(rt: HostRuntime) {
-    let refused = decode_packed(rt.alloc(), &CLOUD[..40]).err();
+    let refused = decode_packed(rt.alloc(), &CLOUD[..40], PROFILE_TWO).err();
     is_fault(&rt, refused, Kind::Short, 40);
 }
 

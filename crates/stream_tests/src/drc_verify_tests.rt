@@ -1,7 +1,7 @@
 //! What no contract can say: that the check succeeds, and that the definitions are the ones meant, on
 //! maps, texts and streams worked by hand.
 
-use drc_base::{Fault, Kind, Refusal, Sequence};
+use drc_base::{Fault, Kind, PROFILE_TWO, Refusal, Sequence};
 use drc_verify::{Verdict, verify, verify_read};
 use mesh_model::{MapRead, Renumber};
 use ply_mesh::read_ply;
@@ -169,7 +169,7 @@ fn check(
     surface: bool,
 ) -> Result<Verdict, Refusal> {
     let map = map_of(alloc, cloud, rows)?;
-    verify(alloc, &map, text.as_bytes(), stream, surface)
+    verify(alloc, &map, text.as_bytes(), stream, surface, PROFILE_TWO)
 }
 
 /// A check gave this verdict.
@@ -272,7 +272,7 @@ fn judges_the_pairs(rt: HostRuntime) {
 fn check_read(alloc: Global, surface: bool) -> Result<Verdict, Refusal> {
     let map = map_of(alloc, false, PLAIN)?;
     let geometry = read_ply(alloc, SQUARE.as_bytes())?;
-    verify_read(alloc, &map, &geometry, &APART, surface)
+    verify_read(alloc, &map, &geometry, &APART, surface, PROFILE_TWO)
 }
 
 #[test]

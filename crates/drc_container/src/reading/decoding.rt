@@ -1,7 +1,7 @@
 //! Decoding a whole stream.
 
 ghost use Rattle.drc_base.specs.Profile.{profile_numbered, profile as limits};
-ghost use Rattle.std.specs.Prelude.{◌≡◌, ℕ, None, Err, IfOk, IfSome, IsTrue};
+ghost use Rattle.std.specs.Prelude.{◌≡◌, None, Err, IfOk, IfSome, IsTrue};
 ghost use Rattle.drc_base.specs.declared.faults.Fault.{Fault as AnyFault};
 ghost use Rattle.drc_base.specs.declared.faults.Refusal.TheVariants as refusal;
 ghost use Rattle.drc_base.specs.Refusals.{Answers};
@@ -24,7 +24,7 @@ use mesh_model::{Cloud, CornerMesh, Geometry};
 use seq_section::{SeqRead, read_indices};
 use std::alloc::Global;
 
-/// The geometry that a stream means, or its first fault, whose `at` is a place but for the kinds that
+/// The geometry that a stream means in a profile, or its first fault, whose `at` is a place but for the kinds that
 /// say otherwise. Bytes after the stream's end are ignored. Faults of the header, of the two numbers
 /// and the method of sequential connectivity, of the numbers that Edgebreaker connectivity declares, and of
 /// a cloud's numbers of points, of decoders and of the first one's attributes, come before out of memory.
@@ -54,7 +54,7 @@ fn geometry_alone(read: Result<Decoded, Refusal>) -> Result<Geometry, Refusal>
     Ok(geometry)
 }
 
-/// The geometry that a stream means, the surface of an Edgebreaker mesh, which was rebuilt by links, and
+/// The geometry that a stream means in a profile, the surface of an Edgebreaker mesh, which was rebuilt by links, and
 /// what is known of the stream; or its first fault, as `decode`.
 #[tactic(auto, unfolding(crate::specs::reading::Stream::stream_in))]
 pub fn decode_whole(
@@ -111,9 +111,9 @@ fn read_points(
     })
 }
 
-/// Reads the indices of a sequential mesh, which are the same in each profile.
-fn read_faces(alloc: Global, c: &mut Cursor<'_>) -> Result<SeqRead, Refusal>
-    ensures indices { (n : ℕ) → Gives (λ r. r) (indices_at (profile_numbered n) c.old) c.new result }
+/// Reads the indices of a sequential mesh, which are the same in each profile of these limits.
+fn read_faces(alloc: Global, c: &mut Cursor<'_>, _profile: Profile) -> Result<SeqRead, Refusal>
+    ensures indices { Gives (λ r. r) (indices_at (profile_numbered _profile.number) c.old) c.new result }
     ensures early { (f : AnyFault) → indices_opening_at limits c.old ≡ Err f → result ≡ Err (refusal.Fault f) }
 {
     read_indices(alloc, c)
@@ -127,7 +127,7 @@ fn read_mesh(alloc: Global, c: &mut Cursor<'_>, profile: Profile) -> Result<Deco
     ensures early { (f : AnyFault) → indices_opening_at limits c.old ≡ Err f → result ≡ Err (refusal.Fault f) }
 {
     let from = c.place();
-    let indices = read_faces(alloc, c)?;
+    let indices = read_faces(alloc, c, profile)?;
     let PointsRead { heads, cells, info } = read_points(alloc, c, profile, from, indices.points)?;
     let faces = indices.faces.into_vec();
     let mesh = CornerMesh::of_typed(heads.into_vec(), cells.into_vec(), faces)?;
@@ -146,7 +146,7 @@ fn read_cloud(alloc: Global, c: &mut Cursor<'_>, profile: Profile) -> Result<Dec
     ensures early { (f : AnyFault) → cloud_declared_at limits c.old ≡ Err f → result ≡ Err (refusal.Fault f) }
 {
     let from = c.place();
-    let points = read_cloud_points(c)?;
+    let points = read_cloud_points(c, profile)?;
     let PointsRead { heads, cells, info } = read_points(alloc, c, profile, from, points)?;
     let cloud = Cloud::of_typed(heads.into_vec(), cells.into_vec())?;
     Ok(Decoded {

@@ -1,7 +1,7 @@
 //! Decoding an Edgebreaker mesh behind its header.
 
 ghost use Rattle.drc_base.specs.Profile.{profile_numbered, profile as limits};
-ghost use Rattle.std.specs.Prelude.{◌≡◌, ℕ, ◌*◌, ◌<◌, ◌≤◌, Err, IfOk, IfSome, IsTrue, length, map, All};
+ghost use Rattle.std.specs.Prelude.{◌≡◌, ◌*◌, ◌<◌, ◌≤◌, Err, IfOk, IfSome, IsTrue, length, map, All};
 ghost use Rattle.drc_base.specs.declared.faults.Fault.{Fault as AnyFault};
 ghost use Rattle.drc_base.specs.declared.faults.Refusal.TheVariants as refusal;
 ghost use Rattle.drc_base.specs.declared.limits.TheConstants.{MAX_FACES as most_faces};
@@ -63,7 +63,7 @@ pub fn read_edgebreaker(
     } = read_unassembled(alloc, c, profile)?;
     let faces = sides.table().face_count();
     let whole = classes_lent(&sides);
-    let mesh = assemble_on(alloc, info.end, faces, whole, heads, decoders.as_slice())?;
+    let mesh = assemble_on(alloc, profile, info.end, faces, whole, heads, decoders.as_slice())?;
     Ok(Decoded {
         geometry: Geometry::Mesh(mesh),
         sides: Some(sides),
@@ -91,6 +91,7 @@ pub fn read_edgebreaker_mesh(
     let whole = classes_alone(sides);
     let mesh = assemble_on(
         alloc,
+        profile,
         info.end,
         faces,
         whole.as_slice(),
@@ -136,20 +137,21 @@ fn read_unassembled(
     ensures vertices { IfOk result (λ r. All (HasVertices (3 * r.sides.table.faces)) (map (group_on (built_classes r.sides)) r.decoders)) }
 {
     let from = c.place();
-    let surface = read_surface::<Brand>(alloc, c, Blank::new(1))?;
+    let surface = read_surface::<Brand>(alloc, c, profile, Blank::new(1))?;
     read_behind(alloc, c, profile, from, surface)
 }
 
-/// Reads connectivity, under a count of table calls that nothing else takes part in.
+/// Reads connectivity, which is the same in each profile of these limits, under a count of table calls that nothing else takes part in.
 fn read_surface<'a, L: Ledger>(
     alloc: Global,
     c: &mut Cursor<'a>,
+    _profile: Profile,
     blank: Blank,
 ) -> Result<EbRead<'a>, Refusal>
     requires name { blank.name ≡ L.name }
     requires parts { blank.parts ≡ L.parts }
     requires some { 0 < L.parts }
-    ensures section { (n : ℕ) → Gives meaning (connectivity_at (profile_numbered n) c.old) c.new result }
+    ensures section { Gives meaning (connectivity_at (profile_numbered _profile.number) c.old) c.new result }
     ensures early { (f : AnyFault) → declared_at limits c.old ≡ Err f → result ≡ Err (refusal.Fault f) }
     ensures linked { IfOk result (λ r. IsTrue r.sides.linked) }
     ensures faces { IfOk result (λ r. r.sides.table.faces ≤ most_faces) }
@@ -194,6 +196,7 @@ fn read_behind(
 /// at the end of the stream, which stands at `end`.
 fn assemble_on(
     alloc: Global,
+    profile: Profile,
     end: u64,
     faces: u32,
     whole: &[u32],
@@ -202,15 +205,17 @@ fn assemble_on(
 ) -> Result<CornerMesh, Refusal>
     requires tables { AreTables heads (tables_on whole.now decoders.now) faces }
     requires vertices { All (HasVertices (3 * faces)) (map (group_on whole.now) decoders.now) }
-    ensures { (n : ℕ) → Answers (λ m. m) (at_end end (assembled_in (profile_numbered n) heads (tables_on whole.now decoders.now) faces)) result }
+    ensures { Answers (λ m. m) (at_end end (assembled_in (profile_numbered profile.number) heads (tables_on whole.now decoders.now) faces)) result }
 {
     let groups = groups_of(alloc, whole, decoders)?;
-    assemble_at(alloc, end, heads.into_vec(), groups.as_slice(), faces)
+    assemble_at(alloc, profile, end, heads.into_vec(), groups.as_slice(), faces)
 }
 
-/// The mesh of groups of attributes; its faults are at the end of the stream, which stands at `end`.
+/// The mesh of groups of attributes, which each profile of these limits accepts; its faults are at the end of the stream, which stands
+/// at `end`.
 fn assemble_at(
     alloc: Global,
+    _profile: Profile,
     end: u64,
     heads: Vec<Head>,
     groups: &[AttrGroup<'_>],
@@ -218,7 +223,7 @@ fn assemble_at(
 ) -> Result<CornerMesh, Refusal>
     requires tables { AreTables heads.items (group_tables groups.now) faces }
     requires vertices { All (HasVertices (3 * faces)) groups.now }
-    ensures { (n : ℕ) → Answers (λ m. m) (at_end end (assembled_in (profile_numbered n) heads.items (group_tables groups.now) faces)) result }
+    ensures { Answers (λ m. m) (at_end end (assembled_in (profile_numbered _profile.number) heads.items (group_tables groups.now) faces)) result }
 {
     match assemble(alloc, heads, groups, faces) {
         Ok(mesh) => Ok(mesh),

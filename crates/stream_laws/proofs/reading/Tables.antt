@@ -85,7 +85,7 @@ decoder-columns w d n spent few passes c y is =
     let q = parts (columns_at profile w d.heads n spent c) _ y is in
     let r = parts (quants_at d.heads q.0.1) _ y q.2 in
     let none : AreColumns n spent [] [] = record { typed = tt; few = omega (arith, few) } in
-    let here = columns-from w n spent d.heads [] [] none c q.0 q.1 in
+    let here = columns-from _ w n spent d.heads [] [] none c q.0 q.1 in
     let heads = quants-passed d.heads passes q.0.1 r.0 r.1 in
     let made : List Values × DecoderHead = (q.0.0, record d { heads = r.0.0 }) in
     given (λ (z : (List Values × DecoderHead) × Reading). IsDecoderRead n spent z.0) (made, r.0.1) y r.2
@@ -129,4 +129,4 @@ attributes-tables s read c y is =
     let none : AreOnSurface (3 * s.faces) no_attributes.heads no_attributes.tables =
     record { columns = record { each_head = refl; each_column = All-nil (IsAttrTable (3 * s.faces)) }; few = omega arith } in
     let all = decoders-placed s read.gluing p.0.0 heads.each no_attributes p.0.1 y p.2 none in
-    tables-whole s c p.0.1 y.1 p.0.0 y.0 p.1 p.2 read.few_faces all.columns
+    tables-whole _ s c p.0.1 y.1 p.0.0 y.0 p.1 p.2 read.few_faces all.columns

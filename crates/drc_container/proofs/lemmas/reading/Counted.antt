@@ -129,10 +129,10 @@ pub record IsColumn (n dtype : ℕ) (v : Values) : Type 0 where
   pub long : length v.values ≡ n
   pub typed : list_all (in_type dtype) v.values ≡ true
 
-typed-column : {k : ℕ} (w : Option Ordered) (h : Head) (n : ℕ) → n % h.comps ≡ 0 → (c : Reading) (y : Values × Reading)
+typed-column : (k : ℕ) (w : Option Ordered) (h : Head) (n : ℕ) → n % h.comps ≡ 0 → (c : Reading) (y : Values × Reading)
     → typed_values_at (profile_numbered k) w h n c ≡ Ok y → IsColumn n h.dtype y.0
 unfolding typed_values_at
-typed-column {k = k} w h n whole c y is =
+typed-column k w h n whole c y is =
     let p = parts (prediction_at (profile_numbered k) c) _ y is in
     let q = parts (predicted_at c.place w p.0.0 h.comps n p.0.1) _ y p.2 in
     let t = passed (list_all (in_type h.dtype) q.0.0) _ _ y q.2 in
@@ -141,9 +141,9 @@ typed-column {k = k} w h n whole c y is =
     given (λ (z : Values × Reading). IsColumn n h.dtype z.0) (v, q.0.1) y t.1 (record { long = long; typed = t.0 })
 
 -- the values of an attribute are a column within the limit
-pub values-column : {k : ℕ} (w : Option Ordered) (h : Head) (entries spent : ℕ) (c : Reading) (y : Values × Reading)
+pub values-column : (k : ℕ) (w : Option Ordered) (h : Head) (entries spent : ℕ) (c : Reading) (y : Values × Reading)
     → values_at (profile_numbered k) w h entries spent c ≡ Ok y → IsColumn (entries * h.comps) h.dtype y.0 × (spent + entries * h.comps ≤ MAX_VALUES)
 unfolding values_at
-values-column w h entries spent c y is =
+values-column k w h entries spent c y is =
     let t = passed (nat_le (spent + entries * h.comps) MAX_VALUES) _ _ y is in
-    (typed-column w h (entries * h.comps) (mul-mod_left entries h.comps) c y t.1, leb-true (spent + entries * h.comps) MAX_VALUES t.0)
+    (typed-column k w h (entries * h.comps) (mul-mod_left entries h.comps) c y t.1, leb-true (spent + entries * h.comps) MAX_VALUES t.0)

@@ -16,25 +16,25 @@ use Rattle.eb_section.specs.Connectivity.{Connectivity}
 use Rattle.drc_container.specs.reading.OnSurface.{SurfaceAttributes, seams_of, cut_at, ordered_by, ordered_for, attributes_joined, values_on, decoder_on, surface_decoders_at}
 
 -- the next decoder was read
-pub surface_decoders_at-next : {p : Profile} (s : Connectivity) (before x : SurfaceAttributes) (d : DecoderHead) (ds rest : List DecoderHead) (c next : Reading) (whole : Item SurfaceAttributes)
+pub surface_decoders_at-next : (p : Profile) (s : Connectivity) (before x : SurfaceAttributes) (d : DecoderHead) (ds rest : List DecoderHead) (c next : Reading) (whole : Item SurfaceAttributes)
     → surface_decoders_at p s before ds c ≡ whole → ds ≡ d ∷ rest → decoder_on p (ordered_for s d) d (values_on before.tables) c ≡ Ok (x, next)
     → surface_decoders_at p s (attributes_joined before x) rest next ≡ whole
 unfolding surface_decoders_at
-surface_decoders_at-next s before x d ds rest c next whole so is read = sym (rw (is, read) refl) ∙ so
+surface_decoders_at-next p s before x d ds rest c next whole so is read = sym (rw (is, read) refl) ∙ so
 
 -- the next decoder is refused
-pub surface_decoders_at-refuses : {p : Profile} (s : Connectivity) (before : SurfaceAttributes) (d : DecoderHead) (ds rest : List DecoderHead) (c : Reading) (r : Refusal) (whole : Item SurfaceAttributes)
+pub surface_decoders_at-refuses : (p : Profile) (s : Connectivity) (before : SurfaceAttributes) (d : DecoderHead) (ds rest : List DecoderHead) (c : Reading) (r : Refusal) (whole : Item SurfaceAttributes)
     → surface_decoders_at p s before ds c ≡ whole → ds ≡ d ∷ rest → Refuses (decoder_on p (ordered_for s d) d (values_on before.tables) c) r
     → Refuses whole r
 unfolding surface_decoders_at
-surface_decoders_at-refuses s before d ds rest c refusal.Memory whole so is refuses = tt
-surface_decoders_at-refuses s before d ds rest c (refusal.Fault f) whole so is refuses = sym so ∙ rw (is, refuses) refl
+surface_decoders_at-refuses p s before d ds rest c refusal.Memory whole so is refuses = tt
+surface_decoders_at-refuses p s before d ds rest c (refusal.Fault f) whole so is refuses = sym so ∙ rw (is, refuses) refl
 
 -- no decoder is left
-pub surface_decoders_at-end : {p : Profile} (s : Connectivity) (before : SurfaceAttributes) (ds : List DecoderHead) (c : Reading) (whole : Item SurfaceAttributes)
+pub surface_decoders_at-end : (p : Profile) (s : Connectivity) (before : SurfaceAttributes) (ds : List DecoderHead) (c : Reading) (whole : Item SurfaceAttributes)
     → surface_decoders_at p s before ds c ≡ whole → ds ≡ [] → whole ≡ Ok (before, c)
 unfolding surface_decoders_at
-surface_decoders_at-end s before ds c whole so none = sym so ∙ rw none refl
+surface_decoders_at-end p s before ds c whole so none = sym so ∙ rw none refl
 
 -- a table that was cut at the seams of a block is ordered as the cut surface
 pub ordered-cut : (degree : Bool) (t u : Table) (block : Block) → u.faces ≡ t.faces → gluing_of u ≡ cut_at t.faces (gluing_of t) block

@@ -23,14 +23,14 @@ pub within : (n m k : ℕ) → m ≤ k → nat_le n m ≡ true → nat_le n k �
 within n m k wider is = le-leb n k (omega (arith, wider, leb-true n m is))
 
 -- a test that finds again what was found before
-found-again : {k : ℕ} (fault : Option Fault) (m : MeshParts) → counts_in (profile_numbered k) m ≡ fault → (value_unless fault m >>= accepted (profile_numbered k)) ≡ value_unless fault m
-found-again None m is = ap (λ f. value_unless f m) is
-found-again (Some f) m is = refl
+found-again : (k : ℕ) (fault : Option Fault) (m : MeshParts) → counts_in (profile_numbered k) m ≡ fault → (value_unless fault m >>= accepted (profile_numbered k)) ≡ value_unless fault m
+found-again k None m is = ap (λ f. value_unless f m) is
+found-again k (Some f) m is = refl
 
 -- a profile of the limits of decoding accepts each mesh that is assembled
 pub assembled-all : (k : ℕ) (heads : List Head) (tables : List AttrTable) (faces : ℕ) → assembled_in (profile_numbered k) heads tables faces ≡ assembled heads tables faces
 unfolding assembled_in assembled
-assembled-all k heads tables faces = found-again {k = k} _ (assembled_parts heads tables faces) refl
+assembled-all k heads tables faces = found-again k _ (assembled_parts heads tables faces) refl
 
 -- the counts that a profile accepts are accepted by a wider one
 counts-wider : (p q : Profile) → IsWider p q → (m : MeshParts) → counts_in p m ≡ None → counts_in q m ≡ None

@@ -32,25 +32,25 @@ pub record IsDecoded (n : ℕ) (d : DecoderHead) (x : List Values × DecoderHead
   pub same : length x.1.heads ≡ length d.heads
   pub typed : AreTyped n (shapes x.1.heads) x.0
 
-pub decoder-read : {k : ℕ} (w : Option Ordered) (d : DecoderHead) (n spent : ℕ) → spent ≤ MAX_VALUES → All HeadPasses d.heads
+pub decoder-read : (k : ℕ) (w : Option Ordered) (d : DecoderHead) (n spent : ℕ) → spent ≤ MAX_VALUES → All HeadPasses d.heads
     → (c : Reading) (y : (List Values × DecoderHead) × Reading) → decoder_values_at (profile_numbered k) w d n spent c ≡ Ok y → IsDecoded n d y.0
 unfolding decoder_values_at columns_at
-decoder-read {k = k} w d n spent few passes c y is =
+decoder-read k w d n spent few passes c y is =
     let q = parts (columns_at (profile_numbered k) w d.heads n spent c) _ y is in
     let r = parts (quants_at d.heads q.0.1) _ y q.2 in
     let none : ColumnsWithin n spent [] [] = record { typed = tt; few = omega (arith, few) } in
-    let here = columns-from w n spent d.heads [] [] none c q.0 q.1 in
+    let here = columns-from k w n spent d.heads [] [] none c q.0 q.1 in
     let heads = quants-passed d.heads passes q.0.1 r.0 r.1 in
     let made : List Values × DecoderHead = (q.0.0, record d { heads = r.0.0 }) in
     given (λ (z : (List Values × DecoderHead) × Reading). IsDecoded n d z.0) (made, r.0.1) y r.2
     (record { heads = heads.each; same = shapes-length r.0.0 d.heads heads.same; typed = rw heads.same here.typed })
 
 -- the heads of a decoder alone
-decoder-heads : {k : ℕ} (w : Option Ordered) (d : DecoderHead) (n spent : ℕ) → All HeadPasses d.heads
+decoder-heads : (k : ℕ) (w : Option Ordered) (d : DecoderHead) (n spent : ℕ) → All HeadPasses d.heads
     → (c : Reading) (y : (List Values × DecoderHead) × Reading) → decoder_values_at (profile_numbered k) w d n spent c ≡ Ok y
     → All IsHead y.0.1.heads × (length y.0.1.heads ≡ length d.heads)
 unfolding decoder_values_at
-decoder-heads {k = k} w d n spent passes c y is =
+decoder-heads k w d n spent passes c y is =
     let q = parts (columns_at (profile_numbered k) w d.heads n spent c) _ y is in
     let r = parts (quants_at d.heads q.0.1) _ y q.2 in
     let heads = quants-passed d.heads passes q.0.1 r.0 r.1 in
@@ -122,35 +122,35 @@ pub values_on-append : (tables more : List AttrTable) → values_on (tables ++ m
 values_on-append tables more = sum_by-append (λ (t : AttrTable). length t.values) tables more
 
 -- the heads of decoders that were read have no fault, and none is left out
-heads-placed : {k : ℕ} (s : Connectivity) (ds : List DecoderHead) → All DecoderRead ds → (before : SurfaceAttributes) → All IsHead before.heads
+heads-placed : (k : ℕ) (s : Connectivity) (ds : List DecoderHead) → All DecoderRead ds → (before : SurfaceAttributes) → All IsHead before.heads
     → (c : Reading) (y : SurfaceAttributes × Reading) → surface_decoders_at (profile_numbered k) s before ds c ≡ Ok y
     → All IsHead y.0.heads × (length y.0.heads ≡ length before.heads + attributes_of ds)
 unfolding surface_decoders_at decoder_on
-heads-placed {k = k} s [] read before are c y is =
+heads-placed k s [] read before are c y is =
     let same : length before.heads ≡ length before.heads + 0 = omega arith in
     given (λ (z : SurfaceAttributes × Reading). All IsHead z.0.heads × (length z.0.heads ≡ length before.heads + 0)) (before, c) y is (are, same)
-heads-placed {k = k} s (d ∷ ds) read before are c y is =
+heads-placed k s (d ∷ ds) read before are c y is =
     let w = ordered_for s d in
     let spent = values_on before.tables in
     let passes = (All-head DecoderRead d ds read).heads in
     let next : SurfaceAttributes × Reading → Item SurfaceAttributes = λ x. surface_decoders_at (profile_numbered k) s (attributes_joined before x.0) ds x.1 in
     let p = parts (decoder_on (profile_numbered k) w d spent c) next y is in
     let q = parts (decoder_values_at (profile_numbered k) (Some w) d (length w.corners) spent c) (λ x. Ok (decoder_attributes w x.0.1 x.0.0, x.1)) p.0 p.1 in
-    let here = decoder-heads (Some w) d (length w.corners) spent passes c q.0 q.1 in
+    let here = decoder-heads k (Some w) d (length w.corners) spent passes c q.0 q.1 in
     let part : (All IsHead p.0.0.heads) × (length p.0.0.heads ≡ length d.heads) =
     given (λ (z : SurfaceAttributes × Reading). All IsHead z.0.heads × (length z.0.heads ≡ length d.heads)) (decoder_attributes w q.0.0.1 q.0.0.0, q.0.1) p.0 q.2 here in
     let all = All-append IsHead before.heads p.0.0.heads are part.0 in
-    let rest = heads-placed s ds (All-tail DecoderRead d ds read) (attributes_joined before p.0.0) all p.0.1 y p.2 in
+    let rest = heads-placed k s ds (All-tail DecoderRead d ds read) (attributes_joined before p.0.0) all p.0.1 y p.2 in
     let sum = sum_by-cons (λ (x : DecoderHead). length x.heads) d ds in
     (rest.0, rest.1 ∙ omega (arith, length-append before.heads p.0.0.heads, part.1, sum))
 
 -- attributes that were read on a surface are tables for assembling
-pub tables-whole : {k : ℕ} (s : Connectivity) (c d e : Reading) (ds : List DecoderHead) (a : SurfaceAttributes) → heads_at (Some s.attr_data) c ≡ Ok (ds, d)
+pub tables-whole : (k : ℕ) (s : Connectivity) (c d e : Reading) (ds : List DecoderHead) (a : SurfaceAttributes) → heads_at (Some s.attr_data) c ≡ Ok (ds, d)
     → surface_decoders_at (profile_numbered k) s no_attributes ds d ≡ Ok (a, e) → s.faces ≤ MAX_FACES → AreAttrTables (3 * s.faces) a.heads a.tables
     → AreTables a.heads a.tables s.faces
-tables-whole s c d e ds a heads placed few columns =
+tables-whole k s c d e ds a heads placed few columns =
     let read = heads-read (Some s.attr_data) c (ds, d) heads in
-    let all = heads-placed s ds read.each no_attributes (All-nil IsHead) d (a, e) placed in
+    let all = heads-placed k s ds read.each no_attributes (All-nil IsHead) d (a, e) placed in
     record {
       heads_pass = heads-none a.heads (omega (arith, all.1, read.some)) (omega (arith, all.1, read.few)) all.0;
       few_faces = few;

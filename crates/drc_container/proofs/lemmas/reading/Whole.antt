@@ -33,6 +33,7 @@ use Rattle.drc_container.proofs.lemmas.reading.Rows.{columns, piece_within}
 use Rattle.drc_container.proofs.lemmas.reading.Decoders.{values_in-append}
 use Rattle.drc_container.proofs.lemmas.choice.FirstRefusals.{value-given}
 use Rattle.drc_container.proofs.lemmas.reading.Parted.{parts, must-passed}
+use Rattle.drc_container.proofs.lemmas.reading.Limited.{indices_alike}
 use Rattle.drc_container.proofs.lemmas.reading.Counted.{IsColumn, values-column}
 use Rattle.drc_container.proofs.lemmas.reading.Faces.{indices-passed}
 use Rattle.drc_container.proofs.lemmas.reading.Headed.{IsHead, shapes, quants-passed, DecoderRead, heads-passed, heads-none}
@@ -56,16 +57,16 @@ pub record AreColumns (n spent : ℕ) (shape : List (ℕ × ℕ)) (values : List
   pub typed : AreTyped n shape values
   pub few : spent + values_in values ≤ MAX_VALUES
 
-pub columns-from : {k : ℕ} (w : Option Ordered) (n spent : ℕ) (heads : List Head) (s : List (ℕ × ℕ)) (front : List Values) → AreColumns n spent s front
+pub columns-from : (k : ℕ) (w : Option Ordered) (n spent : ℕ) (heads : List Head) (s : List (ℕ × ℕ)) (front : List Values) → AreColumns n spent s front
     → (c : Reading) (y : List Values × Reading)
     → each_at (λ before h. values_at (profile_numbered k) w h n (spent + values_in before)) front heads c ≡ Ok y → AreColumns n spent (s ++ shapes heads) y.0
 unfolding each_at
-columns-from {k = k} w n spent [] s front are c y is =
+columns-from k w n spent [] s front are c y is =
     rw (append-nil s) (subst (λ (z : List Values × Reading). AreColumns n spent s z.0) (Ok-injective is) are)
-columns-from {k = k} w n spent (h ∷ heads) s front are c y is =
+columns-from k w n spent (h ∷ heads) s front are c y is =
     let next : Values × Reading → Item (List Values) = λ x. each_at (λ before h. values_at (profile_numbered k) w h n (spent + values_in before)) (front ++ x.0 ∷ []) heads x.1 in
     let p = parts (values_at (profile_numbered k) w h n (spent + values_in front) c) next y is in
-    let here = values-column w h n (spent + values_in front) c p.0 p.1 in
+    let here = values-column k w h n (spent + values_in front) c p.0 p.1 in
     let shape : List (ℕ × ℕ) = (h.comps, h.dtype) ∷ [] in
     let sum = values_in-append front (p.0.0 ∷ []) in
     let one = sum_by-cons (λ (v : Values). length v.values) p.0.0 [] in
@@ -73,7 +74,7 @@ columns-from {k = k} w n spent (h ∷ heads) s front are c y is =
       typed = AreTyped-append n s shape front (p.0.0 ∷ []) are.typed (here.0, tt);
       few = omega (arith, here.1, here.0.long, sum, one);
     } in
-    subst (λ l. AreColumns n spent l y.0) (append_assoc s shape (shapes heads)) (columns-from w n spent heads (s ++ shape) (front ++ p.0.0 ∷ []) more p.0.1 y p.2)
+    subst (λ l. AreColumns n spent l y.0) (append_assoc s shape (shapes heads)) (columns-from k w n spent heads (s ++ shape) (front ++ p.0.0 ∷ []) more p.0.1 y p.2)
 
 -- attributes of n entries whose heads have no fault
 record ArePart (n : ℕ) (a : Attributes) : Type 0 where
@@ -92,14 +93,14 @@ shapes-behind before xs hs same = map-append (λ (h : Head). (h.comps, h.dtype))
 pub shapes-length : (xs hs : List Head) → shapes xs ≡ shapes hs → length xs ≡ length hs
 shapes-length xs hs same = sym (length-map xs (λ (h : Head). (h.comps, h.dtype))) ∙ ap length same ∙ length-map hs (λ (h : Head). (h.comps, h.dtype))
 
-decoders-typed : {k : ℕ} (n : ℕ) (ds : List DecoderHead) → All DecoderRead ds → (before : Attributes) → ArePart n before
+decoders-typed : (k : ℕ) (n : ℕ) (ds : List DecoderHead) → All DecoderRead ds → (before : Attributes) → ArePart n before
     → (c : Reading) (y : Attributes × Reading)
     → decoders_values_at (profile_numbered k) n before ds c ≡ Ok y → ArePart n y.0 × (length y.0.heads ≡ length before.heads + attributes_of ds)
 unfolding decoders_values_at decoder_values_at columns_at
-decoders-typed {k = k} n [] read before are c y is =
+decoders-typed k n [] read before are c y is =
     let same : length before.heads ≡ length before.heads + 0 = omega arith in
     subst (λ (z : Attributes × Reading). ArePart n z.0 × (length z.0.heads ≡ length before.heads + 0)) (Ok-injective is) (are, same)
-decoders-typed {k = k} n (d ∷ ds) read before are c y is =
+decoders-typed k n (d ∷ ds) read before are c y is =
     let spent = values_in before.values in
     let next : (List Values × DecoderHead) × Reading → Item Attributes =
     λ x. decoders_values_at (profile_numbered k) n (record { heads = before.heads ++ x.0.1.heads; values = before.values ++ x.0.0 }) ds x.1 in
@@ -108,7 +109,7 @@ decoders-typed {k = k} n (d ∷ ds) read before are c y is =
     let r = parts (quants_at d.heads q.0.1) _ p.0 q.2 in
     let passes = (All-head DecoderRead d ds read).heads in
     let none : AreColumns n spent [] [] = record { typed = tt; few = omega (arith, are.few) } in
-    let here = columns-from None n spent d.heads [] [] none c q.0 q.1 in
+    let here = columns-from k None n spent d.heads [] [] none c q.0 q.1 in
     let heads = quants-passed d.heads passes q.0.1 r.0 r.1 in
     let all : Attributes = record { heads = before.heads ++ r.0.0; values = before.values ++ q.0.0 } in
     let shape : shapes (before.heads ++ r.0.0) ≡ shapes before.heads ++ shapes d.heads = shapes-behind before.heads r.0.0 d.heads heads.same in
@@ -120,7 +121,7 @@ decoders-typed {k = k} n (d ∷ ds) read before are c y is =
     let long : length r.0.0 ≡ length d.heads = shapes-length r.0.0 d.heads heads.same in
     let made : (List Values × DecoderHead) × Reading = ((q.0.0, record d { heads = r.0.0 }), r.0.1) in
     let behind : decoders_values_at (profile_numbered k) n all ds r.0.1 ≡ Ok y = gives-same next made p.0 y r.2 p.2 in
-    let rest = decoders-typed n ds (All-tail DecoderRead d ds read) all more r.0.1 y behind in
+    let rest = decoders-typed k n ds (All-tail DecoderRead d ds read) all more r.0.1 y behind in
     let sum = sum_by-cons (λ (x : DecoderHead). length x.heads) d ds in
     (rest.0, rest.1 ∙ omega (arith, length-append before.heads r.0.0, long, sum))
 
@@ -130,13 +131,13 @@ record AreAttributes (n : ℕ) (a : Attributes) : Type 0 where
   typed : AreTyped n (shapes a.heads) a.values
   few : values_in a.values ≤ MAX_VALUES
 
-attributes-passed : {k : ℕ} (n : ℕ) (c : Reading) (y : Attributes × Reading) → sequential_attributes_at (profile_numbered k) n c ≡ Ok y → AreAttributes n y.0
+attributes-passed : (k : ℕ) (n : ℕ) (c : Reading) (y : Attributes × Reading) → sequential_attributes_at (profile_numbered k) n c ≡ Ok y → AreAttributes n y.0
 unfolding sequential_attributes_at
-attributes-passed {k = k} n c y is =
+attributes-passed k n c y is =
     let none : Attributes = record { heads = []; values = [] } in
     let p = parts (heads_at None c) (λ d. decoders_values_at (profile_numbered k) n none d.0 d.1) y is in
     let read = heads-passed c p.0 p.1 in
-    let all = decoders-typed n p.0.0 read.each none (record { heads = All-nil IsHead; typed = tt; few = omega arith }) p.0.1 y p.2 in
+    let all = decoders-typed k n p.0.0 read.each none (record { heads = All-nil IsHead; typed = tt; few = omega arith }) p.0.1 y p.2 in
     record {
       heads = heads-none y.0.heads (omega (arith, all.1, read.some)) (omega (arith, all.1, read.few)) all.0.heads;
       typed = all.0.typed;
@@ -228,25 +229,25 @@ rows-cells : (n : ℕ) (a : Attributes) → points_of n a ≡ cells_of (rows n a
 rows-cells n a = sym (flat_map-map (λ (row : List ℤ). row) (column_row a.heads (columns a.values)) (range_with_len 0 n))
 
 -- no cell is outside its type
-pub typed_pass : {k : ℕ} (n : ℕ) (c : Reading) (y : Attributes × Reading) → sequential_attributes_at (profile_numbered k) n c ≡ Ok y → range_fault y.0.heads (points_of n y.0) ≡ None
-typed_pass n c y is =
+pub typed_pass : (k : ℕ) (n : ℕ) (c : Reading) (y : Attributes × Reading) → sequential_attributes_at (profile_numbered k) n c ≡ Ok y → range_fault y.0.heads (points_of n y.0) ≡ None
+typed_pass k n c y is =
     let a = y.0 in
-    let are = attributes-passed n c y is in
+    let are = attributes-passed k n c y is in
     ap (range_fault a.heads) (rows-cells n a) ∙ range_fault-cells_of a.heads (rows n a) are.heads (rows-fit n a are)
 
 pub clouds_pass : CloudsPass
-clouds_pass c d e n a points attributes =
+clouds_pass k c d e n a points attributes =
     let few = leb-true n MAX_POINTS (must-passed kind.PointLimit (λ n. nat_le n MAX_POINTS) (number_at 4) c (n, d) points).0 in
-    let are = attributes-passed n d (a, e) attributes in
+    let are = attributes-passed k n d (a, e) attributes in
     let none : cloud_fault a.heads (cells_of (rows n a)) ≡ None =
     value-given (cloud_fault a.heads (cells_of (rows n a))) _ _ (cloud_of-IsCloud (record { heads = a.heads; points = rows n a }) (rows-points n a few are)) in
     ap (cloud_fault a.heads) (rows-cells n a) ∙ none
 
 pub meshes_pass : MeshesPass
-meshes_pass c d e r a indices attributes =
+meshes_pass k c d e r a indices attributes =
     let n = r.points in
-    let read = indices-passed c (r, d) indices in
-    let are = attributes-passed n d (a, e) attributes in
+    let read = indices-passed c (r, d) (sym (indices_alike k c) ∙ indices) in
+    let are = attributes-passed k n d (a, e) attributes in
     let count = rows-count n a in
     let none : mesh_fault a.heads (cells_of (rows n a)) r.faces ≡ None =
     value-given (mesh_fault a.heads (cells_of (rows n a)) r.faces) _ _

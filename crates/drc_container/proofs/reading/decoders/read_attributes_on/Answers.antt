@@ -20,5 +20,5 @@ read_each-requires-clause-seams c =
 pub returns-clause-tables : goal.returns-clause-tables
 returns-clause-tables c =
     let s = meaning c.args.surface.now in
-    tables-whole s c.args.c.now _ _ c.in_ok-decoders.decoders.items (attributes_read_on (classes_of s) c.in_ok-attributes.attributes)
+    tables-whole c.args.profile.number s c.args.c.now _ _ c.in_ok-decoders.decoders.items (attributes_read_on (classes_of s) c.in_ok-attributes.attributes)
     c.in_ok-decoders.ensures.item c.in_ok-attributes.ensures.item c.requires.faces c.in_ok-attributes.ensures.columns

@@ -1,3 +1,4 @@
+use Rattle.drc_base.specs.Profile.{profile_numbered}
 use Rattle.std.proofs.Common.{◌≡◌, suc, ◌+◌, [], sym, ◌∙◌, ap, arith}
 use Rattle.std.proofs.lemmas.Result.{err_from_is_err_and}
 use Rattle.std.proofs.lemmas.List.{nil_from_length}
@@ -15,7 +16,7 @@ returns-in_err-read-clause-item c =
     let s = meaning c.args.surface.now in
     let p = err_from_is_err_and c.from_residual.result c.from_residual.ensures.1 in
     let before : SurfaceAttributes = record { heads = c.loop-decoder.heads.items; tables = tables_on (classes_of s) c.loop-decoder.values.items; info = c.loop-decoder.info.items } in
-    rw (p.1, p.2) (surface_decoders_at-refuses s before c.in-Some.decoder _ _ c.loop-decoder.c _ _
+    rw (p.1, p.2) (surface_decoders_at-refuses (profile_numbered c.args.profile.number) s before c.in-Some.decoder _ _ c.loop-decoder.c _ _
     c.loop-decoder.invariant.rest c.in-Some.ensures.steps.0 (rw c.loop-decoder.invariant.spent at c.in_err-read.ensures.item))
 
 pub loop-decoder-preserved : goal.loop-decoder-preserved
@@ -30,7 +31,7 @@ loop-decoder-preserved c =
     let more = added.tables whole in
     let sum = values_on-append (tables_on whole old) (tables_of (group_on whole read.values)) in
     rw (added.heads, added.info) (record {
-      rest = rw more (surface_decoders_at-next s before (decoder_read_on whole read) c.in-Some.decoder _ _ c.loop-decoder.c c.read_for.new.c _
+      rest = rw more (surface_decoders_at-next (profile_numbered c.args.profile.number) s before (decoder_read_on whole read) c.in-Some.decoder _ _ c.loop-decoder.c c.read_for.new.c _
           c.loop-decoder.invariant.rest steps (rw c.loop-decoder.invariant.spent at c.in_ok-read.ensures.item));
       spent = rw more (c.in_ok-read.ensures.spent ∙ ap (λ n. n + values_on (tables_of (group_on whole read.values))) c.loop-decoder.invariant.spent ∙ sym sum);
       few = c.in_ok-read.ensures.few;
@@ -49,4 +50,4 @@ returns-clause-item c =
     nil_from_length (into_iter_items c.loop-decoder.decoder-iterator) (sym c.loop-decoder.decoder-iterator.rest.ok.0 ∙ c.in-None.ensures.steps.0) in
     let before : SurfaceAttributes = record { heads = c.loop-decoder.heads.items; tables = tables_on (classes_of s) c.loop-decoder.values.items; info = c.loop-decoder.info.items } in
     rw (c.from_vec.ensures, c.from_vec-2.ensures, c.from_vec-3.ensures)
-    (surface_decoders_at-end s before _ c.loop-decoder.c _ c.loop-decoder.invariant.rest none)
+    (surface_decoders_at-end (profile_numbered c.args.profile.number) s before _ c.loop-decoder.c _ c.loop-decoder.invariant.rest none)

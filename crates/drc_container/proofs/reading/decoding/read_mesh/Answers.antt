@@ -19,4 +19,4 @@ returns-in_err-mesh-clause-mesh c =
     let told : MeshParts → Result Meaning Fault = λ mesh. Ok (record { geometry = Mesh mesh; surface = None; info = read.info }) in
     let due : ◌≡◌ {A = Result MeshParts Refusal} (Err c.in_err-mesh.field-0.0) (answer_of (mesh_of read.heads read.cells c.in_ok-indices.indices.faces)) =
     rw (← c.into_vec.ensures, ← c.into_vec-2.ensures, ← c.into_vec-faces.ensures) c.in_err-mesh.ensures in
-    rw (p.1, p.2, c.in_ok-indices.ensures.indices c.args.profile.number, ← c.place-from.ensures, c.in_ok-heads.ensures.points) (Answers-refused told_by (mesh_of read.heads read.cells c.in_ok-indices.indices.faces) told c.in_err-mesh.field-0.0 due)
+    rw (p.1, p.2, c.in_ok-indices.ensures.indices, ← c.place-from.ensures, c.in_ok-heads.ensures.points) (Answers-refused told_by (mesh_of read.heads read.cells c.in_ok-indices.indices.faces) told c.in_err-mesh.field-0.0 due)

@@ -9,4 +9,4 @@ returns-clause-rows c passes =
 
 pub returns-clause-typed : goal.returns-clause-typed
 returns-clause-typed c =
-    rw (c.from_vec.ensures, c.in_ok-cells.ensures, c.as_slice.ensures.items, c.into_vec.ensures) (typed_pass _ _ (c.in_ok-attributes.attributes, _) c.in_ok-attributes.ensures.attributes)
+    rw (c.from_vec.ensures, c.in_ok-cells.ensures, c.as_slice.ensures.items, c.into_vec.ensures) (typed_pass c.args.profile.number _ _ (c.in_ok-attributes.attributes, _) c.in_ok-attributes.ensures.attributes)

@@ -8,11 +8,11 @@ use Rattle.drc_container.proofs.lemmas.reading.ProfileCounts.{assembled-all}
 use Rattle.drc_container.proofs.reading.edgebreaker.assemble_at.Goals as goal
 
 pub returns-in-Ok : goal.returns-in-Ok
-returns-in-Ok c n = ap (at_end c.args.end) (assembled-all n c.args.heads.items (group_tables c.args.groups.now) c.args.faces ∙ c.in-Ok.ensures.answer)
+returns-in-Ok c = ap (at_end c.args.end) (assembled-all c.args._profile.number c.args.heads.items (group_tables c.args.groups.now) c.args.faces ∙ c.in-Ok.ensures.answer)
 
 pub returns-in-Err-Fault : goal.returns-in-Err-Fault
-returns-in-Err-Fault c n =
+returns-in-Err-Fault c =
     let tables = group_tables c.args.groups.now in
     let made = assembled c.args.heads.items tables c.args.faces in
     let fault : made ≡ Err c.in-Err-Fault.fault = subst (Refuses made) c.in-Err-Fault.field-0-is c.in-Err-Fault.ensures.answer in
-    ap (at_end c.args.end) (assembled-all n c.args.heads.items tables c.args.faces ∙ fault) ∙ ap Err (sym c.new.ensures)
+    ap (at_end c.args.end) (assembled-all c.args._profile.number c.args.heads.items tables c.args.faces ∙ fault) ∙ ap Err (sym c.new.ensures)
