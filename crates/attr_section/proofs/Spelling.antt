@@ -7,6 +7,7 @@ use Rattle.std.proofs.lemmas.List.Elements.{All-head, All-tail}
 use Rattle.std.proofs.lemmas.Bool.{cases_eq, false≢true}
 use Rattle.drc_base.specs.declared.kinds.Kind.TheVariants as kind
 use Rattle.drc_base.specs.declared.limits.TheConstants.{MAX_ATTRIBUTES, MAX_COMPONENTS}
+use Rattle.drc_base.specs.Profile.{profile}
 use Rattle.drc_base.specs.Steps.{◌>>=◌}
 use Rattle.drc_bits.specs.Reading.{Reading, Item, must, many_at}
 use Rattle.drc_bits.specs.Numbers.{number_at}
@@ -18,20 +19,28 @@ use Rattle.attr_section.specs.declared.decoder_heads.DecoderHead.{DecoderHead}
 use Rattle.attr_section.specs.declared.links.Link.{Link}
 use Rattle.attr_section.specs.Each.{each_at}
 use Rattle.attr_heads.specs.HeadItems.{head_at, head_bytes, bare_head, HeadPasses}
-use Rattle.attr_heads.specs.Codings.{coding_byte}
-use Rattle.attr_section.specs.Heads.{position_id, no_link, decoder_count_at, is_known_id, is_used_id, most_element, most_walk, link_at, linked_at, links_at, coding_at, codings_at, attributes_of, attribute_count_at, decoder_at, decoders_at, heads_at, id_byte, link_bytes, decoder_bytes, links_bytes, heads_bytes, bare_decoder, link_of, DecoderPasses, DecodersPass, LinkPasses, LinksPass, AreAcceptedLinks, DecoderSpelled}
+use Rattle.attr_heads.specs.DataTypes.{is_float}
+use Rattle.attr_heads.specs.declared.codings.Coding.TheVariants.{Integer, Quantised}
+use Rattle.attr_heads.specs.Codings.{coding_facts, coding_byte}
+use Rattle.attr_section.specs.Heads.{position_id, no_link, decoder_count_at, is_known_id, is_used_id, most_element, most_walk, link_at, linked_at, links_at, known_coding_at, coding_at, codings_at, attributes_of, attribute_count_at, decoder_at, decoders_at, heads_at, id_byte, link_bytes, decoder_bytes, links_bytes, heads_bytes, bare_decoder, link_of, DecoderPasses, DecodersPass, LinkPasses, LinksPass, AreAcceptedLinks, DecoderSpelled}
 
 -- a value that is changed after it is read
 pub Spells-map : {A B : Type 0} (f : A → B) (item : Reading → Item A) (bytes : List ℕ) (x : A) → Spells item bytes x → Spells (λ c. item c >>= λ r. Ok (f r.0, r.1)) bytes (f x)
 Spells-map f item bytes x spells = record { reads = λ place rest. rw (spells.reads place rest) refl }
 
+-- the coding of floats, and of integers
+abbrev byte_for : Bool → ℕ
+byte_for float = (coding_facts (if float then Quantised else Integer)).byte
+
+Spells-coded : (float : Bool) → Spells (must kind.Coding (λ k. k == byte_for float) (known_coding_at profile)) (byte_for float ∷ []) (byte_for float)
+unfolding known_coding_at
+Spells-coded true = record { reads = λ place rest. rw ((Spells-byte 2).reads place rest) refl }
+Spells-coded false = record { reads = λ place rest. rw ((Spells-byte 1).reads place rest) refl }
+
 -- the coding of a data type
 Spells-coding : (dtype : ℕ) → Spells (coding_at dtype) (coding_byte dtype ∷ []) (coding_byte dtype)
 unfolding coding_at
-Spells-coding dtype =
-    Spells-must kind.Coding (λ k. k == coding_byte dtype) (must kind.Octahedral (λ k. not (k == 3)) (must kind.Generic (λ k. not (k == 0)) (number_at 1))) (coding_byte dtype ∷ []) (coding_byte dtype) (grind arith)
-    (Spells-must kind.Octahedral (λ k. not (k == 3)) (must kind.Generic (λ k. not (k == 0)) (number_at 1)) (coding_byte dtype ∷ []) (coding_byte dtype) (grind arith)
-    (Spells-must kind.Generic (λ k. not (k == 0)) (number_at 1) (coding_byte dtype ∷ []) (coding_byte dtype) (grind arith) (Spells-byte (coding_byte dtype))))
+Spells-coding dtype = Spells-coded (is_float dtype)
 
 -- the codings behind those read before
 Spells-codings_behind : (front : List ℕ) (heads : List Head)

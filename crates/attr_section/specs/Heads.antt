@@ -5,11 +5,14 @@ use Rattle.std.specs.Prelude.{replicate, Option, None, Some, Ok, sum_by, nat_le,
 use Rattle.std.specs.List.{list_any, range_with_len}
 use Rattle.drc_base.specs.declared.kinds.Kind.TheVariants as kind
 use Rattle.drc_base.specs.declared.limits.TheConstants.{MAX_ATTRIBUTES, MAX_COMPONENTS}
+use Rattle.drc_base.specs.declared.kinds.Kind.{Kind}
+use Rattle.drc_base.specs.Profile.{Profile, profile}
 use Rattle.drc_base.specs.Steps.{◌>>=◌}
 use Rattle.attr_heads.specs.declared.heads.Head.{Head}
-use Rattle.attr_heads.specs.Codings.{coding_byte}
+use Rattle.attr_heads.specs.declared.codings.Coding.{Coding}
+use Rattle.attr_heads.specs.Codings.{coding_facts, coding_of, coding_byte}
 use Rattle.attr_heads.specs.HeadItems.{head_at, head_bytes, bare_head, HeadPasses}
-use Rattle.drc_bits.specs.Reading.{Reading, Item, must, many_at}
+use Rattle.drc_bits.specs.Reading.{Reading, Item, must, many_at, fault_at}
 use Rattle.drc_bits.specs.Numbers.{number_at}
 use Rattle.drc_bits.specs.Varint.{var32_at, spelling}
 use Rattle.drc_bits.specs.Spells.{Spells}
@@ -67,11 +70,23 @@ unfoldable pub links_at : Option ℕ → ℕ → Reading → Item (List Link)
 links_at None n c = Ok (replicate n no_link, c)
 links_at (Some attr_data) n c = linked_at attr_data n c
 
--- the coding of an attribute of this type; 0 is that of floats as they are, 3 that of octahedral normals
+-- the kind of fault that refuses a coding which a profile doesn't have
+abbrev pub unread_as : Profile → Option Coding → Option Kind
+unread_as p None = Some kind.Coding
+unread_as p (Some q) = if nat_le (coding_facts q).since p.number then None else Some (coding_facts q).refused_as
+
+-- an item, unless it is refused at its own place
+abbrev pub unless_refused : Reading → ℕ × Reading → Option Kind → Item ℕ
+unless_refused c k None = Ok k
+unless_refused c k (Some refused) = fault_at refused c
+
+-- the byte of a coding that a profile has
+unfoldable pub known_coding_at : Profile → Reading → Item ℕ
+known_coding_at p c = number_at 1 c >>= λ k. unless_refused c k (unread_as p (coding_of k.0))
+
+-- the coding of an attribute of this type
 unfoldable pub coding_at : ℕ → Reading → Item ℕ
-coding_at dtype c =
-    must kind.Coding (λ k. k == coding_byte dtype)
-    (must kind.Octahedral (λ k. not (k == 3)) (must kind.Generic (λ k. not (k == 0)) (number_at 1))) c
+coding_at dtype c = must kind.Coding (λ k. k == coding_byte dtype) (known_coding_at profile) c
 
 -- the codings of attributes
 abbrev pub codings_at : List Head → Reading → Item (List ℕ)

@@ -1,13 +1,14 @@
 //! The head of an attribute and its coding.
 
 ghost use Rattle.std.specs.Prelude.{◌≡◌, ◌<◌, IfOk, All, length, map};
+ghost use Rattle.drc_base.specs.Profile.{profile};
 ghost use Rattle.drc_bits.specs.Reading.{Reads, Gives, many_at};
 ghost use Rattle.attr_heads.specs.Codings.{coding_byte};
 ghost use Rattle.attr_heads.specs.HeadItems.{head_at};
-ghost use Rattle.attr_section.specs.Heads.{coding_at, codings_at};
+ghost use Rattle.attr_section.specs.Heads.{known_coding_at, coding_at, codings_at};
 
 use attr_heads::{Coding, Head, read_bare_head};
-use drc_base::{Fault, Kind, Refusal};
+use drc_base::{Fault, Kind, PROFILE_TWO, Refusal};
 use drc_bits::Cursor;
 use std::alloc::Global;
 
@@ -32,19 +33,30 @@ pub fn coding_byte(dtype: u8) -> u8
     Coding::of_type(dtype).facts().byte
 }
 
+/// Reads the byte of a coding that the profile of decoding has.
+#[tactic(auto, unfolding(crate::specs::Heads::known_coding_at))]
+fn read_known_coding(c: &mut Cursor<'_>) -> Result<u8, Fault>
+    ensures { Reads (λ k. k) (known_coding_at profile c.old) c.new result }
+{
+    let at = c.place();
+    let byte = c.get_u8()?;
+    let Some(coding) = Coding::of_byte(byte) else {
+        return Err(Fault::new(Kind::Coding, at));
+    };
+    let facts = coding.facts();
+    if !PROFILE_TWO.has(facts.since) {
+        return Err(Fault::new(facts.refused_as, at));
+    }
+    Ok(byte)
+}
+
 /// Reads the coding of an attribute of this type.
 #[tactic(auto, unfolding(crate::specs::Heads::coding_at))]
 fn read_coding(c: &mut Cursor<'_>, dtype: u8) -> Result<(), Fault>
     ensures { Reads (λ _. coding_byte dtype) (coding_at dtype c.old) c.new result }
 {
     let at = c.place();
-    let coding = c.get_u8()?;
-    if coding == 0 {
-        return Err(Fault::new(Kind::Generic, at));
-    }
-    if coding == 3 {
-        return Err(Fault::new(Kind::Octahedral, at));
-    }
+    let coding = read_known_coding(c)?;
     if coding != coding_byte(dtype) {
         return Err(Fault::new(Kind::Coding, at));
     }

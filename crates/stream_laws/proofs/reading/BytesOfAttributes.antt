@@ -1,9 +1,10 @@
 -- What is left behind the attributes of a stream is bytes, where a stream is; and the fields of their heads are those of bytes.
-use Rattle.drc_base.specs.Profile.{Profile}
+use Rattle.drc_base.specs.Profile.{Profile, profile}
 use Rattle.std.proofs.Common.{ℕ, ◌+◌, ◌*◌, ◌^◌, ◌<◌, ◌==◌, ◌&&◌, Bool, not, List, [], length, map, Option, None, Some, Ok, arith}
 use Rattle.std.specs.Prelude.{nat_lt, nat_le, IfSome}
 use Rattle.std.specs.List.{All, list_all, range_with_len}
 use Rattle.std.proofs.lemmas.List.Elements.{All-nil, recursion_from_All}
+use Rattle.drc_base.specs.declared.kinds.Kind.{Kind}
 use Rattle.drc_base.specs.declared.kinds.Kind.TheVariants as kind
 use Rattle.drc_base.specs.declared.limits.TheConstants.{MAX_ATTRIBUTES, MAX_COMPONENTS}
 use Rattle.drc_base.specs.Steps.{◌>>=◌}
@@ -27,8 +28,8 @@ use Rattle.attr_section.specs.declared.links.Link.{Link}
 use Rattle.attr_section.specs.declared.values.Values.{Values}
 use Rattle.attr_heads.specs.DataTypes.{is_type, is_float}
 use Rattle.attr_heads.specs.HeadItems.{head_at}
-use Rattle.attr_heads.specs.Codings.{coding_byte}
-use Rattle.attr_section.specs.Heads.{is_known_id, is_used_id, most_element, most_walk, decoder_count_at, link_at, linked_at, links_at, coding_at, codings_at, attributes_of, attribute_count_at, decoder_at, decoders_at, heads_at}
+use Rattle.attr_heads.specs.Codings.{coding_of, coding_byte}
+use Rattle.attr_section.specs.Heads.{is_known_id, is_used_id, most_element, most_walk, decoder_count_at, link_at, linked_at, links_at, known_coding_at, unread_as, unless_refused, coding_at, codings_at, attributes_of, attribute_count_at, decoder_at, decoders_at, heads_at}
 use Rattle.attr_heads.specs.HeadItems.{quant_bits_at}
 use Rattle.attr_section.specs.Values.{tested_prediction, prediction_at, signed_of, plain_value_at, byte_width_at, plain_values_at, can_wrap, range_at, transform_at, compressed_values_at, integers_at, flag_bits_at, flag_count_at, flags_at, flag_lists_at, has_flags, with_flags, corrected_at, predicted_at, typed_values_at, values_at, quant_at, quant_of_at, quantised_at, values_in, attributes_at as columns_at, quants_at, decoder_values_at}
 use Rattle.drc_container.proofs.lemmas.reading.Parted.{given, parts, either}
@@ -62,12 +63,19 @@ head-fields c here y is =
     given (λ (z : Head × Reading). BareFields z.0 × BytesAhead z.1) (h, t.0.1) y t.2
     (record { normalized = omega (arith, flag.0); id = id }, var32-leaves s.0.1 flag.1 t.0 t.1)
 
+known-leaves : (c : Reading) → BytesAhead c → LeavesBytes (known_coding_at profile c)
+unfolding known_coding_at
+known-leaves c here y is =
+    let p = parts (number_at 1 c) _ y is in
+    go p.0 (unread_as profile (coding_of p.0.0)) (number-leaves 1 c here p.0 p.1) p.2
+  where
+  go : (k : ℕ × Reading) (refused : Option Kind) → BytesAhead k.1 → unless_refused c k refused ≡ Ok y → BytesAhead y.1
+  go k None ahead e = given (λ (z : ℕ × Reading). BytesAhead z.1) k y e ahead
+  go k (Some other) ahead e = cc
+
 coding-leaves : (dtype : ℕ) (c : Reading) → BytesAhead c → LeavesBytes (coding_at dtype c)
 unfolding coding_at
-coding-leaves dtype c here =
-    must-leaves kind.Coding (λ k. k == coding_byte dtype) (must kind.Octahedral (λ k. not (k == 3)) (must kind.Generic (λ k. not (k == 0)) (number_at 1))) c
-    (must-leaves kind.Octahedral (λ k. not (k == 3)) (must kind.Generic (λ k. not (k == 0)) (number_at 1)) c
-    (must-leaves kind.Generic (λ k. not (k == 0)) (number_at 1) c (number-leaves 1 c here)))
+coding-leaves dtype c here = must-leaves kind.Coding (λ k. k == coding_byte dtype) (known_coding_at profile) c (known-leaves c here)
 
 attribute-count-leaves : (before : ℕ) (c : Reading) → BytesAhead c → LeavesBytes (attribute_count_at before c)
 attribute-count-leaves before c here =

@@ -16,7 +16,7 @@ use Rattle.predict.specs.Restored.{corrections_behind}
 use Rattle.attr_section.specs.declared.values.Values.{Values}
 use Rattle.attr_section.specs.Each.{each_at}
 use Rattle.attr_heads.specs.HeadItems.{head_at}
-use Rattle.attr_section.specs.Heads.{decoder_count_at, links_at, coding_at, decoder_at, decoders_at as heads_of_decoders_at, heads_at, heads_bytes}
+use Rattle.attr_section.specs.Heads.{decoder_count_at, links_at, known_coding_at, coding_at, decoder_at, decoders_at as heads_of_decoders_at, heads_at, heads_bytes}
 use Rattle.attr_section.specs.Values.{prediction_at, plain_value_at, byte_width_at, plain_values_at, integers_at, predicted_at, typed_values_at, values_at, quant_of_at, quantised_at, attributes_at as columns_at, quants_at, decoder_values_at}
 use Rattle.attr_section.specs.Written.{plain_bytes, integers_bytes, flagged_bytes, predicted_bytes, values_bytes, decoder_values_bytes}
 use Rattle.drc_container.specs.declared.choice.methods.Method.{Method}
@@ -116,7 +116,7 @@ triangle_layout : layout_of (
     68 ∷ 82 ∷ 65 ∷ 67 ∷ 79 ∷ 2 ∷ 2 ∷ 1 ∷ 0 ∷ 0 ∷ 0 ∷ 1 ∷ 3 ∷ 1 ∷ 0 ∷ 1 ∷ 2 ∷ 1 ∷ 1 ∷ 0 ∷ 5 ∷ 3 ∷ 0 ∷ 0 ∷ 1 ∷ 254 ∷ 0 ∷ 1
     ∷ 0 ∷ 0 ∷ 0 ∷ 20 ∷ 0 ∷ 0 ∷ 0 ∷ 20 ∷ 1 ∷ [])
     ≡ Ok (record { method = 0; index = Some 1; traversal = None; attributes = record { element = 0; walk = 0; predict = negsuc 1; compressed = 0 } ∷ [] })
-unfolding stream_in header_at form_said mesh_at mesh_behind points_behind indices_at indices_opening_at many_at face_at sequential_attributes_at heads_at decoder_count_at links_at heads_of_decoders_at each_at decoder_at head_at coding_at decoders_values_at decoder_values_at columns_at values_at typed_values_at prediction_at predicted_at integers_at plain_values_at byte_width_at plain_value_at varint in_type heads_fault index_fault cells_fault quants_at quantised_at quant_of_at
+unfolding stream_in header_at form_said mesh_at mesh_behind points_behind indices_at indices_opening_at many_at face_at sequential_attributes_at heads_at decoder_count_at links_at heads_of_decoders_at each_at decoder_at head_at known_coding_at coding_at decoders_values_at decoder_values_at columns_at values_at typed_values_at prediction_at predicted_at integers_at plain_values_at byte_width_at plain_value_at varint in_type heads_fault index_fault cells_fault quants_at quantised_at quant_of_at
 triangle_layout = refl
 
 -- one face more than profile 1 takes
