@@ -1,18 +1,20 @@
 -- Rows and faces that are written are read again.
-use Rattle.std.proofs.Common.{◌≡◌, ℕ, suc, ◌+◌, ◌<◌, ◌≤◌, ◌^◌, true, cond, eqb, List, [], ◌∷◌, ◌++◌, length, get_or, map, Some, None, Result, Ok, refl, sym, ap, ◌∙◌, arith}
+use Rattle.std.proofs.Common.{◌≡◌, ℕ, suc, ◌+◌, ◌<◌, ◌≤◌, ◌^◌, true, cond, List, [], ◌∷◌, ◌++◌, length, get_or, map, Option, Some, None, Result, Ok, refl, sym, ap, ◌∙◌, arith}
 use Rattle.std.specs.Prelude.{ℤ, pos, negsuc, int_le}
 use Rattle.std.specs.List.{AllByRecursion}
 use Rattle.std.specs.Fmt.{signed_decimal}
-use Rattle.std.proofs.lemmas.Bool.{cond_both, leb-true, lt-ltb, le-leb, eq-eqb, and_parts, false≢true}
+use Rattle.std.proofs.lemmas.Bool.{leb-true, lt-ltb, le-leb, eq-eqb, and_parts, false≢true}
 use Rattle.std.proofs.lemmas.List.{length-map}
 use Rattle.drc_base.specs.declared.faults.Fault.{Fault}
 use Rattle.drc_base.specs.declared.limits.TheConstants.{MAX_POINTS}
 use Rattle.attr_heads.specs.declared.heads.Head.{Head}
-use Rattle.attr_heads.specs.DataTypes.{in_type, least_of, greatest_of}
+use Rattle.attr_heads.specs.declared.data_types.DataType.{DataType}
+use Rattle.attr_heads.specs.declared.data_types.DataType.TheVariants.{Int8, Uint8, Int16, Uint16, Int32, Uint32, Float32}
+use Rattle.attr_heads.specs.DataTypes.{in_type, type_of, least_in, greatest_in, least_of, greatest_of}
 use Rattle.attr_heads.specs.Head.{types_of}
 use Rattle.mesh_model.specs.Parts.{RowFits, IsFaceOf}
 use Rattle.ply_text.specs.Numbers.{integer_of, only_if, natural_of, is_digits, digits_value}
-use Rattle.ply_text.specs.Header.{column_type}
+use Rattle.ply_text.specs.PropertyTypes.{column_type}
 use Rattle.ply_mesh.specs.Body.{token_number, numbers_of, row_read, indices_of, face_of, items_from}
 use Rattle.ply_mesh.specs.Text.{face_line}
 use Rattle.ply_mesh.proofs.NumberTexts.{IsSmall, integer_again}
@@ -21,20 +23,28 @@ use Rattle.ply_mesh.proofs.WellFormed.{IsTyped, column_same, length-types_of}
 -- ---- numbers of a type are small
 
 small_pos : (d n : ℕ) → int_le (pos n) (greatest_of d) ≡ true → n < 2 ^ 64
-small_pos d n =
-    let P : ℤ → Type 0 = λ z. int_le (pos n) z ≡ true → n < 2 ^ 64 in
-    cond_both (eqb d 1) (pos 127) _ P (λ _ h. omega (arith, leb-true n 127 h)) (λ _.
-    cond_both (eqb d 2) (pos 255) _ P (λ _ h. omega (arith, leb-true n 255 h)) (λ _.
-    cond_both (eqb d 3) (pos 32767) _ P (λ _ h. omega (arith, leb-true n 32767 h)) (λ _.
-    cond_both (eqb d 4) (pos 65535) (pos 2147483647) P (λ _ h. omega (arith, leb-true n 65535 h)) (λ _ h. omega (arith, leb-true n 2147483647 h)))))
+small_pos d n h = go (type_of d) h where
+  go : (t : Option DataType) → int_le (pos n) (greatest_in t) ≡ true → n < 2 ^ 64
+  go None h = omega (arith, leb-true n 2147483647 h)
+  go (Some Int8) h = omega (arith, leb-true n 127 h)
+  go (Some Uint8) h = omega (arith, leb-true n 255 h)
+  go (Some Int16) h = omega (arith, leb-true n 32767 h)
+  go (Some Uint16) h = omega (arith, leb-true n 65535 h)
+  go (Some Int32) h = omega (arith, leb-true n 2147483647 h)
+  go (Some Uint32) h = omega (arith, leb-true n 2147483647 h)
+  go (Some Float32) h = omega (arith, leb-true n 2147483647 h)
 
 small_neg : (d m : ℕ) → int_le (least_of d) (negsuc m) ≡ true → suc m < 2 ^ 64
-small_neg d m =
-    let P : ℤ → Type 0 = λ z. int_le z (negsuc m) ≡ true → suc m < 2 ^ 64 in
-    cond_both (eqb d 1) (negsuc 127) _ P (λ _ h. omega (arith, leb-true m 127 h)) (λ _.
-    cond_both (eqb d 3) (negsuc 32767) _ P (λ _ h. omega (arith, leb-true m 32767 h)) (λ _.
-    cond_both (eqb d 5) (negsuc 2147483647) _ P (λ _ h. omega (arith, leb-true m 2147483647 h)) (λ _.
-    cond_both (eqb d 9) (negsuc 2147483647) (pos 0) P (λ _ h. omega (arith, leb-true m 2147483647 h)) (λ _ h. absurd (false≢true h)))))
+small_neg d m h = go (type_of d) h where
+  go : (t : Option DataType) → int_le (least_in t) (negsuc m) ≡ true → suc m < 2 ^ 64
+  go None h = absurd (false≢true h)
+  go (Some Int8) h = omega (arith, leb-true m 127 h)
+  go (Some Uint8) h = absurd (false≢true h)
+  go (Some Int16) h = omega (arith, leb-true m 32767 h)
+  go (Some Uint16) h = absurd (false≢true h)
+  go (Some Int32) h = omega (arith, leb-true m 2147483647 h)
+  go (Some Uint32) h = absurd (false≢true h)
+  go (Some Float32) h = omega (arith, leb-true m 2147483647 h)
 
 pub typed_small : (d : ℕ) (v : ℤ) → in_type d v ≡ true → IsSmall v
 unfolding in_type

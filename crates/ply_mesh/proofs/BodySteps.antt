@@ -9,7 +9,7 @@ use Rattle.drc_base.specs.Steps.{◌>>=◌}
 use Rattle.mesh_model.specs.declared.geometries.Geometry.TheVariants.{Mesh, Cloud}
 use Rattle.ply_text.specs.declared.headers.Header.{Header}
 use Rattle.ply_mesh.specs.Body.{row_read, face_of, items_from, ends}
-use Rattle.ply_mesh.specs.Read.{geometry_head, geometry_of_rows, body_of, ply_read}
+use Rattle.ply_mesh.specs.Read.{geometry_of_rows, body_of, ply_read}
 use Rattle.std.specs.Str.Lines.{lines}
 use Rattle.std.proofs.lemmas.List.{drop-map}
 use Rattle.ply_text.specs.Tokens.{tokens_of, token_lines}
@@ -27,27 +27,27 @@ abbrev pub Rest : Type 0
 Rest = List (List (List ℕ))
 
 -- what follows the points of a cloud
-pub cloud_from : (h : Header) (lines rest : Rest) (rows : List (List ℤ)) → h.faces ≡ None → rows_from h lines ≡ Ok (rows, rest) → body_of h lines ≡ ends (Cloud (record { heads = map geometry_head h.heads; points = rows })) (h.body_line + h.vertices) rest
+pub cloud_from : (h : Header) (lines rest : Rest) (rows : List (List ℤ)) → h.faces ≡ None → rows_from h lines ≡ Ok (rows, rest) → body_of h lines ≡ ends (Cloud (record { heads = h.heads; points = rows })) (h.body_line + h.vertices) rest
 unfolding body_of
 cloud_from h lines rest rows none e = rw (e, none, add-zero) refl
 
 -- what follows the points of a mesh
 pub mesh_from : (h : Header) (lines rest : Rest) (rows : List (List ℤ)) (count : ℕ) → h.faces ≡ Some count → rows_from h lines ≡ Ok (rows, rest)
-    → body_of h lines ≡ (items_from (face_of (unwrap_or h.list (0, 0)) h.vertices) count (h.body_line + h.vertices) rest >>= λ (faces : List (List ℕ) × Rest). ends (Mesh (record { heads = map geometry_head h.heads; points = rows; faces = faces.0 })) (h.body_line + h.vertices + count) faces.1)
+    → body_of h lines ≡ (items_from (face_of (unwrap_or h.list (0, 0)) h.vertices) count (h.body_line + h.vertices) rest >>= λ (faces : List (List ℕ) × Rest). ends (Mesh (record { heads = h.heads; points = rows; faces = faces.0 })) (h.body_line + h.vertices + count) faces.1)
 unfolding body_of
 mesh_from h lines rest rows count some e = rw (e, some) (through (items_from (face_of (unwrap_or h.list (0, 0)) h.vertices) count (h.body_line + h.vertices) rest)) where
-  through : (r : Result (List (List ℕ) × Rest) Fault) → ((r >>= λ (faces : List (List ℕ) × Rest). Ok (Some faces.0, faces.1)) >>= λ (faces : Option (List (List ℕ)) × Rest). ends (geometry_of_rows (map geometry_head h.heads) rows faces.0) (h.body_line + h.vertices + count) faces.1)
-      ≡ (r >>= λ (faces : List (List ℕ) × Rest). ends (Mesh (record { heads = map geometry_head h.heads; points = rows; faces = faces.0 })) (h.body_line + h.vertices + count) faces.1)
+  through : (r : Result (List (List ℕ) × Rest) Fault) → ((r >>= λ (faces : List (List ℕ) × Rest). Ok (Some faces.0, faces.1)) >>= λ (faces : Option (List (List ℕ)) × Rest). ends (geometry_of_rows h.heads rows faces.0) (h.body_line + h.vertices + count) faces.1)
+      ≡ (r >>= λ (faces : List (List ℕ) × Rest). ends (Mesh (record { heads = h.heads; points = rows; faces = faces.0 })) (h.body_line + h.vertices + count) faces.1)
   through (Ok x) = refl
   through (Err f) = refl
 
 pub faces_fault : (h : Header) (lines rest : Rest) (rows : List (List ℤ)) (count : ℕ) (e : Refusal) → h.faces ≡ Some count → rows_from h lines ≡ Ok (rows, rest) → Refuses (items_from (face_of (unwrap_or h.list (0, 0)) h.vertices) count (h.body_line + h.vertices) rest) e → Refuses (body_of h lines) e
 faces_fault h lines rest rows count refusal.Memory some r f = tt
-faces_fault h lines rest rows count (refusal.Fault d) some r f = mesh_from h lines rest rows count some r ∙ ap (λ (x : Result (List (List ℕ) × Rest) Fault). x >>= λ (faces : List (List ℕ) × Rest). ends (Mesh (record { heads = map geometry_head h.heads; points = rows; faces = faces.0 })) (h.body_line + h.vertices + count) faces.1) f
+faces_fault h lines rest rows count (refusal.Fault d) some r f = mesh_from h lines rest rows count some r ∙ ap (λ (x : Result (List (List ℕ) × Rest) Fault). x >>= λ (faces : List (List ℕ) × Rest). ends (Mesh (record { heads = h.heads; points = rows; faces = faces.0 })) (h.body_line + h.vertices + count) faces.1) f
 
 pub mesh_ends : (h : Header) (lines rest more : Rest) (rows : List (List ℤ)) (faces : List (List ℕ)) (count : ℕ) → h.faces ≡ Some count → rows_from h lines ≡ Ok (rows, rest) → items_from (face_of (unwrap_or h.list (0, 0)) h.vertices) count (h.body_line + h.vertices) rest ≡ Ok (faces, more)
-    → body_of h lines ≡ ends (Mesh (record { heads = map geometry_head h.heads; points = rows; faces = faces })) (h.body_line + h.vertices + count) more
-mesh_ends h lines rest more rows faces count some r f = mesh_from h lines rest rows count some r ∙ ap (λ (x : Result (List (List ℕ) × Rest) Fault). x >>= λ (faces : List (List ℕ) × Rest). ends (Mesh (record { heads = map geometry_head h.heads; points = rows; faces = faces.0 })) (h.body_line + h.vertices + count) faces.1) f
+    → body_of h lines ≡ ends (Mesh (record { heads = h.heads; points = rows; faces = faces })) (h.body_line + h.vertices + count) more
+mesh_ends h lines rest more rows faces count some r f = mesh_from h lines rest rows count some r ∙ ap (λ (x : Result (List (List ℕ) × Rest) Fault). x >>= λ (faces : List (List ℕ) × Rest). ends (Mesh (record { heads = h.heads; points = rows; faces = faces.0 })) (h.body_line + h.vertices + count) faces.1) f
 
 -- ---- the whole text
 

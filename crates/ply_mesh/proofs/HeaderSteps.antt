@@ -1,26 +1,30 @@
 -- A header that is written is read line by line.
 use Rattle.std.proofs.Common.{◌≡◌, ℕ, zero, suc, ◌+◌, ◌-◌, ◌<◌, ◌≤◌, ◌^◌, Bool, true, false, leb, List, [], ◌∷◌, ◌++◌, length, map, Option, Some, None, Ok, refl, sym, ap, subst, ◌∙◌, append_assoc, arith}
-use Rattle.std.specs.Prelude.{codes, option_map, IfSome, slice_get}
+use Rattle.std.specs.Prelude.{codes, IfSome, slice_get}
 use Rattle.std.specs.List.{AllByRecursion}
 use Rattle.std.specs.Fmt.{decimal}
 use Rattle.std.specs.Str.{bytes_eq}
-use Rattle.std.proofs.lemmas.Bool.{lt-leb, le-leb, eq-eqb, leb-true, eqb-true, and_parts, false≢true}
+use Rattle.std.proofs.lemmas.Bool.{lt-leb, le-leb, eq-eqb, leb-true, and_parts, and_from, false≢true}
 use Rattle.std.proofs.lemmas.List.{length-append, append-nil}
 use Rattle.drc_base.specs.declared.limits.TheConstants.{MAX_POINTS, MAX_FACES}
 use Rattle.attr_heads.specs.declared.heads.Head.{Head}
 use Rattle.attr_heads.specs.declared.quants.Quant.{Quant}
-use Rattle.attr_heads.specs.Quants.{has_minima, has_bits}
-use Rattle.attr_heads.specs.Head.{has_type}
+use Rattle.attr_heads.specs.Quants.{are_quant_bits, has_minima, has_bits}
+use Rattle.attr_heads.specs.Usages.{is_usage}
+use Rattle.attr_heads.specs.DataTypes.{is_type}
+use Rattle.attr_heads.specs.Head.{has_comps}
+use Rattle.attr_heads.specs.HeadItems.{bare_head}
+use Rattle.attr_heads.proofs.Types.{type_passes, type_few}
 use Rattle.attr_heads.proofs.Passing.{HeadSays}
-use Rattle.ply_text.specs.declared.headers.PlyHead.{PlyHead}
-use Rattle.ply_text.specs.declared.headers.PlyQuant.{PlyQuant}
-use Rattle.ply_text.specs.Words.{keyword_of, type_of, is_indices}
-use Rattle.ply_text.specs.Comments.{is_form, is_dtype, head_of, attr_of, patterns_of, fields_of, quant_of, with_quant}
+use Rattle.ply_text.specs.Words.{keyword_of, is_indices}
+use Rattle.ply_text.specs.PropertyTypes.{type_of, type_word, column_type}
+use Rattle.ply_text.specs.Numbers.{only_if}
+use Rattle.ply_text.specs.Comments.{is_form, byte_of, head_of, attr_of, patterns_of, fields_of, quant_of, with_quant}
 use Rattle.ply_text.specs.Declarations.{element_of, is_list, scalar_of, list_of}
 use Rattle.ply_text.specs.Draft.{Draft, PropertyParts, property, element, scalar, list, attribute, quantisation, comment, body, statement}
-use Rattle.ply_text.specs.Header.{column_type, ends_header, header_from}
+use Rattle.ply_text.specs.Header.{ends_header, header_from}
 use Rattle.ply_mesh.specs.Fields.{QuantFields, HasFields}
-use Rattle.ply_mesh.specs.Text.{pattern_text, attr_line, quant_line, quant_lines, head_lines, type_word, name_at, property_line, component_lines, property_lines, has_usage_names, element_line, list_line}
+use Rattle.ply_mesh.specs.Text.{pattern_text, attr_line, quant_line, quant_lines, head_lines, name_at, property_line, component_lines, property_lines, has_usage_names, element_line, list_line}
 use Rattle.ply_mesh.proofs.NumberTexts.{within_again, is_digits_again, pattern_again}
 
 abbrev pub Lines : Type 0
@@ -45,46 +49,36 @@ Passes-append d d' d'' ls ms p q = record {
 
 -- ---- heads
 
-abbrev pub ply_quant : Quant → PlyQuant
-ply_quant q = record { bits = q.bits; range = q.range; min = q.min }
+-- a value that passes a test
+passing : {A : Type 0} (test : A → Bool) (o : Option A) (x : A) → o ≡ Some x → test x ≡ true → only_if test o ≡ Some x
+passing test o x e p = rw (e, p) refl
 
-abbrev pub ply_head : Head → PlyHead
-ply_head h = record { usage = h.usage; dtype = h.dtype; comps = h.comps; normalized = h.normalized; id = h.id; quant = option_map ply_quant h.quant }
+type_right : (h : Head) → HeadSays h → (is_type h.dtype ≡ true) × (h.dtype ≤ 9)
+type_right h p = let is = type_passes h.dtype h.quant p.typed in (is, type_few h.dtype is)
 
-abbrev bare : Head → PlyHead
-bare h = record { usage = h.usage; dtype = h.dtype; comps = h.comps; normalized = h.normalized; id = h.id; quant = None }
-
-dtype_right : (d : ℕ) (q : Option Quant) → has_type d q ≡ true → (is_dtype d ≡ true) × (d ≤ 9)
-dtype_right d None h =
-    let p = and_parts (leb 1 d) (leb d 6) h in
-    (rw (p.0, p.1) refl, omega (arith, leb-true d 6 p.1))
-dtype_right d (Some q) h = let e : d ≡ 9 = eqb-true d 9 h in (rw e refl, omega arith)
-
-head_again : (number : ℕ) (h : Head) → number ≤ 15 → HeadSays h → HasFields h → head_of number (decimal number) (decimal h.usage) (decimal h.dtype) (decimal h.comps) (decimal h.normalized) (decimal h.id) ≡ Some (bare h)
+head_again : (number : ℕ) (h : Head) → number ≤ 15 → HeadSays h → HasFields h → head_of number (decimal number) (decimal h.usage) (decimal h.dtype) (decimal h.comps) (decimal h.normalized) (decimal h.id) ≡ Some (bare_head h)
 unfolding head_of
 head_again number h few p f =
-    let t = dtype_right h.dtype h.quant p.typed in
+    let t = type_right h p in
     rw (
       within_again 15 number few (omega arith),
       eq-eqb number number refl,
-      within_again 4 h.usage p.usage (omega arith),
-      within_again 9 h.dtype t.1 (omega arith),
-      t.0,
-      within_again 8 h.comps p.few (omega arith),
-      le-leb 1 h.comps p.some,
+      passing is_usage (byte_of (decimal h.usage)) h.usage (within_again 255 h.usage (omega (arith, p.usage)) (omega arith)) (le-leb h.usage 4 p.usage),
+      passing is_type (byte_of (decimal h.dtype)) h.dtype (within_again 255 h.dtype (omega (arith, t.1)) (omega arith)) t.0,
+      passing has_comps (byte_of (decimal h.comps)) h.comps (within_again 255 h.comps (omega (arith, p.few)) (omega arith)) (and_from _ _ (le-leb 1 h.comps p.some) (le-leb h.comps 8 p.few)),
       within_again 255 h.normalized (omega (arith, f.normalized)) (omega arith),
       within_again (2 ^ 32 - 1) h.id (omega (arith, f.id)) (omega arith),
     ) refl
 
 -- a header whose heads are read
-abbrev pub with_heads : List PlyHead → Draft
+abbrev pub with_heads : List Head → Draft
 with_heads heads = record { formatted = true; heads = heads; vertices = None; properties = []; faces = None; list = None }
 
-attr_step : (done : List PlyHead) (h : Head) (at : ℕ) → length done ≤ 15 → HeadSays h → HasFields h → statement at (with_heads done) (attr_line (length done) h) ≡ Ok (with_heads (done ++ bare h ∷ []))
+attr_step : (done : List Head) (h : Head) (at : ℕ) → length done ≤ 15 → HeadSays h → HasFields h → statement at (with_heads done) (attr_line (length done) h) ≡ Ok (with_heads (done ++ bare_head h ∷ []))
 unfolding statement comment attribute attr_line keyword_of is_form attr_of
 attr_step done h at few p f = rw (lt-leb 16 (length done) (omega arith), head_again (length done) h few p f) refl
 
-attr_end : (done : List PlyHead) (k : ℕ) (h : Head) → ends_header (with_heads done) (attr_line k h) ≡ false
+attr_end : (done : List Head) (k : ℕ) (h : Head) → ends_header (with_heads done) (attr_line k h) ≡ false
 unfolding attr_line keyword_of
 attr_end done k h = refl
 
@@ -92,69 +86,69 @@ patterns_again : (min : List ℕ) → AllByRecursion (λ m. m < 2 ^ 32) min → 
 patterns_again [] h = refl
 patterns_again (m ∷ ms) h = rw (pattern_again m h.0, patterns_again ms h.1) refl
 
-last_head : (done : List PlyHead) (x : PlyHead) → slice_get (done ++ x ∷ []) (length done) ≡ Some x
+last_head : (done : List Head) (x : Head) → slice_get (done ++ x ∷ []) (length done) ≡ Some x
 last_head [] x = refl
 last_head (y ∷ ys) x = last_head ys x
 
-last_quant : (done : List PlyHead) (x : PlyHead) (q : PlyQuant) → with_quant (length done) q (done ++ x ∷ []) ≡ done ++ record x { quant = Some q } ∷ []
+last_quant : (done : List Head) (x : Head) (q : Quant) → with_quant (length done) q (done ++ x ∷ []) ≡ done ++ record x { quant = Some q } ∷ []
 last_quant [] x q = refl
-last_quant (y ∷ ys) x q = ap (λ (hs : List PlyHead). y ∷ hs) (last_quant ys x q)
+last_quant (y ∷ ys) x q = ap (λ (hs : List Head). y ∷ hs) (last_quant ys x q)
 
-fields_again : (h : Head) (q : Quant) → has_minima h.comps (Some q) ≡ true → has_bits (Some q) ≡ true → QuantFields q → fields_of (bare h) (decimal q.bits) (pattern_text q.range) (map pattern_text q.min) ≡ Some (ply_quant q)
+fields_again : (h : Head) (q : Quant) → has_minima h.comps (Some q) ≡ true → has_bits (Some q) ≡ true → QuantFields q → fields_of (bare_head h) (decimal q.bits) (pattern_text q.range) (map pattern_text q.min) ≡ Some q
 unfolding fields_of
 fields_again h q m b f =
     let p = and_parts (leb 1 q.bits) (leb q.bits 30) b in
-    rw (within_again 30 q.bits (leb-true q.bits 30 p.1) (omega arith), p.0, pattern_again q.range f.range, patterns_again q.min f.min, m) refl
+    rw (passing are_quant_bits (byte_of (decimal q.bits)) q.bits (within_again 255 q.bits (omega (arith, leb-true q.bits 30 p.1)) (omega arith)) b, pattern_again q.range f.range, patterns_again q.min f.min, m) refl
 
-quant_step : (done : List PlyHead) (h : Head) (q : Quant) (at : ℕ) → length done ≤ 15 → has_minima h.comps (Some q) ≡ true → has_bits (Some q) ≡ true → QuantFields q
-    → statement at (with_heads (done ++ bare h ∷ [])) (quant_line (length done) q) ≡ Ok (with_heads (done ++ record (bare h) { quant = Some (ply_quant q) } ∷ []))
+quant_step : (done : List Head) (h : Head) (q : Quant) (at : ℕ) → length done ≤ 15 → has_minima h.comps (Some q) ≡ true → has_bits (Some q) ≡ true → QuantFields q
+    → statement at (with_heads (done ++ bare_head h ∷ [])) (quant_line (length done) q) ≡ Ok (with_heads (done ++ record (bare_head h) { quant = Some q } ∷ []))
 unfolding statement comment quantisation quant_line keyword_of is_form quant_of
-quant_step done h q at few m b f = rw (within_again 15 (length done) few (omega arith), last_head done (bare h), fields_again h q m b f, last_quant done (bare h) (ply_quant q)) refl
+quant_step done h q at few m b f = rw (within_again 15 (length done) few (omega arith), last_head done (bare_head h), fields_again h q m b f, last_quant done (bare_head h) q) refl
 
-quant_end : (d : List PlyHead) (k : ℕ) (q : Quant) → ends_header (with_heads d) (quant_line k q) ≡ false
+quant_end : (d : List Head) (k : ℕ) (q : Quant) → ends_header (with_heads d) (quant_line k q) ≡ false
 unfolding quant_line keyword_of
 quant_end d k q = refl
 
-one_head : (done : List PlyHead) (h : Head) → length done ≤ 15 → HeadSays h → HasFields h → Passes (with_heads done) (attr_line (length done) h ∷ quant_lines (length done) h.quant) (with_heads (done ++ ply_head h ∷ []))
+one_head : (done : List Head) (h : Head) → length done ≤ 15 → HeadSays h → HasFields h → Passes (with_heads done) (attr_line (length done) h ∷ quant_lines (length done) h.quant) (with_heads (done ++ h ∷ []))
 one_head done h few p f = go h.quant refl where
-  first : Passes (with_heads done) (attr_line (length done) h ∷ []) (with_heads (done ++ bare h ∷ []))
-  first = Passes-one (with_heads done) (attr_line (length done) h) (with_heads (done ++ bare h ∷ [])) (attr_end done (length done) h) (λ at. attr_step done h at few p f)
+  first : Passes (with_heads done) (attr_line (length done) h ∷ []) (with_heads (done ++ bare_head h ∷ []))
+  first = Passes-one (with_heads done) (attr_line (length done) h) (with_heads (done ++ bare_head h ∷ [])) (attr_end done (length done) h) (λ at. attr_step done h at few p f)
 
-  go : (o : Option Quant) → h.quant ≡ o → Passes (with_heads done) (attr_line (length done) h ∷ quant_lines (length done) o) (with_heads (done ++ record (bare h) { quant = option_map ply_quant o } ∷ []))
+  go : (o : Option Quant) → h.quant ≡ o → Passes (with_heads done) (attr_line (length done) h ∷ quant_lines (length done) o) (with_heads (done ++ record (bare_head h) { quant = o } ∷ []))
   go None e = first
   go (Some q) e =
       let m = subst (λ (o : Option Quant). has_minima h.comps o ≡ true) e p.minima in
       let b = subst (λ (o : Option Quant). has_bits o ≡ true) e p.bits in
       let fq = subst (λ (o : Option Quant). IfSome o QuantFields) e f.quant in
-      Passes-append (with_heads done) (with_heads (done ++ bare h ∷ [])) (with_heads (done ++ record (bare h) { quant = Some (ply_quant q) } ∷ [])) (attr_line (length done) h ∷ []) (quant_line (length done) q ∷ []) first
-      (Passes-one (with_heads (done ++ bare h ∷ [])) (quant_line (length done) q) (with_heads (done ++ record (bare h) { quant = Some (ply_quant q) } ∷ [])) (quant_end (done ++ bare h ∷ []) (length done) q) (λ at. quant_step done h q at few m b fq))
+      Passes-append (with_heads done) (with_heads (done ++ bare_head h ∷ [])) (with_heads (done ++ record (bare_head h) { quant = Some q } ∷ [])) (attr_line (length done) h ∷ []) (quant_line (length done) q ∷ []) first
+      (Passes-one (with_heads (done ++ bare_head h ∷ [])) (quant_line (length done) q) (with_heads (done ++ record (bare_head h) { quant = Some q } ∷ [])) (quant_end (done ++ bare_head h ∷ []) (length done) q) (λ at. quant_step done h q at few m b fq))
 
-pub heads_step : (k : ℕ) (done : List PlyHead) (hs : List Head) → k ≡ length done → length done + length hs ≤ 16 → AllByRecursion HeadSays hs → AllByRecursion HasFields hs → Passes (with_heads done) (head_lines k hs) (with_heads (done ++ map ply_head hs))
-heads_step k done [] e few p f = subst (λ (xs : List PlyHead). Passes (with_heads done) [] (with_heads xs)) (sym (append-nil done)) (Passes-nil (with_heads done))
+pub heads_step : (k : ℕ) (done : List Head) (hs : List Head) → k ≡ length done → length done + length hs ≤ 16 → AllByRecursion HeadSays hs → AllByRecursion HasFields hs → Passes (with_heads done) (head_lines k hs) (with_heads (done ++ hs))
+heads_step k done [] e few p f = subst (λ (xs : List Head). Passes (with_heads done) [] (with_heads xs)) (sym (append-nil done)) (Passes-nil (with_heads done))
 heads_step k done (h ∷ hs) e few p f =
-    let n : length (done ++ ply_head h ∷ []) ≡ length done + 1 = length-append done (ply_head h ∷ []) in
-    let one : Passes (with_heads done) (attr_line k h ∷ quant_lines k h.quant) (with_heads (done ++ ply_head h ∷ [])) = subst (λ (j : ℕ). Passes (with_heads done) (attr_line j h ∷ quant_lines j h.quant) (with_heads (done ++ ply_head h ∷ []))) (sym e) (one_head done h (omega arith) p.0 f.0) in
-    let rest = heads_step (k + 1) (done ++ ply_head h ∷ []) hs (ap (λ j. j + 1) e ∙ sym n) (omega arith) p.1 f.1 in
-    subst (λ (xs : List PlyHead). Passes (with_heads done) (head_lines k (h ∷ hs)) (with_heads xs)) (append_assoc done (ply_head h ∷ []) (map ply_head hs))
-    (Passes-append (with_heads done) (with_heads (done ++ ply_head h ∷ [])) (with_heads ((done ++ ply_head h ∷ []) ++ map ply_head hs)) (attr_line k h ∷ quant_lines k h.quant) (head_lines (k + 1) hs) one rest)
+    let n : length (done ++ h ∷ []) ≡ length done + 1 = length-append done (h ∷ []) in
+    let one : Passes (with_heads done) (attr_line k h ∷ quant_lines k h.quant) (with_heads (done ++ h ∷ [])) = subst (λ (j : ℕ). Passes (with_heads done) (attr_line j h ∷ quant_lines j h.quant) (with_heads (done ++ h ∷ []))) (sym e) (one_head done h (omega arith) p.0 f.0) in
+    let rest = heads_step (k + 1) (done ++ h ∷ []) hs (ap (λ j. j + 1) e ∙ sym n) (omega arith) p.1 f.1 in
+    subst (λ (xs : List Head). Passes (with_heads done) (head_lines k (h ∷ hs)) (with_heads xs)) (append_assoc done (h ∷ []) hs)
+    (Passes-append (with_heads done) (with_heads (done ++ h ∷ [])) (with_heads ((done ++ h ∷ []) ++ hs)) (attr_line k h ∷ quant_lines k h.quant) (head_lines (k + 1) hs) one rest)
 
 -- ---- points
 
-abbrev pub with_points : List PlyHead → ℕ → List PropertyParts → Draft
+abbrev pub with_points : List Head → ℕ → List PropertyParts → Draft
 with_points heads n properties = record { formatted = true; heads = heads; vertices = Some n; properties = properties; faces = None; list = None }
 
-vertex_end : (heads : List PlyHead) (n : ℕ) → ends_header (with_heads heads) (element_line (codes "vertex") n) ≡ false
+vertex_end : (heads : List Head) (n : ℕ) → ends_header (with_heads heads) (element_line (codes "vertex") n) ≡ false
 unfolding element_line keyword_of
 vertex_end heads n = refl
 
-vertex_is : (heads : List PlyHead) (n at : ℕ) → n ≤ MAX_POINTS → statement at (with_heads heads) (element_line (codes "vertex") n) ≡ Ok (with_points heads n [])
+vertex_is : (heads : List Head) (n at : ℕ) → n ≤ MAX_POINTS → statement at (with_heads heads) (element_line (codes "vertex") n) ≡ Ok (with_points heads n [])
 unfolding statement body element element_of element_line keyword_of
 vertex_is heads n at few = rw (is_digits_again n (omega arith), within_again MAX_POINTS n few (omega arith)) refl
 
-pub vertex_step : (heads : List PlyHead) (n : ℕ) → n ≤ MAX_POINTS → Passes (with_heads heads) (element_line (codes "vertex") n ∷ []) (with_points heads n [])
+pub vertex_step : (heads : List Head) (n : ℕ) → n ≤ MAX_POINTS → Passes (with_heads heads) (element_line (codes "vertex") n ∷ []) (with_points heads n [])
 vertex_step heads n few = Passes-one (with_heads heads) (element_line (codes "vertex") n) (with_points heads n []) (vertex_end heads n) (λ at. vertex_is heads n at few)
 
-word_right : (d : ℕ) → (is_dtype d ≡ true) × (d ≤ 9) → (type_of (type_word d) ≡ Some (column_type d)) × (bytes_eq (type_word d) (codes "list") ≡ false)
+word_right : (d : ℕ) → (is_type d ≡ true) × (d ≤ 9) → (type_of (type_word d) ≡ Some (column_type d)) × (bytes_eq (type_word d) (codes "list") ≡ false)
 unfolding type_of type_word
 word_right zero h = absurd (false≢true h.0)
 word_right (suc zero) h = (refl, refl)
@@ -171,11 +165,11 @@ word_right (suc (suc (suc (suc (suc (suc (suc (suc (suc (suc d)))))))))) h = let
 abbrev property_of : ℕ → List ℕ → PropertyParts
 property_of dtype name = property (column_type dtype) name
 
-property_is : (heads : List PlyHead) (n : ℕ) (ps : List PropertyParts) (d : ℕ) (name : List ℕ) (at : ℕ) → (is_dtype d ≡ true) × (d ≤ 9) → statement at (with_points heads n ps) (property_line d name) ≡ Ok (with_points heads n (ps ++ property_of d name ∷ []))
+property_is : (heads : List Head) (n : ℕ) (ps : List PropertyParts) (d : ℕ) (name : List ℕ) (at : ℕ) → (is_type d ≡ true) × (d ≤ 9) → statement at (with_points heads n ps) (property_line d name) ≡ Ok (with_points heads n (ps ++ property_of d name ∷ []))
 unfolding statement body property_line keyword_of is_list scalar scalar_of
 property_is heads n ps d name at h = let w = word_right d h in rw (w.1, w.0) refl
 
-property_end : (heads : List PlyHead) (n : ℕ) (ps : List PropertyParts) (d : ℕ) (name : List ℕ) → ends_header (with_points heads n ps) (property_line d name) ≡ false
+property_end : (heads : List Head) (n : ℕ) (ps : List PropertyParts) (d : ℕ) (name : List ℕ) → ends_header (with_points heads n ps) (property_line d name) ≡ false
 unfolding property_line keyword_of
 property_end heads n ps d name = refl
 
@@ -184,7 +178,7 @@ abbrev pub components_of : Bool → ℕ → Head → ℕ → ℕ → List Proper
 components_of named k h j zero = []
 components_of named k h j (suc n) = property_of h.dtype (name_at named k h.usage j) ∷ components_of named k h (j + 1) n
 
-components_step : (heads : List PlyHead) (n : ℕ) (ps : List PropertyParts) (named : Bool) (k : ℕ) (h : Head) (j m : ℕ) → (is_dtype h.dtype ≡ true) × (h.dtype ≤ 9) → Passes (with_points heads n ps) (component_lines named k h j m) (with_points heads n (ps ++ components_of named k h j m))
+components_step : (heads : List Head) (n : ℕ) (ps : List PropertyParts) (named : Bool) (k : ℕ) (h : Head) (j m : ℕ) → (is_type h.dtype ≡ true) × (h.dtype ≤ 9) → Passes (with_points heads n ps) (component_lines named k h j m) (with_points heads n (ps ++ components_of named k h j m))
 components_step heads n ps named k h j zero t = subst (λ (xs : List PropertyParts). Passes (with_points heads n ps) [] (with_points heads n xs)) (sym (append-nil ps)) (Passes-nil (with_points heads n ps))
 components_step heads n ps named k h j (suc m) t =
     let p = property_of h.dtype (name_at named k h.usage j) in
@@ -198,37 +192,37 @@ abbrev pub all_properties : List Head → ℕ → List Head → List PropertyPar
 all_properties all k [] = []
 all_properties all k (h ∷ hs) = components_of (has_usage_names all k h) k h 0 h.comps ++ all_properties all (k + 1) hs
 
-pub properties_step : (heads : List PlyHead) (n : ℕ) (ps : List PropertyParts) (all : List Head) (k : ℕ) (hs : List Head) → AllByRecursion HeadSays hs → Passes (with_points heads n ps) (property_lines all k hs) (with_points heads n (ps ++ all_properties all k hs))
+pub properties_step : (heads : List Head) (n : ℕ) (ps : List PropertyParts) (all : List Head) (k : ℕ) (hs : List Head) → AllByRecursion HeadSays hs → Passes (with_points heads n ps) (property_lines all k hs) (with_points heads n (ps ++ all_properties all k hs))
 properties_step heads n ps all k [] p = subst (λ (xs : List PropertyParts). Passes (with_points heads n ps) [] (with_points heads n xs)) (sym (append-nil ps)) (Passes-nil (with_points heads n ps))
 properties_step heads n ps all k (h ∷ hs) p =
     let cs = components_of (has_usage_names all k h) k h 0 h.comps in
-    let one = components_step heads n ps (has_usage_names all k h) k h 0 h.comps (dtype_right h.dtype h.quant p.0.typed) in
+    let one = components_step heads n ps (has_usage_names all k h) k h 0 h.comps (type_right h p.0) in
     let rest = properties_step heads n (ps ++ cs) all (k + 1) hs p.1 in
     subst (λ (xs : List PropertyParts). Passes (with_points heads n ps) (property_lines all k (h ∷ hs)) (with_points heads n xs)) (append_assoc ps cs (all_properties all (k + 1) hs))
     (Passes-append (with_points heads n ps) (with_points heads n (ps ++ cs)) (with_points heads n ((ps ++ cs) ++ all_properties all (k + 1) hs)) (component_lines (has_usage_names all k h) k h 0 h.comps) (property_lines all (k + 1) hs) one rest)
 
 -- ---- faces
 
-abbrev pub with_faces : List PlyHead → ℕ → List PropertyParts → ℕ → Option (ℕ × ℕ) → Draft
+abbrev pub with_faces : List Head → ℕ → List PropertyParts → ℕ → Option (ℕ × ℕ) → Draft
 with_faces heads n properties m list = record { formatted = true; heads = heads; vertices = Some n; properties = properties; faces = Some m; list = list }
 
-face_is : (heads : List PlyHead) (n : ℕ) (ps : List PropertyParts) (m at : ℕ) → m ≤ MAX_FACES → statement at (with_points heads n ps) (element_line (codes "face") m) ≡ Ok (with_faces heads n ps m None)
+face_is : (heads : List Head) (n : ℕ) (ps : List PropertyParts) (m at : ℕ) → m ≤ MAX_FACES → statement at (with_points heads n ps) (element_line (codes "face") m) ≡ Ok (with_faces heads n ps m None)
 unfolding statement body element element_of element_line keyword_of
 face_is heads n ps m at few = rw (is_digits_again m (omega arith), within_again MAX_FACES m few (omega arith)) refl
 
-face_end : (heads : List PlyHead) (n : ℕ) (ps : List PropertyParts) (m : ℕ) → ends_header (with_points heads n ps) (element_line (codes "face") m) ≡ false
+face_end : (heads : List Head) (n : ℕ) (ps : List PropertyParts) (m : ℕ) → ends_header (with_points heads n ps) (element_line (codes "face") m) ≡ false
 unfolding element_line keyword_of
 face_end heads n ps m = refl
 
-list_is : (heads : List PlyHead) (n : ℕ) (ps : List PropertyParts) (m at : ℕ) → statement at (with_faces heads n ps m None) list_line ≡ Ok (with_faces heads n ps m (Some (2, 5)))
+list_is : (heads : List Head) (n : ℕ) (ps : List PropertyParts) (m at : ℕ) → statement at (with_faces heads n ps m None) list_line ≡ Ok (with_faces heads n ps m (Some (2, 5)))
 unfolding statement body keyword_of is_list list list_of type_of is_indices
 list_is heads n ps m at = refl
 
-list_end : (heads : List PlyHead) (n : ℕ) (ps : List PropertyParts) (m : ℕ) → ends_header (with_faces heads n ps m None) list_line ≡ false
+list_end : (heads : List Head) (n : ℕ) (ps : List PropertyParts) (m : ℕ) → ends_header (with_faces heads n ps m None) list_line ≡ false
 unfolding keyword_of
 list_end heads n ps m = refl
 
-pub faces_step : (heads : List PlyHead) (n : ℕ) (ps : List PropertyParts) (m : ℕ) → m ≤ MAX_FACES → Passes (with_points heads n ps) (element_line (codes "face") m ∷ list_line ∷ []) (with_faces heads n ps m (Some (2, 5)))
+pub faces_step : (heads : List Head) (n : ℕ) (ps : List PropertyParts) (m : ℕ) → m ≤ MAX_FACES → Passes (with_points heads n ps) (element_line (codes "face") m ∷ list_line ∷ []) (with_faces heads n ps m (Some (2, 5)))
 faces_step heads n ps m few =
     Passes-append (with_points heads n ps) (with_faces heads n ps m None) (with_faces heads n ps m (Some (2, 5))) (element_line (codes "face") m ∷ []) (list_line ∷ [])
     (Passes-one (with_points heads n ps) (element_line (codes "face") m) (with_faces heads n ps m None) (face_end heads n ps m) (λ at. face_is heads n ps m at few))

@@ -4,7 +4,8 @@ use Rattle.std.specs.Prelude.{codes}
 use Rattle.std.proofs.lemmas.List.{at_drop_more}
 use Rattle.std.proofs.lemmas.List.Concat.{flat_map-append}
 use Rattle.attr_heads.specs.declared.heads.Head.{Head}
-use Rattle.ply_mesh.specs.Text.{line_text, text_of, type_word, has_usage_names, name_at, property_line, component_lines, property_lines}
+use Rattle.ply_text.specs.PropertyTypes.{type_word}
+use Rattle.ply_mesh.specs.Text.{line_text, text_of, has_usage_names, name_at, property_line, component_lines, property_lines}
 
 pub five : (o a b c d e : List ℕ) → ((((o ++ a) ++ b) ++ c) ++ d) ++ e ≡ o ++ (a ++ (b ++ (c ++ (d ++ e))))
 five o a b c d e = simp append_assoc

@@ -1,9 +1,9 @@
 -- What is written of a geometry is read as that geometry.
-use Rattle.std.proofs.Common.{◌≡◌, ℕ, zero, suc, ◌+◌, ◌-◌, ◌*◌, ◌<◌, ◌≤◌, ◌^◌, Bool, true, false, cond, leb, eqb, List, [], ◌∷◌, ◌++◌, length, drop, map, Option, Some, None, Result, Ok, refl, sym, ap, subst, ◌∙◌, append_assoc, arith}
-use Rattle.std.specs.Prelude.{codes, ℤ, option_map, is_some, is_none, replicate}
+use Rattle.std.proofs.Common.{◌≡◌, ℕ, zero, suc, ◌+◌, ◌-◌, ◌*◌, ◌<◌, ◌≤◌, ◌^◌, Bool, true, List, [], ◌∷◌, ◌++◌, length, drop, map, Option, Some, None, Result, Ok, refl, sym, ap, subst, ◌∙◌, append_assoc, arith}
+use Rattle.std.specs.Prelude.{codes, ℤ, replicate}
 use Rattle.std.specs.List.{AllByRecursion, list_all}
 use Rattle.std.specs.Fmt.{signed_decimal}
-use Rattle.std.proofs.lemmas.Bool.{lt-ltb, le-ltb, ne_eqb, eqb-true, and_from, and_parts, leb-true, cond-true, cond-false}
+use Rattle.std.proofs.lemmas.Bool.{lt-ltb, le-ltb, and_from, cond-true}
 use Rattle.std.proofs.lemmas.Slice.Eq.{bytes_eq-Decides}
 use Rattle.std.proofs.lemmas.List.{length-append, length-map, drop_at, map-append, append-nil}
 use Rattle.std.proofs.lemmas.List.Elements.{recursion_from_All}
@@ -11,11 +11,11 @@ use Rattle.drc_base.specs.declared.faults.Fault.{Fault}
 use Rattle.drc_base.specs.declared.limits.TheConstants.{MAX_POINTS, MAX_FACES, MAX_VALUES, MAX_ATTRIBUTES}
 use Rattle.drc_base.specs.Steps.{◌>>=◌}
 use Rattle.attr_heads.specs.declared.heads.Head.{Head}
-use Rattle.attr_heads.specs.declared.quants.Quant.{Quant}
 use Rattle.mesh_model.specs.declared.geometries.Geometry.{Geometry}
 use Rattle.mesh_model.specs.declared.geometries.Geometry.TheVariants.{Mesh, Cloud}
-use Rattle.attr_heads.specs.Head.{width_of, types_of as column_dtypes, has_type}
+use Rattle.attr_heads.specs.Head.{width_of, types_of as column_dtypes}
 use Rattle.mesh_model.specs.Parts.{RowFits, ArePoints, IsFaceOf}
+use Rattle.attr_heads.proofs.Types.{type_passes, type_few}
 use Rattle.attr_heads.proofs.Widths.{width_of-bounds}
 use Rattle.mesh_model.specs.Contents.{heads_in}
 use Rattle.mesh_model.specs.IsGeometry.{IsGeometry}
@@ -25,10 +25,11 @@ use Rattle.ply_text.specs.Tokens.{token_lines}
 use Rattle.ply_text.specs.Words.{keyword_of}
 use Rattle.ply_text.specs.Declarations.{is_magic, is_format}
 use Rattle.ply_text.specs.Draft.{Draft, PropertyParts, statement, body}
-use Rattle.ply_text.specs.Header.{column_type, column_types, is_head_typed, property_types, is_whole, heads_of, agrees, header_by, ply_header_at, ends_header, header_from, no_draft, header_of_lines, header_of}
+use Rattle.ply_text.specs.PropertyTypes.{column_type}
+use Rattle.ply_text.specs.Header.{column_types, is_head_typed, property_types, is_whole, heads_of, agrees, header_by, ply_header_at, ends_header, header_from, no_draft, header_of_lines, header_of}
 use Rattle.ply_mesh.specs.Fields.{HasFields}
 use Rattle.ply_mesh.specs.Body.{row_read, face_of, items_from}
-use Rattle.ply_mesh.specs.Read.{geometry_quant, geometry_head, body_of, ply_read}
+use Rattle.ply_mesh.specs.Read.{body_of, ply_read}
 use Rattle.ply_mesh.specs.Text.{head_lines, has_usage_names, property_lines, element_line, faces_header, point_lines, face_line, face_lines, ply_text, text_of}
 use Rattle.ply_mesh.proofs.Lexing.{are_tokens, are_lines, list_all-append, lines_again}
 use Rattle.ply_mesh.proofs.NumberTexts.{IsSmall}
@@ -36,25 +37,15 @@ use Rattle.ply_mesh.proofs.TokenTexts.{head_tokens, property_tokens, element_tok
 use Rattle.ply_mesh.proofs.WellFormed.{IsTyped, columns_are, length-types_of}
 use Rattle.ply_mesh.proofs.BodyAgain.{typed_small, row_back, row_typed_back, items_back, face_back}
 use Rattle.ply_mesh.proofs.BodySteps.{cloud_from, mesh_ends}
-use Rattle.ply_mesh.proofs.HeaderSteps.{Lines, Passes, Passes-one, Passes-append, ply_quant, ply_head, with_heads, heads_step, with_points, vertex_step, components_of, all_properties, properties_step, with_faces, faces_step}
+use Rattle.ply_mesh.proofs.HeaderSteps.{Lines, Passes, Passes-one, Passes-append, with_heads, heads_step, with_points, vertex_step, components_of, all_properties, properties_step, with_faces, faces_step}
 
 -- ---- heads and their columns
-
-quant_back : (o : Option Quant) → option_map geometry_quant (option_map ply_quant o) ≡ o
-quant_back None = refl
-quant_back (Some q) = refl
-
-heads_back : (hs : List Head) → map geometry_head (map ply_head hs) ≡ hs
-heads_back [] = refl
-heads_back (h ∷ hs) =
-    let one : geometry_head (ply_head h) ≡ h = ap (λ (o : Option Quant). record { usage = h.usage; dtype = h.dtype; comps = h.comps; normalized = h.normalized; id = h.id; quant = o }) (quant_back h.quant) in
-    ap (λ (x : Head). x ∷ map geometry_head (map ply_head hs)) one ∙ ap (λ (xs : List Head). h ∷ xs) (heads_back hs)
 
 component_types : (named : Bool) (k : ℕ) (h : Head) (j n : ℕ) → property_types (components_of named k h j n) ≡ replicate n (column_type h.dtype)
 component_types named k h j zero = refl
 component_types named k h j (suc n) = ap (λ (ds : List ℕ). column_type h.dtype ∷ ds) (component_types named k h (j + 1) n)
 
-all_types : (all : List Head) (k : ℕ) (hs : List Head) → property_types (all_properties all k hs) ≡ column_types (map ply_head hs)
+all_types : (all : List Head) (k : ℕ) (hs : List Head) → property_types (all_properties all k hs) ≡ column_types hs
 unfolding column_types
 all_types all k [] = refl
 all_types all k (h ∷ hs) =
@@ -62,20 +53,9 @@ all_types all k (h ∷ hs) =
     ∙ ap (λ (ds : List ℕ). ds ++ property_types (all_properties all (k + 1) hs)) (component_types (has_usage_names all k h) k h 0 h.comps)
     ∙ ap (λ (ds : List ℕ). replicate h.comps (column_type h.dtype) ++ ds) (all_types all (k + 1) hs)
 
-not_nine : (d : ℕ) → d ≤ 6 → eqb d 9 ≡ false
-not_nine d h = ne_eqb d 9 (λ e. omega arith)
-
-typed_again : (h : Head) → has_type h.dtype h.quant ≡ true → is_head_typed (ply_head h) ≡ true
-typed_again h t = go h.quant refl where
-  go : (o : Option Quant) → h.quant ≡ o → cond (eqb h.dtype 9) (is_some (option_map ply_quant o)) (is_none (option_map ply_quant o)) ≡ true
-  go None e =
-      let p = and_parts (leb 1 h.dtype) (leb h.dtype 6) (ap (has_type h.dtype) (sym e) ∙ t) in
-      cond-false (eqb h.dtype 9) false true (not_nine h.dtype (leb-true h.dtype 6 p.1))
-  go (Some q) e = cond-true (eqb h.dtype 9) true false (ap (has_type h.dtype) (sym e) ∙ t)
-
-all_typed : (hs : List Head) → AllByRecursion HeadSays hs → list_all is_head_typed (map ply_head hs) ≡ true
+all_typed : (hs : List Head) → AllByRecursion HeadSays hs → list_all is_head_typed hs ≡ true
 all_typed [] p = refl
-all_typed (h ∷ hs) p = and_from (is_head_typed (ply_head h)) (list_all is_head_typed (map ply_head hs)) (typed_again h p.0.typed) (all_typed hs p.1)
+all_typed (h ∷ hs) p = and_from (is_head_typed h) (list_all is_head_typed hs) p.0.typed (all_typed hs p.1)
 
 -- ---- the header
 
@@ -83,7 +63,7 @@ abbrev end_line : List (List ℕ)
 end_line = codes "end_header" ∷ []
 
 abbrev made : List Head → ℕ → Option ℕ → Option (ℕ × ℕ) → ℕ → Header
-made hs n faces list body = record { heads = map ply_head hs; vertices = n; faces = faces; types = column_types (map ply_head hs); list = list; body_line = body }
+made hs n faces list body = record { heads = hs; vertices = n; faces = faces; types = column_types hs; list = list; body_line = body }
 
 module _ (hs : List Head) (n : ℕ) (p : HeadsSay hs) (f : AllByRecursion HasFields hs) (wide : 0 < width_of hs) (values : n * width_of hs ≤ MAX_VALUES) where
   abbrev ps : List PropertyParts
@@ -91,34 +71,33 @@ module _ (hs : List Head) (n : ℕ) (p : HeadsSay hs) (f : AllByRecursion HasFie
 
   columns : length ps ≡ width_of hs
   columns =
-      let a : length (property_types ps) ≡ length (column_types (map ply_head hs)) = ap length (all_types hs 0 hs) in
-      let b : length (column_types (map ply_head hs)) ≡ length (column_dtypes (map geometry_head (map ply_head hs))) = ap length (columns_are (map ply_head hs)) ∙ length-map (column_dtypes (map geometry_head (map ply_head hs))) column_type in
-      let c : length (column_dtypes (map geometry_head (map ply_head hs))) ≡ width_of hs = ap (λ (xs : List Head). length (column_dtypes xs)) (heads_back hs) ∙ length-types_of hs in
-      sym (length-map ps _) ∙ a ∙ b ∙ c
+      let a : length (property_types ps) ≡ length (column_types hs) = ap length (all_types hs 0 hs) in
+      let b : length (column_types hs) ≡ length (column_dtypes hs) = ap length (columns_are hs) ∙ length-map (column_dtypes hs) column_type in
+      sym (length-map ps _) ∙ a ∙ b ∙ length-types_of hs
 
-  agreed : agrees (map ply_head hs) ps ≡ true
+  agreed : agrees hs ps ≡ true
   unfolding agrees
-  agreed = and_from _ _ ((bytes_eq-Decides (column_types (map ply_head hs)) (property_types ps)).1 (sym (all_types hs 0 hs))) (all_typed hs (recursion_from_All HeadSays hs p.each))
+  agreed = and_from _ _ ((bytes_eq-Decides (column_types hs) (property_types ps)).1 (sym (all_types hs 0 hs))) (all_typed hs (recursion_from_All HeadSays hs p.each))
 
-  cloud_end : (at : ℕ) → ply_header_at at (with_points (map ply_head hs) n ps) end_line ≡ Ok (made hs n None None (at + 1))
+  cloud_end : (at : ℕ) → ply_header_at at (with_points hs n ps) end_line ≡ Ok (made hs n None None (at + 1))
   unfolding ply_header_at is_whole heads_of header_by
   cloud_end at =
       rw (
         lt-ltb 0 (length ps) (omega (arith, columns)),
-        lt-ltb 0 (length (map ply_head hs)) (omega (arith, p.some, length-map hs ply_head)),
-        le-ltb MAX_ATTRIBUTES (length (map ply_head hs)) (omega (arith, p.few, length-map hs ply_head)),
+        lt-ltb 0 (length hs) (omega (arith, p.some)),
+        le-ltb MAX_ATTRIBUTES (length hs) (omega (arith, p.few)),
         agreed,
         le-ltb MAX_VALUES (n * length ps) (subst (λ w. n * w ≤ MAX_VALUES) (sym columns) values),
         all_types hs 0 hs,
       ) refl
 
-  mesh_end : (m at : ℕ) → ply_header_at at (with_faces (map ply_head hs) n ps m (Some (2, 5))) end_line ≡ Ok (made hs n (Some m) (Some (2, 5)) (at + 1))
+  mesh_end : (m at : ℕ) → ply_header_at at (with_faces hs n ps m (Some (2, 5))) end_line ≡ Ok (made hs n (Some m) (Some (2, 5)) (at + 1))
   unfolding ply_header_at is_whole heads_of header_by
   mesh_end m at =
       rw (
         lt-ltb 0 (length ps) (omega (arith, columns)),
-        lt-ltb 0 (length (map ply_head hs)) (omega (arith, p.some, length-map hs ply_head)),
-        le-ltb MAX_ATTRIBUTES (length (map ply_head hs)) (omega (arith, p.few, length-map hs ply_head)),
+        lt-ltb 0 (length hs) (omega (arith, p.some)),
+        le-ltb MAX_ATTRIBUTES (length hs) (omega (arith, p.few)),
         agreed,
         le-ltb MAX_VALUES (n * length ps) (subst (λ w. n * w ≤ MAX_VALUES) (sym columns) values),
         all_types hs 0 hs,
@@ -139,14 +118,13 @@ format_step = Passes-one no_draft format_line (with_heads []) refl format_is
 abbrev points_rest : List Head → ℕ → Lines
 points_rest hs n = format_line ∷ ((head_lines 0 hs ++ element_line (codes "vertex") n ∷ []) ++ property_lines hs 0 hs)
 
-points_pass : (hs : List Head) (n : ℕ) → HeadsSay hs → AllByRecursion HasFields hs → n ≤ MAX_POINTS → Passes no_draft (points_rest hs n) (with_points (map ply_head hs) n (all_properties hs 0 hs))
+points_pass : (hs : List Head) (n : ℕ) → HeadsSay hs → AllByRecursion HasFields hs → n ≤ MAX_POINTS → Passes no_draft (points_rest hs n) (with_points hs n (all_properties hs 0 hs))
 points_pass hs n p f few =
-    let heads = map ply_head hs in
     let each = recursion_from_All HeadSays hs p.each in
     let a = heads_step 0 [] hs refl (omega (arith, p.few)) each f in
-    let b = Passes-append (with_heads []) (with_heads heads) (with_points heads n []) (head_lines 0 hs) (element_line (codes "vertex") n ∷ []) a (vertex_step heads n few) in
-    let c = Passes-append (with_heads []) (with_points heads n []) (with_points heads n (all_properties hs 0 hs)) (head_lines 0 hs ++ element_line (codes "vertex") n ∷ []) (property_lines hs 0 hs) b (properties_step heads n [] hs 0 hs each) in
-    Passes-append no_draft (with_heads []) (with_points heads n (all_properties hs 0 hs)) (format_line ∷ []) ((head_lines 0 hs ++ element_line (codes "vertex") n ∷ []) ++ property_lines hs 0 hs) format_step c
+    let b = Passes-append (with_heads []) (with_heads hs) (with_points hs n []) (head_lines 0 hs) (element_line (codes "vertex") n ∷ []) a (vertex_step hs n few) in
+    let c = Passes-append (with_heads []) (with_points hs n []) (with_points hs n (all_properties hs 0 hs)) (head_lines 0 hs ++ element_line (codes "vertex") n ∷ []) (property_lines hs 0 hs) b (properties_step hs n [] hs 0 hs each) in
+    Passes-append no_draft (with_heads []) (with_points hs n (all_properties hs 0 hs)) (format_line ∷ []) ((head_lines 0 hs ++ element_line (codes "vertex") n ∷ []) ++ property_lines hs 0 hs) format_step c
 
 end_is : (d : Draft) → d.formatted ≡ true → ends_header d end_line ≡ true
 unfolding keyword_of
@@ -171,12 +149,7 @@ read_again text xs d h rest g cut pass formatted last place meaning =
 -- ---- tokens and lines
 
 dtype_few : (h : Head) → HeadSays h → h.dtype < 2 ^ 32
-dtype_few h p = go h.quant refl where
-  go : (o : Option Quant) → h.quant ≡ o → h.dtype < 2 ^ 32
-  go None e =
-      let q = and_parts (leb 1 h.dtype) (leb h.dtype 6) (ap (has_type h.dtype) (sym e) ∙ p.typed) in
-      omega (arith, leb-true h.dtype 6 q.1)
-  go (Some q) e = omega (arith, eqb-true h.dtype 9 (ap (has_type h.dtype) (sym e) ∙ p.typed))
+dtype_few h p = omega (arith, type_few h.dtype (type_passes h.dtype h.quant p.typed))
 
 dtypes_few : (hs : List Head) → AllByRecursion HeadSays hs → AllByRecursion (λ h. h.dtype < 2 ^ 32) hs
 dtypes_few [] p = tt
@@ -209,13 +182,10 @@ module _ (hs : List Head) (points : List (List ℤ)) (is : ArePoints hs points) 
   fits : AllByRecursion (RowFits hs) points
   fits = recursion_from_All (RowFits hs) points is.rows_fit
 
-  types_are : column_types (map ply_head hs) ≡ map column_type (column_dtypes hs)
-  types_are = columns_are (map ply_head hs) ∙ ap (λ (xs : List Head). map column_type (column_dtypes xs)) (heads_back hs)
-
-  rows_back : (at : ℕ) (rest : Lines) → items_from (row_read (column_types (map ply_head hs))) (length points) at (point_lines points ++ rest) ≡ Ok (points, rest)
+  rows_back : (at : ℕ) (rest : Lines) → items_from (row_read (column_types hs)) (length points) at (point_lines points ++ rest) ≡ Ok (points, rest)
   rows_back at rest =
-      items_back (RowFits hs) (row_read (column_types (map ply_head hs))) (λ (row : List ℤ). map signed_decimal row)
-      (λ line row fit. ap (λ (ds : List ℕ). row_read ds line (map signed_decimal row)) types_are ∙ row_back (map column_type (column_dtypes hs)) line row (row_typed_back hs row fit))
+      items_back (RowFits hs) (row_read (column_types hs)) (λ (row : List ℤ). map signed_decimal row)
+      (λ line row fit. ap (λ (ds : List ℕ). row_read ds line (map signed_decimal row)) (columns_are hs) ∙ row_back (map column_type (column_dtypes hs)) line row (row_typed_back hs row fit))
       points at rest fits
 
   points_few : length points < 2 ^ 32
@@ -252,8 +222,8 @@ cut_again xs rest a b =
 
 cloud_body : (hs : List Head) (points : List (List ℤ)) → ArePoints hs points → AllByRecursion HasFields hs → (line : ℕ) → body_of (made hs (length points) None None line) (point_lines points) ≡ Ok (cloud_part hs points)
 cloud_body hs points is f line =
-    let rows = ap (items_from (row_read (column_types (map ply_head hs))) (length points) line) (sym (append-nil (point_lines points))) ∙ rows_back hs points is f line [] in
-    cloud_from (made hs (length points) None None line) (point_lines points) [] points refl rows ∙ ap (λ (xs : List Head). Ok (cloud_part xs points)) (heads_back hs)
+    let rows = ap (items_from (row_read (column_types hs)) (length points) line) (sym (append-nil (point_lines points))) ∙ rows_back hs points is f line [] in
+    cloud_from (made hs (length points) None None line) (point_lines points) [] points refl rows
 
 cloud_again : (hs : List Head) (points : List (List ℤ)) → ArePoints hs points → AllByRecursion HasFields hs → ply_read (ply_text (cloud_part hs points)) ≡ Ok (cloud_part hs points)
 unfolding ply_text
@@ -261,7 +231,7 @@ cloud_again hs points is f =
     let xs = points_rest hs (length points) in
     let line = 2 + length xs + 1 in
     let pass = passing hs points is f in
-    read_again (text_of (((ply_line ∷ xs) ++ end_line ∷ []) ++ point_lines points)) xs (with_points (map ply_head hs) (length points) (all_properties hs 0 hs)) (made hs (length points) None None line) (point_lines points) (cloud_part hs points)
+    read_again (text_of (((ply_line ∷ xs) ++ end_line ∷ []) ++ point_lines points)) xs (with_points hs (length points) (all_properties hs 0 hs)) (made hs (length points) None None line) (point_lines points) (cloud_part hs points)
     (cut_again xs (point_lines points) (rest_lines hs points is f) (rows_lines hs points is f))
     (points_pass hs (length points) pass f is.few_points)
     refl
@@ -285,7 +255,6 @@ module _ (hs : List Head) (points : List (List ℤ)) (faces : List (List ℕ)) (
   mesh_body : (line : ℕ) → body_of (mesh_header line) (point_lines points ++ face_lines faces) ≡ Ok (mesh_part hs points faces)
   mesh_body line =
       mesh_ends (mesh_header line) (point_lines points ++ face_lines faces) (face_lines faces) [] points faces (length faces) refl (rows_back hs points is f line (face_lines faces)) (faces_back (line + length points))
-      ∙ ap (λ (xs : List Head). Ok (mesh_part xs points faces)) (heads_back hs)
 
   faces_small : length faces < 2 ^ 32
   faces_small = omega (arith, few)
@@ -297,11 +266,11 @@ module _ (hs : List Head) (points : List (List ℤ)) (faces : List (List ℕ)) (
   body_lines : are_lines (point_lines points ++ face_lines faces) ≡ true
   body_lines = list_all-append are_tokens (point_lines points) (face_lines faces) (rows_lines hs points is f) (face_tokens faces (faces_few (length points) faces is.few_points each))
 
-  mesh_pass : Passes no_draft (mesh_rest hs (length points) (length faces)) (with_faces (map ply_head hs) (length points) (all_properties hs 0 hs) (length faces) (Some (2, 5)))
+  mesh_pass : Passes no_draft (mesh_rest hs (length points) (length faces)) (with_faces hs (length points) (all_properties hs 0 hs) (length faces) (Some (2, 5)))
   mesh_pass =
-      Passes-append no_draft (with_points (map ply_head hs) (length points) (all_properties hs 0 hs)) (with_faces (map ply_head hs) (length points) (all_properties hs 0 hs) (length faces) (Some (2, 5))) (points_rest hs (length points)) (faces_header (length faces))
+      Passes-append no_draft (with_points hs (length points) (all_properties hs 0 hs)) (with_faces hs (length points) (all_properties hs 0 hs) (length faces) (Some (2, 5))) (points_rest hs (length points)) (faces_header (length faces))
       (points_pass hs (length points) (passing hs points is f) f is.few_points)
-      (faces_step (map ply_head hs) (length points) (all_properties hs 0 hs) (length faces) few)
+      (faces_step hs (length points) (all_properties hs 0 hs) (length faces) few)
 
   mesh_again : ply_read (ply_text (mesh_part hs points faces)) ≡ Ok (mesh_part hs points faces)
   unfolding ply_text
@@ -311,7 +280,7 @@ module _ (hs : List Head) (points : List (List ℤ)) (faces : List (List ℕ)) (
       let rest = point_lines points ++ face_lines faces in
       let head = (ply_line ∷ xs) ++ end_line ∷ [] in
       let regrouped : (head ++ point_lines points) ++ face_lines faces ≡ head ++ rest = append_assoc head (point_lines points) (face_lines faces) in
-      read_again (text_of ((head ++ point_lines points) ++ face_lines faces)) xs (with_faces (map ply_head hs) (length points) (all_properties hs 0 hs) (length faces) (Some (2, 5))) (mesh_header line) rest (mesh_part hs points faces)
+      read_again (text_of ((head ++ point_lines points) ++ face_lines faces)) xs (with_faces hs (length points) (all_properties hs 0 hs) (length faces) (Some (2, 5))) (mesh_header line) rest (mesh_part hs points faces)
       (ap (λ (ls : Lines). token_lines (text_of ls)) regrouped ∙ cut_again xs rest mesh_lines body_lines)
       mesh_pass
       refl

@@ -9,7 +9,9 @@ use Rattle.attr_heads.specs.declared.quants.Quant.{Quant}
 use Rattle.attr_heads.specs.Quants.{has_bits}
 use Rattle.attr_heads.proofs.Passing.{HeadSays}
 use Rattle.ply_mesh.specs.Fields.{HasFields}
-use Rattle.ply_mesh.specs.Text.{pattern_text, attr_line, quant_line, quant_lines, head_lines, type_word, usage_name, plain_name, name_at, has_usage_names, property_line, component_lines, property_lines, element_line, face_line}
+use Rattle.ply_text.specs.PropertyTypes.{type_word}
+use Rattle.ply_text.proofs.PropertyTypes.{written_word}
+use Rattle.ply_mesh.specs.Text.{pattern_text, attr_line, quant_line, quant_lines, head_lines, usage_name, plain_name, name_at, has_usage_names, property_line, component_lines, property_lines, element_line, face_line}
 use Rattle.ply_mesh.proofs.Lexing.{is_token, are_tokens, are_lines, list_all-append}
 use Rattle.ply_mesh.proofs.NumberTexts.{decimal_token, decimal_above, signed_token, pattern_token, IsSmall}
 use Rattle.std.proofs.lemmas.Bool.{leb-true, and_parts}
@@ -31,10 +33,7 @@ next : {t : List ℕ} {ts : List (List ℕ)} → Token t → Tokens ts → Token
 next {t} {ts} h k = record { all = more t ts h k.all }
 
 word_token : (d : ℕ) → Token (type_word d)
-unfolding type_word
-word_token d =
-    cond_both (eqb d 1) (codes "char") _ Token (λ _. refl) (λ _. cond_both (eqb d 2) (codes "uchar") _ Token (λ _. refl) (λ _. cond_both (eqb d 3) (codes "short") _ Token (λ _. refl) (λ _.
-    cond_both (eqb d 4) (codes "ushort") _ Token (λ _. refl) (λ _. cond_both (eqb d 6) (codes "uint") (codes "int") Token (λ _. refl) (λ _. refl)))))
+word_token d = written_word Token refl refl refl refl refl refl d
 
 usage_token : (u j : ℕ) → Token (usage_name u j)
 unfolding usage_name

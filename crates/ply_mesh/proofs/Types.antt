@@ -1,31 +1,40 @@
 -- Numbers in the range of a data type, which all fit 64 bits.
-use Rattle.std.proofs.Common.{◌≡◌, ℕ, suc, ◌-◌, ◌<◌, ◌≤◌, eqb, ◌^◌, Bool, true, false, ◌&&◌, cond, List, Option, Some, None, refl, sym, ap, ◌∙◌, inl, inr, arith}
+use Rattle.std.proofs.Common.{◌≡◌, ℕ, suc, ◌-◌, ◌<◌, ◌≤◌, ◌^◌, Bool, true, false, ◌&&◌, cond, List, Option, Some, None, refl, sym, ap, ◌∙◌, inl, inr, arith}
 use Rattle.std.specs.Prelude.{ℤ, pos, negsuc, neg_ℤ, int_le, unsigned_abs}
-use Rattle.std.proofs.lemmas.Bool.{cases_Bool, cond_both, leb-true, le-leb}
-use Rattle.attr_heads.specs.DataTypes.{least_of, greatest_of, in_type}
+use Rattle.std.proofs.lemmas.Bool.{cases_Bool, leb-true, le-leb}
+use Rattle.attr_heads.specs.declared.data_types.DataType.{DataType}
+use Rattle.attr_heads.specs.declared.data_types.DataType.TheVariants.{Int8, Uint8, Int16, Uint16, Int32, Uint32, Float32}
+use Rattle.attr_heads.specs.DataTypes.{type_of, least_in, greatest_in, least_of, greatest_of, in_type}
 use Rattle.ply_text.specs.Numbers.{integer_of, only_if, is_between}
 use Rattle.ply_text.proofs.Signs.{plus_between, minus_between}
 use Rattle.ply_mesh.specs.Body.{IsRange, token_number}
 
 -- how far the least value of a data type lies below 0, and its greatest value
-least_is : (d : ℕ) → (least_of d ≡ neg_ℤ (pos (unsigned_abs (least_of d)))) × (unsigned_abs (least_of d) ≤ 2 ^ 31)
-least_is d =
-    let P : ℤ → Type 0 = λ z. (z ≡ neg_ℤ (pos (unsigned_abs z))) × (unsigned_abs z ≤ 2 ^ 31) in
-    cond_both (eqb d 1) (negsuc 127) _ P (λ _. (refl, omega arith)) (λ _.
-    cond_both (eqb d 3) (negsuc 32767) _ P (λ _. (refl, omega arith)) (λ _.
-    cond_both (eqb d 5) (negsuc 2147483647) _ P (λ _. (refl, omega arith)) (λ _.
-    cond_both (eqb d 9) (negsuc 2147483647) (pos 0) P (λ _. (refl, omega arith)) (λ _. (refl, omega arith)))))
+least_is : (t : Option DataType) → (least_in t ≡ neg_ℤ (pos (unsigned_abs (least_in t)))) × (unsigned_abs (least_in t) ≤ 2 ^ 31)
+least_is None = (refl, omega arith)
+least_is (Some Int8) = (refl, omega arith)
+least_is (Some Uint8) = (refl, omega arith)
+least_is (Some Int16) = (refl, omega arith)
+least_is (Some Uint16) = (refl, omega arith)
+least_is (Some Int32) = (refl, omega arith)
+least_is (Some Uint32) = (refl, omega arith)
+least_is (Some Float32) = (refl, omega arith)
 
-greatest_is : (d : ℕ) → (greatest_of d ≡ pos (unsigned_abs (greatest_of d))) × (unsigned_abs (greatest_of d) < 2 ^ 31)
-greatest_is d =
-    let P : ℤ → Type 0 = λ z. (z ≡ pos (unsigned_abs z)) × (unsigned_abs z < 2 ^ 31) in
-    cond_both (eqb d 1) (pos 127) _ P (λ _. (refl, omega arith)) (λ _.
-    cond_both (eqb d 2) (pos 255) _ P (λ _. (refl, omega arith)) (λ _.
-    cond_both (eqb d 3) (pos 32767) _ P (λ _. (refl, omega arith)) (λ _.
-    cond_both (eqb d 4) (pos 65535) (pos 2147483647) P (λ _. (refl, omega arith)) (λ _. (refl, omega arith)))))
+greatest_is : (t : Option DataType) → (greatest_in t ≡ pos (unsigned_abs (greatest_in t))) × (unsigned_abs (greatest_in t) < 2 ^ 31)
+greatest_is None = (refl, omega arith)
+greatest_is (Some Int8) = (refl, omega arith)
+greatest_is (Some Uint8) = (refl, omega arith)
+greatest_is (Some Int16) = (refl, omega arith)
+greatest_is (Some Uint16) = (refl, omega arith)
+greatest_is (Some Int32) = (refl, omega arith)
+greatest_is (Some Uint32) = (refl, omega arith)
+greatest_is (Some Float32) = (refl, omega arith)
 
 pub range_is : (d : ℕ) → IsRange d (unsigned_abs (least_of d)) (unsigned_abs (greatest_of d))
-range_is d = record { least = (least_is d).0; greatest = (greatest_is d).0; few = (least_is d).1; small = (greatest_is d).1 }
+range_is d =
+    let least = least_is (type_of d) in
+    let greatest = greatest_is (type_of d) in
+    record { least = least.0; greatest = greatest.0; few = least.1; small = greatest.1 }
 
 pub in_type_is : (dtype below most : ℕ) (v : ℤ) → IsRange dtype below most → in_type dtype v ≡ is_between below most v
 unfolding in_type

@@ -1,33 +1,30 @@
 -- Rows and faces that are read fit the header.
-use Rattle.std.proofs.Common.{◌≡◌, ℕ, zero, suc, ◌+◌, ◌*◌, ◌<◌, ◌≤◌, Bool, true, false, ◌||◌, cond, eqb, leb, ltb, List, [], ◌∷◌, ◌++◌, length, get_or, map, All, Option, Some, None, Result, Ok, refl, sym, ap, subst, ◌∙◌, inl, inr, arith}
-use Rattle.std.specs.Prelude.{ℤ, pos, negsuc, option_and_then, option_map, IfSome, replicate, is_some, is_none}
+use Rattle.std.proofs.Common.{◌≡◌, ℕ, zero, suc, ◌+◌, ◌*◌, ◌<◌, ◌≤◌, Bool, true, false, ◌&&◌, cond, eqb, ltb, List, [], ◌∷◌, ◌++◌, length, get_or, map, All, Option, Some, None, Result, Ok, refl, sym, ap, subst, ◌∙◌, arith}
+use Rattle.std.specs.Prelude.{ℤ, pos, negsuc, int_le, option_and_then, IfSome, replicate}
 use Rattle.std.specs.List.{AllByRecursion}
-use Rattle.std.proofs.lemmas.Bool.{cases_Bool, eqb-true, eq-eqb, ltb-true, le-leb, and_parts, and_from, or_cases, false≢true}
+use Rattle.std.proofs.lemmas.Bool.{ltb-true}
 use Rattle.std.proofs.lemmas.List.{length-append, length-map, length-replicate, map-append}
-use Rattle.std.proofs.lemmas.List.Elements.{All-from_recursion, recursion_from_All}
+use Rattle.std.proofs.lemmas.List.Elements.{All-from_recursion}
 use Rattle.std.proofs.lemmas.List.Sums.{sum_by-cons}
 use Rattle.std.proofs.lemmas.Option.{same_Some}
 use Rattle.drc_base.specs.declared.faults.Fault.{Fault}
 use Rattle.drc_base.specs.declared.kinds.Kind.TheVariants.{PlyRow, PlyNumber, PlyIndex}
 use Rattle.attr_heads.specs.declared.heads.Head.{Head}
-use Rattle.attr_heads.specs.DataTypes.{in_type}
-use Rattle.attr_heads.specs.Quants.{has_minima, has_bits}
-use Rattle.attr_heads.specs.Head.{width_of, types_of, has_type, head_fault, each_fault, heads_fault}
-use Rattle.attr_heads.proofs.FirstFaults.{unless-true, first_fault-cons}
-use Rattle.drc_base.specs.declared.kinds.Kind.TheVariants.{NoAttribute, AttrLimit, AttrType, DataType, Components, QuantBits}
-use Rattle.drc_base.specs.declared.limits.TheConstants.{MAX_ATTRIBUTES, MAX_COMPONENTS, MAX_VALUES, MAX_FACES}
+use Rattle.attr_heads.specs.declared.data_types.DataType.{DataType}
+use Rattle.attr_heads.specs.declared.data_types.DataType.TheVariants.{Int8, Uint8, Int16, Uint16, Int32, Uint32, Float32}
+use Rattle.attr_heads.specs.DataTypes.{byte_of, type_of, float_in, least_in, greatest_in, in_type}
+use Rattle.attr_heads.specs.Head.{width_of, types_of}
+use Rattle.drc_base.specs.declared.limits.TheConstants.{MAX_VALUES, MAX_FACES}
 use Rattle.drc_base.specs.Steps.{◌>>=◌}
 use Rattle.mesh_model.specs.Parts.{RowFits, IsFaceOf, ArePoints, AreRows, IsMesh, cells_of, cloud_of, mesh_of}
 use Rattle.mesh_model.proofs.Made.{AreRows-cells_of, cloud_of-IsCloud, mesh_of-IsMesh}
-use Rattle.ply_text.specs.declared.headers.PlyHead.{PlyHead}
 use Rattle.ply_text.specs.Faults.{or_refuse}
 use Rattle.ply_text.specs.Numbers.{integer_of}
-use Rattle.ply_text.specs.declared.headers.PlyQuant.{PlyQuant}
 use Rattle.ply_text.specs.declared.headers.Header.{Header}
-use Rattle.ply_text.specs.Header.{column_type, column_types, is_head_typed}
-use Rattle.ply_text.specs.IsHeader.{PlyQuantFits, PlyHeadFits, IsHeader}
+use Rattle.ply_text.specs.Header.{column_types}
+use Rattle.ply_text.specs.PropertyTypes.{column_type}
+use Rattle.ply_text.specs.IsHeader.{IsHeader}
 use Rattle.ply_mesh.specs.Body.{token_number, numbers_of, row_read, point_numbered, points_numbered, indices_of, face_count_read, face_of, items_from}
-use Rattle.ply_mesh.specs.Read.{geometry_quant, geometry_head}
 use Rattle.ply_mesh.proofs.Binds.{bind_ok, some_ok, then_ok, then_some, only_test}
 
 -- ---- items
@@ -87,13 +84,21 @@ row_typed ds at line row e =
     let t = then_ok (eqb (length line) (length ds)) (or_refuse PlyNumber at (numbers_of ds line)) PlyRow at row e in
     numbers_typed ds line row (some_ok PlyNumber at (numbers_of ds line) row t.1)
 
--- a quantised value has the range of int
+-- the integers that stand for floats are all those of int32
+column_in : (d : ℕ) (v : ℤ) (t : Option DataType) → type_of d ≡ t → in_type (cond (float_in t) (byte_of Int32) d) v ≡ (int_le (least_in t) v && int_le v (greatest_in t))
+unfolding in_type
+column_in d v None e = ap (λ (o : Option DataType). int_le (least_in o) v && int_le v (greatest_in o)) e
+column_in d v (Some Int8) e = ap (λ (o : Option DataType). int_le (least_in o) v && int_le v (greatest_in o)) e
+column_in d v (Some Uint8) e = ap (λ (o : Option DataType). int_le (least_in o) v && int_le v (greatest_in o)) e
+column_in d v (Some Int16) e = ap (λ (o : Option DataType). int_le (least_in o) v && int_le v (greatest_in o)) e
+column_in d v (Some Uint16) e = ap (λ (o : Option DataType). int_le (least_in o) v && int_le v (greatest_in o)) e
+column_in d v (Some Int32) e = ap (λ (o : Option DataType). int_le (least_in o) v && int_le v (greatest_in o)) e
+column_in d v (Some Uint32) e = ap (λ (o : Option DataType). int_le (least_in o) v && int_le v (greatest_in o)) e
+column_in d v (Some Float32) e = refl
+
 pub column_same : (d : ℕ) (v : ℤ) → in_type (column_type d) v ≡ in_type d v
 unfolding in_type
-column_same d v = elim (cases_Bool (eqb d 9)) [
-  | inl nine ↦ subst (λ n. in_type (column_type n) v ≡ in_type n v) (sym (eqb-true d 9 nine)) refl
-  | inr other ↦ ap (λ b. in_type (cond b 5 d) v) other
-]
+column_same d v = column_in d v (type_of d) refl
 
 typed_columns : (ds : List ℕ) (vs : List ℤ) → IsTyped (map column_type ds) vs → IsTyped ds vs
 typed_columns [] [] h = tt
@@ -106,12 +111,12 @@ map-replicate zero d = refl
 map-replicate (suc n) d = ap (λ (ds : List ℕ). column_type d ∷ ds) (map-replicate n d)
 
 -- the columns of heads that are read
-pub columns_are : (heads : List PlyHead) → column_types heads ≡ map column_type (types_of (map geometry_head heads))
+pub columns_are : (heads : List Head) → column_types heads ≡ map column_type (types_of heads)
 unfolding column_types
 columns_are [] = refl
 columns_are (h ∷ hs) =
     ap (λ (ds : List ℕ). ds ++ column_types hs) (map-replicate h.comps h.dtype) ∙ ap (λ (ds : List ℕ). map column_type (replicate h.comps h.dtype) ++ ds) (columns_are hs)
-    ∙ sym (map-append column_type (replicate h.comps h.dtype) (types_of (map geometry_head hs)))
+    ∙ sym (map-append column_type (replicate h.comps h.dtype) (types_of hs))
 
 pub length-types_of : (heads : List Head) → length (types_of heads) ≡ width_of heads
 length-types_of [] = refl
@@ -128,10 +133,10 @@ typed_at (d ∷ ds) (v ∷ vs) h = let t = typed_at ds vs h.1 in (ap suc t.0, at
   at t zero lt = h.0
   at t (suc j) lt = t.1 j (omega arith)
 
-pub row_fits : (heads : List PlyHead) (types : List ℕ) (row : List ℤ) → column_types heads ≡ types → IsTyped types row → RowFits (map geometry_head heads) row
+pub row_fits : (heads : List Head) (types : List ℕ) (row : List ℤ) → column_types heads ≡ types → IsTyped types row → RowFits heads row
 row_fits heads types row e h =
-    let t = typed_at (types_of (map geometry_head heads)) row (typed_columns (types_of (map geometry_head heads)) row (subst (λ (ds : List ℕ). IsTyped ds row) (sym e ∙ columns_are heads) h)) in
-    let n = length-types_of (map geometry_head heads) in
+    let t = typed_at (types_of heads) row (typed_columns (types_of heads) row (subst (λ (ds : List ℕ). IsTyped ds row) (sym e ∙ columns_are heads) h)) in
+    let n = length-types_of heads in
     (t.0 ∙ n, λ j lt. t.1 j (omega arith))
 
 -- ---- faces
@@ -164,80 +169,30 @@ face_fits list points at (count ∷ tokens) face e =
     let r = points_inside points b.0 face (some_ok PlyIndex at (points_numbered points b.0) face b.2) in
     (r.0 ∙ n, All-from_recursion (λ p. p < points) face r.1)
 
--- ---- heads
-
-type_right : (h : PlyHead) → PlyHeadFits h → is_head_typed h ≡ true → has_type h.dtype (option_map geometry_quant h.quant) ≡ true
-type_right h fits typed = go h.quant refl where
-  go : (q : Option PlyQuant) → h.quant ≡ q → has_type h.dtype (option_map geometry_quant q) ≡ true
-  go None e = elim (cases_Bool (eqb h.dtype 9)) [
-    | inl nine ↦ absurd (false≢true (ap is_some (sym e) ∙ sym (ap (λ b. cond b (is_some h.quant) (is_none h.quant)) nine) ∙ typed))
-    | inr other ↦
-        let p = and_parts (leb 1 h.dtype) (leb h.dtype 6 || eqb h.dtype 9) fits.dtype in
-        elim (or_cases (leb h.dtype 6) (eqb h.dtype 9) p.1) [
-          | inl le ↦ and_from _ _ p.0 le
-          | inr nine ↦ absurd (false≢true (sym other ∙ nine))
-        ]
-  ]
-  go (Some q) e = elim (cases_Bool (eqb h.dtype 9)) [
-    | inl nine ↦ nine
-    | inr other ↦ absurd (false≢true (ap is_none (sym e) ∙ sym (ap (λ b. cond b (is_some h.quant) (is_none h.quant)) other) ∙ typed))
-  ]
-
-minima_right : (h : PlyHead) → PlyHeadFits h → has_minima h.comps (option_map geometry_quant h.quant) ≡ true
-minima_right h fits = go h.quant fits.quant where
-  go : (q : Option PlyQuant) → IfSome q (PlyQuantFits h.comps) → has_minima h.comps (option_map geometry_quant q) ≡ true
-  go None f = refl
-  go (Some q) f = eq-eqb (length q.min) h.comps f.minima
-
-bits_right : (q : Option PlyQuant) (comps : ℕ) → IfSome q (PlyQuantFits comps) → has_bits (option_map geometry_quant q) ≡ true
-bits_right None comps f = refl
-bits_right (Some q) comps f = and_from _ _ (le-leb 1 q.bits f.some_bits) (le-leb q.bits 30 f.few_bits)
-
-passes : (k : ℕ) (h : PlyHead) → PlyHeadFits h → is_head_typed h ≡ true → head_fault k (geometry_head h) ≡ None
-passes k h fits typed =
-    first_fault-cons _ _ (unless-true _ AttrType k (le-leb h.usage 4 fits.usage))
-    (first_fault-cons _ _ (unless-true _ DataType k (type_right h fits typed))
-    (first_fault-cons _ _ (unless-true _ Components k (and_from _ _ (and_from _ _ (le-leb 1 h.comps fits.some) (le-leb h.comps MAX_COMPONENTS fits.few)) (minima_right h fits)))
-    (first_fault-cons _ [] (unless-true _ QuantBits k (bits_right h.quant h.comps fits.quant)) refl)))
-
-each_passes : (k : ℕ) (hs : List PlyHead) → AllByRecursion (λ h. PlyHeadFits h × (is_head_typed h ≡ true)) hs → each_fault k (map geometry_head hs) ≡ None
-each_passes k [] all = refl
-each_passes k (h ∷ hs) all = first_fault-cons _ _ (passes k h all.0.0 all.0.1) (each_passes (k + 1) hs all.1)
-
-pub heads_pass : (h : Header) → IsHeader h → heads_fault (map geometry_head h.heads) ≡ None
-unfolding heads_fault
-heads_pass h is =
-    let n = length-map h.heads geometry_head in
-    let all : All (λ x. PlyHeadFits x × (is_head_typed x ≡ true)) h.heads = λ k d lt. (is.heads k d lt, is.typed k d lt) in
-    first_fault-cons _ _ (unless-true _ NoAttribute _ (le-leb 1 (length (map geometry_head h.heads)) (omega (arith, is.some_heads))))
-    (first_fault-cons _ _ (unless-true _ AttrLimit _ (le-leb (length (map geometry_head h.heads)) MAX_ATTRIBUTES (omega (arith, is.few_heads))))
-    (first_fault-cons _ [] (each_passes 0 h.heads (recursion_from_All (λ x. PlyHeadFits x × (is_head_typed x ≡ true)) h.heads all)) refl))
-
 -- ---- geometries
 
-pub points_fit : (h : Header) → IsHeader h → (lines rest : List (List (List ℕ))) (rows : List (List ℤ)) → items_from (row_read h.types) h.vertices h.body_line lines ≡ Ok (rows, rest) → ArePoints (map geometry_head h.heads) rows × (length rows ≡ h.vertices)
+pub points_fit : (h : Header) → IsHeader h → (lines rest : List (List (List ℕ))) (rows : List (List ℤ)) → items_from (row_read h.types) h.vertices h.body_line lines ≡ Ok (rows, rest) → ArePoints h.heads rows × (length rows ≡ h.vertices)
 points_fit h is lines rest rows e =
-    let heads = map geometry_head h.heads in
     let n = items_count (row_read h.types) h.vertices h.body_line lines rows rest e in
     let typed = items_all (IsTyped h.types) (row_read h.types) (λ at line row r. row_typed h.types at line row r) h.vertices h.body_line lines rows rest e in
-    let columns : length h.types ≡ width_of heads = ap length (sym is.types) ∙ ap length (columns_are h.heads) ∙ length-map (types_of heads) column_type ∙ length-types_of heads in (
+    let columns : length h.types ≡ width_of h.heads = ap length (sym is.types) ∙ ap length (columns_are h.heads) ∙ length-map (types_of h.heads) column_type ∙ length-types_of h.heads in (
       record {
-        heads_pass = heads_pass h is;
+        heads_pass = is.heads;
         few_points = omega (arith, n, is.vertices);
-        few_values = subst (λ k. k * width_of heads ≤ MAX_VALUES) (sym n) (subst (λ w. h.vertices * w ≤ MAX_VALUES) columns is.values);
+        few_values = subst (λ k. k * width_of h.heads ≤ MAX_VALUES) (sym n) (subst (λ w. h.vertices * w ≤ MAX_VALUES) columns is.values);
         rows_fit = λ k d lt. row_fits h.heads h.types (get_or rows k d) is.types (All-from_recursion (IsTyped h.types) rows typed k d lt);
       },
       n,
     )
 
-pub cloud_fits : (h : Header) → IsHeader h → (lines rest : List (List (List ℕ))) (rows : List (List ℤ)) (heads : List Head) (cells : List ℤ) → heads ≡ map geometry_head h.heads → cells ≡ cells_of rows → items_from (row_read h.types) h.vertices h.body_line lines ≡ Ok (rows, rest)
+pub cloud_fits : (h : Header) → IsHeader h → (lines rest : List (List (List ℕ))) (rows : List (List ℤ)) (heads : List Head) (cells : List ℤ) → heads ≡ h.heads → cells ≡ cells_of rows → items_from (row_read h.types) h.vertices h.body_line lines ≡ Ok (rows, rest)
     → AreRows heads cells × (cloud_of heads cells ≡ Ok (record { heads = heads; points = rows }))
 cloud_fits h is lines rest rows heads cells he ce e =
     let p = points_fit h is lines rest rows e in
     let are : ArePoints heads rows = subst (λ (hs : List Head). ArePoints hs rows) (sym he) p.0 in
     rw ce (AreRows-cells_of heads rows are, cloud_of-IsCloud (record { heads = heads; points = rows }) are)
 
-pub mesh_fits : (h : Header) (list : ℕ × ℕ) (count at : ℕ) → IsHeader h → (lines rest more : List (List (List ℕ))) (rows : List (List ℤ)) (faces : List (List ℕ)) (heads : List Head) (cells : List ℤ) → heads ≡ map geometry_head h.heads → cells ≡ cells_of rows → items_from (row_read h.types) h.vertices h.body_line lines ≡ Ok (rows, rest)
+pub mesh_fits : (h : Header) (list : ℕ × ℕ) (count at : ℕ) → IsHeader h → (lines rest more : List (List (List ℕ))) (rows : List (List ℤ)) (faces : List (List ℕ)) (heads : List Head) (cells : List ℤ) → heads ≡ h.heads → cells ≡ cells_of rows → items_from (row_read h.types) h.vertices h.body_line lines ≡ Ok (rows, rest)
     → h.faces ≡ Some count → items_from (face_of list h.vertices) count at rest ≡ Ok (faces, more)
     → AreRows heads cells × (mesh_of heads cells faces ≡ Ok (record { heads = heads; points = rows; faces = faces }))
 mesh_fits h list count at is lines rest more rows faces heads cells he ce e fe fs =

@@ -1,28 +1,15 @@
 -- What a PLY text means: a definition on its lines and each line's tokens (PLY 1.0, in this project's
 -- profile).
-use Rattle.std.specs.Prelude.{ℕ, ◌+◌, ◌-◌, List, map, drop, Option, None, Some, option_map, unwrap_or, Result, Ok, ℤ}
+use Rattle.std.specs.Prelude.{ℕ, ◌+◌, ◌-◌, List, drop, Option, None, Some, unwrap_or, Result, Ok, ℤ}
 use Rattle.drc_base.specs.declared.faults.Fault.{Fault}
 use Rattle.drc_base.specs.Steps.{◌>>=◌}
-use Rattle.attr_heads.specs.declared.quants.Quant.{Quant}
 use Rattle.attr_heads.specs.declared.heads.Head.{Head}
 use Rattle.mesh_model.specs.declared.geometries.Geometry.{Geometry}
 use Rattle.mesh_model.specs.declared.geometries.Geometry.TheVariants.{Mesh, Cloud}
-use Rattle.ply_text.specs.declared.headers.PlyQuant.{PlyQuant}
-use Rattle.ply_text.specs.declared.headers.PlyHead.{PlyHead}
 use Rattle.ply_text.specs.declared.headers.Header.{Header}
 use Rattle.ply_text.specs.Tokens.{token_lines}
 use Rattle.ply_text.specs.Header.{header_of}
 use Rattle.ply_mesh.specs.Body.{row_read, face_of, items_from, ends}
-
--- the same quantisation of a geometry
-abbrev pub geometry_quant : PlyQuant → Quant
-geometry_quant q = record { bits = q.bits; range = q.range; min = q.min }
-
--- the same head of a geometry
-abbrev pub geometry_head : PlyHead → Head
-geometry_head h =
-    let quant = option_map geometry_quant h.quant in
-    record { usage = h.usage; dtype = h.dtype; comps = h.comps; normalized = h.normalized; id = h.id; quant = quant }
 
 -- the geometry of a header, points and faces: without an element of faces it is a cloud
 abbrev pub geometry_of_rows : List Head → List (List ℤ) → Option (List (List ℕ)) → Geometry
@@ -41,7 +28,7 @@ unfoldable pub body_of : Header → List (List (List ℕ)) → Result Geometry F
 body_of h lines = do
   points ← items_from (row_read h.types) h.vertices h.body_line lines
   faces ← face_items_from h (h.body_line + h.vertices) points.1 h.faces
-  ends (geometry_of_rows (map geometry_head h.heads) points.0 faces.0) (h.body_line + h.vertices + unwrap_or h.faces 0) faces.1
+  ends (geometry_of_rows h.heads points.0 faces.0) (h.body_line + h.vertices + unwrap_or h.faces 0) faces.1
 
 -- the geometry of a PLY text, or its first fault
 unfoldable pub ply_read : List ℕ → Result Geometry Fault

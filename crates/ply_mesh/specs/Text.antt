@@ -6,8 +6,10 @@ use Rattle.std.specs.List.{list_any}
 use Rattle.std.specs.Fmt.{decimal, signed_decimal}
 use Rattle.attr_heads.specs.declared.quants.Quant.{Quant}
 use Rattle.attr_heads.specs.declared.heads.Head.{Head}
+use Rattle.attr_heads.specs.declared.usages.TheConstants.{POSITION, NORMAL, COLOUR, TEXTURE_COORDINATE}
 use Rattle.mesh_model.specs.declared.geometries.Geometry.{Geometry}
 use Rattle.mesh_model.specs.declared.geometries.Geometry.TheVariants.{Mesh, Cloud}
+use Rattle.ply_text.specs.PropertyTypes.{type_word}
 
 -- tokens, each with a space before it
 abbrev pub spaced : List (List ℕ) → List ℕ
@@ -64,21 +66,12 @@ head_lines k (h ∷ hs) = (attr_line k h ∷ quant_lines k h.quant) ++ head_line
 
 -- ---- properties
 
--- the type word of a data type; quantised values are int
-unfoldable pub type_word : ℕ → List ℕ
-type_word dtype =
-    if dtype == 1 then codes "char"
-    else (if dtype == 2 then codes "uchar"
-    else (if dtype == 3 then codes "short"
-    else (if dtype == 4 then codes "ushort"
-    else (if dtype == 6 then codes "uint" else codes "int"))))
-
 -- a head that may have names of its usage: a position or a normal of three components, a colour of three or four,
 -- a texture coordinate of two
 abbrev pub may_be_named : Head → Bool
 may_be_named h =
-    ((h.usage == 0 || h.usage == 1) && h.comps == 3)
-    || (h.usage == 2 && (h.comps == 3 || h.comps == 4)) || (h.usage == 3 && h.comps == 2)
+    ((h.usage == POSITION || h.usage == NORMAL) && h.comps == 3)
+    || (h.usage == COLOUR && (h.comps == 3 || h.comps == 4)) || (h.usage == TEXTURE_COORDINATE && h.comps == 2)
 
 -- such a head of this usage
 abbrev pub takes_names : ℕ → Head → Bool
@@ -91,9 +84,9 @@ has_usage_names heads k h = may_be_named h && not (list_any (takes_names h.usage
 -- the j-th name of a usage
 unfoldable pub usage_name : ℕ → ℕ → List ℕ
 usage_name usage j =
-    if usage == 0 then (if j == 0 then codes "x" else (if j == 1 then codes "y" else codes "z"))
-    else (if usage == 1 then (if j == 0 then codes "nx" else (if j == 1 then codes "ny" else codes "nz"))
-    else (if usage == 2
+    if usage == POSITION then (if j == 0 then codes "x" else (if j == 1 then codes "y" else codes "z"))
+    else (if usage == NORMAL then (if j == 0 then codes "nx" else (if j == 1 then codes "ny" else codes "nz"))
+    else (if usage == COLOUR
     then (if j == 0 then codes "red" else (if j == 1 then codes "green" else (if j == 2 then codes "blue" else codes "alpha")))
     else (if j == 0 then codes "s" else codes "t")))
 

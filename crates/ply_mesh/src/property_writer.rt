@@ -3,41 +3,18 @@
 ghost use Rattle.std.specs.Prelude.{◌≡◌, ◌+◌, ◌<◌, ◌≤◌, ◌++◌, ◌∷◌, length, take, OnOk};
 ghost use Rattle.std.specs.List.{list_any};
 ghost use Rattle.std.specs.Fmt.{decimal};
-ghost use Rattle.ply_mesh.specs.Text.{line_text, text_of, type_word, may_be_named, takes_names, has_usage_names, usage_name, plain_name, name_at, property_line, component_lines, property_lines};
+ghost use Rattle.ply_mesh.specs.Text.{line_text, text_of, may_be_named, takes_names, has_usage_names, usage_name, plain_name, name_at, property_line, component_lines, property_lines};
 
-use attr_heads::Head;
+use attr_heads::{COLOUR, Head, NORMAL, POSITION, TEXTURE_COORDINATE};
 use drc_base::Memory;
-use ply_text::put_int;
-
-/// The type word of a data type.
-#[tactic(auto, unfolding(crate::specs::Text::type_word))]
-fn type_word(dtype: u8) -> &'static [u8]
-    ensures { result.now ≡ type_word dtype }
-{
-    if dtype == 1 {
-        return b"char";
-    }
-    if dtype == 2 {
-        return b"uchar";
-    }
-    if dtype == 3 {
-        return b"short";
-    }
-    if dtype == 4 {
-        return b"ushort";
-    }
-    if dtype == 6 {
-        return b"uint";
-    }
-    b"int"
-}
+use ply_text::{put_int, type_word};
 
 /// The j-th name of a usage.
 #[tactic(auto, unfolding(crate::specs::Text::usage_name))]
 fn usage_name(usage: u8, j: u8) -> &'static [u8]
     ensures { result.now ≡ usage_name usage j }
 {
-    if usage == 0 {
+    if usage == POSITION {
         if j == 0 {
             return b"x";
         }
@@ -46,7 +23,7 @@ fn usage_name(usage: u8, j: u8) -> &'static [u8]
         }
         return b"z";
     }
-    if usage == 1 {
+    if usage == NORMAL {
         if j == 0 {
             return b"nx";
         }
@@ -55,7 +32,7 @@ fn usage_name(usage: u8, j: u8) -> &'static [u8]
         }
         return b"nz";
     }
-    if usage == 2 {
+    if usage == COLOUR {
         if j == 0 {
             return b"red";
         }
@@ -79,9 +56,9 @@ fn may_be_named(head: &Head) -> bool
 {
     let usage = head.usage;
     let comps = head.comps;
-    ((usage == 0 || usage == 1) && comps == 3)
-        || (usage == 2 && (comps == 3 || comps == 4))
-        || (usage == 3 && comps == 2)
+    ((usage == POSITION || usage == NORMAL) && comps == 3)
+        || (usage == COLOUR && (comps == 3 || comps == 4))
+        || (usage == TEXTURE_COORDINATE && comps == 2)
 }
 
 fn takes_names(usage: u8, head: &Head) -> bool

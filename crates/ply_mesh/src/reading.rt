@@ -8,13 +8,12 @@ ghost use Rattle.ply_text.specs.DeclaredLines.{declared_of_text};
 ghost use Rattle.ply_text.specs.Tokens.{tokens_of};
 ghost use Rattle.ply_text.specs.IsHeader.{IsHeader};
 ghost use Rattle.ply_mesh.specs.Body.{row_read, items_from, AreRowsRead};
-ghost use Rattle.ply_mesh.specs.Read.{geometry_quant, geometry_head, body_of, ply_read};
+ghost use Rattle.ply_mesh.specs.Read.{body_of, ply_read};
 
 use crate::bodies::{read_end, read_faces, read_rows, skip_lines};
-use attr_heads::{Head, Quant};
-use drc_base::{Memory, Refusal, Sequence};
+use drc_base::Refusal;
 use mesh_model::{Cloud, CornerMesh, Geometry};
-use ply_text::{Header, Lines, PlyHead, PlyQuant, read_header};
+use ply_text::{Header, Lines, read_header};
 use std::alloc::Global;
 
 /// The least bytes of a text that a number takes, with what parts it from the next.
@@ -22,44 +21,6 @@ const NUMBER_BYTES: usize = 2;
 
 /// The least bytes of a text that a face takes: its line, with the LF.
 const FACE_BYTES: usize = 8;
-
-fn quant_of(alloc: Global, quant: &PlyQuant) -> Result<Quant, Memory>
-    ensures { IfOk result (λ q. q ≡ geometry_quant quant.now) }
-{
-    let min = Vec::from_slice(alloc, quant.min.as_slice())?;
-    Ok(Quant {
-        bits: quant.bits,
-        range: quant.range,
-        min: Sequence::from_vec(min),
-    })
-}
-
-fn head_of(alloc: Global, head: &PlyHead) -> Result<Head, Memory>
-    ensures { IfOk result (λ h. h ≡ geometry_head head.now) }
-{
-    let quant = match &head.quant {
-        None => None,
-        Some(quant) => Some(quant_of(alloc, quant)?),
-    };
-    Ok(Head {
-        usage: head.usage,
-        dtype: head.dtype,
-        comps: head.comps,
-        normalized: head.normalized,
-        id: head.id,
-        quant,
-    })
-}
-
-fn heads_of(alloc: Global, heads: &[PlyHead]) -> Result<Vec<Head>, Memory>
-    ensures { IfOk result (λ made. made.items ≡ map geometry_head heads.now) }
-{
-    let mut made = Vec::new(alloc);
-    for i in 0..heads.len() {
-        made.push(head_of(alloc, &heads[i])?)?;
-    }
-    Ok(made)
-}
 
 /// Room for `width` items of each of `count` lines, but for no more than `most`.
 fn room_of(count: u32, width: usize, most: usize) -> usize
@@ -92,56 +53,54 @@ fn read_points(
 /// The cloud of a body.
 fn read_cloud(
     alloc: Global,
-    header: &Header,
+    header: Header,
     lines: &mut Lines<'_>,
     size: usize,
 ) -> Result<Geometry, Refusal>
-    requires header { IsHeader header.now }
-    requires faces { header.now.faces ≡ None }
-    requires room { header.now.body_line + length lines.old < 2 ^ 63 + 8 }
-    ensures { Answers (λ g. g) (body_of header.now (map tokens_of lines.old)) result }
+    requires header { IsHeader header }
+    requires faces { header.faces ≡ None }
+    requires room { header.body_line + length lines.old < 2 ^ 63 + 8 }
+    ensures { Answers (λ g. g) (body_of header (map tokens_of lines.old)) result }
 {
-    let cells = read_points(alloc, header, lines, size)?;
+    let cells = read_points(alloc, &header, lines, size)?;
     read_end(lines, header.body_line + header.vertices as u64)?;
-    let heads = heads_of(alloc, header.heads.as_slice())?;
-    let cloud = Cloud::new(heads, cells)?;
+    let cloud = Cloud::new(header.heads.into_vec(), cells)?;
     Ok(Geometry::Cloud(cloud))
 }
 
 /// The mesh of a body with `count` faces.
 fn read_mesh(
     alloc: Global,
-    header: &Header,
+    header: Header,
     count: u32,
     lines: &mut Lines<'_>,
     size: usize,
 ) -> Result<Geometry, Refusal>
-    requires header { IsHeader header.now }
-    requires faces { header.now.faces ≡ Some count }
-    requires room { header.now.body_line + length lines.old < 2 ^ 63 + 8 }
-    ensures { Answers (λ g. g) (body_of header.now (map tokens_of lines.old)) result }
+    requires header { IsHeader header }
+    requires faces { header.faces ≡ Some count }
+    requires room { header.body_line + length lines.old < 2 ^ 63 + 8 }
+    ensures { Answers (λ g. g) (body_of header (map tokens_of lines.old)) result }
 {
-    let cells = read_points(alloc, header, lines, size)?;
+    let cells = read_points(alloc, &header, lines, size)?;
     let at = header.body_line + header.vertices as u64;
     let list = header.list.unwrap_or((0, 0));
     let room = room_of(count, 1, size / FACE_BYTES);
     let faces = read_faces(alloc, lines, list, header.vertices, count, at, room)?;
     read_end(lines, at + count as u64)?;
-    let heads = heads_of(alloc, header.heads.as_slice())?;
-    let mesh = CornerMesh::new(heads, cells, faces)?;
+    let mesh = CornerMesh::new(header.heads.into_vec(), cells, faces)?;
     Ok(Geometry::Mesh(mesh))
 }
 
 /// The geometry of a body.
 fn read_body(
     alloc: Global,
-    header: &Header,
+    header: Header,
     lines: &mut Lines<'_>,
     size: usize,
 ) -> Result<Geometry, Refusal>
-    requires header { IsHeader header.now }
-    requires room { header.now.body_line + length lines.old < 2 ^ 63 + 8 }
-    ensures { Answers (λ g. g) (body_of header.now (map tokens_of lines.old)) result }
+    requires header { IsHeader header }
+    requires room { header.body_line + length lines.old < 2 ^ 63 + 8 }
+    ensures { Answers (λ g. g) (body_of header (map tokens_of lines.old)) result }
 {
     match header.faces {
         None => read_cloud(alloc, header, lines, size),
@@ -161,5 +120,5 @@ pub fn read_ply(alloc: Global, bytes: &[u8]) -> Result<Geometry, Refusal>
     let header = read_header(alloc, bytes)?;
     let mut lines = Lines::new(bytes);
     skip_lines(&mut lines, header.body_line - 1);
-    read_body(alloc, &header, &mut lines, bytes.len())
+    read_body(alloc, header, &mut lines, bytes.len())
 }

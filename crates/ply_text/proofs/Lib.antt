@@ -4,6 +4,8 @@ pub mod Digits
 pub mod Signs
 pub mod Patterns
 pub mod Heads
+pub mod HeadsPass
+pub mod PropertyTypes
 pub mod Names
 pub mod OutlineSteps
 pub mod Runs

@@ -4,7 +4,7 @@ use Rattle.std.specs.Prelude.{codes}
 use Rattle.drc_base.specs.declared.faults.Fault.{Fault}
 use Rattle.drc_base.specs.declared.kinds.Kind.TheVariants.{PlyFormat, PlyMagic, PlyShort}
 use Rattle.drc_base.specs.Steps.{◌>>=◌}
-use Rattle.ply_text.specs.declared.headers.PlyHead.{PlyHead}
+use Rattle.attr_heads.specs.declared.heads.Head.{Head}
 use Rattle.ply_text.specs.declared.headers.Property.{Property}
 use Rattle.ply_text.specs.declared.words.Keyword.{Keyword}
 use Rattle.ply_text.specs.declared.words.Keyword.TheVariants as keyword
@@ -61,7 +61,7 @@ body_follows at line word old new result e step heads properties each =
 
 -- these lines, after a draft that has this outline, declare what is due
 pub record Declares (at : ℕ) (o : OutlineParts) (lines : List (List (List ℕ))) (due : Result Draft Fault) : Type 0 where
-  pub heads : List PlyHead
+  pub heads : List Head
   pub properties : List Property
   pub each : length heads ≡ o.heads
   pub same : declared_from at (draft_with o heads properties) lines ≡ due
@@ -74,7 +74,7 @@ declares_short at o due h = sym h.same
 
 -- whether a line ends what is tested, whatever draft has the outline
 abbrev pub IsOutlineEnd : OutlineParts → List (List ℕ) → Bool → Type 0
-IsOutlineEnd o line is = (heads : List PlyHead) (properties : List Property) → is ≡ (ends_header (draft_with o heads properties) line || quantises line)
+IsOutlineEnd o line is = (heads : List Head) (properties : List Property) → is ≡ (ends_header (draft_with o heads properties) line || quantises line)
 
 pub declares_end : (at : ℕ) (o : OutlineParts) (line : List (List ℕ)) (lines : List (List (List ℕ))) (due : Result Draft Fault) → Declares at o (line ∷ lines) due → IsOutlineEnd o line true → IsOk due
 declares_end at o line lines due h ends =

@@ -6,6 +6,8 @@ use Rattle.std.proofs.lemmas.Bool.{and_parts, leb-true}
 use Rattle.std.proofs.lemmas.List.{drop_more, drop_all, length-map}
 use Rattle.ply_text.specs.declared.headers.Property.{Property}
 use Rattle.ply_text.specs.declared.name_runs.NameRun.{NameRun as KeptRun}
+use Rattle.attr_heads.specs.declared.usages.TheConstants.{GENERIC}
+use Rattle.attr_heads.specs.Usages.{is_usage}
 use Rattle.ply_text.specs.NamedHeads.{is_named, stand, run_by}
 use Rattle.ply_text.specs.RunParts.{run_parts, runs_of, is_short}
 
@@ -93,16 +95,15 @@ run_stops runs dtype ps k run found h e f there so =
 
 -- a short row has a usage that there is, and one to four names
 pub run_short : (runs : List KeptRun) (dtype : ℕ) (ps : List Property) (k : ℕ) (run : KeptRun) → k < length runs → run ≡ get_or runs k run → RunSoFar runs dtype ps k →
-    (run.usage ≤ 4) × (0 < length run.words.now) × (length run.words.now ≤ 4)
+    (is_usage run.usage ≡ true) × (0 < length run.words.now) × (length run.words.now ≤ 4)
 run_short runs dtype ps k run h e so =
     let b = shorts runs dtype ps k run h e so in
     let long = length-map run.words.now (λ word. word.now) in
-    let u = and_parts (nat_le run.usage 4 && nat_lt 0 (length (texts run.words.now))) (nat_le (length (texts run.words.now)) 4) b.0 in
-    let v = and_parts (nat_le run.usage 4) (nat_lt 0 (length (texts run.words.now))) u.0 in
-    let x = leb-true run.usage 4 v.0 in
+    let u = and_parts (is_usage run.usage && nat_lt 0 (length (texts run.words.now))) (nat_le (length (texts run.words.now)) 4) b.0 in
+    let v = and_parts (is_usage run.usage) (nat_lt 0 (length (texts run.words.now))) u.0 in
     let y = ltb-true 0 (length (texts run.words.now)) v.1 in
     let z = leb-true (length (texts run.words.now)) 4 u.1 in
-    (x, omega (arith, long, y), omega (arith, long, z))
+    (v.0, omega (arith, long, y), omega (arith, long, z))
 
-pub run_ends : (runs : List KeptRun) (dtype : ℕ) (ps : List Property) (k : ℕ) → length runs ≤ k → RunSoFar runs dtype ps k → (4, 1) ≡ run_by (runs_of runs) dtype ps
+pub run_ends : (runs : List KeptRun) (dtype : ℕ) (ps : List Property) (k : ℕ) → length runs ≤ k → RunSoFar runs dtype ps k → (GENERIC, 1) ≡ run_by (runs_of runs) dtype ps
 run_ends runs dtype ps k h so = sym (ap (λ (x : List KeptRun). run_by (runs_of x) dtype ps) (drop_all k runs h)) ∙ so.rest

@@ -1,11 +1,14 @@
 -- The comment lines of a header that describe attributes (this project's choice; the numbers follow
 -- the Draco Bitstream Specification 2.2, attribute decoders).
-use Rattle.std.specs.Prelude.{ℕ, zero, suc, ◌-◌, ◌^◌, ◌&&◌, ◌||◌, Bool, false, List, [], ◌∷◌, length, Option, None, Some}
-use Rattle.std.specs.Prelude.{option_and_then, codes, nat_le, is_none, ◌==◌, slice_get}
+use Rattle.std.specs.Prelude.{ℕ, zero, suc, ◌-◌, ◌^◌, ◌&&◌, Bool, false, List, [], ◌∷◌, length, Option, None, Some}
+use Rattle.std.specs.Prelude.{option_and_then, codes, is_none, ◌==◌, slice_get}
 use Rattle.std.specs.Str.{bytes_eq}
-use Rattle.drc_base.specs.declared.limits.TheConstants.{MAX_COMPONENTS}
-use Rattle.ply_text.specs.declared.headers.PlyHead.{PlyHead}
-use Rattle.ply_text.specs.declared.headers.PlyQuant.{PlyQuant}
+use Rattle.attr_heads.specs.declared.heads.Head.{Head}
+use Rattle.attr_heads.specs.declared.quants.Quant.{Quant}
+use Rattle.attr_heads.specs.Usages.{is_usage}
+use Rattle.attr_heads.specs.DataTypes.{is_type}
+use Rattle.attr_heads.specs.Head.{has_comps}
+use Rattle.attr_heads.specs.Quants.{are_quant_bits}
 use Rattle.ply_text.specs.Numbers.{natural_within, only_if, pattern_of}
 
 infixl 10 ◌>>=◌
@@ -17,23 +20,23 @@ unfoldable pub is_form : List ℕ → List (List ℕ) → Bool
 is_form form (word ∷ drc ∷ second ∷ _) = bytes_eq drc (codes "drc") && bytes_eq second form
 is_form form _ = false
 
--- the data types of attributes
-abbrev pub is_dtype : ℕ → Bool
-is_dtype d = nat_le 1 d && (nat_le d 6 || d == 9)
+-- the byte that a token of digits alone writes
+abbrev pub byte_of : List ℕ → Option ℕ
+byte_of token = natural_within 255 token
 
 -- the attribute that the fields of its line give: its number is the one that is due
-unfoldable pub head_of : ℕ → List ℕ → List ℕ → List ℕ → List ℕ → List ℕ → List ℕ → Option PlyHead
+unfoldable pub head_of : ℕ → List ℕ → List ℕ → List ℕ → List ℕ → List ℕ → List ℕ → Option Head
 head_of number k usage dtype comps normalized id = do
   _ ← only_if (λ n. n == number) (natural_within 15 k)
-  u ← natural_within 4 usage
-  d ← only_if is_dtype (natural_within 9 dtype)
-  c ← only_if (nat_le 1) (natural_within MAX_COMPONENTS comps)
-  flag ← natural_within 255 normalized
+  u ← only_if is_usage (byte_of usage)
+  d ← only_if is_type (byte_of dtype)
+  c ← only_if has_comps (byte_of comps)
+  flag ← byte_of normalized
   i ← natural_within (2 ^ 32 - 1) id
   Some (record { usage = u; dtype = d; comps = c; normalized = flag; id = i; quant = None })
 
 -- `comment drc attr k usage dtype comps normalized id`
-unfoldable pub attr_of : ℕ → List (List ℕ) → Option PlyHead
+unfoldable pub attr_of : ℕ → List (List ℕ) → Option Head
 attr_of number (_ ∷ _ ∷ _ ∷ k ∷ usage ∷ dtype ∷ comps ∷ normalized ∷ id ∷ []) = head_of number k usage dtype comps normalized id
 attr_of number _ = None
 
@@ -46,15 +49,15 @@ patterns_of (token ∷ tokens) = do
   Some (first ∷ others)
 
 -- the quantisation of a head: bits, range, and a minimum for each component
-unfoldable pub fields_of : PlyHead → List ℕ → List ℕ → List (List ℕ) → Option PlyQuant
+unfoldable pub fields_of : Head → List ℕ → List ℕ → List (List ℕ) → Option Quant
 fields_of head bits range minima = do
-  b ← only_if (nat_le 1) (natural_within 30 bits)
+  b ← only_if are_quant_bits (byte_of bits)
   r ← pattern_of range
   m ← only_if (λ min. is_none head.quant && length min == head.comps) (patterns_of minima)
   Some (record { bits = b; range = r; min = m })
 
 -- `comment drc quant k bits range min ..`: the number of a head that isn't quantised yet, and its quantisation
-unfoldable pub quant_of : List PlyHead → List (List ℕ) → Option (ℕ × PlyQuant)
+unfoldable pub quant_of : List Head → List (List ℕ) → Option (ℕ × Quant)
 quant_of heads (_ ∷ _ ∷ _ ∷ k ∷ bits ∷ range ∷ minima) = do
   n ← natural_within 15 k
   head ← slice_get heads n
@@ -63,7 +66,7 @@ quant_of heads (_ ∷ _ ∷ _ ∷ k ∷ bits ∷ range ∷ minima) = do
 quant_of heads _ = None
 
 -- head n with this quantisation
-abbrev pub with_quant : ℕ → PlyQuant → List PlyHead → List PlyHead
+abbrev pub with_quant : ℕ → Quant → List Head → List Head
 with_quant n q [] = []
 with_quant zero q (head ∷ heads) = record head { quant = Some q } ∷ heads
 with_quant (suc n) q (head ∷ heads) = head ∷ with_quant n q heads

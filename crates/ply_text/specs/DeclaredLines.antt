@@ -4,7 +4,7 @@ use Rattle.std.specs.Prelude.{ℕ, ◌≡◌, ◌+◌, ◌||◌, Bool, false, Li
 use Rattle.drc_base.specs.declared.faults.Fault.{Fault}
 use Rattle.drc_base.specs.declared.kinds.Kind.TheVariants.{PlyMagic, PlyShort}
 use Rattle.drc_base.specs.Steps.{◌>>=◌}
-use Rattle.ply_text.specs.declared.headers.PlyHead.{PlyHead}
+use Rattle.attr_heads.specs.declared.heads.Head.{Head}
 use Rattle.ply_text.specs.declared.headers.Property.{Property}
 use Rattle.ply_text.specs.declared.words.Keyword.{Keyword}
 use Rattle.ply_text.specs.declared.words.Keyword.TheVariants as keyword
@@ -49,7 +49,7 @@ pub record OutlineParts : Type 0 where
   pub list : Option (ℕ × ℕ)
 
 -- a draft with these attributes and properties, and else what an outline has
-abbrev pub draft_with : OutlineParts → List PlyHead → List Property → Draft
+abbrev pub draft_with : OutlineParts → List Head → List Property → Draft
 draft_with o heads properties = record {
   formatted = o.formatted;
   heads = heads;
@@ -61,7 +61,7 @@ draft_with o heads properties = record {
 
 -- a draft that has this outline is due
 pub record HasOutline (due : Result Draft Fault) (o : OutlineParts) : Type 0 where
-  pub heads : List PlyHead
+  pub heads : List Head
   pub properties : List Property
   pub is : due ≡ Ok (draft_with o heads properties)
   pub each : length heads ≡ o.heads
@@ -74,7 +74,7 @@ Outlines due o (Err f) = due ≡ Err f
 -- the same of a step from any draft that has the outline `old`
 abbrev pub Follows : (Draft → Result Draft Fault) → OutlineParts → OutlineParts → Result (Unit {0}) Fault → Type 0
 Follows step old new result =
-    (heads : List PlyHead) (properties : List Property) → length heads ≡ old.heads →
+    (heads : List Head) (properties : List Property) → length heads ≡ old.heads →
     Outlines (step (draft_with old heads properties)) new result
 
 -- the outline of nothing

@@ -8,14 +8,15 @@ use Rattle.drc_base.specs.declared.kinds.Kind.TheVariants.{PlyFormat, PlyHeader,
 use Rattle.drc_base.specs.declared.kinds.Kind.TheVariants.{FaceLimit, AttrLimit}
 use Rattle.drc_base.specs.declared.limits.TheConstants.{MAX_POINTS, MAX_FACES, MAX_ATTRIBUTES}
 use Rattle.drc_base.specs.Steps.{◌>>=◌}
-use Rattle.ply_text.specs.declared.headers.PlyHead.{PlyHead}
+use Rattle.attr_heads.specs.declared.heads.Head.{Head}
 use Rattle.ply_text.specs.declared.headers.Property.{Property}
 use Rattle.ply_text.specs.declared.drafts.HeaderDraft.{HeaderDraft}
 use Rattle.ply_text.specs.declared.words.Keyword.{Keyword}
 use Rattle.ply_text.specs.declared.words.Keyword.TheVariants as keyword
 use Rattle.ply_text.specs.Faults.{refuse, or_refuse}
 use Rattle.ply_text.specs.Numbers.{natural_within}
-use Rattle.ply_text.specs.Words.{type_of, is_indices}
+use Rattle.ply_text.specs.Words.{is_indices}
+use Rattle.ply_text.specs.PropertyTypes.{type_of}
 use Rattle.ply_text.specs.Comments.{is_form, attr_of, quant_of, with_quant}
 use Rattle.ply_text.specs.Declarations.{is_format, keyword_at, element_of, is_list, scalar_of, list_of}
 
@@ -29,7 +30,7 @@ property dtype name = record { dtype = dtype; name = name }
 -- what was declared so far
 pub record Draft : Type 0 where
   pub formatted : Bool
-  pub heads : List PlyHead
+  pub heads : List Head
   pub vertices : Option ℕ
   pub properties : List Property
   pub faces : Option ℕ

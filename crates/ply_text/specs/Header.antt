@@ -1,34 +1,32 @@
 -- The header of a PLY text: a definition on its lines' tokens (PLY 1.0, in this project's profile).
 use Rattle.std.specs.Prelude.{ℕ, ◌+◌, ◌*◌, ◌&&◌, ◌||◌, Bool, true, false, not, List, [], ◌∷◌, length, map, replicate, flat_map}
-use Rattle.std.specs.Prelude.{None, Result, Ok, nat_lt, ◌==◌, is_some, is_none, unwrap_or, if◌then◌else◌}
+use Rattle.std.specs.Prelude.{None, Result, Ok, nat_lt, is_some, is_none, unwrap_or, if◌then◌else◌}
 use Rattle.std.specs.List.{list_all}
 use Rattle.std.specs.Str.{bytes_eq}
 use Rattle.drc_base.specs.declared.faults.Fault.{Fault}
 use Rattle.drc_base.specs.declared.kinds.Kind.TheVariants.{PlyMagic, PlyHeader, PlyElement, PlyAttr, PlyShort, AttrLimit, ValueLimit}
 use Rattle.drc_base.specs.declared.limits.TheConstants.{MAX_ATTRIBUTES, MAX_VALUES}
 use Rattle.drc_base.specs.Steps.{◌>>=◌}
-use Rattle.ply_text.specs.declared.headers.PlyHead.{PlyHead}
+use Rattle.attr_heads.specs.declared.heads.Head.{Head}
+use Rattle.attr_heads.specs.Head.{has_type}
 use Rattle.ply_text.specs.declared.headers.Property.{Property}
 use Rattle.ply_text.specs.declared.headers.Header.{Header}
 use Rattle.ply_text.specs.declared.words.Keyword.{Keyword}
 use Rattle.ply_text.specs.declared.words.Keyword.TheVariants as keyword
 use Rattle.ply_text.specs.Faults.{refuse}
+use Rattle.ply_text.specs.PropertyTypes.{column_type}
 use Rattle.ply_text.specs.Tokens.{token_lines}
 use Rattle.ply_text.specs.Declarations.{is_magic, keyword_at, is_alone}
 use Rattle.ply_text.specs.Draft.{Draft, statement}
 use Rattle.ply_text.specs.NamedHeads.{named_heads}
 
--- the type of a property that a head of this type has: quantised values are int
-abbrev pub column_type : ℕ → ℕ
-column_type dtype = if dtype == 9 then 5 else dtype
-
 -- the types of the properties that heads have, each head's components in a row
-unfoldable pub column_types : List PlyHead → List ℕ
+unfoldable pub column_types : List Head → List ℕ
 column_types heads = flat_map (λ h. replicate h.comps (column_type h.dtype)) heads
 
--- a head is quantised exactly at data type 9
-abbrev pub is_head_typed : PlyHead → Bool
-is_head_typed h = if h.dtype == 9 then is_some h.quant else is_none h.quant
+-- a head is quantised exactly where its type is that of floats
+abbrev pub is_head_typed : Head → Bool
+is_head_typed h = has_type h.dtype h.quant
 
 -- the types of properties, in order
 abbrev pub property_types : List Property → List ℕ
@@ -39,15 +37,15 @@ unfoldable pub is_whole : Draft → Bool
 is_whole d = is_some d.vertices && nat_lt 0 (length d.properties) && (is_none d.faces || is_some d.list)
 
 -- the attributes: those of the comments, else those that the names give
-unfoldable pub heads_of : Draft → List PlyHead
+unfoldable pub heads_of : Draft → List Head
 heads_of d = if nat_lt 0 (length d.heads) then d.heads else named_heads 0 0 d.properties
 
 -- heads agree with the properties
-unfoldable pub agrees : List PlyHead → List Property → Bool
+unfoldable pub agrees : List Head → List Property → Bool
 agrees heads properties = bytes_eq (column_types heads) (property_types properties) && list_all is_head_typed heads
 
 -- the last line: it is alone, nothing is missing, and then the tests of the attributes
-unfoldable pub header_by : ℕ → Draft → List PlyHead → Result Header Fault
+unfoldable pub header_by : ℕ → Draft → List Head → Result Header Fault
 header_by at d heads =
     if nat_lt MAX_ATTRIBUTES (length heads) then refuse AttrLimit at
     else (if not (agrees heads d.properties) then refuse PlyAttr at

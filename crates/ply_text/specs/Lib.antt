@@ -1,6 +1,7 @@
 pub mod Numbers
 pub mod Tokens
 pub mod Words
+pub mod PropertyTypes
 pub mod Comments
 pub mod Declarations
 pub mod Faults

@@ -1,7 +1,8 @@
 -- The attributes that the names of properties give where no comment line does (this project's choice).
 use Rattle.std.specs.Prelude.{ℕ, zero, suc, ◌+◌, ◌-◌, ◌&&◌, Bool, true, false, List, [], ◌∷◌, length, None, ◌==◌, codes, if◌then◌else◌}
 use Rattle.std.specs.Str.{bytes_eq}
-use Rattle.ply_text.specs.declared.headers.PlyHead.{PlyHead}
+use Rattle.attr_heads.specs.declared.heads.Head.{Head}
+use Rattle.attr_heads.specs.declared.usages.TheConstants.{POSITION, NORMAL, COLOUR, TEXTURE_COORDINATE, GENERIC}
 use Rattle.ply_text.specs.declared.headers.Property.{Property}
 
 -- an attribute that is known by names: its usage, and the names of its components
@@ -12,12 +13,12 @@ pub record NameRun : Type 0 where
 -- the names that an attribute is known by: where two rows fit, the one above is taken
 abbrev pub name_runs : List NameRun
 name_runs =
-    record { usage = 0; words = codes "x" ∷ codes "y" ∷ codes "z" ∷ [] }
-    ∷ record { usage = 1; words = codes "nx" ∷ codes "ny" ∷ codes "nz" ∷ [] }
-    ∷ record { usage = 2; words = codes "red" ∷ codes "green" ∷ codes "blue" ∷ codes "alpha" ∷ [] }
-    ∷ record { usage = 2; words = codes "red" ∷ codes "green" ∷ codes "blue" ∷ [] }
-    ∷ record { usage = 3; words = codes "s" ∷ codes "t" ∷ [] }
-    ∷ record { usage = 3; words = codes "u" ∷ codes "v" ∷ [] }
+    record { usage = POSITION; words = codes "x" ∷ codes "y" ∷ codes "z" ∷ [] }
+    ∷ record { usage = NORMAL; words = codes "nx" ∷ codes "ny" ∷ codes "nz" ∷ [] }
+    ∷ record { usage = COLOUR; words = codes "red" ∷ codes "green" ∷ codes "blue" ∷ codes "alpha" ∷ [] }
+    ∷ record { usage = COLOUR; words = codes "red" ∷ codes "green" ∷ codes "blue" ∷ [] }
+    ∷ record { usage = TEXTURE_COORDINATE; words = codes "s" ∷ codes "t" ∷ [] }
+    ∷ record { usage = TEXTURE_COORDINATE; words = codes "u" ∷ codes "v" ∷ [] }
     ∷ []
 
 -- a property has this name and this type
@@ -32,7 +33,7 @@ stand (word ∷ words) dtype (p ∷ ps) = is_named word dtype p && stand words d
 
 -- the usage and the components of the attribute in front: by the first row whose names stand there, else generic
 abbrev pub run_by : List NameRun → ℕ → List Property → ℕ × ℕ
-run_by [] dtype ps = (4, 1)
+run_by [] dtype ps = (GENERIC, 1)
 run_by (run ∷ runs) dtype ps = if stand run.words dtype ps then (run.usage, length run.words) else run_by runs dtype ps
 
 -- the same, by the names above
@@ -40,12 +41,12 @@ unfoldable pub run_of : ℕ → List Property → ℕ × ℕ
 run_of dtype ps = run_by name_runs dtype ps
 
 -- attribute number k with this usage, type and components
-abbrev pub named_head : ℕ → ℕ → ℕ × ℕ → PlyHead
+abbrev pub named_head : ℕ → ℕ → ℕ × ℕ → Head
 named_head k dtype run =
-    record { usage = run.0; dtype = dtype; comps = run.1; normalized = if run.0 == 2 then 1 else 0; id = k; quant = None }
+    record { usage = run.0; dtype = dtype; comps = run.1; normalized = if run.0 == COLOUR then 1 else 0; id = k; quant = None }
 
 -- the attributes from number k on, from the left; the next `skip` properties belong to the one before
-abbrev pub named_heads : ℕ → ℕ → List Property → List PlyHead
+abbrev pub named_heads : ℕ → ℕ → List Property → List Head
 named_heads k skip [] = []
 named_heads k (suc skip) (p ∷ ps) = named_heads k skip ps
 named_heads k zero (p ∷ ps) =

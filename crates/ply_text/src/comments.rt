@@ -2,15 +2,23 @@
 
 ghost use Rattle.std.specs.Prelude.{◌≡◌, ◌≤◌, ◌<◌, length, option_map, IfOk, IfSome};
 ghost use Rattle.ply_text.specs.Tokens.{tokens_of};
-ghost use Rattle.ply_text.specs.Comments.{head_of, attr_of, patterns_of, fields_of, quant_of};
-ghost use Rattle.ply_text.specs.IsHeader.{PlyHeadFits, PlyQuantFits, FitsAt};
+ghost use Rattle.ply_text.specs.Comments.{byte_of, head_of, attr_of, patterns_of, fields_of, quant_of};
+ghost use Rattle.ply_text.specs.IsHeader.{HeadFits, QuantFits, FitsAt};
 
 use crate::bit_patterns::pattern_of;
-use crate::headers::{PlyHead, PlyQuant};
 use crate::integers::natural_within;
 use crate::token_reader::TokenReader;
-use drc_base::{MAX_COMPONENTS, Memory, Sequence};
+use attr_heads::{Head, Quant, are_quant_bits, has_comps, is_type, is_usage};
+use drc_base::{Memory, Sequence};
 use std::alloc::Global;
+
+/// The byte that a token of digits alone writes.
+fn byte_of(token: &[u8]) -> Option<u8>
+    ensures { result ≡ byte_of token.now }
+{
+    let n = natural_within(token, u8::MAX as u64)?;
+    Some(n as u8)
+}
 
 /// The attribute that the fields of its line give.
 #[tactic(auto, unfolding(crate::specs::Comments::head_of))]
@@ -22,30 +30,33 @@ fn head_of(
     comps: &[u8],
     normalized: &[u8],
     id: &[u8],
-) -> Option<PlyHead>
+) -> Option<Head>
     ensures head { result ≡ head_of number k.now usage.now dtype.now comps.now normalized.now id.now }
-    ensures fits { IfSome result PlyHeadFits }
+    ensures fits { IfSome result HeadFits }
 {
     let k = natural_within(k, 15)?;
     if k != number {
         return None;
     }
-    let usage = natural_within(usage, 4)?;
-    let dtype = natural_within(dtype, 9)?;
-    if dtype == 0 || dtype == 7 || dtype == 8 {
+    let usage = byte_of(usage)?;
+    if !is_usage(usage) {
         return None;
     }
-    let comps = natural_within(comps, MAX_COMPONENTS as u64)?;
-    if comps == 0 {
+    let dtype = byte_of(dtype)?;
+    if !is_type(dtype) {
         return None;
     }
-    let normalized = natural_within(normalized, 255)?;
+    let comps = byte_of(comps)?;
+    if !has_comps(comps) {
+        return None;
+    }
+    let normalized = byte_of(normalized)?;
     let id = natural_within(id, u32::MAX as u64)?;
-    Some(PlyHead {
-        usage: usage as u8,
-        dtype: dtype as u8,
-        comps: comps as u8,
-        normalized: normalized as u8,
+    Some(Head {
+        usage,
+        dtype,
+        comps,
+        normalized,
         id: id as u32,
         quant: None,
     })
@@ -53,9 +64,9 @@ fn head_of(
 
 /// The attribute that an `attr` line gives, if its number is `number`.
 #[tactic(auto, unfolding(crate::specs::Comments::attr_of))]
-pub(crate) fn attr_of(number: u64, line: &[u8]) -> Option<PlyHead>
+pub(crate) fn attr_of(number: u64, line: &[u8]) -> Option<Head>
     ensures head { result ≡ attr_of number (tokens_of line.now) }
-    ensures fits { IfSome result PlyHeadFits }
+    ensures fits { IfSome result HeadFits }
 {
     let mut tokens = TokenReader::new(line);
     let _word = tokens.next()?;
@@ -91,18 +102,18 @@ fn patterns_of(alloc: Global, tokens: &mut TokenReader<'_>) -> Result<Option<Vec
 #[tactic(auto, unfolding(crate::specs::Comments::fields_of))]
 fn fields_of(
     alloc: Global,
-    head: &PlyHead,
+    head: &Head,
     bits: &[u8],
     range: &[u8],
     minima: &mut TokenReader<'_>,
-) -> Result<Option<PlyQuant>, Memory>
+) -> Result<Option<Quant>, Memory>
     ensures found { IfOk result (λ found. found ≡ fields_of head.now bits.now range.now minima.old) }
-    ensures fits { IfOk result (λ found. IfSome found (PlyQuantFits head.now.comps)) }
+    ensures fits { IfOk result (λ found. IfSome found (QuantFits head.now.comps)) }
 {
-    let Some(bits) = natural_within(bits, 30) else {
+    let Some(bits) = byte_of(bits) else {
         return Ok(None);
     };
-    if bits == 0 {
+    if !are_quant_bits(bits) {
         return Ok(None);
     }
     let Some(range) = pattern_of(range) else {
@@ -114,8 +125,8 @@ fn fields_of(
     if head.quant.is_some() || min.len() != head.comps as usize {
         return Ok(None);
     }
-    Ok(Some(PlyQuant {
-        bits: bits as u8,
+    Ok(Some(Quant {
+        bits,
         range,
         min: Sequence::from_vec(min),
     }))
@@ -125,9 +136,9 @@ fn fields_of(
 #[tactic(auto, unfolding(crate::specs::Comments::quant_of))]
 pub(crate) fn quant_of(
     alloc: Global,
-    heads: &[PlyHead],
+    heads: &[Head],
     line: &[u8],
-) -> Result<Option<(usize, PlyQuant)>, Memory>
+) -> Result<Option<(usize, Quant)>, Memory>
     ensures found { IfOk result (λ found. found ≡ quant_of heads.now (tokens_of line.now)) }
     ensures number { IfOk result (λ found. IfSome found (λ f. f.0 < length heads.now)) }
     ensures fits { IfOk result (λ found. IfSome found (λ f. FitsAt heads.now f.0 f.1)) }

@@ -5,13 +5,15 @@ ghost use Rattle.drc_base.specs.Refusals.{Answers};
 ghost use Rattle.ply_text.specs.Tokens.{tokens_of};
 ghost use Rattle.ply_text.specs.Draft.{draft_of, element, scalar, list, attribute, quantisation, comment, declaration, body, statement};
 ghost use Rattle.ply_text.specs.Comments.{with_quant};
-ghost use Rattle.ply_text.specs.IsHeader.{PlyHeadFits, FitsAt, HasType, IsDraft};
+ghost use Rattle.ply_text.specs.IsHeader.{HeadFits, FitsAt, HasType, IsDraft};
 
 use crate::comments::{attr_of, quant_of};
-use crate::headers::{PlyHead, PlyQuant, Property};
+use crate::headers::Property;
 use crate::integers::natural_within;
+use crate::property_types::type_of;
 use crate::statements::{element_of, is_form, is_format, is_list, keyword_at, list_of, scalar_of};
-use crate::words::{Keyword, is_indices, is_word, type_of};
+use crate::words::{Keyword, is_indices, is_word};
+use attr_heads::{Head, Quant};
 use drc_base::{Fault, Kind, MAX_ATTRIBUTES, MAX_FACES, MAX_POINTS, Memory, Refusal, Sequence};
 use std::alloc::Global;
 
@@ -20,7 +22,7 @@ use std::alloc::Global;
 pub(crate) struct HeaderDraft {
     /// Whether the format's line came.
     pub formatted: bool,
-    pub heads: Vec<PlyHead>,
+    pub heads: Vec<Head>,
     pub vertices: Option<u32>,
     pub properties: Vec<Property>,
     pub faces: Option<u32>,
@@ -216,12 +218,12 @@ impl HeaderDraft {
 
 /// Gives head `number` a quantisation.
 #[tactic(auto, using(crate::proofs::Heads::with_quant_is))]
-fn set_quant(heads: &mut Vec<PlyHead>, number: usize, quant: PlyQuant)
+fn set_quant(heads: &mut Vec<Head>, number: usize, quant: Quant)
     requires number { number < vec_len heads.old }
-    requires heads { All PlyHeadFits heads.old.items }
+    requires heads { All HeadFits heads.old.items }
     requires quant { FitsAt heads.old.items number quant }
     ensures set { heads.new.items ≡ with_quant number quant heads.old.items }
-    ensures heads { All PlyHeadFits heads.new.items }
+    ensures heads { All HeadFits heads.new.items }
     ensures len { vec_len heads.new ≡ vec_len heads.old }
 {
     let head = &mut heads[number];

@@ -5,26 +5,21 @@ ghost use Rattle.std.specs.List.{list_all};
 ghost use Rattle.drc_base.specs.Refusals.{Answers};
 ghost use Rattle.ply_text.specs.Tokens.{tokens_of};
 ghost use Rattle.ply_text.specs.Draft.{draft_of};
-ghost use Rattle.ply_text.specs.IsHeader.{PlyHeadFits, IsDraft, IsHeader};
-ghost use Rattle.ply_text.specs.Header.{column_type, column_types, is_head_typed, property_types, is_whole, agrees, header_by, ply_header_at};
+ghost use Rattle.ply_text.specs.IsHeader.{HeadFits, IsDraft, IsHeader};
+ghost use Rattle.ply_text.specs.Header.{column_types, is_head_typed, property_types, is_whole, agrees, header_by, ply_header_at};
 
 use crate::drafts::HeaderDraft;
-use crate::headers::{Header, PlyHead, Property};
+use crate::headers::{Header, Property};
 use crate::named_heads::named_heads;
+use crate::property_types::column_type;
 use crate::statements::is_alone;
 use crate::words::is_word;
+use attr_heads::{Head, is_float, is_integer};
 use drc_base::{
     Fault, Kind, MAX_ATTRIBUTES, MAX_FACES, MAX_POINTS, MAX_VALUES, Memory, Refusal, Sequence,
 };
 use std::alloc::Global;
 use std::mem;
-
-/// The type of a property that a head of this type has.
-fn column_type(dtype: u8) -> u8
-    ensures { result ≡ column_type dtype }
-{
-    if dtype == 9 { 5 } else { dtype }
-}
 
 /// Appends a type for each component.
 fn put_columns(out: &mut Vec<u8>, comps: u8, dtype: u8) -> Result<(), Memory>
@@ -38,7 +33,7 @@ fn put_columns(out: &mut Vec<u8>, comps: u8, dtype: u8) -> Result<(), Memory>
 
 /// The types of the properties that the heads have.
 #[tactic(auto, using(crate::proofs::Columns::more_columns, crate::proofs::Columns::all_columns))]
-fn column_types(alloc: Global, heads: &[PlyHead]) -> Result<Vec<u8>, Memory>
+fn column_types(alloc: Global, heads: &[Head]) -> Result<Vec<u8>, Memory>
     ensures { IfOk result (λ types. types.items ≡ column_types heads.now) }
 {
     let mut types = Vec::new(alloc);
@@ -57,19 +52,18 @@ fn types_of(alloc: Global, properties: &[Property]) -> Result<Vec<u8>, Memory>
     Ok(properties.iter().map(|p| p.dtype).collect(alloc)?)
 }
 
-/// Whether a head is quantised exactly at data type 9.
-fn is_typed(head: &PlyHead) -> bool
+/// Whether a head is quantised exactly where its type is that of floats.
+fn is_typed(head: &Head) -> bool
     ensures { result ≡ is_head_typed head.now }
 {
-    if head.dtype == 9 {
-        head.quant.is_some()
-    } else {
-        head.quant.is_none()
+    match &head.quant {
+        None => is_integer(head.dtype),
+        Some(_) => is_float(head.dtype),
     }
 }
 
 #[tactic(auto, using(crate::proofs::Columns::each_typed))]
-fn are_typed(heads: &[PlyHead]) -> bool
+fn are_typed(heads: &[Head]) -> bool
     ensures typed { result ≡ list_all is_head_typed heads.now }
     ensures each { IsTrue result → All (λ h. IsTrue (is_head_typed h)) heads.now }
 {
@@ -95,8 +89,9 @@ fn is_whole(draft: &HeaderDraft) -> bool
 }
 
 /// A header of parts that fit.
+#[tactic(auto, using(crate::proofs::HeadsPass::heads_pass))]
 fn header_made(
-    heads: Vec<PlyHead>,
+    heads: Vec<Head>,
     vertices: u32,
     faces: Option<u32>,
     types: Vec<u8>,
@@ -105,7 +100,7 @@ fn header_made(
 ) -> Header
     requires some { 1 ≤ length heads.items }
     requires few { length heads.items ≤ 16 }
-    requires heads { All PlyHeadFits heads.items }
+    requires heads { All HeadFits heads.items }
     requires typed { All (λ h. IsTrue (is_head_typed h)) heads.items }
     requires types { column_types heads.items ≡ types.items }
     requires vertices { vertices ≤ MAX_POINTS }
@@ -143,12 +138,12 @@ fn header_by(
     alloc: Global,
     at: u64,
     draft: &HeaderDraft,
-    heads: Vec<PlyHead>,
+    heads: Vec<Head>,
 ) -> Result<Header, Refusal>
     requires room { at + 1 < 2 ^ 64 }
     requires sound { IsDraft (draft_of draft.now) }
     requires list { IsSome draft.now.faces → IsSome draft.now.list }
-    requires heads { All PlyHeadFits heads.items }
+    requires heads { All HeadFits heads.items }
     requires some { 1 ≤ length heads.items }
     ensures header { Answers (λ header. header) (header_by at (draft_of draft.now) heads.items) result }
     ensures sound { IfOk result IsHeader }

@@ -5,7 +5,7 @@ ghost use Rattle.drc_base.specs.declared.faults.Fault.{Fault as AnyFault};
 ghost use Rattle.drc_base.specs.declared.faults.Refusal.TheVariants as refusal;
 ghost use Rattle.drc_base.specs.Refusals.{Answers};
 ghost use Rattle.ply_text.specs.Tokens.{tokens_of};
-ghost use Rattle.ply_text.specs.declared.headers.PlyHead.{PlyHead as PlyHeadValue};
+ghost use Rattle.attr_heads.specs.declared.heads.Head.{Head as HeadValue};
 ghost use Rattle.ply_text.specs.declared.headers.Property.{Property as PropertyValue};
 ghost use Rattle.ply_text.specs.DeclaredLines.{declared_from, declared_of_text, draft_with, quantises};
 ghost use Rattle.ply_text.specs.Draft.{draft_of};
@@ -40,7 +40,7 @@ fn is_end(draft: &HeaderDraft, line: &[u8]) -> bool
 
 /// Whether the line ends what can be tested without memory: it ends the header, or quantises an attribute.
 fn is_outline_end(outline: &Outline, line: &[u8]) -> bool
-    ensures { (heads : List PlyHeadValue) (properties : List PropertyValue) →
+    ensures { (heads : List HeadValue) (properties : List PropertyValue) →
         result ≡ (ends_header (draft_with outline.now heads properties) (tokens_of line.now) || quantises (tokens_of line.now)) }
 {
     outline.is_formatted() && is_end_by(keyword_at(line)) || quantises(line)

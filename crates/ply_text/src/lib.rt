@@ -19,14 +19,16 @@ mod line_tokens;
 mod name_runs;
 mod named_heads;
 mod outlines;
+mod property_types;
 mod statements;
 mod token_reader;
 mod words;
 
 pub use ahead::{integer_ahead, natural_ahead};
 pub use header_reader::read_header;
-pub use headers::{Header, PlyHead, PlyQuant};
+pub use headers::Header;
 pub use in_place::{int_at, is_at_end};
 pub use integers::{put_int, read_int};
 pub use line_reader::Lines;
 pub use line_tokens::first_tokens;
+pub use property_types::type_word;

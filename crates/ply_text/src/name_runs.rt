@@ -2,11 +2,13 @@
 
 ghost use Rattle.std.specs.Prelude.{◌≡◌, ◌≤◌, ◌<◌, map, IsTrue};
 ghost use Rattle.std.specs.List.{list_all};
+ghost use Rattle.attr_heads.specs.Usages.{is_usage};
 ghost use Rattle.ply_text.specs.NamedHeads.{is_named, stand, run_by, run_of};
 ghost use Rattle.ply_text.specs.RunParts.{runs_of, is_short};
 
 use crate::headers::Property;
 use crate::words::is_word;
+use attr_heads::{COLOUR, GENERIC, NORMAL, POSITION, TEXTURE_COORDINATE};
 
 /// An attribute that is known by names: its usage, and the names of its components.
 pub(crate) struct NameRun {
@@ -18,27 +20,27 @@ pub(crate) struct NameRun {
 /// choice).
 const NAME_RUNS: [NameRun; 6] = [
     NameRun {
-        usage: 0,
+        usage: POSITION,
         words: &[b"x", b"y", b"z"],
     },
     NameRun {
-        usage: 1,
+        usage: NORMAL,
         words: &[b"nx", b"ny", b"nz"],
     },
     NameRun {
-        usage: 2,
+        usage: COLOUR,
         words: &[b"red", b"green", b"blue", b"alpha"],
     },
     NameRun {
-        usage: 2,
+        usage: COLOUR,
         words: &[b"red", b"green", b"blue"],
     },
     NameRun {
-        usage: 3,
+        usage: TEXTURE_COORDINATE,
         words: &[b"s", b"t"],
     },
     NameRun {
-        usage: 3,
+        usage: TEXTURE_COORDINATE,
         words: &[b"u", b"v"],
     },
 ];
@@ -72,7 +74,7 @@ fn stand(words: &[&[u8]], dtype: u8, properties: &[Property]) -> bool
 fn run_by(runs: &[NameRun], dtype: u8, properties: &[Property]) -> (u8, u8)
     requires { IsTrue (list_all is_short (runs_of runs.now)) }
     ensures run { result ≡ run_by (runs_of runs.now) dtype properties.now }
-    ensures some { (result.0 ≤ 4) × (0 < result.1) × (result.1 ≤ 4) }
+    ensures some { IsTrue (is_usage result.0) × (0 < result.1) × (result.1 ≤ 4) }
 {
     for k in 0..runs.len() {
         let run = &runs[k];
@@ -80,14 +82,14 @@ fn run_by(runs: &[NameRun], dtype: u8, properties: &[Property]) -> (u8, u8)
             return (run.usage, run.words.len() as u8);
         }
     }
-    (4, 1)
+    (GENERIC, 1)
 }
 
 /// The usage and the components of the attribute in front.
 #[tactic(auto, unfolding(crate::specs::NamedHeads::run_of))]
 pub(crate) fn run_of(dtype: u8, properties: &[Property]) -> (u8, u8)
     ensures run { result ≡ run_of dtype properties.now }
-    ensures some { (result.0 ≤ 4) × (0 < result.1) × (result.1 ≤ 4) }
+    ensures some { IsTrue (is_usage result.0) × (0 < result.1) × (result.1 ≤ 4) }
 {
     run_by(&NAME_RUNS, dtype, properties)
 }

@@ -1,26 +1,30 @@
 //! Attributes from the names of properties.
 
-ghost use Rattle.std.specs.Prelude.{◌≡◌, ◌≤◌, ◌<◌, length, All, IfOk, IfSome, MatchOption};
-ghost use Rattle.ply_text.specs.IsHeader.{PlyHeadFits, HasType};
+ghost use Rattle.std.specs.Prelude.{◌≡◌, ◌≤◌, ◌<◌, length, All, IsTrue, IfOk, IfSome, MatchOption};
+ghost use Rattle.attr_heads.specs.DataTypes.{is_integer};
+ghost use Rattle.attr_heads.specs.Usages.{is_usage};
+ghost use Rattle.ply_text.specs.IsHeader.{HeadFits, HasType};
 ghost use Rattle.ply_text.specs.NamedHeads.{named_head, named_heads};
 
-use crate::headers::{PlyHead, Property};
+use crate::headers::Property;
 use crate::name_runs::run_of;
+use attr_heads::{COLOUR, Head};
 use drc_base::{MAX_ATTRIBUTES, Memory};
 use std::alloc::Global;
 
 /// Attribute number `k` with this usage, type and components.
-fn named_head(k: u32, dtype: u8, run: (u8, u8)) -> PlyHead
-    requires dtype { (1 ≤ dtype) × (dtype ≤ 6) }
-    requires run { (run.0 ≤ 4) × (0 < run.1) × (run.1 ≤ 4) }
+#[tactic(auto, using(crate::proofs::HeadsPass::integer_accepted, crate::proofs::HeadsPass::four_accepted))]
+fn named_head(k: u32, dtype: u8, run: (u8, u8)) -> Head
+    requires dtype { IsTrue (is_integer dtype) }
+    requires run { IsTrue (is_usage run.0) × (0 < run.1) × (run.1 ≤ 4) }
     ensures head { result ≡ named_head k dtype run }
-    ensures fits { PlyHeadFits result }
+    ensures fits { HeadFits result }
 {
-    PlyHead {
+    Head {
         usage: run.0,
         dtype,
         comps: run.1,
-        normalized: if run.0 == 2 { 1 } else { 0 },
+        normalized: if run.0 == COLOUR { 1 } else { 0 },
         id: k,
         quant: None,
     }
@@ -32,10 +36,10 @@ fn named_head(k: u32, dtype: u8, run: (u8, u8)) -> PlyHead
 pub(crate) fn named_heads(
     alloc: Global,
     properties: &[Property],
-) -> Result<Option<Vec<PlyHead>>, Memory>
+) -> Result<Option<Vec<Head>>, Memory>
     requires types { All HasType properties.now }
     ensures heads { IfOk result (λ found. MatchOption found (16 < length (named_heads 0 0 properties.now)) (λ heads. heads.items ≡ named_heads 0 0 properties.now)) }
-    ensures fits { IfOk result (λ found. IfSome found (λ heads. All PlyHeadFits heads.items)) }
+    ensures fits { IfOk result (λ found. IfSome found (λ heads. All HeadFits heads.items)) }
     ensures some { 0 < length properties.now → IfOk result (λ found. IfSome found (λ heads. 1 ≤ length heads.items)) }
 {
     let mut heads = Vec::new(alloc);

@@ -9,8 +9,9 @@ ghost use Rattle.ply_text.specs.Draft.{element, scalar, list, attribute, comment
 
 use crate::comments::attr_of;
 use crate::integers::natural_within;
+use crate::property_types::type_of;
 use crate::statements::{element_of, is_form, is_format, is_list, keyword_at, list_of, scalar_of};
-use crate::words::{Keyword, is_indices, is_word, type_of};
+use crate::words::{Keyword, is_indices, is_word};
 use drc_base::{Fault, Kind, MAX_ATTRIBUTES, MAX_FACES, MAX_POINTS};
 use std::marker::Model;
 

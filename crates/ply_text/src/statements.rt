@@ -2,14 +2,12 @@
 
 ghost use Rattle.std.specs.Prelude.{◌≡◌, ◌∷◌, [], option_map};
 ghost use Rattle.ply_text.specs.Tokens.{tokens_of};
-ghost use Rattle.ply_text.specs.Comments.{is_form, head_of, attr_of};
+ghost use Rattle.ply_text.specs.Comments.{is_form};
 ghost use Rattle.ply_text.specs.Declarations.{is_magic, is_format, keyword_at, is_alone, element_of, is_list, scalar_of, list_of};
 
-use crate::headers::PlyHead;
-use crate::integers::{is_digits, natural_within};
+use crate::integers::is_digits;
 use crate::token_reader::TokenReader;
 use crate::words::{Keyword, is_word, keyword_of};
-use drc_base::MAX_COMPONENTS;
 
 #[tactic(auto, unfolding(crate::specs::Declarations::is_magic))]
 pub(crate) fn is_magic(line: &[u8]) -> bool

@@ -6,9 +6,10 @@ use Rattle.std.specs.Str.{bytes_eq}
 use Rattle.std.proofs.lemmas.Bool.{and_parts, cases_Bool}
 use Rattle.std.proofs.lemmas.List.{append-nil}
 use Rattle.drc_base.specs.declared.limits.TheConstants.{MAX_POINTS, MAX_FACES}
-use Rattle.ply_text.specs.declared.headers.PlyHead.{PlyHead}
+use Rattle.attr_heads.specs.declared.heads.Head.{Head}
 use Rattle.ply_text.specs.Numbers.{is_digits}
-use Rattle.ply_text.specs.Words.{keyword_of, type_of}
+use Rattle.ply_text.specs.Words.{keyword_of}
+use Rattle.ply_text.specs.PropertyTypes.{type_of}
 use Rattle.ply_text.specs.Declarations.{is_format, keyword_at, element_of, is_list, scalar_of, list_of}
 use Rattle.ply_text.specs.Draft.{PropertyParts, element, scalar, list, body}
 use Rattle.ply_text.specs.Header.{ends_header}
@@ -27,7 +28,7 @@ digits_of : (n : ℕ) (token : List ℕ) → writes n token ≡ true → is_digi
 digits_of n token e = (and_parts _ _ e).0
 
 -- a next line goes on, and doesn't end the header
-pub next_body : (s s' : Stage) (at : ℕ) (heads : List PlyHead) (line : Line) → Next s line s' → body at (draft_at s heads) line (keyword_at line) ≡ Ok (draft_at s' heads)
+pub next_body : (s s' : Stage) (at : ℕ) (heads : List Head) (line : Line) → Next s line s' → body at (draft_at s heads) line (keyword_at line) ≡ Ok (draft_at s' heads)
 unfolding body is_format keyword_of element element_of scalar scalar_of list list_of is_list
 next_body begun s' at heads line (f, e) = rw (f, e) refl
 next_body formatted s' at heads line (n, few, is, e) = rw (is.form, e, digits_of n is.number is.says, writes_within MAX_POINTS is.number n is.says few) refl
@@ -36,7 +37,7 @@ next_body (points n ps) s' at heads line (inr (m, few, is, e)) = rw (is.form, e,
 next_body (faces n ps m) s' at heads line (types, is, e) = rw (is.form, e, is.counts, is.indices, is.named) refl
 next_body (listed n ps m types) s' at heads line h = absurd h
 
-pub next_goes : (s s' : Stage) (heads : List PlyHead) (line : Line) → Next s line s' → ends_header (draft_at s heads) line ≡ false
+pub next_goes : (s s' : Stage) (heads : List Head) (line : Line) → Next s line s' → ends_header (draft_at s heads) line ≡ false
 unfolding keyword_of
 next_goes begun s' heads line h = refl
 next_goes formatted s' heads line (n, few, is, e) = rw is.form refl

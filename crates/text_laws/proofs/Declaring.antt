@@ -5,9 +5,10 @@ use Rattle.std.specs.Str.{bytes_eq}
 use Rattle.std.proofs.lemmas.Bool.{and_parts}
 use Rattle.drc_base.specs.declared.kinds.Kind.TheVariants.{PlyFormat, PlyHeader, PlyType, PlyElement, PointLimit, FaceLimit}
 use Rattle.drc_base.specs.declared.limits.TheConstants.{MAX_POINTS, MAX_FACES}
-use Rattle.ply_text.specs.declared.headers.PlyHead.{PlyHead}
+use Rattle.attr_heads.specs.declared.heads.Head.{Head}
 use Rattle.ply_text.specs.Numbers.{natural_within, is_digits}
-use Rattle.ply_text.specs.Words.{keyword_of, type_of, is_indices}
+use Rattle.ply_text.specs.Words.{keyword_of, is_indices}
+use Rattle.ply_text.specs.PropertyTypes.{type_of}
 use Rattle.ply_text.specs.Declarations.{is_format, keyword_at, element_of, is_list, scalar_of, list_of}
 use Rattle.ply_text.specs.Draft.{Draft, PropertyParts, property, in_vertex, element, scalar, list, declaration, body}
 use Rattle.text_laws.specs.HeaderShape.{Line, IsElement, IsProperty, IsListProperty, format_line}
@@ -22,7 +23,7 @@ pub data Stage : Type 0 where
   faces : ℕ → List PropertyParts → ℕ → Stage
   listed : ℕ → List PropertyParts → ℕ → ℕ × ℕ → Stage
 
-abbrev pub draft_at : Stage → List PlyHead → Draft
+abbrev pub draft_at : Stage → List Head → Draft
 draft_at begun heads = record { formatted = false; heads = heads; vertices = None; properties = []; faces = None; list = None }
 draft_at formatted heads = record { formatted = true; heads = heads; vertices = None; properties = []; faces = None; list = None }
 draft_at (points n ps) heads = record { formatted = true; heads = heads; vertices = Some n; properties = ps; faces = None; list = None }
@@ -87,7 +88,7 @@ Next (faces n ps m) line s = (types : ℕ × ℕ) × IsListProperty types line �
 Next (listed n ps m types) line s = ⊥
 
 -- a line goes on from a stage to the next, which it says
-pub record GoesOn (s : Stage) (heads : List PlyHead) (line : Line) (d : Draft) : Type 0 where
+pub record GoesOn (s : Stage) (heads : List Head) (line : Line) (d : Draft) : Type 0 where
   pub next : Stage
   pub by : Next s line next
   pub draft : d ≡ draft_at next heads
@@ -114,7 +115,7 @@ Leads word line = (tokens : Line) × (line ≡ word ∷ tokens)
 led : (word a b c : List ℕ) (line : Line) → Leads word line → line ≡ a ∷ b ∷ c ∷ [] → line ≡ word ∷ b ∷ c ∷ []
 led word a b c line (tokens, e) f = let g : word ∷ tokens ≡ a ∷ b ∷ c ∷ [] = sym e ∙ f in let h : a ≡ word = cc in f ∙ ap (λ (x : List ℕ). x ∷ b ∷ c ∷ []) h
 
-vertex_goes : (at : ℕ) (heads : List PlyHead) (d : Draft) (line : Line) → Leads (codes "element") line → element at (draft_at formatted heads) line ≡ Ok d → GoesOn formatted heads line d
+vertex_goes : (at : ℕ) (heads : List Head) (d : Draft) (line : Line) → Leads (codes "element") line → element at (draft_at formatted heads) line ≡ Ok d → GoesOn formatted heads line d
 unfolding element
 vertex_goes at heads d line l h =
     let p = or_refuse_ok PlyHeader at (element_of line) _ d h in
@@ -141,7 +142,7 @@ left_out P b c e f = let g = (and_parts b c f).1 in absurd (cc)
 both : (P : Type 0) (b : Bool) → b ≡ false → b ≡ true → P
 both P b e f = absurd (cc)
 
-face_goes : (at n : ℕ) (ps : List PropertyParts) (heads : List PlyHead) (d : Draft) (line : Line) → Leads (codes "element") line → element at (draft_at (points n ps) heads) line ≡ Ok d → GoesOn (points n ps) heads line d
+face_goes : (at n : ℕ) (ps : List PropertyParts) (heads : List Head) (d : Draft) (line : Line) → Leads (codes "element") line → element at (draft_at (points n ps) heads) line ≡ Ok d → GoesOn (points n ps) heads line d
 unfolding element
 face_goes at n ps heads d line l h =
     let p = or_refuse_ok PlyHeader at (element_of line) _ d h in
@@ -173,7 +174,7 @@ no_element at d d' line P v i h =
     (λ name more. left_out P (bytes_eq e.0 (codes "face")) (in_vertex d) i name)
     (λ _ more. not_refused P PlyElement at d' more))
 
-scalar_goes : (at n : ℕ) (ps : List PropertyParts) (heads : List PlyHead) (d : Draft) (line : Line) → Leads (codes "property") line → scalar at (draft_at (points n ps) heads) line ≡ Ok d → GoesOn (points n ps) heads line d
+scalar_goes : (at n : ℕ) (ps : List PropertyParts) (heads : List Head) (d : Draft) (line : Line) → Leads (codes "property") line → scalar at (draft_at (points n ps) heads) line ≡ Ok d → GoesOn (points n ps) heads line d
 unfolding scalar
 scalar_goes at n ps heads d line l h =
     let p = or_refuse_ok PlyHeader at (scalar_of line) _ d h in
@@ -201,7 +202,7 @@ second a b c g h word tokens line e f i =
     let z : bytes_eq b (codes "list") ≡ true = ap is_list (sym f) ∙ i in
     f ∙ ap (λ (w : List ℕ). w ∷ b ∷ c ∷ g ∷ h ∷ []) y ∙ ap (λ (w : List ℕ). word ∷ w ∷ c ∷ g ∷ h ∷ []) (word_from b (codes "list") z)
 
-list_goes : (at n m : ℕ) (ps : List PropertyParts) (heads : List PlyHead) (d : Draft) (line : Line) → Leads (codes "property") line → is_list line ≡ true → list at (draft_at (faces n ps m) heads) line ≡ Ok d → GoesOn (faces n ps m) heads line d
+list_goes : (at n m : ℕ) (ps : List PropertyParts) (heads : List Head) (d : Draft) (line : Line) → Leads (codes "property") line → is_list line ≡ true → list at (draft_at (faces n ps m) heads) line ≡ Ok d → GoesOn (faces n ps m) heads line d
 unfolding list
 list_goes at n m ps heads d line (tokens, l) i h =
     let p = or_refuse_ok PlyHeader at (list_of line) _ d h in
@@ -227,13 +228,13 @@ no_list at d d' line P i h =
     (λ there _. both P (is_some d.faces && is_none d.list) i (and_parts (is_some d.faces && is_none d.list) (is_indices p.0.2) there).0)
     (λ _ more. not_refused P PlyElement at d' more))
 
-property_goes : (at n : ℕ) (ps : List PropertyParts) (heads : List PlyHead) (d : Draft) (line : Line) → Leads (codes "property") line →
+property_goes : (at n : ℕ) (ps : List PropertyParts) (heads : List Head) (d : Draft) (line : Line) → Leads (codes "property") line →
     cond (is_list line) (list at (draft_at (points n ps) heads) line) (scalar at (draft_at (points n ps) heads) line) ≡ Ok d → GoesOn (points n ps) heads line d
 property_goes at n ps heads d line l h =
     passed (is_list line) _ _ (Ok d) _ h (λ _ go. no_list at (draft_at (points n ps) heads) d line _ refl go) (λ _ go. scalar_goes at n ps heads d line l go)
 
 -- what goes on is the next of its stage
-pub body_goes : (s : Stage) (at : ℕ) (heads : List PlyHead) (d : Draft) (line : Line) → body at (draft_at s heads) line (keyword_at line) ≡ Ok d → GoesOn s heads line d
+pub body_goes : (s : Stage) (at : ℕ) (heads : List Head) (d : Draft) (line : Line) → body at (draft_at s heads) line (keyword_at line) ≡ Ok d → GoesOn s heads line d
 unfolding body
 body_goes begun at heads d line h =
     passed (is_format line) _ _ (Ok d) _ h

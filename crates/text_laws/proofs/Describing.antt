@@ -5,8 +5,8 @@ use Rattle.std.specs.List.{filter}
 use Rattle.std.proofs.lemmas.Bool.{cases_Bool}
 use Rattle.std.proofs.lemmas.List.{length-append, length-map, append-nil}
 use Rattle.std.proofs.lemmas.Option.{slice_get_within}
-use Rattle.ply_text.specs.declared.headers.PlyHead.{PlyHead}
-use Rattle.ply_text.specs.declared.headers.PlyQuant.{PlyQuant}
+use Rattle.attr_heads.specs.declared.heads.Head.{Head}
+use Rattle.attr_heads.specs.declared.quants.Quant.{Quant}
 use Rattle.ply_text.specs.Comments.{attr_of, quant_of, with_quant}
 use Rattle.text_laws.specs.HeaderShape.{Line, is_attr, is_quant, is_quant_of, IsAttrLine, AreAttrLines, AreQuantLines, Describe}
 use Rattle.text_laws.proofs.Noting.{base, form_behind, attr_given, attr_read, quant_given, quant_read}
@@ -15,17 +15,17 @@ use Rattle.text_laws.proofs.Quantising.{there_is, SettlesQuant, named_by, names_
 -- ---- one line after another
 
 -- what a line notes
-pub data Notes (hs : List PlyHead) (line : Line) (next : List PlyHead) : Type 0 where
-  attr : (head : PlyHead) → is_attr line ≡ true → length hs < 16 → attr_of (length hs) line ≡ Some head → next ≡ hs ++ head ∷ [] → Notes hs line next
-  quant : (p : ℕ × PlyQuant) → is_attr line ≡ false → is_quant line ≡ true → quant_of hs line ≡ Some p → next ≡ with_quant p.0 p.1 hs → Notes hs line next
+pub data Notes (hs : List Head) (line : Line) (next : List Head) : Type 0 where
+  attr : (head : Head) → is_attr line ≡ true → length hs < 16 → attr_of (length hs) line ≡ Some head → next ≡ hs ++ head ∷ [] → Notes hs line next
+  quant : (p : ℕ × Quant) → is_attr line ≡ false → is_quant line ≡ true → quant_of hs line ≡ Some p → next ≡ with_quant p.0 p.1 hs → Notes hs line next
   nothing : is_attr line ≡ false → is_quant line ≡ false → next ≡ hs → Notes hs line next
 
-abbrev pub NotesRun : List PlyHead → List Line → List PlyHead → Type 0
+abbrev pub NotesRun : List Head → List Line → List Head → Type 0
 NotesRun hs [] fs = hs ≡ fs
-NotesRun hs (line ∷ lines) fs = (next : List PlyHead) × Notes hs line next × NotesRun next lines fs
+NotesRun hs (line ∷ lines) fs = (next : List Head) × Notes hs line next × NotesRun next lines fs
 
 -- the attr lines give these heads, which aren't quantised yet, from number k on
-abbrev pub AttrsRun : ℕ → List Line → List PlyHead → Type 0
+abbrev pub AttrsRun : ℕ → List Line → List Head → Type 0
 AttrsRun k [] [] = Unit {0}
 AttrsRun k [] (h ∷ hs) = ⊥
 AttrsRun k (line ∷ lines) [] = ⊥
@@ -82,14 +82,14 @@ attr_no_quant line e = let f = form_behind (codes "attr") line e in rw f.1 refl
 -- ---- heads first, then quantisations
 
 -- the heads that are new, and what is said of them
-record Splits (hs : List PlyHead) (lines : List Line) (fs : List PlyHead) : Type 0 where
-  news : List PlyHead
+record Splits (hs : List Head) (lines : List Line) (fs : List Head) : Type 0 where
+  news : List Head
   attrs : AttrsRun (length hs) (filter is_attr lines) news
   few : length hs + length news ≤ 16
   quants : QuantsRun (hs ++ news) (filter is_quant lines) fs
   behind : Behind (length hs) lines
 
-split_attr : (hs fs : List PlyHead) (line : Line) (lines : List Line) (head : PlyHead) → is_attr line ≡ true → length hs < 16 → attr_of (length hs) line ≡ Some head → Splits (hs ++ head ∷ []) lines fs → Splits hs (line ∷ lines) fs
+split_attr : (hs fs : List Head) (line : Line) (lines : List Line) (head : Head) → is_attr line ≡ true → length hs < 16 → attr_of (length hs) line ≡ Some head → Splits (hs ++ head ∷ []) lines fs → Splits hs (line ∷ lines) fs
 split_attr hs fs line lines head is lt e s =
     let n : length (hs ++ head ∷ []) ≡ length hs + 1 = length-append hs (head ∷ []) in
     let few = s.few in
@@ -100,11 +100,11 @@ split_attr hs fs line lines head is lt e s =
       news = head ∷ s.news;
       attrs = let both : AttrsRun (length hs) (line ∷ filter is_attr lines) (head ∷ s.news) = (is, e, rest) in rw is both;
       few = omega arith;
-      quants = rw no' (subst (λ (xs : List PlyHead). QuantsRun xs (filter is_quant lines) fs) (append_assoc hs (head ∷ []) s.news) s.quants);
+      quants = rw no' (subst (λ (xs : List Head). QuantsRun xs (filter is_quant lines) fs) (append_assoc hs (head ∷ []) s.news) s.quants);
       behind = behind_more (length hs) line lines (λ q. absurd (cc (q, no'))) (subst (λ k. Behind k lines) (sym one) s.behind);
     }
 
-split_quant : (hs fs : List PlyHead) (line : Line) (lines : List Line) (n : ℕ) (q : PlyQuant) → length hs ≤ 16 → is_attr line ≡ false → is_quant line ≡ true → quant_of hs line ≡ Some (n, q) → Splits (with_quant n q hs) lines fs → Splits hs (line ∷ lines) fs
+split_quant : (hs fs : List Head) (line : Line) (lines : List Line) (n : ℕ) (q : Quant) → length hs ≤ 16 → is_attr line ≡ false → is_quant line ≡ true → quant_of hs line ≡ Some (n, q) → Splits (with_quant n q hs) lines fs → Splits hs (line ∷ lines) fs
 split_quant hs fs line lines n q small no' is e s =
     let given = quant_given hs line (n, q) is e in
     let lt : n < length hs = slice_get_within hs n given.head given.there in
@@ -114,7 +114,7 @@ split_quant hs fs line lines n q small no' is e s =
     let none = count_none line no' in
     let one : length hs + count line ≡ length (with_quant n q hs) = omega arith in
     let both : QuantsRun (hs ++ s.news) (line ∷ filter is_quant lines) fs =
-    ((n, q), is, read, subst (λ (xs : List PlyHead). QuantsRun xs (filter is_quant lines) fs) (sym (quant_front hs s.news n q lt)) s.quants) in
+    ((n, q), is, read, subst (λ (xs : List Head). QuantsRun xs (filter is_quant lines) fs) (sym (quant_front hs s.news n q lt)) s.quants) in
     record {
       news = s.news;
       attrs = rw no' (subst (λ k. AttrsRun k (filter is_attr lines) s.news) same s.attrs);
@@ -123,7 +123,7 @@ split_quant hs fs line lines n q small no' is e s =
       behind = behind_more (length hs) line lines (λ _. (n, named_by n given.head.comps q line given.says, lt)) (subst (λ k. Behind k lines) (sym one) s.behind);
     }
 
-split_nothing : (hs fs : List PlyHead) (line : Line) (lines : List Line) → is_attr line ≡ false → is_quant line ≡ false → Splits hs lines fs → Splits hs (line ∷ lines) fs
+split_nothing : (hs fs : List Head) (line : Line) (lines : List Line) → is_attr line ≡ false → is_quant line ≡ false → Splits hs lines fs → Splits hs (line ∷ lines) fs
 split_nothing hs fs line lines no' none s =
     let one : length hs + count line ≡ length hs = rw no' (omega arith) in
     record {
@@ -134,21 +134,21 @@ split_nothing hs fs line lines no' none s =
       behind = behind_more (length hs) line lines (λ q. absurd (cc (q, none))) (subst (λ k. Behind k lines) (sym one) s.behind);
     }
 
-run_splits : (hs fs : List PlyHead) (lines : List Line) → length hs ≤ 16 → NotesRun hs lines fs → Splits hs lines fs
+run_splits : (hs fs : List Head) (lines : List Line) → length hs ≤ 16 → NotesRun hs lines fs → Splits hs lines fs
 run_splits hs fs [] small e = record { news = []; attrs = tt; few = omega arith; quants = append-nil hs ∙ e; behind = behind_nil (length hs) }
 run_splits hs fs (line ∷ lines) small (next, attr head is lt e f, run) =
     let n : length (hs ++ head ∷ []) ≡ length hs + 1 = length-append hs (head ∷ []) in
-    split_attr hs fs line lines head is lt e (run_splits (hs ++ head ∷ []) fs lines (omega arith) (subst (λ (x : List PlyHead). NotesRun x lines fs) f run))
+    split_attr hs fs line lines head is lt e (run_splits (hs ++ head ∷ []) fs lines (omega arith) (subst (λ (x : List Head). NotesRun x lines fs) f run))
 run_splits hs fs (line ∷ lines) small (next, quant p no' is e f, run) =
     let n = length-with_quant p.0 p.1 hs in
-    split_quant hs fs line lines p.0 p.1 small no' is e (run_splits (with_quant p.0 p.1 hs) fs lines (omega arith) (subst (λ (x : List PlyHead). NotesRun x lines fs) f run))
+    split_quant hs fs line lines p.0 p.1 small no' is e (run_splits (with_quant p.0 p.1 hs) fs lines (omega arith) (subst (λ (x : List Head). NotesRun x lines fs) f run))
 run_splits hs fs (line ∷ lines) small (next, nothing no' none f, run) =
-    split_nothing hs fs line lines no' none (run_splits hs fs lines small (subst (λ (x : List PlyHead). NotesRun x lines fs) f run))
+    split_nothing hs fs line lines no' none (run_splits hs fs lines small (subst (λ (x : List Head). NotesRun x lines fs) f run))
 
 -- ---- and together again
 
-join_attr : (hs fs : List PlyHead) (line : Line) (lines : List Line) (P : Type 0) → is_attr line ≡ true → Splits hs (line ∷ lines) fs
-    → ((head : PlyHead) → length hs < 16 → attr_of (length hs) line ≡ Some head → Splits (hs ++ head ∷ []) lines fs → P) → P
+join_attr : (hs fs : List Head) (line : Line) (lines : List Line) (P : Type 0) → is_attr line ≡ true → Splits hs (line ∷ lines) fs
+    → ((head : Head) → length hs < 16 → attr_of (length hs) line ≡ Some head → Splits (hs ++ head ∷ []) lines fs → P) → P
 join_attr hs fs line lines P is s k = go s.news refl where
   kept : filter is_attr (line ∷ lines) ≡ line ∷ filter is_attr lines
   kept = rw is refl
@@ -156,10 +156,10 @@ join_attr hs fs line lines P is s k = go s.news refl where
   no' : is_quant line ≡ false
   no' = attr_no_quant line is
 
-  go : (news : List PlyHead) → s.news ≡ news → P
-  go [] e = absurd (subst (λ (xs : List PlyHead). AttrsRun (length hs) (line ∷ filter is_attr lines) xs) e (subst (λ (ls : List Line). AttrsRun (length hs) ls s.news) kept s.attrs))
+  go : (news : List Head) → s.news ≡ news → P
+  go [] e = absurd (subst (λ (xs : List Head). AttrsRun (length hs) (line ∷ filter is_attr lines) xs) e (subst (λ (ls : List Line). AttrsRun (length hs) ls s.news) kept s.attrs))
   go (head ∷ news) e =
-      let a : AttrsRun (length hs) (line ∷ filter is_attr lines) (head ∷ news) = subst (λ (xs : List PlyHead). AttrsRun (length hs) (line ∷ filter is_attr lines) xs) e (subst (λ (ls : List Line). AttrsRun (length hs) ls s.news) kept s.attrs) in
+      let a : AttrsRun (length hs) (line ∷ filter is_attr lines) (head ∷ news) = subst (λ (xs : List Head). AttrsRun (length hs) (line ∷ filter is_attr lines) xs) e (subst (λ (ls : List Line). AttrsRun (length hs) ls s.news) kept s.attrs) in
       let n : length (hs ++ head ∷ []) ≡ length hs + 1 = length-append hs (head ∷ []) in
       let few = s.few in
       let m : length s.news ≡ suc (length news) = ap length e in
@@ -169,12 +169,12 @@ join_attr hs fs line lines P is s k = go s.news refl where
         news = news;
         attrs = subst (λ k. AttrsRun k (filter is_attr lines) news) (sym n) a.2;
         few = omega arith;
-        quants = subst (λ (xs : List PlyHead). QuantsRun xs (filter is_quant lines) fs) (ap (λ (xs : List PlyHead). hs ++ xs) e ∙ sym (append_assoc hs (head ∷ []) news)) q;
+        quants = subst (λ (xs : List Head). QuantsRun xs (filter is_quant lines) fs) (ap (λ (xs : List Head). hs ++ xs) e ∙ sym (append_assoc hs (head ∷ []) news)) q;
         behind = subst (λ k. Behind k lines) one (behind_rest (length hs) line lines s.behind);
       })
 
-join_quant : (hs fs : List PlyHead) (line : Line) (lines : List Line) (P : Type 0) → is_attr line ≡ false → is_quant line ≡ true → Splits hs (line ∷ lines) fs
-    → ((p : ℕ × PlyQuant) → quant_of hs line ≡ Some p → Splits (with_quant p.0 p.1 hs) lines fs → P) → P
+join_quant : (hs fs : List Head) (line : Line) (lines : List Line) (P : Type 0) → is_attr line ≡ false → is_quant line ≡ true → Splits hs (line ∷ lines) fs
+    → ((p : ℕ × Quant) → quant_of hs line ≡ Some p → Splits (with_quant p.0 p.1 hs) lines fs → P) → P
 join_quant hs fs line lines P no' is s k =
     let kept : filter is_quant (line ∷ lines) ≡ line ∷ filter is_quant lines = rw is refl in
     let q : QuantsRun (hs ++ s.news) (line ∷ filter is_quant lines) fs = subst (λ (ls : List Line). QuantsRun (hs ++ s.news) ls fs) kept s.quants in
@@ -193,11 +193,11 @@ join_quant hs fs line lines P no' is s k =
       news = s.news;
       attrs = subst (λ k. AttrsRun k (filter is_attr lines) s.news) (sym n) a;
       few = omega arith;
-      quants = subst (λ (xs : List PlyHead). QuantsRun xs (filter is_quant lines) fs) (quant_front hs s.news p.0 p.1 lt) q.3;
+      quants = subst (λ (xs : List Head). QuantsRun xs (filter is_quant lines) fs) (quant_front hs s.news p.0 p.1 lt) q.3;
       behind = subst (λ k. Behind k lines) one (behind_rest (length hs) line lines s.behind);
     })
 
-join_nothing : (hs fs : List PlyHead) (line : Line) (lines : List Line) → is_attr line ≡ false → is_quant line ≡ false → Splits hs (line ∷ lines) fs → Splits hs lines fs
+join_nothing : (hs fs : List Head) (line : Line) (lines : List Line) → is_attr line ≡ false → is_quant line ≡ false → Splits hs (line ∷ lines) fs → Splits hs lines fs
 join_nothing hs fs line lines no' none s =
     let one : length hs + count line ≡ length hs = rw no' (omega arith) in
     record {
@@ -208,11 +208,11 @@ join_nothing hs fs line lines no' none s =
       behind = subst (λ k. Behind k lines) one (behind_rest (length hs) line lines s.behind);
     }
 
-no_news : (hs fs news : List PlyHead) → AttrsRun (length hs) [] news → QuantsRun (hs ++ news) [] fs → hs ≡ fs
+no_news : (hs fs news : List Head) → AttrsRun (length hs) [] news → QuantsRun (hs ++ news) [] fs → hs ≡ fs
 no_news hs fs [] a q = sym (append-nil hs) ∙ q
 no_news hs fs (h ∷ news) a q = absurd a
 
-splits_run : (hs fs : List PlyHead) (lines : List Line) → Splits hs lines fs → NotesRun hs lines fs
+splits_run : (hs fs : List Head) (lines : List Line) → Splits hs lines fs → NotesRun hs lines fs
 splits_run hs fs [] s = no_news hs fs s.news s.attrs s.quants
 splits_run hs fs (line ∷ lines) s = elim (cases_Bool (is_attr line)) [
   | inl yes' ↦ join_attr hs fs line lines (NotesRun hs (line ∷ lines) fs) yes' s (λ head lt e t. (hs ++ head ∷ [], attr head yes' lt e refl, splits_run (hs ++ head ∷ []) fs lines t))
@@ -224,21 +224,21 @@ splits_run hs fs (line ∷ lines) s = elim (cases_Bool (is_attr line)) [
 
 -- ---- the heads as a whole
 
-abbrev bases : List PlyHead → List PlyHead
+abbrev bases : List Head → List Head
 bases heads = map base heads
 
 -- what an attr line gives doesn't depend on the quantisation
-attr_base : (k : ℕ) (h f : PlyHead) (line : Line) → base h ≡ base f → IsAttrLine k h line → IsAttrLine k f line
+attr_base : (k : ℕ) (h f : Head) (line : Line) → base h ≡ base f → IsAttrLine k h line → IsAttrLine k f line
 attr_base k h f line e is =
-    let a : IsAttrLine k (base h) line = record { numbers = is.numbers; form = is.form; say = is.say; usage = is.usage; dtype = is.dtype; some = is.some; few = is.few; flag = is.flag; id = is.id } in
-    let b : IsAttrLine k (base f) line = subst (λ (x : PlyHead). IsAttrLine k x line) e a in
-    record { numbers = b.numbers; form = b.form; say = b.say; usage = b.usage; dtype = b.dtype; some = b.some; few = b.few; flag = b.flag; id = b.id }
+    let a : IsAttrLine k (base h) line = record { numbers = is.numbers; form = is.form; say = is.say; usage = is.usage; dtype = is.dtype; comps = is.comps; flag = is.flag; id = is.id } in
+    let b : IsAttrLine k (base f) line = subst (λ (x : Head). IsAttrLine k x line) e a in
+    record { numbers = b.numbers; form = b.form; say = b.say; usage = b.usage; dtype = b.dtype; comps = b.comps; flag = b.flag; id = b.id }
 
-is_attr_line : (k : ℕ) (h : PlyHead) (line : Line) → IsAttrLine k h line → is_attr line ≡ true
+is_attr_line : (k : ℕ) (h : Head) (line : Line) → IsAttrLine k h line → is_attr line ≡ true
 is_attr_line k h line is = rw is.form refl
 
 -- new heads, and those that they become
-attrs_give : (k : ℕ) (lines : List Line) (hs fs : List PlyHead) → length hs ≡ length fs → ((j : ℕ) (h f : PlyHead) → slice_get hs j ≡ Some h → slice_get fs j ≡ Some f → base h ≡ base f) → AttrsRun k lines hs → AreAttrLines k fs lines
+attrs_give : (k : ℕ) (lines : List Line) (hs fs : List Head) → length hs ≡ length fs → ((j : ℕ) (h f : Head) → slice_get hs j ≡ Some h → slice_get fs j ≡ Some f → base h ≡ base f) → AttrsRun k lines hs → AreAttrLines k fs lines
 attrs_give k [] [] [] e same run = tt
 attrs_give k [] [] (f ∷ fs) e same run = absurd (omega arith)
 attrs_give k [] (h ∷ hs) fs e same run = absurd run
@@ -247,10 +247,10 @@ attrs_give k (line ∷ lines) (h ∷ hs) [] e same run = absurd (omega arith)
 attrs_give k (line ∷ lines) (h ∷ hs) (f ∷ fs) e same run =
     (attr_base k h f line (same 0 h f refl refl) (attr_given k line h run.0 run.1).0, attrs_give (k + 1) lines hs fs (omega arith) (λ j x y p q. same (suc j) x y p q) run.2)
 
-attrs_plain : (k : ℕ) (lines : List Line) (hs : List PlyHead) (j : ℕ) (h : PlyHead) → AttrsRun k lines hs → slice_get hs j ≡ Some h → h.quant ≡ None
+attrs_plain : (k : ℕ) (lines : List Line) (hs : List Head) (j : ℕ) (h : Head) → AttrsRun k lines hs → slice_get hs j ≡ Some h → h.quant ≡ None
 attrs_plain k lines [] j h run e = absurd (cc e)
 attrs_plain k [] (x ∷ hs) j h run e = absurd run
-attrs_plain k (line ∷ lines) (x ∷ hs) zero h run e = let s : x ≡ h = cc e in ap (λ (y : PlyHead). y.quant) (sym s) ∙ (attr_given k line x run.0 run.1).1
+attrs_plain k (line ∷ lines) (x ∷ hs) zero h run e = let s : x ≡ h = cc e in ap (λ (y : Head). y.quant) (sym s) ∙ (attr_given k line x run.0 run.1).1
 attrs_plain k (line ∷ lines) (x ∷ hs) (suc j) h run e = attrs_plain (k + 1) lines hs j h run.2 e
 
 keep_line : (k : ℕ) (line : Line) (lines : List Line) → is_quant_of k line ≡ true → filter (is_quant_of k) (line ∷ lines) ≡ line ∷ filter (is_quant_of k) lines
@@ -277,14 +277,14 @@ filter_quants k (line ∷ lines) = elim (cases_Bool (is_quant_of k line)) [
   ]
 ]
 
-settled_plain : (k : ℕ) (h f : PlyHead) (lines : List Line) → h.quant ≡ None → Settles k h f lines → AreQuantLines k f.comps f.quant (filter (is_quant_of k) lines)
+settled_plain : (k : ℕ) (h f : Head) (lines : List Line) → h.quant ≡ None → Settles k h f lines → AreQuantLines k f.comps f.quant (filter (is_quant_of k) lines)
 settled_plain k h f lines none s = go h.quant none s.quant where
-  go : (o : Option PlyQuant) → o ≡ None → SettlesQuant k f.comps o f.quant (filter (is_quant_of k) lines) → AreQuantLines k f.comps f.quant (filter (is_quant_of k) lines)
+  go : (o : Option Quant) → o ≡ None → SettlesQuant k f.comps o f.quant (filter (is_quant_of k) lines) → AreQuantLines k f.comps f.quant (filter (is_quant_of k) lines)
   go None e t = t
   go (Some q) e t = absurd (cc e)
 
 -- comments that are noted one after another describe the heads
-pub notes_describe : (fs : List PlyHead) (lines : List Line) → NotesRun [] lines fs → Describe fs lines
+pub notes_describe : (fs : List Head) (lines : List Line) → NotesRun [] lines fs → Describe fs lines
 notes_describe fs lines run =
     let s = run_splits [] fs lines (omega arith) run in
     let r = run_settles s.news fs (filter is_quant lines) s.quants in
@@ -298,13 +298,13 @@ notes_describe fs lines run =
       behind = λ before after line e is. let b = s.behind before after line e is in let lt = b.2 in (b.0, b.1, omega arith);
     }
 
-attrs_run : (k : ℕ) (fs : List PlyHead) (lines : List Line) → k + length fs ≤ 16 → AreAttrLines k fs lines → AttrsRun k lines (bases fs)
+attrs_run : (k : ℕ) (fs : List Head) (lines : List Line) → k + length fs ≤ 16 → AreAttrLines k fs lines → AttrsRun k lines (bases fs)
 attrs_run k [] [] few h = tt
 attrs_run k [] (line ∷ lines) few h = absurd h
 attrs_run k (f ∷ fs) [] few h = absurd h
 attrs_run k (f ∷ fs) (line ∷ lines) few h = (is_attr_line k f line h.0, attr_read k line f (omega arith) h.0, attrs_run (k + 1) fs lines (omega arith) h.1)
 
-attrs_count : (k : ℕ) (fs : List PlyHead) (lines : List Line) → AreAttrLines k fs lines → length lines ≡ length fs
+attrs_count : (k : ℕ) (fs : List Head) (lines : List Line) → AreAttrLines k fs lines → length lines ≡ length fs
 attrs_count k [] [] h = refl
 attrs_count k [] (line ∷ lines) h = absurd h
 attrs_count k (f ∷ fs) [] h = absurd h
@@ -320,19 +320,19 @@ all_named k n (line ∷ lines) h le =
       | inr none ↦ rw none rest
     ]
 
-at_bases : (fs : List PlyHead) (k : ℕ) (h f : PlyHead) → slice_get (bases fs) k ≡ Some h → slice_get fs k ≡ Some f → h ≡ base f
+at_bases : (fs : List Head) (k : ℕ) (h f : Head) → slice_get (bases fs) k ≡ Some h → slice_get fs k ≡ Some f → h ≡ base f
 at_bases [] k h f p q = absurd (cc q)
 at_bases (x ∷ fs) zero h f p q = let a : base x ≡ h = cc p in let b : x ≡ f = cc q in sym a ∙ ap base b
 at_bases (x ∷ fs) (suc k) h f p q = at_bases fs k h f p q
 
 -- and comments that describe heads are noted one after another
-pub describe_notes : (fs : List PlyHead) (lines : List Line) → length fs ≤ 16 → Describe fs lines → NotesRun [] lines fs
+pub describe_notes : (fs : List Head) (lines : List Line) → length fs ≤ 16 → Describe fs lines → NotesRun [] lines fs
 describe_notes fs lines few d =
     let n : length (bases fs) ≡ length fs = length-map fs base in
     let c = attrs_count 0 fs (filter is_attr lines) d.attrs in
     let behind : Behind 0 lines = λ before after line e is. let b = d.behind before after line e is in let lt = b.2 in (b.0, b.1, omega arith) in
     let settles : AllSettle (bases fs) (filter is_quant lines) fs = λ k h f p q.
-    subst (λ (x : PlyHead). Settles k x f (filter is_quant lines)) (sym (at_bases fs k h f p q))
+    subst (λ (x : Head). Settles k x f (filter is_quant lines)) (sym (at_bases fs k h f p q))
     (record { same = refl; quant = subst (λ (ls : List Line). AreQuantLines k f.comps f.quant ls) (sym (filter_quants k lines)) (d.quants k f q) }) in
     splits_run [] fs lines (record {
       news = bases fs;

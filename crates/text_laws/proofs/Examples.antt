@@ -13,14 +13,15 @@ use Rattle.text_laws.specs.TextShape.{IsTextOf}
 use Rattle.text_laws.proofs.Texts.{texts_are_shapes}
 use Rattle.std.specs.Prelude.{pos}
 use Rattle.ply_text.specs.declared.headers.Header.{Header}
-use Rattle.ply_text.specs.declared.headers.PlyHead.{PlyHead}
+use Rattle.attr_heads.specs.declared.heads.Head.{Head}
 use Rattle.ply_text.specs.Comments.{is_form, quant_of}
 use Rattle.ply_text.specs.Declarations.{is_magic, is_format, element_of, is_list, scalar_of, list_of}
 use Rattle.ply_text.specs.Draft.{property, element, scalar, list, quantisation, comment, body, statement}
 use Rattle.ply_text.specs.Header.{column_types, is_head_typed, is_whole, heads_of, agrees, header_by, ply_header_at, header_of_lines, header_of}
 use Rattle.ply_text.specs.NamedHeads.{run_of}
 use Rattle.ply_text.specs.Numbers.{is_digits, digits_value, natural_of, integer_of, natural_within, pattern_of}
-use Rattle.ply_text.specs.Words.{keyword_of, type_of, is_indices}
+use Rattle.ply_text.specs.Words.{keyword_of, is_indices}
+use Rattle.ply_text.specs.PropertyTypes.{type_of}
 use Rattle.text_laws.specs.HeaderShape.{Line, is_quant_of, AreQuantLines, Declare, Describe, IsHeaderOf, BeginWithHeader}
 use Rattle.text_laws.proofs.Describing.{Behind, behind_nil, behind_more}
 use Rattle.text_laws.proofs.Shapes.{front_read, read_shape, headers_are_shapes}
@@ -60,7 +61,7 @@ between = attr_line ∷ format ∷ info ∷ quant_line ∷ points ∷ column ∷
 abbrev lines : List Line
 lines = (codes "ply" ∷ []) ∷ (between ++ (codes "end_header" ∷ []) ∷ [])
 
-abbrev head : PlyHead
+abbrev head : Head
 head = record { usage = 0; dtype = 9; comps = 1; normalized = 0; id = 7; quant = Some (record { bits = 8; range = 1065353216; min = 0 ∷ [] }) }
 
 abbrev header : Header
@@ -87,7 +88,7 @@ declared = record {
   };
 }
 
-quant_said : (k : ℕ) (h : PlyHead) → slice_get (head ∷ []) k ≡ Some h → AreQuantLines k h.comps h.quant (filter (is_quant_of k) between)
+quant_said : (k : ℕ) (h : Head) → slice_get (head ∷ []) k ≡ Some h → AreQuantLines k h.comps h.quant (filter (is_quant_of k) between)
 unfolding is_digits digits_value pattern_of
 quant_said zero h e =
     let s : head ≡ h = cc e in
@@ -104,10 +105,10 @@ quant_said zero h e =
         says_bits = refl;
         says_range = refl;
         says_minima = (refl, tt);
-        fits = record { some_bits = omega arith; few_bits = omega arith; minima = refl };
+        fits = record { bits = refl; minima = refl };
       },
     ) in
-    subst (λ (h : PlyHead). AreQuantLines 0 h.comps h.quant (quant_line ∷ [])) s one
+    subst (λ (h : Head). AreQuantLines 0 h.comps h.quant (quant_line ∷ [])) s one
 quant_said (suc k) h e = absurd (cc e)
 
 quant_behind : Behind 0 between
@@ -131,10 +132,9 @@ described = record {
       numbers = codes "0" ∷ codes "0" ∷ codes "9" ∷ codes "1" ∷ codes "0" ∷ codes "7" ∷ [];
       form = refl;
       say = (refl, (refl, (refl, (refl, (refl, (refl, tt))))));
-      usage = omega arith;
+      usage = refl;
       dtype = refl;
-      some = omega arith;
-      few = omega arith;
+      comps = refl;
       flag = omega arith;
       id = omega arith;
     },

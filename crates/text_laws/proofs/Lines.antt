@@ -46,6 +46,9 @@ only_if_some t None y e = absurd (cc)
 only_if_some t (Some x) y e =
     passed (t x) (Some x) None (Some y) _ e (λ yes' same. let s : x ≡ y = cc in (same, ap t (sym s) ∙ yes')) (λ no' none. absurd (cc))
 
+pub only_if_passes : {A : Type 0} (t : A → Bool) (o : Option A) (y : A) → o ≡ Some y → t y ≡ true → only_if t o ≡ Some y
+only_if_passes t o y e p = rw (e, p) refl
+
 pub natural_writes : (token : List ℕ) (n : ℕ) → natural_of token ≡ Some n → writes n token ≡ true
 unfolding natural_of
 natural_writes token n e =

@@ -4,7 +4,8 @@ use Rattle.std.specs.List.{AllByRecursion, list_all}
 use Rattle.std.specs.Str.{bytes_eq}
 use Rattle.std.proofs.lemmas.Bool.{and_parts, and_from, cases_Bool, eqb-true, eq-eqb, ltb-true}
 use Rattle.std.proofs.lemmas.List.{drop_at}
-use Rattle.ply_text.specs.declared.headers.PlyHead.{PlyHead}
+use Rattle.attr_heads.specs.declared.heads.Head.{Head}
+use Rattle.attr_heads.specs.declared.usages.TheConstants.{GENERIC}
 use Rattle.ply_text.specs.Draft.{PropertyParts}
 use Rattle.ply_text.specs.NamedHeads.{NameRun, name_runs, is_named, stand, run_by, run_of, named_head, named_heads}
 use Rattle.text_laws.specs.NameShape.{AreNamed, IsAbsent, IsRowHead, IsPlainHead, NamesGive}
@@ -73,7 +74,7 @@ record FirstRow (runs : List NameRun) (p : PropertyParts) (ps : List PropertyPar
 
 record NoRow (runs : List NameRun) (p : PropertyParts) (ps : List PropertyParts) : Type 0 where
   none : AllByRecursion (IsAbsent (p ∷ ps)) runs
-  is : run_by runs p.dtype (p ∷ ps) ≡ (4, 1)
+  is : run_by runs p.dtype (p ∷ ps) ≡ (GENERIC, 1)
 
 row_taken : (runs : List NameRun) (p : PropertyParts) (ps : List PropertyParts) → FirstRow runs p ps ⊎ NoRow runs p ps
 row_taken [] p ps = inr (record { none = tt; is = refl })
@@ -98,7 +99,7 @@ row_first : (above below : List NameRun) (run : NameRun) (p : PropertyParts) (ps
 row_first [] below run p ps none stands = rw stands refl
 row_first (r ∷ above) below run p ps none stands = rw (absent_stand r p ps none.0) (row_first above below run p ps none.1 stands)
 
-row_none : (runs : List NameRun) (p : PropertyParts) (ps : List PropertyParts) → AllByRecursion (IsAbsent (p ∷ ps)) runs → run_by runs p.dtype (p ∷ ps) ≡ (4, 1)
+row_none : (runs : List NameRun) (p : PropertyParts) (ps : List PropertyParts) → AllByRecursion (IsAbsent (p ∷ ps)) runs → run_by runs p.dtype (p ∷ ps) ≡ (GENERIC, 1)
 row_none [] p ps none = refl
 row_none (r ∷ runs) p ps none = rw (absent_stand r p ps none.0) (row_none runs p ps none.1)
 
@@ -124,7 +125,7 @@ first_named : (k : ℕ) (p : PropertyParts) (ps : List PropertyParts) (run : ℕ
 unfolding run_of
 first_named k p ps run e =
     ap (λ (r : ℕ × ℕ). named_head k p.dtype r ∷ named_heads (k + 1) (r.1 - 1) ps) e
-    ∙ ap (λ (hs : List PlyHead). named_head k p.dtype run ∷ hs) (skipped (k + 1) (run.1 - 1) ps)
+    ∙ ap (λ (hs : List Head). named_head k p.dtype run ∷ hs) (skipped (k + 1) (run.1 - 1) ps)
 
 rest_is : (n : ℕ) (p : PropertyParts) (ps piece rest : List PropertyParts) → p ∷ ps ≡ piece ++ rest → length piece ≡ n → 0 < n → drop (n - 1) ps ≡ rest
 rest_is n p ps [] rest cut long some = absurd (omega arith)
@@ -133,7 +134,7 @@ rest_is n p ps (q ∷ piece) rest cut long some =
     ap (drop (n - 1)) e ∙ drop_at piece rest (n - 1) (omega arith)
 
 -- the heads that are named are those of the pieces
-pub named_give : (heads : List PlyHead) (k : ℕ) (ps : List PropertyParts) → heads ≡ named_heads k 0 ps → NamesGive k ps heads
+pub named_give : (heads : List Head) (k : ℕ) (ps : List PropertyParts) → heads ≡ named_heads k 0 ps → NamesGive k ps heads
 named_give [] k [] e = refl
 named_give [] k (p ∷ ps) e = absurd (cc e)
 named_give (h ∷ heads) k [] e = absurd (cc e)
@@ -156,14 +157,14 @@ named_give (h ∷ heads) k (p ∷ ps) e = elim (row_taken name_runs p ps) [
       } in
       (s.piece, s.rest, s.cut, inl is, named_give heads (k + 1) s.rest (rest ∙ ap (named_heads (k + 1) 0) left))
   | inr n ↦
-      let one = e ∙ first_named k p ps (4, 1) n.is in
-      let head : h ≡ named_head k p.dtype (4, 1) = cc one in
+      let one = e ∙ first_named k p ps (GENERIC, 1) n.is in
+      let head : h ≡ named_head k p.dtype (GENERIC, 1) = cc one in
       let rest : heads ≡ named_heads (k + 1) 0 ps = cc one in
       let is : IsPlainHead k (p ∷ []) ps h = record { property = p; one = refl; none = n.none; is = head } in
       (p ∷ [], ps, refl, inr is, named_give heads (k + 1) ps rest)
 ]
 
-row_named : (k : ℕ) (ps piece rest : List PropertyParts) (h : PlyHead) (heads : List PlyHead) → ps ≡ piece ++ rest → IsRowHead k piece rest h → heads ≡ named_heads (k + 1) 0 rest → h ∷ heads ≡ named_heads k 0 ps
+row_named : (k : ℕ) (ps piece rest : List PropertyParts) (h : Head) (heads : List Head) → ps ≡ piece ++ rest → IsRowHead k piece rest h → heads ≡ named_heads (k + 1) 0 rest → h ∷ heads ≡ named_heads k 0 ps
 row_named k ps [] rest h heads cut r more =
     let long = named_long r.run.words r.dtype [] r.named in
     let some = row_has_name r.above r.below r.run r.place in
@@ -176,22 +177,22 @@ row_named k ps (p ∷ piece) rest h heads cut r more =
     let left = rest_is (length r.run.words) p (piece ++ rest) (p ∷ piece) rest refl (named_long r.run.words r.dtype (p ∷ piece) r.named) some in
     let dtype : p.dtype ≡ r.dtype = first_dtype r.run.words r.dtype p piece some r.named in
     let head : h ≡ named_head k p.dtype (r.run.usage, length r.run.words) = r.is ∙ ap (λ d. named_head k d (r.run.usage, length r.run.words)) (sym dtype) in
-    ap (λ (x : PlyHead). x ∷ heads) head ∙ ap (λ (xs : List PlyHead). named_head k p.dtype (r.run.usage, length r.run.words) ∷ xs) (more ∙ ap (named_heads (k + 1) 0) (sym left))
+    ap (λ (x : Head). x ∷ heads) head ∙ ap (λ (xs : List Head). named_head k p.dtype (r.run.usage, length r.run.words) ∷ xs) (more ∙ ap (named_heads (k + 1) 0) (sym left))
     ∙ sym (first_named k p (piece ++ rest) (r.run.usage, length r.run.words) taken) ∙ ap (named_heads k 0) (sym cut)
   where
     first_dtype : (words : List (List ℕ)) (d : ℕ) (q : PropertyParts) (qs : List PropertyParts) → 0 < length words → AreNamed words d (q ∷ qs) → q.dtype ≡ d
     first_dtype [] d q qs long h = absurd (omega arith)
     first_dtype (w ∷ ws) d q qs long h = h.0.1
 
-plain_named : (k : ℕ) (ps piece rest : List PropertyParts) (h : PlyHead) (heads : List PlyHead) → ps ≡ piece ++ rest → IsPlainHead k piece rest h → heads ≡ named_heads (k + 1) 0 rest → h ∷ heads ≡ named_heads k 0 ps
+plain_named : (k : ℕ) (ps piece rest : List PropertyParts) (h : Head) (heads : List Head) → ps ≡ piece ++ rest → IsPlainHead k piece rest h → heads ≡ named_heads (k + 1) 0 rest → h ∷ heads ≡ named_heads k 0 ps
 plain_named k ps piece rest h heads cut r more =
     let p = r.property in
     let whole : ps ≡ p ∷ rest = cut ∙ ap (λ (qs : List PropertyParts). qs ++ rest) r.one in
     let none : AllByRecursion (IsAbsent (p ∷ rest)) name_runs = subst (λ (qs : List PropertyParts). AllByRecursion (IsAbsent (qs ++ rest)) name_runs) r.one r.none in
-    ap (λ (x : PlyHead). x ∷ heads) r.is ∙ ap (λ (xs : List PlyHead). named_head k p.dtype (4, 1) ∷ xs) more ∙ sym (first_named k p rest (4, 1) (row_none name_runs p rest none)) ∙ ap (named_heads k 0) (sym whole)
+    ap (λ (x : Head). x ∷ heads) r.is ∙ ap (λ (xs : List Head). named_head k p.dtype (GENERIC, 1) ∷ xs) more ∙ sym (first_named k p rest (GENERIC, 1) (row_none name_runs p rest none)) ∙ ap (named_heads k 0) (sym whole)
 
 -- and back
-pub give_named : (heads : List PlyHead) (k : ℕ) (ps : List PropertyParts) → NamesGive k ps heads → heads ≡ named_heads k 0 ps
+pub give_named : (heads : List Head) (k : ℕ) (ps : List PropertyParts) → NamesGive k ps heads → heads ≡ named_heads k 0 ps
 give_named [] k ps e = ap (named_heads k 0) (sym e)
 give_named (h ∷ heads) k ps (piece, rest, cut, inl r, more) = row_named k ps piece rest h heads cut r (give_named heads (k + 1) rest more)
 give_named (h ∷ heads) k ps (piece, rest, cut, inr r, more) = plain_named k ps piece rest h heads cut r (give_named heads (k + 1) rest more)

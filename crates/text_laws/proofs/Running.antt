@@ -8,7 +8,7 @@ use Rattle.drc_base.specs.declared.kinds.Kind.TheVariants.{AttrLimit, PlyAttr, P
 use Rattle.drc_base.specs.declared.limits.TheConstants.{MAX_ATTRIBUTES}
 use Rattle.drc_base.specs.Steps.{◌>>=◌}
 use Rattle.ply_text.specs.declared.headers.Header.{Header}
-use Rattle.ply_text.specs.declared.headers.PlyHead.{PlyHead}
+use Rattle.attr_heads.specs.declared.heads.Head.{Head}
 use Rattle.ply_text.specs.Words.{keyword_of}
 use Rattle.ply_text.specs.Comments.{is_form, attr_of, quant_of, with_quant}
 use Rattle.ply_text.specs.Declarations.{keyword_at}
@@ -23,7 +23,7 @@ use Rattle.text_laws.proofs.Describing.{Notes, attr, quant, nothing, NotesRun}
 
 -- ---- a comment
 
-with_heads : (s : Stage) (hs next : List PlyHead) → record (draft_at s hs) { heads = next } ≡ draft_at s next
+with_heads : (s : Stage) (hs next : List Head) → record (draft_at s hs) { heads = next } ≡ draft_at s next
 with_heads s hs next = go s where
   go : (s : Stage) → record (draft_at s hs) { heads = next } ≡ draft_at s next
   go Stage.begun = refl
@@ -32,7 +32,7 @@ with_heads s hs next = go s where
   go (Stage.faces n ps m) = refl
   go (Stage.listed n ps m types) = refl
 
-heads_at : (s : Stage) (hs : List PlyHead) → (draft_at s hs).heads ≡ hs
+heads_at : (s : Stage) (hs : List Head) → (draft_at s hs).heads ≡ hs
 heads_at Stage.begun hs = refl
 heads_at Stage.formatted hs = refl
 heads_at (Stage.points n ps) hs = refl
@@ -41,7 +41,7 @@ heads_at (Stage.listed n ps m types) hs = refl
 
 -- what a comment adds to a draft
 record Noted (d : Draft) (line : Line) (d' : Draft) : Type 0 where
-  next : List PlyHead
+  next : List Head
   notes : Notes d.heads line next
   draft : record d { heads = next } ≡ d'
 
@@ -67,19 +67,19 @@ comment_notes at d d' line forms e =
 -- ---- from line to line
 
 -- where a header ends, and what it came to
-pub record Ends (s : Stage) (hs : List PlyHead) (at : ℕ) (lines : List Line) (h : Header) : Type 0 where
+pub record Ends (s : Stage) (hs : List Head) (at : ℕ) (lines : List Line) (h : Header) : Type 0 where
   pub between : List Line
   pub last : Line
   pub rest : List Line
   pub stage : Stage
-  pub heads : List PlyHead
+  pub heads : List Head
   pub cut : lines ≡ between ++ last ∷ rest
   pub steps : Steps s (filter is_declaration between) stage
   pub notes : NotesRun hs between heads
   pub ends : ends_header (draft_at stage heads) last ≡ true
   pub header : ply_header_at (at + length between) (draft_at stage heads) last ≡ Ok h
 
-further : (s : Stage) (hs : List PlyHead) (at : ℕ) (line : Line) (lines : List Line) (h : Header) (next : List PlyHead) (t : Stage) → Notes hs line next
+further : (s : Stage) (hs : List Head) (at : ℕ) (line : Line) (lines : List Line) (h : Header) (next : List Head) (t : Stage) → Notes hs line next
     → ((ls : List Line) (u : Stage) → Steps t (filter is_declaration ls) u → Steps s (filter is_declaration (line ∷ ls)) u) → Ends t next (at + 1) lines h → Ends s hs at (line ∷ lines) h
 further s hs at line lines h next t n steps r = record {
   between = line ∷ r.between;
@@ -107,7 +107,7 @@ plain_line form (a ∷ []) e = refl
 plain_line form (a ∷ b ∷ []) e = refl
 plain_line form (a ∷ b ∷ c ∷ ts) e = and_left (bytes_eq a (codes "comment")) _ (or_parts (bytes_eq a (codes "comment")) (bytes_eq a (codes "obj_info")) e).0
 
-pub header_ends : (s : Stage) (hs : List PlyHead) (at : ℕ) (lines : List Line) (h : Header) → header_from at (draft_at s hs) lines ≡ Ok h → Ends s hs at lines h
+pub header_ends : (s : Stage) (hs : List Head) (at : ℕ) (lines : List Line) (h : Header) → header_from at (draft_at s hs) lines ≡ Ok h → Ends s hs at lines h
 header_ends s hs at [] h e = not_refused _ PlyShort at h e
 header_ends s hs at (line ∷ lines) h e =
     let d = draft_at s hs in
@@ -130,7 +130,7 @@ header_ends s hs at (line ∷ lines) h e =
     (λ is forms c.
     let n = comment_notes at d p.0 line forms c in
     let same : p.0 ≡ draft_at s n.next = sym n.draft ∙ with_heads s hs n.next in
-    further s hs at line lines h n.next s (subst (λ (xs : List PlyHead). Notes xs line n.next) (heads_at s hs) n.notes) (comment_goes s s line is refl)
+    further s hs at line lines h n.next s (subst (λ (xs : List Head). Notes xs line n.next) (heads_at s hs) n.notes) (comment_goes s s line is refl)
     (header_ends s n.next (at + 1) lines h (ap (λ (x : Draft). header_from (at + 1) x lines) (sym same) ∙ p.2)))
     (λ is a q same.
     further s hs at line lines h hs s (nothing a q refl) (comment_goes s s line is refl)
@@ -142,26 +142,26 @@ header_ends s hs at (line ∷ lines) h e =
 
 -- ---- and back
 
-comment_reads : (at : ℕ) (d : Draft) (line : Line) (next : List PlyHead) → ((form : List ℕ) → has_form form line ≡ is_form form line) → Notes d.heads line next → comment at d line ≡ Ok (record d { heads = next })
+comment_reads : (at : ℕ) (d : Draft) (line : Line) (next : List Head) → ((form : List ℕ) → has_form form line ≡ is_form form line) → Notes d.heads line next → comment at d line ≡ Ok (record d { heads = next })
 unfolding comment attribute quantisation
 comment_reads at d line next forms (attr head is lt e f) = rw (sym (forms (codes "attr")) ∙ is, lt-leb MAX_ATTRIBUTES (length d.heads) lt, e, f) refl
 comment_reads at d line next forms (quant p no' is e f) = rw (sym (forms (codes "attr")) ∙ no', sym (forms (codes "quant")) ∙ is, e, f) refl
 comment_reads at d line next forms (nothing no' none f) = rw (sym (forms (codes "attr")) ∙ no', sym (forms (codes "quant")) ∙ none, f) refl
 
 -- a line that describes nothing notes nothing
-notes_nothing : (hs next : List PlyHead) (line : Line) → is_attr line ≡ false → is_quant line ≡ false → Notes hs line next → next ≡ hs
+notes_nothing : (hs next : List Head) (line : Line) → is_attr line ≡ false → is_quant line ≡ false → Notes hs line next → next ≡ hs
 notes_nothing hs next line no' none (attr head is lt e f) = absurd (cc (is, no'))
 notes_nothing hs next line no' none (quant p a is e f) = absurd (cc (is, none))
 notes_nothing hs next line no' none (nothing a b f) = f
 
-word_reads : (s : Stage) (at : ℕ) (hs next : List PlyHead) (word : List ℕ) (tokens : Line) → is_comment (word ∷ tokens) ≡ true → Notes hs (word ∷ tokens) next
+word_reads : (s : Stage) (at : ℕ) (hs next : List Head) (word : List ℕ) (tokens : Line) → is_comment (word ∷ tokens) ≡ true → Notes hs (word ∷ tokens) next
     → (statement at (draft_at s hs) (word ∷ tokens) ≡ Ok (draft_at s next)) × (ends_header (draft_at s hs) (word ∷ tokens) ≡ false)
 unfolding statement keyword_of
 word_reads s at hs next word tokens is n =
     let d = draft_at s hs in
     keyword_cases word ((statement at d (word ∷ tokens) ≡ Ok (draft_at s next)) × (ends_header d (word ∷ tokens) ≡ false))
     (λ c.
-    let notes : Notes d.heads (word ∷ tokens) next = subst (λ (xs : List PlyHead). Notes xs (word ∷ tokens) next) (sym (heads_at s hs)) n in
+    let notes : Notes d.heads (word ∷ tokens) next = subst (λ (xs : List Head). Notes xs (word ∷ tokens) next) (sym (heads_at s hs)) n in
     let r = comment_reads at d (word ∷ tokens) next (λ form. comment_word form word tokens c) notes in
     (rw c (r ∙ ap Ok (with_heads s hs next)), and_right d.formatted _ (rw c refl)))
     (λ c o.
@@ -172,7 +172,7 @@ word_reads s at hs next word tokens is n =
     (λ c o x p q. absurd (let no' : is_comment (word ∷ tokens) ≡ false = rw (c, o) refl in cc (is, no')))
     (λ c o x p q. absurd (let no' : is_comment (word ∷ tokens) ≡ false = rw (c, o) refl in cc (is, no')))
 
-line_reads : (s : Stage) (at : ℕ) (hs next : List PlyHead) (line : Line) → is_comment line ≡ true → Notes hs line next
+line_reads : (s : Stage) (at : ℕ) (hs next : List Head) (line : Line) → is_comment line ≡ true → Notes hs line next
     → (statement at (draft_at s hs) line ≡ Ok (draft_at s next)) × (ends_header (draft_at s hs) line ≡ false)
 line_reads s at hs next [] is n = absurd (cc is)
 line_reads s at hs next (word ∷ tokens) is n = word_reads s at hs next word tokens is n
@@ -194,11 +194,11 @@ one_more : (at : ℕ) (d d' : Draft) (line : Line) (lines : List Line) → (stat
 one_more at d d' line lines e f = rw (f, e) refl
 
 -- comments that are noted and declarations that go on are read, up to the end
-pub ends_read : (s stage : Stage) (hs heads : List PlyHead) (at : ℕ) (between : List Line) (last : Line) (rest : List Line) → Steps s (filter is_declaration between) stage → NotesRun hs between heads → ends_header (draft_at stage heads) last ≡ true
+pub ends_read : (s stage : Stage) (hs heads : List Head) (at : ℕ) (between : List Line) (last : Line) (rest : List Line) → Steps s (filter is_declaration between) stage → NotesRun hs between heads → ends_header (draft_at stage heads) last ≡ true
     → header_from at (draft_at s hs) (between ++ last ∷ rest) ≡ ply_header_at (at + length between) (draft_at stage heads) last
 ends_read s stage hs heads at [] last rest steps notes ends =
     let z : at ≡ at + length {A = Line} [] = omega arith in
-    ap (λ (x : Stage). header_from at (draft_at x hs) (last ∷ rest)) steps ∙ ap (λ (x : List PlyHead). header_from at (draft_at stage x) (last ∷ rest)) notes ∙ rw ends (ap (λ k. ply_header_at k (draft_at stage heads) last) z)
+    ap (λ (x : Stage). header_from at (draft_at x hs) (last ∷ rest)) steps ∙ ap (λ (x : List Head). header_from at (draft_at stage x) (last ∷ rest)) notes ∙ rw ends (ap (λ k. ply_header_at k (draft_at stage heads) last) z)
 ends_read s stage hs heads at (line ∷ between) last rest steps (next, n, run) ends =
     let m : at + 1 + length between ≡ at + length (line ∷ between) = omega arith in
     elim (cases_Bool (is_comment line)) [
@@ -214,5 +214,5 @@ ends_read s stage hs heads at (line ∷ between) last rest steps (next, n, run) 
           let t = all.0 in
           let b = plain_statement at (draft_at s hs) line no' ∙ next_body s t at hs line all.1 in
           one_more at (draft_at s hs) (draft_at t hs) line (between ++ last ∷ rest) b (next_goes s t hs line all.1)
-          ∙ ends_read t stage hs heads (at + 1) between last rest all.2 (subst (λ (xs : List PlyHead). NotesRun xs between heads) same run) ends ∙ ap (λ k. ply_header_at k (draft_at stage heads) last) m
+          ∙ ends_read t stage hs heads (at + 1) between last rest all.2 (subst (λ (xs : List Head). NotesRun xs between heads) same run) ends ∙ ap (λ k. ply_header_at k (draft_at stage heads) last) m
     ]

@@ -10,7 +10,7 @@ use Rattle.std.proofs.lemmas.List.Sums.{AllPass-from_list_all}
 use Rattle.drc_base.specs.declared.kinds.Kind.TheVariants.{PlyMagic, PlyHeader, PlyElement, PlyAttr, PlyShort, AttrLimit, ValueLimit}
 use Rattle.drc_base.specs.declared.limits.TheConstants.{MAX_ATTRIBUTES, MAX_VALUES}
 use Rattle.ply_text.specs.declared.headers.Header.{Header}
-use Rattle.ply_text.specs.declared.headers.PlyHead.{PlyHead}
+use Rattle.attr_heads.specs.declared.heads.Head.{Head}
 use Rattle.ply_text.specs.Words.{keyword_of}
 use Rattle.ply_text.specs.Declarations.{is_magic, is_alone}
 use Rattle.ply_text.specs.Draft.{Draft, PropertyParts}
@@ -59,7 +59,7 @@ end_form d (word ∷ a ∷ ts) e one = absurd (cc one)
 
 -- ---- what a whole draft gives
 
-whole_done : (stage : Stage) (heads : List PlyHead) → is_whole (draft_at stage heads) ≡ true
+whole_done : (stage : Stage) (heads : List Head) → is_whole (draft_at stage heads) ≡ true
     → IsDone stage (unwrap_or (draft_at stage heads).vertices 0) (draft_at stage heads).properties (draft_at stage heads).faces (draft_at stage heads).list
 unfolding is_whole
 whole_done Stage.begun heads e = absurd (cc e)
@@ -69,10 +69,10 @@ whole_done (Stage.faces n ps m) heads e = let x = (and_parts (ltb 0 (length ps))
 whole_done (Stage.listed n ps m types) heads e = (refl, refl, refl, refl, ltb-true 0 (length ps) (and_parts (ltb 0 (length ps)) true e).0)
 
 -- a whole draft
-abbrev full : List PlyHead → ℕ → List PropertyParts → Option ℕ → Option (ℕ × ℕ) → Draft
+abbrev full : List Head → ℕ → List PropertyParts → Option ℕ → Option (ℕ × ℕ) → Draft
 full heads n ps m types = record { formatted = true; heads = heads; vertices = Some n; properties = ps; faces = m; list = types }
 
-done_draft : (stage : Stage) (heads : List PlyHead) (n : ℕ) (ps : List PropertyParts) (m : Option ℕ) (types : Option (ℕ × ℕ)) → IsDone stage n ps m types
+done_draft : (stage : Stage) (heads : List Head) (n : ℕ) (ps : List PropertyParts) (m : Option ℕ) (types : Option (ℕ × ℕ)) → IsDone stage n ps m types
     → (draft_at stage heads ≡ full heads n ps m types) × ((is_none m || is_some types) ≡ true)
 done_draft Stage.begun heads n ps m types d = absurd d
 done_draft Stage.formatted heads n ps m types d = absurd d
@@ -81,33 +81,33 @@ done_draft (Stage.faces k qs l) heads n ps m types d = absurd d
 done_draft (Stage.listed k qs l t) heads n ps m types d = (rw (d.0, d.1, d.2, d.3) refl, rw (d.2, d.3) refl)
 
 -- the heads of comments, else those of names
-abbrev heads_given : List PlyHead → List PropertyParts → List PlyHead
+abbrev heads_given : List Head → List PropertyParts → List Head
 heads_given [] ps = named_heads 0 0 ps
 heads_given (h ∷ hs) ps = h ∷ hs
 
-given_heads : (ds : List PlyHead) (ps : List PropertyParts) (hs : List PlyHead) → hs ≡ heads_given ds ps → AreHeads ds ps hs
+given_heads : (ds : List Head) (ps : List PropertyParts) (hs : List Head) → hs ≡ heads_given ds ps → AreHeads ds ps hs
 given_heads [] ps hs e = named_give hs 0 ps e
 given_heads (d ∷ ds) ps hs e = e
 
-heads_from : (ds : List PlyHead) (ps : List PropertyParts) (hs : List PlyHead) → AreHeads ds ps hs → hs ≡ heads_given ds ps
+heads_from : (ds : List Head) (ps : List PropertyParts) (hs : List Head) → AreHeads ds ps hs → hs ≡ heads_given ds ps
 heads_from [] ps hs h = give_named hs 0 ps h
 heads_from (d ∷ ds) ps hs e = e
 
-heads_same : (hs : List PlyHead) (ps : List PropertyParts) → cond (ltb 0 (length hs)) hs (named_heads 0 0 ps) ≡ heads_given hs ps
+heads_same : (hs : List Head) (ps : List PropertyParts) → cond (ltb 0 (length hs)) hs (named_heads 0 0 ps) ≡ heads_given hs ps
 heads_same [] ps = refl
 heads_same (h ∷ hs) ps = rw (lt-ltb 0 (length (h ∷ hs)) (omega arith)) refl
 
-abbrev made : ℕ → Draft → List PlyHead → Header
+abbrev made : ℕ → Draft → List Head → Header
 made at d heads = record { heads = heads; vertices = unwrap_or d.vertices 0; faces = d.faces; types = property_types d.properties; list = d.list; body_line = at + 1 }
 
 -- the tests at the end of a header
-record Passes (at : ℕ) (d : Draft) (heads : List PlyHead) (h : Header) : Type 0 where
+record Passes (at : ℕ) (d : Draft) (heads : List Head) (h : Header) : Type 0 where
   few : length heads ≤ MAX_ATTRIBUTES
   agree : agrees heads d.properties ≡ true
   values : unwrap_or d.vertices 0 * length d.properties ≤ MAX_VALUES
   same : made at d heads ≡ h
 
-header_passes : (at : ℕ) (d : Draft) (heads : List PlyHead) (h : Header) → header_by at d heads ≡ Ok h → Passes at d heads h
+header_passes : (at : ℕ) (d : Draft) (heads : List Head) (h : Header) → header_by at d heads ≡ Ok h → Passes at d heads h
 unfolding header_by
 header_passes at d heads h e =
     passed (ltb MAX_ATTRIBUTES (length heads)) _ _ (Ok h) _ e
@@ -120,19 +120,19 @@ header_passes at d heads h e =
     (λ _ last. not_refused _ ValueLimit at h last)
     (λ values last. record { few = ltb-false MAX_ATTRIBUTES (length heads) few; agree = not-false (agrees heads d.properties) agree; values = ltb-false MAX_VALUES (unwrap_or d.vertices 0 * length d.properties) values; same = cc last })))
 
-passes_header : (at : ℕ) (d : Draft) (heads : List PlyHead) → length heads ≤ MAX_ATTRIBUTES → agrees heads d.properties ≡ true → unwrap_or d.vertices 0 * length d.properties ≤ MAX_VALUES → header_by at d heads ≡ Ok (made at d heads)
+passes_header : (at : ℕ) (d : Draft) (heads : List Head) → length heads ≤ MAX_ATTRIBUTES → agrees heads d.properties ≡ true → unwrap_or d.vertices 0 * length d.properties ≤ MAX_VALUES → header_by at d heads ≡ Ok (made at d heads)
 unfolding header_by
 passes_header at d heads few agree values = rw (le-ltb MAX_ATTRIBUTES (length heads) few, agree, le-ltb MAX_VALUES (unwrap_or d.vertices 0 * length d.properties) values) refl
 
 -- ---- lines that are read have the shape
 
 -- the end of a header, at a stage
-record Closes (at : ℕ) (stage : Stage) (heads : List PlyHead) (line : Line) (h : Header) : Type 0 where
+record Closes (at : ℕ) (stage : Stage) (heads : List Head) (line : Line) (h : Header) : Type 0 where
   end : line ≡ end_line
   done : IsDone stage (unwrap_or (draft_at stage heads).vertices 0) (draft_at stage heads).properties (draft_at stage heads).faces (draft_at stage heads).list
   passes : Passes at (draft_at stage heads) (heads_of (draft_at stage heads)) h
 
-closes : (at : ℕ) (stage : Stage) (heads : List PlyHead) (line : Line) (h : Header) → ends_header (draft_at stage heads) line ≡ true → ply_header_at at (draft_at stage heads) line ≡ Ok h → Closes at stage heads line h
+closes : (at : ℕ) (stage : Stage) (heads : List Head) (line : Line) (h : Header) → ends_header (draft_at stage heads) line ≡ true → ply_header_at at (draft_at stage heads) line ≡ Ok h → Closes at stage heads line h
 unfolding ply_header_at
 closes at stage heads line h ends e =
     let d = draft_at stage heads in
@@ -147,7 +147,7 @@ closes at stage heads line h ends e =
       passes = header_passes at d (heads_of d) h more;
     }))
 
-draft_heads : (stage : Stage) (heads : List PlyHead) → (draft_at stage heads).heads ≡ heads
+draft_heads : (stage : Stage) (heads : List Head) → (draft_at stage heads).heads ≡ heads
 draft_heads Stage.begun heads = refl
 draft_heads Stage.formatted heads = refl
 draft_heads (Stage.points n ps) heads = refl
@@ -158,7 +158,7 @@ heads_are : (d : Draft) → heads_of d ≡ heads_given d.heads d.properties
 unfolding heads_of
 heads_are d = heads_same d.heads d.properties
 
-made_shape : (between : List Line) (stage : Stage) (heads : List PlyHead) (h : Header) → Steps Stage.begun (filter is_declaration between) stage → NotesRun [] between heads → Closes (2 + length between) stage heads end_line h
+made_shape : (between : List Line) (stage : Stage) (heads : List Head) (h : Header) → Steps Stage.begun (filter is_declaration between) stage → NotesRun [] between heads → Closes (2 + length between) stage heads end_line h
     → IsHeaderOf h (magic_line ∷ (between ++ end_line ∷ []))
 unfolding agrees
 made_shape between stage heads h steps notes c =
@@ -175,7 +175,7 @@ made_shape between stage heads h steps notes c =
       described = heads;
       declared = steps_declare (unwrap_or d.vertices 0) d.properties d.faces d.list (filter is_declaration between) stage steps c.done;
       describe = notes_describe heads between notes;
-      heads = given_heads heads d.properties hs (heads_are d ∙ ap (λ (xs : List PlyHead). heads_given xs d.properties) (draft_heads stage heads));
+      heads = given_heads heads d.properties hs (heads_are d ∙ ap (λ (xs : List Head). heads_given xs d.properties) (draft_heads stage heads));
       few = p.few;
       types = refl;
       columns = word_from (column_types hs) (property_types d.properties) agree.0;
@@ -210,15 +210,15 @@ end_ends : (d : Draft) → d.formatted ≡ true → ends_header d end_line ≡ t
 unfolding keyword_of
 end_ends d e = rw e refl
 
-full_header : (at : ℕ) (heads : List PlyHead) (n : ℕ) (ps : List PropertyParts) (m : Option ℕ) (types : Option (ℕ × ℕ)) → 1 ≤ length ps → (is_none m || is_some types) ≡ true
+full_header : (at : ℕ) (heads : List Head) (n : ℕ) (ps : List PropertyParts) (m : Option ℕ) (types : Option (ℕ × ℕ)) → 1 ≤ length ps → (is_none m || is_some types) ≡ true
     → ply_header_at at (full heads n ps m types) end_line ≡ header_by at (full heads n ps m types) (heads_given heads ps)
 unfolding ply_header_at is_whole
 full_header at heads n ps m types some lists = rw (lt-ltb 0 (length ps) some, lists) (ap (header_by at (full heads n ps m types)) (heads_are (full heads n ps m types)))
 
-made_is : (at : ℕ) (h : Header) (heads : List PlyHead) (ps : List PropertyParts) → h.heads ≡ heads → h.types ≡ property_types ps → h.body_line ≡ at + 1
+made_is : (at : ℕ) (h : Header) (heads : List Head) (ps : List PropertyParts) → h.heads ≡ heads → h.types ≡ property_types ps → h.body_line ≡ at + 1
     → record { heads = heads; vertices = h.vertices; faces = h.faces; types = property_types ps; list = h.list; body_line = at + 1 } ≡ h
 made_is at h heads ps a b c =
-    ap (λ (x : List PlyHead). record h { heads = x; types = property_types ps; body_line = at + 1 }) (sym a)
+    ap (λ (x : List Head). record h { heads = x; types = property_types ps; body_line = at + 1 }) (sym a)
     ∙ ap (λ (x : List ℕ). record h { types = x; body_line = at + 1 }) (sym b)
     ∙ ap (λ (x : ℕ). record h { body_line = x }) (sym c)
 
@@ -226,11 +226,11 @@ magic_is : is_magic magic_line ≡ true
 unfolding is_magic
 magic_is = refl
 
-typed_all : (heads : List PlyHead) → AllByRecursion (λ head. is_head_typed head ≡ true) heads → list_all is_head_typed heads ≡ true
+typed_all : (heads : List Head) → AllByRecursion (λ head. is_head_typed head ≡ true) heads → list_all is_head_typed heads ≡ true
 typed_all [] h = refl
 typed_all (x ∷ heads) h = and_from (is_head_typed x) (list_all is_head_typed heads) h.0 (typed_all heads h.1)
 
-few_described : (ds : List PlyHead) (ps : List PropertyParts) → length (heads_given ds ps) ≤ 16 → length ds ≤ 16
+few_described : (ds : List Head) (ps : List PropertyParts) → length (heads_given ds ps) ≤ 16 → length ds ≤ 16
 few_described [] ps le = omega arith
 few_described (d ∷ ds) ps le = le
 
@@ -240,7 +240,7 @@ front_read h front rest is =
     let b = is.between in
     let same_heads = heads_from is.described is.properties h.heads is.heads in
     let r : Reaches Stage.begun h.vertices is.properties h.faces h.list (filter is_declaration b) = declare_reach h.vertices is.properties h.faces h.list (filter is_declaration b) is.declared in
-    let few : length (heads_given is.described is.properties) ≤ MAX_ATTRIBUTES = subst (λ (x : List PlyHead). length x ≤ MAX_ATTRIBUTES) same_heads is.few in
+    let few : length (heads_given is.described is.properties) ≤ MAX_ATTRIBUTES = subst (λ (x : List Head). length x ≤ MAX_ATTRIBUTES) same_heads is.few in
     let notes = describe_notes is.described b (few_described is.described is.properties few) is.describe in
     let d = done_draft r.stage is.described h.vertices is.properties h.faces h.list r.done in
     let heads = heads_given is.described is.properties in
@@ -250,7 +250,7 @@ front_read h front rest is =
     let f = full is.described h.vertices is.properties h.faces h.list in
     let agree = and_from (bytes_eq (column_types heads) (property_types is.properties)) (list_all is_head_typed heads)
     (subst (λ (x : List ℕ). bytes_eq x (property_types is.properties) ≡ true) (sym (ap column_types (sym same_heads) ∙ is.columns ∙ is.types)) (word_is (property_types is.properties)))
-    (subst (λ (x : List PlyHead). list_all is_head_typed x ≡ true) same_heads (typed_all h.heads (recursion_from_All (λ head. is_head_typed head ≡ true) h.heads is.typed))) in
+    (subst (λ (x : List Head). list_all is_head_typed x ≡ true) same_heads (typed_all h.heads (recursion_from_All (λ head. is_head_typed head ≡ true) h.heads is.typed))) in
     let last : header_by (2 + length b) f heads ≡ Ok (made (2 + length b) f heads) =
     passes_header (2 + length b) f heads few agree (subst (λ w. h.vertices * w ≤ MAX_VALUES) (ap length is.types ∙ count) is.values) in
     let same : made (2 + length b) f heads ≡ h = made_is (2 + length b) h heads is.properties same_heads is.types (is.body ∙ ap (λ k. k + 1) long) in

@@ -1,5 +1,5 @@
 -- A text means a geometry exactly where its lines have the shape of one.
-use Rattle.std.proofs.Common.{◌≡◌, ℕ, ◌+◌, ◌-◌, List, [], ◌++◌, length, map, drop, Option, Some, None, Result, Ok, refl, sym, ap, subst, ◌∙◌, arith}
+use Rattle.std.proofs.Common.{◌≡◌, ℕ, ◌+◌, ◌-◌, List, [], ◌++◌, length, drop, Option, Some, None, Result, Ok, refl, sym, ap, subst, ◌∙◌, arith}
 use Rattle.std.specs.Prelude.{ℤ, unwrap_or}
 use Rattle.std.specs.List.{AllZip, AllByRecursion}
 use Rattle.std.proofs.lemmas.List.{drop_at}
@@ -9,7 +9,7 @@ use Rattle.ply_text.specs.declared.headers.Header.{Header}
 use Rattle.ply_text.specs.Header.{header_of}
 use Rattle.ply_text.specs.Tokens.{token_lines}
 use Rattle.ply_mesh.specs.Body.{row_read, face_of, items_from}
-use Rattle.ply_mesh.specs.Read.{geometry_head, geometry_of_rows, face_items_from, body_of, ply_read}
+use Rattle.ply_mesh.specs.Read.{geometry_of_rows, face_items_from, body_of, ply_read}
 use Rattle.text_laws.specs.HeaderShape.{Line, MayDeclareFaces, IsHeaderOf, BeginWithHeader}
 use Rattle.text_laws.specs.TextShape.{IsRowLine, IsFaceLine, MayHaveFaceLines, IsTextOf}
 use Rattle.text_laws.specs.Laws.{TextsAreShapes}
@@ -75,14 +75,14 @@ record Body (h : Header) (g : Geometry) (lines : List Line) : Type 0 where
   faces : Option (List (List ℕ))
   face_lines : MayHaveFaceLines h faces triangles
   blank : AllByRecursion (λ line. line ≡ []) rest
-  geometry : g ≡ geometry_of_rows (map geometry_head h.heads) points faces
+  geometry : g ≡ geometry_of_rows h.heads points faces
 
 body_says : (h : Header) (lines : List Line) (g : Geometry) → ((k : ℕ) → h.faces ≡ Some k → (t : ℕ × ℕ) × (h.list ≡ Some t)) → body_of h lines ≡ Ok g → Body h g lines
 unfolding body_of
 body_says h lines g typed e =
     let p = step_ok (items_from (row_read h.types) h.vertices h.body_line lines) _ g e in
     let q = step_ok (face_items_from h (h.body_line + h.vertices) p.0.1 h.faces) _ g p.2 in
-    let r = ends_say (geometry_of_rows (map geometry_head h.heads) p.0.0 q.0.0) g _ q.0.1 q.2 in
+    let r = ends_say (geometry_of_rows h.heads p.0.0 q.0.0) g _ q.0.1 q.2 in
     let i = items_say (IsRowLine h.types) (row_read h.types) (λ at line row e. row_says h.types at line row e) h.vertices h.body_line lines p.0 p.1 in
     let f = faces_say h (h.body_line + h.vertices) p.0.1 h.faces q.0 typed refl q.1 in
     record {
@@ -102,7 +102,7 @@ body_says h lines g typed e =
 body_read : (h : Header) (lines : List Line) (g : Geometry) → Body h g lines → body_of h lines ≡ Ok g
 unfolding body_of
 body_read h lines g b =
-    let heads = map geometry_head h.heads in
+    let heads = h.heads in
     let tail = b.triangles ++ b.rest in
     let a : items_from (row_read h.types) h.vertices h.body_line lines ≡ Ok (b.points, tail) =
     ap (items_from (row_read h.types) h.vertices h.body_line) b.whole ∙ ap (λ n. items_from (row_read h.types) n h.body_line (b.rows ++ tail)) (sym b.count)

@@ -4,16 +4,19 @@ use Rattle.std.specs.Prelude.{ℕ, ◌≡◌, ◌<◌, ◌≤◌, ◌+◌, ◌*�
 use Rattle.std.specs.Prelude.{Option, None, Some, All, codes, slice_get, slice_index_or}
 use Rattle.std.specs.List.{AllZip, filter}
 use Rattle.std.specs.Str.{bytes_eq}
-use Rattle.drc_base.specs.declared.limits.TheConstants.{MAX_POINTS, MAX_FACES, MAX_ATTRIBUTES, MAX_COMPONENTS, MAX_VALUES}
+use Rattle.drc_base.specs.declared.limits.TheConstants.{MAX_POINTS, MAX_FACES, MAX_ATTRIBUTES, MAX_VALUES}
 use Rattle.ply_text.specs.declared.headers.Header.{Header}
-use Rattle.ply_text.specs.declared.headers.PlyHead.{PlyHead}
-use Rattle.ply_text.specs.declared.headers.PlyQuant.{PlyQuant}
-use Rattle.ply_text.specs.Comments.{is_dtype}
+use Rattle.attr_heads.specs.declared.heads.Head.{Head}
+use Rattle.attr_heads.specs.declared.quants.Quant.{Quant}
+use Rattle.attr_heads.specs.Usages.{is_usage}
+use Rattle.attr_heads.specs.DataTypes.{is_type}
+use Rattle.attr_heads.specs.Head.{has_comps}
 use Rattle.ply_text.specs.Draft.{PropertyParts}
 use Rattle.ply_text.specs.Header.{column_types, is_head_typed, property_types}
-use Rattle.ply_text.specs.IsHeader.{PlyQuantFits}
+use Rattle.ply_text.specs.IsHeader.{QuantFits}
 use Rattle.ply_text.specs.Numbers.{is_digits, digits_value, pattern_of}
-use Rattle.ply_text.specs.Words.{type_of, is_indices}
+use Rattle.ply_text.specs.Words.{is_indices}
+use Rattle.ply_text.specs.PropertyTypes.{type_of}
 use Rattle.text_laws.specs.NameShape.{NamesGive}
 
 -- a line, by its tokens
@@ -118,19 +121,18 @@ abbrev pub is_quant_of : ℕ → Line → Bool
 is_quant_of k line = is_quant line && writes k (slice_index_or line 3 [])
 
 -- `comment drc attr k usage dtype comps normalized id`: it gives all of head k but its quantisation
-pub record IsAttrLine (k : ℕ) (head : PlyHead) (line : Line) : Type 0 where
+pub record IsAttrLine (k : ℕ) (head : Head) (line : Line) : Type 0 where
   pub numbers : List (List ℕ)
   pub form : line ≡ codes "comment" ∷ codes "drc" ∷ codes "attr" ∷ numbers
   pub say : AllZip Writes (k ∷ head.usage ∷ head.dtype ∷ head.comps ∷ head.normalized ∷ head.id ∷ []) numbers
-  pub usage : head.usage ≤ 4
-  pub dtype : IsTrue (is_dtype head.dtype)
-  pub some : 1 ≤ head.comps
-  pub few : head.comps ≤ MAX_COMPONENTS
+  pub usage : IsTrue (is_usage head.usage)
+  pub dtype : IsTrue (is_type head.dtype)
+  pub comps : IsTrue (has_comps head.comps)
   pub flag : head.normalized < 2 ^ 8
   pub id : head.id < 2 ^ 32
 
 -- `comment drc quant k bits range min ..`: it gives the quantisation of head k, which has `comps` components
-pub record IsQuantLine (k comps : ℕ) (q : PlyQuant) (line : Line) : Type 0 where
+pub record IsQuantLine (k comps : ℕ) (q : Quant) (line : Line) : Type 0 where
   pub number : List ℕ
   pub bits : List ℕ
   pub range : List ℕ
@@ -140,25 +142,25 @@ pub record IsQuantLine (k comps : ℕ) (q : PlyQuant) (line : Line) : Type 0 whe
   pub says_bits : Writes q.bits bits
   pub says_range : WritesPattern q.range range
   pub says_minima : AllZip WritesPattern q.min minima
-  pub fits : PlyQuantFits comps q
+  pub fits : QuantFits comps q
 
 -- the attr lines, in their order, give the heads from number k on
-abbrev pub AreAttrLines : ℕ → List PlyHead → List Line → Type 0
+abbrev pub AreAttrLines : ℕ → List Head → List Line → Type 0
 AreAttrLines k [] [] = Unit {0}
 AreAttrLines k [] (line ∷ lines) = ⊥
 AreAttrLines k (head ∷ heads) [] = ⊥
 AreAttrLines k (head ∷ heads) (line ∷ lines) = IsAttrLine k head line × AreAttrLines (k + 1) heads lines
 
 -- the quant lines of one head: none if it has no quantisation, else the one that gives it
-abbrev pub AreQuantLines : ℕ → ℕ → Option PlyQuant → List Line → Type 0
+abbrev pub AreQuantLines : ℕ → ℕ → Option Quant → List Line → Type 0
 AreQuantLines k comps None lines = lines ≡ []
 AreQuantLines k comps (Some q) lines = (line : Line) × (lines ≡ line ∷ []) × IsQuantLine k comps q line
 
 -- the comments among these lines describe these heads: there is an attr line for each, in order; a quant line for each head
 -- that is quantised, and no other; and each quant line stands somewhere behind the attr line of its head
-pub record Describe (heads : List PlyHead) (lines : List Line) : Type 0 where
+pub record Describe (heads : List Head) (lines : List Line) : Type 0 where
   pub attrs : AreAttrLines 0 heads (filter is_attr lines)
-  pub quants : (k : ℕ) (head : PlyHead) → slice_get heads k ≡ Some head
+  pub quants : (k : ℕ) (head : Head) → slice_get heads k ≡ Some head
       → AreQuantLines k head.comps head.quant (filter (is_quant_of k) lines)
   pub behind : (before after : List Line) (line : Line) → lines ≡ before ++ line ∷ after → IsTrue (is_quant line) →
       (k : ℕ) × IsTrue (is_quant_of k line) × (k < length (filter is_attr before))
@@ -166,7 +168,7 @@ pub record Describe (heads : List PlyHead) (lines : List Line) : Type 0 where
 -- ---- the header
 
 -- the heads of a header: those that its comments describe; where they describe none, those that the names of its properties give
-abbrev pub AreHeads : List PlyHead → List PropertyParts → List PlyHead → Type 0
+abbrev pub AreHeads : List Head → List PropertyParts → List Head → Type 0
 AreHeads [] properties heads = NamesGive 0 properties heads
 AreHeads (head ∷ described) properties heads = heads ≡ head ∷ described
 
@@ -177,7 +179,7 @@ pub record IsHeaderOf (h : Header) (lines : List Line) : Type 0 where
   pub between : List Line
   pub whole : lines ≡ (codes "ply" ∷ []) ∷ (between ++ (codes "end_header" ∷ []) ∷ [])
   pub properties : List PropertyParts
-  pub described : List PlyHead
+  pub described : List Head
   pub declared : Declare h.vertices properties h.faces h.list (filter is_declaration between)
   pub describe : Describe described between
   pub heads : AreHeads described properties h.heads

@@ -2,7 +2,7 @@
 use Rattle.std.specs.Prelude.{ℕ, ◌≡◌, ◌↔◌, List, Ok}
 use Rattle.ply_text.specs.declared.headers.Header.{Header}
 use Rattle.ply_text.specs.Header.{header_of_lines, header_of}
-use Rattle.ply_text.specs.declared.headers.PlyHead.{PlyHead}
+use Rattle.attr_heads.specs.declared.heads.Head.{Head}
 use Rattle.ply_text.specs.Draft.{PropertyParts}
 use Rattle.ply_text.specs.NamedHeads.{named_heads}
 use Rattle.ply_text.specs.Tokens.{token_lines}
@@ -22,7 +22,7 @@ TextHeadersAreShapes = (text : List ℕ) (h : Header) → (header_of text ≡ Ok
 
 -- the heads that names give are those of the pieces of the properties
 abbrev pub NamesAreShapes : Type 0
-NamesAreShapes = (properties : List PropertyParts) (heads : List PlyHead)
+NamesAreShapes = (properties : List PropertyParts) (heads : List Head)
     → (heads ≡ named_heads 0 0 properties) ↔ NamesGive 0 properties heads
 
 -- a text means a geometry exactly where its lines have the shape of a text, and it is what they say

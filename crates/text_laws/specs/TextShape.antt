@@ -1,12 +1,12 @@
 -- A whole PLY text as a shape of its lines (PLY 1.0, in this project's profile): a header, a line for each point, one for
 -- each face, and then nothing.
-use Rattle.std.specs.Prelude.{ℕ, ◌≡◌, ◌<◌, ◌++◌, ℤ, pos, IsTrue, List, [], ◌∷◌, length, map, Option, None, Some}
+use Rattle.std.specs.Prelude.{ℕ, ◌≡◌, ◌<◌, ◌++◌, ℤ, pos, IsTrue, List, [], ◌∷◌, length, Option, None, Some}
 use Rattle.std.specs.List.{AllZip, AllByRecursion}
 use Rattle.mesh_model.specs.declared.geometries.Geometry.{Geometry}
 use Rattle.attr_heads.specs.DataTypes.{in_type}
 use Rattle.ply_text.specs.declared.headers.Header.{Header}
 use Rattle.ply_text.specs.Numbers.{integer_of}
-use Rattle.ply_mesh.specs.Read.{geometry_head, geometry_of_rows}
+use Rattle.ply_mesh.specs.Read.{geometry_of_rows}
 use Rattle.text_laws.specs.HeaderShape.{Line, IsHeaderOf}
 
 -- the token is the number v, which is in the range of the data type
@@ -55,4 +55,4 @@ pub record IsTextOf (g : Geometry) (lines : List Line) : Type 0 where
   pub faces : Option (List (List ℕ))
   pub face_lines : MayHaveFaceLines h faces triangles
   pub blank : AllByRecursion (λ line. line ≡ []) rest
-  pub geometry : g ≡ geometry_of_rows (map geometry_head h.heads) points faces
+  pub geometry : g ≡ geometry_of_rows h.heads points faces

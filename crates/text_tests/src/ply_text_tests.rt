@@ -2,8 +2,9 @@
 
 use crate::pieces::{joined, put};
 use crate::shown::{is_fault, is_number, is_text};
+use attr_heads::{Head, Quant};
 use drc_base::{Kind, Refusal};
-use ply_text::{Header, Lines, PlyHead, PlyQuant, first_tokens, put_int, read_header, read_int};
+use ply_text::{Header, Lines, first_tokens, put_int, read_header, read_int};
 use std::alloc::Global;
 use std::process::Abort;
 
@@ -30,7 +31,7 @@ fn put_number(rt: &impl Abort, text: &mut Vec<u8>, number: i64) {
 }
 
 /// Appends usage, components, flag, type and id of a head, as text.
-fn put_head(rt: &impl Abort, text: &mut Vec<u8>, head: &PlyHead) {
+fn put_head(rt: &impl Abort, text: &mut Vec<u8>, head: &Head) {
     for n in [head.usage, head.comps, head.normalized, head.dtype] {
         put_number(rt, text, n as i64);
     }
@@ -146,7 +147,7 @@ fn reads_a_scanned_header(rt: HostRuntime) {
 }
 
 /// Asserts that a quantisation is that of its line in the scanned header.
-fn is_quantised_so(rt: &impl Abort, quant: &PlyQuant) {
+fn is_quantised_so(rt: &impl Abort, quant: &Quant) {
     is_number(rt, quant.bits as u64, 11);
     is_number(rt, quant.range as u64, 0x3f80_0000);
     assert_eq!(rt; quant.min.as_slice(), [0, 0, 0xbf80_0000].as_slice());

@@ -1,5 +1,6 @@
 use Rattle.std.proofs.Common.{◌∷◌, [], ◌∙◌}
-use Rattle.ply_mesh.specs.Text.{type_word, name_at}
+use Rattle.ply_text.specs.PropertyTypes.{type_word}
+use Rattle.ply_mesh.specs.Text.{name_at}
 use Rattle.ply_mesh.proofs.LineTexts.{onto}
 use Rattle.ply_mesh.proofs.PropertyTexts.{property_text}
 use Rattle.ply_mesh.proofs.property_writer.put_property.Goals as goal
