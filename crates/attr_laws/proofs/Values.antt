@@ -13,10 +13,11 @@ use Rattle.corner_table.specs.Ordered.{Ordered}
 use Rattle.predict.specs.Surfaces.{surface_or}
 use Rattle.predict.specs.Foretold.{foretold, marks_of}
 use Rattle.predict.proofs.Foretold.{length-marks, marks_enough}
-use Rattle.predict.proofs.Restoring.{length-corrections, restored-corrections}
+use Rattle.predict.proofs.Restoring.{length-corrections}
+use Rattle.predict.proofs.Stepped.{restored_again, stand_whole}
 use Rattle.attr_section.specs.Values.{corrected_at}
 use Rattle.attr_section.specs.Written.{range_of, corrected_bytes, CanPredict, HasFewFlags, PredictedSpelled}
-use Rattle.attr_section.proofs.SpelledFlags.{Spells-flag_lists, lists_short, lists_few, few_or}
+use Rattle.attr_section.proofs.SpelledFlags.{Spells-behind, lists_short, lists_few, few_or}
 use Rattle.attr_section.proofs.SpelledIntegers.{range_of-bounds}
 use Rattle.attr_section.proofs.SpelledCorrections.{stands_there, Spells-flagged, Spells-corrected, Spells-uncorrected}
 use Rattle.attr_section.proofs.SpelledValues.{predicted_spelled}
@@ -38,10 +39,11 @@ corrected_read plain w q comps values corrects some whole few fit can few_flags 
     let within = range_of-bounds values in
     let long : length cs ≡ length values = length-corrections f r values in
     let short = lists_short q w comps values some few can.stand in
+    let behind = Spells-behind (facts q).behind lists r (λ k d below. flags_read _ (short k d below)) (ranges_read r wraps (fit_ends values fit)) in
     Spells-flagged plain at s q comps lists values
     (integers_read plain comps cs some (ap (λ n. n % comps) long ∙ whole) (omega (arith, long, few)) (fit_corrections f r values wraps within))
-    (Spells-flag_lists (facts q).flag_lists s lists (length-marks q s comps values) (λ k d below. flags_read _ (short k d below)) (lists_few q s comps values few_flags))
-    (ranges_read r wraps (fit_ends values fit)) (marks_enough q s comps values) (restored-corrections f r values wraps within fit)
+    (behind.over s (length-marks q s comps values) (lists_few q s comps values few_flags))
+    (restored_again q s comps lists r values some (stand_whole q w comps (length values) can.stand) wraps within fit (marks_enough q s comps values))
 
 -- values by any prediction
 predicted_read : (plain : Bool) (w : Option Ordered) (q : Prediction) (comps : ℕ) (values : List ℤ)

@@ -1,7 +1,6 @@
 -- Flags of predictions that are read back from their bytes, and how many there are.
-use Rattle.std.proofs.Common.{◌≡◌, ◌≢◌, ℕ, zero, suc, ◌+◌, ◌*◌, ◌^◌, ◌<◌, ◌≤◌, ◌==◌, nat_le, Bool, true, false, ◌&&◌, ℤ, List, [], ◌∷◌, length, flat_map, get_or, if◌then◌else◌, inl, inr, Option, None, Some, Ok, refl, sym, ◌∙◌, ap, subst, arith}
-use Rattle.std.specs.List.{All, list_all, range_with_len}
-use Rattle.std.proofs.lemmas.Bool.{cases_eq, cases_Bool, leb-true, false≢true}
+use Rattle.std.proofs.Common.{◌≡◌, ◌≢◌, ℕ, ◌*◌, ◌^◌, ◌<◌, ◌≤◌, ◌==◌, nat_le, Bool, true, false, ℤ, List, [], ◌∷◌, length, flat_map, get_or, if◌then◌else◌, Option, None, Some, Ok, refl, sym, ◌∙◌, ap, subst, arith}
+use Rattle.std.specs.List.{All}
 use Rattle.std.proofs.Math.Nat.{mul-le-mul_left}
 use Rattle.std.proofs.lemmas.List.{get_or_default, map-id}
 use Rattle.drc_base.specs.declared.kinds.Kind.TheVariants as kind
@@ -13,14 +12,17 @@ use Rattle.drc_bits.specs.Varint.{var32_at, spelling}
 use Rattle.drc_bits.proofs.Spelled.{Spells-none, Spells-then, Spells-same, Spells-must, Spells-var32}
 use Rattle.rans_binary.specs.Blocks.{first_bits, block, IsBlockOf, bit_block_at}
 use Rattle.predict.specs.declared.schemes.Prediction.{Prediction}
-use Rattle.predict.specs.Schemes.{facts}
+use Rattle.predict.specs.declared.schemes.Behind.{Behind}
+use Rattle.predict.specs.declared.schemes.Behind.TheVariants as behind
+use Rattle.predict.specs.Schemes.{facts, flag_lists}
+use Rattle.predict.specs.Wrap.{Range}
 use Rattle.corner_table.specs.Ordered.{Ordered, IsOver}
 use Rattle.predict.specs.Surfaces.{surface_or, CanStand}
 use Rattle.predict.specs.Multi.{wanted}
-use Rattle.predict.specs.Foretold.{marks_of, wanted_of, HasWanted, LacksWanted}
+use Rattle.predict.specs.Foretold.{marks_of, wanted_of}
 use Rattle.predict.proofs.Foretold.{length-marks, length-mark, wanted_most, wanted_in, wanted_nowhere, flags_stand}
-use Rattle.attr_section.specs.Values.{flag_bits_at, flag_count_at, flags_at, flag_lists_at, has_flags}
-use Rattle.attr_section.specs.Written.{flag_bits_bytes, flags_bytes, HasFewFlags, MayHaveFewFlags, FlagsSpelled}
+use Rattle.attr_section.specs.Values.{range_at, flag_bits_at, flag_count_at, flags_at, flag_lists_at, behind_at}
+use Rattle.attr_section.specs.Written.{flag_bits_bytes, flags_bytes, range_bytes, HasFewFlags, MayHaveFewFlags, FlagsSpelled, BehindSpelled}
 use Rattle.attr_section.proofs.Spelling.{Spells-map}
 use Rattle.attr_section.proofs.SpelledIntegers.{Spells-all}
 
@@ -64,6 +66,25 @@ Spells-flag_lists count w lists same spelled few =
     (subst (λ l. Spells (many_at (flags_at (length w.entries)) (length lists)) (flat_map flags_bytes lists) l) (map-id lists)
     (Spells-all (flags_at (length w.entries)) flags_bytes (λ flags. flags) lists (λ k d h. (spelled k d h).over (length w.entries) (few k d h))))
 
+-- what stands behind corrections: the range alone, and behind lists of flags
+pub Spells-range_alone : (lists : List (List Bool)) (r : Range) → Spells range_at (range_bytes r) r → BehindSpelled behind.Nothing lists r
+unfolding behind_at
+Spells-range_alone [] r range = record { over = λ w none few. Spells-map (λ x. ([], x)) range_at (range_bytes r) r range }
+Spells-range_alone (flags ∷ lists) r range = record { over = λ w none few. absurd (omega (arith, none)) }
+
+pub Spells-range_behind : (count : ℕ) (lists : List (List Bool)) (r : Range) → All FlagsSpelled lists → Spells range_at (range_bytes r) r → BehindSpelled (behind.FlagLists count) lists r
+unfolding behind_at
+Spells-range_behind count lists r spelled range = record {
+  over = λ w same few.
+      Spells-then (flag_lists_at count w) (λ l c. range_at c >>= λ x. Ok ((l, x.0), x.1)) (flat_map flags_bytes lists) (range_bytes r) lists (lists, r)
+      (Spells-flag_lists count w lists same spelled few)
+      (Spells-map (λ x. (lists, x)) range_at (range_bytes r) r range);
+}
+
+pub Spells-behind : (b : Behind) (lists : List (List Bool)) (r : Range) → All FlagsSpelled lists → Spells range_at (range_bytes r) r → BehindSpelled b lists r
+Spells-behind behind.Nothing lists r spelled range = Spells-range_alone lists r range
+Spells-behind (behind.FlagLists count) lists r spelled range = Spells-range_behind count lists r spelled range
+
 -- entries of which each has a component at least are no more than values
 fewer_entries : (comps entries n : ℕ) → 0 < comps → n ≡ entries * comps → n ≤ MAX_VALUES → entries ≤ MAX_VALUES
 fewer_entries comps entries n some count few =
@@ -78,9 +99,9 @@ corners_few q (Some w) comps n some few stand needs = fewer_entries comps (lengt
 
 -- a written list, and how many flags it has
 mark_is : (q : Prediction) (w : Ordered) (comps : ℕ) (v : List ℤ) (k : ℕ) (d : List Bool) → k < length (marks_of q w comps v)
-    → (k < (facts q).flag_lists) × (length (get_or (marks_of q w comps v) k d) ≡ wanted_of q w k)
+    → (k < flag_lists q) × (length (get_or (marks_of q w comps v) k d) ≡ wanted_of q w k)
 mark_is q w comps v k d low =
-    let here : k < (facts q).flag_lists = omega (arith, length-marks q w comps v) in
+    let here : k < flag_lists q = omega (arith, length-marks q w comps v) in
     (here, ap (λ (l : List Bool). length l) (get_or_default (marks_of q w comps v) k d [] low) ∙ length-mark q w comps v k here)
 
 -- the written lists have fewer than 2^31 flags
@@ -88,7 +109,7 @@ pub lists_short : (q : Prediction) (w : Option Ordered) (comps : ℕ) (v : List 
     → All (λ flags. length flags < 2 ^ 31) (marks_of q (surface_or w) comps v)
 lists_short q w comps v some few stand = λ k d low.
     let is = mark_is q (surface_or w) comps v k d low in
-    let first : 0 < (facts q).flag_lists = omega (arith, is.0) in
+    let first : 0 < flag_lists q = omega (arith, is.0) in
     let corners = corners_few q w comps (length v) some few stand (flags_stand q first) in
     let most = wanted_most q (surface_or w) k is.0 in
     omega (arith, is.1)
@@ -99,47 +120,6 @@ lists_few q w comps v few = λ k d low.
     let is = mark_is q w comps v k d low in
     let wants = few.few q k is.0 in
     omega (arith, is.1)
-
--- a test of each number from a on
-all_pass : (p : ℕ → Bool) (a n : ℕ) → ((k : ℕ) → a ≤ k → k < a + n → p k ≡ true) → list_all p (range_with_len a n) ≡ true
-all_pass p a zero each = refl
-all_pass p a (suc n) each =
-    let here = each a (omega arith) (omega arith) in
-    let others = all_pass p (a + 1) n (λ k from to. each k (omega arith) (omega arith)) in
-    rw here others
-
-each_passes : (p : ℕ → Bool) (a n : ℕ) → list_all p (range_with_len a n) ≡ true → (k : ℕ) → a ≤ k → k < a + n → p k ≡ true
-each_passes p a zero all k from to = absurd (omega arith)
-each_passes p a (suc n) all k from to =
-    let both = both_pass (p a) (list_all p (range_with_len (a + 1) n)) all in
-    elim (cases_eq k a) [
-      | inl is ↦ ap p is ∙ both.0
-      | inr other ↦ each_passes p (a + 1) n both.1 k (omega arith) (omega arith)
-    ]
-  where
-    both_pass : (x y : Bool) → (x && y) ≡ true → (x ≡ true) × (y ≡ true)
-    both_pass true y is = (refl, is)
-    both_pass false y is = absurd (false≢true is)
-
-le_passes : (a b : ℕ) → a ≤ b → nat_le a b ≡ true
-le_passes a b below = grind arith
-
--- lists that have the wanted flags pass their test, and others don't
-pub flags_pass : (q : Prediction) (w : Ordered) (lists : List (List Bool)) → HasWanted q w lists → has_flags q w lists ≡ true
-flags_pass q w lists has =
-    all_pass (λ k. nat_le (wanted_of q w k) (length (get_or lists k []))) 0 (facts q).flag_lists
-    (λ k from to. le_passes (wanted_of q w k) (length (get_or lists k [])) (has k (omega arith)))
-
-pub flags_passed : (q : Prediction) (w : Ordered) (lists : List (List Bool)) → has_flags q w lists ≡ true → HasWanted q w lists
-flags_passed q w lists passes = λ k low.
-    leb-true (wanted_of q w k) (length (get_or lists k []))
-    (each_passes (λ k. nat_le (wanted_of q w k) (length (get_or lists k []))) 0 (facts q).flag_lists passes k (omega arith) (omega arith))
-
-pub flags_fail : (q : Prediction) (w : Ordered) (lists : List (List Bool)) → LacksWanted q w lists → has_flags q w lists ≡ false
-flags_fail q w lists (k, low, lacks) = elim (cases_Bool (has_flags q w lists)) [
-  | inl passes ↦ let has = flags_passed q w lists passes k low in absurd (omega arith)
-  | inr fails ↦ fails
-]
 
 -- no more flags are wanted than there are corners of faces
 pub few_in : (faces : ℕ) (w : Ordered) → IsOver faces w → ((k : ℕ) → wanted w k (length w.corners) ≤ 3 * faces) → HasFewFlags w

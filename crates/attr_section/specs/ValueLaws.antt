@@ -1,5 +1,5 @@
--- What holds of predictions and their flags.
-use Rattle.std.specs.Prelude.{◌≡◌, ◌<◌, ◌↔◌, ℕ, List, Bool, false, IsTrue, Option, None, Ok}
+-- Which predictions are read, and that flags are few.
+use Rattle.std.specs.Prelude.{◌≡◌, ◌<◌, ℕ, false, Option, None, Ok}
 use Rattle.drc_base.specs.Profile.{Profile}
 use Rattle.drc_bits.specs.Reading.{Reading}
 use Rattle.attr_heads.specs.declared.heads.Head.{Head}
@@ -7,16 +7,10 @@ use Rattle.corner_table.specs.Ordered.{Ordered, IsOver}
 use Rattle.corner_table.specs.Sides.{IsGluing}
 use Rattle.predict.specs.declared.schemes.Prediction.{Prediction}
 use Rattle.predict.specs.Schemes.{facts, code_of}
-use Rattle.predict.specs.Foretold.{HasWanted, LacksWanted}
 use Rattle.predict.specs.Laws.{AreApart}
 use Rattle.attr_section.specs.declared.values.Values.{Values}
-use Rattle.attr_section.specs.Values.{has_flags, values_at}
+use Rattle.attr_section.specs.Values.{values_at}
 use Rattle.attr_section.specs.Written.{HasFewFlags}
-
--- the test of flags is true exactly where each list has those that a prediction needs of it, and false where one has fewer
-pub record FlagsAreTested : Type 0 where
-  pub enough : (q : Prediction) (w : Ordered) (lists : List (List Bool)) → IsTrue (has_flags q w lists) ↔ HasWanted q w lists
-  pub short : (q : Prediction) (w : Ordered) (lists : List (List Bool)) → LacksWanted q w lists → has_flags q w lists ≡ false
 
 -- in a sequential stream values have a prediction that needs no surface; and by a prediction that came later than a profile they are
 -- predicted nowhere in it

@@ -3,8 +3,9 @@
 -- refused are this project's choice). The values of a stream's decoder stand on its ordered surface, where there is one:
 -- there is none in a sequential stream.
 use Rattle.std.specs.Prelude.{◌≡◌, ℕ, ◌+◌, ◌-◌, ◌*◌, ◌/◌, ◌%◌, ◌^◌, ◌==◌, ◌&&◌, Bool, ℤ, pos, negsuc, ◌-ℤ◌, List, [], ◌∷◌}
-use Rattle.std.specs.Prelude.{length, get_or, map, Option, None, Some, Ok, Err, sum_by, nat_le, int_le, int_lt, if◌then◌else◌}
-use Rattle.std.specs.List.{list_all, range_with_len}
+use Rattle.std.specs.Prelude.{length, map, Option, None, Some, Result, Ok, Err, sum_by, nat_le, int_le, int_lt, if◌then◌else◌}
+use Rattle.std.specs.List.{list_all}
+use Rattle.drc_base.specs.declared.kinds.Kind.{Kind}
 use Rattle.drc_base.specs.declared.kinds.Kind.TheVariants as kind
 use Rattle.drc_base.specs.Profile.{Profile}
 use Rattle.drc_base.specs.Steps.{◌>>=◌}
@@ -18,12 +19,15 @@ use Rattle.attr_heads.specs.DataTypes.{is_float, in_type}
 use Rattle.attr_heads.specs.HeadItems.{quant_bits_at}
 use Rattle.predict.specs.Wrap.{Range}
 use Rattle.symbol_coding.specs.Block.{block_at}
+use Rattle.predict.specs.declared.schemes.Behind.{Behind}
+use Rattle.predict.specs.declared.schemes.Behind.TheVariants as behind
 use Rattle.predict.specs.declared.schemes.Prediction.{Prediction}
+use Rattle.predict.specs.declared.transforms.Transform.{Transform}
 use Rattle.predict.specs.Schemes.{facts, code_of, prediction_of}
-use Rattle.predict.specs.Restored.{restored}
+use Rattle.predict.specs.Transforms.{transform_of}
 use Rattle.corner_table.specs.Ordered.{Ordered}
 use Rattle.predict.specs.Surfaces.{surface_or, lacks_surface}
-use Rattle.predict.specs.Foretold.{foretold, wanted_of}
+use Rattle.predict.specs.Foretold.{restored_with}
 use Rattle.attr_section.specs.declared.decoder_heads.DecoderHead.{DecoderHead}
 use Rattle.attr_section.specs.declared.values.Values.{Values}
 use Rattle.attr_section.specs.Each.{each_at}
@@ -70,9 +74,14 @@ range_at c = do
   high ← signed_at low.1
   tested_range c (record { low = low.0; high = high.0 }) high.1
 
--- the transform of corrections: wrap
-abbrev pub transform_at : Reading → Item ℕ
-transform_at c = must kind.Transform (λ t. t == 1) (number_at 1) c
+-- a transform of corrections; a byte of none is refused at its place
+abbrev pub tested_transform : Reading → Option Transform → Reading → Item Transform
+tested_transform c None after = fault_at kind.Transform c
+tested_transform c (Some t) after = Ok (t, after)
+
+-- the transform of corrections
+unfoldable pub transform_at : Reading → Item Transform
+transform_at c = number_at 1 c >>= λ b. tested_transform c (transform_of b.0) b.1
 
 -- n integers of entries of so many components, in a symbol block
 unfoldable pub compressed_values_at : ℕ → ℕ → Reading → Item (List ℤ)
@@ -102,25 +111,27 @@ flags_at corners c = do
 unfoldable pub flag_lists_at : ℕ → Ordered → Reading → Item (List (List Bool))
 flag_lists_at count w c = many_at (flags_at (length w.entries)) count c
 
--- whether each list has the flags that a prediction needs of it
-abbrev pub has_flags : Prediction → Ordered → List (List Bool) → Bool
-has_flags q w lists = list_all (λ k. nat_le (wanted_of q w k) (length (get_or lists k []))) (range_with_len 0 (facts q).flag_lists)
+-- what stands behind corrections over a surface: the flags of their prediction, and the range of the values
+unfoldable pub behind_at : Behind → Ordered → Reading → Item (List (List Bool) × Range)
+behind_at behind.Nothing w c = range_at c >>= λ range. Ok (([], range.0), range.1)
+behind_at (behind.FlagLists count) w c = do
+  lists ← flag_lists_at count w c
+  range ← range_at lists.1
+  Ok ((lists.0, range.0), range.1)
 
--- the values of corrections and flags; where a flag is needed that isn't there, they are refused at this place
-unfoldable pub with_flags : ℕ → Ordered → Prediction → ℕ → List (List Bool) → Range → List ℤ → Reading → Item (List ℤ)
-with_flags at w q comps lists range corrections after =
-    if has_flags q w lists then Ok (restored (foretold q w comps lists) range corrections, after)
-    else Err (record { kind = kind.FlagsShort; at = at })
+-- values that are restored; where they can't be, they are refused at this place
+abbrev pub restored_at : ℕ → Result (List ℤ) Kind → Reading → Item (List ℤ)
+restored_at at (Ok values) after = Ok (values, after)
+restored_at at (Err k) after = Err (record { kind = k; at = at })
 
 -- n values that are restored from corrections by this prediction, whose byte stands at this place, over a surface: the transform, the
--- corrections, the lists of flags that the prediction has, and the range
+-- corrections, and what stands behind them
 unfoldable pub corrected_at : ℕ → Ordered → Prediction → ℕ → ℕ → Reading → Item (List ℤ)
 corrected_at at w q comps n c = do
   transform ← transform_at c
   corrections ← integers_at comps n transform.1
-  lists ← flag_lists_at (facts q).flag_lists w corrections.1
-  range ← range_at lists.1
-  with_flags at w q comps lists.0 range.0 corrections.0 range.1
+  behind ← behind_at (facts q).behind w corrections.1
+  restored_at at (restored_with transform.0 q w comps behind.0.0 behind.0.1 corrections.0) behind.1
 
 -- n values of this prediction, whose byte stands at this place; where it needs a surface that isn't there, they are refused at this place
 unfoldable pub predicted_at : ℕ → Option Ordered → Prediction → ℕ → ℕ → Reading → Item (List ℤ)

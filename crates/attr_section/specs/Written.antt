@@ -15,8 +15,12 @@ use Rattle.attr_heads.specs.declared.heads.Head.{Head}
 use Rattle.attr_heads.specs.declared.quants.Quant.{Quant}
 use Rattle.attr_heads.specs.DataTypes.{is_float, in_type}
 use Rattle.predict.specs.Wrap.{Range, CanWrap}
+use Rattle.predict.specs.declared.schemes.Behind.{Behind}
+use Rattle.predict.specs.declared.schemes.Behind.TheVariants as behind
 use Rattle.predict.specs.declared.schemes.Prediction.{Prediction}
-use Rattle.predict.specs.Schemes.{facts, code_of, byte_of, prediction_coded}
+use Rattle.predict.specs.declared.transforms.Transform.TheVariants as transform
+use Rattle.predict.specs.Schemes.{facts, lists_behind, flag_lists, code_of, byte_of, prediction_coded}
+use Rattle.predict.specs.Transforms.{transform_byte}
 use Rattle.predict.specs.Symbols.{zigzag_of}
 use Rattle.predict.specs.Restored.{corrections}
 use Rattle.corner_table.specs.Ordered.{Ordered}
@@ -25,7 +29,7 @@ use Rattle.predict.specs.Foretold.{foretold, marks_of, wanted_of}
 use Rattle.symbol_coding.specs.Block.{block_bytes}
 use Rattle.attr_section.specs.declared.values.Values.{Values}
 use Rattle.attr_heads.specs.HeadItems.{bare_head}
-use Rattle.attr_section.specs.Values.{flags_at, predicted_at, values_at}
+use Rattle.attr_section.specs.Values.{flags_at, behind_at, predicted_at, values_at}
 
 -- the greatest symbol
 abbrev pub greatest_symbol : List ℕ → ℕ
@@ -68,11 +72,16 @@ flag_bits_bytes flags = if length flags == 0 then [] else block flags
 unfoldable pub flags_bytes : List Bool → List ℕ
 flags_bytes flags = spelling 5 (length flags) ++ flag_bits_bytes flags
 
--- values by this prediction over a surface, with these lists of flags: the transform, the corrections, the flags, the range
+-- what stands behind corrections: the flags of their prediction, and the range of the values
+abbrev pub behind_bytes : Behind → List (List Bool) → Range → List ℕ
+behind_bytes behind.Nothing lists r = range_bytes r
+behind_bytes (behind.FlagLists count) lists r = flat_map flags_bytes lists ++ range_bytes r
+
+-- values by this prediction over a surface, with these lists of flags: the transform, the corrections, and what stands behind them
 unfoldable pub flagged_bytes : Bool → Ordered → Prediction → ℕ → List (List Bool) → List ℤ → List ℕ
 flagged_bytes plain w q comps lists values =
-    1 ∷ (integers_bytes plain comps (corrections (foretold q w comps lists) (range_of values) values)
-    ++ (flat_map flags_bytes lists ++ range_bytes (range_of values)))
+    transform_byte transform.Wrap ∷ (integers_bytes plain comps (corrections (foretold q w comps lists) (range_of values) values)
+    ++ behind_bytes (facts q).behind lists (range_of values))
 
 -- values by this prediction over a surface
 abbrev pub corrected_bytes : Bool → Ordered → Prediction → ℕ → List ℤ → List ℕ
@@ -153,7 +162,7 @@ HaveEntries entries heads attributes = All (λ (h, v). length v.values ≡ entri
 
 -- of no prediction has a list of flags over a surface more of them than there are corners
 pub record HasFewFlags (w : Ordered) : Type 0 where
-  pub few : (q : Prediction) (k : ℕ) → k < (facts q).flag_lists → wanted_of q w k ≤ length w.entries
+  pub few : (q : Prediction) (k : ℕ) → k < flag_lists q → wanted_of q w k ≤ length w.entries
 
 -- where there is a surface, no list of flags over it has more of them than there are corners
 abbrev pub MayHaveFewFlags : Option Ordered → Type 0
@@ -163,6 +172,11 @@ MayHaveFewFlags (Some w) = HasFewFlags w
 -- a list of flags, where it is read over no fewer corners than it has flags
 pub record FlagsSpelled (flags : List Bool) : Type 0 where
   pub over : (corners : ℕ) → length flags ≤ corners → Spells (flags_at corners) (flags_bytes flags) flags
+
+-- what stands behind corrections, where it is read over no fewer corners than each list has flags
+pub record BehindSpelled (b : Behind) (lists : List (List Bool)) (r : Range) : Type 0 where
+  pub over : (w : Ordered) → length lists ≡ lists_behind b → All (λ flags. length flags ≤ length w.entries) lists
+      → Spells (behind_at b w) (behind_bytes b lists r) (lists, r)
 
 -- values of this prediction, where they are read back
 pub record PredictedSpelled (plain : Bool) (w : Option Ordered) (q : Prediction) (comps : ℕ) (values : List ℤ) : Type 0 where

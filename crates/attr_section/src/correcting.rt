@@ -1,13 +1,14 @@
 //! The symbols of the corrections of values, and the flags that are written beside them.
 
-ghost use Rattle.std.specs.Prelude.{◌≡◌, ◌≤◌, ◌<◌, ◌^◌, true, IfOk, All, length, map};
+ghost use Rattle.std.specs.Prelude.{◌≡◌, ◌≤◌, ◌<◌, ◌^◌, true, Ok, IfOk, All, length, map};
 ghost use Rattle.std.specs.Option.{option_map};
 ghost use Rattle.predict.specs.Schemes.{facts};
 ghost use Rattle.predict.specs.Wrap.{CanWrap};
 ghost use Rattle.predict.specs.Symbols.{zigzag_of};
-ghost use Rattle.predict.specs.Restored.{restored, corrections};
+ghost use Rattle.predict.specs.Restored.{corrections};
 ghost use Rattle.predict.specs.Surfaces.{surface_of, surface_or, MayBeOver, CanStand};
-ghost use Rattle.predict.specs.Foretold.{foretold, marks_of, HasWanted};
+ghost use Rattle.predict.specs.Foretold.{foretold, marks_of, restored_with};
+ghost use Rattle.predict.specs.declared.transforms.Transform.TheVariants as transform;
 ghost use Rattle.attr_section.specs.Written.{range_of};
 
 use crate::ranges::wrap_of;
@@ -37,8 +38,7 @@ pub fn corrected_symbols(
     ensures few { IfOk result (λ s. All (λ flags. length flags < 2 ^ 31) s.1.lists) }
     ensures symbols { IfOk result (λ s. s.0.items ≡ map zigzag_of (corrections (foretold prediction (surface_or (surface_of (option_map (λ t. t.now) on.entry))) comps s.1.lists) (range_of values.now) values.now)) }
     ensures len { IfOk result (λ s. length s.0.items ≡ length values.now) }
-    ensures enough { IfOk result (λ s. HasWanted prediction (surface_or (surface_of (option_map (λ t. t.now) on.entry))) s.1.lists) }
-    ensures restore { IfOk result (λ s. restored (foretold prediction (surface_or (surface_of (option_map (λ t. t.now) on.entry))) comps s.1.lists) (range_of values.now) (corrections (foretold prediction (surface_or (surface_of (option_map (λ t. t.now) on.entry))) comps s.1.lists) (range_of values.now) values.now) ≡ values.now) }
+    ensures again { IfOk result (λ s. restored_with transform.Wrap prediction (surface_or (surface_of (option_map (λ t. t.now) on.entry))) comps s.1.lists (range_of values.now) (corrections (foretold prediction (surface_or (surface_of (option_map (λ t. t.now) on.entry))) comps s.1.lists) (range_of values.now) values.now) ≡ Ok values.now) }
 {
     let wrap = wrap_of(low, high);
     let (symbols, flags) = correct(alloc, prediction, &wrap, comps, on, values)?;

@@ -5,6 +5,7 @@
 //! "Sequential Attributes" and "Prediction Decoder".
 #![tactic(auto)]
 
+mod behind;
 mod coded_integers;
 mod correcting;
 mod decoder_heads;
@@ -33,7 +34,7 @@ pub use decoder_heads::DecoderHead;
 pub use decoder_writing::write_decoder;
 pub use head_reading::read_heads;
 pub use head_writing::write_heads;
-pub use laws::{flags_are_few, flags_are_tested, predictions_are_accepted};
+pub use laws::{flags_are_few, predictions_are_accepted};
 pub use links::POSITION_ID;
 pub use predict::{Ordered, Prediction};
 pub use ranges::range_of;

@@ -9,12 +9,12 @@ ghost use Rattle.predict.specs.Surfaces.{surface_of, surface_or, MayBeOver, CanS
 ghost use Rattle.attr_section.specs.Values.{integers_at, corrected_at};
 ghost use Rattle.attr_section.specs.Written.{range_of, integers_bytes, corrected_bytes, predicted_bytes, CanPredict, HasFewFlags, PredictedSpelled};
 
+use crate::behind::put_behind;
 use crate::correcting::corrected_symbols;
-use crate::flag_writing::put_flag_lists;
 use crate::integer_writing::put_symbols;
-use crate::ranges::{put_range, range_of};
+use crate::ranges::range_of;
 use drc_base::{MAX_VALUES, Memory};
-use predict::{Ordered, Prediction, symbols_of};
+use predict::{Ordered, Prediction, Transform, symbols_of};
 use std::alloc::Global;
 
 /// Appends values without a prediction.
@@ -64,10 +64,16 @@ fn put_corrected(
     let (symbols, flags) = corrected_symbols(
         alloc, prediction, on, values, comps, least, greatest,
     )?;
-    out.push(1)?;
+    out.push(Transform::Wrap.byte())?;
     put_symbols(alloc, out, symbols, comps, plain)?;
-    put_flag_lists(alloc, out, flags.lists.as_slice())?;
-    put_range(out, least, greatest)?;
+    put_behind(
+        alloc,
+        out,
+        prediction.facts().behind,
+        &flags,
+        least,
+        greatest,
+    )?;
     Ok(())
 }
 

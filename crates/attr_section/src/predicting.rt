@@ -1,23 +1,24 @@
 //! Reading values by their prediction.
 
 ghost use Rattle.drc_base.specs.Profile.{profile_numbered};
-ghost use Rattle.std.specs.Prelude.{◌≡◌, ℕ, ◌≤◌, ◌<◌, ◌*◌, ◌%◌, true, Err, IfOk, length};
+ghost use Rattle.std.specs.Prelude.{◌≡◌, ℕ, ◌≤◌, ◌<◌, ◌*◌, ◌%◌, true, Ok, Err, IfOk, MatchResult, length};
 ghost use Rattle.drc_base.specs.declared.faults.Fault.{Fault as AnyFault};
 ghost use Rattle.drc_base.specs.declared.faults.Refusal.TheVariants as refusal;
 ghost use Rattle.std.specs.Option.{option_map};
-ghost use Rattle.drc_bits.specs.Reading.{Reading, Reads, Gives};
+ghost use Rattle.drc_bits.specs.Reading.{Reads, Gives};
 ghost use Rattle.predict.specs.Schemes.{facts};
 ghost use Rattle.predict.specs.Surfaces.{surface_of, surface_or, lacks_surface, MayBeOrderedOf, MayBeOver, CanStand};
 ghost use Rattle.attr_section.specs.Opened.{integers_of};
-ghost use Rattle.attr_section.specs.Values.{prediction_at, range_at, transform_at, flag_lists_at, corrected_at, with_flags, predicted_at};
+ghost use Rattle.predict.specs.Foretold.{restored_with};
+ghost use Rattle.attr_section.specs.Values.{prediction_at, transform_at, corrected_at, predicted_at};
 ghost use Rattle.attr_section.specs.Openings.{corrected_opening_at, predicted_opening_at};
 
-use crate::flag_lists::read_flag_lists;
+use crate::behind::read_behind;
 use crate::integers::{Integers, open_integers, read_integers};
 use crate::listed::Listed;
-use drc_base::{Fault, Kind, MAX_VALUES, Profile, Refusal};
+use drc_base::{Fault, Kind, MAX_VALUES, Memory, Profile, Refusal};
 use drc_bits::Cursor;
-use predict::{CorrectionSource, Flags, Ordered, Prediction, Wrap, restore_with_flags};
+use predict::{Flags, Ordered, Prediction, Transform, Wrap, restore_with_flags};
 use std::alloc::Global;
 
 /// The prediction of an attribute, one that the profile has.
@@ -36,108 +37,46 @@ pub fn read_prediction(c: &mut Cursor<'_>, profile: Profile) -> Result<Predictio
     Ok(prediction)
 }
 
-/// Reads the transform of corrections.
-fn read_transform(c: &mut Cursor<'_>) -> Result<(), Fault>
-    ensures { Reads (λ _. 1) (transform_at c.old) c.new result }
+/// The transform of corrections.
+#[tactic(auto, unfolding(crate::specs::Values::transform_at))]
+fn read_transform(c: &mut Cursor<'_>) -> Result<Transform, Fault>
+    ensures { Reads (λ t. t) (transform_at c.old) c.new result }
 {
-    let at = c.place();
-    if c.get_u8()? != 1 {
-        return Err(Fault::new(Kind::Transform, at));
-    }
-    Ok(())
+    let fault = c.fault(Kind::Transform);
+    let byte = c.get_u8()?;
+    Transform::of_byte(byte).ok_or(fault)
 }
 
-/// The range of an attribute's values.
-#[tactic(auto, unfolding(crate::specs::Values::range_at))]
-fn read_range(c: &mut Cursor<'_>) -> Result<Wrap, Fault>
-    ensures { Reads (λ r. r) (range_at c.old) c.new result }
-{
-    let fault = c.fault(Kind::WrapRange);
-    let low = c.get_i32()?;
-    let high = c.get_i32()?;
-    Wrap::new(low, high).ok_or(fault)
-}
-
-/// The number of corners of an ordered surface, none where there is no surface.
-fn corners_of(on: Option<&Ordered<'_>>) -> usize
-    ensures { result ≡ length (surface_or (surface_of (option_map (λ t. t.now) on.entry))).entries }
-{
-    match on {
-        None => 0,
-        Some(on) => on.classes.of_corner.len(),
-    }
-}
-
-/// The lists of flags that a prediction has over an ordered surface. `FlagCount` at the number of a list
-/// that has more than three for each face, and the faults of their blocks.
-#[tactic(auto, unfolding(crate::specs::Values::flag_lists_at))]
-fn read_flags(
-    alloc: Global,
-    c: &mut Cursor<'_>,
-    on: Option<&Ordered<'_>>,
-    prediction: Prediction,
-) -> Result<Flags, Refusal>
-    ensures { Gives (λ f. f.lists) (flag_lists_at (facts prediction).flag_lists (surface_or (surface_of (option_map (λ t. t.now) on.entry))) c.old) c.new result }
-{
-    let lists = prediction.facts().flag_lists;
-    read_flag_lists(alloc, c, corners_of(on), lists)
-}
-
-/// The values of the corrections of a source, which are taken one after another while values are restored.
-/// Where a flag is needed that isn't there, `FlagsShort` at this place.
-#[tactic(auto, unfolding(crate::specs::Values::with_flags), using(crate::proofs::SpelledFlags::flags_pass, crate::proofs::SpelledFlags::flags_fail))]
-fn restored_from<C: CorrectionSource>(
-    alloc: Global,
-    at: u64,
-    prediction: Prediction,
-    wrap: &Wrap,
-    comps: u32,
-    on: Option<&Ordered<'_>>,
-    flags: &Flags,
-    corrections: C,
-) -> Result<Vec<i32>, Refusal>
-    requires corrects { (facts prediction).corrects ≡ true }
-    requires some { 0 < comps }
-    requires over { MayBeOver (option_map (λ t. t.now) on) }
-    requires stand { CanStand prediction (surface_of (option_map (λ t. t.now) on)) comps (length (C.left corrections)) }
-    ensures item { (after : Reading) → Gives (λ v. v.items) (with_flags at (surface_or (surface_of (option_map (λ t. t.now) on.entry))) prediction comps flags.now.lists wrap.now (C.left corrections) after) after result }
-    ensures len { IfOk result (λ v. length v.items ≡ length (C.left corrections)) }
-{
-    match restore_with_flags(alloc, prediction, wrap, comps, on, flags, corrections)? {
-        Ok(values) => Ok(values),
-        Err(kind) => Err(Refusal::Fault(Fault::new(kind, at))),
-    }
-}
-
-/// The values of corrections that were opened, which are taken one after another.
+/// The values of corrections that were opened, which are taken one after another while values are restored,
+/// by a transform and a prediction that corrects.
 fn restored_values(
     alloc: Global,
-    at: u64,
+    transform: Transform,
     prediction: Prediction,
     wrap: &Wrap,
     comps: u32,
     on: Option<&Ordered<'_>>,
     flags: &Flags,
     corrections: Integers<'_>,
-) -> Result<Vec<i32>, Refusal>
+) -> Result<Result<Vec<i32>, Kind>, Memory>
     requires corrects { (facts prediction).corrects ≡ true }
     requires some { 0 < comps }
     requires over { MayBeOver (option_map (λ t. t.now) on) }
     requires stand { CanStand prediction (surface_of (option_map (λ t. t.now) on)) comps (length (integers_of corrections)) }
-    ensures item { (after : Reading) → Gives (λ v. v.items) (with_flags at (surface_or (surface_of (option_map (λ t. t.now) on.entry))) prediction comps flags.now.lists wrap.now (integers_of corrections.entry) after) after result }
-    ensures len { IfOk result (λ v. length v.items ≡ length (integers_of corrections.entry)) }
+    ensures due { IfOk result (λ r. MatchResult r (λ v. restored_with transform prediction (surface_or (surface_of (option_map (λ t. t.now) on.entry))) comps flags.now.lists wrap.now (integers_of corrections.entry) ≡ Ok v.items) (λ k. restored_with transform prediction (surface_or (surface_of (option_map (λ t. t.now) on.entry))) comps flags.now.lists wrap.now (integers_of corrections.entry) ≡ Err k)) }
+    ensures len { IfOk result (λ r. IfOk r (λ v. length v.items ≡ length (integers_of corrections.entry))) }
 {
-    match corrections {
-        Integers::Coded(source) => {
-            restored_from(alloc, at, prediction, wrap, comps, on, flags, source)
+    match (transform, corrections) {
+        (Transform::Wrap, Integers::Coded(source)) => {
+            restore_with_flags(alloc, prediction, wrap, comps, on, flags, source)
         }
-        Integers::Symbols(symbols) => {
+        (Transform::Wrap, Integers::Symbols(symbols)) => {
             let source = Listed::new(symbols);
-            restored_from(alloc, at, prediction, wrap, comps, on, flags, source)
+            restore_with_flags(alloc, prediction, wrap, comps, on, flags, source)
         }
-        Integers::Plain(integers) => {
+        (Transform::Wrap, Integers::Plain(integers)) => {
             let source = Listed::new(integers);
-            restored_from(alloc, at, prediction, wrap, comps, on, flags, source)
+            restore_with_flags(alloc, prediction, wrap, comps, on, flags, source)
         }
     }
 }
@@ -164,12 +103,15 @@ fn read_corrected(
     ensures early { (f : AnyFault) → corrected_opening_at n c.old ≡ Err f → result ≡ Err (refusal.Fault f) }
     ensures len { IfOk result (λ v. length v.items ≡ n) }
 {
-    read_transform(c)?;
+    let transform = read_transform(c)?;
     let integers = open_integers(alloc, c, comps, n)?;
-    let flags = read_flags(alloc, c, on, prediction)?;
-    let wrap = read_range(c)?;
-    let values = restored_values(alloc, at, prediction, &wrap, comps, on, &flags, integers)?;
-    Ok(values)
+    let (flags, wrap) = read_behind(alloc, c, prediction.facts().behind, on)?;
+    match restored_values(
+        alloc, transform, prediction, &wrap, comps, on, &flags, integers,
+    )? {
+        Ok(values) => Ok(values),
+        Err(kind) => Err(Refusal::Fault(Fault::new(kind, at))),
+    }
 }
 
 /// Whether a prediction needs a surface where there is no surface.

@@ -1,14 +1,16 @@
-//! The range of values: found, as a wrap, and written.
+//! The range of values: found, as a wrap, read and written.
 
 ghost use Rattle.std.specs.Prelude.{◌≡◌, ◌<◌, ◌++◌, OnOk, length};
 ghost use Rattle.std.specs.Int.{int_min, int_max};
 ghost use Rattle.std.specs.List.{fold};
+ghost use Rattle.drc_bits.specs.Reading.{Reads};
 ghost use Rattle.drc_bits.specs.Spells.{Spells};
 ghost use Rattle.predict.specs.Wrap.{CanWrap};
 ghost use Rattle.attr_section.specs.Values.{range_at};
 ghost use Rattle.attr_section.specs.Written.{range_of, signed_bytes, range_bytes};
 
-use drc_base::Memory;
+use drc_base::{Fault, Kind, Memory};
+use drc_bits::Cursor;
 use predict::Wrap;
 
 /// The least and the greatest of a value and others.
@@ -39,6 +41,17 @@ pub(crate) fn wrap_of(low: i32, high: i32) -> Wrap
     ensures { result ≡ record { low = low; high = high } }
 {
     Wrap::new(low, high).unwrap()
+}
+
+/// The range of an attribute's values.
+#[tactic(auto, unfolding(crate::specs::Values::range_at))]
+pub(crate) fn read_range(c: &mut Cursor<'_>) -> Result<Wrap, Fault>
+    ensures { Reads (λ r. r) (range_at c.old) c.new result }
+{
+    let fault = c.fault(Kind::WrapRange);
+    let low = c.get_i32()?;
+    let high = c.get_i32()?;
+    Wrap::new(low, high).ok_or(fault)
 }
 
 /// Appends a signed number of four bytes.

@@ -5,7 +5,7 @@ use Rattle.std.proofs.lemmas.Bool.{cases_eq}
 use Rattle.std.proofs.lemmas.List.{ext_get_or}
 use Rattle.predict.specs.declared.schemes.Prediction.{Prediction}
 use Rattle.predict.specs.declared.schemes.Prediction.TheVariants as prediction
-use Rattle.predict.specs.Schemes.{facts}
+use Rattle.predict.specs.Schemes.{facts, flag_lists}
 use Rattle.corner_table.specs.Ordered.{Ordered}
 use Rattle.predict.specs.Surfaces.{surface_or}
 use Rattle.predict.specs.Gathered.{gathered}
@@ -27,12 +27,12 @@ lists_are w comps v lists four marked_lists = ext_get_or [] lists (flag_lists_of
     (λ k low. let below : k < 4 = omega (arith, four) in marked_lists k below ∙ sym (list_at w comps v k below))
 
 -- as many lists are written as the prediction has
-pub length-marks : (q : Prediction) (w : Ordered) (comps : ℕ) (v : List ℤ) → length (marks_of q w comps v) ≡ (facts q).flag_lists
+pub length-marks : (q : Prediction) (w : Ordered) (comps : ℕ) (v : List ℤ) → length (marks_of q w comps v) ≡ flag_lists q
 length-marks prediction.Multi w comps v = refl
 length-marks _ w comps v = refl
 
 -- each with as many flags as are wanted
-pub length-mark : (q : Prediction) (w : Ordered) (comps : ℕ) (v : List ℤ) (k : ℕ) → k < (facts q).flag_lists → length (get_or (marks_of q w comps v) k []) ≡ wanted_of q w k
+pub length-mark : (q : Prediction) (w : Ordered) (comps : ℕ) (v : List ℤ) (k : ℕ) → k < flag_lists q → length (get_or (marks_of q w comps v) k []) ≡ wanted_of q w k
 length-mark prediction.Multi w comps v k low = ap (λ (l : List Bool). length l) (list_at w comps v k low) ∙ length-marked w comps v (suc k) (length w.corners)
 length-mark _ w comps v k low = absurd (omega (arith, low))
 
@@ -53,7 +53,7 @@ wanted_by w k (suc n) =
 at_most_four : (k n : ℕ) → k ≤ 4 → k * n ≤ 4 * n
 at_most_four k n few = grind arith
 
-pub wanted_most : (q : Prediction) (w : Ordered) (k : ℕ) → k < (facts q).flag_lists → wanted_of q w k ≤ 4 * length w.corners
+pub wanted_most : (q : Prediction) (w : Ordered) (k : ℕ) → k < flag_lists q → wanted_of q w k ≤ 4 * length w.corners
 wanted_most prediction.Multi w k low =
     let most = wanted_by w (suc k) (length w.corners) in
     let product = at_most_four (suc k) (length w.corners) low in
@@ -71,7 +71,7 @@ wanted_nowhere prediction.Multi k = wanted_none (surface_or None) (suc k)
 wanted_nowhere _ k = refl
 
 -- a prediction with flags needs a surface
-pub flags_stand : (q : Prediction) → 0 < (facts q).flag_lists → (facts q).needs_surface ≡ true
+pub flags_stand : (q : Prediction) → 0 < flag_lists q → (facts q).needs_surface ≡ true
 flags_stand prediction.Multi some = refl
 flags_stand _ some = absurd (omega (arith, some))
 

@@ -10,4 +10,6 @@ pub mod Around
 pub mod Kept
 pub mod Foretold
 pub mod Rounds
-pub mod Behind
+pub mod Puts
+pub mod Steps
+pub mod Stepped

@@ -1,13 +1,15 @@
 -- Restoring and correcting one entry after another.
-use Rattle.std.proofs.Common.{◌≡◌, ℕ, zero, suc, ◌+◌, ◌-◌, ◌<◌, ◌≤◌, ◌≤ℤ◌, ℤ, pos, List, [], ◌∷◌, ◌++◌, length, take, get_or, FitsSigned, refl, sym, ◌∙◌, ap, add-one, append-nil, append_assoc, arith}
+use Rattle.std.proofs.Common.{◌≡◌, ℕ, zero, suc, ◌+◌, ◌-◌, ◌<◌, ◌≤◌, ◌≤ℤ◌, ℤ, pos, List, [], ◌∷◌, ◌++◌, length, take, get_or, FitsSigned, Result, Ok, refl, sym, ◌∙◌, ap, add-one, append-nil, append_assoc, arith}
 use Rattle.std.proofs.lemmas.List.{length-take-le, get_or-take, take_all}
 use Rattle.std.proofs.lemmas.Int.{ints}
 use Rattle.std.proofs.lemmas.List.Elements.{All-nil, All-cons, All-head, All-tail}
 use Rattle.std.specs.Int.{w32}
 use Rattle.std.specs.List.{All}
 use Rattle.predict.specs.Wrap.{Range, CanWrap, HasEnds, restored_value, correction_of, least_correction, greatest_correction}
-use Rattle.predict.specs.Restored.{restored, restored_behind, corrections, corrections_behind, entry_before}
+use Rattle.predict.specs.Restored.{restored, corrections, corrections_behind, entry_before}
+use Rattle.predict.specs.Stepping.{Step, step_by, restored_by, corrected_by}
 use Rattle.predict.proofs.Wrapping.{correction_restores, correction_small}
+use Rattle.predict.proofs.Steps.{steps_restore, restored_by-function, corrected_by-function}
 
 -- the prediction by difference from the front part of a list
 pub entry_before-first : (comps : ℕ) (v : List ℤ) (i : ℕ) → i < length v → i < comps → pos 0 ≡ entry_before comps (take i v)
@@ -66,20 +68,28 @@ corrections-end f r v cs i done is = is ∙ take_all i (corrections f r v) (omeg
 abbrev pub InRange : Range → ℤ → Type 0
 InRange r x = (r.low ≤ℤ x) × (x ≤ℤ r.high)
 
+-- a value of the range that has 32 bits, which its correction restores
+abbrev pub Keeps : Range → ℤ → Type 0
+Keeps r x = InRange r x × FitsSigned w32 x
+
+pub keeps_back : (r : Range) (p x : ℤ) → CanWrap r → Keeps r x → restored_value r p (correction_of r p x) ≡ x
+keeps_back r p x can keeps = correction_restores r p x can keeps.0.0 keeps.0.1 keeps.1
+
 -- corrections of values of the range restore them
 pub restored-corrections : (f : List ℤ → ℤ) (r : Range) (v : List ℤ) → CanWrap r → All (InRange r) v → All (FitsSigned w32) v
     → restored f r (corrections f r v) ≡ v
-unfolding corrections_behind restored_behind
-restored-corrections f r v can within fits = behind f r [] v can within fits
+restored-corrections f r v can within fits =
+    let step : Step ℤ (Unit {0}) (Unit {0}) = step_by f in
+    let cs : List ℤ = corrections f r v in
+    let made : corrected_by step (correction_of r) [] tt v ≡ Ok cs = corrected_by-function step f r tt (length v) (λ before here. refl) [] v (omega arith) in
+    let back : restored_by step (restored_value r) [] tt cs ≡ Ok v =
+    steps_restore (Keeps r) step (restored_value r) (correction_of r) [] tt v cs (λ before flags x y good one keeps. keeps_back r x.0 y can keeps)
+    (All-nil (Keeps r)) (λ k d below. (within k d below, fits k d below)) made in
+    let same : restored_by step (restored_value r) [] tt cs ≡ Ok (restored f r cs) = restored_by-function step f r tt (length cs) (λ before here. refl) [] cs (omega arith) in
+    Ok-injective (sym same ∙ back)
   where
-    behind : (f : List ℤ → ℤ) (r : Range) (before v : List ℤ) → CanWrap r → All (InRange r) v → All (FitsSigned w32) v
-        → restored_behind f r before (corrections_behind f r before v) ≡ before ++ v
-    behind f r before [] can within fits = sym (append-nil before)
-    behind f r before (x ∷ v) can within fits =
-        let in_range : InRange r x = All-head (InRange r) x v within in
-        let x_fits : FitsSigned w32 x = All-head (FitsSigned w32) x v fits in
-        let there : restored_value r (f before) (correction_of r (f before) x) ≡ x = correction_restores r (f before) x can in_range.0 in_range.1 x_fits in
-        rw (restored_behind, there) (behind f r (before ++ x ∷ []) v can (All-tail (InRange r) x v within) (All-tail (FitsSigned w32) x v fits) ∙ append_assoc before (x ∷ []) v)
+    Ok-injective : {x y : List ℤ} → ◌≡◌ {A = Result (List ℤ) (Unit {0})} (Ok x) (Ok y) → x ≡ y
+    Ok-injective is = cc
 
 -- a correction of at most half a span
 abbrev pub IsSmall : Range → ℤ → Type 0

@@ -1,4 +1,6 @@
 pub mod Schemes
+pub mod Transforms
+pub mod Stepping
 pub mod Wrap
 pub mod Restored
 pub mod Symbols

@@ -4,16 +4,27 @@ use Rattle.std.specs.Prelude.{◌≡◌, ℕ, ◌==◌, ℤ, true, false, List, 
 use Rattle.std.specs.Int.{w8, cast_signed}
 use Rattle.std.specs.Ordering.{int_eq}
 use Rattle.std.specs.Str.{bytes_eq}
+use Rattle.predict.specs.declared.schemes.Behind.{Behind}
+use Rattle.predict.specs.declared.schemes.Behind.TheVariants as behind
 use Rattle.predict.specs.declared.schemes.Facts.{Facts}
 use Rattle.predict.specs.declared.schemes.Prediction.{Prediction}
 use Rattle.predict.specs.declared.schemes.Prediction.TheVariants as prediction
 
 -- what is known of a prediction
 abbrev pub facts : Prediction → Facts
-facts prediction.Off = record { byte = 254; corrects = false; needs_surface = false; flag_lists = 0; since = 1 }
-facts prediction.Difference = record { byte = 0; corrects = true; needs_surface = false; flag_lists = 0; since = 1 }
-facts prediction.Parallelogram = record { byte = 1; corrects = true; needs_surface = true; flag_lists = 0; since = 1 }
-facts prediction.Multi = record { byte = 4; corrects = true; needs_surface = true; flag_lists = 4; since = 2 }
+facts prediction.Off = record { byte = 254; corrects = false; needs_surface = false; behind = behind.Nothing; since = 1 }
+facts prediction.Difference = record { byte = 0; corrects = true; needs_surface = false; behind = behind.Nothing; since = 1 }
+facts prediction.Parallelogram = record { byte = 1; corrects = true; needs_surface = true; behind = behind.Nothing; since = 1 }
+facts prediction.Multi = record { byte = 4; corrects = true; needs_surface = true; behind = behind.FlagLists 4; since = 2 }
+
+-- how many lists of flags stand behind the corrections
+abbrev pub lists_behind : Behind → ℕ
+lists_behind behind.Nothing = 0
+lists_behind (behind.FlagLists n) = n
+
+-- how many lists of flags a prediction has
+abbrev pub flag_lists : Prediction → ℕ
+flag_lists q = lists_behind (facts q).behind
 
 -- its word on the command line
 abbrev pub prediction_word : Prediction → List ℕ

@@ -1,6 +1,6 @@
 //! Corrections of values, by each prediction: their symbols, and the flags that are written beside them.
 
-ghost use Rattle.std.specs.Prelude.{◌≡◌, ◌<◌, ◌*◌, ◌≤ℤ◌, [], true, map, length, IfOk};
+ghost use Rattle.std.specs.Prelude.{◌≡◌, ◌<◌, ◌*◌, ◌≤ℤ◌, true, map, length, Ok, IfOk};
 ghost use Rattle.std.specs.Option.{option_map};
 ghost use Rattle.std.specs.List.{All};
 ghost use Rattle.predict.specs.Schemes.{facts};
@@ -10,7 +10,8 @@ ghost use Rattle.predict.specs.Symbols.{zigzag_of};
 ghost use Rattle.predict.specs.Surfaces.{surface, surface_of, surface_or, IsOverTable, MayBeOver, CanStand};
 ghost use Rattle.predict.specs.Parallelogram.{parallelogram};
 ghost use Rattle.predict.specs.Multi.{multi, flag_lists_of};
-ghost use Rattle.predict.specs.Foretold.{foretold, marks_of, HasWanted};
+ghost use Rattle.predict.specs.Foretold.{foretold, marks_of, HasWanted, restored_with};
+ghost use Rattle.predict.specs.declared.transforms.Transform.TheVariants as transform;
 
 use crate::differences::correct_difference;
 use crate::flags::Flags;
@@ -20,17 +21,8 @@ use crate::schemes::Prediction;
 use crate::single::correct_parallelogram;
 use crate::symbols::symbols_of;
 use crate::wraps::Wrap;
-use drc_base::{Memory, Sequence};
+use drc_base::Memory;
 use std::alloc::Global;
-
-/// No flags.
-fn no_flags(alloc: Global) -> Flags
-    ensures { result.lists ≡ [] }
-{
-    Flags {
-        lists: Sequence::from_vec(Vec::new(alloc)),
-    }
-}
 
 /// The symbols of the corrections of values by parallelograms over an ordered surface.
 fn symbols_by_parallelogram(
@@ -92,11 +84,11 @@ fn corrected_by(
     match (prediction, on) {
         (Prediction::Difference, _) => {
             let symbols = correct_difference(alloc, w, comps, v)?;
-            Ok((symbols, no_flags(alloc)))
+            Ok((symbols, Flags::none(alloc)))
         }
         (Prediction::Parallelogram, Some(on)) => {
             let symbols = symbols_by_parallelogram(alloc, w, comps, on, v)?;
-            Ok((symbols, no_flags(alloc)))
+            Ok((symbols, Flags::none(alloc)))
         }
         (Prediction::Multi, Some(on)) => symbols_by_multi(alloc, w, comps, on, v),
         (Prediction::Off, _) | (Prediction::Parallelogram | Prediction::Multi, None) => {
@@ -126,6 +118,7 @@ pub fn correct(
     ensures symbols { IfOk result (λ c. c.0.items ≡ map zigzag_of (corrections (foretold prediction (surface_or (surface_of (option_map (λ t. t.now) on.entry))) comps c.1.lists) w.now v.now)) }
     ensures enough { IfOk result (λ c. HasWanted prediction (surface_or (surface_of (option_map (λ t. t.now) on.entry))) c.1.lists) }
     ensures restores { IfOk result (λ c. restored (foretold prediction (surface_or (surface_of (option_map (λ t. t.now) on.entry))) comps c.1.lists) w.now (corrections (foretold prediction (surface_or (surface_of (option_map (λ t. t.now) on.entry))) comps c.1.lists) w.now v.now) ≡ v.now) }
+    ensures again { IfOk result (λ c. restored_with transform.Wrap prediction (surface_or (surface_of (option_map (λ t. t.now) on.entry))) comps c.1.lists w.now (corrections (foretold prediction (surface_or (surface_of (option_map (λ t. t.now) on.entry))) comps c.1.lists) w.now v.now) ≡ Ok v.now) }
     ensures small { IfOk result (λ c. All (λ x. (least_correction w.now ≤ℤ x) × (x ≤ℤ greatest_correction w.now)) (corrections (foretold prediction (surface_or (surface_of (option_map (λ t. t.now) on.entry))) comps c.1.lists) w.now v.now)) }
 {
     let wrap = w.copy();

@@ -10,7 +10,8 @@ ghost use Rattle.predict.specs.Multi.{kept, off_by, is_left_out};
 use crate::parallelograms::{fourth, value_at};
 use arrayvec::ArrayVec;
 use corner_table::FaceAcross;
-use drc_base::{Memory, Sequence};
+use drc_base::Sequence;
+use std::alloc::Global;
 
 /// The flags of a prediction, in the order in which they are taken.
 #[derive(Debug, Drop)]
@@ -18,6 +19,17 @@ pub struct Flags {
     /// As many lists as the prediction has. Of constrained multi-parallelogram prediction list k - 1 has
     /// the flags of the entries with k parallelograms, one for each: whether it is left out.
     pub lists: Sequence<Sequence<bool>>,
+}
+
+impl Flags {
+    /// No flags.
+    pub fn none(alloc: Global) -> Flags
+        ensures { result.lists ≡ [] }
+    {
+        Flags {
+            lists: Sequence::from_vec(Vec::new(alloc)),
+        }
+    }
 }
 
 /// Keeps a face, unless it is left out.

@@ -1,19 +1,15 @@
-//! Restoring values from a source of corrections: each value is put behind those before it, which foretell it, so that no
-//! list of corrections is made.
+//! Restoring values from a source of corrections without flags: each value is put behind those before it, which foretell it, so
+//! that no list of corrections is made.
 
-ghost use Rattle.std.specs.Prelude.{◌≡◌, ℕ, ℤ, ◌+◌, ◌*◌, ◌%◌, ◌<◌, ◌≤◌, true, Bool, List, Some, None, length, IfOk, IfSome, vec_len, vec_capacity};
-ghost use Rattle.std.specs.Option.{option_map};
+ghost use Rattle.std.specs.Prelude.{◌≡◌, ℕ, ℤ, ◌+◌, ◌*◌, ◌%◌, ◌<◌, ◌≤◌, List, Some, None, length, IfOk, IfSome, vec_len, vec_capacity};
 ghost use Rattle.corner_table.specs.Ordered.{IsBelow, kept_face};
-ghost use Rattle.predict.specs.Schemes.{facts};
 ghost use Rattle.predict.specs.Restored.{restored, restored_behind, entry_before};
 ghost use Rattle.predict.specs.Parallelogram.{by_one, parallelogram};
 ghost use Rattle.predict.specs.Entry.{Foretells};
-ghost use Rattle.predict.specs.Surfaces.{surface, surface_of, surface_or, IsOverTable, MayBeOver, CanStand};
-ghost use Rattle.predict.specs.Foretold.{foretold};
+ghost use Rattle.predict.specs.Surfaces.{surface, IsOverTable};
 
 use crate::orders::Ordered;
 use crate::parallelograms::fourth;
-use crate::schemes::Prediction;
 use crate::sources::CorrectionSource;
 use crate::wraps::Wrap;
 use corner_table::{FREE, FaceAcross};
@@ -133,7 +129,7 @@ fn put_entry<C: CorrectionSource>(
 
 /// The values that corrections restore, each foretold by the entry before.
 #[inline(always)]
-fn by_difference<C: CorrectionSource>(
+pub(crate) fn by_difference<C: CorrectionSource>(
     alloc: Global,
     w: &Wrap,
     comps: usize,
@@ -157,7 +153,7 @@ fn by_difference<C: CorrectionSource>(
 /// The values that corrections restore, each foretold by the parallelogram over the face across that the
 /// order keeps for its entry.
 #[inline(always)]
-fn by_parallelogram<C: CorrectionSource>(
+pub(crate) fn by_parallelogram<C: CorrectionSource>(
     alloc: Global,
     w: &Wrap,
     comps: usize,
@@ -179,60 +175,4 @@ fn by_parallelogram<C: CorrectionSource>(
         put_entry(&wrap, comps, e, faces[e], &mut values, &mut source);
     }
     Ok(values)
-}
-
-/// The values that corrections restore, of entries of `comps` components, by a prediction that corrects
-/// and has no flags.
-#[inline(always)]
-fn restored_by<C: CorrectionSource>(
-    alloc: Global,
-    prediction: Prediction,
-    w: &Wrap,
-    comps: usize,
-    on: Option<&Ordered<'_>>,
-    source: C,
-) -> Result<Vec<i32>, Memory>
-    requires corrects { (facts prediction).corrects ≡ true }
-    requires no_flags { (facts prediction).flag_lists ≡ 0 }
-    requires some { 0 < comps }
-    requires over { MayBeOver (option_map (λ t. t.now) on) }
-    requires stand { CanStand prediction (surface_of (option_map (λ t. t.now) on)) comps (length (C.left source)) }
-    ensures values { (lists : List (List Bool)) → IfOk result (λ v. v.items ≡ restored (foretold prediction (surface_or (surface_of (option_map (λ t. t.now) on.entry))) comps lists) w.now (C.left source)) }
-    ensures len { IfOk result (λ v. length v.items ≡ length (C.left source)) }
-{
-    match (prediction, on) {
-        (Prediction::Difference, _) => by_difference(alloc, w, comps, source),
-        (Prediction::Parallelogram, Some(on)) => by_parallelogram(alloc, w, comps, on, source),
-        (Prediction::Off | Prediction::Multi, _) | (Prediction::Parallelogram, None) => {
-            unreachable!()
-        }
-    }
-}
-
-/// The values that the corrections of a source restore, of entries of `comps` components, by a prediction
-/// that corrects and has no flags, over an ordered surface where it needs one. Each correction is taken
-/// when its value is put behind those before. It takes memory for the values, and fails only when out of
-/// memory.
-pub fn restore_from<C: CorrectionSource>(
-    alloc: Global,
-    prediction: Prediction,
-    w: &Wrap,
-    comps: u32,
-    on: Option<&Ordered<'_>>,
-    source: C,
-) -> Result<Vec<i32>, Memory>
-    requires corrects { (facts prediction).corrects ≡ true }
-    requires no_flags { (facts prediction).flag_lists ≡ 0 }
-    requires some { 0 < comps }
-    requires over { MayBeOver (option_map (λ t. t.now) on) }
-    requires stand { CanStand prediction (surface_of (option_map (λ t. t.now) on)) comps (length (C.left source)) }
-    ensures values { (lists : List (List Bool)) → IfOk result (λ v. v.items ≡ restored (foretold prediction (surface_or (surface_of (option_map (λ t. t.now) on.entry))) comps lists) w.now (C.left source)) }
-    ensures len { IfOk result (λ v. length v.items ≡ length (C.left source)) }
-{
-    match comps {
-        1 => restored_by(alloc, prediction, w, 1, on, source),
-        2 => restored_by(alloc, prediction, w, 2, on, source),
-        3 => restored_by(alloc, prediction, w, 3, on, source),
-        _ => restored_by(alloc, prediction, w, comps as usize, on, source),
-    }
 }

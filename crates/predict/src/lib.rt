@@ -17,23 +17,27 @@ mod multi;
 mod multi_from_source;
 mod orders;
 mod parallelograms;
+mod restored;
 mod schemes;
 mod single;
 mod sources;
 mod surface;
 mod symbols;
+mod transforms;
 mod wholes;
 mod wraps;
 
 pub use corrected::correct;
 pub use flags::Flags;
-pub use from_source::restore_from;
-pub use laws::{corrections_restore, flags_are_few, predictions_are_named};
+pub use laws::{
+    corrections_restore, flags_are_few, predictions_are_named, predictions_are_steps, steps_restore,
+};
 pub use multi::correct_multi;
-pub use multi_from_source::restore_with_flags;
 pub use orders::Ordered;
-pub use schemes::{Facts, Prediction};
+pub use restored::restore_with_flags;
+pub use schemes::{Behind, Facts, Prediction};
 pub use single::correct_parallelogram;
 pub use sources::CorrectionSource;
 pub use symbols::symbols_of;
+pub use transforms::Transform;
 pub use wraps::Wrap;

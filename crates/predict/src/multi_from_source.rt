@@ -1,23 +1,18 @@
-//! Restoring values from a source of corrections with flags: constrained multi-parallelogram prediction, and
-//! the predictions without flags beside it.
+//! Restoring values from a source of corrections with flags, by constrained multi-parallelogram prediction.
 
-ghost use Rattle.std.specs.Prelude.{◌≡◌, ℤ, ◌+◌, ◌*◌, ◌<◌, ◌≤◌, true, List, length, IfOk, MatchResult, vec_len, vec_capacity};
+ghost use Rattle.std.specs.Prelude.{◌≡◌, ℤ, ◌+◌, ◌*◌, ◌<◌, ◌≤◌, List, length, IfOk, MatchResult, vec_len, vec_capacity};
 ghost use Rattle.std.specs.List.{All};
-ghost use Rattle.std.specs.Option.{option_map};
 ghost use Rattle.corner_table.specs.Ordered.{IsBelow};
-ghost use Rattle.predict.specs.Schemes.{facts};
 ghost use Rattle.predict.specs.Restored.{restored, restored_behind};
 ghost use Rattle.predict.specs.Multi.{by_many, multi, HasFlags, LacksFlags};
 ghost use Rattle.predict.specs.Entry.{Foretells};
-ghost use Rattle.predict.specs.Surfaces.{surface, surface_of, surface_or, IsOverTable, MayBeOver, CanStand};
-ghost use Rattle.predict.specs.Foretold.{foretold, HasWanted, LacksWanted};
+ghost use Rattle.predict.specs.Surfaces.{surface, IsOverTable};
 
 use crate::flags::Flags;
-use crate::from_source::{put_by_difference, put_value, restore_from};
+use crate::from_source::{put_by_difference, put_value};
 use crate::multi::take_flags;
 use crate::orders::Ordered;
 use crate::parallelograms::mean_of;
-use crate::schemes::Prediction;
 use crate::sources::CorrectionSource;
 use crate::surface::surface_of;
 use crate::wraps::Wrap;
@@ -86,7 +81,7 @@ fn put_by_many<C: CorrectionSource>(
 /// The values that corrections restore, each foretold by the mean of those parallelograms that the flags of
 /// its entry keep.
 #[inline(always)]
-fn by_multi<C: CorrectionSource>(
+pub(crate) fn by_multi<C: CorrectionSource>(
     alloc: Global,
     w: &Wrap,
     comps: usize,
@@ -120,59 +115,4 @@ fn by_multi<C: CorrectionSource>(
         }
     }
     Ok(Ok(values))
-}
-
-/// The same of few components, each number of which has a loop of its own.
-fn restored_by_multi<C: CorrectionSource>(
-    alloc: Global,
-    w: &Wrap,
-    comps: u32,
-    on: &Ordered<'_>,
-    flags: &Flags,
-    source: C,
-) -> Result<Result<Vec<i32>, Kind>, Memory>
-    requires some { 0 < comps }
-    requires over { IsOverTable on.now }
-    requires whole { length (C.left source) ≡ length on.now.order.now.corner_of_entry * comps }
-    ensures values { IfOk result (λ r. IfOk r (λ v. v.items ≡ restored (multi (surface on.now) comps flags.now.lists) w.now (C.left source))) }
-    ensures flags { IfOk result (λ r. MatchResult r (λ _. HasFlags (surface on.now) flags.now.lists) (λ k. (k ≡ Kind.FlagsShort) × LacksFlags (surface on.now) flags.now.lists)) }
-    ensures len { IfOk result (λ r. IfOk r (λ v. length v.items ≡ length (C.left source))) }
-{
-    match comps {
-        1 => by_multi(alloc, w, 1, on, flags, source),
-        2 => by_multi(alloc, w, 2, on, flags, source),
-        3 => by_multi(alloc, w, 3, on, flags, source),
-        _ => by_multi(alloc, w, comps as usize, on, flags, source),
-    }
-}
-
-/// The values that the corrections of a source restore, of entries of `comps` components, by a prediction
-/// that corrects, with its flags, over an ordered surface where it needs one. Each correction is taken when
-/// its value is put behind those before. It takes memory for the values, and fails only when out of memory.
-/// `FlagsShort` exactly where more flags of a list are needed than it has. Flags that are left over are
-/// ignored.
-pub fn restore_with_flags<C: CorrectionSource>(
-    alloc: Global,
-    prediction: Prediction,
-    w: &Wrap,
-    comps: u32,
-    on: Option<&Ordered<'_>>,
-    flags: &Flags,
-    source: C,
-) -> Result<Result<Vec<i32>, Kind>, Memory>
-    requires corrects { (facts prediction).corrects ≡ true }
-    requires some { 0 < comps }
-    requires over { MayBeOver (option_map (λ t. t.now) on) }
-    requires stand { CanStand prediction (surface_of (option_map (λ t. t.now) on)) comps (length (C.left source)) }
-    ensures values { IfOk result (λ r. IfOk r (λ v. v.items ≡ restored (foretold prediction (surface_or (surface_of (option_map (λ t. t.now) on.entry))) comps flags.now.lists) w.now (C.left source))) }
-    ensures flags { IfOk result (λ r. MatchResult r (λ _. HasWanted prediction (surface_or (surface_of (option_map (λ t. t.now) on.entry))) flags.now.lists) (λ k. (k ≡ Kind.FlagsShort) × LacksWanted prediction (surface_or (surface_of (option_map (λ t. t.now) on.entry))) flags.now.lists)) }
-    ensures len { IfOk result (λ r. IfOk r (λ v. length v.items ≡ length (C.left source))) }
-{
-    match (prediction, on) {
-        (Prediction::Multi, Some(on)) => restored_by_multi(alloc, w, comps, on, flags, source),
-        (Prediction::Difference | Prediction::Parallelogram, _) => {
-            Ok(Ok(restore_from(alloc, prediction, w, comps, on, source)?))
-        }
-        (Prediction::Off, _) | (Prediction::Multi, None) => unreachable!(),
-    }
 }

@@ -18,6 +18,15 @@ pub enum Prediction {
     Multi,
 }
 
+/// What stands behind the corrections of a prediction, beside the range of its values.
+#[derive(Clone, Copy, Debug)]
+pub enum Behind {
+    /// Nothing.
+    Nothing,
+    /// So many lists of flags, before the range.
+    FlagLists(u32),
+}
+
 /// What is known of a prediction.
 #[derive(Clone, Copy, Debug)]
 pub struct Facts {
@@ -27,8 +36,8 @@ pub struct Facts {
     pub corrects: bool,
     /// Whether values stand on a surface.
     pub needs_surface: bool,
-    /// How many lists of flags stand behind the corrections.
-    pub flag_lists: u32,
+    /// What stands behind the corrections.
+    pub behind: Behind,
     /// The first profile of the stream that has it.
     pub since: u32,
 }
@@ -50,17 +59,17 @@ impl Prediction {
     pub fn facts(self) -> Facts
         ensures { result ≡ facts self }
     {
-        let (byte, corrects, needs_surface, flag_lists, since) = match self {
-            Prediction::Off => (254, false, false, 0, 1),
-            Prediction::Difference => (0, true, false, 0, 1),
-            Prediction::Parallelogram => (1, true, true, 0, 1),
-            Prediction::Multi => (4, true, true, 4, 2),
+        let (byte, corrects, needs_surface, behind, since) = match self {
+            Prediction::Off => (254, false, false, Behind::Nothing, 1),
+            Prediction::Difference => (0, true, false, Behind::Nothing, 1),
+            Prediction::Parallelogram => (1, true, true, Behind::Nothing, 1),
+            Prediction::Multi => (4, true, true, Behind::FlagLists(4), 2),
         };
         Facts {
             byte,
             corrects,
             needs_surface,
-            flag_lists,
+            behind,
             since,
         }
     }

@@ -1,5 +1,5 @@
 -- What is written of attributes is bytes: their heads, their values and their quantisations.
-use Rattle.std.proofs.Common.{◌≡◌, ℕ, ◌<◌, Bool, true, false, leb, nat_lt, All, List, [], ◌∷◌, ◌++◌, length, map, Option, None, Some, inl, inr, arith}
+use Rattle.std.proofs.Common.{◌≡◌, ℕ, ◌<◌, Bool, true, false, leb, nat_lt, All, List, [], ◌∷◌, ◌++◌, length, map, get_or, Option, None, Some, inl, inr, arith}
 use Rattle.std.specs.Prelude.{ℤ, ◌==◌, if◌then◌else◌}
 use Rattle.std.specs.List.{flat_map, zip}
 use Rattle.std.proofs.lemmas.Bool.{cases_Bool, cond-true, cond-false, leb-true, and_parts}
@@ -12,22 +12,28 @@ use Rattle.attr_heads.specs.declared.quants.Quant.{Quant}
 use Rattle.attr_heads.specs.Quants.{has_bits}
 use Rattle.attr_heads.specs.Head.{has_type}
 use Rattle.attr_heads.proofs.Passing.{HeadSays}
+use Rattle.predict.specs.declared.schemes.Behind.{Behind}
+use Rattle.predict.specs.declared.schemes.Behind.TheVariants as behind
 use Rattle.predict.specs.declared.schemes.Prediction.{Prediction}
 use Rattle.predict.specs.declared.schemes.Prediction.TheVariants as prediction
+use Rattle.predict.specs.declared.transforms.Transform.TheVariants as transform
 use Rattle.predict.specs.Foretold.{foretold, marks_of}
 use Rattle.predict.specs.Restored.{corrections}
 use Rattle.predict.specs.Schemes.{facts, byte_of, prediction_coded}
 use Rattle.predict.specs.Surfaces.{surface_or}
 use Rattle.predict.specs.Symbols.{zigzag_of}
+use Rattle.predict.specs.Transforms.{transform_byte}
+use Rattle.predict.specs.Wrap.{Range}
 use Rattle.corner_table.specs.Ordered.{Ordered}
 use Rattle.attr_section.specs.declared.decoder_heads.DecoderHead.{DecoderHead}
 use Rattle.attr_section.specs.declared.values.Values.{Values}
 use Rattle.attr_heads.specs.DataTypes.{is_float}
-use Rattle.attr_heads.specs.Codings.{coding_byte}
+use Rattle.attr_heads.specs.Codings.{coding_facts, coding_byte}
+use Rattle.attr_heads.specs.declared.codings.Coding.TheVariants.{Integer, Quantised}
 use Rattle.attr_heads.proofs.Types.{type_few, type_passes}
 use Rattle.attr_heads.specs.HeadItems.{head_bytes}
 use Rattle.attr_section.specs.Heads.{id_byte, link_bytes, decoder_bytes, links_bytes, heads_bytes}
-use Rattle.attr_section.specs.Written.{greatest_symbol, byte_width, plain_bytes, symbols_bytes, integers_bytes, range_of, range_bytes, signed_bytes, flag_bits_bytes, flags_bytes, flagged_bytes, predicted_bytes, prediction_bytes, values_bytes, quant_bytes, attributes_bytes, quants_bytes, decoder_values_bytes}
+use Rattle.attr_section.specs.Written.{greatest_symbol, byte_width, plain_bytes, symbols_bytes, integers_bytes, range_of, range_bytes, signed_bytes, flag_bits_bytes, flags_bytes, behind_bytes, flagged_bytes, predicted_bytes, prediction_bytes, values_bytes, quant_bytes, attributes_bytes, quants_bytes, decoder_values_bytes}
 use Rattle.stream_laws.specs.Laws.{IsByte}
 use Rattle.stream_laws.proofs.bytes.Lists.{AreBytes, no-bytes, byte-then, joined, joined-each, each-of, low, spelled}
 use Rattle.stream_laws.proofs.bytes.Blocks.{block-bytes, symbols-bytes}
@@ -43,10 +49,11 @@ type-small : (dtype : ℕ) (o : Option Quant) → has_type dtype o ≡ true → 
 type-small dtype o is = omega (arith, type_few dtype (type_passes dtype o is))
 
 coding-small : (dtype : ℕ) → coding_byte dtype < 256
-coding-small dtype = elim (cases_Bool (is_float dtype)) [
-  | inl t ↦ rw (cond-true _ _ _ t) (omega arith)
-  | inr f ↦ rw (cond-false _ _ _ f) (omega arith)
-]
+coding-small dtype = at (is_float dtype)
+  where
+    at : (b : Bool) → (coding_facts (if b then Quantised else Integer)).byte < 256
+    at true = omega arith
+    at false = omega arith
 
 -- a head that passes, and whose flag is a byte
 pub record IsSpelled (h : Head) : Type 0 where
@@ -68,7 +75,7 @@ decoder-bytes d are =
     joined (spelling 5 (length d.heads)) (flat_map head_bytes d.heads ++ map (λ h. coding_byte h.dtype) d.heads) (spelled 5 (length d.heads))
     (joined (flat_map head_bytes d.heads) (map (λ h. coding_byte h.dtype) d.heads)
     (joined-each head_bytes d.heads (All-weaker IsSpelled (λ h. AreBytes (head_bytes h)) head-bytes d.heads are))
-    (All-map IsByte (λ (h : Head). coding_byte h.dtype) d.heads (λ k e below. coding-small _)))
+    (All-map IsByte (λ (h : Head). coding_byte h.dtype) d.heads (λ k e below. coding-small (get_or d.heads k e).dtype)))
 
 -- and its link
 pub link-bytes : (d : DecoderHead) → IsByte (id_byte d.data_id) → AreBytes (link_bytes d)
@@ -128,15 +135,20 @@ flags-bytes : (flags : List Bool) → AreBytes (flags_bytes flags)
 unfolding flags_bytes
 flags-bytes flags = joined (spelling 5 (length flags)) (flag_bits_bytes flags) (spelled 5 (length flags)) (flag_bits-bytes flags)
 
+behind-bytes : (b : Behind) (lists : List (List Bool)) (r : Range) → AreBytes (behind_bytes b lists r)
+behind-bytes behind.Nothing lists r = joined (signed_bytes r.low) (signed_bytes r.high) (low 4 _) (low 4 _)
+behind-bytes (behind.FlagLists count) lists r =
+    joined (flat_map flags_bytes lists) (range_bytes r) (each-of flags_bytes flags-bytes lists)
+    (joined (signed_bytes r.low) (signed_bytes r.high) (low 4 _) (low 4 _))
+
 flagged-bytes : (plain : Bool) (w : Ordered) (q : Prediction) (comps : ℕ) (lists : List (List Bool)) (values : List ℤ) → AreBytes (flagged_bytes plain w q comps lists values)
 unfolding flagged_bytes
 flagged-bytes plain w q comps lists values =
     let r = range_of values in
     let integers = integers_bytes plain comps (corrections (foretold q w comps lists) r values) in
-    byte-then 1 (integers ++ (flat_map flags_bytes lists ++ range_bytes r)) (omega arith)
-    (joined integers (flat_map flags_bytes lists ++ range_bytes r) (integers-bytes plain comps (corrections (foretold q w comps lists) r values))
-    (joined (flat_map flags_bytes lists) (range_bytes r) (each-of flags_bytes flags-bytes lists)
-    (joined (signed_bytes r.low) (signed_bytes r.high) (low 4 _) (low 4 _))))
+    let back = behind_bytes (facts q).behind lists r in
+    byte-then (transform_byte transform.Wrap) (integers ++ back) (omega arith)
+    (joined integers back (integers-bytes plain comps (corrections (foretold q w comps lists) r values)) (behind-bytes (facts q).behind lists r))
 
 predicted-bytes : (plain : Bool) (w : Option Ordered) (q : Prediction) (comps : ℕ) (values : List ℤ) → AreBytes (predicted_bytes plain w q comps values)
 unfolding predicted_bytes

@@ -1,6 +1,6 @@
 -- What is left behind the attributes of a stream is bytes, where a stream is; and the fields of their heads are those of bytes.
 use Rattle.drc_base.specs.Profile.{Profile, profile}
-use Rattle.std.proofs.Common.{ℕ, ◌+◌, ◌*◌, ◌^◌, ◌<◌, ◌==◌, ◌&&◌, Bool, not, List, [], length, map, Option, None, Some, Ok, arith}
+use Rattle.std.proofs.Common.{ℕ, ◌+◌, ◌*◌, ◌^◌, ◌<◌, ◌==◌, ◌&&◌, Bool, not, ℤ, List, [], length, map, Option, None, Some, Result, Ok, Err, arith}
 use Rattle.std.specs.Prelude.{nat_lt, nat_le, IfSome}
 use Rattle.std.specs.List.{All, list_all, range_with_len}
 use Rattle.std.proofs.lemmas.List.Elements.{All-nil, recursion_from_All}
@@ -18,8 +18,13 @@ use Rattle.attr_heads.specs.declared.heads.Head.{Head}
 use Rattle.attr_heads.specs.declared.quants.Quant.{Quant}
 use Rattle.attr_heads.specs.DataTypes.{in_type}
 use Rattle.ply_mesh.specs.Fields.{QuantFields, HasFields}
+use Rattle.predict.specs.declared.schemes.Behind.{Behind}
+use Rattle.predict.specs.declared.schemes.Behind.TheVariants as behind
 use Rattle.predict.specs.declared.schemes.Prediction.{Prediction}
+use Rattle.predict.specs.declared.transforms.Transform.{Transform}
+use Rattle.predict.specs.Foretold.{restored_with}
 use Rattle.predict.specs.Schemes.{facts, prediction_of}
+use Rattle.predict.specs.Transforms.{transform_of}
 use Rattle.predict.specs.Surfaces.{surface_or, lacks_surface}
 use Rattle.corner_table.specs.Ordered.{Ordered}
 use Rattle.predict.specs.Wrap.{Range}
@@ -31,7 +36,7 @@ use Rattle.attr_heads.specs.HeadItems.{head_at}
 use Rattle.attr_heads.specs.Codings.{coding_of, coding_byte}
 use Rattle.attr_section.specs.Heads.{is_known_id, is_used_id, most_element, most_walk, decoder_count_at, link_at, linked_at, links_at, known_coding_at, unread_as, unless_refused, coding_at, codings_at, attributes_of, attribute_count_at, decoder_at, decoders_at, heads_at}
 use Rattle.attr_heads.specs.HeadItems.{quant_bits_at}
-use Rattle.attr_section.specs.Values.{tested_prediction, prediction_at, signed_of, plain_value_at, byte_width_at, plain_values_at, can_wrap, range_at, transform_at, compressed_values_at, integers_at, flag_bits_at, flag_count_at, flags_at, flag_lists_at, has_flags, with_flags, corrected_at, predicted_at, typed_values_at, values_at, quant_at, quant_of_at, quantised_at, values_in, attributes_at as columns_at, quants_at, decoder_values_at}
+use Rattle.attr_section.specs.Values.{tested_prediction, prediction_at, signed_of, plain_value_at, byte_width_at, plain_values_at, can_wrap, range_at, tested_transform, transform_at, compressed_values_at, integers_at, flag_bits_at, flag_count_at, flags_at, flag_lists_at, behind_at, restored_at, corrected_at, predicted_at, typed_values_at, values_at, quant_at, quant_of_at, quantised_at, values_in, attributes_at as columns_at, quants_at, decoder_values_at}
 use Rattle.drc_container.proofs.lemmas.reading.Parted.{given, parts, either}
 use Rattle.stream_laws.proofs.reading.Bytes.{BytesAhead, Leaves, LeavesBytes, ok-leaves, fault-leaves, then-leaves, either-leaves, must-leaves, many-leaves, many-bytes, each-leaves, each-bytes, number-leaves, signed-leaves, var32-leaves, number-below, var32-below}
 use Rattle.stream_laws.proofs.reading.BytesOfBlocks.{bit_block-leaves, block-leaves}
@@ -165,14 +170,32 @@ range-leaves c here =
     let r : Range = record { low = a.0; high = b.0 } in
     either-leaves (can_wrap r) _ _ (ok-leaves r b.1 hb) (fault-leaves kind.WrapRange c)))
 
+transform-leaves : (c : Reading) → BytesAhead c → LeavesBytes (transform_at c)
+unfolding transform_at
+transform-leaves c here = then-leaves (number_at 1 c) _ (number-leaves 1 c here) (λ b hb. tested (transform_of b.0) b.1 hb)
+  where
+    tested : (t : Option Transform) (after : Reading) → BytesAhead after → LeavesBytes (tested_transform c t after)
+    tested None after ahead = fault-leaves kind.Transform c
+    tested (Some t) after ahead = ok-leaves t after ahead
+
+behind-leaves : (b : Behind) (w : Ordered) (c : Reading) → BytesAhead c → LeavesBytes (behind_at b w c)
+unfolding behind_at flag_lists_at
+behind-leaves behind.Nothing w c here = then-leaves (range_at c) _ (range-leaves c here) (λ r hr. ok-leaves _ r.1 hr)
+behind-leaves (behind.FlagLists count) w c here =
+    then-leaves (flag_lists_at count w c) _ (many-bytes (flags_at (length w.entries)) (flags-leave (length w.entries)) count c here) (λ d hd.
+    then-leaves (range_at d.1) _ (range-leaves d.1 hd) (λ r hr. ok-leaves _ r.1 hr))
+
+restored-leaves : (at : ℕ) (due : Result (List ℤ) Kind) (after : Reading) → BytesAhead after → LeavesBytes (restored_at at due after)
+restored-leaves at (Ok vs) after here = ok-leaves vs after here
+restored-leaves at (Err k) after here = λ y is. absurd (err≢ok is)
+
 corrected-leaves : (at : ℕ) (w : Ordered) (q : Prediction) (comps n : ℕ) (c : Reading) → BytesAhead c → LeavesBytes (corrected_at at w q comps n c)
-unfolding corrected_at flag_lists_at with_flags
+unfolding corrected_at
 corrected-leaves at w q comps n c here =
-    then-leaves (transform_at c) _ (must-leaves kind.Transform (λ t. t == 1) (number_at 1) c (number-leaves 1 c here)) (λ a ha.
+    then-leaves (transform_at c) _ (transform-leaves c here) (λ a ha.
     then-leaves (integers_at comps n a.1) _ (integers-leave comps n a.1 ha) (λ b hb.
-    then-leaves (flag_lists_at (facts q).flag_lists w b.1) _ (many-bytes (flags_at (length w.entries)) (flags-leave (length w.entries)) (facts q).flag_lists b.1 hb) (λ d hd.
-    then-leaves (range_at d.1) _ (range-leaves d.1 hd) (λ e he.
-    either-leaves (has_flags q w d.0) _ _ (ok-leaves _ e.1 he) (λ y is. absurd (err≢ok is))))))
+    then-leaves (behind_at (facts q).behind w b.1) _ (behind-leaves (facts q).behind w b.1 hb) (λ d hd.
+    restored-leaves at (restored_with a.0 q w comps d.0.0 d.0.1 b.0) d.1 hd)))
 
 typed-leaves : (p : Profile) (w : Option Ordered) (h : Head) (n : ℕ) (c : Reading) → BytesAhead c → LeavesBytes (typed_values_at p w h n c)
 unfolding typed_values_at predicted_at

@@ -1,34 +1,34 @@
 -- Values that were read: how many they are, and that each is in its type.
 use Rattle.drc_base.specs.Profile.{profile_numbered}
-use Rattle.std.proofs.Common.{◌≡◌, ℕ, zero, suc, ◌+◌, ◌*◌, ◌/◌, ◌%◌, ◌≤◌, true, ℤ, List, [], ◌∷◌, ◌++◌, length, take, drop, map, Option, Ok, refl, sym, ◌∙◌, ap, arith, length-append, replicate}
+use Rattle.std.proofs.Common.{◌≡◌, ℕ, zero, suc, ◌+◌, ◌*◌, ◌/◌, ◌%◌, ◌≤◌, true, ℤ, List, [], ◌∷◌, length, take, drop, map, Option, Result, Ok, Err, refl, sym, ◌∙◌, ap, arith, length-append, replicate}
 use Rattle.std.specs.Prelude.{◌==◌, ◌&&◌, nat_lt, nat_le}
 use Rattle.std.specs.List.{list_all}
 use Rattle.std.proofs.lemmas.Bool.{eqb-true, leb-true}
 use Rattle.std.proofs.lemmas.List.{length-map, length-replicate}
 use Rattle.std.proofs.lemmas.Nat.{div-add-mod'}
 use Rattle.std.proofs.Math.Nat.{mul-mod_left}
+use Rattle.drc_base.specs.declared.kinds.Kind.{Kind}
 use Rattle.drc_base.specs.declared.kinds.Kind.TheVariants as kind
 use Rattle.drc_base.specs.declared.limits.TheConstants.{MAX_VALUES}
 use Rattle.drc_base.specs.Steps.{◌>>=◌}
 use Rattle.drc_bits.specs.Reading.{Reading, Item, must, many_at}
 use Rattle.drc_bits.specs.Numbers.{number_at}
 use Rattle.drc_bits.specs.Bits.{bits_of, number_of}
-use Rattle.drc_bits.proofs.Results.{Ok-injective}
+use Rattle.drc_bits.proofs.Results.{Ok-injective, err≢ok}
 use Rattle.rans_core.specs.Coder.{CoderState}
 use Rattle.symbol_tables.specs.Tables.{table_at}
 use Rattle.symbol_coding.specs.Symbols.{next_symbols, state_behind_symbol, coded_at}
 use Rattle.symbol_coding.specs.Block.{precision, widths, values_in_groups as values_in_bits, tagged_at, raw_at, scheme_at, block_at}
 use Rattle.attr_heads.specs.declared.heads.Head.{Head}
 use Rattle.attr_heads.specs.DataTypes.{in_type}
-use Rattle.predict.specs.Wrap.{Range, restored_value}
-use Rattle.predict.specs.Restored.{restored_behind}
 use Rattle.corner_table.specs.Ordered.{Ordered}
 use Rattle.predict.specs.Surfaces.{surface_or, lacks_surface}
-use Rattle.predict.specs.Foretold.{foretold}
+use Rattle.predict.specs.Foretold.{restored_with}
+use Rattle.predict.proofs.Stepped.{length-restored_with}
 use Rattle.predict.specs.declared.schemes.Prediction.{Prediction}
 use Rattle.predict.specs.Schemes.{facts, code_of}
 use Rattle.attr_section.specs.declared.values.Values.{Values}
-use Rattle.attr_section.specs.Values.{prediction_at, plain_value_at, byte_width_at, plain_values_at, signed_of, transform_at, range_at, compressed_values_at, integers_at, flag_lists_at, has_flags, with_flags, corrected_at, predicted_at, typed_values_at, values_at}
+use Rattle.attr_section.specs.Values.{prediction_at, plain_value_at, byte_width_at, plain_values_at, signed_of, transform_at, compressed_values_at, integers_at, behind_at, restored_at, corrected_at, predicted_at, typed_values_at, values_at}
 use Rattle.drc_container.proofs.lemmas.reading.Parted.{given, parts, passed, not_refused, either, many-passed}
 
 values_in-counted : (long short : ℕ) (ws bits vs : List ℕ) → values_in_bits long short ws bits ≡ Ok vs → length vs ≡ length ws
@@ -94,26 +94,20 @@ integers-counted comps n whole c y is =
     let q = parts (block_at n comps p.0.1) (λ x. Ok (map signed_of x.0, x.1)) y read in
     ap (λ (z : List ℤ × Reading). length z.0) (sym (Ok-injective q.2)) ∙ length-map q.0.0 signed_of ∙ block-counted n comps whole p.0.1 q.0 q.1)
 
-length-restored : (predicted : List ℤ → ℤ) (r : Range) (before corrections : List ℤ)
-    → length (restored_behind predicted r before corrections) ≡ length before + length corrections
-unfolding restored_behind
-length-restored predicted r before [] = omega arith
-length-restored predicted r before (c ∷ corrections) =
-    let v = restored_value r (predicted before) c in
-    length-restored predicted r (before ++ v ∷ []) corrections ∙ omega (arith, length-append before (v ∷ []))
+restored-counted : (at : ℕ) (due : Result (List ℤ) Kind) (n : ℕ) (after : Reading) (y : List ℤ × Reading)
+    → ((vs : List ℤ) → due ≡ Ok vs → length vs ≡ n) → restored_at at due after ≡ Ok y → length y.0 ≡ n
+restored-counted at (Ok vs) n after y long is = ap (λ (z : List ℤ × Reading). length z.0) (sym (Ok-injective is)) ∙ long vs refl
+restored-counted at (Err k) n after y long is = absurd (err≢ok is)
 
 corrected-counted : (at : ℕ) (w : Ordered) (q : Prediction) (comps n : ℕ) → n % comps ≡ 0 → (c : Reading) (y : List ℤ × Reading)
     → corrected_at at w q comps n c ≡ Ok y → length y.0 ≡ n
-unfolding corrected_at with_flags
+unfolding corrected_at
 corrected-counted at w q comps n whole c y is =
     let p = parts (transform_at c) _ y is in
     let x = parts (integers_at comps n p.0.1) _ y p.2 in
-    let f = parts (flag_lists_at (facts q).flag_lists w x.0.1) _ y x.2 in
-    let r = parts (range_at f.0.1) _ y f.2 in
-    let t = passed (has_flags q w f.0.0) _ _ y r.2 in
-    ap (λ (z : List ℤ × Reading). length z.0) (sym (Ok-injective t.1))
-    ∙ length-restored (foretold q w comps f.0.0) r.0.0 [] x.0.0
-    ∙ omega (arith, integers-counted comps n whole p.0.1 x.0 x.1)
+    let b = parts (behind_at (facts q).behind w x.0.1) _ y x.2 in
+    restored-counted at (restored_with p.0.0 q w comps b.0.0.0 b.0.0.1 x.0.0) n b.0.1 y
+    (λ vs told. length-restored_with p.0.0 q w comps b.0.0.0 b.0.0.1 x.0.0 vs told ∙ integers-counted comps n whole p.0.1 x.0 x.1) b.2
 
 -- however they are predicted, values are as many as were asked for
 predicted-counted : (at : ℕ) (w : Option Ordered) (q : Prediction) (comps n : ℕ) → n % comps ≡ 0 → (c : Reading) (y : List ℤ × Reading)

@@ -2,7 +2,6 @@
 use Rattle.drc_base.specs.Profile.{profile}
 use Rattle.std.proofs.Common.{◌≡◌, ℕ, ◌+◌, ◌≤◌, true, false, Bool, List, [], ◌∷◌, ◌++◌, ◌-◌, map, length, drop, replicate, append-nil, get_or, Option, None, Some, Ok, refl, sym, ◌∙◌, ap, subst, inl, inr, arith, append_assoc, length-append, nat_le, if◌then◌else◌}
 use Rattle.std.specs.Prelude.{ℤ, slice_index}
-use Rattle.std.specs.List.{flat_map}
 use Rattle.std.proofs.lemmas.Bool.{cases_Bool}
 use Rattle.std.proofs.lemmas.List.{get_or-append-add, length-map}
 use Rattle.std.proofs.Math.Seq.{drop-append_seam}
@@ -33,7 +32,7 @@ use Rattle.attr_section.specs.declared.values.Values.{Values}
 use Rattle.attr_heads.specs.HeadItems.{bare_head}
 use Rattle.attr_section.specs.Heads.{bare_decoder, heads_at}
 use Rattle.attr_section.proofs.SpelledValues.{values_are}
-use Rattle.attr_section.specs.Written.{range_of, range_bytes, integers_bytes, flags_bytes, flagged_bytes, predicted_bytes, values_bytes, attributes_bytes as columns_bytes, quants_bytes, decoder_values_bytes, values_placed}
+use Rattle.attr_section.specs.Written.{range_of, integers_bytes, behind_bytes, flagged_bytes, predicted_bytes, values_bytes, attributes_bytes as columns_bytes, quants_bytes, decoder_values_bytes, values_placed}
 use Rattle.drc_container.specs.declared.choice.methods.Method.TheVariants as method
 use Rattle.drc_container.specs.declared.choice.choices.Choice.{Choice}
 use Rattle.drc_container.specs.Columns.{columns_of}
@@ -60,7 +59,7 @@ corrected-first : (plain : Bool) (w : Ordered) (q : Prediction) (comps : ℕ) (l
 unfolding flagged_bytes
 corrected-first plain w q comps lists values rest =
     let cs = corrections (foretold q w comps lists) (range_of values) values in
-    let back = flat_map flags_bytes lists ++ range_bytes (range_of values) in
+    let back = behind_bytes (facts q).behind lists (range_of values) in
     ap (λ bytes. get_or bytes 0 0) (append_assoc (integers_bytes plain comps cs) back rest) ∙ integers-first plain comps cs (back ++ rest)
 
 predicted-first : (plain : Bool) (w : Option Ordered) (comps : ℕ) (values : List ℤ) (q : Prediction) (rest : List ℕ)

@@ -1,7 +1,7 @@
 use Rattle.std.proofs.Common.{◌≡◌, length, rules, ap, sym, ◌∙◌, FitsSigned, w32, arith}
 use Rattle.std.proofs.lemmas.Int.{to_z-of_z}
 use Rattle.predict.specs.Restored.{entry_before}
-use Rattle.predict.proofs.Behind.{behind_end}
+use Rattle.predict.proofs.Puts.{behind_end}
 use Rattle.predict.proofs.from_source.by_difference.Goals as goal
 
 pub loop-i-preserved : goal.loop-i-preserved

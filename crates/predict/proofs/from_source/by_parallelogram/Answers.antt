@@ -6,7 +6,7 @@ use Rattle.corner_table.specs.Sides.{side_at}
 use Rattle.corner_table.specs.Ordered.{AreFaces}
 use Rattle.predict.specs.Parallelogram.{parallelogram}
 use Rattle.predict.specs.Surfaces.{surface}
-use Rattle.predict.proofs.Behind.{behind_end, length_behind}
+use Rattle.predict.proofs.Puts.{behind_end, length_behind}
 use Rattle.predict.proofs.Faces.{face_before, face_foretells}
 use Rattle.predict.proofs.Entries.{entry_below}
 use Rattle.predict.proofs.from_source.by_parallelogram.Goals as goal

@@ -1,6 +1,6 @@
 use Rattle.std.proofs.Common.{rules, FitsSigned, w32}
 use Rattle.std.proofs.lemmas.Int.{to_z-of_z}
-use Rattle.predict.proofs.Behind.{behind_more}
+use Rattle.predict.proofs.Puts.{behind_more}
 use Rattle.predict.proofs.from_source.put_value.Goals as goal
 
 pub returns-clause-values : goal.returns-clause-values

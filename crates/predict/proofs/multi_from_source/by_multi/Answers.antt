@@ -11,7 +11,7 @@ use Rattle.predict.specs.Surfaces.{surface}
 use Rattle.predict.specs.Gathered.{gathered}
 use Rattle.predict.specs.Multi.{by_many, kept, flags_for, multi}
 use Rattle.predict.specs.Entry.{Foretells, AreUsed}
-use Rattle.predict.proofs.Behind.{behind_end}
+use Rattle.predict.proofs.Puts.{behind_end}
 use Rattle.predict.proofs.Entries.{entry_below}
 use Rattle.predict.proofs.Kept.{used_none, foretells_many, lacks_flags}
 use Rattle.predict.proofs.multi_from_source.by_multi.Goals as goal
