@@ -7,33 +7,13 @@ use Rattle.std.proofs.lemmas.Int.{ints}
 use Rattle.std.proofs.lemmas.List.Elements.{All-head, All-tail, All-map, All-weaker}
 use Rattle.std.proofs.lemmas.List.Sums.{AllPass-from_list_all}
 use Rattle.attr_heads.specs.DataTypes.{in_type, least_of, greatest_of}
+use Rattle.attr_heads.proofs.Types.{least_low, greatest_high}
 use Rattle.predict.specs.Wrap.{Range, CanWrap, HasEnds, span_of}
 use Rattle.predict.specs.Symbols.{zigzag_of}
 use Rattle.predict.specs.Restored.{corrections}
 use Rattle.predict.proofs.Wrapping.{span_is}
 use Rattle.predict.proofs.Restoring.{InRange, IsSmall, small-corrections}
 use Rattle.attr_section.specs.Written.{range_of}
-
--- the least and the greatest value of a data type have 32 bits
-least-bounds : (a b c d : Bool) → negsuc 2147483647 ≤ℤ (if a then negsuc 127 else (if b then negsuc 32767 else (if c then negsuc 2147483647 else (if d then negsuc 2147483647 else pos 0))))
-least-bounds true b c d = omega (arith, ints)
-least-bounds false true c d = omega (arith, ints)
-least-bounds false false true d = omega (arith, ints)
-least-bounds false false false true = omega (arith, ints)
-least-bounds false false false false = omega (arith, ints)
-
-greatest-bounds : (a b c d : Bool) → (if a then pos 127 else (if b then pos 255 else (if c then pos 32767 else (if d then pos 65535 else pos 2147483647)))) ≤ℤ pos 2147483647
-greatest-bounds true b c d = omega (arith, ints)
-greatest-bounds false true c d = omega (arith, ints)
-greatest-bounds false false true d = omega (arith, ints)
-greatest-bounds false false false true = omega (arith, ints)
-greatest-bounds false false false false = omega (arith, ints)
-
-least-of : (dtype : ℕ) → negsuc 2147483647 ≤ℤ least_of dtype
-least-of dtype = least-bounds _ _ _ _
-
-greatest-of : (dtype : ℕ) → greatest_of dtype ≤ℤ pos 2147483647
-greatest-of dtype = greatest-bounds _ _ _ _
 
 -- so has a number between
 fits-between : (low high x : ℤ) → negsuc 2147483647 ≤ℤ low → high ≤ℤ pos 2147483647 → int_le low x ≡ true → int_le x high ≡ true → FitsSigned w32 x
@@ -46,7 +26,7 @@ fits-typed : (dtype : ℕ) (x : ℤ) → in_type dtype x ≡ true → FitsSigned
 unfolding in_type
 fits-typed dtype x typed =
     let both = and_parts (int_le (least_of dtype) x) (int_le x (greatest_of dtype)) typed in
-    fits-between (least_of dtype) (greatest_of dtype) x (least-of dtype) (greatest-of dtype) both.0 both.1
+    fits-between (least_of dtype) (greatest_of dtype) x (least_low dtype) (greatest_high dtype) both.0 both.1
 
 -- values of a data type have 32 bits
 pub fit_typed : (dtype : ℕ) (values : List ℤ) → list_all (in_type dtype) values ≡ true → All (FitsSigned w32) values

@@ -2,7 +2,8 @@
 use Rattle.std.specs.List.{All}
 use Rattle.attr_section.specs.declared.decoder_heads.DecoderHead.{DecoderHead}
 use Rattle.attr_section.specs.Heads.{DecoderPasses, DecoderSpelled}
-use Rattle.attr_section.proofs.Spelling.{Spells-head, decoder_spelled, heads_spelled}
+use Rattle.attr_heads.proofs.HeadsBack.{Spells-head}
+use Rattle.attr_section.proofs.Spelling.{decoder_spelled, heads_spelled}
 use Rattle.attr_section.proofs.SpelledValues.{quantised_spelled}
 use Rattle.attr_laws.specs.Laws.{HeadFits, QuantsAreRead, HeadsAreRead}
 
