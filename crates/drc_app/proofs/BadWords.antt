@@ -8,19 +8,19 @@ use Rattle.drc_container.specs.declared.choice.choices.Choice.{Choice}
 use Rattle.drc_gen.specs.declared.kinds.GenKind.TheVariants.{Grid}
 use Rattle.drc_app.specs.declared.commands.Command.{Command}
 use Rattle.drc_app.specs.declared.commands.Command.TheVariants as command
-use Rattle.drc_app.specs.declared.commands.Encoder.{Encoder}
-use Rattle.drc_app.specs.declared.commands.Encoder.TheVariants as encoder
 use Rattle.drc_app.specs.declared.options.ValueOption.{ValueOption}
 use Rattle.drc_app.specs.declared.options.ValueOption.TheVariants as option
-use Rattle.drc_app.specs.declared.command_lines.CommandWord.{CommandWord}
-use Rattle.drc_app.specs.declared.command_lines.CommandWord.TheVariants.{Gen, Kd}
+use Rattle.drc_app.specs.declared.command_table.CommandName.{CommandName}
+use Rattle.drc_app.specs.declared.command_table.CommandName.TheVariants as name
+use Rattle.drc_app.specs.declared.command_table.CommandWord.{CommandWord}
+use Rattle.drc_app.specs.declared.command_table.CommandWord.TheVariants.{Gen, Kd}
 use Rattle.drc_app.specs.declared.command_lines.Progress.{Progress}
 use Rattle.drc_app.specs.declared.command_lines.Progress.TheVariants as progress
 use Rattle.drc_app.specs.Options.{option_values, with_settings, no_choice}
-use Rattle.drc_app.specs.Line.{plain_lines, encoding, IsLine, plain, encode, gen, IsSized, Begins, IsBadWord, WordsSay}
+use Rattle.drc_app.specs.Commands.{command_row}
+use Rattle.drc_app.specs.Line.{IsLine, named, gen, IsSized, Begins, IsBadWord, WordsSay}
 use Rattle.drc_app.specs.Progress.{after_word, whole, or_count, continued, line_from, line_of}
 use Rattle.drc_app.specs.Laws.{WordsSaySomething, WordsSayOneThing}
-use Rattle.drc_app.proofs.Tables.{each-of}
 use Rattle.drc_app.proofs.Settings.{value_back}
 use Rattle.drc_app.proofs.Lines.{ends, step, is_line, seed_ends, size_ends, kind_ends, line_ends}
 
@@ -61,7 +61,7 @@ can_end (progress.Named k) = named_end k
 can_end (progress.Options by ch) = begun_with _ [] _ refl
 can_end (progress.Value by ch o) =
     let v = some_value o in
-    begun_with _ (v.0.0 ∷ []) (encoding by (v.0.1 ch)) (step (progress.Value by ch o) v.0.0 [] (progress.Options by (v.0.1 ch))
+    begun_with _ (v.0.0 ∷ []) ((command_row by).command (v.0.1 ch)) (step (progress.Value by ch o) v.0.0 [] (progress.Options by (v.0.1 ch))
     (ap (λ r. option_map (progress.Options by) (option_map (λ set. set ch) r)) (value_back o v.0.0 v.0.1 v.1)))
 can_end (progress.SizeDue kind) = begun_with _ (decimal 3 ∷ decimal 0 ∷ []) _ (size_ends kind 3 0 (omega arith, omega arith) (omega arith))
 can_end (progress.SeedDue kind size) = begun_with _ (decimal 0 ∷ []) _ (seed_ends kind size 0 (omega arith))
@@ -209,24 +209,13 @@ say_one_thing words (Err i) b = said (line_of words) refl
 
 -- ---- sizes
 
--- whether a mesh is asked for
-asks : Command → Bool
-asks (command.Gen mesh) = true
-asks c = false
-
-unasked : (c : Command) → asks c ≡ false → IsSized c
-unfolding asks
-unasked (command.Gen mesh) e = absurd (false≢true (sym e))
-unasked c e = tt
+-- a command of the table asks for no mesh
+unasked : (by : CommandName) (ch : Choice) → IsSized ((command_row by).command ch)
+unasked name.Enc ch = tt
+unasked by ch = tt
 
 sized_line : (words : List (List ℕ)) (c : Command) → IsLine words c → IsSized c
-unfolding asks
-sized_line words c (plain is) = unasked c (each-of (λ l. asks l.1) (λ l. false) plain_lines (words, c) refl is)
-sized_line words c (encode by settings once e is) = subst IsSized (sym is) (by_choice by (with_settings no_choice settings))
-  where
-    by_choice : (by : Encoder) (ch : Choice) → IsSized (encoding by ch)
-    by_choice encoder.Enc ch = tt
-    by_choice encoder.Recode ch = tt
+sized_line words c (named by settings among once e is) = subst IsSized (sym is) (unasked by (with_settings no_choice settings))
 sized_line words c (gen kind size seed may small e is) = subst IsSized (sym is) may
 
 -- a command that words say is of a size that a mesh may have

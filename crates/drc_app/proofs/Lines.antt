@@ -1,5 +1,5 @@
 -- Words that bring a reading to its end are a command's line, and each command's line is read to its end.
-use Rattle.std.proofs.Common.{◌≡◌, ℕ, ◌^◌, ◌<◌, Bool, true, false, List, [], ◌∷◌, ◌++◌, map, Option, Some, None, refl, sym, ap, ◌∙◌, subst, option_map}
+use Rattle.std.proofs.Common.{◌≡◌, ℕ, zero, suc, ◌^◌, ◌<◌, Bool, true, false, List, [], ◌∷◌, ◌++◌, map, Option, Some, None, refl, sym, ap, ◌∙◌, subst, option_map, arith}
 use Rattle.std.specs.Prelude.{decimal, Contains, if◌then◌else◌, option_and_then}
 use Rattle.std.specs.Option.{option_or}
 use Rattle.std.specs.Cmp.Lexicographic.{pointwise_decides}
@@ -11,20 +11,22 @@ use Rattle.drc_gen.specs.declared.kinds.GenKind.{GenKind}
 use Rattle.drc_gen.specs.GeneratedLaws.{IsSize}
 use Rattle.drc_app.specs.declared.commands.Command.{Command}
 use Rattle.drc_app.specs.declared.commands.Command.TheVariants as command
-use Rattle.drc_app.specs.declared.commands.Encoder.{Encoder}
-use Rattle.drc_app.specs.declared.commands.Encoder.TheVariants as encoder
+use Rattle.drc_app.specs.declared.options.LineOption.{LineOption}
 use Rattle.drc_app.specs.declared.options.ValueOption.{ValueOption}
-use Rattle.drc_app.specs.declared.command_lines.CommandWord.{CommandWord}
-use Rattle.drc_app.specs.declared.command_lines.CommandWord.TheVariants.{Enc, Gen, Recode}
+use Rattle.drc_app.specs.declared.command_table.CommandName.{CommandName}
+use Rattle.drc_app.specs.declared.command_table.CommandName.TheVariants as name
+use Rattle.drc_app.specs.declared.command_table.CommandWord.{CommandWord}
+use Rattle.drc_app.specs.declared.command_table.CommandWord.TheVariants as word
 use Rattle.drc_app.specs.declared.command_lines.Progress.{Progress}
 use Rattle.drc_app.specs.declared.command_lines.Progress.TheVariants as progress
-use Rattle.drc_app.specs.Words.{value_named}
-use Rattle.drc_app.specs.Options.{OptionKind, flag, one_of, OptionRow, options, option_values, Sets, Setting, words_of, with_settings, no_choice}
-use Rattle.drc_app.specs.Line.{command_word, first_words, plain_lines, encoder_word, encoding, gen_word, kinds, IsLine, plain, encode, gen}
-use Rattle.drc_app.specs.Progress.{command_named, plain_named, gen_named, number_named, size_named, behind_kind, behind_option, with_option, with_value, first_argument, behind_command, after_word, encoding_alone, whole}
+use Rattle.drc_app.specs.Words.{word_rows, value_named}
+use Rattle.drc_app.specs.Options.{OptionKind, flag, one_of, option_row, option_word, all_options, option_values, Sets, Setting, words_of, AreOf, with_settings, no_choice}
+use Rattle.drc_app.specs.Commands.{command_word, first_words, command_row, command_names}
+use Rattle.drc_app.specs.Line.{gen_word, kinds, IsLine, named, gen}
+use Rattle.drc_app.specs.Progress.{command_named, name_worded, gen_named, number_named, size_named, behind_kind, behind_option, with_option, with_value, first_argument, behind_command, after_word, whole}
 use Rattle.drc_app.proofs.Numbers.{number_is, number_back, size_is, size_back}
-use Rattle.drc_app.proofs.Settings.{option_back, value_back, AreNew, new-once, once-new_choice, gen_back}
-use Rattle.drc_app.proofs.Tables.{Some_is, each-of, named_is, word_is}
+use Rattle.drc_app.proofs.Settings.{is_option, option_back, value_back, AreNew, new-once, once-new_choice, gen_back}
+use Rattle.drc_app.proofs.Tables.{Some_is, each-of, named_is, word_is, value_among}
 
 -- the command of a line behind which these words bring a reading to its end
 abbrev pub ends : Progress → List (List ℕ) → Option Command
@@ -40,15 +42,16 @@ mapped f (Some z) y e = (z, refl, Some_is (f z) y e)
 
 -- ---- what the words behind a line are, where they bring it to its end
 
--- settings of options that the choice doesn't have, which make this command
-record SetBy (by : Encoder) (ch : Choice) (ws : List (List ℕ)) (c : Command) : Type 0 where
+-- settings of options that the command takes and the choice doesn't have, which make this command
+record SetBy (by : CommandName) (ch : Choice) (ws : List (List ℕ)) (c : Command) : Type 0 where
   settings : List Setting
+  taken : AreOf (command_row by).takes settings
   spelled : ws ≡ words_of settings
   new : AreNew ch settings
-  made : c ≡ encoding by (with_settings ch settings)
+  made : c ≡ (command_row by).command (with_settings ch settings)
 
 -- a value of the option, and such settings behind it
-record ValueBy (by : Encoder) (ch : Choice) (o : ValueOption) (ws : List (List ℕ)) (c : Command) : Type 0 where
+record ValueBy (by : CommandName) (ch : Choice) (o : ValueOption) (ws : List (List ℕ)) (c : Command) : Type 0 where
   value : List ℕ
   set : Choice → Choice
   rest : List (List ℕ)
@@ -81,72 +84,85 @@ Completes (progress.SizeDue kind) ws c = SizeFollows kind ws c
 Completes (progress.SeedDue kind size) ws c = SeedFollows kind size ws c
 Completes (progress.Whole d) ws c = (ws ≡ []) × (c ≡ d)
 
-set_none : (by : Encoder) (ch : Choice) → SetBy by ch [] (encoding by ch)
-set_none by ch = record { settings = []; spelled = refl; new = tt; made = refl }
+set_none : (by : CommandName) (ch : Choice) → SetBy by ch [] ((command_row by).command ch)
+set_none by ch = record { settings = []; taken = tt; spelled = refl; new = tt; made = refl }
 
--- the first word of a command that takes options, in front of them
-options_line : (by : Encoder) (ws : List (List ℕ)) (c : Command) → SetBy by no_choice ws c → IsLine (command_word (encoder_word by) ∷ ws) c
-options_line by ws c x = encode by x.settings (new-once x.settings x.new) (ap (λ r. command_word (encoder_word by) ∷ r) x.spelled) x.made
+-- the words of a command, in front of its options
+options_line : (by : CommandName) (ws : List (List ℕ)) (c : Command) → SetBy by no_choice ws c → IsLine ((command_row by).words ++ ws) c
+options_line by ws c x =
+    named by x.settings x.taken (new-once x.settings x.new) (ap (λ r. (command_row by).words ++ r) x.spelled) x.made
 
--- a line of the list that was read
-plain_is : (ws : List (List ℕ)) (c : Command) → plain_named ws ≡ Some c → IsLine ws c
-plain_is ws c e = plain (Contains-from_lookup (λ x y. (pointwise_decides bytes_eq-Decides x y).0) ws c plain_lines e)
+-- a command whose words were read
+words_are : (ws : List (List ℕ)) (by : CommandName) → name_worded ws ≡ Some by → ws ≡ (command_row by).words
+words_are ws by e = beside command_names (Contains-from_lookup (λ x y. (pointwise_decides bytes_eq-Decides x y).0) ws by (map (λ n. ((command_row n).words, n)) command_names) e)
+  where
+    beside : (all : List CommandName) → Contains (map (λ n. ((command_row n).words, n)) all) (ws, by) → ws ≡ (command_row by).words
+    beside [] (k, below, is) = absurd (omega (arith, below))
+    beside (n ∷ ns) (zero, below, is) = sym (ap (λ r. r.0) is) ∙ ap (λ r. (command_row r.1).words) is
+    beside (n ∷ ns) (suc k, below, is) = beside ns (k, omega (arith, below), is)
 
 -- an option that was read
-setting_read : (by : Encoder) (ch : Choice) (w : List ℕ) (ws : List (List ℕ)) (c : Command) (q : Progress)
+setting_read : (by : CommandName) (ch : Choice) (w : List ℕ) (ws : List (List ℕ)) (c : Command) (q : Progress)
     → with_option by ch w ≡ Some q → Completes q ws c → SetBy by ch (w ∷ ws) c
 unfolding Completes
-setting_read by ch w ws c q e x = found (value_named options w) refl e
+setting_read by ch w ws c q e x = found (value_named (word_rows option_word (command_row by).takes) w) refl e
   where
-    taken : (row : OptionRow) (t : OptionKind) → Contains options (w, row) → row.has ch ≡ false → row.takes ≡ t
-        → Completes (behind_option by (behind_kind t ch).0 (behind_kind t ch).1) ws c → SetBy by ch (w ∷ ws) c
-    taken row (flag f) is free takes x = record {
-      settings = record { option = w; row = row; value = []; set = f; is_option = is; sets = subst (λ t. Sets t [] f) (sym takes) (refl, refl) } ∷ x.settings;
-      spelled = ap (λ r. w ∷ r) x.spelled;
+    taken : (o : LineOption) (t : OptionKind) → Contains (command_row by).takes o → w ≡ option_word o → (option_row o).has ch ≡ false
+        → (option_row o).takes ≡ t → Completes (behind_option by (behind_kind t ch).0 (behind_kind t ch).1) ws c → SetBy by ch (w ∷ ws) c
+    taken o (flag f) is word free takes x = record {
+      settings = record { option = o; value = []; set = f; sets = subst (λ t. Sets t [] f) (sym takes) (refl, refl) } ∷ x.settings;
+      taken = (is, x.taken);
+      spelled = ap (λ v. v ∷ ws) word ∙ ap (λ r. option_word o ∷ r) x.spelled;
       new = (free, x.new);
       made = x.made;
     }
-    taken row (one_of o) is free takes x = record {
+    taken o (one_of v) is word free takes x = record {
       settings = record {
-        option = w;
-        row = row;
+        option = o;
         value = x.value ∷ [];
         set = x.set;
-        is_option = is;
         sets = subst (λ t. Sets t (x.value ∷ []) x.set) (sym takes) (x.value, refl, x.is);
       } ∷ x.behind.settings;
-      spelled = ap (λ r. w ∷ r) (x.spelled ∙ ap (λ r. x.value ∷ r) x.behind.spelled);
+      taken = (is, x.behind.taken);
+      spelled = ap (λ v. v ∷ ws) word ∙ ap (λ r. option_word o ∷ r) (x.spelled ∙ ap (λ r. x.value ∷ r) x.behind.spelled);
       new = (free, x.behind.new);
       made = x.behind.made;
     }
 
-    tested : (row : OptionRow) (b : Bool) → Contains options (w, row) → row.has ch ≡ b
-        → option_map (λ r. behind_option by r.0 r.1) (if b then None else Some (behind_kind row.takes ch)) ≡ Some q → SetBy by ch (w ∷ ws) c
-    tested row true is has h = absurd (none-some q h)
-    tested row false is has h = taken row row.takes is has refl (subst (λ q. Completes q ws c) (sym (Some_is _ _ h)) x)
+    tested : (o : LineOption) (b : Bool) → Contains (command_row by).takes o → w ≡ option_word o → (option_row o).has ch ≡ b
+        → option_map (λ r. behind_option by r.0 r.1) (if b then None else Some (behind_kind (option_row o).takes ch)) ≡ Some q → SetBy by ch (w ∷ ws) c
+    tested o true is word has h = absurd (none-some q h)
+    tested o false is word has h = taken o (option_row o).takes is word has refl (subst (λ q. Completes q ws c) (sym (Some_is _ _ h)) x)
 
-    found : (o : Option OptionRow) → value_named options w ≡ o
-        → option_map (λ r. behind_option by r.0 r.1) (option_and_then (λ o. if o.has ch then None else Some (behind_kind o.takes ch)) o) ≡ Some q
+    found : (o : Option LineOption) → value_named (word_rows option_word (command_row by).takes) w ≡ o
+        → option_map (λ r. behind_option by r.0 r.1)
+        (option_and_then (λ o. if (option_row o).has ch then None else Some (behind_kind (option_row o).takes ch)) o) ≡ Some q
         → SetBy by ch (w ∷ ws) c
     found None is h = absurd (none-some q h)
-    found (Some row) is h = tested row (row.has ch) (named_is options w row is) refl h
+    found (Some o) is h =
+        tested o ((option_row o).has ch) (value_among option_word (command_row by).takes w o is) (word_is option_word (command_row by).takes w o is) refl h
 
--- the first word behind a command that was read, where it is no line of the list
+-- the first word behind a first word that was read, where the two are no command
 argument_back : (k : CommandWord) (w : List ℕ) (ws : List (List ℕ)) (c : Command) (q : Progress)
     → first_argument k w ≡ Some q → Completes q ws c → IsLine (command_word k ∷ w ∷ ws) c
 unfolding Completes
-argument_back Enc w ws c q e x = options_line encoder.Enc (w ∷ ws) c (setting_read encoder.Enc no_choice w ws c q e x)
-argument_back Recode w ws c q e x = options_line encoder.Recode (w ∷ ws) c (setting_read encoder.Recode no_choice w ws c q e x)
-argument_back Gen w ws c q e x = by (mapped progress.SizeDue (gen_named w) q e)
+argument_back word.Gen w ws c q e x = by (mapped progress.SizeDue (gen_named w) q e)
   where
-    by : (kind : GenKind) × (gen_named w ≡ Some kind) × (progress.SizeDue kind ≡ q) → IsLine (command_word Gen ∷ w ∷ ws) c
+    by : (kind : GenKind) × (gen_named w ≡ Some kind) × (progress.SizeDue kind ≡ q) → IsLine (command_word word.Gen ∷ w ∷ ws) c
     by m =
         let s : SizeFollows m.0 ws c = subst (λ q. Completes q ws c) (sym m.2) x in
         gen m.0 s.size s.seeded.seed s.may s.seeded.small
-        (ap (λ v. command_word Gen ∷ v ∷ ws) (word_is gen_word kinds w m.0 m.1)
-        ∙ ap (λ r. command_word Gen ∷ gen_word m.0 ∷ r) (s.spelled ∙ ap (λ r. decimal s.size ∷ r) s.seeded.spelled))
+        (ap (λ v. command_word word.Gen ∷ v ∷ ws) (word_is gen_word kinds w m.0 m.1)
+        ∙ ap (λ r. command_word word.Gen ∷ gen_word m.0 ∷ r) (s.spelled ∙ ap (λ r. decimal s.size ∷ r) s.seeded.spelled))
         s.seeded.made
-argument_back k w ws c q e x = absurd (none-some q e)
+argument_back k w ws c q e x = found (name_worded (command_word k ∷ [])) refl e
+  where
+    found : (o : Option CommandName) → name_worded (command_word k ∷ []) ≡ o → option_and_then (λ by. with_option by no_choice w) o ≡ Some q
+        → IsLine (command_word k ∷ w ∷ ws) c
+    found None is h = absurd (none-some q h)
+    found (Some by) is h =
+        subst (λ r. IsLine (r ++ w ∷ ws) c) (sym (words_are (command_word k ∷ []) by is))
+        (options_line by (w ∷ ws) c (setting_read by no_choice w ws c q h x))
 
 -- a line that words bring to its end is brought there by the word before and them
 back : (p : Progress) (w : List ℕ) (ws : List (List ℕ)) (c : Command) (q : Progress) → after_word p w ≡ Some q → Completes q ws c → Completes p (w ∷ ws) c
@@ -155,14 +171,14 @@ back progress.Nothing w ws c q e x =
     let m = mapped progress.Named (command_named w) q e in
     let line : IsLine (command_word m.0 ∷ ws) c = subst (λ q. Completes q ws c) (sym m.2) x in
     subst (λ v. IsLine (v ∷ ws) c) (sym (word_is command_word first_words w m.0 m.1)) line
-back (progress.Named k) w ws c q e x = found (plain_named (command_word k ∷ w ∷ [])) refl e
+back (progress.Named k) w ws c q e x = found (name_worded (command_word k ∷ w ∷ [])) refl e
   where
-    found : (o : Option Command) → plain_named (command_word k ∷ w ∷ []) ≡ o → option_or (option_map progress.Whole o) (first_argument k w) ≡ Some q
-        → IsLine (command_word k ∷ w ∷ ws) c
+    found : (o : Option CommandName) → name_worded (command_word k ∷ w ∷ []) ≡ o
+        → option_or (option_map (λ by. progress.Options by no_choice) o) (first_argument k w) ≡ Some q → IsLine (command_word k ∷ w ∷ ws) c
     found None is h = argument_back k w ws c q h x
-    found (Some d) is h =
-        let end : (ws ≡ []) × (c ≡ d) = subst (λ q. Completes q ws c) (sym (Some_is _ _ h)) x in
-        subst (λ r. IsLine (command_word k ∷ w ∷ r) c) (sym end.0) (plain_is (command_word k ∷ w ∷ []) c (is ∙ ap Some (sym end.1)))
+    found (Some by) is h =
+        subst (λ r. IsLine (r ++ ws) c) (sym (words_are (command_word k ∷ w ∷ []) by is))
+        (options_line by ws c (subst (λ q. Completes q ws c) (sym (Some_is _ _ h)) x))
 back (progress.Options by ch) w ws c q e x = setting_read by ch w ws c q e x
 back (progress.Value by ch o) w ws c q e x =
     let m = mapped (progress.Options by) (with_value ch o w) q e in
@@ -188,16 +204,11 @@ back (progress.Whole d) w ws c q e x = absurd (none-some q e)
 
 whole_is : (p : Progress) (c : Command) → whole p ≡ Some c → Completes p [] c
 unfolding Completes
-whole_is (progress.Named k) c e = alone (plain_named (command_word k ∷ [])) refl e
-  where
-    by_option : (k : CommandWord) → encoding_alone k ≡ Some c → IsLine (command_word k ∷ []) c
-    by_option Enc h = subst (IsLine _) (Some_is _ _ h) (options_line encoder.Enc [] _ (set_none encoder.Enc no_choice))
-    by_option Recode h = subst (IsLine _) (Some_is _ _ h) (options_line encoder.Recode [] _ (set_none encoder.Recode no_choice))
-    by_option k h = absurd (none-some c h)
-
-    alone : (o : Option Command) → plain_named (command_word k ∷ []) ≡ o → option_or o (encoding_alone k) ≡ Some c → IsLine (command_word k ∷ []) c
-    alone None is h = by_option k h
-    alone (Some d) is h = plain_is (command_word k ∷ []) c (is ∙ h)
+whole_is (progress.Named k) c e =
+    let m = mapped (λ by. (command_row by).command no_choice) (name_worded (command_word k ∷ [])) c e in
+    subst (IsLine _) m.2
+    (subst (λ r. IsLine (r ++ []) ((command_row m.0).command no_choice)) (sym (words_are (command_word k ∷ []) m.0 m.1))
+    (options_line m.0 [] _ (set_none m.0 no_choice)))
 whole_is (progress.Options by ch) c e = subst (SetBy by ch []) (Some_is _ _ e) (set_none by ch)
 whole_is (progress.Whole d) c e = (refl, sym (Some_is _ _ e))
 whole_is p c e = absurd (none-some c e)
@@ -218,52 +229,81 @@ is_line words c e = completes progress.Nothing words c e
 
 -- ---- lines are read to their ends
 
-plain_ends : map (λ (l : List (List ℕ) × Command). ends progress.Nothing l.0) plain_lines ≡ map (λ (l : List (List ℕ) × Command). Some l.1) plain_lines
-plain_ends = refl
-
--- an option that the choice doesn't have, with its value
-setting_ends : (by : Encoder) (ch : Choice) (p : Progress) (s : Setting) (ws : List (List ℕ)) → s.row.has ch ≡ false
-    → after_word p s.option ≡ with_option by ch s.option → ends p (s.option ∷ s.value ++ ws) ≡ ends (progress.Options by (s.set ch)) ws
-setting_ends by ch p s ws free same = taken s.row.takes s.value s.set s.sets (same ∙ entered)
+-- an option that the command takes and the choice doesn't have, with its value
+setting_ends : (by : CommandName) (ch : Choice) (p : Progress) (s : Setting) (ws : List (List ℕ)) → Contains (command_row by).takes s.option
+    → (option_row s.option).has ch ≡ false → after_word p (option_word s.option) ≡ with_option by ch (option_word s.option)
+    → ends p (option_word s.option ∷ s.value ++ ws) ≡ ends (progress.Options by (s.set ch)) ws
+setting_ends by ch p s ws among free same = taken (option_row s.option).takes s.value s.set s.sets (same ∙ entered)
   where
-    entered : with_option by ch s.option ≡ Some (behind_option by (behind_kind s.row.takes ch).0 (behind_kind s.row.takes ch).1)
+    entered : with_option by ch (option_word s.option)
+        ≡ Some (behind_option by (behind_kind (option_row s.option).takes ch).0 (behind_kind (option_row s.option).takes ch).1)
     entered =
-        ap (λ o. option_map (λ r. behind_option by r.0 r.1) (option_and_then (λ o. if o.has ch then None else Some (behind_kind o.takes ch)) o)) (option_back s.option s.row s.is_option)
-        ∙ ap (λ b. option_map (λ r. behind_option by r.0 r.1) (if b then None else Some (behind_kind s.row.takes ch))) free
+        ap (λ o. option_map (λ r. behind_option by r.0 r.1)
+        (option_and_then (λ o. if (option_row o).has ch then None else Some (behind_kind (option_row o).takes ch)) o)) (option_back by s.option among)
+        ∙ ap (λ b. option_map (λ r. behind_option by r.0 r.1) (if b then None else Some (behind_kind (option_row s.option).takes ch))) free
 
     taken : (t : OptionKind) (value : List (List ℕ)) (set : Choice → Choice) → Sets t value set
-        → after_word p s.option ≡ Some (behind_option by (behind_kind t ch).0 (behind_kind t ch).1)
-        → ends p (s.option ∷ value ++ ws) ≡ ends (progress.Options by (set ch)) ws
+        → after_word p (option_word s.option) ≡ Some (behind_option by (behind_kind t ch).0 (behind_kind t ch).1)
+        → ends p (option_word s.option ∷ value ++ ws) ≡ ends (progress.Options by (set ch)) ws
     taken (flag f) value set is e =
-        ap (λ v. ends p (s.option ∷ v ++ ws)) is.0 ∙ step p s.option ws _ e ∙ ap (λ f. ends (progress.Options by (f ch)) ws) (sym is.1)
+        ap (λ v. ends p (option_word s.option ∷ v ++ ws)) is.0
+        ∙ step p (option_word s.option) ws _ e
+        ∙ ap (λ f. ends (progress.Options by (f ch)) ws) (sym is.1)
     taken (one_of o) value set is e =
-        ap (λ v. ends p (s.option ∷ v ++ ws)) is.1
-        ∙ step p s.option (is.0 ∷ ws) _ e
+        ap (λ v. ends p (option_word s.option ∷ v ++ ws)) is.1
+        ∙ step p (option_word s.option) (is.0 ∷ ws) _ e
         ∙ step (progress.Value by ch o) is.0 ws _ (ap (λ r. option_map (progress.Options by) (option_map (λ set. set ch) r)) (value_back o is.0 set is.2))
 
-settings_end : (by : Encoder) (ch : Choice) (ss : List Setting) → AreNew ch ss
-    → ends (progress.Options by ch) (words_of ss) ≡ Some (encoding by (with_settings ch ss))
-settings_end by ch [] new = refl
-settings_end by ch (s ∷ ss) new = setting_ends by ch (progress.Options by ch) s (words_of ss) new.0 refl ∙ settings_end by (s.set ch) ss new.1
+settings_end : (by : CommandName) (ch : Choice) (ss : List Setting) → AreOf (command_row by).takes ss → AreNew ch ss
+    → ends (progress.Options by ch) (words_of ss) ≡ Some ((command_row by).command (with_settings ch ss))
+settings_end by ch [] among new = refl
+settings_end by ch (s ∷ ss) among new =
+    setting_ends by ch (progress.Options by ch) s (words_of ss) among.0 new.0 refl
+    ∙ settings_end by (s.set ch) ss among.1 new.1
 
--- an option is no second word of a line of the list
-options_unlisted : map (λ (q : List ℕ × OptionRow). plain_named (command_word Recode ∷ q.0 ∷ [])) options ≡ map (λ (q : List ℕ × OptionRow). None) options
-options_unlisted = refl
+-- where the words of a command lead, which is a whole line: behind them stand its options
+record Reached (by : CommandName) : Type 0 where
+  at : Progress
+  led : (ws : List (List ℕ)) → ends progress.Nothing ((command_row by).words ++ ws) ≡ ends at ws
+  alone : whole at ≡ Some ((command_row by).command no_choice)
+  goes_on : (o : LineOption) → after_word at (option_word o) ≡ with_option by no_choice (option_word o)
 
-encoding_ends : (by : Encoder) (ss : List Setting) → AreNew no_choice ss
-    → ends (progress.Named (encoder_word by)) (words_of ss) ≡ Some (encoding by (with_settings no_choice ss))
-encoding_ends encoder.Enc [] new = refl
-encoding_ends encoder.Recode [] new = refl
-encoding_ends by (s ∷ ss) new = setting_ends by no_choice (progress.Named (encoder_word by)) s (words_of ss) new.0 (first by) ∙ settings_end by (s.set no_choice) ss new.1
-  where
-    first : (by : Encoder) → behind_command (encoder_word by) s.option ≡ with_option by no_choice s.option
-    first encoder.Enc = refl
-    first encoder.Recode = ap (λ o. option_or (option_map progress.Whole o) (first_argument Recode s.option))
-        (each-of (λ q. plain_named (command_word Recode ∷ q.0 ∷ [])) (λ q. None) options (s.option, s.row) options_unlisted s.is_option)
+-- by two words at its options, at once
+behind_two : (by : CommandName) → ((ws : List (List ℕ)) → ends progress.Nothing ((command_row by).words ++ ws) ≡ ends (progress.Options by no_choice) ws)
+    → Reached by
+behind_two by led = record { at = progress.Options by no_choice; led = led; alone = refl; goes_on = λ o. refl }
 
-command_ends : (k : CommandWord) (ws : List (List ℕ)) → ends progress.Nothing (command_word k ∷ ws) ≡ ends (progress.Named k) ws
-command_ends Enc ws = refl
-command_ends k ws = refl
+-- by one word at this first word, of which options are no second words of commands
+behind_one : (by : CommandName) (k : CommandWord)
+    → ((ws : List (List ℕ)) → ends progress.Nothing ((command_row by).words ++ ws) ≡ ends (progress.Named k) ws)
+    → whole (progress.Named k) ≡ Some ((command_row by).command no_choice)
+    → map (λ o. behind_command k (option_word o)) all_options ≡ map (λ o. with_option by no_choice (option_word o)) all_options
+    → Reached by
+behind_one by k led alone goes_on = record {
+  at = progress.Named k;
+  led = led;
+  alone = alone;
+  goes_on = λ o. each-of (λ o. behind_command k (option_word o)) (λ o. with_option by no_choice (option_word o)) all_options o goes_on (is_option o);
+}
+
+reached : (by : CommandName) → Reached by
+reached name.Enc = behind_one name.Enc word.Enc (λ ws. refl) refl refl
+reached name.Dec = behind_one name.Dec word.Dec (λ ws. refl) refl refl
+reached name.Info = behind_one name.Info word.Info (λ ws. refl) refl refl
+reached name.Recode = behind_one name.Recode word.Recode (λ ws. refl) refl refl
+reached name.Verify = behind_one name.Verify word.Verify (λ ws. refl) refl refl
+reached name.Restore = behind_two name.Restore (λ ws. refl)
+reached name.VerifySurface = behind_two name.VerifySurface (λ ws. refl)
+reached name.KdEnc = behind_two name.KdEnc (λ ws. refl)
+reached name.KdDec = behind_two name.KdDec (λ ws. refl)
+
+command_ends : (by : CommandName) (ss : List Setting) → AreOf (command_row by).takes ss → AreNew no_choice ss
+    → ends progress.Nothing ((command_row by).words ++ words_of ss) ≡ Some ((command_row by).command (with_settings no_choice ss))
+command_ends by [] among new = (reached by).led [] ∙ (reached by).alone
+command_ends by (s ∷ ss) among new =
+    (reached by).led (words_of (s ∷ ss))
+    ∙ setting_ends by no_choice (reached by).at s (words_of ss) among.0 new.0 ((reached by).goes_on s.option)
+    ∙ settings_end by (s.set no_choice) ss among.1 new.1
 
 -- the numbers of a generated mesh, and its kind in front of them
 pub seed_ends : (kind : GenKind) (size seed : ℕ) → seed < 2 ^ 64
@@ -279,18 +319,13 @@ size_ends kind size seed may small =
     ∙ seed_ends kind size seed small
 
 pub kind_ends : (kind : GenKind) (size seed : ℕ) → IsSize size → seed < 2 ^ 64
-    → ends (progress.Named Gen) (gen_word kind ∷ decimal size ∷ decimal seed ∷ []) ≡ Some (command.Gen (record { kind = kind; size = size; seed = seed }))
+    → ends (progress.Named word.Gen) (gen_word kind ∷ decimal size ∷ decimal seed ∷ []) ≡ Some (command.Gen (record { kind = kind; size = size; seed = seed }))
 kind_ends kind size seed may small =
-    step (progress.Named Gen) (gen_word kind) (decimal size ∷ decimal seed ∷ []) (progress.SizeDue kind) (ap (option_map progress.SizeDue) (gen_back kind))
+    step (progress.Named word.Gen) (gen_word kind) (decimal size ∷ decimal seed ∷ []) (progress.SizeDue kind) (ap (option_map progress.SizeDue) (gen_back kind))
     ∙ size_ends kind size seed may small
 
 -- a command's line is read to its end
 pub line_ends : (words : List (List ℕ)) (c : Command) → IsLine words c → ends progress.Nothing words ≡ Some c
-line_ends words c (plain is) = each-of (λ l. ends progress.Nothing l.0) (λ l. Some l.1) plain_lines (words, c) plain_ends is
-line_ends words c (encode by ss once e is) =
-    ap (ends progress.Nothing) e ∙ command_ends (encoder_word by) (words_of ss) ∙ encoding_ends by ss (once-new_choice ss once) ∙ ap Some (sym is)
-line_ends words c (gen kind size seed may small e is) =
-    ap (ends progress.Nothing) e
-    ∙ command_ends Gen (gen_word kind ∷ decimal size ∷ decimal seed ∷ [])
-    ∙ kind_ends kind size seed may small
-    ∙ ap Some (sym is)
+line_ends words c (named by ss among once e is) =
+    ap (ends progress.Nothing) e ∙ command_ends by ss among (once-new_choice ss once) ∙ ap Some (sym is)
+line_ends words c (gen kind size seed may small e is) = ap (ends progress.Nothing) e ∙ kind_ends kind size seed may small ∙ ap Some (sym is)

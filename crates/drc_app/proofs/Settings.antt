@@ -17,20 +17,48 @@ use Rattle.drc_container.specs.declared.choice.methods.Method.{Method}
 use Rattle.drc_container.specs.declared.choice.methods.Method.TheVariants as method
 use Rattle.drc_gen.specs.declared.kinds.GenKind.{GenKind}
 use Rattle.drc_gen.specs.declared.kinds.GenKind.TheVariants.{Grid}
+use Rattle.drc_app.specs.declared.command_table.CommandName.{CommandName}
+use Rattle.drc_app.specs.declared.command_table.CommandName.TheVariants as name
+use Rattle.drc_app.specs.declared.options.LineOption.{LineOption}
+use Rattle.drc_app.specs.declared.options.LineOption.TheVariants.{Valued, PlainValues}
 use Rattle.drc_app.specs.declared.options.ValueOption.{ValueOption}
 use Rattle.drc_app.specs.declared.options.ValueOption.TheVariants as option
 use Rattle.drc_app.specs.Words.{Words, word_rows, value_named}
-use Rattle.drc_app.specs.Options.{OptionKind, flag, one_of, OptionRow, options, option_values, Sets, Setting, SetsNone, SetsOnce, no_choice}
+use Rattle.drc_app.specs.Options.{OptionKind, flag, one_of, option_row, option_word, all_options, option_values, Sets, Setting, SetsNone, SetsOnce, no_choice}
 use Rattle.drc_app.specs.Options.{method_word, methods, index_word, indices, walk_word, walks}
+use Rattle.drc_app.specs.Commands.{command_row}
 use Rattle.drc_app.specs.Line.{gen_word}
 use Rattle.drc_app.specs.Progress.{gen_named}
 use Rattle.drc_app.specs.Laws.{WordsNameBack}
-use Rattle.drc_app.proofs.Tables.{each-of, are_distinct, names_back}
+use Rattle.drc_app.proofs.Tables.{Some_is, each-of, are_distinct, names_back, row_among}
 
 -- ---- computations over all rows
 
-pub option_back : (w : List ℕ) (row : OptionRow) → Contains options (w, row) → value_named options w ≡ Some row
-option_back w row is = names_back options w row refl is
+-- each option is among all of them
+pub is_option : (o : LineOption) → Contains all_options o
+is_option (Valued option.Method) = (0, omega arith, refl)
+is_option (Valued option.Index) = (1, omega arith, refl)
+is_option (Valued option.Predict) = (2, omega arith, refl)
+is_option (Valued option.Walk) = (3, omega arith, refl)
+is_option PlainValues = (4, omega arith, refl)
+
+-- an option that a command takes is what its word names among these
+pub option_back : (by : CommandName) (o : LineOption) → Contains (command_row by).takes o
+    → value_named (word_rows option_word (command_row by).takes) (option_word o) ≡ Some o
+option_back by o is =
+    names_back (word_rows option_word (command_row by).takes) (option_word o) o (distinct by)
+    (row_among (λ x. (option_word x, x)) (command_row by).takes o is)
+  where
+    distinct : (by : CommandName) → are_distinct bytes_eq (keys_of (word_rows option_word (command_row by).takes)) ≡ true
+    distinct name.Enc = refl
+    distinct by = refl
+
+-- options of one word are one
+word_back : (o : LineOption) → value_named (word_rows option_word all_options) (option_word o) ≡ Some o
+word_back o = names_back (word_rows option_word all_options) (option_word o) o refl (row_among (λ x. (option_word x, x)) all_options o (is_option o))
+
+one_option : (o p : LineOption) → option_word o ≡ option_word p → o ≡ p
+one_option o p e = Some_is o p (sym (word_back o) ∙ ap (value_named (word_rows option_word all_options)) e ∙ word_back p)
 
 pub value_back : (o : ValueOption) (w : List ℕ) (set : Choice → Choice) → Contains (option_values o) (w, set) → value_named (option_values o) w ≡ Some set
 value_back o w set is = names_back (option_values o) w set (distinct o) is
@@ -46,22 +74,22 @@ sets_of (one_of o) = map (λ v. v.1) (option_values o)
 
 -- which options a choice has, behind each setting of an option; and which it had, with that option more
 abbrev had : Choice → List Bool
-had c = map (λ (q : List ℕ × OptionRow). q.1.has c) options
+had c = map (λ o. (option_row o).has c) all_options
 
 abbrev had_more : Choice → List ℕ → List Bool
-had_more c o = map (λ (q : List ℕ × OptionRow). bytes_eq q.0 o || q.1.has c) options
+had_more c w = map (λ o. bytes_eq (option_word o) w || (option_row o).has c) all_options
 
-abbrev behind_each : Choice → List ℕ × OptionRow → List (List Bool)
-behind_each c r = map (λ (f : Choice → Choice). had (f c)) (sets_of r.1.takes)
+abbrev behind_each : Choice → LineOption → List (List Bool)
+behind_each c o = map (λ (f : Choice → Choice). had (f c)) (sets_of (option_row o).takes)
 
-abbrev more_each : Choice → List ℕ × OptionRow → List (List Bool)
-more_each c r = map (λ (f : Choice → Choice). had_more c r.0) (sets_of r.1.takes)
+abbrev more_each : Choice → LineOption → List (List Bool)
+more_each c o = map (λ (f : Choice → Choice). had_more c (option_word o)) (sets_of (option_row o).takes)
 
 -- a setting gives its own option alone
-gives_own : (c : Choice) → map (behind_each c) options ≡ map (more_each c) options
+gives_own : (c : Choice) → map (behind_each c) all_options ≡ map (more_each c) all_options
 gives_own c = refl
 
-none_given : had no_choice ≡ map (λ (q : List ℕ × OptionRow). false) options
+none_given : had no_choice ≡ map (λ (o : LineOption). false) all_options
 none_given = refl
 
 -- ---- each setting
@@ -77,21 +105,24 @@ set_is : (t : OptionKind) (words : List (List ℕ)) (f : Choice → Choice) → 
 set_is (flag g) words f is = (0, omega arith, sym is.1)
 set_is (one_of o) words f is = contains-value (option_values o) is.0 f is.2
 
-has-set : (c : Choice) (s t : Setting) → t.row.has (s.set c) ≡ (bytes_eq t.option s.option || t.row.has c)
+has-set : (c : Choice) (s t : Setting)
+    → (option_row t.option).has (s.set c) ≡ (bytes_eq (option_word t.option) (option_word s.option) || (option_row t.option).has c)
 has-set c s t =
-    let own = each-of (behind_each c) (more_each c) options (s.option, s.row) (gives_own c) s.is_option in
-    let set = each-of (λ f. had (f c)) (λ f. had_more c s.option) (sets_of s.row.takes) s.set own (set_is s.row.takes s.value s.set s.sets) in
-    each-of (λ q. q.1.has (s.set c)) (λ q. bytes_eq q.0 s.option || q.1.has c) options (t.option, t.row) set t.is_option
+    let own = each-of (behind_each c) (more_each c) all_options s.option (gives_own c) (is_option s.option) in
+    let kind = (option_row s.option).takes in
+    let set = each-of (λ f. had (f c)) (λ f. had_more c (option_word s.option)) (sets_of kind) s.set own (set_is kind s.value s.set s.sets) in
+    each-of (λ o. (option_row o).has (s.set c)) (λ o. bytes_eq (option_word o) (option_word s.option) || (option_row o).has c) all_options t.option set
+    (is_option t.option)
 
 neither : (a b : Bool) → (a || b) ≡ false → (a ≡ false) × (b ≡ false)
 neither true b e = absurd (false≢true (sym e))
 neither false b e = (refl, e)
 
-unequal : (x y : List ℕ) → x ≢ y → bytes_eq x y ≡ false
-unequal x y n = by (bytes_eq x y) (bytes_eq-Decides x y).0
+unlike : (o p : LineOption) → o ≢ p → bytes_eq (option_word o) (option_word p) ≡ false
+unlike o p n = by (bytes_eq (option_word o) (option_word p)) (bytes_eq-Decides (option_word o) (option_word p)).0
   where
-    by : (b : Bool) → (b ≡ true → x ≡ y) → b ≡ false
-    by true is = absurd (n (is refl))
+    by : (b : Bool) → (b ≡ true → option_word o ≡ option_word p) → b ≡ false
+    by true is = absurd (n (one_option o p (is refl)))
     by false is = refl
 
 -- ---- lists of settings
@@ -99,25 +130,27 @@ unequal x y n = by (bytes_eq x y) (bytes_eq-Decides x y).0
 -- no setting's option was given before it
 abbrev pub AreNew : Choice → List Setting → Type 0
 AreNew c [] = Unit {0}
-AreNew c (s ∷ ss) = (s.row.has c ≡ false) × AreNew (s.set c) ss
+AreNew c (s ∷ ss) = ((option_row s.option).has c ≡ false) × AreNew (s.set c) ss
 
 -- no setting's option was given in this choice
 abbrev AreFree : Choice → List Setting → Type 0
 AreFree c [] = Unit {0}
-AreFree c (s ∷ ss) = (s.row.has c ≡ false) × AreFree c ss
+AreFree c (s ∷ ss) = ((option_row s.option).has c ≡ false) × AreFree c ss
 
 -- settings of other options stay free behind one, and those that are free behind one are of other options
 free-behind : (c : Choice) (s : Setting) (ss : List Setting) → SetsNone s.option ss → AreFree c ss → AreFree (s.set c) ss
 free-behind c s [] none free = tt
 free-behind c s (t ∷ ts) none free =
-    (has-set c s t ∙ ap (λ b. b || t.row.has c) (unequal t.option s.option none.0) ∙ free.0, free-behind c s ts none.1 free.1)
+    (has-set c s t ∙ ap (λ b. b || (option_row t.option).has c) (unlike t.option s.option none.0) ∙ free.0, free-behind c s ts none.1 free.1)
 
 free-before : (c : Choice) (s : Setting) (ss : List Setting) → AreFree (s.set c) ss → SetsNone s.option ss × AreFree c ss
 free-before c s [] free = (tt, tt)
 free-before c s (t ∷ ts) free =
-    let n = neither (bytes_eq t.option s.option) (t.row.has c) (sym (has-set c s t) ∙ free.0) in
+    let n = neither (bytes_eq (option_word t.option) (option_word s.option)) ((option_row t.option).has c) (sym (has-set c s t) ∙ free.0) in
     let r = free-before c s ts free.1 in
-    (((λ same. false≢true (sym n.0 ∙ (bytes_eq-Decides t.option s.option).1 same)), r.0), (n.1, r.1))
+    let other = λ (same : t.option ≡ s.option).
+    false≢true (sym n.0 ∙ (bytes_eq-Decides (option_word t.option) (option_word s.option)).1 (ap option_word same)) in
+    ((other, r.0), (n.1, r.1))
 
 once-new : (c : Choice) (ss : List Setting) → SetsOnce ss → AreFree c ss → AreNew c ss
 once-new c [] once free = tt
@@ -138,7 +171,7 @@ once-new_choice ss once = once-new no_choice ss once (free ss)
   where
     free : (ss : List Setting) → AreFree no_choice ss
     free [] = tt
-    free (s ∷ ss) = (each-of (λ q. q.1.has no_choice) (λ q. false) options (s.option, s.row) none_given s.is_option, free ss)
+    free (s ∷ ss) = (each-of (λ o. (option_row o).has no_choice) (λ o. false) all_options s.option none_given (is_option s.option), free ss)
 
 -- ---- each value's word names it back
 

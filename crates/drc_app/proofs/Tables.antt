@@ -83,6 +83,25 @@ word_is {A} word all w x e = beside all (named_is (word_rows word all) w x e)
     beside (y ∷ ys) (zero, below, is) = sym (ap (λ r. r.0) is) ∙ ap (λ r. word r.1) is
     beside (y ∷ ys) (suc k, below, is) = beside ys (k, omega (arith, below), is)
 
+-- and is among these values
+pub value_among : {A : Type 0} (word : A → List ℕ) (all : List A) (w : List ℕ) (x : A) → value_named (word_rows word all) w ≡ Some x → Contains all x
+value_among {A} word all w x e = beside all (named_is (word_rows word all) w x e)
+  where
+    beside : (all : List A) → Contains (word_rows word all) (w, x) → Contains all x
+    beside [] (k, below, is) = absurd (omega (arith, below))
+    beside (y ∷ ys) (zero, below, is) = (0, omega arith, ap (λ r. r.1) is)
+    beside (y ∷ ys) (suc k, below, is) =
+        let r = beside ys (k, omega (arith, below), is) in
+        (suc r.0, omega (arith, r.1), r.2)
+
+-- a value among these stands beside its word
+pub row_among : {A B : Type 0} (row : A → B) (all : List A) (x : A) → Contains all x → Contains (map row all) (row x)
+row_among row [] x (k, below, is) = absurd (omega (arith, below))
+row_among row (y ∷ ys) x (zero, below, is) = (0, omega arith, ap row is)
+row_among row (y ∷ ys) x (suc k, below, is) =
+    let r = row_among row ys x (k, omega (arith, below), is) in
+    (suc r.0, omega (arith, r.1), r.2)
+
 -- what a word names among the values that are made of others
 pub named_naming : {A B : Type 0} (f : A → B) (rows : Words A) (w : List ℕ) → value_named (naming f rows) w ≡ option_map f (value_named rows w)
 named_naming f [] w = refl

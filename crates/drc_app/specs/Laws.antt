@@ -1,6 +1,6 @@
--- Reading a command line word by word finds what its words say, and they say nothing else; each value is what its word names; and no choice
--- that fits a mesh refuses a generated one.
-use Rattle.std.specs.Prelude.{◌≡◌, ℕ, List, Some, None, Result}
+-- Reading a command line word by word finds what its words say, and they say nothing else; the lines that the table makes, by their kinds;
+-- each value is what its word names; and no choice that fits a mesh refuses a generated one.
+use Rattle.std.specs.Prelude.{◌≡◌, ◌↔◌, ℕ, ◌<◌, ◌^◌, List, [], ◌∷◌, codes, decimal, Some, None, Result, true, false, Contains}
 use Rattle.mesh_model.specs.declared.geometries.Geometry.TheVariants.{Mesh}
 use Rattle.drc_gen.specs.declared.kinds.GenKind.{GenKind}
 use Rattle.drc_gen.specs.Generated.{generated}
@@ -14,9 +14,14 @@ use Rattle.drc_container.specs.declared.choice.methods.Method.{Method}
 use Rattle.drc_container.specs.choice.Refused.{choice_fault, refused}
 use Rattle.drc_app.specs.Words.{word_rows, value_named}
 use Rattle.drc_app.specs.Options.{method_word, methods, index_word, indices, walk_word, walks}
-use Rattle.drc_app.specs.Line.{gen_word, WordsSay}
+use Rattle.drc_app.specs.Options.{Setting, words_of, AreOf, SetsOnce, with_settings, coding_options, no_choice}
+use Rattle.drc_app.specs.Commands.{command_word}
+use Rattle.drc_app.specs.Line.{gen_word, IsLine, WordsSay}
 use Rattle.drc_app.specs.Progress.{gen_named, line_of}
 use Rattle.drc_app.specs.declared.commands.Command.{Command}
+use Rattle.drc_app.specs.declared.commands.Command.TheVariants as command
+use Rattle.drc_app.specs.declared.command_table.CommandWord.{CommandWord}
+use Rattle.drc_app.specs.declared.command_table.CommandWord.TheVariants as word
 
 -- what is found is what the words say
 abbrev pub WordsSaySomething : Type 0
@@ -25,6 +30,37 @@ WordsSaySomething = (words : List (List ℕ)) → WordsSay words (line_of words)
 -- what the words say is what is found
 abbrev pub WordsSayOneThing : Type 0
 WordsSayOneThing = (words : List (List ℕ)) (line : Result Command ℕ) → WordsSay words line → line ≡ line_of words
+
+-- the lines that have neither options with values nor numbers, and their commands
+abbrev pub plain_lines : List (List (List ℕ) × Command)
+plain_lines =
+    (command_word word.Dec ∷ [], command.Dec)
+    ∷ (command_word word.Info ∷ [], command.Info)
+    ∷ (command_word word.Recode ∷ codes "--restore" ∷ [], command.Restore)
+    ∷ (command_word word.Verify ∷ [], command.Verify false)
+    ∷ (command_word word.Verify ∷ codes "--surface" ∷ [], command.Verify true)
+    ∷ (command_word word.Kd ∷ codes "enc" ∷ [], command.KdEnc)
+    ∷ (command_word word.Kd ∷ codes "dec" ∷ [], command.KdDec)
+    ∷ []
+
+-- a first word, and behind it options of encoding in any order, each at most once
+abbrev pub IsEncoding : List (List ℕ) → CommandWord → List Setting → Type 0
+IsEncoding words by settings = AreOf coding_options settings × SetsOnce settings × (words ≡ command_word by ∷ words_of settings)
+
+-- the command lines by their kinds: a line of the list above; `enc` or `recode` with options of encoding; or `gen` with a kind, a size and
+-- a seed
+pub data IsOfKind (words : List (List ℕ)) (c : Command) : Type 0 where
+  plain : Contains plain_lines (words, c) → IsOfKind words c
+  enc : (settings : List Setting) → IsEncoding words word.Enc settings → c ≡ command.Enc (with_settings no_choice settings) → IsOfKind words c
+  recode : (settings : List Setting) → IsEncoding words word.Recode settings → c ≡ command.Recode (with_settings no_choice settings)
+      → IsOfKind words c
+  gen : (kind : GenKind) (size seed : ℕ) → IsSize size → seed < 2 ^ 64
+      → words ≡ command_word word.Gen ∷ gen_word kind ∷ decimal size ∷ decimal seed ∷ []
+      → c ≡ command.Gen (record { kind = kind; size = size; seed = seed }) → IsOfKind words c
+
+-- the lines that the table makes are these
+abbrev pub LinesAreOfKinds : Type 0
+LinesAreOfKinds = (words : List (List ℕ)) (c : Command) → IsLine words c ↔ IsOfKind words c
 
 -- each method, index coding, prediction, walk and kind of generated mesh is what its word names
 abbrev pub WordsNameBack : Type 0

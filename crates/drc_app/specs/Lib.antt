@@ -1,5 +1,6 @@
 pub mod Words
 pub mod Options
+pub mod Commands
 pub mod Line
 pub mod Progress
 pub mod Notes

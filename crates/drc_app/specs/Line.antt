@@ -1,51 +1,15 @@
 -- Which words are a command line, and which word of other words is the bad one (this project's choice).
 use Rattle.std.specs.Prelude.{◌≡◌, ℕ, suc, ◌<◌, ◌^◌, ◌⊎◌, List, [], ◌∷◌, ◌++◌, length, take, codes, decimal}
-use Rattle.std.specs.Prelude.{Result, Ok, Err, true, false, Contains}
+use Rattle.std.specs.Prelude.{Result, Ok, Err}
 use Rattle.drc_gen.specs.declared.kinds.GenKind.{GenKind}
 use Rattle.drc_gen.specs.declared.kinds.GenKind.TheVariants.{Grid, Torus, Holes, Fans, Seams}
 use Rattle.drc_gen.specs.GeneratedLaws.{IsSize}
-use Rattle.drc_container.specs.declared.choice.choices.Choice.{Choice}
-use Rattle.drc_app.specs.Options.{Setting, words_of, SetsOnce, with_settings, no_choice}
+use Rattle.drc_app.specs.Options.{Setting, words_of, AreOf, SetsOnce, with_settings, no_choice}
+use Rattle.drc_app.specs.Commands.{command_word, command_row}
 use Rattle.drc_app.specs.declared.commands.Command.{Command}
 use Rattle.drc_app.specs.declared.commands.Command.TheVariants as command
-use Rattle.drc_app.specs.declared.commands.Encoder.{Encoder}
-use Rattle.drc_app.specs.declared.commands.Encoder.TheVariants as encoder
-use Rattle.drc_app.specs.declared.command_lines.CommandWord.{CommandWord}
-use Rattle.drc_app.specs.declared.command_lines.CommandWord.TheVariants.{Enc, Dec, Info, Gen, Recode, Verify, Kd}
-
--- the first words of command lines, and all of them
-abbrev pub command_word : CommandWord → List ℕ
-command_word Enc = codes "enc"
-command_word Dec = codes "dec"
-command_word Info = codes "info"
-command_word Gen = codes "gen"
-command_word Recode = codes "recode"
-command_word Verify = codes "verify"
-command_word Kd = codes "kd"
-
-abbrev pub first_words : List CommandWord
-first_words = Enc ∷ Dec ∷ Info ∷ Gen ∷ Recode ∷ Verify ∷ Kd ∷ []
-
--- the lines that have neither options with values nor numbers, and their commands
-abbrev pub plain_lines : List (List (List ℕ) × Command)
-plain_lines =
-    (command_word Dec ∷ [], command.Dec)
-    ∷ (command_word Info ∷ [], command.Info)
-    ∷ (command_word Recode ∷ codes "--restore" ∷ [], command.Restore)
-    ∷ (command_word Verify ∷ [], command.Verify false)
-    ∷ (command_word Verify ∷ codes "--surface" ∷ [], command.Verify true)
-    ∷ (command_word Kd ∷ codes "enc" ∷ [], command.KdEnc)
-    ∷ (command_word Kd ∷ codes "dec" ∷ [], command.KdDec)
-    ∷ []
-
--- the first word of a command that encodes, and the command, coding as chosen
-abbrev pub encoder_word : Encoder → CommandWord
-encoder_word encoder.Enc = Enc
-encoder_word encoder.Recode = Recode
-
-abbrev pub encoding : Encoder → Choice → Command
-encoding encoder.Enc choice = command.Enc choice
-encoding encoder.Recode choice = command.Recode choice
+use Rattle.drc_app.specs.declared.command_table.CommandName.{CommandName}
+use Rattle.drc_app.specs.declared.command_table.CommandWord.TheVariants.{Gen as GenWord}
 
 -- the words of the kinds of generated meshes, and all of them
 abbrev pub gen_word : GenKind → List ℕ
@@ -58,14 +22,14 @@ gen_word Seams = codes "seams"
 abbrev pub kinds : List GenKind
 kinds = Grid ∷ Torus ∷ Holes ∷ Fans ∷ Seams ∷ []
 
--- these words are the command line of this command: a line of the list above; `enc` or `recode` with options in any order, each
--- at most once; or `gen` with a kind, a size and a seed, the two numbers as their decimal texts, so without leading zeros
+-- these words are the command line of this command: the words of a command of the table and behind them options that it takes, in any
+-- order, each at most once; or `gen` with a kind, a size and a seed, the two numbers as their decimal texts, so without leading zeros
 pub data IsLine (words : List (List ℕ)) (c : Command) : Type 0 where
-  plain : Contains plain_lines (words, c) → IsLine words c
-  encode : (by : Encoder) (settings : List Setting) → SetsOnce settings → words ≡ command_word (encoder_word by) ∷ words_of settings
-      → c ≡ encoding by (with_settings no_choice settings) → IsLine words c
+  named : (by : CommandName) (settings : List Setting) → AreOf (command_row by).takes settings → SetsOnce settings
+      → words ≡ (command_row by).words ++ words_of settings
+      → c ≡ (command_row by).command (with_settings no_choice settings) → IsLine words c
   gen : (kind : GenKind) (size seed : ℕ) → IsSize size → seed < 2 ^ 64
-      → words ≡ command_word Gen ∷ gen_word kind ∷ decimal size ∷ decimal seed ∷ []
+      → words ≡ command_word GenWord ∷ gen_word kind ∷ decimal size ∷ decimal seed ∷ []
       → c ≡ command.Gen (record { kind = kind; size = size; seed = seed }) → IsLine words c
 
 -- a generated mesh that is asked for has a size that a mesh may have

@@ -1,4 +1,4 @@
--- The options of the commands that encode: their words, and what they choose (this project's choice).
+-- The options of command lines: their words, and what they choose (this project's choice).
 use Rattle.std.specs.Prelude.{◌≡◌, ◌≢◌, ℕ, Bool, List, [], ◌∷◌, ◌++◌, codes, Some, None, true, false, is_some, Contains}
 use Rattle.predict.specs.Schemes.{prediction_word, predictions}
 use Rattle.drc_container.specs.declared.choice.choices.Choice.{Choice}
@@ -9,6 +9,8 @@ use Rattle.drc_container.specs.declared.choice.choices.Index.TheVariants as inde
 use Rattle.drc_container.specs.declared.choice.choices.Walk.{Walk}
 use Rattle.drc_container.specs.declared.choice.choices.Walk.TheVariants as walk
 use Rattle.drc_app.specs.Words.{Words, word_rows, naming}
+use Rattle.drc_app.specs.declared.options.LineOption.{LineOption}
+use Rattle.drc_app.specs.declared.options.LineOption.TheVariants.{Valued, PlainValues}
 use Rattle.drc_app.specs.declared.options.ValueOption.{ValueOption}
 use Rattle.drc_app.specs.declared.options.ValueOption.TheVariants as option
 
@@ -47,20 +49,28 @@ pub data OptionKind : Type 0 where
   flag : (Choice → Choice) → OptionKind
   one_of : ValueOption → OptionKind
 
--- an option: whether a choice has it, and what stands behind it
+-- an option: its word, whether a choice has it, and what stands behind it
 pub record OptionRow : Type 0 where
+  pub word : List ℕ
   pub has : Choice → Bool
   pub takes : OptionKind
 
--- the options
-abbrev pub options : Words OptionRow
-options =
-    (codes "--method", record { has = λ c. is_some c.method; takes = one_of option.Method })
-    ∷ (codes "--index", record { has = λ c. is_some c.index; takes = one_of option.Index })
-    ∷ (codes "--predict", record { has = λ c. is_some c.predict; takes = one_of option.Predict })
-    ∷ (codes "--walk", record { has = λ c. is_some c.walk; takes = one_of option.Walk })
-    ∷ (codes "--plain-values", record { has = λ c. c.plain_values; takes = flag (λ c. record c { plain_values = true }) })
-    ∷ []
+abbrev pub option_row : LineOption → OptionRow
+option_row (Valued option.Method) = record { word = codes "--method"; has = λ c. is_some c.method; takes = one_of option.Method }
+option_row (Valued option.Index) = record { word = codes "--index"; has = λ c. is_some c.index; takes = one_of option.Index }
+option_row (Valued option.Predict) = record { word = codes "--predict"; has = λ c. is_some c.predict; takes = one_of option.Predict }
+option_row (Valued option.Walk) = record { word = codes "--walk"; has = λ c. is_some c.walk; takes = one_of option.Walk }
+option_row PlainValues = record { word = codes "--plain-values"; has = λ c. c.plain_values; takes = flag (λ c. record c { plain_values = true }) }
+
+abbrev pub option_word : LineOption → List ℕ
+option_word o = (option_row o).word
+
+-- the options of the commands that encode, and those of all commands
+abbrev pub coding_options : List LineOption
+coding_options = Valued option.Method ∷ Valued option.Index ∷ Valued option.Predict ∷ Valued option.Walk ∷ PlainValues ∷ []
+
+abbrev pub all_options : List LineOption
+all_options = coding_options
 
 -- these words stand behind such an option, and this is what it then sets
 abbrev pub Sets : OptionKind → List (List ℕ) → (Choice → Choice) → Type 0
@@ -69,20 +79,23 @@ Sets (one_of o) words set = (w : List ℕ) × (words ≡ w ∷ []) × Contains (
 
 -- an option with its value, where it takes one, and what it sets
 pub record Setting : Type 0 where
-  pub option : List ℕ
-  pub row : OptionRow
+  pub option : LineOption
   pub value : List (List ℕ)
   pub set : Choice → Choice
-  pub is_option : Contains options (option, row)
-  pub sets : Sets row.takes value set
+  pub sets : Sets (option_row option).takes value set
 
 -- the words of settings: each its option, then its value, as words of their own
 abbrev pub words_of : List Setting → List (List ℕ)
 words_of [] = []
-words_of (s ∷ ss) = s.option ∷ s.value ++ words_of ss
+words_of (s ∷ ss) = option_word s.option ∷ s.value ++ words_of ss
+
+-- all of the settings are of these options
+abbrev pub AreOf : List LineOption → List Setting → Type 0
+AreOf options [] = Unit {0}
+AreOf options (s ∷ ss) = Contains options s.option × AreOf options ss
 
 -- none of the settings is of this option
-abbrev pub SetsNone : List ℕ → List Setting → Type 0
+abbrev pub SetsNone : LineOption → List Setting → Type 0
 SetsNone o [] = Unit {0}
 SetsNone o (s ∷ ss) = (s.option ≢ o) × SetsNone o ss
 
@@ -96,6 +109,6 @@ abbrev pub with_settings : Choice → List Setting → Choice
 with_settings c [] = c
 with_settings c (s ∷ ss) = with_settings (s.set c) ss
 
--- no option was given
+-- what no option chooses: the one choice of which every field is written
 abbrev pub no_choice : Choice
 no_choice = record { method = None; index = None; predict = None; walk = None; plain_values = false }

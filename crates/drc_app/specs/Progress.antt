@@ -1,5 +1,5 @@
 -- A command line read word by word: how far it has come (this project's choice). It finds what the words say.
-use Rattle.std.specs.Prelude.{ℕ, ◌+◌, ◌^◌, ◌&&◌, nat_lt, nat_le, List, [], ◌∷◌, decimal, if◌then◌else◌}
+use Rattle.std.specs.Prelude.{ℕ, ◌+◌, ◌^◌, ◌&&◌, nat_lt, nat_le, List, [], ◌∷◌, map, decimal, if◌then◌else◌}
 use Rattle.std.specs.Prelude.{Option, Some, None, Result, Ok, Err, option_and_then}
 use Rattle.std.specs.Option.{option_map, option_or}
 use Rattle.std.specs.Cmp.Lexicographic.{pointwise}
@@ -10,24 +10,25 @@ use Rattle.drc_gen.specs.declared.kinds.GenKind.{GenKind}
 use Rattle.drc_gen.specs.declared.sizes.TheConstants.{LEAST_SIZE, MOST_SIZE}
 use Rattle.drc_container.specs.declared.choice.choices.Choice.{Choice}
 use Rattle.drc_app.specs.Words.{word_rows, value_named}
-use Rattle.drc_app.specs.Options.{OptionKind, flag, one_of, options, option_values, no_choice}
-use Rattle.drc_app.specs.Line.{command_word, first_words, plain_lines, encoding, gen_word, kinds}
+use Rattle.drc_app.specs.Options.{OptionKind, flag, one_of, option_row, option_word, option_values, no_choice}
+use Rattle.drc_app.specs.Commands.{command_word, first_words, command_row, command_names}
+use Rattle.drc_app.specs.Line.{gen_word, kinds}
 use Rattle.drc_app.specs.declared.commands.Command.{Command}
 use Rattle.drc_app.specs.declared.commands.Command.TheVariants as command
-use Rattle.drc_app.specs.declared.commands.Encoder.{Encoder}
-use Rattle.drc_app.specs.declared.commands.Encoder.TheVariants as encoder
+use Rattle.drc_app.specs.declared.options.LineOption.{LineOption}
 use Rattle.drc_app.specs.declared.options.ValueOption.{ValueOption}
-use Rattle.drc_app.specs.declared.command_lines.CommandWord.{CommandWord}
-use Rattle.drc_app.specs.declared.command_lines.CommandWord.TheVariants.{Enc, Gen, Recode}
+use Rattle.drc_app.specs.declared.command_table.CommandName.{CommandName}
+use Rattle.drc_app.specs.declared.command_table.CommandWord.{CommandWord}
+use Rattle.drc_app.specs.declared.command_table.CommandWord.TheVariants.{Gen}
 use Rattle.drc_app.specs.declared.command_lines.Progress.{Progress}
 use Rattle.drc_app.specs.declared.command_lines.Progress.TheVariants as progress
 
--- the command of a first word, and of a line of the list
+-- the first word that this word is, and the command of the table whose words these are
 abbrev pub command_named : List ℕ → Option CommandWord
 command_named w = value_named (word_rows command_word first_words) w
 
-abbrev pub plain_named : List (List ℕ) → Option Command
-plain_named ws = lookup (pointwise bytes_eq ws) plain_lines
+abbrev pub name_worded : List (List ℕ) → Option CommandName
+name_worded ws = lookup (pointwise bytes_eq ws) (map (λ by. ((command_row by).words, by)) command_names)
 
 -- the kind of generated mesh of a word
 abbrev pub gen_named : List ℕ → Option GenKind
@@ -51,32 +52,32 @@ abbrev pub behind_kind : OptionKind → Choice → Choice × Option ValueOption
 behind_kind (flag set) c = (set c, None)
 behind_kind (one_of o) c = (c, Some o)
 
--- the same behind the option of this word, which the choice doesn't have
-abbrev pub option_read : Choice → List ℕ → Option (Choice × Option ValueOption)
-option_read c w = option_and_then (λ o. if o.has c then None else Some (behind_kind o.takes c)) (value_named options w)
+-- the same behind the option of this word, which is one of these and which the choice doesn't have
+abbrev pub option_read : List LineOption → Choice → List ℕ → Option (Choice × Option ValueOption)
+option_read os c w =
+    option_and_then (λ o. if (option_row o).has c then None else Some (behind_kind (option_row o).takes c)) (value_named (word_rows option_word os) w)
 
 -- a choice with the value of this word for an option
 abbrev pub with_value : Choice → ValueOption → List ℕ → Option Choice
 with_value c o w = option_map (λ set. set c) (value_named (option_values o) w)
 
 -- a line with an option more
-abbrev pub behind_option : Encoder → Choice → Option ValueOption → Progress
+abbrev pub behind_option : CommandName → Choice → Option ValueOption → Progress
 behind_option by c None = progress.Options by c
 behind_option by c (Some o) = progress.Value by c o
 
-abbrev pub with_option : Encoder → Choice → List ℕ → Option Progress
-with_option by c w = option_map (λ r. behind_option by r.0 r.1) (option_read c w)
+abbrev pub with_option : CommandName → Choice → List ℕ → Option Progress
+with_option by c w = option_map (λ r. behind_option by r.0 r.1) (option_read (command_row by).takes c w)
 
--- a command's first word and the first of its options, or its kind
+-- `gen` and a kind, or a command of one word and the first of its options
 abbrev pub first_argument : CommandWord → List ℕ → Option Progress
-first_argument Enc w = with_option encoder.Enc no_choice w
-first_argument Recode w = with_option encoder.Recode no_choice w
 first_argument Gen w = option_map progress.SizeDue (gen_named w)
-first_argument k w = None
+first_argument k w = option_and_then (λ by. with_option by no_choice w) (name_worded (command_word k ∷ []))
 
--- a command's first word and one word more
+-- a first word and one word more
 abbrev pub behind_command : CommandWord → List ℕ → Option Progress
-behind_command k w = option_or (option_map progress.Whole (plain_named (command_word k ∷ w ∷ []))) (first_argument k w)
+behind_command k w =
+    option_or (option_map (λ by. progress.Options by no_choice) (name_worded (command_word k ∷ w ∷ []))) (first_argument k w)
 
 -- a line with one word more, where such a line begins a command line
 abbrev pub after_word : Progress → List ℕ → Option Progress
@@ -89,20 +90,10 @@ after_word (progress.SeedDue kind size) w =
     option_map (λ seed. progress.Whole (command.Gen (record { kind = kind; size = size; seed = seed }))) (number_named w)
 after_word (progress.Whole c) w = None
 
--- the command that encodes with no option, of its first word
-abbrev pub encoding_alone : CommandWord → Option Command
-encoding_alone Enc = Some (command.Enc no_choice)
-encoding_alone Recode = Some (command.Recode no_choice)
-encoding_alone k = None
-
--- the command of its first word alone, where it needs no other
-abbrev pub named_alone : CommandWord → Option Command
-named_alone k = option_or (plain_named (command_word k ∷ [])) (encoding_alone k)
-
 -- the command of a whole line
 abbrev pub whole : Progress → Option Command
-whole (progress.Named k) = named_alone k
-whole (progress.Options by c) = Some (encoding by c)
+whole (progress.Named k) = option_map (λ by. (command_row by).command no_choice) (name_worded (command_word k ∷ []))
+whole (progress.Options by c) = Some ((command_row by).command c)
 whole (progress.Whole c) = Some c
 whole p = None
 

@@ -2,32 +2,16 @@
 
 ghost use Rattle.std.specs.Prelude.{◌≡◌, map, string_bytes, IfOk};
 ghost use Rattle.drc_app.specs.Line.{IsSized};
-ghost use Rattle.drc_app.specs.Progress.{command_named, behind_command, with_option, after_word, named_alone, whole_line, line_of};
+ghost use Rattle.drc_app.specs.Progress.{first_argument, behind_command, with_option, after_word, whole_line, line_of};
 
-use crate::commands::{Command, Encoder, GenMesh, encoding};
+use crate::command_table::{
+    CommandName, CommandWord, command_chosen, command_named, named_alone, named_behind, options_of,
+};
+use crate::commands::{Command, GenMesh};
 use crate::gen_words::{gen_named, number_named, size_named};
 use crate::options::{ValueOption, no_choice, option_read, with_value};
 use drc_container::Choice;
 use drc_gen::GenKind;
-
-/// The first word of a command line.
-#[derive(Clone, Copy, Debug, PartialEq, Eq)]
-pub enum CommandWord {
-    /// `enc`
-    Enc,
-    /// `dec`
-    Dec,
-    /// `info`
-    Info,
-    /// `gen`
-    Gen,
-    /// `recode`
-    Recode,
-    /// `verify`
-    Verify,
-    /// `kd`, which needs a second word
-    Kd,
-}
 
 /// How far a command line has come.
 #[derive(Clone, Copy, Debug, PartialEq, Eq)]
@@ -36,10 +20,10 @@ pub enum Progress {
     Nothing,
     /// Its first word.
     Named(CommandWord),
-    /// A command with one or more whole options.
-    Options(Encoder, Choice),
+    /// A command with whole options.
+    Options(CommandName, Choice),
     /// A command with whole options and one whose value is due.
-    Value(Encoder, Choice, ValueOption),
+    Value(CommandName, Choice, ValueOption),
     /// `gen` with a kind, whose size is due.
     SizeDue(GenKind),
     /// `gen` with a kind and a size, whose seed is due.
@@ -69,28 +53,16 @@ fn whole_line(count: u64, progress: Progress) -> Result<Command, u64>
     ensures { result ≡ whole_line count progress }
 {
     match progress {
-        Progress::Named(command) => named_alone(command).ok_or(count),
-        Progress::Options(by, choice) => Ok(encoding(by, choice)),
+        Progress::Named(first) => match named_alone(first) {
+            Some(name) => Ok(command_chosen(name, no_choice())),
+            None => Err(count),
+        },
+        Progress::Options(name, choice) => Ok(command_chosen(name, choice)),
         Progress::Whole(command) => Ok(command),
         Progress::Nothing => Err(count),
         Progress::Value(_, _, _) => Err(count),
         Progress::SizeDue(_) => Err(count),
         Progress::SeedDue(_, _) => Err(count),
-    }
-}
-
-/// The command of its first word alone, where it needs no other.
-fn named_alone(command: CommandWord) -> Option<Command>
-    ensures { result ≡ named_alone command }
-{
-    match command {
-        CommandWord::Enc => Some(Command::Enc(no_choice())),
-        CommandWord::Dec => Some(Command::Dec),
-        CommandWord::Info => Some(Command::Info),
-        CommandWord::Gen => None,
-        CommandWord::Recode => Some(Command::Recode(no_choice())),
-        CommandWord::Verify => Some(Command::Verify(false)),
-        CommandWord::Kd => None,
     }
 }
 
@@ -100,10 +72,10 @@ fn after_word(progress: Progress, word: &str) -> Option<Progress>
 {
     match progress {
         Progress::Nothing => Some(Progress::Named(command_named(word)?)),
-        Progress::Named(command) => behind_command(command, word),
-        Progress::Options(by, choice) => with_option(by, choice, word),
-        Progress::Value(by, choice, option) => Some(Progress::Options(
-            by,
+        Progress::Named(first) => behind_command(first, word),
+        Progress::Options(name, choice) => with_option(name, choice, word),
+        Progress::Value(name, choice, option) => Some(Progress::Options(
+            name,
             with_value(choice, option, word)?,
         )),
         Progress::SizeDue(kind) => Some(Progress::SeedDue(kind, size_named(word)?)),
@@ -115,54 +87,33 @@ fn after_word(progress: Progress, word: &str) -> Option<Progress>
     }
 }
 
-/// The command of its first word.
-fn command_named(word: &str) -> Option<CommandWord>
-    ensures { result ≡ command_named word.now }
+/// The line of this first word and this second one.
+fn behind_command(first: CommandWord, word: &str) -> Option<Progress>
+    ensures { result ≡ behind_command first word.now }
 {
-    match word {
-        "enc" => Some(CommandWord::Enc),
-        "dec" => Some(CommandWord::Dec),
-        "info" => Some(CommandWord::Info),
-        "gen" => Some(CommandWord::Gen),
-        "recode" => Some(CommandWord::Recode),
-        "verify" => Some(CommandWord::Verify),
-        "kd" => Some(CommandWord::Kd),
-        _ => None,
+    match named_behind(first, word) {
+        Some(name) => Some(Progress::Options(name, no_choice())),
+        None => first_argument(first, word),
     }
 }
 
-/// The line of a command's first word and this second one.
-fn behind_command(command: CommandWord, word: &str) -> Option<Progress>
-    ensures { result ≡ behind_command command word.now }
+/// The line of a command of one word and the first of its options, or of `gen` and a kind.
+fn first_argument(first: CommandWord, word: &str) -> Option<Progress>
+    ensures { result ≡ first_argument first word.now }
 {
-    match command {
-        CommandWord::Enc => with_option(Encoder::Enc, no_choice(), word),
-        CommandWord::Dec => None,
-        CommandWord::Info => None,
+    match first {
         CommandWord::Gen => Some(Progress::SizeDue(gen_named(word)?)),
-        CommandWord::Recode => match word {
-            "--restore" => Some(Progress::Whole(Command::Restore)),
-            _ => with_option(Encoder::Recode, no_choice(), word),
-        },
-        CommandWord::Verify => match word {
-            "--surface" => Some(Progress::Whole(Command::Verify(true))),
-            _ => None,
-        },
-        CommandWord::Kd => match word {
-            "enc" => Some(Progress::Whole(Command::KdEnc)),
-            "dec" => Some(Progress::Whole(Command::KdDec)),
-            _ => None,
-        },
+        _ => with_option(named_alone(first)?, no_choice(), word),
     }
 }
 
-/// The line with the option of this word more, unless it was given before. Its value is due, where it
-/// takes one.
-fn with_option(by: Encoder, choice: Choice, word: &str) -> Option<Progress>
-    ensures { result ≡ with_option by choice word.now }
+/// The line with the option of this word more, where the command takes it and it wasn't given before. Its
+/// value is due, where it takes one.
+fn with_option(name: CommandName, choice: Choice, word: &str) -> Option<Progress>
+    ensures { result ≡ with_option name choice word.now }
 {
-    match option_read(choice, word)? {
-        (choice, None) => Some(Progress::Options(by, choice)),
-        (choice, Some(option)) => Some(Progress::Value(by, choice, option)),
+    match option_read(options_of(name), choice, word)? {
+        (choice, None) => Some(Progress::Options(name, choice)),
+        (choice, Some(option)) => Some(Progress::Value(name, choice, option)),
     }
 }

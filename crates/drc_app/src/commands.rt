@@ -1,7 +1,6 @@
 //! The commands.
 
 ghost use Rattle.std.specs.Prelude.{◌≡◌};
-ghost use Rattle.drc_app.specs.Line.{encoding};
 ghost use Rattle.drc_app.specs.Due.{reads};
 
 use drc_container::Choice;
@@ -41,25 +40,6 @@ pub enum Command {
     KdEnc,
     /// A kd-tree file to PLY text.
     KdDec,
-}
-
-/// A command that encodes, and so takes options.
-#[derive(Clone, Copy, Debug, PartialEq, Eq)]
-pub enum Encoder {
-    /// `enc`.
-    Enc,
-    /// `recode`.
-    Recode,
-}
-
-/// The command of an encoder, coding as chosen.
-pub fn encoding(by: Encoder, choice: Choice) -> Command
-    ensures { result ≡ encoding by choice }
-{
-    match by {
-        Encoder::Enc => Command::Enc(choice),
-        Encoder::Recode => Command::Recode(choice),
-    }
 }
 
 /// Whether a command reads its input.

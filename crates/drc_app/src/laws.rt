@@ -1,12 +1,14 @@
 //! What holds of the definitions themselves.
 
-ghost use Rattle.drc_app.specs.Laws.{WordsSaySomething, WordsSayOneThing, WordsNameBack, GeneratedIsEncoded};
+ghost use Rattle.drc_app.specs.Laws.{WordsSaySomething, WordsSayOneThing, LinesAreOfKinds, WordsNameBack, GeneratedIsEncoded};
 
 /// Any words are the line of one command, or have one bad word, and reading them word by word finds
-/// it. Each value that has a word is what this word names. This is the contract of a call that does nothing.
+/// it. The lines that the table of commands makes are plain ones, those of encoding and those of generated
+/// meshes. Each value that has a word is what this word names. This is the contract of a call that does nothing.
 pub fn words_say_one_thing()
     ensures found { WordsSaySomething }
     ensures alone { WordsSayOneThing }
+    ensures kinds { LinesAreOfKinds }
     ensures back { WordsNameBack }
 {}
 

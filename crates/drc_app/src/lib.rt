@@ -6,6 +6,7 @@
 #![tactic(auto)]
 
 mod command_lines;
+mod command_table;
 mod commands;
 mod delivery;
 mod gen_words;

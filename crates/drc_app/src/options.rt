@@ -1,9 +1,9 @@
-//! The options of the commands that encode. They take no memory.
+//! The options of command lines. They take no memory.
 
 ghost use Rattle.std.specs.Prelude.{◌≡◌};
 ghost use Rattle.predict.specs.Schemes.{prediction_word};
-ghost use Rattle.drc_app.specs.Options.{no_choice, method_word, index_word, walk_word};
-ghost use Rattle.drc_app.specs.Progress.{option_read, with_value};
+ghost use Rattle.drc_app.specs.Options.{no_choice, method_word, index_word, walk_word, option_row, option_word};
+ghost use Rattle.drc_app.specs.Progress.{behind_kind, option_read, with_value};
 
 use crate::words::{Worded, named};
 use drc_container::{Choice, Index, Method, Prediction, Walk};
@@ -72,7 +72,39 @@ pub enum ValueOption {
     Walk,
 }
 
-/// No option.
+/// An option of a command line.
+#[derive(Clone, Copy, Debug, PartialEq, Eq)]
+pub enum LineOption {
+    /// One that takes a value.
+    Valued(ValueOption),
+    /// `--plain-values`
+    PlainValues,
+}
+
+/// The options of the commands that encode.
+pub static CODING_OPTIONS: [LineOption; 5] = [
+    LineOption::Valued(ValueOption::Method),
+    LineOption::Valued(ValueOption::Index),
+    LineOption::Valued(ValueOption::Predict),
+    LineOption::Valued(ValueOption::Walk),
+    LineOption::PlainValues,
+];
+
+impl Worded for LineOption {
+    ghost spelling = { option_word };
+
+    fn word(self) -> &'static str {
+        match self {
+            LineOption::Valued(ValueOption::Method) => "--method",
+            LineOption::Valued(ValueOption::Index) => "--index",
+            LineOption::Valued(ValueOption::Predict) => "--predict",
+            LineOption::Valued(ValueOption::Walk) => "--walk",
+            LineOption::PlainValues => "--plain-values",
+        }
+    }
+}
+
+/// What no option chooses: the one choice of which every field is written.
 pub fn no_choice() -> Choice
     ensures { result ≡ no_choice }
 {
@@ -85,31 +117,49 @@ pub fn no_choice() -> Choice
     }
 }
 
-/// The choice behind the option of this word, and the option whose value is due, where it takes one.
-/// None, if there is no such option or the choice has it. Each option is a row: its word, whether the
-/// choice has it, and what is behind it.
-pub fn option_read(choice: Choice, word: &str) -> Option<(Choice, Option<ValueOption>)>
-    ensures { result ≡ option_read choice word.now }
+/// Whether a choice has an option.
+fn has_option(choice: Choice, option: LineOption) -> bool
+    ensures { result ≡ (option_row option).has choice }
 {
-    let (has, set, due) = match word {
-        "--method" => (choice.method.is_some(), choice, Some(ValueOption::Method)),
-        "--index" => (choice.index.is_some(), choice, Some(ValueOption::Index)),
-        "--predict" => (choice.predict.is_some(), choice, Some(ValueOption::Predict)),
-        "--walk" => (choice.walk.is_some(), choice, Some(ValueOption::Walk)),
-        "--plain-values" => (
-            choice.plain_values,
+    match option {
+        LineOption::Valued(ValueOption::Method) => choice.method.is_some(),
+        LineOption::Valued(ValueOption::Index) => choice.index.is_some(),
+        LineOption::Valued(ValueOption::Predict) => choice.predict.is_some(),
+        LineOption::Valued(ValueOption::Walk) => choice.walk.is_some(),
+        LineOption::PlainValues => choice.plain_values,
+    }
+}
+
+/// The choice behind an option, and the option whose value is due, where it takes one.
+fn entered(choice: Choice, option: LineOption) -> (Choice, Option<ValueOption>)
+    ensures { result ≡ behind_kind (option_row option).takes choice }
+{
+    match option {
+        LineOption::Valued(option) => (choice, Some(option)),
+        LineOption::PlainValues => (
             Choice {
                 plain_values: true,
                 ..choice
             },
             None,
         ),
-        _ => return None,
-    };
-    if has {
+    }
+}
+
+/// The choice behind the option of this word, and the option whose value is due, where it takes one.
+/// None, if it is none of these options or the choice has it.
+pub fn option_read(
+    options: &[LineOption],
+    choice: Choice,
+    word: &str,
+) -> Option<(Choice, Option<ValueOption>)>
+    ensures { result ≡ option_read options.now choice word.now }
+{
+    let option = named(options, word)?;
+    if has_option(choice, option) {
         return None;
     }
-    Some((set, due))
+    Some(entered(choice, option))
 }
 
 /// The choice with the value of this word for an option.
