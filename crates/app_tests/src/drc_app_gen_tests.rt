@@ -1,6 +1,6 @@
 //! What `gen` says of the meshes that it generates, and that each method keeps them.
 
-use crate::runs::{NEVER, leaves, run_line};
+use crate::runs::{UNREAD, leaves, run_line};
 use drc_app::no_choice;
 use drc_base::{PROFILE_TWO, Refusal, Sequence, Sink};
 use drc_container::{Choice, Method, decode_whole, encode};
@@ -130,10 +130,6 @@ fn summary_of(rt: &(impl Abort + AllocGlobal), mesh: &Generated) -> Result<Strin
     let (seq, eb, valence) = lengths_of(rt, kind, size, seed)?;
     Ok(format!(in rt.alloc(); "{line}\n{counts}seq {seq}\neb {eb}\nvalence {valence}\n")?)
 }
-
-/// The failing calls of a run that reads nothing: a source that fails at its first call shows that it isn't
-/// called.
-const UNREAD: [u64; 3] = [0, NEVER, NEVER];
 
 #[test]
 fn the_summary_of_a_generated_mesh_tells_the_lengths_of_its_streams(

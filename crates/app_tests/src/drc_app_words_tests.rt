@@ -1,7 +1,7 @@
 //! Which commands the words of a line are, and which word is bad.
 
 use crate::runs::words_of;
-use drc_app::{Command, GenMesh, command_of, no_choice};
+use drc_app::{Command, GenMesh, HelpTopic, command_of, no_choice};
 use drc_container::{Choice, Prediction, Walk};
 use drc_gen::GenKind;
 use std::process::Abort;
@@ -87,16 +87,19 @@ fn options_stand_in_any_order(rt: HostRuntime) -> Result<(), Fail> {
 }
 
 /// Lines of commands that have no choice.
-static COMMANDS: [(&str, Command); 5] = [
+static COMMANDS: [(&str, Command); 8] = [
     ("recode --restore", Command::Restore),
     ("verify", Command::Verify(false)),
     ("verify --surface", Command::Verify(true)),
     ("kd enc", Command::KdEnc),
     ("kd dec", Command::KdDec),
+    ("help", Command::Help(HelpTopic::All)),
+    ("help recode", Command::Help(HelpTopic::Recode)),
+    ("version", Command::Version),
 ];
 
 /// Lines with a word that is bad behind a command, and its number.
-static BAD_WORDS: [(&str, u64); 16] = [
+static BAD_WORDS: [(&str, u64); 23] = [
     ("recode --walk", 2),
     ("recode --walk depth --walk depth", 3),
     ("recode --index eb", 2),
@@ -113,6 +116,13 @@ static BAD_WORDS: [(&str, u64); 16] = [
     ("kd enc x", 2),
     ("kd dec --method", 2),
     ("enc kd", 1),
+    ("help foo", 1),
+    ("help version", 1),
+    ("help --walk", 1),
+    ("help enc x", 2),
+    ("version x", 1),
+    ("--help", 0),
+    ("--version", 0),
 ];
 
 #[test]

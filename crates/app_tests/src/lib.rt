@@ -6,6 +6,8 @@
 #[cfg(test)]
 mod drc_app_gen_tests;
 #[cfg(test)]
+mod drc_app_help_tests;
+#[cfg(test)]
 mod drc_app_tests;
 #[cfg(test)]
 mod drc_app_verify_tests;

@@ -39,6 +39,10 @@ pub(crate) const NEVER: u64 = 1_000_000;
 /// No call fails.
 pub(crate) const NO_FAILS: [u64; 3] = [NEVER, NEVER, NEVER];
 
+/// The failing calls of a run that reads nothing: a source that fails at its first call shows that it isn't
+/// called.
+pub(crate) const UNREAD: [u64; 3] = [0, NEVER, NEVER];
+
 /// The note of a source that failed.
 pub(crate) const READ_FAILED: &[u8] = b"read failed\n";
 
@@ -79,7 +83,7 @@ fn sink_of(alloc: Global, piece: usize, call: u64) -> Result<MemSink, Fail>
     requires { 0 < piece }
 {
     let fails = only(alloc, call)?;
-    Ok(MemSink::new(alloc, piece, 1000, fails)?)
+    Ok(MemSink::new(alloc, piece, 2000, fails)?)
 }
 
 /// Runs the words over these bytes, with the failing calls of the source and of both sinks.

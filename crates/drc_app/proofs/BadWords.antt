@@ -1,13 +1,11 @@
 -- Reading word by word finds what words say: the command whose line they are, or their bad word.
-use Rattle.std.proofs.Common.{◌≡◌, ℕ, zero, suc, ◌+◌, ◌<◌, Bool, true, false, List, [], ◌∷◌, ◌++◌, length, take, drop, Option, Some, None, Result, Ok, Err, ◌⊎◌, inl, inr, refl, sym, ap, ◌∙◌, subst, option_map, arith}
+use Rattle.std.proofs.Common.{◌≡◌, ℕ, zero, suc, ◌+◌, ◌<◌, List, [], ◌∷◌, ◌++◌, length, take, drop, Option, Some, None, Result, Ok, Err, ◌⊎◌, inl, inr, refl, sym, ap, ◌∙◌, subst, option_map, arith}
 use Rattle.std.specs.Prelude.{codes, decimal, IfOk, Contains, option_and_then}
-use Rattle.std.proofs.lemmas.Bool.{false≢true}
 use Rattle.std.proofs.lemmas.List.{take-append-drop}
 use Rattle.std.proofs.lemmas.Option.{none-some}
 use Rattle.drc_container.specs.declared.choice.choices.Choice.{Choice}
 use Rattle.drc_gen.specs.declared.kinds.GenKind.TheVariants.{Grid}
 use Rattle.drc_app.specs.declared.commands.Command.{Command}
-use Rattle.drc_app.specs.declared.commands.Command.TheVariants as command
 use Rattle.drc_app.specs.declared.options.ValueOption.{ValueOption}
 use Rattle.drc_app.specs.declared.options.ValueOption.TheVariants as option
 use Rattle.drc_app.specs.declared.command_table.CommandName.{CommandName}

@@ -1,48 +1,52 @@
 -- The lines that the table of commands makes, by their kinds.
-use Rattle.std.proofs.Common.{◌≡◌, ℕ, List, [], ◌∷◌, ◌++◌, map, Some, refl, sym, ap, ◌∙◌, subst, arith}
+use Rattle.std.proofs.Common.{◌≡◌, ℕ, List, [], ◌∷◌, ◌++◌, map, Some, refl, sym, ap, ◌∙◌, subst, append-nil, arith}
 use Rattle.std.specs.Prelude.{Contains}
+use Rattle.std.specs.Cmp.Lexicographic.{pointwise, pointwise_decides}
+use Rattle.std.specs.Map.{lookup}
+use Rattle.std.specs.Str.{bytes_eq}
+use Rattle.std.proofs.lemmas.Map.Views.{Contains-from_lookup}
+use Rattle.std.proofs.lemmas.Slice.Eq.{bytes_eq-Decides}
 use Rattle.drc_app.specs.declared.commands.Command.{Command}
+use Rattle.drc_app.specs.declared.commands.Command.TheVariants as command
 use Rattle.drc_app.specs.declared.command_table.CommandName.{CommandName}
 use Rattle.drc_app.specs.declared.command_table.CommandName.TheVariants as name
+use Rattle.drc_app.specs.declared.help.HelpTopic.{HelpTopic}
+use Rattle.drc_app.specs.declared.help.HelpTopic.TheVariants as topic
 use Rattle.drc_app.specs.declared.command_lines.Progress.TheVariants as progress
-use Rattle.drc_app.specs.Options.{Setting, words_of, AreOf, SetsOnce, with_settings, no_choice}
+use Rattle.drc_app.specs.Options.{Setting, words_of, AreOf, with_settings, no_choice}
 use Rattle.drc_app.specs.Commands.{command_row}
 use Rattle.drc_app.specs.Line.{IsLine, named, gen as of_gen}
 use Rattle.drc_app.specs.Laws.{plain_lines, IsOfKind, plain, enc, recode, gen, LinesAreOfKinds}
 use Rattle.drc_app.proofs.Tables.{each-of}
 use Rattle.drc_app.proofs.Lines.{ends, is_line}
 
--- the line of the list with this number
-listed : (words : List (List ℕ)) (c : Command) (line : List (List ℕ) × Command) → Contains plain_lines line → words ≡ line.0 → c ≡ line.1 → IsOfKind words c
-listed words c line is e f = plain (subst (Contains plain_lines) (same words c line (sym e) (sym f)) is)
-  where
-    same : (words : List (List ℕ)) (c : Command) (line : List (List ℕ) × Command) → line.0 ≡ words → line.1 ≡ c → line ≡ (words, c)
-    same words c line e f = ap (λ w. (w, line.1)) e ∙ ap (λ d. (words, d)) f
+-- a line that is found in the list
+listed : (words : List (List ℕ)) (c : Command) (ws : List (List ℕ)) (d : Command) → lookup (pointwise bytes_eq ws) plain_lines ≡ Some d → words ≡ ws → c ≡ d
+    → IsOfKind words c
+listed words c ws d found e f =
+    plain (Contains-from_lookup (λ x y. (pointwise_decides bytes_eq-Decides x y).0) words c plain_lines
+    (ap (λ w. lookup (pointwise bytes_eq w) plain_lines) e ∙ found ∙ ap Some (sym f)))
 
 -- a command that takes no options stands in the list
 without : (by : CommandName) (words : List (List ℕ)) (c : Command) (ss : List Setting) → (command_row by).takes ≡ [] → AreOf (command_row by).takes ss
-    → Contains plain_lines ((command_row by).words, (command_row by).command no_choice) → words ≡ (command_row by).words ++ words_of ss
+    → lookup (pointwise bytes_eq (command_row by).words) plain_lines ≡ Some ((command_row by).command no_choice)
+    → words ≡ (command_row by).words ++ words_of ss
     → c ≡ (command_row by).command (with_settings no_choice ss) → IsOfKind words c
-without by words c [] none among is e f = listed words c _ is (e ∙ right (command_row by).words) f
-  where
-    right : (ws : List (List ℕ)) → ws ++ [] ≡ ws
-    right [] = refl
-    right (w ∷ ws) = ap (λ r. w ∷ r) (right ws)
-without by words c (s ∷ ss) none among is e f = absurd (nothing (subst (λ os. Contains os s.option) none among.0))
+without by words c [] none among found e f = listed words c (command_row by).words _ found (e ∙ append-nil (command_row by).words) f
+without by words c (s ∷ ss) none among found e f = absurd (nothing (subst (λ os. Contains os s.option) none among.0))
   where
     nothing : Contains [] s.option → ⊥
     nothing (k, below, is) = omega (arith, below)
 
+help_found : (t : HelpTopic) → lookup (pointwise bytes_eq (command_row (name.Help t)).words) plain_lines ≡ Some (command.Help t)
+help_found topic.All = refl
+help_found t = refl
+
 of_kind : (words : List (List ℕ)) (c : Command) → IsLine words c → IsOfKind words c
 of_kind words c (named name.Enc ss among once e f) = enc ss (among, once, e) f
 of_kind words c (named name.Recode ss among once e f) = recode ss (among, once, e) f
-of_kind words c (named name.Dec ss among once e f) = without name.Dec words c ss refl among (0, omega arith, refl) e f
-of_kind words c (named name.Info ss among once e f) = without name.Info words c ss refl among (1, omega arith, refl) e f
-of_kind words c (named name.Restore ss among once e f) = without name.Restore words c ss refl among (2, omega arith, refl) e f
-of_kind words c (named name.Verify ss among once e f) = without name.Verify words c ss refl among (3, omega arith, refl) e f
-of_kind words c (named name.VerifySurface ss among once e f) = without name.VerifySurface words c ss refl among (4, omega arith, refl) e f
-of_kind words c (named name.KdEnc ss among once e f) = without name.KdEnc words c ss refl among (5, omega arith, refl) e f
-of_kind words c (named name.KdDec ss among once e f) = without name.KdDec words c ss refl among (6, omega arith, refl) e f
+of_kind words c (named (name.Help t) ss among once e f) = without (name.Help t) words c ss refl among (help_found t) e f
+of_kind words c (named by ss among once e f) = without by words c ss refl among refl e f
 of_kind words c (of_gen kind size seed may small e f) = gen kind size seed may small e f
 
 -- the lines of the list are read to their ends

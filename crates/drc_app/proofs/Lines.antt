@@ -17,6 +17,8 @@ use Rattle.drc_app.specs.declared.command_table.CommandName.{CommandName}
 use Rattle.drc_app.specs.declared.command_table.CommandName.TheVariants as name
 use Rattle.drc_app.specs.declared.command_table.CommandWord.{CommandWord}
 use Rattle.drc_app.specs.declared.command_table.CommandWord.TheVariants as word
+use Rattle.drc_app.specs.declared.help.HelpTopic.{HelpTopic}
+use Rattle.drc_app.specs.declared.help.HelpTopic.TheVariants as topic
 use Rattle.drc_app.specs.declared.command_lines.Progress.{Progress}
 use Rattle.drc_app.specs.declared.command_lines.Progress.TheVariants as progress
 use Rattle.drc_app.specs.Words.{word_rows, value_named}
@@ -96,7 +98,8 @@ options_line by ws c x =
 words_are : (ws : List (List ℕ)) (by : CommandName) → name_worded ws ≡ Some by → ws ≡ (command_row by).words
 words_are ws by e = beside command_names (Contains-from_lookup (λ x y. (pointwise_decides bytes_eq-Decides x y).0) ws by (map (λ n. ((command_row n).words, n)) command_names) e)
   where
-    beside : (all : List CommandName) → Contains (map (λ n. ((command_row n).words, n)) all) (ws, by) → ws ≡ (command_row by).words
+    beside : (all : List CommandName) → Contains {X = List (List ℕ) × CommandName} (map (λ n. ((command_row n).words, n)) all) (ws, by)
+        → ws ≡ (command_row by).words
     beside [] (k, below, is) = absurd (omega (arith, below))
     beside (n ∷ ns) (zero, below, is) = sym (ap (λ r. r.0) is) ∙ ap (λ r. (command_row r.1).words) is
     beside (n ∷ ns) (suc k, below, is) = beside ns (k, omega (arith, below), is)
@@ -286,16 +289,19 @@ behind_one by k led alone goes_on = record {
   goes_on = λ o. each-of (λ o. behind_command k (option_word o)) (λ o. with_option by no_choice (option_word o)) all_options o goes_on (is_option o);
 }
 
+reached_help : (t : HelpTopic) → Reached (name.Help t)
+reached_help topic.All = behind_one (name.Help topic.All) word.Help (λ ws. refl) refl refl
+reached_help t = behind_two (name.Help t) (λ ws. refl)
+
 reached : (by : CommandName) → Reached by
 reached name.Enc = behind_one name.Enc word.Enc (λ ws. refl) refl refl
 reached name.Dec = behind_one name.Dec word.Dec (λ ws. refl) refl refl
 reached name.Info = behind_one name.Info word.Info (λ ws. refl) refl refl
 reached name.Recode = behind_one name.Recode word.Recode (λ ws. refl) refl refl
 reached name.Verify = behind_one name.Verify word.Verify (λ ws. refl) refl refl
-reached name.Restore = behind_two name.Restore (λ ws. refl)
-reached name.VerifySurface = behind_two name.VerifySurface (λ ws. refl)
-reached name.KdEnc = behind_two name.KdEnc (λ ws. refl)
-reached name.KdDec = behind_two name.KdDec (λ ws. refl)
+reached (name.Help t) = reached_help t
+reached name.Version = behind_one name.Version word.Version (λ ws. refl) refl refl
+reached by = behind_two by (λ ws. refl)
 
 command_ends : (by : CommandName) (ss : List Setting) → AreOf (command_row by).takes ss → AreNew no_choice ss
     → ends progress.Nothing ((command_row by).words ++ words_of ss) ≡ Some ((command_row by).command (with_settings no_choice ss))

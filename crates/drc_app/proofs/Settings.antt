@@ -20,7 +20,7 @@ use Rattle.drc_gen.specs.declared.kinds.GenKind.TheVariants.{Grid}
 use Rattle.drc_app.specs.declared.command_table.CommandName.{CommandName}
 use Rattle.drc_app.specs.declared.command_table.CommandName.TheVariants as name
 use Rattle.drc_app.specs.declared.options.LineOption.{LineOption}
-use Rattle.drc_app.specs.declared.options.LineOption.TheVariants.{Valued, PlainValues}
+use Rattle.drc_app.specs.declared.options.LineOption.TheVariants.{Valued}
 use Rattle.drc_app.specs.declared.options.ValueOption.{ValueOption}
 use Rattle.drc_app.specs.declared.options.ValueOption.TheVariants as option
 use Rattle.drc_app.specs.Words.{Words, word_rows, value_named}
@@ -30,17 +30,21 @@ use Rattle.drc_app.specs.Commands.{command_row}
 use Rattle.drc_app.specs.Line.{gen_word}
 use Rattle.drc_app.specs.Progress.{gen_named}
 use Rattle.drc_app.specs.Laws.{WordsNameBack}
-use Rattle.drc_app.proofs.Tables.{Some_is, each-of, are_distinct, names_back, row_among}
+use Rattle.drc_app.proofs.Tables.{Some_is, each-of, are_distinct, names_back, value_among, row_among}
 
 -- ---- computations over all rows
 
--- each option is among all of them
+-- each option is what its word names among all of them, and so is among them
+word_back : (o : LineOption) → value_named (word_rows option_word all_options) (option_word o) ≡ Some o
+word_back (Valued v) = valued v
+  where
+    valued : (v : ValueOption) → value_named (word_rows option_word all_options) (option_word (Valued v)) ≡ Some (Valued v)
+    valued option.Method = refl
+    valued v = refl
+word_back o = refl
+
 pub is_option : (o : LineOption) → Contains all_options o
-is_option (Valued option.Method) = (0, omega arith, refl)
-is_option (Valued option.Index) = (1, omega arith, refl)
-is_option (Valued option.Predict) = (2, omega arith, refl)
-is_option (Valued option.Walk) = (3, omega arith, refl)
-is_option PlainValues = (4, omega arith, refl)
+is_option o = value_among option_word all_options (option_word o) o (word_back o)
 
 -- an option that a command takes is what its word names among these
 pub option_back : (by : CommandName) (o : LineOption) → Contains (command_row by).takes o
@@ -54,9 +58,6 @@ option_back by o is =
     distinct by = refl
 
 -- options of one word are one
-word_back : (o : LineOption) → value_named (word_rows option_word all_options) (option_word o) ≡ Some o
-word_back o = names_back (word_rows option_word all_options) (option_word o) o refl (row_among (λ x. (option_word x, x)) all_options o (is_option o))
-
 one_option : (o p : LineOption) → option_word o ≡ option_word p → o ≡ p
 one_option o p e = Some_is o p (sym (word_back o) ∙ ap (value_named (word_rows option_word all_options)) e ∙ word_back p)
 

@@ -29,6 +29,7 @@ use Rattle.drc_app.specs.Given.{Given, Written}
 use Rattle.drc_app.specs.Verified.{verified_input}
 use Rattle.drc_app.specs.Options.{no_choice}
 use Rattle.drc_app.specs.Summary.{summary_text}
+use Rattle.drc_app.specs.Help.{help_text, version_text}
 use Rattle.drc_app.specs.declared.commands.Command.{Command}
 use Rattle.drc_app.specs.declared.commands.Command.TheVariants as command
 use Rattle.drc_app.specs.declared.commands.GenMesh.{GenMesh}
@@ -110,7 +111,15 @@ summary_due kind size seed =
 -- whether a command reads its input
 abbrev pub reads : Command → Bool
 reads (command.Gen mesh) = false
+reads (command.Help topic) = false
+reads command.Version = false
 reads c = true
+
+-- whether a command takes memory
+abbrev pub takes_memory : Command → Bool
+takes_memory (command.Help topic) = false
+takes_memory command.Version = false
+takes_memory c = true
 
 -- an output and its note, where there are any
 abbrev pub written_due : Result (List ℕ × List ℕ) Fault → Result Given Fault
@@ -127,6 +136,8 @@ worked command.Restore bytes = written_due (restored_due bytes)
 worked (command.Verify surface) bytes = verified_input surface bytes
 worked command.KdEnc bytes = written_due (text_kd_due bytes)
 worked command.KdDec bytes = written_due (kd_text_due bytes)
+worked (command.Help topic) bytes = Ok (Written (help_text topic, []))
+worked command.Version bytes = Ok (Written (version_text, []))
 
 -- too many bytes of input
 abbrev pub input_limit : Fault

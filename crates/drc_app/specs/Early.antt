@@ -21,6 +21,8 @@ IsEarlyFault command.Restore input f = limited_head_at input ≡ Err f
 IsEarlyFault (command.Verify surface) input f = limited_head_at input ≡ Err f
 IsEarlyFault command.KdEnc text f = declared_of_text text ≡ Err f
 IsEarlyFault command.KdDec file f = kd_declared_of file ≡ Err f
+IsEarlyFault (command.Help topic) bytes f = ⊥
+IsEarlyFault command.Version bytes f = ⊥
 
 -- the command's input has none of these
 abbrev pub HasNoEarlyFault : Command → List ℕ → Type 0

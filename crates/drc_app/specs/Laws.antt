@@ -1,6 +1,6 @@
 -- Reading a command line word by word finds what its words say, and they say nothing else; the lines that the table makes, by their kinds;
 -- each value is what its word names; and no choice that fits a mesh refuses a generated one.
-use Rattle.std.specs.Prelude.{◌≡◌, ◌↔◌, ℕ, ◌<◌, ◌^◌, List, [], ◌∷◌, codes, decimal, Some, None, Result, true, false, Contains}
+use Rattle.std.specs.Prelude.{◌≡◌, ◌↔◌, ℕ, ◌<◌, ◌^◌, List, [], ◌∷◌, map, codes, decimal, Some, None, Result, true, false, Contains}
 use Rattle.mesh_model.specs.declared.geometries.Geometry.TheVariants.{Mesh}
 use Rattle.drc_gen.specs.declared.kinds.GenKind.{GenKind}
 use Rattle.drc_gen.specs.Generated.{generated}
@@ -15,7 +15,7 @@ use Rattle.drc_container.specs.choice.Refused.{choice_fault, refused}
 use Rattle.drc_app.specs.Words.{word_rows, value_named}
 use Rattle.drc_app.specs.Options.{method_word, methods, index_word, indices, walk_word, walks}
 use Rattle.drc_app.specs.Options.{Setting, words_of, AreOf, SetsOnce, with_settings, coding_options, no_choice}
-use Rattle.drc_app.specs.Commands.{command_word}
+use Rattle.drc_app.specs.Commands.{command_word, topic_words, help_topics}
 use Rattle.drc_app.specs.Line.{gen_word, IsLine, WordsSay}
 use Rattle.drc_app.specs.Progress.{gen_named, line_of}
 use Rattle.drc_app.specs.declared.commands.Command.{Command}
@@ -41,7 +41,8 @@ plain_lines =
     ∷ (command_word word.Verify ∷ codes "--surface" ∷ [], command.Verify true)
     ∷ (command_word word.Kd ∷ codes "enc" ∷ [], command.KdEnc)
     ∷ (command_word word.Kd ∷ codes "dec" ∷ [], command.KdDec)
-    ∷ []
+    ∷ (command_word word.Version ∷ [], command.Version)
+    ∷ map (λ t. (command_word word.Help ∷ topic_words t, command.Help t)) help_topics
 
 -- a first word, and behind it options of encoding in any order, each at most once
 abbrev pub IsEncoding : List (List ℕ) → CommandWord → List Setting → Type 0

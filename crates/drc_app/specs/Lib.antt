@@ -6,6 +6,7 @@ pub mod Progress
 pub mod Notes
 pub mod Ends
 pub mod Summary
+pub mod Help
 pub mod Given
 pub mod Verified
 pub mod Due

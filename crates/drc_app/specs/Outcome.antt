@@ -9,7 +9,7 @@ use Rattle.drc_verify.specs.declared.verdicts.Verdict.{Verdict}
 use Rattle.drc_verify.specs.declared.verdicts.Verdict.TheVariants as verdict
 use Rattle.drc_app.specs.Given.{Given, Written, Differs}
 use Rattle.drc_app.specs.Notes.{refused_note, bad_word_note, verdict_note, read_failed_note, write_failed_note, memory_note}
-use Rattle.drc_app.specs.Due.{input_limit, reads, command_due}
+use Rattle.drc_app.specs.Due.{input_limit, reads, takes_memory, command_due}
 use Rattle.drc_app.specs.Early.{HasNoEarlyFault}
 use Rattle.drc_app.specs.Kept.{KeepsGeometry}
 use Rattle.drc_app.specs.declared.commands.Command.{Command}
@@ -58,6 +58,7 @@ Kept c input given = IfSome (told_to c input) (λ bytes. KeepsGeometry c bytes g
 abbrev pub output_bytes : Output → List ℕ
 output_bytes (output.Bytes bytes) = bytes.items
 output_bytes (output.Text text) = text
+output_bytes (output.Fixed text) = text.now
 
 abbrev pub due_bytes : Due → List ℕ × List ℕ
 due_bytes d = (output_bytes d.output, d.note.items)
@@ -80,7 +81,7 @@ MayAnswer c (answer.Differs v) = MayDiffer c v
 abbrev pub IsOutcome : Result Command ℕ → Taking → Outcome → Type 0
 IsOutcome line input (outcome.BadWord i) = (line ≡ Err i) × IsUntaken input
 IsOutcome line input outcome.ReadFailed = IsOkAnd line (λ c. IsTrue (reads c)) × HasReadFault input
-IsOutcome line input outcome.NoMemory = IsOkAnd line (λ c. RanOut c input)
+IsOutcome line input outcome.NoMemory = IsOkAnd line (λ c. IsTrue (takes_memory c) × RanOut c input)
 IsOutcome line input (outcome.Refused f) = IsOkAnd line (λ c. WasReadFor c f input × GivesFrom c input (Err f))
 IsOutcome line input (outcome.Done d) = IsOkAnd line (λ c.
     WasReadWhole c input × GivesFrom c input (Ok (Written (due_bytes d))) × Kept c input (Written (due_bytes d)))
@@ -91,7 +92,7 @@ IsOutcome line input (outcome.Differs v) = IsOkAnd line (λ c.
 abbrev pub IsOutcomeAt : Command → List ℕ → Outcome → Type 0
 IsOutcomeAt c bytes (outcome.BadWord i) = ⊥
 IsOutcomeAt c bytes outcome.ReadFailed = ⊥
-IsOutcomeAt c bytes outcome.NoMemory = HasNoEarlyFault c bytes
+IsOutcomeAt c bytes outcome.NoMemory = IsTrue (takes_memory c) × HasNoEarlyFault c bytes
 IsOutcomeAt c bytes (outcome.Refused f) = command_due c bytes ≡ Err f
 IsOutcomeAt c bytes (outcome.Done d) = (command_due c bytes ≡ Ok (Written (due_bytes d))) × KeepsGeometry c bytes (Written (due_bytes d))
 IsOutcomeAt c bytes (outcome.Differs v) = MayDiffer c v × (command_due c bytes ≡ Ok (Differs v)) × KeepsGeometry c bytes (Differs v)

@@ -5,7 +5,7 @@ use Rattle.drc_app.specs.Ends.{Taking, Putting, HasReadFault, HasWriteFault, IsU
 use Rattle.drc_verify.specs.declared.verdicts.Verdict.{Verdict}
 use Rattle.drc_app.specs.Given.{Written, Differs}
 use Rattle.drc_app.specs.Notes.{refused_note, bad_word_note, verdict_note, read_failed_note, memory_note}
-use Rattle.drc_app.specs.Due.{reads, command_due}
+use Rattle.drc_app.specs.Due.{reads, takes_memory, command_due}
 use Rattle.drc_app.specs.Outcome.{WasReadWhole, WasReadFor, RanOut, told_to, GivesFrom, Kept, MayDiffer, IsCutShort}
 use Rattle.drc_app.specs.declared.commands.Command.{Command}
 
@@ -33,7 +33,8 @@ IsStopped c input output notes =
     WasReadWhole c input
     × ((text : List ℕ) × (note : List ℕ) × GivesFrom c input (Ok (Written (text, note))) × IsCutShort output notes text note)
 
--- what a call with this line did to its source and its sinks, by its status; reading fails only for a command that reads
+-- what a call with this line did to its source and its sinks, by its status; reading fails only for a command that reads, and memory
+-- runs out only for one that takes some
 pub record HasRun (line : Result Command ℕ) (input : Taking) (output notes : Putting) (status : ℕ) : Type 0 where
   pub known : status ≤ 6
   pub done : status ≡ 0 → IsOkAnd line (λ c. IsDone c input output notes)
@@ -42,7 +43,7 @@ pub record HasRun (line : Result Command ℕ) (input : Taking) (output notes : P
   pub refused : status ≡ 2 → IsOkAnd line (λ c. IsRefused c input notes)
   pub read_failed : status ≡ 3 → IsOkAnd line (λ c. IsTrue (reads c)) × HasReadFault input × IsTried notes read_failed_note
   pub write_failed : status ≡ 4 → IsOkAnd line (λ c. IsStopped c input output notes)
-  pub memory : status ≡ 5 → IsOkAnd line (λ c. RanOut c input) × IsTried notes memory_note
+  pub memory : status ≡ 5 → IsOkAnd line (λ c. IsTrue (takes_memory c) × RanOut c input) × IsTried notes memory_note
   pub unlike : status ≡ 6 → IsOkAnd line (λ c. IsUnlike c input notes)
   pub kept : status ≢ 0 → status ≢ 4 → IsUntouched output
 

@@ -6,6 +6,7 @@ ghost use Rattle.drc_app.specs.Commands.{command_word, command_row};
 ghost use Rattle.drc_app.specs.Progress.{command_named, name_worded};
 
 use crate::commands::Command;
+use crate::help::HelpTopic;
 use crate::options::{CODING_OPTIONS, LineOption};
 use drc_container::Choice;
 
@@ -26,6 +27,10 @@ pub enum CommandWord {
     Verify,
     /// `kd`, which needs a second word
     Kd,
+    /// `help`
+    Help,
+    /// `version`
+    Version,
 }
 
 /// A command of the table, by its words.
@@ -49,6 +54,10 @@ pub enum CommandName {
     KdEnc,
     /// `kd dec`
     KdDec,
+    /// `help`, and behind it the word of its topic, but of all commands
+    Help(HelpTopic),
+    /// `version`
+    Version,
 }
 
 /// The first word of a command line that this word is.
@@ -63,6 +72,8 @@ pub fn command_named(word: &str) -> Option<CommandWord>
         "recode" => Some(CommandWord::Recode),
         "verify" => Some(CommandWord::Verify),
         "kd" => Some(CommandWord::Kd),
+        "help" => Some(CommandWord::Help),
+        "version" => Some(CommandWord::Version),
         _ => None,
     }
 }
@@ -79,6 +90,8 @@ pub fn named_alone(first: CommandWord) -> Option<CommandName>
         CommandWord::Recode => Some(CommandName::Recode),
         CommandWord::Verify => Some(CommandName::Verify),
         CommandWord::Kd => None,
+        CommandWord::Help => Some(CommandName::Help(HelpTopic::All)),
+        CommandWord::Version => Some(CommandName::Version),
     }
 }
 
@@ -100,6 +113,16 @@ pub fn named_behind(first: CommandWord, second: &str) -> Option<CommandName>
             "dec" => Some(CommandName::KdDec),
             _ => None,
         },
+        CommandWord::Help => match second {
+            "enc" => Some(CommandName::Help(HelpTopic::Enc)),
+            "dec" => Some(CommandName::Help(HelpTopic::Dec)),
+            "info" => Some(CommandName::Help(HelpTopic::Info)),
+            "gen" => Some(CommandName::Help(HelpTopic::Gen)),
+            "recode" => Some(CommandName::Help(HelpTopic::Recode)),
+            "verify" => Some(CommandName::Help(HelpTopic::Verify)),
+            "kd" => Some(CommandName::Help(HelpTopic::Kd)),
+            _ => None,
+        },
         _ => None,
     }
 }
@@ -118,6 +141,8 @@ pub fn options_of(name: CommandName) -> &'static [LineOption]
         CommandName::VerifySurface => &[],
         CommandName::KdEnc => &[],
         CommandName::KdDec => &[],
+        CommandName::Help(_) => &[],
+        CommandName::Version => &[],
     }
 }
 
@@ -135,5 +160,7 @@ pub fn command_chosen(name: CommandName, choice: Choice) -> Command
         CommandName::VerifySurface => Command::Verify(true),
         CommandName::KdEnc => Command::KdEnc,
         CommandName::KdDec => Command::KdDec,
+        CommandName::Help(topic) => Command::Help(topic),
+        CommandName::Version => Command::Version,
     }
 }

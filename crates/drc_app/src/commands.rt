@@ -3,6 +3,7 @@
 ghost use Rattle.std.specs.Prelude.{◌≡◌};
 ghost use Rattle.drc_app.specs.Due.{reads};
 
+use crate::help::HelpTopic;
 use drc_container::Choice;
 use drc_gen::GenKind;
 
@@ -40,6 +41,10 @@ pub enum Command {
     KdEnc,
     /// A kd-tree file to PLY text.
     KdDec,
+    /// What commands take and give. It reads nothing.
+    Help(HelpTopic),
+    /// The version. It reads nothing.
+    Version,
 }
 
 /// Whether a command reads its input.
@@ -48,6 +53,8 @@ pub fn reads(command: Command) -> bool
 {
     match command {
         Command::Gen(_) => false,
+        Command::Help(_) => false,
+        Command::Version => false,
         _ => true,
     }
 }

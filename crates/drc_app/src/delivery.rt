@@ -68,6 +68,7 @@ fn write_output<O: Sink>(output: &Output, out: &mut O) -> Result<(), Failed>
     match output {
         Output::Bytes(bytes) => write_all(out, bytes),
         Output::Text(text) => text.print(out),
+        Output::Fixed(text) => write_all(out, text.as_bytes()),
     }
 }
 

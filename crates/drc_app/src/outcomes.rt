@@ -1,6 +1,6 @@
 //! What a command line and its input come to, before anything is written.
 
-ghost use Rattle.std.specs.Prelude.{◌≡◌, ◌≤◌, map, string_bytes, length, Err, IfOk, IsOkAnd, IsTrue};
+ghost use Rattle.std.specs.Prelude.{◌≡◌, ◌≤◌, [], map, string_bytes, length, Err, IfOk, IsOkAnd, IsTrue};
 ghost use Rattle.drc_base.specs.declared.faults.Fault.{Fault as AnyFault};
 ghost use Rattle.drc_base.specs.declared.faults.Refusal.TheVariants as refusal;
 ghost use Rattle.drc_base.specs.Refusals.{Answers};
@@ -11,13 +11,14 @@ ghost use Rattle.drc_container.specs.reading.Stream.{meaning_of, declared_of};
 ghost use Rattle.drc_app.specs.Line.{IsSized};
 ghost use Rattle.drc_app.specs.Progress.{line_of};
 ghost use Rattle.drc_app.specs.Ends.{takes};
-ghost use Rattle.drc_app.specs.Due.{input_limit, reads, command_due, worked, coded_due, stream_due, recoded_due, text_due, report_due, summary_due};
+ghost use Rattle.drc_app.specs.Due.{input_limit, reads, takes_memory, command_due, worked, coded_due, stream_due, recoded_due, text_due, report_due, summary_due};
 ghost use Rattle.drc_app.specs.Early.{IsEarlyFault};
 ghost use Rattle.drc_app.specs.Kept.{KeepsGeometry, IsCoded, IsReadAs};
 ghost use Rattle.drc_app.specs.Outcome.{output_bytes, due_bytes, seen, MayAnswer, IsOutcome, IsOutcomeAt};
 
 use crate::command_lines::command_of;
 use crate::commands::{Command, GenMesh, reads};
+use crate::help::{help_text, version_text};
 use crate::kd_files::{kd_due, kd_text_due};
 use crate::restoring::restored_due;
 use crate::summaries::summary_due;
@@ -38,6 +39,8 @@ pub enum Output {
     Bytes(Vec<u8>),
     /// The text of a geometry.
     Text(PlyText),
+    /// A text of the program's own.
+    Fixed(&'static str),
 }
 
 /// An output and its note.
@@ -121,6 +124,7 @@ fn work(alloc: Global, command: Command, bytes: Vec<u8>) -> Result<Answer, Refus
     requires { IsSized command }
     ensures answer { Answers seen (worked command bytes.items) result }
     ensures early { (f : AnyFault) → IsEarlyFault command bytes.items f → result ≡ Err (refusal.Fault f) }
+    ensures memory { result ≡ Err refusal.Memory → IsTrue (takes_memory command) }
     ensures kept { IfOk result (λ a. KeepsGeometry command bytes.items (seen a)) }
     ensures differs { IfOk result (λ a. MayAnswer command a) }
 {
@@ -134,6 +138,8 @@ fn work(alloc: Global, command: Command, bytes: Vec<u8>) -> Result<Answer, Refus
         Command::Verify(surface) => verified(alloc, surface, bytes),
         Command::KdEnc => Ok(Answer::Due(kd_due(alloc, bytes)?)),
         Command::KdDec => Ok(Answer::Due(kd_text_due(alloc, bytes)?)),
+        Command::Help(topic) => Ok(Answer::Due(fixed_due(alloc, help_text(topic)))),
+        Command::Version => Ok(Answer::Due(fixed_due(alloc, version_text()))),
     }
 }
 
@@ -233,4 +239,14 @@ fn gen_due(alloc: Global, asked: GenMesh) -> Result<Due, Memory>
         output: Output::Bytes(output),
         note: Vec::new(alloc),
     })
+}
+
+/// A text of the program's own, and no note. It takes no memory.
+fn fixed_due(alloc: Global, text: &'static str) -> Due
+    ensures { due_bytes result ≡ (text.now, []) }
+{
+    Due {
+        output: Output::Fixed(text),
+        note: Vec::new(alloc),
+    }
 }

@@ -13,7 +13,7 @@ use std::alloc::Global;
 
 /// Runs the command of `words`, without the program's name: reads `input`, where the command reads,
 /// writes `output` and leaves a note. It answers the status: 0 done, 1 bad words, 2 the input is
-/// refused, 3 reading failed, 4 writing failed, 5 out of memory, 6 what was verified isn't the same. With bad words, and for `gen`, nothing
+/// refused, 3 reading failed, 4 writing failed, 5 out of memory, 6 what was verified isn't the same. With bad words, and for `gen`, `help` and `version`, nothing
 /// is taken from the input. Once the input is read, faults of what it declares are refused by name, and never by
 /// running out of memory.
 pub fn run<I: Source, O: Sink, N: Sink>(

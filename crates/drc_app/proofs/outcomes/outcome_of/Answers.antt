@@ -7,11 +7,12 @@ use Rattle.drc_base.specs.Sources.{EndsAt}
 use Rattle.drc_base.specs.declared.faults.Fault.{Fault}
 use Rattle.drc_base.specs.declared.limits.TheConstants.{MAX_INPUT_BYTES}
 use Rattle.drc_app.specs.declared.commands.Command.{Command}
+use Rattle.drc_app.specs.declared.commands.Command.TheVariants as command
 use Rattle.drc_app.specs.declared.outcomes.Outcome.{Outcome}
 use Rattle.drc_app.specs.declared.outcomes.Outcome.TheVariants as outcome
 use Rattle.drc_app.specs.Ends.{Taking, IsReadWhole, IsPastMost, IsUntaken, takes}
 use Rattle.drc_app.specs.Given.{Written, Differs}
-use Rattle.drc_app.specs.Due.{input_limit, reads, worked, command_due}
+use Rattle.drc_app.specs.Due.{input_limit, reads, takes_memory, worked, command_due}
 use Rattle.drc_app.specs.Kept.{KeepsGeometry}
 use Rattle.drc_app.specs.Outcome.{due_bytes, RanShort, IsOutcome, IsOutcomeAt}
 use Rattle.drc_app.proofs.outcomes.outcome_of.Goals as goal
@@ -41,7 +42,7 @@ whole-outcome : (c : Command) (input : Taking) (whole : IsReadWhole input) (o : 
     → IsOutcomeAt c whole.taken o → IsOutcome (Ok c) input o
 whole-outcome c input whole (outcome.BadWord i) on all at = absurd at
 whole-outcome c input whole outcome.ReadFailed on all at = absurd at
-whole-outcome c input whole outcome.NoMemory on all at = on-true (IsUntaken input) (reads c) on (inr (inr (whole, at)))
+whole-outcome c input whole outcome.NoMemory on all at = (at.0, on-true (IsUntaken input) (reads c) on (inr (inr (whole, at.1))))
 whole-outcome c input whole (outcome.Refused f) on all at =
     (on-true (IsUntaken input) (reads c) on (inl (whole, at)), told (reads c) input.left whole.taken (λ b. command_due c b ≡ Err f) on all at)
 whole-outcome c input whole (outcome.Done d) on all at =
@@ -56,6 +57,12 @@ whole-outcome c input whole (outcome.Differs v) on all at = (
   told (reads c) input.left whole.taken (λ b. command_due c b ≡ Ok (Differs v)) on all at.1,
   told (reads c) input.left whole.taken (λ b. KeepsGeometry c b (Differs v)) on all at.2,
 )
+
+-- a command that reads takes memory
+reads-takes : (c : Command) → reads c ≡ true → takes_memory c ≡ true
+reads-takes (command.Help topic) on = on
+reads-takes command.Version on = on
+reads-takes c on = refl
 
 -- more bytes than a command reads are a fault
 past-limit : (c : Command) (left after : Option (List ℕ)) (taken : List ℕ) → reads c ≡ true → Consumes left after taken → length taken ≡ MAX_INPUT_BYTES + 1
@@ -99,7 +106,7 @@ returns-in-Err-Memory-clause-outcome g c =
       | inl same ↦ inl (untaken-same source.left source.given source.faults source.ended c.args.input.now c.read_all.new.input same)
       | inr more ↦ inr (inl more)
     ] in
-    subst (λ l. IsOutcome l input outcome.NoMemory) c.in-Ok.ensures.line (on-true (IsUntaken input) (reads command) on short)
+    subst (λ l. IsOutcome l input outcome.NoMemory) c.in-Ok.ensures.line (reads-takes command on, on-true (IsUntaken input) (reads command) on short)
 
 pub returns-in-Err-TooLong-clause-outcome : goal.returns-in-Err-TooLong-clause-outcome
 returns-in-Err-TooLong-clause-outcome g c =
