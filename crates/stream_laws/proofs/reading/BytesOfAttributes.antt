@@ -1,6 +1,6 @@
 -- What is left behind the attributes of a stream is bytes, where a stream is; and the fields of their heads are those of bytes.
 use Rattle.drc_base.specs.Profile.{Profile, profile}
-use Rattle.std.proofs.Common.{ℕ, ◌+◌, ◌*◌, ◌^◌, ◌<◌, ◌==◌, ◌&&◌, Bool, not, ℤ, List, [], length, map, Option, None, Some, Result, Ok, Err, arith}
+use Rattle.std.proofs.Common.{◌≡◌, ℕ, ◌+◌, ◌*◌, ◌^◌, ◌<◌, ◌==◌, ◌&&◌, Bool, not, ℤ, List, [], length, map, Option, None, Some, Result, Ok, Err, arith}
 use Rattle.std.specs.Prelude.{nat_lt, nat_le, IfSome}
 use Rattle.std.specs.List.{All, list_all, range_with_len}
 use Rattle.std.proofs.lemmas.List.Elements.{All-nil, recursion_from_All}
