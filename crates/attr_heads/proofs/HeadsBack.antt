@@ -1,10 +1,10 @@
 -- Heads that are read back from their bytes, and heads that were read.
-use Rattle.std.proofs.Common.{◌≡◌, ℕ, ◌^◌, ◌<◌, ◌≤◌, Bool, true, List, [], ◌∷◌, ◌++◌, Option, None, Ok, nat_le, ◌&&◌, refl, arith}
+use Rattle.std.proofs.Common.{◌≡◌, ℕ, ◌^◌, ◌<◌, Bool, true, [], ◌∷◌, None, Ok, nat_le, ◌&&◌, arith}
 use Rattle.std.proofs.lemmas.Bool.{leb-true, and_parts}
 use Rattle.drc_base.specs.declared.kinds.Kind.TheVariants as kind
 use Rattle.drc_base.specs.declared.limits.TheConstants.{MAX_COMPONENTS}
 use Rattle.drc_base.specs.Steps.{◌>>=◌}
-use Rattle.drc_bits.specs.Reading.{Reading, Item, must}
+use Rattle.drc_bits.specs.Reading.{Reading, must}
 use Rattle.drc_bits.specs.Numbers.{number_at}
 use Rattle.drc_bits.specs.Varint.{var32_at, spelling}
 use Rattle.drc_bits.specs.Spells.{Spells}

@@ -22,6 +22,4 @@ pub use head_reading::{read_bare_head, read_quant_bits};
 pub use head_writing::put_bare_head;
 pub use heads::{Head, copies_of, has_comps, row_width, test_heads};
 pub use quants::{MAX_QUANT_BITS, Quant, are_quant_bits};
-pub use usages::{
-    COLOUR, GENERIC, NORMAL, POSITION, TEXTURE_COORDINATE, is_usage,
-};
+pub use usages::{COLOUR, GENERIC, NORMAL, POSITION, TEXTURE_COORDINATE, is_usage};

@@ -23,7 +23,9 @@ use crate::kd_files::{kd_due, kd_text_due};
 use crate::restoring::restored_due;
 use crate::summaries::summary_due;
 use crate::verifying::verified;
-use drc_base::{Fault, Kind, MAX_INPUT_BYTES, Memory, PROFILE_TWO, ReadEnd, Refusal, Source, read_all};
+use drc_base::{
+    Fault, Kind, MAX_INPUT_BYTES, Memory, PROFILE_TWO, ReadEnd, Refusal, Source, read_all,
+};
 use drc_container::{Choice, decode, encode};
 use drc_info::report;
 use drc_recode::decode_packed;

@@ -39,7 +39,7 @@ unfolding kd_quant_of_at kd_quant_at
 quant-passed dtype comps typed c y is =
     either (QuantFits dtype comps y.0) (is_float dtype) (kd_quant_at comps c >>= λ q. Ok (Some q.0, q.1)) (Ok (None, c)) y is
     (λ float read.
-        let p = parts (kd_quant_at comps c) (λ q. Ok (Some q.0, q.1)) y read in
+    let p = parts (kd_quant_at comps c) (λ q. Ok (Some q.0, q.1)) y read in
     let q = parts (quant_bits_at c) _ p.0 p.1 in
     let r = parts (number_at 4 q.0.1) _ p.0 q.2 in
     let s = parts (many_at (number_at 4) comps r.0.1) _ p.0 r.2 in

@@ -6,8 +6,7 @@ ghost use Rattle.attr_heads.specs.FirstFault.{Tests};
 ghost use Rattle.attr_heads.specs.Head.{types_of, width_of};
 ghost use Rattle.mesh_model.specs.Parts.{count_fault, faces_fault, index_fault, range_fault, rows_of};
 
-use attr_heads::Head;
-use attr_heads::in_type;
+use attr_heads::{Head, in_type};
 use drc_base::{Fault, Kind, MAX_FACES, MAX_POINTS, MAX_VALUES};
 
 /// The most integers of a row: as many attributes as there may be, each of as many components.

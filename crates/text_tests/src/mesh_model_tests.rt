@@ -7,7 +7,10 @@ ghost use Rattle.std.specs.List.{list_all};
 use crate::shown::{are_faces, has_corner, has_point, is_fault, is_number, is_point, is_text};
 use attr_heads::{Head, Quant};
 use drc_base::{Kind, Refusal, Sequence};
-use mesh_model::{AttrGroup, Cloud, CornerMesh, Geometry, GeometryView, MapRead, Renumber, assemble, map_text, matches, read_map};
+use mesh_model::{
+    AttrGroup, Cloud, CornerMesh, Geometry, GeometryView, MapRead, Renumber, assemble, map_text,
+    matches, read_map,
+};
 use std::alloc::{AllocError, Global};
 use std::process::Abort;
 

@@ -58,15 +58,7 @@ fn read_decoders(
     let mut values = Vec::new(alloc);
     let mut spent: u64 = 0;
     for mut decoder in decoders {
-        let mut read = read_decoder(
-            alloc,
-            c,
-            profile,
-            &mut decoder,
-            entries,
-            None,
-            &mut spent,
-        )?;
+        let mut read = read_decoder(alloc, c, profile, &mut decoder, entries, None, &mut spent)?;
         values.append(&mut read)?;
         let mut its_heads = heads_of(decoder);
         heads.append(&mut its_heads)?;

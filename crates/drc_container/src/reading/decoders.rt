@@ -63,15 +63,7 @@ fn read_on(
         order,
     };
     let mut decoder = decoder;
-    let values = read_decoder(
-        alloc,
-        c,
-        profile,
-        &mut decoder,
-        entries,
-        Some(&on),
-        spent,
-    )?;
+    let values = read_decoder(alloc, c, profile, &mut decoder, entries, Some(&on), spent)?;
     let attributes = decoder_attributes(alloc, order, decoder, values)?;
     Ok(attributes)
 }
@@ -136,7 +128,16 @@ fn read_on_cut(
     let cut = cut_at(alloc, t, block)?;
     let labels = classes(alloc, &cut, None)?;
     let mut orders = MadeOrders::none();
-    let read = read_over(alloc, c, profile, &cut, &labels, &mut orders, decoder, spent)?;
+    let read = read_over(
+        alloc,
+        c,
+        profile,
+        &cut,
+        &labels,
+        &mut orders,
+        decoder,
+        spent,
+    )?;
     Ok(over_cut(read, labels))
 }
 
@@ -193,7 +194,15 @@ fn read_for(
         && let Some(id) = decoder.data_id
     {
         let block = seams_of(surface.seams.as_slice(), id);
-        return read_on_cut(alloc, c, profile, surface.sides.table(), block, decoder, spent);
+        return read_on_cut(
+            alloc,
+            c,
+            profile,
+            surface.sides.table(),
+            block,
+            decoder,
+            spent,
+        );
     }
     read_on_whole(alloc, c, profile, &surface.sides, orders, decoder, spent)
 }

@@ -57,11 +57,7 @@ fn geometry_alone(read: Result<Decoded, Refusal>) -> Result<Geometry, Refusal>
 /// The geometry that a stream means in a profile, the surface of an Edgebreaker mesh, which was rebuilt by links, and
 /// what is known of the stream; or its first fault, as `decode`.
 #[tactic(auto, unfolding(crate::specs::reading::Stream::stream_in))]
-pub fn decode_whole(
-    alloc: Global,
-    bytes: &[u8],
-    profile: Profile,
-) -> Result<Decoded, Refusal>
+pub fn decode_whole(alloc: Global, bytes: &[u8], profile: Profile) -> Result<Decoded, Refusal>
     ensures stream { Answers told_by (stream_in (profile_numbered profile.number) bytes.now) result }
     ensures early { (f : AnyFault) → declared_of bytes.now ≡ Err f → result ≡ Err (refusal.Fault f) }
     ensures linked { IfOk result (λ d. IfSome d.sides (λ b. IsTrue b.linked)) }

@@ -63,7 +63,15 @@ pub fn read_edgebreaker(
     } = read_unassembled(alloc, c, profile)?;
     let faces = sides.table().face_count();
     let whole = classes_lent(&sides);
-    let mesh = assemble_on(alloc, profile, info.end, faces, whole, heads, decoders.as_slice())?;
+    let mesh = assemble_on(
+        alloc,
+        profile,
+        info.end,
+        faces,
+        whole,
+        heads,
+        decoders.as_slice(),
+    )?;
     Ok(Decoded {
         geometry: Geometry::Mesh(mesh),
         sides: Some(sides),
@@ -208,7 +216,14 @@ fn assemble_on(
     ensures { Answers (λ m. m) (at_end end (assembled_in (profile_numbered profile.number) heads (tables_on whole.now decoders.now) faces)) result }
 {
     let groups = groups_of(alloc, whole, decoders)?;
-    assemble_at(alloc, profile, end, heads.into_vec(), groups.as_slice(), faces)
+    assemble_at(
+        alloc,
+        profile,
+        end,
+        heads.into_vec(),
+        groups.as_slice(),
+        faces,
+    )
 }
 
 /// The mesh of groups of attributes, which each profile of these limits accepts; its faults are at the end of the stream, which stands

@@ -74,9 +74,9 @@ known-leaves c here y is =
     let p = parts (number_at 1 c) _ y is in
     go p.0 (unread_as profile (coding_of p.0.0)) (number-leaves 1 c here p.0 p.1) p.2
   where
-  go : (k : ℕ × Reading) (refused : Option Kind) → BytesAhead k.1 → unless_refused c k refused ≡ Ok y → BytesAhead y.1
-  go k None ahead e = given (λ (z : ℕ × Reading). BytesAhead z.1) k y e ahead
-  go k (Some other) ahead e = cc
+    go : (k : ℕ × Reading) (refused : Option Kind) → BytesAhead k.1 → unless_refused c k refused ≡ Ok y → BytesAhead y.1
+    go k None ahead e = given (λ (z : ℕ × Reading). BytesAhead z.1) k y e ahead
+    go k (Some other) ahead e = cc
 
 coding-leaves : (dtype : ℕ) (c : Reading) → BytesAhead c → LeavesBytes (coding_at dtype c)
 unfolding coding_at
