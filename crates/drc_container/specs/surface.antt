@@ -1,3 +1,4 @@
 pub mod AttributeSurfaces
+pub mod CutSurfaces
 pub mod MadeOrders
 pub mod Traced

@@ -2,6 +2,7 @@
 
 pub mod attribute_surfaces;
 pub mod carried_surfaces;
+pub mod cut_surfaces;
 pub mod made_orders;
 pub mod ordered_surface;
 pub mod ordering;

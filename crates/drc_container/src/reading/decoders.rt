@@ -1,7 +1,7 @@
 //! The attributes of an Edgebreaker mesh, decoder after decoder.
 
 ghost use Rattle.drc_base.specs.Profile.{profile_numbered};
-ghost use Rattle.std.specs.Prelude.{◌≡◌, ◌<◌, ◌≤◌, ◌+◌, ◌*◌, ◌^◌, ◌++◌, ◌∷◌, [], ℕ, List, None, map, true, IfOk, OnOk, All, length, Some};
+ghost use Rattle.std.specs.Prelude.{◌≡◌, ◌<◌, ◌≤◌, ◌+◌, ◌*◌, ◌^◌, ◌++◌, ◌∷◌, [], ℕ, List, None, map, true, IfOk, IfSome, OnOk, All, length, Some};
 ghost use Rattle.drc_base.specs.declared.limits.TheConstants.{MAX_VALUES as most_values, MAX_FACES as most_faces};
 ghost use Rattle.drc_bits.specs.Reading.{Gives};
 ghost use Rattle.corner_table.specs.Table.{gluing_of};
@@ -11,17 +11,18 @@ ghost use Rattle.attr_heads.specs.HeadItems.{HeadPasses};
 ghost use Rattle.walk_order.specs.Orders.{IsOrderOver};
 ghost use Rattle.corner_table.specs.Ordered.{ordered, IsOrdered};
 ghost use Rattle.eb_section.specs.Connectivity.{meaning};
-ghost use Rattle.drc_container.specs.reading.OnSurface.{HasSeams, cut_at as surface_cut_at, seams_of, ordered_by, ordered_for, decoder_on, surface_decoders_at, no_attributes, values_on, attributes_on};
+ghost use Rattle.drc_container.specs.reading.OnSurface.{HasSeams, cut_at, seams_of, ordered_by, ordered_for, decoder_on, surface_decoders_at, no_attributes, values_on, attributes_on};
 ghost use Rattle.drc_container.specs.surface.MadeOrders.{IsOrderBy, AreOrders};
+ghost use Rattle.drc_container.specs.surface.CutSurfaces.{IsCutFrom};
 ghost use Rattle.drc_container.specs.reading.AsRead.{classes_of, built_classes, group_over, attributes_over, group_on, decoder_read_on, tables_on, attributes_read_on};
 ghost use Rattle.mesh_model.specs.Groups.{tables_of, HasVertices};
 
 use crate::reading::info::AttrInfo;
 use crate::reading::surface_attributes::{
-    AttributesRead, DecoderRead, DecoderValues, add_values, decoder_attributes, over_cut,
+    AttributesRead, DecoderRead, DecoderValues, add_values, decoder_attributes, with_classes,
 };
+use crate::surface::cut_surfaces::{CutSurface, cut_once};
 use crate::surface::made_orders::{MadeOrders, order_once};
-use crate::surface::ordering::cut_at;
 use attr_heads::Head;
 use attr_section::{DecoderHead, Ordered, read_decoder, read_heads};
 use corner_table::{Classes, Order, SideTable};
@@ -30,13 +31,12 @@ use drc_bits::Cursor;
 use eb_rebuild::Built;
 use eb_section::EbRead;
 use rans_binary::BitBlock;
-use seams::classes;
 use std::alloc::Global;
 
 /// Reads the attributes of a decoder, whose values stand on a table's surface with these classes, in this order;
 /// `spent` grows by the number of its values.
 #[tactic(auto, unfolding(crate::specs::reading::OnSurface::decoder_on))]
-fn read_on(
+fn read_in_order(
     alloc: Global,
     c: &mut Cursor<'_>,
     profile: Profile,
@@ -70,7 +70,7 @@ fn read_on(
 
 /// Reads the attributes of a decoder, whose values stand on a table's surface with these classes, of which these orders were made;
 /// `spent` grows by the number of its values.
-fn read_over(
+fn read_on_table(
     alloc: Global,
     c: &mut Cursor<'_>,
     profile: Profile,
@@ -94,7 +94,7 @@ fn read_over(
 {
     let degree = decoder.degree;
     let order = order_once(alloc, t, labels, degree, orders)?;
-    let read = read_on(alloc, c, profile, t, labels, &order, decoder, spent)?;
+    let read = read_in_order(alloc, c, profile, t, labels, &order, decoder, spent)?;
     orders.keep(degree, order);
     Ok(read)
 }
@@ -107,42 +107,46 @@ fn seams_of<'a>(blocks: &[BitBlock<'a>], id: u8) -> BitBlock<'a>
     blocks[id as usize].copy()
 }
 
-/// Reads the attributes of a decoder that stand on the stream's surface cut at the seams of a block.
+/// Reads the attributes of a decoder that stand on the stream's surface cut at the seams of a block; `kept` is the surface that
+/// was cut last, and then this one.
 fn read_on_cut(
     alloc: Global,
     c: &mut Cursor<'_>,
     profile: Profile,
     t: &SideTable,
     block: BitBlock<'_>,
+    kept: &mut Option<CutSurface>,
     decoder: DecoderHead,
     spent: &mut u64,
 ) -> Result<DecoderRead, Refusal>
+    requires kept { IfSome kept.old (IsCutFrom t.now) }
     requires heads { All HeadPasses decoder.heads }
     requires spent { spent.old ≤ most_values }
-    ensures item { (whole : List ℕ) → Gives (decoder_read_on whole) (decoder_on (profile_numbered profile.number) (ordered_by decoder.degree t.now.faces (surface_cut_at t.now.faces (gluing_of t.now) block.entry)) decoder spent.old c.old) c.new result }
+    ensures item { (whole : List ℕ) → Gives (decoder_read_on whole) (decoder_on (profile_numbered profile.number) (ordered_by decoder.degree t.now.faces (cut_at t.now.faces (gluing_of t.now) block.entry)) decoder spent.old c.old) c.new result }
     ensures spent { IfOk result (λ p. (whole : List ℕ) → spent.new ≡ spent.old + values_on (tables_of (group_on whole p.values))) }
     ensures few { IfOk result (λ _. spent.new ≤ most_values) }
     ensures columns { IfOk result (λ p. (whole : List ℕ) → AreAttrTables (3 * t.now.faces) p.heads (tables_of (group_on whole p.values))) }
     ensures vertices { IfOk result (λ p. (whole : List ℕ) → HasVertices (3 * t.now.faces) (group_on whole p.values)) }
+    ensures kept { IfOk result (λ _. IfSome kept.new (IsCutFrom t.now)) }
 {
-    let cut = cut_at(alloc, t, block)?;
-    let labels = classes(alloc, &cut, None)?;
-    let mut orders = MadeOrders::none();
-    let read = read_over(
+    let mut cut = cut_once(alloc, t, block, kept)?;
+    let alone = read_on_table(
         alloc,
         c,
         profile,
-        &cut,
-        &labels,
-        &mut orders,
+        &cut.sides,
+        &cut.classes,
+        &mut cut.orders,
         decoder,
         spent,
     )?;
-    Ok(over_cut(read, labels))
+    let read = with_classes(alloc, alone, &cut.classes)?;
+    *kept = Some(cut);
+    Ok(read)
 }
 
 /// Reads the attributes of a decoder that stand on the stream's surface as it is, of which these orders were made.
-fn read_on_whole(
+fn read_on_whole_surface(
     alloc: Global,
     c: &mut Cursor<'_>,
     profile: Profile,
@@ -165,21 +169,23 @@ fn read_on_whole(
     // For the prover alone: the call states that the table is a surface.
     let _faces = table.face_count();
     let labels = sides.classes();
-    read_over(alloc, c, profile, table, labels, orders, decoder, spent)
+    read_on_table(alloc, c, profile, table, labels, orders, decoder, spent)
 }
 
 /// Reads the attributes of a decoder, on the surface of the stream, of which these orders were made, cut at the seams of the
-/// decoder's attribute data where values belong to corners.
-fn read_for(
+/// decoder's attribute data where values belong to corners; `kept` is the surface that was cut last.
+fn read_on_its_surface(
     alloc: Global,
     c: &mut Cursor<'_>,
     profile: Profile,
     surface: &EbRead<'_>,
     orders: &mut MadeOrders,
+    kept: &mut Option<CutSurface>,
     decoder: DecoderHead,
     spent: &mut u64,
 ) -> Result<DecoderRead, Refusal>
     requires orders { AreOrders surface.now.sides.table (built_classes surface.now.sides) orders.old }
+    requires kept { IfSome kept.old (IsCutFrom surface.now.sides.table) }
     requires heads { All HeadPasses decoder.heads }
     requires seams { decoder.corner ≡ true → HasSeams (length surface.now.seams) decoder }
     requires spent { spent.old ≤ most_values }
@@ -189,22 +195,16 @@ fn read_for(
     ensures columns { IfOk result (λ p. AreAttrTables (3 * surface.now.sides.table.faces) p.heads (tables_of (group_on (classes_of (meaning surface.now)) p.values))) }
     ensures vertices { IfOk result (λ p. HasVertices (3 * surface.now.sides.table.faces) (group_on (classes_of (meaning surface.now)) p.values)) }
     ensures orders { IfOk result (λ _. AreOrders surface.now.sides.table (built_classes surface.now.sides) orders.new) }
+    ensures kept { IfOk result (λ _. IfSome kept.new (IsCutFrom surface.now.sides.table)) }
 {
     if decoder.corner
         && let Some(id) = decoder.data_id
     {
         let block = seams_of(surface.seams.as_slice(), id);
-        return read_on_cut(
-            alloc,
-            c,
-            profile,
-            surface.sides.table(),
-            block,
-            decoder,
-            spent,
-        );
+        let table = surface.sides.table();
+        return read_on_cut(alloc, c, profile, table, block, kept, decoder, spent);
     }
-    read_on_whole(alloc, c, profile, &surface.sides, orders, decoder, spent)
+    read_on_whole_surface(alloc, c, profile, &surface.sides, orders, decoder, spent)
 }
 
 /// Adds the attributes of a decoder, as they were read, behind those of the decoders before.
@@ -245,8 +245,18 @@ fn read_each(
     let mut info = Vec::new(alloc);
     let mut spent: u64 = 0;
     let mut orders = MadeOrders::none();
+    let mut kept: Option<CutSurface> = None;
     for decoder in decoders {
-        let read = read_for(alloc, c, profile, surface, &mut orders, decoder, &mut spent)?;
+        let read = read_on_its_surface(
+            alloc,
+            c,
+            profile,
+            surface,
+            &mut orders,
+            &mut kept,
+            decoder,
+            &mut spent,
+        )?;
         add_read(&mut heads, &mut values, &mut info, read)?;
     }
     Ok(AttributesRead {

@@ -91,10 +91,15 @@ pub fn decoder_attributes(
     })
 }
 
-/// The attributes of a decoder, over a surface that is cut at its seams, whose corners have these classes.
-pub fn over_cut(read: DecoderRead, classes: Classes) -> DecoderRead
-    ensures { result ≡ record read { values = record read.values { cut = Some classes.of_corner } } }
+/// The attributes of a decoder, over a surface that is cut at its seams, whose corners have these classes; these are copied.
+pub fn with_classes(
+    alloc: Global,
+    read: DecoderRead,
+    classes: &Classes,
+) -> Result<DecoderRead, Memory>
+    ensures { IfOk result (λ p. p ≡ record read { values = record read.values { cut = Some classes.now.of_corner } }) }
 {
+    let of_corner = Vec::from_slice(alloc, classes.of_corner.as_slice())?;
     let DecoderRead {
         heads,
         values,
@@ -105,15 +110,15 @@ pub fn over_cut(read: DecoderRead, classes: Classes) -> DecoderRead
         entry_of_class,
         values,
     } = values;
-    DecoderRead {
+    Ok(DecoderRead {
         heads,
         values: DecoderValues {
-            cut: Some(classes.of_corner),
+            cut: Some(Sequence::from_vec(of_corner)),
             entry_of_class,
             values,
         },
         info,
-    }
+    })
 }
 
 /// Whether the attributes of two decoders stand on a surface that is cut alike.

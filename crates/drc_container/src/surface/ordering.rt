@@ -1,16 +1,14 @@
-//! The surfaces on which the values of decoders stand, and how they are ordered.
+//! How the entries of a surface are ordered.
 
 ghost use Rattle.std.specs.Prelude.{◌≡◌, ◌<◌, ◌^◌, true, false, IfOk, length};
 ghost use Rattle.corner_table.specs.Labels.{IsLabelled};
 ghost use Rattle.corner_table.specs.Table.{gluing_of};
 ghost use Rattle.walk_order.specs.Orders.{IsOrderOver};
 ghost use Rattle.corner_table.specs.Ordered.{ordered, IsOrdered};
-ghost use Rattle.drc_container.specs.reading.OnSurface.{cut_at, ordered_by};
+ghost use Rattle.drc_container.specs.reading.OnSurface.{ordered_by};
 
 use corner_table::{Classes, Order, SideTable};
 use drc_base::Memory;
-use rans_binary::BitBlock;
-use seams::{read_seams, unseamed};
 use std::alloc::Global;
 use walk_order::{depth_first, prediction_degree};
 
@@ -61,14 +59,4 @@ fn degree_order(alloc: Global, t: &SideTable, labels: &Classes) -> Result<Order,
     let _count = labels.count;
     let order = prediction_degree(alloc, t, labels)?;
     Ok(order)
-}
-
-/// The surface cut at the seams that the first bits of a block give.
-pub fn cut_at(alloc: Global, t: &SideTable, block: BitBlock<'_>) -> Result<SideTable, Memory>
-    ensures faces { IfOk result (λ u. u.faces ≡ t.now.faces) }
-    ensures pairs { IfOk result (λ u. gluing_of u ≡ cut_at t.now.faces (gluing_of t.now) block.entry) }
-{
-    let mut blocks = [block];
-    let flags = read_seams(alloc, t, &mut blocks)?;
-    unseamed(alloc, t, flags[0].as_slice())
 }

@@ -1,8 +1,6 @@
 -- Decoders of attributes on a surface, one at a time.
 use Rattle.drc_base.specs.Profile.{Profile}
-use Rattle.std.proofs.Common.{◌≡◌, ℕ, ◌<◌, Bool, true, List, [], ◌∷◌, length, map, get_or, Some, Ok, refl, sym, ◌∙◌, ap, subst, arith}
-use Rattle.std.specs.List.{All}
-use Rattle.std.proofs.Math.ListN.{get_or-map}
+use Rattle.std.proofs.Common.{◌≡◌, ℕ, Bool, true, List, [], ◌∷◌, Some, Ok, refl, sym, ◌∙◌, ap}
 use Rattle.std.specs.Prelude.{if◌then◌else◌}
 use Rattle.drc_base.specs.declared.faults.Refusal.{Refusal}
 use Rattle.drc_base.specs.declared.faults.Refusal.TheVariants as refusal
@@ -53,10 +51,3 @@ ordered-seams s d id block t corner is seams faces glued =
     ∙ ap (λ (b : Block). cut_at s.faces s.glued b) (seams ∙ ap (seams_of s.seams) (sym is)) in
     let chosen : Bool → Gluing = λ c. if c then whole else s.glued in
     ap (λ (n : ℕ). ordered_by d.degree n (cut_at t.faces (gluing_of t) block)) faces ∙ ap (ordered_by d.degree s.faces) (cut ∙ ap chosen (sym corner))
-
--- what holds of each item's image holds of that of the first
-pub first-of : {A B : Type 0} (P : B → Type 0) (f : A → B) (xs : List A) (x : A) (ys : List B) → All P (map f xs) → map f xs ≡ ys → 0 < length ys
-    → x ≡ get_or xs 0 x → P (f x)
-first-of P f xs x ys each is some at =
-    let count : length (map f xs) ≡ length ys = ap length is in
-    subst P (get_or-map f xs 0 x ∙ ap f (sym at)) (each 0 (f x) (omega (arith, some, count)))

@@ -31,7 +31,7 @@ loop-decoder-preserved c =
     let more = added.tables whole in
     let sum = values_on-append (tables_on whole old) (tables_of (group_on whole read.values)) in
     rw (added.heads, added.info) (record {
-      rest = rw more (surface_decoders_at-next (profile_numbered c.args.profile.number) s before (decoder_read_on whole read) c.in-Some.decoder _ _ c.loop-decoder.c c.read_for.new.c _
+      rest = rw more (surface_decoders_at-next (profile_numbered c.args.profile.number) s before (decoder_read_on whole read) c.in-Some.decoder _ _ c.loop-decoder.c c.read_on_its_surface.new.c _
           c.loop-decoder.invariant.rest steps (rw c.loop-decoder.invariant.spent at c.in_ok-read.ensures.item));
       spent = rw more (c.in_ok-read.ensures.spent ∙ ap (λ n. n + values_on (tables_of (group_on whole read.values))) c.loop-decoder.invariant.spent ∙ sym sum);
       few = c.in_ok-read.ensures.few;
@@ -39,6 +39,7 @@ loop-decoder-preserved c =
           c.loop-decoder.invariant.columns c.in_ok-read.ensures.columns);
       vertices = added.vertices whole _ c.loop-decoder.invariant.vertices c.in_ok-read.ensures.vertices;
       orders = c.in_ok-read.ensures.orders;
+      kept = c.in_ok-read.ensures.kept;
       heads = let all = rw steps at c.loop-decoder.invariant.heads in λ k d h k' d'. all (suc k) d (omega (arith, h)) k' d';
       seams = let all = rw steps at c.loop-decoder.invariant.seams in λ k d h. all (suc k) d (omega (arith, h));
     })

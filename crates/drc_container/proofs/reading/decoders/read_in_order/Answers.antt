@@ -5,8 +5,8 @@ use Rattle.mesh_model.specs.Assembled.{AreAttrTables}
 use Rattle.drc_container.specs.reading.OnSurface.{SurfaceAttributes, decoder_attributes, values_on}
 use Rattle.drc_container.specs.reading.AsRead.{attributes_over}
 use Rattle.drc_container.proofs.lemmas.reading.Tabled.{decoder-read, columns-tables, values_on-tables, entries-by}
-use Rattle.drc_container.proofs.reading.decoders.read_on.Goals.{In_ok-attributes}
-use Rattle.drc_container.proofs.reading.decoders.read_on.Goals as goal
+use Rattle.drc_container.proofs.reading.decoders.read_in_order.Goals.{In_ok-attributes}
+use Rattle.drc_container.proofs.reading.decoders.read_in_order.Goals as goal
 
 pub read_decoder-requires-clause-on : goal.read_decoder-requires-clause-on
 read_decoder-requires-clause-on c = record { over = c.requires.order.is; each_entry = c.len-entries.ensures }
