@@ -56,7 +56,7 @@ _Bytes = Union[bytes, bytearray, memoryview, mmap.mmap, np.ndarray]
 
 class Refused(ValueError):
     """What is raised where a stream, or arrays to be encoded, have a fault. It is the first one. Its text says what it means, where
-    its number points and what helps, by the tables of docs/FAULTS.md, if that page stands beside this file; else it is the note.
+    its number points and what helps, by the tables of docs/FAULTS.md, where that page is found; else it is the note.
 
     kind    its word, such as 'Short'
     at      where it is: for a stream a number of bytes, for arrays the number of a face or value or attribute,
@@ -81,11 +81,13 @@ class Refused(ValueError):
 
 @functools.lru_cache(maxsize=None)
 def _faults() -> Dict[str, Tuple[str, str, str]]:
-    """Of each kind what it means, where its number points and what helps."""
-    try:
-        lines = (pathlib.Path(__file__).resolve().parent / "FAULTS.md").read_text(encoding="utf-8").splitlines()
-    except OSError:
+    """Of each kind what it means, where its number points and what helps. The page stands beside this file where ./install put it, and
+    in docs/ in the repository."""
+    folder = pathlib.Path(__file__).resolve().parent
+    page = next((it for it in (folder / "FAULTS.md", folder.parent / "docs" / "FAULTS.md") if it.is_file()), None)
+    if page is None:
         return {}
+    lines = page.read_text(encoding="utf-8").splitlines()
     rows = (line.strip("|").split(" | ") for line in lines if re.match(r"\| `\w+` \|", line))
     return {word.strip(" `"): (means.strip(), number.strip(), helps.strip()) for word, means, number, helps in rows}
 
