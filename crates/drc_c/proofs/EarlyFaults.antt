@@ -6,6 +6,7 @@ use Rattle.drc_base.specs.declared.faults.Fault.{Fault}
 use Rattle.attr_heads.specs.declared.heads.Head.{Head}
 use Rattle.attr_heads.specs.declared.quants.Quant.{Quant}
 use Rattle.attr_heads.specs.FirstFault.{first_fault, value_unless}
+use Rattle.attr_heads.specs.DataTypes.{is_float}
 use Rattle.attr_heads.specs.Quants.{has_minima}
 use Rattle.attr_heads.specs.Head.{heads_fault, width_of}
 use Rattle.mesh_model.specs.Parts.{count_fault, faces_fault, index_fault, range_fault, mesh_fault, cloud_fault}
@@ -28,7 +29,7 @@ minima_when false h eight few = refl
 
 -- the head that is meant has them
 pub minima_there : (h : DrcHead) → length h.min ≡ 8 → h.comps ≤ 8 → has_minima h.comps (head_meant h).quant ≡ true
-minima_there h eight few = minima_when (eqb h.dtype 9) h eight few
+minima_there h eight few = minima_when (is_float h.dtype) h eight few
 
 -- of heads that pass the width is 1 to 128
 pub width_bounds : (heads : List DrcHead) → heads_fault (map head_meant heads) ≡ None → (0 < width_told heads) × (width_told heads ≤ 128)
